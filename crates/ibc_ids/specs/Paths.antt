@@ -1,0 +1,64 @@
+-- The path of a key (ICS 24, "Path-space"), and the identifiers that a chain gives.
+use Rattle.std.specs.Prelude.{◌≡◌, ℕ, codes, ◌++◌, ◌^◌, ◌&&◌, Bool, true, nat_lt, IsTrue}
+use Rattle.ibc_ids.specs.Names.{is_client, is_connection, is_channel, is_port}
+use Rattle.std.specs.Fmt.{decimal}
+use Rattle.ibc_ids.specs.Texts.{Text}
+use Rattle.ibc_ids.specs.declared.key.Key.{Key}
+use Rattle.ibc_ids.specs.declared.key.Key.TheVariants as key
+use Rattle.ibc_ids.specs.declared.account.Account.{Account}
+use Rattle.ibc_ids.specs.declared.account.Account.TheVariants.{User, Escrow}
+
+-- where a channel's records stand below their kind
+abbrev pub channel_path : Text → Text → Text
+channel_path port channel = codes "/ports/" ++ port ++ codes "/channels/" ++ channel
+
+abbrev pub sequence_path : Text → Text → ℕ → Text
+sequence_path port channel n = channel_path port channel ++ codes "/sequences/" ++ decimal n
+
+abbrev pub path : Key → Text
+path (key.ClientState id) = codes "clients/" ++ id ++ codes "/clientState"
+path (key.Connection id) = codes "connections/" ++ id
+path (key.ChannelEnd port channel) = codes "channelEnds" ++ channel_path port channel
+path (key.NextSequenceSend port channel) = codes "nextSequenceSend" ++ channel_path port channel
+path (key.NextSequenceRecv port channel) = codes "nextSequenceRecv" ++ channel_path port channel
+path (key.NextSequenceAck port channel) = codes "nextSequenceAck" ++ channel_path port channel
+path (key.Commitment port channel n) = codes "commitments" ++ sequence_path port channel n
+path (key.Receipt port channel n) = codes "receipts" ++ sequence_path port channel n
+path (key.Acknowledgement port channel n) = codes "acks" ++ sequence_path port channel n
+path key.NextClientSequence = codes "nextClientSequence"
+path key.NextConnectionSequence = codes "nextConnectionSequence"
+path key.NextChannelSequence = codes "nextChannelSequence"
+
+-- the identifiers that a chain gives, by a number that it counts up
+abbrev pub nth_client : ℕ → Text
+nth_client n = codes "inprocess-" ++ decimal n
+
+abbrev pub nth_connection : ℕ → Text
+nth_connection n = codes "connection-" ++ decimal n
+
+abbrev pub nth_channel : ℕ → Text
+nth_channel n = codes "channel-" ++ decimal n
+
+-- an account as it is printed: an escrow's can't be a user's name (ICS 20)
+abbrev pub account_text : Account → Text
+account_text (User name) = name
+account_text (Escrow channel) = codes "escrow/transfer/" ++ channel
+
+-- the names in a key are names, and its number is a sequence
+abbrev pub is_key : Key → Bool
+is_key (key.ClientState id) = is_client id
+is_key (key.Connection id) = is_connection id
+is_key (key.ChannelEnd port channel) = is_port port && is_channel channel
+is_key (key.NextSequenceSend port channel) = is_port port && is_channel channel
+is_key (key.NextSequenceRecv port channel) = is_port port && is_channel channel
+is_key (key.NextSequenceAck port channel) = is_port port && is_channel channel
+is_key (key.Commitment port channel n) = is_port port && is_channel channel && nat_lt n (2 ^ 64)
+is_key (key.Receipt port channel n) = is_port port && is_channel channel && nat_lt n (2 ^ 64)
+is_key (key.Acknowledgement port channel n) = is_port port && is_channel channel && nat_lt n (2 ^ 64)
+is_key key.NextClientSequence = true
+is_key key.NextConnectionSequence = true
+is_key key.NextChannelSequence = true
+
+-- different keys have different paths
+abbrev pub DifferentPaths : Type 0
+DifferentPaths = (a b : Key) → IsTrue (is_key a) → IsTrue (is_key b) → path a ≡ path b → a ≡ b

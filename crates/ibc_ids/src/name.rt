@@ -1,0 +1,85 @@
+//! Texts of one kind.
+
+ghost use Rattle.std.specs.Prelude.{◌≡◌, List, ℕ, Some, refl, bytes_eq, string_bytes, IsTrue, IfOk};
+ghost use Rattle.std.specs.Ordering.{nat_cmp};
+ghost use Rattle.std.specs.Cmp.{on_equiv, on_total, on_po, on_per, partial_equiv_from_equiv};
+ghost use Rattle.std.specs.Cmp.Lexicographic.{slice_cmp, nat_list_eq_equiv, nat_list_cmp_total, texts_ties, texts_po};
+
+use crate::Kind;
+use std::alloc::AllocError;
+use std::cmp::Ordering;
+use std::marker::{Model, PhantomData};
+
+/// A text of one kind, as a client's identifier or a denomination. Contracts see it as its bytes.
+#[derive(Drop, Debug)]
+pub struct Name<K: Kind> {
+    text: String,
+    kind: PhantomData<K>,
+}
+
+impl<K: Kind> Model for Name<K> {
+    ghost Value = { List ℕ };
+
+    ghost view = { λ a. string_bytes a.text };
+
+    ghost invariant = { λ a. IsTrue (K.form (string_bytes a.text)) };
+}
+
+impl<K: Kind> Name<K> {
+    /// The name's text.
+    pub fn as_str(&self) -> &str
+        ensures text { result.now ≡ self.now }
+        ensures form { IsTrue (K.form self.now) }
+    {
+        self.text.as_str()
+    }
+}
+
+impl<K: Kind> Clone for Name<K> {
+    ghost is_clone = { λ name copy. copy ≡ name };
+
+    fn clone(&self) -> Result<Name<K>, AllocError> {
+        Ok(Name {
+            text: self.text.clone()?,
+            kind: PhantomData,
+        })
+    }
+}
+
+impl<K: Kind> PartialEq for Name<K> {
+    ghost eq = { λ a b. bytes_eq a b };
+
+    ghost laws = { on_per (λ a. a) (partial_equiv_from_equiv nat_list_eq_equiv) };
+
+    fn eq(&self, other: &Name<K>) -> bool {
+        self.as_str() == other.as_str()
+    }
+}
+
+impl<K: Kind> Eq for Name<K> {
+    ghost laws = { on_equiv (λ a. a) nat_list_eq_equiv };
+}
+
+impl<K: Kind> PartialOrd for Name<K> {
+    ghost partial_cmp = { λ a b. Some (slice_cmp nat_cmp a b) };
+
+    ghost laws = { on_po (λ a. a) texts_po };
+
+    fn partial_cmp(&self, other: &Name<K>) -> Option<Ordering> {
+        Some(self.cmp(other))
+    }
+}
+
+impl<K: Kind> Ord for Name<K> {
+    ghost cmp = { λ a b. slice_cmp nat_cmp a b };
+
+    ghost total = { on_total (λ a. a) nat_list_cmp_total };
+
+    ghost matches_partial_cmp = { λ a b. refl };
+
+    ghost matches_eq = { λ a b. texts_ties a b };
+
+    fn cmp(&self, other: &Name<K>) -> Ordering {
+        self.as_str().cmp(other.as_str())
+    }
+}

@@ -1,0 +1,5 @@
+pub mod Fields
+pub mod Tokens
+pub mod Spelling
+pub mod Messages
+pub mod Reading
