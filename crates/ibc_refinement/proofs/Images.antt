@@ -187,9 +187,9 @@ module _ (core : Core) where
         put_all_first (path key.NextClientSequence, value_bytes (NumberIs core.next_client)) (filter_map (pair_at core) later),
       )
 
-  -- the path tells the key among these
+  -- the path tells the key among those that have a value
   abbrev pub TellsKey : Key → Type 0
-  TellsKey k = (l : Key) → Is_in l (keys core) → path l ≡ path k → l ≡ k
+  TellsKey k = (l : Key) (v : Value) → look core l ≡ Some v → path l ≡ path k → l ≡ k
 
   pair_of : (k : Key) (v : Value) → look core k ≡ Some v → pair_at core k ≡ Some (path k, value_bytes v)
   pair_of k v e = ap (option_map (λ value. (path k, value_bytes value))) e
@@ -213,7 +213,7 @@ module _ (core : Core) where
             | inr h ↦
                 let g = in_filter_map_from (pair_at core) (path k, w) (keys core) h in
                 let x = pair_from g.0 (path k) w g.2 in
-                let same = tells g.0 g.1 x.2 in
+                let same = tells g.0 x.0 x.1 x.2 in
                 let both : None ≡ Some x.0 = sym is ∙ sym (ap (look core) same) ∙ x.1 in
                 absurd (cc)
           ]
@@ -223,7 +223,7 @@ module _ (core : Core) where
             let one : (w : Text) → Is_in (path k, w) ps → w ≡ value_bytes v = λ w h.
             let g = in_filter_map_from (pair_at core) (path k, w) (keys core) h in
             let x = pair_from g.0 (path k) w g.2 in
-            let same = tells g.0 g.1 x.2 in
+            let same = tells g.0 x.0 x.1 x.2 in
             let both : Some x.0 ≡ Some v = sym x.1 ∙ ap (look core) same ∙ is in
             sym x.3 ∙ ap value_bytes (some_same both)
             in

@@ -1,6 +1,10 @@
 pub mod Texts
 pub mod Digests
 pub mod SameSpellings
+pub mod Lower
 pub mod Members
 pub mod SameValues
 pub mod Images
+pub mod PlainValues
+pub mod Shown
+pub mod Clear

@@ -5,36 +5,11 @@ use Rattle.ibc_ids.specs.Texts.{Text, same_text}
 use Rattle.ibc_refinement.proofs.Texts.{text_same, same_text_itself}
 use Rattle.ibc_wire.specs.Spelling.{connection_state_number, channel_state_number, order_number}
 use Rattle.ibc_wire.specs.declared.records.ClientState.{ClientState}
-use Rattle.ibc_wire.specs.declared.records.ConnectionState.{ConnectionState}
-use Rattle.ibc_wire.specs.declared.records.ConnectionState.TheVariants as conn
 use Rattle.ibc_wire.specs.declared.records.ConnectionEnd.{ConnectionEnd}
-use Rattle.ibc_wire.specs.declared.records.ChannelState.{ChannelState}
-use Rattle.ibc_wire.specs.declared.records.ChannelState.TheVariants as chan
-use Rattle.ibc_wire.specs.declared.records.Order.{Order}
-use Rattle.ibc_wire.specs.declared.records.Order.TheVariants.{Unordered, Ordered}
 use Rattle.ibc_wire.specs.declared.records.ChannelEnd.{ChannelEnd}
+use Rattle.ibc_refinement.proofs.SameSpellings.{connection_states_same, channel_states_same, orders_same}
 use Rattle.ibc_machine.specs.Records.{Commitment}
 use Rattle.ibc_machine.specs.Values.{Value, ClientIs, ConnectionIs, ChannelIs, NumberIs, CommitmentIs, ReceiptIs, AckIs, same_client, same_optional, same_connection, same_channel, same_commitment, same_value}
-
--- ---- numbers of states
-
-pub connection_states_same : (a b : ConnectionState) → connection_state_number a ≡ connection_state_number b → a ≡ b
-connection_states_same conn.Init conn.Init e = refl
-connection_states_same conn.TryOpen conn.TryOpen e = refl
-connection_states_same conn.Open conn.Open e = refl
-connection_states_same a b e = absurd (cc)
-
-pub channel_states_same : (a b : ChannelState) → channel_state_number a ≡ channel_state_number b → a ≡ b
-channel_states_same chan.Init chan.Init e = refl
-channel_states_same chan.TryOpen chan.TryOpen e = refl
-channel_states_same chan.Open chan.Open e = refl
-channel_states_same chan.Closed chan.Closed e = refl
-channel_states_same a b e = absurd (cc)
-
-pub orders_same : (a b : Order) → order_number a ≡ order_number b → a ≡ b
-orders_same Unordered Unordered e = refl
-orders_same Ordered Ordered e = refl
-orders_same a b e = absurd (cc)
 
 -- ---- the tests
 

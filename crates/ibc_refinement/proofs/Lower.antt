@@ -1,0 +1,43 @@
+-- What the lower crates prove of proofs, their spellings and paths.
+use Rattle.std.proofs.Common.{◌≡◌, ℕ, zero, suc, ◌<◌, ◌≤◌, ◌^◌, true, nat_lt, List, [], ◌∷◌, length, arith, ltb-true}
+use Rattle.std.specs.Prelude.{slice_index}
+use Rattle.std.specs.List.{list_all, AllByRecursion}
+use Rattle.std.proofs.lemmas.Bool.{and_parts}
+use Rattle.ibc_ids.specs.Texts.{Text}
+use Rattle.ibc_ids.specs.Paths.{DifferentPaths}
+use Rattle.ibc_merkle.specs.Tree.{Pairs}
+use Rattle.ibc_merkle.specs.Written.{written}
+use Rattle.ibc_merkle.specs.Clashes.{WrittenIsAccepted, AcceptedIsWritten}
+use Rattle.ibc_wire.specs.Fields.{have_form}
+use Rattle.ibc_wire.specs.Spelling.{proof_fields}
+use Rattle.ibc_wire.specs.Reading.{ReadsWhatIsSpelled}
+use Rattle.ibc_refinement.proofs.Digests.{AreBytes}
+
+-- a text of bytes, no longer than this
+pub record FitsText (limit : ℕ) (text : Text) : Type 0 where
+  pub bytes : AreBytes text
+  pub short : length text ≤ limit
+
+-- a pair whose texts can be spelled in a proof
+abbrev pub FitsPair : Text × Text → Type 0
+FitsPair pair = FitsText 256 pair.0 × FitsText 512 pair.1
+
+-- a written proof has a spelling, where the texts of the pairs and of the key are short and the tree isn't
+-- too deep
+abbrev pub WrittenHasForm : Type 0
+WrittenHasForm =
+    (pairs : Pairs) (key : Text) → AllByRecursion FitsPair pairs → length pairs ≤ 2 ^ 64 → FitsText 256 key
+    → have_form (proof_fields (written pairs key)) ≡ true
+
+pub record Lower : Type 0 where
+  pub written_is_accepted : WrittenIsAccepted
+  pub accepted_is_written : AcceptedIsWritten
+  pub reads_what_is_spelled : ReadsWhatIsSpelled
+  pub written_has_form : WrittenHasForm
+  pub different_paths : DifferentPaths
+
+pub each_byte : (text : Text) → AreBytes text → (i : ℕ) → i < length text → slice_index text i < 256
+each_byte [] h i within = absurd (omega arith)
+each_byte (c ∷ text) h zero within = ltb-true c 256 (and_parts (nat_lt c 256) (list_all (λ c. nat_lt c 256) text) h).0
+each_byte (c ∷ text) h (suc i) within =
+    each_byte text (and_parts (nat_lt c 256) (list_all (λ c. nat_lt c 256) text) h).1 i (omega arith)
