@@ -8,3 +8,9 @@ pub mod Images
 pub mod PlainValues
 pub mod Shown
 pub mod Clear
+pub mod Checked
+pub mod Agreeing
+pub mod SameConnections
+pub mod SameChannels
+pub mod SamePackets
+pub mod SameAnswers
