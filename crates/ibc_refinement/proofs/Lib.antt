@@ -14,3 +14,4 @@ pub mod SameConnections
 pub mod SameChannels
 pub mod SamePackets
 pub mod SameAnswers
+pub mod Steps
