@@ -15,3 +15,5 @@ pub mod SameChannels
 pub mod SamePackets
 pub mod SameAnswers
 pub mod Steps
+pub mod Entries
+pub mod Fitting
