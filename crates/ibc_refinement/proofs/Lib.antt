@@ -17,3 +17,5 @@ pub mod SameAnswers
 pub mod Steps
 pub mod Entries
 pub mod Fitting
+pub mod Typed
+pub mod TypedValues
