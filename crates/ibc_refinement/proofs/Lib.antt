@@ -19,3 +19,4 @@ pub mod Entries
 pub mod Fitting
 pub mod Typed
 pub mod TypedValues
+pub mod TypedLook
