@@ -20,3 +20,4 @@ pub mod Fitting
 pub mod Typed
 pub mod TypedValues
 pub mod TypedLook
+pub mod TypedMessages
