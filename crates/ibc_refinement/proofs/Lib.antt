@@ -21,3 +21,4 @@ pub mod Typed
 pub mod TypedValues
 pub mod TypedLook
 pub mod TypedMessages
+pub mod FitClaims

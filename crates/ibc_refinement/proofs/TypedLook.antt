@@ -7,7 +7,7 @@ use Rattle.std.specs.FinMap.{nat_cmp-IsAntisymmetric}
 use Rattle.std.proofs.lemmas.Bool.{and_from}
 use Rattle.ibc_ids.specs.Texts.{Text, text_cmp, pair_cmp}
 use Rattle.ibc_ids.specs.Maps.{Map, at}
-use Rattle.ibc_ids.specs.Names.{is_port, is_channel}
+use Rattle.ibc_ids.specs.Names.{is_port, is_channel, is_client, is_connection, is_version}
 use Rattle.ibc_ids.specs.Paths.{path, is_key}
 use Rattle.ibc_ids.specs.declared.key.Key.{Key}
 use Rattle.ibc_ids.specs.declared.key.Key.TheVariants as key
@@ -62,8 +62,23 @@ in_values k v (x ∷ es) (inr h) = inr (in_values k v es h)
 
 -- ---- a value, typed and with its texts, is plain
 
-short_name : (high : ℕ) (text : Text) → high < 65536 → FitsText high text → IsShort text
-short_name high text low fits = omega (arith, fits.short, low)
+short_from : (high : ℕ) (text : Text) → high < 65536 → FitsText high text → IsShort text
+short_from high text low fits = omega (arith, fits.short, low)
+
+pub short_port : (text : Text) → is_port text ≡ true → IsShort text
+short_port text h = short_from 128 text (omega arith) (name_fits 2 128 text h)
+
+pub short_name : (text : Text) → is_channel text ≡ true → IsShort text
+short_name text h = short_from 64 text (omega arith) (name_fits 8 64 text h)
+
+short_client : (text : Text) → is_client text ≡ true → IsShort text
+short_client text h = short_from 64 text (omega arith) (name_fits 9 64 text h)
+
+pub short_connection : (text : Text) → is_connection text ≡ true → IsShort text
+short_connection text h = short_from 64 text (omega arith) (name_fits 10 64 text h)
+
+pub short_version : (text : Text) → is_version text ≡ true → IsShort text
+short_version text h = short_from 32 text (omega arith) (version_fits text h)
 
 plain_peer : (test : Text → Bool) (init : Bool) (o : Option Text) → ((id : Text) → test id ≡ true → IsShort id) → IsNamedPeer test init o → IsPeer init o
 plain_peer test true None short h = tt
@@ -74,15 +89,15 @@ plain_peer test false (Some id) short h = short id h
 pub plain_from : (S : Text → Type 0) (v : Value) → IsTypedValue v → HasTexts S v → IsPlain S v
 plain_from S (ClientIs c) h s = h.1
 plain_from S (ConnectionIs c) h s = record {
-  client = short_name 64 c.client (omega arith) (name_fits 9 64 c.client h.client);
-  peer_client = short_name 64 c.peer_client (omega arith) (name_fits 9 64 c.peer_client h.peer_client);
-  peer = plain_peer _ (connection_state_number c.state == 1) c.peer_connection (λ id g. short_name 64 id (omega arith) (name_fits 10 64 id g)) h.peer;
+  client = short_client c.client h.client;
+  peer_client = short_client c.peer_client h.peer_client;
+  peer = plain_peer _ (connection_state_number c.state == 1) c.peer_connection short_connection h.peer;
 }
 plain_from S (ChannelIs c) h s = record {
-  peer_port = short_name 128 c.peer_port (omega arith) (name_fits 2 128 c.peer_port h.peer_port);
-  peer = plain_peer _ (channel_state_number c.state == 1) c.peer_channel (λ id g. short_name 64 id (omega arith) (name_fits 8 64 id g)) h.peer;
-  connection = short_name 64 c.connection (omega arith) (name_fits 10 64 c.connection h.connection);
-  version = short_name 32 c.version (omega arith) (version_fits c.version h.version);
+  peer_port = short_port c.peer_port h.peer_port;
+  peer = plain_peer _ (channel_state_number c.state == 1) c.peer_channel short_name h.peer;
+  connection = short_connection c.connection h.connection;
+  version = short_version c.version h.version;
 }
 plain_from S (NumberIs n) h s = h
 plain_from S (CommitmentIs c) h s = (h.1, h.0, s.0, s.1)
