@@ -22,3 +22,5 @@ pub mod TypedValues
 pub mod TypedLook
 pub mod TypedMessages
 pub mod FitClaims
+pub mod Kept
+pub mod KeptConnections
