@@ -94,7 +94,7 @@ peer_named c typed other = by_peer c.peer_channel (subst (λ b. IsNamedPeer is_c
     by_peer None h = absurd h
     by_peer (Some id) h = h
 
-not_init : (n m : ℕ) → eqb m 1 ≡ false → eqb n m ≡ true → eqb n 1 ≡ false
+pub not_init : (n m : ℕ) → eqb m 1 ≡ false → eqb n m ≡ true → eqb n 1 ≡ false
 not_init n m other e = ap (λ x. eqb x 1) (eqb-true n m e) ∙ other
 
 -- ---- packets

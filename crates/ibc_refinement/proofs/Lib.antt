@@ -24,3 +24,4 @@ pub mod TypedMessages
 pub mod FitClaims
 pub mod Kept
 pub mod KeptConnections
+pub mod KeptChannels
