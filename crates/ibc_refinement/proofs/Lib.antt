@@ -25,3 +25,4 @@ pub mod FitClaims
 pub mod Kept
 pub mod KeptConnections
 pub mod KeptChannels
+pub mod KeptPackets
