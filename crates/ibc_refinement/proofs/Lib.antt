@@ -26,3 +26,4 @@ pub mod Kept
 pub mod KeptConnections
 pub mod KeptChannels
 pub mod KeptPackets
+pub mod KeptRecords
