@@ -27,3 +27,5 @@ pub mod KeptConnections
 pub mod KeptChannels
 pub mod KeptPackets
 pub mod KeptRecords
+pub mod Knowing
+pub mod MessageKnows

@@ -4,6 +4,7 @@ use Rattle.std.specs.Prelude.{⊤, ◌==◌}
 use Rattle.std.specs.Option.{option_map_or}
 use Rattle.std.proofs.lemmas.Bool.{and_parts, false≢true}
 use Rattle.ibc_ids.specs.Texts.{Text}
+use Rattle.ibc_ids.specs.Maps.{Map, at}
 use Rattle.ibc_ids.specs.Publications.{row_at}
 use Rattle.ibc_ids.specs.declared.publication.Publication.{Publication}
 use Rattle.ibc_wire.specs.declared.header.Header.{Header}
@@ -20,7 +21,7 @@ use Rattle.ibc_machine.specs.Evidence.{Row, Gone}
 use Rattle.ibc_machine.specs.Handlers.{after_message, message_answer, block_answer, host_of}
 use Rattle.ibc_machine.specs.Clients.{is_of_client}
 use Rattle.ibc_machine.specs.Machine.{World, answer, at_chain, block_at, block_seen, committed_of, looks, true_marks, is_gone, row_if, row_seen, is_header_of, shows_in}
-use Rattle.ibc_machine.specs.Replay.{Consensus, LedgerState, consensus_at, is_published_as, is_shown, row_read, proves, after_answer, ledger_answer}
+use Rattle.ibc_machine.specs.Replay.{Consensus, LedgerState, consensus_cmp, is_published_as, is_shown, row_read, proves, after_answer, ledger_answer}
 use Rattle.ibc_machine.specs.Ledgers.{published_as, fits, reading_fits}
 use Rattle.ibc_refinement.proofs.Lower.{Lower}
 use Rattle.ibc_refinement.proofs.Agreeing.{Asked, Agree, AgreeOn}
@@ -31,10 +32,13 @@ use Rattle.ibc_refinement.proofs.Shown.{AreClear, shown_same}
 abbrev pub consensus_of : Block → Consensus
 consensus_of block = record { root = core_root block.records.core; time = block.time }
 
+abbrev pub Knows : World → Core → Map (Text × ℕ) Consensus → Type 0
+Knows world core consensus =
+    (client : Text) (height : ℕ) → knows core client height ≡ true
+    → (block : Block) × (block_seen world core client height ≡ Some block) × (at consensus_cmp (client, height) consensus ≡ Some (consensus_of block))
+
 abbrev pub KnowsBlocks : World → LedgerState → Type 0
-KnowsBlocks world state =
-    (client : Text) (height : ℕ) → knows state.chain.records.core client height ≡ true
-    → (block : Block) × (block_seen world state.chain.records.core client height ≡ Some block) × (consensus_at state client height ≡ Some (consensus_of block))
+KnowsBlocks world state = Knows world state.chain.records.core state.consensus
 
 -- of each block that stands in the world, the claim and the proof clash with nothing
 abbrev pub ClearIn : World → Asked
