@@ -29,3 +29,6 @@ pub mod KeptPackets
 pub mod KeptRecords
 pub mod Knowing
 pub mod MessageKnows
+pub mod Places
+pub mod EntrySteps
+pub mod FitSteps
