@@ -32,3 +32,6 @@ pub mod MessageKnows
 pub mod Places
 pub mod EntrySteps
 pub mod FitSteps
+pub mod Hashed
+pub mod RunStates
+pub mod RunRows
