@@ -35,3 +35,4 @@ pub mod FitSteps
 pub mod Hashed
 pub mod RunStates
 pub mod RunRows
+pub mod RunKnows

@@ -39,10 +39,10 @@ published_front chain n i publications h =
 
 module _ (genesis : GenesisState) (ledgers : List Ledger) (publications : List Publication) (world : World) (before rest : List Entry)
     (are : AreOfWorld genesis ledgers publications) (run : AllRun genesis ledgers world before rest) where
-  runs_at : (k : ℕ) (at : IsLedgerAt genesis ledgers k) → Runs (Among ledgers) genesis world before rest k at.history at.seen
+  pub runs_at : (k : ℕ) (at : IsLedgerAt genesis ledgers k) → Runs (Among ledgers) genesis world before rest k at.history at.seen
   runs_at k at = run.each k at.history at.seen at.there
 
-  committed_is : (k : ℕ) (at : IsLedgerAt genesis ledgers k) → committed_of world k ≡ (runs_at k at).state.chain.committed
+  pub committed_is : (k : ℕ) (at : IsLedgerAt genesis ledgers k) → committed_of world k ≡ (runs_at k at).state.chain.committed
   committed_is k at = ap (λ o. option_map_or (λ (c : Chain). c.committed) o []) (runs_at k at).there
 
   pub counts : (k : ℕ) → length (committed_of world k) ≡ blocks_of k before
