@@ -36,3 +36,8 @@ pub mod Hashed
 pub mod RunStates
 pub mod RunRows
 pub mod RunKnows
+pub mod RunStep
+pub mod RunNext
+pub mod RunForward
+pub mod MergedRun
+pub mod Refined
