@@ -1,7 +1,6 @@
 pub mod Texts
 pub mod Digests
 pub mod SameSpellings
-pub mod Lower
 pub mod Members
 pub mod SameValues
 pub mod Images

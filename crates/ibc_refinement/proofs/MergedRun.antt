@@ -19,7 +19,7 @@ use Rattle.ibc_machine.specs.Ledgers.{Ledger, IsOwnEntry, chain_of, machine_of, 
 use Rattle.ibc_machine.specs.HashedTexts.{HasNoClash}
 use Rattle.ibc_machine.specs.Merge.{is_of, blocks_of, ReadsWhatIsBefore, EachAfter, Merges}
 use Rattle.ibc_machine.specs.Worlds.{entries}
-use Rattle.ibc_refinement.proofs.Lower.{Lower}
+use Rattle.ibc_refinement.specs.Lower.{Lower}
 use Rattle.ibc_refinement.proofs.Places.{get_there, get_within, same_places}
 use Rattle.ibc_refinement.proofs.Clear.{AreFit}
 use Rattle.ibc_refinement.proofs.Typed.{IsTyped}

@@ -17,7 +17,7 @@ use Rattle.ibc_machine.specs.Histories.{Happened}
 use Rattle.ibc_machine.specs.Merge.{is_of, Merges}
 use Rattle.ibc_machine.specs.Worlds.{entries, happened_by}
 use Rattle.ibc_refinement.specs.Refinement.{MergedIsRun}
-use Rattle.ibc_refinement.proofs.Lower.{Lower}
+use Rattle.ibc_refinement.specs.Lower.{Lower}
 use Rattle.ibc_refinement.proofs.Members.{Is_in}
 use Rattle.ibc_refinement.proofs.EntrySteps.{ledger_of, own_typed}
 use Rattle.ibc_refinement.proofs.RunStates.{AreOfWorld, IsLedgerAt, ledger_at}

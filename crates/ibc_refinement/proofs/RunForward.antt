@@ -11,7 +11,7 @@ use Rattle.ibc_machine.specs.Replay.{LedgerState, StampedEntry, entry_answer, re
 use Rattle.ibc_machine.specs.Ledgers.{Ledger, IsOwnEntry, chain_of, met_by, state_of}
 use Rattle.ibc_machine.specs.HashedTexts.{HasNoClash}
 use Rattle.ibc_machine.specs.Merge.{is_of, blocks_of, ReadsWhatIsBefore}
-use Rattle.ibc_refinement.proofs.Lower.{Lower}
+use Rattle.ibc_refinement.specs.Lower.{Lower}
 use Rattle.ibc_refinement.proofs.Members.{Is_in}
 use Rattle.ibc_refinement.proofs.Places.{get_set, get_set_other, get_within, length_set}
 use Rattle.ibc_refinement.proofs.Steps.{oldest_of}

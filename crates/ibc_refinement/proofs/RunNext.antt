@@ -16,7 +16,7 @@ use Rattle.ibc_machine.specs.Replay.{LedgerState, StampedEntry, entry_answer, re
 use Rattle.ibc_machine.specs.Ledgers.{Ledger, IsOwnEntry, IsLedger, chain_of, is_block_reply, is_accepted_block, met_by, state_of}
 use Rattle.ibc_machine.specs.HashedTexts.{event_texts, ledger_texts, HasNoClash}
 use Rattle.ibc_machine.specs.Merge.{is_of, blocks_of, ReadsWhatIsBefore}
-use Rattle.ibc_refinement.proofs.Lower.{Lower}
+use Rattle.ibc_refinement.specs.Lower.{Lower}
 use Rattle.ibc_refinement.proofs.Members.{Is_in, in_left, in_right, in_flat_map}
 use Rattle.ibc_refinement.proofs.Places.{get_set, get_set_other, get_cases, get_within, get_in, all_in, length_set}
 use Rattle.ibc_refinement.proofs.Clear.{AreFit}

@@ -15,8 +15,8 @@ use Rattle.ibc_merkle.specs.declared.proof.Proof.{Proof}
 use Rattle.ibc_wire.specs.Fields.{have_form}
 use Rattle.ibc_wire.specs.Spelling.{proof_fields, proof_bytes}
 use Rattle.ibc_wire.specs.Reading.{proof_of, ReadsWhatIsSpelled}
-use Rattle.ibc_refinement.proofs.Digests.{AreBytes}
-use Rattle.ibc_refinement.proofs.Lower.{Lower, each_byte}
+use Rattle.ibc_refinement.proofs.Digests.{each_byte}
+use Rattle.ibc_refinement.specs.Lower.{Lower, AreBytes}
 use Rattle.ibc_machine.specs.Records.{Core}
 use Rattle.ibc_machine.specs.Values.{Value, Claim, look, value_bytes, same_value}
 use Rattle.ibc_machine.specs.Image.{image, core_root}

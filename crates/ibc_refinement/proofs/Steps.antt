@@ -23,7 +23,7 @@ use Rattle.ibc_machine.specs.Clients.{is_of_client}
 use Rattle.ibc_machine.specs.Machine.{World, answer, at_chain, block_at, block_seen, committed_of, looks, true_marks, is_gone, row_if, row_seen, is_header_of, shows_in}
 use Rattle.ibc_machine.specs.Replay.{Consensus, LedgerState, consensus_cmp, is_published_as, is_shown, row_read, proves, after_answer, ledger_answer}
 use Rattle.ibc_machine.specs.Ledgers.{published_as, fits, reading_fits}
-use Rattle.ibc_refinement.proofs.Lower.{Lower}
+use Rattle.ibc_refinement.specs.Lower.{Lower}
 use Rattle.ibc_refinement.proofs.Agreeing.{Asked, Agree, AgreeOn}
 use Rattle.ibc_refinement.proofs.SameAnswers.{AgreeOnHeader, AllAsked, handle_same}
 use Rattle.ibc_refinement.proofs.Shown.{AreClear, shown_same}

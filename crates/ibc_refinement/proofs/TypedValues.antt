@@ -28,7 +28,7 @@ use Rattle.ibc_machine.specs.Records.{Core, Client, Channel, Commitment, client_
 use Rattle.ibc_machine.specs.Values.{Value, ClientIs, ConnectionIs, ChannelIs, NumberIs, CommitmentIs, ReceiptIs, AckIs, look, receipt_if, commitment_text, value_bytes}
 use Rattle.ibc_refinement.proofs.Texts.{text_tied}
 use Rattle.ibc_refinement.proofs.Digests.{length-hash, bytes-hash}
-use Rattle.ibc_refinement.proofs.Lower.{FitsText, FitsPair}
+use Rattle.ibc_refinement.specs.Lower.{FitsText, FitsPair}
 use Rattle.ibc_refinement.proofs.SameSpellings.{IsPeer, IsPlainConnection, IsPlainChannel}
 use Rattle.ibc_refinement.proofs.Images.{pair_tied}
 use Rattle.ibc_refinement.proofs.Entries.{all_at, all_one_of}

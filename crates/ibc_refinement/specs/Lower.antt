@@ -1,8 +1,6 @@
--- What the lower crates prove of proofs, their spellings and paths.
-use Rattle.std.proofs.Common.{◌≡◌, ℕ, zero, suc, ◌<◌, ◌≤◌, ◌^◌, true, nat_lt, List, [], ◌∷◌, length, arith, ltb-true}
-use Rattle.std.specs.Prelude.{slice_index}
+-- What the theorem rests on: the laws of proofs, of their spellings and of paths.
+use Rattle.std.specs.Prelude.{◌≡◌, ℕ, ◌≤◌, ◌^◌, Bool, true, nat_lt, List, length}
 use Rattle.std.specs.List.{list_all, AllByRecursion}
-use Rattle.std.proofs.lemmas.Bool.{and_parts}
 use Rattle.ibc_ids.specs.Texts.{Text}
 use Rattle.ibc_ids.specs.Paths.{DifferentPaths}
 use Rattle.ibc_merkle.specs.Tree.{Pairs}
@@ -11,7 +9,10 @@ use Rattle.ibc_merkle.specs.Clashes.{WrittenIsAccepted, AcceptedIsWritten}
 use Rattle.ibc_wire.specs.Fields.{have_form}
 use Rattle.ibc_wire.specs.Spelling.{proof_fields}
 use Rattle.ibc_wire.specs.Reading.{ReadsWhatIsSpelled}
-use Rattle.ibc_refinement.proofs.Digests.{AreBytes}
+
+-- a text is of bytes
+abbrev pub AreBytes : Text → Type 0
+AreBytes text = list_all (λ c. nat_lt c 256) text ≡ true
 
 -- a text of bytes, no longer than this
 pub record FitsText (limit : ℕ) (text : Text) : Type 0 where
@@ -29,15 +30,11 @@ WrittenHasForm =
     (pairs : Pairs) (key : Text) → AllByRecursion FitsPair pairs → length pairs ≤ 2 ^ 64 → FitsText 256 key
     → have_form (proof_fields (written pairs key)) ≡ true
 
+-- what is written is accepted, and only that; proofs are read just where they are spelled, and each written
+-- one is; different keys have different paths
 pub record Lower : Type 0 where
   pub written_is_accepted : WrittenIsAccepted
   pub accepted_is_written : AcceptedIsWritten
   pub reads_what_is_spelled : ReadsWhatIsSpelled
   pub written_has_form : WrittenHasForm
   pub different_paths : DifferentPaths
-
-pub each_byte : (text : Text) → AreBytes text → (i : ℕ) → i < length text → slice_index text i < 256
-each_byte [] h i within = absurd (omega arith)
-each_byte (c ∷ text) h zero within = ltb-true c 256 (and_parts (nat_lt c 256) (list_all (λ c. nat_lt c 256) text) h).0
-each_byte (c ∷ text) h (suc i) within =
-    each_byte text (and_parts (nat_lt c 256) (list_all (λ c. nat_lt c 256) text) h).1 i (omega arith)
