@@ -1,5 +1,5 @@
 -- Two ways to judge what a message says of another chain, which agree on what is asked of them.
-use Rattle.std.proofs.Common.{◌≡◌, ℕ, Bool, true, false, ◌&&◌, nat_le, ap, ap₂, Ok}
+use Rattle.std.proofs.Common.{◌≡◌, ℕ, true, ◌&&◌, nat_le, ap, ap₂, Ok}
 use Rattle.ibc_ids.specs.Texts.{Text}
 use Rattle.ibc_ids.specs.declared.refusal.Refusal.TheVariants as refusal
 use Rattle.ibc_wire.specs.declared.header.Header.{Header}

@@ -1,5 +1,5 @@
 -- Digests have 32 bytes; texts among which no two have one digest.
-use Rattle.std.proofs.Common.{◌≡◌, ℕ, zero, suc, ◌<◌, ◌%◌, Bool, true, nat_lt, List, [], ◌∷◌, length, refl, ◌∙◌, arith, lt-ltb, ltb-true}
+use Rattle.std.proofs.Common.{◌≡◌, ℕ, zero, suc, ◌<◌, ◌%◌, true, nat_lt, List, [], ◌∷◌, length, refl, ◌∙◌, arith, lt-ltb, ltb-true}
 use Rattle.std.specs.List.{list_all}
 use Rattle.std.specs.Prelude.{slice_index}
 use Rattle.std.specs.Int.{w32, to_be_bytes, byte_at, bytes_high_first}

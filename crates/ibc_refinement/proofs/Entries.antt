@@ -1,5 +1,5 @@
 -- What holds of each entry of a map holds of what is found, and stays so when entries are put and removed.
-use Rattle.std.proofs.Common.{◌≡◌, ℕ, true, cond, eqb, List, [], ◌∷◌, refl, sym, subst, Option, Some, None, Ordering, Less, Equal, Greater, is_eq, eqb-true, inl, inr}
+use Rattle.std.proofs.Common.{◌≡◌, ℕ, true, cond, eqb, List, [], ◌∷◌, refl, sym, subst, Some, Ordering, Less, Equal, Greater, is_eq, eqb-true, inl, inr}
 use Rattle.std.specs.List.{AllByRecursion, list_any}
 use Rattle.std.specs.Ordering.{match_ordering, nat_cmp}
 use Rattle.std.proofs.lemmas.Bool.{or_cases, false≢true}

@@ -1,6 +1,6 @@
 -- What an entry of a ledger does: the records stay typed, and a block is committed just where the reply is a
 -- block's.
-use Rattle.std.proofs.Common.{◌≡◌, ℕ, ◌+◌, Bool, true, false, ◌&&◌, nat_le, nat_lt, List, [], ◌∷◌, ◌++◌, length, refl, sym, ap, ◌∙◌, subst, append_assoc, append-nil, Some, None, Option, Ok, Err, inl, inr, ◌⊎◌}
+use Rattle.std.proofs.Common.{◌≡◌, ℕ, true, false, List, [], ◌∷◌, ◌++◌, length, refl, sym, ap, ◌∙◌, append_assoc, append-nil, Option, Ok, Err, inl, inr, ◌⊎◌}
 use Rattle.std.specs.Prelude.{⊤, ◌==◌}
 use Rattle.std.specs.List.{AllByRecursion}
 use Rattle.std.proofs.lemmas.Bool.{and_parts}
@@ -10,12 +10,11 @@ use Rattle.ibc_machine.specs.declared.event.Event.{Event}
 use Rattle.ibc_machine.specs.declared.event.Event.TheVariants as event
 use Rattle.ibc_machine.specs.declared.reply.Effect.{Effect}
 use Rattle.ibc_machine.specs.declared.reply.Reply.{Reply}
-use Rattle.ibc_machine.specs.declared.reply.Reply.TheVariants as reply
 use Rattle.ibc_machine.specs.declared.entry.Reading.{Reading}
-use Rattle.ibc_machine.specs.Records.{Core, Records, Chain, Block}
+use Rattle.ibc_machine.specs.Records.{Records, Chain, Block}
 use Rattle.ibc_machine.specs.Checks.{Checked}
 use Rattle.ibc_machine.specs.Genesis.{GenesisState}
-use Rattle.ibc_machine.specs.Handlers.{handle, host_of, after_message, may_commit, after_block}
+use Rattle.ibc_machine.specs.Handlers.{host_of, after_message, may_commit, after_block}
 use Rattle.ibc_machine.specs.Replay.{LedgerState, StampedEntry, proves, after_answer, with_chain, ledger_answer, entry_answer, replay, met_states}
 use Rattle.ibc_machine.specs.Ledgers.{Ledger, IsOwnEntry, is_typed, chain_of, is_block_reply}
 use Rattle.ibc_refinement.proofs.Checked.{Gives}

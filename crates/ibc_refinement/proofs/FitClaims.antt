@@ -1,11 +1,11 @@
 -- What a typed message asks of another chain is fit, where its proofs and its packet are among the texts that
 -- don't clash.
-use Rattle.std.proofs.Common.{◌≡◌, ℕ, ◌<◌, ◌^◌, Bool, true, false, cond, ◌&&◌, ◌||◌, eqb, nat_lt, List, [], ◌∷◌, ◌++◌, refl, sym, ap, ◌∙◌, subst, Option, Some, None, option_and_then, unwrap_or, inl, inr, lt-ltb, eqb-true, arith}
-use Rattle.std.specs.Prelude.{⊤, ◌==◌}
+use Rattle.std.proofs.Common.{◌≡◌, ℕ, ◌<◌, ◌^◌, Bool, true, false, cond, ◌&&◌, eqb, nat_lt, List, [], ◌∷◌, ◌++◌, refl, sym, ap, ◌∙◌, subst, Option, Some, None, option_and_then, unwrap_or, inl, inr, lt-ltb, eqb-true, arith}
+use Rattle.std.specs.Prelude.{◌==◌}
 use Rattle.std.proofs.lemmas.Bool.{and_from, or_cases}
 use Rattle.ibc_ids.specs.Texts.{Text}
-use Rattle.ibc_ids.specs.Names.{is_client, is_connection, is_channel, is_port}
-use Rattle.ibc_ids.specs.Paths.{path, is_key}
+use Rattle.ibc_ids.specs.Names.{is_connection, is_channel, is_port}
+use Rattle.ibc_ids.specs.Paths.{is_key}
 use Rattle.ibc_ids.specs.declared.key.Key.{Key}
 use Rattle.ibc_ids.specs.declared.key.Key.TheVariants as key
 use Rattle.ibc_wire.specs.Spelling.{channel_state_number}
@@ -17,8 +17,8 @@ use Rattle.ibc_wire.specs.declared.records.ConnectionState.TheVariants as conn
 use Rattle.ibc_wire.specs.declared.records.ChannelEnd.{ChannelEnd}
 use Rattle.ibc_wire.specs.declared.records.ChannelState.{ChannelState}
 use Rattle.ibc_wire.specs.declared.records.ChannelState.TheVariants.{Init, TryOpen, Open, Closed}
-use Rattle.ibc_machine.specs.Records.{Core, Channel, channel_at, connection_at, commitment_of}
-use Rattle.ibc_machine.specs.Values.{Value, ClientIs, ConnectionIs, ChannelIs, NumberIs, CommitmentIs, AckIs, Claim, has, lacks, commitment_text}
+use Rattle.ibc_machine.specs.Records.{Core, Channel, connection_at, commitment_of}
+use Rattle.ibc_machine.specs.Values.{Value, ClientIs, ConnectionIs, ChannelIs, NumberIs, CommitmentIs, AckIs, has, lacks, commitment_text}
 use Rattle.ibc_machine.specs.Connections.{connection_end}
 use Rattle.ibc_machine.specs.Channels.{is_in_state, counterpart, has_channel, peer_channel_of, peer_connection_of, channel_end}
 use Rattle.ibc_machine.specs.Packets.{is_ordered, not_received}
@@ -129,13 +129,13 @@ asks_fit S core (message.UpdateClient m) typed t h = tt
 asks_fit S core (message.ConnOpenInit m) typed t h = tt
 asks_fit S core (message.ConnOpenTry m) typed t h = (
   connection_fit S m.peer_connection (connection_end conn.Init m.peer_client m.client None) m.proof_end t.2 (record { client = t.1; peer_client = t.0; peer = tt }) t.5
-  (front S (delivered m.proof_end) (delivered m.proof_client) h),
+      (front S (delivered m.proof_end) (delivered m.proof_client) h),
   has_fit S (key.ClientState m.peer_client) (ClientIs m.claim) m.proof_client t.1 t.4 refl t.6 (back S (delivered m.proof_end) (delivered m.proof_client) h),
 )
 asks_fit S core (message.ConnOpenAck m) typed t h = λ mine is.
     let c = connection_typed core m.connection mine typed is in (
       connection_fit S m.peer_connection (connection_end conn.TryOpen mine.peer_client mine.client (Some m.connection)) m.proof_end t.1
-      (record { client = c.1.peer_client; peer_client = c.1.client; peer = t.0 }) t.4 (front S (delivered m.proof_end) (delivered m.proof_client) h),
+          (record { client = c.1.peer_client; peer_client = c.1.client; peer = t.0 }) t.4 (front S (delivered m.proof_end) (delivered m.proof_client) h),
       has_fit S (key.ClientState mine.peer_client) (ClientIs m.claim) m.proof_client c.1.peer_client t.3 refl t.5 (back S (delivered m.proof_end) (delivered m.proof_client) h),
     )
 asks_fit S core (message.ConnOpenConfirm m) typed t h = λ mine peer is named.
@@ -185,8 +185,9 @@ asks_fit S core (message.AckPacket m) typed t h =
 asks_fit S core (message.Timeout m) typed t h = λ mine is. not_received_fit S mine m.packet m.next_recv m.proof t.0 t.1 t.2 (back S (packet_texts m.packet) (delivered m.proof) h)
 asks_fit S core (message.TimeoutOnClose m) typed t h = λ mine is.
     let p = m.packet in
-    let c = channel_typed core p.source_port p.source_channel mine typed is in
-    (not_received_fit S mine p m.next_recv m.proof t.0 t.1 t.2 (back S (packet_texts p) (delivered m.proof) (front S (packet_texts p ++ delivered m.proof) (delivered m.proof_close) h)),
+    let c = channel_typed core p.source_port p.source_channel mine typed is in (
+      not_received_fit S mine p m.next_recv m.proof t.0 t.1 t.2 (back S (packet_texts p) (delivered m.proof) (front S (packet_texts p ++ delivered m.proof) (delivered m.proof_close) h)),
       channel_fit S core mine.end p.destination_channel p.source_port (Some p.source_channel) Closed m.proof_close typed c.value.end.peer_port t.0.destination_channel t.0.source_port
-      (short_name p.source_channel t.0.source_channel) (short_version mine.end.version c.value.end.version) t.3
-      (back S (packet_texts p ++ delivered m.proof) (delivered m.proof_close) h))
+          (short_name p.source_channel t.0.source_channel) (short_version mine.end.version c.value.end.version) t.3
+          (back S (packet_texts p ++ delivered m.proof) (delivered m.proof_close) h),
+    )

@@ -1,5 +1,5 @@
 -- Names, numbers and what is spelled of them are texts of bytes, of bounded lengths.
-use Rattle.std.proofs.Common.{◌≡◌, ℕ, ◌+◌, ◌≤◌, ◌<◌, ◌^◌, Bool, true, false, ◌&&◌, ◌||◌, nat_le, nat_lt, eqb, codes, List, [], ◌∷◌, ◌++◌, length, refl, sym, ap, ◌∙◌, arith, inl, inr, eqb-true, leb-true, le-leb, ltb-true, lt-ltb, length-append, ◌%◌}
+use Rattle.std.proofs.Common.{◌≡◌, ℕ, ◌+◌, ◌≤◌, ◌<◌, ◌^◌, Bool, true, ◌&&◌, ◌||◌, nat_le, nat_lt, eqb, codes, List, [], ◌∷◌, ◌++◌, length, refl, ◌∙◌, arith, inl, inr, eqb-true, leb-true, le-leb, ltb-true, lt-ltb, length-append, ◌%◌}
 use Rattle.std.specs.List.{list_all, list_any}
 use Rattle.std.specs.Int.{w16, w64, to_be_bytes}
 use Rattle.std.specs.Fmt.{decimal}

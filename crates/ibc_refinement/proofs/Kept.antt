@@ -1,12 +1,11 @@
 -- What an accepted message keeps: the records are typed, and clients change by their own messages alone.
-use Rattle.std.proofs.Common.{◌≡◌, ℕ, ◌+◌, ◌-◌, ◌<◌, ◌≤◌, ◌^◌, Bool, true, false, not, eqb, nat_lt, refl, sym, ap, ◌∙◌, arith, Ok, eq-eqb, eqb-true, ltb-true, inl, inr}
+use Rattle.std.proofs.Common.{◌≡◌, ℕ, ◌+◌, ◌-◌, ◌<◌, ◌^◌, true, false, not, eqb, sym, ap, ◌∙◌, arith, Ok, eq-eqb, inl, inr}
 use Rattle.std.proofs.lemmas.Bool.{false≢true, cases_lt}
 use Rattle.ibc_ids.specs.Texts.{Text, text_cmp, pair_cmp}
 use Rattle.ibc_wire.specs.declared.records.ConnectionEnd.{ConnectionEnd}
 use Rattle.ibc_machine.specs.declared.reply.Effect.{Effect}
 use Rattle.ibc_machine.specs.declared.reply.Reply.TheVariants as reply
 use Rattle.ibc_machine.specs.Records.{Core, Client, Channel, with_client, with_connection, with_channel}
-use Rattle.ibc_machine.specs.Connections.{with_new_connection}
 use Rattle.ibc_machine.specs.Evidence.{require_number}
 use Rattle.ibc_machine.specs.Ledgers.{is_block_reply}
 use Rattle.ibc_refinement.proofs.Texts.{text_tied}

@@ -1,6 +1,6 @@
 -- Channels: an accepted message keeps the records typed, and the clients.
-use Rattle.std.proofs.Common.{◌≡◌, ℕ, ◌+◌, ◌<◌, ◌^◌, Bool, true, false, ◌||◌, eqb, refl, sym, ap, ◌∙◌, subst, Some, None, Option, inl, inr, arith, eqb-true}
-use Rattle.std.specs.Prelude.{⊤, ◌==◌}
+use Rattle.std.proofs.Common.{◌≡◌, ◌+◌, ◌<◌, ◌^◌, true, false, eqb, refl, sym, ◌∙◌, subst, Some, None, inl, inr, arith}
+use Rattle.std.specs.Prelude.{⊤}
 use Rattle.std.proofs.lemmas.Bool.{or_cases}
 use Rattle.ibc_ids.specs.Texts.{Text}
 use Rattle.ibc_ids.specs.Names.{is_channel, is_port}
@@ -19,18 +19,17 @@ use Rattle.ibc_wire.specs.declared.records.ChannelEnd.{ChannelEnd}
 use Rattle.ibc_wire.specs.declared.records.ChannelState.{ChannelState}
 use Rattle.ibc_wire.specs.declared.records.ChannelState.TheVariants.{Init, TryOpen, Open, Closed}
 use Rattle.ibc_wire.specs.declared.records.Order.{Order}
-use Rattle.ibc_machine.specs.declared.reply.Effect.{Effect}
 use Rattle.ibc_machine.specs.Records.{Core, Channel, channel_at, with_channel}
 use Rattle.ibc_machine.specs.Checks.{Checked}
 use Rattle.ibc_machine.specs.Evidence.{Evidence}
 use Rattle.ibc_machine.specs.Channels.{is_in_state, in_state, new_channel, with_new_channel, channel_end, chan_open_init, chan_open_try, chan_open_ack, chan_open_confirm, chan_close_init, chan_close_confirm}
 use Rattle.ibc_refinement.proofs.Checked.{Gives, gives_ok, gives_then, gives_bind, expect_passed, require_true}
 use Rattle.ibc_refinement.proofs.Fitting.{nth_channel_is}
-use Rattle.ibc_refinement.proofs.Typed.{IsNamedPeer, IsTypedEnd, IsTypedChannel, IsTypedChannelAt, IsTyped}
+use Rattle.ibc_refinement.proofs.Typed.{IsNamedPeer, IsTypedEnd, IsTypedChannel, IsTyped}
 use Rattle.ibc_refinement.proofs.TypedLook.{channel_typed}
 use Rattle.ibc_refinement.proofs.TypedMessages.{IsTypedMessage}
 use Rattle.ibc_refinement.proofs.FitClaims.{not_init}
-use Rattle.ibc_refinement.proofs.Kept.{Kept, typed_with_channel, typed_next_channel, next_fits}
+use Rattle.ibc_refinement.proofs.Kept.{typed_with_channel, typed_next_channel, next_fits}
 use Rattle.ibc_refinement.proofs.KeptConnections.{GivesKept}
 
 -- an end with another end in it
@@ -72,7 +71,7 @@ module _ (core : Core) (typed : IsTyped core) where
       gives_then _ _ λ _. gives_bind _ _ λ (connection : ConnectionEnd) _. gives_then _ _ λ _. gives_then _ _ λ number. gives_ok (GivesKept core) _ (record {
         sound = record {
           typed = new_typed m.port (channel_end Init m.order m.peer_port None m.connection m.version) t.0 (record { peer_port = t.2; peer = tt; connection = t.1; version = t.3 })
-          (next_fits core.next_channel typed.next_channel number);
+              (next_fits core.next_channel typed.next_channel number);
           effect = refl;
         };
         clients = refl;
@@ -86,7 +85,7 @@ module _ (core : Core) (typed : IsTyped core) where
       gives_ok (GivesKept core) _ (record {
         sound = record {
           typed = new_typed m.port (channel_end TryOpen m.order m.peer_port (Some m.peer_channel) m.connection m.version) t.0 (record { peer_port = t.2; peer = t.3; connection = t.1; version = t.4 })
-          (next_fits core.next_channel typed.next_channel number);
+              (next_fits core.next_channel typed.next_channel number);
           effect = refl;
         };
         clients = refl;
@@ -106,7 +105,7 @@ module _ (core : Core) (typed : IsTyped core) where
       record {
         sound = record {
           typed = changed m.port m.channel mine (record mine { end = after }) (expect_passed (channel_at core m.port m.channel) refusal.UnknownChannel is)
-          (λ c. typed_with_end mine after c (record { peer_port = c.end.peer_port; peer = t.2; connection = c.end.connection; version = c.end.version }));
+              (λ c. typed_with_end mine after c (record { peer_port = c.end.peer_port; peer = t.2; connection = c.end.connection; version = c.end.version }));
           effect = refl;
         };
         clients = refl;
@@ -118,7 +117,7 @@ module _ (core : Core) (typed : IsTyped core) where
       gives_then _ _ λ _. gives_bind _ _ λ (mine : Channel) is. gives_then _ _ λ state. gives_then _ _ λ _. gives_then _ _ λ _. gives_ok (GivesKept core) _ (record {
         sound = record {
           typed = changed m.port m.channel mine (in_state Open mine) (expect_passed (channel_at core m.port m.channel) refusal.UnknownChannel is)
-          (λ c. typed_in_state Open mine c (not_init _ 2 refl (require_true _ _ state)) refl);
+              (λ c. typed_in_state Open mine c (not_init _ 2 refl (require_true _ _ state)) refl);
           effect = refl;
         };
         clients = refl;
@@ -130,7 +129,7 @@ module _ (core : Core) (typed : IsTyped core) where
       gives_bind _ _ λ (mine : Channel) is. gives_then _ _ λ state. gives_then _ _ λ _. gives_ok (GivesKept core) _ (record {
         sound = record {
           typed = changed m.port m.channel mine (in_state Closed mine) (expect_passed (channel_at core m.port m.channel) refusal.UnknownChannel is)
-          (λ c. typed_in_state Closed mine c (not_init _ 3 refl (require_true _ _ state)) refl);
+              (λ c. typed_in_state Closed mine c (not_init _ 3 refl (require_true _ _ state)) refl);
           effect = refl;
         };
         clients = refl;
@@ -146,7 +145,7 @@ module _ (core : Core) (typed : IsTyped core) where
       record {
         sound = record {
           typed = changed m.port m.channel mine (in_state Closed mine) (expect_passed (channel_at core m.port m.channel) refusal.UnknownChannel is)
-          (λ c. typed_in_state Closed mine c other refl);
+              (λ c. typed_in_state Closed mine c other refl);
           effect = refl;
         };
         clients = refl;

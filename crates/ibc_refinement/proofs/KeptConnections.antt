@@ -1,5 +1,5 @@
 -- Clients and connections: an accepted message keeps the records typed.
-use Rattle.std.proofs.Common.{◌≡◌, ℕ, ◌+◌, ◌<◌, ◌^◌, Bool, true, false, eqb, refl, subst, Some, None, Option, Ok, max, arith}
+use Rattle.std.proofs.Common.{◌≡◌, ◌+◌, ◌<◌, ◌^◌, Bool, true, false, refl, Some, None, Option, arith}
 use Rattle.ibc_ids.specs.Texts.{Text}
 use Rattle.ibc_ids.specs.Names.{is_connection}
 use Rattle.ibc_ids.specs.Paths.{nth_client, nth_connection}
@@ -20,7 +20,7 @@ use Rattle.ibc_machine.specs.Clients.{create_client, update_client, new_client, 
 use Rattle.ibc_machine.specs.Connections.{connection_end, with_new_connection, conn_open_init, conn_open_try, conn_open_ack, conn_open_confirm}
 use Rattle.ibc_refinement.proofs.Checked.{Gives, gives_ok, gives_then, gives_bind, expect_passed}
 use Rattle.ibc_refinement.proofs.Fitting.{nth_client_is, nth_connection_is}
-use Rattle.ibc_refinement.proofs.Typed.{IsNamedPeer, IsTypedConnection, IsTypedConnectionAt, IsTyped}
+use Rattle.ibc_refinement.proofs.Typed.{IsNamedPeer, IsTypedConnection, IsTyped}
 use Rattle.ibc_refinement.proofs.TypedLook.{client_typed, connection_typed}
 use Rattle.ibc_refinement.proofs.TypedMessages.{IsTypedMessage}
 use Rattle.ibc_refinement.proofs.Kept.{Sound, Kept, typed_with_client, typed_with_connection, typed_next_client, typed_next_connection, next_fits}
@@ -37,8 +37,8 @@ module _ (core : Core) (typed : IsTyped core) where
   create_client_sound host m t =
       gives_then _ _ λ _. gives_then _ _ λ _. gives_then _ _ λ number. gives_ok GivesSound _ (record {
         typed = typed_next_client (with_client (nth_client core.next_client) (new_client m.chain) core) _
-        (typed_with_client (nth_client core.next_client) (new_client m.chain) core typed (record { name = nth_client_is core.next_client typed.next_client; chain = t; latest = omega arith }))
-        (next_fits core.next_client typed.next_client number);
+            (typed_with_client (nth_client core.next_client) (new_client m.chain) core typed (record { name = nth_client_is core.next_client typed.next_client; chain = t; latest = omega arith }))
+            (next_fits core.next_client typed.next_client number);
         effect = refl;
       })
 
@@ -73,7 +73,7 @@ module _ (core : Core) (typed : IsTyped core) where
       gives_then _ _ λ _. gives_bind _ _ λ (client : Client) _. gives_then _ _ λ _. gives_then _ _ λ number. gives_then _ _ λ _. gives_then _ _ λ _. gives_then _ _ λ _. gives_ok (GivesKept core) _ (record {
         sound = record {
           typed = new_connection (connection_end conn.TryOpen m.client m.peer_client (Some m.peer_connection)) (record { client = t.0; peer_client = t.1; peer = t.2 })
-          (next_fits core.next_connection typed.next_connection number);
+              (next_fits core.next_connection typed.next_connection number);
           effect = refl;
         };
         clients = refl;
@@ -87,7 +87,7 @@ module _ (core : Core) (typed : IsTyped core) where
       record {
         sound = record {
           typed = typed_with_connection m.connection (record mine { state = conn.Open; peer_connection = Some m.peer_connection }) core typed
-          (c.0, record { client = c.1.client; peer_client = c.1.peer_client; peer = t.1 });
+              (c.0, record { client = c.1.client; peer_client = c.1.peer_client; peer = t.1 });
           effect = refl;
         };
         clients = refl;
@@ -107,7 +107,7 @@ module _ (core : Core) (typed : IsTyped core) where
       record {
         sound = record {
           typed = typed_with_connection m.connection (record mine { state = conn.Open }) core typed
-          (c.0, record { client = c.1.client; peer_client = c.1.peer_client; peer = named mine.peer_connection peer _ there c.1.peer });
+              (c.0, record { client = c.1.client; peer_client = c.1.peer_client; peer = named mine.peer_connection peer _ there c.1.peer });
           effect = refl;
         };
         clients = refl;

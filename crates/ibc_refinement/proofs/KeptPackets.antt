@@ -1,8 +1,7 @@
 -- Packets: an accepted message keeps the records typed, and the clients.
-use Rattle.std.proofs.Common.{◌≡◌, ℕ, ◌+◌, ◌-◌, ◌<◌, ◌≤◌, ◌^◌, Bool, true, false, cond, ◌&&◌, ◌||◌, not, eqb, nat_lt, nat_le, refl, sym, ap, ◌∙◌, subst, Some, None, Option, inl, inr, ◌⊎◌, arith, nat_cmp, eqb-true, lt-ltb}
-use Rattle.std.specs.Prelude.{⊤, ◌==◌}
+use Rattle.std.proofs.Common.{◌≡◌, ℕ, ◌+◌, ◌-◌, ◌<◌, ◌≤◌, ◌^◌, Bool, true, false, cond, ◌&&◌, not, eqb, nat_lt, refl, sym, ap, ◌∙◌, Some, inl, inr, arith, nat_cmp, eqb-true, lt-ltb}
 use Rattle.std.specs.FinMap.{nat_cmp-IsAntisymmetric}
-use Rattle.std.proofs.lemmas.Bool.{and_parts, and_from, or_cases, false≢true, cases_lt}
+use Rattle.std.proofs.lemmas.Bool.{and_parts, or_cases, false≢true, cases_lt}
 use Rattle.ibc_ids.specs.Texts.{Text}
 use Rattle.ibc_ids.specs.declared.refusal.Refusal.TheVariants as refusal
 use Rattle.ibc_wire.specs.Spelling.{channel_state_number}
@@ -18,10 +17,10 @@ use Rattle.ibc_machine.specs.Records.{Core, Channel, Commitment, channel_at, wit
 use Rattle.ibc_machine.specs.Checks.{Checked}
 use Rattle.ibc_machine.specs.Evidence.{Host, Evidence}
 use Rattle.ibc_machine.specs.Channels.{is_in_state, is_established}
-use Rattle.ibc_machine.specs.Packets.{has_form, has_size, is_ordered, has_received, after_send, with_sent, after_receive, recv_checked, recv_packet, without_commitment, after_ack, ack_checked, ack_packet, after_timeout, timeout_checked, timeout, timeout_on_close_checked, timeout_on_close}
+use Rattle.ibc_machine.specs.Packets.{has_form, has_size, is_ordered, after_send, with_sent, after_receive, recv_checked, recv_packet, without_commitment, after_ack, ack_checked, ack_packet, after_timeout, timeout_checked, timeout, timeout_on_close_checked, timeout_on_close}
 use Rattle.ibc_refinement.proofs.Checked.{Gives, gives_ok, gives_then, gives_bind, expect_passed, require_true}
 use Rattle.ibc_refinement.proofs.Entries.{all_with, all_without, all_added}
-use Rattle.ibc_refinement.proofs.Typed.{IsTypedCommitment, IsSequence, HasSequence, IsTypedChannel, IsTypedChannelAt, IsTyped}
+use Rattle.ibc_refinement.proofs.Typed.{IsTypedCommitment, IsSequence, HasSequence, IsTypedChannel, IsTyped}
 use Rattle.ibc_refinement.proofs.TypedLook.{channel_typed}
 use Rattle.ibc_refinement.proofs.TypedMessages.{IsTypedPacket}
 use Rattle.ibc_refinement.proofs.FitClaims.{not_init}
@@ -143,10 +142,10 @@ module _ (core : Core) (typed : IsTyped core) where
       gives_ok (Receives p) mine (
         expect_passed (channel_at core p.destination_port p.destination_channel) refusal.UnknownChannel is,
         λ ordered.
-        let below = form_below p (evidence.is_proof m.proof) t.sequence (require_true _ _ form) in
-        let least = not_below p.sequence mine.next_recv (ap (λ b. not (cond b (nat_lt p.sequence mine.next_recv) (is_one_of mine.receipts p.sequence))) (sym ordered) ∙ require_true _ _ fresh) in
-        let most = not_below mine.next_recv p.sequence (ap (λ b. not (b && nat_lt mine.next_recv p.sequence)) (sym ordered) ∙ require_true _ _ next) in
-        omega arith,
+            let below = form_below p (evidence.is_proof m.proof) t.sequence (require_true _ _ form) in
+            let least = not_below p.sequence mine.next_recv (ap (λ b. not (cond b (nat_lt p.sequence mine.next_recv) (is_one_of mine.receipts p.sequence))) (sym ordered) ∙ require_true _ _ fresh) in
+            let most = not_below mine.next_recv p.sequence (ap (λ b. not (b && nat_lt mine.next_recv p.sequence)) (sym ordered) ∙ require_true _ _ next) in
+            omega arith,
       )
 
   pub recv_packet_kept : {A : Type 0} (on_recv : Text → Packet → Text × A) (evidence : Evidence) (host : Host) (m : RecvPacket) → IsTypedPacket m.packet
@@ -158,7 +157,7 @@ module _ (core : Core) (typed : IsTyped core) where
       gives_ok (λ (w : Effect × Core × A). Kept core w.0 w.1) _ (record {
         sound = record {
           typed = changed m.packet.destination_port m.packet.destination_channel mine (after_receive m.packet.sequence (on_recv mine.end.version m.packet).0 mine) r.0
-          (λ c. receive_typed m.packet.sequence (on_recv mine.end.version m.packet).0 mine c t.sequence r.1);
+              (λ c. receive_typed m.packet.sequence (on_recv mine.end.version m.packet).0 mine c t.sequence r.1);
           effect = refl;
         };
         clients = refl;
@@ -177,10 +176,10 @@ module _ (core : Core) (typed : IsTyped core) where
       gives_ok (Acknowledges p) mine (
         expect_passed (channel_at core p.source_port p.source_channel) refusal.UnknownChannel is,
         λ ordered.
-        let front = (and_parts (has_form p && has_size m.ack) (evidence.is_proof m.proof) (require_true _ _ form)).0 in
-        let below = form_below p (has_size m.ack) t.sequence front in
-        let same = not_other p.sequence mine.next_ack (ap (λ b. not (b && not (eqb p.sequence mine.next_ack))) (sym ordered) ∙ require_true _ _ next) in
-        omega arith,
+            let front = (and_parts (has_form p && has_size m.ack) (evidence.is_proof m.proof) (require_true _ _ form)).0 in
+            let below = form_below p (has_size m.ack) t.sequence front in
+            let same = not_other p.sequence mine.next_ack (ap (λ b. not (b && not (eqb p.sequence mine.next_ack))) (sym ordered) ∙ require_true _ _ next) in
+            omega arith,
       )
 
   pub ack_packet_kept : {A : Type 0} (on_ack : Text → Packet → Text → Checked A) (evidence : Evidence) (m : AckPacket) → IsTypedPacket m.packet

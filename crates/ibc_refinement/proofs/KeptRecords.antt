@@ -1,5 +1,5 @@
 -- Every accepted message keeps the records typed, and every one but the two for clients keeps the clients.
-use Rattle.std.proofs.Common.{◌≡◌, ℕ, ◌+◌, ◌<◌, ◌^◌, true, ◌&&◌, not, refl, Some, Option, Ok}
+use Rattle.std.proofs.Common.{◌≡◌, ◌<◌, ◌^◌, refl, Some}
 use Rattle.std.specs.Prelude.{⊤}
 use Rattle.ibc_ids.specs.Texts.{Text}
 use Rattle.ibc_ids.specs.declared.refusal.Refusal.TheVariants as refusal
@@ -49,7 +49,7 @@ send_note_kept core typed evidence m t =
     (let there = (sending_is core note_port m.channel).gives mine is in
     record {
       sound = sent_sound core typed note_port m.channel mine (note_commitment m) there t.0 t.1
-      (next_fits mine.next_send (channel_typed core note_port m.channel mine typed there).value.next_send number);
+          (next_fits mine.next_send (channel_typed core note_port m.channel mine typed there).value.next_send number);
       clients = refl;
     })
 
@@ -60,7 +60,7 @@ module _ (records : Records) (typed : IsTyped records.core) (evidence : Evidence
   send_tokens_kept name mine d c there height time =
       gives_then _ _ λ _. gives_bind _ _ λ (balances : Balances) _. gives_then _ _ λ number. gives_ok (RecordsKept records) _ (record {
         sound = sent_sound records.core typed transfer_port name mine c there height time
-        (next_fits mine.next_send (channel_typed records.core transfer_port name mine typed there).value.next_send number);
+            (next_fits mine.next_send (channel_typed records.core transfer_port name mine typed there).value.next_send number);
         clients = refl;
       })
 

@@ -1,5 +1,5 @@
 -- What clients know of others is what those committed, after an update, a new client, or nothing of either.
-use Rattle.std.proofs.Common.{Bool, Option, None, ◌≡◌, ℕ, true, false, ◌||◌, cond, eqb, List, [], ◌∷◌, refl, sym, ap, ap₂, ◌∙◌, Some, inl, inr, ◌⊎◌, Ordering, Less, Equal, Greater, is_eq, eqb-true, nat_cmp}
+use Rattle.std.proofs.Common.{◌≡◌, ℕ, true, false, ◌||◌, cond, eqb, List, [], ◌∷◌, refl, sym, ap, ap₂, ◌∙◌, Some, inl, inr, ◌⊎◌, Ordering, Less, Equal, Greater, is_eq, eqb-true, nat_cmp}
 use Rattle.std.specs.List.{list_any}
 use Rattle.std.specs.Option.{option_map_or, option_and_then}
 use Rattle.std.specs.Ordering.{ordering_then, match_ordering}

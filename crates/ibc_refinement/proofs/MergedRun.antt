@@ -1,32 +1,27 @@
 -- A list that merges the histories of ledgers is a run of the machine since genesis, to the ledgers' states.
-use Rattle.std.proofs.Common.{◌≡◌, ℕ, zero, suc, ◌+◌, ◌<◌, ◌≤◌, ◌^◌, Bool, true, false, cond, ◌&&◌, eqb, nat_lt, List, [], ◌∷◌, ◌++◌, length, map, filter, refl, sym, ap, ◌∙◌, subst, Some, None, Option, option_map, unwrap_or, slice_get, arith, ltb-true, append_assoc, eqb-true, eq-eqb, inl, inr}
-use Rattle.std.specs.Prelude.{⊤}
-use Rattle.std.specs.List.{AllByRecursion, list_all}
-use Rattle.std.specs.Option.{option_map_or}
-use Rattle.std.proofs.lemmas.Bool.{and_parts, and_from, false≢true}
+use Rattle.std.proofs.Common.{◌≡◌, ℕ, zero, suc, true, nat_lt, List, [], ◌∷◌, ◌++◌, length, map, refl, sym, ap, ◌∙◌, subst, Some, option_map, unwrap_or, slice_get, arith, ltb-true, inr}
+use Rattle.std.specs.List.{list_all}
+use Rattle.std.proofs.lemmas.Bool.{and_parts, false≢true}
 use Rattle.std.proofs.lemmas.Option.{slice_get-map}
 use Rattle.std.proofs.lemmas.List.{length-map}
-use Rattle.ibc_ids.specs.Texts.{Text}
 use Rattle.ibc_ids.specs.declared.publication.Publication.{Publication}
 use Rattle.ibc_machine.specs.declared.event.Event.{Event}
 use Rattle.ibc_machine.specs.declared.reply.Reply.{Reply}
 use Rattle.ibc_machine.specs.declared.entry.Entry.{Entry}
 use Rattle.ibc_machine.specs.Records.{Chain, Block, knows}
-use Rattle.ibc_machine.specs.Genesis.{GenesisState, ChainState, start, starting_chain, empty_core}
-use Rattle.ibc_machine.specs.Machine.{World, Step, IsRun, block_of}
-use Rattle.ibc_machine.specs.Replay.{LedgerState, StampedEntry, replay, met_states, starting_state, empty_chain}
-use Rattle.ibc_machine.specs.Ledgers.{Ledger, IsOwnEntry, chain_of, machine_of, state_of}
+use Rattle.ibc_machine.specs.Genesis.{GenesisState, start, starting_chain, empty_core}
+use Rattle.ibc_machine.specs.Machine.{World, IsRun, block_of}
+use Rattle.ibc_machine.specs.Replay.{LedgerState, StampedEntry, replay, starting_state, empty_chain}
+use Rattle.ibc_machine.specs.Ledgers.{Ledger, chain_of, machine_of, state_of}
 use Rattle.ibc_machine.specs.HashedTexts.{HasNoClash}
-use Rattle.ibc_machine.specs.Merge.{is_of, blocks_of, ReadsWhatIsBefore, EachAfter, Merges}
+use Rattle.ibc_machine.specs.Merge.{ReadsWhatIsBefore, EachAfter, Merges}
 use Rattle.ibc_machine.specs.Worlds.{entries}
 use Rattle.ibc_refinement.specs.Lower.{Lower}
 use Rattle.ibc_refinement.proofs.Places.{get_there, get_within, same_places}
-use Rattle.ibc_refinement.proofs.Clear.{AreFit}
 use Rattle.ibc_refinement.proofs.Typed.{IsTyped}
 use Rattle.ibc_refinement.proofs.EntrySteps.{ledger_of}
-use Rattle.ibc_refinement.proofs.Hashed.{Among}
-use Rattle.ibc_refinement.proofs.RunStates.{Runs, AllRun, AreOfWorld, IsLedgerAt, ledger_at, ledger_from}
-use Rattle.ibc_refinement.proofs.RunForward.{StepsOn, next_step}
+use Rattle.ibc_refinement.proofs.RunStates.{AllRun, AreOfWorld, ledger_at, ledger_from}
+use Rattle.ibc_refinement.proofs.RunForward.{next_step}
 
 abbrev pub events_of : List Entry → List Event
 events_of list = map (λ (e : Entry). e.event) list

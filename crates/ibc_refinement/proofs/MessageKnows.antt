@@ -1,10 +1,9 @@
 -- What clients know of others stays what those committed, through a message.
-use Rattle.std.proofs.Common.{◌≡◌, ℕ, Bool, true, false, ◌&&◌, eqb, not, nat_le, List, length, refl, sym, ap, ap₂, ◌∙◌, subst, Some, None, Option, option_map, option_and_then, Ok, Err, eqb-true, leb-true}
-use Rattle.std.specs.Prelude.{⊤, ◌==◌}
+use Rattle.std.proofs.Common.{◌≡◌, ℕ, Bool, true, false, eqb, not, nat_le, List, length, refl, sym, ap, ◌∙◌, subst, Some, None, Option, option_map, option_and_then, Ok, Err, eqb-true}
 use Rattle.std.specs.Option.{option_map_or}
 use Rattle.std.proofs.lemmas.Bool.{and_parts, false≢true}
 use Rattle.ibc_ids.specs.Texts.{Text, text_cmp, same_text}
-use Rattle.ibc_ids.specs.Maps.{Map, at, with}
+use Rattle.ibc_ids.specs.Maps.{Map, with}
 use Rattle.ibc_ids.specs.Paths.{nth_client}
 use Rattle.ibc_ids.specs.Publications.{row_at}
 use Rattle.ibc_ids.specs.declared.refusal.Refusal.TheVariants as refusal
@@ -17,10 +16,10 @@ use Rattle.ibc_wire.specs.declared.messages.Message.TheVariants as message
 use Rattle.ibc_machine.specs.declared.event.Event.TheVariants as event
 use Rattle.ibc_machine.specs.declared.entry.Reading.{Reading}
 use Rattle.ibc_machine.specs.declared.reply.Effect.{Effect}
-use Rattle.ibc_machine.specs.Records.{Core, Records, Chain, Client, Block, client_at, with_client}
+use Rattle.ibc_machine.specs.Records.{Core, Records, Client, Block, client_at, with_client}
 use Rattle.ibc_machine.specs.Image.{core_root}
 use Rattle.ibc_machine.specs.Checks.{Checked, go_on}
-use Rattle.ibc_machine.specs.Evidence.{Host, Evidence, Row, Same, Different, Gone, require_row}
+use Rattle.ibc_machine.specs.Evidence.{Host, Evidence, require_row}
 use Rattle.ibc_machine.specs.Clients.{create_client, update_client, new_client, updated, is_of_client}
 use Rattle.ibc_machine.specs.Genesis.{GenesisState}
 use Rattle.ibc_machine.specs.Handlers.{core_step, handle, after_message, host_of}
@@ -29,7 +28,7 @@ use Rattle.ibc_machine.specs.Replay.{Consensus, LedgerState, consensus_cmp, is_p
 use Rattle.ibc_machine.specs.Ledgers.{published_as}
 use Rattle.ibc_refinement.proofs.Texts.{text_same}
 use Rattle.ibc_refinement.proofs.Checked.{Gives, gives_ok, gives_then, gives_bind, expect_passed, require_true}
-use Rattle.ibc_refinement.proofs.Steps.{Knows, KnowsBlocks, consensus_of, SeesRow, SeesForMessage}
+use Rattle.ibc_refinement.proofs.Steps.{Knows, KnowsBlocks, consensus_of, SeesForMessage}
 use Rattle.ibc_refinement.proofs.Typed.{IsTyped}
 use Rattle.ibc_refinement.proofs.TypedMessages.{IsTypedMessage}
 use Rattle.ibc_refinement.proofs.KeptRecords.{IsOtherMessage, RecordsKept, handle_kept}

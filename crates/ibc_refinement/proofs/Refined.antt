@@ -1,5 +1,5 @@
 -- The refinement theorem: a list that merges the histories of ledgers is a past of the machine.
-use Rattle.std.proofs.Common.{◌≡◌, ℕ, ◌<◌, Bool, true, false, cond, ◌&&◌, nat_lt, List, [], ◌∷◌, length, map, filter, refl, sym, ap, ◌∙◌, subst, Some, Option, option_map, slice_get, arith, ltb-true, eq-eqb, inl, inr}
+use Rattle.std.proofs.Common.{◌≡◌, ℕ, Bool, true, false, cond, ◌&&◌, nat_lt, List, [], ◌∷◌, length, map, filter, refl, sym, ap, ◌∙◌, subst, option_map, ltb-true, eq-eqb, inl, inr}
 use Rattle.std.specs.List.{AllByRecursion, list_all}
 use Rattle.std.proofs.lemmas.Bool.{and_parts, and_from}
 use Rattle.std.proofs.lemmas.Option.{slice_get-map}
@@ -15,13 +15,13 @@ use Rattle.ibc_machine.specs.Replay.{LedgerState, StampedEntry, entry_answer, me
 use Rattle.ibc_machine.specs.Ledgers.{Ledger, IsOwnEntry, chain_of, is_typed, machine_of}
 use Rattle.ibc_machine.specs.Histories.{Happened}
 use Rattle.ibc_machine.specs.Merge.{is_of, Merges}
-use Rattle.ibc_machine.specs.Worlds.{entries, happened_by}
+use Rattle.ibc_machine.specs.Worlds.{entries}
 use Rattle.ibc_refinement.specs.Refinement.{MergedIsRun}
 use Rattle.ibc_refinement.specs.Lower.{Lower}
 use Rattle.ibc_refinement.proofs.Members.{Is_in}
 use Rattle.ibc_refinement.proofs.EntrySteps.{ledger_of, own_typed}
-use Rattle.ibc_refinement.proofs.RunStates.{AreOfWorld, IsLedgerAt, ledger_at}
-use Rattle.ibc_refinement.proofs.MergedRun.{AreWithin, events_of, replies_of, runs_on, all_start}
+use Rattle.ibc_refinement.proofs.RunStates.{AreOfWorld, ledger_at}
+use Rattle.ibc_refinement.proofs.MergedRun.{AreWithin, runs_on, all_start}
 
 -- ---- lists
 

@@ -1,16 +1,15 @@
 -- The next entry of a merged list is a step of the machine, to a world in which all ledgers have gone on.
-use Rattle.std.proofs.Common.{◌≡◌, ℕ, ◌+◌, ◌<◌, ◌≤◌, Bool, true, false, eqb, List, [], ◌∷◌, ◌++◌, length, map, filter, refl, sym, ap, ◌∙◌, subst, Some, Option, slice_get, slice_set, arith, eqb-true, eq-eqb, inl, inr}
+use Rattle.std.proofs.Common.{◌≡◌, ℕ, ◌<◌, ◌≤◌, true, false, eqb, List, [], ◌∷◌, ◌++◌, length, map, filter, refl, sym, ap, ◌∙◌, subst, Some, slice_get, slice_set, arith, eqb-true, eq-eqb, inr}
 use Rattle.std.specs.List.{AllByRecursion}
 use Rattle.std.proofs.lemmas.Bool.{false≢true}
 use Rattle.ibc_ids.specs.declared.publication.Publication.{Publication}
-use Rattle.ibc_machine.specs.declared.reply.Reply.{Reply}
 use Rattle.ibc_machine.specs.declared.entry.Entry.{Entry}
 use Rattle.ibc_machine.specs.Genesis.{GenesisState}
 use Rattle.ibc_machine.specs.Machine.{World, Answers}
 use Rattle.ibc_machine.specs.Replay.{LedgerState, StampedEntry, entry_answer, replay, met_states}
 use Rattle.ibc_machine.specs.Ledgers.{Ledger, IsOwnEntry, chain_of, met_by, state_of}
 use Rattle.ibc_machine.specs.HashedTexts.{HasNoClash}
-use Rattle.ibc_machine.specs.Merge.{is_of, blocks_of, ReadsWhatIsBefore}
+use Rattle.ibc_machine.specs.Merge.{is_of, ReadsWhatIsBefore}
 use Rattle.ibc_refinement.specs.Lower.{Lower}
 use Rattle.ibc_refinement.proofs.Members.{Is_in}
 use Rattle.ibc_refinement.proofs.Places.{get_set, get_set_other, get_within, length_set}
@@ -20,7 +19,7 @@ use Rattle.ibc_refinement.proofs.Hashed.{Among}
 use Rattle.ibc_refinement.proofs.RunStates.{Runs, AllRun, AreOfWorld, IsLedgerAt, ledger_at}
 use Rattle.ibc_refinement.proofs.RunKnows.{Extends, knows_on, SeesForEvent, answer_knows}
 use Rattle.ibc_refinement.proofs.RunStep.{blocks_apart, sees_for, answers}
-use Rattle.ibc_refinement.proofs.RunNext.{BeginsWith, begins_with, own_first, other_first, next, commits, events_among, next_fit, goes_on, next_blocks}
+use Rattle.ibc_refinement.proofs.RunNext.{begins_with, own_first, other_first, commits, events_among, next_fit, goes_on, next_blocks}
 
 -- a step of the machine by an entry, and the world after it
 pub record StepsOn (genesis : GenesisState) (ledgers : List Ledger) (world : World) (before rest : List Entry) (e : Entry) : Type 0 where
@@ -53,8 +52,8 @@ module _ (lower : Lower) (genesis : GenesisState) (ledgers : List Ledger) (publi
       machine_answers = (
         oldest_of s.entry.reading,
         answers lower genesis ledgers publications are clash world before (s.entry ∷ rest) run k at.seen s.entry.reading r.state s.entry.event refl r.there r.knows r.typed (own_typed ledger r.state s own.0) sees
-        (events_among lower genesis ledgers publications are clash world before rest k s later run at r.state r.there own met ends r.typed)
-        ∙ (λ i. (sym own.0.reply i, after)),
+            (events_among lower genesis ledgers publications are clash world before rest k s later run at r.state r.there own met ends r.typed)
+            ∙ (λ i. (sym own.0.reply i, after)),
       )
 
       extends : Extends world after

@@ -1,15 +1,11 @@
 -- What clients know stays so while others go on, and through the own blocks.
-use Rattle.std.proofs.Common.{◌≡◌, ℕ, zero, suc, ◌+◌, ◌≤◌, Bool, true, false, ◌&&◌, eqb, List, [], ◌∷◌, ◌++◌, length, refl, sym, ap, ◌∙◌, subst, Some, None, Option, option_and_then, slice_get, slice_set, Ok, Err, eqb-true, eq-eqb}
-use Rattle.std.specs.Prelude.{⊤, IfSome}
+use Rattle.std.proofs.Common.{◌≡◌, ℕ, zero, suc, true, false, eqb, List, [], ◌++◌, refl, sym, ap, ◌∙◌, Some, None, Option, option_and_then, slice_get, slice_set, Ok, Err, eqb-true, eq-eqb}
+use Rattle.std.specs.Prelude.{⊤}
 use Rattle.std.specs.Option.{option_map_or}
 use Rattle.std.proofs.lemmas.Bool.{false≢true}
 use Rattle.ibc_ids.specs.Texts.{Text}
 use Rattle.ibc_ids.specs.Maps.{Map}
-use Rattle.ibc_ids.specs.Publications.{height_among}
 use Rattle.ibc_ids.specs.declared.publication.Publication.{Publication}
-use Rattle.ibc_wire.specs.declared.header.Header.{Header}
-use Rattle.ibc_wire.specs.declared.messages.Message.{Message}
-use Rattle.ibc_wire.specs.declared.messages.Message.TheVariants as message
 use Rattle.ibc_machine.specs.declared.event.Event.{Event}
 use Rattle.ibc_machine.specs.declared.event.Event.TheVariants as event
 use Rattle.ibc_machine.specs.declared.entry.Reading.{Reading}
@@ -17,9 +13,9 @@ use Rattle.ibc_machine.specs.Records.{Core, Chain, Block, Client, client_at}
 use Rattle.ibc_machine.specs.Checks.{Checked}
 use Rattle.ibc_machine.specs.Genesis.{GenesisState}
 use Rattle.ibc_machine.specs.Handlers.{may_commit, after_block}
-use Rattle.ibc_machine.specs.Machine.{World, block_of, block_at, committed_of}
-use Rattle.ibc_machine.specs.Replay.{LedgerState, Consensus, StampedEntry, with_chain, ledger_answer}
-use Rattle.ibc_machine.specs.Ledgers.{is_looking, header_in, is_typed, reading_fits}
+use Rattle.ibc_machine.specs.Machine.{World, block_of, block_at}
+use Rattle.ibc_machine.specs.Replay.{LedgerState, Consensus, with_chain, ledger_answer}
+use Rattle.ibc_machine.specs.Ledgers.{is_typed}
 use Rattle.ibc_refinement.proofs.Places.{get_set, get_set_other, get_more, get_within}
 use Rattle.ibc_refinement.proofs.Steps.{Knows, KnowsBlocks, SeesForMessage}
 use Rattle.ibc_refinement.proofs.Typed.{IsTyped}

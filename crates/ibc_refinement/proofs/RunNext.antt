@@ -1,33 +1,29 @@
 -- After an entry of a merged list each ledger has gone on: that of the entry's chain by the entry, and the
 -- others not.
-use Rattle.std.proofs.Common.{◌≡◌, ℕ, zero, suc, ◌+◌, ◌<◌, ◌≤◌, ◌^◌, Bool, true, false, cond, ◌&&◌, eqb, List, [], ◌∷◌, ◌++◌, length, map, filter, refl, sym, ap, ◌∙◌, subst, Some, None, Option, slice_get, slice_set, arith, inl, inr, eqb-true, eq-eqb, length-append, append-nil}
-use Rattle.std.specs.List.{AllByRecursion, flat_map}
-use Rattle.std.proofs.lemmas.Bool.{and_parts, cases_lt, false≢true}
+use Rattle.std.proofs.Common.{◌≡◌, ℕ, zero, suc, ◌<◌, ◌^◌, Bool, true, false, cond, ◌&&◌, List, [], ◌∷◌, ◌++◌, length, map, filter, refl, sym, ap, ◌∙◌, subst, Some, slice_get, slice_set, arith, inl, inr, length-append, append-nil}
+use Rattle.std.specs.List.{AllByRecursion}
 use Rattle.ibc_ids.specs.Texts.{Text}
 use Rattle.ibc_ids.specs.declared.publication.Publication.{Publication}
-use Rattle.ibc_merkle.specs.Tree.{tree}
-use Rattle.ibc_merkle.specs.Clashes.{tree_texts}
 use Rattle.ibc_machine.specs.declared.entry.Entry.{Entry}
 use Rattle.ibc_machine.specs.Records.{Block}
 use Rattle.ibc_machine.specs.Image.{image}
 use Rattle.ibc_machine.specs.Genesis.{GenesisState}
-use Rattle.ibc_machine.specs.Machine.{World, Answers, block_of}
+use Rattle.ibc_machine.specs.Machine.{World, block_of}
 use Rattle.ibc_machine.specs.Replay.{LedgerState, StampedEntry, entry_answer, replay, met_states, starting_state}
-use Rattle.ibc_machine.specs.Ledgers.{Ledger, IsOwnEntry, IsLedger, chain_of, is_block_reply, is_accepted_block, met_by, state_of}
+use Rattle.ibc_machine.specs.Ledgers.{Ledger, IsOwnEntry, is_block_reply, is_accepted_block, met_by, state_of}
 use Rattle.ibc_machine.specs.HashedTexts.{event_texts, ledger_texts, HasNoClash}
-use Rattle.ibc_machine.specs.Merge.{is_of, blocks_of, ReadsWhatIsBefore}
+use Rattle.ibc_machine.specs.Merge.{is_of, blocks_of}
 use Rattle.ibc_refinement.specs.Lower.{Lower}
 use Rattle.ibc_refinement.proofs.Members.{Is_in, in_left, in_right, in_flat_map}
-use Rattle.ibc_refinement.proofs.Places.{get_set, get_set_other, get_cases, get_within, get_in, all_in, length_set}
+use Rattle.ibc_refinement.proofs.Places.{get_cases, get_in, all_in}
 use Rattle.ibc_refinement.proofs.Clear.{AreFit}
-use Rattle.ibc_refinement.proofs.Steps.{oldest_of}
 use Rattle.ibc_refinement.proofs.Typed.{IsTyped}
 use Rattle.ibc_refinement.proofs.TypedLook.{fit_from}
 use Rattle.ibc_refinement.proofs.EntrySteps.{working, Commits, answer_commits, ledger_of, own_typed, replay_grows}
 use Rattle.ibc_refinement.proofs.Hashed.{met_hashed, block_hashed, event_hashed, met_in_history, Among}
-use Rattle.ibc_refinement.proofs.RunStates.{Runs, AllRun, AreOfWorld, IsLedgerAt, ledger_at}
-use Rattle.ibc_refinement.proofs.RunKnows.{Extends, knows_on, extends_at, answer_knows}
-use Rattle.ibc_refinement.proofs.RunStep.{blocks_more, blocks_apart, sees_for, answers}
+use Rattle.ibc_refinement.proofs.RunStates.{AllRun, AreOfWorld, IsLedgerAt}
+use Rattle.ibc_refinement.proofs.RunKnows.{Extends, extends_at}
+use Rattle.ibc_refinement.proofs.RunStep.{blocks_more}
 
 -- ---- what is left of a history begins with the entry
 

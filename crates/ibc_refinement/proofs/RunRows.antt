@@ -1,7 +1,7 @@
 -- What a ledger read of another chain fits what that chain has committed by now, and its row is of its block.
-use Rattle.std.proofs.Common.{◌≡◌, ℕ, zero, suc, ◌+◌, ◌<◌, ◌≤◌, Bool, true, false, ◌&&◌, eqb, nat_le, nat_lt, List, [], ◌∷◌, ◌++◌, length, map, take, drop, filter, refl, sym, ap, ◌∙◌, subst, Some, None, Option, option_map, slice_get, arith, leb-true, inl, inr, length-append, take-append-drop}
+use Rattle.std.proofs.Common.{◌≡◌, ℕ, zero, suc, ◌+◌, ◌<◌, ◌≤◌, true, ◌&&◌, eqb, nat_le, nat_lt, List, [], ◌++◌, length, map, take, drop, filter, refl, sym, ap, ◌∙◌, Some, option_map, slice_get, arith, leb-true, inl, inr, length-append, take-append-drop}
 use Rattle.std.specs.Option.{option_map_or}
-use Rattle.std.proofs.lemmas.Bool.{and_parts, cases_lt, false≢true}
+use Rattle.std.proofs.lemmas.Bool.{and_parts, cases_lt}
 use Rattle.std.proofs.lemmas.Option.{slice_get-map, slice_get_past}
 use Rattle.std.proofs.lemmas.List.Elements.{filter-append}
 use Rattle.ibc_ids.specs.Publications.{published_by, height_of, height_among, row_at}
@@ -9,11 +9,10 @@ use Rattle.ibc_ids.specs.declared.publication.Publication.{Publication}
 use Rattle.ibc_wire.specs.declared.header.Header.{Header}
 use Rattle.ibc_machine.specs.declared.entry.Entry.{Entry}
 use Rattle.ibc_machine.specs.declared.entry.Reading.{Reading}
-use Rattle.ibc_machine.specs.Records.{Block, Chain}
+use Rattle.ibc_machine.specs.Records.{Chain}
 use Rattle.ibc_machine.specs.Genesis.{GenesisState}
-use Rattle.ibc_machine.specs.Machine.{World, block_at, block_of, committed_of}
-use Rattle.ibc_machine.specs.Replay.{StampedEntry}
-use Rattle.ibc_machine.specs.Ledgers.{Ledger, published_as, fits, reading_fits, state_of}
+use Rattle.ibc_machine.specs.Machine.{World, block_at, committed_of}
+use Rattle.ibc_machine.specs.Ledgers.{Ledger, published_as, fits, reading_fits}
 use Rattle.ibc_machine.specs.Merge.{blocks_of}
 use Rattle.ibc_refinement.proofs.Places.{get_left}
 use Rattle.ibc_refinement.proofs.Steps.{SeesRow}

@@ -1,47 +1,37 @@
 -- In the middle of a merged list, the next entry is a step of the machine.
-use Rattle.std.proofs.Common.{◌≡◌, ℕ, zero, suc, ◌+◌, ◌<◌, ◌≤◌, ◌^◌, Bool, true, false, cond, ◌&&◌, eqb, List, [], ◌∷◌, ◌++◌, length, map, filter, refl, sym, ap, ◌∙◌, subst, Some, None, Option, slice_get, slice_set, arith, inl, inr, eqb-true, eq-eqb, length-append, append_assoc, is_some}
-use Rattle.std.specs.Prelude.{⊤, IfSome}
-use Rattle.std.specs.List.{AllByRecursion, flat_map, count_by}
+use Rattle.std.proofs.Common.{◌≡◌, ℕ, zero, suc, ◌+◌, ◌≤◌, Bool, true, false, cond, ◌&&◌, List, [], ◌∷◌, ◌++◌, length, refl, sym, ap, ◌∙◌, subst, Some, None, Option, slice_get, slice_set, arith, inl, inr, is_some}
+use Rattle.std.specs.Prelude.{IfSome}
 use Rattle.std.specs.Option.{option_map_or}
-use Rattle.std.proofs.lemmas.Bool.{and_parts, cases_lt, false≢true}
+use Rattle.std.proofs.lemmas.Bool.{cases_lt, false≢true}
 use Rattle.std.proofs.lemmas.List.Sums.{sum_by-append}
 use Rattle.std.proofs.lemmas.Option.{slice_get_past}
 use Rattle.ibc_ids.specs.Texts.{Text}
 use Rattle.ibc_ids.specs.Publications.{height_among}
 use Rattle.ibc_ids.specs.declared.publication.Publication.{Publication}
-use Rattle.ibc_merkle.specs.Tree.{tree}
-use Rattle.ibc_merkle.specs.Clashes.{tree_texts}
 use Rattle.ibc_wire.specs.declared.header.Header.{Header}
-use Rattle.ibc_wire.specs.declared.messages.Message.{Message}
 use Rattle.ibc_wire.specs.declared.messages.Message.TheVariants as message
 use Rattle.ibc_machine.specs.declared.event.Event.{Event}
 use Rattle.ibc_machine.specs.declared.event.Event.TheVariants as event
-use Rattle.ibc_machine.specs.declared.reply.Reply.{Reply}
 use Rattle.ibc_machine.specs.declared.entry.Entry.{Entry}
 use Rattle.ibc_machine.specs.declared.entry.Reading.{Reading}
-use Rattle.ibc_machine.specs.Records.{Block, Chain, Client, client_at}
-use Rattle.ibc_machine.specs.Image.{image}
+use Rattle.ibc_machine.specs.Records.{Chain, Client}
 use Rattle.ibc_machine.specs.Clients.{is_of_client}
 use Rattle.ibc_machine.specs.Genesis.{GenesisState}
-use Rattle.ibc_machine.specs.Machine.{World, answer, block_of, block_at, committed_of, true_marks}
-use Rattle.ibc_machine.specs.Replay.{LedgerState, StampedEntry, ledger_answer, entry_answer, replay, met_states}
-use Rattle.ibc_machine.specs.Ledgers.{Ledger, IsOwnEntry, IsLedger, IsReading, is_looking, header_in, is_typed, chain_of, is_block_reply, is_accepted_block, reading_fits, met_by, state_of}
-use Rattle.ibc_machine.specs.HashedTexts.{event_texts, ledger_texts, HasNoClash}
+use Rattle.ibc_machine.specs.Machine.{World, answer, block_of, true_marks}
+use Rattle.ibc_machine.specs.Replay.{LedgerState, StampedEntry, ledger_answer}
+use Rattle.ibc_machine.specs.Ledgers.{Ledger, IsReading, is_looking, header_in, is_typed, chain_of, is_accepted_block, reading_fits}
+use Rattle.ibc_machine.specs.HashedTexts.{event_texts, HasNoClash}
 use Rattle.ibc_machine.specs.Merge.{is_of, blocks_of, ReadsWhatIsBefore}
 use Rattle.ibc_refinement.specs.Lower.{Lower}
-use Rattle.ibc_refinement.proofs.Members.{Is_in, in_left, in_right, in_flat_map}
-use Rattle.ibc_refinement.proofs.Places.{get_set, get_set_other, get_cases, get_within, get_in, all_in, length_set}
-use Rattle.ibc_refinement.proofs.Clear.{AreFit}
-use Rattle.ibc_refinement.proofs.Steps.{KnowsBlocks, SeesRow, SeesForMessage, oldest_of, block_step}
+use Rattle.ibc_refinement.proofs.Members.{Is_in}
+use Rattle.ibc_refinement.proofs.Steps.{KnowsBlocks, oldest_of, block_step}
 use Rattle.ibc_refinement.proofs.Typed.{IsTyped}
-use Rattle.ibc_refinement.proofs.TypedLook.{fit_from}
 use Rattle.ibc_refinement.proofs.TypedMessages.{message_typed}
-use Rattle.ibc_refinement.proofs.EntrySteps.{working, Commits, answer_commits, ledger_of, own_typed, replay_grows}
 use Rattle.ibc_refinement.proofs.FitSteps.{AllFit, fit_step}
-use Rattle.ibc_refinement.proofs.Hashed.{met_hashed, block_hashed, event_hashed, met_in_history, Among, among_clear}
-use Rattle.ibc_refinement.proofs.RunStates.{Runs, AllRun, AreOfWorld, IsLedgerAt, ledger_at}
+use Rattle.ibc_refinement.proofs.Hashed.{Among, among_clear}
+use Rattle.ibc_refinement.proofs.RunStates.{AllRun, AreOfWorld, ledger_at}
 use Rattle.ibc_refinement.proofs.RunRows.{runs_at, committed_is, sees_row}
-use Rattle.ibc_refinement.proofs.RunKnows.{Extends, knows_on, extends_at, SeesForEvent, answer_knows}
+use Rattle.ibc_refinement.proofs.RunKnows.{SeesForEvent}
 
 -- ---- counting blocks
 
@@ -95,8 +85,8 @@ module _ (lower : Lower) (genesis : GenesisState) (ledgers : List Ledger) (publi
           r.0,
           r.1,
           sees_row genesis ledgers publications world before rest are run k ledger m.header r.0 was.1 there
-          (subst (λ (h : Header). reading_fits genesis.window (height_among h.chain was.1 ledger.seen) h.height r.0 ≡ true) same was.5)
-          (subst (λ o. IfSome o (λ (header : Header). reading_fits genesis.window (blocks_of header.chain before) header.height r.0 ≡ true)) (ap header_in is) now),
+              (subst (λ (h : Header). reading_fits genesis.window (height_among h.chain was.1 ledger.seen) h.height r.0 ≡ true) same was.5)
+              (subst (λ o. IfSome o (λ (header : Header). reading_fits genesis.window (blocks_of header.chain before) header.height r.0 ≡ true)) (ap header_in is) now),
         )
     sees_for k ledger state s there looking reading reads (event.Message chain m) is = tt
     sees_for k ledger state s there looking reading reads (event.Block chain next_time) is = tt

@@ -1,5 +1,5 @@
 -- A chain answers each message alike under two ways to judge that agree on what the message asks.
-use Rattle.std.proofs.Common.{◌≡◌, true, ◌||◌, refl, ap, Some, None, Option}
+use Rattle.std.proofs.Common.{◌≡◌, true, ◌||◌, refl, ap, Some, None}
 use Rattle.std.specs.Prelude.{⊤}
 use Rattle.ibc_ids.specs.Texts.{Text}
 use Rattle.ibc_wire.specs.declared.messages.Message.{Message}
@@ -8,7 +8,6 @@ use Rattle.ibc_wire.specs.declared.records.ConnectionEnd.{ConnectionEnd}
 use Rattle.ibc_wire.specs.declared.records.ConnectionState.TheVariants as conn
 use Rattle.ibc_wire.specs.declared.records.ChannelState.TheVariants.{Init, TryOpen, Open, Closed}
 use Rattle.ibc_machine.specs.Records.{Core, Records, Client, Channel, client_at, connection_at, channel_at}
-use Rattle.ibc_machine.specs.Values.{Claim}
 use Rattle.ibc_machine.specs.Evidence.{Host, Evidence}
 use Rattle.ibc_machine.specs.Clients.{is_of_client}
 use Rattle.ibc_machine.specs.Connections.{connection_end, has_connection, has_client}

@@ -1,5 +1,5 @@
 -- Channels: handlers answer alike under two ways to judge that agree on what they ask.
-use Rattle.std.proofs.Common.{◌≡◌, true, ◌||◌, refl, Some, None, Option, Ok}
+use Rattle.std.proofs.Common.{◌≡◌, true, ◌||◌, refl, Some, None}
 use Rattle.std.specs.Prelude.{⊤}
 use Rattle.ibc_ids.specs.Texts.{Text}
 use Rattle.ibc_ids.specs.declared.refusal.Refusal.TheVariants as refusal

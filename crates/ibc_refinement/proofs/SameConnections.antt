@@ -1,5 +1,5 @@
 -- Clients and connections: handlers answer alike under two ways to judge that agree on what they ask.
-use Rattle.std.proofs.Common.{◌≡◌, ℕ, true, ◌&&◌, not, nat_le, refl, ap, Some, None, Option, Ok}
+use Rattle.std.proofs.Common.{◌≡◌, true, refl, ap, Some, None}
 use Rattle.ibc_ids.specs.Texts.{Text}
 use Rattle.ibc_ids.specs.declared.refusal.Refusal.TheVariants as refusal
 use Rattle.ibc_wire.specs.declared.messages.UpdateClient.{UpdateClient}

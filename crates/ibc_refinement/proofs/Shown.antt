@@ -10,11 +10,11 @@ use Rattle.ibc_refinement.proofs.Texts.{text_same, same_text_from}
 use Rattle.ibc_merkle.specs.Tree.{tree}
 use Rattle.ibc_merkle.specs.Proofs.{accepts}
 use Rattle.ibc_merkle.specs.Written.{written}
-use Rattle.ibc_merkle.specs.Clashes.{NoClash, WrittenIsAccepted, AcceptedIsWritten, tree_texts, proof_texts}
+use Rattle.ibc_merkle.specs.Clashes.{NoClash, tree_texts, proof_texts}
 use Rattle.ibc_merkle.specs.declared.proof.Proof.{Proof}
 use Rattle.ibc_wire.specs.Fields.{have_form}
 use Rattle.ibc_wire.specs.Spelling.{proof_fields, proof_bytes}
-use Rattle.ibc_wire.specs.Reading.{proof_of, ReadsWhatIsSpelled}
+use Rattle.ibc_wire.specs.Reading.{proof_of}
 use Rattle.ibc_refinement.proofs.Digests.{each_byte}
 use Rattle.ibc_refinement.specs.Lower.{Lower, AreBytes}
 use Rattle.ibc_machine.specs.Records.{Core}

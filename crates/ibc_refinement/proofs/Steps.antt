@@ -1,8 +1,8 @@
 -- A step of a ledger is a step of the machine, where what it knows of others is what they committed.
-use Rattle.std.proofs.Common.{◌≡◌, ℕ, ◌+◌, Bool, true, false, ◌&&◌, ◌||◌, not, eqb, cond, nat_le, nat_lt, List, length, refl, sym, ap, ◌∙◌, Some, None, Option, option_map, option_and_then, slice_get, slice_set, arith, eqb-true, leb-true, le-leb, ltb-true, eq-eqb, subst, ◌≤◌}
+use Rattle.std.proofs.Common.{◌≡◌, ℕ, ◌+◌, Bool, true, false, ◌&&◌, ◌||◌, not, eqb, cond, nat_le, nat_lt, List, length, refl, sym, ap, ◌∙◌, Some, None, Option, option_map, option_and_then, slice_get, slice_set, arith, eqb-true, leb-true, le-leb, ltb-true, subst, ◌≤◌}
 use Rattle.std.specs.Prelude.{⊤, ◌==◌}
 use Rattle.std.specs.Option.{option_map_or}
-use Rattle.std.proofs.lemmas.Bool.{and_parts, false≢true}
+use Rattle.std.proofs.lemmas.Bool.{and_parts}
 use Rattle.ibc_ids.specs.Texts.{Text}
 use Rattle.ibc_ids.specs.Maps.{Map, at}
 use Rattle.ibc_ids.specs.Publications.{row_at}
@@ -17,11 +17,11 @@ use Rattle.ibc_machine.specs.declared.entry.Reading.{Reading}
 use Rattle.ibc_machine.specs.Genesis.{GenesisState}
 use Rattle.ibc_machine.specs.Records.{Core, Block, Chain, Client, client_at, knows}
 use Rattle.ibc_machine.specs.Image.{core_root}
-use Rattle.ibc_machine.specs.Evidence.{Row, Gone}
+use Rattle.ibc_machine.specs.Evidence.{Gone}
 use Rattle.ibc_machine.specs.Handlers.{after_message, message_answer, block_answer, host_of}
 use Rattle.ibc_machine.specs.Clients.{is_of_client}
-use Rattle.ibc_machine.specs.Machine.{World, answer, at_chain, block_at, block_seen, committed_of, looks, true_marks, is_gone, row_if, row_seen, is_header_of, shows_in}
-use Rattle.ibc_machine.specs.Replay.{Consensus, LedgerState, consensus_cmp, is_published_as, is_shown, row_read, proves, after_answer, ledger_answer}
+use Rattle.ibc_machine.specs.Machine.{World, answer, at_chain, block_at, block_seen, committed_of, looks, true_marks, is_gone, row_if, is_header_of, shows_in}
+use Rattle.ibc_machine.specs.Replay.{Consensus, LedgerState, consensus_cmp, is_published_as, is_shown, proves, after_answer, ledger_answer}
 use Rattle.ibc_machine.specs.Ledgers.{published_as, fits, reading_fits}
 use Rattle.ibc_refinement.specs.Lower.{Lower}
 use Rattle.ibc_refinement.proofs.Agreeing.{Asked, Agree, AgreeOn}

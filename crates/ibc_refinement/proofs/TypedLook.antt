@@ -1,5 +1,5 @@
 -- Typed records, whose texts are among those that don't clash, are fit to be proved.
-use Rattle.std.proofs.Common.{◌≡◌, ℕ, ◌<◌, ◌^◌, Bool, true, false, ◌&&◌, nat_lt, List, [], ◌∷◌, ◌++◌, length, refl, sym, ap, ◌∙◌, subst, ◌≤◌, arith, Option, Some, None, option_map, option_and_then, inl, inr, lt-ltb, nat_cmp}
+use Rattle.std.proofs.Common.{◌≡◌, ℕ, ◌<◌, ◌^◌, Bool, true, false, ◌&&◌, nat_lt, [], ◌∷◌, length, refl, sym, ap, ◌∙◌, subst, arith, Option, Some, None, option_map, option_and_then, inl, inr, lt-ltb, nat_cmp}
 use Rattle.std.specs.Prelude.{⊤, ◌==◌}
 use Rattle.std.specs.List.{flat_map}
 use Rattle.std.specs.Map.{values_of}
@@ -8,27 +8,27 @@ use Rattle.std.proofs.lemmas.Bool.{and_from}
 use Rattle.ibc_ids.specs.Texts.{Text, text_cmp, pair_cmp}
 use Rattle.ibc_ids.specs.Maps.{Map, at}
 use Rattle.ibc_ids.specs.Names.{is_port, is_channel, is_client, is_connection, is_version}
-use Rattle.ibc_ids.specs.Paths.{path, is_key}
+use Rattle.ibc_ids.specs.Paths.{is_key}
 use Rattle.ibc_ids.specs.declared.key.Key.{Key}
 use Rattle.ibc_ids.specs.declared.key.Key.TheVariants as key
 use Rattle.ibc_wire.specs.Spelling.{connection_state_number, channel_state_number}
 use Rattle.ibc_wire.specs.declared.records.ConnectionEnd.{ConnectionEnd}
 use Rattle.ibc_merkle.specs.Tree.{tree}
 use Rattle.ibc_merkle.specs.Clashes.{tree_texts}
-use Rattle.ibc_machine.specs.Records.{Core, Client, Channel, Commitment, client_at, connection_at, channel_at, is_one_of}
-use Rattle.ibc_machine.specs.Values.{Value, ClientIs, ConnectionIs, ChannelIs, NumberIs, CommitmentIs, ReceiptIs, AckIs, look, receipt_if, commitment_text, value_bytes}
+use Rattle.ibc_machine.specs.Records.{Core, Client, Channel, client_at, connection_at, channel_at, is_one_of}
+use Rattle.ibc_machine.specs.Values.{Value, ClientIs, ConnectionIs, ChannelIs, NumberIs, CommitmentIs, ReceiptIs, AckIs, look, receipt_if, commitment_text}
 use Rattle.ibc_machine.specs.Image.{image}
 use Rattle.ibc_machine.specs.HashedTexts.{commitment_texts, channel_texts, core_texts}
 use Rattle.ibc_refinement.proofs.Texts.{text_tied}
-use Rattle.ibc_refinement.specs.Lower.{FitsText, FitsPair}
-use Rattle.ibc_refinement.proofs.SameSpellings.{IsShort, IsPeer, IsPlainConnection, IsPlainChannel}
+use Rattle.ibc_refinement.specs.Lower.{FitsText}
+use Rattle.ibc_refinement.proofs.SameSpellings.{IsShort, IsPeer}
 use Rattle.ibc_refinement.proofs.Members.{Is_in, in_left, in_right, in_flat_map, at_in}
 use Rattle.ibc_refinement.proofs.Images.{pair_tied}
 use Rattle.ibc_refinement.proofs.Entries.{all_at, all_one_of}
 use Rattle.ibc_refinement.proofs.Fitting.{name_fits, version_fits}
-use Rattle.ibc_refinement.proofs.PlainValues.{IsPlain, ArePlain}
+use Rattle.ibc_refinement.proofs.PlainValues.{IsPlain}
 use Rattle.ibc_refinement.proofs.Clear.{AreFit}
-use Rattle.ibc_refinement.proofs.Typed.{IsTypedClient, IsNamedPeer, IsTypedConnection, IsTypedConnectionAt, IsTypedEnd, IsTypedCommitment, IsSequence, HasSequence, IsTypedChannel, IsTypedChannelAt, IsTyped}
+use Rattle.ibc_refinement.proofs.Typed.{IsTypedClient, IsNamedPeer, IsTypedConnectionAt, IsTypedCommitment, IsSequence, HasSequence, IsTypedChannel, IsTypedChannelAt, IsTyped}
 use Rattle.ibc_refinement.proofs.TypedValues.{IsTypedValue, path_fits, value_fits}
 
 -- ---- what is found is typed

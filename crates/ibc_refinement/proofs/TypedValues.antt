@@ -1,15 +1,11 @@
 -- What stands at a key of typed records is plain and can be spelled in a proof, and the key is a key.
-use Rattle.std.proofs.Common.{◌≡◌, ℕ, ◌+◌, ◌≤◌, ◌<◌, ◌^◌, Bool, true, false, ◌&&◌, nat_lt, codes, List, [], ◌∷◌, ◌++◌, length, refl, sym, ap, ◌∙◌, subst, arith, Option, Some, None, option_map, option_and_then, inl, inr, lt-ltb, ltb-true, nat_cmp}
+use Rattle.std.proofs.Common.{◌≡◌, ℕ, ◌<◌, ◌^◌, Bool, true, false, ◌&&◌, nat_lt, codes, [], ◌∷◌, ◌++◌, refl, arith, Option, Some, None, ltb-true}
 use Rattle.std.specs.Prelude.{⊤, ◌==◌}
-use Rattle.std.specs.List.{AllByRecursion, flat_map}
-use Rattle.std.specs.Map.{values_of}
-use Rattle.std.specs.FinMap.{nat_cmp-IsAntisymmetric}
 use Rattle.std.specs.Int.{w64, to_be_bytes}
 use Rattle.std.specs.Fmt.{decimal}
-use Rattle.std.proofs.lemmas.Bool.{and_parts, and_from}
-use Rattle.ibc_ids.specs.Texts.{Text, text_cmp, pair_cmp}
-use Rattle.ibc_ids.specs.Maps.{Map, at}
-use Rattle.ibc_ids.specs.Names.{is_client, is_connection, is_channel, is_port}
+use Rattle.std.proofs.lemmas.Bool.{and_parts}
+use Rattle.ibc_ids.specs.Texts.{Text}
+use Rattle.ibc_ids.specs.Names.{is_connection, is_channel, is_port}
 use Rattle.ibc_ids.specs.Paths.{path, is_key, channel_path, sequence_path}
 use Rattle.ibc_ids.specs.declared.key.Key.{Key}
 use Rattle.ibc_ids.specs.declared.key.Key.TheVariants as key
@@ -17,23 +13,16 @@ use Rattle.ibc_wire.specs.Fields.{counted}
 use Rattle.ibc_wire.specs.Spelling.{peer, connection_state_number, channel_state_number, order_number}
 use Rattle.ibc_wire.specs.declared.records.ConnectionState.{ConnectionState}
 use Rattle.ibc_wire.specs.declared.records.ConnectionState.TheVariants as conn
-use Rattle.ibc_wire.specs.declared.records.ConnectionEnd.{ConnectionEnd}
 use Rattle.ibc_wire.specs.declared.records.ChannelState.{ChannelState}
 use Rattle.ibc_wire.specs.declared.records.ChannelState.TheVariants as chan
 use Rattle.ibc_wire.specs.declared.records.Order.{Order}
 use Rattle.ibc_wire.specs.declared.records.Order.TheVariants.{Unordered, Ordered}
-use Rattle.ibc_wire.specs.declared.records.ChannelEnd.{ChannelEnd}
 use Rattle.ibc_merkle.specs.Hash.{hash}
-use Rattle.ibc_machine.specs.Records.{Core, Client, Channel, Commitment, client_at, connection_at, channel_at, is_one_of}
-use Rattle.ibc_machine.specs.Values.{Value, ClientIs, ConnectionIs, ChannelIs, NumberIs, CommitmentIs, ReceiptIs, AckIs, look, receipt_if, commitment_text, value_bytes}
-use Rattle.ibc_refinement.proofs.Texts.{text_tied}
+use Rattle.ibc_machine.specs.Values.{Value, ClientIs, ConnectionIs, ChannelIs, NumberIs, CommitmentIs, ReceiptIs, AckIs, commitment_text, value_bytes}
 use Rattle.ibc_refinement.proofs.Digests.{length-hash, bytes-hash}
-use Rattle.ibc_refinement.specs.Lower.{FitsText, FitsPair}
-use Rattle.ibc_refinement.proofs.SameSpellings.{IsPeer, IsPlainConnection, IsPlainChannel}
-use Rattle.ibc_refinement.proofs.Images.{pair_tied}
-use Rattle.ibc_refinement.proofs.Entries.{all_at, all_one_of}
+use Rattle.ibc_refinement.specs.Lower.{FitsText}
 use Rattle.ibc_refinement.proofs.Fitting.{fits_both, fits_within, byte_fits, number_fits, counted_fits, name_fits, version_fits, decimal_fits}
-use Rattle.ibc_refinement.proofs.Typed.{IsTypedClient, IsNamedPeer, IsTypedConnection, IsTypedConnectionAt, IsTypedEnd, IsTypedCommitment, IsSequence, HasSequence, IsTypedChannel, IsTypedChannelAt, IsTyped}
+use Rattle.ibc_refinement.proofs.Typed.{IsNamedPeer, IsTypedConnection, IsTypedEnd}
 
 -- ---- paths
 

@@ -1,5 +1,5 @@
 -- What the theorem rests on: the laws of proofs, of their spellings and of paths.
-use Rattle.std.specs.Prelude.{◌≡◌, ℕ, ◌≤◌, ◌^◌, Bool, true, nat_lt, List, length}
+use Rattle.std.specs.Prelude.{◌≡◌, ℕ, ◌≤◌, ◌^◌, true, nat_lt, length}
 use Rattle.std.specs.List.{list_all, AllByRecursion}
 use Rattle.ibc_ids.specs.Texts.{Text}
 use Rattle.ibc_ids.specs.Paths.{DifferentPaths}
