@@ -68,3 +68,9 @@ replay_grows ledger genesis k seen state (e ∷ history) typed own =
       | inl w ↦ (rest.0, rest.1 ∙ ap (λ xs. xs ++ rest.0) w.1)
       | inr w ↦ (working state.chain ∷ rest.0, rest.1 ∙ ap (λ xs. xs ++ rest.0) w.1 ∙ append_assoc state.chain.committed (working state.chain ∷ []) rest.0)
     ]
+
+-- a history with one entry more
+pub replay_more : (genesis : GenesisState) (k : ℕ) (seen : List Publication) (state : LedgerState) (history : List StampedEntry) (e : StampedEntry)
+    → replay genesis k seen state (history ++ e ∷ []) ≡ (entry_answer genesis k seen (replay genesis k seen state history) e).1
+replay_more genesis k seen state [] e = refl
+replay_more genesis k seen state (x ∷ history) e = replay_more genesis k seen (entry_answer genesis k seen state x).1 history e

@@ -40,3 +40,5 @@ pub mod RunNext
 pub mod RunForward
 pub mod MergedRun
 pub mod Refined
+pub mod SeenMore
+pub mod RunOn

@@ -83,7 +83,11 @@ all_start genesis ledgers publications are times list merges = record {
       let chain : (starting_state genesis k).chain ≡ starting_chain c.0 = ap (λ o. unwrap_or o empty_chain) first in
       record {
         state = starting_state genesis k;
+        done = [];
         left = history;
+        whole = refl;
+        replayed = refl;
+        consumed = refl;
         there = first ∙ ap Some (sym chain);
         remaining = sym (merges.each k (entries L) (slice_get-map entries ledgers k ∙ ap (option_map entries) there));
         own = f.1.entries;

@@ -1,12 +1,13 @@
 -- The next entry of a merged list is a step of the machine, to a world in which all ledgers have gone on.
-use Rattle.std.proofs.Common.{◌≡◌, ℕ, ◌<◌, ◌≤◌, true, false, eqb, List, [], ◌∷◌, ◌++◌, length, map, filter, refl, sym, ap, ◌∙◌, subst, Some, slice_get, slice_set, arith, eqb-true, eq-eqb, inr}
+use Rattle.std.proofs.Common.{◌≡◌, ℕ, ◌<◌, ◌≤◌, true, false, eqb, List, [], ◌∷◌, ◌++◌, length, map, filter, refl, sym, ap, ◌∙◌, subst, Some, slice_get, slice_set, arith, eqb-true, eq-eqb, inr, append_assoc}
+use Rattle.std.proofs.lemmas.List.{map-append}
 use Rattle.std.specs.List.{AllByRecursion}
 use Rattle.std.proofs.lemmas.Bool.{false≢true}
 use Rattle.ibc_ids.specs.declared.publication.Publication.{Publication}
 use Rattle.ibc_machine.specs.declared.entry.Entry.{Entry}
 use Rattle.ibc_machine.specs.Genesis.{GenesisState}
 use Rattle.ibc_machine.specs.Machine.{World, Answers}
-use Rattle.ibc_machine.specs.Replay.{LedgerState, StampedEntry, entry_answer, replay, met_states}
+use Rattle.ibc_machine.specs.Replay.{LedgerState, StampedEntry, entry_answer, replay, met_states, starting_state}
 use Rattle.ibc_machine.specs.Ledgers.{Ledger, IsOwnEntry, chain_of, met_by, state_of}
 use Rattle.ibc_machine.specs.HashedTexts.{HasNoClash}
 use Rattle.ibc_machine.specs.Merge.{is_of, ReadsWhatIsBefore}
@@ -14,12 +15,12 @@ use Rattle.ibc_refinement.specs.Lower.{Lower}
 use Rattle.ibc_refinement.proofs.Members.{Is_in}
 use Rattle.ibc_refinement.proofs.Places.{get_set, get_set_other, get_within, length_set}
 use Rattle.ibc_refinement.proofs.Steps.{oldest_of}
-use Rattle.ibc_refinement.proofs.EntrySteps.{ledger_of, own_typed}
+use Rattle.ibc_refinement.proofs.EntrySteps.{ledger_of, own_typed, replay_more}
 use Rattle.ibc_refinement.proofs.Hashed.{Among}
 use Rattle.ibc_refinement.proofs.RunStates.{Runs, AllRun, AreOfWorld, IsLedgerAt, ledger_at}
 use Rattle.ibc_refinement.proofs.RunKnows.{Extends, knows_on, SeesForEvent, answer_knows}
 use Rattle.ibc_refinement.proofs.RunStep.{blocks_apart, sees_for, answers}
-use Rattle.ibc_refinement.proofs.RunNext.{begins_with, own_first, other_first, commits, events_among, next_fit, goes_on, next_blocks}
+use Rattle.ibc_refinement.proofs.RunNext.{begins_with, own_first, own_last, other_first, other_last, commits, events_among, next_fit, goes_on, next_blocks}
 
 -- a step of the machine by an entry, and the world after it
 pub record StepsOn (genesis : GenesisState) (ledgers : List Ledger) (world : World) (before rest : List Entry) (e : Entry) : Type 0 where
@@ -38,7 +39,8 @@ module _ (lower : Lower) (genesis : GenesisState) (ledgers : List Ledger) (publi
 
     module _ (r : Runs (Among ledgers) genesis world before (s.entry ∷ rest) k at.history at.seen) (own : AllByRecursion (IsOwnEntry ledger) (met_states genesis k at.seen r.state (s ∷ later)))
         (met : (x : LedgerState × StampedEntry) → Is_in x (met_states genesis k at.seen r.state (s ∷ later)) → Is_in x (met_by ledger))
-        (ends : replay genesis k at.seen r.state (s ∷ later) ≡ state_of ledger) (remaining : map (λ (s : StampedEntry). s.entry) later ≡ filter (is_of k) rest) where
+        (ends : replay genesis k at.seen r.state (s ∷ later) ≡ state_of ledger) (remaining : map (λ (s : StampedEntry). s.entry) later ≡ filter (is_of k) rest)
+        (parts : at.history ≡ r.done ++ s ∷ later) where
       abbrev after_k : LedgerState
       after_k = (entry_answer genesis k at.seen r.state s).1
 
@@ -65,7 +67,11 @@ module _ (lower : Lower) (genesis : GenesisState) (ledgers : List Ledger) (publi
       runs_k : Runs (Among ledgers) genesis after (before ++ s.entry ∷ []) rest k at.history at.seen
       runs_k = record {
         state = after_k;
+        done = r.done ++ s ∷ [];
         left = later;
+        whole = parts ∙ sym (append_assoc r.done (s ∷ []) later);
+        replayed = replay_more genesis k at.seen (starting_state genesis k) r.done s ∙ ap (λ (state : LedgerState). (entry_answer genesis k at.seen state s).1) r.replayed;
+        consumed = map-append (λ (s : StampedEntry). s.entry) r.done (s ∷ []) ∙ ap (λ xs. xs ++ s.entry ∷ []) r.consumed ∙ sym (own_last k before s.entry mine);
         there = get_set world k after_k.chain (get_within world k r.state.chain r.there);
         remaining = remaining;
         own = own.1;
@@ -82,7 +88,11 @@ module _ (lower : Lower) (genesis : GenesisState) (ledgers : List Ledger) (publi
           → Runs (Among ledgers) genesis after (before ++ s.entry ∷ []) rest j history seen
       runs_other j history seen apart o = record {
         state = o.state;
+        done = o.done;
         left = o.left;
+        whole = o.whole;
+        replayed = o.replayed;
+        consumed = o.consumed ∙ sym (other_last j before s.entry (not_of j apart));
         there = get_set_other world k j after_k.chain apart ∙ o.there;
         remaining = o.remaining ∙ other_first j s.entry rest (not_of j apart);
         own = o.own;
@@ -148,4 +158,4 @@ module _ (lower : Lower) (genesis : GenesisState) (ledgers : List Ledger) (publi
           (subst (λ l. AllByRecursion (IsOwnEntry L) (met_states genesis (chain_of s.entry.event) at.seen r.state l)) whole r.own)
           (subst (λ l. (x : LedgerState × StampedEntry) → Is_in x (met_states genesis (chain_of s.entry.event) at.seen r.state l) → Is_in x (met_by L)) whole r.met)
           (ap (replay genesis (chain_of s.entry.event) at.seen r.state) (sym whole) ∙ r.ends)
-          remaining)
+          remaining (r.whole ∙ ap (λ l. r.done ++ l) whole))

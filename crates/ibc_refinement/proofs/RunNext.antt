@@ -2,6 +2,7 @@
 -- others not.
 use Rattle.std.proofs.Common.{◌≡◌, ℕ, zero, suc, ◌<◌, ◌^◌, Bool, true, false, cond, ◌&&◌, List, [], ◌∷◌, ◌++◌, length, map, filter, refl, sym, ap, ◌∙◌, subst, Some, slice_get, slice_set, arith, inl, inr, length-append, append-nil}
 use Rattle.std.specs.List.{AllByRecursion}
+use Rattle.std.proofs.lemmas.List.Elements.{filter-append}
 use Rattle.ibc_ids.specs.Texts.{Text}
 use Rattle.ibc_ids.specs.declared.publication.Publication.{Publication}
 use Rattle.ibc_machine.specs.declared.entry.Entry.{Entry}
@@ -43,6 +44,12 @@ own_first k e rest is = ap (λ b. cond b (e ∷ filter (is_of k) rest) (filter (
 
 pub other_first : (k : ℕ) (e : Entry) (rest : List Entry) → is_of k e ≡ false → filter (is_of k) (e ∷ rest) ≡ filter (is_of k) rest
 other_first k e rest is = ap (λ b. cond b (e ∷ filter (is_of k) rest) (filter (is_of k) rest)) is
+
+pub own_last : (k : ℕ) (before : List Entry) (e : Entry) → is_of k e ≡ true → filter (is_of k) (before ++ e ∷ []) ≡ filter (is_of k) before ++ e ∷ []
+own_last k before e is = filter-append (is_of k) before (e ∷ []) ∙ ap (λ xs. filter (is_of k) before ++ xs) (own_first k e [] is)
+
+pub other_last : (k : ℕ) (before : List Entry) (e : Entry) → is_of k e ≡ false → filter (is_of k) (before ++ e ∷ []) ≡ filter (is_of k) before
+other_last k before e is = filter-append (is_of k) before (e ∷ []) ∙ ap (λ xs. filter (is_of k) before ++ xs) (other_first k e [] is) ∙ append-nil (filter (is_of k) before)
 
 module _ (lower : Lower) (genesis : GenesisState) (ledgers : List Ledger) (publications : List Publication) (are : AreOfWorld genesis ledgers publications) (clash : HasNoClash ledgers)
     (world : World) (before rest : List Entry) (k : ℕ) (s : StampedEntry) (later : List StampedEntry) (run : AllRun genesis ledgers world before (s.entry ∷ rest)) (at : IsLedgerAt genesis ledgers k) where

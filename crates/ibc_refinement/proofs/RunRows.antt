@@ -20,7 +20,7 @@ use Rattle.ibc_refinement.proofs.EntrySteps.{ledger_of, replay_grows}
 use Rattle.ibc_refinement.proofs.Hashed.{Among}
 use Rattle.ibc_refinement.proofs.RunStates.{Runs, AllRun, AreOfWorld, IsLedgerAt, ledger_at}
 
-height_grows : (chain n : ℕ) (seen : List Publication) → height_among chain n seen ≤ height_of chain seen
+pub height_grows : (chain n : ℕ) (seen : List Publication) → height_among chain n seen ≤ height_of chain seen
 height_grows chain n seen =
     let test = λ (p : Publication). eqb p.chain chain in
     let parts : length (filter test seen) ≡ length (filter test (take n seen)) + length (filter test (drop n seen)) =

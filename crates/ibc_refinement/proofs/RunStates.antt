@@ -1,5 +1,5 @@
 -- Ledgers in the middle of a list that merges their histories: each has replayed its entries so far.
-use Rattle.std.proofs.Common.{◌≡◌, ℕ, ◌≤◌, ◌<◌, List, length, map, filter, Some, slice_get, ap, ◌∙◌, subst}
+use Rattle.std.proofs.Common.{◌≡◌, ◌++◌, ℕ, ◌≤◌, ◌<◌, List, length, map, filter, Some, slice_get, ap, ◌∙◌, subst}
 use Rattle.std.specs.List.{AllByRecursion}
 use Rattle.ibc_ids.specs.Texts.{Text}
 use Rattle.ibc_ids.specs.declared.publication.Publication.{Publication}
@@ -7,7 +7,7 @@ use Rattle.ibc_machine.specs.declared.entry.Entry.{Entry}
 use Rattle.ibc_machine.specs.Records.{Block}
 use Rattle.ibc_machine.specs.Genesis.{GenesisState}
 use Rattle.ibc_machine.specs.Machine.{World, block_of}
-use Rattle.ibc_machine.specs.Replay.{LedgerState, StampedEntry, replay, met_states}
+use Rattle.ibc_machine.specs.Replay.{LedgerState, StampedEntry, replay, met_states, starting_state}
 use Rattle.ibc_machine.specs.Ledgers.{Ledger, IsOwnEntry, IsLedger, met_by, state_of}
 use Rattle.ibc_machine.specs.Merge.{is_of, blocks_of}
 use Rattle.ibc_machine.specs.Worlds.{AreLedgersOf, AreOfOneTable}
@@ -22,8 +22,12 @@ use Rattle.ibc_refinement.proofs.Hashed.{Among}
 -- ledger k in the world after some entries, and before the rest
 pub record Runs (S : Text → Type 0) (genesis : GenesisState) (world : World) (before rest : List Entry) (k : ℕ) (history : List StampedEntry) (seen : List Publication) : Type 0 where
   pub state : LedgerState
-  -- what is left of its history
+  -- what is done of its history, and what is left
+  pub done : List StampedEntry
   pub left : List StampedEntry
+  pub whole : history ≡ done ++ left
+  pub replayed : replay genesis k seen (starting_state genesis k) done ≡ state
+  pub consumed : map (λ (s : StampedEntry). s.entry) done ≡ filter (is_of k) before
   pub there : slice_get world k ≡ Some state.chain
   pub remaining : map (λ (s : StampedEntry). s.entry) left ≡ filter (is_of k) rest
   pub own : AllByRecursion (IsOwnEntry (ledger_of genesis k history seen)) (met_states genesis k seen state left)
