@@ -42,3 +42,4 @@ pub mod MergedRun
 pub mod Refined
 pub mod SeenMore
 pub mod RunOn
+pub mod Applied

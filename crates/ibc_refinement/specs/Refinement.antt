@@ -12,7 +12,7 @@ use Rattle.ibc_machine.specs.Replay.{StampedEntry}
 use Rattle.ibc_machine.specs.Ledgers.{Ledger, chain_of}
 use Rattle.ibc_machine.specs.HashedTexts.{HasNoClash}
 use Rattle.ibc_machine.specs.Merge.{is_of, Merges}
-use Rattle.ibc_machine.specs.Worlds.{AreLedgersOf, AreOfOneTable, entries, IsWorldHistory, Refines}
+use Rattle.ibc_machine.specs.Worlds.{AreLedgersOf, AreOfOneTable, AppliesEach, entries, IsWorldHistory, Refines}
 
 -- Every list that merges the histories of the ledgers of a genesis along one list of publications is a run of
 -- the machine since genesis to the ledgers' states, where no two texts that are hashed clash.
@@ -56,4 +56,26 @@ GoingOnIsRun =
     → ((k : ℕ) (before : Ledger) → slice_get old k ≡ Some before → filter (is_of k) list ≡ entries before)
     → Merges genesis.window (map (λ (c : Chain). c.time) (start genesis)) (map entries new) publications (list ++ more)
     → AreAnswered (length new) events replies more
+    → Refines genesis old events replies new
+
+-- ---- by the contract of a world's run
+
+-- the entries that events gave: each ledger has those of its chain more
+pub record Gave (old : List Ledger) (events : List Event) (replies : List Reply) (new : List Ledger) (more : List Entry) : Type 0 where
+  pub as_many : length new ≡ length old
+  pub answered : AreAnswered (length old) events replies more
+  pub each : (k : ℕ) (before after : Ledger) → slice_get old k ≡ Some before → slice_get new k ≡ Some after
+      → GoesOn before after × (entries after ≡ entries before ++ filter (is_of k) more)
+
+-- Events that were applied one after another refine the machine, where the kept order merges the histories
+-- before, and with the entries that the events gave behind it those after.
+abbrev pub AppliedIsRun : Type 0
+AppliedIsRun =
+    (genesis : GenesisState) (old new : List Ledger) (before publications : List Publication) (list : List Entry)
+    (events : List Event) (replies : List Reply)
+    → AreLedgersOf genesis old → AreLedgersOf genesis new → AreOfOneTable publications new
+    → AppliesEach old events replies new
+    → Merges genesis.window (map (λ (c : Chain). c.time) (start genesis)) (map entries old) before list
+    → ((more : List Entry) → Gave old events replies new more
+    → Merges genesis.window (map (λ (c : Chain). c.time) (start genesis)) (map entries new) publications (list ++ more))
     → Refines genesis old events replies new

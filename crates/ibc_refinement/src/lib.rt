@@ -3,4 +3,4 @@
 
 mod refinement;
 
-pub use refinement::merged_is_run;
+pub use refinement::{applied_is_run, going_on_is_run, merged_is_run};
