@@ -43,3 +43,7 @@ pub mod Refined
 pub mod SeenMore
 pub mod RunOn
 pub mod Applied
+pub mod Placed
+pub mod Stages
+pub mod StageLists
+pub mod MergeStages
