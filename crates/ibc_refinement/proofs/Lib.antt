@@ -47,3 +47,4 @@ pub mod Placed
 pub mod Stages
 pub mod StageLists
 pub mod MergeStages
+pub mod MergeReadings
