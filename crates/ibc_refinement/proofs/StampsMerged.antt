@@ -12,12 +12,14 @@ use Rattle.ibc_machine.specs.Replay.{LedgerState, StampedEntry, starting_state, 
 use Rattle.ibc_machine.specs.Ledgers.{Ledger, chain_of, published_as, state_of}
 use Rattle.ibc_machine.specs.Merge.{is_of, published_along, Merges}
 use Rattle.ibc_machine.specs.Worlds.{entries}
-use Rattle.ibc_refinement.specs.Stamps.{by_stamps, merged_by_stamps, StampsMerge}
+use Rattle.ibc_refinement.specs.Lower.{Lower}
+use Rattle.ibc_refinement.specs.Stamps.{by_stamps, merged_by_stamps, StampsMerge, StampedIsRun}
 use Rattle.ibc_refinement.proofs.Places.{get_within, get_there}
 use Rattle.ibc_refinement.proofs.EntrySteps.{ledger_of}
 use Rattle.ibc_refinement.proofs.RunStates.{AreOfWorld, IsLedgerAt, ledger_at, ledger_from}
 use Rattle.ibc_refinement.proofs.RunNext.{BeginsWith, begins_with, own_first}
 use Rattle.ibc_refinement.proofs.MergedRun.{AreWithin}
+use Rattle.ibc_refinement.proofs.Refined.{merged_is_run}
 use Rattle.ibc_refinement.proofs.StageLists.{Histories, history_at, own}
 use Rattle.ibc_refinement.proofs.MergeStages.{entries_of, own_merged}
 use Rattle.ibc_refinement.proofs.MergeReadings.{Reads, merged_reads}
@@ -114,3 +116,8 @@ module _ (genesis : GenesisState) (ledgers : List Ledger) (publications : List P
 
 pub stamps_merge : StampsMerge
 stamps_merge genesis ledgers publications of table = merges genesis ledgers publications (record { of = of; table = table })
+
+pub stamped_is_run : Lower → StampedIsRun
+stamped_is_run lower genesis ledgers publications of table allowed clash =
+    merged_is_run lower genesis ledgers publications (merged_by_stamps publications ledgers) of table allowed clash
+    (stamps_merge genesis ledgers publications of table)
