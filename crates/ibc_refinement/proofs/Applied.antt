@@ -1,6 +1,6 @@
 -- Events that were applied one after another gave entries, and so refine the machine.
-use Rattle.std.proofs.Common.{◌≡◌, ℕ, zero, suc, ◌<◌, ◌≤◌, Bool, true, false, cond, eqb, List, [], ◌∷◌, ◌++◌, length, map, filter, refl, sym, ap, ◌∙◌, subst, Some, None, Option, option_map, slice_get, arith, append-nil, append_assoc, eqb-true, eq-eqb, inl, inr, ◌⊎◌}
-use Rattle.std.proofs.lemmas.Bool.{false≢true, cases_lt}
+use Rattle.std.proofs.Common.{◌≡◌, ℕ, ◌<◌, ◌≤◌, true, false, eqb, List, [], ◌∷◌, ◌++◌, length, filter, refl, sym, ap, ◌∙◌, subst, Some, option_map, slice_get, arith, append-nil, append_assoc, eqb-true, eq-eqb, inl, inr}
+use Rattle.std.proofs.lemmas.Bool.{cases_lt}
 use Rattle.std.proofs.lemmas.List.{map-append}
 use Rattle.std.proofs.lemmas.List.Elements.{filter-append}
 use Rattle.std.proofs.lemmas.Option.{slice_get-map}
@@ -47,7 +47,7 @@ grows_entry : (k : ℕ) (event : Event) (given : Reply) (before after : Ledger) 
 grows_entry k event given before after w mine = (
   (w.0 ∷ [], w.1, w.4),
   ap entries w.4 ∙ map-append (λ (s : StampedEntry). s.entry) before.history (w.0 ∷ [])
-  ∙ ap (λ xs. entries before ++ xs) (sym (own_first k w.0.entry [] (eq-eqb (chain_of w.0.entry.event) k (ap chain_of w.2 ∙ mine)))),
+      ∙ ap (λ xs. entries before ++ xs) (sym (own_first k w.0.entry [] (eq-eqb (chain_of w.0.entry.event) k (ap chain_of w.2 ∙ mine)))),
 )
 
 -- an entry of another chain

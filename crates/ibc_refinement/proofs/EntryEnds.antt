@@ -1,5 +1,5 @@
 -- What an entry of a ledger publishes: nothing, or its working block.
-use Rattle.std.proofs.Common.{◌≡◌, ℕ, suc, ◌+◌, Bool, true, false, cond, List, [], ◌∷◌, ◌++◌, length, refl, sym, ap, ◌∙◌, subst, Some, None, Option, Ok, Err, inl, inr, ◌⊎◌, arith, length-append, slice_set}
+use Rattle.std.proofs.Common.{◌≡◌, ℕ, suc, ◌+◌, true, false, cond, List, [], ◌∷◌, ◌++◌, length, refl, sym, ap, ◌∙◌, Option, Ok, Err, inl, inr, ◌⊎◌, arith, length-append, slice_set}
 use Rattle.std.specs.Prelude.{⊤, slice_index}
 use Rattle.std.specs.List.{AllByRecursion}
 use Rattle.std.proofs.lemmas.Bool.{false≢true}
@@ -12,19 +12,19 @@ use Rattle.ibc_machine.specs.declared.reply.Effect.TheVariants as effect
 use Rattle.ibc_machine.specs.declared.reply.Reply.{Reply}
 use Rattle.ibc_machine.specs.declared.reply.Reply.TheVariants as reply
 use Rattle.ibc_machine.specs.declared.entry.Reading.{Reading}
-use Rattle.ibc_machine.specs.Records.{Records, Chain, Block}
+use Rattle.ibc_machine.specs.Records.{Records, Chain}
 use Rattle.ibc_machine.specs.Image.{core_root}
 use Rattle.ibc_machine.specs.Checks.{Checked}
 use Rattle.ibc_machine.specs.Genesis.{GenesisState}
-use Rattle.ibc_machine.specs.Handlers.{working_height, handle, host_of, after_message, may_commit, after_block}
+use Rattle.ibc_machine.specs.Handlers.{working_height, host_of, after_message, may_commit, after_block}
 use Rattle.ibc_machine.specs.Replay.{LedgerState, StampedEntry, proves, after_answer, with_chain, ledger_answer, entry_answer, replay, met_states}
-use Rattle.ibc_machine.specs.Ledgers.{Ledger, IsOwnEntry, is_typed, chain_of, is_block_reply, is_accepted_block}
+use Rattle.ibc_machine.specs.Ledgers.{Ledger, IsOwnEntry, is_typed, chain_of, is_block_reply}
 use Rattle.ibc_machine.specs.Merge.{published_next}
 use Rattle.ibc_refinement.proofs.Checked.{Gives}
 use Rattle.ibc_refinement.proofs.Typed.{IsTyped}
 use Rattle.ibc_refinement.proofs.TypedMessages.{message_typed}
 use Rattle.ibc_refinement.proofs.KeptRecords.{RecordsSound, handle_sound}
-use Rattle.ibc_refinement.proofs.EntrySteps.{working, Commits, answer_commits, own_typed}
+use Rattle.ibc_refinement.proofs.EntrySteps.{working, answer_commits, own_typed}
 use Rattle.ibc_refinement.proofs.Placed.{blocks}
 
 -- nothing is published, and the working block goes on

@@ -1,6 +1,6 @@
 -- The histories of ledgers of one table stand at the beginning of a merge by stamps.
-use Rattle.std.proofs.Common.{◌≡◌, ℕ, zero, suc, ◌+◌, ◌<◌, ◌≤◌, Bool, true, false, cond, ◌&&◌, ◌||◌, eqb, List, [], ◌∷◌, ◌++◌, length, map, filter, take, drop, refl, sym, ap, ◌∙◌, subst, Some, None, Option, slice_get, arith, eqb-true, eq-eqb, inl, inr, is_some, take-append-drop, option_map, unwrap_or}
-use Rattle.std.specs.Prelude.{⊤, IfSome}
+use Rattle.std.proofs.Common.{◌≡◌, ℕ, zero, suc, ◌+◌, ◌<◌, ◌≤◌, Bool, true, false, cond, eqb, List, [], ◌∷◌, length, map, take, drop, refl, sym, ap, ◌∙◌, subst, Some, None, Option, slice_get, arith, eqb-true, eq-eqb, inl, inr, is_some, take-append-drop, option_map, unwrap_or}
+use Rattle.std.specs.Prelude.{IfSome}
 use Rattle.std.specs.List.{AllByRecursion, list_all, list_any}
 use Rattle.std.proofs.lemmas.Bool.{and_parts, or_cases, false≢true, cases_lt}
 use Rattle.std.proofs.lemmas.List.{length-map}
@@ -12,14 +12,14 @@ use Rattle.ibc_machine.specs.declared.entry.Reading.{Reading}
 use Rattle.ibc_machine.specs.Records.{Chain}
 use Rattle.ibc_machine.specs.Genesis.{GenesisState, start, starting_chain}
 use Rattle.ibc_machine.specs.Replay.{LedgerState, StampedEntry, entry_answer, met_states, starting_state, empty_chain}
-use Rattle.ibc_machine.specs.Ledgers.{Ledger, IsOwnEntry, IsReading, IsOwnBlock, keeps_a_stamp, chain_of, header_in, is_looking, is_typed, is_block_reply, is_accepted_block, reading_fits, published_as, state_of}
+use Rattle.ibc_machine.specs.Ledgers.{Ledger, IsOwnEntry, IsReading, chain_of, header_in, is_looking, is_typed, is_block_reply, is_accepted_block, reading_fits, published_as, state_of}
 use Rattle.ibc_refinement.proofs.Places.{get_more, get_within, get_there}
 use Rattle.ibc_refinement.proofs.Typed.{IsTyped}
 use Rattle.ibc_refinement.proofs.EntrySteps.{ledger_of, own_typed, answer_commits}
-use Rattle.ibc_refinement.proofs.EntryEnds.{GoesOn, EndsBlock, answer_ends, replay_counts}
-use Rattle.ibc_refinement.proofs.RunStates.{AreOfWorld, IsLedgerAt, ledger_at, ledger_from}
+use Rattle.ibc_refinement.proofs.EntryEnds.{answer_ends, replay_counts}
+use Rattle.ibc_refinement.proofs.RunStates.{AreOfWorld, ledger_at}
 use Rattle.ibc_refinement.proofs.MergedRun.{typed_start}
-use Rattle.ibc_refinement.proofs.Placed.{IsPlaced, IsStaged, blocks}
+use Rattle.ibc_refinement.proofs.Placed.{IsPlaced, IsStaged}
 use Rattle.ibc_refinement.proofs.StageLists.{Histories, history_at}
 use Rattle.ibc_refinement.proofs.MergeStages.{Staged}
 
@@ -73,9 +73,14 @@ module _ (publications : List Publication) (ledger : Ledger) (m : ℕ) (front : 
         let fronts : take w.1 ledger.seen ≡ take w.1 publications = ap (take w.1) front ∙ take_front w.1 m publications (omega (arith, w.4)) in
         (w.0, w.1, w.2, w.3, ap (λ xs. reading_fits ledger.genesis.window (length (published_by w.0.chain xs)) w.0.height r) (sym fronts) ∙ w.5);
     block = λ accepted.
-        let w = own.block accepted in
-        (w.0, w.1, w.2, ap (λ xs. slice_get xs w.0) (sym (take-append-drop m publications)) ∙ get_more (take m publications) (drop m publications) w.0 w.1 (ap (λ xs. slice_get xs w.0) (sym front) ∙ w.3), w.4,
-          quiet_block state e typed own accepted);
+        let w = own.block accepted in (
+          w.0,
+          w.1,
+          w.2,
+          ap (λ xs. slice_get xs w.0) (sym (take-append-drop m publications)) ∙ get_more (take m publications) (drop m publications) w.0 w.1 (ap (λ xs. slice_get xs w.0) (sym front) ∙ w.3),
+          w.4,
+          quiet_block state e typed own accepted,
+        );
   }
     where
       by_stamp : (o : Option ℕ) → e.stamp ≡ o → IfSome o (λ n. n ≤ length publications)

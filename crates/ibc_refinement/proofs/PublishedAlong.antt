@@ -1,29 +1,23 @@
 -- A list that has each ledger's entries in their order, and whose blocks are of the chains that published,
 -- publishes what the ledgers published.
-use Rattle.std.proofs.Common.{◌≡◌, ℕ, zero, suc, ◌+◌, ◌<◌, ◌≤◌, Bool, true, false, cond, ◌&&◌, eqb, nat_lt, List, [], ◌∷◌, ◌++◌, length, map, filter, drop, refl, sym, ap, ◌∙◌, subst, Some, None, Option, option_map, slice_get, slice_set, arith, eqb-true, eq-eqb, ltb-true, inl, inr, append_assoc, length-append}
-use Rattle.std.specs.Prelude.{slice_index}
-use Rattle.std.specs.List.{AllByRecursion, list_all}
-use Rattle.std.proofs.lemmas.Bool.{and_parts, false≢true}
-use Rattle.std.proofs.lemmas.List.{length-map}
-use Rattle.std.proofs.lemmas.Option.{slice_get-map, get_or_from_slice_get}
+use Rattle.std.proofs.Common.{◌≡◌, ℕ, true, false, cond, eqb, List, [], ◌∷◌, ◌++◌, length, map, filter, drop, refl, sym, ap, ◌∙◌, subst, Some, slice_get, slice_set, eqb-true, eq-eqb, inl, inr, append_assoc}
+use Rattle.std.specs.List.{AllByRecursion}
+use Rattle.std.proofs.lemmas.Bool.{false≢true}
+use Rattle.std.proofs.lemmas.Option.{get_or_from_slice_get}
 use Rattle.ibc_ids.specs.Publications.{published_by}
 use Rattle.ibc_ids.specs.declared.publication.Publication.{Publication}
 use Rattle.ibc_machine.specs.declared.entry.Entry.{Entry}
-use Rattle.ibc_machine.specs.Records.{Chain, Block}
 use Rattle.ibc_machine.specs.Image.{core_root}
-use Rattle.ibc_machine.specs.Genesis.{GenesisState, start, starting_chain}
-use Rattle.ibc_machine.specs.Replay.{LedgerState, StampedEntry, entry_answer, replay, met_states, starting_state}
+use Rattle.ibc_machine.specs.Genesis.{GenesisState}
+use Rattle.ibc_machine.specs.Replay.{LedgerState, StampedEntry, entry_answer, replay, met_states}
 use Rattle.ibc_machine.specs.Ledgers.{Ledger, IsOwnEntry, chain_of, is_block_reply, is_accepted_block, published_as, state_of}
 use Rattle.ibc_machine.specs.Merge.{is_of, published_along}
-use Rattle.ibc_machine.specs.Worlds.{entries}
-use Rattle.ibc_refinement.proofs.Places.{get_set, get_set_other, get_within, get_there}
+use Rattle.ibc_refinement.proofs.Places.{get_set, get_set_other, get_within}
 use Rattle.ibc_refinement.proofs.Typed.{IsTyped}
 use Rattle.ibc_refinement.proofs.EntrySteps.{ledger_of, own_typed, working, answer_commits, replay_grows}
 use Rattle.ibc_refinement.proofs.EntryEnds.{GoesOn, EndsBlock, answer_ends, plain_next, block_next}
-use Rattle.ibc_refinement.proofs.RunStates.{AreOfWorld, IsLedgerAt, ledger_at, ledger_from}
-use Rattle.ibc_refinement.proofs.RunNext.{BeginsWith, begins_with, own_first, other_first}
-use Rattle.ibc_refinement.proofs.MergedRun.{AreWithin}
-use Rattle.ibc_refinement.proofs.PlacedLedgers.{typed_begin}
+use Rattle.ibc_refinement.proofs.RunStates.{AreOfWorld, IsLedgerAt}
+use Rattle.ibc_refinement.proofs.RunNext.{other_first}
 
 -- the chains of the blocks of a list
 abbrev pub block_chains : List Entry → List ℕ
@@ -148,8 +142,8 @@ module _ (genesis : GenesisState) (ledgers : List Ledger) (publications : List P
             upcoming = tail ∙ ap (map (published_as k)) (sym left_next);
           })
           | false ↦ λ apart. other_stays times (slice_set times k w.next_time) ps qs s.entry rest j history seen apart
-          (get_set_other times k j w.next_time (λ e. false≢true (sym apart ∙ eq-eqb k j e)))
-          (ap (λ b. cond b (p ∷ published_by j qs) (published_by j qs)) (sym (ap (λ c. eqb c j) mine ∙ apart)) ∙ ap (published_by j) (sym is)) (all j history seen there)
+              (get_set_other times k j w.next_time (λ e. false≢true (sym apart ∙ eq-eqb k j e)))
+              (ap (λ b. cond b (p ∷ published_by j qs) (published_by j qs)) (sym (ap (λ c. eqb c j) mine ∙ apart)) ∙ ap (published_by j) (sym is)) (all j history seen there)
         ] refl) others
         in
         let given : EndsBlock s.entry.event s.entry.reply r.state.chain after_s.chain = record { next_time = w.next_time; event_is = w.event_is; reply_is = own.0.reply ∙ w.reply_is; time = w.time; committed = w.committed } in

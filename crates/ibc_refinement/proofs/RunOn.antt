@@ -1,6 +1,6 @@
 -- A world whose ledgers went on by the entries of events goes on in the machine by these events.
-use Rattle.std.proofs.Common.{◌≡◌, ℕ, zero, suc, ◌+◌, ◌<◌, ◌≤◌, Bool, true, false, ◌&&◌, nat_lt, List, [], ◌∷◌, ◌++◌, length, map, filter, refl, sym, ap, ◌∙◌, subst, Some, None, Option, option_map, slice_get, arith, ltb-true, append-nil, append_assoc, length-append, inl, inr}
-use Rattle.std.specs.List.{AllByRecursion, list_all}
+use Rattle.std.proofs.Common.{◌≡◌, ℕ, ◌≤◌, true, nat_lt, List, [], ◌∷◌, ◌++◌, length, map, filter, refl, sym, ap, ◌∙◌, subst, Some, option_map, slice_get, arith, ltb-true, append-nil, append_assoc, inl, inr}
+use Rattle.std.specs.List.{list_all}
 use Rattle.std.proofs.lemmas.Bool.{and_parts}
 use Rattle.std.proofs.lemmas.Option.{slice_get-map, slice_get_past}
 use Rattle.std.proofs.lemmas.List.{length-map}
@@ -18,14 +18,14 @@ use Rattle.ibc_machine.specs.Machine.{World, Step, IsRun, answer, at_chain, look
 use Rattle.ibc_machine.specs.Replay.{LedgerState, StampedEntry, replay, starting_state}
 use Rattle.ibc_machine.specs.Ledgers.{Ledger, chain_of, machine_of, state_of}
 use Rattle.ibc_machine.specs.HashedTexts.{HasNoClash}
-use Rattle.ibc_machine.specs.Merge.{is_of, ReadsWhatIsBefore, EachAfter, Merges}
+use Rattle.ibc_machine.specs.Merge.{is_of, ReadsWhatIsBefore, EachAfter}
 use Rattle.ibc_machine.specs.Worlds.{AreLedgersOf, entries}
 use Rattle.ibc_refinement.specs.Lower.{Lower}
 use Rattle.ibc_refinement.specs.Refinement.{GivesNothing, AreAnswered, GoesOn, GoingOnIsRun}
 use Rattle.ibc_refinement.proofs.Places.{get_within, same_places}
 use Rattle.ibc_refinement.proofs.EntrySteps.{ledger_of}
-use Rattle.ibc_refinement.proofs.RunStates.{Runs, AllRun, AreOfWorld, IsLedgerAt, ledger_at, ledger_from}
-use Rattle.ibc_refinement.proofs.RunForward.{StepsOn, next_step}
+use Rattle.ibc_refinement.proofs.RunStates.{AllRun, AreOfWorld, IsLedgerAt, ledger_at}
+use Rattle.ibc_refinement.proofs.RunForward.{next_step}
 use Rattle.ibc_refinement.proofs.MergedRun.{AreWithin, ends_there, all_start}
 use Rattle.ibc_refinement.proofs.Refined.{within}
 use Rattle.ibc_refinement.proofs.SeenMore.{replay_stays}
@@ -120,9 +120,11 @@ goes_on_by lower genesis ledgers publications are clash (e ∷ events) (given �
     let parts = and_parts (nat_lt (chain_of w.0.event) (length ledgers)) (list_all (λ (entry : Entry). nat_lt (chain_of entry.event) (length ledgers)) w.1) low in
     let step = next_step lower genesis ledgers publications are clash r.world before w.1 w.0 run reads.0 (ltb-true (chain_of w.0.event) (length ledgers) parts.0) in
     let next : Reaches genesis ledgers (before ++ w.0 ∷ []) w.1 = record { world = step.after; run = step.run; reads = reads.1; within = parts.1 } in
-    let taken : Step genesis r.world w.0.event w.0.reply step.after = inr step.answers in
-    (step.after, subst (λ (x : Event × Reply). Step genesis r.world x.0 x.1 step.after) (λ i. (w.3 i, w.4 i)) taken,
-      goes_on_by lower genesis ledgers publications are clash events replies (before ++ w.0 ∷ []) w.1 next w.5)
+    let taken : Step genesis r.world w.0.event w.0.reply step.after = inr step.answers in (
+      step.after,
+      subst (λ (x : Event × Reply). Step genesis r.world x.0 x.1 step.after) (λ i. (w.3 i, w.4 i)) taken,
+      goes_on_by lower genesis ledgers publications are clash events replies (before ++ w.0 ∷ []) w.1 next w.5,
+    )
 
 -- ---- the theorem
 

@@ -1,5 +1,5 @@
 -- The stamps merge the histories of ledgers of one genesis and one table.
-use Rattle.std.proofs.Common.{◌≡◌, ℕ, zero, suc, ◌<◌, ◌≤◌, Bool, true, false, cond, ◌&&◌, eqb, nat_lt, List, [], ◌∷◌, ◌++◌, length, map, filter, refl, sym, ap, ◌∙◌, subst, Some, None, Option, option_map, slice_get, arith, eq-eqb, ltb-true, drop, unwrap_or, ◌+◌}
+use Rattle.std.proofs.Common.{◌≡◌, ℕ, true, false, cond, nat_lt, List, [], ◌∷◌, length, map, filter, refl, sym, ap, ◌∙◌, subst, Some, option_map, slice_get, arith, eq-eqb, ltb-true, drop, unwrap_or, ◌+◌}
 use Rattle.std.specs.List.{list_all}
 use Rattle.std.proofs.lemmas.Bool.{and_parts}
 use Rattle.std.proofs.lemmas.List.{length-map}
@@ -8,7 +8,7 @@ use Rattle.ibc_ids.specs.declared.publication.Publication.{Publication}
 use Rattle.ibc_machine.specs.declared.entry.Entry.{Entry}
 use Rattle.ibc_machine.specs.Records.{Chain}
 use Rattle.ibc_machine.specs.Genesis.{GenesisState, start, starting_chain}
-use Rattle.ibc_machine.specs.Replay.{LedgerState, StampedEntry, starting_state, empty_chain}
+use Rattle.ibc_machine.specs.Replay.{StampedEntry, starting_state, empty_chain}
 use Rattle.ibc_machine.specs.Ledgers.{Ledger, chain_of, published_as, state_of}
 use Rattle.ibc_machine.specs.Merge.{is_of, published_along, Merges}
 use Rattle.ibc_machine.specs.Worlds.{entries}
@@ -17,7 +17,7 @@ use Rattle.ibc_refinement.specs.Stamps.{by_stamps, merged_by_stamps, StampsMerge
 use Rattle.ibc_refinement.proofs.Places.{get_within, get_there}
 use Rattle.ibc_refinement.proofs.EntrySteps.{ledger_of}
 use Rattle.ibc_refinement.proofs.RunStates.{AreOfWorld, IsLedgerAt, ledger_at, ledger_from}
-use Rattle.ibc_refinement.proofs.RunNext.{BeginsWith, begins_with, own_first}
+use Rattle.ibc_refinement.proofs.RunNext.{begins_with, own_first}
 use Rattle.ibc_refinement.proofs.MergedRun.{AreWithin}
 use Rattle.ibc_refinement.proofs.Refined.{merged_is_run}
 use Rattle.ibc_refinement.proofs.StageLists.{Histories, history_at, own}

@@ -1,6 +1,6 @@
 -- The histories of ledgers as one list, by the stamps of their entries: how many publications a ledger's pass
 -- had seen where an entry read a published height or published its own.
-use Rattle.std.specs.Prelude.{ℕ, zero, suc, Bool, true, ◌==◌, nat_le, List, [], ◌∷◌, ◌++◌, map, IsTrue, if◌then◌else◌}
+use Rattle.std.specs.Prelude.{ℕ, suc, Bool, true, ◌==◌, nat_le, List, [], ◌∷◌, ◌++◌, map, IsTrue, if◌then◌else◌}
 use Rattle.std.specs.List.{flat_map}
 use Rattle.std.specs.Option.{option_map_or}
 use Rattle.ibc_ids.specs.declared.publication.Publication.{Publication}
