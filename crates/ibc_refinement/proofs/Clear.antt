@@ -15,9 +15,11 @@ use Rattle.ibc_machine.specs.Values.{Value, Claim, look, value_bytes}
 use Rattle.ibc_machine.specs.Image.{image, keys, pair_at}
 use Rattle.ibc_machine.specs.HashedTexts.{delivered}
 use Rattle.ibc_refinement.proofs.Texts.{text_tied}
-use Rattle.ibc_refinement.specs.Lower.{AreBytes}
+use Rattle.ibc_refinement.proofs.ShortTexts.{AreBytes}
 use Rattle.ibc_refinement.proofs.Digests.{IsClear}
-use Rattle.ibc_refinement.specs.Lower.{Lower, FitsText, FitsPair}
+use Rattle.ibc_refinement.specs.Lower.{Lower}
+use Rattle.ibc_refinement.proofs.ShortTexts.{FitsText, FitsPair}
+use Rattle.ibc_refinement.proofs.WrittenForm.{written_has_form}
 use Rattle.ibc_refinement.proofs.Members.{Is_in, in_cases, in_contains, in_filter_map_from}
 use Rattle.ibc_refinement.proofs.Images.{pair_from}
 use Rattle.ibc_refinement.proofs.PlainValues.{ArePlain, IsPlainClaim, plain_tells, plain_one_value}
@@ -67,7 +69,7 @@ clear_from_fit lower S clear core claim bytes r c = record {
   clear = λ x y i j e. clear x y (among x i) (among y j) e;
   one_value = plain_one_value S clear core claim r.plain c.plain;
   bytes_given = c.bytes_given;
-  spelled_written = lower.written_has_form (image core) (path claim.key) (all_of_image FitsPair core r.fit) (omega (arith, r.small)) c.key_fits;
+  spelled_written = written_has_form (image core) (path claim.key) (all_of_image FitsPair core r.fit) (omega (arith, r.small)) c.key_fits;
 }
   where
     among : (x : Text) → Contains (tree_texts (tree (image core)) ++ delivered bytes) x → S x

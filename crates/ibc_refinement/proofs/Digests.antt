@@ -9,7 +9,7 @@ use Rattle.sha2.specs.Sha256.{sha256, digest_bytes}
 use Rattle.sha2.proofs.Facts256.{length-sha256}
 use Rattle.ibc_ids.specs.Texts.{Text}
 use Rattle.ibc_merkle.specs.Hash.{hash}
-use Rattle.ibc_refinement.specs.Lower.{AreBytes}
+use Rattle.ibc_refinement.proofs.ShortTexts.{AreBytes}
 
 pub length-hash : (x : Text) → length (hash x) ≡ 32
 length-hash = length-sha256

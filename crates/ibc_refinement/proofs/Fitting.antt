@@ -10,9 +10,9 @@ use Rattle.ibc_ids.specs.Texts.{Text}
 use Rattle.ibc_ids.specs.Names.{is_made_of, is_letter_or_digit, is_identifier_byte, is_client, is_connection, is_channel, is_version}
 use Rattle.ibc_ids.specs.Paths.{nth_client, nth_connection, nth_channel}
 use Rattle.ibc_wire.specs.Fields.{counted}
-use Rattle.ibc_refinement.specs.Lower.{AreBytes}
+use Rattle.ibc_refinement.proofs.ShortTexts.{AreBytes}
 use Rattle.ibc_refinement.proofs.Digests.{bytes-number}
-use Rattle.ibc_refinement.specs.Lower.{FitsText}
+use Rattle.ibc_refinement.proofs.ShortTexts.{FitsText}
 
 pub fits_both : (a b : ℕ) (x y : Text) → FitsText a x → FitsText b y → FitsText (a + b) (x ++ y)
 fits_both a b x y h g = record {

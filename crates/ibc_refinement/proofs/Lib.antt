@@ -1,6 +1,9 @@
 pub mod Texts
+pub mod ShortTexts
 pub mod Digests
 pub mod SameSpellings
+pub mod Depths
+pub mod WrittenForm
 pub mod Members
 pub mod SameValues
 pub mod Images

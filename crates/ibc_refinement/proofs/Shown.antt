@@ -16,7 +16,8 @@ use Rattle.ibc_wire.specs.Fields.{have_form}
 use Rattle.ibc_wire.specs.Spelling.{proof_fields, proof_bytes}
 use Rattle.ibc_wire.specs.Reading.{proof_of}
 use Rattle.ibc_refinement.proofs.Digests.{each_byte}
-use Rattle.ibc_refinement.specs.Lower.{Lower, AreBytes}
+use Rattle.ibc_refinement.specs.Lower.{Lower}
+use Rattle.ibc_refinement.proofs.ShortTexts.{AreBytes}
 use Rattle.ibc_machine.specs.Records.{Core}
 use Rattle.ibc_machine.specs.Values.{Value, Claim, look, value_bytes, same_value}
 use Rattle.ibc_machine.specs.Image.{image, core_root}

@@ -20,7 +20,7 @@ use Rattle.ibc_machine.specs.Values.{Value, ClientIs, ConnectionIs, ChannelIs, N
 use Rattle.ibc_machine.specs.Image.{image}
 use Rattle.ibc_machine.specs.HashedTexts.{commitment_texts, channel_texts, core_texts}
 use Rattle.ibc_refinement.proofs.Texts.{text_tied}
-use Rattle.ibc_refinement.specs.Lower.{FitsText}
+use Rattle.ibc_refinement.proofs.ShortTexts.{FitsText}
 use Rattle.ibc_refinement.proofs.SameSpellings.{IsShort, IsPeer}
 use Rattle.ibc_refinement.proofs.Members.{Is_in, in_left, in_right, in_flat_map, at_in}
 use Rattle.ibc_refinement.proofs.Images.{pair_tied}

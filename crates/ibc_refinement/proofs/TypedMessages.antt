@@ -10,7 +10,7 @@ use Rattle.ibc_wire.specs.Messages.{message_fields}
 use Rattle.ibc_wire.specs.declared.packet.Packet.{Packet}
 use Rattle.ibc_wire.specs.declared.messages.Message.{Message}
 use Rattle.ibc_wire.specs.declared.messages.Message.TheVariants as message
-use Rattle.ibc_refinement.specs.Lower.{AreBytes}
+use Rattle.ibc_refinement.proofs.ShortTexts.{AreBytes}
 
 pub record IsTypedPacket (p : Packet) : Type 0 where
   pub sequence : p.sequence < 2 ^ 64
