@@ -3,8 +3,7 @@
 ghost use Rattle.std.specs.Prelude.{◌≡◌, ℕ, Bool, List};
 ghost use Rattle.ibc_ids.specs.Names.{is_port, is_client, is_connection, is_channel, is_user, is_receiver, is_memo, is_version, is_denom};
 
-use crate::Name;
-use crate::forms;
+use crate::{Name, forms};
 
 /// A kind of names: which texts have its form.
 pub trait Kind {
