@@ -1,1 +1,4 @@
 mod Facts
+pub mod Texts
+pub mod Splits
+pub mod Paths

@@ -1,4 +1,6 @@
 //! The keys of the records that a chain proves to others.
+ghost use Rattle.ibc_ids.specs.Paths.{DifferentPaths};
+
 use crate::{ChannelId, ClientId, ConnectionId, PortId};
 
 /// A key, one variant a path (ICS 24, "Path-space"). Sequences count from 1.
@@ -28,4 +30,11 @@ pub enum Key {
     NextConnectionSequence,
     /// The number of the next channel.
     NextChannelSequence,
+}
+
+/// Different keys have different paths (ICS 24, "Path-space").
+#[tactic(auto, using(crate::proofs::Paths::different_paths))]
+pub fn different_keys_have_different_paths()
+    ensures { DifferentPaths }
+{
 }

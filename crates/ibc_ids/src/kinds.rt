@@ -1,13 +1,17 @@
 //! The kinds of names (ICS 24, "Identifiers"; ICS 20 for denominations). Lengths are in bytes.
 
-ghost use Rattle.std.specs.Prelude.{ℕ, Bool, List};
+ghost use Rattle.std.specs.Prelude.{◌≡◌, ℕ, Bool, List};
 ghost use Rattle.ibc_ids.specs.Names.{is_port, is_client, is_connection, is_channel, is_user, is_receiver, is_memo, is_version, is_denom};
 
-use crate::Name;
+use crate::{Name, forms};
 
 /// A kind of names: which texts have its form.
 pub trait Kind {
     ghost form: { List ℕ → Bool };
+
+    /// Whether a text has the form.
+    fn has_form(text: &str) -> bool
+        ensures { result ≡ form text.now };
 }
 
 /// A port's identifier: 2 to 128 letters, digits and `.` `_` `+` `-` `#` `[` `]` `<` `>` (ICS 24).
@@ -75,36 +79,72 @@ pub struct DenomKind;
 
 impl Kind for PortKind {
     ghost form = { is_port };
+
+    fn has_form(text: &str) -> bool {
+        forms::is_identifier(text.as_bytes(), 2, 128)
+    }
 }
 
 impl Kind for ClientKind {
     ghost form = { is_client };
+
+    fn has_form(text: &str) -> bool {
+        forms::is_identifier(text.as_bytes(), 9, 64)
+    }
 }
 
 impl Kind for ConnectionKind {
     ghost form = { is_connection };
+
+    fn has_form(text: &str) -> bool {
+        forms::is_identifier(text.as_bytes(), 10, 64)
+    }
 }
 
 impl Kind for ChannelKind {
     ghost form = { is_channel };
+
+    fn has_form(text: &str) -> bool {
+        forms::is_identifier(text.as_bytes(), 8, 64)
+    }
 }
 
 impl Kind for UserKind {
     ghost form = { is_user };
+
+    fn has_form(text: &str) -> bool {
+        forms::is_word(text.as_bytes(), 1, 32)
+    }
 }
 
 impl Kind for ReceiverKind {
     ghost form = { is_receiver };
+
+    fn has_form(text: &str) -> bool {
+        forms::is_plain(text.as_bytes(), 1, 64)
+    }
 }
 
 impl Kind for MemoKind {
     ghost form = { is_memo };
+
+    fn has_form(text: &str) -> bool {
+        forms::is_plain(text.as_bytes(), 0, 256)
+    }
 }
 
 impl Kind for VersionKind {
     ghost form = { is_version };
+
+    fn has_form(text: &str) -> bool {
+        forms::is_version(text.as_bytes())
+    }
 }
 
 impl Kind for DenomKind {
     ghost form = { is_denom };
+
+    fn has_form(text: &str) -> bool {
+        forms::is_denom(text.as_bytes())
+    }
 }

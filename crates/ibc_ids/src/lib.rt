@@ -3,6 +3,7 @@
 
 mod account;
 mod bytes;
+mod forms;
 mod key;
 mod kinds;
 mod name;
