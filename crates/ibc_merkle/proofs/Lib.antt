@@ -1,1 +1,3 @@
 mod Facts
+pub mod Trees
+pub mod Varints
