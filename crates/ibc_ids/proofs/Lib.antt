@@ -1,1 +1,2 @@
 mod Facts
+pub mod Texts
