@@ -1,2 +1,4 @@
 mod Facts
 pub mod Same
+pub mod Trees
+pub mod Varints

@@ -1,6 +1,12 @@
 //! Trees over a chain's provable records, and proofs of presence and absence (ICS 23).
 #![tactic(auto)]
 
+mod entry;
+mod hashing;
 mod proof;
+mod tree;
 
+pub use entry::Entry;
+pub use hashing::{hash_inner, hash_leaf, hash_value};
 pub use proof::{Absence, Operation, Operations, Presence, Proof};
+pub use tree::root;
