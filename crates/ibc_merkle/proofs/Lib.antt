@@ -2,3 +2,13 @@ mod Facts
 pub mod Same
 pub mod Trees
 pub mod Varints
+pub mod Digests
+pub mod Trees
+pub mod Sorted
+pub mod Edits
+pub mod Paths
+pub mod Found
+pub mod Accepted
+pub mod Presences
+pub mod Clashes
+pub mod Depths

@@ -3,10 +3,12 @@
 
 mod entry;
 mod hashing;
+mod laws;
 mod proof;
 mod tree;
 
 pub use entry::Entry;
 pub use hashing::{hash_inner, hash_leaf, hash_value};
+pub use laws::{accepted_is_written, written_is_accepted};
 pub use proof::{Absence, Operation, Operations, Presence, Proof};
 pub use tree::root;

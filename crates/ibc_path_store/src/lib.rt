@@ -1,0 +1,4 @@
+//! A chain's provable records: a map from paths to values, its committed heights, their roots and proofs.
+#![tactic(auto)]
+
+mod path_map;
