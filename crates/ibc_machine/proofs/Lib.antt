@@ -1,3 +1,13 @@
 pub mod Computing
 pub mod Scripts
+pub mod Openings
+pub mod PacketScripts
+mod PublishedHeights
+mod WindowOfHeights
 mod Handshake
+mod ForgedHandshakes
+mod CrossedClaims
+mod TokensThereAndBack
+mod RefundedTokens
+mod TokenTimeouts
+mod RefusedPackets
