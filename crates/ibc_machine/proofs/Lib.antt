@@ -11,3 +11,10 @@ mod TokensThereAndBack
 mod RefundedTokens
 mod TokenTimeouts
 mod RefusedPackets
+mod TokensOverTwoHops
+mod SeveralTokens
+mod WholeOrNotAtAll
+mod TotalsOfAChannel
+mod NotesInOrder
+mod NoteTimeoutCloses
+mod ClosedPeer

@@ -7,8 +7,9 @@ use Rattle.ibc_wire.specs.declared.token.Token.{Token}
 use Rattle.ibc_wire.specs.declared.messages.Message.TheVariants as message
 use Rattle.ibc_machine.specs.declared.event.Event.{Event}
 use Rattle.ibc_machine.specs.declared.event.Event.TheVariants as event
-use Rattle.ibc_machine.specs.TokenData.{Data, data_text}
-use Rattle.ibc_machine.proofs.Scripts.{Side, Use, for_tokens, for_several, for_notes, a, b, alice, bob, atom, atom_from_a}
+use Rattle.ibc_machine.specs.declared.reply.Reply.{Reply}
+use Rattle.ibc_machine.specs.TokenData.{Data, data_text, success}
+use Rattle.ibc_machine.proofs.Scripts.{Side, Use, for_tokens, for_several, for_notes, a, b, alice, bob, atom, atom_from_a, block, update, blocked, done, acked}
 
 -- ---- packets
 
@@ -131,3 +132,11 @@ time_out_closed x p next_recv h =
       proof = [];
       proof_close = [];
     }))
+
+-- x's packet is committed in x's height h, received by y with success, and acknowledged from y's height k
+abbrev pub relayed : Side → Side → Packet → ℕ → ℕ → List Event
+relayed x y p h k = block x ∷ update y x h ∷ recv y p h ∷ block y ∷ update x y k ∷ ack x p success k ∷ []
+
+-- what these six steps answer
+abbrev pub arrived : ℕ → ℕ → List Reply
+arrived h k = blocked h ∷ done ∷ acked success ∷ blocked k ∷ done ∷ done ∷ []

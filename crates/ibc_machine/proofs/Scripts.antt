@@ -2,6 +2,7 @@
 -- written proofs, of which only the marks are looked at, so that nothing is hashed.
 use Rattle.std.specs.Prelude.{ℕ, true, codes, List, [], ◌∷◌, map}
 use Rattle.ibc_ids.specs.Texts.{Text}
+use Rattle.ibc_ids.specs.Maps.{Map}
 use Rattle.ibc_ids.specs.declared.refusal.Refusal.{Refusal}
 use Rattle.ibc_wire.specs.declared.records.Order.{Order}
 use Rattle.ibc_wire.specs.declared.records.Order.TheVariants.{Unordered, Ordered}
@@ -40,7 +41,10 @@ world_after genesis world [] = world
 world_after genesis world (e ∷ es) = world_after genesis (answer honest genesis true world e).1 es
 
 abbrev pub balances : World → List Balances
-balances world = map (λ (c : Chain). c.records.apps.balances) world
+balances world = map (λ (chain : Chain). chain.records.apps.balances) world
+
+abbrev pub notes : World → List (Map Text (List Text))
+notes world = map (λ (chain : Chain). chain.records.apps.notes) world
 
 -- ---- people and denominations
 
@@ -59,9 +63,15 @@ atom = codes "atom"
 abbrev pub gold : Text
 gold = codes "gold"
 
--- what came from a to b over their first channels
+-- what came over first channels from a to b, and from there to c
 abbrev pub atom_from_a : Text
 atom_from_a = codes "transfer/channel-0/atom"
+
+abbrev pub atom_over_b : Text
+atom_over_b = codes "transfer/channel-0/transfer/channel-0/atom"
+
+abbrev pub gold_from_a : Text
+gold_from_a = codes "transfer/channel-0/gold"
 
 abbrev pub escrow_0 : Text
 escrow_0 = codes "escrow/transfer/channel-0"
