@@ -18,3 +18,14 @@ mod TotalsOfAChannel
 mod NotesInOrder
 mod NoteTimeoutCloses
 mod ClosedPeer
+mod TimeoutsToTheBlock
+mod SizesAndNumbers
+mod FullCounters
+mod AllowedBeginnings
+mod TokenSpellings
+mod ListsOfTokens
+mod PeersAndHistories
+mod GenesisStore
+mod TrueProofs
+mod RelayedPackets
+mod ALedger

@@ -113,20 +113,12 @@ pub record Side : Type 0 where
 
 -- the chain with the first names, and with the second ones
 abbrev pub first : ℕ → Side
-first k = record {
-  number = k;
-  client = codes "inprocess-0";
-  connection = codes "connection-0";
-  channel = codes "channel-0";
-}
+first k =
+    record { number = k; client = codes "inprocess-0"; connection = codes "connection-0"; channel = codes "channel-0" }
 
 abbrev pub second : ℕ → Side
-second k = record {
-  number = k;
-  client = codes "inprocess-1";
-  connection = codes "connection-1";
-  channel = codes "channel-1";
-}
+second k =
+    record { number = k; client = codes "inprocess-1"; connection = codes "connection-1"; channel = codes "channel-1" }
 
 abbrev pub a : Side
 a = first 0
