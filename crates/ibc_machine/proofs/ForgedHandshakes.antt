@@ -1,12 +1,12 @@
 -- Handshakes that go wrong: each end must be what its peer's end says it is.
-use Rattle.std.proofs.Common.{◌≡◌, codes, ◌∷◌, [], refl}
+use Rattle.std.proofs.Common.{take, ◌≡◌, codes, ◌∷◌, [], refl}
 use Rattle.ibc_ids.specs.declared.refusal.Refusal.TheVariants.{UnknownClient, UnknownConnection, WrongState, NoConsensus, BadProof, UnknownPort, UnknownChannel, WrongOrder, WrongVersion, CloseRefused, UnknownChain}
 use Rattle.ibc_wire.specs.declared.records.Order.TheVariants.{Unordered, Ordered}
 use Rattle.ibc_machine.specs.Genesis.{start}
 use Rattle.ibc_machine.specs.Machine.{World}
 use Rattle.ibc_machine.proofs.Computing.{computing}
-use Rattle.ibc_machine.proofs.Scripts.{a, b, c, second, a_and_b, for_tokens, for_several, for_notes, replies, world_after, create, update, block, new_client, new_connection, new_channel, blocked, done, no}
-use Rattle.ibc_machine.proofs.Openings.{begin_connection, try_connection, ack_connection, confirm_connection, begin_channel, try_channel, ack_channel, confirm_channel, close_channel, confirm_close, with_notes, with_tokens}
+use Rattle.ibc_machine.proofs.Scripts.{a, b, c, first, second, a_and_b, for_tokens, for_several, for_notes, replies, world_after, create, update, block, new_client, new_connection, new_channel, blocked, done, no}
+use Rattle.ibc_machine.proofs.Openings.{opening, begin_connection, try_connection, ack_connection, confirm_connection, begin_channel, try_channel, ack_channel, confirm_channel, close_channel, confirm_close, with_notes, with_tokens}
 
 -- a began a connection, and b is told of it
 abbrev begun : World
@@ -41,6 +41,21 @@ nothing_comes_of_nothing : replies a_and_b begun
     ∷ no UnknownConnection ∷ no UnknownChannel ∷ no UnknownChannel ∷ []
 unfolding computing
 nothing_comes_of_nothing = refl
+
+-- a has begun a channel for tokens, and b's connection is open: b's answer has the same order, version and ports, and
+-- names a's end; and then the peer takes no other
+abbrev a_channel_begun : World
+a_channel_begun = world_after a_and_b (start a_and_b) (take 13 (opening a b for_tokens 0 0))
+
+an_answer_fits : replies a_and_b a_channel_begun
+    (try_channel b a for_several 2 ∷ try_channel b a for_notes 2 ∷ try_channel b (second 0) for_tokens 2 ∷ try_channel b a for_tokens 1
+    ∷ try_channel b a for_tokens 2 ∷ try_channel b a for_tokens 2 ∷ block b ∷ update a b 2 ∷ ack_channel a (first 1) for_tokens 1
+    ∷ ack_channel a (second 1) for_tokens 2 ∷ block a ∷ update b a 3 ∷ confirm_channel b for_tokens 3 ∷ confirm_channel (second 1) for_tokens 3 ∷ [])
+    ≡ no BadProof ∷ no BadProof ∷ no BadProof ∷ no BadProof
+    ∷ new_channel b.channel ∷ new_channel (second 1).channel ∷ blocked 2 ∷ done ∷ no BadProof
+    ∷ done ∷ blocked 3 ∷ done ∷ no BadProof ∷ done ∷ []
+unfolding computing
+an_answer_fits = refl
 
 -- ---- what an application takes
 

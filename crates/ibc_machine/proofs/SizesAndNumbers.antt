@@ -1,16 +1,18 @@
 -- What has no good size or number is refused before all else: data and acknowledgements have 1 to 1,024 bytes,
 -- sequences go from 1 to 2^64 - 2, and amounts from 1 to 2^128 - 1.
-use Rattle.std.proofs.Common.{◌≡◌, ℕ, ◌^◌, ◌-◌, ◌∷◌, ◌++◌, List, [], refl, replicate}
+use Rattle.std.proofs.Common.{◌≡◌, ℕ, codes, ◌^◌, ◌-◌, ◌∷◌, ◌++◌, List, [], refl, map, replicate}
 use Rattle.ibc_ids.specs.Texts.{Text}
+use Rattle.ibc_ids.specs.Names.{hop}
 use Rattle.ibc_ids.specs.declared.refusal.Refusal.TheVariants.{NoConsensus, BadProof, NoCommitment, TooLarge, BadMessage}
 use Rattle.ibc_wire.specs.declared.packet.Packet.{Packet}
 use Rattle.ibc_machine.specs.declared.event.Event.{Event}
 use Rattle.ibc_machine.specs.Genesis.{GenesisState, start}
-use Rattle.ibc_machine.specs.TokenData.{success}
+use Rattle.ibc_machine.specs.Transfers.{receive_transfer}
+use Rattle.ibc_machine.specs.TokenData.{success, error}
 use Rattle.ibc_machine.proofs.Computing.{computing}
 use Rattle.ibc_machine.proofs.Scripts.{a, b, second, alice, bob, atom, atom_from_a, escrow_0, holds, a_and_b, chain_with, for_tokens, replies, balances, world_after, update, block, blocked, done, no, sent, acked}
 use Rattle.ibc_machine.proofs.Openings.{opening, with_tokens, with_notes}
-use Rattle.ibc_machine.proofs.PacketScripts.{send, tokens, there, note, noted, recv, ack, time_out, time_out_closed}
+use Rattle.ibc_machine.proofs.PacketScripts.{back, send, tokens, there, note, noted, recv, ack, time_out, time_out_closed}
 
 abbrev bytes : ℕ → Text
 bytes n = replicate n 7
@@ -81,3 +83,36 @@ bob_has_all_there_is : balances (world_after richest (start richest) (opening a 
     ∷ (holds bob 340282366920938463463374607431768211455 atom_from_a ∷ []) ∷ []
 unfolding computing
 bob_has_all_there_is = refl
+
+-- ---- a denomination has 256 bytes at most with the hop that a receive puts before it, which has 19 here
+
+-- two names of the greatest lengths as a hop, and a base of so many bytes: 194 and the base
+abbrev long : ℕ → Text
+long base = hop (replicate 128 97) (replicate 64 97) ++ replicate base 97
+
+abbrev one_of : Text → Packet
+one_of denom = tokens a b 1 alice 1 denom bob
+
+abbrev nothing_burnt : Text → ℕ
+nothing_burnt denom = 0
+
+traces : map (λ base. receive_transfer nothing_burnt [] for_tokens.version (one_of (long base))) (43 ∷ 44 ∷ [])
+    ≡ (success, holds bob 1 (hop (codes "transfer") (codes "channel-0") ++ long 43) ∷ []) ∷ (error (codes "over limit"), []) ∷ []
+unfolding computing
+traces = refl
+
+-- ---- what is present and what is burnt in flight fit 128 bits together
+
+abbrev burnt_in_flight : ℕ → Text → ℕ
+burnt_in_flight n denom = n
+
+held_and_in_flight : map (λ n. (receive_transfer (burnt_in_flight n) (holds alice 5 atom_from_a ∷ []) for_tokens.version (one_of atom)).0) (0 ∷ (most - 6) ∷ (most - 5) ∷ [])
+    ≡ success ∷ success ∷ error (codes "over limit") ∷ []
+unfolding computing
+held_and_in_flight = refl
+
+-- ---- an escrow pays no more than it holds
+an_escrow_pays_what_it_holds : map (λ n. receive_transfer nothing_burnt (holds escrow_0 n atom ∷ []) for_tokens.version back) (99 ∷ 100 ∷ [])
+    ≡ (error (codes "over limit"), holds escrow_0 99 atom ∷ []) ∷ (success, holds alice 100 atom ∷ []) ∷ []
+unfolding computing
+an_escrow_pays_what_it_holds = refl

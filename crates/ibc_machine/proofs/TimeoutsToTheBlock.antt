@@ -20,6 +20,13 @@ sending : replies a_and_b with_tokens
 unfolding computing
 sending = refl
 
+-- a client that is told of a lower height, also again, still knows the greatest: 2 after 1, and 3 after 1
+the_latest_counts : replies a_and_b with_tokens
+    (update a b 1 ∷ send_until 2 0 a alice 1 atom bob ∷ block b ∷ update a b 3 ∷ update a b 1 ∷ send_until 3 0 a alice 1 atom bob ∷ send_until 4 0 a alice 1 atom bob ∷ [])
+    ≡ done ∷ no TimeoutPassed ∷ blocked 3 ∷ done ∷ done ∷ no TimeoutPassed ∷ sent 1 ∷ []
+unfolding computing
+the_latest_counts = refl
+
 -- ---- receiving: b's working block is 3, and its time 100
 
 abbrev five_sent : World
