@@ -7,7 +7,8 @@ use Rattle.ibc_machine.proofs.Scripts.{alice, bob, atom, gold, atom_from_a, escr
 abbrev with_chains : ℕ → GenesisState
 with_chains n = record a_and_b { chains = replicate n (chain_with []) }
 
-two_to_eight_chains : map (λ n. is_allowed (with_chains n)) (0 ∷ 1 ∷ 2 ∷ 8 ∷ 9 ∷ []) ≡ false ∷ false ∷ true ∷ true ∷ false ∷ []
+two_to_eight_chains : map (λ n. is_allowed (with_chains n)) (0 ∷ 1 ∷ 2 ∷ 8 ∷ 9 ∷ [])
+    ≡ false ∷ false ∷ true ∷ true ∷ false ∷ []
 unfolding computing
 two_to_eight_chains = refl
 
@@ -22,7 +23,8 @@ windows : map (λ n. is_allowed (limits 1000000 n)) (0 ∷ 1 ∷ 4096 ∷ 4097 �
 unfolding computing
 windows = refl
 
-windows_within_the_capacity : is_allowed (limits 8 8) ∷ is_allowed (limits 8 9) ∷ is_allowed (limits 0 0) ∷ [] ≡ true ∷ false ∷ false ∷ []
+windows_within_the_capacity : is_allowed (limits 8 8) ∷ is_allowed (limits 8 9) ∷ is_allowed (limits 0 0) ∷ []
+    ≡ true ∷ false ∷ false ∷ []
 unfolding computing
 windows_within_the_capacity = refl
 
@@ -65,7 +67,10 @@ unfolding computing
 by_good_names = refl
 
 -- ---- what is there in the beginning; an amount of 0 is not kept
-the_first_balances : balances (start (record a_and_b { chains = chain_with ((bob, gold, 2) ∷ (alice, atom, 1) ∷ (bob, atom, 0) ∷ []) ∷ chain_with [] ∷ [] }))
+the_first_balances : balances (start (record a_and_b {
+  chains = chain_with ((bob, gold, 2) ∷ (alice, atom, 1)
+      ∷ (bob, atom, 0) ∷ []) ∷ chain_with [] ∷ [];
+}))
     ≡ (holds alice 1 atom ∷ holds bob 2 gold ∷ []) ∷ [] ∷ []
 unfolding computing
 the_first_balances = refl

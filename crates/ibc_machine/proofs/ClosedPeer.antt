@@ -20,7 +20,8 @@ closed = world_after a_and_b with_notes (note a n1 ∷ note a n2 ∷ close_chann
 
 -- not as a timeout, as none is reached; but on the peer's closed end, and once
 timed_out_on_close : replies a_and_b closed
-    (update a b 3 ∷ time_out a (noted 1 n1) 1 3 ∷ time_out_closed a (noted 1 n1) 1 3 ∷ time_out_closed a (noted 1 n1) 1 3
+    (update a b 3 ∷ time_out a (noted 1 n1) 1 3 ∷ time_out_closed a (noted 1 n1) 1 3
+    ∷ time_out_closed a (noted 1 n1) 1 3
     ∷ note a n2 ∷ time_out_closed a (noted 2 n2) 1 3 ∷ [])
     ≡ done ∷ no NotTimedOut ∷ done ∷ no NoCommitment ∷ no WrongState ∷ done ∷ []
 unfolding computing
@@ -28,7 +29,8 @@ timed_out_on_close = refl
 
 -- not while the peer's end was open
 not_before_it_closed : replies a_and_b closed
-    (time_out_closed a (noted 1 n1) 1 2 ∷ time_out_closed a (noted 1 n1) 1 3 ∷ update a b 3 ∷ time_out_closed a (noted 1 n1) 2 3 ∷ [])
+    (time_out_closed a (noted 1 n1) 1 2 ∷ time_out_closed a (noted 1 n1) 1 3 ∷ update a b 3
+    ∷ time_out_closed a (noted 1 n1) 2 3 ∷ [])
     ≡ no BadProof ∷ no NoConsensus ∷ done ∷ no NotTimedOut ∷ []
 unfolding computing
 not_before_it_closed = refl
@@ -43,7 +45,8 @@ unfolding computing
 not_what_was_received = refl
 
 -- a closed end receives nothing and sends nothing
-closed_ends_are_quiet : replies a_and_b closed (block a ∷ update b a 4 ∷ recv b (noted 1 n1) 4 ∷ note b n1 ∷ close_channel b for_notes ∷ [])
+closed_ends_are_quiet : replies a_and_b closed
+    (block a ∷ update b a 4 ∷ recv b (noted 1 n1) 4 ∷ note b n1 ∷ close_channel b for_notes ∷ [])
     ≡ blocked 4 ∷ done ∷ no WrongState ∷ no WrongState ∷ no WrongState ∷ []
 unfolding computing
 closed_ends_are_quiet = refl

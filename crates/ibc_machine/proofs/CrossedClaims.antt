@@ -16,7 +16,8 @@ to_b =
     (create a c ∷ create b a ∷ begin_connection a b ∷ block a ∷ update b a 1 ∷ [])
 
 -- b is told the truth, that a's client tracks c; or a lie, that it tracks b
-no_answer_to_one_that_looks_elsewhere : replies a_b_and_c to_b (try_connection b a c 0 1 ∷ try_connection b a b 0 1 ∷ [])
+no_answer_to_one_that_looks_elsewhere : replies a_b_and_c to_b
+    (try_connection b a c 0 1 ∷ try_connection b a b 0 1 ∷ [])
     ≡ no WrongSelfClient ∷ no BadProof ∷ []
 unfolding computing
 no_answer_to_one_that_looks_elsewhere = refl
@@ -36,7 +37,8 @@ unfolding computing
 not_the_one_who_was_answered = refl
 
 -- a takes it, with the latest height that b's client knew, which is one that a has committed
-the_one_who_was_answered : replies a_b_and_c answered (ack_connection a b a 0 1 ∷ ack_connection a b a 2 1 ∷ ack_connection a b a 1 1 ∷ [])
+the_one_who_was_answered : replies a_b_and_c answered
+    (ack_connection a b a 0 1 ∷ ack_connection a b a 2 1 ∷ ack_connection a b a 1 1 ∷ [])
     ≡ no BadProof ∷ no WrongSelfClient ∷ done ∷ []
 unfolding computing
 the_one_who_was_answered = refl

@@ -10,7 +10,8 @@ use Rattle.ibc_machine.proofs.Openings.{opening, begin_connection, try_connectio
 
 -- a began a connection, and b is told of it
 abbrev begun : World
-begun = world_after a_and_b (start a_and_b) (create a b ∷ create b a ∷ begin_connection a b ∷ block a ∷ update b a 1 ∷ [])
+begun = world_after a_and_b (start a_and_b)
+    (create a b ∷ create b a ∷ begin_connection a b ∷ block a ∷ update b a 1 ∷ [])
 
 -- b answers twice, and a takes the second answer: the first is never confirmed
 one_is_confirmed : replies a_and_b begun
@@ -33,7 +34,8 @@ over_an_open_connection = refl
 -- what isn't there isn't opened, a height that the client doesn't know shows nothing, and nothing comes of an
 -- end that the peer doesn't have
 nothing_comes_of_nothing : replies a_and_b begun
-    (begin_connection (second 0) b ∷ try_connection (second 1) a b 0 1 ∷ try_connection b a b 0 2 ∷ try_connection b (second 0) b 0 1
+    (begin_connection (second 0) b ∷ try_connection (second 1) a b 0 1 ∷ try_connection b a b 0 2
+    ∷ try_connection b (second 0) b 0 1
     ∷ ack_connection (second 0) b a 1 1 ∷ confirm_connection (second 1) 1 ∷ begin_channel (second 0) for_tokens
     ∷ try_channel b a for_tokens 1 ∷ ack_channel a b for_tokens 1 ∷ confirm_channel b for_tokens 1 ∷ [])
     ≡ no UnknownClient ∷ no UnknownClient ∷ no NoConsensus ∷ no BadProof
@@ -48,9 +50,12 @@ abbrev a_channel_begun : World
 a_channel_begun = world_after a_and_b (start a_and_b) (take 13 (opening a b for_tokens 0 0))
 
 an_answer_fits : replies a_and_b a_channel_begun
-    (try_channel b a for_several 2 ∷ try_channel b a for_notes 2 ∷ try_channel b (second 0) for_tokens 2 ∷ try_channel b a for_tokens 1
-    ∷ try_channel b a for_tokens 2 ∷ try_channel b a for_tokens 2 ∷ block b ∷ update a b 2 ∷ ack_channel a (first 1) for_tokens 1
-    ∷ ack_channel a (second 1) for_tokens 2 ∷ block a ∷ update b a 3 ∷ confirm_channel b for_tokens 3 ∷ confirm_channel (second 1) for_tokens 3 ∷ [])
+    (try_channel b a for_several 2 ∷ try_channel b a for_notes 2 ∷ try_channel b (second 0) for_tokens 2
+    ∷ try_channel b a for_tokens 1
+    ∷ try_channel b a for_tokens 2 ∷ try_channel b a for_tokens 2 ∷ block b ∷ update a b 2
+    ∷ ack_channel a (first 1) for_tokens 1
+    ∷ ack_channel a (second 1) for_tokens 2 ∷ block a ∷ update b a 3 ∷ confirm_channel b for_tokens 3
+    ∷ confirm_channel (second 1) for_tokens 3 ∷ [])
     ≡ no BadProof ∷ no BadProof ∷ no BadProof ∷ no BadProof
     ∷ new_channel b.channel ∷ new_channel (second 1).channel ∷ blocked 2 ∷ done ∷ no BadProof
     ∷ done ∷ blocked 3 ∷ done ∷ no BadProof ∷ done ∷ []
@@ -62,7 +67,8 @@ an_answer_fits = refl
 -- notes come in order, over one version; their channels can be closed, and the peer's end then too
 notes_are_opened_and_closed : replies a_and_b with_notes
     (ack_connection a b a 1 1 ∷ begin_channel a (record for_notes { port = codes "other" })
-    ∷ begin_channel a (record for_notes { order = Unordered }) ∷ begin_channel a (record for_notes { version = codes "ics20-1" })
+    ∷ begin_channel a (record for_notes { order = Unordered })
+    ∷ begin_channel a (record for_notes { version = codes "ics20-1" })
     ∷ close_channel a for_notes ∷ close_channel a for_notes ∷ block a ∷ update b a 4 ∷ confirm_close b for_notes 3
     ∷ confirm_close b for_notes 4 ∷ confirm_close b for_notes 4 ∷ [])
     ≡ no WrongState ∷ no UnknownPort ∷ no WrongOrder ∷ no WrongVersion
@@ -72,8 +78,11 @@ notes_are_opened_and_closed = refl
 
 -- tokens come in any order, over two versions; their channels aren't closed
 tokens_are_opened_and_stay : replies a_and_b with_tokens
-    (begin_channel a (record for_tokens { order = Ordered }) ∷ begin_channel a (record for_tokens { version = codes "note-1" })
-    ∷ begin_channel a for_several ∷ close_channel a for_tokens ∷ close_channel (second 0) for_tokens ∷ close_channel c for_tokens ∷ [])
-    ≡ no WrongOrder ∷ no WrongVersion ∷ new_channel (second 0).channel ∷ no CloseRefused ∷ no WrongState ∷ no UnknownChain ∷ []
+    (begin_channel a (record for_tokens { order = Ordered })
+    ∷ begin_channel a (record for_tokens { version = codes "note-1" })
+    ∷ begin_channel a for_several ∷ close_channel a for_tokens ∷ close_channel (second 0) for_tokens
+    ∷ close_channel c for_tokens ∷ [])
+    ≡ no WrongOrder ∷ no WrongVersion ∷ new_channel (second 0).channel ∷ no CloseRefused ∷ no WrongState
+    ∷ no UnknownChain ∷ []
 unfolding computing
 tokens_are_opened_and_stay = refl

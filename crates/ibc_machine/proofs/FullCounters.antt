@@ -25,12 +25,15 @@ abbrev counted_to : ℕ → World
 counted_to n = changed (λ core. record core { next_client = n; next_connection = n; next_channel = n }) with_tokens
 
 no_more_names : replies a_and_b (counted_to last)
-    (create a b ∷ begin_connection a b ∷ begin_channel a for_tokens ∷ try_connection b a b 0 3 ∷ try_channel b a for_tokens 3 ∷ [])
+    (create a b ∷ begin_connection a b ∷ begin_channel a for_tokens ∷ try_connection b a b 0 3
+    ∷ try_channel b a for_tokens 3 ∷ [])
     ≡ no NumberFull ∷ no NumberFull ∷ no NumberFull ∷ no NumberFull ∷ no NumberFull ∷ []
 unfolding computing
 no_more_names = refl
 
-the_last_names : replies a_and_b (counted_to (last - 1)) (create a b ∷ begin_connection a b ∷ begin_channel a for_tokens ∷ create a b ∷ begin_connection a b ∷ begin_channel a for_tokens ∷ [])
+the_last_names : replies a_and_b (counted_to (last - 1))
+    (create a b ∷ begin_connection a b ∷ begin_channel a for_tokens ∷ create a b ∷ begin_connection a b
+    ∷ begin_channel a for_tokens ∷ [])
     ≡ new_client (codes "inprocess-18446744073709551614") ∷ new_connection (codes "connection-18446744073709551614")
     ∷ new_channel (codes "channel-18446744073709551614") ∷ no NumberFull ∷ no NumberFull ∷ no NumberFull ∷ []
 unfolding computing
@@ -42,13 +45,15 @@ abbrev sent_up_to : ℕ → World → World
 sent_up_to n world =
     changed (λ core. record core { channels = map (λ (entry : (Text × Text) × Channel). (entry.0, record entry.1 { next_send = n })) core.channels }) world
 
-tokens_no_more : replies a_and_b (sent_up_to (last - 1) with_tokens) (send a alice 1 atom bob ∷ send a alice 1 atom bob ∷ [])
+tokens_no_more : replies a_and_b (sent_up_to (last - 1) with_tokens)
+    (send a alice 1 atom bob ∷ send a alice 1 atom bob ∷ [])
     ≡ sent 18446744073709551614 ∷ no NumberFull ∷ []
 unfolding computing
 tokens_no_more = refl
 
 -- and none leave the sender
-tokens_stay : balances (world_after a_and_b (sent_up_to last with_tokens) (send a alice 1 atom bob ∷ [])) ≡ alice_has_all
+tokens_stay : balances (world_after a_and_b (sent_up_to last with_tokens) (send a alice 1 atom bob ∷ []))
+    ≡ alice_has_all
 unfolding computing
 tokens_stay = refl
 

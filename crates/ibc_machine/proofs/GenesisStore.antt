@@ -16,7 +16,9 @@ abbrev zeros : Text
 zeros = replicate 8 0
 
 -- three counters stand from the beginning on
-its_pairs : image empty_core ≡ (codes "nextChannelSequence", zeros) ∷ (codes "nextClientSequence", zeros) ∷ (codes "nextConnectionSequence", zeros) ∷ []
+its_pairs : image empty_core
+    ≡ (codes "nextChannelSequence", zeros) ∷ (codes "nextClientSequence", zeros)
+    ∷ (codes "nextConnectionSequence", zeros) ∷ []
 unfolding computing
 its_pairs = refl
 

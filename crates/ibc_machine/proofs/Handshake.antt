@@ -20,7 +20,8 @@ opens_for_notes = refl
 
 -- what is open can't be opened again
 not_twice : replies a_and_b with_tokens
-    (ack_connection a b a 1 1 ∷ confirm_connection b 2 ∷ ack_channel a b for_tokens 2 ∷ confirm_channel b for_tokens 3 ∷ [])
+    (ack_connection a b a 1 1 ∷ confirm_connection b 2 ∷ ack_channel a b for_tokens 2 ∷ confirm_channel b for_tokens 3
+    ∷ [])
     ≡ no WrongState ∷ no WrongState ∷ no WrongState ∷ no WrongState ∷ []
 unfolding computing
 not_twice = refl

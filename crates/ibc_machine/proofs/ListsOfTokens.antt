@@ -42,18 +42,21 @@ one_to_eight = refl
 
 -- in rising order, and none twice
 they_rise : replies_to joined
-    ((token 1 gold ∷ token 1 atom ∷ []) ∷ (token 1 atom ∷ token 1 atom ∷ []) ∷ (token 1 atom ∷ token 1 gold ∷ token 1 atom ∷ [])
+    ((token 1 gold ∷ token 1 atom ∷ []) ∷ (token 1 atom ∷ token 1 atom ∷ [])
+    ∷ (token 1 atom ∷ token 1 gold ∷ token 1 atom ∷ [])
     ∷ (token 1 atom ∷ []) ∷ [])
     ≡ no BadMessage ∷ no BadMessage ∷ no BadMessage ∷ sent 1 ∷ []
 unfolding computing
 they_rise = refl
 
 -- form comes before all else, also where there is no such channel
-form_first : replies a_and_b (start a_and_b) (send_list (pieces 9) ∷ send_list (pieces 8) ∷ []) ≡ no BadMessage ∷ no UnknownChannel ∷ []
+form_first : replies a_and_b (start a_and_b) (send_list (pieces 9) ∷ send_list (pieces 8) ∷ [])
+    ≡ no BadMessage ∷ no UnknownChannel ∷ []
 unfolding computing
 form_first = refl
 
-no_amount_of_0 : replies_to joined ((token 0 atom ∷ []) ∷ (token 1 atom ∷ token 0 gold ∷ []) ∷ []) ≡ no TooLarge ∷ no TooLarge ∷ []
+no_amount_of_0 : replies_to joined ((token 0 atom ∷ []) ∷ (token 1 atom ∷ token 0 gold ∷ []) ∷ [])
+    ≡ no TooLarge ∷ no TooLarge ∷ []
 unfolding computing
 no_amount_of_0 = refl
 
@@ -68,11 +71,13 @@ eight_with longer =
     map (λ letter. token most (named 58 letter)) (range_with_len 98 longer)
     ++ map (λ letter. token most (named 57 letter)) (range_with_len (98 + longer) (8 - longer))
 
-their_sizes : map (λ longer. length (data_text for_several.version (tokens_data alice (eight_with longer) bob))) (0 ∷ 2 ∷ 3 ∷ []) ≡ 1022 ∷ 1024 ∷ 1025 ∷ []
+their_sizes : map (λ longer. length (data_text for_several.version (tokens_data alice (eight_with longer) bob)))
+    (0 ∷ 2 ∷ 3 ∷ []) ≡ 1022 ∷ 1024 ∷ 1025 ∷ []
 unfolding computing
 their_sizes = refl
 
-not_over_1024_bytes : replies_to joined (eight_with 0 ∷ eight_with 2 ∷ eight_with 3 ∷ []) ≡ no Poor ∷ no Poor ∷ no TooLarge ∷ []
+not_over_1024_bytes : replies_to joined (eight_with 0 ∷ eight_with 2 ∷ eight_with 3 ∷ [])
+    ≡ no Poor ∷ no Poor ∷ no TooLarge ∷ []
 unfolding computing
 not_over_1024_bytes = refl
 

@@ -70,7 +70,8 @@ one_received =
     ∷ block b ∷ block b ∷ update a b 4 ∷ [])
 
 only_what_was_not_received : replies a_and_b one_received
-    (time_out a (noted_until 4 0 1 n1) 2 4 ∷ time_out a (noted_until 4 0 1 n1) 1 4 ∷ time_out a (noted_until 4 0 2 n2) 1 4
+    (time_out a (noted_until 4 0 1 n1) 2 4 ∷ time_out a (noted_until 4 0 1 n1) 1 4
+    ∷ time_out a (noted_until 4 0 2 n2) 1 4
     ∷ time_out a (noted_until 4 0 2 n2) 3 4 ∷ time_out a (noted_until 4 0 2 n2) 2 4 ∷ [])
     ≡ no NotTimedOut ∷ no BadProof ∷ no BadProof ∷ no NotTimedOut ∷ done ∷ []
 unfolding computing
@@ -79,7 +80,8 @@ only_what_was_not_received = refl
 -- ---- notes of a closed channel are timed out one by one
 both_are_timed_out : replies a_and_b with_notes
     (note_until 3 0 a n1 ∷ note_until 3 0 a n2 ∷ block b ∷ update a b 3
-    ∷ time_out a (noted_until 3 0 2 n2) 1 3 ∷ time_out a (noted_until 3 0 1 n1) 1 3 ∷ time_out a (noted_until 3 0 1 n1) 1 3 ∷ [])
+    ∷ time_out a (noted_until 3 0 2 n2) 1 3 ∷ time_out a (noted_until 3 0 1 n1) 1 3
+    ∷ time_out a (noted_until 3 0 1 n1) 1 3 ∷ [])
     ≡ sent 1 ∷ sent 2 ∷ blocked 3 ∷ done ∷ done ∷ done ∷ no NoCommitment ∷ []
 unfolding computing
 both_are_timed_out = refl

@@ -20,14 +20,16 @@ two_sent = world_after a_and_b with_notes (note a n1 ∷ note a n2 ∷ block a �
 
 -- not the second first, and none twice
 received_in_order : replies a_and_b two_sent
-    (recv b (noted 2 n2) 4 ∷ recv b (noted 1 n1) 4 ∷ recv b (noted 1 n1) 4 ∷ recv b (noted 2 n2) 4 ∷ recv b (noted 2 n2) 4 ∷ [])
+    (recv b (noted 2 n2) 4 ∷ recv b (noted 1 n1) 4 ∷ recv b (noted 1 n1) 4 ∷ recv b (noted 2 n2) 4
+    ∷ recv b (noted 2 n2) 4 ∷ [])
     ≡ no OutOfOrder ∷ acked success ∷ no AlreadyReceived ∷ acked success ∷ no AlreadyReceived ∷ []
 unfolding computing
 received_in_order = refl
 
 -- the acknowledgements too, whether they come at once or one after the other
 acknowledged_in_order : replies a_and_b two_sent
-    (recv b (noted 1 n1) 4 ∷ recv b (noted 2 n2) 4 ∷ block b ∷ update a b 3 ∷ ack a (noted 2 n2) success 3 ∷ ack a (noted 1 n1) success 3
+    (recv b (noted 1 n1) 4 ∷ recv b (noted 2 n2) 4 ∷ block b ∷ update a b 3 ∷ ack a (noted 2 n2) success 3
+    ∷ ack a (noted 1 n1) success 3
     ∷ ack a (noted 2 n2) success 3 ∷ ack a (noted 2 n2) success 3 ∷ ack a (noted 1 n1) success 3 ∷ [])
     ≡ acked success ∷ acked success ∷ blocked 3 ∷ done ∷ no OutOfOrder ∷ done
     ∷ done ∷ no NoCommitment ∷ no NoCommitment ∷ []
@@ -42,7 +44,8 @@ both_are_kept = refl
 
 -- only the acknowledgement that was written is believed, and none of what wasn't received
 not_what_was_not_received : replies a_and_b two_sent
-    (recv b (noted 1 n1) 4 ∷ block b ∷ update a b 3 ∷ ack a (noted 1 n1) (error n1) 3 ∷ ack a (noted 1 n1) success 3 ∷ ack a (noted 2 n2) success 3 ∷ [])
+    (recv b (noted 1 n1) 4 ∷ block b ∷ update a b 3 ∷ ack a (noted 1 n1) (error n1) 3 ∷ ack a (noted 1 n1) success 3
+    ∷ ack a (noted 2 n2) success 3 ∷ [])
     ≡ acked success ∷ blocked 3 ∷ done ∷ no BadProof ∷ done ∷ no BadProof ∷ []
 unfolding computing
 not_what_was_not_received = refl

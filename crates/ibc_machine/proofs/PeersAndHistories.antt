@@ -21,13 +21,18 @@ end_of x it = record { chain = x.number; port = it.port; channel = x.channel }
 
 -- ---- peers
 
-peers_name_each_other : are_peers with_tokens (end_of a for_tokens) (end_of b for_tokens) ∷ are_peers with_tokens (end_of b for_tokens) (end_of a for_tokens) ∷ []
+peers_name_each_other :
+    are_peers with_tokens (end_of a for_tokens) (end_of b for_tokens)
+    ∷ are_peers with_tokens (end_of b for_tokens) (end_of a for_tokens) ∷ []
     ≡ true ∷ true ∷ []
 unfolding computing
 peers_name_each_other = refl
 
-no_end_is_its_own_peer : are_peers with_tokens (end_of a for_tokens) (end_of a for_tokens) ∷ are_peers with_tokens (end_of a for_tokens) (end_of b for_notes)
-    ∷ are_peers with_tokens (end_of a for_tokens) (end_of (second 1) for_tokens) ∷ are_peers with_tokens (end_of a for_tokens) (end_of c for_tokens) ∷ []
+no_end_is_its_own_peer :
+    are_peers with_tokens (end_of a for_tokens) (end_of a for_tokens)
+    ∷ are_peers with_tokens (end_of a for_tokens) (end_of b for_notes)
+    ∷ are_peers with_tokens (end_of a for_tokens) (end_of (second 1) for_tokens)
+    ∷ are_peers with_tokens (end_of a for_tokens) (end_of c for_tokens) ∷ []
     ≡ false ∷ false ∷ false ∷ false ∷ []
 unfolding computing
 no_end_is_its_own_peer = refl
@@ -36,7 +41,8 @@ no_end_is_its_own_peer = refl
 abbrev after_steps : ℕ → World
 after_steps n = world_after a_and_b (start a_and_b) (take n (opening a b for_tokens 0 0))
 
-peers_from_the_acknowledgement_on : map (λ n. are_peers (after_steps n) (end_of a for_tokens) (end_of b for_tokens)) (14 ∷ 16 ∷ 17 ∷ 20 ∷ []) ≡ false ∷ false ∷ true ∷ true ∷ []
+peers_from_the_acknowledgement_on : map (λ n. are_peers (after_steps n) (end_of a for_tokens) (end_of b for_tokens))
+    (14 ∷ 16 ∷ 17 ∷ 20 ∷ []) ≡ false ∷ false ∷ true ∷ true ∷ []
 unfolding computing
 peers_from_the_acknowledgement_on = refl
 
@@ -79,11 +85,14 @@ abbrev sent_from : Option Channel → List Packet
 sent_from (Some mine) = history.sent (end_of a for_notes) mine happened
 sent_from None = []
 
-three_sent : sent_from (end_at with_notes (end_of a for_notes)) ≡ noted 1 n1 ∷ noted_until 9 0 2 n2 ∷ noted_until 5 0 3 n3 ∷ []
+three_sent : sent_from (end_at with_notes (end_of a for_notes))
+    ≡ noted 1 n1 ∷ noted_until 9 0 2 n2 ∷ noted_until 5 0 3 n3 ∷ []
 unfolding computing
 three_sent = refl
 
-nothing_the_other_way : sequences (received (end_of a for_notes) happened) ++ sequences (acknowledged (end_of b for_notes) happened)
-    ++ sequences (timed_out (end_of b for_notes) happened) ++ sequences (received (end_of b for_tokens) happened) ≡ []
+nothing_the_other_way :
+    sequences (received (end_of a for_notes) happened) ++ sequences (acknowledged (end_of b for_notes) happened)
+    ++ sequences (timed_out (end_of b for_notes) happened) ++ sequences (received (end_of b for_tokens) happened)
+    ≡ []
 unfolding computing
 nothing_the_other_way = refl

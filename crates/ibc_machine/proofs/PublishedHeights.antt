@@ -12,19 +12,23 @@ unfolding computing
 a_published_height_is_seen = refl
 
 -- the header must have the time of the height, and it may be told again
-with_its_time : replies a_and_b (start a_and_b) (create a b ∷ block b ∷ update_at 101 a b 1 ∷ update_at 100 a b 1 ∷ update a b 1 ∷ [])
+with_its_time : replies a_and_b (start a_and_b)
+    (create a b ∷ block b ∷ update_at 101 a b 1 ∷ update_at 100 a b 1 ∷ update a b 1 ∷ [])
     ≡ new_client a.client ∷ blocked 1 ∷ no WrongHeader ∷ done ∷ done ∷ []
 unfolding computing
 with_its_time = refl
 
 -- a block has the time that was fixed when it began
-of_its_beginning : replies a_and_b (start a_and_b) (create a b ∷ block_at 200 b ∷ update_at 200 a b 1 ∷ update_at 100 a b 1 ∷ block_at 200 b ∷ update_at 200 a b 2 ∷ [])
+of_its_beginning : replies a_and_b (start a_and_b)
+    (create a b ∷ block_at 200 b ∷ update_at 200 a b 1 ∷ update_at 100 a b 1 ∷ block_at 200 b ∷ update_at 200 a b 2
+    ∷ [])
     ≡ new_client a.client ∷ blocked 1 ∷ no WrongHeader ∷ done ∷ blocked 2 ∷ done ∷ []
 unfolding computing
 of_its_beginning = refl
 
 -- a client sees heights of its own chain alone, and no height is 0
-of_its_chain : replies a_b_and_c (start a_b_and_c) (create a b ∷ block b ∷ block c ∷ update a c 1 ∷ update a b 0 ∷ update a b 1 ∷ update (second 0) b 1 ∷ [])
+of_its_chain : replies a_b_and_c (start a_b_and_c)
+    (create a b ∷ block b ∷ block c ∷ update a c 1 ∷ update a b 0 ∷ update a b 1 ∷ update (second 0) b 1 ∷ [])
     ≡ new_client a.client ∷ blocked 1 ∷ blocked 1 ∷ no WrongHeader ∷ no WrongHeader ∷ done ∷ no UnknownClient ∷ []
 unfolding computing
 of_its_chain = refl
@@ -36,13 +40,15 @@ unfolding computing
 of_another_chain = refl
 
 -- times don't fall, and may be equal
-times_do_not_fall : replies a_and_b (start a_and_b) (block_at 99 a ∷ block_at 100 a ∷ block_at 100 a ∷ block_at 101 a ∷ block_at 100 a ∷ [])
+times_do_not_fall : replies a_and_b (start a_and_b)
+    (block_at 99 a ∷ block_at 100 a ∷ block_at 100 a ∷ block_at 101 a ∷ block_at 100 a ∷ [])
     ≡ no TimeBack ∷ blocked 1 ∷ blocked 2 ∷ blocked 3 ∷ no TimeBack ∷ []
 unfolding computing
 times_do_not_fall = refl
 
 -- two heights, and no more; messages are answered as before
-a_full_table : replies (record a_and_b { capacity = 2; window = 2 }) (start a_and_b) (block a ∷ block a ∷ create a b ∷ block a ∷ create a b ∷ [])
+a_full_table : replies (record a_and_b { capacity = 2; window = 2 }) (start a_and_b)
+    (block a ∷ block a ∷ create a b ∷ block a ∷ create a b ∷ [])
     ≡ blocked 1 ∷ blocked 2 ∷ new_client a.client ∷ no TableFull ∷ new_client (second 0).client ∷ []
 unfolding computing
 a_full_table = refl

@@ -33,12 +33,14 @@ the_words : bad_receiver ≡ codes "{\"error\":\"bad receiver\"}"
 the_words = refl
 
 -- only the acknowledgement that was written is believed, and only once
-refunded_once : replies a_and_b not_taken (ack a nowhere success 3 ∷ ack a nowhere bad_receiver 3 ∷ ack a nowhere bad_receiver 3 ∷ [])
+refunded_once : replies a_and_b not_taken
+    (ack a nowhere success 3 ∷ ack a nowhere bad_receiver 3 ∷ ack a nowhere bad_receiver 3 ∷ [])
     ≡ no BadProof ∷ done ∷ no NoCommitment ∷ []
 unfolding computing
 refunded_once = refl
 
-alice_has_them_again : balances (world_after a_and_b not_taken (ack a nowhere bad_receiver 3 ∷ ack a nowhere bad_receiver 3 ∷ [])) ≡ alice_has_all
+alice_has_them_again : balances
+    (world_after a_and_b not_taken (ack a nowhere bad_receiver 3 ∷ ack a nowhere bad_receiver 3 ∷ [])) ≡ alice_has_all
 unfolding computing
 alice_has_them_again = refl
 
@@ -59,7 +61,8 @@ vouchers_not_taken =
     ∷ block b ∷ update a b 3 ∷ recv a lost_vouchers 3 ∷ block a ∷ update b a 5 ∷ [])
 
 vouchers_are_minted_again : balances vouchers_not_taken
-    ++ balances (world_after a_and_b vouchers_not_taken (ack b lost_vouchers bad_receiver 5 ∷ ack b lost_vouchers bad_receiver 5 ∷ []))
+    ++ balances (world_after a_and_b vouchers_not_taken (ack b lost_vouchers bad_receiver 5
+    ∷ ack b lost_vouchers bad_receiver 5 ∷ []))
     ≡ (holds alice 900 atom ∷ holds escrow_0 100 atom ∷ []) ∷ (holds bob 70 atom_from_a ∷ [])
     ∷ (holds alice 900 atom ∷ holds escrow_0 100 atom ∷ []) ∷ (holds bob 100 atom_from_a ∷ []) ∷ []
 unfolding computing

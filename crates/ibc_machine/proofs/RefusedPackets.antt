@@ -13,7 +13,8 @@ use Rattle.ibc_machine.proofs.Openings.{with_tokens, begin_channel, close_channe
 use Rattle.ibc_machine.proofs.PacketScripts.{send, send_until, tokens, tokens_until, there, recv}
 
 refused_by_name : replies a_and_b with_tokens
-    (send a alice 1001 atom bob ∷ send a alice 0 atom bob ∷ send_until 0 0 a alice 1 atom bob ∷ send_until 2 0 a alice 1 atom bob
+    (send a alice 1001 atom bob ∷ send a alice 0 atom bob ∷ send_until 0 0 a alice 1 atom bob
+    ∷ send_until 2 0 a alice 1 atom bob
     ∷ close_channel a for_tokens ∷ begin_channel a (record for_tokens { order = Ordered })
     ∷ begin_channel a (record for_tokens { version = codes "note-1" })
     ∷ send a alice 1 atom bob ∷ block a ∷ recv b (tokens a b 1 alice 1 atom bob) 4 ∷ block_at 99 a ∷ [])
@@ -36,8 +37,10 @@ five = tokens a b 2 alice 5 atom bob
 -- not before the height that shows it, not at one that isn't known, and not with other data, another number or
 -- another timeout, nor at another channel or port
 not_the_one_that_was_sent : replies a_and_b (world_after a_and_b two_sent (update b a 4 ∷ []))
-    (recv b there 3 ∷ recv b there 5 ∷ recv b (tokens a b 1 alice 101 atom bob) 4 ∷ recv b (tokens a b 3 alice 100 atom bob) 4
-    ∷ recv b (tokens_until 1001 0 a b 1 alice 100 atom bob) 4 ∷ recv b (tokens_until 1000 1000 a b 1 alice 100 atom bob) 4
+    (recv b there 3 ∷ recv b there 5 ∷ recv b (tokens a b 1 alice 101 atom bob) 4
+    ∷ recv b (tokens a b 3 alice 100 atom bob) 4
+    ∷ recv b (tokens_until 1001 0 a b 1 alice 100 atom bob) 4
+    ∷ recv b (tokens_until 1000 1000 a b 1 alice 100 atom bob) 4
     ∷ recv b (tokens a (second 1) 1 alice 100 atom bob) 4 ∷ recv b (tokens (second 0) b 1 alice 100 atom bob) 4
     ∷ recv b there 4 ∷ recv b five 4 ∷ [])
     ≡ no BadProof ∷ no NoConsensus ∷ no BadProof ∷ no BadProof
@@ -77,6 +80,7 @@ in_any_order : in_each_order two_sent
     ≡ (done ∷ taken ∷ taken ∷ late ∷ []) ∷ (done ∷ taken ∷ taken ∷ late ∷ []) ∷ (done ∷ taken ∷ late ∷ taken ∷ [])
     ∷ (early ∷ done ∷ taken ∷ taken ∷ []) ∷ (early ∷ done ∷ taken ∷ taken ∷ []) ∷ (early ∷ done ∷ taken ∷ late ∷ [])
     ∷ (early ∷ early ∷ done ∷ taken ∷ []) ∷ (early ∷ early ∷ done ∷ taken ∷ []) ∷ (early ∷ early ∷ done ∷ taken ∷ [])
-    ∷ (early ∷ early ∷ early ∷ done ∷ []) ∷ (early ∷ early ∷ early ∷ done ∷ []) ∷ (early ∷ early ∷ early ∷ done ∷ []) ∷ []
+    ∷ (early ∷ early ∷ early ∷ done ∷ []) ∷ (early ∷ early ∷ early ∷ done ∷ []) ∷ (early ∷ early ∷ early ∷ done ∷ [])
+    ∷ []
 unfolding computing
 in_any_order = refl

@@ -65,7 +65,8 @@ nothing_twice = refl
 -- ---- proofs that don't fit: of another packet, or of the height before
 
 abbrev two_sent : World
-two_sent = world_after a_and_b with_tokens (send a alice 100 atom bob ∷ send a alice 5 atom bob ∷ block a ∷ update b a 4 ∷ [])
+two_sent = world_after a_and_b with_tokens
+    (send a alice 100 atom bob ∷ send a alice 5 atom bob ∷ block a ∷ update b a 4 ∷ [])
 
 abbrev with_proof : Packet → Text → Event
 with_proof p proof = event.Message 1 (message.RecvPacket (record { packet = p; height = 4; proof = proof }))
@@ -74,7 +75,8 @@ abbrev of_sequence : ℕ → Text
 of_sequence n = proof_at (view two_sent a) (key.Commitment for_tokens.port a.channel n)
 
 not_with_the_proof_of_another : replies_by true_marks a_and_b two_sent
-    (with_proof there (of_sequence 2) ∷ with_proof there (of_sequence 3) ∷ with_proof there (of_sequence 1 ++ 0 ∷ []) ∷ with_proof there []
+    (with_proof there (of_sequence 2) ∷ with_proof there (of_sequence 3) ∷ with_proof there (of_sequence 1 ++ 0 ∷ [])
+    ∷ with_proof there []
     ∷ with_proof (tokens a b 1 alice 101 atom bob) (of_sequence 1) ∷ with_proof there (of_sequence 1) ∷ [])
     ≡ no BadProof ∷ no BadProof ∷ no BadMessage ∷ no BadMessage ∷ no BadProof ∷ acked success ∷ []
 unfolding computing hashing
@@ -86,7 +88,8 @@ not_with_the_proof_of_another = refl
 abbrev two_notes : World
 two_notes = world_after a_and_b with_notes (note_until 4 0 a (97 ∷ []) ∷ note a (98 ∷ []) ∷ block a ∷ block b ∷ [])
 
-the_later_is_received : pending (view two_notes a) (view two_notes b) ∷ pending (view two_notes b) (view two_notes a) ∷ []
+the_later_is_received : pending (view two_notes a) (view two_notes b) ∷ pending (view two_notes b)
+    (view two_notes a) ∷ []
     ≡ (is_pending for_notes Receive 2 ∷ []) ∷ [] ∷ []
 unfolding computing
 the_later_is_received = refl
@@ -101,6 +104,7 @@ the_first_times_out : pending (view two_blocks_on b) (view two_blocks_on a) ≡ 
 unfolding computing
 the_first_times_out = refl
 
-both_are_timed_out_on_close : pending (view closed b) (view closed a) ≡ is_pending for_notes TimeOut 1 ∷ is_pending for_notes TimeOutClosed 2 ∷ []
+both_are_timed_out_on_close : pending (view closed b) (view closed a)
+    ≡ is_pending for_notes TimeOut 1 ∷ is_pending for_notes TimeOutClosed 2 ∷ []
 unfolding computing
 both_are_timed_out_on_close = refl

@@ -18,7 +18,10 @@ token amount denom = record { denom = denom; amount = amount }
 
 -- alice holds 1000 atom and so much gold
 abbrev with_gold : ℕ → GenesisState
-with_gold amount = record a_and_b { chains = chain_with ((alice, atom, 1000) ∷ (alice, gold, amount) ∷ []) ∷ chain_with [] ∷ [] }
+with_gold amount = record a_and_b {
+  chains = chain_with ((alice, atom, 1000) ∷ (alice, gold, amount) ∷ [])
+      ∷ chain_with [] ∷ [];
+}
 
 abbrev rich : GenesisState
 rich = with_gold 50
@@ -85,12 +88,14 @@ it_opens_beside : replies rich again (opening (second 0) (second 1) for_tokens 5
 unfolding computing
 it_opens_beside = refl
 
-one_token_there : replies rich beside (send_many (second 0) alice ones bob ∷ send (second 0) alice 5 atom bob ∷ []) ≡ no WrongVersion ∷ sent 1 ∷ []
+one_token_there : replies rich beside (send_many (second 0) alice ones bob ∷ send (second 0) alice 5 atom bob ∷ [])
+    ≡ no WrongVersion ∷ sent 1 ∷ []
 unfolding computing
 one_token_there = refl
 
 in_its_own_escrow : balances (world_after rich beside (send (second 0) alice 5 atom bob ∷ []))
-    ≡ (holds alice 895 atom ∷ holds alice 43 gold ∷ holds escrow_0 100 atom ∷ holds escrow_0 7 gold ∷ holds escrow_1 5 atom ∷ [])
+    ≡ (holds alice 895 atom ∷ holds alice 43 gold ∷ holds escrow_0 100 atom ∷ holds escrow_0 7 gold
+    ∷ holds escrow_1 5 atom ∷ [])
     ∷ (holds bob 100 atom_from_a ∷ holds bob 7 gold_from_a ∷ []) ∷ []
 unfolding computing
 in_its_own_escrow = refl

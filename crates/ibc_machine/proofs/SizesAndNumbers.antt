@@ -17,13 +17,15 @@ use Rattle.ibc_machine.proofs.PacketScripts.{back, send, tokens, there, note, no
 abbrev bytes : ℕ → Text
 bytes n = replicate n 7
 
-notes_to_send : replies a_and_b with_notes (note a (bytes 0) ∷ note a (bytes 1) ∷ note a (bytes 1024) ∷ note a (bytes 1025) ∷ [])
+notes_to_send : replies a_and_b with_notes
+    (note a (bytes 0) ∷ note a (bytes 1) ∷ note a (bytes 1024) ∷ note a (bytes 1025) ∷ [])
     ≡ no TooLarge ∷ sent 1 ∷ sent 2 ∷ no TooLarge ∷ []
 unfolding computing
 notes_to_send = refl
 
 -- the longest is received
-notes_to_receive : replies a_and_b with_notes (note a (bytes 1024) ∷ block a ∷ update b a 4 ∷ recv b (noted 1 (bytes 1024)) 4 ∷ [])
+notes_to_receive : replies a_and_b with_notes
+    (note a (bytes 1024) ∷ block a ∷ update b a 4 ∷ recv b (noted 1 (bytes 1024)) 4 ∷ [])
     ≡ sent 1 ∷ blocked 4 ∷ done ∷ acked success ∷ []
 unfolding computing
 notes_to_receive = refl
@@ -71,7 +73,8 @@ richest = record a_and_b { chains = chain_with ((alice, atom, most) ∷ []) ∷ 
 
 abbrev all_of_it : List Event
 all_of_it =
-    send a alice 0 atom bob ∷ send a alice most atom bob ∷ block a ∷ update b a 4 ∷ recv b (tokens a b 1 alice most atom bob) 4 ∷ []
+    send a alice 0 atom bob ∷ send a alice most atom bob ∷ block a ∷ update b a 4
+    ∷ recv b (tokens a b 1 alice most atom bob) 4 ∷ []
 
 bob_gets_all_there_is : replies richest (world_after richest (start richest) (opening a b for_tokens 0 0)) all_of_it
     ≡ no TooLarge ∷ sent 1 ∷ blocked 4 ∷ done ∷ acked success ∷ []
@@ -97,7 +100,8 @@ abbrev nothing_burnt : Text → ℕ
 nothing_burnt denom = 0
 
 traces : map (λ base. receive_transfer nothing_burnt [] for_tokens.version (one_of (long base))) (43 ∷ 44 ∷ [])
-    ≡ (success, holds bob 1 (hop (codes "transfer") (codes "channel-0") ++ long 43) ∷ []) ∷ (error (codes "over limit"), []) ∷ []
+    ≡ (success, holds bob 1 (hop (codes "transfer") (codes "channel-0") ++ long 43) ∷ [])
+    ∷ (error (codes "over limit"), []) ∷ []
 unfolding computing
 traces = refl
 
@@ -106,13 +110,15 @@ traces = refl
 abbrev burnt_in_flight : ℕ → Text → ℕ
 burnt_in_flight n denom = n
 
-held_and_in_flight : map (λ n. (receive_transfer (burnt_in_flight n) (holds alice 5 atom_from_a ∷ []) for_tokens.version (one_of atom)).0) (0 ∷ (most - 6) ∷ (most - 5) ∷ [])
+held_and_in_flight : map (λ n. (receive_transfer (burnt_in_flight n) (holds alice 5 atom_from_a
+    ∷ []) for_tokens.version (one_of atom)).0) (0 ∷ (most - 6) ∷ (most - 5) ∷ [])
     ≡ success ∷ success ∷ error (codes "over limit") ∷ []
 unfolding computing
 held_and_in_flight = refl
 
 -- ---- an escrow pays no more than it holds
-an_escrow_pays_what_it_holds : map (λ n. receive_transfer nothing_burnt (holds escrow_0 n atom ∷ []) for_tokens.version back) (99 ∷ 100 ∷ [])
+an_escrow_pays_what_it_holds : map
+    (λ n. receive_transfer nothing_burnt (holds escrow_0 n atom ∷ []) for_tokens.version back) (99 ∷ 100 ∷ [])
     ≡ (error (codes "over limit"), holds escrow_0 99 atom ∷ []) ∷ (success, holds alice 100 atom ∷ []) ∷ []
 unfolding computing
 an_escrow_pays_what_it_holds = refl

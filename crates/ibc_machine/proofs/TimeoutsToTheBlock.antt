@@ -22,7 +22,8 @@ sending = refl
 
 -- a client that is told of a lower height, also again, still knows the greatest: 2 after 1, and 3 after 1
 the_latest_counts : replies a_and_b with_tokens
-    (update a b 1 ∷ send_until 2 0 a alice 1 atom bob ∷ block b ∷ update a b 3 ∷ update a b 1 ∷ send_until 3 0 a alice 1 atom bob ∷ send_until 4 0 a alice 1 atom bob ∷ [])
+    (update a b 1 ∷ send_until 2 0 a alice 1 atom bob ∷ block b ∷ update a b 3 ∷ update a b 1
+    ∷ send_until 3 0 a alice 1 atom bob ∷ send_until 4 0 a alice 1 atom bob ∷ [])
     ≡ done ∷ no TimeoutPassed ∷ blocked 3 ∷ done ∷ done ∷ no TimeoutPassed ∷ sent 1 ∷ []
 unfolding computing
 the_latest_counts = refl
@@ -39,15 +40,18 @@ abbrev one_until : ℕ → ℕ → ℕ → Packet
 one_until n height time = tokens_until height time a b n alice 1 atom bob
 
 receiving : replies a_and_b five_sent
-    (recv b (one_until 1 3 0) 4 ∷ recv b (one_until 2 4 0) 4 ∷ recv b (one_until 3 0 101) 4 ∷ recv b (one_until 4 3 101) 4
+    (recv b (one_until 1 3 0) 4 ∷ recv b (one_until 2 4 0) 4 ∷ recv b (one_until 3 0 101) 4
+    ∷ recv b (one_until 4 3 101) 4
     ∷ recv b (one_until 5 4 101) 4 ∷ [])
     ≡ no TimeoutPassed ∷ acked success ∷ acked success ∷ no TimeoutPassed ∷ acked success ∷ []
 unfolding computing
 receiving = refl
 
 -- in block 4 of time 101 all limits are reached, and in block 4 of time 100 all but the time
-receiving_later : replies a_and_b five_sent (block_at 101 b ∷ recv b (one_until 2 4 0) 4 ∷ recv b (one_until 3 0 101) 4 ∷ recv b (one_until 5 4 101) 4 ∷ [])
-    ++ replies a_and_b five_sent (block b ∷ recv b (one_until 2 4 0) 4 ∷ recv b (one_until 3 0 101) 4 ∷ recv b (one_until 5 4 101) 4 ∷ [])
+receiving_later : replies a_and_b five_sent
+    (block_at 101 b ∷ recv b (one_until 2 4 0) 4 ∷ recv b (one_until 3 0 101) 4 ∷ recv b (one_until 5 4 101) 4 ∷ [])
+    ++ replies a_and_b five_sent (block b ∷ recv b (one_until 2 4 0) 4 ∷ recv b (one_until 3 0 101) 4
+    ∷ recv b (one_until 5 4 101) 4 ∷ [])
     ≡ blocked 3 ∷ no TimeoutPassed ∷ no TimeoutPassed ∷ no TimeoutPassed
     ∷ blocked 3 ∷ no TimeoutPassed ∷ acked success ∷ no TimeoutPassed ∷ []
 unfolding computing
@@ -56,7 +60,8 @@ receiving_later = refl
 -- ---- timing out: b's height 3 has time 100, and height 4 time 101
 
 abbrev heights_shown : World
-heights_shown = world_after a_and_b five_sent (block_at 101 b ∷ block_at 101 b ∷ update a b 3 ∷ update_at 101 a b 4 ∷ [])
+heights_shown = world_after a_and_b five_sent
+    (block_at 101 b ∷ block_at 101 b ∷ update a b 3 ∷ update_at 101 a b 4 ∷ [])
 
 timing_out_at_3 : replies a_and_b heights_shown
     (time_out a (one_until 1 3 0) 0 2 ∷ time_out a (one_until 1 3 0) 0 3 ∷ time_out a (one_until 2 4 0) 0 3

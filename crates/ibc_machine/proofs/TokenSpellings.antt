@@ -19,7 +19,8 @@ its_length : length (data_text for_tokens.version (token_data alice 100 atom bob
 unfolding computing
 its_length = refl
 
-it_is_read : read (codes "{\"amount\":\"100\",\"denom\":\"atom\",\"receiver\":\"bob\",\"sender\":\"alice\"}") ≡ Some (token_data alice 100 atom bob)
+it_is_read : read (codes "{\"amount\":\"100\",\"denom\":\"atom\",\"receiver\":\"bob\",\"sender\":\"alice\"}")
+    ≡ Some (token_data alice 100 atom bob)
 unfolding computing
 it_is_read = refl
 
@@ -62,7 +63,8 @@ bad_forms :
     ∷ codes "{\"amount\": \"100\",\"denom\":\"atom\",\"receiver\":\"bob\",\"sender\":\"alice\"}"
     ∷ codes "{\"amount\":\"100\",\"denom\":\"atom\",\"memo\":\"\",\"receiver\":\"bob\",\"sender\":\"alice\"}"
     ∷ codes "{\"amount\":\"100\",\"denom\":\"atom\",\"receiver\":\"b\\u006fb\",\"sender\":\"alice\"}"
-    ∷ codes "{\"amount\":\"100\",\"denom\":\"atom\",\"receiver\":\"bob\",\"sender\":\"alice\"} " ∷ codes "" ∷ codes "{}" ∷ [])
+    ∷ codes "{\"amount\":\"100\",\"denom\":\"atom\",\"receiver\":\"bob\",\"sender\":\"alice\"} " ∷ codes "" ∷ codes "{}"
+    ∷ [])
     ≡ replicate 9 None
 unfolding computing
 bad_forms = refl

@@ -15,7 +15,8 @@ b_to_c = second 1
 abbrev joined : World
 joined = world_after a_b_and_c (start a_b_and_c) (opening a b for_tokens 0 0 ++ opening b_to_c c for_tokens 2 0)
 
-b_joins_c_too : replies a_b_and_c (world_after a_b_and_c (start a_b_and_c) (opening a b for_tokens 0 0)) (opening b_to_c c for_tokens 2 0)
+b_joins_c_too : replies a_b_and_c (world_after a_b_and_c (start a_b_and_c) (opening a b for_tokens 0 0))
+    (opening b_to_c c for_tokens 2 0)
     ≡ opened b_to_c c 2 0
 unfolding computing
 b_joins_c_too = refl
@@ -52,7 +53,8 @@ they_come_home : replies a_b_and_c carol_has_them to_alice ≡ sent 1 ∷ arrive
 unfolding computing
 they_come_home = refl
 
-alice_has_them_again : balances (world_after a_b_and_c carol_has_them to_alice) ≡ (holds alice 1000 atom ∷ []) ∷ [] ∷ [] ∷ []
+alice_has_them_again : balances (world_after a_b_and_c carol_has_them to_alice)
+    ≡ (holds alice 1000 atom ∷ []) ∷ [] ∷ [] ∷ []
 unfolding computing
 alice_has_them_again = refl
 

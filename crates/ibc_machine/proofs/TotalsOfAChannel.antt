@@ -67,12 +67,14 @@ not_of_vouchers : totals acknowledged_by_b 1 b.channel atom_from_a ≡ Err BadMe
 unfolding computing
 not_of_vouchers = refl
 
-not_of_others : totals with_tokens 0 (second 0).channel atom ∷ totals with_tokens 2 a.channel atom ∷ [] ≡ Err UnknownChannel ∷ Err UnknownChain ∷ []
+not_of_others : totals with_tokens 0 (second 0).channel atom ∷ totals with_tokens 2 a.channel atom ∷ []
+    ≡ Err UnknownChannel ∷ Err UnknownChain ∷ []
 unfolding computing
 not_of_others = refl
 
 -- a channel that only began
-not_before_it_opens : totals (world_after a_and_b with_tokens (begin_channel a for_tokens ∷ [])) 0 (second 0).channel atom ≡ Err WrongState
+not_before_it_opens : totals (world_after a_and_b with_tokens (begin_channel a for_tokens ∷ [])) 0
+    (second 0).channel atom ≡ Err WrongState
 unfolding computing
 not_before_it_opens = refl
 
@@ -82,9 +84,11 @@ abbrev nowhere : Packet
 nowhere = tokens a b 1 alice 100 atom escrow_0
 
 abbrev refused : World
-refused = world_after a_and_b with_tokens (send a alice 100 atom escrow_0 ∷ block a ∷ update b a 4 ∷ recv b nowhere 4 ∷ block b ∷ update a b 3 ∷ [])
+refused = world_after a_and_b with_tokens
+    (send a alice 100 atom escrow_0 ∷ block a ∷ update b a 4 ∷ recv b nowhere 4 ∷ block b ∷ update a b 3 ∷ [])
 
-under_way_until_refunded : of_a refused ∷ of_a (world_after a_and_b refused (ack a nowhere (error (codes "bad receiver")) 3 ∷ [])) ∷ []
+under_way_until_refunded : of_a refused ∷ of_a
+    (world_after a_and_b refused (ack a nowhere (error (codes "bad receiver")) 3 ∷ [])) ∷ []
     ≡ are 100 0 100 0 ∷ are 0 0 0 0 ∷ []
 unfolding computing
 under_way_until_refunded = refl

@@ -33,8 +33,10 @@ all_vouchers = token most gold_from_a ∷ []
 abbrev gold_is_home : World
 gold_is_home =
     world_after very_rich (start very_rich)
-    (opening a b for_several 0 0 ++ send_many a alice all_gold bob ∷ relayed a b (many_tokens a b 1 alice all_gold bob) 4 3
-    ++ send_many b bob all_vouchers alice ∷ block b ∷ update a b 4 ∷ recv a (many_tokens b a 1 bob all_vouchers alice) 4 ∷ [])
+    (opening a b for_several 0 0 ++ send_many a alice all_gold bob
+    ∷ relayed a b (many_tokens a b 1 alice all_gold bob) 4 3
+    ++ send_many b bob all_vouchers alice ∷ block b ∷ update a b 4 ∷ recv a (many_tokens b a 1 bob all_vouchers alice) 4
+    ∷ [])
 
 abbrev alice_has_it : List (List ((Text × Text) × ℕ))
 alice_has_it = (holds alice 1000 atom ∷ holds alice most gold ∷ []) ∷ [] ∷ []
@@ -63,7 +65,8 @@ neither_is_taken = refl
 
 -- bob gets no atom
 bob_gets_nothing : balances (world_after very_rich gold_is_home too_much)
-    ≡ (holds alice 999 atom ∷ holds alice (most - 1) gold ∷ holds escrow_0 1 atom ∷ holds escrow_0 1 gold ∷ []) ∷ [] ∷ []
+    ≡ (holds alice 999 atom ∷ holds alice (most - 1) gold ∷ holds escrow_0 1 atom ∷ holds escrow_0 1 gold ∷ []) ∷ []
+    ∷ []
 unfolding computing
 bob_gets_nothing = refl
 

@@ -12,12 +12,15 @@ abbrev keeps : ℕ → GenesisState
 keeps window = record a_and_b { capacity = 8; window = window }
 
 of_three_two_are_left : replies (keeps 2) (start a_and_b)
-    (create a b ∷ block b ∷ block b ∷ block b ∷ update a b 1 ∷ update a b 2 ∷ update a b 3 ∷ update a b 4 ∷ block b ∷ update a b 2 ∷ [])
-    ≡ new_client a.client ∷ blocked 1 ∷ blocked 2 ∷ blocked 3 ∷ no Pruned ∷ done ∷ done ∷ no NotPublished ∷ blocked 4 ∷ no Pruned ∷ []
+    (create a b ∷ block b ∷ block b ∷ block b ∷ update a b 1 ∷ update a b 2 ∷ update a b 3 ∷ update a b 4 ∷ block b
+    ∷ update a b 2 ∷ [])
+    ≡ new_client a.client ∷ blocked 1 ∷ blocked 2 ∷ blocked 3 ∷ no Pruned ∷ done ∷ done ∷ no NotPublished ∷ blocked 4
+    ∷ no Pruned ∷ []
 unfolding computing
 of_three_two_are_left = refl
 
-a_known_height_is_gone : replies (keeps 1) (start a_and_b) (create a b ∷ block b ∷ update a b 1 ∷ block b ∷ update a b 1 ∷ [])
+a_known_height_is_gone : replies (keeps 1) (start a_and_b)
+    (create a b ∷ block b ∷ update a b 1 ∷ block b ∷ update a b 1 ∷ [])
     ≡ new_client a.client ∷ blocked 1 ∷ done ∷ blocked 2 ∷ no Pruned ∷ []
 unfolding computing
 a_known_height_is_gone = refl
