@@ -62,7 +62,7 @@ nothing_twice : planned received a b ≡ []
 unfolding computing
 nothing_twice = refl
 
--- ---- proofs that don't fit: of another packet, or of the height before
+-- ---- proofs that don't fit: of another packet, with a byte more, none, or for other data
 
 abbrev two_sent : World
 two_sent = world_after a_and_b with_tokens
@@ -75,12 +75,16 @@ abbrev of_sequence : ℕ → Text
 of_sequence n = proof_at (view two_sent a) (key.Commitment for_tokens.port a.channel n)
 
 not_with_the_proof_of_another : replies_by true_marks a_and_b two_sent
-    (with_proof there (of_sequence 2) ∷ with_proof there (of_sequence 3) ∷ with_proof there (of_sequence 1 ++ 0 ∷ [])
-    ∷ with_proof there []
-    ∷ with_proof (tokens a b 1 alice 101 atom bob) (of_sequence 1) ∷ with_proof there (of_sequence 1) ∷ [])
-    ≡ no BadProof ∷ no BadProof ∷ no BadMessage ∷ no BadMessage ∷ no BadProof ∷ acked success ∷ []
+    (with_proof there (of_sequence 2) ∷ with_proof there (of_sequence 1 ++ 0 ∷ []) ∷ with_proof there [] ∷ [])
+    ≡ no BadProof ∷ no BadMessage ∷ no BadMessage ∷ []
 unfolding computing hashing
 not_with_the_proof_of_another = refl
+
+with_its_own_proof : replies_by true_marks a_and_b two_sent
+    (with_proof (tokens a b 1 alice 101 atom bob) (of_sequence 1) ∷ with_proof there (of_sequence 1) ∷ [])
+    ≡ no BadProof ∷ acked success ∷ []
+unfolding computing hashing
+with_its_own_proof = refl
 
 -- ---- notes: what b's working block has not reached is received, what b reached is timed out, and what a closed end
 -- had not received too
