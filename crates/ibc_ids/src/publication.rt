@@ -17,6 +17,24 @@ impl Model for Root {
     ghost inverse = { λ text. record { bytes = text } };
 }
 
+impl Root {
+    ghost use Rattle.std.specs.Prelude.{◌≡◌};
+
+    /// The root of these 32 bytes.
+    pub fn from_bytes(bytes: [u8; 32]) -> Root
+        ensures { result ≡ bytes }
+    {
+        Root { bytes }
+    }
+
+    /// The 32 bytes.
+    pub fn bytes(&self) -> &[u8; 32]
+        ensures { result.now ≡ self.now }
+    {
+        &self.bytes
+    }
+}
+
 /// A height of a chain with its root and its time (ICS 2, "Consensus state"). Times are plain numbers.
 #[derive(Clone, Copy, Debug, PartialEq, Eq, Drop)]
 pub struct Publication {
