@@ -15,7 +15,6 @@ use Rattle.ibc_root_table.specs.Layout.{place, floor_at, RowStands}
 use Rattle.ibc_root_table.specs.Rule.{Owns, Knows, Written, IsKept}
 use Rattle.ibc_root_table.specs.Told.{Sat, Drafted}
 use Rattle.std.proofs.lemmas.Option.{slice_get_within}
-use Rattle.std.proofs.lemmas.Option.{slice_get_within}
 use Rattle.ibc_root_table.proofs.Places.{place_above, place_inside, place_apart}
 use Rattle.ibc_root_table.proofs.Views.{seats_stay, chains_same, windows_same, capacities_same}
 
@@ -69,6 +68,7 @@ module _ (key : Shape) where
   draft_stays words draft c k part x d m ne ring lp fits stands other lo = let f = fits (omega arith) in
       get_or-set_other words (place key c k part) (place key d m other) x 0 (λ same. ne (place_apart key d m other c k part ring (omega arith) lp same).0) ∙ stands other lo
 
+  -- a word of the next row is stored
   pub drafts : (slots id : ℕ) (me : Sat) (word x : ℕ) → me.0.first_own < me.0.shape.chains → Owns me.0.first_own me.0 → height_of me.0.first_own me.0.seen < me.0.shape.capacity
       → height_of me.0.first_own me.0.seen + 1 ≤ get_or me.0.floors me.0.first_own 0 + me.0.shape.window → length me.0.draft < 5
       → word ≡ place (me.0.shape) me.0.first_own (height_of me.0.first_own me.0.seen) (length me.0.draft)

@@ -1,5 +1,6 @@
 pub mod Beginnings
 pub mod Chains
+pub mod Growing
 pub mod Places
 pub mod Rows
 pub mod Views

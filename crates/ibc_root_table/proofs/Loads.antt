@@ -4,6 +4,7 @@ use mathlib.Core.Option.{none}
 use mathlib.Core.List.{IsPrefix}
 use lib.Seq.{set-get_or}
 use Rattle.atomic_table.specs.Table.{State, step, keeps, stepped, Allows}
+use Rattle.ibc_ids.specs.declared.publication.Publication.{Publication}
 use Rattle.ibc_root_table.specs.declared.knowledge.Knowledge.{Knowledge}
 use Rattle.ibc_root_table.specs.declared.shape.Shape.{Shape}
 use Rattle.ibc_ids.specs.Publications.{published_by}
@@ -11,10 +12,9 @@ use Rattle.ibc_root_table.specs.Layout.{place, floor_at}
 use Rattle.ibc_root_table.specs.Rule.{Owns, Knows, IsKept}
 use Rattle.ibc_root_table.specs.Told.{Sat, Looked, LookedFloor, Counted, Read, Adopted}
 use base.Growing.{prefix_refl}
-use base.Growing.{prefix_refl}
 use Rattle.ibc_root_table.proofs.Beginnings.{prefix_get}
 use Rattle.ibc_root_table.proofs.Chains.{published_by-prefix, height_grows}
-use Rattle.ibc_root_table.proofs.Views.{seats_stay, chains_same, windows_same, within_own, all_floors}
+use Rattle.ibc_root_table.proofs.Views.{seats_stay, chains_same, windows_same, within_own, within_prefix, all_floors}
 
 abbrev St : Type 0
 St = State (Unit {0}) Knowledge
@@ -32,21 +32,37 @@ module _ (key : Shape) where
     each_seat = seats_stay (Knows key r.log r.owner s.words) s.views id w mine (λ j d _. r.each_seat j d);
   }
 
+  -- what a seat knows that has seen more of the list
+  seen_more : (log : List Publication) (owner : ℕ → ℕ) (words : List ℕ) (j : ℕ) (v : Knowledge) (more : List Publication) → Knows key log owner words j v → IsPrefix v.seen more → IsPrefix more log → Knows key log owner words j (record v { seen = more })
+  seen_more log owner words j v more k longer part = record {
+    shape = k.shape;
+    seen = part;
+    heard = k.heard;
+    inside = k.inside;
+    sole = k.sole;
+    all = λ d o. let all = k.all d o in let a = height_grows d v.seen more longer in let b = height_grows d more log part in omega arith;
+    drafted = k.drafted;
+    room = k.room;
+    floors = k.floors;
+  }
+
+  -- a published word is loaded
   pub looks : (slots id : ℕ) (me : Sat) (c : ℕ) → c < me.0.shape.chains → Allows Rule slots id me c (λ n. n) (Looked (step slots c 0 0 none) me)
   looks slots id me c inside s r _ at _ = let v = me.0 in let k = r.each_seat id v at in let shape = k.shape (omega arith) in let same = chains_same shape in (
     record v { seen = r.log },
     keeps,
     tt,
-    unmoved s r c id me.1 (record v { seen = r.log }) record { shape = k.shape; seen = prefix_refl r.log; heard = k.heard; inside = k.inside; sole = k.sole; all = λ d o. refl; drafted = k.drafted; room = k.room; floors = k.floors },
+    unmoved s r c id me.1 (record v { seen = r.log }) (seen_more r.log r.owner s.words id v r.log k k.seen (prefix_refl r.log)),
     ((refl, k.seen, k.heard, within_own r.log shape r.written.within, λ d o. sym (k.all d o)), r.written.counts c (omega arith)),
   )
 
+  -- a floor is loaded
   pub looks_floor : (slots id : ℕ) (me : Sat) (word : ℕ) → 0 < me.0.shape.chains → Allows Rule slots id me word (λ n. n) (LookedFloor (step slots word 0 0 none) me)
   looks_floor slots id me word some_chain s r _ at _ = let v = me.0 in let k = r.each_seat id v at in let shape = k.shape some_chain in let same = chains_same shape in let window = windows_same shape in (
     record v { seen = r.log },
     keeps,
     tt,
-    unmoved s r word id me.1 (record v { seen = r.log }) record { shape = k.shape; seen = prefix_refl r.log; heard = k.heard; inside = k.inside; sole = k.sole; all = λ d o. refl; drafted = k.drafted; room = k.room; floors = k.floors },
+    unmoved s r word id me.1 (record v { seen = r.log }) (seen_more r.log r.owner s.words id v r.log k k.seen (prefix_refl r.log)),
     λ c l is.
         let found : get_or s.words word 0 ≡ floor_at key s.words c = ap (λ (i : ℕ). get_or s.words i 0) (is ∙ ap (λ (n : ℕ). n + c) same) in
         let lc : c < key.chains = omega arith in
@@ -54,10 +70,12 @@ module _ (key : Shape) where
         ((refl, k.seen, k.heard, within_own r.log shape r.written.within, λ d o. sym (k.all d o)), omega arith, (omega arith, λ some_gone. let g = gone (omega arith) in omega arith)),
   )
 
+  -- an own published word is loaded
   pub counts : (slots id : ℕ) (me : Sat) (c : ℕ) → c < me.0.shape.chains → Owns c me.0 → Allows Rule slots id me c (λ n. n) (Counted (step slots c 0 0 none) me)
   counts slots id me c inside own s r _ at _ = let v = me.0 in let k = r.each_seat id v at in let same = chains_same (k.shape (omega arith)) in
       (v, keeps, tt, unmoved s r c id me.1 v k, (refl, r.written.counts c (omega arith) ∙ sym (k.all c own)))
 
+  -- a word of a row is loaded
   pub reads : (slots id : ℕ) (me : Sat) (word : ℕ) → 0 < me.0.shape.chains → Allows Rule slots id me word (λ n. n) (Read (step slots word 0 0 none) me)
   reads slots id me word some_chain s r _ at _ = let v = me.0 in let k = r.each_seat id v at in let same = k.shape some_chain in let chains = chains_same same in
       let now : List ℕ = drop key.chains s.words in (
@@ -86,25 +104,13 @@ module _ (key : Shape) where
         ),
       )
 
+  -- a published word is loaded, to take over what was heard
   pub adopts : (slots id : ℕ) (me : Sat) (word : ℕ) → 0 < me.0.shape.chains → IsPrefix me.0.seen me.0.heard → Allows Rule slots id me word (λ n. n) (Adopted (step slots word 0 0 none) me)
-  adopts slots id me word some_chain more s r _ at _ = let v = me.0 in let k = r.each_seat id v at in let shape = k.shape some_chain in (
-    record v { seen = v.heard },
-    keeps,
-    tt,
-    unmoved s r word id me.1 (record v { seen = v.heard }) record {
-      shape = k.shape;
-      seen = k.heard;
-      heard = k.heard;
-      inside = k.inside;
-      sole = k.sole;
-      all = λ d o. let all = k.all d o in let a = height_grows d v.seen v.heard more in let b = height_grows d v.heard r.log k.heard in omega arith;
-      drafted = k.drafted;
-      room = k.room;
-      floors = k.floors;
-    },
-    (
-      refl,
-      within_own v.heard shape (λ d l. let b = height_grows d v.heard r.log k.heard in let t = r.written.within d (omega arith) in let most = t.1 in (t.0, omega arith)),
-      λ d o. let all = k.all d o in let a = height_grows d v.seen v.heard more in let b = height_grows d v.heard r.log k.heard in omega arith,
-    ),
-  )
+  adopts slots id me word some_chain more s r _ at _ = let v = me.0 in let k = r.each_seat id v at in let shape = k.shape some_chain in
+      let now = seen_more r.log r.owner s.words id v v.heard k more k.heard in (
+        record v { seen = v.heard },
+        keeps,
+        tt,
+        unmoved s r word id me.1 (record v { seen = v.heard }) now,
+        (refl, within_own v.heard shape (within_prefix key v.heard r.log k.heard r.written.within), λ d o. now.all d o ∙ sym (k.all d o)),
+      )

@@ -14,8 +14,6 @@ use Rattle.ibc_root_table.specs.Rule.{Owns, Knows, Written, IsKept}
 use Rattle.ibc_root_table.specs.Told.{Sat, RaisedFloor, Raised}
 use base.Growing.{prefix_refl}
 use Rattle.std.proofs.lemmas.Option.{slice_get_within}
-use base.Growing.{prefix_refl}
-use Rattle.std.proofs.lemmas.Option.{slice_get_within}
 use Rattle.ibc_root_table.proofs.Beginnings.{prefix_longer, get_snoc}
 use Rattle.ibc_root_table.proofs.Chains.{height_grows, own_added, other_added, own_height, other_height}
 use Rattle.ibc_root_table.proofs.Places.{place_above}
@@ -35,6 +33,7 @@ module _ (key : Shape) where
   floor_other : (words : List ℕ) (c x d : ℕ) → d ≢ c → floor_at key (set words (key.chains + c) x) d ≡ floor_at key words d
   floor_other words c x d ne = get_or-set_other words (key.chains + c) (key.chains + d) x 0 (λ (e : key.chains + d ≡ key.chains + c). ne (omega arith))
 
+  -- a floor is raised, so that the ring has a slot for the next row
   pub raises_floor : (slots id : ℕ) (me : Sat) (word x : ℕ) → me.0.first_own < me.0.shape.chains → Owns me.0.first_own me.0 → x + me.0.shape.window ≡ height_of me.0.first_own me.0.seen + 1 → word ≡ me.0.shape.chains + me.0.first_own
       → Allows Rule slots id me word (λ _. x) (λ _. RaisedFloor (step slots word x 0 none) me x)
   raises_floor slots id me word x inside own up is s r _ at _ =
@@ -139,6 +138,7 @@ module _ (key : Shape) where
             (at_end d k q e);
       }
 
+  -- a published word is raised, once the row is stored
   pub raises : (slots id : ℕ) (me : Sat) (n : ℕ) → me.0.first_own < me.0.shape.chains → Owns me.0.first_own me.0 → n ≡ height_of me.0.first_own me.0.seen + 1 → 0 < length me.0.draft
       → row_words (drawn_up me.0.first_own me.0.draft) ≡ me.0.draft → IsRoot (bytes_of_row me.0.draft)
       → Allows Rule slots id me me.0.first_own (λ _. n) (λ _. Raised (step slots me.0.first_own n 0 none) me n)

@@ -22,10 +22,10 @@ abbrev pub unused_pass : TableName → Option ℕ → Sight
 unused_pass table own = record { table = table; own = own; seen = [] }
 
 -- the chains' own passes in their order, and then the readers'
-pub record AreDealt (readers : ℕ) (table : TableName) (passes : List Sight) : Type 0 where
-  pub total : length passes ≡ table.shape.chains + readers
-  pub own : (k : ℕ) → k < table.shape.chains → slice_get passes k ≡ Some (unused_pass table (Some k))
-  pub others : (k : ℕ) → table.shape.chains ≤ k → k < table.shape.chains + readers → slice_get passes k ≡ Some (unused_pass table None)
+pub record AreDealt (chains readers : ℕ) (table : TableName) (passes : List Sight) : Type 0 where
+  pub total : length passes ≡ chains + readers
+  pub own : (k : ℕ) → k < chains → slice_get passes k ≡ Some (unused_pass table (Some k))
+  pub others : (k : ℕ) → chains ≤ k → k < chains + readers → slice_get passes k ≡ Some (unused_pass table None)
 
 -- it is a pass of the same table and of the same chain
 abbrev pub SamePass : Sight → Sight → Type 0

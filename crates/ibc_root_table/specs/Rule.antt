@@ -24,10 +24,12 @@ pub record Knows (key : Shape) (log : List Publication) (owner : ℕ → ℕ) (w
   pub sole : (c : ℕ) → Owns c v → owner c ≡ j
   pub all : (c : ℕ) → Owns c v → height_of c v.seen ≡ height_of c log
   pub drafted : Owns v.first_own v → RowStands key words v.first_own (height_of v.first_own log) v.draft
-  pub room : Owns v.first_own v → 0 < length v.draft → (height_of v.first_own log < key.capacity) × (length v.draft ≤ 5) × (height_of v.first_own log + 1 ≤ floor_at key words v.first_own + key.window)
+  pub room : Owns v.first_own v → 0 < length v.draft → (height_of v.first_own log < key.capacity) × (length v.draft ≤ 5)
+      × (height_of v.first_own log + 1 ≤ floor_at key words v.first_own + key.window)
   pub floors : (c : ℕ) → c < key.chains → slice_index v.floors c ≤ floor_at key words c
 
--- the words stand for the list: with n publications of a chain, its floor lies between n less the window and n + 1 less the window, and each row above it stands
+-- The words stand for the list: with n publications of a chain, its floor lies between n less the window and n + 1 less
+-- the window, and each row above it stands.
 pub record Written (key : Shape) (log : List Publication) (words : List ℕ) : Type 0 where
   pub size : length words ≡ table_size key
   pub counts : (c : ℕ) → c < key.chains → slice_index words c ≡ height_of c log

@@ -7,7 +7,6 @@ mod shape;
 mod steps;
 mod table;
 
-pub use shape::Shape;
 pub use table::{Pass, RootTable};
 
 #[cfg(test)]

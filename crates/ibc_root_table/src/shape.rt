@@ -1,11 +1,12 @@
 //! The shape of a table, and where its words stand.
-//! Word c is the number of publications of chain c. The floors follow: a chain's heights up to its floor are gone. Then come the rows, a ring for each chain, each row of four words of root and one of time.
+//! Word c is the number of publications of chain c. The floors follow: a chain's heights up to its floor are gone.
+//! Then come the rows, a ring for each chain, each row of four words of root and one of time.
 ghost use Rattle.std.specs.Prelude.{◌≡◌, ◌+◌, ◌-◌, ◌^◌, ◌<◌, min};
 
 use crate::row::ROW_LEN;
 
 /// How many chains there are, how many rows of each are kept, and how many each may publish.
-#[derive(Clone, Copy, Debug, PartialEq, Eq)]
+#[derive(Clone, Copy)]
 pub struct Shape {
     pub chains: u8,
     pub window: u64,

@@ -38,7 +38,8 @@ impl Model for RootTable {
     ghost invariant = { IsTable };
 }
 
-/// The right to read a table, and of a chain's own pass to publish. Contracts see which publications it has seen, of which the code keeps no list.
+/// The right to read a table, and of a chain's own pass to publish.
+/// Contracts see which publications it has seen; the code keeps no list of them.
 #[derive(Drop)]
 pub struct Pass {
     place: Place,
@@ -64,6 +65,8 @@ impl RootTable {
     ghost use Rattle.ibc_root_table.specs.Inside.{IsPlaceOf, SamePlace};
 
     /// A table with no publications, the chains' own passes in their order, and then the passes that only read.
+    /// There are 1 to 255 chains, each with a ring of at least one row.
+    /// `NoMemory` where the words or the passes don't fit into memory.
     pub fn new(
         alloc: Global,
         chains: u8,
@@ -72,7 +75,8 @@ impl RootTable {
         capacity: u64,
     ) -> Result<(RootTable, Vec<Pass>), Refusal>
         requires { (0 < chains) × (0 < window) }
-        ensures ok { IfOk result (λ made. (made.0.shape ≡ record { chains = chains; window = window; capacity = capacity }) × AreDealt readers made.0 made.1.items) }
+        ensures ok { IfOk result (λ made. (made.0.shape ≡ record { chains = chains; window = window; capacity = capacity })
+            × AreDealt chains readers made.0 made.1.items) }
         ensures err { IfErr result (λ refusal. refusal ≡ NoMemory) }
     {
         let shape = Shape {
@@ -100,7 +104,7 @@ impl RootTable {
     fn deal(&self, alloc: Global, mut place: Place, readers: usize) -> Result<Vec<Pass>, AllocError>
         requires table { IsPlaceOf self.now place }
         requires view { place.me ≡ (newcomer self.now.shape 0 self.now.shape.chains, []) }
-        ensures { IfOk result (λ passes. AreDealt readers self.now passes.items) }
+        ensures { IfOk result (λ passes. AreDealt self.now.shape.chains readers self.now passes.items) }
     {
         let mut passes = Vec::new(alloc);
         for chain in 0..self.shape.chains {
@@ -153,18 +157,21 @@ impl RootTable {
         self.board.shared.load::<Look>(place, usize::from(chain))
     }
 
-    /// Publishes the next height of the pass's own chain, and answers that height. `TableFull` where the chain has published as many heights as it may.
+    /// Publishes the next height of the pass's own chain, and answers that height.
+    /// `TableFull` where the chain has published as many heights as it may, and then nothing has changed.
     pub fn publish(&self, pass: &mut Pass, root: Root, time: u64) -> Result<u64, Refusal>
         requires table { pass.old.table ≡ self.now }
         requires own { IsSome pass.old.own }
         ensures pass { SamePass pass.old pass.new }
 
         ensures seen { OnOk result (Publishes pass.old.seen (publication (own_chain pass.old) root time) pass.new.seen) }
-        ensures own { OnOk result (published_by (own_chain pass.old) pass.new.seen ≡ published_by (own_chain pass.old) pass.old.seen ++ publication (own_chain pass.old) root time ∷ []) }
+        ensures own { OnOk result (published_by (own_chain pass.old) pass.new.seen
+            ≡ published_by (own_chain pass.old) pass.old.seen ++ publication (own_chain pass.old) root time ∷ []) }
         ensures height { IfOk result (λ height. height ≡ height_of (own_chain pass.old) pass.new.seen) }
         ensures room { OnOk result (height_of (own_chain pass.old) pass.old.seen < self.now.shape.capacity) }
 
-        ensures full { IfErr result (λ refusal. (refusal ≡ TableFull) × (height_of (own_chain pass.old) pass.old.seen ≡ self.now.shape.capacity) × (pass.new ≡ pass.old)) }
+        ensures full { IfErr result (λ refusal. (refusal ≡ TableFull)
+            × (height_of (own_chain pass.old) pass.old.seen ≡ self.now.shape.capacity) × (pass.new ≡ pass.old)) }
     {
         let Some(chain) = pass.own else {
             unreachable!();
@@ -181,7 +188,8 @@ impl RootTable {
         Ok(height + 1)
     }
 
-    /// The root and the time of a height that the pass has seen, or nothing where the height is gone from the window.
+    /// The root and the time of a height that the pass has seen, or nothing where the height is gone from the
+    /// window (ICS 2, "Consensus state").
     pub fn row(&self, pass: &mut Pass, chain: u8, height: u64) -> Option<(Root, u64)>
         requires table { pass.old.table ≡ self.now }
         requires seen { (0 < height) × (height ≤ height_of chain pass.old.seen) }
@@ -251,7 +259,8 @@ impl RootTable {
         requires table { IsPlaceOf self.now place.old }
         requires row { chain < self.now.shape.chains }
         ensures same { SamePlace place.old place.new × (place.new.me ≡ (record place.old.me.0 { floors = place.new.me.0.floors }, place.old.me.1)) }
-        ensures words { (p : Publication) → slice_get (published_by chain place.old.me.0.seen) row ≡ Some p → (slice_index place.new.me.0.floors chain ≤ row → result ≡ row_words p) × IsRoot p.root × (p.chain ≡ chain) }
+        ensures words { (p : Publication) → slice_get (published_by chain place.old.me.0.seen) row ≡ Some p
+            → (slice_index place.new.me.0.floors chain ≤ row → result ≡ row_words p) × IsRoot p.root × (p.chain ≡ chain) }
     {
         let mut words = [0; ROW_LEN];
         for part in 0..ROW_LEN {
