@@ -1,6 +1,5 @@
 mod Facts
 pub mod Same
-pub mod Trees
 pub mod Varints
 pub mod Digests
 pub mod Trees
