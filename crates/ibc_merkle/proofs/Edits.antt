@@ -1,14 +1,13 @@
 -- Sorted pairs, edited at a key.
-use Rattle.std.proofs.Common.{◌≡◌, true, cond, [], ◌∷◌, ◌++◌, refl, sym, ap, ◌∙◌, subst, Less, Equal, Greater, is_lt, is_eq}
+use Rattle.std.proofs.Common.{◌≡◌, true, cond, [], ◌∷◌, ◌++◌, refl, ap, ◌∙◌, ◌<◌, ℕ, length, take, drop, take-append-drop, arith, Less, Equal, Greater, is_lt, is_eq}
 use Rattle.std.specs.FinMap.{is_sorted}
 use Rattle.std.specs.FinMap.Entries.{below_all}
-use Rattle.std.specs.Ordering.{ordering_reverse, match_ordering}
+use Rattle.std.specs.Ordering.{match_ordering}
 use Rattle.std.proofs.lemmas.Bool.{and_from}
 use Rattle.ibc_ids.specs.Texts.{Text, text_cmp}
 use Rattle.ibc_ids.specs.Maps.{with, without}
-use Rattle.ibc_ids.proofs.Texts.{text_cmp_total, text_tied}
 use Rattle.ibc_merkle.specs.Tree.{Pairs}
-use Rattle.ibc_merkle.proofs.Sorted.{AreRising, AllBelow, AllAbove, rising_from_sorted, above-left, above-right, rising-left, rising-right, above_further, greater_from}
+use Rattle.ibc_merkle.proofs.Sorted.{AreRising, AllBelow, AllAbove, rising_from_sorted, above-left, above-right, rising-left, rising-right, greater_from}
 
 -- ---- the test, and the same by recursion
 
@@ -86,3 +85,22 @@ between_is_sorted low high key value h below above = sorted_from_rising _ (risin
 
 pub middle_is_sorted : (low : Pairs) (x : Text × Text) (high : Pairs) → is_sorted text_cmp (low ++ x ∷ high) ≡ true → is_sorted text_cmp (low ++ high) ≡ true
 middle_is_sorted low x high h = sorted_from_rising _ (rising-middle low x high (rising_from_sorted _ h))
+
+-- ---- with a pair the pairs are not empty
+
+pub with_some : (key value : Text) (es : Pairs) → 0 < length (with text_cmp key value es)
+with_some key value [] = omega arith
+with_some key value (x ∷ es) =
+    elim (text_cmp key x.0) as (λ o. 0 < length (match_ordering o ((key, value) ∷ x ∷ es) ((x.0, value) ∷ es) (x ∷ with text_cmp key value es))) [
+      | Less ↦ omega arith
+      | Equal ↦ omega arith
+      | Greater ↦ omega arith
+    ]
+
+-- ---- both halves are sorted
+
+pub take_is_sorted : (n : ℕ) (es : Pairs) → is_sorted text_cmp es ≡ true → is_sorted text_cmp (take n es) ≡ true
+take_is_sorted n es h = sorted_from_rising _ (rising-left (take n es) (drop n es) (rising_from_sorted _ (ap (is_sorted text_cmp) (take-append-drop n es) ∙ h)))
+
+pub drop_is_sorted : (n : ℕ) (es : Pairs) → is_sorted text_cmp es ≡ true → is_sorted text_cmp (drop n es) ≡ true
+drop_is_sorted n es h = sorted_from_rising _ (rising-right (take n es) (drop n es) (rising_from_sorted _ (ap (is_sorted text_cmp) (take-append-drop n es) ∙ h)))

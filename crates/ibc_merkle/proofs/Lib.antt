@@ -5,6 +5,9 @@ pub mod Digests
 pub mod Trees
 pub mod Sorted
 pub mod Edits
+pub mod Places
+pub mod Climbs
+pub mod Writes
 pub mod Paths
 pub mod Found
 pub mod Accepted

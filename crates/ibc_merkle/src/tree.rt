@@ -25,7 +25,7 @@ fn leaf_hash(entry: &Entry) -> [u8; 32]
 }
 
 // The largest power of two below a number of leaves.
-fn split_of(leaves: usize) -> usize
+pub(crate) fn split_of(leaves: usize) -> usize
     requires { 1 < leaves }
     ensures power { result ≡ largest_power_below leaves }
     ensures some { 0 < result }

@@ -6,3 +6,6 @@ mod snapshot;
 mod store;
 
 pub use store::Store;
+
+#[cfg(test)]
+mod tests;

@@ -9,7 +9,7 @@ ghost use Rattle.ibc_ids.specs.Texts.{text_cmp};
 ghost use Rattle.ibc_ids.specs.Maps.{at, with, without};
 
 use ibc_ids::Bytes;
-use ibc_merkle::Entry;
+use ibc_merkle::{Entry, place};
 use std::alloc::{AllocError, Global};
 use std::marker::Model;
 
@@ -112,7 +112,6 @@ impl PathMap {
         ensures within { IfErr result (λ index. index ≤ length self.now.pairs) }
         ensures gap { IfErr result (IsPartitionPoint (λ entry. text_cmp entry.0 path.now ≡ Less) (λ entry. text_cmp entry.0 path.now ≡ Greater) self.now.pairs) }
     {
-        self.entries()
-            .binary_search_by(|entry| entry.key().cmp(path))
+        place(self.entries(), path)
     }
 }

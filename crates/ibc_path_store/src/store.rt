@@ -1,16 +1,18 @@
 //! A store of records by path, with its committed heights.
 
-ghost use Rattle.std.specs.Prelude.{◌≡◌, ◌⊎◌, ◌↔◌, ◌+◌, ◌-◌, ◌^◌, ◌≤◌, ◌<◌, ℕ, [], length, min, IsTrue, IsOk, OnOk, OnErr, IfOk, IfErr, option_map, string_bytes};
+ghost use Rattle.std.specs.Prelude.{◌≡◌, ◌⊎◌, ◌↔◌, ◌+◌, ◌-◌, ◌^◌, ◌≤◌, ◌<◌, ℕ, [], length, min, IsTrue, IsOk, OnOk, OnErr, IfOk, IfErr, IsNone, option_map, option_copied, string_bytes};
+ghost use Rattle.std.specs.Option.{IsSomeAnd};
 ghost use Rattle.ibc_ids.specs.Texts.{text_cmp};
 ghost use Rattle.ibc_ids.specs.Maps.{at, with, without};
-ghost use Rattle.ibc_ids.specs.declared.refusal.Refusal.TheVariants.{NoMemory, TimeBack};
+ghost use Rattle.ibc_ids.specs.declared.refusal.Refusal.TheVariants.{NoMemory, NoConsensus, TimeBack};
 ghost use Rattle.ibc_merkle.specs.Tree.{tree_root};
-ghost use Rattle.ibc_path_store.specs.Held.{committed, height_of};
+ghost use Rattle.ibc_merkle.specs.Written.{written};
+ghost use Rattle.ibc_path_store.specs.Held.{committed, height_of, kept_at};
 
 use crate::path_map::PathMap;
 use crate::snapshot::Snapshot;
 use ibc_ids::{Bytes, Refusal, Root};
-use ibc_merkle::root;
+use ibc_merkle::{Proof, prove, root};
 use std::alloc::Global;
 use std::collections::VecDeque;
 use std::marker::Model;
@@ -139,5 +141,32 @@ impl Store {
             self.gone = self.gone.saturating_add(1);
         }
         Ok(root)
+    }
+
+    /// The proof of what a committed height has at a path: of its presence where it is there, and of its absence where
+    /// not (ICS 23, "CommitmentProof"). `NoConsensus` where the height isn't committed or is gone from the window,
+    /// `NoMemory` where a growth is refused.
+    pub fn prove(&self, height: u64, path: &str) -> Result<Proof, Refusal>
+        ensures ok { IfOk result (λ proof. IsSomeAnd (kept_at self.now height) (λ kept. proof ≡ written kept.0 path.now)) }
+        ensures unknown { (result ≡ Err NoConsensus) ↔ IsNone (kept_at self.now height) }
+        ensures err { IfErr result (λ refusal. (refusal ≡ NoConsensus) ⊎ (refusal ≡ NoMemory)) }
+    {
+        match self.snapshot(height) {
+            Some(snapshot) => {
+                let alloc = *self.kept.allocator();
+                prove(alloc, snapshot.entries(), path.as_bytes())
+            }
+            None => Err(Refusal::NoConsensus),
+        }
+    }
+
+    // What is kept of a height.
+    fn snapshot(&self, height: u64) -> Option<&Snapshot>
+        ensures { option_copied result ≡ kept_at self.now height }
+    {
+        if height <= self.gone {
+            return None;
+        }
+        self.kept.get((height - self.gone - 1) as usize)
     }
 }

@@ -4,7 +4,7 @@ use Rattle.std.specs.FinMap.{is_sorted}
 use Rattle.ibc_ids.specs.Texts.{text_cmp}
 use Rattle.ibc_ids.specs.Maps.{at}
 use Rattle.ibc_path_store.specs.Held.{HeldMap}
-use Rattle.ibc_path_store.proofs.Places.{found-at, gap-at}
+use Rattle.ibc_merkle.proofs.Places.{found-at, gap-at}
 use Rattle.ibc_path_store.proofs.path_map.PathMap.get.Goals as goal
 
 pub returns-in-Ok : goal.returns-in-Ok

@@ -5,7 +5,7 @@ use Rattle.std.specs.FinMap.{is_sorted}
 use Rattle.ibc_ids.specs.Texts.{text_cmp}
 use Rattle.ibc_ids.specs.Maps.{without}
 use Rattle.ibc_path_store.specs.Held.{HeldMap}
-use Rattle.ibc_path_store.proofs.Places.{found-without, gap-without, remove_is_sorted}
+use Rattle.ibc_merkle.proofs.Places.{found-without, gap-without, remove_is_sorted}
 use Rattle.ibc_path_store.proofs.path_map.PathMap.remove.Goals as goal
 
 pairs_are : (c : goal.After-drop-remove-in-Ok) → c.self.inside.entries.items ≡ c.args.self.now.pairs

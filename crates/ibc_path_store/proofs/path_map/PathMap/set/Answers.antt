@@ -6,7 +6,7 @@ use Rattle.std.specs.declared.alloc.Global.{Global}
 use Rattle.ibc_ids.specs.Texts.{Text, text_cmp}
 use Rattle.ibc_ids.specs.Maps.{with}
 use Rattle.ibc_path_store.specs.Held.{HeldMap}
-use Rattle.ibc_path_store.proofs.Places.{found-with, gap-with, set_is_sorted, insert_is_sorted}
+use Rattle.ibc_merkle.proofs.Places.{found-with, gap-with, set_is_sorted, insert_is_sorted}
 use Rattle.ibc_path_store.proofs.path_map.PathMap.set.Goals as goal
 
 -- ---- a path that is there

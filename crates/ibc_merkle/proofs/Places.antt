@@ -33,7 +33,7 @@ searchable es key sorted = searchable_from_sorted text_cmp_total (λ (e : Text �
 
 -- ---- a list at an index
 
-parts_at : {A : Type 0} (es : List A) (i : ℕ) (x : A) → i < length es → x ≡ get_or es i x → es ≡ take i es ++ x ∷ drop (suc i) es
+pub parts_at : {A : Type 0} (es : List A) (i : ℕ) (x : A) → i < length es → x ≡ get_or es i x → es ≡ take i es ++ x ∷ drop (suc i) es
 parts_at [] i x l is = absurd (omega arith)
 parts_at (e ∷ es) zero x l is = ap (λ y. y ∷ es) (sym is)
 parts_at (e ∷ es) (suc i) x l is = ap (λ ys. e ∷ ys) (parts_at es i x (omega arith) is)
@@ -107,24 +107,24 @@ gap_above es key zero h = all_above es key (λ k d below. h k d (omega arith) be
 gap_above [] key (suc i) h = tt
 gap_above (e ∷ es) key (suc i) h = gap_above es key i (λ k d le below. h (suc k) d (omega arith) (omega arith))
 
-below : (es : Pairs) (key : Text) (i : ℕ) → i ≤ length es → IsGap es key i → AllBelow key (take i es)
-below es key i l gap = gap_below es key i (λ k d below. gap.0 k d (omega arith) below) l
+pub gap_is_below : (es : Pairs) (key : Text) (i : ℕ) → i ≤ length es → IsGap es key i → AllBelow key (take i es)
+gap_is_below es key i l gap = gap_below es key i (λ k d below. gap.0 k d (omega arith) below) l
 
-above : (es : Pairs) (key : Text) (i : ℕ) → IsGap es key i → AllAbove key (drop i es)
-above es key i gap = gap_above es key i (λ k d le below. gap.1 k d le below)
+pub gap_is_above : (es : Pairs) (key : Text) (i : ℕ) → IsGap es key i → AllAbove key (drop i es)
+gap_is_above es key i gap = gap_above es key i (λ k d le below. gap.1 k d le below)
 
 pub gap-at : (es : Pairs) (key : Text) (i : ℕ) → i ≤ length es → IsGap es key i → None ≡ at text_cmp key es
 gap-at es key i l gap =
-    sym (ap (at text_cmp key) (sym (take-append-drop i es)) ∙ at-behind key (take i es) (drop i es) (below es key i l gap) ∙ at-none key (drop i es) (above es key i gap))
+    sym (ap (at text_cmp key) (sym (take-append-drop i es)) ∙ at-behind key (take i es) (drop i es) (gap_is_below es key i l gap) ∙ at-none key (drop i es) (gap_is_above es key i gap))
 
 pub gap-with : (es : Pairs) (key value : Text) (i : ℕ) → i ≤ length es → IsGap es key i → insert es i (key, value) ≡ with text_cmp key value es
 gap-with es key value i l gap =
-    sym (ap (with text_cmp key value) (sym (take-append-drop i es)) ∙ with-gap (take i es) (drop i es) key value (below es key i l gap) (above es key i gap))
+    sym (ap (with text_cmp key value) (sym (take-append-drop i es)) ∙ with-gap (take i es) (drop i es) key value (gap_is_below es key i l gap) (gap_is_above es key i gap))
 
 pub insert_is_sorted : (es : Pairs) (key value : Text) (i : ℕ) → is_sorted text_cmp es ≡ true → i ≤ length es → IsGap es key i → is_sorted text_cmp (insert es i (key, value)) ≡ true
 insert_is_sorted es key value i sorted l gap =
-    between_is_sorted (take i es) (drop i es) key value (ap (is_sorted text_cmp) (take-append-drop i es) ∙ sorted) (below es key i l gap) (above es key i gap)
+    between_is_sorted (take i es) (drop i es) key value (ap (is_sorted text_cmp) (take-append-drop i es) ∙ sorted) (gap_is_below es key i l gap) (gap_is_above es key i gap)
 
 pub gap-without : (es : Pairs) (key : Text) (i : ℕ) → i ≤ length es → IsGap es key i → es ≡ without text_cmp key es
 gap-without es key i l gap =
-    sym (ap (without text_cmp key) (sym (take-append-drop i es)) ∙ without-gap (take i es) (drop i es) key (below es key i l gap) (above es key i gap) ∙ take-append-drop i es)
+    sym (ap (without text_cmp key) (sym (take-append-drop i es)) ∙ without-gap (take i es) (drop i es) key (gap_is_below es key i l gap) (gap_is_above es key i gap) ∙ take-append-drop i es)
