@@ -1,3 +1,6 @@
 pub mod Computing
 pub mod Scripts
+pub mod Members
+pub mod Images
+pub mod ImageChanges
 mod Handshake
