@@ -2,3 +2,4 @@ mod Facts
 pub mod Texts
 pub mod Splits
 pub mod Paths
+pub mod Ascii

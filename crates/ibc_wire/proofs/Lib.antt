@@ -1,1 +1,5 @@
 mod Facts
+pub mod Fronts
+pub mod Whole
+pub mod Steps
+pub mod Readers

@@ -3,3 +3,5 @@ pub mod Tokens
 pub mod Spelling
 pub mod Messages
 pub mod Reading
+pub mod Fronts
+pub mod Lawful

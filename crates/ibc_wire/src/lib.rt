@@ -1,11 +1,14 @@
 //! What chains write and send: client states, ends, packets and messages.
 #![tactic(auto)]
 
+mod client_state;
+mod fields;
 mod header;
 mod messages;
 mod packet;
 mod records;
 mod token;
+mod wire;
 
 pub use header::Header;
 pub use messages::{
@@ -16,3 +19,4 @@ pub use messages::{
 pub use packet::Packet;
 pub use records::{ChannelEnd, ChannelState, ClientState, ConnectionEnd, ConnectionState, Order};
 pub use token::{Token, Tokens};
+pub use wire::{Wire, decode, encode};
