@@ -1,5 +1,5 @@
 -- What a store holds, and what it keeps of each height.
-use Rattle.std.specs.Prelude.{ℕ, zero, suc, ◌+◌, ◌-◌, ◌^◌, min, List, [], ◌∷◌, ◌++◌, length, drop, slice_get, nat_lt, true, false, Option, None}
+use Rattle.std.specs.Prelude.{ℕ, ◌+◌, ◌-◌, ◌^◌, min, List, [], ◌∷◌, ◌++◌, length, drop, slice_get, nat_lt, true, false, Option, None}
 use Rattle.ibc_merkle.specs.Tree.{Pairs}
 
 -- the pairs of a map in the order of their keys, and how many more fit without a growth

@@ -2,3 +2,7 @@
 #![tactic(auto)]
 
 mod path_map;
+mod snapshot;
+mod store;
+
+pub use store::Store;

@@ -67,7 +67,7 @@ impl PathMap {
         ensures err { OnErr result (self.new.pairs ≡ self.old.pairs) }
     {
         let key = Bytes::from_vec(path.into_bytes());
-        match place(self.entries.as_slice(), key.as_slice()) {
+        match self.place(key.as_slice()) {
             Ok(index) => {
                 self.entries[index].set_value(value);
                 Ok(())
@@ -80,7 +80,7 @@ impl PathMap {
     pub fn get(&self, path: &str) -> Option<&[u8]>
         ensures { option_map (λ value. value.now) result ≡ at text_cmp path.now self.now.pairs }
     {
-        match place(self.entries.as_slice(), path.as_bytes()) {
+        match self.place(path.as_bytes()) {
             Ok(index) => Some(self.entries[index].value()),
             Err(_) => None,
         }
@@ -91,7 +91,7 @@ impl PathMap {
         ensures pairs { self.new.pairs ≡ without text_cmp path.now self.old.pairs }
         ensures room { self.old.room ≤ self.new.room }
     {
-        if let Ok(index) = place(self.entries.as_slice(), path.as_bytes()) {
+        if let Ok(index) = self.place(path.as_bytes()) {
             self.entries.remove(index);
         }
     }
@@ -104,15 +104,15 @@ impl PathMap {
             entries: self.entries.clone()?,
         })
     }
-}
 
-// Where a path stands, or where it would stand.
-fn place(entries: &[Entry], path: &[u8]) -> Result<usize, usize>
-    requires { IsTrue (is_sorted text_cmp entries.now) }
-    ensures found { IfOk result (λ index. index < length entries.now) }
-    ensures here { IfOk result (HoldsAt (λ entry. text_cmp entry.0 path.now ≡ Equal) entries.now) }
-    ensures within { IfErr result (λ index. index ≤ length entries.now) }
-    ensures gap { IfErr result (IsPartitionPoint (λ entry. text_cmp entry.0 path.now ≡ Less) (λ entry. text_cmp entry.0 path.now ≡ Greater) entries.now) }
-{
-    entries.binary_search_by(|entry| entry.key().cmp(path))
+    // Where a path stands, or where it would stand.
+    fn place(&self, path: &[u8]) -> Result<usize, usize>
+        ensures found { IfOk result (λ index. index < length self.now.pairs) }
+        ensures here { IfOk result (HoldsAt (λ entry. text_cmp entry.0 path.now ≡ Equal) self.now.pairs) }
+        ensures within { IfErr result (λ index. index ≤ length self.now.pairs) }
+        ensures gap { IfErr result (IsPartitionPoint (λ entry. text_cmp entry.0 path.now ≡ Less) (λ entry. text_cmp entry.0 path.now ≡ Greater) self.now.pairs) }
+    {
+        self.entries()
+            .binary_search_by(|entry| entry.key().cmp(path))
+    }
 }
