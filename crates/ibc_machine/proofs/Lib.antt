@@ -3,4 +3,5 @@ pub mod Scripts
 pub mod Members
 pub mod Images
 pub mod ImageChanges
+pub mod CoreChanges
 mod Handshake

@@ -1,0 +1,8 @@
+//! What a chain proves to others, in plain, with the store that is its image (ICS 24, "Provable store").
+#![tactic(auto)]
+
+mod client;
+
+
+pub use client::{Client, ConsensusState};
+
