@@ -1,13 +1,16 @@
 -- The records of a chain as a ledger holds them: in plain, and as a store of paths.
-use Rattle.std.specs.Prelude.{ℕ, List, [], map, Option}
+use Rattle.std.specs.Prelude.{◌≡◌, ◌+◌, ℕ, List, [], map, Option}
 use Rattle.std.specs.Option.{option_and_then}
 use Rattle.std.specs.Ordering.{nat_cmp}
 use Rattle.ibc_ids.specs.Texts.{Text, text_cmp}
-use Rattle.ibc_ids.specs.Maps.{Map, at}
-use Rattle.ibc_machine.specs.Records.{Core, Client}
+use Rattle.ibc_ids.specs.Maps.{Map, at, with}
+use Rattle.ibc_machine.specs.Records.{Core, Client, with_client}
+use Rattle.ibc_machine.specs.Image.{image}
+use Rattle.ibc_machine.specs.Clients.{new_client}
+use Rattle.ibc_machine.proofs.ImageChanges.{IsKeyed}
 use Rattle.ibc_path_store.specs.Held.{HeldStore}
 use Rattle.ibc_records.specs.declared.client.ConsensusState.{ConsensusState}
-use Rattle.ibc_records.specs.HeldClients.{HeldClient, plain_client}
+use Rattle.ibc_records.specs.HeldClients.{HeldClient, plain_client, new_held}
 
 pub record HeldRecords : Type 0 where
   pub clients : Map Text HeldClient
@@ -34,3 +37,27 @@ core_of held = record {
 abbrev pub consensus_in : HeldRecords → Text → ℕ → Option ConsensusState
 consensus_in held client height =
     option_and_then (λ (c : HeldClient). at nat_cmp height c.known) (at text_cmp client held.clients)
+
+-- the store is the image of the core, every key of which has names for its names
+pub record IsHeld (held : HeldRecords) : Type 0 where
+  pub keyed : IsKeyed (core_of held)
+  pub stored : held.store.pairs ≡ image (core_of held)
+
+-- nothing changed but how much room there is
+abbrev pub IsUnchanged : HeldRecords → HeldRecords → Type 0
+IsUnchanged old new = new ≡ record old { store = record old.store { room = new.store.room } }
+
+-- only the working records changed, and the store is their image
+pub record IsStored (old new : HeldRecords) : Type 0 where
+  pub store : new.store ≡ record old.store { pairs = new.store.pairs; room = new.store.room }
+  pub image_of : new.store.pairs ≡ image (core_of new)
+
+-- a client of a chain was added, and the next is counted
+pub record AddsClient (old : HeldRecords) (id : Text) (chain : ℕ) (new : HeldRecords) : Type 0 where
+  pub records : new ≡ record old {
+    clients = with text_cmp id (new_held chain) old.clients;
+    next_client = old.next_client + 1;
+    store = new.store;
+  }
+  pub stored : IsStored old new
+  pub core : core_of new ≡ record (with_client id (new_client chain) (core_of old)) { next_client = old.next_client + 1 }

@@ -2,7 +2,8 @@
 #![tactic(auto)]
 
 mod client;
-
+mod records;
+mod values;
 
 pub use client::{Client, ConsensusState};
-
+pub use records::Records;

@@ -1,0 +1,85 @@
+//! The records of a chain, kept in plain and as a store.
+
+ghost use Rattle.std.specs.Prelude.{◌≡◌, ◌⊎◌, ◌↔◌, ◌+◌, ◌-◌, ◌^◌, ◌<◌, IfOk, IfErr, OnOk, OnErr, option_copied};
+ghost use Rattle.ibc_ids.specs.Texts.{text_cmp};
+ghost use Rattle.ibc_ids.specs.Maps.{at};
+ghost use Rattle.ibc_ids.specs.declared.refusal.Refusal.TheVariants.{NoMemory};
+ghost use Rattle.ibc_records.specs.Held.{AddsClient, IsUnchanged};
+
+use crate::client::Client;
+use crate::values::{client_path, client_value, next_client_path, number_value, set_reserved};
+use ibc_ids::{ClientId, Refusal};
+use ibc_path_store::Store;
+use std::alloc::Global;
+use std::collections::BTreeMap;
+use std::marker::Model;
+
+/// What a chain proves to others, in plain, and the store of paths that is its image (ICS 24, "Provable store").
+#[derive(Drop, Debug)]
+pub struct Records {
+    clients: BTreeMap<ClientId, Client>,
+    next_client: u64,
+    next_connection: u64,
+    next_channel: u64,
+    store: Store,
+    alloc: Global,
+}
+
+impl Model for Records {
+    ghost use Rattle.ibc_records.specs.Held.{HeldRecords, IsHeld};
+
+    ghost Value = { HeldRecords };
+
+    ghost view = { λ records. record {
+        clients = records.clients.entries;
+        next_client = records.next_client;
+        next_connection = records.next_connection;
+        next_channel = records.next_channel;
+        store = records.store;
+    } };
+
+    ghost invariant = { λ records. IsHeld (record {
+        clients = records.clients.entries;
+        next_client = records.next_client;
+        next_connection = records.next_connection;
+        next_channel = records.next_channel;
+        store = records.store;
+    }) };
+}
+
+impl Records {
+    /// A client by its identifier, or none.
+    pub fn client(&self, id: &ClientId) -> Option<&Client>
+        ensures { option_copied result ≡ at text_cmp id.now self.now.clients }
+    {
+        self.clients.get(id)
+    }
+
+    /// The number of the next client.
+    pub fn next_client(&self) -> u64
+        ensures { result ≡ self.now.next_client }
+    {
+        self.next_client
+    }
+
+    /// Adds a client of a chain under an identifier, and counts the next one (ICS 2, "createClient"). `NoMemory` where a
+    /// growth is refused; the records are then as before.
+    pub fn add_client(&mut self, id: ClientId, chain: u8) -> Result<(), Refusal>
+        requires { self.old.next_client < 2 ^ 64 - 1 }
+        ensures ok { OnOk result (AddsClient self.old id chain self.new) }
+        ensures err { IfErr result (λ refusal. refusal ≡ NoMemory) }
+        ensures unchanged { OnErr result (IsUnchanged self.old self.new) }
+    {
+        let client = Client::new(self.alloc, chain);
+        let path = client_path(self.alloc, &id)?;
+        let value = client_value(self.alloc, client.state())?;
+        let number_path = next_client_path(self.alloc)?;
+        let number = number_value(self.alloc, self.next_client + 1)?;
+        self.store.reserve(2)?;
+        self.clients.insert(id, client)?;
+        self.next_client += 1;
+        set_reserved(&mut self.store, path, value);
+        set_reserved(&mut self.store, number_path, number);
+        Ok(())
+    }
+}
