@@ -16,7 +16,7 @@ use Rattle.ibc_machine.proofs.CoreChanges.{changes-with_client, keyed-with_clien
 use Rattle.ibc_path_store.specs.Held.{HeldStore}
 use Rattle.ibc_records.specs.HeldClients.{HeldClient, plain_client, new_held}
 use Rattle.ibc_records.specs.Held.{HeldRecords, IsHeld, IsStored, AddsClient, core_of}
-use Rattle.ibc_records.proofs.Stores.{Sets, SetsTwo, sets_two, sets_two_at}
+use Rattle.ibc_records.proofs.Stores.{Sets, Becomes, becomes_roomy, becomes_set}
 
 module _ (old : HeldRecords) (id : Text) (chain : ℕ) (store : HeldStore) where
   abbrev pub after : HeldRecords
@@ -30,7 +30,7 @@ module _ (old : HeldRecords) (id : Text) (chain : ℕ) (store : HeldStore) where
       ap (λ clients. record (core_of old) { clients = clients; next_client = old.next_client + 1 })
       (map_values-with text_cmp plain_client id (new_held chain) old.clients)
 
-  module _ (held : IsHeld old) (named : IsTrue (is_client id)) (sets : SetsTwo old.store (path (key.ClientState id)) (value_bytes (ClientIs (new_client chain).state)) (path key.NextClientSequence) (value_bytes (NumberIs (old.next_client + 1))) store) where
+  module _ (held : IsHeld old) (named : IsTrue (is_client id)) (sets : Becomes old.store (with text_cmp (path key.NextClientSequence) (value_bytes (NumberIs (old.next_client + 1))) (with text_cmp (path (key.ClientState id)) (value_bytes (ClientIs (new_client chain).state)) old.store.pairs)) store) where
     core1 : Core
     core1 = with_client id (new_client chain) (core_of old)
 
@@ -52,7 +52,7 @@ module _ (old : HeldRecords) (id : Text) (chain : ℕ) (store : HeldStore) where
 
     stored : store.pairs ≡ image (core_of after)
     stored =
-        sets.pairs
+        sets.pairs_are
         ∙ ap (λ pairs. with text_cmp (path key.NextClientSequence) (value_bytes (NumberIs (old.next_client + 1))) (with text_cmp (path (key.ClientState id)) (value_bytes (ClientIs (new_client chain).state)) pairs)) held.stored
         ∙ ap (λ pairs. with text_cmp (path key.NextClientSequence) (value_bytes (NumberIs (old.next_client + 1))) pairs) (sym image1)
         ∙ sym image2 ∙ ap image (sym core-after)
@@ -70,6 +70,6 @@ pub added : (old : HeldRecords) (id : Text) (chain : ℕ) (clients : List (Text 
     → s1 ≡ record old.store { room = s1.room } → Sets s1 p v s2 → Sets s2 q w s3
     → IsHeld (record old { clients = clients; next_client = old.next_client + 1; store = s3 }) × AddsClient old id chain (record old { clients = clients; next_client = old.next_client + 1; store = s3 })
 added old id chain clients s1 s2 s3 {p} {v} {q} {w} held named entries ep ev eq ew e f g =
-    let sets = sets_two_at old.store s3 ep ev eq ew (sets_two old.store s1 s2 s3 p v q w e f g) in
+    let sets = becomes_set old.store _ s2 s3 (becomes_set old.store _ s1 s2 (becomes_roomy old.store s1 e) f ep ev) g eq ew in
     subst (λ cs. IsHeld (record old { clients = cs; next_client = old.next_client + 1; store = s3 }) × AddsClient old id chain (record old { clients = cs; next_client = old.next_client + 1; store = s3 }))
     (sym entries) (is_held old id chain s3 held named sets, adds_client old id chain s3 held named sets)

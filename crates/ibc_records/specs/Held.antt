@@ -5,6 +5,7 @@ use Rattle.std.specs.Ordering.{nat_cmp}
 use Rattle.ibc_ids.specs.Texts.{Text, text_cmp}
 use Rattle.ibc_ids.specs.Maps.{Map, at, with}
 use Rattle.ibc_machine.specs.Records.{Core, Client, with_client}
+use Rattle.ibc_machine.specs.Genesis.{empty_core}
 use Rattle.ibc_machine.specs.Image.{image}
 use Rattle.ibc_machine.specs.Clients.{new_client}
 use Rattle.ibc_machine.proofs.ImageChanges.{IsKeyed}
@@ -42,6 +43,12 @@ consensus_in held client height =
 pub record IsHeld (held : HeldRecords) : Type 0 where
   pub keyed : IsKeyed (core_of held)
   pub stored : held.store.pairs ≡ image (core_of held)
+
+-- the records of a chain in the beginning, whose working block has this time
+pub record IsNew (window time : ℕ) (held : HeldRecords) : Type 0 where
+  pub clients : held.clients ≡ []
+  pub core : core_of held ≡ empty_core
+  pub store : held.store ≡ record { pairs = image empty_core; room = held.store.room; time = time; window = window; gone = 0; kept = [] }
 
 -- nothing changed but how much room there is
 abbrev pub IsUnchanged : HeldRecords → HeldRecords → Type 0

@@ -1,14 +1,19 @@
 //! The records of a chain, kept in plain and as a store.
 
-ghost use Rattle.std.specs.Prelude.{◌≡◌, ◌⊎◌, ◌↔◌, ◌+◌, ◌-◌, ◌^◌, ◌<◌, IfOk, IfErr, OnOk, OnErr, option_copied};
+ghost use Rattle.std.specs.Prelude.{◌≡◌, ◌⊎◌, ◌↔◌, ◌+◌, ◌-◌, ◌^◌, ◌<◌, min, IfOk, IfErr, OnOk, OnErr, option_copied};
 ghost use Rattle.ibc_ids.specs.Texts.{text_cmp};
 ghost use Rattle.ibc_ids.specs.Maps.{at};
-ghost use Rattle.ibc_ids.specs.declared.refusal.Refusal.TheVariants.{NoMemory};
-ghost use Rattle.ibc_records.specs.Held.{AddsClient, IsUnchanged};
+ghost use Rattle.ibc_ids.specs.declared.refusal.Refusal.TheVariants.{NoMemory, TimeBack};
+ghost use Rattle.ibc_records.specs.Held.{core_of, IsNew, AddsClient, IsUnchanged};
+ghost use Rattle.ibc_machine.specs.Image.{core_root};
+ghost use Rattle.ibc_path_store.specs.Held.{committed, height_of};
 
 use crate::client::Client;
-use crate::values::{client_path, client_value, next_client_path, number_value, set_reserved};
-use ibc_ids::{ClientId, Refusal};
+use crate::values::{
+    client_path, client_value, next_channel_path, next_client_path, next_connection_path,
+    number_value, set_reserved,
+};
+use ibc_ids::{ClientId, Refusal, Root};
 use ibc_path_store::Store;
 use std::alloc::Global;
 use std::collections::BTreeMap;
@@ -48,6 +53,27 @@ impl Model for Records {
 }
 
 impl Records {
+    /// The records of a chain in the beginning: no client, connection and channel, and the three counters at 0. The
+    /// working block has the given time, and the last `window` heights are kept. `NoMemory` where a growth is refused.
+    pub fn new(alloc: Global, window: u64, time: u64) -> Result<Records, Refusal>
+        ensures ok { IfOk result (λ records. IsNew window time records) }
+        ensures err { IfErr result (λ refusal. refusal ≡ NoMemory) }
+    {
+        let mut store = Store::new(alloc, window, time);
+        store.reserve(3)?;
+        set_reserved(&mut store, next_client_path(alloc)?, number_value(alloc, 0)?);
+        set_reserved(&mut store, next_connection_path(alloc)?, number_value(alloc, 0)?);
+        set_reserved(&mut store, next_channel_path(alloc)?, number_value(alloc, 0)?);
+        Ok(Records {
+            clients: BTreeMap::new(alloc),
+            next_client: 0,
+            next_connection: 0,
+            next_channel: 0,
+            store,
+            alloc,
+        })
+    }
+
     /// A client by its identifier, or none.
     pub fn client(&self, id: &ClientId) -> Option<&Client>
         ensures { option_copied result ≡ at text_cmp id.now self.now.clients }
@@ -81,5 +107,32 @@ impl Records {
         set_reserved(&mut self.store, path, value);
         set_reserved(&mut self.store, number_path, number);
         Ok(())
+    }
+
+    /// The last committed height, 0 if there is none.
+    pub fn height(&self) -> u64
+        ensures { result ≡ min (height_of self.now.store) (2 ^ 64 - 1) }
+    {
+        self.store.height()
+    }
+
+    /// The time of the working block.
+    pub fn time(&self) -> u64
+        ensures { result ≡ self.now.store.time }
+    {
+        self.store.time()
+    }
+
+    /// Commits the working records as the next height, and begins a block of the time `next_time` (ICS 23,
+    /// "CommitmentRoot"). `TimeBack` exactly where `next_time` is below the working time; `NoMemory` where a growth is
+    /// refused. A refusal leaves the records.
+    pub fn commit(&mut self, next_time: u64) -> Result<Root, Refusal>
+        ensures root { IfOk result (λ root. root ≡ core_root (core_of self.old)) }
+        ensures ok { OnOk result (self.new ≡ record self.old { store = committed self.old.store next_time }) }
+        ensures time_back { (result ≡ Err TimeBack) ↔ (next_time < self.old.store.time) }
+        ensures err { IfErr result (λ refusal. (refusal ≡ TimeBack) ⊎ (refusal ≡ NoMemory)) }
+        ensures unchanged { OnErr result (self.new ≡ self.old) }
+    {
+        self.store.commit(next_time)
     }
 }

@@ -31,6 +31,22 @@ pub fn next_client_path(alloc: Global) -> Result<String, Refusal>
     Ok(String::from_str(alloc, "nextClientSequence")?)
 }
 
+/// The path of the number of the next connection.
+pub fn next_connection_path(alloc: Global) -> Result<String, Refusal>
+    ensures ok { IfOk result (λ text. string_bytes text ≡ path key.NextConnectionSequence) }
+    ensures err { IfErr result (λ refusal. refusal ≡ NoMemory) }
+{
+    Ok(String::from_str(alloc, "nextConnectionSequence")?)
+}
+
+/// The path of the number of the next channel.
+pub fn next_channel_path(alloc: Global) -> Result<String, Refusal>
+    ensures ok { IfOk result (λ text. string_bytes text ≡ path key.NextChannelSequence) }
+    ensures err { IfErr result (λ refusal. refusal ≡ NoMemory) }
+{
+    Ok(String::from_str(alloc, "nextChannelSequence")?)
+}
+
 /// Sets the value of a path, for which there is room.
 pub fn set_reserved(store: &mut Store, path: String, value: Bytes)
     requires { 0 < store.old.room }
