@@ -1,5 +1,5 @@
 -- The records of a chain as a ledger holds them: in plain, and as a store of paths.
-use Rattle.std.specs.Prelude.{◌≡◌, ◌+◌, ℕ, List, [], map, Option}
+use Rattle.std.specs.Prelude.{◌≡◌, ◌+◌, ℕ, List, [], map, Option, Some}
 use Rattle.std.specs.Option.{option_and_then}
 use Rattle.std.specs.Ordering.{nat_cmp}
 use Rattle.ibc_ids.specs.Texts.{Text, text_cmp}
@@ -7,11 +7,11 @@ use Rattle.ibc_ids.specs.Maps.{Map, at, with}
 use Rattle.ibc_machine.specs.Records.{Core, Client, with_client}
 use Rattle.ibc_machine.specs.Genesis.{empty_core}
 use Rattle.ibc_machine.specs.Image.{image}
-use Rattle.ibc_machine.specs.Clients.{new_client}
+use Rattle.ibc_machine.specs.Clients.{new_client, updated}
 use Rattle.ibc_machine.proofs.ImageChanges.{IsKeyed}
 use Rattle.ibc_path_store.specs.Held.{HeldStore}
 use Rattle.ibc_records.specs.declared.client.ConsensusState.{ConsensusState}
-use Rattle.ibc_records.specs.HeldClients.{HeldClient, plain_client, new_held}
+use Rattle.ibc_records.specs.HeldClients.{HeldClient, plain_client, new_held, with_height}
 
 pub record HeldRecords : Type 0 where
   pub clients : Map Text HeldClient
@@ -68,3 +68,14 @@ pub record AddsClient (old : HeldRecords) (id : Text) (chain : ℕ) (new : HeldR
   }
   pub stored : IsStored old new
   pub core : core_of new ≡ record (with_client id (new_client chain) (core_of old)) { next_client = old.next_client + 1 }
+
+-- a client knows a height more
+pub record UpdatesClient (old : HeldRecords) (id : Text) (height : ℕ) (known : ConsensusState) (new : HeldRecords) : Type 0 where
+  pub client : HeldClient
+  pub stood : at text_cmp id old.clients ≡ Some client
+  pub records : new ≡ record old {
+    clients = with text_cmp id (with_height height known client) old.clients;
+    store = new.store;
+  }
+  pub stored : IsStored old new
+  pub core : core_of new ≡ with_client id (updated height (plain_client client)) (core_of old)

@@ -1,20 +1,22 @@
 //! The records of a chain, kept in plain and as a store.
 
-ghost use Rattle.std.specs.Prelude.{◌≡◌, ◌⊎◌, ◌↔◌, ◌+◌, ◌-◌, ◌^◌, ◌<◌, min, IfOk, IfErr, OnOk, OnErr, option_copied};
+ghost use Rattle.std.specs.Prelude.{◌≡◌, ◌⊎◌, ◌↔◌, ◌+◌, ◌-◌, ◌^◌, ◌<◌, min, IsNone, IsSome, IfSome, IfOk, IfErr, OnOk, OnErr, option_copied};
 ghost use Rattle.ibc_ids.specs.Texts.{text_cmp};
-ghost use Rattle.ibc_ids.specs.Maps.{at};
-ghost use Rattle.ibc_ids.specs.declared.refusal.Refusal.TheVariants.{NoMemory, TimeBack};
-ghost use Rattle.ibc_records.specs.Held.{core_of, IsNew, AddsClient, IsUnchanged};
+ghost use Rattle.ibc_ids.specs.Maps.{at, with};
+ghost use Rattle.ibc_ids.specs.declared.refusal.Refusal.TheVariants.{NoMemory, TimeBack, UnknownClient};
+ghost use Rattle.ibc_records.specs.Held.{core_of, IsNew, AddsClient, UpdatesClient, IsUnchanged};
 ghost use Rattle.ibc_machine.specs.Image.{core_root};
+ghost use Rattle.ibc_records.specs.HeldClients.{with_height};
 ghost use Rattle.ibc_path_store.specs.Held.{committed, height_of};
 
-use crate::client::Client;
+use crate::client::{Client, ConsensusState};
 use crate::values::{
     client_path, client_value, next_channel_path, next_client_path, next_connection_path,
     number_value, set_reserved,
 };
 use ibc_ids::{ClientId, Refusal, Root};
 use ibc_path_store::Store;
+use ibc_wire::ClientState;
 use std::alloc::Global;
 use std::collections::BTreeMap;
 use std::marker::Model;
@@ -109,6 +111,28 @@ impl Records {
         Ok(())
     }
 
+    /// Tells a client of a height (ICS 2, "updateClient"). `UnknownClient` exactly where there is no such client;
+    /// `NoMemory` where a growth is refused. A refusal leaves the records.
+    pub fn update_client(&mut self, id: &ClientId, height: u64, known: ConsensusState) -> Result<(), Refusal>
+        ensures ok { OnOk result (UpdatesClient self.old id.now height known self.new) }
+        ensures unknown { IsNone (at text_cmp id.now self.old.clients) → result ≡ Err UnknownClient }
+        ensures known { IsSome (at text_cmp id.now self.old.clients) → IfErr result (λ refusal. refusal ≡ NoMemory) }
+        ensures unchanged { OnErr result (IsUnchanged self.old self.new) }
+    {
+        let state = match self.clients.get(id) {
+            Some(client) => client.state(),
+            None => return Err(Refusal::UnknownClient),
+        };
+        let latest = state.latest.max(height);
+        let chain = state.chain;
+        let value = client_value(self.alloc, ClientState { chain, latest })?;
+        let path = client_path(self.alloc, id)?;
+        self.store.reserve(1)?;
+        learn(&mut self.clients, id, height, known)?;
+        set_reserved(&mut self.store, path, value);
+        Ok(())
+    }
+
     /// The last committed height, 0 if there is none.
     pub fn height(&self) -> u64
         ensures { result ≡ min (height_of self.now.store) (2 ^ 64 - 1) }
@@ -134,5 +158,23 @@ impl Records {
         ensures unchanged { OnErr result (self.new ≡ self.old) }
     {
         self.store.commit(next_time)
+    }
+}
+
+// A client knows a height more.
+fn learn(
+    clients: &mut BTreeMap<ClientId, Client>,
+    id: &ClientId,
+    height: u64,
+    known: ConsensusState,
+) -> Result<(), Refusal>
+    ensures ok { OnOk result (IfSome (at text_cmp id.now clients.old.entries) (λ client. clients.new.entries ≡ with text_cmp id.now (with_height height known client) clients.old.entries)) }
+    ensures unknown { IsNone (at text_cmp id.now clients.old.entries) → result ≡ Err UnknownClient }
+    ensures known { IsSome (at text_cmp id.now clients.old.entries) → IfErr result (λ refusal. refusal ≡ NoMemory) }
+    ensures unchanged { OnErr result (clients.new.entries ≡ clients.old.entries) }
+{
+    match clients.get_mut(id) {
+        Some(client) => client.learn(height, known),
+        None => Err(Refusal::UnknownClient),
     }
 }
