@@ -4,6 +4,10 @@ pub mod Openings
 pub mod PacketScripts
 mod PublishedHeights
 mod WindowOfHeights
+pub mod Members
+pub mod Images
+pub mod ImageChanges
+pub mod CoreChanges
 mod Handshake
 mod ForgedHandshakes
 mod CrossedClaims
