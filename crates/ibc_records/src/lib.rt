@@ -7,3 +7,6 @@ mod values;
 
 pub use client::{Client, ConsensusState};
 pub use records::Records;
+
+#[cfg(test)]
+mod tests;

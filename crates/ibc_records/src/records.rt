@@ -38,19 +38,19 @@ impl Model for Records {
     ghost Value = { HeldRecords };
 
     ghost view = { λ records. record {
-        clients = records.clients.entries;
-        next_client = records.next_client;
-        next_connection = records.next_connection;
-        next_channel = records.next_channel;
-        store = records.store;
+      clients = records.clients.entries;
+      next_client = records.next_client;
+      next_connection = records.next_connection;
+      next_channel = records.next_channel;
+      store = records.store;
     } };
 
     ghost invariant = { λ records. IsHeld (record {
-        clients = records.clients.entries;
-        next_client = records.next_client;
-        next_connection = records.next_connection;
-        next_channel = records.next_channel;
-        store = records.store;
+      clients = records.clients.entries;
+      next_client = records.next_client;
+      next_connection = records.next_connection;
+      next_channel = records.next_channel;
+      store = records.store;
     }) };
 }
 
@@ -63,9 +63,21 @@ impl Records {
     {
         let mut store = Store::new(alloc, window, time);
         store.reserve(3)?;
-        set_reserved(&mut store, next_client_path(alloc)?, number_value(alloc, 0)?);
-        set_reserved(&mut store, next_connection_path(alloc)?, number_value(alloc, 0)?);
-        set_reserved(&mut store, next_channel_path(alloc)?, number_value(alloc, 0)?);
+        set_reserved(
+            &mut store,
+            next_client_path(alloc)?,
+            number_value(alloc, 0)?,
+        );
+        set_reserved(
+            &mut store,
+            next_connection_path(alloc)?,
+            number_value(alloc, 0)?,
+        );
+        set_reserved(
+            &mut store,
+            next_channel_path(alloc)?,
+            number_value(alloc, 0)?,
+        );
         Ok(Records {
             clients: BTreeMap::new(alloc),
             next_client: 0,
@@ -113,7 +125,12 @@ impl Records {
 
     /// Tells a client of a height (ICS 2, "updateClient"). `UnknownClient` exactly where there is no such client;
     /// `NoMemory` where a growth is refused. A refusal leaves the records.
-    pub fn update_client(&mut self, id: &ClientId, height: u64, known: ConsensusState) -> Result<(), Refusal>
+    pub fn update_client(
+        &mut self,
+        id: &ClientId,
+        height: u64,
+        known: ConsensusState,
+    ) -> Result<(), Refusal>
         ensures ok { OnOk result (UpdatesClient self.old id.now height known self.new) }
         ensures unknown { IsNone (at text_cmp id.now self.old.clients) → result ≡ Err UnknownClient }
         ensures known { IsSome (at text_cmp id.now self.old.clients) → IfErr result (λ refusal. refusal ≡ NoMemory) }
