@@ -36,5 +36,4 @@ pub enum Key {
 #[tactic(auto, using(crate::proofs::Paths::different_paths))]
 pub fn different_keys_have_different_paths()
     ensures { DifferentPaths }
-{
-}
+{}

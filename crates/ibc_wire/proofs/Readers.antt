@@ -48,7 +48,7 @@ pub client_state_reader : IsReader client_state_fields client_state_at_front
 unfolding client_state_at_front
 client_state_reader =
     reader_of (
-      first _ (λ c. c.chain) u8_reader λ chain.
-      first _ (λ c. c.latest) n8_reader λ latest.
-      done _ ((tt, refl), refl) (λ c p. λ i. record { chain = p.0.1 i; latest = p.1 i })
+    first _ (λ c. c.chain) u8_reader λ chain.
+    first _ (λ c. c.latest) n8_reader λ latest.
+    done _ ((tt, refl), refl) (λ c p. λ i. record { chain = p.0.1 i; latest = p.1 i })
     )
