@@ -1,0 +1,14 @@
+pub mod PassedChecks
+pub mod PassedTests
+pub mod FiniteMaps
+pub mod SortedMaps
+pub mod Identifiers
+pub mod Seen
+pub mod Told
+pub mod CoreSteps
+pub mod Growth
+pub mod ConnectionsPassed
+pub mod ChannelsPassed
+pub mod SendsPassed
+pub mod PacketsPassed
+pub mod MessagesPassed

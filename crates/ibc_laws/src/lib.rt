@@ -1,0 +1,2 @@
+//! The laws of every run of the machine.
+#![tactic(auto)]
