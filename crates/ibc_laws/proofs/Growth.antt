@@ -1,10 +1,11 @@
 -- What is once there stays: how ends of connections and channels, and cores, may go on.
 use Rattle.std.proofs.Common.{◌≡◌, ℕ, ◌≤◌, ◌<◌, true, refl, ap, ◌∙◌, subst, Option, Some, None, ◌⊎◌, inl, inr, arith, nat_cmp, le_refl}
 use Rattle.ibc_ids.specs.Texts.{Text, text_cmp, pair_cmp}
-use Rattle.ibc_ids.specs.Maps.{at}
+use Rattle.ibc_ids.specs.Maps.{Map, at}
 use Rattle.ibc_wire.specs.declared.records.ConnectionState.TheVariants as conn
 use Rattle.ibc_wire.specs.declared.records.ConnectionEnd.{ConnectionEnd}
-use Rattle.ibc_machine.specs.Records.{Core, Client, Channel, client_at, connection_at, channel_at, with_client, with_connection, with_channel, is_one_of}
+use Rattle.ibc_wire.specs.declared.records.ChannelEnd.{ChannelEnd}
+use Rattle.ibc_machine.specs.Records.{Core, Client, Channel, Commitment, client_at, connection_at, channel_at, with_client, with_connection, with_channel, is_one_of}
 use Rattle.ibc_laws.proofs.CoreSteps.{rank}
 use Rattle.ibc_laws.proofs.FiniteMaps.{by_text, by_pair, kept_in_with}
 
@@ -16,22 +17,31 @@ pub record ConnectionGrows (c d : ConnectionEnd) : Type 0 where
   pub open_stays : c.state ≡ conn.Open → d.state ≡ conn.Open
 
 -- a channel end keeps what it was opened with and, once it has one, its peer; it goes from unopened over
--- OPEN to CLOSED; counters never fall; receipts and acknowledgements stay; of a sequence that was used the
--- commitment stays or goes for good
-pub record ChannelGrows (m n : Channel) : Type 0 where
-  pub order : n.end.order ≡ m.end.order
-  pub peer_port : n.end.peer_port ≡ m.end.peer_port
-  pub connection : n.end.connection ≡ m.end.connection
-  pub version : n.end.version ≡ m.end.version
-  pub named : (p : Text) → m.end.peer_channel ≡ Some p → n.end.peer_channel ≡ Some p
-  pub ranks : rank m.end.state ≤ rank n.end.state
-  pub next_send : m.next_send ≤ n.next_send
-  pub next_recv : m.next_recv ≤ n.next_recv
+-- OPEN to CLOSED
+pub record EndGrows (m n : ChannelEnd) : Type 0 where
+  pub order : n.order ≡ m.order
+  pub peer_port : n.peer_port ≡ m.peer_port
+  pub connection : n.connection ≡ m.connection
+  pub version : n.version ≡ m.version
+  pub named : (p : Text) → m.peer_channel ≡ Some p → n.peer_channel ≡ Some p
+  pub ranks : rank m.state ≤ rank n.state
 
+-- the next sequence never falls; of one that was used, the commitment stays or goes for good
+pub record SendingGrows (next : ℕ) (commitments : Map ℕ Commitment) (next_later : ℕ) (later : Map ℕ Commitment) : Type 0 where
+  pub counts : next ≤ next_later
+  pub stays : (k : ℕ) → k < next
+      → (at nat_cmp k later ≡ at nat_cmp k commitments) ⊎ (at nat_cmp k later ≡ None)
+
+-- what was received stays received, and its acknowledgement stays
+pub record ReceivingGrows (m n : Channel) : Type 0 where
+  pub counts : m.next_recv ≤ n.next_recv
   pub receipts : (k : ℕ) → is_one_of m.receipts k ≡ true → is_one_of n.receipts k ≡ true
   pub acks : (k : ℕ) (ack : Text) → at nat_cmp k m.acks ≡ Some ack → at nat_cmp k n.acks ≡ Some ack
-  pub commitments : (k : ℕ) → k < m.next_send
-      → (at nat_cmp k n.commitments ≡ at nat_cmp k m.commitments) ⊎ (at nat_cmp k n.commitments ≡ None)
+
+pub record ChannelGrows (m n : Channel) : Type 0 where
+  pub end : EndGrows m.end n.end
+  pub sending : SendingGrows m.next_send m.commitments n.next_send n.commitments
+  pub receiving : ReceivingGrows m n
 
 -- clients, connections and channels stay, and go on as they may
 pub record Grows (core later : Core) : Type 0 where
@@ -53,40 +63,59 @@ ConnectionGrows-trans f g = record {
   open_stays = λ e. g.open_stays (f.open_stays e);
 }
 
-pub ChannelGrows-refl : (m : Channel) → ChannelGrows m m
-ChannelGrows-refl m = record {
+pub EndGrows-refl : (m : ChannelEnd) → EndGrows m m
+EndGrows-refl m = record {
   order = refl;
   peer_port = refl;
   connection = refl;
   version = refl;
   named = λ p e. e;
   ranks = le_refl _;
-  next_send = le_refl _;
-  next_recv = le_refl _;
-  receipts = λ k e. e;
-  acks = λ k a e. e;
-  commitments = λ k e. inl refl;
+}
+
+pub SendingGrows-refl : (next : ℕ) (commitments : Map ℕ Commitment) → SendingGrows next commitments next commitments
+SendingGrows-refl next commitments = record { counts = le_refl _; stays = λ k lt. inl refl }
+
+pub ReceivingGrows-same : (m n : Channel) → n.next_recv ≡ m.next_recv → n.receipts ≡ m.receipts → n.acks ≡ m.acks
+    → ReceivingGrows m n
+ReceivingGrows-same m n next receipts acks = record {
+  counts = omega arith;
+  receipts = λ k e. ap (λ l. is_one_of l k) receipts ∙ e;
+  acks = λ k ack e. ap (λ l. at nat_cmp k l) acks ∙ e;
+}
+
+pub ChannelGrows-refl : (m : Channel) → ChannelGrows m m
+ChannelGrows-refl m = record {
+  end = EndGrows-refl m.end;
+  sending = SendingGrows-refl m.next_send m.commitments;
+  receiving = ReceivingGrows-same m m refl refl refl;
 }
 
 pub ChannelGrows-trans : {l m n : Channel} → ChannelGrows l m → ChannelGrows m n → ChannelGrows l n
 ChannelGrows-trans {l} {m} {n} f g = record {
-  order = g.order ∙ f.order;
-  peer_port = g.peer_port ∙ f.peer_port;
-  connection = g.connection ∙ f.connection;
-  version = g.version ∙ f.version;
-  named = λ p e. g.named p (f.named p e);
-  ranks = let a = f.ranks in let b = g.ranks in omega arith;
-  next_send = let a = f.next_send in let b = g.next_send in omega arith;
-  next_recv = let a = f.next_recv in let b = g.next_recv in omega arith;
-  receipts = λ k e. g.receipts k (f.receipts k e);
-  acks = λ k a e. g.acks k a (f.acks k a e);
-  commitments = λ k lt.
-      let a = f.next_send in
-      let later : k < m.next_send = omega arith in
-      elim (g.commitments k later) [
-        | inr none ↦ inr none
-        | inl same ↦ elim (f.commitments k lt) [ inl too ↦ inl (same ∙ too) | inr none ↦ inr (same ∙ none) ]
-      ];
+  end = record {
+    order = g.end.order ∙ f.end.order;
+    peer_port = g.end.peer_port ∙ f.end.peer_port;
+    connection = g.end.connection ∙ f.end.connection;
+    version = g.end.version ∙ f.end.version;
+    named = λ p e. g.end.named p (f.end.named p e);
+    ranks = let a = f.end.ranks in let b = g.end.ranks in omega arith;
+  };
+  sending = record {
+    counts = let a = f.sending.counts in let b = g.sending.counts in omega arith;
+    stays = λ k lt.
+        let a = f.sending.counts in
+        let later : k < m.next_send = omega arith in
+        elim (g.sending.stays k later) [
+          | inr none ↦ inr none
+          | inl same ↦ elim (f.sending.stays k lt) [ inl too ↦ inl (same ∙ too) | inr none ↦ inr (same ∙ none) ]
+        ];
+  };
+  receiving = record {
+    counts = let a = f.receiving.counts in let b = g.receiving.counts in omega arith;
+    receipts = λ k e. g.receiving.receipts k (f.receiving.receipts k e);
+    acks = λ k a e. g.receiving.acks k a (f.receiving.acks k a e);
+  };
 }
 
 pub Grows-refl : (core : Core) → Grows core core

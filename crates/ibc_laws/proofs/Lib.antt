@@ -12,3 +12,6 @@ pub mod ChannelsPassed
 pub mod SendsPassed
 pub mod PacketsPassed
 pub mod MessagesPassed
+pub mod EndSteps
+pub mod Numbered
+pub mod CoreShape
