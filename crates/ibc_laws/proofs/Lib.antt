@@ -15,3 +15,7 @@ pub mod MessagesPassed
 pub mod EndSteps
 pub mod Numbered
 pub mod CoreShape
+pub mod Places
+pub mod Worlds
+pub mod PeersKnown
+pub mod PeersKept
