@@ -19,3 +19,6 @@ pub mod Places
 pub mod Worlds
 pub mod PeersKnown
 pub mod PeersKept
+pub mod Steps
+pub mod Induction
+pub mod Invariant
