@@ -22,3 +22,5 @@ pub mod PeersKept
 pub mod Steps
 pub mod Induction
 pub mod Invariant
+pub mod Peers
+pub mod FirstLaw
