@@ -24,3 +24,4 @@ pub mod Induction
 pub mod Invariant
 pub mod Peers
 pub mod FirstLaw
+pub mod AtEnds
