@@ -47,7 +47,7 @@ pub data EndStep (chains : ℕ) (w : World) (h : Happened) (v : World) (e : End)
 quiet_is_quiet : (e : End) → IsQuietAt e Quiet
 quiet_is_quiet e = record { sent = λ mine. refl; received = refl; acknowledged = refl; timed_out = refl }
 
-quiet : (e : End) (told : Told) → told ≡ Quiet → IsQuietAt e told
+pub quiet : (e : End) (told : Told) → told ≡ Quiet → IsQuietAt e told
 quiet e told is = subst (IsQuietAt e) (sym is) (quiet_is_quiet e)
 
 abbrev IsOther : End → Text → Text → Type 0

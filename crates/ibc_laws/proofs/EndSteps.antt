@@ -185,11 +185,11 @@ module _ (n : ℕ) (m : Channel) (h : IsShaped m) where
   sorted-settled : Sorted nat_cmp (without nat_cmp n m.commitments)
   sorted-settled = Sorted-without nat_cmp_total by_number n m.commitments h.sorted
 
-  abbrev acked : Bool → Channel
+  abbrev pub acked : Bool → Channel
   acked b = let settled : Channel = without_commitment n m in
       if b then record settled { next_ack = m.next_ack + 1 } else settled
 
-  abbrev over : Bool → Channel
+  abbrev pub over : Bool → Channel
   over b = let settled : Channel = without_commitment n m in if b then in_state chan.Closed settled else settled
 
   sending-settled : SendingGrows m.next_send m.commitments m.next_send (without nat_cmp n m.commitments)

@@ -25,3 +25,7 @@ pub mod Invariant
 pub mod Peers
 pub mod FirstLaw
 pub mod AtEnds
+pub mod Lists
+pub mod Happenings
+pub mod ReceivedOnce
+pub mod SettledOnce
