@@ -29,3 +29,4 @@ pub mod Lists
 pub mod Happenings
 pub mod ReceivedOnce
 pub mod SettledOnce
+pub mod PeerSeen
