@@ -115,6 +115,15 @@ the_next m n fresh in_order is =
     let high = ltb-false m.next_recv n (subst (λ (b : Bool). (b && nat_lt m.next_recv n) ≡ false) is in_order) in
     omega arith
 
+-- an acknowledgement is the one written now, or stood before
+pub acks_of_receive : (n : ℕ) (ack : Text) (m : Channel) (k : ℕ) (a : Text) → at nat_cmp k (after_receive n ack m).acks ≡ Some a
+    → (k ≡ n) ⊎ (at nat_cmp k m.acks ≡ Some a)
+acks_of_receive n ack m k a e = go (is_ordered m) e
+  where
+    go : (b : Bool) → at nat_cmp k (taken b n ack m).acks ≡ Some a → (k ≡ n) ⊎ (at nat_cmp k m.acks ≡ Some a)
+    go true e = elim (found_in_with by_number n k ack a m.acks e) [ inl f ↦ inl f.0 | inr f ↦ inr f ]
+    go false e = elim (found_in_with by_number n k ack a m.acks e) [ inl f ↦ inl f.0 | inr f ↦ inr f ]
+
 module _ (n : ℕ) (ack : Text) (m : Channel) (next : is_ordered m ≡ true → n ≡ m.next_recv) where
   pub received_now : (k : ℕ) → (k ≡ n) ⊎ (has_received m k ≡ true) → has_received (after_receive n ack m) k ≡ true
   received_now k was = go (is_ordered m) refl was
@@ -161,6 +170,14 @@ module _ (n : ℕ) (ack : Text) (m : Channel) (next : is_ordered m ≡ true → 
 
 -- ---- a commitment goes
 
+abbrev pub acked : ℕ → Channel → Bool → Channel
+acked n m b =
+    let settled : Channel = without_commitment n m in
+    if b then record settled { next_ack = m.next_ack + 1 } else settled
+
+abbrev pub over : ℕ → Channel → Bool → Channel
+over n m b = let settled : Channel = without_commitment n m in if b then in_state chan.Closed settled else settled
+
 module _ (n : ℕ) (m : Channel) (h : IsShaped m) where
   gone : (k : ℕ) → (at nat_cmp k (without nat_cmp n m.commitments) ≡ at nat_cmp k m.commitments)
       ⊎ (at nat_cmp k (without nat_cmp n m.commitments) ≡ None)
@@ -185,33 +202,26 @@ module _ (n : ℕ) (m : Channel) (h : IsShaped m) where
   sorted-settled : Sorted nat_cmp (without nat_cmp n m.commitments)
   sorted-settled = Sorted-without nat_cmp_total by_number n m.commitments h.sorted
 
-  abbrev pub acked : Bool → Channel
-  acked b = let settled : Channel = without_commitment n m in
-      if b then record settled { next_ack = m.next_ack + 1 } else settled
-
-  abbrev pub over : Bool → Channel
-  over b = let settled : Channel = without_commitment n m in if b then in_state chan.Closed settled else settled
-
   sending-settled : SendingGrows m.next_send m.commitments m.next_send (without nat_cmp n m.commitments)
   sending-settled = record { counts = le_refl _; stays = λ k lt. gone k }
 
-  grows-acked : (b : Bool) → ChannelGrows m (acked b)
-  grows-acked true = record { end = EndGrows-refl m.end; sending = sending-settled; receiving = ReceivingGrows-same m (acked true) refl refl refl }
-  grows-acked false = record { end = EndGrows-refl m.end; sending = sending-settled; receiving = ReceivingGrows-same m (acked false) refl refl refl }
+  grows-acked : (b : Bool) → ChannelGrows m (acked n m b)
+  grows-acked true = record { end = EndGrows-refl m.end; sending = sending-settled; receiving = ReceivingGrows-same m (acked n m true) refl refl refl }
+  grows-acked false = record { end = EndGrows-refl m.end; sending = sending-settled; receiving = ReceivingGrows-same m (acked n m false) refl refl refl }
 
-  shaped-acked : (b : Bool) → IsShaped (acked b)
+  shaped-acked : (b : Bool) → IsShaped (acked n m b)
   shaped-acked true = record { peer = h.peer; acks_received = h.acks_received; sorted = sorted-settled; below = below-settled }
   shaped-acked false = record { peer = h.peer; acks_received = h.acks_received; sorted = sorted-settled; below = below-settled }
 
-  grows-over : (b : Bool) → ChannelGrows m (over b)
+  grows-over : (b : Bool) → ChannelGrows m (over n m b)
   grows-over true = record {
     end = record { order = refl; peer_port = refl; connection = refl; version = refl; named = λ p e. e; ranks = rank_below_closed m.end.state };
     sending = sending-settled;
-    receiving = ReceivingGrows-same m (over true) refl refl refl;
+    receiving = ReceivingGrows-same m (over n m true) refl refl refl;
   }
-  grows-over false = record { end = EndGrows-refl m.end; sending = sending-settled; receiving = ReceivingGrows-same m (over false) refl refl refl }
+  grows-over false = record { end = EndGrows-refl m.end; sending = sending-settled; receiving = ReceivingGrows-same m (over n m false) refl refl refl }
 
-  shaped-over : (p : Text) → m.end.peer_channel ≡ Some p → (b : Bool) → IsShaped (over b)
+  shaped-over : (p : Text) → m.end.peer_channel ≡ Some p → (b : Bool) → IsShaped (over n m b)
   shaped-over p named true = record {
     peer = record { unnamed = λ e. absurd (cc e); named = λ f. (p, named) };
     acks_received = h.acks_received;
@@ -256,6 +266,7 @@ module _ (w : World) (host : Host) (core : Core) (port id : Text) (m : Channel) 
       let q = h.peer.named (not_init m.end.state s.settles.settled) in
       shaped-over p.sequence m h q.0 q.1 (is_ordered m)
 
+module _ (w : World) (host : Host) (core : Core) (port id : Text) (m : Channel) where
   -- an acknowledgement of an end stood before, or is that of the packet received now
   pub end_acks : (told : Told) (n : Channel) → ChannelStep w host core port id m told n → (k : ℕ) (ack : Text)
       → at nat_cmp k n.acks ≡ Some ack → (at nat_cmp k m.acks ≡ Some ack) ⊎ ((p : Packet) × (told ≡ Received p) × (k ≡ p.sequence))
@@ -263,21 +274,17 @@ module _ (w : World) (host : Host) (core : Core) (port id : Text) (m : Channel) 
   end_acks told n (follows state s) k ack e = inl e
   end_acks told n (closes s) k ack e = inl e
   end_acks told n (sends c s) k ack e = inl e
-  end_acks told n (receives p a r) k ack e = go (is_ordered m) e
-    where
-      go : (b : Bool) → at nat_cmp k (taken b p.sequence a m).acks ≡ Some ack
-          → (at nat_cmp k m.acks ≡ Some ack) ⊎ ((q : Packet) × (Received p ≡ Received q) × (k ≡ q.sequence))
-      go true e = elim (found_in_with by_number p.sequence k a ack m.acks e) [ inl f ↦ inr (p, refl, f.0) | inr f ↦ inl f ]
-      go false e = elim (found_in_with by_number p.sequence k a ack m.acks e) [ inl f ↦ inr (p, refl, f.0) | inr f ↦ inl f ]
+  end_acks told n (receives p a r) k ack e =
+      elim (acks_of_receive p.sequence a m k ack e) [ inl same ↦ inr (p, refl, same) | inr old ↦ inl old ]
   end_acks told n (acknowledges p s) k ack e = go (is_ordered m) e
     where
-      go : (b : Bool) → at nat_cmp k (acked p.sequence m h b).acks ≡ Some ack
+      go : (b : Bool) → at nat_cmp k (acked p.sequence m b).acks ≡ Some ack
           → (at nat_cmp k m.acks ≡ Some ack) ⊎ ((q : Packet) × (Acknowledged p ≡ Received q) × (k ≡ q.sequence))
       go true e = inl e
       go false e = inl e
   end_acks told n (times_out p s) k ack e = go (is_ordered m) e
     where
-      go : (b : Bool) → at nat_cmp k (over p.sequence m h b).acks ≡ Some ack
+      go : (b : Bool) → at nat_cmp k (over p.sequence m b).acks ≡ Some ack
           → (at nat_cmp k m.acks ≡ Some ack) ⊎ ((q : Packet) × (TimedOut p ≡ Received q) × (k ≡ q.sequence))
       go true e = inl e
       go false e = inl e

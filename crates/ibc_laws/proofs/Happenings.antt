@@ -1,11 +1,14 @@
 -- What an event adds to the histories of an end: nothing, or the one packet that the step of the end is about.
-use Rattle.std.proofs.Common.{◌≡◌, ℕ, ◌+◌, Bool, true, false, refl, ap, sym, ◌∙◌, subst, List, [], ◌∷◌, ◌++◌, Option, Some, None, ◌==◌, ◌&&◌, cond, filter_map, append-nil, eqb-true}
+use Rattle.std.proofs.Common.{◌≡◌, ℕ, ◌+◌, Bool, true, false, refl, ap, sym, ◌∙◌, subst, List, [], ◌∷◌, ◌++◌, Option, Some, None, ◌==◌, ◌&&◌, cond, filter_map, append-nil, eqb-true, nat_cmp, inl, inr}
 use Rattle.std.specs.List.{cons_option}
 use Rattle.ibc_ids.specs.Texts.{Text, same_text}
+use Rattle.ibc_ids.specs.Maps.{at}
 use Rattle.ibc_wire.specs.declared.packet.Packet.{Packet}
+use Rattle.ibc_wire.specs.declared.records.ChannelEnd.{ChannelEnd}
 use Rattle.ibc_machine.specs.Records.{Core, Channel, Commitment}
 use Rattle.ibc_machine.specs.Evidence.{Host}
 use Rattle.ibc_machine.specs.Handlers.{host_of}
+use Rattle.ibc_machine.specs.Channels.{new_channel}
 use Rattle.ibc_machine.specs.Packets.{after_send, after_receive, after_ack, after_timeout}
 use Rattle.ibc_machine.specs.Machine.{World}
 use Rattle.ibc_machine.specs.Ledgers.{chain_of}
@@ -13,10 +16,11 @@ use Rattle.ibc_machine.specs.Histories.{Happened, End, is_end, packet_if, packet
 use Rattle.ibc_laws.proofs.PassedTests.{and_true, same_text-self}
 use Rattle.ibc_laws.proofs.Places.{number-self}
 use Rattle.ibc_laws.proofs.Lists.{filter-append, filter_map-append}
-use Rattle.ibc_laws.proofs.Told.{Told, told_of, is_told, sent_in, received_in, acknowledged_in, timed_out_in}
+use Rattle.ibc_laws.proofs.Told.{Told, Received, TimedOut, told_of, is_told, sent_in, received_in, acknowledged_in, timed_out_in}
 use Rattle.ibc_laws.proofs.CoreSteps.{ChannelStep, answers, follows, closes, sends, receives, acknowledges, times_out, Receives, Acks, TimesOut}
+use Rattle.ibc_laws.proofs.EndSteps.{end_acks}
 use Rattle.ibc_laws.proofs.AtEnds.{EndStep, IsQuietAt, untouched, opened, stepped, quiet}
-use Rattle.ibc_laws.proofs.Peers.{Stands}
+use Rattle.ibc_laws.proofs.Peers.{Stands, stands_same}
 
 -- ---- one event more
 
@@ -63,12 +67,17 @@ module _ (chains : ℕ) (w : World) (hs : List Happened) (h : Happened) (v : Wor
     sent_one : (c : Commitment) (m : Channel) → Stands w e m → Stands v e (after_send c m)
         → ((mine : Channel) → sent e mine (hs ++ h ∷ []) ≡ sent e mine hs ++ packet_from e mine m.next_send c ∷ []) → Sending
 
+  -- each acknowledgement of the end stood before
+  abbrev pub SameAcks : Type 0
+  SameAcks = (n : Channel) → Stands v e n → (k : ℕ) (ack : Text) → at nat_cmp k n.acks ≡ Some ack
+      → (m : Channel) × Stands w e m × (at nat_cmp k m.acks ≡ Some ack)
+
   -- the packets that it has received
   pub data Receiving : Type 0 where
-    received_nothing : received e (hs ++ h ∷ []) ≡ received e hs → Receiving
+    received_nothing : received e (hs ++ h ∷ []) ≡ received e hs → SameAcks → Receiving
     received_one : (p : Packet) (ack : Text) (m : Channel) (was : Stands w e m) → Stands v e (after_receive p.sequence ack m)
         → Receives w (host_of chains e.chain was.chain) was.chain.records.core e.port e.channel m p
-        → received e (hs ++ h ∷ []) ≡ received e hs ++ p ∷ [] → Receiving
+        → told_of h ≡ Received p → received e (hs ++ h ∷ []) ≡ received e hs ++ p ∷ [] → Receiving
 
   -- its packets that were acknowledged, and that timed out
   pub data Settling : Type 0 where
@@ -77,7 +86,7 @@ module _ (chains : ℕ) (w : World) (hs : List Happened) (h : Happened) (v : Wor
         → Acks w was.chain.records.core e.port e.channel m p
         → acknowledged e (hs ++ h ∷ []) ≡ acknowledged e hs ++ p ∷ [] → timed_out e (hs ++ h ∷ []) ≡ timed_out e hs → Settling
     timed_out_one : (p : Packet) (m : Channel) (was : Stands w e m) → Stands v e (after_timeout p.sequence m)
-        → TimesOut w was.chain.records.core e.port e.channel m p
+        → TimesOut w was.chain.records.core e.port e.channel m p → told_of h ≡ TimedOut p
         → acknowledged e (hs ++ h ∷ []) ≡ acknowledged e hs → timed_out e (hs ++ h ∷ []) ≡ timed_out e hs ++ p ∷ [] → Settling
 
   -- ---- which of them it is
@@ -111,20 +120,37 @@ module _ (chains : ℕ) (w : World) (hs : List Happened) (h : Happened) (v : Wor
       go told is n now (times_out p s) = no_sent (λ chain mine. ap (λ t. sent_in e mine t) is)
 
   pub receiving : EndStep chains w h v e → Receiving
-  receiving (untouched quiet_ back) = received_nothing (no_received (λ chain. (quiet_ chain).received))
-  receiving (opened chain silent end now none) = received_nothing (no_received (λ chain. (quiet e (told_of h) silent).received))
+  receiving (untouched quiet_ back) =
+      received_nothing (no_received (λ chain. (quiet_ chain).received)) (λ n stands k ack is. (n, back n stands, is))
+  receiving (opened chain silent end now none) =
+      received_nothing (no_received (λ chain. (quiet e (told_of h) silent).received))
+      (λ n stands k ack is. absurd (no_ack end k ack (ap (λ (x : Channel). at nat_cmp k x.acks) (stands_same e (new_channel end) n now stands) ∙ is)))
+    where
+      no_ack : (end : ChannelEnd) (k : ℕ) (ack : Text) → at nat_cmp k (new_channel end).acks ≡ Some ack → ⊥
+      no_ack end k ack e = absurd (cc e)
   receiving (stepped chain m n was now step) = go (told_of h) refl n now step
     where
+      silent : (told : Told) → told_of h ≡ told → (n : Channel) → Stands v e n
+          → ChannelStep w (host_of chains e.chain was.chain) was.chain.records.core e.port e.channel m told n
+          → ((p : Packet) → told ≡ Received p → ⊥) → received_in e told ≡ None → Receiving
+      silent told is n now step other none =
+          received_nothing (no_received (λ chain. ap (λ t. received_in e t) is ∙ none)) (λ k stands j ack there.
+          elim (end_acks w (host_of chains e.chain was.chain) was.chain.records.core e.port e.channel m told n step j ack
+          (ap (λ (x : Channel). at nat_cmp j x.acks) (stands_same e n k now stands) ∙ there)) [
+            | inl old ↦ (m, was, old)
+            | inr new ↦ absurd (other new.0 new.1)
+          ])
+
       go : (told : Told) → told_of h ≡ told → (n : Channel) → Stands v e n
           → ChannelStep w (host_of chains e.chain was.chain) was.chain.records.core e.port e.channel m told n → Receiving
-      go told is n now (receives p ack s) = received_one p ack m was now s (about-more (received_by e) e.chain hs h p chain
+      go told is n now (receives p ack s) = received_one p ack m was now s is (about-more (received_by e) e.chain hs h p chain
           ((is_told h).received e ∙ ap (λ t. received_in e t) is ∙ at_itself e p.destination_port p.destination_channel p s.to_port s.to_channel))
-      go told is n now (answers peer s) = received_nothing (no_received (λ chain. ap (λ t. received_in e t) is))
-      go told is n now (follows state s) = received_nothing (no_received (λ chain. ap (λ t. received_in e t) is))
-      go told is n now (closes s) = received_nothing (no_received (λ chain. ap (λ t. received_in e t) is))
-      go told is n now (sends c s) = received_nothing (no_received (λ chain. ap (λ t. received_in e t) is))
-      go told is n now (acknowledges p s) = received_nothing (no_received (λ chain. ap (λ t. received_in e t) is))
-      go told is n now (times_out p s) = received_nothing (no_received (λ chain. ap (λ t. received_in e t) is))
+      go told is n now (answers peer s) = silent told is n now (answers peer s) (λ p e. absurd (cc e)) refl
+      go told is n now (follows state s) = silent told is n now (follows state s) (λ p e. absurd (cc e)) refl
+      go told is n now (closes s) = silent told is n now (closes s) (λ p e. absurd (cc e)) refl
+      go told is n now (sends c s) = silent told is n now (sends c s) (λ p e. absurd (cc e)) refl
+      go told is n now (acknowledges p s) = silent told is n now (acknowledges p s) (λ p e. absurd (cc e)) refl
+      go told is n now (times_out p s) = silent told is n now (times_out p s) (λ p e. absurd (cc e)) refl
 
   no_settled : (chain_of h.0 ≡ e.chain → acknowledged_in e (told_of h) ≡ None) → (chain_of h.0 ≡ e.chain → timed_out_in e (told_of h) ≡ None) → Settling
   no_settled acks timeouts = settled_nothing (no_acknowledged acks) (no_timed_out timeouts)
@@ -144,7 +170,7 @@ module _ (chains : ℕ) (w : World) (hs : List Happened) (h : Happened) (v : Wor
           (about-more (acknowledged_by e) e.chain hs h p chain ((is_told h).acknowledged e ∙ ap (λ t. acknowledged_in e t) is
           ∙ at_itself e p.source_port p.source_channel p s.settles.from_port s.settles.from_channel))
           (no_timed_out (λ chain. ap (λ t. timed_out_in e t) is))
-      go told is n now (times_out p s) = timed_out_one p m was now s
+      go told is n now (times_out p s) = timed_out_one p m was now s is
           (no_acknowledged (λ chain. ap (λ t. acknowledged_in e t) is))
           (about-more (timed_out_by e) e.chain hs h p chain ((is_told h).timed_out e ∙ ap (λ t. timed_out_in e t) is
           ∙ at_itself e p.source_port p.source_channel p s.settles.from_port s.settles.from_channel))

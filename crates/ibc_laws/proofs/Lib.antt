@@ -30,3 +30,4 @@ pub mod Happenings
 pub mod ReceivedOnce
 pub mod SettledOnce
 pub mod PeerSeen
+pub mod AcknowledgedReceived

@@ -62,8 +62,8 @@ module _ (chains : ℕ) (w : World) (hs : List Happened) (h : Happened) (v : Wor
           absurd (cc (was.received, fresh, ap (λ x. has_received x n) (stands_same f was.channel m was.stands stands)))
 
   more_marked : (f : End) (n : ℕ) → Receiving chains w hs h v f → is_one_of (sequences (received f (hs ++ h ∷ []))) n ≡ true → HasReceived v f n
-  more_marked f n (received_nothing same) is = kept f n (subst (λ ps. is_one_of (sequences ps) n ≡ true) same is)
-  more_marked f n (received_one p ack m was now r more) is =
+  more_marked f n (received_nothing same acks) is = kept f n (subst (λ ps. is_one_of (sequences ps) n ≡ true) same is)
+  more_marked f n (received_one p ack m was now r told more) is =
       elim (among-last_or_before (sequences (received f hs)) p.sequence n
       (subst (λ l. is_one_of l n ≡ true) (ap sequences more ∙ sequences-push (received f hs) p) is)) [
         | inl new ↦ record { channel = _; stands = now; received = received_now p.sequence ack m (the_next m p.sequence r.fresh r.in_order) n (inl new) }
@@ -71,8 +71,8 @@ module _ (chains : ℕ) (w : World) (hs : List Happened) (h : Happened) (v : Wor
       ]
 
   more_once : (f : End) → Receiving chains w hs h v f → IsDistinct nat_eq (sequences (received f (hs ++ h ∷ [])))
-  more_once f (received_nothing same) = subst (λ ps. IsDistinct nat_eq (sequences ps)) (sym same) (once.once f)
-  more_once f (received_one p ack m was now r more) =
+  more_once f (received_nothing same acks) = subst (λ ps. IsDistinct nat_eq (sequences ps)) (sym same) (once.once f)
+  more_once f (received_one p ack m was now r told more) =
       let ns : List ℕ = sequences (received f hs) in
       let fresh : is_one_of (ns ++ []) p.sequence ≡ false = ap (λ l. is_one_of l p.sequence) (append-nil ns) ∙ not_received_yet f m was p.sequence r.fresh in
       let distinct = distinct-push ns [] p.sequence (subst (IsDistinct nat_eq) (sym (append-nil ns)) (once.once f)) fresh in

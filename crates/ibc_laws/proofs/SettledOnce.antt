@@ -52,14 +52,14 @@ gone_after n m k shaped used send commitments = record {
 pub gone_after_ack : (n : ℕ) (m : Channel) → IsShaped m → n < m.next_send → IsGone n (after_ack n m)
 gone_after_ack n m shaped used = go (is_ordered m)
   where
-    go : (b : Bool) → IsGone n (acked n m shaped b)
+    go : (b : Bool) → IsGone n (acked n m b)
     go true = gone_after n m _ shaped used refl refl
     go false = gone_after n m _ shaped used refl refl
 
 pub gone_after_timeout : (n : ℕ) (m : Channel) → IsShaped m → n < m.next_send → IsGone n (after_timeout n m)
 gone_after_timeout n m shaped used = go (is_ordered m)
   where
-    go : (b : Bool) → IsGone n (over n m shaped b)
+    go : (b : Bool) → IsGone n (over n m b)
     go true = gone_after n m _ shaped used refl refl
     go false = gone_after n m _ shaped used refl refl
 
@@ -106,7 +106,7 @@ module _ (chains : ℕ) (w : World) (hs : List Happened) (h : Happened) (v : Wor
       subst (Good e) (sym (ap₂ (λ (x y : List Packet). sequences x ++ sequences y) a t ∙ ap (λ x. x ++ sequences (timed_out e hs)) (sequences-push (acknowledged e hs) p)))
       (more e p.sequence (sequences (acknowledged e hs)) (sequences (timed_out e hs)) refl (absent e e.port e.channel m was p s.settles)
       (record { channel = _; stands = now; gone = gone_after_ack p.sequence m shaped (shaped.below p.sequence (commitment_of p) s.settles.committed) }))
-  good e (timed_out_one p m was now s a t) =
+  good e (timed_out_one p m was now s told a t) =
       let shaped = shape_of w inv e m was in
       subst (Good e) (sym (ap₂ (λ (x y : List Packet). sequences x ++ sequences y) a t ∙ ap (λ x. sequences (acknowledged e hs) ++ x) (sequences-push (timed_out e hs) p)
       ∙ sym (append_assoc (sequences (acknowledged e hs)) (sequences (timed_out e hs)) (p.sequence ∷ [])) ∙ sym (append-nil _)))
