@@ -54,7 +54,7 @@ module _ (state : ChannelState) (peer : Option Text) (m : Channel) where
     below = h.below;
   }
 
-rank_below_closed : (s : ChannelState) → rank s ≤ 2
+pub rank_below_closed : (s : ChannelState) → rank s ≤ 2
 rank_below_closed chan.Init = omega arith
 rank_below_closed chan.TryOpen = omega arith
 rank_below_closed chan.Open = omega arith

@@ -31,3 +31,5 @@ pub mod ReceivedOnce
 pub mod SettledOnce
 pub mod PeerSeen
 pub mod AcknowledgedReceived
+pub mod Lasting
+pub mod ReceiptsAndTimeouts

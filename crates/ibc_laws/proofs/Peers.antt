@@ -171,6 +171,14 @@ stands_same e m n a b =
     let chain : a.chain ≡ b.chain = some_is a.there b.there in
     some_is a.is (subst (λ (c : Chain). channel_at c.records.core e.port e.channel ≡ Some n) (sym chain) b.is)
 
+pub stands_alike : {w : World} (g f : End) (a b : Channel) → g ≡ f → (x : Stands w g a) (y : Stands w f b)
+    → (x.chain ≡ y.chain) × (a ≡ b)
+stands_alike {w} g f a b same x y =
+    let there = subst (λ (z : End). slice_get w z.chain ≡ Some x.chain) same x.there in
+    let chain = some_is there y.there in
+    let is = subst (λ (z : End). channel_at x.chain.records.core z.port z.channel ≡ Some a) same x.is in
+    (chain, some_is (subst (λ (c : Chain). channel_at c.records.core f.port f.channel ≡ Some a) chain is) y.is)
+
 pub one_peer_only : (w : World) (e f g : End) → Peers w e f → Peers w e g → f ≡ g
 one_peer_only w e f g p q =
     let chain : q.here.chain ≡ p.here.chain = some_is q.here.there p.here.there in
