@@ -33,3 +33,5 @@ pub mod PeerSeen
 pub mod AcknowledgedReceived
 pub mod Lasting
 pub mod ReceiptsAndTimeouts
+pub mod NotBoth
+pub mod SecondLaw
