@@ -3,14 +3,16 @@
 use Rattle.std.proofs.Common.{◌≡◌, ℕ, ◌≤◌, true, refl, ap, sym, ◌∙◌, subst, List, [], ◌∷◌, ◌++◌, Some, inl, inr, nat_cmp}
 use Rattle.ibc_ids.specs.Texts.{Text}
 use Rattle.ibc_ids.specs.Maps.{at}
+use Rattle.ibc_wire.specs.declared.records.ChannelEnd.{ChannelEnd}
 use Rattle.ibc_machine.specs.Records.{Channel, is_one_of}
-use Rattle.ibc_machine.specs.Packets.{is_ordered}
+use Rattle.ibc_machine.specs.Channels.{new_channel}
 use Rattle.ibc_machine.specs.Machine.{World}
 use Rattle.ibc_machine.specs.Histories.{Happened, End, received, acknowledged, sequences}
 use Rattle.ibc_laws.proofs.FiniteMaps.{by_number, found_in_with}
 use Rattle.ibc_laws.proofs.Lists.{among-last_or_before, among-last, among-kept}
 use Rattle.ibc_laws.proofs.CoreSteps.{HadAck}
 use Rattle.ibc_laws.proofs.EndSteps.{acks_of_receive}
+use Rattle.ibc_laws.proofs.EndKeeps.{SameReceiving, StoodBefore, was_there, is_new}
 use Rattle.ibc_laws.proofs.Invariant.{Inv, stepped_grows}
 use Rattle.ibc_laws.proofs.Steps.{Stepped}
 use Rattle.ibc_laws.proofs.Peers.{Stands, Peers, stands_same, peers_on}
@@ -41,9 +43,14 @@ module _ (chains : ℕ) (w : World) (hs : List Happened) (h : Happened) (v : Wor
 
   written_after : (f : End) (k : Channel) → Stands v f k → (n : ℕ) (ack : Text) → at nat_cmp n k.acks ≡ Some ack
       → Receiving chains w hs h v f → IsReceived (hs ++ h ∷ []) f n
-  written_after f k stands n ack is (received_nothing same acks_were) =
-      let old = acks_were k stands n ack is in
-      still_received f n (acks.written f old.0 old.1 n ack old.2)
+  written_after f k stands n ack is (received_nothing same before) = go (before k stands)
+    where
+      none : (end : ChannelEnd) → at nat_cmp n (new_channel end).acks ≡ Some ack → ⊥
+      none end e = absurd (cc e)
+
+      go : StoodBefore w f SameReceiving k → IsReceived (hs ++ h ∷ []) f n
+      go (was_there m was same) = still_received f n (acks.written f m was n ack (ap (λ x. at nat_cmp n x) (sym same.acks) ∙ is))
+      go (is_new none_stood end new) = absurd (none end (ap (λ (x : Channel). at nat_cmp n x.acks) new ∙ is))
   written_after f k stands n ack is (received_one p a m was now r told more) =
       elim (acks_of_receive p.sequence a m n ack (ap (λ (x : Channel). at nat_cmp n x.acks) (stands_same f _ k now stands) ∙ is)) [
         | inl new ↦ subst (λ l. is_one_of l n ≡ true) (sym (ap sequences more ∙ sequences-push (received f hs) p))

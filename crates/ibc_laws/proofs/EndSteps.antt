@@ -15,7 +15,7 @@ use Rattle.ibc_machine.specs.Packets.{is_ordered, has_received, after_send, afte
 use Rattle.ibc_machine.specs.Machine.{World}
 use Rattle.ibc_laws.proofs.FiniteMaps.{by_number, at-with_split, found_in_with}
 use Rattle.ibc_laws.proofs.SortedMaps.{Sorted, Sorted-with, Sorted-without, at-without_same, at-without_other, added_kept, added_there}
-use Rattle.ibc_laws.proofs.Told.{Told, Received, Acknowledged, TimedOut}
+use Rattle.ibc_laws.proofs.Told.{Told}
 use Rattle.ibc_laws.proofs.CoreSteps.{rank, ChannelStep, answers, follows, closes, sends, receives, acknowledges, times_out, answered, Receives}
 use Rattle.ibc_laws.proofs.Growth.{EndGrows, EndGrows-refl, SendingGrows, SendingGrows-refl, ReceivingGrows-same, ChannelGrows}
 
@@ -88,7 +88,7 @@ shaped-sent c m h = record {
 
 -- ---- receiving, by the order of the channel
 
-abbrev taken : Bool → ℕ → Text → Channel → Channel
+abbrev pub taken : Bool → ℕ → Text → Channel → Channel
 taken b n ack m =
     let acked : Channel = record m { acks = with nat_cmp n ack m.acks } in
     if b then record acked { next_recv = m.next_recv + 1 } else record acked { receipts = added n m.receipts }
@@ -179,7 +179,7 @@ abbrev pub over : ℕ → Channel → Bool → Channel
 over n m b = let settled : Channel = without_commitment n m in if b then in_state chan.Closed settled else settled
 
 module _ (n : ℕ) (m : Channel) (h : IsShaped m) where
-  gone : (k : ℕ) → (at nat_cmp k (without nat_cmp n m.commitments) ≡ at nat_cmp k m.commitments)
+  pub gone : (k : ℕ) → (at nat_cmp k (without nat_cmp n m.commitments) ≡ at nat_cmp k m.commitments)
       ⊎ (at nat_cmp k (without nat_cmp n m.commitments) ≡ None)
   gone k = go (k == n) refl
     where
@@ -265,26 +265,3 @@ module _ (w : World) (host : Host) (core : Core) (port id : Text) (m : Channel) 
   end_shaped told n (times_out p s) =
       let q = h.peer.named (not_init m.end.state s.settles.settled) in
       shaped-over p.sequence m h q.0 q.1 (is_ordered m)
-
-module _ (w : World) (host : Host) (core : Core) (port id : Text) (m : Channel) where
-  -- an acknowledgement of an end stood before, or is that of the packet received now
-  pub end_acks : (told : Told) (n : Channel) → ChannelStep w host core port id m told n → (k : ℕ) (ack : Text)
-      → at nat_cmp k n.acks ≡ Some ack → (at nat_cmp k m.acks ≡ Some ack) ⊎ ((p : Packet) × (told ≡ Received p) × (k ≡ p.sequence))
-  end_acks told n (answers peer s) k ack e = inl e
-  end_acks told n (follows state s) k ack e = inl e
-  end_acks told n (closes s) k ack e = inl e
-  end_acks told n (sends c s) k ack e = inl e
-  end_acks told n (receives p a r) k ack e =
-      elim (acks_of_receive p.sequence a m k ack e) [ inl same ↦ inr (p, refl, same) | inr old ↦ inl old ]
-  end_acks told n (acknowledges p s) k ack e = go (is_ordered m) e
-    where
-      go : (b : Bool) → at nat_cmp k (acked p.sequence m b).acks ≡ Some ack
-          → (at nat_cmp k m.acks ≡ Some ack) ⊎ ((q : Packet) × (Acknowledged p ≡ Received q) × (k ≡ q.sequence))
-      go true e = inl e
-      go false e = inl e
-  end_acks told n (times_out p s) k ack e = go (is_ordered m) e
-    where
-      go : (b : Bool) → at nat_cmp k (over p.sequence m b).acks ≡ Some ack
-          → (at nat_cmp k m.acks ≡ Some ack) ⊎ ((q : Packet) × (TimedOut p ≡ Received q) × (k ≡ q.sequence))
-      go true e = inl e
-      go false e = inl e

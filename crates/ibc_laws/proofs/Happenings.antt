@@ -16,9 +16,10 @@ use Rattle.ibc_machine.specs.Histories.{Happened, End, is_end, packet_if, packet
 use Rattle.ibc_laws.proofs.PassedTests.{and_true, same_text-self}
 use Rattle.ibc_laws.proofs.Places.{number-self}
 use Rattle.ibc_laws.proofs.Lists.{filter-append, filter_map-append}
-use Rattle.ibc_laws.proofs.Told.{Told, Received, TimedOut, told_of, is_told, sent_in, received_in, acknowledged_in, timed_out_in}
+use Rattle.ibc_laws.proofs.Told.{Told, Sent, Received, TimedOut, told_of, is_told, sent_in, received_in, acknowledged_in, timed_out_in}
 use Rattle.ibc_laws.proofs.CoreSteps.{ChannelStep, answers, follows, closes, sends, receives, acknowledges, times_out, Receives, Acks, TimesOut}
-use Rattle.ibc_laws.proofs.EndSteps.{end_acks}
+use Rattle.ibc_laws.proofs.EndKeeps.{SameSending, SameReceiving, StoodBefore, was_there, is_new, keeps_sending, keeps_receiving, same_sending, same_receiving}
+use Rattle.ibc_laws.proofs.Invariant.{Inv, shape_of}
 use Rattle.ibc_laws.proofs.AtEnds.{EndStep, IsQuietAt, untouched, opened, stepped, quiet}
 use Rattle.ibc_laws.proofs.Peers.{Stands, stands_same}
 
@@ -63,18 +64,15 @@ at_itself e port channel p is_port is_channel = ap (λ b. packet_if b p) (and_tr
 module _ (chains : ℕ) (w : World) (hs : List Happened) (h : Happened) (v : World) (e : End) where
   -- the packets that the end has sent
   pub data Sending : Type 0 where
-    sent_nothing : ((mine : Channel) → sent e mine (hs ++ h ∷ []) ≡ sent e mine hs) → Sending
+    sent_nothing : ((mine : Channel) → sent e mine (hs ++ h ∷ []) ≡ sent e mine hs)
+        → ((n : Channel) → Stands v e n → StoodBefore w e SameSending n) → Sending
     sent_one : (c : Commitment) (m : Channel) → Stands w e m → Stands v e (after_send c m)
         → ((mine : Channel) → sent e mine (hs ++ h ∷ []) ≡ sent e mine hs ++ packet_from e mine m.next_send c ∷ []) → Sending
 
-  -- each acknowledgement of the end stood before
-  abbrev pub SameAcks : Type 0
-  SameAcks = (n : Channel) → Stands v e n → (k : ℕ) (ack : Text) → at nat_cmp k n.acks ≡ Some ack
-      → (m : Channel) × Stands w e m × (at nat_cmp k m.acks ≡ Some ack)
-
   -- the packets that it has received
   pub data Receiving : Type 0 where
-    received_nothing : received e (hs ++ h ∷ []) ≡ received e hs → SameAcks → Receiving
+    received_nothing : received e (hs ++ h ∷ []) ≡ received e hs
+        → ((n : Channel) → Stands v e n → StoodBefore w e SameReceiving n) → Receiving
     received_one : (p : Packet) (ack : Text) (m : Channel) (was : Stands w e m) → Stands v e (after_receive p.sequence ack m)
         → Receives w (host_of chains e.chain was.chain) was.chain.records.core e.port e.channel m p
         → told_of h ≡ Received p → received e (hs ++ h ∷ []) ≡ received e hs ++ p ∷ [] → Receiving
@@ -91,8 +89,9 @@ module _ (chains : ℕ) (w : World) (hs : List Happened) (h : Happened) (v : Wor
 
   -- ---- which of them it is
 
-  no_sent : (chain_of h.0 ≡ e.chain → (mine : Channel) → sent_in e mine (told_of h) ≡ None) → Sending
-  no_sent none = sent_nothing (λ mine. about-same (sent_by e mine) e.chain hs h (λ chain. (is_told h).sent e mine ∙ none chain mine))
+  no_sent : (chain_of h.0 ≡ e.chain → (mine : Channel) → sent_in e mine (told_of h) ≡ None) → (mine : Channel)
+      → sent e mine (hs ++ h ∷ []) ≡ sent e mine hs
+  no_sent none mine = about-same (sent_by e mine) e.chain hs h (λ chain. (is_told h).sent e mine ∙ none chain mine)
 
   no_received : (chain_of h.0 ≡ e.chain → received_in e (told_of h) ≡ None) → received e (hs ++ h ∷ []) ≡ received e hs
   no_received none = about-same (received_by e) e.chain hs h (λ chain. (is_told h).received e ∙ none chain)
@@ -103,43 +102,54 @@ module _ (chains : ℕ) (w : World) (hs : List Happened) (h : Happened) (v : Wor
   no_timed_out : (chain_of h.0 ≡ e.chain → timed_out_in e (told_of h) ≡ None) → timed_out e (hs ++ h ∷ []) ≡ timed_out e hs
   no_timed_out none = about-same (timed_out_by e) e.chain hs h (λ chain. (is_told h).timed_out e ∙ none chain)
 
-  pub sending : EndStep chains w h v e → Sending
-  sending (untouched quiet_ back) = no_sent (λ chain. (quiet_ chain).sent)
-  sending (opened chain silent end now none) = no_sent (λ chain. (quiet e (told_of h) silent).sent)
-  sending (stepped chain m n was now step) = go (told_of h) refl n now step
+  new_end : (P : Channel → Channel → Type 0) → ((m : Channel) → Stands w e m → ⊥) → (end : ChannelEnd) → Stands v e (new_channel end)
+      → (n : Channel) → Stands v e n → StoodBefore w e P n
+  new_end P none end now n stands = is_new none end (stands_same e (new_channel end) n now stands)
+
+  stepped_end : (P : Channel → Channel → Type 0) (m : Channel) → Stands w e m → (n : Channel) → Stands v e n → P m n
+      → (k : Channel) → Stands v e k → StoodBefore w e P k
+  stepped_end P m was n now same k stands = was_there m was (subst (P m) (stands_same e n k now stands) same)
+
+  pub sending : Inv w → EndStep chains w h v e → Sending
+  sending inv (untouched quiet_ back) =
+      sent_nothing (no_sent (λ chain. (quiet_ chain).sent)) (λ n stands. was_there n (back n stands) (same_sending n))
+  sending inv (opened chain silent end now none) =
+      sent_nothing (no_sent (λ chain. (quiet e (told_of h) silent).sent)) (new_end SameSending none end now)
+  sending inv (stepped chain m n was now step) = go (told_of h) refl n now step
     where
+      silent : (told : Told) → told_of h ≡ told → (n : Channel) → Stands v e n
+          → ChannelStep w (host_of chains e.chain was.chain) was.chain.records.core e.port e.channel m told n
+          → ((port channel : Text) (k : ℕ) (c : Commitment) → told ≡ Sent port channel k c → ⊥)
+          → ((mine : Channel) → sent_in e mine told ≡ None) → Sending
+      silent told is n now step other none =
+          sent_nothing (no_sent (λ chain mine. ap (λ t. sent_in e mine t) is ∙ none mine))
+          (stepped_end SameSending m was n now (keeps_sending w (host_of chains e.chain was.chain) was.chain.records.core e.port e.channel m
+          (shape_of w inv e m was) told n step other))
+
       go : (told : Told) → told_of h ≡ told → (n : Channel) → Stands v e n
           → ChannelStep w (host_of chains e.chain was.chain) was.chain.records.core e.port e.channel m told n → Sending
       go told is n now (sends c s) = sent_one c m was now (λ mine. about-more (sent_by e mine) e.chain hs h (packet_from e mine m.next_send c) chain
           ((is_told h).sent e mine ∙ ap (λ t. sent_in e mine t) is ∙ at_itself e e.port e.channel (packet_from e mine m.next_send c) refl refl))
-      go told is n now (answers peer s) = no_sent (λ chain mine. ap (λ t. sent_in e mine t) is)
-      go told is n now (follows state s) = no_sent (λ chain mine. ap (λ t. sent_in e mine t) is)
-      go told is n now (closes s) = no_sent (λ chain mine. ap (λ t. sent_in e mine t) is)
-      go told is n now (receives p ack s) = no_sent (λ chain mine. ap (λ t. sent_in e mine t) is)
-      go told is n now (acknowledges p s) = no_sent (λ chain mine. ap (λ t. sent_in e mine t) is)
-      go told is n now (times_out p s) = no_sent (λ chain mine. ap (λ t. sent_in e mine t) is)
+      go told is n now (answers peer s) = silent told is n now (answers peer s) (λ port channel k c e. absurd (cc e)) (λ mine. refl)
+      go told is n now (follows state s) = silent told is n now (follows state s) (λ port channel k c e. absurd (cc e)) (λ mine. refl)
+      go told is n now (closes s) = silent told is n now (closes s) (λ port channel k c e. absurd (cc e)) (λ mine. refl)
+      go told is n now (receives p ack s) = silent told is n now (receives p ack s) (λ port channel k c e. absurd (cc e)) (λ mine. refl)
+      go told is n now (acknowledges p s) = silent told is n now (acknowledges p s) (λ port channel k c e. absurd (cc e)) (λ mine. refl)
+      go told is n now (times_out p s) = silent told is n now (times_out p s) (λ port channel k c e. absurd (cc e)) (λ mine. refl)
 
   pub receiving : EndStep chains w h v e → Receiving
   receiving (untouched quiet_ back) =
-      received_nothing (no_received (λ chain. (quiet_ chain).received)) (λ n stands k ack is. (n, back n stands, is))
+      received_nothing (no_received (λ chain. (quiet_ chain).received)) (λ n stands. was_there n (back n stands) (same_receiving n))
   receiving (opened chain silent end now none) =
-      received_nothing (no_received (λ chain. (quiet e (told_of h) silent).received))
-      (λ n stands k ack is. absurd (no_ack end k ack (ap (λ (x : Channel). at nat_cmp k x.acks) (stands_same e (new_channel end) n now stands) ∙ is)))
-    where
-      no_ack : (end : ChannelEnd) (k : ℕ) (ack : Text) → at nat_cmp k (new_channel end).acks ≡ Some ack → ⊥
-      no_ack end k ack e = absurd (cc e)
+      received_nothing (no_received (λ chain. (quiet e (told_of h) silent).received)) (new_end SameReceiving none end now)
   receiving (stepped chain m n was now step) = go (told_of h) refl n now step
     where
       silent : (told : Told) → told_of h ≡ told → (n : Channel) → Stands v e n
           → ChannelStep w (host_of chains e.chain was.chain) was.chain.records.core e.port e.channel m told n
           → ((p : Packet) → told ≡ Received p → ⊥) → received_in e told ≡ None → Receiving
       silent told is n now step other none =
-          received_nothing (no_received (λ chain. ap (λ t. received_in e t) is ∙ none)) (λ k stands j ack there.
-          elim (end_acks w (host_of chains e.chain was.chain) was.chain.records.core e.port e.channel m told n step j ack
-          (ap (λ (x : Channel). at nat_cmp j x.acks) (stands_same e n k now stands) ∙ there)) [
-            | inl old ↦ (m, was, old)
-            | inr new ↦ absurd (other new.0 new.1)
-          ])
+          received_nothing (no_received (λ chain. ap (λ t. received_in e t) is ∙ none))
+          (stepped_end SameReceiving m was n now (keeps_receiving w (host_of chains e.chain was.chain) was.chain.records.core e.port e.channel m told n step other))
 
       go : (told : Told) → told_of h ≡ told → (n : Channel) → Stands v e n
           → ChannelStep w (host_of chains e.chain was.chain) was.chain.records.core e.port e.channel m told n → Receiving

@@ -7,7 +7,7 @@ use Rattle.ibc_machine.specs.Records.{Core, Block, Chain, Channel, connection_at
 use Rattle.ibc_machine.specs.Genesis.{GenesisState, ChainState, start, starting_chain, empty_core}
 use Rattle.ibc_machine.specs.Handlers.{host_of}
 use Rattle.ibc_machine.specs.Machine.{World, block_of, Step}
-use Rattle.ibc_machine.specs.Histories.{Happened}
+use Rattle.ibc_machine.specs.Histories.{Happened, End}
 use Rattle.ibc_machine.specs.Laws.{IsPast}
 use Rattle.ibc_laws.proofs.Places.{some_is, same_or_not, placed, get-set_same, get-set_other}
 use Rattle.ibc_laws.proofs.Told.{Told, told_of}
@@ -15,6 +15,8 @@ use Rattle.ibc_laws.proofs.CoreSteps.{CoreStep}
 use Rattle.ibc_laws.proofs.Growth.{Grows-refl, ChannelGrows-refl}
 use Rattle.ibc_laws.proofs.CoreShape.{CoreShaped}
 use Rattle.ibc_laws.proofs.Worlds.{ChainStep, acts, ends, ChainGrows, ChainGrows-refl, ChainShaped, chain_grows, chain_shaped, WorldGrows, WorldGrows-refl, Shaped}
+use Rattle.ibc_laws.proofs.Peers.{Stands}
+use Rattle.ibc_laws.proofs.EndSteps.{IsShaped}
 use Rattle.ibc_laws.proofs.PeersKnown.{ConnectionPeer, ConnectionPeer-grows, ChannelPeer, ChannelPeer-grows}
 use Rattle.ibc_laws.proofs.PeersKept.{Peered, connected, settled, connection_peer, channel_peer}
 use Rattle.ibc_laws.proofs.Steps.{Moves, Stepped, rests, moves, stepped}
@@ -171,3 +173,15 @@ pub inv_of_past : (genesis : GenesisState) (happened : List Happened) (world : W
 inv_of_past genesis = past_has genesis (λ happened w. Inv w)
     (λ happened old h new typed inv step. stepped_inv (length genesis.chains) old h new inv (stepped genesis old h new step))
     (Inv-start genesis)
+
+-- a chain that is there now was there, and has gone on
+pub stepped_back : (chains : ℕ) (w : World) (h : Happened) (v : World) → Inv w → Stepped chains w h v → (y : ℕ) (d : Chain)
+    → slice_get v y ≡ Some d → (c : Chain) × (slice_get w y ≡ Some c) × ChainGrows c d
+stepped_back chains w h v inv (rests quiet same) y d is = (d, subst (λ x. slice_get x y ≡ Some d) same is, ChainGrows-refl d)
+stepped_back chains w h v inv (moves s) y d is = elim (placed w s.k s.before s.now s.there y d (subst (λ x. slice_get x y ≡ Some d) s.after is)) [
+  | inl here ↦ (s.before, subst (λ z. slice_get w z ≡ Some s.before) (sym here.0) s.there, subst (ChainGrows s.before) here.1 (now_grows chains w h v inv s))
+  | inr there ↦ (d, there.1, ChainGrows-refl d)
+]
+
+pub shape_of : (w : World) → Inv w → (e : End) (m : Channel) → Stands w e m → IsShaped m
+shape_of w inv e m s = (inv.shaped.each e.chain s.chain s.there).core.channels e.port e.channel m s.is

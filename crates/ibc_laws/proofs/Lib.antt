@@ -26,6 +26,7 @@ pub mod Peers
 pub mod FirstLaw
 pub mod AtEnds
 pub mod Lists
+pub mod EndKeeps
 pub mod Happenings
 pub mod ReceivedOnce
 pub mod SettledOnce

@@ -17,14 +17,14 @@ use Rattle.ibc_laws.proofs.CoreSteps.{rank, Receives, TimesOut, HadCommitment, H
 use Rattle.ibc_laws.proofs.Growth.{ChannelGrows, ChannelGrows-trans}
 use Rattle.ibc_laws.proofs.EndSteps.{the_next, received_now, open_rank}
 use Rattle.ibc_laws.proofs.Worlds.{height_below, WorldGrows}
-use Rattle.ibc_laws.proofs.Invariant.{Inv, stepped_grows}
+use Rattle.ibc_laws.proofs.Invariant.{Inv, shape_of}
 use Rattle.ibc_laws.proofs.Steps.{Stepped}
 use Rattle.ibc_laws.proofs.Peers.{Stands, Peers, stands_same, stands_alike, peers_flip, one_peer_only, peers_on}
 use Rattle.ibc_laws.proofs.FirstLaw.{HasPeer, peers_of}
 use Rattle.ibc_laws.proofs.PeerSeen.{PeerSeen, peer_seen}
 use Rattle.ibc_laws.proofs.AtEnds.{at_end}
 use Rattle.ibc_laws.proofs.Happenings.{Receiving, received_nothing, received_one, receiving, Settling, settled_nothing, acknowledged_one, timed_out_one, settling, sequences-push}
-use Rattle.ibc_laws.proofs.SettledOnce.{IsGone, gone_after_timeout, shape_of}
+use Rattle.ibc_laws.proofs.SettledOnce.{IsGone, gone_after_timeout}
 use Rattle.ibc_laws.proofs.Lasting.{WasReceived, was_received_on, committed_later, BlockOfReceiver, WasTimedOut, was_timed_out_on, closed_later, over_later, not_over_before}
 
 module _ (w v : World) (inv : Inv w) (grows : WorldGrows w v) where

@@ -12,7 +12,7 @@ use Rattle.ibc_laws.proofs.Lists.{among-push, distinct-push}
 use Rattle.ibc_laws.proofs.Growth.{ChannelGrows}
 use Rattle.ibc_laws.proofs.CoreSteps.{Settles}
 use Rattle.ibc_laws.proofs.EndSteps.{IsShaped, gone_now, acked, over}
-use Rattle.ibc_laws.proofs.Invariant.{Inv, stepped_grows}
+use Rattle.ibc_laws.proofs.Invariant.{Inv, shape_of, stepped_grows}
 use Rattle.ibc_laws.proofs.Steps.{Stepped}
 use Rattle.ibc_laws.proofs.Peers.{Stands, stands_same, stands_on}
 use Rattle.ibc_laws.proofs.AtEnds.{at_end}
@@ -62,9 +62,6 @@ gone_after_timeout n m shaped used = go (is_ordered m)
     go : (b : Bool) → IsGone n (over n m b)
     go true = gone_after n m _ shaped used refl refl
     go false = gone_after n m _ shaped used refl refl
-
-pub shape_of : (w : World) → Inv w → (e : End) (m : Channel) → Stands w e m → IsShaped m
-shape_of w inv e m s = (inv.shaped.each e.chain s.chain s.there).core.channels e.port e.channel m s.is
 
 module _ (chains : ℕ) (w : World) (hs : List Happened) (h : Happened) (v : World) (inv : Inv w) (step : Stepped chains w h v) (once : SettledOnce hs w) where
   kept : (e : End) (n : ℕ) → is_one_of (settled_at e hs) n ≡ true → HasSettled v e n
