@@ -36,3 +36,6 @@ pub mod Lasting
 pub mod ReceiptsAndTimeouts
 pub mod NotBoth
 pub mod SecondLaw
+pub mod SentInOrder
+pub mod ReceivedInOrder
+pub mod ThirdLaw

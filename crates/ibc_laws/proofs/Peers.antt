@@ -147,13 +147,13 @@ peers_true w e f h =
     (and_true (and_true (names_true h.here.chain.records.core h.mine f h.theirs h.names_them) (names_true h.there.chain.records.core h.theirs e h.mine h.names_us)) h.established))
 
 -- the other way round
-or_flip : (a b : Bool) → (a || b) ≡ true → (b || a) ≡ true
+pub or_flip : (a b : Bool) → (a || b) ≡ true → (b || a) ≡ true
 or_flip true true e = refl
 or_flip true false e = refl
 or_flip false true e = refl
 or_flip false false e = e
 
-pub peers_flip : {w : World} (e f : End) → Peers w e f → Peers w f e
+abbrev pub peers_flip : {w : World} (e f : End) → Peers w e f → Peers w f e
 peers_flip e f p = record {
   mine = p.theirs;
   theirs = p.mine;

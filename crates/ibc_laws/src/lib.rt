@@ -2,7 +2,7 @@
 //! contract of a function that does nothing: to call it is to cite the law.
 #![tactic(auto)]
 
-ghost use Rattle.ibc_machine.specs.Laws.{ExactlyOnce, OnePeer};
+ghost use Rattle.ibc_machine.specs.Laws.{ExactlyOnce, InOrder, OnePeer};
 
 /// Each end of a channel that is OPEN or CLOSED has exactly one peer, and no end has two.
 pub fn each_end_has_one_peer()
@@ -13,4 +13,9 @@ pub fn each_end_has_one_peer()
 /// most once in all; one that was acknowledged was received.
 pub fn each_packet_is_handled_once()
     ensures { ExactlyOnce }
+{}
+
+/// On an ordered channel what one end received is a beginning of what the other sent, equal in every field.
+pub fn each_ordered_channel_delivers_in_order()
+    ensures { InOrder }
 {}
