@@ -1,6 +1,6 @@
 -- A packet that was acknowledged was received by the end's peer: an acknowledgement is written by a receive
 -- alone, and it stays.
-use Rattle.std.proofs.Common.{◌≡◌, ℕ, ◌≤◌, true, refl, ap, sym, ◌∙◌, subst, List, [], ◌∷◌, ◌++◌, Some, inl, inr, nat_cmp}
+use Rattle.std.proofs.Common.{◌≡◌, ℕ, true, ap, sym, ◌∙◌, subst, List, [], ◌∷◌, ◌++◌, Some, inl, inr, nat_cmp}
 use Rattle.ibc_ids.specs.Texts.{Text}
 use Rattle.ibc_ids.specs.Maps.{at}
 use Rattle.ibc_wire.specs.declared.records.ChannelEnd.{ChannelEnd}
@@ -8,7 +8,6 @@ use Rattle.ibc_machine.specs.Records.{Channel, is_one_of}
 use Rattle.ibc_machine.specs.Channels.{new_channel}
 use Rattle.ibc_machine.specs.Machine.{World}
 use Rattle.ibc_machine.specs.Histories.{Happened, End, received, acknowledged, sequences}
-use Rattle.ibc_laws.proofs.FiniteMaps.{by_number, found_in_with}
 use Rattle.ibc_laws.proofs.Lists.{among-last_or_before, among-last, among-kept}
 use Rattle.ibc_laws.proofs.CoreSteps.{HadAck}
 use Rattle.ibc_laws.proofs.EndSteps.{acks_of_receive}
@@ -54,7 +53,7 @@ module _ (chains : ℕ) (w : World) (hs : List Happened) (h : Happened) (v : Wor
   written_after f k stands n ack is (received_one p a m was now r told more) =
       elim (acks_of_receive p.sequence a m n ack (ap (λ (x : Channel). at nat_cmp n x.acks) (stands_same f _ k now stands) ∙ is)) [
         | inl new ↦ subst (λ l. is_one_of l n ≡ true) (sym (ap sequences more ∙ sequences-push (received f hs) p))
-          (subst (λ i. is_one_of (sequences (received f hs) ++ p.sequence ∷ []) i ≡ true) (sym new) (among-last (sequences (received f hs)) p.sequence))
+            (subst (λ i. is_one_of (sequences (received f hs) ++ p.sequence ∷ []) i ≡ true) (sym new) (among-last (sequences (received f hs)) p.sequence))
         | inr old ↦ still_received f n (acks.written f m was n ack old)
       ]
 
@@ -69,12 +68,15 @@ module _ (chains : ℕ) (w : World) (hs : List Happened) (h : Happened) (v : Wor
       elim (among-last_or_before (sequences (acknowledged e hs)) p.sequence n
       (subst (λ l. is_one_of l n ≡ true) (ap sequences a ∙ sequences-push (acknowledged e hs) p) is)) [
         | inl new ↦ (
-          let seen = peer_seen w inv e m was s.settles.settled p.destination_port p.destination_channel s.settles.peer s.height (HadAck p s.ack) s.sees in
-          let had = s.sees.had in
-          let theirs = (seen.grows had.0 had.1).receiving.acks p.sequence s.ack had.2 in
-          on e n (seen.peer.other, peers_of w e m was seen.peer,
-            subst (IsReceived hs seen.peer.other) (sym new) (acks.written seen.peer.other seen.peer.theirs seen.peer.there p.sequence s.ack theirs))
-        )
+            let seen = peer_seen w inv e m was s.settles.settled p.destination_port p.destination_channel s.settles.peer s.height (HadAck p s.ack) s.sees in
+            let had = s.sees.had in
+            let theirs = (seen.grows had.0 had.1).receiving.acks p.sequence s.ack had.2 in
+            on e n (
+              seen.peer.other,
+              peers_of w e m was seen.peer,
+              subst (IsReceived hs seen.peer.other) (sym new) (acks.written seen.peer.other seen.peer.theirs seen.peer.there p.sequence s.ack theirs),
+            )
+            )
         | inr old ↦ on e n (acks.acknowledged e n old)
       ]
 

@@ -1,12 +1,12 @@
 -- What a step of the machine does to one end of a channel: it leaves it alone and tells nothing of it, or opens
 -- it, or takes it one labelled step further.
-use Rattle.std.proofs.Common.{◌≡◌, ℕ, Bool, true, false, refl, ap, sym, ◌∙◌, subst, Option, Some, None, inl, inr, ◌⊎◌, slice_get, slice_set}
+use Rattle.std.proofs.Common.{◌≡◌, ℕ, Bool, true, false, refl, ap, sym, ◌∙◌, subst, Some, None, inl, inr, slice_get, slice_set}
 use Rattle.ibc_ids.specs.Texts.{Text, pair_cmp, same_text}
 use Rattle.ibc_ids.specs.Maps.{at, with}
 use Rattle.ibc_ids.specs.Paths.{nth_channel}
 use Rattle.ibc_wire.specs.declared.packet.Packet.{Packet}
 use Rattle.ibc_wire.specs.declared.records.ChannelEnd.{ChannelEnd}
-use Rattle.ibc_machine.specs.Records.{Core, Records, Chain, Channel, channel_at}
+use Rattle.ibc_machine.specs.Records.{Core, Chain, Channel, channel_at}
 use Rattle.ibc_machine.specs.Evidence.{Host}
 use Rattle.ibc_machine.specs.Handlers.{host_of}
 use Rattle.ibc_machine.specs.Channels.{new_channel}
@@ -14,12 +14,12 @@ use Rattle.ibc_machine.specs.Ledgers.{chain_of}
 use Rattle.ibc_machine.specs.Machine.{World}
 use Rattle.ibc_machine.specs.Histories.{Happened, End, is_end, packet_if}
 use Rattle.ibc_laws.proofs.PassedTests.{both, same_text_is}
-use Rattle.ibc_laws.proofs.FiniteMaps.{by_pair, at-with_split, at-with_same}
-use Rattle.ibc_laws.proofs.Places.{some_is, same_or_not, placed, get-set_same, get-set_other}
+use Rattle.ibc_laws.proofs.FiniteMaps.{by_pair, at-with_split}
+use Rattle.ibc_laws.proofs.Places.{some_is, same_or_not, get-set_same, get-set_other}
 use Rattle.ibc_laws.proofs.Told.{Told, Quiet, told_of, sent_in, received_in, acknowledged_in, timed_out_in}
 use Rattle.ibc_laws.proofs.CoreSteps.{CoreStep, creates_client, updates_client, starts_connection, answers_connection, confirms_connection, opens_channel, changes_channel, ChannelStep, answers, follows, closes, sends, receives, acknowledges, times_out}
 use Rattle.ibc_laws.proofs.Worlds.{ChainStep, acts, ends, next_chain}
-use Rattle.ibc_laws.proofs.CoreShape.{CoreShaped, HasChannel}
+use Rattle.ibc_laws.proofs.CoreShape.{HasChannel}
 use Rattle.ibc_laws.proofs.Numbered.{none_yet}
 use Rattle.ibc_laws.proofs.Identifiers.{nth_channel_same}
 use Rattle.ibc_laws.proofs.Invariant.{Inv}
@@ -140,11 +140,14 @@ module _ (chains : ℕ) (w : World) (h : Happened) (v : World) (inv : Inv w) (e 
       let found = ap (λ x. at pair_cmp (e.port, e.channel) x) channels in
       elim (at-with_split by_pair (port, id) (e.port, e.channel) (new_channel end) core.channels) [
         | inl here ↦ opened s.chain_is silent end (stands_now d same (new_channel end) (found ∙ here.1))
-          (λ m stands. absurd (none_yet {Has = HasChannel core} (inv.shaped.each e.chain s.before s.there).core.channel_names nth_channel_same
-          (e.port, m, ap (λ x. channel_at core e.port x) (sym (ap (λ (x : Text × Text). x.1) here.0))
-            ∙ ap (λ (c : Chain). channel_at c.records.core e.port e.channel) (some_is s.there stands.there) ∙ stands.is)))
+            (λ m stands. absurd (none_yet {Has = HasChannel core} (inv.shaped.each e.chain s.before s.there).core.channel_names nth_channel_same (
+              e.port,
+              m,
+              ap (λ x. channel_at core e.port x) (sym (ap (λ (x : Text × Text). x.1) here.0))
+                  ∙ ap (λ (c : Chain). channel_at c.records.core e.port e.channel) (some_is s.there stands.there) ∙ stands.is,
+            )))
         | inr there ↦ untouched (λ chain. quiet e (told_of h) silent)
-          (λ m stands. stood m (sym there.1 ∙ sym found ∙ of_now d same m stands))
+            (λ m stands. stood m (sym there.1 ∙ sym found ∙ of_now d same m stands))
       ]
 
   changing : (told : Told) (port id : Text) (m n : Channel) → channel_at s.before.records.core port id ≡ Some m
@@ -155,12 +158,12 @@ module _ (chains : ℕ) (w : World) (h : Happened) (v : World) (inv : Inv w) (e 
       let found = ap (λ x. at pair_cmp (e.port, e.channel) x) channels in
       elim (at-with_split by_pair (port, id) (e.port, e.channel) n core.channels) [
         | inl here ↦ stepped s.chain_is m n (stood m (ap (λ x. at pair_cmp x core.channels) here.0 ∙ was))
-          (stands_now d same n (found ∙ here.1))
-          (subst (λ t. ChannelStep w (host_of chains e.chain s.before) core e.port e.channel m t n) (sym is)
-          (subst (λ (x : Text × Text). ChannelStep w (host_of chains e.chain s.before) core x.0 x.1 m told n) (sym here.0) step))
+            (stands_now d same n (found ∙ here.1))
+            (subst (λ t. ChannelStep w (host_of chains e.chain s.before) core e.port e.channel m t n) (sym is)
+            (subst (λ (x : Text × Text). ChannelStep w (host_of chains e.chain s.before) core x.0 x.1 m told n) (sym here.0) step))
         | inr there ↦ untouched
-          (λ chain. subst (IsQuietAt e) (sym is) (quiet_elsewhere w (host_of chains e.chain s.before) core e port id m told n there.0 step))
-          (λ k stands. stood k (sym there.1 ∙ sym found ∙ of_now d same k stands))
+            (λ chain. subst (IsQuietAt e) (sym is) (quiet_elsewhere w (host_of chains e.chain s.before) core e port id m told n there.0 step))
+            (λ k stands. stood k (sym there.1 ∙ sym found ∙ of_now d same k stands))
       ]
 
   of_core : (told : Told) (after : Core) → CoreStep w (host_of chains e.chain s.before) s.before.records.core told after

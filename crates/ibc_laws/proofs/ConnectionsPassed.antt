@@ -2,7 +2,6 @@
 use Rattle.std.proofs.Common.{◌≡◌, ℕ, Bool, true, refl, ap, subst, Some, None, Ok, eqb-true, ◌==◌, ◌∙◌}
 use Rattle.ibc_ids.specs.declared.refusal.Refusal.TheVariants as refusal
 use Rattle.ibc_ids.specs.Texts.{Text}
-use Rattle.ibc_ids.specs.Paths.{nth_client, nth_connection}
 use Rattle.ibc_wire.specs.declared.records.ClientState.{ClientState}
 use Rattle.ibc_wire.specs.declared.records.ConnectionState.TheVariants as conn
 use Rattle.ibc_wire.specs.declared.records.ConnectionEnd.{ConnectionEnd}
@@ -23,7 +22,7 @@ use Rattle.ibc_machine.specs.Machine.{World}
 use Rattle.ibc_laws.proofs.PassedChecks.{require_passed, bind_passed, then_passed, expect_passed, ok_same}
 use Rattle.ibc_laws.proofs.PassedTests.{both, same_connection_state_is, no_longer}
 use Rattle.ibc_laws.proofs.Seen.{Sees-map, Sees-both, seeing, shown_client, shown_connection}
-use Rattle.ibc_laws.proofs.CoreSteps.{Did, HadClient, HadConnection, StartsConnection, creates_client, updates_client, starts_connection, answers_connection, confirms_connection}
+use Rattle.ibc_laws.proofs.CoreSteps.{Did, HadClient, creates_client, updates_client, starts_connection, answers_connection, confirms_connection}
 
 -- the state of the claimed client names this chain
 had_client : (host : Host) (client : Text) (state : ClientState) → names_host host state ≡ true → (b : Block)
@@ -88,8 +87,11 @@ module _ (window : ℕ) (oldest : Bool) (w : World) (host : Host) (core : Core) 
         not_open = λ e. absurd (cc e);
         unnamed = λ e. absurd (cc e);
         named = λ f. (m.peer_connection, refl);
-        seen = λ p e. (m.height, Sees-map (had_client host m.peer_client m.claim us.0)
-            (shown_client window oldest w core m.client m.height m.peer_client m.claim m.proof_client client.0));
+        seen = λ p e. (
+          m.height,
+          Sees-map (had_client host m.peer_client m.claim us.0)
+              (shown_client window oldest w core m.client m.height m.peer_client m.claim m.proof_client client.0),
+        );
       }))
 
   pub conn_open_ack_did : (m : ConnOpenAck) (y : Effect × Core)

@@ -1,7 +1,7 @@
 -- What is true of the core of each chain on its own, and that each labelled step keeps it and lets the core go
 -- on as it may.
-use Rattle.std.proofs.Common.{◌≡◌, ℕ, ◌+◌, ◌^◌, ◌<◌, refl, ap, sym, subst, Option, Some, None, inl, inr, ◌⊎◌, arith}
-use Rattle.ibc_ids.specs.Texts.{Text, text_cmp, pair_cmp}
+use Rattle.std.proofs.Common.{◌≡◌, refl, ap, sym, subst, Option, Some, None, inl, inr, ◌⊎◌}
+use Rattle.ibc_ids.specs.Texts.{Text}
 use Rattle.ibc_ids.specs.Paths.{nth_client, nth_connection, nth_channel}
 use Rattle.ibc_wire.specs.declared.records.ConnectionState.TheVariants as conn
 use Rattle.ibc_wire.specs.declared.records.ChannelState.TheVariants as chan
@@ -15,7 +15,7 @@ use Rattle.ibc_machine.specs.Machine.{World}
 use Rattle.ibc_laws.proofs.FiniteMaps.{by_text, by_pair, found_in_with}
 use Rattle.ibc_laws.proofs.Identifiers.{nth_client_same, nth_connection_same, nth_channel_same}
 use Rattle.ibc_laws.proofs.Told.{Told}
-use Rattle.ibc_laws.proofs.CoreSteps.{CoreStep, creates_client, updates_client, starts_connection, answers_connection, confirms_connection, opens_channel, changes_channel, OpensChannel}
+use Rattle.ibc_laws.proofs.CoreSteps.{CoreStep, creates_client, updates_client, starts_connection, answers_connection, confirms_connection, opens_channel, changes_channel}
 use Rattle.ibc_laws.proofs.Growth.{ConnectionGrows, ChannelGrows, Grows, Grows-trans, Grows-with_client, Grows-with_connection, Grows-with_channel, Grows-same_ends}
 use Rattle.ibc_laws.proofs.EndSteps.{IsShaped, end_grows, end_shaped}
 use Rattle.ibc_laws.proofs.Numbered.{Numbered, numbered-more, numbered-same, none_yet}

@@ -1,6 +1,6 @@
 -- What an accepted message did to the core of its chain: one label for each kind of change, with what was
 -- checked and what was seen of the other chain. All that follows goes by these labels.
-use Rattle.std.proofs.Common.{◌≡◌, ℕ, ◌+◌, ◌-◌, ◌^◌, ◌≤◌, true, false, Option, Some, None, ◌⊎◌, nat_cmp, not, ◌==◌, ◌&&◌, nat_lt}
+use Rattle.std.proofs.Common.{◌≡◌, ℕ, ◌+◌, ◌-◌, ◌^◌, ◌≤◌, true, false, Some, None, ◌⊎◌, nat_cmp, not, ◌==◌, ◌&&◌, nat_lt}
 use Rattle.ibc_ids.specs.Texts.{Text}
 use Rattle.ibc_ids.specs.Maps.{at}
 use Rattle.ibc_ids.specs.Paths.{nth_client, nth_connection, nth_channel}

@@ -1,6 +1,6 @@
 -- What a labelled step of an end leaves as it was: all that was received, unless it receives; all that was sent
 -- and still stands, unless it sends.
-use Rattle.std.proofs.Common.{◌≡◌, ℕ, Bool, true, false, refl, ap, sym, ◌∙◌, Some, None, inl, inr, nat_cmp}
+use Rattle.std.proofs.Common.{◌≡◌, ℕ, Bool, true, false, refl, ap, sym, ◌∙◌, Some, inl, inr, nat_cmp}
 use Rattle.ibc_ids.specs.Texts.{Text}
 use Rattle.ibc_ids.specs.Maps.{at}
 use Rattle.ibc_wire.specs.declared.packet.Packet.{Packet}
@@ -8,7 +8,7 @@ use Rattle.ibc_wire.specs.declared.records.ChannelEnd.{ChannelEnd}
 use Rattle.ibc_machine.specs.Records.{Core, Channel, Commitment}
 use Rattle.ibc_machine.specs.Evidence.{Host}
 use Rattle.ibc_machine.specs.Channels.{new_channel}
-use Rattle.ibc_machine.specs.Packets.{is_ordered, after_ack, after_timeout}
+use Rattle.ibc_machine.specs.Packets.{is_ordered}
 use Rattle.ibc_machine.specs.Machine.{World}
 use Rattle.ibc_machine.specs.Histories.{End}
 use Rattle.ibc_laws.proofs.Told.{Told, Sent, Received}

@@ -1,6 +1,6 @@
 -- What is true of each end of a channel on its own, and that each labelled step of an end keeps it and lets
 -- the end go on as it may.
-use Rattle.std.proofs.Common.{◌≡◌, ℕ, ◌+◌, ◌≤◌, ◌<◌, Bool, true, false, refl, ap, sym, ◌∙◌, subst, [], Option, Some, None, ◌⊎◌, inl, inr, arith, nat_cmp, le_refl, if◌then◌else◌, ltb-true, lt-ltb, ltb-false, ◌==◌, ◌&&◌, nat_lt, eqb-true}
+use Rattle.std.proofs.Common.{◌≡◌, ℕ, ◌+◌, ◌≤◌, ◌<◌, Bool, true, false, refl, ap, sym, ◌∙◌, subst, Option, Some, None, ◌⊎◌, inl, inr, arith, nat_cmp, le_refl, if◌then◌else◌, ltb-true, lt-ltb, ltb-false, ◌==◌, ◌&&◌, nat_lt, eqb-true}
 use Rattle.std.specs.Cmp.{nat_cmp_total}
 use Rattle.ibc_ids.specs.Texts.{Text}
 use Rattle.ibc_ids.specs.Maps.{at, with, without}
@@ -16,8 +16,8 @@ use Rattle.ibc_machine.specs.Machine.{World}
 use Rattle.ibc_laws.proofs.FiniteMaps.{by_number, at-with_split, found_in_with}
 use Rattle.ibc_laws.proofs.SortedMaps.{Sorted, Sorted-with, Sorted-without, at-without_same, at-without_other, added_kept, added_there}
 use Rattle.ibc_laws.proofs.Told.{Told}
-use Rattle.ibc_laws.proofs.CoreSteps.{rank, ChannelStep, answers, follows, closes, sends, receives, acknowledges, times_out, answered, Receives}
-use Rattle.ibc_laws.proofs.Growth.{EndGrows, EndGrows-refl, SendingGrows, SendingGrows-refl, ReceivingGrows-same, ChannelGrows}
+use Rattle.ibc_laws.proofs.CoreSteps.{rank, ChannelStep, answers, follows, closes, sends, receives, acknowledges, times_out, Receives}
+use Rattle.ibc_laws.proofs.Growth.{EndGrows-refl, SendingGrows, SendingGrows-refl, ReceivingGrows-same, ChannelGrows}
 
 -- an end in INIT has no peer yet, and in any other state it has one
 pub record IsNamed (end : ChannelEnd) : Type 0 where

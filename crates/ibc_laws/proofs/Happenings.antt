@@ -1,12 +1,10 @@
 -- What an event adds to the histories of an end: nothing, or the one packet that the step of the end is about.
-use Rattle.std.proofs.Common.{◌≡◌, ℕ, ◌+◌, Bool, true, false, refl, ap, sym, ◌∙◌, subst, List, [], ◌∷◌, ◌++◌, Option, Some, None, ◌==◌, ◌&&◌, cond, filter_map, append-nil, eqb-true, nat_cmp, inl, inr}
+use Rattle.std.proofs.Common.{◌≡◌, ℕ, Bool, true, false, refl, ap, ◌∙◌, subst, List, [], ◌∷◌, ◌++◌, Option, Some, None, ◌==◌, cond, filter_map, append-nil, eqb-true}
 use Rattle.std.specs.List.{cons_option}
 use Rattle.ibc_ids.specs.Texts.{Text, same_text}
-use Rattle.ibc_ids.specs.Maps.{at}
 use Rattle.ibc_wire.specs.declared.packet.Packet.{Packet}
 use Rattle.ibc_wire.specs.declared.records.ChannelEnd.{ChannelEnd}
-use Rattle.ibc_machine.specs.Records.{Core, Channel, Commitment}
-use Rattle.ibc_machine.specs.Evidence.{Host}
+use Rattle.ibc_machine.specs.Records.{Channel, Commitment}
 use Rattle.ibc_machine.specs.Handlers.{host_of}
 use Rattle.ibc_machine.specs.Channels.{new_channel}
 use Rattle.ibc_machine.specs.Packets.{after_send, after_receive, after_ack, after_timeout}
@@ -20,7 +18,7 @@ use Rattle.ibc_laws.proofs.Told.{Told, Sent, Received, TimedOut, told_of, is_tol
 use Rattle.ibc_laws.proofs.CoreSteps.{ChannelStep, answers, follows, closes, sends, receives, acknowledges, times_out, Receives, Acks, TimesOut}
 use Rattle.ibc_laws.proofs.EndKeeps.{SameSending, SameReceiving, StoodBefore, was_there, is_new, keeps_sending, keeps_receiving, same_sending, same_receiving}
 use Rattle.ibc_laws.proofs.Invariant.{Inv, shape_of}
-use Rattle.ibc_laws.proofs.AtEnds.{EndStep, IsQuietAt, untouched, opened, stepped, quiet}
+use Rattle.ibc_laws.proofs.AtEnds.{EndStep, untouched, opened, stepped, quiet}
 use Rattle.ibc_laws.proofs.Peers.{Stands, stands_same}
 
 -- ---- one event more

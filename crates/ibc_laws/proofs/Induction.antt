@@ -1,5 +1,5 @@
 -- What holds at the start and is kept by every step holds after each run.
-use Rattle.std.proofs.Common.{◌≡◌, true, sym, subst, List, [], ◌∷◌, ◌++◌, append_assoc, append-nil, map, ◌&&◌}
+use Rattle.std.proofs.Common.{◌≡◌, true, sym, subst, List, [], ◌∷◌, ◌++◌, append_assoc, append-nil, map}
 use Rattle.std.specs.List.{list_all}
 use Rattle.ibc_machine.specs.Genesis.{GenesisState, start}
 use Rattle.ibc_machine.specs.Machine.{World, IsRun, Step}

@@ -1,18 +1,17 @@
 -- The invariant of worlds: each chain has its shape, and each end knows its peer. It holds at the start, and
 -- every step keeps it.
-use Rattle.std.proofs.Common.{◌≡◌, ℕ, zero, suc, refl, ap, sym, ◌∙◌, subst, List, [], ◌∷◌, map, length, Some, inl, inr, ◌⊎◌, arith, ◌^◌, ◌<◌, slice_get, slice_set}
+use Rattle.std.proofs.Common.{◌≡◌, ℕ, zero, suc, refl, sym, ◌∙◌, subst, List, [], ◌∷◌, map, length, Some, inl, inr, arith, slice_get, slice_set}
 use Rattle.ibc_ids.specs.Texts.{Text}
 use Rattle.ibc_wire.specs.declared.records.ConnectionEnd.{ConnectionEnd}
 use Rattle.ibc_machine.specs.Records.{Core, Block, Chain, Channel, connection_at, channel_at}
 use Rattle.ibc_machine.specs.Genesis.{GenesisState, ChainState, start, starting_chain, empty_core}
 use Rattle.ibc_machine.specs.Handlers.{host_of}
-use Rattle.ibc_machine.specs.Machine.{World, block_of, Step}
+use Rattle.ibc_machine.specs.Machine.{World, block_of}
 use Rattle.ibc_machine.specs.Histories.{Happened, End}
 use Rattle.ibc_machine.specs.Laws.{IsPast}
 use Rattle.ibc_laws.proofs.Places.{some_is, same_or_not, placed, get-set_same, get-set_other}
 use Rattle.ibc_laws.proofs.Told.{Told, told_of}
-use Rattle.ibc_laws.proofs.CoreSteps.{CoreStep}
-use Rattle.ibc_laws.proofs.Growth.{Grows-refl, ChannelGrows-refl}
+use Rattle.ibc_laws.proofs.Growth.{ChannelGrows-refl}
 use Rattle.ibc_laws.proofs.CoreShape.{CoreShaped}
 use Rattle.ibc_laws.proofs.Worlds.{ChainStep, acts, ends, ChainGrows, ChainGrows-refl, ChainShaped, chain_grows, chain_shaped, WorldGrows, WorldGrows-refl, Shaped}
 use Rattle.ibc_laws.proofs.Peers.{Stands}
@@ -106,10 +105,12 @@ module _ (chains : ℕ) (w : World) (h : Happened) (v : World) (inv : Inv w) (s 
       → (f : Chain) × (slice_get (slice_set w s.k s.now) y ≡ Some f) × ChainGrows e f
   each_grows y e is = elim (same_or_not y s.k) [
     | inl yk ↦ (
-      let same : s.before ≡ e = some_is s.there (subst (λ z. slice_get w z ≡ Some e) yk is) in
-      (s.now, subst (λ z. slice_get (slice_set w s.k s.now) z ≡ Some s.now) (sym yk) (get-set_same w s.k s.before s.now s.there),
-        subst (λ (z : Chain). ChainGrows z s.now) same now_grows)
-    )
+        let same : s.before ≡ e = some_is s.there (subst (λ z. slice_get w z ≡ Some e) yk is) in (
+          s.now,
+          subst (λ z. slice_get (slice_set w s.k s.now) z ≡ Some s.now) (sym yk) (get-set_same w s.k s.before s.now s.there),
+          subst (λ (z : Chain). ChainGrows z s.now) same now_grows,
+        )
+        )
     | inr other ↦ (e, get-set_other w s.k y s.now other ∙ is, ChainGrows-refl e)
   ]
 

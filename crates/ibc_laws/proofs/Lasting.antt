@@ -1,6 +1,6 @@
 -- What lasts of a packet that was received, or that timed out: facts on its commitment and on the blocks of
 -- either end, which every step keeps.
-use Rattle.std.proofs.Common.{◌≡◌, ℕ, ◌≤◌, ◌<◌, Bool, true, false, refl, ap, sym, ◌∙◌, subst, Some, None, ◌⊎◌, inl, inr, arith, nat_cmp, ◌&&◌, ◌||◌, not, ◌==◌, nat_le, leb-true, le-leb}
+use Rattle.std.proofs.Common.{◌≡◌, ℕ, ◌≤◌, ◌<◌, Bool, true, false, refl, ap, sym, ◌∙◌, Some, ◌⊎◌, inl, inr, arith, nat_cmp, ◌||◌, not, ◌==◌, nat_le, leb-true, le-leb}
 use Rattle.ibc_ids.specs.Maps.{at}
 use Rattle.ibc_machine.specs.Records.{Records, Block, Channel, Commitment, channel_at}
 use Rattle.ibc_machine.specs.Handlers.{working_height}
@@ -119,14 +119,14 @@ was_timed_out_on e n grows x =
       blocks = λ h b is m there d at_. elim (now.our_chain_grows.blocks h b is) [
         | inl old ↦ x.blocks h b old m there d at_
         | inr new ↦ (
-          let found = ap (λ (r : Records). channel_at r.core e.port e.channel) (sym new.1) ∙ there in
-          let same : p.mine ≡ m = some_is p.here.is found in
-          absurd (cc (x.gone.gone, ap (λ (k : Channel). at nat_cmp n k.commitments) same, at_))
-        )
+            let found = ap (λ (r : Records). channel_at r.core e.port e.channel) (sym new.1) ∙ there in
+            let same : p.mine ≡ m = some_is p.here.is found in
+            absurd (cc (x.gone.gone, ap (λ (k : Channel). at nat_cmp n k.commitments) same, at_))
+            )
       ];
       over = elim x.over [
         | inl closed ↦ inl (closed_later p.theirs now.peers.theirs now.theirs_grow closed)
         | inr late ↦ inr (over_later x.c (working_height p.there.chain) p.there.chain.time (working_height now.peers.there.chain) now.peers.there.chain.time
-          now.their_chain_grows.height now.their_chain_grows.time late)
+            now.their_chain_grows.height now.their_chain_grows.time late)
       ];
     }

@@ -1,5 +1,5 @@
 -- Each accepted message did a labelled step to the core of its chain.
-use Rattle.std.proofs.Common.{◌≡◌, ℕ, Bool, ap, subst, Ok}
+use Rattle.std.proofs.Common.{◌≡◌, ℕ, Bool, subst, Ok}
 use Rattle.ibc_wire.specs.declared.messages.Message.{Message}
 use Rattle.ibc_wire.specs.declared.messages.Message.TheVariants as message
 use Rattle.ibc_machine.specs.declared.reply.Effect.{Effect}

@@ -1,5 +1,5 @@
 -- No packet is both received and timed out.
-use Rattle.std.proofs.Common.{◌≡◌, ℕ, true, refl, ap, sym, ◌∙◌, subst, List, [], ◌∷◌, ◌++◌, inl, inr, ◌⊎◌}
+use Rattle.std.proofs.Common.{◌≡◌, ℕ, true, sym, subst, List, [], ◌∷◌, ◌++◌, inl, inr}
 use Rattle.ibc_wire.specs.declared.packet.Packet.{Packet}
 use Rattle.ibc_machine.specs.Records.{Channel, is_one_of}
 use Rattle.ibc_machine.specs.Machine.{World}
@@ -71,11 +71,11 @@ module _ (chains : ℕ) (w : World) (hs : List Happened) (h : Happened) (v : Wor
       elim (among-last_or_before (sequences (received f hs)) p.sequence n
       (subst (λ l. is_one_of l n ≡ true) (sequences-push (received f hs) p) (received_before f n r _ more))) [
         | inl new ↦ (
-          let peer = (sender_seen w v inv grows chains f m was p s).peer in
-          let same : e ≡ peer.other = one_peer_only v f e peer.other (peers_flip e f peers) (peers_on f peer.other grows (peers_of w f m was peer)).peers in
-          not_after_timeout w v inv grows chains f m was p s
-          (both.timed_out peer.other p.sequence (subst (λ g. HasTimedOut hs g p.sequence) same (subst (HasTimedOut hs e) new t)))
-        )
+            let peer = (sender_seen w v inv grows chains f m was p s).peer in
+            let same : e ≡ peer.other = one_peer_only v f e peer.other (peers_flip e f peers) (peers_on f peer.other grows (peers_of w f m was peer)).peers in
+            not_after_timeout w v inv grows chains f m was p s
+            (both.timed_out peer.other p.sequence (subst (λ g. HasTimedOut hs g p.sequence) same (subst (HasTimedOut hs e) new t)))
+            )
         | inr old ↦ neither e f n peers t old
       ]
 

@@ -19,12 +19,12 @@ use Rattle.ibc_machine.specs.Values.{NumberIs, has, lacks, same_commitment}
 use Rattle.ibc_machine.specs.Checks.{Checked, expect}
 use Rattle.ibc_machine.specs.Evidence.{Host}
 use Rattle.ibc_machine.specs.Channels.{is_in_state, is_established, client_of}
-use Rattle.ibc_machine.specs.Packets.{recv_checked, recv_packet, ack_checked, ack_packet, timeout_checked, timeout, timeout_on_close_checked, timeout_on_close, is_ordered, has_received, is_timed_out, is_committed, not_received, waits_for}
-use Rattle.ibc_machine.specs.Machine.{World, looks, true_marks, block_at}
+use Rattle.ibc_machine.specs.Packets.{recv_checked, recv_packet, ack_checked, ack_packet, timeout_checked, timeout, timeout_on_close_checked, timeout_on_close, is_ordered, is_timed_out, is_committed, not_received, waits_for}
+use Rattle.ibc_machine.specs.Machine.{World, block_at}
 use Rattle.ibc_laws.proofs.PassedChecks.{require_passed, bind_passed, expect_passed, ok_same}
 use Rattle.ibc_laws.proofs.PassedTests.{either, same_channel_state_is, same_commitment_is, no_longer}
 use Rattle.ibc_laws.proofs.Seen.{Sees, Sees-map, Sees-both, seeing, shown_channel, shown_next_recv, shown_commitment, shown_ack, shown_no_receipt}
-use Rattle.ibc_laws.proofs.CoreSteps.{Did, rank, their_end, HadNotReceived, WasOver, Receives, Settles, Acks, TimesOut, changes_channel, receives, acknowledges, times_out}
+use Rattle.ibc_laws.proofs.CoreSteps.{Did, rank, their_end, HadNotReceived, Receives, Acks, TimesOut, changes_channel, receives, acknowledges, times_out}
 
 some_is : {A : Type 0} {x y : A} {o : Option A} → o ≡ Some x → o ≡ Some y → x ≡ y
 some_is e f = cc (e, f)
@@ -110,18 +110,20 @@ module _ (window : ℕ) (oldest : Bool) (w : World) (host : Host) (core : Core) 
       let known = require_passed _ _ _ in_order.1 in
       let proof = require_passed _ _ _ known.1 in
       subst (λ (c : Channel). (channel_at core p.destination_port p.destination_channel ≡ Some c) × Receives w host core p.destination_port p.destination_channel c p)
-      (ok_same proof.1)
-      (expect_passed (channel_at core p.destination_port p.destination_channel) _ there.1, record {
-        to_port = refl;
-        to_channel = refl;
-        state = same_channel_state_is found.end.state chan.Open state.0;
-        peer = peer.0;
-        in_time = no_longer _ in_time.0;
-        fresh = no_longer _ fresh.0;
-        in_order = no_longer _ in_order.0;
-        height = m.height;
-        sees = shown_commitment window oldest w core (client_of core found.end.connection) m.height p.source_port p.source_channel p.sequence (commitment_of p) m.proof proof.0;
-      })
+      (ok_same proof.1) (
+        expect_passed (channel_at core p.destination_port p.destination_channel) _ there.1,
+        record {
+          to_port = refl;
+          to_channel = refl;
+          state = same_channel_state_is found.end.state chan.Open state.0;
+          peer = peer.0;
+          in_time = no_longer _ in_time.0;
+          fresh = no_longer _ fresh.0;
+          in_order = no_longer _ in_order.0;
+          height = m.height;
+          sees = shown_commitment window oldest w core (client_of core found.end.connection) m.height p.source_port p.source_channel p.sequence (commitment_of p) m.proof proof.0;
+        },
+      )
 
   acking : (m : AckPacket) (mine : Channel) → ack_checked (seeing window oldest w core) core m ≡ Ok mine
       → (channel_at core m.packet.source_port m.packet.source_channel ≡ Some mine)
@@ -139,19 +141,21 @@ module _ (window : ℕ) (oldest : Bool) (w : World) (host : Host) (core : Core) 
       let known = require_passed _ _ _ in_order.1 in
       let proof = require_passed _ _ _ known.1 in
       subst (λ (c : Channel). (channel_at core p.source_port p.source_channel ≡ Some c) × Acks w core p.source_port p.source_channel c p)
-      (ok_same proof.1)
-      (expect_passed (channel_at core p.source_port p.source_channel) _ there.1, record {
-        settles = record {
-          from_port = refl;
-          from_channel = refl;
-          settled = open_rank found.end.state (same_channel_state_is found.end.state chan.Open state.0);
-          peer = peer.0;
-          committed = committed_is found p committed.0;
-        };
-        ack = m.ack;
-        height = m.height;
-        sees = shown_ack window oldest w core (client_of core found.end.connection) m.height p.destination_port p.destination_channel p.sequence m.ack m.proof proof.0;
-      })
+      (ok_same proof.1) (
+        expect_passed (channel_at core p.source_port p.source_channel) _ there.1,
+        record {
+          settles = record {
+            from_port = refl;
+            from_channel = refl;
+            settled = open_rank found.end.state (same_channel_state_is found.end.state chan.Open state.0);
+            peer = peer.0;
+            committed = committed_is found p committed.0;
+          };
+          ack = m.ack;
+          height = m.height;
+          sees = shown_ack window oldest w core (client_of core found.end.connection) m.height p.destination_port p.destination_channel p.sequence m.ack m.proof proof.0;
+        },
+      )
 
   timing_out : (m : Timeout) (mine : Channel) → timeout_checked (seeing window oldest w core) core m ≡ Ok mine
       → (channel_at core m.packet.source_port m.packet.source_channel ≡ Some mine)
@@ -171,19 +175,21 @@ module _ (window : ℕ) (oldest : Bool) (w : World) (host : Host) (core : Core) 
       let waits = require_passed _ _ _ over.1 in
       let proof = require_passed _ _ _ waits.1 in
       subst (λ (c : Channel). (channel_at core p.source_port p.source_channel ≡ Some c) × TimesOut w core p.source_port p.source_channel c p)
-      (ok_same proof.1)
-      (expect_passed (channel_at core p.source_port p.source_channel) _ there.1, record {
-        settles = record {
-          from_port = refl;
-          from_channel = refl;
-          settled = established_rank found state.0;
-          peer = peer.0;
-          committed = committed_is found p committed.0;
-        };
-        height = m.height;
-        sees = Sees-map (λ b had. (had.0, inl had.1)) (with_time window oldest w core client m.height (commitment_of p)
-            (not_received_shown window oldest w core client m.height found p m.next_recv m.proof waits.0 proof.0) over.0);
-      })
+      (ok_same proof.1) (
+        expect_passed (channel_at core p.source_port p.source_channel) _ there.1,
+        record {
+          settles = record {
+            from_port = refl;
+            from_channel = refl;
+            settled = established_rank found state.0;
+            peer = peer.0;
+            committed = committed_is found p committed.0;
+          };
+          height = m.height;
+          sees = Sees-map (λ b had. (had.0, inl had.1)) (with_time window oldest w core client m.height (commitment_of p)
+              (not_received_shown window oldest w core client m.height found p m.next_recv m.proof waits.0 proof.0) over.0);
+        },
+      )
 
   timing_out_on_close : (m : TimeoutOnClose) (mine : Channel)
       → timeout_on_close_checked (seeing window oldest w core) core m ≡ Ok mine
@@ -204,21 +210,23 @@ module _ (window : ℕ) (oldest : Bool) (w : World) (host : Host) (core : Core) 
       let proof = require_passed _ _ _ waits.1 in
       let close = require_passed _ _ _ proof.1 in
       subst (λ (c : Channel). (channel_at core p.source_port p.source_channel ≡ Some c) × TimesOut w core p.source_port p.source_channel c p)
-      (ok_same close.1)
-      (expect_passed (channel_at core p.source_port p.source_channel) _ there.1, record {
-        settles = record {
-          from_port = refl;
-          from_channel = refl;
-          settled = established_rank found state.0;
-          peer = peer.0;
-          committed = committed_is found p committed.0;
-        };
-        height = m.height;
-        sees = Sees-both
-            (not_received_shown window oldest w core client m.height found p m.next_recv m.proof waits.0 proof.0)
-            (Sees-map (λ b had. inr had) (shown_channel window oldest w core client m.height found.end.peer_port p.destination_channel
-            (their_end core found p.source_port p.source_channel chan.Closed) m.proof_close close.0));
-      })
+      (ok_same close.1) (
+        expect_passed (channel_at core p.source_port p.source_channel) _ there.1,
+        record {
+          settles = record {
+            from_port = refl;
+            from_channel = refl;
+            settled = established_rank found state.0;
+            peer = peer.0;
+            committed = committed_is found p committed.0;
+          };
+          height = m.height;
+          sees = Sees-both
+              (not_received_shown window oldest w core client m.height found p m.next_recv m.proof waits.0 proof.0)
+              (Sees-map (λ b had. inr had) (shown_channel window oldest w core client m.height found.end.peer_port p.destination_channel
+              (their_end core found p.source_port p.source_channel chan.Closed) m.proof_close close.0));
+        },
+      )
 
   -- ---- the four messages, whatever the application does
 

@@ -1,5 +1,5 @@
 -- Each labelled step leaves every end of the chain with what it must know of its peer.
-use Rattle.std.proofs.Common.{◌≡◌, ℕ, ◌+◌, ◌≤◌, true, refl, ap, sym, ◌∙◌, subst, [], Option, Some, None, inl, inr, ◌⊎◌, arith, slice_get}
+use Rattle.std.proofs.Common.{◌≡◌, ℕ, ◌≤◌, true, refl, ap, sym, ◌∙◌, subst, [], Option, Some, inl, inr, arith}
 use Rattle.std.specs.Option.{option_map_or, option_and_then, unwrap_or}
 use Rattle.ibc_ids.specs.Texts.{Text, text_cmp, pair_cmp}
 use Rattle.ibc_ids.specs.Maps.{with}
@@ -8,17 +8,16 @@ use Rattle.ibc_wire.specs.declared.records.ConnectionState.TheVariants as conn
 use Rattle.ibc_wire.specs.declared.records.ChannelState.{ChannelState}
 use Rattle.ibc_wire.specs.declared.records.ChannelState.TheVariants as chan
 use Rattle.ibc_wire.specs.declared.records.ConnectionEnd.{ConnectionEnd}
-use Rattle.ibc_machine.specs.Records.{Core, Block, Chain, Client, Channel, client_at, connection_at, channel_at}
+use Rattle.ibc_machine.specs.Records.{Core, Client, Channel, client_at, connection_at, channel_at}
 use Rattle.ibc_machine.specs.Evidence.{Host}
-use Rattle.ibc_machine.specs.Channels.{is_open, client_of, peer_connection_of, peer_channel_of, new_channel, in_state}
+use Rattle.ibc_machine.specs.Channels.{is_open, client_of, peer_connection_of, peer_channel_of, new_channel}
 use Rattle.ibc_machine.specs.Machine.{World}
 use Rattle.ibc_laws.proofs.PassedTests.{same_connection_state_is}
 use Rattle.ibc_laws.proofs.FiniteMaps.{by_text, by_pair, found_in_with}
 use Rattle.ibc_laws.proofs.Places.{some_is}
-use Rattle.ibc_laws.proofs.Seen.{Sees}
 use Rattle.ibc_laws.proofs.Told.{Told}
-use Rattle.ibc_laws.proofs.CoreSteps.{rank, HadChannel, their_end, CoreStep, creates_client, updates_client, starts_connection, answers_connection, confirms_connection, opens_channel, changes_channel, ChannelStep, answers, follows, closes, sends, receives, acknowledges, times_out, answered, StartsConnection, AnswersConnection, ConfirmsConnection, OpensChannel, SeesPeer}
-use Rattle.ibc_laws.proofs.Growth.{ChannelGrows, Grows, Grows-refl}
+use Rattle.ibc_laws.proofs.CoreSteps.{rank, HadChannel, their_end, CoreStep, creates_client, updates_client, starts_connection, answers_connection, confirms_connection, opens_channel, changes_channel, ChannelStep, answers, follows, closes, sends, receives, acknowledges, times_out, StartsConnection, AnswersConnection, ConfirmsConnection, SeesPeer}
+use Rattle.ibc_laws.proofs.Growth.{ChannelGrows, Grows-refl}
 use Rattle.ibc_laws.proofs.EndSteps.{IsShaped, end_grows, not_init, open_rank}
 use Rattle.ibc_laws.proofs.CoreShape.{CoreShaped}
 use Rattle.ibc_laws.proofs.Worlds.{At, Shaped, WorldGrows-refl, seen_now}

@@ -1,31 +1,27 @@
 -- A packet that is received has not timed out, and one that times out has not been received: what the step sees
 -- of the other chain contradicts what lasts of the earlier one.
-use Rattle.std.proofs.Common.{◌≡◌, ℕ, ◌≤◌, ◌<◌, true, false, refl, ap, sym, ◌∙◌, subst, List, [], ◌∷◌, ◌++◌, Some, ◌⊎◌, inl, inr, arith, nat_cmp}
+use Rattle.std.proofs.Common.{◌≡◌, ℕ, ◌≤◌, ◌<◌, true, false, refl, ap, sym, ◌∙◌, subst, Some, inl, inr, arith, nat_cmp}
 use Rattle.ibc_ids.specs.Maps.{at}
 use Rattle.ibc_wire.specs.declared.packet.Packet.{Packet}
 use Rattle.ibc_wire.specs.declared.records.Order.TheVariants.{Ordered}
 use Rattle.ibc_wire.specs.declared.records.ChannelEnd.{ChannelEnd}
-use Rattle.ibc_machine.specs.Records.{Records, Block, Chain, Channel, Commitment, channel_at, commitment_of, is_one_of}
+use Rattle.ibc_machine.specs.Records.{Records, Block, Chain, Channel, Commitment, channel_at, commitment_of}
 use Rattle.ibc_machine.specs.Values.{same_order}
 use Rattle.ibc_machine.specs.Handlers.{host_of, working_height}
-use Rattle.ibc_machine.specs.Packets.{is_ordered, has_received, is_timed_out, after_receive, after_timeout}
+use Rattle.ibc_machine.specs.Packets.{has_received, is_timed_out, after_receive, after_timeout}
 use Rattle.ibc_machine.specs.Machine.{World, block_of}
-use Rattle.ibc_machine.specs.Histories.{Happened, End, received, timed_out, sequences}
+use Rattle.ibc_machine.specs.Histories.{End}
 use Rattle.ibc_laws.proofs.Places.{some_is}
-use Rattle.ibc_laws.proofs.Lists.{among-last_or_before}
-use Rattle.ibc_laws.proofs.CoreSteps.{rank, Receives, TimesOut, HadCommitment, HadNotReceived, HadChannel, WasOver, their_end}
+use Rattle.ibc_laws.proofs.CoreSteps.{rank, Receives, TimesOut, HadCommitment, HadNotReceived, WasOver}
 use Rattle.ibc_laws.proofs.Growth.{ChannelGrows, ChannelGrows-trans}
 use Rattle.ibc_laws.proofs.EndSteps.{the_next, received_now, open_rank}
 use Rattle.ibc_laws.proofs.Worlds.{height_below, WorldGrows}
 use Rattle.ibc_laws.proofs.Invariant.{Inv, shape_of}
-use Rattle.ibc_laws.proofs.Steps.{Stepped}
-use Rattle.ibc_laws.proofs.Peers.{Stands, Peers, stands_same, stands_alike, peers_flip, one_peer_only, peers_on}
-use Rattle.ibc_laws.proofs.FirstLaw.{HasPeer, peers_of}
+use Rattle.ibc_laws.proofs.Peers.{Stands, stands_same, stands_alike, peers_flip, one_peer_only, peers_on}
+use Rattle.ibc_laws.proofs.FirstLaw.{peers_of}
 use Rattle.ibc_laws.proofs.PeerSeen.{PeerSeen, peer_seen}
-use Rattle.ibc_laws.proofs.AtEnds.{at_end}
-use Rattle.ibc_laws.proofs.Happenings.{Receiving, received_nothing, received_one, receiving, Settling, settled_nothing, acknowledged_one, timed_out_one, settling, sequences-push}
 use Rattle.ibc_laws.proofs.SettledOnce.{IsGone, gone_after_timeout}
-use Rattle.ibc_laws.proofs.Lasting.{WasReceived, was_received_on, committed_later, BlockOfReceiver, WasTimedOut, was_timed_out_on, closed_later, over_later, not_over_before}
+use Rattle.ibc_laws.proofs.Lasting.{WasReceived, committed_later, BlockOfReceiver, WasTimedOut, closed_later, over_later, not_over_before}
 
 module _ (w v : World) (inv : Inv w) (grows : WorldGrows w v) where
   -- ---- a packet is received
@@ -45,11 +41,11 @@ module _ (w v : World) (inv : Inv w) (grows : WorldGrows w v) where
         inr (
           not_over_before (commitment_of p) h b.time (working_height was.chain) was.chain.time (omega arith) (shape.times h b is) r.in_time,
           λ k there.
-          let now = (shape.grows h b is).channels f.port f.channel k there in
-          let same : now.0 ≡ m = some_is now.1 was.is in
-          let up = (subst (λ (x : Channel). ChannelGrows k x) same now.2).end.ranks in
-          let z = open_rank m.end.state r.state in
-          omega arith,
+              let now = (shape.grows h b is).channels f.port f.channel k there in
+              let same : now.0 ≡ m = some_is now.1 was.is in
+              let up = (subst (λ (x : Channel). ChannelGrows k x) same now.2).end.ranks in
+              let z = open_rank m.end.state r.state in
+              omega arith,
         )
 
     pub now_received : (ack : _) → Stands v f (after_receive p.sequence ack m) → WasReceived v f p.sequence
@@ -73,11 +69,11 @@ module _ (w v : World) (inv : Inv w) (grows : WorldGrows w v) where
             | inl old ↦ block_before h b old
             | inr new ↦ inr (
               subst (λ t. is_timed_out (commitment_of p) h t ≡ false) (sym new.2)
-              (subst (λ i. is_timed_out (commitment_of p) i was.chain.time ≡ false) (sym new.0) r.in_time),
+                  (subst (λ i. is_timed_out (commitment_of p) i was.chain.time ≡ false) (sym new.0) r.in_time),
               λ k there.
-              let same : m ≡ k = some_is was.is (ap (λ (x : Records). channel_at x.core f.port f.channel) (sym new.1) ∙ there) in
-              let z : rank k.end.state ≡ 1 = ap (λ (x : Channel). rank x.end.state) (sym same) ∙ open_rank m.end.state r.state in
-              omega arith,
+                  let same : m ≡ k = some_is was.is (ap (λ (x : Records). channel_at x.core f.port f.channel) (sym new.1) ∙ there) in
+                  let z : rank k.end.state ≡ 1 = ap (λ (x : Channel). rank x.end.state) (sym same) ∙ open_rank m.end.state r.state in
+                  omega arith,
             )
           ];
         }
@@ -98,12 +94,15 @@ module _ (w v : World) (inv : Inv w) (grows : WorldGrows w v) where
         (subst (λ (c : Chain). block_of r.height c.committed ≡ Some r.sees.block) (sym theirs) seen.stood) had.0 there (commitment_of p) had.2 in
         elim x.over [
           | inl closed ↦ (
-            let two : rank m.end.state ≡ 2 = ap (λ (k : Channel). rank k.end.state) (sym ours.1) ∙ closed in
-            let one = open_rank m.end.state r.state in
-            absurd (omega arith)
-          )
-          | inr late ↦ absurd (cc (r.in_time, subst (λ (c : Chain). is_timed_out (commitment_of p) (working_height c) c.time ≡ true) ours.0
-            (subst (λ c. is_timed_out c (working_height x.peers.there.chain) x.peers.there.chain.time ≡ true) (sym c_is) late)))
+              let two : rank m.end.state ≡ 2 = ap (λ (k : Channel). rank k.end.state) (sym ours.1) ∙ closed in
+              let one = open_rank m.end.state r.state in
+              absurd (omega arith)
+              )
+          | inr late ↦ absurd (cc (
+            r.in_time,
+            subst (λ (c : Chain). is_timed_out (commitment_of p) (working_height c) c.time ≡ true) ours.0
+                (subst (λ c. is_timed_out c (working_height x.peers.there.chain) x.peers.there.chain.time ≡ true) (sym c_is) late),
+          ))
         ]
 
   -- ---- a packet times out
@@ -143,18 +142,18 @@ module _ (w v : World) (inv : Inv w) (grows : WorldGrows w v) where
           blocks = λ h b is k there d at_. elim (on.our_chain_grows.blocks h b is) [
             | inl old ↦ block_commits h b old k there d at_
             | inr new ↦ (
-              let same : m ≡ k = some_is was.is (ap (λ (x : Records). channel_at x.core e.port e.channel) (sym new.1) ∙ there) in
-              some_is at_ (ap (λ (x : Channel). at nat_cmp p.sequence x.commitments) (sym same) ∙ s.settles.committed)
-            )
+                let same : m ≡ k = some_is was.is (ap (λ (x : Records). channel_at x.core e.port e.channel) (sym new.1) ∙ there) in
+                some_is at_ (ap (λ (x : Channel). at nat_cmp p.sequence x.commitments) (sym same) ∙ s.settles.committed)
+                )
           ];
           over = elim (s.sees.had.1) [
             | inl late ↦ inr (over_later (commitment_of p) s.height s.sees.block.time (working_height on.peers.there.chain) on.peers.there.chain.time later_height later_time late)
             | inr closed ↦ (
-              let there : channel_at s.sees.block.records.core p.destination_port p.destination_channel ≡ Some closed.0 =
-              subst (λ i. channel_at s.sees.block.records.core i p.destination_channel ≡ Some closed.0) (sym peer.names_them.port ∙ sym seen.port_is) closed.1 in
-              let z : rank closed.0.end.state ≡ 2 = ap (λ (x : ChannelEnd). rank x.state) closed.2 in
-              inl (closed_later closed.0 on.peers.theirs (ChannelGrows-trans (seen.grows closed.0 there) on.theirs_grow) z)
-            )
+                let there : channel_at s.sees.block.records.core p.destination_port p.destination_channel ≡ Some closed.0 =
+                subst (λ i. channel_at s.sees.block.records.core i p.destination_channel ≡ Some closed.0) (sym peer.names_them.port ∙ sym seen.port_is) closed.1 in
+                let z : rank closed.0.end.state ≡ 2 = ap (λ (x : ChannelEnd). rank x.state) closed.2 in
+                inl (closed_later closed.0 on.peers.theirs (ChannelGrows-trans (seen.grows closed.0 there) on.theirs_grow) z)
+                )
           ];
         }
 
@@ -171,21 +170,21 @@ module _ (w v : World) (inv : Inv w) (grows : WorldGrows w v) where
         let theirs = some_is x.peers.here.there peer.there.there in
         elim (x.blocks s.height s.sees.block (subst (λ (c : Chain). block_of s.height c.committed ≡ Some s.sees.block) (sym theirs) seen.stood)) [
           | inl had ↦ (
-            let there : channel_at s.sees.block.records.core p.destination_port p.destination_channel ≡ Some had.0 =
-            subst (λ i. channel_at s.sees.block.records.core i p.destination_channel ≡ Some had.0) (sym seen.port_is)
-            (subst (λ i. channel_at s.sees.block.records.core g.port i ≡ Some had.0) (sym seen.channel_is) had.1) in
-            let order : had.0.end.order ≡ m.end.order = sym (seen.grows had.0 there).end.order ∙ peer.order in
-            absurd (cc (had.2, s.sees.had.0 had.0 there (ap (λ o. same_order o Ordered) order)))
-          )
+              let there : channel_at s.sees.block.records.core p.destination_port p.destination_channel ≡ Some had.0 =
+              subst (λ i. channel_at s.sees.block.records.core i p.destination_channel ≡ Some had.0) (sym seen.port_is)
+              (subst (λ i. channel_at s.sees.block.records.core g.port i ≡ Some had.0) (sym seen.channel_is) had.1) in
+              let order : had.0.end.order ≡ m.end.order = sym (seen.grows had.0 there).end.order ∙ peer.order in
+              absurd (cc (had.2, s.sees.had.0 had.0 there (ap (λ o. same_order o Ordered) order)))
+              )
           | inr early ↦ elim (s.sees.had.1) [
             | inl late ↦ absurd (cc (early.0, subst (λ c. is_timed_out c s.height s.sees.block.time ≡ true) c_is late))
             | inr closed ↦ (
-              let there : channel_at s.sees.block.records.core g.port g.channel ≡ Some closed.0 =
-              subst (λ i. channel_at s.sees.block.records.core i g.channel ≡ Some closed.0) (sym peer.names_them.port)
-              (subst (λ i. channel_at s.sees.block.records.core m.end.peer_port i ≡ Some closed.0) seen.channel_is closed.1) in
-              let two : rank closed.0.end.state ≡ 2 = ap (λ (x : ChannelEnd). rank x.state) closed.2 in
-              let low = early.1 closed.0 there in
-              absurd (omega arith)
-            )
+                let there : channel_at s.sees.block.records.core g.port g.channel ≡ Some closed.0 =
+                subst (λ i. channel_at s.sees.block.records.core i g.channel ≡ Some closed.0) (sym peer.names_them.port)
+                (subst (λ i. channel_at s.sees.block.records.core m.end.peer_port i ≡ Some closed.0) seen.channel_is closed.1) in
+                let two : rank closed.0.end.state ≡ 2 = ap (λ (x : ChannelEnd). rank x.state) closed.2 in
+                let low = early.1 closed.0 there in
+                absurd (omega arith)
+                )
           ]
         ]

@@ -1,5 +1,5 @@
 -- What an ordered end received is a beginning of what its peer sent to it.
-use Rattle.std.proofs.Common.{◌≡◌, ℕ, zero, suc, ◌+◌, ◌≤◌, true, false, refl, ap, sym, ◌∙◌, subst, List, [], ◌∷◌, ◌++◌, length, Some, inl, inr, ◌⊎◌, arith, slice_get, append_assoc, append-nil}
+use Rattle.std.proofs.Common.{◌≡◌, ℕ, ◌+◌, true, false, refl, ap, sym, ◌∙◌, subst, List, [], ◌∷◌, ◌++◌, length, Some, inl, inr, ◌⊎◌, arith, slice_get, append_assoc}
 use Rattle.ibc_ids.specs.Texts.{Text}
 use Rattle.ibc_wire.specs.declared.packet.Packet.{Packet}
 use Rattle.ibc_wire.specs.declared.records.Order.TheVariants.{Ordered}
@@ -22,7 +22,7 @@ use Rattle.ibc_laws.proofs.AtEnds.{at_end}
 use Rattle.ibc_laws.proofs.EndKeeps.{SameReceiving, StoodBefore, was_there, is_new}
 use Rattle.ibc_laws.proofs.Happenings.{Receiving, received_nothing, received_one, receiving, Sending, sent_nothing, sent_one, sending}
 use Rattle.ibc_laws.proofs.ReceiptsAndTimeouts.{sender_seen}
-use Rattle.ibc_laws.proofs.SentInOrder.{SentInOrder, IsNth, longer_by_one}
+use Rattle.ibc_laws.proofs.SentInOrder.{SentInOrder, longer_by_one}
 
 -- an end whose peer is f; of an end, what was sent depends on no more
 abbrev pub toward : End → Channel

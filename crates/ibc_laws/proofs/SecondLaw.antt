@@ -1,9 +1,8 @@
 -- No packet is both received and timed out; each is received at most once, and acknowledged or timed out at most
 -- once in all; one that was acknowledged was received.
-use Rattle.std.proofs.Common.{ℕ, List, [], ◌∷◌, ◌++◌, length, subst, ◌≡◌, true}
-use Rattle.ibc_machine.specs.Records.{Chain, Channel, is_one_of}
+use Rattle.std.proofs.Common.{ℕ, List, [], ◌∷◌, ◌++◌, length, subst, ◌≡◌}
 use Rattle.ibc_machine.specs.Genesis.{GenesisState, start}
-use Rattle.ibc_machine.specs.Machine.{World, Step}
+use Rattle.ibc_machine.specs.Machine.{World}
 use Rattle.ibc_machine.specs.Histories.{Happened, End, received, acknowledged, timed_out, sequences}
 use Rattle.ibc_machine.specs.Laws.{ExactlyOnce, IsPast}
 use Rattle.ibc_laws.proofs.Lists.{distinct-none, contains-among, among-contains}

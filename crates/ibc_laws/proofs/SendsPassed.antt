@@ -1,5 +1,5 @@
 -- What an accepted message that sends a packet did.
-use Rattle.std.proofs.Common.{◌≡◌, ℕ, Bool, refl, ap, subst, Some, Ok}
+use Rattle.std.proofs.Common.{◌≡◌, ℕ, Bool, subst, Some, Ok}
 use Rattle.ibc_ids.specs.declared.refusal.Refusal.TheVariants as refusal
 use Rattle.ibc_ids.specs.Texts.{Text}
 use Rattle.ibc_wire.specs.declared.records.ChannelState.TheVariants as chan

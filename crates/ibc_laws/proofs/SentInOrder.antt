@@ -1,6 +1,6 @@
 -- What an end sent, in order, is its commitments by number: the n-th packet has the sequence n, and each
 -- commitment that stands, now or in a block, is that of the packet of its number.
-use Rattle.std.proofs.Common.{◌≡◌, ℕ, zero, suc, ◌+◌, refl, ap, sym, ◌∙◌, subst, List, [], ◌∷◌, ◌++◌, length, Some, inl, inr, arith, nat_cmp, slice_get, filter_map, length-append}
+use Rattle.std.proofs.Common.{◌≡◌, ℕ, zero, suc, ◌+◌, refl, ap, sym, ◌∙◌, subst, List, [], ◌∷◌, ◌++◌, length, Some, inl, inr, arith, nat_cmp, slice_get}
 use Rattle.ibc_ids.specs.Maps.{at}
 use Rattle.ibc_wire.specs.declared.packet.Packet.{Packet}
 use Rattle.ibc_wire.specs.declared.records.ChannelEnd.{ChannelEnd}
@@ -94,10 +94,10 @@ module _ (chains : ℕ) (w : World) (hs : List Happened) (h : Happened) (v : Wor
       subst (λ ps. IsNth ps n (packet_from e mine n d)) (sym (more mine))
       (elim (found_in_with by_number k.next_send n c d k.commitments found) [
         | inl new ↦ (
-          let last = IsNth-last (sent e mine hs) (packet_from e mine k.next_send c) k.next_send (was_sent.counts k stood mine) in
-          subst (λ i. IsNth (sent e mine hs ++ packet_from e mine k.next_send c ∷ []) i (packet_from e mine i d)) (sym new.0)
-          (subst (λ x. IsNth (sent e mine hs ++ packet_from e mine k.next_send c ∷ []) k.next_send (packet_from e mine k.next_send x)) new.1 last)
-        )
+            let last = IsNth-last (sent e mine hs) (packet_from e mine k.next_send c) k.next_send (was_sent.counts k stood mine) in
+            subst (λ i. IsNth (sent e mine hs ++ packet_from e mine k.next_send c ∷ []) i (packet_from e mine i d)) (sym new.0)
+            (subst (λ x. IsNth (sent e mine hs ++ packet_from e mine k.next_send c ∷ []) k.next_send (packet_from e mine k.next_send x)) new.1 last)
+            )
         | inr old ↦ IsNth-longer (sent e mine hs) _ n (packet_from e mine n d) (was_sent.now k stood n d old mine)
       ])
 

@@ -1,8 +1,8 @@
 -- A packet of an end is acknowledged or timed out at most once in all: either takes its commitment away, and
 -- asks for it.
-use Rattle.std.proofs.Common.{◌≡◌, ℕ, ◌<◌, Bool, true, false, refl, ap, sym, ◌∙◌, subst, List, [], ◌∷◌, ◌++◌, Some, None, inl, inr, arith, nat_cmp, nat_eq, append-nil, append_assoc, ap₂}
+use Rattle.std.proofs.Common.{◌≡◌, ℕ, ◌<◌, Bool, true, false, refl, ap, sym, ◌∙◌, subst, List, [], ◌∷◌, ◌++◌, None, inl, inr, arith, nat_cmp, nat_eq, append-nil, append_assoc, ap₂}
 use Rattle.std.specs.List.{IsDistinct}
-use Rattle.ibc_ids.specs.Maps.{at, without}
+use Rattle.ibc_ids.specs.Maps.{at}
 use Rattle.ibc_wire.specs.declared.packet.Packet.{Packet}
 use Rattle.ibc_machine.specs.Records.{Channel, commitment_of, is_one_of}
 use Rattle.ibc_machine.specs.Packets.{is_ordered, without_commitment, after_ack, after_timeout}

@@ -1,5 +1,5 @@
 -- What a step of the machine does: nothing, or one chain moves.
-use Rattle.std.proofs.Common.{◌≡◌, ℕ, ◌≤◌, Bool, true, false, refl, ap, sym, ◌∙◌, subst, length, Option, Some, None, Ok, Err, inl, inr, slice_get, slice_set, leb-true, nat_le}
+use Rattle.std.proofs.Common.{◌≡◌, ℕ, Bool, refl, ap, sym, ◌∙◌, subst, length, Option, Some, None, Ok, Err, inl, inr, slice_get, slice_set, leb-true, nat_le}
 use Rattle.std.specs.Prelude.{⊤}
 use Rattle.ibc_ids.specs.declared.refusal.Refusal.{Refusal}
 use Rattle.ibc_ids.specs.declared.refusal.Refusal.TheVariants as refusal
@@ -19,7 +19,7 @@ use Rattle.ibc_machine.specs.Histories.{Happened}
 use Rattle.ibc_laws.proofs.PassedChecks.{require_passed}
 use Rattle.ibc_laws.proofs.Places.{set-same}
 use Rattle.ibc_laws.proofs.Seen.{seeing}
-use Rattle.ibc_laws.proofs.Told.{Told, Quiet, told_of}
+use Rattle.ibc_laws.proofs.Told.{Quiet, told_of}
 use Rattle.ibc_laws.proofs.MessagesPassed.{message_did}
 use Rattle.ibc_laws.proofs.Worlds.{ChainStep, acts, ends, next_chain}
 

@@ -1,16 +1,16 @@
 -- On an ordered channel what was received is a beginning of what was sent, equal in every field.
-use Rattle.std.proofs.Common.{◌≡◌, ℕ, Bool, true, false, refl, ap, sym, ◌∙◌, subst, List, [], ◌∷◌, ◌++◌, length, Option, Some, None, inl, inr, ◌⊎◌, filter_map, ◌||◌}
+use Rattle.std.proofs.Common.{◌≡◌, ℕ, true, refl, ap, sym, ◌∙◌, subst, List, [], ◌∷◌, ◌++◌, length, Option, Some, inl, inr, filter_map}
 use Rattle.std.specs.Option.{unwrap_or}
 use Rattle.ibc_ids.specs.Texts.{Text}
 use Rattle.ibc_wire.specs.declared.packet.Packet.{Packet}
 use Rattle.ibc_wire.specs.declared.records.Order.TheVariants.{Ordered}
-use Rattle.ibc_machine.specs.Records.{Chain, Channel}
+use Rattle.ibc_machine.specs.Records.{Channel}
 use Rattle.ibc_machine.specs.Values.{same_order}
 use Rattle.ibc_machine.specs.Channels.{is_established, peer_channel_of}
 use Rattle.ibc_machine.specs.Packets.{is_ordered}
 use Rattle.ibc_machine.specs.Genesis.{GenesisState, start}
 use Rattle.ibc_machine.specs.Machine.{World}
-use Rattle.ibc_machine.specs.Histories.{Happened, End, sent, received, sent_by, packet_from, history_of}
+use Rattle.ibc_machine.specs.Histories.{Happened, End, sent, received, history_of}
 use Rattle.ibc_machine.specs.Laws.{InOrder, IsPast, IsBeginning}
 use Rattle.ibc_laws.proofs.PassedTests.{either}
 use Rattle.ibc_laws.proofs.Told.{Told, Quiet, Sent, Received, Acknowledged, TimedOut, told_of, is_told, sent_in}
@@ -18,8 +18,8 @@ use Rattle.ibc_laws.proofs.Steps.{Stepped, stepped}
 use Rattle.ibc_laws.proofs.PacketsPassed.{established_rank}
 use Rattle.ibc_laws.proofs.Invariant.{Inv, Inv-start, stepped_inv, starts_empty, no_channel, no_block}
 use Rattle.ibc_laws.proofs.Induction.{past_has}
-use Rattle.ibc_laws.proofs.Peers.{Stands, stands, Peers, stands_same, stands_alike, true_peers, one_peer_only, peers_flip}
-use Rattle.ibc_laws.proofs.FirstLaw.{HasPeer, peer_of, peers_of}
+use Rattle.ibc_laws.proofs.Peers.{stands, Peers, stands_same, stands_alike, true_peers, one_peer_only, peers_flip}
+use Rattle.ibc_laws.proofs.FirstLaw.{peer_of, peers_of}
 use Rattle.ibc_laws.proofs.SentInOrder.{SentInOrder, sent_in_order_step}
 use Rattle.ibc_laws.proofs.ReceivedInOrder.{ReceivedInOrder, received_in_order_step, toward}
 

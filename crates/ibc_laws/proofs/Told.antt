@@ -1,5 +1,5 @@
 -- What an accepted event tells of packets, and that the four histories of an end are read off it.
-use Rattle.std.proofs.Common.{◌≡◌, ℕ, Bool, refl, Option, None}
+use Rattle.std.proofs.Common.{◌≡◌, ℕ, refl, Option, None}
 use Rattle.ibc_ids.specs.Texts.{Text}
 use Rattle.ibc_wire.specs.declared.packet.Packet.{Packet}
 use Rattle.ibc_wire.specs.declared.messages.Message.{Message}
