@@ -1,3 +1,4 @@
 pub mod Computing
 pub mod Scripts
 mod Handshake
+pub mod DataRead
