@@ -33,3 +33,4 @@ mod GenesisStore
 mod TrueProofs
 mod RelayedPackets
 mod ALedger
+pub mod DataRead
