@@ -1,0 +1,70 @@
+-- What an accepted row of checks has passed, when two rows give the same, and what a row gives.
+use Rattle.std.proofs.Common.{◌≡◌, Bool, true, false, refl, ap, ◌∙◌, subst, Some, None, Option, Ok, Err}
+use Rattle.std.specs.Prelude.{⊤}
+use Rattle.ibc_ids.specs.declared.refusal.Refusal.{Refusal}
+use Rattle.ibc_machine.specs.Checks.{Checked, require, expect, go_on, and_then, ◌>>=◌, ◌>>◌}
+
+pub ok_same : {A : Type 0} {x y : A} → ◌≡◌ {A = Checked A} (Ok x) (Ok y) → x ≡ y
+ok_same e = cc
+
+-- ---- what was passed
+
+pub require_true : (b : Bool) (r : Refusal) → require b r ≡ Ok tt → b ≡ true
+require_true true r e = refl
+require_true false r e = absurd (cc)
+
+pub require_passed : {B : Type 0} (b : Bool) (r : Refusal) (rest : Checked B) {y : B} → (require b r >> rest) ≡ Ok y → (b ≡ true) × (rest ≡ Ok y)
+unfolding and_then
+require_passed true r rest e = (refl, e)
+require_passed false r rest e = absurd (cc e)
+
+pub bind_passed : {A B : Type 0} (x : Checked A) (f : A → Checked B) {y : B} → (x >>= f) ≡ Ok y → (a : A) × (x ≡ Ok a) × (f a ≡ Ok y)
+unfolding go_on
+bind_passed (Ok a) f e = (a, refl, e)
+bind_passed (Err r) f e = absurd (cc e)
+
+pub then_passed : {B : Type 0} (x : Checked ⊤) (rest : Checked B) {y : B} → (x >> rest) ≡ Ok y → (x ≡ Ok tt) × (rest ≡ Ok y)
+unfolding and_then
+then_passed (Ok tt) rest e = (refl, e)
+then_passed (Err r) rest e = absurd (cc e)
+
+pub expect_passed : {A : Type 0} (o : Option A) (r : Refusal) {a : A} → expect o r ≡ Ok a → o ≡ Some a
+expect_passed (Some x) r e = ap Some (ok_same e)
+expect_passed None r e = absurd (cc e)
+
+-- ---- two rows of checks that agree where they are reached
+
+pub then_same : {B : Type 0} (x x' : Checked ⊤) (rest rest' : Checked B) → x ≡ x' → (x' ≡ Ok tt → rest ≡ rest') → (x >> rest) ≡ (x' >> rest')
+unfolding and_then
+then_same x (Ok tt) rest rest' e same = ap (λ y. y >> rest) e ∙ same refl
+then_same x (Err r) rest rest' e same = ap (λ y. y >> rest) e
+
+pub bind_same : {A B : Type 0} (x : Checked A) (f g : A → Checked B) → ((a : A) → x ≡ Ok a → f a ≡ g a) → (x >>= f) ≡ (x >>= g)
+unfolding go_on
+bind_same (Ok a) f g same = same a refl
+bind_same (Err r) f g same = refl
+
+pub bind_front_same : {A B : Type 0} (x y : Checked A) (f : A → Checked B) → x ≡ y → (x >>= f) ≡ (y >>= f)
+bind_front_same x y f e = ap (λ z. z >>= f) e
+
+-- ---- if it isn't refused, this holds of what it gives
+
+pub record Gives {A : Type 0} (P : A → Type 0) (x : Checked A) : Type 0 where
+  pub gives : (a : A) → x ≡ Ok a → P a
+
+pub gives_ok : {A : Type 0} (P : A → Type 0) (a : A) → P a → Gives P (Ok a)
+gives_ok P a h = record { gives = λ b e. subst P (ok_same e) h }
+
+pub gives_err : {A : Type 0} (P : A → Type 0) (r : Refusal) → Gives P (Err r)
+gives_err P r = record { gives = λ b e. absurd (cc) }
+
+-- a check that was passed is known behind it
+pub gives_then : {B : Type 0} {P : B → Type 0} (x : Checked ⊤) (rest : Checked B) → (x ≡ Ok tt → Gives P rest) → Gives P (x >> rest)
+unfolding and_then
+gives_then (Ok tt) rest h = h refl
+gives_then {P = P} (Err r) rest h = gives_err P r
+
+pub gives_bind : {A B : Type 0} {P : B → Type 0} (x : Checked A) (f : A → Checked B) → ((a : A) → x ≡ Ok a → Gives P (f a)) → Gives P (x >>= f)
+unfolding go_on
+gives_bind (Ok a) f g = g a refl
+gives_bind {P = P} (Err r) f g = gives_err P r

@@ -1,0 +1,63 @@
+-- The histories of ledgers as one list, by the stamps of their entries: how many publications a ledger's pass
+-- had seen where an entry read a published height or published its own.
+use Rattle.std.specs.Prelude.{ℕ, zero, suc, Bool, true, ◌==◌, nat_le, List, [], ◌∷◌, ◌++◌, map, if◌then◌else◌}
+use Rattle.std.specs.List.{flat_map}
+use Rattle.std.specs.Option.{option_map_or}
+use Rattle.ibc_ids.specs.declared.publication.Publication.{Publication}
+use Rattle.ibc_machine.specs.declared.entry.Entry.{Entry}
+use Rattle.ibc_machine.specs.Records.{Chain}
+use Rattle.ibc_machine.specs.Genesis.{GenesisState, start}
+use Rattle.ibc_machine.specs.Replay.{StampedEntry}
+use Rattle.ibc_machine.specs.Ledgers.{Ledger}
+use Rattle.ibc_machine.specs.Merge.{Merges}
+use Rattle.ibc_machine.specs.Worlds.{AreLedgersOf, AreOfOneTable, entries}
+
+-- the entry may stand where so many are published
+abbrev pub is_by : ℕ → StampedEntry → Bool
+is_by n e = option_map_or (λ stamp. nat_le stamp n) e.stamp true
+
+-- the entries up to the first whose stamp is above n, and those from it on
+abbrev pub until : ℕ → List StampedEntry → List StampedEntry
+until n [] = []
+until n (e ∷ history) = if is_by n e then e ∷ until n history else []
+
+abbrev pub since : ℕ → List StampedEntry → List StampedEntry
+since n [] = []
+since n (e ∷ history) = if is_by n e then since n history else e ∷ history
+
+abbrev pub first : List StampedEntry → List StampedEntry
+first [] = []
+first (e ∷ history) = e ∷ []
+
+abbrev pub later : List StampedEntry → List StampedEntry
+later [] = []
+later (e ∷ history) = history
+
+-- of the histories of chains i, i + 1 and so on: the block that chain k publishes next, where n are published
+abbrev pub next_block : ℕ → ℕ → ℕ → List (List StampedEntry) → List StampedEntry
+next_block n k i [] = []
+next_block n k i (history ∷ histories) = if i == k then first (since n history) else next_block n k (suc i) histories
+
+-- what is left of them then
+abbrev pub left_after : ℕ → ℕ → ℕ → List (List StampedEntry) → List (List StampedEntry)
+left_after n k i [] = []
+left_after n k i (history ∷ histories) =
+    (if i == k then later (since n history) else since n history) ∷ left_after n k (suc i) histories
+
+-- Where n are published: what stands by then, chain by chain; the next publication's block; and so on.
+abbrev pub by_stamps : List Publication → ℕ → List (List StampedEntry) → List StampedEntry
+by_stamps [] n histories = flat_map (until n) histories
+by_stamps (p ∷ publications) n histories =
+    flat_map (until n) histories ++ next_block n p.chain 0 histories
+    ++ by_stamps publications (suc n) (left_after n p.chain 0 histories)
+
+abbrev pub merged_by_stamps : List Publication → List Ledger → List Entry
+merged_by_stamps publications ledgers =
+    map (λ (e : StampedEntry). e.entry) (by_stamps publications 0 (map (λ (l : Ledger). l.history) ledgers))
+
+-- The stamps merge the histories of ledgers of one genesis and one table.
+abbrev pub StampsMerge : Type 0
+StampsMerge = (genesis : GenesisState) (ledgers : List Ledger) (publications : List Publication)
+    → AreLedgersOf genesis ledgers → AreOfOneTable publications ledgers
+    → Merges genesis.window (map (λ (c : Chain). c.time) (start genesis)) (map entries ledgers) publications
+    (merged_by_stamps publications ledgers)

@@ -1,0 +1,6 @@
+//! Why ledgers, which see each other through roots and proofs alone, do what the machine does.
+#![tactic(auto)]
+
+mod refinement;
+
+pub use refinement::{applied_is_run, going_on_is_run, merged_is_run};
