@@ -108,7 +108,7 @@ at-put_all es (p ∷ ps) q v one h = at-put_all (with text_cmp p.0 p.1 es) ps q 
 
 -- ---- the keys that have a value are listed
 
-pair_tied : (x y : Text × Text) → pair_cmp x y ≡ Equal → x ≡ y
+pub pair_tied : (x y : Text × Text) → pair_cmp x y ≡ Equal → x ≡ y
 pair_tied x y e =
     elim (text_cmp x.0 y.0) as (λ o. text_cmp x.0 y.0 ≡ o → ordering_then o (text_cmp x.1 y.1) ≡ Equal → x ≡ y) [
       | Less ↦ λ p e. absurd (cc)

@@ -1,9 +1,6 @@
-pub mod Texts
 pub mod Digests
 pub mod SameSpellings
-pub mod Members
 pub mod SameValues
-pub mod Images
 pub mod PlainValues
 pub mod Shown
 pub mod Clear
