@@ -65,7 +65,7 @@ unlike false true h e = absurd (cc)
 pub parts_here : (left right : List Operation) (lefts rights : ℕ) (o p : Operation) → 0 < lefts → lefts ≤ length left → 0 < rights → rights ≤ length right
     → o ≡ get_or left (lefts - 1) o → p ≡ get_or right (rights - 1) p → not (beq (goes_left o) (goes_left p)) ≡ true
     → are_adjacent (turns_of (take lefts left)) (turns_of (take rights right))
-        ≡ (goes_left o && (list_all (λ operation. not (goes_left operation)) (take (lefts - 1) left) && list_all goes_left (take (rights - 1) right)))
+    ≡ (goes_left o && (list_all (λ operation. not (goes_left operation)) (take (lefts - 1) left) && list_all goes_left (take (rights - 1) right)))
 parts_here left right lefts rights o p some_left left_within some_right right_within is_o is_p apart =
     let i = lefts - 1 in
     let j = rights - 1 in

@@ -13,7 +13,8 @@ use sha2::{Digest, Sha256};
 fn goes_left(operation: &Operation) -> bool
     ensures { result ≡ proofs.goes_left operation.now }
 {
-    is_same(operation.prefix.as_slice(), [1u8].as_slice()) && operation.suffix.as_slice().len() == 32
+    is_same(operation.prefix.as_slice(), [1u8].as_slice())
+        && operation.suffix.as_slice().len() == 32
 }
 
 // Whether the operation is on a right child: the mark of an inner node, and the hash of its sibling before.

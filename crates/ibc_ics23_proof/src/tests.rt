@@ -73,7 +73,12 @@ fn stands_between(alloc: Global, left: &str, key: &str, right: &str) -> Result<b
 fn accepts_what_is_proved(rt: HostRuntime) -> Result<(), Fail> {
     assert!(rt; proves_absence(rt.alloc(), "acks/ports/note/channels/channel-0/sequences/1")?);
     assert!(rt; proves_absence(rt.alloc(), "nextClient")?);
-    assert!(rt; proves_absence(rt.alloc(), "receipts/ports/transfer/channels/channel-0/sequences/1")?);
+    assert!(rt;
+        proves_absence(
+            rt.alloc(),
+            "receipts/ports/transfer/channels/channel-0/sequences/1"
+        )?
+    );
     assert!(rt; proves_value(rt.alloc(), "nextClientSequence", [0; 8])?);
     Ok(())
 }
@@ -88,7 +93,11 @@ fn refuses_what_is_not(rt: HostRuntime) -> Result<(), Fail> {
 
 #[test]
 fn neighbours_stand_side_by_side(rt: HostRuntime) -> Result<(), Fail> {
-    let (first, second, third) = ("nextChannelSequence", "nextClientSequence", "nextConnectionSequence");
+    let (first, second, third) = (
+        "nextChannelSequence",
+        "nextClientSequence",
+        "nextConnectionSequence",
+    );
     assert!(rt; stands_between(rt.alloc(), first, "nextClient", second)?);
     assert!(rt; !stands_between(rt.alloc(), first, second, third)?);
     Ok(())

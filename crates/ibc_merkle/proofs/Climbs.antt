@@ -23,7 +23,7 @@ operations-leaf (pair ∷ next ∷ pairs) index one there = absurd (omega arith)
 
 halves : (pairs : Pairs) (split : ℕ) (key : Text) → 1 < length pairs → split ≡ largest_power_below (length pairs)
     → operations_to key (tree pairs)
-        ≡ found_below (tree_root (take split pairs)) (tree_root (drop split pairs)) (operations_to key (tree (take split pairs))) (operations_to key (tree (drop split pairs)))
+    ≡ found_below (tree_root (take split pairs)) (tree_root (drop split pairs)) (operations_to key (tree (take split pairs))) (operations_to key (tree (drop split pairs)))
 halves pairs split key more is =
     ap (operations_to key) (tree-halves pairs more)
     ∙ ap (λ split. found_below (tree_root (take split pairs)) (tree_root (drop split pairs)) (operations_to key (tree (take split pairs))) (operations_to key (tree (drop split pairs)))) (sym is)

@@ -36,12 +36,12 @@ impl Model for Store {
     ghost Value = { HeldStore };
 
     ghost view = { λ store. record {
-        pairs = store.map.pairs;
-        room = store.map.room;
-        time = store.time;
-        window = store.window;
-        gone = store.gone;
-        kept = store.kept.items;
+      pairs = store.map.pairs;
+      room = store.map.room;
+      time = store.time;
+      window = store.window;
+      gone = store.gone;
+      kept = store.kept.items;
     } };
 
     ghost invariant = { λ store. length store.kept.items ≤ store.window };
