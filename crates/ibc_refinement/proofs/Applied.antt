@@ -47,7 +47,7 @@ grows_entry : (k : ℕ) (event : Event) (given : Reply) (before after : Ledger) 
 grows_entry k event given before after w mine = (
   (w.0 ∷ [], w.1, w.4),
   ap entries w.4 ∙ map-append (λ (s : StampedEntry). s.entry) before.history (w.0 ∷ [])
-  ∙ ap (λ xs. entries before ++ xs) (sym (own_first k w.0.entry [] (eq-eqb (chain_of w.0.entry.event) k (ap chain_of w.2 ∙ mine)))),
+      ∙ ap (λ xs. entries before ++ xs) (sym (own_first k w.0.entry [] (eq-eqb (chain_of w.0.entry.event) k (ap chain_of w.2 ∙ mine)))),
 )
 
 -- an entry of another chain

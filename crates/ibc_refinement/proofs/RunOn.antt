@@ -120,9 +120,11 @@ goes_on_by lower genesis ledgers publications are clash (e ∷ events) (given �
     let parts = and_parts (nat_lt (chain_of w.0.event) (length ledgers)) (list_all (λ (entry : Entry). nat_lt (chain_of entry.event) (length ledgers)) w.1) low in
     let step = next_step lower genesis ledgers publications are clash r.world before w.1 w.0 run reads.0 (ltb-true (chain_of w.0.event) (length ledgers) parts.0) in
     let next : Reaches genesis ledgers (before ++ w.0 ∷ []) w.1 = record { world = step.after; run = step.run; reads = reads.1; within = parts.1 } in
-    let taken : Step genesis r.world w.0.event w.0.reply step.after = inr step.answers in
-    (step.after, subst (λ (x : Event × Reply). Step genesis r.world x.0 x.1 step.after) (λ i. (w.3 i, w.4 i)) taken,
-      goes_on_by lower genesis ledgers publications are clash events replies (before ++ w.0 ∷ []) w.1 next w.5)
+    let taken : Step genesis r.world w.0.event w.0.reply step.after = inr step.answers in (
+      step.after,
+      subst (λ (x : Event × Reply). Step genesis r.world x.0 x.1 step.after) (λ i. (w.3 i, w.4 i)) taken,
+      goes_on_by lower genesis ledgers publications are clash events replies (before ++ w.0 ∷ []) w.1 next w.5,
+    )
 
 -- ---- the theorem
 
