@@ -3,3 +3,4 @@ pub mod Texts
 pub mod Splits
 pub mod Paths
 pub mod Ascii
+pub mod Numbered

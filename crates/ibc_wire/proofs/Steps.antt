@@ -1,5 +1,5 @@
 -- Readers of several fields, one after another.
-use Rattle.std.proofs.Common.{◌≡◌, List, [], ◌++◌, Some, refl, ap, ◌∙◌, subst}
+use Rattle.std.proofs.Common.{◌≡◌, List, [], ◌++◌, Some, refl, sym, ap, ◌∙◌, subst}
 use Rattle.ibc_ids.specs.Texts.{Text}
 use Rattle.ibc_wire.specs.Fields.{Field}
 use Rattle.ibc_wire.specs.Reading.{◌>>=◌, Front}
@@ -26,6 +26,14 @@ first {P = P} {part = part} {read = read} {others = others} next get reader rest
   read = λ a text rest p h.
       let parts = begins_split (part (get a)) (others a) text rest h in
       ap (λ o. o >>= next) (reader.read (get a) text parts.0 parts.1) ∙ (rest_reader (get a)).read a parts.0 rest (p, refl) parts.2;
+}
+
+-- fields that are others by what is known
+pub under : {A : Type 0} {P : A → Type 0} {fields others : A → List Field} {front : Text → Front A} → ((a : A) → P a → others a ≡ fields a)
+    → ReadsRest P others front → ReadsRest P fields front
+under same reader = record {
+  spelled = λ text a rest bytes e. let found = reader.spelled text a rest bytes e in (found.0, subst (λ f. Begins f text rest) (same a found.0) found.1);
+  read = λ a text rest p h. reader.read a text rest p (subst (λ f. Begins f text rest) (sym (same a p)) h);
 }
 
 -- all of the value is known

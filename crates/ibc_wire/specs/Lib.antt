@@ -5,3 +5,5 @@ pub mod Messages
 pub mod Reading
 pub mod Fronts
 pub mod Lawful
+pub mod RecordFronts
+pub mod PayloadFronts

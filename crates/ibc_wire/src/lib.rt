@@ -1,7 +1,6 @@
 //! What chains write and send: client states, ends, packets and messages.
 #![tactic(auto)]
 
-mod client_state;
 mod fields;
 mod header;
 mod messages;

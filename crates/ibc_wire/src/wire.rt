@@ -7,6 +7,15 @@ ghost use Rattle.ibc_wire.specs.Reading.{Front};
 ghost use Rattle.ibc_wire.specs.Fronts.{Gives, Writes, only};
 ghost use Rattle.ibc_wire.specs.Lawful.{IsReader};
 
+mod channels;
+mod clients;
+mod connections;
+mod header;
+mod many;
+mod packet;
+mod packets;
+mod records;
+
 use ibc_ids::Refusal;
 use std::alloc::Global;
 
