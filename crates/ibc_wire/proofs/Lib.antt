@@ -7,3 +7,6 @@ pub mod RecordReaders
 pub mod Writing
 pub mod TokenReaders
 pub mod PayloadReaders
+pub mod Rows
+pub mod ProofReaders
+pub mod MessageReader

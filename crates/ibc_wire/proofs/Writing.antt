@@ -10,7 +10,7 @@ use Rattle.ibc_ids.specs.Texts.{Text}
 use Rattle.ibc_ids.specs.declared.refusal.Refusal.{Refusal}
 use Rattle.ibc_ids.specs.declared.refusal.Refusal.TheVariants.{NoMemory, BadMessage}
 use Rattle.ibc_wire.specs.Fronts.{IsRefusal, Writes}
-use Rattle.ibc_wire.specs.Fields.{Field, have_form, bytes_of, str_up_to, root32}
+use Rattle.ibc_wire.specs.Fields.{Field, have_form, bytes_of, str_up_to, root32, where_}
 use Rattle.ibc_wire.proofs.Fronts.{bytes_from, bytes_parts}
 use Rattle.ibc_wire.specs.Lawful.{AreBytes}
 
@@ -65,3 +65,8 @@ all_behind fs gs old mid new f g = (
 pub behind : {X : Type 0} (fs gs : List Field) (old mid new : Text) (r : Result X Refusal) → IsTrue (have_form fs) × (mid ≡ old ++ bytes_of fs) → Writes gs mid r new → Writes (fs ++ gs) old r new
 behind fs gs old mid new (Ok x) f g = all_behind fs gs old mid new f g
 behind fs gs old mid new (Err e) f g = refused e (none_behind fs gs) g
+
+-- a condition that holds has no bytes
+pub nothing_behind : {X : Type 0} (fs : List Field) (holds : Bool) → holds ≡ true → (old new : Text) (r : Result X Refusal) → Writes fs old r new → Writes (fs ++ where_ holds ∷ []) old r new
+nothing_behind fs holds h old new (Ok x) f = all_behind fs (where_ holds ∷ []) old new new f (and_from holds true h refl, sym (append-nil new))
+nothing_behind fs holds h old new (Err e) f = refused e (none_before fs (where_ holds ∷ [])) f

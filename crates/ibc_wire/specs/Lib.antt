@@ -7,3 +7,4 @@ pub mod Fronts
 pub mod Lawful
 pub mod RecordFronts
 pub mod PayloadFronts
+pub mod MessageFront

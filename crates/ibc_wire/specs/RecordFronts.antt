@@ -3,10 +3,10 @@ use Rattle.std.specs.Prelude.{ℕ, zero, suc, ◌==◌, nat_le, ◌&&◌, true, 
 use Rattle.std.specs.Int.{w64}
 use Rattle.ibc_ids.specs.Texts.{Text}
 use Rattle.ibc_ids.specs.Names.{is_client, is_connection, is_channel, is_port, is_version, is_denom}
-use Rattle.ibc_wire.specs.Fields.{Field, u8, n8, root32}
-use Rattle.ibc_wire.specs.Spelling.{connection_state_number, channel_state_number}
+use Rattle.ibc_wire.specs.Fields.{Field, u8, n8, root32, str_up_to}
+use Rattle.ibc_wire.specs.Spelling.{connection_state_number, channel_state_number, neighbour_fields}
 use Rattle.ibc_wire.specs.Tokens.{is_rising}
-use Rattle.ibc_wire.specs.Reading.{◌>>=◌, Front, byte_at_front, bytes_at_front, str_at_front, proof_behind}
+use Rattle.ibc_wire.specs.Reading.{◌>>=◌, Front, byte_at_front, bytes_at_front, str_at_front, presence_at_front, neighbour_at_front}
 use Rattle.ibc_wire.specs.Fronts.{number_at_front, amount_at_front, name_at_front, same_at_front, coded_at_front, peer_at_front, many_at_front}
 use Rattle.ibc_wire.specs.declared.records.ClientState.{ClientState}
 use Rattle.ibc_wire.specs.declared.records.ConnectionState.{ConnectionState}
@@ -20,7 +20,9 @@ use Rattle.ibc_wire.specs.declared.records.ChannelEnd.{ChannelEnd}
 use Rattle.ibc_wire.specs.declared.header.Header.{Header}
 use Rattle.ibc_wire.specs.declared.packet.Packet.{Packet}
 use Rattle.ibc_wire.specs.declared.token.Token.{Token}
+use Rattle.ibc_merkle.specs.declared.proof.Absence.{Absence}
 use Rattle.ibc_merkle.specs.declared.proof.Proof.{Proof}
+use Rattle.ibc_merkle.specs.declared.proof.Proof.TheVariants.{Present, Absent}
 
 -- the states and orders by their numbers
 abbrev pub connection_state_of : ℕ → Option ConnectionState
@@ -106,8 +108,29 @@ tokens_at_front text = do
   found ← elim (nat_le 1 count.0 && nat_le count.0 8) [ true ↦ many_at_front token_at_front count.0 count.1 | false ↦ None ]
   elim (is_rising found.0) [ true ↦ Some found | false ↦ None ]
 
+-- an absence stands in a proof only
+abbrev pub absence_fields : Absence → List Field
+absence_fields a = str_up_to 256 a.key ∷ (neighbour_fields a.left ++ neighbour_fields a.right)
+
+unfoldable pub absence_at_front : Text → Front Absence
+absence_at_front text = do
+  key ← str_at_front 256 text
+  left ← neighbour_at_front key.1
+  right ← neighbour_at_front left.1
+  Some (record { key = key.0; left = left.0; right = right.0 }, right.1)
+
 -- a proof, behind its tag
+abbrev pub proof_of_kind : ℕ → Text → Front Proof
+proof_of_kind zero text = None
+proof_of_kind (suc zero) text = do
+  found ← presence_at_front text
+  Some (Present found.0, found.1)
+proof_of_kind (suc (suc zero)) text = do
+  found ← absence_at_front text
+  Some (Absent found.0, found.1)
+proof_of_kind (suc (suc (suc n))) text = None
+
 unfoldable pub proof_at_front : Text → Front Proof
 proof_at_front text = do
   tag ← byte_at_front text
-  proof_behind tag.0 tag.1
+  proof_of_kind tag.0 tag.1

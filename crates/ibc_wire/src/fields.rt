@@ -2,7 +2,7 @@
 
 ghost use Rattle.std.specs.Prelude.{◌≡◌, ◌==◌, ◌∷◌, [], codes, IsTrue, List};
 ghost use Rattle.std.specs.Int.{w64};
-ghost use Rattle.ibc_wire.specs.Fields.{u8, n8, n16, name as a_name, root32, str_up_to};
+ghost use Rattle.ibc_wire.specs.Fields.{u8, n8, n16, name as a_name, root32, str_up_to, count_between};
 ghost use Rattle.ibc_wire.specs.Spelling.{peer};
 ghost use Rattle.ibc_wire.specs.Reading.{byte_at_front, bytes_at_front, str_at_front};
 ghost use Rattle.ibc_wire.specs.Fronts.{Gives, Writes, number_at_front, amount_at_front, name_at_front, peer_at_front};
@@ -25,6 +25,17 @@ pub fn write_u8(out: &mut Vec<u8>, byte: u8) -> Result<(), Refusal>
     ensures { Writes (u8 byte ∷ []) out.old.items result out.new.items }
 {
     out.push(byte)?;
+    Ok(())
+}
+
+/// Writes in one byte how many things stand behind it: at least and at most so many.
+pub fn write_count(out: &mut Vec<u8>, count: usize, least: u8, most: u8) -> Result<(), Refusal>
+    ensures { Writes (count_between least most count ∷ []) out.old.items result out.new.items }
+{
+    if count < usize::from(least) || usize::from(most) < count {
+        return Err(Refusal::BadMessage);
+    }
+    out.push(count as u8)?;
     Ok(())
 }
 

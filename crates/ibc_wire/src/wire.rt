@@ -12,9 +12,13 @@ mod clients;
 mod connections;
 mod header;
 mod many;
+mod message;
 mod packet;
 mod packets;
+mod proofs;
 mod records;
+mod tokens;
+mod transfers;
 
 use ibc_ids::Refusal;
 use std::alloc::Global;

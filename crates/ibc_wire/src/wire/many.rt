@@ -1,9 +1,12 @@
 //! Values in a row.
 
 ghost use Rattle.std.specs.List.{flat_map};
+ghost use Rattle.std.specs.Prelude.{◌∷◌};
+ghost use Rattle.ibc_wire.specs.Fields.{u8};
 ghost use Rattle.ibc_wire.specs.Fronts.{Gives, Writes, many_at_front};
 
 use crate::Wire;
+use crate::fields::write_u8;
 use ibc_ids::Refusal;
 use std::alloc::Global;
 
@@ -33,4 +36,12 @@ pub fn write_many<T: Wire>(out: &mut Vec<u8>, values: &[T]) -> Result<(), Refusa
         value.write(out)?;
     }
     Ok(())
+}
+
+/// Writes a value behind a tag.
+pub fn write_tagged<T: Wire>(out: &mut Vec<u8>, tag: u8, value: &T) -> Result<(), Refusal>
+    ensures { Writes (u8 tag ∷ T.fields value.now) out.old.items result out.new.items }
+{
+    write_u8(out, tag)?;
+    value.write(out)
 }
