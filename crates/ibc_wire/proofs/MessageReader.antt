@@ -1,5 +1,5 @@
 -- The reader of messages.
-use Rattle.std.proofs.Common.{◌≡◌, ℕ, zero, suc, ◌-◌, nat_lt, true, false, List, [], ◌∷◌, slice_get, Option, Some, None, refl, sym, ap, ◌∙◌, subst, arith, le-ltb}
+use Rattle.std.proofs.Common.{◌≡◌, ℕ, zero, suc, ◌-◌, ◌<◌, ◌≤◌, List, [], ◌∷◌, slice_get, Option, Some, None, refl, sym, ap, ◌∙◌, subst, arith}
 use Rattle.ibc_ids.specs.Texts.{Text}
 use Rattle.ibc_wire.specs.Messages.{message_fields}
 use Rattle.ibc_wire.specs.Reading.{◌>>=◌, Front, byte_at_front}
@@ -58,13 +58,15 @@ numbers (suc (suc (suc (suc (suc (suc (suc (suc (suc (suc (suc (suc (suc (suc (s
 
 tags : (n : ℕ) (k : MessageKind) → kind_of n ≡ Some k → n ≡ tag_of k
 tags zero k e = none_some e
-tags (suc n) k e =
-    let far : nat_lt (suc n) 1 ≡ false = le-ltb (suc n) 1 (omega arith) in
-    let one_less : suc n - 1 ≡ n = omega arith in
-    let at : slice_get kinds n ≡ kind_of (suc n) =
-        ap (slice_get kinds) (sym one_less) ∙ ap (λ b. elim b as (λ _. Option MessageKind) [ true ↦ None | false ↦ slice_get kinds (suc n - 1) ]) (sym far)
-    in
-    numbers n k (at ∙ e)
+tags (suc n) k e = numbers n k e
+
+pub no_kind : (n : ℕ) → n < 1 → kind_of n ≡ None
+no_kind zero h = refl
+no_kind (suc n) h = absurd (omega arith)
+
+pub at_its_place : (n : ℕ) → 1 ≤ n → slice_get kinds (n - 1) ≡ kind_of n
+at_its_place zero h = absurd (omega arith)
+at_its_place (suc n) h = let one_less : suc n - 1 ≡ n = omega arith in ap (slice_get kinds) one_less
 
 message_spelled : (k : MessageKind) (text behind : Text) (m : Message) (rest : Text) → AreBytes behind → text ≡ tag_of k ∷ behind → message_behind k behind ≡ Some (m, rest) → Begins (message_fields m) text rest
 message_spelled kind.CreateClient text behind m rest bytes is e = tagged_read create_client_reader 1 refl message.CreateClient message_fields (λ q. refl) text behind m rest bytes is e

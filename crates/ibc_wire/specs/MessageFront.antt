@@ -1,5 +1,5 @@
 -- How messages are read: the tag tells the kind, and the fields stand behind it.
-use Rattle.std.specs.Prelude.{ℕ, ◌-◌, nat_lt, true, false, List, [], ◌∷◌, slice_get, Option, Some, None}
+use Rattle.std.specs.Prelude.{ℕ, zero, suc, List, [], ◌∷◌, slice_get, Option, Some, None}
 use Rattle.ibc_ids.specs.Texts.{Text}
 use Rattle.ibc_wire.specs.Reading.{◌>>=◌, Front, byte_at_front}
 use Rattle.ibc_wire.specs.PayloadFronts.{create_client_at_front, update_client_at_front, conn_open_init_at_front, conn_open_try_at_front, conn_open_ack_at_front, conn_open_confirm_at_front, chan_open_init_at_front, chan_open_try_at_front, chan_open_ack_at_front, chan_open_confirm_at_front, chan_close_init_at_front, chan_close_confirm_at_front, transfer_at_front, send_note_at_front, recv_packet_at_front, ack_packet_at_front, timeout_at_front, timeout_on_close_at_front, transfer_many_at_front}
@@ -13,7 +13,8 @@ abbrev pub kinds : List MessageKind
 kinds = kind.CreateClient ∷ kind.UpdateClient ∷ kind.ConnOpenInit ∷ kind.ConnOpenTry ∷ kind.ConnOpenAck ∷ kind.ConnOpenConfirm ∷ kind.ChanOpenInit ∷ kind.ChanOpenTry ∷ kind.ChanOpenAck ∷ kind.ChanOpenConfirm ∷ kind.ChanCloseInit ∷ kind.ChanCloseConfirm ∷ kind.Transfer ∷ kind.SendNote ∷ kind.RecvPacket ∷ kind.AckPacket ∷ kind.Timeout ∷ kind.TimeoutOnClose ∷ kind.TransferMany ∷ []
 
 abbrev pub kind_of : ℕ → Option MessageKind
-kind_of tag = elim (nat_lt tag 1) [ true ↦ None | false ↦ slice_get kinds (tag - 1) ]
+kind_of zero = None
+kind_of (suc n) = slice_get kinds n
 
 abbrev pub message_behind : MessageKind → Text → Front Message
 message_behind kind.CreateClient text = do

@@ -1,9 +1,9 @@
 //! How messages are spelled: a tag, and the fields behind it.
 
-ghost use Rattle.std.specs.Prelude.{◌≡◌};
+ghost use Rattle.std.specs.Prelude.{◌≡◌, slice_get};
 ghost use Rattle.ibc_wire.specs.Messages.{message_fields};
 ghost use Rattle.ibc_wire.specs.Fronts.{Gives};
-ghost use Rattle.ibc_wire.specs.MessageFront.{kind_of, message_behind, message_at_front};
+ghost use Rattle.ibc_wire.specs.MessageFront.{kinds, kind_of, message_behind, message_at_front};
 
 use super::many::write_tagged;
 use crate::fields::read_u8;
@@ -58,13 +58,19 @@ const KINDS: [MessageKind; 19] = [
     MessageKind::TransferMany,
 ];
 
+fn kind_at(place: usize) -> Option<MessageKind>
+    ensures { result ≡ slice_get kinds place }
+{
+    KINDS.get(place).copied()
+}
+
 fn kind_of(tag: u8) -> Option<MessageKind>
     ensures { result ≡ kind_of tag }
 {
     if tag < 1 {
         None
     } else {
-        KINDS.get(usize::from(tag - 1)).copied()
+        kind_at(usize::from(tag - 1))
     }
 }
 
