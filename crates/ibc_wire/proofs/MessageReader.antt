@@ -1,5 +1,6 @@
 -- The reader of messages.
-use Rattle.std.proofs.Common.{◌≡◌, ℕ, zero, suc, ◌-◌, ◌<◌, ◌≤◌, List, [], ◌∷◌, slice_get, Option, Some, None, refl, sym, ap, ◌∙◌, subst, arith}
+use Rattle.std.proofs.Common.{◌≡◌, ◌⊎◌, inl, inr, ℕ, zero, suc, ◌-◌, ◌<◌, ◌≤◌, List, [], ◌∷◌, slice_get, Option, Some, None, refl, sym, ap, ◌∙◌, subst, arith}
+use Rattle.std.proofs.lemmas.Bool.{cases_lt}
 use Rattle.ibc_ids.specs.Texts.{Text}
 use Rattle.ibc_wire.specs.Messages.{message_fields}
 use Rattle.ibc_wire.specs.Reading.{◌>>=◌, Front, byte_at_front}
@@ -60,13 +61,35 @@ tags : (n : ℕ) (k : MessageKind) → kind_of n ≡ Some k → n ≡ tag_of k
 tags zero k e = none_some e
 tags (suc n) k e = numbers n k e
 
-pub no_kind : (n : ℕ) → n < 1 → kind_of n ≡ None
-no_kind zero h = refl
-no_kind (suc n) h = absurd (omega arith)
+no_kind_behind : (n : ℕ) → 19 ≤ n → slice_get kinds n ≡ None
+no_kind_behind zero h = absurd (omega arith)
+no_kind_behind (suc zero) h = absurd (omega arith)
+no_kind_behind (suc (suc zero)) h = absurd (omega arith)
+no_kind_behind (suc (suc (suc zero))) h = absurd (omega arith)
+no_kind_behind (suc (suc (suc (suc zero)))) h = absurd (omega arith)
+no_kind_behind (suc (suc (suc (suc (suc zero))))) h = absurd (omega arith)
+no_kind_behind (suc (suc (suc (suc (suc (suc zero)))))) h = absurd (omega arith)
+no_kind_behind (suc (suc (suc (suc (suc (suc (suc zero))))))) h = absurd (omega arith)
+no_kind_behind (suc (suc (suc (suc (suc (suc (suc (suc zero)))))))) h = absurd (omega arith)
+no_kind_behind (suc (suc (suc (suc (suc (suc (suc (suc (suc zero))))))))) h = absurd (omega arith)
+no_kind_behind (suc (suc (suc (suc (suc (suc (suc (suc (suc (suc zero)))))))))) h = absurd (omega arith)
+no_kind_behind (suc (suc (suc (suc (suc (suc (suc (suc (suc (suc (suc zero))))))))))) h = absurd (omega arith)
+no_kind_behind (suc (suc (suc (suc (suc (suc (suc (suc (suc (suc (suc (suc zero)))))))))))) h = absurd (omega arith)
+no_kind_behind (suc (suc (suc (suc (suc (suc (suc (suc (suc (suc (suc (suc (suc zero))))))))))))) h = absurd (omega arith)
+no_kind_behind (suc (suc (suc (suc (suc (suc (suc (suc (suc (suc (suc (suc (suc (suc zero)))))))))))))) h = absurd (omega arith)
+no_kind_behind (suc (suc (suc (suc (suc (suc (suc (suc (suc (suc (suc (suc (suc (suc (suc zero))))))))))))))) h = absurd (omega arith)
+no_kind_behind (suc (suc (suc (suc (suc (suc (suc (suc (suc (suc (suc (suc (suc (suc (suc (suc zero)))))))))))))))) h = absurd (omega arith)
+no_kind_behind (suc (suc (suc (suc (suc (suc (suc (suc (suc (suc (suc (suc (suc (suc (suc (suc (suc zero))))))))))))))))) h = absurd (omega arith)
+no_kind_behind (suc (suc (suc (suc (suc (suc (suc (suc (suc (suc (suc (suc (suc (suc (suc (suc (suc (suc zero)))))))))))))))))) h = absurd (omega arith)
+no_kind_behind (suc (suc (suc (suc (suc (suc (suc (suc (suc (suc (suc (suc (suc (suc (suc (suc (suc (suc (suc n))))))))))))))))))) h = refl
 
-pub at_its_place : (n : ℕ) → 1 ≤ n → slice_get kinds (n - 1) ≡ kind_of n
-at_its_place zero h = absurd (omega arith)
-at_its_place (suc n) h = let one_less : suc n - 1 ≡ n = omega arith in ap (slice_get kinds) one_less
+pub no_kind : (n : ℕ) → (1 ≤ n → n ≤ 19 → ⊥) → kind_of n ≡ None
+no_kind zero h = refl
+no_kind (suc n) h = far (cases_lt n 19)
+    where
+      far : (n < 19) ⊎ (19 ≤ n) → slice_get kinds n ≡ None
+      far (inl near) = absurd (h (omega arith) (omega arith))
+      far (inr le) = no_kind_behind n le
 
 message_spelled : (k : MessageKind) (text behind : Text) (m : Message) (rest : Text) → AreBytes behind → text ≡ tag_of k ∷ behind → message_behind k behind ≡ Some (m, rest) → Begins (message_fields m) text rest
 message_spelled kind.CreateClient text behind m rest bytes is e = tagged_read create_client_reader 1 refl message.CreateClient message_fields (λ q. refl) text behind m rest bytes is e

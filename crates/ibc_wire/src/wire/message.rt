@@ -1,9 +1,9 @@
 //! How messages are spelled: a tag, and the fields behind it.
 
-ghost use Rattle.std.specs.Prelude.{◌≡◌, slice_get};
+ghost use Rattle.std.specs.Prelude.{◌≡◌};
 ghost use Rattle.ibc_wire.specs.Messages.{message_fields};
 ghost use Rattle.ibc_wire.specs.Fronts.{Gives};
-ghost use Rattle.ibc_wire.specs.MessageFront.{kinds, kind_of, message_behind, message_at_front};
+ghost use Rattle.ibc_wire.specs.MessageFront.{kind_of, message_behind, message_at_front};
 
 use super::many::write_tagged;
 use crate::fields::read_u8;
@@ -35,42 +35,31 @@ enum MessageKind {
     TransferMany,
 }
 
-/// The kinds by their tags, from 1.
-const KINDS: [MessageKind; 19] = [
-    MessageKind::CreateClient,
-    MessageKind::UpdateClient,
-    MessageKind::ConnOpenInit,
-    MessageKind::ConnOpenTry,
-    MessageKind::ConnOpenAck,
-    MessageKind::ConnOpenConfirm,
-    MessageKind::ChanOpenInit,
-    MessageKind::ChanOpenTry,
-    MessageKind::ChanOpenAck,
-    MessageKind::ChanOpenConfirm,
-    MessageKind::ChanCloseInit,
-    MessageKind::ChanCloseConfirm,
-    MessageKind::Transfer,
-    MessageKind::SendNote,
-    MessageKind::RecvPacket,
-    MessageKind::AckPacket,
-    MessageKind::Timeout,
-    MessageKind::TimeoutOnClose,
-    MessageKind::TransferMany,
-];
-
-fn kind_at(place: usize) -> Option<MessageKind>
-    ensures { result ≡ slice_get kinds place }
-{
-    KINDS.get(place).copied()
-}
-
+/// The kind of a tag. Tags count from 1.
 fn kind_of(tag: u8) -> Option<MessageKind>
     ensures { result ≡ kind_of tag }
 {
-    if tag < 1 {
-        None
-    } else {
-        kind_at(usize::from(tag - 1))
+    match tag {
+        1 => Some(MessageKind::CreateClient),
+        2 => Some(MessageKind::UpdateClient),
+        3 => Some(MessageKind::ConnOpenInit),
+        4 => Some(MessageKind::ConnOpenTry),
+        5 => Some(MessageKind::ConnOpenAck),
+        6 => Some(MessageKind::ConnOpenConfirm),
+        7 => Some(MessageKind::ChanOpenInit),
+        8 => Some(MessageKind::ChanOpenTry),
+        9 => Some(MessageKind::ChanOpenAck),
+        10 => Some(MessageKind::ChanOpenConfirm),
+        11 => Some(MessageKind::ChanCloseInit),
+        12 => Some(MessageKind::ChanCloseConfirm),
+        13 => Some(MessageKind::Transfer),
+        14 => Some(MessageKind::SendNote),
+        15 => Some(MessageKind::RecvPacket),
+        16 => Some(MessageKind::AckPacket),
+        17 => Some(MessageKind::Timeout),
+        18 => Some(MessageKind::TimeoutOnClose),
+        19 => Some(MessageKind::TransferMany),
+        _ => None,
     }
 }
 
