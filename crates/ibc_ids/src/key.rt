@@ -109,5 +109,4 @@ fn sequence_path(
 #[tactic(auto, using(crate::proofs::Paths::different_paths))]
 pub fn different_keys_have_different_paths()
     ensures { DifferentPaths }
-{
-}
+{}

@@ -86,10 +86,10 @@ no_kind_behind (suc (suc (suc (suc (suc (suc (suc (suc (suc (suc (suc (suc (suc 
 pub no_kind : (n : ℕ) → (1 ≤ n → n ≤ 19 → ⊥) → kind_of n ≡ None
 no_kind zero h = refl
 no_kind (suc n) h = far (cases_lt n 19)
-    where
-      far : (n < 19) ⊎ (19 ≤ n) → slice_get kinds n ≡ None
-      far (inl near) = absurd (h (omega arith) (omega arith))
-      far (inr le) = no_kind_behind n le
+  where
+    far : (n < 19) ⊎ (19 ≤ n) → slice_get kinds n ≡ None
+    far (inl near) = absurd (h (omega arith) (omega arith))
+    far (inr le) = no_kind_behind n le
 
 message_spelled : (k : MessageKind) (text behind : Text) (m : Message) (rest : Text) → AreBytes behind → text ≡ tag_of k ∷ behind → message_behind k behind ≡ Some (m, rest) → Begins (message_fields m) text rest
 message_spelled kind.CreateClient text behind m rest bytes is e = tagged_read create_client_reader 1 refl message.CreateClient message_fields (λ q. refl) text behind m rest bytes is e

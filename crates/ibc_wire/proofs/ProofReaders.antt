@@ -23,9 +23,9 @@ use Rattle.ibc_wire.proofs.Whole.{is_spelled, is_read}
 pub operation_reader : IsReader operation_fields operation_at_front
 operation_reader =
     reader_of (
-      first _ (λ o. o.prefix) (str_reader 64 (omega arith)) λ prefix.
-      first _ (λ o. o.suffix) (str_reader 64 (omega arith)) λ suffix.
-      done _ ((tt, refl), refl) (λ o p. λ i. record { prefix = p.0.1 i; suffix = p.1 i })
+    first _ (λ o. o.prefix) (str_reader 64 (omega arith)) λ prefix.
+    first _ (λ o. o.suffix) (str_reader 64 (omega arith)) λ suffix.
+    done _ ((tt, refl), refl) (λ o p. λ i. record { prefix = p.0.1 i; suffix = p.1 i })
     )
 
 bind_same : {A B : Type 0} (o : Option A) (f g : A → Option B) → ((x : A) → f x ≡ g x) → (o >>= f) ≡ (o >>= g)
@@ -74,13 +74,13 @@ made_of key value leaf_prefix operations = Some (record { key = key; value = val
 pub presence_reader : IsReader presence_fields presence_at_front
 presence_reader =
     reader_of (
-      first _ (λ p. p.key) (str_reader 256 (omega arith)) λ key.
-      first _ (λ p. p.value) (str_reader 512 (omega arith)) λ value.
-      first _ (λ p. p.leaf_prefix) (str_reader 64 (omega arith)) λ leaf_prefix.
-      like (λ text. sym (bind_assoc (byte_at_front text) few_at_front (made_of key value leaf_prefix)))
-      (under (λ p known. append-nil (counted_fields p.operations))
-      (first _ (λ p. p.operations) counted_reader λ operations.
-      done _ ((((tt, refl), refl), refl), refl) (λ m p. λ i. record { key = p.0.0.0.1 i; value = p.0.0.1 i; leaf_prefix = p.0.1 i; operations = p.1 i })))
+    first _ (λ p. p.key) (str_reader 256 (omega arith)) λ key.
+    first _ (λ p. p.value) (str_reader 512 (omega arith)) λ value.
+    first _ (λ p. p.leaf_prefix) (str_reader 64 (omega arith)) λ leaf_prefix.
+    like (λ text. sym (bind_assoc (byte_at_front text) few_at_front (made_of key value leaf_prefix)))
+    (under (λ p known. append-nil (counted_fields p.operations))
+    (first _ (λ p. p.operations) counted_reader λ operations.
+    done _ ((((tt, refl), refl), refl), refl) (λ m p. λ i. record { key = p.0.0.0.1 i; value = p.0.0.1 i; leaf_prefix = p.0.1 i; operations = p.1 i })))
     )
 
 -- ---- neighbours
@@ -110,11 +110,11 @@ pub absence_reader : IsReader absence_fields absence_at_front
 unfolding absence_at_front
 absence_reader =
     reader_of (
-      first _ (λ a. a.key) (str_reader 256 (omega arith)) λ key.
-      first _ (λ a. a.left) neighbour_reader λ left.
-      under (λ a known. append-nil (neighbour_fields a.right))
-      (first _ (λ a. a.right) neighbour_reader λ right.
-      done _ (((tt, refl), refl), refl) (λ m p. λ i. record { key = p.0.0.1 i; left = p.0.1 i; right = p.1 i }))
+    first _ (λ a. a.key) (str_reader 256 (omega arith)) λ key.
+    first _ (λ a. a.left) neighbour_reader λ left.
+    under (λ a known. append-nil (neighbour_fields a.right))
+    (first _ (λ a. a.right) neighbour_reader λ right.
+    done _ (((tt, refl), refl), refl) (λ m p. λ i. record { key = p.0.0.1 i; left = p.0.1 i; right = p.1 i }))
     )
 
 -- ---- proofs
@@ -156,9 +156,9 @@ kinds_same (suc (suc zero)) text =
     let middle : Text → Option Presence × Text → Front Absence = λ key left. neighbour_at_front left.1 >>= last key left.0 in
     let outer : Text × Text → Front Absence = λ key. neighbour_at_front key.1 >>= middle key.0 in
     sym (
-      bind_assoc (str_at_front 256 text) outer to
-      ∙ bind_same (str_at_front 256 text) _ _ (λ key. bind_assoc (neighbour_at_front key.1) (middle key.0) to
-      ∙ bind_same (neighbour_at_front key.1) _ _ (λ left. bind_assoc (neighbour_at_front left.1) (last key.0 left.0) to))
+    bind_assoc (str_at_front 256 text) outer to
+    ∙ bind_same (str_at_front 256 text) _ _ (λ key. bind_assoc (neighbour_at_front key.1) (middle key.0) to
+    ∙ bind_same (neighbour_at_front key.1) _ _ (λ left. bind_assoc (neighbour_at_front left.1) (last key.0 left.0) to))
     )
 kinds_same (suc (suc (suc n))) text = refl
 

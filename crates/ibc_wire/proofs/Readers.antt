@@ -160,22 +160,22 @@ peer_reader test short true = record {
       subst (λ w. Begins (peer test true w.0 ∷ []) text w.1) (some_same found.2) (nothing_read text found.0.0 found.0.1 bytes found.1);
   read = λ o text rest h. no_peer test o text rest h;
 }
-    where
-      no_peer : (test : Text → Bool) (o : Option Text) (text rest : Text) → Begins (peer test true o ∷ []) text rest → peer_at_front test true text ≡ Some (o, rest)
-      no_peer test None text rest h =
-          ap (λ f. f >>= λ (found : Text × Text). Some (None, found.1)) (str_front 0 text [] rest (omega arith) (one_field (str_up_to 0 []) text rest refl (its_bytes (str []) text rest h)))
-      no_peer test (Some id) text rest h = never (where_ false) text rest refl h
+  where
+    no_peer : (test : Text → Bool) (o : Option Text) (text rest : Text) → Begins (peer test true o ∷ []) text rest → peer_at_front test true text ≡ Some (o, rest)
+    no_peer test None text rest h =
+        ap (λ f. f >>= λ (found : Text × Text). Some (None, found.1)) (str_front 0 text [] rest (omega arith) (one_field (str_up_to 0 []) text rest refl (its_bytes (str []) text rest h)))
+    no_peer test (Some id) text rest h = never (where_ false) text rest refl h
 peer_reader test short false = record {
   spelled = λ text o rest bytes e.
       let found = bind_some (name_at_front test text) _ e in
       subst (λ w. Begins (peer test false w.0 ∷ []) text w.1) (some_same found.2) ((name_reader test short).spelled text found.0.0 found.0.1 bytes found.1);
   read = λ o text rest h. a_peer o text rest h;
 }
-    where
-      a_peer : (o : Option Text) (text rest : Text) → Begins (peer test false o ∷ []) text rest → peer_at_front test false text ≡ Some (o, rest)
-      a_peer None text rest h = never (where_ false) text rest refl h
-      a_peer (Some id) text rest h =
-          ap (λ f. f >>= λ (found : Text × Text). Some (Some found.0, found.1)) ((name_reader test short).read id text rest h)
+  where
+    a_peer : (o : Option Text) (text rest : Text) → Begins (peer test false o ∷ []) text rest → peer_at_front test false text ≡ Some (o, rest)
+    a_peer None text rest h = never (where_ false) text rest refl h
+    a_peer (Some id) text rest h =
+        ap (λ f. f >>= λ (found : Text × Text). Some (Some found.0, found.1)) ((name_reader test short).read id text rest h)
 
 -- ---- amounts
 
@@ -216,8 +216,8 @@ n16_reader = record {
       let amount = high.0.0 * 2 ^ 64 + low.0.0 in
       let fits : amount < 2 ^ 128 = omega arith in
       let is : text ≡ to_be_bytes w128 amount ++ low.0.1 =
-          its_bytes (n8 high.0.0) text high.0.1 h ∙ ap (λ x. to_be_bytes w64 high.0.0 ++ x) (its_bytes (n8 low.0.0) high.0.1 low.0.1 l)
-          ∙ sym (append_assoc (to_be_bytes w64 high.0.0) (to_be_bytes w64 low.0.0) low.0.1) ∙ ap (λ x. x ++ low.0.1) (sym (halves amount high.0.0 low.0.0 low_small refl))
+      its_bytes (n8 high.0.0) text high.0.1 h ∙ ap (λ x. to_be_bytes w64 high.0.0 ++ x) (its_bytes (n8 low.0.0) high.0.1 low.0.1 l)
+      ∙ sym (append_assoc (to_be_bytes w64 high.0.0) (to_be_bytes w64 low.0.0) low.0.1) ∙ ap (λ x. x ++ low.0.1) (sym (halves amount high.0.0 low.0.0 low_small refl))
       in
       let mine = one_field (n16 amount) text low.0.1 (and_from (nat_lt amount (2 ^ 128)) true (lt-ltb amount (2 ^ 128) fits) refl) is in
       subst (λ w. Begins (n16 w.0 ∷ []) text w.1) (some_same low.2) mine;
@@ -229,7 +229,7 @@ n16_reader = record {
       let high_small : high < 2 ^ 64 = omega arith in
       let is_n : n ≡ high * 2 ^ 64 + low = omega arith in
       let is : text ≡ to_be_bytes w64 high ++ (to_be_bytes w64 low ++ rest) =
-          its_bytes (n16 n) text rest h ∙ ap (λ x. x ++ rest) (halves n high low low_small is_n) ∙ append_assoc (to_be_bytes w64 high) (to_be_bytes w64 low) rest
+      its_bytes (n16 n) text rest h ∙ ap (λ x. x ++ rest) (halves n high low low_small is_n) ∙ append_assoc (to_be_bytes w64 high) (to_be_bytes w64 low) rest
       in
       ap (λ o. o >>= λ (h : ℕ × Text). number_at_front w64 h.1 >>= λ (l : ℕ × Text). Some (h.0 * 2 ^ 64 + l.0, l.1))
       (n8_reader.read high text (to_be_bytes w64 low ++ rest) (one_field (n8 high) text (to_be_bytes w64 low ++ rest) (and_from (nat_lt high (2 ^ 64)) true (lt-ltb high (2 ^ 64) high_small) refl) is))
@@ -237,6 +237,6 @@ n16_reader = record {
       (n8_reader.read low (to_be_bytes w64 low ++ rest) rest (one_field (n8 low) (to_be_bytes w64 low ++ rest) rest (and_from (nat_lt low (2 ^ 64)) true (lt-ltb low (2 ^ 64) low_small) refl) refl))
       ∙ ap (λ m. Some (m, rest)) (sym is_n);
 }
-    where
-      number_form : (n : ℕ) (text rest : Text) → Begins (n8 n ∷ []) text rest → n < 2 ^ 64
-      number_form n text rest h = ltb-true n (2 ^ 64) (and_parts (nat_lt n (2 ^ 64)) true (its_form (n8 n) text rest h)).0
+  where
+    number_form : (n : ℕ) (text rest : Text) → Begins (n8 n ∷ []) text rest → n < 2 ^ 64
+    number_form n text rest h = ltb-true n (2 ^ 64) (and_parts (nat_lt n (2 ^ 64)) true (its_form (n8 n) text rest h)).0

@@ -61,60 +61,60 @@ pub client_state_reader : IsReader client_state_fields client_state_at_front
 unfolding client_state_at_front
 client_state_reader =
     reader_of (
-      first _ (λ m. m.chain) u8_reader λ chain.
-      first _ (λ m. m.latest) n8_reader λ latest.
-      done _ ((tt, refl), refl) (λ m p. λ i. record { chain = p.0.1 i; latest = p.1 i })
+    first _ (λ m. m.chain) u8_reader λ chain.
+    first _ (λ m. m.latest) n8_reader λ latest.
+    done _ ((tt, refl), refl) (λ m p. λ i. record { chain = p.0.1 i; latest = p.1 i })
     )
 
 pub packet_reader : IsReader packet_fields packet_at_front
 unfolding packet_at_front
 packet_reader =
     reader_of (
-      first _ (λ m. m.sequence) n8_reader λ sequence.
-      first _ (λ m. m.timeout_height) n8_reader λ timeout_height.
-      first _ (λ m. m.timeout_time) n8_reader λ timeout_time.
-      first _ (λ m. m.source_port) (name_reader is_port ports) λ source_port.
-      first _ (λ m. m.source_channel) (name_reader is_channel channels) λ source_channel.
-      first _ (λ m. m.destination_port) (name_reader is_port ports) λ destination_port.
-      first _ (λ m. m.destination_channel) (name_reader is_channel channels) λ destination_channel.
-      first _ (λ m. m.payload) (str_reader 65535 (omega arith)) λ payload.
-      done _ ((((((((tt, refl), refl), refl), refl), refl), refl), refl), refl) (λ m p. λ i. record { sequence = p.0.0.0.0.0.0.0.1 i; timeout_height = p.0.0.0.0.0.0.1 i; timeout_time = p.0.0.0.0.0.1 i; source_port = p.0.0.0.0.1 i; source_channel = p.0.0.0.1 i; destination_port = p.0.0.1 i; destination_channel = p.0.1 i; payload = p.1 i })
+    first _ (λ m. m.sequence) n8_reader λ sequence.
+    first _ (λ m. m.timeout_height) n8_reader λ timeout_height.
+    first _ (λ m. m.timeout_time) n8_reader λ timeout_time.
+    first _ (λ m. m.source_port) (name_reader is_port ports) λ source_port.
+    first _ (λ m. m.source_channel) (name_reader is_channel channels) λ source_channel.
+    first _ (λ m. m.destination_port) (name_reader is_port ports) λ destination_port.
+    first _ (λ m. m.destination_channel) (name_reader is_channel channels) λ destination_channel.
+    first _ (λ m. m.payload) (str_reader 65535 (omega arith)) λ payload.
+    done _ ((((((((tt, refl), refl), refl), refl), refl), refl), refl), refl) (λ m p. λ i. record { sequence = p.0.0.0.0.0.0.0.1 i; timeout_height = p.0.0.0.0.0.0.1 i; timeout_time = p.0.0.0.0.0.1 i; source_port = p.0.0.0.0.1 i; source_channel = p.0.0.0.1 i; destination_port = p.0.0.1 i; destination_channel = p.0.1 i; payload = p.1 i })
     )
 
 pub header_reader : IsReader header_fields header_at_front
 unfolding header_at_front
 header_reader =
     reader_of (
-      first _ (λ h. h.chain) u8_reader λ chain.
-      first _ (λ h. h.height) n8_reader λ height.
-      first _ (λ h. h.time) n8_reader λ time.
-      first _ (λ h. h.root) root_reader λ root.
-      done _ ((((tt, refl), refl), refl), refl) (λ m p. λ i. record { chain = p.0.0.0.1 i; height = p.0.0.1 i; time = p.0.1 i; root = p.1 i })
+    first _ (λ h. h.chain) u8_reader λ chain.
+    first _ (λ h. h.height) n8_reader λ height.
+    first _ (λ h. h.time) n8_reader λ time.
+    first _ (λ h. h.root) root_reader λ root.
+    done _ ((((tt, refl), refl), refl), refl) (λ m p. λ i. record { chain = p.0.0.0.1 i; height = p.0.0.1 i; time = p.0.1 i; root = p.1 i })
     )
 
 pub connection_end_reader : IsReader connection_end_fields connection_end_at_front
 unfolding connection_end_at_front
 connection_end_reader =
     reader_of (
-      first _ (λ c. c.state) connection_state_reader λ state.
-      first _ (λ c. c.client) (name_reader is_client clients) λ client.
-      first _ (λ c. c.peer_client) (name_reader is_client clients) λ peer_client.
-      under (λ c p. λ i. peer is_connection (connection_state_number (p.0.0.1 i) == 1) c.peer_connection ∷ str (codes "1") ∷ [])
-      (first _ (λ c. c.peer_connection) (peer_reader is_connection connections (connection_state_number state == 1)) λ peer_connection.
-      first _ (λ c. tt) (same_reader (codes "1") refl (omega arith)) λ version.
-      done _ (((((tt, refl), refl), refl), refl), refl) (λ m p. λ i. record { state = p.0.0.0.0.1 i; client = p.0.0.0.1 i; peer_client = p.0.0.1 i; peer_connection = p.0.1 i }))
+    first _ (λ c. c.state) connection_state_reader λ state.
+    first _ (λ c. c.client) (name_reader is_client clients) λ client.
+    first _ (λ c. c.peer_client) (name_reader is_client clients) λ peer_client.
+    under (λ c p. λ i. peer is_connection (connection_state_number (p.0.0.1 i) == 1) c.peer_connection ∷ str (codes "1") ∷ [])
+    (first _ (λ c. c.peer_connection) (peer_reader is_connection connections (connection_state_number state == 1)) λ peer_connection.
+    first _ (λ c. tt) (same_reader (codes "1") refl (omega arith)) λ version.
+    done _ (((((tt, refl), refl), refl), refl), refl) (λ m p. λ i. record { state = p.0.0.0.0.1 i; client = p.0.0.0.1 i; peer_client = p.0.0.1 i; peer_connection = p.0.1 i }))
     )
 
 pub channel_end_reader : IsReader channel_end_fields channel_end_at_front
 unfolding channel_end_at_front
 channel_end_reader =
     reader_of (
-      first _ (λ c. c.state) channel_state_reader λ state.
-      first _ (λ c. c.order) order_reader λ order.
-      first _ (λ c. c.peer_port) (name_reader is_port ports) λ peer_port.
-      under (λ c p. λ i. peer is_channel (channel_state_number (p.0.0.1 i) == 1) c.peer_channel ∷ name is_connection c.connection ∷ name is_version c.version ∷ [])
-      (first _ (λ c. c.peer_channel) (peer_reader is_channel channels (channel_state_number state == 1)) λ peer_channel.
-      first _ (λ c. c.connection) (name_reader is_connection connections) λ connection.
-      first _ (λ c. c.version) (name_reader is_version versions) λ version.
-      done _ ((((((tt, refl), refl), refl), refl), refl), refl) (λ m p. λ i. record { state = p.0.0.0.0.0.1 i; order = p.0.0.0.0.1 i; peer_port = p.0.0.0.1 i; peer_channel = p.0.0.1 i; connection = p.0.1 i; version = p.1 i }))
+    first _ (λ c. c.state) channel_state_reader λ state.
+    first _ (λ c. c.order) order_reader λ order.
+    first _ (λ c. c.peer_port) (name_reader is_port ports) λ peer_port.
+    under (λ c p. λ i. peer is_channel (channel_state_number (p.0.0.1 i) == 1) c.peer_channel ∷ name is_connection c.connection ∷ name is_version c.version ∷ [])
+    (first _ (λ c. c.peer_channel) (peer_reader is_channel channels (channel_state_number state == 1)) λ peer_channel.
+    first _ (λ c. c.connection) (name_reader is_connection connections) λ connection.
+    first _ (λ c. c.version) (name_reader is_version versions) λ version.
+    done _ ((((((tt, refl), refl), refl), refl), refl), refl) (λ m p. λ i. record { state = p.0.0.0.0.0.1 i; order = p.0.0.0.0.1 i; peer_port = p.0.0.0.1 i; peer_channel = p.0.0.1 i; connection = p.0.1 i; version = p.1 i }))
     )

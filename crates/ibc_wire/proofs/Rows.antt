@@ -63,11 +63,11 @@ module _ {A : Type 0} (fields : A → List Field) where
   pub one_fails : (e : Refusal) (xs : List A) (i : ℕ) (x : A) → i < length xs → x ≡ get_or xs i x → IsRefusal e (have_form (fields x) ≡ false) → IsRefusal e (have_form (flat_map fields xs) ≡ false)
   one_fails e xs i x lt is h =
       let parts : flat_map fields xs ≡ flat_map fields (take (i + 1) xs) ++ flat_map fields (drop (i + 1) xs) =
-          ap (flat_map fields) (sym (take-append-drop (i + 1) xs)) ∙ flat_map-append fields (take (i + 1) xs) (drop (i + 1) xs)
+      ap (flat_map fields) (sym (take-append-drop (i + 1) xs)) ∙ flat_map-append fields (take (i + 1) xs) (drop (i + 1) xs)
       in
       refused e (λ none.
-          ap have_form parts
-          ∙ none_before (flat_map fields (take (i + 1) xs)) (flat_map fields (drop (i + 1) xs)) (ap have_form (one_more xs i x lt is) ∙ none_behind (flat_map fields (take i xs)) (fields x) none)) h
+      ap have_form parts
+      ∙ none_before (flat_map fields (take (i + 1) xs)) (flat_map fields (drop (i + 1) xs)) (ap have_form (one_more xs i x lt is) ∙ none_behind (flat_map fields (take i xs)) (fields x) none)) h
 
   pub all_written : (xs : List A) (i : ℕ) (old new : Text) → length xs ≤ i → SoFar fields (take i xs) old new → SoFar fields xs old new
   all_written xs i old new le h = subst (λ ys. SoFar fields ys old new) (take_all i xs le) h

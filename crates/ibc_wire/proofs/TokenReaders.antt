@@ -45,9 +45,9 @@ pub token_reader : IsReader token_fields token_at_front
 unfolding token_at_front
 token_reader =
     reader_of (
-      first _ (λ t. t.denom) (name_reader is_denom denominations) λ denom.
-      first _ (λ t. t.amount) n16_reader λ amount.
-      done _ ((tt, refl), refl) (λ t p. λ i. record { denom = p.0.1 i; amount = p.1 i })
+    first _ (λ t. t.denom) (name_reader is_denom denominations) λ denom.
+    first _ (λ t. t.amount) n16_reader λ amount.
+    done _ ((tt, refl), refl) (λ t p. λ i. record { denom = p.0.1 i; amount = p.1 i })
     )
 
 abbrev few : ℕ → Bool

@@ -47,10 +47,10 @@ both_bytes fs gs = flat_map-append (λ (field : Field). field.bytes) fs gs
 
 pub none_behind : (fs gs : List Field) → have_form gs ≡ false → have_form (fs ++ gs) ≡ false
 none_behind fs gs e = both_forms fs gs ∙ ap (λ b. have_form fs && b) e ∙ and_false (have_form fs)
-    where
-      and_false : (b : Bool) → (b && false) ≡ false
-      and_false true = refl
-      and_false false = refl
+  where
+    and_false : (b : Bool) → (b && false) ≡ false
+    and_false true = refl
+    and_false false = refl
 
 pub none_before : (fs gs : List Field) → have_form fs ≡ false → have_form (fs ++ gs) ≡ false
 none_before fs gs e = both_forms fs gs ∙ ap (λ b. b && have_form gs) e

@@ -84,5 +84,4 @@ pub fn a_text_spells_one_value<T: Wire>()
 /// A proof is read from bytes just where they spell it.
 pub fn proofs_are_read_as_they_are_spelled()
     ensures { ReadsWhatIsSpelled }
-{
-}
+{}

@@ -3,7 +3,10 @@
 ghost use Rattle.ibc_wire.specs.PayloadFronts.{chan_open_init_fields, chan_open_try_fields, chan_open_ack_fields, chan_open_confirm_fields, chan_close_init_fields, chan_close_confirm_fields, chan_open_init_at_front, chan_open_try_at_front, chan_open_ack_at_front, chan_open_confirm_at_front, chan_close_init_at_front, chan_close_confirm_at_front};
 
 use crate::fields::{read_n8, read_name, read_str, write_n8, write_name, write_str};
-use crate::{ChanCloseConfirm, ChanCloseInit, ChanOpenAck, ChanOpenConfirm, ChanOpenInit, ChanOpenTry, Order, Wire};
+use crate::{
+    ChanCloseConfirm, ChanCloseInit, ChanOpenAck, ChanOpenConfirm, ChanOpenInit, ChanOpenTry,
+    Order, Wire,
+};
 use ibc_ids::Refusal;
 use std::alloc::Global;
 
@@ -19,7 +22,16 @@ impl Wire for ChanOpenInit {
         let (connection, rest) = read_name(alloc, rest)?;
         let (peer_port, rest) = read_name(alloc, rest)?;
         let (version, rest) = read_name(alloc, rest)?;
-        Ok((ChanOpenInit { port, order, connection, peer_port, version }, rest))
+        Ok((
+            ChanOpenInit {
+                port,
+                order,
+                connection,
+                peer_port,
+                version,
+            },
+            rest,
+        ))
     }
 
     fn write(&self, out: &mut Vec<u8>) -> Result<(), Refusal> {
@@ -49,7 +61,19 @@ impl Wire for ChanOpenTry {
         let (version, rest) = read_name(alloc, rest)?;
         let (height, rest) = read_n8(rest)?;
         let (proof, rest) = read_str(alloc, rest, u16::MAX)?;
-        Ok((ChanOpenTry { port, order, connection, peer_port, peer_channel, version, height, proof }, rest))
+        Ok((
+            ChanOpenTry {
+                port,
+                order,
+                connection,
+                peer_port,
+                peer_channel,
+                version,
+                height,
+                proof,
+            },
+            rest,
+        ))
     }
 
     fn write(&self, out: &mut Vec<u8>) -> Result<(), Refusal> {
@@ -79,7 +103,16 @@ impl Wire for ChanOpenAck {
         let (peer_channel, rest) = read_name(alloc, rest)?;
         let (height, rest) = read_n8(rest)?;
         let (proof, rest) = read_str(alloc, rest, u16::MAX)?;
-        Ok((ChanOpenAck { port, channel, peer_channel, height, proof }, rest))
+        Ok((
+            ChanOpenAck {
+                port,
+                channel,
+                peer_channel,
+                height,
+                proof,
+            },
+            rest,
+        ))
     }
 
     fn write(&self, out: &mut Vec<u8>) -> Result<(), Refusal> {
@@ -105,7 +138,15 @@ impl Wire for ChanOpenConfirm {
         let (channel, rest) = read_name(alloc, rest)?;
         let (height, rest) = read_n8(rest)?;
         let (proof, rest) = read_str(alloc, rest, u16::MAX)?;
-        Ok((ChanOpenConfirm { port, channel, height, proof }, rest))
+        Ok((
+            ChanOpenConfirm {
+                port,
+                channel,
+                height,
+                proof,
+            },
+            rest,
+        ))
     }
 
     fn write(&self, out: &mut Vec<u8>) -> Result<(), Refusal> {
@@ -151,7 +192,15 @@ impl Wire for ChanCloseConfirm {
         let (channel, rest) = read_name(alloc, rest)?;
         let (height, rest) = read_n8(rest)?;
         let (proof, rest) = read_str(alloc, rest, u16::MAX)?;
-        Ok((ChanCloseConfirm { port, channel, height, proof }, rest))
+        Ok((
+            ChanCloseConfirm {
+                port,
+                channel,
+                height,
+                proof,
+            },
+            rest,
+        ))
     }
 
     fn write(&self, out: &mut Vec<u8>) -> Result<(), Refusal> {

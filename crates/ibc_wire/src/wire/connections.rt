@@ -16,7 +16,13 @@ impl Wire for ConnOpenInit {
     fn read(alloc: Global, bytes: &[u8]) -> Result<(ConnOpenInit, &[u8]), Refusal> {
         let (client, rest) = read_name(alloc, bytes)?;
         let (peer_client, rest) = read_name(alloc, rest)?;
-        Ok((ConnOpenInit { client, peer_client }, rest))
+        Ok((
+            ConnOpenInit {
+                client,
+                peer_client,
+            },
+            rest,
+        ))
     }
 
     fn write(&self, out: &mut Vec<u8>) -> Result<(), Refusal> {
@@ -42,7 +48,18 @@ impl Wire for ConnOpenTry {
         let (height, rest) = read_n8(rest)?;
         let (proof_end, rest) = read_str(alloc, rest, u16::MAX)?;
         let (proof_client, rest) = read_str(alloc, rest, u16::MAX)?;
-        Ok((ConnOpenTry { client, peer_client, peer_connection, claim, height, proof_end, proof_client }, rest))
+        Ok((
+            ConnOpenTry {
+                client,
+                peer_client,
+                peer_connection,
+                claim,
+                height,
+                proof_end,
+                proof_client,
+            },
+            rest,
+        ))
     }
 
     fn write(&self, out: &mut Vec<u8>) -> Result<(), Refusal> {
@@ -72,7 +89,17 @@ impl Wire for ConnOpenAck {
         let (height, rest) = read_n8(rest)?;
         let (proof_end, rest) = read_str(alloc, rest, u16::MAX)?;
         let (proof_client, rest) = read_str(alloc, rest, u16::MAX)?;
-        Ok((ConnOpenAck { connection, peer_connection, claim, height, proof_end, proof_client }, rest))
+        Ok((
+            ConnOpenAck {
+                connection,
+                peer_connection,
+                claim,
+                height,
+                proof_end,
+                proof_client,
+            },
+            rest,
+        ))
     }
 
     fn write(&self, out: &mut Vec<u8>) -> Result<(), Refusal> {
@@ -98,7 +125,14 @@ impl Wire for ConnOpenConfirm {
         let (connection, rest) = read_name(alloc, bytes)?;
         let (height, rest) = read_n8(rest)?;
         let (proof, rest) = read_str(alloc, rest, u16::MAX)?;
-        Ok((ConnOpenConfirm { connection, height, proof }, rest))
+        Ok((
+            ConnOpenConfirm {
+                connection,
+                height,
+                proof,
+            },
+            rest,
+        ))
     }
 
     fn write(&self, out: &mut Vec<u8>) -> Result<(), Refusal> {

@@ -18,7 +18,15 @@ impl Wire for Header {
         let (height, rest) = read_n8(rest)?;
         let (time, rest) = read_n8(rest)?;
         match read_root(rest) {
-            Ok((root, rest)) => Ok((Header { chain, height, time, root }, rest)),
+            Ok((root, rest)) => Ok((
+                Header {
+                    chain,
+                    height,
+                    time,
+                    root,
+                },
+                rest,
+            )),
             Err(refusal) => Err(refusal),
         }
     }

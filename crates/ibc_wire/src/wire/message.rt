@@ -7,7 +7,11 @@ ghost use Rattle.ibc_wire.specs.MessageFront.{kind_of, message_behind, message_a
 
 use super::many::write_tagged;
 use crate::fields::read_u8;
-use crate::{AckPacket, ChanCloseConfirm, ChanCloseInit, ChanOpenAck, ChanOpenConfirm, ChanOpenInit, ChanOpenTry, ConnOpenAck, ConnOpenConfirm, ConnOpenInit, ConnOpenTry, CreateClient, Message, RecvPacket, SendNote, Timeout, TimeoutOnClose, Transfer, TransferMany, UpdateClient, Wire};
+use crate::{
+    AckPacket, ChanCloseConfirm, ChanCloseInit, ChanOpenAck, ChanOpenConfirm, ChanOpenInit,
+    ChanOpenTry, ConnOpenAck, ConnOpenConfirm, ConnOpenInit, ConnOpenTry, CreateClient, Message,
+    RecvPacket, SendNote, Timeout, TimeoutOnClose, Transfer, TransferMany, UpdateClient, Wire,
+};
 use ibc_ids::Refusal;
 use std::alloc::Global;
 
@@ -64,11 +68,7 @@ fn kind_of(tag: u8) -> Option<MessageKind>
 }
 
 /// The message of the kind whose fields stand at the front, and what stands behind them.
-fn read_behind(
-    alloc: Global,
-    kind: MessageKind,
-    bytes: &[u8],
-) -> Result<(Message, &[u8]), Refusal>
+fn read_behind(alloc: Global, kind: MessageKind, bytes: &[u8]) -> Result<(Message, &[u8]), Refusal>
     ensures { Gives (λ x. (x.0, x.1.now)) result (message_behind kind bytes.now) }
 {
     macro_rules! read {

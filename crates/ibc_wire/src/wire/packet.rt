@@ -23,7 +23,19 @@ impl Wire for Packet {
         let (destination_port, rest) = read_name(alloc, rest)?;
         let (destination_channel, rest) = read_name(alloc, rest)?;
         let (payload, rest) = read_str(alloc, rest, u16::MAX)?;
-        Ok((Packet { sequence, timeout_height, timeout_time, source_port, source_channel, destination_port, destination_channel, payload }, rest))
+        Ok((
+            Packet {
+                sequence,
+                timeout_height,
+                timeout_time,
+                source_port,
+                source_channel,
+                destination_port,
+                destination_channel,
+                payload,
+            },
+            rest,
+        ))
     }
 
     fn write(&self, out: &mut Vec<u8>) -> Result<(), Refusal> {

@@ -17,7 +17,14 @@ impl Wire for RecvPacket {
         let (packet, rest) = Packet::read(alloc, bytes)?;
         let (height, rest) = read_n8(rest)?;
         let (proof, rest) = read_str(alloc, rest, u16::MAX)?;
-        Ok((RecvPacket { packet, height, proof }, rest))
+        Ok((
+            RecvPacket {
+                packet,
+                height,
+                proof,
+            },
+            rest,
+        ))
     }
 
     fn write(&self, out: &mut Vec<u8>) -> Result<(), Refusal> {
@@ -41,7 +48,15 @@ impl Wire for AckPacket {
         let (ack, rest) = read_str(alloc, rest, u16::MAX)?;
         let (height, rest) = read_n8(rest)?;
         let (proof, rest) = read_str(alloc, rest, u16::MAX)?;
-        Ok((AckPacket { packet, ack, height, proof }, rest))
+        Ok((
+            AckPacket {
+                packet,
+                ack,
+                height,
+                proof,
+            },
+            rest,
+        ))
     }
 
     fn write(&self, out: &mut Vec<u8>) -> Result<(), Refusal> {
@@ -66,7 +81,15 @@ impl Wire for Timeout {
         let (next_recv, rest) = read_n8(rest)?;
         let (height, rest) = read_n8(rest)?;
         let (proof, rest) = read_str(alloc, rest, u16::MAX)?;
-        Ok((Timeout { packet, next_recv, height, proof }, rest))
+        Ok((
+            Timeout {
+                packet,
+                next_recv,
+                height,
+                proof,
+            },
+            rest,
+        ))
     }
 
     fn write(&self, out: &mut Vec<u8>) -> Result<(), Refusal> {
@@ -92,7 +115,16 @@ impl Wire for TimeoutOnClose {
         let (height, rest) = read_n8(rest)?;
         let (proof, rest) = read_str(alloc, rest, u16::MAX)?;
         let (proof_close, rest) = read_str(alloc, rest, u16::MAX)?;
-        Ok((TimeoutOnClose { packet, next_recv, height, proof, proof_close }, rest))
+        Ok((
+            TimeoutOnClose {
+                packet,
+                next_recv,
+                height,
+                proof,
+                proof_close,
+            },
+            rest,
+        ))
     }
 
     fn write(&self, out: &mut Vec<u8>) -> Result<(), Refusal> {

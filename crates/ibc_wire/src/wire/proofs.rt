@@ -49,11 +49,7 @@ impl Wire for Operation {
 
 /// So many operations, and what stands behind them.
 #[tactic(auto, using(crate::proofs::ProofReaders::operations_are_many))]
-fn read_operations(
-    alloc: Global,
-    bytes: &[u8],
-    count: u8,
-) -> Result<(Operations, &[u8]), Refusal>
+fn read_operations(alloc: Global, bytes: &[u8], count: u8) -> Result<(Operations, &[u8]), Refusal>
     ensures { Gives (λ x. (x.0, x.1.now)) result (operations_at_front count bytes.now) }
 {
     let (operations, rest) = read_many::<Operation>(alloc, bytes, count)?;
@@ -83,7 +79,15 @@ impl Wire for Presence {
             return Err(Refusal::BadMessage);
         }
         let (operations, rest) = read_operations(alloc, rest, count)?;
-        Ok((Presence { key, value, leaf_prefix, operations }, rest))
+        Ok((
+            Presence {
+                key,
+                value,
+                leaf_prefix,
+                operations,
+            },
+            rest,
+        ))
     }
 
     fn write(&self, out: &mut Vec<u8>) -> Result<(), Refusal> {

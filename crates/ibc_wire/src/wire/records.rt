@@ -7,12 +7,10 @@ ghost use Rattle.ibc_wire.specs.Fronts.{Gives, Writes, coded_at_front, same_at_f
 ghost use Rattle.ibc_wire.specs.RecordFronts.{client_state_at_front, connection_end_at_front, channel_end_at_front, connection_state_of, channel_state_of, order_of};
 
 use crate::fields::{
-    read_n8, read_name, read_peer, read_text, read_u8, write_n8, write_name, write_peer, write_text,
-    write_u8,
+    read_n8, read_name, read_peer, read_text, read_u8, write_n8, write_name, write_peer,
+    write_text, write_u8,
 };
-use crate::{
-    ChannelEnd, ChannelState, ClientState, ConnectionEnd, ConnectionState, Order, Wire,
-};
+use crate::{ChannelEnd, ChannelState, ClientState, ConnectionEnd, ConnectionState, Order, Wire};
 use ibc_ids::Refusal;
 use std::alloc::Global;
 
@@ -139,14 +137,26 @@ impl Wire for ConnectionEnd {
         let (peer_client, rest) = read_name(alloc, rest)?;
         let (peer_connection, rest) = read_peer(alloc, rest, state == ConnectionState::Init)?;
         let rest = read_version(rest)?;
-        Ok((ConnectionEnd { state, client, peer_client, peer_connection }, rest))
+        Ok((
+            ConnectionEnd {
+                state,
+                client,
+                peer_client,
+                peer_connection,
+            },
+            rest,
+        ))
     }
 
     fn write(&self, out: &mut Vec<u8>) -> Result<(), Refusal> {
         self.state.write(out)?;
         write_name(out, &self.client)?;
         write_name(out, &self.peer_client)?;
-        write_peer(out, self.state == ConnectionState::Init, &self.peer_connection)?;
+        write_peer(
+            out,
+            self.state == ConnectionState::Init,
+            &self.peer_connection,
+        )?;
         write_text(out, b"1", u16::MAX)
     }
 
@@ -167,7 +177,17 @@ impl Wire for ChannelEnd {
         let (peer_channel, rest) = read_peer(alloc, rest, state == ChannelState::Init)?;
         let (connection, rest) = read_name(alloc, rest)?;
         let (version, rest) = read_name(alloc, rest)?;
-        Ok((ChannelEnd { state, order, peer_port, peer_channel, connection, version }, rest))
+        Ok((
+            ChannelEnd {
+                state,
+                order,
+                peer_port,
+                peer_channel,
+                connection,
+                version,
+            },
+            rest,
+        ))
     }
 
     fn write(&self, out: &mut Vec<u8>) -> Result<(), Refusal> {

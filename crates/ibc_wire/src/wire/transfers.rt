@@ -2,7 +2,9 @@
 
 ghost use Rattle.ibc_wire.specs.PayloadFronts.{transfer_fields, send_note_fields, transfer_many_fields, transfer_at_front, send_note_at_front, transfer_many_at_front};
 
-use crate::fields::{read_n16, read_n8, read_name, read_str, write_n16, write_n8, write_name, write_str};
+use crate::fields::{
+    read_n8, read_n16, read_name, read_str, write_n8, write_n16, write_name, write_str,
+};
 use crate::{SendNote, Tokens, Transfer, TransferMany, Wire};
 use ibc_ids::Refusal;
 use std::alloc::Global;
@@ -22,7 +24,19 @@ impl Wire for Transfer {
         let (memo, rest) = read_name(alloc, rest)?;
         let (timeout_height, rest) = read_n8(rest)?;
         let (timeout_time, rest) = read_n8(rest)?;
-        Ok((Transfer { channel, user, denom, amount, receiver, memo, timeout_height, timeout_time }, rest))
+        Ok((
+            Transfer {
+                channel,
+                user,
+                denom,
+                amount,
+                receiver,
+                memo,
+                timeout_height,
+                timeout_time,
+            },
+            rest,
+        ))
     }
 
     fn write(&self, out: &mut Vec<u8>) -> Result<(), Refusal> {
@@ -51,7 +65,15 @@ impl Wire for SendNote {
         let (payload, rest) = read_str(alloc, rest, u16::MAX)?;
         let (timeout_height, rest) = read_n8(rest)?;
         let (timeout_time, rest) = read_n8(rest)?;
-        Ok((SendNote { channel, payload, timeout_height, timeout_time }, rest))
+        Ok((
+            SendNote {
+                channel,
+                payload,
+                timeout_height,
+                timeout_time,
+            },
+            rest,
+        ))
     }
 
     fn write(&self, out: &mut Vec<u8>) -> Result<(), Refusal> {
@@ -79,7 +101,18 @@ impl Wire for TransferMany {
         let (memo, rest) = read_name(alloc, rest)?;
         let (timeout_height, rest) = read_n8(rest)?;
         let (timeout_time, rest) = read_n8(rest)?;
-        Ok((TransferMany { channel, user, tokens, receiver, memo, timeout_height, timeout_time }, rest))
+        Ok((
+            TransferMany {
+                channel,
+                user,
+                tokens,
+                receiver,
+                memo,
+                timeout_height,
+                timeout_time,
+            },
+            rest,
+        ))
     }
 
     fn write(&self, out: &mut Vec<u8>) -> Result<(), Refusal> {

@@ -10,7 +10,7 @@ returns-in_err-write_neighbour c =
     let a = c.args.self.now in
     let p = err_from_is_err_and c.from_residual-in_err-write_neighbour.result c.from_residual-in_err-write_neighbour.ensures.1 in
     rw (p.1, p.2) (refused c.in_err-write_neighbour.field-0.0
-        (λ none. none_behind (str_up_to 256 a.key ∷ []) (neighbour_fields a.left ++ neighbour_fields a.right) (none_before (neighbour_fields a.left) (neighbour_fields a.right) none)) c.in_err-write_neighbour.ensures)
+    (λ none. none_behind (str_up_to 256 a.key ∷ []) (neighbour_fields a.left ++ neighbour_fields a.right) (none_before (neighbour_fields a.left) (neighbour_fields a.right) none)) c.in_err-write_neighbour.ensures)
 
 pub returns : goal.returns
 returns c =
