@@ -4,9 +4,10 @@ use Rattle.std.specs.Prelude.{IsTrue, IfOk, IfErr, IsErrOf, IsOkUnless}
 use Rattle.ibc_ids.specs.Texts.{Text}
 use Rattle.ibc_ids.specs.declared.refusal.Refusal.{Refusal}
 use Rattle.ibc_ids.specs.declared.refusal.Refusal.TheVariants.{NoMemory, BadMessage}
-use Rattle.ibc_wire.specs.Fields.{Field, Spells, bytes_of}
+use Rattle.ibc_wire.specs.Fields.{Field, Spells, HasOneValue, bytes_of}
 use Rattle.ibc_wire.specs.Reading.{Front}
 use Rattle.ibc_wire.specs.Fronts.{IsRefusal, Gives, only}
+use Rattle.ibc_wire.proofs.Fronts.{some_same}
 use Rattle.ibc_wire.specs.Lawful.{AreBytes, Begins, IsReader}
 
 -- a refusal that may come is one of two
@@ -30,6 +31,11 @@ module _ {A : Type 0} {fields : A → List Field} {front : Text → Front A} (re
   is_read text a h =
       let begins : Begins (fields a) text [] = record { form = h.0; is = h.1 ∙ sym (append-nil (bytes_of (fields a))) } in
       ap only (reader.read a text [] begins)
+
+  pub one_value : HasOneValue fields
+  one_value a b text h g =
+      let same : ◌≡◌ {A = Option A} (Some a) (Some b) = sym (is_read text a h) ∙ is_read text b g in
+      some_same same
 
   pub record Decodes (text : Text) (r : Result A Refusal) : Type 0 where
     pub ok : IfOk r (λ a. Spells (fields a) text)

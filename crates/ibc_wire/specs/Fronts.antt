@@ -1,12 +1,11 @@
 -- What stands at the front of a text: a value and the text behind it, one function for each kind of field.
-use Rattle.std.specs.Prelude.{◌≡◌, ℕ, Bool, true, false, IsTrue, List, [], ◌∷◌, Option, Some, None, Result, Ok, Err, ◌++◌}
-use Rattle.std.specs.Int.{Width, w64, w128, byte_len, from_be_bytes}
+use Rattle.std.specs.Prelude.{◌≡◌, bytes_eq, ℕ, zero, suc, ◌+◌, ◌*◌, ◌^◌, Bool, true, false, IsTrue, List, [], ◌∷◌, ◌++◌, Option, Some, None, Result, Ok, Err}
+use Rattle.std.specs.Int.{Width, w64, byte_len, from_be_bytes}
 use Rattle.ibc_ids.specs.Texts.{Text}
 use Rattle.ibc_ids.specs.declared.refusal.Refusal.{Refusal}
 use Rattle.ibc_ids.specs.declared.refusal.Refusal.TheVariants.{NoMemory, BadMessage}
 use Rattle.ibc_wire.specs.Fields.{Field, bytes_of, have_form}
 use Rattle.ibc_wire.specs.Reading.{◌>>=◌, Front, byte_at_front, bytes_at_front, str_at_front}
-use Rattle.ibc_wire.specs.declared.records.ClientState.{ClientState}
 
 -- a call may be refused as a bad message only where this holds, and for want of memory anywhere
 abbrev pub IsRefusal : Refusal → Type 0 → Type 0
@@ -30,20 +29,51 @@ number_at_front w text = do
   bytes ← bytes_at_front (byte_len w) text
   Some (from_be_bytes w bytes.0, bytes.1)
 
+-- an amount, the high half first
+abbrev pub amount_at_front : Text → Front ℕ
+amount_at_front text = do
+  high ← number_at_front w64 text
+  low ← number_at_front w64 high.1
+  Some (high.0 * 2 ^ 64 + low.0, low.1)
+
 -- a name behind its length
-unfoldable pub name_at_front : (Text → Bool) → Text → Front Text
+abbrev pub name_at_front : (Text → Bool) → Text → Front Text
 name_at_front test text = do
   found ← str_at_front 65535 text
   elim (test found.0) [ true ↦ Some found | false ↦ None ]
+
+-- a text that is always the same
+abbrev pub same_at_front : Text → Text → Front (Unit {0})
+same_at_front expected text = do
+  found ← str_at_front 65535 text
+  elim (bytes_eq found.0 expected) [ true ↦ Some (tt, found.1) | false ↦ None ]
+
+-- what a number stands for
+abbrev pub coded_at_front : {A : Type 0} → (ℕ → Option A) → Text → Front A
+coded_at_front of text = do
+  number ← byte_at_front text
+  found ← of number.0
+  Some (found, number.1)
+
+-- a peer's identifier, which is empty in the state Init and only there
+abbrev pub peer_at_front : (Text → Bool) → Bool → Text → Front (Option Text)
+peer_at_front test true text = do
+  found ← str_at_front 0 text
+  Some (None, found.1)
+peer_at_front test false text = do
+  found ← name_at_front test text
+  Some (Some found.0, found.1)
+
+-- so many values in a row
+abbrev pub many_at_front : {A : Type 0} → (Text → Front A) → ℕ → Text → Front (List A)
+many_at_front front zero text = Some ([], text)
+many_at_front front (suc n) text = do
+  head ← front text
+  others ← many_at_front front n head.1
+  Some (head.0 ∷ others.0, others.1)
 
 -- the value at the front, where nothing stands behind it
 abbrev pub only : {A : Type 0} → Front A → Option A
 only None = None
 only (Some (value, [])) = Some value
 only (Some (value, b ∷ rest)) = None
-
-unfoldable pub client_state_at_front : Text → Front ClientState
-client_state_at_front text = do
-  chain ← byte_at_front text
-  latest ← number_at_front w64 chain.1
-  Some (record { chain = chain.0; latest = latest.0 }, latest.1)

@@ -5,3 +5,6 @@ pub mod Messages
 pub mod Reading
 pub mod Fronts
 pub mod Lawful
+pub mod RecordFronts
+pub mod PayloadFronts
+pub mod MessageFront

@@ -2,10 +2,23 @@
 
 ghost use Rattle.std.specs.Prelude.{◌≡◌, ◌⊎◌, ℕ, List, Option, IsTrue, IfOk, IfErr, IsErrOf, IsOkUnless};
 ghost use Rattle.ibc_ids.specs.Texts.{Text};
-ghost use Rattle.ibc_wire.specs.Fields.{Field, Spells, have_form, bytes_of};
-ghost use Rattle.ibc_wire.specs.Reading.{Front};
+ghost use Rattle.ibc_wire.specs.Fields.{Field, Spells, HasOneValue, have_form};
+ghost use Rattle.ibc_wire.specs.Reading.{Front, ReadsWhatIsSpelled};
 ghost use Rattle.ibc_wire.specs.Fronts.{Gives, Writes, only};
 ghost use Rattle.ibc_wire.specs.Lawful.{IsReader};
+
+mod channels;
+mod clients;
+mod connections;
+mod header;
+mod many;
+mod message;
+mod packet;
+mod packets;
+mod proofs;
+mod records;
+mod tokens;
+mod transfers;
 
 use ibc_ids::Refusal;
 use std::alloc::Global;
@@ -60,3 +73,15 @@ fn read_all<T: Wire + Drop>(alloc: Global, bytes: &[u8]) -> Result<T, Refusal>
         (_, [_, ..]) => Err(Refusal::BadMessage),
     }
 }
+
+/// No text spells two values of a type.
+pub fn a_text_spells_one_value<T: Wire>()
+    ensures { HasOneValue T.fields }
+{
+    T::reads_what_is_spelled();
+}
+
+/// A proof is read from bytes just where they spell it.
+pub fn proofs_are_read_as_they_are_spelled()
+    ensures { ReadsWhatIsSpelled }
+{}
