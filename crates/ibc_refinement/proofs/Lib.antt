@@ -45,3 +45,7 @@ pub mod Stages
 pub mod StageLists
 pub mod MergeStages
 pub mod MergeReadings
+pub mod EntryEnds
+pub mod PlacedLedgers
+pub mod PublishedAlong
+pub mod StampsMerged

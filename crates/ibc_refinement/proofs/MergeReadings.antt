@@ -1,24 +1,22 @@
 -- In a merge by stamps the readings fit, the entries are of the chains, and the blocks are of the chains that
 -- published.
-use Rattle.std.proofs.Common.{◌≡◌, ℕ, zero, suc, ◌+◌, ◌<◌, ◌≤◌, Bool, true, false, cond, ◌&&◌, eqb, nat_lt, List, [], ◌∷◌, ◌++◌, length, map, filter, take, drop, refl, sym, ap, ◌∙◌, subst, Some, None, Option, slice_get, arith, eqb-true, eq-eqb, lt-ltb, append-nil, append_assoc, length-append}
-use Rattle.std.specs.Prelude.{⊤, IfSome}
+use Rattle.std.proofs.Common.{◌≡◌, ℕ, zero, suc, ◌+◌, ◌<◌, Bool, true, false, cond, ◌&&◌, eqb, nat_lt, List, [], ◌∷◌, ◌++◌, length, map, filter, take, drop, refl, sym, ap, ◌∙◌, subst, Some, None, Option, slice_get, arith, eqb-true, eq-eqb, lt-ltb, append-nil, append_assoc, length-append}
+use Rattle.std.specs.Prelude.{IfSome}
 use Rattle.std.specs.List.{AllByRecursion, flat_map, list_all}
-use Rattle.std.proofs.lemmas.Bool.{false≢true, and_from, and_right}
+use Rattle.std.proofs.lemmas.Bool.{and_from, and_right}
 use Rattle.std.proofs.lemmas.List.{map-append}
 use Rattle.std.proofs.lemmas.List.Elements.{filter-append}
 use Rattle.std.proofs.lemmas.List.Folds.{list_all-append}
-use Rattle.ibc_ids.specs.Publications.{published_by, height_among}
+use Rattle.ibc_ids.specs.Publications.{height_among}
 use Rattle.ibc_ids.specs.declared.publication.Publication.{Publication}
-use Rattle.ibc_wire.specs.declared.header.Header.{Header}
 use Rattle.ibc_machine.specs.declared.entry.Entry.{Entry}
 use Rattle.ibc_machine.specs.declared.entry.Reading.{Reading}
 use Rattle.ibc_machine.specs.Replay.{StampedEntry}
 use Rattle.ibc_machine.specs.Ledgers.{chain_of, header_in, is_accepted_block, reading_fits}
 use Rattle.ibc_machine.specs.Merge.{is_of, blocks_of, ReadsWhatIsBefore, EachAfter}
-use Rattle.ibc_refinement.specs.Stamps.{until, since, first, later, next_block, left_after, by_stamps}
+use Rattle.ibc_refinement.specs.Stamps.{until, since, first, next_block, left_after, by_stamps}
 use Rattle.ibc_refinement.proofs.RunStep.{blocks_more}
-use Rattle.ibc_refinement.proofs.Placed.{IsPlaced, IsStaged}
-use Rattle.ibc_refinement.proofs.Stages.{StandsBy, Splits, splits, Publishes, publishes}
+use Rattle.ibc_refinement.proofs.Stages.{StandsBy, splits, publishes}
 use Rattle.ibc_refinement.proofs.StageLists.{Histories, history_at, not_before, next_is}
 use Rattle.ibc_refinement.proofs.MergeStages.{entries_of, drop_next, Staged, stage_next}
 

@@ -68,7 +68,7 @@ runs_on lower genesis ledgers publications are clash (e ∷ rest) world before r
 
 -- ---- the beginning
 
-typed_start : IsTyped empty_core
+pub typed_start : IsTyped empty_core
 typed_start = record { clients = tt; connections = tt; channels = tt; next_client = omega arith; next_connection = omega arith; next_channel = omega arith }
 
 pub all_start : (genesis : GenesisState) (ledgers : List Ledger) (publications : List Publication) → AreOfWorld genesis ledgers publications

@@ -1,17 +1,14 @@
 -- A history in the middle of a merge by stamps: where n are published, what stands by then has no block, and
 -- the blocks that are left are the publications that are left.
-use Rattle.std.proofs.Common.{◌≡◌, ℕ, zero, suc, ◌+◌, ◌<◌, ◌≤◌, Bool, true, false, cond, ◌&&◌, eqb, nat_le, List, [], ◌∷◌, ◌++◌, length, map, filter, take, drop, refl, sym, ap, ◌∙◌, subst, Some, None, Option, unwrap_or, slice_get, arith, leb-true, leb-false, eqb-true, eq-eqb, inl, inr, ◌⊎◌, ◌-◌}
-use Rattle.std.specs.Prelude.{⊤, IfSome}
+use Rattle.std.proofs.Common.{◌≡◌, ℕ, zero, suc, ◌+◌, ◌<◌, ◌≤◌, true, false, cond, eqb, List, [], ◌∷◌, length, drop, refl, ap, ◌∙◌, subst, Some, None, Option, unwrap_or, slice_get, arith, eq-eqb, ◌-◌}
+use Rattle.std.specs.Prelude.{IfSome}
 use Rattle.std.specs.List.{AllByRecursion}
-use Rattle.std.specs.Option.{option_map_or}
-use Rattle.std.proofs.lemmas.Bool.{false≢true}
 use Rattle.ibc_ids.specs.Publications.{published_by, height_among}
 use Rattle.ibc_ids.specs.declared.publication.Publication.{Publication}
 use Rattle.ibc_wire.specs.declared.header.Header.{Header}
 use Rattle.ibc_machine.specs.declared.entry.Reading.{Reading}
 use Rattle.ibc_machine.specs.Replay.{StampedEntry}
 use Rattle.ibc_machine.specs.Ledgers.{AreRising, chain_of, header_in, is_accepted_block, reading_fits}
-use Rattle.ibc_refinement.specs.Stamps.{is_by, until, since}
 
 -- an entry of chain k, and the publications that its stamp speaks of
 pub record IsPlaced (window : ℕ) (publications : List Publication) (k : ℕ) (e : StampedEntry) : Type 0 where

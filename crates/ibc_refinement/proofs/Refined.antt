@@ -15,8 +15,8 @@ use Rattle.ibc_machine.specs.Replay.{LedgerState, StampedEntry, entry_answer, me
 use Rattle.ibc_machine.specs.Ledgers.{Ledger, IsOwnEntry, chain_of, is_typed, machine_of}
 use Rattle.ibc_machine.specs.Histories.{Happened}
 use Rattle.ibc_machine.specs.Merge.{is_of, Merges}
-use Rattle.ibc_machine.specs.Worlds.{entries}
-use Rattle.ibc_refinement.specs.Refinement.{MergedIsRun}
+use Rattle.ibc_machine.specs.Worlds.{entries, interleaved}
+use Rattle.ibc_refinement.specs.Refinement.{MergedIsRun, KeptOrderIsRun}
 use Rattle.ibc_refinement.specs.Lower.{Lower}
 use Rattle.ibc_machine.proofs.Members.{Is_in}
 use Rattle.ibc_refinement.proofs.EntrySteps.{ledger_of, own_typed}
@@ -93,3 +93,9 @@ merged_is_run lower genesis ledgers publications list of table allowed clash mer
         run = subst (λ (w : List Event × List Reply). IsRun genesis (start genesis) w.0 w.1 (machine_of ledgers)) (λ i. (events i, replies i)) run;
       };
     }
+
+-- ---- its uses
+
+pub kept_order_is_run : Lower → KeptOrderIsRun
+kept_order_is_run lower genesis order ledgers publications of table allowed merges clash =
+    merged_is_run lower genesis ledgers publications (interleaved order (map entries ledgers)) of table allowed clash merges

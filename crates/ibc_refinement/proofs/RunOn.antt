@@ -1,6 +1,6 @@
 -- A world whose ledgers went on by the entries of events goes on in the machine by these events.
-use Rattle.std.proofs.Common.{◌≡◌, ℕ, zero, suc, ◌+◌, ◌<◌, ◌≤◌, Bool, true, false, ◌&&◌, nat_lt, List, [], ◌∷◌, ◌++◌, length, map, filter, refl, sym, ap, ◌∙◌, subst, Some, None, Option, option_map, slice_get, arith, ltb-true, append-nil, append_assoc, length-append, inl, inr}
-use Rattle.std.specs.List.{AllByRecursion, list_all}
+use Rattle.std.proofs.Common.{◌≡◌, ℕ, ◌≤◌, true, nat_lt, List, [], ◌∷◌, ◌++◌, length, map, filter, refl, sym, ap, ◌∙◌, subst, Some, option_map, slice_get, arith, ltb-true, append-nil, append_assoc, inl, inr}
+use Rattle.std.specs.List.{list_all}
 use Rattle.std.proofs.lemmas.Bool.{and_parts}
 use Rattle.std.proofs.lemmas.Option.{slice_get-map, slice_get_past}
 use Rattle.std.proofs.lemmas.List.{length-map}
@@ -18,14 +18,14 @@ use Rattle.ibc_machine.specs.Machine.{World, Step, IsRun, answer, at_chain, look
 use Rattle.ibc_machine.specs.Replay.{LedgerState, StampedEntry, replay, starting_state}
 use Rattle.ibc_machine.specs.Ledgers.{Ledger, chain_of, machine_of, state_of}
 use Rattle.ibc_machine.specs.HashedTexts.{HasNoClash}
-use Rattle.ibc_machine.specs.Merge.{is_of, ReadsWhatIsBefore, EachAfter, Merges}
+use Rattle.ibc_machine.specs.Merge.{is_of, ReadsWhatIsBefore, EachAfter}
 use Rattle.ibc_machine.specs.Worlds.{AreLedgersOf, entries}
 use Rattle.ibc_refinement.specs.Lower.{Lower}
 use Rattle.ibc_refinement.specs.Refinement.{GivesNothing, AreAnswered, GoesOn, GoingOnIsRun}
 use Rattle.ibc_refinement.proofs.Places.{get_within, same_places}
 use Rattle.ibc_refinement.proofs.EntrySteps.{ledger_of}
-use Rattle.ibc_refinement.proofs.RunStates.{Runs, AllRun, AreOfWorld, IsLedgerAt, ledger_at, ledger_from}
-use Rattle.ibc_refinement.proofs.RunForward.{StepsOn, next_step}
+use Rattle.ibc_refinement.proofs.RunStates.{AllRun, AreOfWorld, IsLedgerAt, ledger_at}
+use Rattle.ibc_refinement.proofs.RunForward.{next_step}
 use Rattle.ibc_refinement.proofs.MergedRun.{AreWithin, ends_there, all_start}
 use Rattle.ibc_refinement.proofs.Refined.{within}
 use Rattle.ibc_refinement.proofs.SeenMore.{replay_stays}

@@ -1,5 +1,5 @@
 -- What a ledger replays doesn't change when its pass has seen more publications.
-use Rattle.std.proofs.Common.{◌≡◌, ℕ, zero, suc, ◌+◌, ◌<◌, ◌≤◌, Bool, true, false, ◌&&◌, eqb, nat_le, nat_lt, List, [], ◌∷◌, ◌++◌, length, take, drop, filter, refl, sym, ap, ◌∙◌, Some, None, Option, option_and_then, slice_get, arith, leb-true, subst}
+use Rattle.std.proofs.Common.{◌≡◌, ℕ, zero, suc, ◌+◌, ◌≤◌, Bool, true, false, ◌&&◌, eqb, nat_le, nat_lt, List, [], ◌∷◌, ◌++◌, length, filter, refl, sym, ap, ◌∙◌, Some, None, Option, option_and_then, slice_get, arith, leb-true, subst}
 use Rattle.std.specs.Prelude.{⊤, IfSome}
 use Rattle.std.specs.List.{AllByRecursion}
 use Rattle.std.specs.Option.{option_map_or}
@@ -10,18 +10,16 @@ use Rattle.ibc_ids.specs.declared.publication.Publication.{Publication}
 use Rattle.ibc_wire.specs.declared.header.Header.{Header}
 use Rattle.ibc_wire.specs.declared.messages.Message.{Message}
 use Rattle.ibc_wire.specs.declared.messages.Message.TheVariants as message
-use Rattle.ibc_machine.specs.declared.event.Event.{Event}
 use Rattle.ibc_machine.specs.declared.event.Event.TheVariants as event
 use Rattle.ibc_machine.specs.declared.reply.Reply.{Reply}
 use Rattle.ibc_machine.specs.declared.entry.Reading.{Reading}
 use Rattle.ibc_machine.specs.Records.{Core}
-use Rattle.ibc_machine.specs.Evidence.{Different, Gone}
 use Rattle.ibc_machine.specs.Genesis.{GenesisState}
 use Rattle.ibc_machine.specs.Handlers.{after_message, host_of}
 use Rattle.ibc_machine.specs.Machine.{row_if}
 use Rattle.ibc_machine.specs.Replay.{LedgerState, StampedEntry, is_published_as, row_read, proves, after_answer, ledger_answer, entry_answer, replay, met_states}
 use Rattle.ibc_machine.specs.Ledgers.{Ledger, IsOwnEntry, IsReading, header_in, fits, reading_fits}
-use Rattle.ibc_refinement.proofs.Agreeing.{Asked, Agree, AgreeOn}
+use Rattle.ibc_refinement.proofs.Agreeing.{Asked, Agree}
 use Rattle.ibc_refinement.proofs.SameAnswers.{AgreeOnHeader, AllAsked, handle_same}
 use Rattle.ibc_refinement.proofs.Places.{get_left}
 use Rattle.ibc_refinement.proofs.RunRows.{height_grows}

@@ -1,14 +1,11 @@
 -- One stage of a merge by stamps, chain by chain.
-use Rattle.std.proofs.Common.{◌≡◌, ℕ, zero, suc, ◌+◌, ◌<◌, ◌≤◌, Bool, true, false, cond, ◌&&◌, eqb, List, [], ◌∷◌, ◌++◌, length, filter, refl, sym, ap, ◌∙◌, subst, Some, Option, arith, eqb-true, eq-eqb, append-nil}
-use Rattle.std.specs.Prelude.{⊤}
+use Rattle.std.proofs.Common.{◌≡◌, ℕ, suc, ◌<◌, true, false, cond, eqb, List, [], ◌∷◌, ◌++◌, filter, refl, sym, ap, ◌∙◌, subst, arith, eqb-true, eq-eqb, append-nil}
 use Rattle.std.specs.List.{AllByRecursion, flat_map}
 use Rattle.std.proofs.lemmas.Bool.{false≢true}
 use Rattle.std.proofs.lemmas.List.Elements.{filter-append}
-use Rattle.ibc_ids.specs.declared.publication.Publication.{Publication}
 use Rattle.ibc_machine.specs.Replay.{StampedEntry}
 use Rattle.ibc_machine.specs.Merge.{is_of}
-use Rattle.ibc_refinement.specs.Stamps.{until, since, first, later, next_block, left_after}
-use Rattle.ibc_refinement.proofs.Placed.{IsPlaced}
+use Rattle.ibc_refinement.specs.Stamps.{since, first, later, next_block, left_after}
 
 abbrev pub Histories : Type 0
 Histories = List (List StampedEntry)

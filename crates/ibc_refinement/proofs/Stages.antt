@@ -1,5 +1,5 @@
 -- One stage of a merge by stamps: what stands by then, the next block, and what is left.
-use Rattle.std.proofs.Common.{◌≡◌, ℕ, zero, suc, ◌+◌, ◌<◌, ◌≤◌, Bool, true, false, cond, ◌&&◌, eqb, nat_le, List, [], ◌∷◌, ◌++◌, length, drop, refl, sym, ap, ◌∙◌, subst, Some, None, Option, unwrap_or, slice_get, arith, leb-true, le-leb, eqb-true, eq-eqb, inl, inr, ◌⊎◌}
+use Rattle.std.proofs.Common.{◌≡◌, ℕ, suc, ◌<◌, ◌≤◌, Bool, true, false, cond, eqb, nat_le, List, [], ◌∷◌, ◌++◌, length, drop, refl, sym, ap, ◌∙◌, subst, Some, None, Option, unwrap_or, slice_get, arith, leb-true, le-leb, eq-eqb, inl, inr}
 use Rattle.std.specs.Prelude.{⊤, IfSome}
 use Rattle.std.specs.List.{AllByRecursion}
 use Rattle.std.specs.Option.{option_map_or}
@@ -8,7 +8,7 @@ use Rattle.ibc_ids.specs.Publications.{published_by}
 use Rattle.ibc_ids.specs.declared.publication.Publication.{Publication}
 use Rattle.ibc_machine.specs.Replay.{StampedEntry}
 use Rattle.ibc_machine.specs.Ledgers.{AreRising, is_accepted_block}
-use Rattle.ibc_refinement.specs.Stamps.{is_by, until, since, first, later}
+use Rattle.ibc_refinement.specs.Stamps.{is_by, until, since}
 use Rattle.ibc_refinement.proofs.Placed.{IsPlaced, IsStaged, blocks, few_blocks, left_own, left_other, fewer_after}
 
 -- an entry that stands by then isn't a block, and its stamp is n

@@ -12,7 +12,7 @@ use Rattle.ibc_machine.specs.Replay.{StampedEntry}
 use Rattle.ibc_machine.specs.Ledgers.{Ledger, chain_of}
 use Rattle.ibc_machine.specs.HashedTexts.{HasNoClash}
 use Rattle.ibc_machine.specs.Merge.{is_of, Merges}
-use Rattle.ibc_machine.specs.Worlds.{AreLedgersOf, AreOfOneTable, AppliesEach, entries, IsWorldHistory, Refines}
+use Rattle.ibc_machine.specs.Worlds.{AreLedgersOf, AreOfOneTable, AppliesEach, entries, interleaved, IsWorldHistory, Refines, SinceGenesis}
 
 -- Every list that merges the histories of the ledgers of a genesis along one list of publications is a run of
 -- the machine since genesis to the ledgers' states, where no two texts that are hashed clash.
@@ -22,6 +22,15 @@ MergedIsRun =
     → AreLedgersOf genesis ledgers → AreOfOneTable publications ledgers → IsTrue (is_allowed genesis) → HasNoClash ledgers
     → Merges genesis.window (map (λ (c : Chain). c.time) (start genesis)) (map entries ledgers) publications list
     → IsWorldHistory genesis ledgers publications list
+
+-- The order that a world keeps, which merges the histories along its publications, is a run since genesis.
+abbrev pub KeptOrderIsRun : Type 0
+KeptOrderIsRun =
+    (genesis : GenesisState) (order : List ℕ) (ledgers : List Ledger) (publications : List Publication)
+    → AreLedgersOf genesis ledgers → AreOfOneTable publications ledgers → IsTrue (is_allowed genesis)
+    → Merges genesis.window (map (λ (c : Chain). c.time) (start genesis)) (map entries ledgers) publications
+    (interleaved order (map entries ledgers))
+    → SinceGenesis genesis order ledgers publications
 
 -- ---- from one state of a world to the next
 

@@ -1,16 +1,17 @@
 -- The histories of ledgers as one list, by the stamps of their entries: how many publications a ledger's pass
 -- had seen where an entry read a published height or published its own.
-use Rattle.std.specs.Prelude.{ℕ, zero, suc, Bool, true, ◌==◌, nat_le, List, [], ◌∷◌, ◌++◌, map, if◌then◌else◌}
+use Rattle.std.specs.Prelude.{ℕ, suc, Bool, true, ◌==◌, nat_le, List, [], ◌∷◌, ◌++◌, map, IsTrue, if◌then◌else◌}
 use Rattle.std.specs.List.{flat_map}
 use Rattle.std.specs.Option.{option_map_or}
 use Rattle.ibc_ids.specs.declared.publication.Publication.{Publication}
 use Rattle.ibc_machine.specs.declared.entry.Entry.{Entry}
 use Rattle.ibc_machine.specs.Records.{Chain}
-use Rattle.ibc_machine.specs.Genesis.{GenesisState, start}
+use Rattle.ibc_machine.specs.Genesis.{GenesisState, start, is_allowed}
 use Rattle.ibc_machine.specs.Replay.{StampedEntry}
 use Rattle.ibc_machine.specs.Ledgers.{Ledger}
+use Rattle.ibc_machine.specs.HashedTexts.{HasNoClash}
 use Rattle.ibc_machine.specs.Merge.{Merges}
-use Rattle.ibc_machine.specs.Worlds.{AreLedgersOf, AreOfOneTable, entries}
+use Rattle.ibc_machine.specs.Worlds.{AreLedgersOf, AreOfOneTable, entries, IsWorldHistory}
 
 -- the entry may stand where so many are published
 abbrev pub is_by : ℕ → StampedEntry → Bool
@@ -61,3 +62,10 @@ StampsMerge = (genesis : GenesisState) (ledgers : List Ledger) (publications : L
     → AreLedgersOf genesis ledgers → AreOfOneTable publications ledgers
     → Merges genesis.window (map (λ (c : Chain). c.time) (start genesis)) (map entries ledgers) publications
     (merged_by_stamps publications ledgers)
+
+-- So the list by the stamps is a run of the machine since genesis to the ledgers' states, where no two texts
+-- that are hashed clash.
+abbrev pub StampedIsRun : Type 0
+StampedIsRun = (genesis : GenesisState) (ledgers : List Ledger) (publications : List Publication)
+    → AreLedgersOf genesis ledgers → AreOfOneTable publications ledgers → IsTrue (is_allowed genesis) → HasNoClash ledgers
+    → IsWorldHistory genesis ledgers publications (merged_by_stamps publications ledgers)

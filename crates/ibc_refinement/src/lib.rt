@@ -2,5 +2,7 @@
 #![tactic(auto)]
 
 mod refinement;
+mod stamps;
 
-pub use refinement::{applied_is_run, going_on_is_run, merged_is_run};
+pub use refinement::{applied_is_run, going_on_is_run, kept_order_is_run, merged_is_run};
+pub use stamps::{stamped_is_run, stamps_merge};

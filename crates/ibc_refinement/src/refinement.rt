@@ -1,11 +1,16 @@
 //! The refinement theorem and its use for a world's run, each as a function that does nothing.
 ghost use Rattle.ibc_refinement.specs.Lower.{Lower};
-ghost use Rattle.ibc_refinement.specs.Refinement.{MergedIsRun, GoingOnIsRun, AppliedIsRun};
+ghost use Rattle.ibc_refinement.specs.Refinement.{MergedIsRun, KeptOrderIsRun, GoingOnIsRun, AppliedIsRun};
 
 /// A list that merges the histories of ledgers is a run of the machine since genesis, where no two texts that
 /// are hashed clash: given the laws of proofs, of their spellings and of paths.
 pub fn merged_is_run()
     ensures { Lower → MergedIsRun }
+{}
+
+/// So is the order that a world keeps.
+pub fn kept_order_is_run()
+    ensures { Lower → KeptOrderIsRun }
 {}
 
 /// From one state of a world to the next: its events are steps of the machine, those that gave no entry too.

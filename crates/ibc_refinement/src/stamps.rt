@@ -1,0 +1,13 @@
+//! The merge by stamps, for ledgers that several threads ran.
+ghost use Rattle.ibc_refinement.specs.Lower.{Lower};
+ghost use Rattle.ibc_refinement.specs.Stamps.{StampsMerge, StampedIsRun};
+
+/// The list that the stamps make of the histories merges them along the publications.
+pub fn stamps_merge()
+    ensures { StampsMerge }
+{}
+
+/// So it is a run of the machine since genesis.
+pub fn stamped_is_run()
+    ensures { Lower → StampedIsRun }
+{}
