@@ -39,3 +39,5 @@ pub mod SecondLaw
 pub mod SentInOrder
 pub mod ReceivedInOrder
 pub mod ThirdLaw
+pub mod Measures
+pub mod TokenMoves

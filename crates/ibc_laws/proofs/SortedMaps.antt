@@ -21,7 +21,7 @@ less_is_not_equal : {o : Ordering} → o ≡ Less → is_eq o ≡ false
 less_is_not_equal e = ap is_eq e
 
 module _ {K : Type 0} {order : K → K → Ordering} (total : IsTotalOrder order) (o : TellsApart order) where
-  Below-less : {V : Type 0} (j k : K) (m : Map K V) → order j k ≡ Less → Below order k m → Below order j m
+  pub Below-less : {V : Type 0} (j k : K) (m : Map K V) → order j k ≡ Less → Below order k m → Below order j m
   Below-less j k [] less below = tt
   Below-less j k (e ∷ es) less below = (total.trans j k e.0 less below.0, Below-less j k es less below.1)
 
@@ -61,7 +61,7 @@ module _ {K : Type 0} {order : K → K → Ordering} (total : IsTotalOrder order
       go ih true = s.1
       go ih false = (Below-without e.0 k es s.0, ih)
 
-  at-below : {V : Type 0} (k : K) (m : Map K V) → Below order k m → at order k m ≡ None
+  pub at-below : {V : Type 0} (k : K) (m : Map K V) → Below order k m → at order k m ≡ None
   at-below k [] below = refl
   at-below {V} k (e ∷ es) below =
       ap (λ b. cond b (Some e.1) (at order k es)) (less_is_not_equal below.0) ∙ at-below k es below.1
