@@ -1,1 +1,7 @@
 mod Facts
+pub mod Texts
+pub mod Splits
+pub mod Paths
+pub mod Ascii
+pub mod Maps
+pub mod Numbered

@@ -1,13 +1,22 @@
 //! The kinds of names (ICS 24, "Identifiers"; ICS 20 for denominations). Lengths are in bytes.
 
-ghost use Rattle.std.specs.Prelude.{ℕ, Bool, List};
+ghost use Rattle.std.specs.Prelude.{◌≡◌, ◌≤◌, ℕ, Bool, List, IsTrue, length};
+ghost use Rattle.std.specs.Str.{IsAscii};
 ghost use Rattle.ibc_ids.specs.Names.{is_port, is_client, is_connection, is_channel, is_user, is_receiver, is_memo, is_version, is_denom};
 
-use crate::Name;
+use crate::{Name, forms};
 
 /// A kind of names: which texts have its form.
 pub trait Kind {
     ghost form: { List ℕ → Bool };
+
+    /// Whether a text has the form.
+    fn has_form(text: &[u8]) -> bool
+        ensures { result ≡ form text.now };
+
+    /// Texts of the form are ASCII, and of 256 bytes at most.
+    fn are_short_and_ascii()
+        ensures { (text : List ℕ) → IsTrue (form text) → IsAscii text × (length text ≤ 256) };
 }
 
 /// A port's identifier: 2 to 128 letters, digits and `.` `_` `+` `-` `#` `[` `]` `<` `>` (ICS 24).
@@ -75,36 +84,99 @@ pub struct DenomKind;
 
 impl Kind for PortKind {
     ghost form = { is_port };
+
+    fn has_form(text: &[u8]) -> bool {
+        forms::is_identifier(text, 2, 128)
+    }
+
+    #[tactic(auto, using(crate::proofs::Ascii::ports))]
+    fn are_short_and_ascii() {}
 }
 
 impl Kind for ClientKind {
     ghost form = { is_client };
+
+    fn has_form(text: &[u8]) -> bool {
+        forms::is_identifier(text, 9, 64)
+    }
+
+    #[tactic(auto, using(crate::proofs::Ascii::clients))]
+    fn are_short_and_ascii() {}
 }
 
 impl Kind for ConnectionKind {
     ghost form = { is_connection };
+
+    fn has_form(text: &[u8]) -> bool {
+        forms::is_identifier(text, 10, 64)
+    }
+
+    #[tactic(auto, using(crate::proofs::Ascii::connections))]
+    fn are_short_and_ascii() {}
 }
 
 impl Kind for ChannelKind {
     ghost form = { is_channel };
+
+    fn has_form(text: &[u8]) -> bool {
+        forms::is_identifier(text, 8, 64)
+    }
+
+    #[tactic(auto, using(crate::proofs::Ascii::channels))]
+    fn are_short_and_ascii() {}
 }
 
 impl Kind for UserKind {
     ghost form = { is_user };
+
+    fn has_form(text: &[u8]) -> bool {
+        forms::is_word(text, 1, 32)
+    }
+
+    #[tactic(auto, using(crate::proofs::Ascii::users))]
+    fn are_short_and_ascii() {}
 }
 
 impl Kind for ReceiverKind {
     ghost form = { is_receiver };
+
+    fn has_form(text: &[u8]) -> bool {
+        forms::is_plain(text, 1, 64)
+    }
+
+    #[tactic(auto, using(crate::proofs::Ascii::receivers))]
+    fn are_short_and_ascii() {}
 }
 
 impl Kind for MemoKind {
     ghost form = { is_memo };
+
+    fn has_form(text: &[u8]) -> bool {
+        forms::is_plain(text, 0, 256)
+    }
+
+    #[tactic(auto, using(crate::proofs::Ascii::memos))]
+    fn are_short_and_ascii() {}
 }
 
 impl Kind for VersionKind {
     ghost form = { is_version };
+
+    fn has_form(text: &[u8]) -> bool {
+        forms::is_version(text)
+    }
+
+    #[tactic(auto, using(crate::proofs::Ascii::versions))]
+    fn are_short_and_ascii() {}
 }
 
 impl Kind for DenomKind {
     ghost form = { is_denom };
+
+    fn has_form(text: &[u8]) -> bool {
+        forms::is_denom(text)
+    }
+
+    #[tactic(auto, using(crate::proofs::Ascii::denominations))]
+    fn are_short_and_ascii() {}
 }

@@ -1,12 +1,12 @@
 //! Texts of one kind.
 
-ghost use Rattle.std.specs.Prelude.{◌≡◌, List, ℕ, Some, refl, bytes_eq, string_bytes, IsTrue, IfOk};
+ghost use Rattle.std.specs.Prelude.{◌≡◌, ◌↔◌, List, ℕ, Some, refl, bytes_eq, string_bytes, IsTrue, IfOk, IsErrOf, IsOkUnless};
 ghost use Rattle.std.specs.Ordering.{nat_cmp};
 ghost use Rattle.std.specs.Cmp.{on_equiv, on_total, on_po, on_per, partial_equiv_from_equiv};
 ghost use Rattle.std.specs.Cmp.Lexicographic.{slice_cmp, nat_list_eq_equiv, nat_list_cmp_total, texts_ties, texts_po};
 
-use crate::Kind;
-use std::alloc::AllocError;
+use crate::{Kind, Refusal};
+use std::alloc::{AllocError, Global};
 use std::cmp::Ordering;
 use std::marker::{Model, PhantomData};
 
@@ -26,6 +26,34 @@ impl<K: Kind> Model for Name<K> {
 }
 
 impl<K: Kind> Name<K> {
+    /// The name with this text. Refused: `BadName` exactly where the text hasn't the form of the kind; `NoMemory`.
+    pub fn parse(alloc: Global, text: &str) -> Result<Name<K>, Refusal>
+        ensures ok { IfOk result (λ name. (name ≡ text.now) × IsTrue (K.form text.now)) }
+        ensures bad { IsErrOf result Refusal.BadName ↔ ¬ IsTrue (K.form text.now) }
+        ensures memory { IsTrue (K.form text.now) → IsOkUnless result Refusal.NoMemory }
+    {
+        if !K::has_form(text.as_bytes()) {
+            return Err(Refusal::BadName);
+        }
+        Ok(Name {
+            text: String::from_str(alloc, text)?,
+            kind: PhantomData,
+        })
+    }
+
+    /// The name with these bytes. Refused as by `parse`.
+    pub fn from_bytes(alloc: Global, bytes: &[u8]) -> Result<Name<K>, Refusal>
+        ensures ok { IfOk result (λ name. (name ≡ bytes.now) × IsTrue (K.form bytes.now)) }
+        ensures bad { IsErrOf result Refusal.BadName ↔ ¬ IsTrue (K.form bytes.now) }
+        ensures memory { IsTrue (K.form bytes.now) → IsOkUnless result Refusal.NoMemory }
+    {
+        K::are_short_and_ascii();
+        match str::from_utf8(bytes) {
+            Ok(text) => Name::parse(alloc, text),
+            Err(_) => Err(Refusal::BadName),
+        }
+    }
+
     /// The name's text.
     pub fn as_str(&self) -> &str
         ensures text { result.now ≡ self.now }

@@ -1,3 +1,36 @@
 pub mod Computing
 pub mod Scripts
+pub mod Openings
+pub mod PacketScripts
+mod PublishedHeights
+mod WindowOfHeights
+pub mod Members
+pub mod Images
+pub mod ImageChanges
+pub mod CoreChanges
 mod Handshake
+mod ForgedHandshakes
+mod CrossedClaims
+mod TokensThereAndBack
+mod RefundedTokens
+mod TokenTimeouts
+mod RefusedPackets
+mod TokensOverTwoHops
+mod SeveralTokens
+mod WholeOrNotAtAll
+mod TotalsOfAChannel
+mod NotesInOrder
+mod NoteTimeoutCloses
+mod ClosedPeer
+mod TimeoutsToTheBlock
+mod SizesAndNumbers
+mod FullCounters
+mod AllowedBeginnings
+mod TokenSpellings
+mod ListsOfTokens
+mod PeersAndHistories
+mod GenesisStore
+mod TrueProofs
+mod RelayedPackets
+mod ALedger
+pub mod DataRead

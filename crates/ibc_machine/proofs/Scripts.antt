@@ -2,6 +2,7 @@
 -- written proofs, of which only the marks are looked at, so that nothing is hashed.
 use Rattle.std.specs.Prelude.{ℕ, true, codes, List, [], ◌∷◌, map}
 use Rattle.ibc_ids.specs.Texts.{Text}
+use Rattle.ibc_ids.specs.Maps.{Map}
 use Rattle.ibc_ids.specs.declared.refusal.Refusal.{Refusal}
 use Rattle.ibc_wire.specs.declared.records.Order.{Order}
 use Rattle.ibc_wire.specs.declared.records.Order.TheVariants.{Unordered, Ordered}
@@ -13,7 +14,7 @@ use Rattle.ibc_machine.specs.declared.reply.Reply.{Reply}
 use Rattle.ibc_machine.specs.declared.reply.Reply.TheVariants as reply
 use Rattle.ibc_machine.specs.Records.{Chain}
 use Rattle.ibc_machine.specs.Bank.{Balances}
-use Rattle.ibc_machine.specs.Genesis.{GenesisState, ChainState, Holding, start}
+use Rattle.ibc_machine.specs.Genesis.{GenesisState, ChainState, Holding}
 use Rattle.ibc_machine.specs.Machine.{World, Marks, answer}
 
 -- every root is true, and every proof is the written one
@@ -23,29 +24,29 @@ honest = record { is_root = λ _ _. true; is_proof = λ _. true; is_written = λ
 -- a reply without the root of a block
 abbrev pub shown : Reply → Reply
 shown (reply.Ok (effect.Block h root)) = reply.Ok (effect.Block h [])
-shown (reply.Ok effect.None) = reply.Ok effect.None
-shown (reply.Ok (effect.Client id)) = reply.Ok (effect.Client id)
-shown (reply.Ok (effect.Connection id)) = reply.Ok (effect.Connection id)
-shown (reply.Ok (effect.Channel id)) = reply.Ok (effect.Channel id)
-shown (reply.Ok (effect.Sent n)) = reply.Ok (effect.Sent n)
-shown (reply.Ok (effect.Ack ack)) = reply.Ok (effect.Ack ack)
-shown (reply.No r) = reply.No r
+shown given = given
 
--- the replies to events in turn, and the world after them; the oldest row of a window is there, as it is
--- where one thread runs all chains
+-- the replies to events in turn; the oldest row of a window is there, as it is where one thread runs all chains
+abbrev pub replies_by : Marks → GenesisState → World → List Event → List Reply
+replies_by marks genesis world [] = []
+replies_by marks genesis world (e ∷ es) =
+    let (given, after) = answer marks genesis true world e in shown given ∷ replies_by marks genesis after es
+
 abbrev pub replies : GenesisState → World → List Event → List Reply
-replies genesis world [] = []
-replies genesis world (e ∷ es) =
-    let (given, after) = answer honest genesis true world e in shown given ∷ replies genesis after es
+replies = replies_by honest
 
+-- the world after events
 abbrev pub world_after : GenesisState → World → List Event → World
 world_after genesis world [] = world
 world_after genesis world (e ∷ es) = world_after genesis (answer honest genesis true world e).1 es
 
 abbrev pub balances : World → List Balances
-balances world = map (λ (c : Chain). c.records.apps.balances) world
+balances world = map (λ (chain : Chain). chain.records.apps.balances) world
 
--- ---- chains
+abbrev pub notes : World → List (Map Text (List Text))
+notes world = map (λ (chain : Chain). chain.records.apps.notes) world
+
+-- ---- people and denominations
 
 abbrev pub alice : Text
 alice = codes "alice"
@@ -53,8 +54,36 @@ alice = codes "alice"
 abbrev pub bob : Text
 bob = codes "bob"
 
+abbrev pub carol : Text
+carol = codes "carol"
+
 abbrev pub atom : Text
 atom = codes "atom"
+
+abbrev pub gold : Text
+gold = codes "gold"
+
+-- what came over first channels from a to b, and from there to c
+abbrev pub atom_from_a : Text
+atom_from_a = codes "transfer/channel-0/atom"
+
+abbrev pub atom_over_b : Text
+atom_over_b = codes "transfer/channel-0/transfer/channel-0/atom"
+
+abbrev pub gold_from_a : Text
+gold_from_a = codes "transfer/channel-0/gold"
+
+abbrev pub escrow_0 : Text
+escrow_0 = codes "escrow/transfer/channel-0"
+
+abbrev pub escrow_1 : Text
+escrow_1 = codes "escrow/transfer/channel-1"
+
+-- one line of balances
+abbrev pub holds : Text → ℕ → Text → (Text × Text) × ℕ
+holds holder amount denom = ((holder, denom), amount)
+
+-- ---- chains
 
 abbrev pub chain_with : List Holding → ChainState
 chain_with holdings = record { time = 100; balances = holdings }
@@ -67,9 +96,55 @@ a_and_b = record {
   chains = chain_with ((alice, atom, 1000) ∷ []) ∷ chain_with [] ∷ [];
 }
 
+-- what it begins with
+abbrev pub alice_has_all : List Balances
+alice_has_all = (holds alice 1000 atom ∷ []) ∷ [] ∷ []
+
 -- three chains, a, b and c, of which alice holds 1000 atom on a
 abbrev pub a_b_and_c : GenesisState
 a_b_and_c = record a_and_b { chains = chain_with ((alice, atom, 1000) ∷ []) ∷ chain_with [] ∷ chain_with [] ∷ [] }
+
+-- a chain, with the names that it gave to its client, connection and channel
+pub record Side : Type 0 where
+  pub number : ℕ
+  pub client : Text
+  pub connection : Text
+  pub channel : Text
+
+-- the chain with the first names, and with the second ones
+abbrev pub first : ℕ → Side
+first k =
+    record { number = k; client = codes "inprocess-0"; connection = codes "connection-0"; channel = codes "channel-0" }
+
+abbrev pub second : ℕ → Side
+second k =
+    record { number = k; client = codes "inprocess-1"; connection = codes "connection-1"; channel = codes "channel-1" }
+
+abbrev pub a : Side
+a = first 0
+
+abbrev pub b : Side
+b = first 1
+
+abbrev pub c : Side
+c = first 2
+
+-- what a channel is for
+pub record Use : Type 0 where
+  pub port : Text
+  pub order : Order
+  pub version : Text
+
+-- tokens of one denomination a packet
+abbrev pub for_tokens : Use
+for_tokens = record { port = codes "transfer"; order = Unordered; version = codes "ics20-1" }
+
+-- several denominations a packet
+abbrev pub for_several : Use
+for_several = record { port = codes "transfer"; order = Unordered; version = codes "ics20-own-2" }
+
+abbrev pub for_notes : Use
+for_notes = record { port = codes "note"; order = Ordered; version = codes "note-1" }
 
 -- ---- replies
 
@@ -82,14 +157,14 @@ no = reply.No
 abbrev pub blocked : ℕ → Reply
 blocked h = reply.Ok (effect.Block h [])
 
-abbrev pub new_client_0 : Reply
-new_client_0 = reply.Ok (effect.Client (codes "inprocess-0"))
+abbrev pub new_client : Text → Reply
+new_client id = reply.Ok (effect.Client id)
 
-abbrev pub new_connection_0 : Reply
-new_connection_0 = reply.Ok (effect.Connection (codes "connection-0"))
+abbrev pub new_connection : Text → Reply
+new_connection id = reply.Ok (effect.Connection id)
 
-abbrev pub new_channel_0 : Reply
-new_channel_0 = reply.Ok (effect.Channel (codes "channel-0"))
+abbrev pub new_channel : Text → Reply
+new_channel id = reply.Ok (effect.Channel id)
 
 abbrev pub sent : ℕ → Reply
 sent n = reply.Ok (effect.Sent n)
@@ -97,136 +172,26 @@ sent n = reply.Ok (effect.Sent n)
 abbrev pub acked : Text → Reply
 acked ack = reply.Ok (effect.Ack ack)
 
--- ---- events of a chain, by their names; the identifiers are the first of their kind
+-- ---- clients and blocks
 
-abbrev pub client : Text
-client = codes "inprocess-0"
+-- a client of y on x
+abbrev pub create : Side → Side → Event
+create x y = event.Message x.number (message.CreateClient (record { chain = y.number }))
 
-abbrev pub connection : Text
-connection = codes "connection-0"
-
-abbrev pub channel : Text
-channel = codes "channel-0"
-
-abbrev pub create : ℕ → ℕ → Event
-create k of = event.Message k (message.CreateClient (record { chain = of }))
-
--- the client under this name is told of a height of another chain, of this time
-abbrev pub update_at : ℕ → ℕ → Text → ℕ → ℕ → Event
-update_at time k id of h =
-    event.Message k (message.UpdateClient (record {
-      client = id;
-      header = record { chain = of; height = h; time = time; root = [] };
+-- x's client is told of a height of y, which had this time
+abbrev pub update_at : ℕ → Side → Side → ℕ → Event
+update_at time x y h =
+    event.Message x.number (message.UpdateClient (record {
+      client = x.client;
+      header = record { chain = y.number; height = h; time = time; root = [] };
     }))
 
-abbrev pub update : ℕ → ℕ → ℕ → Event
-update k of h = update_at 100 k client of h
+abbrev pub update : Side → Side → ℕ → Event
+update = update_at 100
 
-abbrev pub block_at : ℕ → ℕ → Event
-block_at time k = event.Block k time
+-- x's block is ended; the next begins at this time
+abbrev pub block_at : ℕ → Side → Event
+block_at time x = event.Block x.number time
 
-abbrev pub block : ℕ → Event
-block k = block_at 100 k
-
--- ---- the handshakes between chains x and y
-
-abbrev pub begin_connection : ℕ → Event
-begin_connection k =
-    event.Message k (message.ConnOpenInit (record { client = client; peer_client = client }))
-
--- the peer's connection, the claimed chain and latest height, and the proof's height
-abbrev pub try_connection : ℕ → ℕ → ℕ → ℕ → Event
-try_connection k claimed latest h =
-    event.Message k (message.ConnOpenTry (record {
-      client = client;
-      peer_client = client;
-      peer_connection = connection;
-      claim = record { chain = claimed; latest = latest };
-      height = h;
-      proof_end = [];
-      proof_client = [];
-    }))
-
-abbrev pub ack_connection : ℕ → Text → ℕ → ℕ → ℕ → Event
-ack_connection k theirs claimed latest h =
-    event.Message k (message.ConnOpenAck (record {
-      connection = connection;
-      peer_connection = theirs;
-      claim = record { chain = claimed; latest = latest };
-      height = h;
-      proof_end = [];
-      proof_client = [];
-    }))
-
-abbrev pub confirm_connection : ℕ → Text → ℕ → Event
-confirm_connection k id h =
-    event.Message k (message.ConnOpenConfirm (record { connection = id; height = h; proof = [] }))
-
-abbrev pub begin_channel : ℕ → Text → Order → Text → Event
-begin_channel k port order version =
-    event.Message k (message.ChanOpenInit (record {
-      port = port;
-      order = order;
-      connection = connection;
-      peer_port = port;
-      version = version;
-    }))
-
-abbrev pub try_channel : ℕ → Text → Order → Text → ℕ → Event
-try_channel k port order version h =
-    event.Message k (message.ChanOpenTry (record {
-      port = port;
-      order = order;
-      connection = connection;
-      peer_port = port;
-      peer_channel = channel;
-      version = version;
-      height = h;
-      proof = [];
-    }))
-
-abbrev pub ack_channel : ℕ → Text → ℕ → Event
-ack_channel k port h =
-    event.Message k (message.ChanOpenAck (record {
-      port = port;
-      channel = channel;
-      peer_channel = channel;
-      height = h;
-      proof = [];
-    }))
-
-abbrev pub confirm_channel : ℕ → Text → ℕ → Event
-confirm_channel k port h =
-    event.Message k (message.ChanOpenConfirm (record { port = port; channel = channel; height = h; proof = [] }))
-
--- the twenty steps that open a channel between chains 0 and 1 over new clients and a new connection
-abbrev pub opening : Text → Order → Text → List Event
-opening port order version =
-    create 0 1 ∷ create 1 0 ∷ begin_connection 0 ∷ block 0 ∷ update 1 0 1 ∷ try_connection 1 1 0 1 ∷ block 1
-    ∷ update 0 1 1 ∷ ack_connection 0 connection 0 1 1 ∷ begin_channel 0 port order version ∷ block 0
-    ∷ update 1 0 2 ∷ confirm_connection 1 connection 2 ∷ try_channel 1 port order version 2 ∷ block 1
-    ∷ update 0 1 2 ∷ ack_channel 0 port 2 ∷ block 0 ∷ update 1 0 3 ∷ confirm_channel 1 port 3 ∷ []
-
--- what the twenty steps answer
-abbrev pub opening_replies : List Reply
-opening_replies =
-    new_client_0 ∷ new_client_0 ∷ new_connection_0 ∷ blocked 1 ∷ done ∷ new_connection_0 ∷ blocked 1
-    ∷ done ∷ done ∷ new_channel_0 ∷ blocked 2
-    ∷ done ∷ done ∷ new_channel_0 ∷ blocked 2
-    ∷ done ∷ done ∷ blocked 3 ∷ done ∷ done ∷ []
-
-abbrev pub opening_for_transfers : List Event
-opening_for_transfers = opening (codes "transfer") Unordered (codes "ics20-1")
-
-abbrev pub opening_for_several : List Event
-opening_for_several = opening (codes "transfer") Unordered (codes "ics20-own-2")
-
-abbrev pub opening_for_notes : List Event
-opening_for_notes = opening (codes "note") Ordered (codes "note-1")
-
--- the worlds after an opening
-abbrev pub for_transfers : World
-for_transfers = world_after a_and_b (start a_and_b) opening_for_transfers
-
-abbrev pub for_notes : World
-for_notes = world_after a_and_b (start a_and_b) opening_for_notes
+abbrev pub block : Side → Event
+block = block_at 100

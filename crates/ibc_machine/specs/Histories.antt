@@ -1,7 +1,7 @@
 -- What was sent, received, acknowledged and timed out at an end: filters of what happened on its chain
 -- (ICS 4, "Definitions" and "Desired Properties").
-use Rattle.std.specs.Prelude.{ℕ, Bool, true, false, ◌==◌, ◌&&◌, List, map, Option, Some, None}
-use Rattle.std.specs.List.{filter, filter_map}
+use Rattle.std.specs.Prelude.{ℕ, Bool, true, false, ◌==◌, ◌&&◌, List, map, slice_get, Option, Some, None, if◌then◌else◌}
+use Rattle.std.specs.List.{filter, filter_map, find}
 use Rattle.ibc_ids.specs.Texts.{Text, same_text}
 use Rattle.ibc_wire.specs.declared.packet.Packet.{Packet}
 use Rattle.ibc_wire.specs.declared.messages.Message.TheVariants as message
@@ -102,3 +102,17 @@ timed_out e happened = filter_map (timed_out_by e) (history_of e.chain happened)
 
 abbrev pub sequences : List Packet → List ℕ
 sequences packets = map (λ (p : Packet). p.sequence) packets
+
+-- the packet that was sent from an end under a sequence, whether its commitment stands or not
+abbrev pub packet_sent : End → Channel → List Happened → ℕ → Option Packet
+packet_sent e mine happened n = find (λ (p : Packet). p.sequence == n) (sent e mine happened)
+
+-- the acknowledgement that an accepted event wrote at the end for a sequence
+abbrev pub ack_by : End → ℕ → Happened → Option Text
+ack_by e n (event.Message k (message.RecvPacket m), reply.Ok (effect.Ack ack)) =
+    if is_destination e m.packet && (m.packet.sequence == n) then Some ack else None
+ack_by e n _ = None
+
+-- the acknowledgement that was written at an end for a sequence
+abbrev pub ack_written : End → List Happened → ℕ → Option Text
+ack_written e happened n = slice_get (filter_map (ack_by e n) (history_of e.chain happened)) 0

@@ -135,36 +135,52 @@ receipt_key mine p =
     if is_ordered mine then key.NextSequenceRecv p.destination_port p.destination_channel
     else key.Receipt p.destination_port p.destination_channel p.sequence
 
--- the message of a kind on the packet p, which mine sent and theirs is to receive
-abbrev pub message_of : View → Channel → Channel → Kind → Packet → Text → Message
-message_of a mine theirs Receive p ack =
-    message.RecvPacket (record {
-      packet = p;
-      height = a.height;
-      proof = proof_at a (key.Commitment p.source_port p.source_channel p.sequence);
-    })
-message_of a mine theirs Acknowledge p ack =
+-- the proof of a packet's key at its source, or at its destination
+abbrev pub proof_at_source : View → (Text → Text → ℕ → Key) → Packet → Text
+proof_at_source a key_of p = proof_at a (key_of p.source_port p.source_channel p.sequence)
+
+abbrev pub proof_at_destination : View → (Text → Text → ℕ → Key) → Packet → Text
+proof_at_destination a key_of p = proof_at a (key_of p.destination_port p.destination_channel p.sequence)
+
+-- the proof that the peer's end is as it is
+abbrev pub proof_of_end : View → Packet → Text
+proof_of_end a p = proof_at a (key.ChannelEnd p.destination_port p.destination_channel)
+
+abbrev pub recv_message : View → Packet → Message
+recv_message a p =
+    message.RecvPacket (record { packet = p; height = a.height; proof = proof_at_source a key.Commitment p })
+
+abbrev pub ack_message : View → Packet → Text → Message
+ack_message a p ack =
     message.AckPacket (record {
       packet = p;
       ack = ack;
       height = a.height;
-      proof = proof_at a (key.Acknowledgement p.destination_port p.destination_channel p.sequence);
+      proof = proof_at_destination a key.Acknowledgement p;
     })
-message_of a mine theirs TimeOut p ack =
-    message.Timeout (record {
-      packet = p;
-      next_recv = next_recv mine theirs;
-      height = a.height;
-      proof = proof_at a (receipt_key mine p);
-    })
-message_of a mine theirs TimeOutClosed p ack =
+
+-- for the sender, with the sequence that the peer waits for
+abbrev pub timeout_message : View → Packet → ℕ → Key → Message
+timeout_message a p next receipt =
+    message.Timeout (record { packet = p; next_recv = next; height = a.height; proof = proof_at a receipt })
+
+abbrev pub timeout_on_close_message : View → Packet → ℕ → Key → Message
+timeout_on_close_message a p next receipt =
     message.TimeoutOnClose (record {
       packet = p;
-      next_recv = next_recv mine theirs;
+      next_recv = next;
       height = a.height;
-      proof = proof_at a (receipt_key mine p);
-      proof_close = proof_at a (key.ChannelEnd p.destination_port p.destination_channel);
+      proof = proof_at a receipt;
+      proof_close = proof_of_end a p;
     })
+
+-- the message of a kind on the packet p, which mine sent and theirs is to receive
+abbrev pub message_of : View → Channel → Channel → Kind → Packet → Text → Message
+message_of a mine theirs Receive p ack = recv_message a p
+message_of a mine theirs Acknowledge p ack = ack_message a p ack
+message_of a mine theirs TimeOut p ack = timeout_message a p (next_recv mine theirs) (receipt_key mine p)
+message_of a mine theirs TimeOutClosed p ack =
+    timeout_on_close_message a p (next_recv mine theirs) (receipt_key mine p)
 
 -- the packet under a sequence that stands at an end
 abbrev pub packet_at : End → Channel → ℕ → Option Packet

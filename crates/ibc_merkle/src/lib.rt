@@ -1,6 +1,18 @@
 //! Trees over a chain's provable records, and proofs of presence and absence (ICS 23).
 #![tactic(auto)]
 
+mod entry;
+mod hashing;
+mod laws;
 mod proof;
+mod search;
+mod tree;
+mod writing;
 
+pub use entry::Entry;
+pub use hashing::{hash_inner, hash_leaf, hash_value};
+pub use laws::{accepted_is_written, written_is_accepted};
 pub use proof::{Absence, Operation, Operations, Presence, Proof};
+pub use search::place;
+pub use tree::root;
+pub use writing::{prove, prove_absent, prove_present};

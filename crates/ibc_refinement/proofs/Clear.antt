@@ -14,14 +14,14 @@ use Rattle.ibc_machine.specs.Records.{Core}
 use Rattle.ibc_machine.specs.Values.{Value, Claim, look, value_bytes}
 use Rattle.ibc_machine.specs.Image.{image, keys, pair_at}
 use Rattle.ibc_machine.specs.HashedTexts.{delivered}
-use Rattle.ibc_refinement.proofs.Texts.{text_tied}
+use Rattle.ibc_ids.proofs.Texts.{text_tied}
 use Rattle.ibc_refinement.proofs.ShortTexts.{AreBytes}
 use Rattle.ibc_refinement.proofs.Digests.{IsClear}
 use Rattle.ibc_refinement.specs.Lower.{Lower}
 use Rattle.ibc_refinement.proofs.ShortTexts.{FitsText, FitsPair}
 use Rattle.ibc_refinement.proofs.WrittenForm.{written_has_form}
-use Rattle.ibc_refinement.proofs.Members.{Is_in, in_cases, in_contains, in_filter_map_from}
-use Rattle.ibc_refinement.proofs.Images.{pair_from}
+use Rattle.ibc_machine.proofs.Members.{Is_in, in_cases, in_contains, in_filter_map_from}
+use Rattle.ibc_machine.proofs.Images.{pair_from}
 use Rattle.ibc_refinement.proofs.PlainValues.{ArePlain, IsPlainClaim, plain_tells, plain_one_value}
 use Rattle.ibc_refinement.proofs.Shown.{AreClear}
 

@@ -25,7 +25,7 @@ use Rattle.ibc_machine.specs.Packets.{is_ordered, not_received}
 use Rattle.ibc_machine.specs.HashedTexts.{delivered, packet_texts, message_texts}
 use Rattle.ibc_refinement.proofs.ShortTexts.{AreBytes}
 use Rattle.ibc_refinement.proofs.SameSpellings.{IsShort, IsPeer, IsPlainChannel}
-use Rattle.ibc_refinement.proofs.Members.{Is_in, in_left, in_right}
+use Rattle.ibc_machine.proofs.Members.{Is_in, in_left, in_right}
 use Rattle.ibc_refinement.proofs.PlainValues.{IsPlain, value_kind, kind_at}
 use Rattle.ibc_refinement.proofs.Clear.{IsFitClaim}
 use Rattle.ibc_refinement.proofs.SameAnswers.{AllAsked}

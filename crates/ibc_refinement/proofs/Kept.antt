@@ -8,8 +8,8 @@ use Rattle.ibc_machine.specs.declared.reply.Reply.TheVariants as reply
 use Rattle.ibc_machine.specs.Records.{Core, Client, Channel, with_client, with_connection, with_channel}
 use Rattle.ibc_machine.specs.Evidence.{require_number}
 use Rattle.ibc_machine.specs.Ledgers.{is_block_reply}
-use Rattle.ibc_refinement.proofs.Texts.{text_tied}
-use Rattle.ibc_refinement.proofs.Images.{pair_tied}
+use Rattle.ibc_ids.proofs.Texts.{text_tied}
+use Rattle.ibc_machine.proofs.Images.{pair_tied}
 use Rattle.ibc_refinement.proofs.Checked.{require_true}
 use Rattle.ibc_refinement.proofs.Entries.{all_with}
 use Rattle.ibc_refinement.proofs.Typed.{IsTypedClient, IsTypedConnectionAt, IsTypedChannelAt, IsTyped}

@@ -13,8 +13,8 @@ use Rattle.ibc_machine.specs.Records.{Core, Client, Block, is_one_of, added, cli
 use Rattle.ibc_machine.specs.Clients.{new_client, updated}
 use Rattle.ibc_machine.specs.Machine.{World, block_at, block_seen}
 use Rattle.ibc_machine.specs.Replay.{Consensus, consensus_cmp}
-use Rattle.ibc_refinement.proofs.Texts.{text_cmp_total, text_tied}
-use Rattle.ibc_refinement.proofs.Images.{at-with}
+use Rattle.ibc_ids.proofs.Texts.{text_cmp_total, text_tied}
+use Rattle.ibc_machine.proofs.Images.{at-with}
 use Rattle.ibc_refinement.proofs.Steps.{Knows, consensus_of}
 
 consensus_cmp_total : IsTotalOrder consensus_cmp

@@ -1,13 +1,10 @@
-pub mod Texts
 pub mod ShortTexts
 pub mod Digests
 pub mod SameSpellings
-pub mod Depths
 pub mod WrittenForm
-pub mod Members
 pub mod SameValues
-pub mod Images
 pub mod PlainValues
+pub mod Lowered
 pub mod Shown
 pub mod Clear
 pub mod Checked

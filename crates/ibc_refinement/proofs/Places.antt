@@ -1,7 +1,7 @@
 -- What stands at a place of a list that was changed, mapped or made longer.
 use Rattle.std.proofs.Common.{◌≡◌, ℕ, zero, suc, ◌<◌, List, [], ◌∷◌, ◌++◌, length, refl, sym, ap, Some, slice_get, slice_set, arith, inl, inr, ◌⊎◌, subst}
 use Rattle.std.specs.List.{AllByRecursion}
-use Rattle.ibc_refinement.proofs.Members.{Is_in}
+use Rattle.ibc_machine.proofs.Members.{Is_in}
 
 pub get_set : {A : Type 0} (xs : List A) (k : ℕ) (x : A) → k < length xs → slice_get (slice_set xs k x) k ≡ Some x
 get_set [] k x h = absurd (omega arith)

@@ -18,7 +18,7 @@ use Rattle.ibc_machine.specs.Merge.{is_of, Merges}
 use Rattle.ibc_machine.specs.Worlds.{entries, interleaved}
 use Rattle.ibc_refinement.specs.Refinement.{MergedIsRun, KeptOrderIsRun}
 use Rattle.ibc_refinement.specs.Lower.{Lower}
-use Rattle.ibc_refinement.proofs.Members.{Is_in}
+use Rattle.ibc_machine.proofs.Members.{Is_in}
 use Rattle.ibc_refinement.proofs.EntrySteps.{ledger_of, own_typed}
 use Rattle.ibc_refinement.proofs.RunStates.{AreOfWorld, ledger_at}
 use Rattle.ibc_refinement.proofs.MergedRun.{AreWithin, runs_on, all_start}

@@ -12,7 +12,7 @@ use Rattle.ibc_machine.specs.Ledgers.{Ledger, IsOwnEntry, chain_of, met_by, stat
 use Rattle.ibc_machine.specs.HashedTexts.{HasNoClash}
 use Rattle.ibc_machine.specs.Merge.{is_of, ReadsWhatIsBefore}
 use Rattle.ibc_refinement.specs.Lower.{Lower}
-use Rattle.ibc_refinement.proofs.Members.{Is_in}
+use Rattle.ibc_machine.proofs.Members.{Is_in}
 use Rattle.ibc_refinement.proofs.Places.{get_set, get_set_other, get_within, length_set}
 use Rattle.ibc_refinement.proofs.Steps.{oldest_of}
 use Rattle.ibc_refinement.proofs.EntrySteps.{ledger_of, own_typed, replay_more}

@@ -15,7 +15,7 @@ use Rattle.ibc_machine.specs.Ledgers.{Ledger, IsOwnEntry, is_block_reply, is_acc
 use Rattle.ibc_machine.specs.HashedTexts.{event_texts, ledger_texts, HasNoClash}
 use Rattle.ibc_machine.specs.Merge.{is_of, blocks_of}
 use Rattle.ibc_refinement.specs.Lower.{Lower}
-use Rattle.ibc_refinement.proofs.Members.{Is_in, in_left, in_right, in_flat_map}
+use Rattle.ibc_machine.proofs.Members.{Is_in, in_left, in_right, in_flat_map}
 use Rattle.ibc_refinement.proofs.Places.{get_cases, get_in, all_in}
 use Rattle.ibc_refinement.proofs.Clear.{AreFit}
 use Rattle.ibc_refinement.proofs.Typed.{IsTyped}

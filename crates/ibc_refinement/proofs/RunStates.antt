@@ -11,7 +11,7 @@ use Rattle.ibc_machine.specs.Replay.{LedgerState, StampedEntry, replay, met_stat
 use Rattle.ibc_machine.specs.Ledgers.{Ledger, IsOwnEntry, IsLedger, met_by, state_of}
 use Rattle.ibc_machine.specs.Merge.{is_of, blocks_of}
 use Rattle.ibc_machine.specs.Worlds.{AreLedgersOf, AreOfOneTable}
-use Rattle.ibc_refinement.proofs.Members.{Is_in}
+use Rattle.ibc_machine.proofs.Members.{Is_in}
 use Rattle.ibc_refinement.proofs.Places.{get_there}
 use Rattle.ibc_refinement.proofs.Clear.{AreFit}
 use Rattle.ibc_refinement.proofs.Steps.{KnowsBlocks}

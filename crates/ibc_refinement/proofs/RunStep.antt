@@ -23,7 +23,7 @@ use Rattle.ibc_machine.specs.Ledgers.{Ledger, IsReading, is_looking, header_in, 
 use Rattle.ibc_machine.specs.HashedTexts.{event_texts, HasNoClash}
 use Rattle.ibc_machine.specs.Merge.{is_of, blocks_of, ReadsWhatIsBefore}
 use Rattle.ibc_refinement.specs.Lower.{Lower}
-use Rattle.ibc_refinement.proofs.Members.{Is_in}
+use Rattle.ibc_machine.proofs.Members.{Is_in}
 use Rattle.ibc_refinement.proofs.Steps.{KnowsBlocks, oldest_of, block_step}
 use Rattle.ibc_refinement.proofs.Typed.{IsTyped}
 use Rattle.ibc_refinement.proofs.TypedMessages.{message_typed}

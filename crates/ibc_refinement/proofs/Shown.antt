@@ -6,7 +6,7 @@ use Rattle.std.proofs.lemmas.Bool.{and_parts, and_from, false≢true}
 use Rattle.ibc_ids.specs.Texts.{Text, same_text, text_cmp}
 use Rattle.ibc_ids.specs.Maps.{at}
 use Rattle.ibc_ids.specs.Paths.{path}
-use Rattle.ibc_refinement.proofs.Texts.{text_same, same_text_from}
+use Rattle.ibc_ids.proofs.Texts.{text_same, same_text_from}
 use Rattle.ibc_merkle.specs.Tree.{tree}
 use Rattle.ibc_merkle.specs.Proofs.{accepts}
 use Rattle.ibc_merkle.specs.Written.{written}
@@ -25,7 +25,7 @@ use Rattle.ibc_machine.specs.Machine.{true_marks, shows_in}
 use Rattle.ibc_machine.specs.Replay.{is_shown}
 use Rattle.ibc_machine.specs.Records.{Block}
 use Rattle.ibc_machine.specs.HashedTexts.{delivered}
-use Rattle.ibc_refinement.proofs.Images.{TellsKey, image_at, image_sorted}
+use Rattle.ibc_machine.proofs.Images.{TellsKey, image_at, image_sorted}
 use Rattle.ibc_refinement.proofs.SameValues.{value_same, value_itself}
 
 pub same_answers : (a b : Bool) → (a ≡ true → b ≡ true) → (b ≡ true → a ≡ true) → a ≡ b

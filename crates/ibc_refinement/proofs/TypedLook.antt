@@ -19,11 +19,11 @@ use Rattle.ibc_machine.specs.Records.{Core, Client, Channel, client_at, connecti
 use Rattle.ibc_machine.specs.Values.{Value, ClientIs, ConnectionIs, ChannelIs, NumberIs, CommitmentIs, ReceiptIs, AckIs, look, receipt_if, commitment_text}
 use Rattle.ibc_machine.specs.Image.{image}
 use Rattle.ibc_machine.specs.HashedTexts.{commitment_texts, channel_texts, core_texts}
-use Rattle.ibc_refinement.proofs.Texts.{text_tied}
+use Rattle.ibc_ids.proofs.Texts.{text_tied}
 use Rattle.ibc_refinement.proofs.ShortTexts.{FitsText}
 use Rattle.ibc_refinement.proofs.SameSpellings.{IsShort, IsPeer}
-use Rattle.ibc_refinement.proofs.Members.{Is_in, in_left, in_right, in_flat_map, at_in}
-use Rattle.ibc_refinement.proofs.Images.{pair_tied}
+use Rattle.ibc_machine.proofs.Members.{Is_in, in_left, in_right, in_flat_map, at_in}
+use Rattle.ibc_machine.proofs.Images.{pair_tied}
 use Rattle.ibc_refinement.proofs.Entries.{all_at, all_one_of}
 use Rattle.ibc_refinement.proofs.Fitting.{name_fits, version_fits}
 use Rattle.ibc_refinement.proofs.PlainValues.{IsPlain}

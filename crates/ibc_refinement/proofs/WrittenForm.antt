@@ -14,7 +14,7 @@ use Rattle.ibc_merkle.specs.Hash.{leaf_mark}
 use Rattle.ibc_merkle.specs.declared.proof.Operation.{Operation}
 use Rattle.ibc_merkle.specs.declared.proof.Presence.{Presence}
 use Rattle.ibc_refinement.proofs.Digests.{length-hash, bytes-hash}
-use Rattle.ibc_refinement.proofs.Depths.{IsWithin, tree_deep}
+use Rattle.ibc_merkle.proofs.Depths.{IsWithin, tree_deep}
 use Rattle.ibc_wire.specs.Fields.{Field, have_form, str_up_to, count_between}
 use Rattle.ibc_wire.specs.Spelling.{operation_fields, presence_fields, neighbour_fields, proof_fields}
 use Rattle.ibc_refinement.proofs.ShortTexts.{AreBytes, FitsText, FitsPair}

@@ -1,24 +1,23 @@
 //! The refinement theorem and its use for a world's run, each as a function that does nothing.
-ghost use Rattle.ibc_refinement.specs.Lower.{Lower};
 ghost use Rattle.ibc_refinement.specs.Refinement.{MergedIsRun, KeptOrderIsRun, GoingOnIsRun, AppliedIsRun};
 
 /// A list that merges the histories of ledgers is a run of the machine since genesis, where no two texts that
-/// are hashed clash: given the laws of proofs, of their spellings and of paths.
+/// are hashed clash.
 pub fn merged_is_run()
-    ensures { Lower → MergedIsRun }
+    ensures { MergedIsRun }
 {}
 
 /// So is the order that a world keeps.
 pub fn kept_order_is_run()
-    ensures { Lower → KeptOrderIsRun }
+    ensures { KeptOrderIsRun }
 {}
 
 /// From one state of a world to the next: its events are steps of the machine, those that gave no entry too.
 pub fn going_on_is_run()
-    ensures { Lower → GoingOnIsRun }
+    ensures { GoingOnIsRun }
 {}
 
 /// The same from what a world's run promises of its ledgers.
 pub fn applied_is_run()
-    ensures { Lower → AppliedIsRun }
+    ensures { AppliedIsRun }
 {}

@@ -1,5 +1,4 @@
 //! The merge by stamps, for ledgers that several threads ran.
-ghost use Rattle.ibc_refinement.specs.Lower.{Lower};
 ghost use Rattle.ibc_refinement.specs.Stamps.{StampsMerge, StampedIsRun};
 
 /// The list that the stamps make of the histories merges them along the publications.
@@ -9,5 +8,5 @@ pub fn stamps_merge()
 
 /// So it is a run of the machine since genesis.
 pub fn stamped_is_run()
-    ensures { Lower → StampedIsRun }
+    ensures { StampedIsRun }
 {}

@@ -1,5 +1,5 @@
 -- The spellings on examples.
-use Rattle.std.proofs.Common.{◌≡◌, true, false, codes, [], ◌∷◌, ◌++◌, refl, replicate, Some, None, length, take}
+use Rattle.std.proofs.Common.{◌≡◌, ℕ, true, false, codes, [], ◌∷◌, ◌++◌, refl, replicate, Some, None, length, take}
 use Rattle.ibc_wire.specs.Fields.{bytes_of, have_form, str}
 use Rattle.ibc_wire.specs.Spelling.{client_state_bytes, connection_end_fields, connection_end_bytes, proof_bytes, proof_fields}
 use Rattle.ibc_wire.specs.Messages.{message_fields}
@@ -7,6 +7,8 @@ use Rattle.ibc_wire.specs.Reading.{proof_of}
 use Rattle.ibc_wire.specs.declared.records.ConnectionState.TheVariants as conn
 use Rattle.ibc_wire.specs.declared.records.ConnectionEnd.{ConnectionEnd}
 use Rattle.ibc_wire.specs.declared.messages.Message.TheVariants as message
+use Rattle.ibc_merkle.specs.declared.proof.Operation.{Operation}
+use Rattle.ibc_merkle.specs.declared.proof.Presence.{Presence}
 use Rattle.ibc_merkle.specs.declared.proof.Proof.{Proof}
 use Rattle.ibc_merkle.specs.declared.proof.Proof.TheVariants.{Present, Absent}
 
@@ -65,3 +67,43 @@ of_absence = Absent (record { key = codes "a"; left = None; right = Some (record
 absence_is_read : proof_of (proof_bytes of_absence) ≡ Some of_absence
 unfolding proof_of
 absence_is_read = refl
+
+-- ---- the longest proofs, and what is longer
+
+abbrev longest_operation : Operation
+longest_operation = record { prefix = replicate 64 1; suffix = replicate 64 2 }
+
+abbrev with_sizes : ℕ → ℕ → ℕ → Presence
+with_sizes key value operations = record {
+  key = replicate key 7;
+  value = replicate value 8;
+  leaf_prefix = replicate 64 0;
+  operations = replicate operations longest_operation;
+}
+
+abbrev longest : Presence
+longest = with_sizes 256 512 64
+
+abbrev longest_absence : Proof
+longest_absence = Absent (record { key = replicate 256 7; left = Some longest; right = Some longest })
+
+longest_lengths : length (proof_bytes (Present longest)) ∷ length (proof_bytes longest_absence) ∷ [] ≡ 9288 ∷ 18835 ∷ []
+longest_lengths = refl
+
+longest_have_form : have_form (proof_fields (Present longest)) ∷ have_form (proof_fields longest_absence) ∷ [] ≡ true ∷ true ∷ []
+longest_have_form = refl
+
+the_longest_is_read : proof_of (proof_bytes (Present longest)) ≡ Some (Present longest)
+unfolding proof_of
+the_longest_is_read = refl
+
+longer_have_none :
+    have_form (proof_fields (Present (with_sizes 257 0 0))) ∷ have_form (proof_fields (Present (with_sizes 0 513 0)))
+    ∷ have_form (proof_fields (Present (with_sizes 0 0 65))) ∷ [] ≡ false ∷ false ∷ false ∷ []
+longer_have_none = refl
+
+longer_are_not_read :
+    proof_of (proof_bytes (Present (with_sizes 257 0 0))) ∷ proof_of (proof_bytes (Present (with_sizes 0 513 0)))
+    ∷ proof_of (proof_bytes (Present (with_sizes 0 0 65))) ∷ proof_of [] ∷ proof_of (3 ∷ []) ∷ [] ≡ replicate 5 None
+unfolding proof_of
+longer_are_not_read = refl

@@ -3,3 +3,8 @@ pub mod Tokens
 pub mod Spelling
 pub mod Messages
 pub mod Reading
+pub mod Fronts
+pub mod Lawful
+pub mod RecordFronts
+pub mod PayloadFronts
+pub mod MessageFront

@@ -127,7 +127,7 @@ pub struct Transfer {
 }
 
 /// Sends several tokens in one packet (ICS 20): 1 to 8, whose denominations rise strictly in byte order.
-#[derive(Drop, Debug)]
+#[derive(Clone, Drop, Debug, PartialEq, Eq)]
 pub struct TransferMany {
     pub channel: ChannelId,
     pub user: UserName,
@@ -186,7 +186,7 @@ pub struct TimeoutOnClose {
 }
 
 /// A message. Each of its refusals has a number and leaves the state as before.
-#[derive(Drop, Debug)]
+#[derive(Clone, Drop, Debug, PartialEq, Eq)]
 pub enum Message {
     CreateClient(CreateClient),
     UpdateClient(UpdateClient),

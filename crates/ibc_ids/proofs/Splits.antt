@@ -1,0 +1,29 @@
+-- A list that is cut at its first place where a test passes.
+use Rattle.std.proofs.Common.{◌≡◌, ℕ, ◌+◌, ◌<◌, ◌≤◌, Bool, true, false, cond, List, [], ◌∷◌, length, take, drop, Option, Some, None, refl, subst, arith, length-drop}
+use Rattle.std.specs.List.{slice_split, position, position_or_len}
+use Rattle.std.proofs.lemmas.Bool.{ltb-true, ltb-false}
+use Rattle.std.proofs.lemmas.List.Splits.{slice_split_none, slice_split_first}
+use Rattle.std.proofs.lemmas.List.Sums.{fails_before_first}
+
+no_place : {A : Type 0} (b : Bool) (x : A) → cond b (Some x) None ≡ None → b ≡ false
+no_place true x e = absurd cc
+no_place false x e = refl
+
+a_place : {A : Type 0} (b : Bool) (x y : A) → cond b (Some x) None ≡ Some y → (b ≡ true) × (x ≡ y)
+a_place true x y e = (refl, cc)
+a_place false x y e = absurd cc
+
+-- where the test passes nowhere, the list is one part
+pub one_part : {A : Type 0} (p : A → Bool) (xs : List A) → position p xs ≡ None → slice_split p xs ≡ xs ∷ []
+one_part p xs e =
+    let far : length xs ≤ position_or_len p xs = ltb-false _ _ (no_place _ (position_or_len p xs) e) in
+    slice_split_none p xs (λ k d lt. fails_before_first p xs k d (omega arith))
+
+-- where it passes at a place, a part ends there
+pub part_and_rest : {A : Type 0} (p : A → Bool) (xs : List A) (i : ℕ) → position p xs ≡ Some i → (i < length xs) × (slice_split p xs ≡ take i xs ∷ slice_split p (drop (i + 1) xs))
+part_and_rest p [] i e = absurd cc
+part_and_rest p (x ∷ xs) i e =
+    let found = a_place _ (position_or_len p (x ∷ xs)) i e in
+    let near : position_or_len p (x ∷ xs) < length (x ∷ xs) = ltb-true _ _ found.0 in
+    subst (λ j. (j < length (x ∷ xs)) × (slice_split p (x ∷ xs) ≡ take j (x ∷ xs) ∷ slice_split p (drop (j + 1) (x ∷ xs)))) found.1
+    (near, slice_split_first p (x ∷ xs) x near)

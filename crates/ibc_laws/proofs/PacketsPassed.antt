@@ -1,0 +1,278 @@
+-- What an accepted message on a packet of a peer, or on an own one that was sent, did.
+use Rattle.std.proofs.Common.{◌≡◌, ℕ, ◌≤◌, Bool, true, false, refl, ap, sym, ◌∙◌, subst, Option, Some, None, Ok, nat_cmp, ◌&&◌, not, nat_lt, inl, inr, arith, if◌then◌else◌}
+use Rattle.std.specs.Option.{option_map_or, option_and_then}
+use Rattle.ibc_ids.specs.declared.refusal.Refusal.TheVariants as refusal
+use Rattle.ibc_ids.specs.declared.key.Key.TheVariants as key
+use Rattle.ibc_ids.specs.Texts.{Text}
+use Rattle.ibc_ids.specs.Maps.{at}
+use Rattle.ibc_wire.specs.declared.packet.Packet.{Packet}
+use Rattle.ibc_wire.specs.declared.records.ChannelState.TheVariants as chan
+use Rattle.ibc_wire.specs.declared.records.ChannelState.{ChannelState}
+use Rattle.ibc_wire.specs.declared.messages.Message.TheVariants as message
+use Rattle.ibc_wire.specs.declared.messages.RecvPacket.{RecvPacket}
+use Rattle.ibc_wire.specs.declared.messages.AckPacket.{AckPacket}
+use Rattle.ibc_wire.specs.declared.messages.Timeout.{Timeout}
+use Rattle.ibc_wire.specs.declared.messages.TimeoutOnClose.{TimeoutOnClose}
+use Rattle.ibc_machine.specs.declared.reply.Effect.{Effect}
+use Rattle.ibc_machine.specs.Records.{Core, Block, Client, Channel, Commitment, channel_at, is_one_of, commitment_of}
+use Rattle.ibc_machine.specs.Values.{NumberIs, has, lacks, same_commitment}
+use Rattle.ibc_machine.specs.Checks.{Checked, expect}
+use Rattle.ibc_machine.specs.Evidence.{Host}
+use Rattle.ibc_machine.specs.Channels.{is_in_state, is_established, client_of}
+use Rattle.ibc_machine.specs.Packets.{recv_checked, recv_packet, ack_checked, ack_packet, timeout_checked, timeout, timeout_on_close_checked, timeout_on_close, is_ordered, is_timed_out, is_committed, not_received, waits_for}
+use Rattle.ibc_machine.specs.Machine.{World, block_at}
+use Rattle.ibc_laws.proofs.PassedChecks.{require_passed, bind_passed, expect_passed, ok_same}
+use Rattle.ibc_laws.proofs.PassedTests.{either, same_channel_state_is, same_commitment_is, no_longer}
+use Rattle.ibc_laws.proofs.Seen.{Sees, Sees-map, Sees-both, seeing, shown_channel, shown_next_recv, shown_commitment, shown_ack, shown_no_receipt}
+use Rattle.ibc_laws.proofs.CoreSteps.{Did, rank, their_end, HadNotReceived, Receives, Acks, TimesOut, changes_channel, receives, acknowledges, times_out}
+
+some_is : {A : Type 0} {x y : A} {o : Option A} → o ≡ Some x → o ≡ Some y → x ≡ y
+some_is e f = cc (e, f)
+
+-- the packet's own commitment stands
+committed_is : (mine : Channel) (p : Packet) → is_committed mine p ≡ true
+    → at nat_cmp p.sequence mine.commitments ≡ Some (commitment_of p)
+committed_is mine p e = go (at nat_cmp p.sequence mine.commitments) refl e
+  where
+    go : (o : Option Commitment) → at nat_cmp p.sequence mine.commitments ≡ o
+        → option_map_or (λ c. same_commitment c (commitment_of p)) o false ≡ true
+        → at nat_cmp p.sequence mine.commitments ≡ Some (commitment_of p)
+    go (Some c) is e = is ∙ ap Some (same_commitment_is c (commitment_of p) e)
+    go None is e = absurd (cc e)
+
+open_rank : (s : ChannelState) → s ≡ chan.Open → 1 ≤ rank s
+open_rank s e = let z : rank s ≡ 1 = ap rank e in omega arith
+
+pub established_rank : (mine : Channel) → is_established mine ≡ true → 1 ≤ rank mine.end.state
+established_rank mine e = elim (either (is_in_state chan.Open mine) _ e) [
+  | inl s ↦ open_rank mine.end.state (same_channel_state_is mine.end.state chan.Open s)
+  | inr s ↦ (let z : rank mine.end.state ≡ 2 = ap rank (same_channel_state_is mine.end.state chan.Closed s) in omega arith)
+]
+
+module _ (window : ℕ) (oldest : Bool) (w : World) (core : Core) (client : Text) (height : ℕ) where
+  not_received_shown : (mine : Channel) (p : Packet) (n : ℕ) (proof : Text) → waits_for mine n p.sequence ≡ true
+      → (seeing window oldest w core).shows client height (not_received mine p n) proof ≡ true
+      → Sees w core client height (HadNotReceived mine p)
+  not_received_shown mine p n proof waits e = go (is_ordered mine) refl waits e
+    where
+      go : (b : Bool) → is_ordered mine ≡ b → not (b && nat_lt p.sequence n) ≡ true
+          → (seeing window oldest w core).shows client height (if b then has (key.NextSequenceRecv p.destination_port p.destination_channel) (NumberIs n)
+          else lacks (key.Receipt p.destination_port p.destination_channel p.sequence)) proof ≡ true
+          → Sees w core client height (HadNotReceived mine p)
+      go true is waits e = Sees-map
+          (λ (b : Block) had c there same.
+          let found : had.0 ≡ c = some_is had.1 there in
+          let next : c.next_recv ≡ n = ap (λ (x : Channel). x.next_recv) (sym found) ∙ had.2 in
+          subst (λ (x : Bool). (if x then nat_lt p.sequence c.next_recv else is_one_of c.receipts p.sequence) ≡ false) (sym (same ∙ is))
+          (subst (λ k. nat_lt p.sequence k ≡ false) (sym next) (no_longer _ waits)))
+          (shown_next_recv window oldest w core client height p.destination_port p.destination_channel n proof e)
+      go false is waits e = Sees-map
+          (λ (b : Block) had c there same.
+          subst (λ (x : Bool). (if x then nat_lt p.sequence c.next_recv else is_one_of c.receipts p.sequence) ≡ false) (sym (same ∙ is))
+          (had c there))
+          (shown_no_receipt window oldest w core client height p.destination_port p.destination_channel p.sequence proof e)
+
+  -- the time at a height that was seen
+  time_seen : {P : Block → Type 0} (s : Sees w core client height P)
+      → (seeing window oldest w core).time_at client height ≡ s.block.time
+  time_seen s =
+      ap (λ (o : Option Client). option_map_or (λ (b : Block). b.time) (option_and_then (λ (c : Client). block_at w c.state.chain height) o) 0) s.there
+      ∙ ap (λ (o : Option Block). option_map_or (λ (b : Block). b.time) o 0) s.stood
+
+  with_time : {P : Block → Type 0} (c : Commitment) → Sees w core client height P
+      → is_timed_out c height ((seeing window oldest w core).time_at client height) ≡ true
+      → Sees w core client height (λ b. P b × (is_timed_out c height b.time ≡ true))
+  with_time c s e = record {
+    tracked = s.tracked;
+    there = s.there;
+    block = s.block;
+    stood = s.stood;
+    had = (s.had, subst (λ t. is_timed_out c height t ≡ true) (time_seen s) e);
+  }
+
+-- ---- what the checks have passed
+
+module _ (window : ℕ) (oldest : Bool) (w : World) (host : Host) (core : Core) where
+  receiving : (m : RecvPacket) (mine : Channel) → recv_checked (seeing window oldest w core) host core m ≡ Ok mine
+      → (channel_at core m.packet.destination_port m.packet.destination_channel ≡ Some mine)
+      × Receives w host core m.packet.destination_port m.packet.destination_channel mine m.packet
+  unfolding recv_checked
+  receiving m mine e =
+      let p : Packet = m.packet in
+      let form = require_passed _ _ _ e in
+      let there = bind_passed (expect (channel_at core p.destination_port p.destination_channel) refusal.UnknownChannel) _ form.1 in
+      let found : Channel = there.0 in
+      let state = require_passed _ _ _ there.2 in
+      let peer = require_passed _ _ _ state.1 in
+      let in_time = require_passed _ _ _ peer.1 in
+      let fresh = require_passed _ _ _ in_time.1 in
+      let in_order = require_passed _ _ _ fresh.1 in
+      let known = require_passed _ _ _ in_order.1 in
+      let proof = require_passed _ _ _ known.1 in
+      subst (λ (c : Channel). (channel_at core p.destination_port p.destination_channel ≡ Some c) × Receives w host core p.destination_port p.destination_channel c p)
+      (ok_same proof.1) (
+        expect_passed (channel_at core p.destination_port p.destination_channel) _ there.1,
+        record {
+          to_port = refl;
+          to_channel = refl;
+          state = same_channel_state_is found.end.state chan.Open state.0;
+          peer = peer.0;
+          in_time = no_longer _ in_time.0;
+          fresh = no_longer _ fresh.0;
+          in_order = no_longer _ in_order.0;
+          height = m.height;
+          sees = shown_commitment window oldest w core (client_of core found.end.connection) m.height p.source_port p.source_channel p.sequence (commitment_of p) m.proof proof.0;
+        },
+      )
+
+  acking : (m : AckPacket) (mine : Channel) → ack_checked (seeing window oldest w core) core m ≡ Ok mine
+      → (channel_at core m.packet.source_port m.packet.source_channel ≡ Some mine)
+      × Acks w core m.packet.source_port m.packet.source_channel mine m.packet
+  unfolding ack_checked
+  acking m mine e =
+      let p : Packet = m.packet in
+      let form = require_passed _ _ _ e in
+      let there = bind_passed (expect (channel_at core p.source_port p.source_channel) refusal.UnknownChannel) _ form.1 in
+      let found : Channel = there.0 in
+      let state = require_passed _ _ _ there.2 in
+      let peer = require_passed _ _ _ state.1 in
+      let committed = require_passed _ _ _ peer.1 in
+      let in_order = require_passed _ _ _ committed.1 in
+      let known = require_passed _ _ _ in_order.1 in
+      let proof = require_passed _ _ _ known.1 in
+      subst (λ (c : Channel). (channel_at core p.source_port p.source_channel ≡ Some c) × Acks w core p.source_port p.source_channel c p)
+      (ok_same proof.1) (
+        expect_passed (channel_at core p.source_port p.source_channel) _ there.1,
+        record {
+          settles = record {
+            from_port = refl;
+            from_channel = refl;
+            settled = open_rank found.end.state (same_channel_state_is found.end.state chan.Open state.0);
+            peer = peer.0;
+            committed = committed_is found p committed.0;
+          };
+          ack = m.ack;
+          height = m.height;
+          sees = shown_ack window oldest w core (client_of core found.end.connection) m.height p.destination_port p.destination_channel p.sequence m.ack m.proof proof.0;
+        },
+      )
+
+  timing_out : (m : Timeout) (mine : Channel) → timeout_checked (seeing window oldest w core) core m ≡ Ok mine
+      → (channel_at core m.packet.source_port m.packet.source_channel ≡ Some mine)
+      × TimesOut w core m.packet.source_port m.packet.source_channel mine m.packet
+  unfolding timeout_checked
+  timing_out m mine e =
+      let p : Packet = m.packet in
+      let form = require_passed _ _ _ e in
+      let there = bind_passed (expect (channel_at core p.source_port p.source_channel) refusal.UnknownChannel) _ form.1 in
+      let found : Channel = there.0 in
+      let client : Text = client_of core found.end.connection in
+      let state = require_passed _ _ _ there.2 in
+      let peer = require_passed _ _ _ state.1 in
+      let committed = require_passed _ _ _ peer.1 in
+      let known = require_passed _ _ _ committed.1 in
+      let over = require_passed _ _ _ known.1 in
+      let waits = require_passed _ _ _ over.1 in
+      let proof = require_passed _ _ _ waits.1 in
+      subst (λ (c : Channel). (channel_at core p.source_port p.source_channel ≡ Some c) × TimesOut w core p.source_port p.source_channel c p)
+      (ok_same proof.1) (
+        expect_passed (channel_at core p.source_port p.source_channel) _ there.1,
+        record {
+          settles = record {
+            from_port = refl;
+            from_channel = refl;
+            settled = established_rank found state.0;
+            peer = peer.0;
+            committed = committed_is found p committed.0;
+          };
+          height = m.height;
+          sees = Sees-map (λ b had. (had.0, inl had.1)) (with_time window oldest w core client m.height (commitment_of p)
+              (not_received_shown window oldest w core client m.height found p m.next_recv m.proof waits.0 proof.0) over.0);
+        },
+      )
+
+  timing_out_on_close : (m : TimeoutOnClose) (mine : Channel)
+      → timeout_on_close_checked (seeing window oldest w core) core m ≡ Ok mine
+      → (channel_at core m.packet.source_port m.packet.source_channel ≡ Some mine)
+      × TimesOut w core m.packet.source_port m.packet.source_channel mine m.packet
+  unfolding timeout_on_close_checked
+  timing_out_on_close m mine e =
+      let p : Packet = m.packet in
+      let form = require_passed _ _ _ e in
+      let there = bind_passed (expect (channel_at core p.source_port p.source_channel) refusal.UnknownChannel) _ form.1 in
+      let found : Channel = there.0 in
+      let client : Text = client_of core found.end.connection in
+      let state = require_passed _ _ _ there.2 in
+      let peer = require_passed _ _ _ state.1 in
+      let committed = require_passed _ _ _ peer.1 in
+      let known = require_passed _ _ _ committed.1 in
+      let waits = require_passed _ _ _ known.1 in
+      let proof = require_passed _ _ _ waits.1 in
+      let close = require_passed _ _ _ proof.1 in
+      subst (λ (c : Channel). (channel_at core p.source_port p.source_channel ≡ Some c) × TimesOut w core p.source_port p.source_channel c p)
+      (ok_same close.1) (
+        expect_passed (channel_at core p.source_port p.source_channel) _ there.1,
+        record {
+          settles = record {
+            from_port = refl;
+            from_channel = refl;
+            settled = established_rank found state.0;
+            peer = peer.0;
+            committed = committed_is found p committed.0;
+          };
+          height = m.height;
+          sees = Sees-both
+              (not_received_shown window oldest w core client m.height found p m.next_recv m.proof waits.0 proof.0)
+              (Sees-map (λ b had. inr had) (shown_channel window oldest w core client m.height found.end.peer_port p.destination_channel
+              (their_end core found p.source_port p.source_channel chan.Closed) m.proof_close close.0));
+        },
+      )
+
+  -- ---- the four messages, whatever the application does
+
+  pub recv_packet_did : {A : Type 0} (on_recv : Text → Packet → Text × A) (m : RecvPacket) (y : Effect × Core × A)
+      → recv_packet on_recv (seeing window oldest w core) host core m ≡ Ok y
+      → Did w host core (message.RecvPacket m) (y.0, y.1)
+  unfolding recv_packet
+  recv_packet_did {A} on_recv m y e =
+      let checked = bind_passed (recv_checked (seeing window oldest w core) host core m) _ e in
+      let mine : Channel = checked.0 in
+      let passed = receiving m mine checked.1 in
+      subst (λ (z : Effect × Core × A). Did w host core (message.RecvPacket m) (z.0, z.1)) (ok_same checked.2)
+      (changes_channel _ m.packet.destination_port m.packet.destination_channel mine _ passed.0
+      (receives m.packet (on_recv mine.end.version m.packet).0 passed.1))
+
+  pub ack_packet_did : {A : Type 0} (on_ack : Text → Packet → Text → Checked A) (m : AckPacket) (y : Effect × Core × A)
+      → ack_packet on_ack (seeing window oldest w core) core m ≡ Ok y
+      → Did w host core (message.AckPacket m) (y.0, y.1)
+  unfolding ack_packet
+  ack_packet_did {A} on_ack m y e =
+      let checked = bind_passed (ack_checked (seeing window oldest w core) core m) _ e in
+      let mine : Channel = checked.0 in
+      let app = bind_passed (on_ack mine.end.version m.packet m.ack) _ checked.2 in
+      let passed = acking m mine checked.1 in
+      subst (λ (z : Effect × Core × A). Did w host core (message.AckPacket m) (z.0, z.1)) (ok_same app.2)
+      (changes_channel _ m.packet.source_port m.packet.source_channel mine _ passed.0 (acknowledges m.packet passed.1))
+
+  pub timeout_did : {A : Type 0} (on_timeout : Text → Packet → Checked A) (m : Timeout) (y : Effect × Core × A)
+      → timeout on_timeout (seeing window oldest w core) core m ≡ Ok y → Did w host core (message.Timeout m) (y.0, y.1)
+  unfolding timeout
+  timeout_did {A} on_timeout m y e =
+      let checked = bind_passed (timeout_checked (seeing window oldest w core) core m) _ e in
+      let mine : Channel = checked.0 in
+      let app = bind_passed (on_timeout mine.end.version m.packet) _ checked.2 in
+      let passed = timing_out m mine checked.1 in
+      subst (λ (z : Effect × Core × A). Did w host core (message.Timeout m) (z.0, z.1)) (ok_same app.2)
+      (changes_channel _ m.packet.source_port m.packet.source_channel mine _ passed.0 (times_out m.packet passed.1))
+
+  pub timeout_on_close_did : {A : Type 0} (on_timeout : Text → Packet → Checked A) (m : TimeoutOnClose) (y : Effect × Core × A)
+      → timeout_on_close on_timeout (seeing window oldest w core) core m ≡ Ok y
+      → Did w host core (message.TimeoutOnClose m) (y.0, y.1)
+  unfolding timeout_on_close
+  timeout_on_close_did {A} on_timeout m y e =
+      let checked = bind_passed (timeout_on_close_checked (seeing window oldest w core) core m) _ e in
+      let mine : Channel = checked.0 in
+      let app = bind_passed (on_timeout mine.end.version m.packet) _ checked.2 in
+      let passed = timing_out_on_close m mine checked.1 in
+      subst (λ (z : Effect × Core × A). Did w host core (message.TimeoutOnClose m) (z.0, z.1)) (ok_same app.2)
+      (changes_channel _ m.packet.source_port m.packet.source_channel mine _ passed.0 (times_out m.packet passed.1))

@@ -1,0 +1,32 @@
+-- What a sequence of checks has passed where it ends well.
+use Rattle.std.proofs.Common.{◌≡◌, Bool, true, false, refl, ap, Option, Some, None, Ok, Err}
+use Rattle.std.specs.Prelude.{⊤}
+use Rattle.ibc_ids.specs.declared.refusal.Refusal.{Refusal}
+use Rattle.ibc_machine.specs.Checks.{Checked, require, expect, go_on, and_then, ◌>>=◌, ◌>>◌}
+
+pub require_passed : {B : Type 0} (b : Bool) (r : Refusal) (rest : Checked B) {y : B} → (require b r >> rest) ≡ Ok y → (b ≡ true) × (rest ≡ Ok y)
+unfolding and_then
+require_passed true r rest e = (refl, e)
+require_passed false r rest e = absurd (cc e)
+
+pub bind_passed : {A B : Type 0} (x : Checked A) (f : A → Checked B) {y : B} → (x >>= f) ≡ Ok y → (a : A) × (x ≡ Ok a) × (f a ≡ Ok y)
+unfolding go_on
+bind_passed (Ok a) f e = (a, refl, e)
+bind_passed (Err r) f e = absurd (cc e)
+
+pub then_passed : {B : Type 0} (x : Checked ⊤) (rest : Checked B) {y : B} → (x >> rest) ≡ Ok y → (x ≡ Ok tt) × (rest ≡ Ok y)
+unfolding and_then
+then_passed (Ok tt) rest e = (refl, e)
+then_passed (Err r) rest e = absurd (cc e)
+
+or_else : {A : Type 0} → A → Checked A → A
+or_else x (Ok y) = y
+or_else x (Err r) = x
+
+pub ok_same : {A : Type 0} {x y : A} → ◌≡◌ {A = Checked A} (Ok x) (Ok y) → x ≡ y
+unfolding or_else
+ok_same {A} {x} {y} e = ap (λ r. or_else x r) e
+
+pub expect_passed : {A : Type 0} (o : Option A) (r : Refusal) {a : A} → expect o r ≡ Ok a → o ≡ Some a
+expect_passed (Some x) r e = ap Some (ok_same e)
+expect_passed None r e = absurd (cc e)

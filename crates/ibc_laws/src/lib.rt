@@ -1,0 +1,21 @@
+//! The laws of every run of the machine, from any allowed genesis (ICS 4, "Desired Properties"). Each is the
+//! contract of a function that does nothing: to call it is to cite the law.
+#![tactic(auto)]
+
+ghost use Rattle.ibc_machine.specs.Laws.{ExactlyOnce, InOrder, OnePeer};
+
+/// Each end of a channel that is OPEN or CLOSED has exactly one peer, and no end has two.
+pub fn each_end_has_one_peer()
+    ensures { OnePeer }
+{}
+
+/// No packet is both received and timed out. Each is received at most once, and acknowledged or timed out at
+/// most once in all; one that was acknowledged was received.
+pub fn each_packet_is_handled_once()
+    ensures { ExactlyOnce }
+{}
+
+/// On an ordered channel what one end received is a beginning of what the other sent, equal in every field.
+pub fn each_ordered_channel_delivers_in_order()
+    ensures { InOrder }
+{}

@@ -1,0 +1,413 @@
+-- The data of a packet of tokens: what is read is spelled so, and what is spelled so is read.
+use Rattle.std.proofs.Common.{◌≡◌, ℕ, ◌+◌, ◌*◌, ◌-◌, ◌<◌, ◌^◌, Bool, true, false, refl, ap, sym, ◌∙◌, subst, codes, List, [], ◌∷◌, ◌++◌, length, map, Option, Some, None, arith, not, ◌==◌, ◌&&◌, cond, if◌then◌else◌, append_assoc, append-nil, decimal, eqb-true, nat_lt, nat_le, ltb-true, option_map, ltb-false}
+use Rattle.std.specs.List.{join_with_byte, list_all, fold, onto_first, slice_split}
+use Rattle.std.specs.Option.{option_and_then}
+use Rattle.std.specs.Char.{digit_value}
+use Rattle.std.specs.Str.Parse.{digits_value_after, AllDigits}
+use Rattle.std.proofs.lemmas.List.Splits.{join_with_byte-slice_split}
+use Rattle.std.proofs.lemmas.Fmt.{decimal_is_IsNumeral_wide}
+use Rattle.ibc_ids.specs.Texts.{Text, same_text}
+use Rattle.ibc_ids.specs.Names.{is_port, is_channel, is_denom, are_hops_and_base, is_made_of, is_memo, is_receiver, is_user}
+use Rattle.ibc_wire.specs.Tokens.{is_short, is_rising}
+use Rattle.ibc_wire.specs.declared.token.Token.{Token}
+use Rattle.ibc_machine.specs.TokenData.{Data, quoted, member, object, token_members, memo_member, party_members, members_of_first, tokens_member, data_text, is_amount, is_token, is_list_for, is_data, between_quotes, number_of, tokens_in, parties_in, one_token_in, tokens_behind, data_in, data_if, data_of, has_several, ReadsData}
+
+both : (a b : Bool) → (a && b) ≡ true → (a ≡ true) × (b ≡ true)
+both true b e = (refl, e)
+both false b e = absurd (cc e)
+
+and_true : {a b : Bool} → a ≡ true → b ≡ true → (a && b) ≡ true
+and_true {a} {b} e f = rw e f
+
+-- ---- texts without a quote
+
+abbrev Clear : Text → Type 0
+Clear text = list_all (λ c. not (c == 34)) text ≡ true
+
+clear-append : (a b : Text) → Clear a → Clear b → Clear (a ++ b)
+clear-append [] b ha hb = hb
+clear-append (x ∷ xs) b ha hb = let parts = both (not (x == 34)) _ ha in and_true parts.0 (clear-append xs b parts.1 hb)
+
+-- a byte that passes a test which a quote doesn't pass
+not_quote : (test : ℕ → Bool) → test 34 ≡ false → (c : ℕ) → test c ≡ true → not (c == 34) ≡ true
+not_quote test never c e = go (c == 34) refl
+  where
+    go : (b : Bool) → (c == 34) ≡ b → not b ≡ true
+    go false is = refl
+    go true is = absurd (cc (never, subst (λ k. test k ≡ true) (eqb-true c 34 is) e))
+
+clear_of : (test : ℕ → Bool) → test 34 ≡ false → (text : Text) → list_all test text ≡ true → Clear text
+clear_of test never [] e = refl
+clear_of test never (c ∷ cs) e =
+    let parts = both (test c) _ e in
+    let head = not_quote test never c parts.0 in
+    and_true head (clear_of test never cs parts.1)
+
+clear_made : (test : ℕ → Bool) → test 34 ≡ false → (low high : ℕ) (text : Text) → is_made_of test low high text ≡ true → Clear text
+clear_made test never low high text e = clear_of test never text (both _ (list_all test text) e).1
+
+clear_join : (c : ℕ) → not (c == 34) ≡ true → (parts : List Text) → list_all (λ part. list_all (λ c. not (c == 34)) part) parts ≡ true → Clear (join_with_byte c parts)
+clear_join c ok [] e = refl
+clear_join c ok (x ∷ []) e = (both (list_all (λ c. not (c == 34)) x) _ e).0
+clear_join c ok (x ∷ y ∷ xs) e =
+    let parts = both (list_all (λ c. not (c == 34)) x) _ e in
+    clear-append x (c ∷ join_with_byte c (y ∷ xs)) parts.0 (and_true ok (clear_join c ok (y ∷ xs) parts.1))
+
+clear_hops : (parts : List Text) → are_hops_and_base parts ≡ true → list_all (λ part. list_all (λ c. not (c == 34)) part) parts ≡ true
+clear_hops [] e = absurd (cc e)
+clear_hops (base ∷ []) e = let h = clear_made _ refl 1 64 base e in and_true h refl
+clear_hops (port ∷ channel ∷ rest) e =
+    let one = both (is_port port && is_channel channel) _ e in
+    let two = both (is_port port) _ one.0 in
+    let a = clear_made _ refl 2 128 port two.0 in
+    let b = clear_made _ refl 8 64 channel two.1 in
+    and_true a (and_true b (clear_hops rest one.1))
+
+clear_denom : (denom : Text) → is_denom denom ≡ true → Clear denom
+clear_denom denom e =
+    subst Clear (join_with_byte-slice_split 47 denom)
+    (clear_join 47 refl (slice_split (λ c. c == 47) denom) (clear_hops (slice_split (λ c. c == 47) denom) (both (nat_le (length denom) 256) _ e).1))
+
+-- ---- numbers
+
+clear_digits : (ds : Text) → AllDigits 10 ds → Clear ds
+clear_digits [] h = refl
+clear_digits (c ∷ cs) h = let head = go (c == 34) refl h.0 in and_true head (clear_digits cs h.1)
+  where
+    go : (b : Bool) → (c == 34) ≡ b → digit_value c < 10 → not b ≡ true
+    go false is low = refl
+    go true is low = let z : 36 < 10 = subst (λ k. digit_value k < 10) (eqb-true c 34 is) low in absurd (omega arith)
+
+digit_is : (c : ℕ) → digit_value c < 10 → digit_value c ≡ c - 48
+digit_is c low = go (nat_lt c 48) (nat_lt c 58) (nat_lt c 65) refl (nat_lt c 91) (nat_lt c 97) refl (nat_lt c 123) low
+  where
+    go : (a b d : Bool) → nat_lt c 65 ≡ d → (e f : Bool) → nat_lt c 97 ≡ f → (g : Bool)
+        → cond a 36 (cond b (c - 48) (cond d 36 (cond e (c - 55) (cond f 36 (cond g (c - 87) 36))))) < 10
+        → cond a 36 (cond b (c - 48) (cond d 36 (cond e (c - 55) (cond f 36 (cond g (c - 87) 36))))) ≡ c - 48
+    go true b d ds e f fs g low = absurd (omega arith)
+    go false true d ds e f fs g low = refl
+    go false false true ds e f fs g low = absurd (omega arith)
+    go false false false ds true f fs g low = let high = ltb-false c 65 ds in absurd (omega arith)
+    go false false false ds false true fs g low = absurd (omega arith)
+    go false false false ds false false fs true low = let high = ltb-false c 97 fs in absurd (omega arith)
+    go false false false ds false false fs false low = absurd (omega arith)
+
+number_after : (n : ℕ) (ds : Text) → AllDigits 10 ds → fold (λ n c. 10 * n + (c - 48)) n ds ≡ digits_value_after 10 n ds
+number_after n [] h = refl
+number_after n (c ∷ cs) h =
+    let step : 10 * n + (c - 48) ≡ n * 10 + digit_value c = (let d = digit_is c h.0 in omega arith) in
+    ap (λ k. fold (λ n c. 10 * n + (c - 48)) k cs) step ∙ number_after (n * 10 + digit_value c) cs h.1
+
+-- an amount is written in digits, which read back
+amount_small : (n : ℕ) → is_amount n ≡ true → n < 10 ^ 64
+amount_small n e =
+    let low : n < 2 ^ 128 = ltb-true n (2 ^ 128) (both (nat_le 1 n) (nat_lt n (2 ^ 128)) e).1 in omega arith
+
+clear_decimal : (n : ℕ) → is_amount n ≡ true → Clear (decimal n)
+clear_decimal n e = clear_digits (decimal n) (decimal_is_IsNumeral_wide n (amount_small n e)).0.1
+
+number_read : (n : ℕ) → is_amount n ≡ true → number_of (decimal n) ≡ n
+number_read n e =
+    let numeral = decimal_is_IsNumeral_wide n (amount_small n e) in
+    number_after 0 (decimal n) numeral.0.1 ∙ numeral.1
+
+-- ---- what stands between quotes
+
+abbrev is_quote : ℕ → Bool
+is_quote c = c == 34
+
+abbrev between : Text → List Text
+between text = between_quotes (slice_split is_quote text)
+
+not_is : (b : Bool) → not b ≡ true → b ≡ false
+not_is true e = absurd (cc e)
+not_is false e = refl
+
+cut : (xs ys : Text) → Clear xs → slice_split is_quote (xs ++ 34 ∷ ys) ≡ xs ∷ slice_split is_quote ys
+cut [] ys h = refl
+cut (x ∷ xs) ys h =
+    let parts = both (not (x == 34)) _ h in
+    ap (λ b. cond b ([] ∷ slice_split is_quote (xs ++ 34 ∷ ys)) (onto_first x (slice_split is_quote (xs ++ 34 ∷ ys)))) (not_is (x == 34) parts.0)
+    ∙ ap (λ l. onto_first x l) (cut xs ys parts.1)
+
+uncut : (xs : Text) → Clear xs → slice_split is_quote xs ≡ xs ∷ []
+uncut [] h = refl
+uncut (x ∷ xs) h =
+    let parts = both (not (x == 34)) _ h in
+    ap (λ b. cond b ([] ∷ slice_split is_quote xs) (onto_first x (slice_split is_quote xs))) (not_is (x == 34) parts.0)
+    ∙ ap (λ l. onto_first x l) (uncut xs parts.1)
+
+-- wherever the text stands outside of quotes, it has these parts between quotes, and ends outside of them
+record Spells (text : Text) (parts : List Text) : Type 0 where
+  spells : (front rest : Text) → Clear front
+      → (behind : Text) × Clear behind × (between (front ++ (text ++ rest)) ≡ parts ++ between (behind ++ rest))
+
+spells-clear : (text : Text) → Clear text → Spells text []
+spells-clear text h = record {
+  spells = λ front rest clear. (front ++ text, clear-append front text clear h, ap (λ t. between t) (sym (append_assoc front text rest)));
+}
+
+spells-quoted : (text : Text) → Clear text → Spells (quoted text) (text ∷ [])
+spells-quoted text h = record {
+  spells = λ front rest clear. (
+    [],
+    refl,
+    ap (λ t. between (front ++ 34 ∷ t)) (append_assoc text (34 ∷ []) rest)
+        ∙ ap (λ l. between_quotes l) (cut front (text ++ 34 ∷ rest) clear)
+        ∙ ap (λ l. between_quotes (front ∷ l)) (cut text rest h),
+  );
+}
+
+spells-both : (a b : Text) (ps qs : List Text) → Spells a ps → Spells b qs → Spells (a ++ b) (ps ++ qs)
+spells-both a b ps qs ha hb = record {
+  spells = λ front rest clear.
+      let one = ha.spells front (b ++ rest) clear in
+      let two = hb.spells one.0 rest one.1 in
+      (two.0, two.1, ap (λ t. between (front ++ t)) (append_assoc a b rest) ∙ one.2 ∙ ap (λ l. ps ++ l) two.2 ∙ sym (append_assoc ps qs (between (two.0 ++ rest))));
+}
+
+-- a whole text
+spelled : (text : Text) (parts : List Text) → Spells text parts → between text ≡ parts
+spelled text parts h =
+    let all = h.spells [] [] refl in
+    let last : between (all.0 ++ []) ≡ [] = ap (λ t. between t) (append-nil all.0) ∙ ap (λ l. between_quotes l) (uncut all.0 all.1) in
+    ap (λ t. between t) (sym (append-nil text)) ∙ all.2 ∙ ap (λ l. parts ++ l) last ∙ append-nil parts
+
+spells-member : (name value : Text) → Clear name → Clear value → Spells (member name value) (name ∷ value ∷ [])
+spells-member name value hn hv =
+    spells-both (quoted name ++ codes ":") (quoted value) (name ∷ []) (value ∷ [])
+    (spells-both (quoted name) (codes ":") (name ∷ []) [] (spells-quoted name hn) (spells-clear (codes ":") refl)) (spells-quoted value hv)
+
+spells-next : (a b : Text) (rest ps qs : List Text) → Spells a ps → Spells (join_with_byte 44 (b ∷ rest)) qs
+    → Spells (join_with_byte 44 (a ∷ b ∷ rest)) (ps ++ qs)
+spells-next a b rest ps qs ha hb =
+    spells-both a (44 ∷ join_with_byte 44 (b ∷ rest)) ps qs ha
+    (spells-both (44 ∷ []) (join_with_byte 44 (b ∷ rest)) [] qs (spells-clear (44 ∷ []) refl) hb)
+
+spells-object : (members : List Text) (parts : List Text) → Spells (join_with_byte 44 members) parts → Spells (object members) parts
+spells-object members parts h =
+    subst (Spells (object members)) (append-nil parts)
+    (spells-both (codes "{" ++ join_with_byte 44 members) (codes "}") parts []
+    (spells-both (codes "{") (join_with_byte 44 members) [] parts (spells-clear (codes "{") refl) h) (spells-clear (codes "}") refl))
+
+-- ---- the parts of data
+
+abbrev token_parts : List Token → List Text
+token_parts [] = []
+token_parts (t ∷ ts) = codes "amount" ∷ decimal t.amount ∷ codes "denom" ∷ t.denom ∷ token_parts ts
+
+abbrev memo_parts : Text → List Text
+memo_parts [] = []
+memo_parts (c ∷ cs) = codes "memo" ∷ (c ∷ cs) ∷ []
+
+abbrev party_parts : Data → List Text
+party_parts d = memo_parts d.memo ++ codes "receiver" ∷ d.receiver ∷ codes "sender" ∷ d.sender ∷ []
+
+tokens_read : (ts : List Token) → list_all is_token ts ≡ true → tokens_in (token_parts ts) ≡ ts
+tokens_read [] e = refl
+tokens_read (t ∷ ts) e =
+    let parts = both (is_token t) _ e in
+    let amount = number_read t.amount (both (is_amount t.amount) _ parts.0).0 in
+    λ i. record { denom = t.denom; amount = amount i } ∷ tokens_read ts parts.1 i
+
+-- what the data's parts must be
+record IsClear (d : Data) : Type 0 where
+  memo : Clear d.memo
+  receiver : Clear d.receiver
+  sender : Clear d.sender
+  tokens : list_all is_token d.tokens ≡ true
+
+data_clear : (version : Text) (d : Data) → is_data version d ≡ true → IsClear d
+data_clear version d e =
+    let one = both _ (is_user d.sender) e in
+    let two = both _ (is_receiver d.receiver) one.0 in
+    let three = both _ (is_memo d.memo) two.0 in
+    let four = both (is_list_for version d.tokens) (list_all is_token d.tokens) three.0 in
+    record {
+      memo = clear_made _ refl 0 256 d.memo three.1;
+      receiver = clear_made _ refl 1 64 d.receiver two.1;
+      sender = clear_made _ refl 1 32 d.sender one.1;
+      tokens = four.1;
+    }
+
+-- ---- the members of data
+
+module _ (receiver sender : Text) (hr : Clear receiver) (hs : Clear sender) (tail qs : List Text)
+    (ends : Spells (join_with_byte 44 (member (codes "sender") sender ∷ tail)) (codes "sender" ∷ sender ∷ qs)) where
+  abbrev pair : List Text
+  pair = member (codes "receiver") receiver ∷ member (codes "sender") sender ∷ tail
+
+  abbrev pair_parts : List Text
+  pair_parts = codes "receiver" ∷ receiver ∷ codes "sender" ∷ sender ∷ qs
+
+  spells-pair : Spells (join_with_byte 44 pair) pair_parts
+  spells-pair = spells-next (member (codes "receiver") receiver) (member (codes "sender") sender) tail
+      (codes "receiver" ∷ receiver ∷ []) (codes "sender" ∷ sender ∷ qs)
+      (spells-member (codes "receiver") receiver refl hr) ends
+
+  spells-parties : (memo : Text) → Clear memo → Spells (join_with_byte 44 (memo_member memo ++ pair)) (memo_parts memo ++ pair_parts)
+  spells-parties [] hm = spells-pair
+  spells-parties (c ∷ cs) hm =
+      spells-next (member (codes "memo") (c ∷ cs)) (member (codes "receiver") receiver) (member (codes "sender") sender ∷ tail)
+      (codes "memo" ∷ (c ∷ cs) ∷ []) pair_parts (spells-member (codes "memo") (c ∷ cs) refl hm) spells-pair
+
+  -- behind another member
+  spells-behind : (x : Text) (ps : List Text) → Spells x ps → (memo : Text) → Clear memo
+      → Spells (join_with_byte 44 (x ∷ (memo_member memo ++ pair))) (ps ++ (memo_parts memo ++ pair_parts))
+  spells-behind x ps hx [] hm =
+      spells-next x (member (codes "receiver") receiver) (member (codes "sender") sender ∷ tail) ps pair_parts hx spells-pair
+  spells-behind x ps hx (c ∷ cs) hm =
+      spells-next x (member (codes "memo") (c ∷ cs)) pair ps (memo_parts (c ∷ cs) ++ pair_parts) hx (spells-parties (c ∷ cs) hm)
+
+-- ---- one token
+
+module _ (t : Token) (memo receiver sender : Text) (ht : is_token t ≡ true) (hm : Clear memo) (hr : Clear receiver) (hs : Clear sender) where
+  abbrev one : Data
+  one = record { tokens = t ∷ []; memo = memo; receiver = receiver; sender = sender }
+
+  one_spelled : between (object (members_of_first (t ∷ []) ++ party_members one)) ≡ token_parts (t ∷ []) ++ party_parts one
+  one_spelled =
+      let token = both (is_amount t.amount) (is_denom t.denom) ht in
+      let sender_last = spells-member (codes "sender") sender refl hs in
+      let amount = spells-member (codes "amount") (decimal t.amount) refl (clear_decimal t.amount token.0) in
+      let denom = spells-member (codes "denom") t.denom refl (clear_denom t.denom token.1) in
+      spelled (object (members_of_first (t ∷ []) ++ party_members one)) (token_parts (t ∷ []) ++ party_parts one)
+      (spells-object (members_of_first (t ∷ []) ++ party_members one) (token_parts (t ∷ []) ++ party_parts one)
+      (spells-next (member (codes "amount") (decimal t.amount)) (member (codes "denom") t.denom) (party_members one)
+      (codes "amount" ∷ decimal t.amount ∷ []) (codes "denom" ∷ t.denom ∷ party_parts one) amount
+      (spells-behind receiver sender hr hs [] [] sender_last (member (codes "denom") t.denom) (codes "denom" ∷ t.denom ∷ []) denom memo hm)))
+
+  one_in : one_token_in (token_parts (t ∷ []) ++ party_parts one) ≡ Some one
+  one_in = go memo
+    where
+      amount : number_of (decimal t.amount) ≡ t.amount
+      amount = number_read t.amount (both (is_amount t.amount) (is_denom t.denom) ht).0
+
+      go : (memo : Text) → one_token_in (token_parts (t ∷ []) ++ (memo_parts memo ++ codes "receiver" ∷ receiver ∷ codes "sender" ∷ sender ∷ []))
+          ≡ Some (record { tokens = t ∷ []; memo = memo; receiver = receiver; sender = sender })
+      go [] = λ i. Some (record { tokens = record { denom = t.denom; amount = amount i } ∷ []; memo = []; receiver = receiver; sender = sender })
+      go (c ∷ cs) = λ i. Some (record { tokens = record { denom = t.denom; amount = amount i } ∷ []; memo = c ∷ cs; receiver = receiver; sender = sender })
+
+-- ---- several tokens
+
+spells-token : (t : Token) → is_token t ≡ true → Spells (object (token_members t)) (codes "amount" ∷ decimal t.amount ∷ codes "denom" ∷ t.denom ∷ [])
+spells-token t ht =
+    let token = both (is_amount t.amount) (is_denom t.denom) ht in
+    spells-object (token_members t) (codes "amount" ∷ decimal t.amount ∷ codes "denom" ∷ t.denom ∷ [])
+    (spells-next (member (codes "amount") (decimal t.amount)) (member (codes "denom") t.denom) []
+    (codes "amount" ∷ decimal t.amount ∷ []) (codes "denom" ∷ t.denom ∷ [])
+    (spells-member (codes "amount") (decimal t.amount) refl (clear_decimal t.amount token.0))
+    (spells-member (codes "denom") t.denom refl (clear_denom t.denom token.1)))
+
+spells-tokens : (ts : List Token) → list_all is_token ts ≡ true
+    → Spells (join_with_byte 44 (map (λ token. object (token_members token)) ts)) (token_parts ts)
+spells-tokens [] h = spells-clear [] refl
+spells-tokens (t ∷ []) h = spells-token t (both (is_token t) true h).0
+spells-tokens (t ∷ u ∷ ts) h =
+    let parts = both (is_token t) _ h in
+    spells-next (object (token_members t)) (object (token_members u)) (map (λ token. object (token_members token)) ts)
+    (codes "amount" ∷ decimal t.amount ∷ codes "denom" ∷ t.denom ∷ []) (token_parts (u ∷ ts))
+    (spells-token t parts.0) (spells-tokens (u ∷ ts) parts.1)
+
+spells-list : (ts : List Token) → list_all is_token ts ≡ true → Spells (tokens_member ts) (codes "tokens" ∷ token_parts ts)
+spells-list ts h =
+    let list : Text = join_with_byte 44 (map (λ token. object (token_members token)) ts) in
+    subst (λ ps. Spells (tokens_member ts) (codes "tokens" ∷ ps)) (append-nil (token_parts ts))
+    (spells-both (quoted (codes "tokens") ++ codes ":[" ++ list) (codes "]") (codes "tokens" ∷ token_parts ts) []
+    (spells-both (quoted (codes "tokens") ++ codes ":[") list (codes "tokens" ∷ []) (token_parts ts)
+    (spells-both (quoted (codes "tokens")) (codes ":[") (codes "tokens" ∷ []) [] (spells-quoted (codes "tokens") refl) (spells-clear (codes ":[") refl))
+    (spells-tokens ts h)) (spells-clear (codes "]") refl))
+
+several_spelled : (d : Data) → IsClear d → between (object (party_members d ++ tokens_member d.tokens ∷ []))
+    ≡ memo_parts d.memo ++ codes "receiver" ∷ d.receiver ∷ codes "sender" ∷ d.sender ∷ codes "tokens" ∷ token_parts d.tokens
+several_spelled d h =
+    let tail : List Text = tokens_member d.tokens ∷ [] in
+    let ends = spells-next (member (codes "sender") d.sender) (tokens_member d.tokens) [] (codes "sender" ∷ d.sender ∷ []) (codes "tokens" ∷ token_parts d.tokens)
+    (spells-member (codes "sender") d.sender refl h.sender) (spells-list d.tokens h.tokens) in
+    let parts : List Text = memo_parts d.memo ++ codes "receiver" ∷ d.receiver ∷ codes "sender" ∷ d.sender ∷ codes "tokens" ∷ token_parts d.tokens in
+    spelled (object (party_members d ++ tail)) parts (spells-object (party_members d ++ tail) parts
+    (subst (λ ms. Spells (join_with_byte 44 ms) parts)
+    (sym (append_assoc (memo_member d.memo) (member (codes "receiver") d.receiver ∷ member (codes "sender") d.sender ∷ []) tail))
+    (spells-parties d.receiver d.sender h.receiver h.sender tail (codes "tokens" ∷ token_parts d.tokens) ends d.memo h.memo)))
+
+several_in : (ts : List Token) (memo receiver sender : Text) → nat_le 1 (length ts) ≡ true → list_all is_token ts ≡ true
+    → option_map tokens_behind (parties_in (memo_parts memo ++ codes "receiver" ∷ receiver ∷ codes "sender" ∷ sender ∷ codes "tokens" ∷ token_parts ts))
+    ≡ Some (record { tokens = ts; memo = memo; receiver = receiver; sender = sender })
+several_in [] memo receiver sender some h = absurd (cc some)
+several_in (t ∷ ts) [] receiver sender some h =
+    ap (λ (us : List Token). Some (record { tokens = us; memo = []; receiver = receiver; sender = sender })) (tokens_read (t ∷ ts) h)
+several_in (t ∷ ts) (c ∷ cs) receiver sender some h =
+    ap (λ (us : List Token). Some (record { tokens = us; memo = c ∷ cs; receiver = receiver; sender = sender })) (tokens_read (t ∷ ts) h)
+
+-- ---- both versions
+
+text_in : Bool → Data → Text
+text_in several d = if several then object (party_members d ++ tokens_member d.tokens ∷ []) else object (members_of_first d.tokens ++ party_members d)
+
+parts_in : Bool → List Text → Option Data
+parts_in several parts = if several then option_map tokens_behind (parties_in parts) else one_token_in parts
+
+is_list_in : Bool → List Token → Bool
+is_list_in several tokens = if several then is_short tokens && is_rising tokens else length tokens == 1
+
+read_in : (several : Bool) (d : Data) → IsClear d → is_list_in several d.tokens ≡ true → parts_in several (between (text_in several d)) ≡ Some d
+unfolding text_in parts_in is_list_in
+read_in true d h list =
+    let short = both (is_short d.tokens) (is_rising d.tokens) list in
+    ap (λ parts. option_map tokens_behind (parties_in parts)) (several_spelled d h)
+    ∙ several_in d.tokens d.memo d.receiver d.sender (both (nat_le 1 (length d.tokens)) _ short.0).0 h.tokens
+read_in false d h list = go d.tokens h.tokens list
+  where
+    go : (ts : List Token) → list_all is_token ts ≡ true → (length ts == 1) ≡ true
+        → one_token_in (between (object (members_of_first ts ++ party_members d))) ≡ Some (record d { tokens = ts })
+    go [] tokens list = absurd (cc list)
+    go (t ∷ []) tokens list =
+        let token = (both (is_token t) true tokens).0 in
+        ap (λ parts. one_token_in parts) (one_spelled t d.memo d.receiver d.sender token h.memo h.receiver h.sender)
+        ∙ one_in t d.memo d.receiver d.sender token h.memo h.receiver h.sender
+    go (t ∷ u ∷ ts) tokens list = let two : length (t ∷ u ∷ ts) ≡ 1 = eqb-true (length (t ∷ u ∷ ts)) 1 list in absurd (omega arith)
+
+same_text-self : (a : Text) → same_text a a ≡ true
+same_text-self [] = refl
+same_text-self (x ∷ xs) = let e : (x == x) ≡ true = grind arith in and_true e (same_text-self xs)
+
+same_text_is : (a b : Text) → same_text a b ≡ true → a ≡ b
+same_text_is [] [] e = refl
+same_text_is [] (y ∷ ys) e = absurd (cc e)
+same_text_is (x ∷ xs) [] e = absurd (cc e)
+same_text_is (x ∷ xs) (y ∷ ys) e =
+    let parts = both (x == y) (same_text xs ys) e in
+    cc (eqb-true x y parts.0, same_text_is xs ys parts.1)
+
+-- good data is read back from its spelling
+pub data_read : (version : Text) (d : Data) → is_data version d ≡ true → data_of version (data_text version d) ≡ Some d
+unfolding data_of data_text text_in parts_in is_list_in
+data_read version d e =
+    let list = (both (is_list_for version d.tokens) _ (both _ (is_memo d.memo) (both _ (is_receiver d.receiver) (both _ (is_user d.sender) e).0).0).0).0 in
+    ap (λ o. option_and_then (λ x. data_if (is_data version x && same_text (data_text version x) (data_text version d)) x) o)
+    (read_in (has_several version) d (data_clear version d e) list)
+    ∙ ap (λ b. data_if b d) (and_true e (same_text-self (data_text version d)))
+
+-- and what is read is good, and spelled so
+pub data_spelled : (version text : Text) (d : Data) → data_of version text ≡ Some d → (is_data version d ≡ true) × (text ≡ data_text version d)
+unfolding data_of
+data_spelled version text d e = go (data_in version (between text)) e
+  where
+    inner : (x : Data) (b : Bool) → (is_data version x && same_text (data_text version x) text) ≡ b → data_if b x ≡ Some d
+        → (is_data version d ≡ true) × (text ≡ data_text version d)
+    inner x true is e =
+        let same : x ≡ d = cc e in
+        let parts = both (is_data version x) _ is in
+        (subst (λ y. is_data version y ≡ true) same parts.0, subst (λ y. text ≡ data_text version y) same (sym (same_text_is (data_text version x) text parts.1)))
+    inner x false is e = absurd (cc e)
+
+    go : (o : Option Data) → option_and_then (λ x. data_if (is_data version x && same_text (data_text version x) text) x) o ≡ Some d
+        → (is_data version d ≡ true) × (text ≡ data_text version d)
+    go (Some x) e = inner x (is_data version x && same_text (data_text version x) text) refl e
+    go None e = absurd (cc e)
+
+pub reads_data : ReadsData
+reads_data version text d = (
+  λ e. data_spelled version text d e,
+  λ h. subst (λ t. data_of version t ≡ Some d) (sym h.1) (data_read version d h.0),
+)

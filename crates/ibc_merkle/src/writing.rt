@@ -1,0 +1,171 @@
+//! The writing of proofs (ICS 23, "CreateMembershipProof" and "CreateNonMembershipProof").
+
+ghost use Rattle.std.specs.Prelude.{◌≡◌, ◌<◌, ◌≤◌, ◌++◌, Some, length, slice_get, IsTrue, IsSome, IsNone, IfOk, IfErr};
+ghost use Rattle.std.specs.Option.{IsSomeAnd};
+ghost use Rattle.std.specs.FinMap.{is_sorted};
+ghost use Rattle.ibc_ids.specs.Texts.{text_cmp};
+ghost use Rattle.ibc_ids.specs.Maps.{at};
+ghost use Rattle.ibc_ids.specs.declared.refusal.Refusal.TheVariants.{NoMemory};
+ghost use Rattle.ibc_merkle.specs.Tree.{tree};
+ghost use Rattle.ibc_merkle.specs.Written.{operations_to, left_child, right_child, presence_of, written};
+ghost use Rattle.ibc_merkle.specs.Places.{key_at, pair_before};
+
+use crate::entry::Entry;
+use crate::proof::{Absence, Operation, Operations, Presence, Proof};
+use crate::search::place;
+use crate::tree::{split_of, tree_root_of};
+use ibc_ids::{Bytes, Refusal};
+use std::alloc::{AllocError, Global};
+
+/// The proof of what pairs have at a key: of its presence where it is among them, and of its absence where not. The
+/// keys strictly rise in byte order. `NoMemory` where a growth is refused.
+pub fn prove(alloc: Global, entries: &[Entry], key: &[u8]) -> Result<Proof, Refusal>
+    requires { IsTrue (is_sorted text_cmp entries.now) }
+    ensures ok { IfOk result (λ proof. proof ≡ written entries.now key.now) }
+    ensures err { IfErr result (λ refusal. refusal ≡ NoMemory) }
+{
+    match place(entries, key) {
+        Ok(index) => Ok(Proof::Present(presence_at(alloc, entries, index)?)),
+        Err(index) => Ok(Proof::Absent(absence_at(alloc, entries, index, key)?)),
+    }
+}
+
+/// The proof that a key has its value (ICS 23, "CreateMembershipProof"). The keys strictly rise in byte order, and it
+/// is among them. `NoMemory` where a growth is refused.
+pub fn prove_present(alloc: Global, entries: &[Entry], key: &[u8]) -> Result<Proof, Refusal>
+    requires sorted { IsTrue (is_sorted text_cmp entries.now) }
+    requires there { IsSome (at text_cmp key.now entries.now) }
+    ensures ok { IfOk result (λ proof. proof ≡ written entries.now key.now) }
+    ensures err { IfErr result (λ refusal. refusal ≡ NoMemory) }
+{
+    prove(alloc, entries, key)
+}
+
+/// The proof that a key isn't there (ICS 23, "CreateNonMembershipProof"). The keys strictly rise in byte order, and it
+/// is not among them. `NoMemory` where a growth is refused.
+pub fn prove_absent(alloc: Global, entries: &[Entry], key: &[u8]) -> Result<Proof, Refusal>
+    requires sorted { IsTrue (is_sorted text_cmp entries.now) }
+    requires missing { IsNone (at text_cmp key.now entries.now) }
+    ensures ok { IfOk result (λ proof. proof ≡ written entries.now key.now) }
+    ensures err { IfErr result (λ refusal. refusal ≡ NoMemory) }
+{
+    prove(alloc, entries, key)
+}
+
+// The proof that the key at the index has its value.
+fn presence_at(alloc: Global, entries: &[Entry], index: usize) -> Result<Presence, AllocError>
+    requires sorted { IsTrue (is_sorted text_cmp entries.now) }
+    requires there { index < length entries.now }
+    ensures { IfOk result (λ presence. presence_of entries.now (slice_get entries.now index) ≡ Some presence) }
+{
+    let entry = &entries[index];
+    let mut operations = Vec::new(alloc);
+    add_operations(alloc, &mut operations, entries, index)?;
+    Ok(Presence {
+        key: Bytes::copy_of(alloc, entry.key())?,
+        value: Bytes::copy_of(alloc, entry.value())?,
+        leaf_prefix: Bytes::copy_of(alloc, [0u8].as_slice())?,
+        operations: Operations::from_vec(operations),
+    })
+}
+
+// Adds the operations from the leaf at the index up to the root.
+fn add_operations(
+    alloc: Global,
+    operations: &mut Vec<Operation>,
+    entries: &[Entry],
+    index: usize,
+) -> Result<(), AllocError>
+    requires sorted { IsTrue (is_sorted text_cmp entries.now) }
+    requires there { index < length entries.now }
+    ensures { IfOk result (λ _. IsSomeAnd (operations_to (key_at entries.now index) (tree entries.now)) (λ added. operations.new.items ≡ operations.old.items ++ added)) }
+{
+    if entries.len() == 1 {
+        return Ok(());
+    }
+    let split = split_of(entries.len());
+    let (left, right) = entries.split_at(split);
+    if index < split {
+        add_operations(alloc, operations, left, index)?;
+        operations.push(on_left_child(alloc, &tree_root_of(right))?)?;
+    } else {
+        add_operations(alloc, operations, right, index - split)?;
+        operations.push(on_right_child(alloc, &tree_root_of(left))?)?;
+    }
+    Ok(())
+}
+
+// The operation on a left child beside this sibling.
+fn on_left_child(alloc: Global, sibling: &[u8; 32]) -> Result<Operation, AllocError>
+    ensures { IfOk result (λ operation. operation ≡ left_child sibling.now) }
+{
+    Ok(Operation {
+        prefix: Bytes::copy_of(alloc, [1u8].as_slice())?,
+        suffix: Bytes::copy_of(alloc, sibling.as_slice())?,
+    })
+}
+
+// The operation on a right child beside this sibling.
+fn on_right_child(alloc: Global, sibling: &[u8; 32]) -> Result<Operation, AllocError>
+    ensures { IfOk result (λ operation. operation ≡ right_child sibling.now) }
+{
+    let mut prefix = Vec::with_capacity(alloc, 33)?;
+    prefix.push(1)?;
+    prefix.extend_from_slice(sibling.as_slice())?;
+    Ok(Operation {
+        prefix: Bytes::from_vec(prefix),
+        suffix: Bytes::from_vec(Vec::new(alloc)),
+    })
+}
+
+// The proof that a key isn't there, which would stand at the index.
+fn absence_at(
+    alloc: Global,
+    entries: &[Entry],
+    index: usize,
+    key: &[u8],
+) -> Result<Absence, AllocError>
+    requires sorted { IsTrue (is_sorted text_cmp entries.now) }
+    requires within { index ≤ length entries.now }
+    ensures key { IfOk result (λ absence. absence.key ≡ key.now) }
+    ensures left { IfOk result (λ absence. absence.left ≡ presence_of entries.now (pair_before entries.now index)) }
+    ensures right { IfOk result (λ absence. absence.right ≡ presence_of entries.now (slice_get entries.now index)) }
+{
+    Ok(Absence {
+        key: Bytes::copy_of(alloc, key)?,
+        left: left_neighbour(alloc, entries, index)?,
+        right: right_neighbour(alloc, entries, index)?,
+    })
+}
+
+// The proof of the pair before the index, if there is one.
+fn left_neighbour(
+    alloc: Global,
+    entries: &[Entry],
+    index: usize,
+) -> Result<Option<Presence>, AllocError>
+    requires sorted { IsTrue (is_sorted text_cmp entries.now) }
+    requires within { index ≤ length entries.now }
+    ensures { IfOk result (λ presence. presence ≡ presence_of entries.now (pair_before entries.now index)) }
+{
+    match index.checked_sub(1) {
+        Some(before) => Ok(Some(presence_at(alloc, entries, before)?)),
+        None => Ok(None),
+    }
+}
+
+// The proof of the pair at the index, if there is one.
+fn right_neighbour(
+    alloc: Global,
+    entries: &[Entry],
+    index: usize,
+) -> Result<Option<Presence>, AllocError>
+    requires { IsTrue (is_sorted text_cmp entries.now) }
+    ensures { IfOk result (λ presence. presence ≡ presence_of entries.now (slice_get entries.now index)) }
+{
+    if index < entries.len() {
+        Ok(Some(presence_at(alloc, entries, index)?))
+    } else {
+        Ok(None)
+    }
+}

@@ -1,0 +1,41 @@
+-- What a store holds, and what it keeps of each height.
+use Rattle.std.specs.Prelude.{ℕ, ◌+◌, ◌-◌, ◌^◌, min, List, [], ◌∷◌, ◌++◌, length, drop, slice_get, nat_lt, true, false, Option, None}
+use Rattle.ibc_merkle.specs.Tree.{Pairs}
+
+-- the pairs of a map in the order of their keys, and how many more fit without a growth
+pub record HeldMap : Type 0 where
+  pub pairs : Pairs
+  pub room : ℕ
+
+-- A store: the working map with its room, the working time, and of the committed heights the last ones, at
+-- most as many as the window, each with its pairs and its time. The heights before them are gone.
+pub record HeldStore : Type 0 where
+  pub pairs : Pairs
+  pub room : ℕ
+  pub time : ℕ
+  pub window : ℕ
+  pub gone : ℕ
+  pub kept : List (Pairs × ℕ)
+
+-- how many heights are gone: no height is above 2^64 - 1
+abbrev pub gone_after : ℕ → ℕ → ℕ
+gone_after before more = min (before + more) (2 ^ 64 - 1)
+
+-- the last committed height, 0 if there is none
+abbrev pub height_of : HeldStore → ℕ
+height_of store = store.gone + length store.kept
+
+-- how many of these heights are too many for the window
+abbrev pub excess : HeldStore → ℕ
+excess store = length store.kept + 1 - store.window
+
+-- the store after a commit: the working pairs and the working time are those of one more height
+abbrev pub committed : HeldStore → ℕ → HeldStore
+committed store next_time =
+    let all = store.kept ++ (store.pairs, store.time) ∷ [] in
+    record store { time = next_time; gone = gone_after store.gone (excess store); kept = drop (excess store) all }
+
+-- what is kept of a height: its pairs and its time
+abbrev pub kept_at : HeldStore → ℕ → Option (Pairs × ℕ)
+kept_at store height =
+    elim (nat_lt store.gone height) [ true ↦ slice_get store.kept (height - store.gone - 1) | false ↦ None ]

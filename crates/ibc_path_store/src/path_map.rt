@@ -1,0 +1,117 @@
+//! A map from paths to values, in the order of the paths.
+
+ghost use Rattle.std.specs.Prelude.{◌≡◌, ◌+◌, ◌≤◌, ◌<◌, length, [], IsTrue, IsOk, OnOk, OnErr, IfOk, IfErr, option_map, string_bytes};
+ghost use Rattle.std.specs.List.{HoldsAt};
+ghost use Rattle.std.specs.List.Sorted.{IsPartitionPoint};
+ghost use Rattle.std.specs.FinMap.{is_sorted};
+ghost use Rattle.std.specs.declared.cmp.Ordering.TheVariants.{Less, Equal, Greater};
+ghost use Rattle.ibc_ids.specs.Texts.{text_cmp};
+ghost use Rattle.ibc_ids.specs.Maps.{at, with, without};
+
+use ibc_ids::Bytes;
+use ibc_merkle::{Entry, place};
+use std::alloc::{AllocError, Global};
+use std::marker::Model;
+
+/// A map from paths to values, in which room can be made beforehand.
+#[derive(Drop, Debug)]
+pub struct PathMap {
+    entries: Vec<Entry>,
+}
+
+impl Model for PathMap {
+    ghost use Rattle.std.specs.Prelude.{◌-◌, IsTrue, vec_len, vec_capacity};
+    ghost use Rattle.std.specs.FinMap.{is_sorted};
+    ghost use Rattle.ibc_ids.specs.Texts.{text_cmp};
+    ghost use Rattle.ibc_path_store.specs.Held.{HeldMap};
+
+    ghost Value = { HeldMap };
+
+    ghost view = { λ map. record { pairs = map.entries.items; room = vec_capacity map.entries - vec_len map.entries } };
+
+    ghost invariant = { λ map. IsTrue (is_sorted text_cmp map.entries.items) };
+}
+
+impl PathMap {
+    /// An empty map.
+    pub fn new(alloc: Global) -> PathMap
+        ensures { result.pairs ≡ [] }
+    {
+        PathMap {
+            entries: Vec::new(alloc),
+        }
+    }
+
+    /// Makes room for this many paths more.
+    pub fn reserve(&mut self, paths: usize) -> Result<(), AllocError>
+        ensures pairs { self.new.pairs ≡ self.old.pairs }
+        ensures room { self.old.room ≤ self.new.room }
+        ensures ok { OnOk result (paths ≤ self.new.room) }
+    {
+        self.entries.reserve(paths)
+    }
+
+    /// The pairs, in the order of their paths.
+    pub fn entries(&self) -> &[Entry]
+        ensures pairs { result.now ≡ self.now.pairs }
+        ensures sorted { IsTrue (is_sorted text_cmp self.now.pairs) }
+    {
+        self.entries.as_slice()
+    }
+
+    /// Sets the value of a path. With room it is not refused, and a refusal leaves the pairs.
+    pub fn set(&mut self, path: String, value: Bytes) -> Result<(), AllocError>
+        ensures ok { OnOk result (self.new.pairs ≡ with text_cmp (string_bytes path) value self.old.pairs) }
+        ensures reserved { 0 < self.old.room → IsOk result }
+        ensures room { self.old.room ≤ self.new.room + 1 }
+        ensures err { OnErr result (self.new.pairs ≡ self.old.pairs) }
+    {
+        let key = Bytes::from_vec(path.into_bytes());
+        match self.place(key.as_slice()) {
+            Ok(index) => {
+                self.entries[index].set_value(value);
+                Ok(())
+            }
+            Err(index) => Ok(self.entries.insert(index, Entry::new(key, value))?),
+        }
+    }
+
+    /// The value of a path, or none.
+    pub fn get(&self, path: &str) -> Option<&[u8]>
+        ensures { option_map (λ value. value.now) result ≡ at text_cmp path.now self.now.pairs }
+    {
+        match self.place(path.as_bytes()) {
+            Ok(index) => Some(self.entries[index].value()),
+            Err(_) => None,
+        }
+    }
+
+    /// Removes a path and its value, if it is there.
+    pub fn remove(&mut self, path: &str)
+        ensures pairs { self.new.pairs ≡ without text_cmp path.now self.old.pairs }
+        ensures room { self.old.room ≤ self.new.room }
+    {
+        if let Ok(index) = self.place(path.as_bytes()) {
+            self.entries.remove(index);
+        }
+    }
+
+    /// A copy of the pairs.
+    pub fn copy(&self) -> Result<PathMap, AllocError>
+        ensures { IfOk result (λ copy. copy.pairs ≡ self.now.pairs) }
+    {
+        Ok(PathMap {
+            entries: self.entries.clone()?,
+        })
+    }
+
+    // Where a path stands, or where it would stand.
+    fn place(&self, path: &[u8]) -> Result<usize, usize>
+        ensures found { IfOk result (λ index. index < length self.now.pairs) }
+        ensures here { IfOk result (HoldsAt (λ entry. text_cmp entry.0 path.now ≡ Equal) self.now.pairs) }
+        ensures within { IfErr result (λ index. index ≤ length self.now.pairs) }
+        ensures gap { IfErr result (IsPartitionPoint (λ entry. text_cmp entry.0 path.now ≡ Less) (λ entry. text_cmp entry.0 path.now ≡ Greater) self.now.pairs) }
+    {
+        place(self.entries(), path)
+    }
+}

@@ -1,0 +1,172 @@
+//! A store of records by path, with its committed heights.
+
+ghost use Rattle.std.specs.Prelude.{◌≡◌, ◌⊎◌, ◌↔◌, ◌+◌, ◌-◌, ◌^◌, ◌≤◌, ◌<◌, ℕ, [], length, min, IsTrue, IsOk, OnOk, OnErr, IfOk, IfErr, IsNone, option_map, option_copied, string_bytes};
+ghost use Rattle.std.specs.Option.{IsSomeAnd};
+ghost use Rattle.ibc_ids.specs.Texts.{text_cmp};
+ghost use Rattle.ibc_ids.specs.Maps.{at, with, without};
+ghost use Rattle.ibc_ids.specs.declared.refusal.Refusal.TheVariants.{NoMemory, NoConsensus, TimeBack};
+ghost use Rattle.ibc_merkle.specs.Tree.{tree_root};
+ghost use Rattle.ibc_merkle.specs.Written.{written};
+ghost use Rattle.ibc_path_store.specs.Held.{committed, height_of, kept_at};
+
+use crate::path_map::PathMap;
+use crate::snapshot::Snapshot;
+use ibc_ids::{Bytes, Refusal, Root};
+use ibc_merkle::{Proof, prove, root};
+use std::alloc::Global;
+use std::collections::VecDeque;
+use std::marker::Model;
+
+/// A chain's provable records: a working map from paths to values, the working time, and of the committed heights the
+/// last ones (ICS 24, "Provable store"; ICS 23, "CommitmentState"). Heights count from 1. A height has the map and the
+/// time as they were when it was committed.
+#[derive(Drop, Debug)]
+pub struct Store {
+    map: PathMap,
+    time: u64,
+    window: u64,
+    gone: u64,
+    kept: VecDeque<Snapshot>,
+}
+
+impl Model for Store {
+    ghost use Rattle.std.specs.Prelude.{◌≤◌, length};
+    ghost use Rattle.ibc_path_store.specs.Held.{HeldStore};
+
+    ghost Value = { HeldStore };
+
+    ghost view = { λ store. record {
+      pairs = store.map.pairs;
+      room = store.map.room;
+      time = store.time;
+      window = store.window;
+      gone = store.gone;
+      kept = store.kept.items;
+    } };
+
+    ghost invariant = { λ store. length store.kept.items ≤ store.window };
+}
+
+impl Store {
+    /// A store with no path and no committed height, whose working time is the given one. It keeps the last `window`
+    /// heights.
+    pub fn new(alloc: Global, window: u64, time: u64) -> Store
+        ensures pairs { result.pairs ≡ [] }
+        ensures time { result.time ≡ time }
+        ensures window { result.window ≡ window }
+        ensures gone { result.gone ≡ 0 }
+        ensures kept { result.kept ≡ [] }
+    {
+        Store {
+            map: PathMap::new(alloc),
+            time,
+            window,
+            gone: 0,
+            kept: VecDeque::new(alloc),
+        }
+    }
+
+    /// The last committed height, 0 if there is none, and never above 2^64 - 1.
+    pub fn height(&self) -> u64
+        ensures { result ≡ min (height_of self.now) (2 ^ 64 - 1) }
+    {
+        self.gone.saturating_add(self.kept.len() as u64)
+    }
+
+    /// The working time.
+    pub fn time(&self) -> u64
+        ensures { result ≡ self.now.time }
+    {
+        self.time
+    }
+
+    /// Makes room for so many paths more: as many `set`s are not refused. `NoMemory` where a growth is refused.
+    pub fn reserve(&mut self, paths: usize) -> Result<(), Refusal>
+        ensures same { self.new ≡ record self.old { room = self.new.room } }
+        ensures room { self.old.room ≤ self.new.room }
+        ensures ok { OnOk result (paths ≤ self.new.room) }
+        ensures err { IfErr result (λ refusal. refusal ≡ NoMemory) }
+    {
+        Ok(self.map.reserve(paths)?)
+    }
+
+    /// Sets the value of a path in the working map; both are moved in. `NoMemory` where a growth is refused, which is
+    /// never so with room; the map is then as before.
+    pub fn set(&mut self, path: String, value: Bytes) -> Result<(), Refusal>
+        ensures ok { OnOk result (self.new ≡ record self.old { pairs = with text_cmp (string_bytes path) value self.old.pairs; room = self.new.room }) }
+        ensures reserved { 0 < self.old.room → IsOk result }
+        ensures room { self.old.room ≤ self.new.room + 1 }
+        ensures err { IfErr result (λ refusal. refusal ≡ NoMemory) }
+        ensures unchanged { OnErr result (self.new ≡ record self.old { room = self.new.room }) }
+    {
+        Ok(self.map.set(path, value)?)
+    }
+
+    /// The value of a path in the working map, or none.
+    pub fn get(&self, path: &str) -> Option<&[u8]>
+        ensures { option_map (λ value. value.now) result ≡ at text_cmp path.now self.now.pairs }
+    {
+        self.map.get(path)
+    }
+
+    /// Removes a path and its value from the working map, if it is there.
+    pub fn remove(&mut self, path: &str)
+        ensures pairs { self.new ≡ record self.old { pairs = without text_cmp path.now self.old.pairs; room = self.new.room } }
+        ensures room { self.old.room ≤ self.new.room }
+    {
+        self.map.remove(path);
+    }
+
+    /// Commits the working map and the working time as the next height, answers the root of the map's tree (ICS 23,
+    /// "CommitmentRoot"), and begins a block of the time `next_time`. `TimeBack` where `next_time` is below the working
+    /// time; `NoMemory` where a growth is refused. A refusal leaves the store.
+    pub fn commit(&mut self, next_time: u64) -> Result<Root, Refusal>
+        requires { 0 < length self.old.pairs }
+        ensures root { IfOk result (λ root. root ≡ tree_root self.old.pairs) }
+        ensures ok { OnOk result (self.new ≡ committed self.old next_time) }
+        ensures time_back { (result ≡ Err TimeBack) ↔ (next_time < self.old.time) }
+        ensures err { IfErr result (λ refusal. (refusal ≡ TimeBack) ⊎ (refusal ≡ NoMemory)) }
+        ensures unchanged { OnErr result (self.new ≡ self.old) }
+    {
+        if next_time < self.time {
+            return Err(Refusal::TimeBack);
+        }
+        let snapshot = Snapshot::new(self.map.copy()?, self.time);
+        self.kept.reserve(1)?;
+        let root = root(self.map.entries());
+        self.kept.push_back_reserved(snapshot);
+        self.time = next_time;
+        if self.kept.len() as u64 > self.window {
+            self.kept.pop_front();
+            self.gone = self.gone.saturating_add(1);
+        }
+        Ok(root)
+    }
+
+    /// The proof of what a committed height has at a path: of its presence where it is there, and of its absence where
+    /// not (ICS 23, "CommitmentProof"). `NoConsensus` where the height isn't committed or is gone from the window,
+    /// `NoMemory` where a growth is refused.
+    pub fn prove(&self, height: u64, path: &str) -> Result<Proof, Refusal>
+        ensures ok { IfOk result (λ proof. IsSomeAnd (kept_at self.now height) (λ kept. proof ≡ written kept.0 path.now)) }
+        ensures unknown { (result ≡ Err NoConsensus) ↔ IsNone (kept_at self.now height) }
+        ensures err { IfErr result (λ refusal. (refusal ≡ NoConsensus) ⊎ (refusal ≡ NoMemory)) }
+    {
+        match self.snapshot(height) {
+            Some(snapshot) => {
+                let alloc = *self.kept.allocator();
+                prove(alloc, snapshot.entries(), path.as_bytes())
+            }
+            None => Err(Refusal::NoConsensus),
+        }
+    }
+
+    // What is kept of a height.
+    fn snapshot(&self, height: u64) -> Option<&Snapshot>
+        ensures { option_copied result ≡ kept_at self.now height }
+    {
+        if height <= self.gone {
+            return None;
+        }
+        self.kept.get((height - self.gone - 1) as usize)
+    }
+}

@@ -1,0 +1,5 @@
+pub mod Stores
+pub mod NewClients
+pub mod NewRecords
+pub mod Learning
+pub mod UpdatedClients

@@ -1,0 +1,75 @@
+-- A client is added: the core has it, and the store is again the image.
+use Rattle.std.proofs.Common.{◌≡◌, ℕ, ◌+◌, List, refl, sym, ap, subst, ◌∙◌}
+use Rattle.std.specs.Prelude.{IsTrue}
+use Rattle.ibc_ids.specs.Texts.{Text, text_cmp}
+use Rattle.ibc_ids.specs.Maps.{with}
+use Rattle.ibc_ids.specs.Names.{is_client}
+use Rattle.ibc_ids.specs.Paths.{path}
+use Rattle.ibc_ids.specs.declared.key.Key.TheVariants as key
+use Rattle.ibc_ids.proofs.Maps.{map_values-with}
+use Rattle.ibc_machine.specs.Records.{Core, Client, with_client}
+use Rattle.ibc_machine.specs.Clients.{new_client}
+use Rattle.ibc_machine.specs.Values.{ClientIs, NumberIs, value_bytes}
+use Rattle.ibc_machine.specs.Image.{image}
+use Rattle.ibc_machine.proofs.ImageChanges.{IsKeyed, image_changes}
+use Rattle.ibc_machine.proofs.CoreChanges.{changes-with_client, keyed-with_client, changes-next_client, keyed-next_client}
+use Rattle.ibc_path_store.specs.Held.{HeldStore}
+use Rattle.ibc_records.specs.HeldClients.{HeldClient, plain_client, new_held}
+use Rattle.ibc_records.specs.Held.{HeldRecords, IsHeld, IsStored, AddsClient, core_of}
+use Rattle.ibc_records.proofs.Stores.{Sets, Becomes, becomes_roomy, becomes_set}
+
+module _ (old : HeldRecords) (id : Text) (chain : ℕ) (store : HeldStore) where
+  abbrev pub after : HeldRecords
+  after = record old { clients = with text_cmp id (new_held chain) old.clients; next_client = old.next_client + 1; store = store }
+
+  with_it : Core
+  with_it = with_client id (new_client chain) (core_of old)
+
+  pub core-after : core_of after ≡ record (with_client id (new_client chain) (core_of old)) { next_client = old.next_client + 1 }
+  core-after =
+      ap (λ clients. record (core_of old) { clients = clients; next_client = old.next_client + 1 })
+      (map_values-with text_cmp plain_client id (new_held chain) old.clients)
+
+  module _ (held : IsHeld old) (named : IsTrue (is_client id)) (sets : Becomes old.store (with text_cmp (path key.NextClientSequence) (value_bytes (NumberIs (old.next_client + 1))) (with text_cmp (path (key.ClientState id)) (value_bytes (ClientIs (new_client chain).state)) old.store.pairs)) store) where
+    core1 : Core
+    core1 = with_client id (new_client chain) (core_of old)
+
+    image1 : image (with_client id (new_client chain) (core_of old)) ≡ with text_cmp (path (key.ClientState id)) (value_bytes (ClientIs (new_client chain).state)) (image (core_of old))
+    image1 =
+        image_changes (core_of old) (with_client id (new_client chain) (core_of old)) (key.ClientState id) (ClientIs (new_client chain).state) held.keyed
+        (keyed-with_client (core_of old) id (new_client chain) held.keyed named) (changes-with_client (core_of old) id (new_client chain))
+
+    keyed1 : IsKeyed (with_client id (new_client chain) (core_of old))
+    keyed1 = keyed-with_client (core_of old) id (new_client chain) held.keyed named
+
+    keyed2 : IsKeyed (record (with_client id (new_client chain) (core_of old)) { next_client = old.next_client + 1 })
+    keyed2 = keyed-next_client (with_client id (new_client chain) (core_of old)) (old.next_client + 1) keyed1
+
+    image2 : image (record (with_client id (new_client chain) (core_of old)) { next_client = old.next_client + 1 }) ≡ with text_cmp (path key.NextClientSequence) (value_bytes (NumberIs (old.next_client + 1))) (image (with_client id (new_client chain) (core_of old)))
+    image2 =
+        image_changes (with_client id (new_client chain) (core_of old)) (record (with_client id (new_client chain) (core_of old)) { next_client = old.next_client + 1 }) key.NextClientSequence
+        (NumberIs (old.next_client + 1)) keyed1 keyed2 (changes-next_client (with_client id (new_client chain) (core_of old)) (old.next_client + 1))
+
+    stored : store.pairs ≡ image (core_of after)
+    stored =
+        sets.pairs_are
+        ∙ ap (λ pairs. with text_cmp (path key.NextClientSequence) (value_bytes (NumberIs (old.next_client + 1))) (with text_cmp (path (key.ClientState id)) (value_bytes (ClientIs (new_client chain).state)) pairs)) held.stored
+        ∙ ap (λ pairs. with text_cmp (path key.NextClientSequence) (value_bytes (NumberIs (old.next_client + 1))) pairs) (sym image1)
+        ∙ sym image2 ∙ ap image (sym core-after)
+
+    pub is_held : IsHeld after
+    is_held = record { keyed = subst IsKeyed (sym core-after) keyed2; stored = stored }
+
+    pub adds_client : AddsClient old id chain after
+    adds_client = record { records = refl; stored = record { store = sets.rewrites; image_of = stored }; core = core-after }
+
+-- the same, from what the calls on the map and the store say
+pub added : (old : HeldRecords) (id : Text) (chain : ℕ) (clients : List (Text × HeldClient)) (s1 s2 s3 : HeldStore) {p v q w : Text} → IsHeld old → IsTrue (is_client id)
+    → clients ≡ with text_cmp id (new_held chain) old.clients
+    → p ≡ path (key.ClientState id) → v ≡ value_bytes (ClientIs (new_client chain).state) → q ≡ path key.NextClientSequence → w ≡ value_bytes (NumberIs (old.next_client + 1))
+    → s1 ≡ record old.store { room = s1.room } → Sets s1 p v s2 → Sets s2 q w s3
+    → IsHeld (record old { clients = clients; next_client = old.next_client + 1; store = s3 }) × AddsClient old id chain (record old { clients = clients; next_client = old.next_client + 1; store = s3 })
+added old id chain clients s1 s2 s3 {p} {v} {q} {w} held named entries ep ev eq ew e f g =
+    let sets = becomes_set old.store _ s2 s3 (becomes_set old.store _ s1 s2 (becomes_roomy old.store s1 e) f ep ev) g eq ew in
+    subst (λ cs. IsHeld (record old { clients = cs; next_client = old.next_client + 1; store = s3 }) × AddsClient old id chain (record old { clients = cs; next_client = old.next_client + 1; store = s3 }))
+    (sym entries) (is_held old id chain s3 held named sets, adds_client old id chain s3 held named sets)

@@ -1,0 +1,81 @@
+-- The records of a chain as a ledger holds them: in plain, and as a store of paths.
+use Rattle.std.specs.Prelude.{◌≡◌, ◌+◌, ℕ, List, [], map, Option, Some}
+use Rattle.std.specs.Option.{option_and_then}
+use Rattle.std.specs.Ordering.{nat_cmp}
+use Rattle.ibc_ids.specs.Texts.{Text, text_cmp}
+use Rattle.ibc_ids.specs.Maps.{Map, at, with}
+use Rattle.ibc_machine.specs.Records.{Core, Client, with_client}
+use Rattle.ibc_machine.specs.Genesis.{empty_core}
+use Rattle.ibc_machine.specs.Image.{image}
+use Rattle.ibc_machine.specs.Clients.{new_client, updated}
+use Rattle.ibc_machine.proofs.ImageChanges.{IsKeyed}
+use Rattle.ibc_path_store.specs.Held.{HeldStore}
+use Rattle.ibc_records.specs.declared.client.ConsensusState.{ConsensusState}
+use Rattle.ibc_records.specs.HeldClients.{HeldClient, plain_client, new_held, with_height}
+
+pub record HeldRecords : Type 0 where
+  pub clients : Map Text HeldClient
+  pub next_client : ℕ
+  pub next_connection : ℕ
+  pub next_channel : ℕ
+  pub store : HeldStore
+
+abbrev pub plain_entry : Text × HeldClient → Text × Client
+plain_entry entry = (entry.0, plain_client entry.1)
+
+-- what the chain proves, in plain
+abbrev pub core_of : HeldRecords → Core
+core_of held = record {
+  clients = map plain_entry held.clients;
+  connections = [];
+  channels = [];
+  next_client = held.next_client;
+  next_connection = held.next_connection;
+  next_channel = held.next_channel;
+}
+
+-- what a client knows of a height
+abbrev pub consensus_in : HeldRecords → Text → ℕ → Option ConsensusState
+consensus_in held client height =
+    option_and_then (λ (c : HeldClient). at nat_cmp height c.known) (at text_cmp client held.clients)
+
+-- the store is the image of the core, every key of which has names for its names
+pub record IsHeld (held : HeldRecords) : Type 0 where
+  pub keyed : IsKeyed (core_of held)
+  pub stored : held.store.pairs ≡ image (core_of held)
+
+-- the records of a chain in the beginning, whose working block has this time
+pub record IsNew (window time : ℕ) (held : HeldRecords) : Type 0 where
+  pub clients : held.clients ≡ []
+  pub core : core_of held ≡ empty_core
+  pub store : held.store ≡ record { pairs = image empty_core; room = held.store.room; time = time; window = window; gone = 0; kept = [] }
+
+-- nothing changed but how much room there is
+abbrev pub IsUnchanged : HeldRecords → HeldRecords → Type 0
+IsUnchanged old new = new ≡ record old { store = record old.store { room = new.store.room } }
+
+-- only the working records changed, and the store is their image
+pub record IsStored (old new : HeldRecords) : Type 0 where
+  pub store : new.store ≡ record old.store { pairs = new.store.pairs; room = new.store.room }
+  pub image_of : new.store.pairs ≡ image (core_of new)
+
+-- a client of a chain was added, and the next is counted
+pub record AddsClient (old : HeldRecords) (id : Text) (chain : ℕ) (new : HeldRecords) : Type 0 where
+  pub records : new ≡ record old {
+    clients = with text_cmp id (new_held chain) old.clients;
+    next_client = old.next_client + 1;
+    store = new.store;
+  }
+  pub stored : IsStored old new
+  pub core : core_of new ≡ record (with_client id (new_client chain) (core_of old)) { next_client = old.next_client + 1 }
+
+-- a client knows a height more
+pub record UpdatesClient (old : HeldRecords) (id : Text) (height : ℕ) (known : ConsensusState) (new : HeldRecords) : Type 0 where
+  pub client : HeldClient
+  pub stood : at text_cmp id old.clients ≡ Some client
+  pub records : new ≡ record old {
+    clients = with text_cmp id (with_height height known client) old.clients;
+    store = new.store;
+  }
+  pub stored : IsStored old new
+  pub core : core_of new ≡ with_client id (updated height (plain_client client)) (core_of old)

@@ -1,0 +1,2 @@
+pub mod HeldClients
+pub mod Held

@@ -1,0 +1,197 @@
+//! The records of a chain, kept in plain and as a store.
+
+ghost use Rattle.std.specs.Prelude.{◌≡◌, ◌⊎◌, ◌↔◌, ◌+◌, ◌-◌, ◌^◌, ◌<◌, min, IsNone, IsSome, IfSome, IfOk, IfErr, OnOk, OnErr, option_copied};
+ghost use Rattle.ibc_ids.specs.Texts.{text_cmp};
+ghost use Rattle.ibc_ids.specs.Maps.{at, with};
+ghost use Rattle.ibc_ids.specs.declared.refusal.Refusal.TheVariants.{NoMemory, TimeBack, UnknownClient};
+ghost use Rattle.ibc_records.specs.Held.{core_of, IsNew, AddsClient, UpdatesClient, IsUnchanged};
+ghost use Rattle.ibc_machine.specs.Image.{core_root};
+ghost use Rattle.ibc_records.specs.HeldClients.{with_height};
+ghost use Rattle.ibc_path_store.specs.Held.{committed, height_of};
+
+use crate::client::{Client, ConsensusState};
+use crate::values::{
+    client_path, client_value, next_channel_path, next_client_path, next_connection_path,
+    number_value, set_reserved,
+};
+use ibc_ids::{ClientId, Refusal, Root};
+use ibc_path_store::Store;
+use ibc_wire::ClientState;
+use std::alloc::Global;
+use std::collections::BTreeMap;
+use std::marker::Model;
+
+/// What a chain proves to others, in plain, and the store of paths that is its image (ICS 24, "Provable store").
+#[derive(Drop, Debug)]
+pub struct Records {
+    clients: BTreeMap<ClientId, Client>,
+    next_client: u64,
+    next_connection: u64,
+    next_channel: u64,
+    store: Store,
+    alloc: Global,
+}
+
+impl Model for Records {
+    ghost use Rattle.ibc_records.specs.Held.{HeldRecords, IsHeld};
+
+    ghost Value = { HeldRecords };
+
+    ghost view = { λ records. record {
+      clients = records.clients.entries;
+      next_client = records.next_client;
+      next_connection = records.next_connection;
+      next_channel = records.next_channel;
+      store = records.store;
+    } };
+
+    ghost invariant = { λ records. IsHeld (record {
+      clients = records.clients.entries;
+      next_client = records.next_client;
+      next_connection = records.next_connection;
+      next_channel = records.next_channel;
+      store = records.store;
+    }) };
+}
+
+impl Records {
+    /// The records of a chain in the beginning: no client, connection and channel, and the three counters at 0. The
+    /// working block has the given time, and the last `window` heights are kept. `NoMemory` where a growth is refused.
+    pub fn new(alloc: Global, window: u64, time: u64) -> Result<Records, Refusal>
+        ensures ok { IfOk result (λ records. IsNew window time records) }
+        ensures err { IfErr result (λ refusal. refusal ≡ NoMemory) }
+    {
+        let mut store = Store::new(alloc, window, time);
+        store.reserve(3)?;
+        set_reserved(
+            &mut store,
+            next_client_path(alloc)?,
+            number_value(alloc, 0)?,
+        );
+        set_reserved(
+            &mut store,
+            next_connection_path(alloc)?,
+            number_value(alloc, 0)?,
+        );
+        set_reserved(
+            &mut store,
+            next_channel_path(alloc)?,
+            number_value(alloc, 0)?,
+        );
+        Ok(Records {
+            clients: BTreeMap::new(alloc),
+            next_client: 0,
+            next_connection: 0,
+            next_channel: 0,
+            store,
+            alloc,
+        })
+    }
+
+    /// A client by its identifier, or none.
+    pub fn client(&self, id: &ClientId) -> Option<&Client>
+        ensures { option_copied result ≡ at text_cmp id.now self.now.clients }
+    {
+        self.clients.get(id)
+    }
+
+    /// The number of the next client.
+    pub fn next_client(&self) -> u64
+        ensures { result ≡ self.now.next_client }
+    {
+        self.next_client
+    }
+
+    /// Adds a client of a chain under an identifier, and counts the next one (ICS 2, "createClient"). `NoMemory` where a
+    /// growth is refused; the records are then as before.
+    pub fn add_client(&mut self, id: ClientId, chain: u8) -> Result<(), Refusal>
+        requires { self.old.next_client < 2 ^ 64 - 1 }
+        ensures ok { OnOk result (AddsClient self.old id chain self.new) }
+        ensures err { IfErr result (λ refusal. refusal ≡ NoMemory) }
+        ensures unchanged { OnErr result (IsUnchanged self.old self.new) }
+    {
+        let client = Client::new(self.alloc, chain);
+        let path = client_path(self.alloc, &id)?;
+        let value = client_value(self.alloc, client.state())?;
+        let number_path = next_client_path(self.alloc)?;
+        let number = number_value(self.alloc, self.next_client + 1)?;
+        self.store.reserve(2)?;
+        self.clients.insert(id, client)?;
+        self.next_client += 1;
+        set_reserved(&mut self.store, path, value);
+        set_reserved(&mut self.store, number_path, number);
+        Ok(())
+    }
+
+    /// Tells a client of a height (ICS 2, "updateClient"). `UnknownClient` exactly where there is no such client;
+    /// `NoMemory` where a growth is refused. A refusal leaves the records.
+    pub fn update_client(
+        &mut self,
+        id: &ClientId,
+        height: u64,
+        known: ConsensusState,
+    ) -> Result<(), Refusal>
+        ensures ok { OnOk result (UpdatesClient self.old id.now height known self.new) }
+        ensures unknown { IsNone (at text_cmp id.now self.old.clients) → result ≡ Err UnknownClient }
+        ensures known { IsSome (at text_cmp id.now self.old.clients) → IfErr result (λ refusal. refusal ≡ NoMemory) }
+        ensures unchanged { OnErr result (IsUnchanged self.old self.new) }
+    {
+        let state = match self.clients.get(id) {
+            Some(client) => client.state(),
+            None => return Err(Refusal::UnknownClient),
+        };
+        let latest = state.latest.max(height);
+        let chain = state.chain;
+        let value = client_value(self.alloc, ClientState { chain, latest })?;
+        let path = client_path(self.alloc, id)?;
+        self.store.reserve(1)?;
+        learn(&mut self.clients, id, height, known)?;
+        set_reserved(&mut self.store, path, value);
+        Ok(())
+    }
+
+    /// The last committed height, 0 if there is none.
+    pub fn height(&self) -> u64
+        ensures { result ≡ min (height_of self.now.store) (2 ^ 64 - 1) }
+    {
+        self.store.height()
+    }
+
+    /// The time of the working block.
+    pub fn time(&self) -> u64
+        ensures { result ≡ self.now.store.time }
+    {
+        self.store.time()
+    }
+
+    /// Commits the working records as the next height, and begins a block of the time `next_time` (ICS 23,
+    /// "CommitmentRoot"). `TimeBack` exactly where `next_time` is below the working time; `NoMemory` where a growth is
+    /// refused. A refusal leaves the records.
+    pub fn commit(&mut self, next_time: u64) -> Result<Root, Refusal>
+        ensures root { IfOk result (λ root. root ≡ core_root (core_of self.old)) }
+        ensures ok { OnOk result (self.new ≡ record self.old { store = committed self.old.store next_time }) }
+        ensures time_back { (result ≡ Err TimeBack) ↔ (next_time < self.old.store.time) }
+        ensures err { IfErr result (λ refusal. (refusal ≡ TimeBack) ⊎ (refusal ≡ NoMemory)) }
+        ensures unchanged { OnErr result (self.new ≡ self.old) }
+    {
+        self.store.commit(next_time)
+    }
+}
+
+// A client knows a height more.
+fn learn(
+    clients: &mut BTreeMap<ClientId, Client>,
+    id: &ClientId,
+    height: u64,
+    known: ConsensusState,
+) -> Result<(), Refusal>
+    ensures ok { OnOk result (IfSome (at text_cmp id.now clients.old.entries) (λ client. clients.new.entries ≡ with text_cmp id.now (with_height height known client) clients.old.entries)) }
+    ensures unknown { IsNone (at text_cmp id.now clients.old.entries) → result ≡ Err UnknownClient }
+    ensures known { IsSome (at text_cmp id.now clients.old.entries) → IfErr result (λ refusal. refusal ≡ NoMemory) }
+    ensures unchanged { OnErr result (clients.new.entries ≡ clients.old.entries) }
+{
+    match clients.get_mut(id) {
+        Some(client) => client.learn(height, known),
+        None => Err(Refusal::UnknownClient),
+    }
+}

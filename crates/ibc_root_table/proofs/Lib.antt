@@ -1,0 +1,11 @@
+pub mod Beginnings
+pub mod Chains
+pub mod Growing
+pub mod Places
+pub mod Rows
+pub mod Views
+pub mod Loads
+pub mod Drafts
+pub mod Raises
+pub mod Seats
+pub mod Fitting

@@ -1,0 +1,298 @@
+//! The table as its callers see it.
+ghost use Rattle.std.specs.Prelude.{◌≡◌, ◌+◌, ◌<◌, ◌≤◌, List, [], ◌∷◌, ◌++◌, Some, None, IfOk, IfErr, IfSome, IfNone, IsSome, OnOk, OnSome, slice_index, slice_get};
+ghost use mathlib.Core.List.{IsPrefix};
+ghost use Rattle.ibc_ids.specs.declared.refusal.Refusal.TheVariants.{NoMemory, TableFull};
+ghost use Rattle.ibc_ids.specs.declared.publication.Publication.{Publication};
+ghost use Rattle.ibc_ids.specs.Publications.{published_by, height_of, row_at};
+ghost use Rattle.ibc_root_table.specs.Publications.{publication, row_words, IsRoot};
+
+use crate::knowledge::{Board, Place};
+use crate::row::{ROW_LEN, root_of, row_of};
+use crate::shape::Shape;
+use crate::steps::{
+    Adopt, Count, CutReader, CutWriter, DraftPart, Hear, Look, LookFloor, Raise, RaiseFloor,
+    ReadPart,
+};
+use atomic_table::Table;
+use ibc_ids::{Refusal, Root};
+use std::alloc::{AllocError, Global};
+use std::marker::Model;
+
+/// The table in which all chains of a process publish their heights. Contracts see which table it is, and its shape.
+#[derive(Drop)]
+pub struct RootTable {
+    board: Board,
+    shape: Shape,
+}
+
+impl Model for RootTable {
+    ghost use Rattle.std.specs.Prelude.{◌≡◌};
+    ghost use Rattle.ibc_root_table.specs.Passes.{TableName};
+
+    ghost Value = { TableName };
+
+    ghost use Rattle.ibc_root_table.specs.Inside.{name_of, IsTable};
+
+    ghost view = { name_of };
+
+    ghost invariant = { IsTable };
+}
+
+/// The right to read a table, and of a chain's own pass to publish.
+/// Contracts see which publications it has seen; the code keeps no list of them.
+#[derive(Drop)]
+pub struct Pass {
+    place: Place,
+    own: Option<u8>,
+}
+
+impl Model for Pass {
+    ghost use Rattle.ibc_root_table.specs.Passes.{Sight};
+
+    ghost Value = { Sight };
+
+    ghost use Rattle.ibc_root_table.specs.Inside.{sight_of, IsPass};
+
+    ghost view = { sight_of };
+
+    ghost invariant = { IsPass };
+}
+
+impl RootTable {
+    ghost use Rattle.ibc_root_table.specs.Passes.{SamePass, KeepsOwn, Publishes, AreDealt, own_chain, unused_pass};
+    ghost use Rattle.ibc_root_table.specs.Rule.{Owns, newcomer};
+    ghost use Rattle.ibc_root_table.specs.Told.{FloorLooked};
+    ghost use Rattle.ibc_root_table.specs.Inside.{IsPlaceOf, SamePlace};
+
+    /// A table with no publications, the chains' own passes in their order, and then the passes that only read.
+    /// There are 1 to 255 chains, each with a ring of at least one row.
+    /// `NoMemory` where the words or the passes don't fit into memory.
+    pub fn new(
+        alloc: Global,
+        chains: u8,
+        readers: usize,
+        window: u64,
+        capacity: u64,
+    ) -> Result<(RootTable, Vec<Pass>), Refusal>
+        requires { (0 < chains) × (0 < window) }
+        ensures ok { IfOk result (λ made. (made.0.shape ≡ record { chains = chains; window = window; capacity = capacity })
+            × AreDealt chains readers made.0 made.1.items) }
+        ensures err { IfErr result (λ refusal. refusal ≡ NoMemory) }
+    {
+        let shape = Shape {
+            chains,
+            window,
+            capacity,
+        };
+        let (table, place) = RootTable::lay(alloc, shape)?;
+        let passes = table.deal(alloc, place, readers)?;
+        Ok((table, passes))
+    }
+
+    // The table, and the seat that writes for all chains.
+    fn lay(alloc: Global, shape: Shape) -> Result<(RootTable, Place), AllocError>
+        requires { (0 < shape.chains) × (0 < shape.window) }
+        ensures { IfOk result (λ made. (made.0.shape ≡ shape) × IsPlaceOf made.0 made.1 × (made.1.me ≡ (newcomer shape 0 shape.chains, []))) }
+    {
+        let words = vec![in alloc; 0u64; shape.word_count()]?;
+        let (board, place): (Board, Place) = Table::of_words(alloc, words.as_slice(), &shape)?;
+        let table = RootTable { board, shape };
+        Ok((table, place))
+    }
+
+    // The chains' own passes, and then the readers'.
+    fn deal(&self, alloc: Global, mut place: Place, readers: usize) -> Result<Vec<Pass>, AllocError>
+        requires table { IsPlaceOf self.now place }
+        requires view { place.me ≡ (newcomer self.now.shape 0 self.now.shape.chains, []) }
+        ensures { IfOk result (λ passes. AreDealt self.now.shape.chains readers self.now passes.items) }
+    {
+        let mut passes = Vec::new(alloc);
+        for chain in 0..self.shape.chains {
+            passes.push(self.own_pass(&mut place, chain))?;
+        }
+        'readers: for _ in 0..readers {
+            passes.push(self.reading_pass(&mut place))?;
+        }
+        Ok(passes)
+    }
+
+    // The own pass of the seat's first chain, which the seat gives up.
+    fn own_pass(&self, place: &mut Place, chain: u8) -> Pass
+        requires table { IsPlaceOf self.now place.old }
+        requires view { (chain < self.now.shape.chains) × (place.old.me ≡ (newcomer self.now.shape chain self.now.shape.chains, [])) }
+        ensures place { SamePlace place.old place.new × (place.new.me ≡ (newcomer self.now.shape (chain + 1) self.now.shape.chains, [])) }
+        ensures pass { result ≡ unused_pass self.now (Some chain) }
+    {
+        Pass {
+            place: self.board.shared.split_seat::<CutWriter>(place),
+            own: Some(chain),
+        }
+    }
+
+    fn reading_pass(&self, place: &mut Place) -> Pass
+        requires table { IsPlaceOf self.now place.old }
+        requires view { place.old.me.0.seen ≡ [] }
+        ensures place { SamePlace place.old place.new × (place.new.me ≡ place.old.me) }
+        ensures pass { result ≡ unused_pass self.now None }
+    {
+        Pass {
+            place: self.board.shared.split_seat::<CutReader>(place),
+            own: None,
+        }
+    }
+
+    /// How many heights the chain has published by now, 0 where the table has no such chain.
+    pub fn published(&self, pass: &mut Pass, chain: u8) -> u64
+        requires table { pass.old.table ≡ self.now }
+        ensures pass { SamePass pass.old pass.new }
+        ensures seen { IsPrefix pass.old.seen pass.new.seen }
+        ensures own { KeepsOwn pass.old pass.new }
+        ensures height { result ≡ height_of chain pass.new.seen }
+        ensures most { result ≤ self.now.shape.capacity }
+    {
+        let place = &mut pass.place;
+        if chain >= self.shape.chains {
+            return 0;
+        }
+        self.board.shared.load::<Look>(place, usize::from(chain))
+    }
+
+    /// Publishes the next height of the pass's own chain, and answers that height.
+    /// `TableFull` where the chain has published as many heights as it may, and then nothing has changed.
+    pub fn publish(&self, pass: &mut Pass, root: Root, time: u64) -> Result<u64, Refusal>
+        requires table { pass.old.table ≡ self.now }
+        requires own { IsSome pass.old.own }
+        ensures pass { SamePass pass.old pass.new }
+
+        ensures seen { OnOk result (Publishes pass.old.seen (publication (own_chain pass.old) root time) pass.new.seen) }
+        ensures own { OnOk result (published_by (own_chain pass.old) pass.new.seen
+            ≡ published_by (own_chain pass.old) pass.old.seen ++ publication (own_chain pass.old) root time ∷ []) }
+        ensures height { IfOk result (λ height. height ≡ height_of (own_chain pass.old) pass.new.seen) }
+        ensures room { OnOk result (height_of (own_chain pass.old) pass.old.seen < self.now.shape.capacity) }
+
+        ensures full { IfErr result (λ refusal. (refusal ≡ TableFull)
+            × (height_of (own_chain pass.old) pass.old.seen ≡ self.now.shape.capacity) × (pass.new ≡ pass.old)) }
+    {
+        let Some(chain) = pass.own else {
+            unreachable!();
+        };
+        let word = usize::from(chain);
+        let place = &mut pass.place;
+        let height = self.board.shared.load::<Count>(place, word);
+        if height >= self.shape.capacity {
+            return Err(Refusal::TableFull);
+        }
+        self.make_room(place, chain, height);
+        self.store_row(place, chain, height, &row_of(&root, time));
+        self.board.shared.store::<Raise>(place, word, height + 1);
+        Ok(height + 1)
+    }
+
+    /// The root and the time of a height that the pass has seen, or nothing where the height is gone from the
+    /// window (ICS 2, "Consensus state").
+    pub fn row(&self, pass: &mut Pass, chain: u8, height: u64) -> Option<(Root, u64)>
+        requires table { pass.old.table ≡ self.now }
+        requires seen { (0 < height) × (height ≤ height_of chain pass.old.seen) }
+        ensures pass { SamePass pass.old pass.new }
+        ensures seen { IsPrefix pass.old.seen pass.new.seen }
+        ensures own { KeepsOwn pass.old pass.new }
+
+        ensures row { IfSome result (λ row. row_at pass.new.seen chain height ≡ Some (publication chain row.0 row.1)) }
+        ensures kept { OnSome result (height_of chain pass.new.seen < height + self.now.shape.window) }
+        ensures gone { IfNone result (height + self.now.shape.window ≤ height_of chain pass.new.seen + 1) }
+    {
+        let place = &mut pass.place;
+        let row = self.load_row(place, chain, height - 1);
+        let floor = self.load_floor(place, chain);
+        if floor >= height {
+            return None;
+        }
+        Some((root_of(&row), row[4]))
+    }
+
+    // Raises the floor, so that the ring has a slot for the next row.
+    fn make_room(&self, place: &mut Place, chain: u8, row: u64)
+        requires table { IsPlaceOf self.now place.old }
+        requires own { (place.old.me.0.first_own ≡ chain) × Owns chain place.old.me.0 × (chain < self.now.shape.chains) }
+        requires row { (row ≡ height_of chain place.old.me.0.seen) × (row < self.now.shape.capacity) }
+        ensures same { SamePlace place.old place.new × (place.new.me ≡ (record place.old.me.0 { floors = place.new.me.0.floors }, place.old.me.1)) }
+        ensures room { row + 1 ≤ slice_index place.new.me.0.floors chain + self.now.shape.window }
+    {
+        if row < self.shape.window {
+            return;
+        }
+        let floor = row - self.shape.window + 1;
+        let word = self.shape.floor_word(chain);
+        self.board.shared.store::<RaiseFloor>(place, word, floor);
+    }
+
+    // The chain's floor, by a look at the table as it is.
+    fn load_floor(&self, place: &mut Place, chain: u8) -> u64
+        requires table { IsPlaceOf self.now place.old }
+        requires chain { chain < self.now.shape.chains }
+        ensures same { SamePlace place.old place.new }
+        ensures floor { FloorLooked chain place.old.me result place.new.me }
+    {
+        let word = self.shape.floor_word(chain);
+        self.board.shared.load::<LookFloor>(place, word)
+    }
+
+    // Stores the next row of the seat's first chain, which nobody reads yet.
+    fn store_row(&self, place: &mut Place, chain: u8, row: u64, words: &[u64; ROW_LEN])
+        requires table { IsPlaceOf self.now place.old }
+        requires own { (place.old.me.0.first_own ≡ chain) × Owns chain place.old.me.0 × (chain < self.now.shape.chains) }
+        requires row { (row ≡ height_of chain place.old.me.0.seen) × (row < self.now.shape.capacity) × (place.old.me.0.draft ≡ []) }
+        requires room { row + 1 ≤ slice_index place.old.me.0.floors chain + self.now.shape.window }
+        ensures same { SamePlace place.old place.new }
+        ensures draft { place.new.me ≡ (record place.old.me.0 { draft = words.now }, place.old.me.1) }
+    {
+        for part in 0..ROW_LEN {
+            let word = self.shape.row_word(chain, row, part);
+            self.board
+                .shared
+                .store::<DraftPart>(place, word, words[part]);
+        }
+    }
+
+    // Loads a row that the seat has seen.
+    fn load_row(&self, place: &mut Place, chain: u8, row: u64) -> [u64; ROW_LEN]
+        requires table { IsPlaceOf self.now place.old }
+        requires row { chain < self.now.shape.chains }
+        ensures same { SamePlace place.old place.new × (place.new.me ≡ (record place.old.me.0 { floors = place.new.me.0.floors }, place.old.me.1)) }
+        ensures words { (p : Publication) → slice_get (published_by chain place.old.me.0.seen) row ≡ Some p
+            → (slice_index place.new.me.0.floors chain ≤ row → result ≡ row_words p) × IsRoot p.root × (p.chain ≡ chain) }
+    {
+        let mut words = [0; ROW_LEN];
+        for part in 0..ROW_LEN {
+            let word = self.shape.row_word(chain, row, part);
+            words[part] = self.board.shared.load::<ReadPart>(place, word);
+        }
+        words
+    }
+
+    /// Afterwards the two passes have seen the same publications, and each of them all that either had seen.
+    pub fn meet(&self, first: &mut Pass, second: &mut Pass)
+        requires tables { (first.old.table ≡ self.now) × (second.old.table ≡ self.now) }
+        ensures passes { SamePass first.old first.new × SamePass second.old second.new }
+        ensures same { first.new.seen ≡ second.new.seen }
+        ensures first { IsPrefix first.old.seen first.new.seen }
+        ensures second { IsPrefix second.old.seen second.new.seen }
+        ensures own { KeepsOwn first.old first.new × KeepsOwn second.old second.new }
+    {
+        let shared = &self.board.shared;
+        self.tell(&mut first.place, &mut second.place);
+        shared.load::<Look>(&mut second.place, 0);
+        self.tell(&mut second.place, &mut first.place);
+        shared.load::<Adopt>(&mut first.place, 0);
+    }
+
+    // One seat hears what another has seen.
+    fn tell(&self, from: &mut Place, to: &mut Place)
+        requires tables { (from.old.table_id ≡ self.now.id) × (to.old.table_id ≡ self.now.id) }
+        ensures from { SamePlace from.old from.new × (from.new.me ≡ from.old.me) }
+        ensures to { SamePlace to.old to.new × (to.new.me ≡ (record to.old.me.0 { heard = from.old.me.0.seen }, to.old.me.1)) }
+    {
+        let teller = self.board.shared.split_seat::<CutReader>(from);
+        self.board.shared.join_seat::<Hear>(to, teller);
+    }
+}

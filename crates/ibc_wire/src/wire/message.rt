@@ -1,0 +1,145 @@
+//! How messages are spelled: a tag, and the fields behind it.
+
+ghost use Rattle.std.specs.Prelude.{◌≡◌};
+ghost use Rattle.ibc_wire.specs.Messages.{message_fields};
+ghost use Rattle.ibc_wire.specs.Fronts.{Gives};
+ghost use Rattle.ibc_wire.specs.MessageFront.{kind_of, message_behind, message_at_front};
+
+use super::many::write_tagged;
+use crate::fields::read_u8;
+use crate::{
+    AckPacket, ChanCloseConfirm, ChanCloseInit, ChanOpenAck, ChanOpenConfirm, ChanOpenInit,
+    ChanOpenTry, ConnOpenAck, ConnOpenConfirm, ConnOpenInit, ConnOpenTry, CreateClient, Message,
+    RecvPacket, SendNote, Timeout, TimeoutOnClose, Transfer, TransferMany, UpdateClient, Wire,
+};
+use ibc_ids::Refusal;
+use std::alloc::Global;
+
+/// The kinds of messages, in the order of their tags.
+#[derive(Clone, Copy)]
+enum MessageKind {
+    CreateClient,
+    UpdateClient,
+    ConnOpenInit,
+    ConnOpenTry,
+    ConnOpenAck,
+    ConnOpenConfirm,
+    ChanOpenInit,
+    ChanOpenTry,
+    ChanOpenAck,
+    ChanOpenConfirm,
+    ChanCloseInit,
+    ChanCloseConfirm,
+    Transfer,
+    SendNote,
+    RecvPacket,
+    AckPacket,
+    Timeout,
+    TimeoutOnClose,
+    TransferMany,
+}
+
+/// The kind of a tag. Tags count from 1.
+fn kind_of(tag: u8) -> Option<MessageKind>
+    ensures { result ≡ kind_of tag }
+{
+    match tag {
+        1 => Some(MessageKind::CreateClient),
+        2 => Some(MessageKind::UpdateClient),
+        3 => Some(MessageKind::ConnOpenInit),
+        4 => Some(MessageKind::ConnOpenTry),
+        5 => Some(MessageKind::ConnOpenAck),
+        6 => Some(MessageKind::ConnOpenConfirm),
+        7 => Some(MessageKind::ChanOpenInit),
+        8 => Some(MessageKind::ChanOpenTry),
+        9 => Some(MessageKind::ChanOpenAck),
+        10 => Some(MessageKind::ChanOpenConfirm),
+        11 => Some(MessageKind::ChanCloseInit),
+        12 => Some(MessageKind::ChanCloseConfirm),
+        13 => Some(MessageKind::Transfer),
+        14 => Some(MessageKind::SendNote),
+        15 => Some(MessageKind::RecvPacket),
+        16 => Some(MessageKind::AckPacket),
+        17 => Some(MessageKind::Timeout),
+        18 => Some(MessageKind::TimeoutOnClose),
+        19 => Some(MessageKind::TransferMany),
+        _ => None,
+    }
+}
+
+/// The message of the kind whose fields stand at the front, and what stands behind them.
+fn read_behind(alloc: Global, kind: MessageKind, bytes: &[u8]) -> Result<(Message, &[u8]), Refusal>
+    ensures { Gives (λ x. (x.0, x.1.now)) result (message_behind kind bytes.now) }
+{
+    macro_rules! read {
+        ($kind:ident) => {
+            match $kind::read(alloc, bytes) {
+                Ok((message, rest)) => Ok((Message::$kind(message), rest)),
+                Err(refusal) => Err(refusal),
+            }
+        };
+    }
+    match kind {
+        MessageKind::CreateClient => read!(CreateClient),
+        MessageKind::UpdateClient => read!(UpdateClient),
+        MessageKind::ConnOpenInit => read!(ConnOpenInit),
+        MessageKind::ConnOpenTry => read!(ConnOpenTry),
+        MessageKind::ConnOpenAck => read!(ConnOpenAck),
+        MessageKind::ConnOpenConfirm => read!(ConnOpenConfirm),
+        MessageKind::ChanOpenInit => read!(ChanOpenInit),
+        MessageKind::ChanOpenTry => read!(ChanOpenTry),
+        MessageKind::ChanOpenAck => read!(ChanOpenAck),
+        MessageKind::ChanOpenConfirm => read!(ChanOpenConfirm),
+        MessageKind::ChanCloseInit => read!(ChanCloseInit),
+        MessageKind::ChanCloseConfirm => read!(ChanCloseConfirm),
+        MessageKind::Transfer => read!(Transfer),
+        MessageKind::SendNote => read!(SendNote),
+        MessageKind::RecvPacket => read!(RecvPacket),
+        MessageKind::AckPacket => read!(AckPacket),
+        MessageKind::Timeout => read!(Timeout),
+        MessageKind::TimeoutOnClose => read!(TimeoutOnClose),
+        MessageKind::TransferMany => read!(TransferMany),
+    }
+}
+
+impl Wire for Message {
+    ghost fields = { message_fields };
+
+    ghost front = { message_at_front };
+
+    #[tactic(auto, unfolding(crate::specs::MessageFront::message_at_front))]
+    fn read(alloc: Global, bytes: &[u8]) -> Result<(Message, &[u8]), Refusal> {
+        let (tag, rest) = read_u8(bytes)?;
+        match kind_of(tag) {
+            Some(kind) => read_behind(alloc, kind, rest),
+            None => Err(Refusal::BadMessage),
+        }
+    }
+
+    fn write(&self, out: &mut Vec<u8>) -> Result<(), Refusal> {
+        match self {
+            Message::CreateClient(message) => write_tagged(out, 1, message),
+            Message::UpdateClient(message) => write_tagged(out, 2, message),
+            Message::ConnOpenInit(message) => write_tagged(out, 3, message),
+            Message::ConnOpenTry(message) => write_tagged(out, 4, message),
+            Message::ConnOpenAck(message) => write_tagged(out, 5, message),
+            Message::ConnOpenConfirm(message) => write_tagged(out, 6, message),
+            Message::ChanOpenInit(message) => write_tagged(out, 7, message),
+            Message::ChanOpenTry(message) => write_tagged(out, 8, message),
+            Message::ChanOpenAck(message) => write_tagged(out, 9, message),
+            Message::ChanOpenConfirm(message) => write_tagged(out, 10, message),
+            Message::ChanCloseInit(message) => write_tagged(out, 11, message),
+            Message::ChanCloseConfirm(message) => write_tagged(out, 12, message),
+            Message::Transfer(message) => write_tagged(out, 13, message),
+            Message::SendNote(message) => write_tagged(out, 14, message),
+            Message::RecvPacket(message) => write_tagged(out, 15, message),
+            Message::AckPacket(message) => write_tagged(out, 16, message),
+            Message::Timeout(message) => write_tagged(out, 17, message),
+            Message::TimeoutOnClose(message) => write_tagged(out, 18, message),
+            Message::TransferMany(message) => write_tagged(out, 19, message),
+        }
+    }
+
+    #[tactic(auto, using(crate::proofs::MessageReader::message_reader))]
+    fn reads_what_is_spelled() {}
+}
