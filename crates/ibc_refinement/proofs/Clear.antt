@@ -16,7 +16,7 @@ use Rattle.ibc_machine.specs.Image.{image, keys, pair_at}
 use Rattle.ibc_machine.specs.HashedTexts.{delivered}
 use Rattle.ibc_ids.proofs.Texts.{text_tied}
 use Rattle.ibc_refinement.proofs.ShortTexts.{AreBytes}
-use Rattle.ibc_refinement.proofs.Digests.{IsClear}
+use Rattle.ibc_merkle.proofs.Accepted.{IsClear}
 use Rattle.ibc_refinement.specs.Lower.{Lower}
 use Rattle.ibc_refinement.proofs.ShortTexts.{FitsText, FitsPair}
 use Rattle.ibc_refinement.proofs.WrittenForm.{written_has_form}

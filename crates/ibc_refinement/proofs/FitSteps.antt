@@ -12,7 +12,7 @@ use Rattle.ibc_machine.specs.Values.{Claim}
 use Rattle.ibc_machine.specs.Machine.{World, answer, block_at, true_marks}
 use Rattle.ibc_machine.specs.Replay.{LedgerState, ledger_answer}
 use Rattle.ibc_machine.specs.HashedTexts.{message_texts}
-use Rattle.ibc_refinement.proofs.Digests.{IsClear}
+use Rattle.ibc_merkle.proofs.Accepted.{IsClear}
 use Rattle.ibc_refinement.specs.Lower.{Lower}
 use Rattle.ibc_refinement.proofs.Agreeing.{Asked}
 use Rattle.ibc_refinement.proofs.SameAnswers.{AllAsked}

@@ -11,7 +11,7 @@ use Rattle.ibc_ids.specs.Names.{is_made_of, is_letter_or_digit, is_identifier_by
 use Rattle.ibc_ids.specs.Paths.{nth_client, nth_connection, nth_channel}
 use Rattle.ibc_wire.specs.Fields.{counted}
 use Rattle.ibc_refinement.proofs.ShortTexts.{AreBytes}
-use Rattle.ibc_refinement.proofs.Digests.{bytes-number}
+use Rattle.ibc_merkle.proofs.Depths.{bytes-be}
 use Rattle.ibc_refinement.proofs.ShortTexts.{FitsText}
 
 pub fits_both : (a b : ℕ) (x y : Text) → FitsText a x → FitsText b y → FitsText (a + b) (x ++ y)
@@ -27,10 +27,10 @@ pub byte_fits : (n : ℕ) → n < 256 → FitsText 1 (n ∷ [])
 byte_fits n h = record { bytes = and_from (nat_lt n 256) true (lt-ltb n 256 h) refl; short = omega arith }
 
 pub number_fits : (n : ℕ) → FitsText 8 (to_be_bytes w64 n)
-number_fits n = record { bytes = bytes-number 8 n; short = omega arith }
+number_fits n = record { bytes = bytes-be 8 n; short = omega arith }
 
 pub counted_fits : (a : ℕ) (x : Text) → FitsText a x → FitsText (2 + a) (counted x)
-counted_fits a x h = fits_both 2 a (to_be_bytes w16 (length x)) x (record { bytes = bytes-number 2 (length x); short = omega arith }) h
+counted_fits a x h = fits_both 2 a (to_be_bytes w16 (length x)) x (record { bytes = bytes-be 2 (length x); short = omega arith }) h
 
 -- ---- names
 

@@ -8,7 +8,7 @@ use Rattle.ibc_machine.specs.Genesis.{GenesisState}
 use Rattle.ibc_machine.specs.Replay.{LedgerState, StampedEntry, entry_answer, met_states}
 use Rattle.ibc_machine.specs.Ledgers.{Ledger, met_by, state_of}
 use Rattle.ibc_machine.specs.HashedTexts.{state_texts, block_texts, event_texts, ledger_texts, HasNoClash}
-use Rattle.ibc_refinement.proofs.Digests.{IsClear}
+use Rattle.ibc_merkle.proofs.Accepted.{IsClear}
 use Rattle.ibc_machine.proofs.Members.{Is_in, in_left, in_right, in_flat_map, contains_in}
 
 module _ (ledger : Ledger) (x : Text) where

@@ -1,5 +1,4 @@
 pub mod ShortTexts
-pub mod Digests
 pub mod SameSpellings
 pub mod WrittenForm
 pub mod SameValues

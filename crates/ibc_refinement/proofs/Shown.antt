@@ -15,7 +15,7 @@ use Rattle.ibc_merkle.specs.declared.proof.Proof.{Proof}
 use Rattle.ibc_wire.specs.Fields.{have_form}
 use Rattle.ibc_wire.specs.Spelling.{proof_fields, proof_bytes}
 use Rattle.ibc_wire.specs.Reading.{proof_of}
-use Rattle.ibc_refinement.proofs.Digests.{each_byte}
+use Rattle.ibc_refinement.proofs.ShortTexts.{each_byte}
 use Rattle.ibc_refinement.specs.Lower.{Lower}
 use Rattle.ibc_refinement.proofs.ShortTexts.{AreBytes}
 use Rattle.ibc_machine.specs.Records.{Core}

@@ -19,7 +19,8 @@ use Rattle.ibc_wire.specs.declared.records.Order.{Order}
 use Rattle.ibc_wire.specs.declared.records.Order.TheVariants.{Unordered, Ordered}
 use Rattle.ibc_merkle.specs.Hash.{hash}
 use Rattle.ibc_machine.specs.Values.{Value, ClientIs, ConnectionIs, ChannelIs, NumberIs, CommitmentIs, ReceiptIs, AckIs, commitment_text, value_bytes}
-use Rattle.ibc_refinement.proofs.Digests.{length-hash, bytes-hash}
+use Rattle.ibc_merkle.proofs.Digests.{length-hash}
+use Rattle.ibc_merkle.proofs.Depths.{bytes-hash}
 use Rattle.ibc_refinement.proofs.ShortTexts.{FitsText}
 use Rattle.ibc_refinement.proofs.Fitting.{fits_both, fits_within, byte_fits, number_fits, counted_fits, name_fits, version_fits, decimal_fits}
 use Rattle.ibc_refinement.proofs.Typed.{IsNamedPeer, IsTypedConnection, IsTypedEnd}

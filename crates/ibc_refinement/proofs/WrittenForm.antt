@@ -13,7 +13,8 @@ use Rattle.ibc_merkle.specs.Proofs.{is_below}
 use Rattle.ibc_merkle.specs.Hash.{leaf_mark}
 use Rattle.ibc_merkle.specs.declared.proof.Operation.{Operation}
 use Rattle.ibc_merkle.specs.declared.proof.Presence.{Presence}
-use Rattle.ibc_refinement.proofs.Digests.{length-hash, bytes-hash}
+use Rattle.ibc_merkle.proofs.Digests.{length-root}
+use Rattle.ibc_merkle.proofs.Depths.{bytes-hash}
 use Rattle.ibc_merkle.proofs.Depths.{IsWithin, tree_deep}
 use Rattle.ibc_wire.specs.Fields.{Field, have_form, str_up_to, count_between}
 use Rattle.ibc_wire.specs.Spelling.{operation_fields, presence_fields, neighbour_fields, proof_fields}
@@ -28,10 +29,6 @@ forms_both fs gs f g = list_all-append (λ (field : Field). field.in_type && fie
 str_form : (limit : ℕ) (text : Text) → FitsText limit text → have_form (str_up_to limit text ∷ []) ≡ true
 str_form limit text h =
     and_from (list_all (λ c. nat_lt c 256) text && nat_le (length text) limit) true (and_from (list_all (λ c. nat_lt c 256) text) (nat_le (length text) limit) h.bytes (le-leb (length text) limit h.short)) refl
-
-length-root : (t : Tree) → length (root t) ≡ 32
-length-root (Leaf key value) = length-hash _
-length-root (Node left right) = length-hash _
 
 -- ---- operations
 
