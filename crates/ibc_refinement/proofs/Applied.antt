@@ -12,7 +12,6 @@ use Rattle.ibc_machine.specs.Replay.{StampedEntry}
 use Rattle.ibc_machine.specs.Ledgers.{Ledger, SeesMore, AddsEntry, Adds, chain_of}
 use Rattle.ibc_machine.specs.Merge.{is_of}
 use Rattle.ibc_machine.specs.Worlds.{AppliesIf, Applies, AppliesEach, entries}
-use Rattle.ibc_refinement.specs.Lower.{Lower}
 use Rattle.ibc_refinement.specs.Refinement.{GivesNothing, AreAnswered, GoesOn, Gave, AppliedIsRun}
 use Rattle.ibc_refinement.proofs.Places.{get_there, get_within}
 use Rattle.ibc_refinement.proofs.RunNext.{own_first, other_first}
@@ -155,10 +154,10 @@ gave (event ∷ events) (given ∷ replies) old new (mid, applies, later) =
       },
     )
 
-pub applied_is_run : Lower → AppliedIsRun
-applied_is_run lower genesis old new earlier publications list events replies of_old of_new table applies merged merges =
+pub applied_is_run : AppliedIsRun
+applied_is_run genesis old new earlier publications list events replies of_old of_new table applies merged merges =
     let w = gave events replies old new applies in
     let g = w.1 in
-    going_on_is_run lower genesis old new publications list w.0 events replies of_old of_new table (λ k before after was is. (g.each k before after was is).0)
+    going_on_is_run genesis old new publications list w.0 events replies of_old of_new table (λ k before after was is. (g.each k before after was is).0)
     (λ k before was. merged.each k (entries before) (slice_get-map entries old k ∙ ap (option_map entries) was))
     (merges w.0 g) (subst (λ n. AreAnswered n events replies w.0) (sym g.as_many) g.answered)

@@ -7,6 +7,7 @@ use Rattle.std.specs.Ordering.{match_ordering}
 use Rattle.ibc_ids.specs.Texts.{Text, text_cmp}
 use Rattle.ibc_ids.specs.Maps.{with}
 use Rattle.ibc_ids.specs.Paths.{path}
+use Rattle.ibc_ids.proofs.Paths.{different_paths}
 use Rattle.ibc_ids.specs.declared.key.Key.{Key}
 use Rattle.ibc_merkle.specs.Tree.{Pairs, tree}
 use Rattle.ibc_merkle.specs.Clashes.{tree_texts}
@@ -17,7 +18,6 @@ use Rattle.ibc_machine.specs.HashedTexts.{delivered}
 use Rattle.ibc_ids.proofs.Texts.{text_tied}
 use Rattle.ibc_refinement.proofs.ShortTexts.{AreBytes}
 use Rattle.ibc_merkle.proofs.Accepted.{IsClear}
-use Rattle.ibc_refinement.specs.Lower.{Lower}
 use Rattle.ibc_refinement.proofs.ShortTexts.{FitsText, FitsPair}
 use Rattle.ibc_refinement.proofs.WrittenForm.{written_has_form}
 use Rattle.ibc_machine.proofs.Members.{Is_in, in_cases, in_contains, in_filter_map_from}
@@ -63,9 +63,9 @@ pub record IsFitClaim (S : Text → Type 0) (claim : Claim) (bytes : Text) : Typ
   pub bytes_given : AreBytes bytes
   pub hashed : (x : Text) → Is_in x (delivered bytes) → S x
 
-pub clear_from_fit : Lower → (S : Text → Type 0) → IsClear S → (core : Core) (claim : Claim) (bytes : Text) → AreFit S core → IsFitClaim S claim bytes → AreClear core claim bytes
-clear_from_fit lower S clear core claim bytes r c = record {
-  tells = plain_tells lower.different_paths S core claim.key r.plain c.plain.key_is;
+pub clear_from_fit : (S : Text → Type 0) → IsClear S → (core : Core) (claim : Claim) (bytes : Text) → AreFit S core → IsFitClaim S claim bytes → AreClear core claim bytes
+clear_from_fit S clear core claim bytes r c = record {
+  tells = plain_tells different_paths S core claim.key r.plain c.plain.key_is;
   clear = λ x y i j e. clear x y (among x i) (among y j) e;
   one_value = plain_one_value S clear core claim r.plain c.plain;
   bytes_given = c.bytes_given;

@@ -13,7 +13,6 @@ use Rattle.ibc_machine.specs.Machine.{World, answer, block_at, true_marks}
 use Rattle.ibc_machine.specs.Replay.{LedgerState, ledger_answer}
 use Rattle.ibc_machine.specs.HashedTexts.{message_texts}
 use Rattle.ibc_merkle.proofs.Accepted.{IsClear}
-use Rattle.ibc_refinement.specs.Lower.{Lower}
 use Rattle.ibc_refinement.proofs.Agreeing.{Asked}
 use Rattle.ibc_refinement.proofs.SameAnswers.{AllAsked}
 use Rattle.ibc_refinement.proofs.Steps.{KnowsBlocks, ClearIn, SeesForMessage, oldest_of, message_step}
@@ -48,13 +47,13 @@ asked_weaker asked other core (message.TimeoutOnClose m) f a = λ mine is. (f _ 
 abbrev pub AllFit : (Text → Type 0) → World → Type 0
 AllFit S world = (chain height : ℕ) (block : Block) → block_at world chain height ≡ Some block → AreFit S block.records.core
 
-pub fit_step : Lower → (S : Text → Type 0) → IsClear S → (genesis : GenesisState) (world : World) (k : ℕ) (seen : List Publication) (reading : Option Reading) (state : LedgerState) (m : Message)
+pub fit_step : (S : Text → Type 0) → IsClear S → (genesis : GenesisState) (world : World) (k : ℕ) (seen : List Publication) (reading : Option Reading) (state : LedgerState) (m : Message)
     → AllFit S world → slice_get world k ≡ Some state.chain → KnowsBlocks world state → SeesForMessage genesis.window world seen reading state m
     → IsTyped state.chain.records.core → IsTypedMessage m → AreHashed S (message_texts m)
     → answer true_marks genesis (oldest_of reading) world (event.Message k m)
     ≡ ((ledger_answer genesis k seen reading state (event.Message k m)).0, slice_set world k (ledger_answer genesis k seen reading state (event.Message k m)).1.chain)
-fit_step lower S clear genesis world k seen reading state m fit there known sees typed t hashed =
-    message_step lower genesis world k seen reading state m there known sees
+fit_step S clear genesis world k seen reading state m fit there known sees typed t hashed =
+    message_step genesis world k seen reading state m there known sees
     (asked_weaker (IsFitClaim S) (ClearIn world) state.chain.records.core m
-    (λ claim bytes a chain height block is. clear_from_fit lower S clear block.records.core claim bytes (fit chain height block is) a)
+    (λ claim bytes a chain height block is. clear_from_fit S clear block.records.core claim bytes (fit chain height block is) a)
     (asks_fit S state.chain.records.core m typed t hashed))

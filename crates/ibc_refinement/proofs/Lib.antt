@@ -3,7 +3,6 @@ pub mod SameSpellings
 pub mod WrittenForm
 pub mod SameValues
 pub mod PlainValues
-pub mod Lowered
 pub mod Shown
 pub mod Clear
 pub mod Checked

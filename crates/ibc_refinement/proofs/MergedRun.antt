@@ -16,7 +16,6 @@ use Rattle.ibc_machine.specs.Ledgers.{Ledger, chain_of, machine_of, state_of}
 use Rattle.ibc_machine.specs.HashedTexts.{HasNoClash}
 use Rattle.ibc_machine.specs.Merge.{ReadsWhatIsBefore, EachAfter, Merges}
 use Rattle.ibc_machine.specs.Worlds.{entries}
-use Rattle.ibc_refinement.specs.Lower.{Lower}
 use Rattle.ibc_refinement.proofs.Places.{get_there, get_within, same_places}
 use Rattle.ibc_refinement.proofs.Typed.{IsTyped}
 use Rattle.ibc_refinement.proofs.EntrySteps.{ledger_of}
@@ -57,14 +56,14 @@ ends_there genesis ledgers publications are world before run =
 
 -- ---- from the middle to the end
 
-pub runs_on : Lower → (genesis : GenesisState) (ledgers : List Ledger) (publications : List Publication) → AreOfWorld genesis ledgers publications → HasNoClash ledgers
+pub runs_on : (genesis : GenesisState) (ledgers : List Ledger) (publications : List Publication) → AreOfWorld genesis ledgers publications → HasNoClash ledgers
     → (rest : List Entry) (world : World) (before : List Entry) → AllRun genesis ledgers world before rest → EachAfter (ReadsWhatIsBefore genesis.window) before rest → AreWithin (length ledgers) rest
     → IsRun genesis world (events_of rest) (replies_of rest) (machine_of ledgers)
-runs_on lower genesis ledgers publications are clash [] world before run reads within = sym (ends_there genesis ledgers publications are world before run)
-runs_on lower genesis ledgers publications are clash (e ∷ rest) world before run reads within =
+runs_on genesis ledgers publications are clash [] world before run reads within = sym (ends_there genesis ledgers publications are world before run)
+runs_on genesis ledgers publications are clash (e ∷ rest) world before run reads within =
     let parts = and_parts (nat_lt (chain_of e.event) (length ledgers)) (list_all (λ (entry : Entry). nat_lt (chain_of entry.event) (length ledgers)) rest) within in
-    let step = next_step lower genesis ledgers publications are clash world before rest e run reads.0 (ltb-true (chain_of e.event) (length ledgers) parts.0) in
-    (step.after, inr step.answers, runs_on lower genesis ledgers publications are clash rest step.after (before ++ e ∷ []) step.run reads.1 parts.1)
+    let step = next_step genesis ledgers publications are clash world before rest e run reads.0 (ltb-true (chain_of e.event) (length ledgers) parts.0) in
+    (step.after, inr step.answers, runs_on genesis ledgers publications are clash rest step.after (before ++ e ∷ []) step.run reads.1 parts.1)
 
 -- ---- the beginning
 

@@ -17,7 +17,6 @@ use Rattle.ibc_machine.specs.Histories.{Happened}
 use Rattle.ibc_machine.specs.Merge.{is_of, Merges}
 use Rattle.ibc_machine.specs.Worlds.{entries, interleaved}
 use Rattle.ibc_refinement.specs.Refinement.{MergedIsRun, KeptOrderIsRun}
-use Rattle.ibc_refinement.specs.Lower.{Lower}
 use Rattle.ibc_machine.proofs.Members.{Is_in}
 use Rattle.ibc_refinement.proofs.EntrySteps.{ledger_of, own_typed}
 use Rattle.ibc_refinement.proofs.RunStates.{AreOfWorld, ledger_at}
@@ -75,11 +74,11 @@ module _ (genesis : GenesisState) (ledgers : List Ledger) (publications : List P
 
 -- ---- the theorem
 
-pub merged_is_run : Lower → MergedIsRun
-merged_is_run lower genesis ledgers publications list of table allowed clash merges =
+pub merged_is_run : MergedIsRun
+merged_is_run genesis ledgers publications list of table allowed clash merges =
     let are : AreOfWorld genesis ledgers publications = record { of = of; table = table } in
     let times = map (λ (c : Chain). c.time) (start genesis) in
-    let run = runs_on lower genesis ledgers publications are clash list (start genesis) [] (all_start genesis ledgers publications are times list merges) merges.readings
+    let run = runs_on genesis ledgers publications are clash list (start genesis) [] (all_start genesis ledgers publications are times list merges) merges.readings
     (within genesis ledgers publications are times list merges)
     in
     let pair : Entry → Happened = λ e. (e.event, e.reply) in
@@ -96,6 +95,6 @@ merged_is_run lower genesis ledgers publications list of table allowed clash mer
 
 -- ---- its uses
 
-pub kept_order_is_run : Lower → KeptOrderIsRun
-kept_order_is_run lower genesis order ledgers publications of table allowed merges clash =
-    merged_is_run lower genesis ledgers publications (interleaved order (map entries ledgers)) of table allowed clash merges
+pub kept_order_is_run : KeptOrderIsRun
+kept_order_is_run genesis order ledgers publications of table allowed merges clash =
+    merged_is_run genesis ledgers publications (interleaved order (map entries ledgers)) of table allowed clash merges

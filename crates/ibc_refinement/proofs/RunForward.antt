@@ -11,7 +11,6 @@ use Rattle.ibc_machine.specs.Replay.{LedgerState, StampedEntry, entry_answer, re
 use Rattle.ibc_machine.specs.Ledgers.{Ledger, IsOwnEntry, chain_of, met_by, state_of}
 use Rattle.ibc_machine.specs.HashedTexts.{HasNoClash}
 use Rattle.ibc_machine.specs.Merge.{is_of, ReadsWhatIsBefore}
-use Rattle.ibc_refinement.specs.Lower.{Lower}
 use Rattle.ibc_machine.proofs.Members.{Is_in}
 use Rattle.ibc_refinement.proofs.Places.{get_set, get_set_other, get_within, length_set}
 use Rattle.ibc_refinement.proofs.Steps.{oldest_of}
@@ -28,7 +27,7 @@ pub record StepsOn (genesis : GenesisState) (ledgers : List Ledger) (world : Wor
   pub answers : Answers genesis world e.event e.reply after
   pub run : AllRun genesis ledgers after (before ++ e ∷ []) rest
 
-module _ (lower : Lower) (genesis : GenesisState) (ledgers : List Ledger) (publications : List Publication) (are : AreOfWorld genesis ledgers publications) (clash : HasNoClash ledgers) where
+module _ (genesis : GenesisState) (ledgers : List Ledger) (publications : List Publication) (are : AreOfWorld genesis ledgers publications) (clash : HasNoClash ledgers) where
   module _ (world : World) (before rest : List Entry) (s : StampedEntry) (later : List StampedEntry) (run : AllRun genesis ledgers world before (s.entry ∷ rest))
       (reads : ReadsWhatIsBefore genesis.window before s.entry) (at : IsLedgerAt genesis ledgers (chain_of s.entry.event)) where
     abbrev k : ℕ
@@ -48,18 +47,18 @@ module _ (lower : Lower) (genesis : GenesisState) (ledgers : List Ledger) (publi
       after = slice_set world k after_k.chain
 
       sees : SeesForEvent genesis.window world at.seen s.entry.reading r.state s.entry.event
-      sees = sees_for lower genesis ledgers publications are clash world before (s.entry ∷ rest) run k ledger r.state s at.there own.0.looking own.0.reading reads s.entry.event refl
+      sees = sees_for genesis ledgers publications are clash world before (s.entry ∷ rest) run k ledger r.state s at.there own.0.looking own.0.reading reads s.entry.event refl
 
       machine_answers : Answers genesis world s.entry.event s.entry.reply after
       machine_answers = (
         oldest_of s.entry.reading,
-        answers lower genesis ledgers publications are clash world before (s.entry ∷ rest) run k at.seen s.entry.reading r.state s.entry.event refl r.there r.knows r.typed (own_typed ledger r.state s own.0) sees
-            (events_among lower genesis ledgers publications are clash world before rest k s later run at r.state r.there own met ends r.typed)
+        answers genesis ledgers publications are clash world before (s.entry ∷ rest) run k at.seen s.entry.reading r.state s.entry.event refl r.there r.knows r.typed (own_typed ledger r.state s own.0) sees
+            (events_among genesis ledgers publications are clash world before rest k s later run at r.state r.there own met ends r.typed)
             ∙ (λ i. (sym own.0.reply i, after)),
       )
 
       extends : Extends world after
-      extends = goes_on lower genesis ledgers publications are clash world before rest k s later run at r.state r.there own met ends r.typed
+      extends = goes_on genesis ledgers publications are clash world before rest k s later run at r.state r.there own met ends r.typed
 
       mine : is_of k s.entry ≡ true
       mine = eq-eqb k k refl
@@ -77,9 +76,9 @@ module _ (lower : Lower) (genesis : GenesisState) (ledgers : List Ledger) (publi
         own = own.1;
         met = λ x i. met x (inr i);
         ends = ends;
-        typed = (commits lower genesis ledgers publications are clash world before rest k s later run at r.state r.there own met ends r.typed).typed;
-        fit = next_fit lower genesis ledgers publications are clash world before rest k s later run at r.state r.there own met ends r.typed r.fit;
-        blocks = next_blocks lower genesis ledgers publications are clash world before rest k s later run at r.state r.there own met ends r.typed mine r.blocks;
+        typed = (commits genesis ledgers publications are clash world before rest k s later run at r.state r.there own met ends r.typed).typed;
+        fit = next_fit genesis ledgers publications are clash world before rest k s later run at r.state r.there own met ends r.typed r.fit;
+        blocks = next_blocks genesis ledgers publications are clash world before rest k s later run at r.state r.there own met ends r.typed mine r.blocks;
         knows = knows_on world after after_k.chain.records.core after_k.consensus extends
             (answer_knows genesis k world at.seen s.entry.reading r.state s.entry.event r.typed (own_typed ledger r.state s own.0) sees r.knows);
       }

@@ -14,7 +14,6 @@ use Rattle.ibc_machine.specs.Replay.{LedgerState, StampedEntry, entry_answer, re
 use Rattle.ibc_machine.specs.Ledgers.{Ledger, IsOwnEntry, is_block_reply, is_accepted_block, met_by, state_of}
 use Rattle.ibc_machine.specs.HashedTexts.{event_texts, ledger_texts, HasNoClash}
 use Rattle.ibc_machine.specs.Merge.{is_of, blocks_of}
-use Rattle.ibc_refinement.specs.Lower.{Lower}
 use Rattle.ibc_machine.proofs.Members.{Is_in, in_left, in_right, in_flat_map}
 use Rattle.ibc_refinement.proofs.Places.{get_cases, get_in, all_in}
 use Rattle.ibc_refinement.proofs.Clear.{AreFit}
@@ -51,7 +50,7 @@ own_last k before e is = filter-append (is_of k) before (e ∷ []) ∙ ap (λ xs
 pub other_last : (k : ℕ) (before : List Entry) (e : Entry) → is_of k e ≡ false → filter (is_of k) (before ++ e ∷ []) ≡ filter (is_of k) before
 other_last k before e is = filter-append (is_of k) before (e ∷ []) ∙ ap (λ xs. filter (is_of k) before ++ xs) (other_first k e [] is) ∙ append-nil (filter (is_of k) before)
 
-module _ (lower : Lower) (genesis : GenesisState) (ledgers : List Ledger) (publications : List Publication) (are : AreOfWorld genesis ledgers publications) (clash : HasNoClash ledgers)
+module _ (genesis : GenesisState) (ledgers : List Ledger) (publications : List Publication) (are : AreOfWorld genesis ledgers publications) (clash : HasNoClash ledgers)
     (world : World) (before rest : List Entry) (k : ℕ) (s : StampedEntry) (later : List StampedEntry) (run : AllRun genesis ledgers world before (s.entry ∷ rest)) (at : IsLedgerAt genesis ledgers k) where
   abbrev pub ledger : Ledger
   ledger = ledger_of genesis k at.history at.seen

@@ -20,7 +20,6 @@ use Rattle.ibc_machine.specs.Ledgers.{Ledger, chain_of, machine_of, state_of}
 use Rattle.ibc_machine.specs.HashedTexts.{HasNoClash}
 use Rattle.ibc_machine.specs.Merge.{is_of, ReadsWhatIsBefore, EachAfter}
 use Rattle.ibc_machine.specs.Worlds.{AreLedgersOf, entries}
-use Rattle.ibc_refinement.specs.Lower.{Lower}
 use Rattle.ibc_refinement.specs.Refinement.{GivesNothing, AreAnswered, GoesOn, GoingOnIsRun}
 use Rattle.ibc_refinement.proofs.Places.{get_within, same_places}
 use Rattle.ibc_refinement.proofs.EntrySteps.{ledger_of}
@@ -39,14 +38,14 @@ pub record Reaches (genesis : GenesisState) (ledgers : List Ledger) (before rest
   pub reads : EachAfter (ReadsWhatIsBefore genesis.window) before rest
   pub within : AreWithin (length ledgers) rest
 
-reaches : Lower → (genesis : GenesisState) (ledgers : List Ledger) (publications : List Publication) → AreOfWorld genesis ledgers publications → HasNoClash ledgers
+reaches : (genesis : GenesisState) (ledgers : List Ledger) (publications : List Publication) → AreOfWorld genesis ledgers publications → HasNoClash ledgers
     → (front rest : List Entry) (before : List Entry) → Reaches genesis ledgers before (front ++ rest) → Reaches genesis ledgers (before ++ front) rest
-reaches lower genesis ledgers publications are clash [] rest before r = subst (λ b. Reaches genesis ledgers b rest) (sym (append-nil before)) r
-reaches lower genesis ledgers publications are clash (e ∷ front) rest before r =
+reaches genesis ledgers publications are clash [] rest before r = subst (λ b. Reaches genesis ledgers b rest) (sym (append-nil before)) r
+reaches genesis ledgers publications are clash (e ∷ front) rest before r =
     let parts = and_parts (nat_lt (chain_of e.event) (length ledgers)) (list_all (λ (entry : Entry). nat_lt (chain_of entry.event) (length ledgers)) (front ++ rest)) r.within in
-    let step = next_step lower genesis ledgers publications are clash r.world before (front ++ rest) e r.run r.reads.0 (ltb-true (chain_of e.event) (length ledgers) parts.0) in
+    let step = next_step genesis ledgers publications are clash r.world before (front ++ rest) e r.run r.reads.0 (ltb-true (chain_of e.event) (length ledgers) parts.0) in
     let next : Reaches genesis ledgers (before ++ e ∷ []) (front ++ rest) = record { world = step.after; run = step.run; reads = r.reads.1; within = parts.1 } in
-    subst (λ b. Reaches genesis ledgers b rest) (append_assoc before (e ∷ []) front) (reaches lower genesis ledgers publications are clash front rest (before ++ e ∷ []) next)
+    subst (λ b. Reaches genesis ledgers b rest) (append_assoc before (e ∷ []) front) (reaches genesis ledgers publications are clash front rest (before ++ e ∷ []) next)
 
 -- ---- what is done of a history is what it was
 
@@ -104,32 +103,32 @@ nothing_step : (genesis : GenesisState) (world : World) (chains : ℕ) (e : Even
 nothing_step genesis world chains e given many (inl gave_up) = inl (gave_up, refl)
 nothing_step genesis world chains e given many (inr w) = let r = sym w.0 in inr (true, unknown_answer genesis world e (omega (arith, many, w.1)) ∙ (λ i. (r i, world)))
 
-goes_on_by : Lower → (genesis : GenesisState) (ledgers : List Ledger) (publications : List Publication) → AreOfWorld genesis ledgers publications → HasNoClash ledgers
+goes_on_by : (genesis : GenesisState) (ledgers : List Ledger) (publications : List Publication) → AreOfWorld genesis ledgers publications → HasNoClash ledgers
     → (events : List Event) (replies : List Reply) (before more : List Entry) → (r : Reaches genesis ledgers before more) → AreAnswered (length ledgers) events replies more
     → IsRun genesis r.world events replies (machine_of ledgers)
-goes_on_by lower genesis ledgers publications are clash [] [] before more r answered =
+goes_on_by genesis ledgers publications are clash [] [] before more r answered =
     sym (ends_there genesis ledgers publications are r.world before (subst (λ m. AllRun genesis ledgers r.world before m) answered r.run))
-goes_on_by lower genesis ledgers publications are clash [] (given ∷ replies) before more r answered = absurd answered
-goes_on_by lower genesis ledgers publications are clash (e ∷ events) [] before more r answered = absurd answered
-goes_on_by lower genesis ledgers publications are clash (e ∷ events) (given ∷ replies) before more r (inl w) =
-    (r.world, nothing_step genesis r.world (length ledgers) e given r.run.as_many w.0, goes_on_by lower genesis ledgers publications are clash events replies before more r w.1)
-goes_on_by lower genesis ledgers publications are clash (e ∷ events) (given ∷ replies) before more r (inr w) =
+goes_on_by genesis ledgers publications are clash [] (given ∷ replies) before more r answered = absurd answered
+goes_on_by genesis ledgers publications are clash (e ∷ events) [] before more r answered = absurd answered
+goes_on_by genesis ledgers publications are clash (e ∷ events) (given ∷ replies) before more r (inl w) =
+    (r.world, nothing_step genesis r.world (length ledgers) e given r.run.as_many w.0, goes_on_by genesis ledgers publications are clash events replies before more r w.1)
+goes_on_by genesis ledgers publications are clash (e ∷ events) (given ∷ replies) before more r (inr w) =
     let run = subst (λ m. AllRun genesis ledgers r.world before m) w.2 r.run in
     let reads = subst (λ m. EachAfter (ReadsWhatIsBefore genesis.window) before m) w.2 r.reads in
     let low = subst (λ m. AreWithin (length ledgers) m) w.2 r.within in
     let parts = and_parts (nat_lt (chain_of w.0.event) (length ledgers)) (list_all (λ (entry : Entry). nat_lt (chain_of entry.event) (length ledgers)) w.1) low in
-    let step = next_step lower genesis ledgers publications are clash r.world before w.1 w.0 run reads.0 (ltb-true (chain_of w.0.event) (length ledgers) parts.0) in
+    let step = next_step genesis ledgers publications are clash r.world before w.1 w.0 run reads.0 (ltb-true (chain_of w.0.event) (length ledgers) parts.0) in
     let next : Reaches genesis ledgers (before ++ w.0 ∷ []) w.1 = record { world = step.after; run = step.run; reads = reads.1; within = parts.1 } in
     let taken : Step genesis r.world w.0.event w.0.reply step.after = inr step.answers in (
       step.after,
       subst (λ (x : Event × Reply). Step genesis r.world x.0 x.1 step.after) (λ i. (w.3 i, w.4 i)) taken,
-      goes_on_by lower genesis ledgers publications are clash events replies (before ++ w.0 ∷ []) w.1 next w.5,
+      goes_on_by genesis ledgers publications are clash events replies (before ++ w.0 ∷ []) w.1 next w.5,
     )
 
 -- ---- the theorem
 
-pub going_on_is_run : Lower → GoingOnIsRun
-going_on_is_run lower genesis old new publications list more events replies of_old of_new table goes merged merges answered clash =
+pub going_on_is_run : GoingOnIsRun
+going_on_is_run genesis old new publications list more events replies of_old of_new table goes merged merges answered clash =
     let are : AreOfWorld genesis new publications = record { of = of_new; table = table } in
     let times = map (λ (c : Chain). c.time) (start genesis) in
     let first : Reaches genesis new [] (list ++ more) = record {
@@ -138,6 +137,6 @@ going_on_is_run lower genesis old new publications list more events replies of_o
       reads = merges.readings;
       within = within genesis new publications are times (list ++ more) merges;
     } in
-    let middle = reaches lower genesis new publications are clash list more [] first in
+    let middle = reaches genesis new publications are clash list more [] first in
     let same = world_was genesis old new publications list more of_old are goes merged (of_old.all ∙ sym of_new.all) middle.world middle.run in
-    subst (λ world. IsRun genesis world events replies (machine_of new)) same (goes_on_by lower genesis new publications are clash events replies list more middle answered)
+    subst (λ world. IsRun genesis world events replies (machine_of new)) same (goes_on_by genesis new publications are clash events replies list more middle answered)

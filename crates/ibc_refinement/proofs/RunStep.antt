@@ -22,7 +22,6 @@ use Rattle.ibc_machine.specs.Replay.{LedgerState, StampedEntry, ledger_answer}
 use Rattle.ibc_machine.specs.Ledgers.{Ledger, IsReading, is_looking, header_in, is_typed, chain_of, is_accepted_block, reading_fits}
 use Rattle.ibc_machine.specs.HashedTexts.{event_texts, HasNoClash}
 use Rattle.ibc_machine.specs.Merge.{is_of, blocks_of, ReadsWhatIsBefore}
-use Rattle.ibc_refinement.specs.Lower.{Lower}
 use Rattle.ibc_machine.proofs.Members.{Is_in}
 use Rattle.ibc_refinement.proofs.Steps.{KnowsBlocks, oldest_of, block_step}
 use Rattle.ibc_refinement.proofs.Typed.{IsTyped}
@@ -44,7 +43,7 @@ blocks_more k before e b is =
 pub blocks_apart : (k : ℕ) (before : List Entry) (e : Entry) → is_of k e ≡ false → blocks_of k (before ++ e ∷ []) ≡ blocks_of k before
 blocks_apart k before e apart = let w = blocks_more k before e false (ap (λ b. b && is_accepted_block e) apart) in omega (arith, w)
 
-module _ (lower : Lower) (genesis : GenesisState) (ledgers : List Ledger) (publications : List Publication) (are : AreOfWorld genesis ledgers publications) (clash : HasNoClash ledgers) where
+module _ (genesis : GenesisState) (ledgers : List Ledger) (publications : List Publication) (are : AreOfWorld genesis ledgers publications) (clash : HasNoClash ledgers) where
   module _ (world : World) (before rest : List Entry) (run : AllRun genesis ledgers world before rest) where
     -- all that stands is fit
     pub all_fit : AllFit (Among ledgers) world
@@ -101,7 +100,7 @@ module _ (lower : Lower) (genesis : GenesisState) (ledgers : List Ledger) (publi
     answers k seen reading state (event.Message chain m) c there known typed t sees texts =
         subst (λ j. answer true_marks genesis (oldest_of reading) world (event.Message j m)
         ≡ ((ledger_answer genesis k seen reading state (event.Message j m)).0, slice_set world k (ledger_answer genesis k seen reading state (event.Message j m)).1.chain)) (sym c)
-        (fit_step lower (Among ledgers) (among_clear ledgers clash) genesis world k seen reading state m all_fit there known sees typed (message_typed m t) texts)
+        (fit_step (Among ledgers) (among_clear ledgers clash) genesis world k seen reading state m all_fit there known sees typed (message_typed m t) texts)
     answers k seen reading state (event.Block chain next_time) c there known typed t sees texts =
         subst (λ j. answer true_marks genesis (oldest_of reading) world (event.Block j next_time)
         ≡ ((ledger_answer genesis k seen reading state (event.Block j next_time)).0, slice_set world k (ledger_answer genesis k seen reading state (event.Block j next_time)).1.chain)) (sym c)

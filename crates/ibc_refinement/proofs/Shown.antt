@@ -8,6 +8,8 @@ use Rattle.ibc_ids.specs.Maps.{at}
 use Rattle.ibc_ids.specs.Paths.{path}
 use Rattle.ibc_ids.proofs.Texts.{text_same, same_text_from}
 use Rattle.ibc_merkle.specs.Tree.{tree}
+use Rattle.ibc_merkle.proofs.Clashes.{written_is_accepted, accepted_is_written}
+use Rattle.ibc_wire.proofs.ProofReaders.{reads_what_is_spelled}
 use Rattle.ibc_merkle.specs.Proofs.{accepts}
 use Rattle.ibc_merkle.specs.Written.{written}
 use Rattle.ibc_merkle.specs.Clashes.{NoClash, tree_texts, proof_texts}
@@ -16,7 +18,6 @@ use Rattle.ibc_wire.specs.Fields.{have_form}
 use Rattle.ibc_wire.specs.Spelling.{proof_fields, proof_bytes}
 use Rattle.ibc_wire.specs.Reading.{proof_of}
 use Rattle.ibc_refinement.proofs.ShortTexts.{each_byte}
-use Rattle.ibc_refinement.specs.Lower.{Lower}
 use Rattle.ibc_refinement.proofs.ShortTexts.{AreBytes}
 use Rattle.ibc_machine.specs.Records.{Core}
 use Rattle.ibc_machine.specs.Values.{Value, Claim, look, value_bytes, same_value}
@@ -47,7 +48,7 @@ values_same None (Some w) one e = absurd (cc)
 values_same (Some v) None one e = absurd (cc)
 values_same (Some v) (Some w) one e = let same : value_bytes v ≡ value_bytes w = cc in ap Some (one v w refl refl same)
 
-module _ (lower : Lower) (core : Core) (claim : Claim) (bytes : Text) (given : AreClear core claim bytes) where
+module _ (core : Core) (claim : Claim) (bytes : Text) (given : AreClear core claim bytes) where
   abbrev is_taken : Option Proof → Bool
   is_taken o = option_map_or (λ p. accepts p (core_root core) (path claim.key) (option_map value_bytes claim.value)) o false
 
@@ -63,9 +64,9 @@ module _ (lower : Lower) (core : Core) (claim : Claim) (bytes : Text) (given : A
       let list : tree_texts (tree (image core)) ++ delivered bytes ≡ tree_texts (tree (image core)) ++ proof_texts p =
       ap (λ (o : Option Proof). tree_texts (tree (image core)) ++ option_map_or proof_texts o []) is
       in
-      let both = lower.accepted_is_written (image core) p (path claim.key) (option_map value_bytes claim.value) (image_sorted core) (subst NoClash list given.clear) taken in
+      let both = accepted_is_written (image core) p (path claim.key) (option_map value_bytes claim.value) (image_sorted core) (subst NoClash list given.clear) taken in
       let value = values_same (look core claim.key) claim.value given.one_value (both.0 ∙ has_image) in
-      let spelling = ((lower.reads_what_is_spelled p bytes (each_byte bytes given.bytes_given)).0 is).1 ∙ ap proof_bytes both.1 in
+      let spelling = ((reads_what_is_spelled p bytes (each_byte bytes given.bytes_given)).0 is).1 ∙ ap proof_bytes both.1 in
       and_from (same_value (look core claim.key) claim.value) (same_text bytes (proof_bytes (written (image core) (path claim.key))))
       (ap (λ v. same_value v claim.value) value ∙ value_itself claim.value) (same_text_from bytes _ spelling)
 
@@ -74,8 +75,8 @@ module _ (lower : Lower) (core : Core) (claim : Claim) (bytes : Text) (given : A
       let parts = and_parts (same_value (look core claim.key) claim.value) (same_text bytes (proof_bytes (written (image core) (path claim.key)))) looked in
       let value = value_same (look core claim.key) claim.value parts.0 in
       let w = written (image core) (path claim.key) in
-      let read = (lower.reads_what_is_spelled w bytes (each_byte bytes given.bytes_given)).1 (given.spelled_written, text_same bytes (proof_bytes w) parts.1) in
-      let accepted = lower.written_is_accepted (image core) (path claim.key) (image_sorted core) in
+      let read = (reads_what_is_spelled w bytes (each_byte bytes given.bytes_given)).1 (given.spelled_written, text_same bytes (proof_bytes w) parts.1) in
+      let accepted = written_is_accepted (image core) (path claim.key) (image_sorted core) in
       ap is_taken read ∙ ap (accepts w (core_root core) (path claim.key)) (sym (has_image ∙ ap (option_map value_bytes) value)) ∙ accepted
 
   pub shown_same : (block : Block) → block.records.core ≡ core → (time : ℕ)

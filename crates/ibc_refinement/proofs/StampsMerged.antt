@@ -12,7 +12,6 @@ use Rattle.ibc_machine.specs.Replay.{StampedEntry, starting_state, empty_chain}
 use Rattle.ibc_machine.specs.Ledgers.{Ledger, chain_of, published_as, state_of}
 use Rattle.ibc_machine.specs.Merge.{is_of, published_along, Merges}
 use Rattle.ibc_machine.specs.Worlds.{entries}
-use Rattle.ibc_refinement.specs.Lower.{Lower}
 use Rattle.ibc_refinement.specs.Stamps.{by_stamps, merged_by_stamps, StampsMerge, StampedIsRun}
 use Rattle.ibc_refinement.proofs.Places.{get_within, get_there}
 use Rattle.ibc_refinement.proofs.EntrySteps.{ledger_of}
@@ -117,7 +116,7 @@ module _ (genesis : GenesisState) (ledgers : List Ledger) (publications : List P
 pub stamps_merge : StampsMerge
 stamps_merge genesis ledgers publications of table = merges genesis ledgers publications (record { of = of; table = table })
 
-pub stamped_is_run : Lower → StampedIsRun
-stamped_is_run lower genesis ledgers publications of table allowed clash =
-    merged_is_run lower genesis ledgers publications (merged_by_stamps publications ledgers) of table allowed clash
+pub stamped_is_run : StampedIsRun
+stamped_is_run genesis ledgers publications of table allowed clash =
+    merged_is_run genesis ledgers publications (merged_by_stamps publications ledgers) of table allowed clash
     (stamps_merge genesis ledgers publications of table)

@@ -23,7 +23,6 @@ use Rattle.ibc_machine.specs.Clients.{is_of_client}
 use Rattle.ibc_machine.specs.Machine.{World, answer, at_chain, block_at, block_seen, committed_of, looks, true_marks, is_gone, row_if, is_header_of, shows_in}
 use Rattle.ibc_machine.specs.Replay.{Consensus, LedgerState, consensus_cmp, is_published_as, is_shown, proves, after_answer, ledger_answer}
 use Rattle.ibc_machine.specs.Ledgers.{published_as, fits, reading_fits}
-use Rattle.ibc_refinement.specs.Lower.{Lower}
 use Rattle.ibc_refinement.proofs.Agreeing.{Asked, Agree, AgreeOn}
 use Rattle.ibc_refinement.proofs.SameAnswers.{AgreeOnHeader, AllAsked, handle_same}
 use Rattle.ibc_refinement.proofs.Shown.{AreClear, shown_same}
@@ -51,9 +50,9 @@ seen_at world height (Some c) block e = (c.state.chain, e)
 
 -- ---- proofs
 
-pub proves_looks : Lower → (window : ℕ) (oldest : Bool) (world : World) (seen : List Publication) (reading : Option Reading) (state : LedgerState) → KnowsBlocks world state
+pub proves_looks : (window : ℕ) (oldest : Bool) (world : World) (seen : List Publication) (reading : Option Reading) (state : LedgerState) → KnowsBlocks world state
     → Agree (ClearIn world) (proves seen reading state) (looks true_marks window oldest world state.chain.records.core) state.chain.records.core
-proves_looks lower window oldest world seen reading state known = record {
+proves_looks window oldest world seen reading state known = record {
   is_proof = λ bytes. refl;
   time_at = λ client height is.
       let w = known client height is in
@@ -62,7 +61,7 @@ proves_looks lower window oldest world seen reading state known = record {
       let w = known client height is in
       let at_chain = seen_at world height (client_at state.chain.records.core client) w.0 w.1 in
       ap (λ o. option_map_or (is_shown claim bytes) o false) w.2
-      ∙ shown_same lower w.0.records.core claim bytes (clear at_chain.0 height w.0 at_chain.1) w.0 refl w.0.time
+      ∙ shown_same w.0.records.core claim bytes (clear at_chain.0 height w.0 at_chain.1) w.0 refl w.0.time
       ∙ sym (ap (λ o. option_map_or (shows_in true_marks claim bytes) o false) w.1);
 }
 
@@ -180,15 +179,15 @@ unfolding answer
 answer_at genesis oldest world k chain m there =
     ap (at_chain world k (λ chain. message_answer (looks true_marks genesis.window oldest world chain.records.core) (length genesis.chains) k chain m)) there
 
-pub message_step : Lower → (genesis : GenesisState) (world : World) (k : ℕ) (seen : List Publication) (reading : Option Reading) (state : LedgerState) (m : Message)
+pub message_step : (genesis : GenesisState) (world : World) (k : ℕ) (seen : List Publication) (reading : Option Reading) (state : LedgerState) (m : Message)
     → slice_get world k ≡ Some state.chain → KnowsBlocks world state → SeesForMessage genesis.window world seen reading state m → AllAsked (ClearIn world) state.chain.records.core m
     → answer true_marks genesis (oldest_of reading) world (event.Message k m)
     ≡ ((ledger_answer genesis k seen reading state (event.Message k m)).0, slice_set world k (ledger_answer genesis k seen reading state (event.Message k m)).1.chain)
 unfolding ledger_answer
-message_step lower genesis world k seen reading state m there known sees asked =
+message_step genesis world k seen reading state m there known sees asked =
     let same = handle_same (ClearIn world) (proves seen reading state) (looks true_marks genesis.window (oldest_of reading) world state.chain.records.core)
     (host_of (length genesis.chains) k state.chain) state.chain.records m
-    (proves_looks lower genesis.window (oldest_of reading) world seen reading state known) (header_of_message genesis.window world seen reading state m sees) asked
+    (proves_looks genesis.window (oldest_of reading) world seen reading state known) (header_of_message genesis.window world seen reading state m sees) asked
     in
     let mine : Reply × Chain = message_answer (proves seen reading state) (length genesis.chains) k state.chain m in
     let keeps = after_answer-keeps m state mine in

@@ -1,3 +1,2 @@
-pub mod Lower
 pub mod Refinement
 pub mod Stamps

@@ -1,6 +1,5 @@
-use Rattle.ibc_refinement.proofs.Lowered.{lower}
 use Rattle.ibc_refinement.proofs.Refined.{merged_is_run}
 use Rattle.ibc_refinement.proofs.refinement.merged_is_run.Goals as goal
 
 pub returns : goal.returns
-returns c = merged_is_run lower
+returns c = merged_is_run

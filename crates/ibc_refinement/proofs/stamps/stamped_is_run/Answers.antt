@@ -1,6 +1,5 @@
-use Rattle.ibc_refinement.proofs.Lowered.{lower}
 use Rattle.ibc_refinement.proofs.StampsMerged.{stamped_is_run}
 use Rattle.ibc_refinement.proofs.stamps.stamped_is_run.Goals as goal
 
 pub returns : goal.returns
-returns c = stamped_is_run lower
+returns c = stamped_is_run
