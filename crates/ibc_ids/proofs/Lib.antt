@@ -4,3 +4,4 @@ pub mod Splits
 pub mod Paths
 pub mod Ascii
 pub mod Maps
+pub mod Numbered

@@ -4,6 +4,7 @@
 mod account;
 mod bytes;
 mod forms;
+mod identifiers;
 mod key;
 mod kinds;
 mod name;
@@ -12,7 +13,8 @@ mod refusal;
 
 pub use account::Account;
 pub use bytes::Bytes;
-pub use key::Key;
+pub use identifiers::{nth_channel, nth_client, nth_connection};
+pub use key::{Key, different_keys_have_different_paths};
 pub use kinds::{
     ChannelId, ChannelKind, ClientId, ClientKind, ConnectionId, ConnectionKind, Denom, DenomKind,
     Kind, Memo, MemoKind, PortId, PortKind, Receiver, ReceiverKind, UserKind, UserName, Version,

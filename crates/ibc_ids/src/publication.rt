@@ -18,7 +18,7 @@ impl Model for Root {
 }
 
 impl Root {
-    ghost use Rattle.std.specs.Prelude.{◌≡◌};
+    ghost use Rattle.std.specs.Prelude.{◌≡◌, length};
 
     /// The root of these 32 bytes.
     pub fn from_bytes(bytes: [u8; 32]) -> Root
@@ -29,7 +29,8 @@ impl Root {
 
     /// The 32 bytes.
     pub fn bytes(&self) -> &[u8; 32]
-        ensures { result.now ≡ self.now }
+        ensures value { result.now ≡ self.now }
+        ensures size { length result.now ≡ 32 }
     {
         &self.bytes
     }

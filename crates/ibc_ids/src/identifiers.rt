@@ -1,0 +1,38 @@
+//! The identifiers that a chain gives (ICS 24), by a number that it counts up.
+
+ghost use Rattle.std.specs.Prelude.{◌≡◌, IfOk, IfErr};
+ghost use Rattle.ibc_ids.specs.Paths.{nth_client, nth_connection, nth_channel};
+ghost use Rattle.ibc_ids.specs.declared.refusal.Refusal.TheVariants.{NoMemory};
+
+use crate::{ChannelId, ClientId, ConnectionId, Name, Refusal};
+use std::alloc::Global;
+
+/// The identifier of a chain's client with this number, counted from 0. Refused: `NoMemory`.
+#[tactic(auto, using(crate::proofs::Numbered::nth_client_is_one))]
+pub fn nth_client(alloc: Global, number: u64) -> Result<ClientId, Refusal>
+    ensures ok { IfOk result (λ id. id ≡ nth_client number) }
+    ensures memory { IfErr result (λ e. e ≡ NoMemory) }
+{
+    let text = format!(in alloc; "inprocess-{number}")?;
+    Name::parse(alloc, text.as_str())
+}
+
+/// The identifier of a chain's connection with this number, counted from 0. Refused: `NoMemory`.
+#[tactic(auto, using(crate::proofs::Numbered::nth_connection_is_one))]
+pub fn nth_connection(alloc: Global, number: u64) -> Result<ConnectionId, Refusal>
+    ensures ok { IfOk result (λ id. id ≡ nth_connection number) }
+    ensures memory { IfErr result (λ e. e ≡ NoMemory) }
+{
+    let text = format!(in alloc; "connection-{number}")?;
+    Name::parse(alloc, text.as_str())
+}
+
+/// The identifier of a chain's channel with this number, counted from 0. Refused: `NoMemory`.
+#[tactic(auto, using(crate::proofs::Numbered::nth_channel_is_one))]
+pub fn nth_channel(alloc: Global, number: u64) -> Result<ChannelId, Refusal>
+    ensures ok { IfOk result (λ id. id ≡ nth_channel number) }
+    ensures memory { IfErr result (λ e. e ≡ NoMemory) }
+{
+    let text = format!(in alloc; "channel-{number}")?;
+    Name::parse(alloc, text.as_str())
+}
