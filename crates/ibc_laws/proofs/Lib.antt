@@ -39,5 +39,6 @@ pub mod SecondLaw
 pub mod SentInOrder
 pub mod ReceivedInOrder
 pub mod ThirdLaw
+pub mod Hops
 pub mod Measures
 pub mod TokenMoves
