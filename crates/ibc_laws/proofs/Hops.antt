@@ -2,6 +2,8 @@
 -- stands there; and an escrow is no user, nor another channel's.
 use Rattle.std.proofs.Common.{◌≡◌, ℕ, Bool, true, false, refl, ap, sym, ◌∙◌, subst, codes, List, [], ◌∷◌, ◌++◌, length, drop, not, ◌==◌, ◌&&◌, nat_eq, append_assoc, eqb-true}
 use Rattle.std.specs.List.{list_all, starts_with}
+use Rattle.std.proofs.lemmas.Bool.Decides.{Decides-eqb}
+use Rattle.std.proofs.lemmas.Slice.Eq.{starts_is}
 use Rattle.ibc_ids.specs.Texts.{Text}
 use Rattle.ibc_ids.specs.Names.{is_letter_or_digit, is_made_of, is_user, is_base_denom, hop}
 use Rattle.ibc_machine.specs.Bank.{escrow}
@@ -69,3 +71,20 @@ escrow_is_no_user channel user e same =
 
 pub escrow_same : (c d : Text) → escrow c ≡ escrow d → c ≡ d
 escrow_same c d e = cc e
+
+-- ---- which channel a denomination came over
+
+pub came_over_is : (port channel denom : Text) → came_over port channel denom ≡ true
+    → denom ≡ hop port channel ++ drop (length (hop port channel)) denom
+came_over_is port channel denom e = (starts_is Decides-eqb denom (hop port channel) (came_over port channel denom) refl).0 e
+
+pub came_over_by : (port channel rest : Text) → came_over port channel (hop port channel ++ rest) ≡ true
+came_over_by port channel rest =
+    (starts_is Decides-eqb (hop port channel ++ rest) (hop port channel) (came_over port channel (hop port channel ++ rest)) refl).1 rest refl
+
+-- over one channel at most
+pub came_over_one : (p q c d denom : Text) → HasNoSlash p → HasNoSlash q → HasNoSlash c → HasNoSlash d
+    → came_over p c denom ≡ true → came_over q d denom ≡ true → (p ≡ q) × (c ≡ d)
+came_over_one p q c d denom hp hq hc hd one other =
+    let h = same_hop p q c d _ _ hp hq hc hd (sym (came_over_is p c denom one) ∙ came_over_is q d denom other) in
+    (h.0, h.1)
