@@ -6,6 +6,7 @@ pub mod Identifiers
 pub mod Seen
 pub mod Told
 pub mod CoreSteps
+pub mod AppSteps
 pub mod Growth
 pub mod ConnectionsPassed
 pub mod ChannelsPassed
