@@ -43,3 +43,4 @@ pub mod ThirdLaw
 pub mod Hops
 pub mod Measures
 pub mod TokenMoves
+pub mod BalanceSteps
