@@ -178,7 +178,7 @@ module _ (chains : ℕ) (w : World) (h : Happened) (v : World) (inv : Inv w) (e 
       changing told port id mine now there s d same is (ap (λ (c : Core). c.channels) core)
 
   of_chain : (told : Told) (d : Chain) → ChainStep chains w e.chain s.before told d → s.now ≡ d → told_of h ≡ told → EndStep chains w h v e
-  of_chain _ d (acts told records step) same is = of_core told records.core step (record s.before { records = records }) same is refl
+  of_chain _ d (acts told records step apps) same is = of_core told records.core step (record s.before { records = records }) same is refl
   of_chain told d (ends t later) same is = same_channels (next_chain s.before t) same is refl
 
 -- ---- every step, at every end

@@ -120,7 +120,7 @@ module _ (chains : ℕ) (w : World) (h : Happened) (v : World) (inv : Inv w) (s 
   -- the ends of the chain that moved, with what was known before
   known_before : {told : Told} {d : Chain} → ChainStep chains w s.k s.before told d
       → KnownBefore w s.k s.before.records.core d.records.core
-  known_before (acts told records step) = record {
+  known_before (acts told records step apps) = record {
     connections = λ k e is. connection_peer w (host_of chains s.k s.before) s.before.records.core inv.shaped
         (inv.shaped.each s.k s.before s.there).core (inv.peered s.k s.before s.there) told records.core step k e is;
     channels = λ port id m is. channel_peer w (host_of chains s.k s.before) s.before.records.core inv.shaped

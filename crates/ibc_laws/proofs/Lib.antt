@@ -6,6 +6,7 @@ pub mod Identifiers
 pub mod Seen
 pub mod Told
 pub mod CoreSteps
+pub mod AppSteps
 pub mod Growth
 pub mod ConnectionsPassed
 pub mod ChannelsPassed
@@ -39,5 +40,7 @@ pub mod SecondLaw
 pub mod SentInOrder
 pub mod ReceivedInOrder
 pub mod ThirdLaw
+pub mod Hops
 pub mod Measures
 pub mod TokenMoves
+pub mod BalanceSteps

@@ -14,17 +14,19 @@ use Rattle.ibc_wire.specs.declared.messages.AckPacket.{AckPacket}
 use Rattle.ibc_wire.specs.declared.messages.Timeout.{Timeout}
 use Rattle.ibc_wire.specs.declared.messages.TimeoutOnClose.{TimeoutOnClose}
 use Rattle.ibc_machine.specs.declared.reply.Effect.{Effect}
-use Rattle.ibc_machine.specs.Records.{Core, Block, Client, Channel, Commitment, channel_at, is_one_of, commitment_of}
+use Rattle.ibc_machine.specs.Records.{Core, Apps, Records, Block, Client, Channel, Commitment, channel_at, is_one_of, commitment_of}
 use Rattle.ibc_machine.specs.Values.{NumberIs, has, lacks, same_commitment}
-use Rattle.ibc_machine.specs.Checks.{Checked, expect}
+use Rattle.ibc_machine.specs.Checks.{expect}
 use Rattle.ibc_machine.specs.Evidence.{Host}
 use Rattle.ibc_machine.specs.Channels.{is_in_state, is_established, client_of}
 use Rattle.ibc_machine.specs.Packets.{recv_checked, recv_packet, ack_checked, ack_packet, timeout_checked, timeout, timeout_on_close_checked, timeout_on_close, is_ordered, is_timed_out, is_committed, not_received, waits_for}
+use Rattle.ibc_machine.specs.Applications.{on_recv, on_ack, on_timeout}
 use Rattle.ibc_machine.specs.Machine.{World, block_at}
 use Rattle.ibc_laws.proofs.PassedChecks.{require_passed, bind_passed, expect_passed, ok_same}
 use Rattle.ibc_laws.proofs.PassedTests.{either, same_channel_state_is, same_commitment_is, no_longer}
 use Rattle.ibc_laws.proofs.Seen.{Sees, Sees-map, Sees-both, seeing, shown_channel, shown_next_recv, shown_commitment, shown_ack, shown_no_receipt}
-use Rattle.ibc_laws.proofs.CoreSteps.{Did, rank, their_end, HadNotReceived, Receives, Acks, TimesOut, changes_channel, receives, acknowledges, times_out}
+use Rattle.ibc_laws.proofs.CoreSteps.{rank, their_end, HadNotReceived, Receives, Acks, TimesOut, changes_channel, receives, acknowledges, times_out}
+use Rattle.ibc_laws.proofs.AppSteps.{DidBoth}
 
 some_is : {A : Type 0} {x y : A} {o : Option A} → o ≡ Some x → o ≡ Some y → x ≡ y
 some_is e f = cc (e, f)
@@ -127,7 +129,7 @@ module _ (window : ℕ) (oldest : Bool) (w : World) (host : Host) (core : Core) 
 
   acking : (m : AckPacket) (mine : Channel) → ack_checked (seeing window oldest w core) core m ≡ Ok mine
       → (channel_at core m.packet.source_port m.packet.source_channel ≡ Some mine)
-      × Acks w core m.packet.source_port m.packet.source_channel mine m.packet
+      × (s : Acks w core m.packet.source_port m.packet.source_channel mine m.packet) × (s.ack ≡ m.ack)
   unfolding ack_checked
   acking m mine e =
       let p : Packet = m.packet in
@@ -140,7 +142,7 @@ module _ (window : ℕ) (oldest : Bool) (w : World) (host : Host) (core : Core) 
       let in_order = require_passed _ _ _ committed.1 in
       let known = require_passed _ _ _ in_order.1 in
       let proof = require_passed _ _ _ known.1 in
-      subst (λ (c : Channel). (channel_at core p.source_port p.source_channel ≡ Some c) × Acks w core p.source_port p.source_channel c p)
+      subst (λ (c : Channel). (channel_at core p.source_port p.source_channel ≡ Some c) × (s : Acks w core p.source_port p.source_channel c p) × (s.ack ≡ m.ack))
       (ok_same proof.1) (
         expect_passed (channel_at core p.source_port p.source_channel) _ there.1,
         record {
@@ -155,6 +157,7 @@ module _ (window : ℕ) (oldest : Bool) (w : World) (host : Host) (core : Core) 
           height = m.height;
           sees = shown_ack window oldest w core (client_of core found.end.connection) m.height p.destination_port p.destination_channel p.sequence m.ack m.proof proof.0;
         },
+        refl,
       )
 
   timing_out : (m : Timeout) (mine : Channel) → timeout_checked (seeing window oldest w core) core m ≡ Ok mine
@@ -228,51 +231,58 @@ module _ (window : ℕ) (oldest : Bool) (w : World) (host : Host) (core : Core) 
         },
       )
 
-  -- ---- the four messages, whatever the application does
+-- ---- the four messages
 
-  pub recv_packet_did : {A : Type 0} (on_recv : Text → Packet → Text × A) (m : RecvPacket) (y : Effect × Core × A)
-      → recv_packet on_recv (seeing window oldest w core) host core m ≡ Ok y
-      → Did w host core (message.RecvPacket m) (y.0, y.1)
+module _ (window : ℕ) (oldest : Bool) (w : World) (host : Host) (records : Records) where
+  pub recv_packet_did : (m : RecvPacket) (y : Effect × Core × Apps)
+      → recv_packet (on_recv records m.packet.destination_port) (seeing window oldest w records.core) host records.core m ≡ Ok y
+      → DidBoth w host records (message.RecvPacket m) y
   unfolding recv_packet
-  recv_packet_did {A} on_recv m y e =
-      let checked = bind_passed (recv_checked (seeing window oldest w core) host core m) _ e in
+  recv_packet_did m y e =
+      let p : Packet = m.packet in
+      let checked = bind_passed (recv_checked (seeing window oldest w records.core) host records.core m) _ e in
       let mine : Channel = checked.0 in
-      let passed = receiving m mine checked.1 in
-      subst (λ (z : Effect × Core × A). Did w host core (message.RecvPacket m) (z.0, z.1)) (ok_same checked.2)
-      (changes_channel _ m.packet.destination_port m.packet.destination_channel mine _ passed.0
-      (receives m.packet (on_recv mine.end.version m.packet).0 passed.1))
+      let passed = receiving window oldest w host records.core m mine checked.1 in
+      let did : Text × Apps = on_recv records p.destination_port mine.end.version p in
+      subst (DidBoth w host records (message.RecvPacket m)) (ok_same checked.2)
+      (changes_channel _ p.destination_port p.destination_channel mine _ passed.0 (receives p did.0 passed.1), refl)
 
-  pub ack_packet_did : {A : Type 0} (on_ack : Text → Packet → Text → Checked A) (m : AckPacket) (y : Effect × Core × A)
-      → ack_packet on_ack (seeing window oldest w core) core m ≡ Ok y
-      → Did w host core (message.AckPacket m) (y.0, y.1)
+  pub ack_packet_did : (m : AckPacket) (y : Effect × Core × Apps)
+      → ack_packet (on_ack records.apps m.packet.source_port) (seeing window oldest w records.core) records.core m ≡ Ok y
+      → DidBoth w host records (message.AckPacket m) y
   unfolding ack_packet
-  ack_packet_did {A} on_ack m y e =
-      let checked = bind_passed (ack_checked (seeing window oldest w core) core m) _ e in
+  ack_packet_did m y e =
+      let p : Packet = m.packet in
+      let checked = bind_passed (ack_checked (seeing window oldest w records.core) records.core m) _ e in
       let mine : Channel = checked.0 in
-      let app = bind_passed (on_ack mine.end.version m.packet m.ack) _ checked.2 in
-      let passed = acking m mine checked.1 in
-      subst (λ (z : Effect × Core × A). Did w host core (message.AckPacket m) (z.0, z.1)) (ok_same app.2)
-      (changes_channel _ m.packet.source_port m.packet.source_channel mine _ passed.0 (acknowledges m.packet passed.1))
+      let app = bind_passed (on_ack records.apps p.source_port mine.end.version p m.ack) _ checked.2 in
+      let passed = acking window oldest w host records.core m mine checked.1 in
+      subst (DidBoth w host records (message.AckPacket m)) (ok_same app.2)
+      (changes_channel _ p.source_port p.source_channel mine _ passed.0 (acknowledges p passed.1),
+        subst (λ ack. on_ack records.apps p.source_port mine.end.version p ack ≡ Ok app.0) (sym passed.2) app.1)
 
-  pub timeout_did : {A : Type 0} (on_timeout : Text → Packet → Checked A) (m : Timeout) (y : Effect × Core × A)
-      → timeout on_timeout (seeing window oldest w core) core m ≡ Ok y → Did w host core (message.Timeout m) (y.0, y.1)
+  pub timeout_did : (m : Timeout) (y : Effect × Core × Apps)
+      → timeout (on_timeout records.apps m.packet.source_port) (seeing window oldest w records.core) records.core m ≡ Ok y
+      → DidBoth w host records (message.Timeout m) y
   unfolding timeout
-  timeout_did {A} on_timeout m y e =
-      let checked = bind_passed (timeout_checked (seeing window oldest w core) core m) _ e in
+  timeout_did m y e =
+      let p : Packet = m.packet in
+      let checked = bind_passed (timeout_checked (seeing window oldest w records.core) records.core m) _ e in
       let mine : Channel = checked.0 in
-      let app = bind_passed (on_timeout mine.end.version m.packet) _ checked.2 in
-      let passed = timing_out m mine checked.1 in
-      subst (λ (z : Effect × Core × A). Did w host core (message.Timeout m) (z.0, z.1)) (ok_same app.2)
-      (changes_channel _ m.packet.source_port m.packet.source_channel mine _ passed.0 (times_out m.packet passed.1))
+      let app = bind_passed (on_timeout records.apps p.source_port mine.end.version p) _ checked.2 in
+      let passed = timing_out window oldest w host records.core m mine checked.1 in
+      subst (DidBoth w host records (message.Timeout m)) (ok_same app.2)
+      (changes_channel _ p.source_port p.source_channel mine _ passed.0 (times_out p passed.1), app.1)
 
-  pub timeout_on_close_did : {A : Type 0} (on_timeout : Text → Packet → Checked A) (m : TimeoutOnClose) (y : Effect × Core × A)
-      → timeout_on_close on_timeout (seeing window oldest w core) core m ≡ Ok y
-      → Did w host core (message.TimeoutOnClose m) (y.0, y.1)
+  pub timeout_on_close_did : (m : TimeoutOnClose) (y : Effect × Core × Apps)
+      → timeout_on_close (on_timeout records.apps m.packet.source_port) (seeing window oldest w records.core) records.core m ≡ Ok y
+      → DidBoth w host records (message.TimeoutOnClose m) y
   unfolding timeout_on_close
-  timeout_on_close_did {A} on_timeout m y e =
-      let checked = bind_passed (timeout_on_close_checked (seeing window oldest w core) core m) _ e in
+  timeout_on_close_did m y e =
+      let p : Packet = m.packet in
+      let checked = bind_passed (timeout_on_close_checked (seeing window oldest w records.core) records.core m) _ e in
       let mine : Channel = checked.0 in
-      let app = bind_passed (on_timeout mine.end.version m.packet) _ checked.2 in
-      let passed = timing_out_on_close m mine checked.1 in
-      subst (λ (z : Effect × Core × A). Did w host core (message.TimeoutOnClose m) (z.0, z.1)) (ok_same app.2)
-      (changes_channel _ m.packet.source_port m.packet.source_channel mine _ passed.0 (times_out m.packet passed.1))
+      let app = bind_passed (on_timeout records.apps p.source_port mine.end.version p) _ checked.2 in
+      let passed = timing_out_on_close window oldest w host records.core m mine checked.1 in
+      subst (DidBoth w host records (message.TimeoutOnClose m)) (ok_same app.2)
+      (changes_channel _ p.source_port p.source_channel mine _ passed.0 (times_out p passed.1), app.1)

@@ -69,7 +69,7 @@ module _ (genesis : GenesisState) (oldest : Bool) (w : World) where
       → at_chain w k (λ (chain : Chain). after_message c o) (Some c) ≡ (r, v) → Stepped (length genesis.chains) w (event.Message k m, r) v
   of_message k c there m r v (Ok y) is e =
       accepting (event.Message k m, reply.Ok y.0) k c (record c { records = y.1 }) r v there refl
-      (acts _ y.1 (message_did genesis.window oldest w (host_of (length genesis.chains) k c) c.records m y is)) e
+      (let did = message_did genesis.window oldest w (host_of (length genesis.chains) k c) c.records m y is in acts _ y.1 did.0 did.1) e
   of_message k c there m r v (Err why) is e =
       refusing (event.Message k m) why r v (ap (λ x. (reply.No why, x)) (sym (set-same w k c there)) ∙ e)
 

@@ -9,6 +9,7 @@ use Rattle.ibc_laws.proofs.Places.{last_or_before, got_below}
 use Rattle.ibc_laws.proofs.Seen.{Sees}
 use Rattle.ibc_laws.proofs.Told.{Told, Quiet}
 use Rattle.ibc_laws.proofs.CoreSteps.{CoreStep}
+use Rattle.ibc_laws.proofs.AppSteps.{AppsOf}
 use Rattle.ibc_laws.proofs.Growth.{Grows, Grows-refl, Grows-trans}
 use Rattle.ibc_laws.proofs.CoreShape.{CoreShaped, core_grows, core_shaped}
 
@@ -47,7 +48,8 @@ next_chain c t = record {
 }
 
 pub data ChainStep (chains : ℕ) (w : World) (k : ℕ) (c : Chain) : Told → Chain → Type 0 where
-  acts : (told : Told) (records : Records) → CoreStep w (host_of chains k c) c.records.core told records.core
+  acts : (told : Told) (records : Records) (step : CoreStep w (host_of chains k c) c.records.core told records.core)
+      → AppsOf w (host_of chains k c) c.records records.apps told records.core step
       → ChainStep chains w k c told (record c { records = records })
   ends : (t : ℕ) → c.time ≤ t → ChainStep chains w k c Quiet (next_chain c t)
 
@@ -65,7 +67,7 @@ longer (x ∷ xs) y = let h = longer xs y in omega arith
 
 module _ (chains : ℕ) (w : World) (k : ℕ) (c : Chain) (h : ChainShaped c) where
   pub chain_grows : (told : Told) (d : Chain) → ChainStep chains w k c told d → ChainGrows c d
-  chain_grows _ d (acts told records s) = record {
+  chain_grows _ d (acts told records s apps) = record {
     core = core_grows w (host_of chains k c) c.records.core h.core told records.core s;
     time = le_refl _;
     height = le_refl _;
@@ -82,7 +84,7 @@ module _ (chains : ℕ) (w : World) (k : ℕ) (c : Chain) (h : ChainShaped c) wh
   }
 
   pub chain_shaped : (told : Told) (d : Chain) → ChainStep chains w k c told d → ChainShaped d
-  chain_shaped _ d (acts told records s) = record {
+  chain_shaped _ d (acts told records s apps) = record {
     core = core_shaped w (host_of chains k c) c.records.core h.core told records.core s;
     blocks_shaped = h.blocks_shaped;
     grows = λ n b e. Grows-trans (h.grows n b e) (core_grows w (host_of chains k c) c.records.core h.core told records.core s);
