@@ -1,3 +1,4 @@
 pub mod SeenMore
 pub mod OwnEntries
 pub mod Growing
+pub mod Entries
