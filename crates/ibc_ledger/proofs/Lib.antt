@@ -1,0 +1,4 @@
+pub mod SeenMore
+pub mod OwnEntries
+pub mod Growing
+pub mod Entries
