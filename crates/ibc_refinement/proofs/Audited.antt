@@ -1,17 +1,17 @@
 -- Ledgers by the numbers of their chains are the ledgers of a genesis, and so an audit's histories are a run.
-use Rattle.std.proofs.Common.{◌≡◌, ℕ, zero, suc, ◌+◌, ◌<◌, ◌≤◌, Bool, true, false, cond, ◌&&◌, ◌||◌, eqb, List, [], ◌∷◌, ◌++◌, length, map, filter, refl, sym, ap, ◌∙◌, subst, Some, None, Option, slice_get, arith, eqb-true, eq-eqb, inl, inr, Contains}
+use Rattle.std.proofs.Common.{◌≡◌, ℕ, zero, suc, ◌+◌, Bool, true, false, cond, eqb, List, [], ◌∷◌, ◌++◌, length, filter, refl, sym, ap, ◌∙◌, subst, Some, slice_get, arith, eqb-true, eq-eqb, inl, inr, Contains}
 use Rattle.std.specs.List.{list_all, list_any, flat_map, range_with_len}
 use Rattle.std.proofs.lemmas.Bool.{and_parts, and_from, or_left, or_right}
 use Rattle.ibc_ids.specs.Texts.{Text}
 use Rattle.ibc_ids.specs.declared.publication.Publication.{Publication}
 use Rattle.ibc_machine.specs.Genesis.{GenesisState}
-use Rattle.ibc_machine.specs.Ledgers.{Ledger, IsLedger}
+use Rattle.ibc_machine.specs.Ledgers.{Ledger}
 use Rattle.ibc_machine.specs.HashedTexts.{ledger_texts, HasNoClash}
 use Rattle.ibc_machine.specs.Worlds.{AreLedgersOf, AreOfOneTable, of_chain, by_number, is_complete}
 use Rattle.ibc_machine.proofs.Members.{Is_in, in_flat_map, in_flat_map_from, contains_in, in_contains}
 use Rattle.ibc_refinement.specs.Stamps.{merged_by_stamps}
 use Rattle.ibc_refinement.specs.Audits.{AreOfGenesis, AuditIsRun}
-use Rattle.ibc_refinement.proofs.Places.{get_in, get_there}
+use Rattle.ibc_refinement.proofs.Places.{get_there}
 use Rattle.ibc_refinement.proofs.PlacedLedgers.{any_there}
 use Rattle.ibc_refinement.proofs.StampsMerged.{stamped_is_run}
 
