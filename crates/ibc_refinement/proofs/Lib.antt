@@ -50,3 +50,4 @@ pub mod EntryEnds
 pub mod PlacedLedgers
 pub mod PublishedAlong
 pub mod StampsMerged
+pub mod Audited

@@ -126,7 +126,7 @@ past_all k i (h ∷ hs) low = ap (λ b. cond b h (history_at k (suc i) hs)) apar
     apart : eqb i k ≡ false
     apart = elim (eqb i k) as (λ b. eqb i k ≡ b → b ≡ false) [ true ↦ λ is. let same = eqb-true i k is in absurd (omega arith) | false ↦ λ _. refl ] refl
 
-any_there : {A : Type 0} (test : A → Bool) (xs : List A) → list_any test xs ≡ true → (j : ℕ) × (x : A) × (slice_get xs j ≡ Some x) × (test x ≡ true)
+pub any_there : {A : Type 0} (test : A → Bool) (xs : List A) → list_any test xs ≡ true → (j : ℕ) × (x : A) × (slice_get xs j ≡ Some x) × (test x ≡ true)
 any_there test [] e = absurd (false≢true e)
 any_there test (x ∷ xs) e =
     elim (or_cases (test x) (list_any test xs) e) [ inl h ↦ (0, x, refl, h) | inr h ↦ let w = any_there test xs h in (suc w.0, w.1, w.2, w.3) ]

@@ -1,2 +1,3 @@
 pub mod Refinement
 pub mod Stamps
+pub mod Audits

@@ -5,4 +5,4 @@ mod refinement;
 mod stamps;
 
 pub use refinement::{applied_is_run, going_on_is_run, kept_order_is_run, merged_is_run};
-pub use stamps::{stamped_is_run, stamps_merge};
+pub use stamps::{audit_is_run, stamped_is_run, stamps_merge};

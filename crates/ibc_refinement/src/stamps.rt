@@ -1,4 +1,5 @@
 //! The merge by stamps, for ledgers that several threads ran.
+ghost use Rattle.ibc_refinement.specs.Audits.{AuditIsRun};
 ghost use Rattle.ibc_refinement.specs.Stamps.{StampsMerge, StampedIsRun};
 
 /// The list that the stamps make of the histories merges them along the publications.
@@ -9,4 +10,9 @@ pub fn stamps_merge()
 /// So it is a run of the machine since genesis.
 pub fn stamped_is_run()
     ensures { StampedIsRun }
+{}
+
+/// Ledgers in any order, with no chain missing or twice, are audited: their histories are a run since genesis.
+pub fn audit_is_run()
+    ensures { AuditIsRun }
 {}
