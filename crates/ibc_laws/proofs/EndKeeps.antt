@@ -72,7 +72,7 @@ module _ (w : World) (host : Host) (core : Core) (port id : Text) (m : Channel) 
       → ((p : Packet) → told ≡ Received p → ⊥) → SameReceiving m n
   keeps_receiving told n (answers peer s) other = record { order = refl; next = refl; acks = refl }
   keeps_receiving told n (follows state s) other = record { order = refl; next = refl; acks = refl }
-  keeps_receiving told n (closes s) other = record { order = refl; next = refl; acks = refl }
+  keeps_receiving told n (closes s may) other = record { order = refl; next = refl; acks = refl }
   keeps_receiving told n (sends c s) other = record { order = refl; next = refl; acks = refl }
   keeps_receiving told n (receives p ack s) other = absurd (other p refl)
   keeps_receiving told n (acknowledges p s) other = receiving-acked p.sequence m (is_ordered m)
@@ -82,7 +82,7 @@ module _ (w : World) (host : Host) (core : Core) (port id : Text) (m : Channel) 
       → ((port channel : Text) (k : ℕ) (c : Commitment) → told ≡ Sent port channel k c → ⊥) → SameSending m n
   keeps_sending shaped told n (answers peer s) other = sending-same m n refl refl
   keeps_sending shaped told n (follows state s) other = sending-same m n refl refl
-  keeps_sending shaped told n (closes s) other = sending-same m n refl refl
+  keeps_sending shaped told n (closes s may) other = sending-same m n refl refl
   keeps_sending shaped told n (sends c s) other = absurd (other port id m.next_send c refl)
   keeps_sending shaped told n (receives p ack s) other = sending-taken p.sequence ack m (is_ordered m)
   keeps_sending shaped told n (acknowledges p s) other = sending-acked p.sequence m shaped (is_ordered m)

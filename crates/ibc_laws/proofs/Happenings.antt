@@ -130,7 +130,7 @@ module _ (chains : ℕ) (w : World) (hs : List Happened) (h : Happened) (v : Wor
           ((is_told h).sent e mine ∙ ap (λ t. sent_in e mine t) is ∙ at_itself e e.port e.channel (packet_from e mine m.next_send c) refl refl))
       go told is n now (answers peer s) = silent told is n now (answers peer s) (λ port channel k c e. absurd (cc e)) (λ mine. refl)
       go told is n now (follows state s) = silent told is n now (follows state s) (λ port channel k c e. absurd (cc e)) (λ mine. refl)
-      go told is n now (closes s) = silent told is n now (closes s) (λ port channel k c e. absurd (cc e)) (λ mine. refl)
+      go told is n now (closes s may) = silent told is n now (closes s may) (λ port channel k c e. absurd (cc e)) (λ mine. refl)
       go told is n now (receives p ack s) = silent told is n now (receives p ack s) (λ port channel k c e. absurd (cc e)) (λ mine. refl)
       go told is n now (acknowledges p s) = silent told is n now (acknowledges p s) (λ port channel k c e. absurd (cc e)) (λ mine. refl)
       go told is n now (times_out p s) = silent told is n now (times_out p s) (λ port channel k c e. absurd (cc e)) (λ mine. refl)
@@ -155,7 +155,7 @@ module _ (chains : ℕ) (w : World) (hs : List Happened) (h : Happened) (v : Wor
           ((is_told h).received e ∙ ap (λ t. received_in e t) is ∙ at_itself e p.destination_port p.destination_channel p s.to_port s.to_channel))
       go told is n now (answers peer s) = silent told is n now (answers peer s) (λ p e. absurd (cc e)) refl
       go told is n now (follows state s) = silent told is n now (follows state s) (λ p e. absurd (cc e)) refl
-      go told is n now (closes s) = silent told is n now (closes s) (λ p e. absurd (cc e)) refl
+      go told is n now (closes s may) = silent told is n now (closes s may) (λ p e. absurd (cc e)) refl
       go told is n now (sends c s) = silent told is n now (sends c s) (λ p e. absurd (cc e)) refl
       go told is n now (acknowledges p s) = silent told is n now (acknowledges p s) (λ p e. absurd (cc e)) refl
       go told is n now (times_out p s) = silent told is n now (times_out p s) (λ p e. absurd (cc e)) refl
@@ -184,6 +184,6 @@ module _ (chains : ℕ) (w : World) (hs : List Happened) (h : Happened) (v : Wor
           ∙ at_itself e p.source_port p.source_channel p s.settles.from_port s.settles.from_channel))
       go told is n now (answers peer s) = silent told is refl refl
       go told is n now (follows state s) = silent told is refl refl
-      go told is n now (closes s) = silent told is refl refl
+      go told is n now (closes s may) = silent told is refl refl
       go told is n now (sends c s) = silent told is refl refl
       go told is n now (receives p ack s) = silent told is refl refl
