@@ -44,3 +44,4 @@ pub mod Hops
 pub mod Measures
 pub mod TokenMoves
 pub mod BalanceSteps
+pub mod ChainKinds
