@@ -1,17 +1,16 @@
 -- What else is true of each chain in every run: no client tracks the own chain; each end of a channel has the
 -- order and a version of its port's application; and balances stand in order.
-use Rattle.std.proofs.Common.{◌≡◌, ℕ, Bool, true, false, refl, ap, sym, ◌∙◌, subst, List, [], ◌∷◌, ◌++◌, map, length, Option, Some, None, Ok, inl, inr, ◌⊎◌, ◌==◌, slice_get, zero, suc, option_map}
-use Rattle.ibc_ids.specs.Texts.{Text, text_cmp, pair_cmp, same_text}
+use Rattle.std.proofs.Common.{◌≡◌, ℕ, true, ap, sym, ◌∙◌, subst, List, [], ◌∷◌, map, Some, Ok, inl, inr, ◌==◌, slice_get, zero, suc}
+use Rattle.ibc_ids.specs.Texts.{Text}
 use Rattle.ibc_ids.specs.Paths.{nth_client, nth_channel}
 use Rattle.ibc_wire.specs.declared.packet.Packet.{Packet}
-use Rattle.ibc_wire.specs.declared.records.ChannelEnd.{ChannelEnd}
 use Rattle.ibc_machine.specs.Records.{Core, Apps, Records, Chain, Client, Channel, client_at, channel_at}
 use Rattle.ibc_machine.specs.Evidence.{Host}
 use Rattle.ibc_machine.specs.Clients.{new_client, updated}
 use Rattle.ibc_machine.specs.Channels.{new_channel}
-use Rattle.ibc_machine.specs.Transfers.{transfer_port, burnt, send_token, receive_token, refund_token, each_token}
+use Rattle.ibc_machine.specs.Transfers.{burnt}
 use Rattle.ibc_machine.specs.Bank.{Balances}
-use Rattle.ibc_machine.specs.Applications.{require_application, on_open}
+use Rattle.ibc_machine.specs.Applications.{on_open}
 use Rattle.ibc_machine.specs.Handlers.{host_of}
 use Rattle.ibc_machine.specs.Genesis.{GenesisState, ChainState, start, starting_chain}
 use Rattle.ibc_machine.specs.Machine.{World}
@@ -21,13 +20,13 @@ use Rattle.ibc_laws.proofs.Places.{placed, number-self}
 use Rattle.ibc_laws.proofs.Told.{Told, told_of}
 use Rattle.ibc_laws.proofs.CoreSteps.{CoreStep, creates_client, updates_client, starts_connection, answers_connection, confirms_connection, opens_channel, changes_channel, ChannelStep, answers, follows, closes, sends, receives, acknowledges, times_out, IsTaken}
 use Rattle.ibc_laws.proofs.AppSteps.{AppsOf, AppsOfEnd}
-use Rattle.ibc_laws.proofs.EndSteps.{IsShaped, end_grows}
+use Rattle.ibc_laws.proofs.EndSteps.{end_grows}
 use Rattle.ibc_laws.proofs.CoreShape.{CoreShaped}
-use Rattle.ibc_laws.proofs.Measures.{Test, IsSorted, Moved}
+use Rattle.ibc_laws.proofs.Measures.{Test, IsSorted}
 use Rattle.ibc_laws.proofs.TokenMoves.{sent_tokens, refunded_tokens, received_tokens}
 use Rattle.ibc_laws.proofs.BalanceSteps.{Taking, takes, refuses, Refunding, no_data, refunds, Acknowledging, succeeds, fails, ByPort, received_balances, acknowledged_balances, timed_out_balances, starting_sorted}
 use Rattle.ibc_laws.proofs.Worlds.{ChainStep, acts, ends}
-use Rattle.ibc_laws.proofs.Steps.{Moves, Stepped, rests, moves}
+use Rattle.ibc_laws.proofs.Steps.{Stepped, rests, moves}
 use Rattle.ibc_laws.proofs.Invariant.{Inv}
 
 pub record ChainKinds (x : ℕ) (records : Records) : Type 0 where
@@ -72,7 +71,7 @@ module _ (w : World) (host : Host) (records : Records) (apps : Apps) (sorted : I
   end_sorted port id m told n (sends c s) did = elim did [
     | inl note ↦ same_apps records apps sorted note.1
     | inr tokens ↦ subst (λ (a : Apps). IsSorted a.balances) (sym tokens.after)
-      (sent_tokens any id tokens.data_sent.sender tokens.data_sent.tokens records.apps.balances tokens.balances sorted tokens.paid).sorted
+        (sent_tokens any id tokens.data_sent.sender tokens.data_sent.tokens records.apps.balances tokens.balances sorted tokens.paid).sorted
   ]
   end_sorted port id m told n (receives p ack s) did =
       by_port_sorted port records.apps.balances apps.balances (Taking records.apps.balances (burnt records.core) m.end.version p ack) sorted
@@ -105,9 +104,9 @@ module _ (w : World) (host : Host) (records : Records) (shaped : CoreShaped reco
   clients_after told after (creates_client chain other free) id t is own =
       elim (found_in_with by_text (nth_client records.core.next_client) id (new_client chain) t records.core.clients is) [
         | inl new ↦ (
-          let same : chain ≡ host.chain = ap (λ (c : Client). c.state.chain) new.1 ∙ own in
-          absurd (cc (other, subst (λ k. (chain == k) ≡ true) same (number-self chain)))
-        )
+            let same : chain ≡ host.chain = ap (λ (c : Client). c.state.chain) new.1 ∙ own in
+            absurd (cc (other, subst (λ k. (chain == k) ≡ true) same (number-self chain)))
+            )
         | inr old ↦ h.other_chains id t old own
       ]
   clients_after told after (updates_client k client height there) id t is own =
@@ -131,18 +130,20 @@ module _ (w : World) (host : Host) (records : Records) (shaped : CoreShaped reco
   ports_after told after (opens_channel p end free s) port id m is =
       elim (found_in_with by_pair (p, nth_channel records.core.next_channel) (port, id) (new_channel end) m records.core.channels is) [
         | inl new ↦ subst (λ q. IsTaken q m.end) (sym (ap (λ (x : Text × Text). x.0) new.0))
-          (subst (λ (c : Channel). IsTaken p c.end) new.1 s.taken)
+            (subst (λ (c : Channel). IsTaken p c.end) new.1 s.taken)
         | inr old ↦ h.ports port id m old
       ]
   ports_after _ after (changes_channel told p k mine now there s) port id m is =
       elim (found_in_with by_pair (p, k) (port, id) now m records.core.channels is) [
         | inl new ↦ (
-          let grows = end_grows w host records.core p k mine (shaped.channels p k mine there) told now s in
-          let was = h.ports p k mine there in
-          let kept : IsTaken p now.end = (was.0,
-            subst (λ v. on_open p now.end.order v ≡ Ok tt) (sym grows.end.version) (subst (λ o. on_open p o mine.end.version ≡ Ok tt) (sym grows.end.order) was.1)) in
-          subst (λ q. IsTaken q m.end) (sym (ap (λ (x : Text × Text). x.0) new.0)) (subst (λ (c : Channel). IsTaken p c.end) new.1 kept)
-        )
+            let grows = end_grows w host records.core p k mine (shaped.channels p k mine there) told now s in
+            let was = h.ports p k mine there in
+            let kept : IsTaken p now.end = (
+              was.0,
+              subst (λ v. on_open p now.end.order v ≡ Ok tt) (sym grows.end.version) (subst (λ o. on_open p o mine.end.version ≡ Ok tt) (sym grows.end.order) was.1),
+            ) in
+            subst (λ q. IsTaken q m.end) (sym (ap (λ (x : Text × Text). x.0) new.0)) (subst (λ (c : Channel). IsTaken p c.end) new.1 kept)
+            )
         | inr old ↦ h.ports port id m old
       ]
 
@@ -167,7 +168,7 @@ kinds_step chains w h v inv kinds (rests quiet same) = subst Kinds (sym same) ki
 kinds_step chains w h v inv kinds (moves s) = record {
   each = λ x c is. elim (placed w s.k s.before s.now s.there x c (subst (λ y. slice_get y x ≡ Some c) s.after is)) [
     | inl here ↦ subst (λ (z : Chain). ChainKinds x z.records) here.1 (subst (λ y. ChainKinds y s.now.records) (sym here.0)
-      (kinds_of_step chains w inv s.k s.before s.there (kinds.each s.k s.before s.there) (told_of h) s.now s.step))
+        (kinds_of_step chains w inv s.k s.before s.there (kinds.each s.k s.before s.there) (told_of h) s.now s.step))
     | inr other ↦ kinds.each x c other.1
   ];
 }

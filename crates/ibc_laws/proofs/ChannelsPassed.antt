@@ -1,9 +1,6 @@
 -- What an accepted message that opens or closes a channel did.
 use Rattle.std.proofs.Common.{◌≡◌, ℕ, Bool, refl, ap, subst, Some, None, Ok, ◌≤◌, ◌⊎◌, inl, inr, arith}
-use Rattle.std.specs.Prelude.{⊤}
 use Rattle.ibc_ids.specs.declared.refusal.Refusal.TheVariants as refusal
-use Rattle.ibc_ids.specs.Texts.{Text}
-use Rattle.ibc_wire.specs.declared.records.Order.{Order}
 use Rattle.ibc_wire.specs.declared.records.ConnectionState.TheVariants as conn
 use Rattle.ibc_wire.specs.declared.records.ConnectionEnd.{ConnectionEnd}
 use Rattle.ibc_wire.specs.declared.records.ChannelState.{ChannelState}

@@ -257,9 +257,10 @@ module _ (window : ℕ) (oldest : Bool) (w : World) (host : Host) (records : Rec
       let mine : Channel = checked.0 in
       let app = bind_passed (on_ack records.apps p.source_port mine.end.version p m.ack) _ checked.2 in
       let passed = acking window oldest w host records.core m mine checked.1 in
-      subst (DidBoth w host records (message.AckPacket m)) (ok_same app.2)
-      (changes_channel _ p.source_port p.source_channel mine _ passed.0 (acknowledges p passed.1),
-        subst (λ ack. on_ack records.apps p.source_port mine.end.version p ack ≡ Ok app.0) (sym passed.2) app.1)
+      subst (DidBoth w host records (message.AckPacket m)) (ok_same app.2) (
+        changes_channel _ p.source_port p.source_channel mine _ passed.0 (acknowledges p passed.1),
+        subst (λ ack. on_ack records.apps p.source_port mine.end.version p ack ≡ Ok app.0) (sym passed.2) app.1,
+      )
 
   pub timeout_did : (m : Timeout) (y : Effect × Core × Apps)
       → timeout (on_timeout records.apps m.packet.source_port) (seeing window oldest w records.core) records.core m ≡ Ok y
