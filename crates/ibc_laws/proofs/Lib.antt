@@ -45,3 +45,4 @@ pub mod Measures
 pub mod TokenMoves
 pub mod BalanceSteps
 pub mod ChainKinds
+pub mod FlightSums
