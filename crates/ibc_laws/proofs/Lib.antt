@@ -46,3 +46,4 @@ pub mod TokenMoves
 pub mod BalanceSteps
 pub mod ChainKinds
 pub mod FlightSums
+pub mod Ports
