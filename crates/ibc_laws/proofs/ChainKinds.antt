@@ -27,7 +27,7 @@ use Rattle.ibc_laws.proofs.TokenMoves.{sent_tokens, refunded_tokens, received_to
 use Rattle.ibc_laws.proofs.BalanceSteps.{Taking, takes, refuses, Refunding, no_data, refunds, Acknowledging, succeeds, fails, ByPort, received_balances, acknowledged_balances, timed_out_balances, starting_sorted}
 use Rattle.ibc_laws.proofs.Worlds.{ChainStep, acts, ends}
 use Rattle.ibc_laws.proofs.Steps.{Stepped, rests, moves}
-use Rattle.ibc_laws.proofs.Invariant.{Inv}
+use Rattle.ibc_laws.proofs.Invariant.{Inv, starting}
 
 pub record ChainKinds (x : ℕ) (records : Records) : Type 0 where
   pub other_chains : (id : Text) (t : Client) → client_at records.core id ≡ Some t → t.state.chain ≡ x → ⊥
@@ -179,12 +179,6 @@ kinds_start_of x s = record {
   ports = λ port id m is. absurd (cc is);
   sorted = starting_sorted s.balances;
 }
-
-starting : (starts : List ChainState) (x : ℕ) (c : Chain) → slice_get (map starting_chain starts) x ≡ Some c
-    → (s : ChainState) × (starting_chain s ≡ c)
-starting [] x c e = absurd (cc e)
-starting (s ∷ starts) zero c e = let same : Some (starting_chain s) ≡ Some c = e in (s, cc same)
-starting (s ∷ starts) (suc x) c e = starting starts x c e
 
 pub kinds_start : (genesis : GenesisState) → Kinds (start genesis)
 kinds_start genesis = record {

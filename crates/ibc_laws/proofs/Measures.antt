@@ -13,6 +13,7 @@ use Rattle.ibc_ids.specs.Maps.{Map, at, with, without}
 use Rattle.ibc_wire.specs.declared.token.Token.{Token}
 use Rattle.ibc_machine.specs.Bank.{Balances, balance, with_balance, give, pay}
 use Rattle.ibc_machine.specs.Transfers.{each_token}
+use Rattle.ibc_laws.proofs.Places.{some_is}
 use Rattle.ibc_laws.proofs.FiniteMaps.{TellsApart, is_equal, by_pair}
 use Rattle.ibc_laws.proofs.SortedMaps.{Below-less, Sorted, at-below, Sorted-with, Sorted-without}
 
@@ -149,9 +150,6 @@ given test holder token b sorted =
     let now = measure-with_balance test holder token.denom (had + token.amount) b sorted in
     let parts = share_more (test (holder, token.denom)) had token.amount in
     record { sorted = sorted-with_balance holder token.denom (had + token.amount) b sorted; measured = omega arith }
-
-some_is : {A : Type 0} {x y : A} {o : Option A} → o ≡ Some x → o ≡ Some y → x ≡ y
-some_is e f = cc (e, f)
 
 pub paid : (test : Test) (holder : Text) (token : Token) (b after : Balances) → IsSorted b → pay holder token b ≡ Some after
     → Moved test b after (weigh test holder token) 0
