@@ -1,6 +1,6 @@
 -- What else is true of each chain in every run: no client tracks the own chain; each end of a channel has the
 -- order and a version of its port's application; and balances stand in order.
-use Rattle.std.proofs.Common.{◌≡◌, ℕ, true, ap, sym, ◌∙◌, subst, List, [], ◌∷◌, map, Some, Ok, inl, inr, ◌==◌, slice_get, zero, suc}
+use Rattle.std.proofs.Common.{◌≡◌, ℕ, true, ap, sym, ◌∙◌, subst, Some, Ok, inl, inr, ◌==◌, slice_get}
 use Rattle.ibc_ids.specs.Texts.{Text}
 use Rattle.ibc_ids.specs.Paths.{nth_client, nth_channel}
 use Rattle.ibc_wire.specs.declared.packet.Packet.{Packet}
@@ -15,8 +15,9 @@ use Rattle.ibc_machine.specs.Handlers.{host_of}
 use Rattle.ibc_machine.specs.Genesis.{GenesisState, ChainState, start, starting_chain}
 use Rattle.ibc_machine.specs.Machine.{World}
 use Rattle.ibc_machine.specs.Histories.{Happened}
+use Rattle.ibc_laws.proofs.PassedTests.{number-self}
 use Rattle.ibc_laws.proofs.FiniteMaps.{by_text, by_pair, found_in_with}
-use Rattle.ibc_laws.proofs.Places.{placed, number-self}
+use Rattle.ibc_laws.proofs.Places.{placed}
 use Rattle.ibc_laws.proofs.Told.{Told, told_of}
 use Rattle.ibc_laws.proofs.CoreSteps.{CoreStep, creates_client, updates_client, starts_connection, answers_connection, confirms_connection, opens_channel, changes_channel, ChannelStep, answers, follows, closes, sends, receives, acknowledges, times_out, IsTaken}
 use Rattle.ibc_laws.proofs.AppSteps.{AppsOf, AppsOfEnd}

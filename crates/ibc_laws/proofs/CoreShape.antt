@@ -1,6 +1,6 @@
 -- What is true of the core of each chain on its own, and that each labelled step keeps it and lets the core go
 -- on as it may.
-use Rattle.std.proofs.Common.{◌≡◌, refl, ap, sym, subst, Option, Some, None, inl, inr, ◌⊎◌}
+use Rattle.std.proofs.Common.{◌≡◌, refl, ap, sym, subst, Some, None, inl, inr, ◌⊎◌}
 use Rattle.ibc_ids.specs.Texts.{Text}
 use Rattle.ibc_ids.specs.Paths.{nth_client, nth_connection, nth_channel}
 use Rattle.ibc_wire.specs.declared.records.ConnectionState.TheVariants as conn

@@ -1,6 +1,6 @@
 -- How the sum of what is under way from an end changes: with a commitment more, with one less, and with an
 -- acknowledgement that the other end writes.
-use Rattle.std.proofs.Common.{◌≡◌, ℕ, ◌+◌, Bool, true, false, refl, ap, sym, ◌∙◌, subst, List, [], ◌∷◌, Option, Some, None, Ordering, Less, Equal, inl, inr, arith, cond, is_eq, nat_cmp, if◌then◌else◌}
+use Rattle.std.proofs.Common.{◌≡◌, ℕ, ◌+◌, Bool, true, false, refl, ap, sym, ◌∙◌, subst, [], ◌∷◌, Some, None, Ordering, Less, Equal, inl, inr, arith, cond, is_eq, nat_cmp, if◌then◌else◌}
 use Rattle.std.specs.List.{sum_by}
 use Rattle.std.specs.Option.{option_map_or}
 use Rattle.std.specs.Cmp.{nat_cmp_total}
@@ -9,7 +9,7 @@ use Rattle.ibc_ids.specs.Texts.{Text, same_text}
 use Rattle.ibc_ids.specs.Maps.{Map, at, with, without}
 use Rattle.ibc_machine.specs.Records.{Channel, Commitment}
 use Rattle.ibc_machine.specs.TokenData.{amount_of, tokens_of, success}
-use Rattle.ibc_machine.specs.Totals.{succeeded, amount_under_way}
+use Rattle.ibc_machine.specs.Totals.{amount_under_way}
 use Rattle.ibc_laws.proofs.FiniteMaps.{TellsApart, is_equal, by_number, at-with_split, at-with_same}
 use Rattle.ibc_laws.proofs.SortedMaps.{Below, Sorted}
 use Rattle.ibc_laws.proofs.Measures.{sum-with, sum-without}
@@ -83,7 +83,7 @@ module _ (version denom : Text) (before after : Channel) (n : ℕ) (ack : Text) 
   same_elsewhere e other = elim (at-with_split by_number n e.0 ack before.acks) [
     | inl here ↦ absurd (other here.0)
     | inr there ↦ ap (λ x. if option_map_or (λ a. same_text a success) x false then 0 else amount_of denom (tokens_of version e.1))
-      (ap (λ m. at nat_cmp e.0 m) acks ∙ there.1)
+        (ap (λ m. at nat_cmp e.0 m) acks ∙ there.1)
   ]
 
   pub under_way-acknowledged : (c : Commitment) (commitments : Map ℕ Commitment) → Sorted nat_cmp commitments → at nat_cmp n commitments ≡ Some c

@@ -11,8 +11,7 @@ use Rattle.ibc_machine.specs.Packets.{after_send, after_receive, after_ack, afte
 use Rattle.ibc_machine.specs.Machine.{World}
 use Rattle.ibc_machine.specs.Ledgers.{chain_of}
 use Rattle.ibc_machine.specs.Histories.{Happened, End, is_end, packet_if, packet_from, sent_by, received_by, acknowledged_by, timed_out_by, sent, received, acknowledged, timed_out, history_of, sequences}
-use Rattle.ibc_laws.proofs.PassedTests.{and_true, same_text-self}
-use Rattle.ibc_laws.proofs.Places.{number-self}
+use Rattle.ibc_laws.proofs.PassedTests.{and_true, same_text-self, number-self}
 use Rattle.ibc_laws.proofs.Lists.{filter-append, filter_map-append}
 use Rattle.ibc_laws.proofs.Told.{Told, Sent, Received, TimedOut, told_of, is_told, sent_in, received_in, acknowledged_in, timed_out_in}
 use Rattle.ibc_laws.proofs.CoreSteps.{ChannelStep, answers, follows, closes, sends, receives, acknowledges, times_out, Receives, Acks, TimesOut}

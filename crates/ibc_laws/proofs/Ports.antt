@@ -1,13 +1,12 @@
 -- The port of an end fixes its order, so an end of port `transfer` has a peer of that port; and such an end isn't
 -- closed by its own chain.
-use Rattle.std.proofs.Common.{◌≡◌, Bool, true, false, refl, ap, sym, ◌∙◌, subst, Ok, Err, ◌⊎◌, inl, inr, ◌||◌, if◌then◌else◌}
-use Rattle.std.specs.Prelude.{⊤}
+use Rattle.std.proofs.Common.{◌≡◌, Bool, true, false, refl, subst, Ok, ◌⊎◌, inl, inr, ◌||◌, if◌then◌else◌}
 use Rattle.ibc_ids.specs.Texts.{Text, same_text}
 use Rattle.ibc_ids.specs.declared.refusal.Refusal.{Refusal}
 use Rattle.ibc_wire.specs.declared.records.Order.{Order}
 use Rattle.ibc_wire.specs.declared.records.Order.TheVariants.{Unordered, Ordered}
 use Rattle.ibc_wire.specs.declared.records.ChannelEnd.{ChannelEnd}
-use Rattle.ibc_machine.specs.Checks.{Checked, require}
+use Rattle.ibc_machine.specs.Checks.{require}
 use Rattle.ibc_machine.specs.Values.{same_order}
 use Rattle.ibc_machine.specs.Transfers.{transfer_port, opens_for_transfers}
 use Rattle.ibc_machine.specs.Notes.{note_port, opens_for_notes}
@@ -15,7 +14,7 @@ use Rattle.ibc_machine.specs.Applications.{on_close}
 use Rattle.ibc_machine.specs.Machine.{World}
 use Rattle.ibc_machine.specs.Histories.{End}
 use Rattle.ibc_laws.proofs.PassedChecks.{require_passed}
-use Rattle.ibc_laws.proofs.PassedTests.{either, same_text_is, same_order_is}
+use Rattle.ibc_laws.proofs.PassedTests.{same_text_is, same_order_is}
 use Rattle.ibc_laws.proofs.CoreSteps.{IsTaken}
 use Rattle.ibc_laws.proofs.ChainKinds.{Kinds}
 use Rattle.ibc_laws.proofs.Invariant.{Inv}

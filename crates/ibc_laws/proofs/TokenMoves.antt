@@ -1,5 +1,5 @@
 -- How a measure of the balances changes where the tokens of a packet are sent, refunded or received.
-use Rattle.std.proofs.Common.{◌≡◌, ℕ, ◌+◌, Bool, true, false, refl, subst, List, ◌++◌, length, Option, Some, None, if◌then◌else◌, nat_le}
+use Rattle.std.proofs.Common.{◌≡◌, ℕ, ◌+◌, Bool, true, false, refl, subst, List, ◌++◌, length, Some, None, if◌then◌else◌, nat_le}
 use Rattle.std.specs.List.{sum_by}
 use Rattle.std.specs.Option.{option_and_then}
 use Rattle.ibc_ids.specs.Texts.{Text}
