@@ -47,3 +47,4 @@ pub mod BalanceSteps
 pub mod ChainKinds
 pub mod FlightSums
 pub mod Ports
+pub mod GoneSettled
