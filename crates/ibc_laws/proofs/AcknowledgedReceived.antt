@@ -62,7 +62,7 @@ module _ (chains : ℕ) (w : World) (hs : List Happened) (h : Happened) (v : Wor
 
   acknowledged_after : (e : End) (n : ℕ) → is_one_of (sequences (acknowledged e (hs ++ h ∷ []))) n ≡ true → Settling chains w hs h v e
       → (f : End) × Peers v e f × IsReceived (hs ++ h ∷ []) f n
-  acknowledged_after e n is (settled_nothing a t) = on e n (acks.acknowledged e n (subst (λ ps. is_one_of (sequences ps) n ≡ true) a is))
+  acknowledged_after e n is (settled_nothing a t before) = on e n (acks.acknowledged e n (subst (λ ps. is_one_of (sequences ps) n ≡ true) a is))
   acknowledged_after e n is (timed_out_one p m was now s told a t) = on e n (acks.acknowledged e n (subst (λ ps. is_one_of (sequences ps) n ≡ true) a is))
   acknowledged_after e n is (acknowledged_one p m was now s a t) =
       elim (among-last_or_before (sequences (acknowledged e hs)) p.sequence n

@@ -32,7 +32,7 @@ module _ (w : World) (host : Host) (records : Records) (apps : Apps) where
   abbrev pub AppsOfEnd : (port id : Text) (m : Channel) (told : Told) (n : Channel) → ChannelStep w host records.core port id m told n → Type 0
   AppsOfEnd port id m told n (answers peer s) = apps ≡ records.apps
   AppsOfEnd port id m told n (follows state s) = apps ≡ records.apps
-  AppsOfEnd port id m told n (closes s) = apps ≡ records.apps
+  AppsOfEnd port id m told n (closes s may) = apps ≡ records.apps
   AppsOfEnd port id m told n (sends c s) = SendsNote records port apps ⊎ SendsTokens records port id m c apps
   AppsOfEnd port id m told n (receives p ack s) = on_recv records port m.end.version p ≡ (ack, apps)
   AppsOfEnd port id m told n (acknowledges p s) = on_ack records.apps port m.end.version p s.ack ≡ Ok apps
@@ -58,7 +58,7 @@ module _ (w : World) (host : Host) (records : Records) where
       → told ≡ Quiet → AppsOfEnd w host records records.apps port id m told n s
   quiet_end port id m told n (answers peer s) e = refl
   quiet_end port id m told n (follows state s) e = refl
-  quiet_end port id m told n (closes s) e = refl
+  quiet_end port id m told n (closes s may) e = refl
   quiet_end port id m told n (sends c s) e = absurd (cc e)
   quiet_end port id m told n (receives p ack s) e = absurd (cc e)
   quiet_end port id m told n (acknowledges p s) e = absurd (cc e)

@@ -69,7 +69,7 @@ quiet_elsewhere : (w : World) (host : Host) (core : Core) (e : End) (port id : T
     → IsOther e port id → ChannelStep w host core port id m told n → IsQuietAt e told
 quiet_elsewhere w host core e port id m told n other (answers peer s) = quiet_is_quiet e
 quiet_elsewhere w host core e port id m told n other (follows state s) = quiet_is_quiet e
-quiet_elsewhere w host core e port id m told n other (closes s) = quiet_is_quiet e
+quiet_elsewhere w host core e port id m told n other (closes s may) = quiet_is_quiet e
 quiet_elsewhere w host core e port id m told n other (sends c s) = record {
   sent = λ mine. not_at e port id port id other refl refl _;
   received = refl;

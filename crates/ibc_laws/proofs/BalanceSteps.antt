@@ -1,13 +1,13 @@
 -- What the application of a port does to the balances, by cases: with a packet that is received, with one that is
 -- acknowledged, and with one that times out. Balances stay sorted.
-use Rattle.std.proofs.Common.{◌≡◌, Bool, true, false, refl, ap, sym, ◌∙◌, subst, codes, List, [], ◌∷◌, Option, Some, None, Ok, Err, if◌then◌else◌, ℕ, ◌⊎◌, inl, inr}
+use Rattle.std.proofs.Common.{◌≡◌, Bool, true, false, refl, ap, sym, subst, codes, List, [], ◌∷◌, Option, Some, None, Ok, if◌then◌else◌, ℕ, ◌⊎◌, inl, inr}
 use Rattle.std.specs.List.{fold}
 use Rattle.ibc_ids.specs.Texts.{Text, same_text}
 use Rattle.ibc_ids.specs.Names.{is_user}
 use Rattle.ibc_ids.specs.declared.refusal.Refusal.TheVariants as refusal
 use Rattle.ibc_wire.specs.declared.packet.Packet.{Packet}
 use Rattle.ibc_machine.specs.Records.{Apps, Records}
-use Rattle.ibc_machine.specs.Checks.{Checked, expect, ◌>>=◌}
+use Rattle.ibc_machine.specs.Checks.{◌>>=◌}
 use Rattle.ibc_machine.specs.TokenData.{Data, data_of, success, error}
 use Rattle.ibc_machine.specs.Bank.{Balances, with_balance}
 use Rattle.ibc_machine.specs.Genesis.{Holding, starting_balances}
@@ -134,8 +134,11 @@ received_balances records port version p ack after e = go (same_text port transf
         else (let (ack, notes) = receive_note records.apps.notes p in (ack, record records.apps { notes = notes })))
         (ack, after)
         → ByPort port records.apps.balances after.balances (Taking records.apps.balances (burnt records.core) version p ack)
-    go true is e = inl (is, subst (λ (x : Text × Apps). Taking records.apps.balances (burnt records.core) version p x.0 x.1.balances) e
-        (taking records.apps.balances (burnt records.core) version p))
+    go true is e = inl (
+      is,
+      subst (λ (x : Text × Apps). Taking records.apps.balances (burnt records.core) version p x.0 x.1.balances) e
+          (taking records.apps.balances (burnt records.core) version p),
+    )
     go false is e = inr (is, ap (λ (x : Text × Apps). x.1.balances) (sym e))
 
 -- ---- sorted from the start

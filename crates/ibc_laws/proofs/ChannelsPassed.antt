@@ -1,9 +1,6 @@
 -- What an accepted message that opens or closes a channel did.
 use Rattle.std.proofs.Common.{◌≡◌, ℕ, Bool, refl, ap, subst, Some, None, Ok, ◌≤◌, ◌⊎◌, inl, inr, arith}
-use Rattle.std.specs.Prelude.{⊤}
 use Rattle.ibc_ids.specs.declared.refusal.Refusal.TheVariants as refusal
-use Rattle.ibc_ids.specs.Texts.{Text}
-use Rattle.ibc_wire.specs.declared.records.Order.{Order}
 use Rattle.ibc_wire.specs.declared.records.ConnectionState.TheVariants as conn
 use Rattle.ibc_wire.specs.declared.records.ConnectionEnd.{ConnectionEnd}
 use Rattle.ibc_wire.specs.declared.records.ChannelState.{ChannelState}
@@ -17,9 +14,10 @@ use Rattle.ibc_wire.specs.declared.messages.ChanCloseInit.{ChanCloseInit}
 use Rattle.ibc_wire.specs.declared.messages.ChanCloseConfirm.{ChanCloseConfirm}
 use Rattle.ibc_machine.specs.declared.reply.Effect.{Effect}
 use Rattle.ibc_machine.specs.Records.{Core, Channel, connection_at, channel_at}
-use Rattle.ibc_machine.specs.Checks.{Checked, expect}
+use Rattle.ibc_machine.specs.Checks.{expect}
 use Rattle.ibc_machine.specs.Evidence.{Host}
 use Rattle.ibc_machine.specs.Channels.{chan_open_init, chan_open_try, chan_open_ack, chan_open_confirm, chan_close_init, chan_close_confirm, is_in_state, client_of, peer_channel_of, channel_end}
+use Rattle.ibc_machine.specs.Applications.{require_application, on_open, on_close}
 use Rattle.ibc_machine.specs.Machine.{World}
 use Rattle.ibc_laws.proofs.PassedChecks.{require_passed, bind_passed, then_passed, expect_passed, ok_same}
 use Rattle.ibc_laws.proofs.PassedTests.{either, same_connection_state_is, same_channel_state_is}
@@ -31,16 +29,17 @@ not_yet_open s (inl e) = (λ i. absurd (cc (e, i)), (let z : rank s ≡ 0 = ap r
 not_yet_open s (inr e) = (λ i. absurd (cc (e, i)), (let z : rank s ≡ 1 = ap rank e in omega arith))
 
 module _ (window : ℕ) (oldest : Bool) (w : World) (host : Host) (core : Core) where
-  pub chan_open_init_did : (port : Checked ⊤) (opens : Order → Text → Checked ⊤) (m : ChanOpenInit) (y : Effect × Core)
-      → chan_open_init port opens core m ≡ Ok y → Did w host core (message.ChanOpenInit m) y
+  pub chan_open_init_did : (m : ChanOpenInit) (y : Effect × Core)
+      → chan_open_init (require_application m.port) (on_open m.port) core m ≡ Ok y → Did w host core (message.ChanOpenInit m) y
   unfolding chan_open_init
-  chan_open_init_did port opens m y e =
-      let has_port = then_passed port _ e in
+  chan_open_init_did m y e =
+      let has_port = then_passed (require_application m.port) _ e in
       let there = bind_passed (expect (connection_at core m.connection) refusal.UnknownConnection) _ has_port.1 in
-      let allowed = then_passed (opens m.order m.version) _ there.2 in
+      let allowed = then_passed (on_open m.port m.order m.version) _ there.2 in
       let number = require_passed _ _ _ allowed.1 in
       subst (Did w host core (message.ChanOpenInit m)) (ok_same number.1)
       (opens_channel m.port (channel_end chan.Init m.order m.peer_port None m.connection m.version) number.0 (record {
+        taken = (has_port.0, allowed.0);
         connection = there.0;
         there = expect_passed (connection_at core m.connection) _ there.1;
         unopened = refl;
@@ -49,21 +48,22 @@ module _ (window : ℕ) (oldest : Bool) (w : World) (host : Host) (core : Core) 
         named = λ f. absurd (f refl);
       }))
 
-  pub chan_open_try_did : (port : Checked ⊤) (opens : Order → Text → Checked ⊤) (m : ChanOpenTry) (y : Effect × Core)
-      → chan_open_try port opens (seeing window oldest w core) core m ≡ Ok y → Did w host core (message.ChanOpenTry m) y
+  pub chan_open_try_did : (m : ChanOpenTry) (y : Effect × Core)
+      → chan_open_try (require_application m.port) (on_open m.port) (seeing window oldest w core) core m ≡ Ok y → Did w host core (message.ChanOpenTry m) y
   unfolding chan_open_try
-  chan_open_try_did port opens m y e =
+  chan_open_try_did m y e =
       let form = require_passed _ _ _ e in
-      let has_port = then_passed port _ form.1 in
+      let has_port = then_passed (require_application m.port) _ form.1 in
       let there = bind_passed (expect (connection_at core m.connection) refusal.UnknownConnection) _ has_port.1 in
       let connection : ConnectionEnd = there.0 in
       let state = require_passed _ _ _ there.2 in
-      let allowed = then_passed (opens m.order m.version) _ state.1 in
+      let allowed = then_passed (on_open m.port m.order m.version) _ state.1 in
       let number = require_passed _ _ _ allowed.1 in
       let known = require_passed _ _ _ number.1 in
       let end = require_passed _ _ _ known.1 in
       subst (Did w host core (message.ChanOpenTry m)) (ok_same end.1)
       (opens_channel m.port (channel_end chan.TryOpen m.order m.peer_port (Some m.peer_channel) m.connection m.version) number.0 (record {
+        taken = (has_port.0, allowed.0);
         connection = connection;
         there = expect_passed (connection_at core m.connection) _ there.1;
         unopened = refl;
@@ -115,17 +115,17 @@ module _ (window : ℕ) (oldest : Bool) (w : World) (host : Host) (core : Core) 
             (peer_channel_of mine.end) (their_end core mine m.port m.channel chan.Open) m.proof end.0;
       })))
 
-  pub chan_close_init_did : (allowed : Checked ⊤) (m : ChanCloseInit) (y : Effect × Core)
-      → chan_close_init allowed core m ≡ Ok y → Did w host core (message.ChanCloseInit m) y
+  pub chan_close_init_did : (m : ChanCloseInit) (y : Effect × Core)
+      → chan_close_init (on_close m.port) core m ≡ Ok y → Did w host core (message.ChanCloseInit m) y
   unfolding chan_close_init
-  chan_close_init_did allowed m y e =
+  chan_close_init_did m y e =
       let there = bind_passed (expect (channel_at core m.port m.channel) refusal.UnknownChannel) _ e in
       let mine : Channel = there.0 in
       let state = require_passed _ _ _ there.2 in
-      let may = then_passed allowed _ state.1 in
+      let may = then_passed (on_close m.port) _ state.1 in
       subst (Did w host core (message.ChanCloseInit m)) (ok_same may.1)
       (changes_channel _ m.port m.channel mine _ (expect_passed (channel_at core m.port m.channel) _ there.1)
-      (closes (same_channel_state_is mine.end.state chan.Open state.0)))
+      (closes (same_channel_state_is mine.end.state chan.Open state.0) may.0))
 
   pub chan_close_confirm_did : (m : ChanCloseConfirm) (y : Effect × Core)
       → chan_close_confirm (seeing window oldest w core) core m ≡ Ok y → Did w host core (message.ChanCloseConfirm m) y

@@ -1,6 +1,6 @@
 -- What is true of the core of each chain on its own, and that each labelled step keeps it and lets the core go
 -- on as it may.
-use Rattle.std.proofs.Common.{◌≡◌, refl, ap, sym, subst, Option, Some, None, inl, inr, ◌⊎◌}
+use Rattle.std.proofs.Common.{◌≡◌, refl, ap, sym, subst, Some, None, inl, inr, ◌⊎◌}
 use Rattle.ibc_ids.specs.Texts.{Text}
 use Rattle.ibc_ids.specs.Paths.{nth_client, nth_connection, nth_channel}
 use Rattle.ibc_wire.specs.declared.records.ConnectionState.TheVariants as conn
@@ -12,6 +12,7 @@ use Rattle.ibc_machine.specs.Evidence.{Host}
 use Rattle.ibc_machine.specs.Clients.{new_client, updated}
 use Rattle.ibc_machine.specs.Channels.{new_channel}
 use Rattle.ibc_machine.specs.Machine.{World}
+use Rattle.ibc_laws.proofs.Places.{some_is}
 use Rattle.ibc_laws.proofs.FiniteMaps.{by_text, by_pair, found_in_with}
 use Rattle.ibc_laws.proofs.Identifiers.{nth_client_same, nth_connection_same, nth_channel_same}
 use Rattle.ibc_laws.proofs.Told.{Told}
@@ -82,9 +83,6 @@ module _ (core : Core) (h : CoreShaped core) where
 old : (A : Text → Type 0) (id q : Text) → A id → (q ≡ id) ⊎ A q → A q
 old A id q has (inl same) = subst A (sym same) has
 old A id q has (inr it) = it
-
-some_is : {A : Type 0} {x y : A} {o : Option A} → o ≡ Some x → o ≡ Some y → x ≡ y
-some_is e f = cc (e, f)
 
 pub shaped-new : (end : ChannelEnd) → (end.state ≡ chan.Init → end.peer_channel ≡ None)
     → ((end.state ≡ chan.Init → ⊥) → (p : Text) × (end.peer_channel ≡ Some p)) → IsShaped (new_channel end)

@@ -1,6 +1,6 @@
 -- What an accepted message did to the core of its chain: one label for each kind of change, with what was
 -- checked and what was seen of the other chain. All that follows goes by these labels.
-use Rattle.std.proofs.Common.{◌≡◌, ℕ, ◌+◌, ◌-◌, ◌^◌, ◌≤◌, true, false, Some, None, ◌⊎◌, nat_cmp, not, ◌==◌, ◌&&◌, nat_lt}
+use Rattle.std.proofs.Common.{◌≡◌, ℕ, ◌+◌, ◌-◌, ◌^◌, ◌≤◌, true, false, Some, None, ◌⊎◌, nat_cmp, not, ◌==◌, ◌&&◌, nat_lt, Ok}
 use Rattle.ibc_ids.specs.Texts.{Text}
 use Rattle.ibc_ids.specs.Maps.{at}
 use Rattle.ibc_ids.specs.Paths.{nth_client, nth_connection, nth_channel}
@@ -18,6 +18,7 @@ use Rattle.ibc_machine.specs.Clients.{new_client, updated}
 use Rattle.ibc_machine.specs.Connections.{with_new_connection}
 use Rattle.ibc_machine.specs.Channels.{is_open, client_of, peer_channel_of, counterpart, with_new_channel, in_state}
 use Rattle.ibc_machine.specs.Packets.{is_ordered, has_peer, has_received, is_timed_out, after_send, after_receive, after_ack, after_timeout}
+use Rattle.ibc_machine.specs.Applications.{require_application, on_open, on_close}
 use Rattle.ibc_machine.specs.Machine.{World}
 use Rattle.ibc_laws.proofs.Seen.{Sees}
 use Rattle.ibc_laws.proofs.Told.{Told, told_by, Quiet, Sent, Received, Acknowledged, TimedOut}
@@ -102,8 +103,13 @@ pub record ConfirmsConnection (w : World) (core : Core) (id : Text) (mine : Conn
 
 -- ---- channels
 
+-- the port has an application, which takes a channel of this order and version
+abbrev pub IsTaken : Text → ChannelEnd → Type 0
+IsTaken port end = (require_application port ≡ Ok tt) × (on_open port end.order end.version ≡ Ok tt)
+
 -- a new end over a connection, which is OPEN unless the end is INIT
-pub record OpensChannel (core : Core) (end : ChannelEnd) : Type 0 where
+pub record OpensChannel (core : Core) (port : Text) (end : ChannelEnd) : Type 0 where
+  pub taken : IsTaken port end
   pub connection : ConnectionEnd
   pub there : connection_at core end.connection ≡ Some connection
   pub unopened : rank end.state ≡ 0
@@ -170,7 +176,7 @@ pub data ChannelStep (w : World) (host : Host) (core : Core) (port id : Text) (m
       → ChannelStep w host core port id mine Quiet (answered peer mine)
   follows : (state : ChannelState) → Follows w core port id mine state
       → ChannelStep w host core port id mine Quiet (in_state state mine)
-  closes : mine.end.state ≡ chan.Open → ChannelStep w host core port id mine Quiet (in_state chan.Closed mine)
+  closes : mine.end.state ≡ chan.Open → on_close port ≡ Ok tt → ChannelStep w host core port id mine Quiet (in_state chan.Closed mine)
   sends : (c : Commitment) → mine.end.state ≡ chan.Open
       → ChannelStep w host core port id mine (Sent port id mine.next_send c) (after_send c mine)
   receives : (p : Packet) (ack : Text) → Receives w host core port id mine p
@@ -193,7 +199,7 @@ pub data CoreStep (w : World) (host : Host) (core : Core) : Told → Core → Ty
       → CoreStep w host core Quiet (with_connection id (record mine { state = conn.Open; peer_connection = Some peer }) core)
   confirms_connection : (id : Text) (mine : ConnectionEnd) → ConfirmsConnection w core id mine
       → CoreStep w host core Quiet (with_connection id (record mine { state = conn.Open }) core)
-  opens_channel : (port : Text) (end : ChannelEnd) → IsFree core.next_channel → OpensChannel core end
+  opens_channel : (port : Text) (end : ChannelEnd) → IsFree core.next_channel → OpensChannel core port end
       → CoreStep w host core Quiet (with_new_channel port (nth_channel core.next_channel) end core)
   changes_channel : (told : Told) (port id : Text) (mine after : Channel) → channel_at core port id ≡ Some mine
       → ChannelStep w host core port id mine told after

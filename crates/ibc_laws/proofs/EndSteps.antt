@@ -246,7 +246,7 @@ module _ (w : World) (host : Host) (core : Core) (port id : Text) (m : Channel) 
   end_grows told n (answers peer s) = grows-reached chan.Open (Some peer) m
       (λ p e. absurd (cc (h.peer.unnamed s.state, e))) (let z : rank m.end.state ≡ 0 = ap rank s.state in omega arith)
   end_grows told n (follows state s) = grows-reached state m.end.peer_channel m (λ p e. e) s.higher
-  end_grows told n (closes s) = grows-reached chan.Closed m.end.peer_channel m (λ p e. e) (rank_below_closed m.end.state)
+  end_grows told n (closes s may) = grows-reached chan.Closed m.end.peer_channel m (λ p e. e) (rank_below_closed m.end.state)
   end_grows told n (sends c s) = grows-sent c m
   end_grows told n (receives p ack r) = grows-received p.sequence ack m (next_of p r) h r.fresh
   end_grows told n (acknowledges p s) = grows-acked p.sequence m h (is_ordered m)
@@ -256,7 +256,7 @@ module _ (w : World) (host : Host) (core : Core) (port id : Text) (m : Channel) 
   end_shaped told n (answers peer s) = shaped-reached chan.Open (Some peer) m (λ e. absurd (cc e)) peer refl h
   end_shaped told n (follows state s) =
       let p = h.peer.named s.answered in shaped-reached state m.end.peer_channel m s.not_init p.0 p.1 h
-  end_shaped told n (closes s) =
+  end_shaped told n (closes s may) =
       let p = h.peer.named (λ i. absurd (cc (s, i))) in
       shaped-reached chan.Closed m.end.peer_channel m (λ e. absurd (cc e)) p.0 p.1 h
   end_shaped told n (sends c s) = shaped-sent c m h

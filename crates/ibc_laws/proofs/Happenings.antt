@@ -7,16 +7,15 @@ use Rattle.ibc_wire.specs.declared.records.ChannelEnd.{ChannelEnd}
 use Rattle.ibc_machine.specs.Records.{Channel, Commitment}
 use Rattle.ibc_machine.specs.Handlers.{host_of}
 use Rattle.ibc_machine.specs.Channels.{new_channel}
-use Rattle.ibc_machine.specs.Packets.{after_send, after_receive, after_ack, after_timeout}
+use Rattle.ibc_machine.specs.Packets.{is_ordered, after_send, after_receive, after_ack, after_timeout}
 use Rattle.ibc_machine.specs.Machine.{World}
 use Rattle.ibc_machine.specs.Ledgers.{chain_of}
 use Rattle.ibc_machine.specs.Histories.{Happened, End, is_end, packet_if, packet_from, sent_by, received_by, acknowledged_by, timed_out_by, sent, received, acknowledged, timed_out, history_of, sequences}
-use Rattle.ibc_laws.proofs.PassedTests.{and_true, same_text-self}
-use Rattle.ibc_laws.proofs.Places.{number-self}
+use Rattle.ibc_laws.proofs.PassedTests.{and_true, same_text-self, number-self}
 use Rattle.ibc_laws.proofs.Lists.{filter-append, filter_map-append}
 use Rattle.ibc_laws.proofs.Told.{Told, Sent, Received, TimedOut, told_of, is_told, sent_in, received_in, acknowledged_in, timed_out_in}
 use Rattle.ibc_laws.proofs.CoreSteps.{ChannelStep, answers, follows, closes, sends, receives, acknowledges, times_out, Receives, Acks, TimesOut}
-use Rattle.ibc_laws.proofs.EndKeeps.{SameSending, SameReceiving, StoodBefore, was_there, is_new, keeps_sending, keeps_receiving, same_sending, same_receiving}
+use Rattle.ibc_laws.proofs.EndKeeps.{SameGone, gone-same, gone-sent, gone-taken, SameSending, SameReceiving, StoodBefore, was_there, is_new, keeps_sending, keeps_receiving, same_sending, same_receiving}
 use Rattle.ibc_laws.proofs.Invariant.{Inv, shape_of}
 use Rattle.ibc_laws.proofs.AtEnds.{EndStep, untouched, opened, stepped, quiet}
 use Rattle.ibc_laws.proofs.Peers.{Stands, stands_same}
@@ -77,7 +76,8 @@ module _ (chains : ℕ) (w : World) (hs : List Happened) (h : Happened) (v : Wor
 
   -- its packets that were acknowledged, and that timed out
   pub data Settling : Type 0 where
-    settled_nothing : acknowledged e (hs ++ h ∷ []) ≡ acknowledged e hs → timed_out e (hs ++ h ∷ []) ≡ timed_out e hs → Settling
+    settled_nothing : acknowledged e (hs ++ h ∷ []) ≡ acknowledged e hs → timed_out e (hs ++ h ∷ []) ≡ timed_out e hs
+        → ((n : Channel) → Stands v e n → StoodBefore w e SameGone n) → Settling
     acknowledged_one : (p : Packet) (m : Channel) (was : Stands w e m) → Stands v e (after_ack p.sequence m)
         → Acks w was.chain.records.core e.port e.channel m p
         → acknowledged e (hs ++ h ∷ []) ≡ acknowledged e hs ++ p ∷ [] → timed_out e (hs ++ h ∷ []) ≡ timed_out e hs → Settling
@@ -130,7 +130,7 @@ module _ (chains : ℕ) (w : World) (hs : List Happened) (h : Happened) (v : Wor
           ((is_told h).sent e mine ∙ ap (λ t. sent_in e mine t) is ∙ at_itself e e.port e.channel (packet_from e mine m.next_send c) refl refl))
       go told is n now (answers peer s) = silent told is n now (answers peer s) (λ port channel k c e. absurd (cc e)) (λ mine. refl)
       go told is n now (follows state s) = silent told is n now (follows state s) (λ port channel k c e. absurd (cc e)) (λ mine. refl)
-      go told is n now (closes s) = silent told is n now (closes s) (λ port channel k c e. absurd (cc e)) (λ mine. refl)
+      go told is n now (closes s may) = silent told is n now (closes s may) (λ port channel k c e. absurd (cc e)) (λ mine. refl)
       go told is n now (receives p ack s) = silent told is n now (receives p ack s) (λ port channel k c e. absurd (cc e)) (λ mine. refl)
       go told is n now (acknowledges p s) = silent told is n now (acknowledges p s) (λ port channel k c e. absurd (cc e)) (λ mine. refl)
       go told is n now (times_out p s) = silent told is n now (times_out p s) (λ port channel k c e. absurd (cc e)) (λ mine. refl)
@@ -155,22 +155,26 @@ module _ (chains : ℕ) (w : World) (hs : List Happened) (h : Happened) (v : Wor
           ((is_told h).received e ∙ ap (λ t. received_in e t) is ∙ at_itself e p.destination_port p.destination_channel p s.to_port s.to_channel))
       go told is n now (answers peer s) = silent told is n now (answers peer s) (λ p e. absurd (cc e)) refl
       go told is n now (follows state s) = silent told is n now (follows state s) (λ p e. absurd (cc e)) refl
-      go told is n now (closes s) = silent told is n now (closes s) (λ p e. absurd (cc e)) refl
+      go told is n now (closes s may) = silent told is n now (closes s may) (λ p e. absurd (cc e)) refl
       go told is n now (sends c s) = silent told is n now (sends c s) (λ p e. absurd (cc e)) refl
       go told is n now (acknowledges p s) = silent told is n now (acknowledges p s) (λ p e. absurd (cc e)) refl
       go told is n now (times_out p s) = silent told is n now (times_out p s) (λ p e. absurd (cc e)) refl
 
-  no_settled : (chain_of h.0 ≡ e.chain → acknowledged_in e (told_of h) ≡ None) → (chain_of h.0 ≡ e.chain → timed_out_in e (told_of h) ≡ None) → Settling
-  no_settled acks timeouts = settled_nothing (no_acknowledged acks) (no_timed_out timeouts)
+  no_settled : (chain_of h.0 ≡ e.chain → acknowledged_in e (told_of h) ≡ None) → (chain_of h.0 ≡ e.chain → timed_out_in e (told_of h) ≡ None)
+      → ((n : Channel) → Stands v e n → StoodBefore w e SameGone n) → Settling
+  no_settled acks timeouts before = settled_nothing (no_acknowledged acks) (no_timed_out timeouts) before
 
   pub settling : EndStep chains w h v e → Settling
-  settling (untouched quiet_ back) = no_settled (λ chain. (quiet_ chain).acknowledged) (λ chain. (quiet_ chain).timed_out)
+  settling (untouched quiet_ back) =
+      no_settled (λ chain. (quiet_ chain).acknowledged) (λ chain. (quiet_ chain).timed_out) (λ n stands. was_there n (back n stands) (gone-same n n refl refl))
   settling (opened chain silent end now none) =
-      no_settled (λ chain. (quiet e (told_of h) silent).acknowledged) (λ chain. (quiet e (told_of h) silent).timed_out)
+      no_settled (λ chain. (quiet e (told_of h) silent).acknowledged) (λ chain. (quiet e (told_of h) silent).timed_out) (new_end SameGone none end now)
   settling (stepped chain m n was now step) = go (told_of h) refl n now step
     where
-      silent : (told : Told) → told_of h ≡ told → acknowledged_in e told ≡ None → timed_out_in e told ≡ None → Settling
-      silent told is a t = no_settled (λ chain. ap (λ x. acknowledged_in e x) is ∙ a) (λ chain. ap (λ x. timed_out_in e x) is ∙ t)
+      silent : (told : Told) → told_of h ≡ told → acknowledged_in e told ≡ None → timed_out_in e told ≡ None
+          → (n : Channel) → Stands v e n → SameGone m n → Settling
+      silent told is a t n now same =
+          no_settled (λ chain. ap (λ x. acknowledged_in e x) is ∙ a) (λ chain. ap (λ x. timed_out_in e x) is ∙ t) (stepped_end SameGone m was n now same)
 
       go : (told : Told) → told_of h ≡ told → (n : Channel) → Stands v e n
           → ChannelStep w (host_of chains e.chain was.chain) was.chain.records.core e.port e.channel m told n → Settling
@@ -182,8 +186,8 @@ module _ (chains : ℕ) (w : World) (hs : List Happened) (h : Happened) (v : Wor
           (no_acknowledged (λ chain. ap (λ t. acknowledged_in e t) is))
           (about-more (timed_out_by e) e.chain hs h p chain ((is_told h).timed_out e ∙ ap (λ t. timed_out_in e t) is
           ∙ at_itself e p.source_port p.source_channel p s.settles.from_port s.settles.from_channel))
-      go told is n now (answers peer s) = silent told is refl refl
-      go told is n now (follows state s) = silent told is refl refl
-      go told is n now (closes s) = silent told is refl refl
-      go told is n now (sends c s) = silent told is refl refl
-      go told is n now (receives p ack s) = silent told is refl refl
+      go told is n now (answers peer s) = silent told is refl refl n now (gone-same m n refl refl)
+      go told is n now (follows state s) = silent told is refl refl n now (gone-same m n refl refl)
+      go told is n now (closes s may) = silent told is refl refl n now (gone-same m n refl refl)
+      go told is n now (sends c s) = silent told is refl refl n now (gone-sent c m)
+      go told is n now (receives p ack s) = silent told is refl refl n now (gone-taken p.sequence ack m (is_ordered m))

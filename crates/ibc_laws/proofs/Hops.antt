@@ -1,11 +1,11 @@
 -- What stands before a denomination that came over a channel ends at its second slash, so that one hop at most
 -- stands there; and an escrow is no user, nor another channel's.
-use Rattle.std.proofs.Common.{◌≡◌, ℕ, Bool, true, false, refl, ap, sym, ◌∙◌, subst, codes, List, [], ◌∷◌, ◌++◌, length, drop, not, ◌==◌, ◌&&◌, nat_eq, append_assoc, eqb-true}
-use Rattle.std.specs.List.{list_all, starts_with}
+use Rattle.std.proofs.Common.{◌≡◌, ℕ, Bool, true, false, refl, sym, ◌∙◌, subst, codes, [], ◌∷◌, ◌++◌, length, drop, not, ◌==◌, append_assoc, eqb-true}
+use Rattle.std.specs.List.{list_all}
 use Rattle.std.proofs.lemmas.Bool.Decides.{Decides-eqb}
 use Rattle.std.proofs.lemmas.Slice.Eq.{starts_is}
 use Rattle.ibc_ids.specs.Texts.{Text}
-use Rattle.ibc_ids.specs.Names.{is_letter_or_digit, is_made_of, is_user, is_base_denom, hop}
+use Rattle.ibc_ids.specs.Names.{is_letter_or_digit, is_user, is_base_denom, hop}
 use Rattle.ibc_machine.specs.Bank.{escrow}
 use Rattle.ibc_machine.specs.Transfers.{came_over}
 use Rattle.ibc_laws.proofs.PassedTests.{both, and_true}

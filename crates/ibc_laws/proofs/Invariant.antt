@@ -27,7 +27,7 @@ pub record Inv (w : World) : Type 0 where
 
 -- ---- the start
 
-starting : (starts : List ChainState) (x : ℕ) (c : Chain) → slice_get (map starting_chain starts) x ≡ Some c
+pub starting : (starts : List ChainState) (x : ℕ) (c : Chain) → slice_get (map starting_chain starts) x ≡ Some c
     → (s : ChainState) × (starting_chain s ≡ c)
 starting [] x c e = absurd (cc e)
 starting (s ∷ starts) zero c e = (s, some_is refl e)

@@ -1,13 +1,13 @@
 -- What lasts of a packet that was received, or that timed out: facts on its commitment and on the blocks of
 -- either end, which every step keeps.
-use Rattle.std.proofs.Common.{◌≡◌, ℕ, ◌≤◌, ◌<◌, Bool, true, false, refl, ap, sym, ◌∙◌, Some, ◌⊎◌, inl, inr, arith, nat_cmp, ◌||◌, not, ◌==◌, nat_le, leb-true, le-leb}
+use Rattle.std.proofs.Common.{◌≡◌, ℕ, ◌≤◌, ◌<◌, Bool, true, false, refl, ap, sym, ◌∙◌, Some, ◌⊎◌, inl, inr, arith, nat_cmp, not, ◌==◌, nat_le, leb-true, le-leb}
 use Rattle.ibc_ids.specs.Maps.{at}
 use Rattle.ibc_machine.specs.Records.{Records, Block, Channel, Commitment, channel_at}
 use Rattle.ibc_machine.specs.Handlers.{working_height}
 use Rattle.ibc_machine.specs.Packets.{has_received, is_reached, is_timed_out}
 use Rattle.ibc_machine.specs.Machine.{World, block_of}
 use Rattle.ibc_machine.specs.Histories.{End}
-use Rattle.ibc_laws.proofs.PassedTests.{both, either, and_true}
+use Rattle.ibc_laws.proofs.PassedTests.{or_left, or_right, both, either, and_true}
 use Rattle.ibc_laws.proofs.Places.{some_is}
 use Rattle.ibc_laws.proofs.CoreSteps.{rank}
 use Rattle.ibc_laws.proofs.Growth.{ChannelGrows}
@@ -27,17 +27,9 @@ reached_later limit a b later e =
 
 pub over_later : (c : Commitment) (h t h' t' : ℕ) → h ≤ h' → t ≤ t' → is_timed_out c h t ≡ true → is_timed_out c h' t' ≡ true
 over_later c h t h' t' height time e = elim (either (is_reached c.timeout_height h) (is_reached c.timeout_time t) e) [
-  | inl x ↦ left (is_reached c.timeout_height h') (is_reached c.timeout_time t') (reached_later c.timeout_height h h' height x)
-  | inr x ↦ right (is_reached c.timeout_height h') (is_reached c.timeout_time t') (reached_later c.timeout_time t t' time x)
+  | inl x ↦ or_left (is_reached c.timeout_height h') (is_reached c.timeout_time t') (reached_later c.timeout_height h h' height x)
+  | inr x ↦ or_right (is_reached c.timeout_height h') (is_reached c.timeout_time t') (reached_later c.timeout_time t t' time x)
 ]
-  where
-    left : (a b : Bool) → a ≡ true → (a || b) ≡ true
-    left true b e = refl
-    left false b e = absurd (cc e)
-
-    right : (a b : Bool) → b ≡ true → (a || b) ≡ true
-    right true b e = refl
-    right false b e = e
 
 -- and one that isn't over wasn't over earlier
 pub not_over_before : (c : Commitment) (h t h' t' : ℕ) → h ≤ h' → t ≤ t' → is_timed_out c h' t' ≡ false → is_timed_out c h t ≡ false

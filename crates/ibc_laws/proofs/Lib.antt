@@ -44,3 +44,7 @@ pub mod Hops
 pub mod Measures
 pub mod TokenMoves
 pub mod BalanceSteps
+pub mod ChainKinds
+pub mod FlightSums
+pub mod Ports
+pub mod GoneSettled

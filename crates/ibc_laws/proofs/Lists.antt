@@ -2,6 +2,7 @@
 use Rattle.std.proofs.Common.{◌≡◌, ℕ, zero, suc, ◌<◌, Bool, true, false, refl, ap, sym, List, [], ◌∷◌, ◌++◌, length, Option, Some, None, ◌⊎◌, inl, inr, arith, ◌||◌, ◌==◌, cond, filter, filter_map, nat_eq, Contains, eqb-true}
 use Rattle.std.specs.List.{IsDistinct, AllByRecursion, cons_option}
 use Rattle.ibc_machine.specs.Records.{is_one_of}
+use Rattle.ibc_laws.proofs.PassedTests.{either}
 
 pub filter-append : {A : Type 0} (test : A → Bool) (xs ys : List A) → filter test (xs ++ ys) ≡ filter test xs ++ filter test ys
 filter-append test [] ys = refl
@@ -22,14 +23,10 @@ filter_map-append {A} {B} h (x ∷ xs) ys = go (h x) (filter_map-append h xs ys)
     go (Some y) ih = ap (λ zs. y ∷ zs) ih
     go None ih = ih
 
-or_either : (a b : Bool) → (a || b) ≡ true → (a ≡ true) ⊎ (b ≡ true)
-or_either true b e = inl refl
-or_either false b e = inr e
-
 -- a number among those and one more
 pub among-push : (xs ys : List ℕ) (n k : ℕ) → is_one_of ((xs ++ n ∷ []) ++ ys) k ≡ true
     → (k ≡ n) ⊎ (is_one_of (xs ++ ys) k ≡ true)
-among-push [] ys n k e = elim (or_either (n == k) (is_one_of ys k) e) [
+among-push [] ys n k e = elim (either (n == k) (is_one_of ys k) e) [
   | inl s ↦ inl (sym (eqb-true n k s))
   | inr s ↦ inr s
 ]
@@ -44,7 +41,7 @@ among-push (x ∷ xs) ys n k e = go (x == k) e (among-push xs ys n k)
 -- a number among those and one more at the end
 pub among-last_or_before : (xs : List ℕ) (n k : ℕ) → is_one_of (xs ++ n ∷ []) k ≡ true
     → (k ≡ n) ⊎ (is_one_of xs k ≡ true)
-among-last_or_before [] n k e = elim (or_either (n == k) false e) [ inl s ↦ inl (sym (eqb-true n k s)) | inr s ↦ inr s ]
+among-last_or_before [] n k e = elim (either (n == k) false e) [ inl s ↦ inl (sym (eqb-true n k s)) | inr s ↦ inr s ]
 among-last_or_before (x ∷ xs) n k e = go (x == k) e (among-last_or_before xs n k)
   where
     go : (b : Bool) → (b || is_one_of (xs ++ n ∷ []) k) ≡ true

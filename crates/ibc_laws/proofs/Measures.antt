@@ -1,6 +1,6 @@
 -- What is measured of balances: the amounts under the keys that pass a test, together. A balance is the measure
 -- of one key, and a supply that of a denomination. How a measure changes where tokens move.
-use Rattle.std.proofs.Common.{◌≡◌, ℕ, ◌+◌, ◌-◌, ◌≤◌, ◌<◌, Bool, true, false, refl, ap, sym, ◌∙◌, subst, List, [], ◌∷◌, Option, Some, None, Ordering, Less, Equal, Greater, inl, inr, arith, cond, is_eq, if◌then◌else◌, nat_lt, ltb-false, ◌==◌, eqb-true, unwrap_or, option_map}
+use Rattle.std.proofs.Common.{◌≡◌, ℕ, ◌+◌, ◌-◌, ◌≤◌, Bool, true, false, refl, ap, sym, ◌∙◌, subst, List, [], ◌∷◌, Option, Some, None, Ordering, Less, Equal, Greater, arith, cond, is_eq, if◌then◌else◌, nat_lt, ltb-false, ◌==◌, eqb-true, unwrap_or, option_map}
 use Rattle.std.specs.List.{sum_by}
 use Rattle.std.specs.Option.{option_map_or, option_and_then}
 use Rattle.std.specs.Ordering.{match_ordering}
@@ -11,10 +11,11 @@ use Rattle.std.proofs.lemmas.List.Sums.{sum_by-cons}
 use Rattle.ibc_ids.specs.Texts.{Text, pair_cmp}
 use Rattle.ibc_ids.specs.Maps.{Map, at, with, without}
 use Rattle.ibc_wire.specs.declared.token.Token.{Token}
-use Rattle.ibc_machine.specs.Bank.{Balances, balance, with_balance, give, pay, into_escrow, out_of_escrow, escrow}
+use Rattle.ibc_machine.specs.Bank.{Balances, balance, with_balance, give, pay}
 use Rattle.ibc_machine.specs.Transfers.{each_token}
+use Rattle.ibc_laws.proofs.Places.{some_is}
 use Rattle.ibc_laws.proofs.FiniteMaps.{TellsApart, is_equal, by_pair}
-use Rattle.ibc_laws.proofs.SortedMaps.{Below, Below-less, Sorted, at-below, Sorted-with, Sorted-without}
+use Rattle.ibc_laws.proofs.SortedMaps.{Below-less, Sorted, at-below, Sorted-with, Sorted-without}
 
 -- ---- a sum over a map, where one entry changes
 
@@ -149,9 +150,6 @@ given test holder token b sorted =
     let now = measure-with_balance test holder token.denom (had + token.amount) b sorted in
     let parts = share_more (test (holder, token.denom)) had token.amount in
     record { sorted = sorted-with_balance holder token.denom (had + token.amount) b sorted; measured = omega arith }
-
-some_is : {A : Type 0} {x y : A} {o : Option A} → o ≡ Some x → o ≡ Some y → x ≡ y
-some_is e f = cc (e, f)
 
 pub paid : (test : Test) (holder : Text) (token : Token) (b after : Balances) → IsSorted b → pay holder token b ≡ Some after
     → Moved test b after (weigh test holder token) 0

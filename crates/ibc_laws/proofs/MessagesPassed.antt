@@ -6,7 +6,6 @@ use Rattle.ibc_machine.specs.declared.reply.Effect.{Effect}
 use Rattle.ibc_machine.specs.Records.{Core, Apps, Records}
 use Rattle.ibc_machine.specs.Checks.{Checked}
 use Rattle.ibc_machine.specs.Evidence.{Host}
-use Rattle.ibc_machine.specs.Applications.{require_application, on_open, on_close}
 use Rattle.ibc_machine.specs.Handlers.{handle, core_step, both_step}
 use Rattle.ibc_machine.specs.Machine.{World}
 use Rattle.ibc_laws.proofs.PassedChecks.{bind_passed, ok_same}
@@ -62,15 +61,15 @@ module _ (window : ℕ) (oldest : Bool) (w : World) (host : Host) (records : Rec
   message_did (message.ConnOpenConfirm m) z e =
       quietly (message.ConnOpenConfirm m) _ z e (λ given. refl) (conn_open_confirm_did window oldest w host records.core m)
   message_did (message.ChanOpenInit m) z e =
-      quietly (message.ChanOpenInit m) _ z e (λ given. refl) (chan_open_init_did window oldest w host records.core (require_application m.port) (on_open m.port) m)
+      quietly (message.ChanOpenInit m) _ z e (λ given. refl) (chan_open_init_did window oldest w host records.core m)
   message_did (message.ChanOpenTry m) z e =
-      quietly (message.ChanOpenTry m) _ z e (λ given. refl) (chan_open_try_did window oldest w host records.core (require_application m.port) (on_open m.port) m)
+      quietly (message.ChanOpenTry m) _ z e (λ given. refl) (chan_open_try_did window oldest w host records.core m)
   message_did (message.ChanOpenAck m) z e =
       quietly (message.ChanOpenAck m) _ z e (λ given. refl) (chan_open_ack_did window oldest w host records.core m)
   message_did (message.ChanOpenConfirm m) z e =
       quietly (message.ChanOpenConfirm m) _ z e (λ given. refl) (chan_open_confirm_did window oldest w host records.core m)
   message_did (message.ChanCloseInit m) z e =
-      quietly (message.ChanCloseInit m) _ z e (λ given. refl) (chan_close_init_did window oldest w host records.core (on_close m.port) m)
+      quietly (message.ChanCloseInit m) _ z e (λ given. refl) (chan_close_init_did window oldest w host records.core m)
   message_did (message.ChanCloseConfirm m) z e =
       quietly (message.ChanCloseConfirm m) _ z e (λ given. refl) (chan_close_confirm_did window oldest w host records.core m)
   message_did (message.Transfer m) z e = transfer_did window oldest w host records m z e

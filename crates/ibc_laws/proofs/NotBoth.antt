@@ -46,7 +46,7 @@ module _ (chains : ℕ) (w : World) (hs : List Happened) (h : Happened) (v : Wor
       ]
 
   timed_out_after : (e : End) (n : ℕ) → HasTimedOut (hs ++ h ∷ []) e n → Settling chains w hs h v e → WasTimedOut v e n
-  timed_out_after e n is (settled_nothing a t) = was_timed_out_on e n grows (both.timed_out e n (timed_out_before e n is _ t))
+  timed_out_after e n is (settled_nothing a t before) = was_timed_out_on e n grows (both.timed_out e n (timed_out_before e n is _ t))
   timed_out_after e n is (acknowledged_one p m was now s a t) =
       was_timed_out_on e n grows (both.timed_out e n (timed_out_before e n is _ t))
   timed_out_after e n is (timed_out_one p m was now s told a t) =
@@ -89,7 +89,7 @@ module _ (chains : ℕ) (w : World) (hs : List Happened) (h : Happened) (v : Wor
 
   not_both_after : (e f : End) (n : ℕ) → Peers v e f → HasTimedOut (hs ++ h ∷ []) e n → IsReceived (hs ++ h ∷ []) f n
       → Settling chains w hs h v e → Receiving chains w hs h v f → ⊥
-  not_both_after e f n peers t r (settled_nothing a same) receives =
+  not_both_after e f n peers t r (settled_nothing a same before) receives =
       new_receipt e f n peers (timed_out_before e n t _ same) r receives
   not_both_after e f n peers t r (acknowledged_one p m was now s a same) receives =
       new_receipt e f n peers (timed_out_before e n t _ same) r receives

@@ -1,6 +1,7 @@
 -- Names that are given by counting: each is of a number below the next one.
 use Rattle.std.proofs.Common.{◌≡◌, ℕ, ◌+◌, ◌-◌, ◌^◌, ◌<◌, Bool, true, false, refl, sym, subst, inl, inr, ◌⊎◌, arith, ◌==◌, not}
 use Rattle.ibc_ids.specs.Texts.{Text}
+use Rattle.ibc_laws.proofs.PassedTests.{number-self}
 use Rattle.ibc_laws.proofs.CoreSteps.{IsFree}
 
 pub record Numbered (nth : ℕ → Text) (next : ℕ) (Has : Text → Type 0) : Type 0 where
@@ -10,13 +11,10 @@ pub record Numbered (nth : ℕ → Text) (next : ℕ) (Has : Text → Type 0) : 
 room : (n : ℕ) → n < 2 ^ 64 → IsFree n → n + 1 < 2 ^ 64
 room n limit e = go (n == 2 ^ 64 - 1) refl e
   where
-    itself : (n : ℕ) → (n == n) ≡ true
-    itself n = grind arith
-
     go : (b : Bool) → (n == 2 ^ 64 - 1) ≡ b → not b ≡ true → n + 1 < 2 ^ 64
     go true is f = absurd (cc f)
     go false is f =
-        let other : n ≡ 2 ^ 64 - 1 → ⊥ = λ e. absurd (cc (sym is, subst (λ k. (n == k) ≡ true) e (itself n))) in
+        let other : n ≡ 2 ^ 64 - 1 → ⊥ = λ e. absurd (cc (sym is, subst (λ k. (n == k) ≡ true) e (number-self n))) in
         omega arith
 
 module _ {nth : ℕ → Text} {next : ℕ} {Has Later : Text → Type 0} (h : Numbered nth next Has) where

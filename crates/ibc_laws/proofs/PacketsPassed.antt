@@ -22,14 +22,12 @@ use Rattle.ibc_machine.specs.Channels.{is_in_state, is_established, client_of}
 use Rattle.ibc_machine.specs.Packets.{recv_checked, recv_packet, ack_checked, ack_packet, timeout_checked, timeout, timeout_on_close_checked, timeout_on_close, is_ordered, is_timed_out, is_committed, not_received, waits_for}
 use Rattle.ibc_machine.specs.Applications.{on_recv, on_ack, on_timeout}
 use Rattle.ibc_machine.specs.Machine.{World, block_at}
+use Rattle.ibc_laws.proofs.Places.{some_is}
 use Rattle.ibc_laws.proofs.PassedChecks.{require_passed, bind_passed, expect_passed, ok_same}
 use Rattle.ibc_laws.proofs.PassedTests.{either, same_channel_state_is, same_commitment_is, no_longer}
 use Rattle.ibc_laws.proofs.Seen.{Sees, Sees-map, Sees-both, seeing, shown_channel, shown_next_recv, shown_commitment, shown_ack, shown_no_receipt}
 use Rattle.ibc_laws.proofs.CoreSteps.{rank, their_end, HadNotReceived, Receives, Acks, TimesOut, changes_channel, receives, acknowledges, times_out}
 use Rattle.ibc_laws.proofs.AppSteps.{DidBoth}
-
-some_is : {A : Type 0} {x y : A} {o : Option A} → o ≡ Some x → o ≡ Some y → x ≡ y
-some_is e f = cc (e, f)
 
 -- the packet's own commitment stands
 committed_is : (mine : Channel) (p : Packet) → is_committed mine p ≡ true
@@ -257,9 +255,10 @@ module _ (window : ℕ) (oldest : Bool) (w : World) (host : Host) (records : Rec
       let mine : Channel = checked.0 in
       let app = bind_passed (on_ack records.apps p.source_port mine.end.version p m.ack) _ checked.2 in
       let passed = acking window oldest w host records.core m mine checked.1 in
-      subst (DidBoth w host records (message.AckPacket m)) (ok_same app.2)
-      (changes_channel _ p.source_port p.source_channel mine _ passed.0 (acknowledges p passed.1),
-        subst (λ ack. on_ack records.apps p.source_port mine.end.version p ack ≡ Ok app.0) (sym passed.2) app.1)
+      subst (DidBoth w host records (message.AckPacket m)) (ok_same app.2) (
+        changes_channel _ p.source_port p.source_channel mine _ passed.0 (acknowledges p passed.1),
+        subst (λ ack. on_ack records.apps p.source_port mine.end.version p ack ≡ Ok app.0) (sym passed.2) app.1,
+      )
 
   pub timeout_did : (m : Timeout) (y : Effect × Core × Apps)
       → timeout (on_timeout records.apps m.packet.source_port) (seeing window oldest w records.core) records.core m ≡ Ok y

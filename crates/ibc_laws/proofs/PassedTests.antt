@@ -22,6 +22,14 @@ pub either : (a b : Bool) → (a || b) ≡ true → (a ≡ true) ⊎ (b ≡ true
 either true b e = inl refl
 either false b e = inr e
 
+pub or_left : (a b : Bool) → a ≡ true → (a || b) ≡ true
+or_left true b e = refl
+or_left false b e = absurd (cc e)
+
+pub or_right : (a b : Bool) → b ≡ true → (a || b) ≡ true
+or_right true b e = refl
+or_right false b e = e
+
 pub and_true : {a b : Bool} → a ≡ true → b ≡ true → (a && b) ≡ true
 and_true {a} {b} e f = rw e f
 
@@ -37,15 +45,12 @@ same_text_is (x ∷ xs) (y ∷ ys) e =
     let parts = both (x == y) (same_text xs ys) e in
     cc (eqb-true x y parts.0, same_text_is xs ys parts.1)
 
-eqb-self : (n : ℕ) → (n == n) ≡ true
-eqb-self n = grind arith
+pub number-self : (n : ℕ) → (n == n) ≡ true
+number-self n = grind arith
 
 pub same_text-self : (a : Text) → same_text a a ≡ true
 same_text-self [] = refl
-same_text-self (x ∷ xs) = and_true (eqb-self x) (same_text-self xs)
-
-pub number-self : (n : ℕ) → (n == n) ≡ true
-number-self = eqb-self
+same_text-self (x ∷ xs) = and_true (number-self x) (same_text-self xs)
 
 pub same_optional_is : (a b : Option Text) → same_optional a b ≡ true → a ≡ b
 same_optional_is None None e = refl

@@ -13,8 +13,8 @@ use Rattle.ibc_machine.specs.Packets.{has_peer}
 use Rattle.ibc_machine.specs.Machine.{World}
 use Rattle.ibc_machine.specs.Histories.{End}
 use Rattle.ibc_machine.specs.Peers.{end_at, found_at, is_connected_to, names, are_paired_if, are_peers}
-use Rattle.ibc_laws.proofs.PassedTests.{both, either, and_true, same_text_is, same_text-self, same_optional_is}
-use Rattle.ibc_laws.proofs.Places.{some_is, number-self}
+use Rattle.ibc_laws.proofs.PassedTests.{or_left, or_right, both, either, and_true, same_text_is, same_text-self, same_optional_is, number-self}
+use Rattle.ibc_laws.proofs.Places.{some_is}
 use Rattle.ibc_laws.proofs.CoreSteps.{rank}
 use Rattle.ibc_laws.proofs.Growth.{ChannelGrows, Grows}
 use Rattle.ibc_laws.proofs.PacketsPassed.{established_rank}
@@ -238,14 +238,6 @@ stays_established m n g e =
     let low = established_rank m e in
     let up = g.end.ranks in
     rank_established n.end.state (omega arith)
-
-or_left : (a b : Bool) → a ≡ true → (a || b) ≡ true
-or_left true b e = refl
-or_left false b e = absurd (cc e)
-
-or_right : (a b : Bool) → b ≡ true → (a || b) ≡ true
-or_right true b e = refl
-or_right false b e = e
 
 -- peers in a world that went on
 pub record PeersOn (w v : World) (e f : End) (p : Peers w e f) : Type 0 where

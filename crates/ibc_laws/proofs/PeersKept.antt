@@ -156,7 +156,7 @@ module _ (w : World) (host : Host) (core : Core) (all : Shaped w) (shaped : Core
             subst (λ i. At w tracked.state.chain (ChannelTo port id m i over)) (ap (λ (o : Option Text). unwrap_or o []) named)
             (peer_shown m port id (peer_channel_of m.end) state s.height s.sees old.connection old.there over back tracked there);
       }
-  step_peer told port id m n there (closes s) grows =
+  step_peer told port id m n there (closes s may) grows =
       carried port id m n there grows (let z = open_rank m.end.state s in omega arith)
   step_peer told port id m n there (sends c s) grows =
       carried port id m n there grows (let z = open_rank m.end.state s in omega arith)

@@ -1,5 +1,6 @@
 -- Lists with one entry put into its place.
 use Rattle.std.proofs.Common.{◌≡◌, ℕ, zero, suc, ◌<◌, Bool, true, false, refl, ap, sym, ◌∙◌, subst, List, [], ◌∷◌, ◌++◌, length, Option, Some, ◌⊎◌, inl, inr, arith, ◌==◌, eqb-true, slice_get, slice_set}
+use Rattle.ibc_laws.proofs.PassedTests.{number-self}
 
 pub some_is : {A : Type 0} {x y : A} {o : Option A} → o ≡ Some x → o ≡ Some y → x ≡ y
 some_is e f = cc (e, f)
@@ -22,9 +23,6 @@ pub set-same : {A : Type 0} (xs : List A) (k : ℕ) (a : A) → slice_get xs k �
 set-same [] k a e = absurd (cc e)
 set-same (x ∷ xs) zero a e = ap (λ y. y ∷ xs) (some_is refl (sym e))
 set-same (x ∷ xs) (suc k) a e = ap (λ ys. x ∷ ys) (set-same xs k a e)
-
-pub number-self : (n : ℕ) → (n == n) ≡ true
-number-self n = grind arith
 
 pub same_or_not : (j k : ℕ) → (j ≡ k) ⊎ (j ≡ k → ⊥)
 same_or_not j k = go (j == k) refl

@@ -25,7 +25,7 @@ use Rattle.ibc_laws.proofs.PassedTests.{same_channel_state_is, same_text_is}
 use Rattle.ibc_laws.proofs.Seen.{seeing}
 use Rattle.ibc_laws.proofs.Told.{Sent, told_by}
 use Rattle.ibc_laws.proofs.CoreSteps.{CoreStep, changes_channel, sends}
-use Rattle.ibc_laws.proofs.AppSteps.{SendsTokens, AppsOf, DidBoth}
+use Rattle.ibc_laws.proofs.AppSteps.{AppsOf, DidBoth}
 
 -- the end that sends is there, and OPEN
 sending : (core : Core) (port id : Text) (mine : Channel) → sending_end core port id ≡ Ok mine
@@ -70,15 +70,17 @@ module _ (window : ℕ) (oldest : Bool) (w : World) (host : Host) (records : Rec
       let version_is : mine.end.version ≡ version = same_text_is mine.end.version version same in
       subst (λ (z : Effect × Records). DidBoth w host records m (z.0, z.1.core, z.1.apps)) pays.after
       (subst (λ t. (did : CoreStep w host records.core t (with_channel transfer_port channel (after_send c mine) records.core))
-      × AppsOf w host records (with_balances records.apps pays.balances) t (with_channel transfer_port channel (after_send c mine) records.core) did) (sym told)
-      (changes_channel _ transfer_port channel mine _ end.0 (sends c end.1), inr (record {
-        port_is = refl;
-        data_sent = d;
-        spelled = spelled ∙ ap (λ v. data_text v d) (sym version_is);
-        balances = pays.balances;
-        paid = pays.paid;
-        after = refl;
-      })))
+      × AppsOf w host records (with_balances records.apps pays.balances) t (with_channel transfer_port channel (after_send c mine) records.core) did) (sym told) (
+        changes_channel _ transfer_port channel mine _ end.0 (sends c end.1),
+        inr (record {
+          port_is = refl;
+          data_sent = d;
+          spelled = spelled ∙ ap (λ v. data_text v d) (sym version_is);
+          balances = pays.balances;
+          paid = pays.paid;
+          after = refl;
+        }),
+      ))
 
   pub transfer_did : (m : Transfer) (y : Effect × Records) → transfer (seeing window oldest w records.core) records m ≡ Ok y
       → DidBoth w host records (message.Transfer m) (y.0, y.1.core, y.1.apps)

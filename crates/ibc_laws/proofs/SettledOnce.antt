@@ -96,7 +96,7 @@ module _ (chains : ℕ) (w : World) (hs : List Happened) (h : Happened) (v : Wor
   )
 
   good : (e : End) → Settling chains w hs h v e → Good e (settled_at e (hs ++ h ∷ []))
-  good e (settled_nothing a t) =
+  good e (settled_nothing a t before) =
       subst (Good e) (sym (ap₂ (λ (x y : List Packet). sequences x ++ sequences y) a t)) (kept e, once.once e)
   good e (acknowledged_one p m was now s a t) =
       let shaped = shape_of w inv e m was in

@@ -79,7 +79,7 @@ sent_toward e f mine port channel hs =
 
 -- ---- peers are of one order
 
-same_order_as : (w : World) → Inv w → (e f : End) (p : Peers w e f) → p.theirs.end.order ≡ p.mine.end.order
+pub same_order_as : (w : World) → Inv w → (e f : End) (p : Peers w e f) → p.theirs.end.order ≡ p.mine.end.order
 same_order_as w inv e f p = elim (either (is_established p.mine) (is_established p.theirs) p.established) [
   | inl ours ↦ of_established e f p ours
   | inr theirs ↦ sym (of_established f e (peers_flip e f p) theirs)

@@ -1,13 +1,14 @@
 -- How a measure of the balances changes where the tokens of a packet are sent, refunded or received.
-use Rattle.std.proofs.Common.{◌≡◌, ℕ, ◌+◌, Bool, true, false, refl, ap, sym, subst, List, [], ◌∷◌, ◌++◌, length, Option, Some, None, if◌then◌else◌, nat_le, option_map}
+use Rattle.std.proofs.Common.{◌≡◌, ℕ, ◌+◌, Bool, true, false, refl, subst, List, ◌++◌, length, Some, None, if◌then◌else◌, nat_le}
 use Rattle.std.specs.List.{sum_by}
-use Rattle.std.specs.Option.{option_and_then, option_map_or}
+use Rattle.std.specs.Option.{option_and_then}
 use Rattle.ibc_ids.specs.Texts.{Text}
 use Rattle.ibc_ids.specs.Names.{hop}
 use Rattle.ibc_wire.specs.declared.packet.Packet.{Packet}
 use Rattle.ibc_wire.specs.declared.token.Token.{Token}
 use Rattle.ibc_machine.specs.Bank.{Balances, supply, escrow, give, pay, into_escrow, out_of_escrow, mint, is_bounded}
 use Rattle.ibc_machine.specs.Transfers.{transfer_port, came_over, each_token, send_token, refund_token, receive_token, without_hop, with_hop}
+use Rattle.ibc_laws.proofs.Places.{some_is}
 use Rattle.ibc_laws.proofs.Measures.{Test, weigh, IsSorted, Moved, given, paid, moved_between, moved_each}
 
 -- the amount, unless the denomination came over the channel and was burnt there
@@ -24,9 +25,6 @@ sent_token test channel user token b after sorted e = go (came_over transfer_por
         → Moved test b after (weigh test user token) (if p then 0 else weigh test (escrow channel) token)
     go true e = paid test user token b after sorted e
     go false e = moved_between test user (escrow channel) token b after sorted e
-
-some_is : {A : Type 0} {x y : A} {o : Option A} → o ≡ Some x → o ≡ Some y → x ≡ y
-some_is e f = cc (e, f)
 
 -- a refund: the user gets it back, out of the escrow or minted again
 pub refunded_token : (test : Test) (channel user : Text) (token : Token) (b after : Balances) → IsSorted b

@@ -3,6 +3,7 @@
 #![tactic(auto)]
 
 ghost use Rattle.ibc_machine.specs.Laws.{ExactlyOnce, InOrder, OnePeer};
+ghost use Rattle.ibc_machine.specs.TokenData.{ReadsData};
 
 /// Each end of a channel that is OPEN or CLOSED has exactly one peer, and no end has two.
 pub fn each_end_has_one_peer()
@@ -18,4 +19,10 @@ pub fn each_packet_is_handled_once()
 /// On an ordered channel what one end received is a beginning of what the other sent, equal in every field.
 pub fn each_ordered_channel_delivers_in_order()
     ensures { InOrder }
+{}
+
+/// The data that a packet of tokens is read as is the good data that its payload spells, and good data is read back
+/// from its one spelling, in both versions.
+pub fn packet_data_is_read_back()
+    ensures { ReadsData }
 {}
