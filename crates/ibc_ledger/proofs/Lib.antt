@@ -1,4 +1,0 @@
-pub mod SeenMore
-pub mod OwnEntries
-pub mod Growing
-pub mod Entries
