@@ -6,5 +6,3 @@ pub mod Reading
 pub mod Fronts
 pub mod Lawful
 pub mod RecordFronts
-pub mod PayloadFronts
-pub mod MessageFront

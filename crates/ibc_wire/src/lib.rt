@@ -1,15 +1,15 @@
-//! What chains write and send: client states, ends, packets and messages.
+//! What chains write and send: client states, ends, packets and messages, and how each is spelled.
 #![tactic(auto)]
 
-mod fields;
 mod header;
+mod laws;
 mod messages;
 mod packet;
 mod records;
 mod token;
-mod wire;
 
 pub use header::Header;
+pub use laws::proofs_are_read_as_they_are_spelled;
 pub use messages::{
     AckPacket, ChanCloseConfirm, ChanCloseInit, ChanOpenAck, ChanOpenConfirm, ChanOpenInit,
     ChanOpenTry, ConnOpenAck, ConnOpenConfirm, ConnOpenInit, ConnOpenTry, CreateClient, Message,
@@ -18,6 +18,3 @@ pub use messages::{
 pub use packet::Packet;
 pub use records::{ChannelEnd, ChannelState, ClientState, ConnectionEnd, ConnectionState, Order};
 pub use token::{Token, Tokens};
-pub use wire::{
-    Wire, a_text_spells_one_value, decode, encode, proofs_are_read_as_they_are_spelled,
-};

@@ -1,0 +1,2 @@
+pub mod PayloadReaders
+pub mod MessageReader

@@ -1,0 +1,12 @@
+use Rattle.std.proofs.Common.{[], ◌∷◌, ◌++◌}
+use Rattle.ibc_ids.specs.Names.{is_connection}
+use Rattle.ibc_wire.specs.Fields.{n8, str, name}
+use Rattle.ibc_codec.proofs.Writing.{behind}
+use Rattle.ibc_message_codec.proofs.connections.ConnOpenConfirmPayload.write.Goals as goal
+
+pub returns : goal.returns
+returns c =
+    let m = c.args.self.now in
+    behind (name is_connection m.connection ∷ []) (n8 m.height ∷ str m.proof ∷ []) c.args.out.now.items c.write_name.new.out.items c.write_str.new.out.items c.write_str.result c.in_ok-write_name.ensures (
+    behind (n8 m.height ∷ []) (str m.proof ∷ []) c.write_name.new.out.items c.write_n8.new.out.items c.write_str.new.out.items c.write_str.result c.in_ok-write_n8.ensures (
+    c.write_str.ensures))

@@ -1,0 +1,2 @@
+pub mod PayloadFronts
+pub mod MessageFront

@@ -1,0 +1,12 @@
+//! How messages are written to bytes and read back.
+#![tactic(auto)]
+
+mod channels;
+mod clients;
+mod connections;
+mod message;
+mod packets;
+mod payload;
+mod transfers;
+
+pub use message::{a_text_spells_one_message, decode, encode};

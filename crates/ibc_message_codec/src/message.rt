@@ -1,0 +1,175 @@
+//! How messages are spelled: a tag, and the fields behind it.
+
+ghost use Rattle.std.specs.Prelude.{◌≡◌, ◌⊎◌, Option, IsTrue, IfOk, IfErr, IsErrOf, IsOkUnless};
+ghost use Rattle.ibc_wire.specs.Fields.{Spells, HasOneValue, have_form};
+ghost use Rattle.ibc_wire.specs.Messages.{message_fields};
+ghost use Rattle.ibc_wire.specs.Fronts.{Gives, Writes, only};
+ghost use Rattle.ibc_message_codec.specs.MessageFront.{kind_of, message_behind, message_at_front};
+
+use ibc_codec::fields::read_u8;
+use crate::payload::{Payload, write_tagged};
+use ibc_wire::{AckPacket, ChanCloseConfirm, ChanCloseInit, ChanOpenAck, ChanOpenConfirm, ChanOpenInit, ChanOpenTry, ConnOpenAck, ConnOpenConfirm, ConnOpenInit, ConnOpenTry, CreateClient, Message, RecvPacket, SendNote, Timeout, TimeoutOnClose, Transfer, TransferMany, UpdateClient};
+use ibc_ids::Refusal;
+use std::alloc::Global;
+
+/// The kinds of messages, in the order of their tags.
+#[derive(Clone, Copy)]
+enum MessageKind {
+    CreateClient,
+    UpdateClient,
+    ConnOpenInit,
+    ConnOpenTry,
+    ConnOpenAck,
+    ConnOpenConfirm,
+    ChanOpenInit,
+    ChanOpenTry,
+    ChanOpenAck,
+    ChanOpenConfirm,
+    ChanCloseInit,
+    ChanCloseConfirm,
+    Transfer,
+    SendNote,
+    RecvPacket,
+    AckPacket,
+    Timeout,
+    TimeoutOnClose,
+    TransferMany,
+}
+
+/// The kind of a tag. Tags count from 1.
+fn kind_of(tag: u8) -> Option<MessageKind>
+    ensures { result ≡ kind_of tag }
+{
+    match tag {
+        1 => Some(MessageKind::CreateClient),
+        2 => Some(MessageKind::UpdateClient),
+        3 => Some(MessageKind::ConnOpenInit),
+        4 => Some(MessageKind::ConnOpenTry),
+        5 => Some(MessageKind::ConnOpenAck),
+        6 => Some(MessageKind::ConnOpenConfirm),
+        7 => Some(MessageKind::ChanOpenInit),
+        8 => Some(MessageKind::ChanOpenTry),
+        9 => Some(MessageKind::ChanOpenAck),
+        10 => Some(MessageKind::ChanOpenConfirm),
+        11 => Some(MessageKind::ChanCloseInit),
+        12 => Some(MessageKind::ChanCloseConfirm),
+        13 => Some(MessageKind::Transfer),
+        14 => Some(MessageKind::SendNote),
+        15 => Some(MessageKind::RecvPacket),
+        16 => Some(MessageKind::AckPacket),
+        17 => Some(MessageKind::Timeout),
+        18 => Some(MessageKind::TimeoutOnClose),
+        19 => Some(MessageKind::TransferMany),
+        _ => None,
+    }
+}
+
+/// The message of the kind whose fields stand at the front, and what stands behind them.
+fn read_behind(alloc: Global, kind: MessageKind, bytes: &[u8]) -> Result<(Message, &[u8]), Refusal>
+    ensures { Gives (λ x. (x.0, x.1.now)) result (message_behind kind bytes.now) }
+{
+    macro_rules! read {
+        ($kind:ident) => {
+            match $kind::read(alloc, bytes) {
+                Ok((message, rest)) => Ok((Message::$kind(message), rest)),
+                Err(refusal) => Err(refusal),
+            }
+        };
+    }
+    match kind {
+        MessageKind::CreateClient => read!(CreateClient),
+        MessageKind::UpdateClient => read!(UpdateClient),
+        MessageKind::ConnOpenInit => read!(ConnOpenInit),
+        MessageKind::ConnOpenTry => read!(ConnOpenTry),
+        MessageKind::ConnOpenAck => read!(ConnOpenAck),
+        MessageKind::ConnOpenConfirm => read!(ConnOpenConfirm),
+        MessageKind::ChanOpenInit => read!(ChanOpenInit),
+        MessageKind::ChanOpenTry => read!(ChanOpenTry),
+        MessageKind::ChanOpenAck => read!(ChanOpenAck),
+        MessageKind::ChanOpenConfirm => read!(ChanOpenConfirm),
+        MessageKind::ChanCloseInit => read!(ChanCloseInit),
+        MessageKind::ChanCloseConfirm => read!(ChanCloseConfirm),
+        MessageKind::Transfer => read!(Transfer),
+        MessageKind::SendNote => read!(SendNote),
+        MessageKind::RecvPacket => read!(RecvPacket),
+        MessageKind::AckPacket => read!(AckPacket),
+        MessageKind::Timeout => read!(Timeout),
+        MessageKind::TimeoutOnClose => read!(TimeoutOnClose),
+        MessageKind::TransferMany => read!(TransferMany),
+    }
+}
+
+/// The message at the front of the bytes, and what stands behind it.
+#[tactic(auto, unfolding(crate::specs::MessageFront::message_at_front))]
+fn read_message(alloc: Global, bytes: &[u8]) -> Result<(Message, &[u8]), Refusal>
+    ensures { Gives (λ x. (x.0, x.1.now)) result (message_at_front bytes.now) }
+{
+    let (tag, rest) = read_u8(bytes)?;
+    match kind_of(tag) {
+        Some(kind) => read_behind(alloc, kind, rest),
+        None => Err(Refusal::BadMessage),
+    }
+}
+
+/// Writes the message behind the bytes.
+fn write_message(out: &mut Vec<u8>, message: &Message) -> Result<(), Refusal>
+    ensures { Writes (message_fields message.now) out.old.items result out.new.items }
+{
+    match message {
+        Message::CreateClient(message) => write_tagged(out, 1, message),
+        Message::UpdateClient(message) => write_tagged(out, 2, message),
+        Message::ConnOpenInit(message) => write_tagged(out, 3, message),
+        Message::ConnOpenTry(message) => write_tagged(out, 4, message),
+        Message::ConnOpenAck(message) => write_tagged(out, 5, message),
+        Message::ConnOpenConfirm(message) => write_tagged(out, 6, message),
+        Message::ChanOpenInit(message) => write_tagged(out, 7, message),
+        Message::ChanOpenTry(message) => write_tagged(out, 8, message),
+        Message::ChanOpenAck(message) => write_tagged(out, 9, message),
+        Message::ChanOpenConfirm(message) => write_tagged(out, 10, message),
+        Message::ChanCloseInit(message) => write_tagged(out, 11, message),
+        Message::ChanCloseConfirm(message) => write_tagged(out, 12, message),
+        Message::Transfer(message) => write_tagged(out, 13, message),
+        Message::SendNote(message) => write_tagged(out, 14, message),
+        Message::RecvPacket(message) => write_tagged(out, 15, message),
+        Message::AckPacket(message) => write_tagged(out, 16, message),
+        Message::Timeout(message) => write_tagged(out, 17, message),
+        Message::TimeoutOnClose(message) => write_tagged(out, 18, message),
+        Message::TransferMany(message) => write_tagged(out, 19, message),
+    }
+}
+
+/// The message at the front of the bytes, behind which nothing stands.
+fn read_all(alloc: Global, bytes: &[u8]) -> Result<Message, Refusal>
+    ensures { Gives (λ x. x) result (only (message_at_front bytes.now)) }
+{
+    match read_message(alloc, bytes)? {
+        (message, []) => Ok(message),
+        (_, [_, ..]) => Err(Refusal::BadMessage),
+    }
+}
+
+/// The bytes that spell a message. Refused: `BadMessage` exactly for a message outside its form; `NoMemory`.
+pub fn encode(alloc: Global, message: &Message) -> Result<Vec<u8>, Refusal>
+    ensures ok { IfOk result (λ bytes. Spells (message_fields message.now) bytes.items) }
+    ensures bad { IsErrOf result Refusal.BadMessage → ¬ IsTrue (have_form (message_fields message.now)) }
+    ensures memory { IsTrue (have_form (message_fields message.now)) → IsOkUnless result Refusal.NoMemory }
+{
+    let mut bytes = Vec::new(alloc);
+    write_message(&mut bytes, message)?;
+    Ok(bytes)
+}
+
+/// The message that the bytes spell, all of them. Refused: `BadMessage` exactly where they spell none; `NoMemory`.
+pub fn decode(alloc: Global, bytes: &[u8]) -> Result<Message, Refusal>
+    ensures ok { IfOk result (λ message. Spells (message_fields message) bytes.now) }
+    ensures bad { IsErrOf result Refusal.BadMessage → (message : Message) → ¬ Spells (message_fields message) bytes.now }
+    ensures memory { (message : Message) → Spells (message_fields message) bytes.now → IsOkUnless result Refusal.NoMemory }
+    ensures errors { IfErr result (λ e. (e ≡ Refusal.BadMessage) ⊎ (e ≡ Refusal.NoMemory)) }
+{
+    read_all(alloc, bytes)
+}
+
+/// No text spells two messages.
+pub fn a_text_spells_one_message()
+    ensures { HasOneValue message_fields }
+{}
