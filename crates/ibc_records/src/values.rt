@@ -9,9 +9,10 @@ ghost use Rattle.ibc_ids.specs.declared.key.Key.TheVariants as key;
 ghost use Rattle.ibc_ids.specs.declared.refusal.Refusal.TheVariants.{NoMemory};
 ghost use Rattle.ibc_machine.specs.Values.{value_bytes, NumberIs, ClientIs};
 
-use ibc_ids::{Bytes, ClientId, Refusal};
+use ibc_codec::encode;
+use ibc_ids::{Bytes, ClientId, Key, Refusal};
 use ibc_path_store::Store;
-use ibc_wire::{ClientState, encode};
+use ibc_wire::ClientState;
 use std::alloc::Global;
 
 /// The path of a client's state.
@@ -28,7 +29,7 @@ pub fn next_client_path(alloc: Global) -> Result<String, Refusal>
     ensures ok { IfOk result (λ text. string_bytes text ≡ path key.NextClientSequence) }
     ensures err { IfErr result (λ refusal. refusal ≡ NoMemory) }
 {
-    Ok(String::from_str(alloc, "nextClientSequence")?)
+    Key::NextClientSequence.path(alloc)
 }
 
 /// The path of the number of the next connection.
@@ -36,7 +37,7 @@ pub fn next_connection_path(alloc: Global) -> Result<String, Refusal>
     ensures ok { IfOk result (λ text. string_bytes text ≡ path key.NextConnectionSequence) }
     ensures err { IfErr result (λ refusal. refusal ≡ NoMemory) }
 {
-    Ok(String::from_str(alloc, "nextConnectionSequence")?)
+    Key::NextConnectionSequence.path(alloc)
 }
 
 /// The path of the number of the next channel.
@@ -44,7 +45,7 @@ pub fn next_channel_path(alloc: Global) -> Result<String, Refusal>
     ensures ok { IfOk result (λ text. string_bytes text ≡ path key.NextChannelSequence) }
     ensures err { IfErr result (λ refusal. refusal ≡ NoMemory) }
 {
-    Ok(String::from_str(alloc, "nextChannelSequence")?)
+    Key::NextChannelSequence.path(alloc)
 }
 
 /// Sets the value of a path, for which there is room.
