@@ -3,6 +3,7 @@
 
 mod account;
 mod bytes;
+mod denom;
 mod forms;
 mod identifiers;
 mod key;

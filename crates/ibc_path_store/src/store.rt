@@ -124,6 +124,7 @@ impl Store {
         requires { 0 < length self.old.pairs }
         ensures root { IfOk result (λ root. root ≡ tree_root self.old.pairs) }
         ensures ok { OnOk result (self.new ≡ committed self.old next_time) }
+        ensures size { OnOk result (length self.old.pairs < 2 ^ 64) }
         ensures time_back { (result ≡ Err TimeBack) ↔ (next_time < self.old.time) }
         ensures err { IfErr result (λ refusal. (refusal ≡ TimeBack) ⊎ (refusal ≡ NoMemory)) }
         ensures unchanged { OnErr result (self.new ≡ self.old) }

@@ -1,11 +1,11 @@
 //! The records of a chain, kept in plain and as a store.
 
-ghost use Rattle.std.specs.Prelude.{◌≡◌, ◌⊎◌, ◌↔◌, ◌+◌, ◌-◌, ◌^◌, ◌<◌, min, IsNone, IsSome, IfSome, IfOk, IfErr, OnOk, OnErr, option_copied};
+ghost use Rattle.std.specs.Prelude.{◌≡◌, ◌⊎◌, ◌↔◌, ◌+◌, ◌-◌, ◌^◌, ◌<◌, length, min, IsNone, IsSome, IfSome, IfOk, IfErr, OnOk, OnErr, option_map, option_copied};
 ghost use Rattle.ibc_ids.specs.Texts.{text_cmp};
 ghost use Rattle.ibc_ids.specs.Maps.{at, with};
 ghost use Rattle.ibc_ids.specs.declared.refusal.Refusal.TheVariants.{NoMemory, TimeBack, UnknownClient};
 ghost use Rattle.ibc_records.specs.Held.{core_of, IsNew, AddsClient, UpdatesClient, IsUnchanged};
-ghost use Rattle.ibc_machine.specs.Image.{core_root};
+ghost use Rattle.ibc_machine.specs.Image.{image, core_root};
 ghost use Rattle.ibc_records.specs.HeldClients.{with_height};
 ghost use Rattle.ibc_path_store.specs.Held.{committed, height_of};
 
@@ -102,6 +102,13 @@ impl Records {
         self.next_client
     }
 
+    /// The value at a path of the working block, or none.
+    pub fn value(&self, path: &str) -> Option<&[u8]>
+        ensures { option_map (λ value. value.now) result ≡ at text_cmp path.now (image (core_of self.now)) }
+    {
+        self.store.get(path)
+    }
+
     /// Adds a client of a chain under an identifier, and counts the next one (ICS 2, "createClient"). `NoMemory` where a
     /// growth is refused; the records are then as before.
     pub fn add_client(&mut self, id: ClientId, chain: u8) -> Result<(), Refusal>
@@ -170,6 +177,7 @@ impl Records {
     pub fn commit(&mut self, next_time: u64) -> Result<Root, Refusal>
         ensures root { IfOk result (λ root. root ≡ core_root (core_of self.old)) }
         ensures ok { OnOk result (self.new ≡ record self.old { store = committed self.old.store next_time }) }
+        ensures size { OnOk result (length (image (core_of self.old)) < 2 ^ 64) }
         ensures time_back { (result ≡ Err TimeBack) ↔ (next_time < self.old.store.time) }
         ensures err { IfErr result (λ refusal. (refusal ≡ TimeBack) ⊎ (refusal ≡ NoMemory)) }
         ensures unchanged { OnErr result (self.new ≡ self.old) }
