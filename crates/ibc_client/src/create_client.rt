@@ -1,6 +1,7 @@
 //! Making clients.
 
-ghost use Rattle.std.specs.Prelude.{ℕ, ◌<◌};
+ghost use Rattle.std.specs.Prelude.{◌≡◌, ℕ, ◌<◌, IfOk};
+ghost use Rattle.ibc_ids.specs.Paths.{nth_client};
 ghost use Rattle.ibc_machine.specs.Clients.{create_client};
 ghost use Rattle.ibc_records.specs.Held.{core_of};
 ghost use Rattle.ibc_client.specs.Answers.{IsCreated};
@@ -20,7 +21,8 @@ pub fn create(
     chains: u8,
     message: &CreateClient,
 ) -> Result<ClientId, Refusal>
-    ensures { (height time : ℕ) → IsCreated (create_client (record { chain = chain; chains = chains; height = height; time = time }) (core_of records.old) message.now) message.now records.old result records.new }
+    ensures answer { (height time : ℕ) → IsCreated (create_client (record { chain = chain; chains = chains; height = height; time = time }) (core_of records.old) message.now) message.now records.old result records.new }
+    ensures named { IfOk result (λ id. id ≡ nth_client records.old.next_client) }
 {
     if message.chain >= chains {
         return Err(Refusal::UnknownChain);

@@ -4,7 +4,7 @@ ghost use mathlib.Core.List.{IsPrefix};
 ghost use Rattle.ibc_ids.specs.declared.refusal.Refusal.TheVariants.{NoMemory, TableFull};
 ghost use Rattle.ibc_ids.specs.declared.publication.Publication.{Publication};
 ghost use Rattle.ibc_ids.specs.Publications.{published_by, height_of, row_at};
-ghost use Rattle.ibc_root_table.specs.Publications.{publication, row_words, IsRoot};
+ghost use Rattle.ibc_root_table.specs.Publications.{publication, row_words, IsRoot, IsWithin};
 
 use crate::knowledge::{Board, Place};
 use crate::row::{ROW_LEN, root_of, row_of};
@@ -284,6 +284,20 @@ impl RootTable {
         shared.load::<Look>(&mut second.place, 0);
         self.tell(&mut second.place, &mut first.place);
         shared.load::<Adopt>(&mut first.place, 0);
+    }
+
+    /// A pass that has seen less takes over just what the leader has seen.
+    pub fn follow(&self, leader: &mut Pass, follower: &mut Pass)
+        requires tables { (leader.old.table ≡ self.now) × (follower.old.table ≡ self.now) }
+        requires behind { IsPrefix follower.old.seen leader.old.seen }
+        ensures leader { leader.new ≡ leader.old }
+        ensures pass { SamePass follower.old follower.new }
+        ensures seen { follower.new.seen ≡ leader.old.seen }
+        ensures own { KeepsOwn follower.old follower.new }
+        ensures within { IsWithin self.now.shape follower.new.seen }
+    {
+        self.tell(&mut leader.place, &mut follower.place);
+        self.board.shared.load::<Adopt>(&mut follower.place, 0);
     }
 
     // One seat hears what another has seen.
