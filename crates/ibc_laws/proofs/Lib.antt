@@ -48,3 +48,5 @@ pub mod ChainKinds
 pub mod FlightSums
 pub mod Ports
 pub mod GoneSettled
+pub mod HeldAndIssued
+pub mod TokenShifts
