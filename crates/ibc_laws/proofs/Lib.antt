@@ -7,6 +7,7 @@ pub mod Seen
 pub mod Told
 pub mod CoreSteps
 pub mod AppSteps
+pub mod GoodData
 pub mod Growth
 pub mod ConnectionsPassed
 pub mod ChannelsPassed
