@@ -51,3 +51,4 @@ pub mod Ports
 pub mod GoneSettled
 pub mod HeldAndIssued
 pub mod TokenShifts
+pub mod TokenEffects
