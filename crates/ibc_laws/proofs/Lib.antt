@@ -52,3 +52,4 @@ pub mod GoneSettled
 pub mod HeldAndIssued
 pub mod TokenShifts
 pub mod TokenEffects
+pub mod BalancedPair

@@ -103,14 +103,14 @@ abbrev pub Arriving : Balances → Balances → Text → Text → Text → List 
 Arriving before after id port channel tokens = Shift before after id (λ d. amount_of (hop port channel ++ d) tokens) nothing nothing
     (λ d. if came_over port channel d then 0 else amount_of d tokens)
 
-abbrev SameBooks : Channel → Channel → Type 0
+abbrev pub SameBooks : Channel → Channel → Type 0
 SameBooks m n = (n.commitments ≡ m.commitments) × (n.acks ≡ m.acks)
 
 -- the books of the end, where it received and where it settled
-abbrev Noted : ℕ → Text → Channel → Channel → Type 0
+abbrev pub Noted : ℕ → Text → Channel → Channel → Type 0
 Noted k ack m n = (n.commitments ≡ m.commitments) × (n.acks ≡ with nat_cmp k ack m.acks)
 
-abbrev Removed : ℕ → Channel → Channel → Type 0
+abbrev pub Removed : ℕ → Channel → Channel → Type 0
 Removed k m n = (n.commitments ≡ without nat_cmp k m.commitments) × (n.acks ≡ m.acks)
 
 pub data OwnEffect (w : World) (host : Host) (core : Core) (id : Text) (before after : Balances) (m n : Channel) : Type 0 where
