@@ -53,3 +53,4 @@ pub mod HeldAndIssued
 pub mod TokenShifts
 pub mod TokenEffects
 pub mod BalancedPair
+pub mod PeerFacts
