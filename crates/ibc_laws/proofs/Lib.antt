@@ -54,3 +54,5 @@ pub mod TokenShifts
 pub mod TokenEffects
 pub mod BalancedPair
 pub mod PeerFacts
+pub mod ChannelNames
+pub mod KeyEffects

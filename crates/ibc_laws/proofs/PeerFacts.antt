@@ -155,7 +155,7 @@ module _ (hs : List Happened) (w : World) (k : Known hs w) (chains : ℕ) (e f :
     pub pair_effect : OwnEffect w (host_of chains e.chain p.here.chain) p.here.chain.records.core e.channel before after p.mine n
         → PairEffect version e.channel f.channel p.theirs before after p.mine n
     pair_effect (does_nothing books shift) = keeps books shift
-    pair_effect (sends_out c sent acks shift) =
+    pair_effect (sends_out c open_ sent acks shift) =
         sends_more p.mine.next_send c next_is_free next_is_new sent acks (subst (λ v. Leaving before after e.channel (tokens_of v c)) version_is shift)
     pair_effect (takes_in q r books shift) =
         let r_is = subst (λ port. Receives w (host_of chains e.chain p.here.chain) p.here.chain.records.core port e.channel p.mine q) (sym is) r in

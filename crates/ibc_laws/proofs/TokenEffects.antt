@@ -6,6 +6,7 @@ use Rattle.ibc_ids.specs.Maps.{with, without}
 use Rattle.ibc_ids.specs.Names.{is_user, hop}
 use Rattle.ibc_wire.specs.declared.packet.Packet.{Packet}
 use Rattle.ibc_wire.specs.declared.token.Token.{Token}
+use Rattle.ibc_wire.specs.declared.records.ChannelState.TheVariants as chan
 use Rattle.ibc_machine.specs.Records.{Core, Apps, Records, Channel, Commitment, commitment_of}
 use Rattle.ibc_machine.specs.Evidence.{Host}
 use Rattle.ibc_machine.specs.Packets.{is_ordered, after_receive, after_ack, after_timeout}
@@ -32,7 +33,7 @@ sender_is_user version d good = (both _ (is_user d.sender) good).1
 sender_of : (version text : Text) (d : Data) → data_of version text ≡ Some d → is_user d.sender ≡ true
 sender_of version text d is = sender_is_user version d (data_spelled version text d is).0
 
-still : (records : Records) (apps : Apps) (channel : Text) → apps ≡ records.apps → Unshifted records.apps.balances apps.balances channel
+pub still : (records : Records) (apps : Apps) (channel : Text) → apps ≡ records.apps → Unshifted records.apps.balances apps.balances channel
 still records apps channel same = subst (λ (a : Apps). Unshifted records.apps.balances a.balances channel) (sym same) (unshifted records.apps.balances channel)
 
 same_balances : (before after : Balances) (channel : Text) → after ≡ before → Unshifted before after channel
@@ -115,7 +116,7 @@ Removed k m n = (n.commitments ≡ without nat_cmp k m.commitments) × (n.acks �
 
 pub data OwnEffect (w : World) (host : Host) (core : Core) (id : Text) (before after : Balances) (m n : Channel) : Type 0 where
   does_nothing : SameBooks m n → Unshifted before after id → OwnEffect w host core id before after m n
-  sends_out : (c : Commitment) → n.commitments ≡ with nat_cmp m.next_send c m.commitments → n.acks ≡ m.acks
+  sends_out : (c : Commitment) → m.end.state ≡ chan.Open → n.commitments ≡ with nat_cmp m.next_send c m.commitments → n.acks ≡ m.acks
       → Leaving before after id (tokens_of m.end.version c) → OwnEffect w host core id before after m n
   takes_in : (p : Packet) → Receives w host core transfer_port id m p → Noted p.sequence success m n
       → Arriving before after id p.source_port p.source_channel (tokens_of m.end.version (commitment_of p)) → OwnEffect w host core id before after m n
@@ -190,7 +191,7 @@ module _ (w : World) (host : Host) (records : Records) (apps : Apps) (sorted : I
   at_itself m told n (sends c s) (inr tokens) good =
       let d : Data = tokens.data_sent in
       let read : data_of m.end.version c.payload ≡ Some d = ap (λ t. data_of m.end.version t) tokens.spelled ∙ data_read m.end.version d good in
-      sends_out c refl refl
+      sends_out c s refl refl
       (subst (λ (a : Apps). Leaving records.apps.balances a.balances id (tokens_of m.end.version c)) (sym tokens.after)
       (subst (Leaving records.apps.balances tokens.balances id) (sym (tokens_read m.end.version c d read))
       (sent_shift id d.sender d.tokens records.apps.balances tokens.balances sorted (sender_is_user m.end.version d good) tokens.paid)))
