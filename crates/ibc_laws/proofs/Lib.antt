@@ -56,3 +56,4 @@ pub mod BalancedPair
 pub mod PeerFacts
 pub mod ChannelNames
 pub mod KeyEffects
+pub mod Unopened
