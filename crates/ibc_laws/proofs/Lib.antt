@@ -57,3 +57,4 @@ pub mod PeerFacts
 pub mod ChannelNames
 pub mod KeyEffects
 pub mod Unopened
+pub mod PairSteps
