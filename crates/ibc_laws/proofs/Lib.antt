@@ -58,3 +58,4 @@ pub mod ChannelNames
 pub mod KeyEffects
 pub mod Unopened
 pub mod PairSteps
+pub mod FourthLaw
