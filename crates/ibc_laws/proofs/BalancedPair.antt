@@ -23,7 +23,7 @@ flown version denom theirs commitments = sum_by (amount_under_way version denom 
 abbrev pub unless : Bool → ℕ → ℕ
 unless p n = if p then 0 else n
 
-unless-plus : (p : Bool) (a b : ℕ) → unless p (a + b) ≡ unless p a + unless p b
+pub unless-plus : (p : Bool) (a b : ℕ) → unless p (a + b) ≡ unless p a + unless p b
 unless-plus true a b = refl
 unless-plus false a b = refl
 
@@ -59,7 +59,7 @@ module _ (version denom : Text) where
       then 0 else amount_of denom (tokens_of version entry.1)) cs) same
 
   -- a term that counts, and one that doesn't
-  counts : (theirs : Channel) (k : ℕ) (c : Commitment) → succeeded theirs k ≡ false → amount_under_way version denom theirs (k, c) ≡ amount_of denom (tokens_of version c)
+  pub counts : (theirs : Channel) (k : ℕ) (c : Commitment) → succeeded theirs k ≡ false → amount_under_way version denom theirs (k, c) ≡ amount_of denom (tokens_of version c)
   counts theirs k c is = ap (λ p. if p then 0 else amount_of denom (tokens_of version c)) is
 
   counts_not : (theirs : Channel) (k : ℕ) (c : Commitment) → succeeded theirs k ≡ true → amount_under_way version denom theirs (k, c) ≡ 0

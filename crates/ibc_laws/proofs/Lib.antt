@@ -59,3 +59,4 @@ pub mod KeyEffects
 pub mod Unopened
 pub mod PairSteps
 pub mod FourthLaw
+pub mod EscrowsHold
