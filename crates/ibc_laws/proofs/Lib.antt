@@ -60,3 +60,4 @@ pub mod Unopened
 pub mod PairSteps
 pub mod FourthLaw
 pub mod EscrowsHold
+pub mod NeverShort

@@ -125,7 +125,7 @@ module _ (window : ℕ) (oldest : Bool) (w : World) (host : Host) (core : Core) 
         },
       )
 
-  acking : (m : AckPacket) (mine : Channel) → ack_checked (seeing window oldest w core) core m ≡ Ok mine
+  pub acking : (m : AckPacket) (mine : Channel) → ack_checked (seeing window oldest w core) core m ≡ Ok mine
       → (channel_at core m.packet.source_port m.packet.source_channel ≡ Some mine)
       × (s : Acks w core m.packet.source_port m.packet.source_channel mine m.packet) × (s.ack ≡ m.ack)
   unfolding ack_checked
@@ -158,7 +158,7 @@ module _ (window : ℕ) (oldest : Bool) (w : World) (host : Host) (core : Core) 
         refl,
       )
 
-  timing_out : (m : Timeout) (mine : Channel) → timeout_checked (seeing window oldest w core) core m ≡ Ok mine
+  pub timing_out : (m : Timeout) (mine : Channel) → timeout_checked (seeing window oldest w core) core m ≡ Ok mine
       → (channel_at core m.packet.source_port m.packet.source_channel ≡ Some mine)
       × TimesOut w core m.packet.source_port m.packet.source_channel mine m.packet
   unfolding timeout_checked
@@ -192,7 +192,7 @@ module _ (window : ℕ) (oldest : Bool) (w : World) (host : Host) (core : Core) 
         },
       )
 
-  timing_out_on_close : (m : TimeoutOnClose) (mine : Channel)
+  pub timing_out_on_close : (m : TimeoutOnClose) (mine : Channel)
       → timeout_on_close_checked (seeing window oldest w core) core m ≡ Ok mine
       → (channel_at core m.packet.source_port m.packet.source_channel ≡ Some mine)
       × TimesOut w core m.packet.source_port m.packet.source_channel mine m.packet

@@ -151,7 +151,7 @@ removed_over k m = go (is_ordered m)
     go false = (refl, refl)
 
 -- the tokens that a text is read as
-tokens_read : (version : Text) (c : Commitment) (d : Data) → data_of version c.payload ≡ Some d → tokens_of version c ≡ d.tokens
+pub tokens_read : (version : Text) (c : Commitment) (d : Data) → data_of version c.payload ≡ Some d → tokens_of version c ≡ d.tokens
 tokens_read version c d is = ap (λ (o : Option Data). option_map_or (λ (x : Data). x.tokens) o []) is
 
 -- no tokens weigh nothing
