@@ -48,7 +48,7 @@ pub record Conserving (hs : List Happened) (w : World) : Type 0 where
 
 -- ---- the start
 
-conserving_start : (genesis : GenesisState) → is_allowed genesis ≡ true → Conserving [] (start genesis)
+pub conserving_start : (genesis : GenesisState) → is_allowed genesis ≡ true → Conserving [] (start genesis)
 conserving_start genesis allowed = record {
   known = record {
     once = once_start genesis;

@@ -61,3 +61,5 @@ pub mod PairSteps
 pub mod FourthLaw
 pub mod EscrowsHold
 pub mod NeverShort
+pub mod RefusedAsPoor
+pub mod NeverPoor

@@ -30,7 +30,7 @@ use Rattle.ibc_laws.proofs.TokenShifts.{Shift, Unshifted, unshifted, nothing, ca
 sender_is_user : (version : Text) (d : Data) → is_data version d ≡ true → is_user d.sender ≡ true
 sender_is_user version d good = (both _ (is_user d.sender) good).1
 
-sender_of : (version text : Text) (d : Data) → data_of version text ≡ Some d → is_user d.sender ≡ true
+pub sender_of : (version text : Text) (d : Data) → data_of version text ≡ Some d → is_user d.sender ≡ true
 sender_of version text d is = sender_is_user version d (data_spelled version text d is).0
 
 pub still : (records : Records) (apps : Apps) (channel : Text) → apps ≡ records.apps → Unshifted records.apps.balances apps.balances channel
