@@ -1,5 +1,5 @@
 -- What the labelled step of an accepted message did to the applications' part of the records: nothing, or what
--- the application of the port did with the packet.
+-- the application of the port did with the packet. A message that is what its type promises sends good data.
 use Rattle.std.proofs.Common.{◌≡◌, refl, true, Ok, Some, ◌⊎◌, inl, inr}
 use Rattle.ibc_ids.specs.Texts.{Text}
 use Rattle.ibc_wire.specs.Fields.{are_typed}

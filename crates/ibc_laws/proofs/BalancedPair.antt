@@ -1,6 +1,6 @@
 -- The equation of two peers: the escrow of one equals what the other's chain issued, with what is under way both
 -- ways. Whatever one of the two does keeps it.
-use Rattle.std.proofs.Common.{◌≡◌, ℕ, ◌+◌, Bool, true, false, refl, ap, sym, ◌∙◌, subst, ◌++◌, Some, None, arith, nat_cmp, if◌then◌else◌}
+use Rattle.std.proofs.Common.{◌≡◌, ℕ, ◌+◌, Bool, true, false, refl, ap, sym, ◌∙◌, ◌++◌, Some, None, arith, nat_cmp, if◌then◌else◌}
 use Rattle.std.specs.List.{sum_by}
 use Rattle.std.specs.Option.{option_map_or}
 use Rattle.ibc_ids.specs.Texts.{Text, same_text}
@@ -127,7 +127,7 @@ module _ (version e f : Text) (held issued : Balances) (mine theirs : Channel) (
       let old = was denom in
       let x = shift.held denom in
       let out = ap (λ k. unless (burns denom) k) (more version denom theirs mine n k c sorted none fresh sent)
-          ∙ unless-plus (burns denom) (flown version denom theirs mine.commitments) (amount_of denom (tokens_of version c)) in
+      ∙ unless-plus (burns denom) (flown version denom theirs mine.commitments) (amount_of denom (tokens_of version c)) in
       let back = same_acked version (voucher denom) mine n theirs.commitments acks in
       omega arith
   balanced_here after n (takes_one k c there none books shift) denom =
@@ -152,7 +152,7 @@ module _ (version e f : Text) (held issued : Balances) (mine theirs : Channel) (
       let old = was denom in
       let x = shift.held denom in
       let out = sym (ap (λ k. unless (burns denom) k) (fewer version denom theirs mine n k c there counted books.0))
-          ∙ unless-plus (burns denom) (flown version denom theirs n.commitments) (amount_of denom (tokens_of version c)) in
+      ∙ unless-plus (burns denom) (flown version denom theirs n.commitments) (amount_of denom (tokens_of version c)) in
       let back = same_acked version (voucher denom) mine n theirs.commitments books.1 in
       omega arith
 
@@ -175,7 +175,7 @@ module _ (version e f : Text) (held issued : Balances) (mine theirs : Channel) (
       let old = was denom in
       let x = shift.made denom in
       let out = sym (ap (λ k. unless (burns denom) k) (arrived version denom mine theirs u k c sorted there none books.1))
-          ∙ unless-plus (burns denom) (flown version denom u mine.commitments) (amount_of denom (tokens_of version c)) in
+      ∙ unless-plus (burns denom) (flown version denom u mine.commitments) (amount_of denom (tokens_of version c)) in
       let back = same_sent version (voucher denom) mine theirs u books.0 in
       omega arith
   balanced_there after u (turns_one_down k c ack there none bad books shift) denom =

@@ -7,7 +7,7 @@ use Rattle.ibc_ids.specs.Texts.{Text}
 use Rattle.ibc_ids.specs.Paths.{nth_channel}
 use Rattle.ibc_machine.specs.Records.{Core, Channel, channel_at}
 use Rattle.ibc_laws.proofs.PassedTests.{and_true}
-use Rattle.ibc_laws.proofs.CoreShape.{CoreShaped, HasChannel}
+use Rattle.ibc_laws.proofs.CoreShape.{CoreShaped}
 use Rattle.ibc_laws.proofs.Hops.{HasNoSlash}
 
 digits_have_no_slash : (ds : Text) → AllDigits 10 ds → HasNoSlash ds

@@ -1,7 +1,6 @@
 -- An escrow holds what may be refunded from it, and what is under way back to it; so a list of tokens that may be
 -- refunded is refunded whole.
 use Rattle.std.proofs.Common.{◌≡◌, ℕ, option_map, zero, suc, ◌+◌, ◌-◌, ◌≤◌, ◌<◌, Bool, true, false, refl, ap, sym, ◌∙◌, subst, List, [], ◌∷◌, ◌++◌, Some, None, arith, nat_cmp, nat_lt, ltb-true, length, Contains, if◌then◌else◌}
-use Rattle.std.specs.List.{sum_by}
 use Rattle.std.specs.Option.{option_and_then}
 use Rattle.std.proofs.lemmas.List.Sums.{sum_by-cons}
 use Rattle.ibc_ids.specs.Texts.{Text, same_text}
@@ -10,7 +9,7 @@ use Rattle.ibc_ids.specs.Names.{is_user, hop}
 use Rattle.ibc_wire.specs.declared.token.Token.{Token}
 use Rattle.ibc_machine.specs.Records.{Commitment}
 use Rattle.ibc_machine.specs.TokenData.{amount_of, tokens_of}
-use Rattle.ibc_machine.specs.Bank.{Balances, balance, escrow, give, pay, with_balance, out_of_escrow}
+use Rattle.ibc_machine.specs.Bank.{Balances, balance, escrow, give, with_balance, out_of_escrow}
 use Rattle.ibc_machine.specs.Transfers.{transfer_port, came_over, each_token, refund_token}
 use Rattle.ibc_machine.specs.Totals.{succeeded}
 use Rattle.ibc_machine.specs.Machine.{World}
@@ -22,7 +21,7 @@ use Rattle.ibc_laws.proofs.TokenMoves.{refunded_tokens}
 use Rattle.ibc_laws.proofs.FlightSums.{under_way-settled}
 use Rattle.ibc_laws.proofs.HeldAndIssued.{if_of, kept_of}
 use Rattle.ibc_laws.proofs.TokenShifts.{carried_of, refunded_shift}
-use Rattle.ibc_laws.proofs.BalancedPair.{flown, unless, unless-plus, counts}
+use Rattle.ibc_laws.proofs.BalancedPair.{unless, unless-plus, counts}
 use Rattle.ibc_laws.proofs.PairSteps.{balances_at}
 use Rattle.ibc_laws.proofs.FourthLaw.{Conserving}
 
@@ -107,8 +106,8 @@ module _ (channel user : Text) (is : is_user user ≡ true) where
       let sorted_now = (refunded_tokens any channel user (token ∷ []) b first.0 sorted one).sorted in
       let shift = refunded_shift channel user (token ∷ []) b first.0 sorted is one in
       let rest = refunds_all tokens first.0 sorted_now (λ denom.
-          let whole = enough denom in
-          let parts = kept_of-cons channel denom token tokens in
-          let held = shift.held denom in
-          omega arith) in
+      let whole = enough denom in
+      let parts = kept_of-cons channel denom token tokens in
+      let held = shift.held denom in
+      omega arith) in
       (rest.0, ap (λ o. option_and_then (each_token (refund_token channel user) tokens) o) first.1 ∙ rest.1)

@@ -1,11 +1,9 @@
 -- The escrow of a channel equals the vouchers present and under way, of each denomination that doesn't begin with
 -- the channel's own hop.
-use Rattle.std.proofs.Common.{◌≡◌, ℕ, suc, zero, ◌+◌, ◌≤◌, true, false, refl, ap, sym, ◌∙◌, subst, List, [], ◌∷◌, ◌++◌, Option, Some, None, inl, inr, arith, slice_get, length}
+use Rattle.std.proofs.Common.{◌≡◌, ℕ, suc, zero, ◌≤◌, true, false, refl, ap, sym, ◌∙◌, subst, List, [], ◌∷◌, ◌++◌, Option, Some, None, inl, inr, arith, slice_get, length}
 use Rattle.std.specs.Option.{option_map_or, option_and_then}
 use Rattle.std.specs.Prelude.{option_map}
-use Rattle.ibc_ids.specs.Texts.{Text}
 use Rattle.ibc_ids.specs.Names.{hop}
-use Rattle.ibc_wire.specs.declared.records.ChannelState.{ChannelState}
 use Rattle.ibc_machine.specs.Records.{Records, Chain, Channel, channel_at}
 use Rattle.ibc_machine.specs.Bank.{balance, supply, escrow}
 use Rattle.ibc_machine.specs.Transfers.{transfer_port, came_over}
@@ -19,7 +17,7 @@ use Rattle.ibc_machine.specs.Laws.{Conserved, IsPast}
 use Rattle.ibc_laws.proofs.Places.{some_is, placed}
 use Rattle.ibc_laws.proofs.Told.{told_of}
 use Rattle.ibc_laws.proofs.CoreSteps.{rank}
-use Rattle.ibc_laws.proofs.Invariant.{Inv, stepped_grows, stepped_back, starts_empty, no_channel}
+use Rattle.ibc_laws.proofs.Invariant.{Inv, stepped_grows, starts_empty, no_channel}
 use Rattle.ibc_laws.proofs.Induction.{past_has}
 use Rattle.ibc_laws.proofs.Steps.{Moves, Stepped, rests, moves, stepped}
 use Rattle.ibc_laws.proofs.AtEnds.{at_end}
@@ -118,8 +116,7 @@ module _ (chains : ℕ) (hs : List Happened) (w : World) (h : Happened) (v : Wor
               is = subst (λ q. channel_at s.before.records.core q e.channel ≡ Some m) (sym is) at_;
             }) in
             let is_then : channel_at s.now.records.core transfer_port e.channel ≡ Some n =
-            subst (λ (c : Chain). channel_at c.records.core transfer_port e.channel ≡ Some n) (sym moved.1) is_now in
-            (
+            subst (λ (c : Chain). channel_at c.records.core transfer_port e.channel ≡ Some n) (sym moved.1) is_now in (
               subst (λ (c : Chain). IsUntouched c.records.apps.balances e.channel) moved.1
                   (untouched_now chains w inv was.known.kinds s.k s.before s.there (was.unopened s.k s.before s.there) (told_of h) s.now s.step (s.good typed) e.channel (clear s e is n now) before),
               unsent_now chains w inv was.known.kinds s.k s.before s.there (was.unopened s.k s.before s.there) (told_of h) s.now s.step (s.good typed) e.channel (clear s e is n now) before n is_then,

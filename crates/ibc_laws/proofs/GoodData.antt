@@ -1,17 +1,17 @@
 -- The data of a message that sends tokens is good, where the message is what its type promises and passed its checks.
-use Rattle.std.proofs.Common.{◌≡◌, ℕ, ◌≤◌, ◌^◌, Bool, true, false, refl, ap, sym, ◌∙◌, subst, List, [], ◌∷◌, ◌++◌, length, arith, not, ◌==◌, ◌&&◌, ◌||◌, nat_le, nat_lt, le-leb}
+use Rattle.std.proofs.Common.{◌≡◌, ℕ, ◌≤◌, ◌^◌, Bool, true, false, refl, sym, ◌∙◌, List, [], ◌∷◌, ◌++◌, arith, not, ◌==◌, ◌&&◌, ◌||◌, nat_le, nat_lt, le-leb}
 use Rattle.std.specs.List.{list_all, list_any, flat_map}
 use Rattle.std.proofs.lemmas.List.Folds.{list_all-append}
 use Rattle.ibc_ids.specs.Names.{is_denom, is_memo, is_receiver, is_user}
 use Rattle.ibc_wire.specs.Tokens.{is_rising, is_short}
 use Rattle.ibc_wire.specs.Fields.{Field, are_typed, name, n8, where_}
-use Rattle.ibc_wire.specs.Spelling.{tokens_fields, token_fields}
+use Rattle.ibc_wire.specs.Spelling.{token_fields}
 use Rattle.ibc_wire.specs.Messages.{message_fields}
 use Rattle.ibc_wire.specs.declared.token.Token.{Token}
 use Rattle.ibc_wire.specs.declared.messages.Message.TheVariants as message
 use Rattle.ibc_wire.specs.declared.messages.Transfer.{Transfer}
 use Rattle.ibc_wire.specs.declared.messages.TransferMany.{TransferMany}
-use Rattle.ibc_machine.specs.TokenData.{one_token, several_tokens, is_amount, is_token, is_data}
+use Rattle.ibc_machine.specs.TokenData.{one_token, several_tokens, is_token, is_data}
 use Rattle.ibc_machine.specs.Transfers.{transfer_data, transfer_many_data, is_zero}
 use Rattle.ibc_laws.proofs.PassedTests.{both, and_true}
 

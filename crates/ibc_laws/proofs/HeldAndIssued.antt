@@ -6,11 +6,11 @@ use Rattle.std.specs.Option.{option_map_or}
 use Rattle.std.proofs.lemmas.List.Sums.{sum_by-cons}
 use Rattle.std.proofs.Math.Seq.{drop-append_seam}
 use Rattle.ibc_ids.specs.Texts.{Text, same_text, pair_cmp}
-use Rattle.ibc_ids.specs.Maps.{Map, at}
+use Rattle.ibc_ids.specs.Maps.{at}
 use Rattle.ibc_ids.specs.Names.{is_user, hop}
 use Rattle.ibc_wire.specs.declared.token.Token.{Token}
 use Rattle.ibc_machine.specs.TokenData.{amount_of}
-use Rattle.ibc_machine.specs.Bank.{Balances, balance, supply, escrow}
+use Rattle.ibc_machine.specs.Bank.{Balances, balance, escrow}
 use Rattle.ibc_machine.specs.Transfers.{transfer_port, came_over}
 use Rattle.ibc_laws.proofs.PassedTests.{both, and_true, same_text_is, same_text-self}
 use Rattle.ibc_laws.proofs.FiniteMaps.{by_pair}
@@ -182,13 +182,16 @@ home_is port channel denom token = go (came_over port channel token.denom) refl
     longer came true true is was = refl
     longer came true false is was =
         let same : token.denom ≡ whole = came_over_is port channel token.denom came
-            ∙ ap (λ x. hop port channel ++ x) (same_text_is (drop (length (hop port channel)) token.denom) denom is) in
+        ∙ ap (λ x. hop port channel ++ x) (same_text_is (drop (length (hop port channel)) token.denom) denom is) in
         absurd (cc (was, subst (λ x. same_text token.denom x ≡ true) same (same_text-self token.denom)))
     longer came false true is was =
         let same : drop (length (hop port channel)) token.denom ≡ denom =
         ap (λ x. drop (length (hop port channel)) x) (same_text_is token.denom whole was) ∙ drop-append_seam (hop port channel) denom in
-        absurd (cc (is, subst (λ x. same_text (drop (length (hop port channel)) token.denom) x ≡ true) same
-        (same_text-self (drop (length (hop port channel)) token.denom))))
+        absurd (cc (
+          is,
+          subst (λ x. same_text (drop (length (hop port channel)) token.denom) x ≡ true) same
+              (same_text-self (drop (length (hop port channel)) token.denom)),
+        ))
     longer came false false is was = refl
 
     go : (p : Bool) → came_over port channel token.denom ≡ p
@@ -214,8 +217,11 @@ hopped_here channel denom token clear = go (same_text (hop transfer_port channel
         absurd (cc (was, subst (λ x. same_text token.denom x ≡ true) same (same_text-self token.denom)))
     go false true is was =
         let same = same_text_is token.denom denom was in
-        absurd (cc (is, subst (λ x. same_text (hop transfer_port channel ++ token.denom) (hop transfer_port channel ++ x) ≡ true) same
-        (same_text-self (hop transfer_port channel ++ token.denom))))
+        absurd (cc (
+          is,
+          subst (λ x. same_text (hop transfer_port channel ++ token.denom) (hop transfer_port channel ++ x) ≡ true) same
+              (same_text-self (hop transfer_port channel ++ token.denom)),
+        ))
 
 pub hopped_elsewhere : (channel other denom : Text) (token : Token) → HasNoSlash channel → HasNoSlash other → (channel ≡ other → ⊥)
     → if_of (hop transfer_port other ++ denom) (record token { denom = hop transfer_port channel ++ token.denom }) ≡ 0

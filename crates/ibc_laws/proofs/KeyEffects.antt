@@ -10,9 +10,7 @@ use Rattle.ibc_machine.specs.Evidence.{Host}
 use Rattle.ibc_machine.specs.Handlers.{host_of}
 use Rattle.ibc_machine.specs.Channels.{new_channel}
 use Rattle.ibc_machine.specs.Transfers.{transfer_port}
-use Rattle.ibc_machine.specs.Bank.{Balances}
 use Rattle.ibc_machine.specs.Machine.{World}
-use Rattle.ibc_laws.proofs.Places.{some_is}
 use Rattle.ibc_laws.proofs.FiniteMaps.{by_pair, at-with_split}
 use Rattle.ibc_laws.proofs.Identifiers.{nth_channel_same}
 use Rattle.ibc_laws.proofs.Told.{Told}

@@ -1,10 +1,8 @@
 -- No acknowledgement and no timeout is refused because an escrow holds too little: the packet is still under way, so
 -- the escrow holds what its refund takes.
-use Rattle.std.proofs.Common.{◌≡◌, ℕ, zero, suc, ◌≤◌, ◌<◌, Bool, true, false, refl, ap, sym, ◌∙◌, subst, List, [], ◌∷◌, ◌++◌, length, Option, Some, None, Ok, Err, Result, inl, inr, arith, nat_cmp, slice_get, Contains}
+use Rattle.std.proofs.Common.{◌≡◌, ℕ, zero, suc, ◌<◌, Bool, true, false, refl, ap, sym, ◌∙◌, subst, List, [], ◌∷◌, ◌++◌, length, Option, Some, None, Ok, Err, inl, inr, arith, slice_get, Contains}
 use Rattle.std.specs.Prelude.{⊤}
-use Rattle.ibc_ids.specs.Texts.{Text, same_text}
-use Rattle.ibc_ids.specs.Maps.{at}
-use Rattle.ibc_ids.specs.declared.refusal.Refusal.{Refusal}
+use Rattle.ibc_ids.specs.Texts.{same_text}
 use Rattle.ibc_ids.specs.declared.refusal.Refusal.TheVariants as refusal
 use Rattle.ibc_wire.specs.declared.packet.Packet.{Packet}
 use Rattle.ibc_wire.specs.declared.messages.Message.{Message}
@@ -29,9 +27,9 @@ use Rattle.ibc_machine.specs.Totals.{succeeded}
 use Rattle.ibc_machine.specs.Genesis.{GenesisState}
 use Rattle.ibc_machine.specs.Machine.{World, looks, true_marks, answer, at_chain, Step}
 use Rattle.ibc_machine.specs.Histories.{Happened, End}
-use Rattle.ibc_machine.specs.Laws.{NeverPoor, IsPast, settles}
+use Rattle.ibc_machine.specs.Laws.{NeverPoor, settles}
 use Rattle.ibc_laws.proofs.Seen.{seeing}
-use Rattle.ibc_laws.proofs.CoreSteps.{rank, Acks, TimesOut, Settles}
+use Rattle.ibc_laws.proofs.CoreSteps.{TimesOut, Settles}
 use Rattle.ibc_laws.proofs.PacketsPassed.{acking, timing_out, timing_out_on_close}
 use Rattle.ibc_laws.proofs.Steps.{stepped}
 use Rattle.ibc_laws.proofs.Induction.{past_has}

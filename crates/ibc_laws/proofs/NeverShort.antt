@@ -1,30 +1,27 @@
 -- No escrow holds too little at a receive: the packet's commitment stands, so its tokens that come home are under
 -- way back to the escrow.
-use Rattle.std.proofs.Common.{◌≡◌, ℕ, ◌≤◌, true, false, refl, ap, sym, ◌∙◌, subst, List, [], ◌++◌, length, drop, Option, Some, None, arith, nat_cmp, slice_get, Contains}
+use Rattle.std.proofs.Common.{◌≡◌, ℕ, ◌≤◌, true, false, refl, ap, sym, ◌∙◌, subst, List, [], ◌++◌, length, Option, Some, arith, Contains}
 use Rattle.std.specs.Option.{option_map_or}
 use Rattle.ibc_ids.specs.Texts.{Text, same_text}
 use Rattle.ibc_ids.specs.Names.{hop}
 use Rattle.ibc_wire.specs.declared.packet.Packet.{Packet}
 use Rattle.ibc_wire.specs.declared.token.Token.{Token}
-use Rattle.ibc_wire.specs.declared.messages.RecvPacket.{RecvPacket}
 use Rattle.ibc_wire.specs.declared.messages.Message.TheVariants as message
 use Rattle.ibc_machine.specs.declared.event.Event.TheVariants as event
 use Rattle.ibc_machine.specs.declared.reply.Reply.TheVariants as reply
 use Rattle.ibc_machine.specs.Records.{Chain, Channel, commitment_of}
 use Rattle.ibc_machine.specs.Handlers.{host_of}
-use Rattle.ibc_machine.specs.TokenData.{Data, data_of, tokens_of, amount_of, success}
+use Rattle.ibc_machine.specs.TokenData.{Data, data_of, amount_of, success}
 use Rattle.ibc_machine.specs.Bank.{balance, escrow}
 use Rattle.ibc_machine.specs.Transfers.{transfer_port, came_over, without_hop}
-use Rattle.ibc_machine.specs.Totals.{balances_of}
 use Rattle.ibc_machine.specs.Machine.{World}
 use Rattle.ibc_machine.specs.Ledgers.{chain_of}
 use Rattle.ibc_machine.specs.Histories.{Happened, End, packet_if, is_destination}
-use Rattle.ibc_machine.specs.Laws.{NeverShort, IsEscrowed}
+use Rattle.ibc_machine.specs.Laws.{NeverShort}
 use Rattle.ibc_laws.proofs.PassedTests.{and_true, same_text-self}
-use Rattle.ibc_laws.proofs.Told.{Told, Quiet, Received, told_of, received_in}
+use Rattle.ibc_laws.proofs.Told.{Told, Received, told_of, received_in}
 use Rattle.ibc_laws.proofs.CoreSteps.{rank, ChannelStep, answers, follows, closes, sends, receives, acknowledges, times_out, Receives}
 use Rattle.ibc_laws.proofs.EndSteps.{open_rank}
-use Rattle.ibc_laws.proofs.Steps.{Stepped}
 use Rattle.ibc_laws.proofs.Steps.{stepped as did_step}
 use Rattle.ibc_laws.proofs.AtEnds.{EndStep, untouched, opened, stepped, at_end}
 use Rattle.ibc_laws.proofs.Peers.{Stands, Peers, stands, stands_same}

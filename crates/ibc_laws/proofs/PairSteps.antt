@@ -1,20 +1,19 @@
 -- The equation of two peers over a step: at most one of the two chains moves, and what its end does keeps it; and
 -- two ends that become peers have moved nothing yet.
-use Rattle.std.proofs.Common.{◌≡◌, ℕ, suc, zero, ◌+◌, ◌≤◌, Bool, true, refl, ap, sym, ◌∙◌, subst, List, [], Option, Some, None, inl, inr, ◌⊎◌, arith, slice_get, slice_set, nat_cmp}
+use Rattle.std.proofs.Common.{◌≡◌, ℕ, true, refl, ap, sym, ◌∙◌, subst, List, Some, inl, inr, slice_get}
 use Rattle.ibc_ids.specs.Texts.{Text}
 use Rattle.ibc_machine.specs.Records.{Records, Chain, Channel, channel_at}
 use Rattle.ibc_machine.specs.Evidence.{Host}
 use Rattle.ibc_machine.specs.Handlers.{host_of}
 use Rattle.ibc_machine.specs.Channels.{is_established}
 use Rattle.ibc_machine.specs.Bank.{Balances}
-use Rattle.ibc_machine.specs.Transfers.{transfer_port, came_over}
+use Rattle.ibc_machine.specs.Transfers.{transfer_port}
 use Rattle.ibc_machine.specs.Machine.{World}
 use Rattle.ibc_machine.specs.Ledgers.{is_typed}
 use Rattle.ibc_machine.specs.Histories.{Happened, End}
 use Rattle.ibc_laws.proofs.PassedTests.{either}
 use Rattle.ibc_laws.proofs.Places.{some_is, same_or_not, get-set_same, get-set_other}
 use Rattle.ibc_laws.proofs.Told.{told_of}
-use Rattle.ibc_laws.proofs.CoreSteps.{rank}
 use Rattle.ibc_laws.proofs.PacketsPassed.{established_rank}
 use Rattle.ibc_laws.proofs.Invariant.{Inv, shape_of}
 use Rattle.ibc_laws.proofs.ChainKinds.{Kinds}
@@ -22,12 +21,10 @@ use Rattle.ibc_laws.proofs.Steps.{Moves}
 use Rattle.ibc_laws.proofs.AtEnds.{MovesAt, here}
 use Rattle.ibc_laws.proofs.Peers.{Stands, Peers, stands_alike, one_peer_only, peers_flip}
 use Rattle.ibc_laws.proofs.FirstLaw.{peer_of, peers_of}
-use Rattle.ibc_laws.proofs.Hops.{HasNoSlash}
 use Rattle.ibc_laws.proofs.ChannelNames.{channel_has_no_slash}
 use Rattle.ibc_laws.proofs.TokenEffects.{OwnEffect, does_nothing}
-use Rattle.ibc_laws.proofs.TokenShifts.{Unshifted}
 use Rattle.ibc_laws.proofs.KeyEffects.{KeyEffect, left_alone, opened_now, went_on, key_effect}
-use Rattle.ibc_laws.proofs.BalancedPair.{Balanced, PairEffect, balanced_here, balanced_there}
+use Rattle.ibc_laws.proofs.BalancedPair.{Balanced, balanced_here, balanced_there}
 use Rattle.ibc_laws.proofs.PeerFacts.{Known, pair_effect}
 
 abbrev pub balances_at : {w : World} {e : End} {m : Channel} → Stands w e m → Balances

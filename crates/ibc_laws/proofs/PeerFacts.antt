@@ -1,11 +1,11 @@
 -- What two peers know of each other's books: a packet that is received is committed to still; one that was
 -- acknowledged so was acknowledged so; one that times out was not acknowledged, and neither was the next one.
-use Rattle.std.proofs.Common.{◌≡◌, ℕ, ◌≤◌, ◌<◌, Bool, true, false, refl, ap, sym, ◌∙◌, subst, List, Option, Some, None, inl, inr, arith, nat_cmp}
+use Rattle.std.proofs.Common.{◌≡◌, ℕ, ◌≤◌, ◌<◌, true, false, refl, ap, sym, ◌∙◌, subst, List, Option, Some, None, inl, inr, arith, nat_cmp}
 use Rattle.std.specs.Option.{option_map_or}
 use Rattle.ibc_ids.specs.Texts.{Text, same_text}
 use Rattle.ibc_ids.specs.Maps.{at}
 use Rattle.ibc_wire.specs.declared.packet.Packet.{Packet}
-use Rattle.ibc_machine.specs.Records.{Channel, Commitment, channel_at, commitment_of}
+use Rattle.ibc_machine.specs.Records.{Channel, channel_at, commitment_of}
 use Rattle.ibc_machine.specs.Handlers.{host_of}
 use Rattle.ibc_machine.specs.Packets.{has_received}
 use Rattle.ibc_machine.specs.TokenData.{tokens_of, success}
@@ -17,11 +17,11 @@ use Rattle.ibc_machine.specs.Histories.{Happened, End}
 use Rattle.ibc_laws.proofs.CoreSteps.{Receives, Acks, TimesOut, HadAck}
 use Rattle.ibc_laws.proofs.Worlds.{WorldGrows, WorldGrows-refl}
 use Rattle.ibc_laws.proofs.Invariant.{Inv, shape_of}
-use Rattle.ibc_laws.proofs.Peers.{Stands, Peers, stands_alike, one_peer_only, peers_flip}
+use Rattle.ibc_laws.proofs.Peers.{Peers, stands_alike, one_peer_only, peers_flip}
 use Rattle.ibc_laws.proofs.FirstLaw.{peers_of}
 use Rattle.ibc_laws.proofs.PeerSeen.{PeerSeen, peer_seen}
 use Rattle.ibc_laws.proofs.ReceiptsAndTimeouts.{sender_seen, receiver_seen, not_after_timeout, not_after_receipt}
-use Rattle.ibc_laws.proofs.Lasting.{WasReceived, WasTimedOut}
+use Rattle.ibc_laws.proofs.Lasting.{WasReceived}
 use Rattle.ibc_laws.proofs.AcknowledgedReceived.{IsReceived}
 use Rattle.ibc_laws.proofs.SecondLaw.{Once}
 use Rattle.ibc_laws.proofs.ThirdLaw.{Ordering}

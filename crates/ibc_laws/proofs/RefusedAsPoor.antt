@@ -1,6 +1,6 @@
 -- What is known where an acknowledgement or a timeout is refused because an escrow holds too little: all checks have
 -- passed, and a token of the packet's data can't be refunded.
-use Rattle.std.proofs.Common.{◌≡◌, ℕ, Bool, true, false, refl, ap, sym, ◌∙◌, subst, Option, Some, None, Ok, Err, ◌⊎◌, inl, inr, length, slice_get, if◌then◌else◌}
+use Rattle.std.proofs.Common.{◌≡◌, Bool, true, false, refl, ap, Option, Some, None, Ok, Err, ◌⊎◌, inl, inr, if◌then◌else◌}
 use Rattle.ibc_ids.specs.Texts.{Text, same_text}
 use Rattle.ibc_ids.specs.declared.refusal.Refusal.{Refusal}
 use Rattle.ibc_ids.specs.declared.refusal.Refusal.TheVariants as refusal
@@ -8,10 +8,10 @@ use Rattle.ibc_wire.specs.declared.packet.Packet.{Packet}
 use Rattle.ibc_wire.specs.declared.messages.AckPacket.{AckPacket}
 use Rattle.ibc_wire.specs.declared.messages.Timeout.{Timeout}
 use Rattle.ibc_wire.specs.declared.messages.TimeoutOnClose.{TimeoutOnClose}
-use Rattle.ibc_machine.specs.Records.{Core, Apps, Channel, channel_at}
+use Rattle.ibc_machine.specs.Records.{Core, Apps, channel_at}
 use Rattle.ibc_machine.specs.Checks.{Checked, require, expect, go_on, and_then, ◌>>=◌, ◌>>◌}
 use Rattle.ibc_machine.specs.Evidence.{Evidence}
-use Rattle.ibc_machine.specs.Packets.{ack_checked, ack_packet, timeout_checked, timeout, timeout_on_close_checked, timeout_on_close}
+use Rattle.ibc_machine.specs.Packets.{ack_checked, timeout_checked, timeout_on_close_checked}
 use Rattle.ibc_machine.specs.TokenData.{Data, data_of, success}
 use Rattle.ibc_machine.specs.Bank.{Balances}
 use Rattle.ibc_machine.specs.Transfers.{transfer_port, each_token, refund_token, refund_data, refund_transfer, acknowledge_transfer}

@@ -1,5 +1,5 @@
 -- What a labelled step of an end does to the tokens: at its own channel, by the label; and nothing at any other.
-use Rattle.std.proofs.Common.{◌≡◌, ℕ, Bool, true, false, refl, ap, sym, ◌∙◌, subst, List, [], ◌+◌, ◌++◌, arith, Option, Some, Ok, nat_cmp, inl, inr, ◌⊎◌, ◌&&◌, if◌then◌else◌}
+use Rattle.std.proofs.Common.{◌≡◌, ℕ, Bool, true, false, refl, ap, sym, ◌∙◌, subst, List, [], ◌+◌, ◌++◌, Option, Some, nat_cmp, inl, inr, if◌then◌else◌}
 use Rattle.std.specs.Option.{option_map_or}
 use Rattle.ibc_ids.specs.Texts.{Text, same_text}
 use Rattle.ibc_ids.specs.Maps.{with, without}
@@ -10,15 +10,15 @@ use Rattle.ibc_wire.specs.declared.records.ChannelState.TheVariants as chan
 use Rattle.ibc_machine.specs.Records.{Core, Apps, Records, Channel, Commitment, commitment_of}
 use Rattle.ibc_machine.specs.Evidence.{Host}
 use Rattle.ibc_machine.specs.Packets.{is_ordered, after_receive, after_ack, after_timeout}
-use Rattle.ibc_machine.specs.TokenData.{Data, data_of, data_text, is_data, tokens_of, amount_of, success, error}
+use Rattle.ibc_machine.specs.TokenData.{Data, data_of, is_data, tokens_of, amount_of, success, error}
 use Rattle.ibc_machine.specs.Bank.{Balances, balance, escrow}
 use Rattle.ibc_machine.specs.Transfers.{transfer_port, came_over, burnt}
 use Rattle.ibc_machine.specs.Machine.{World}
 use Rattle.ibc_machine.proofs.DataRead.{data_read, data_spelled}
-use Rattle.ibc_laws.proofs.PassedTests.{both, same_text_is, same_text-self}
+use Rattle.ibc_laws.proofs.PassedTests.{both, same_text_is}
 use Rattle.ibc_laws.proofs.Told.{Told}
 use Rattle.ibc_laws.proofs.CoreSteps.{ChannelStep, answers, follows, closes, sends, receives, acknowledges, times_out, Receives, Acks, TimesOut}
-use Rattle.ibc_laws.proofs.AppSteps.{AppsOfEnd, GoodOfEnd, SendsTokens}
+use Rattle.ibc_laws.proofs.AppSteps.{AppsOfEnd, GoodOfEnd}
 use Rattle.ibc_laws.proofs.EndSteps.{taken, acked, over}
 use Rattle.ibc_laws.proofs.Measures.{IsSorted}
 use Rattle.ibc_laws.proofs.BalanceSteps.{Taking, takes, refuses, error_is_no_success, Refunding, no_data, refunds, Acknowledging, succeeds, fails, ByPort, received_balances, acknowledged_balances, timed_out_balances}
@@ -43,9 +43,6 @@ same_balances before after channel same = subst (λ b. Unshifted before b channe
 
 module _ (w : World) (host : Host) (records : Records) (apps : Apps) (sorted : IsSorted records.apps.balances)
     (port id other : Text) (clear : HasNoSlash id) (clear_other : HasNoSlash other) (apart : port ≡ transfer_port → id ≡ other → ⊥) where
-  before : Balances
-  before = records.apps.balances
-
   refund_apart : (m : Channel) (p : Packet) (after : Balances) → port ≡ transfer_port → p.source_channel ≡ id
       → Refunding records.apps.balances m.end.version p after → Unshifted records.apps.balances after other
   refund_apart m p _ is from (no_data none) = unshifted records.apps.balances other

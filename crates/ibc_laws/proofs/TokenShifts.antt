@@ -1,6 +1,6 @@
 -- How the tokens of a packet shift what the escrow of a channel holds and what is issued of the denominations that
 -- came over the channel: where they leave over it, come back, or arrive; and that they shift no other channel's.
-use Rattle.std.proofs.Common.{◌≡◌, ℕ, ◌+◌, Bool, true, false, refl, ap, sym, ◌∙◌, List, ◌++◌, length, drop, Some, arith, if◌then◌else◌}
+use Rattle.std.proofs.Common.{◌≡◌, ℕ, ◌+◌, Bool, true, false, refl, ap, ◌∙◌, List, ◌++◌, Some, arith, if◌then◌else◌}
 use Rattle.std.specs.List.{sum_by}
 use Rattle.ibc_ids.specs.Texts.{Text}
 use Rattle.ibc_ids.specs.Names.{is_user, hop}

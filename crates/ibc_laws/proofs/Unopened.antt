@@ -1,6 +1,6 @@
 -- Before a channel was OPEN its escrow is empty, nothing is issued with its hop, and it has sent nothing; the step
 -- that opens it keeps that.
-use Rattle.std.proofs.Common.{◌≡◌, ℕ, zero, suc, ◌+◌, ◌≤◌, true, false, ◌&&◌, if◌then◌else◌, map, ◌∷◌, refl, ap, sym, ◌∙◌, subst, [], ◌++◌, Some, arith, inl, inr, slice_get, length, List}
+use Rattle.std.proofs.Common.{◌≡◌, ℕ, zero, suc, true, false, ◌&&◌, if◌then◌else◌, map, ◌∷◌, refl, ap, sym, ◌∙◌, subst, [], ◌++◌, Some, arith, inl, inr, slice_get, List}
 use Rattle.std.specs.List.{list_all, fold}
 use Rattle.ibc_ids.specs.Texts.{Text, same_text}
 use Rattle.ibc_ids.specs.Names.{is_user, is_base_denom, hop}
@@ -19,7 +19,6 @@ use Rattle.ibc_laws.proofs.Places.{placed, some_is}
 use Rattle.ibc_laws.proofs.Told.{Told, told_of}
 use Rattle.ibc_laws.proofs.CoreSteps.{rank}
 use Rattle.ibc_laws.proofs.EndSteps.{open_rank}
-use Rattle.ibc_laws.proofs.Growth.{Grows}
 use Rattle.ibc_laws.proofs.Worlds.{ChainStep, GoodStep, chain_grows, chain_shaped}
 use Rattle.ibc_laws.proofs.Invariant.{Inv}
 use Rattle.ibc_laws.proofs.ChainKinds.{Kinds}
