@@ -10,7 +10,7 @@ use Rattle.ibc_machine.specs.Records.{Core, Chain, Channel, channel_at}
 use Rattle.ibc_machine.specs.Evidence.{Host}
 use Rattle.ibc_machine.specs.Handlers.{host_of}
 use Rattle.ibc_machine.specs.Channels.{new_channel}
-use Rattle.ibc_machine.specs.Ledgers.{chain_of}
+use Rattle.ibc_machine.specs.Ledgers.{chain_of, is_typed}
 use Rattle.ibc_machine.specs.Machine.{World}
 use Rattle.ibc_machine.specs.Histories.{Happened, End, is_end, packet_if}
 use Rattle.ibc_laws.proofs.PassedTests.{both, same_text_is}
@@ -18,7 +18,7 @@ use Rattle.ibc_laws.proofs.FiniteMaps.{by_pair, at-with_split}
 use Rattle.ibc_laws.proofs.Places.{some_is, same_or_not, get-set_same, get-set_other}
 use Rattle.ibc_laws.proofs.Told.{Told, Quiet, told_of, sent_in, received_in, acknowledged_in, timed_out_in}
 use Rattle.ibc_laws.proofs.CoreSteps.{CoreStep, creates_client, updates_client, starts_connection, answers_connection, confirms_connection, opens_channel, changes_channel, ChannelStep, answers, follows, closes, sends, receives, acknowledges, times_out}
-use Rattle.ibc_laws.proofs.Worlds.{ChainStep, acts, ends, next_chain}
+use Rattle.ibc_laws.proofs.Worlds.{ChainStep, acts, ends, GoodStep, next_chain}
 use Rattle.ibc_laws.proofs.CoreShape.{HasChannel}
 use Rattle.ibc_laws.proofs.Numbered.{none_yet}
 use Rattle.ibc_laws.proofs.Identifiers.{nth_channel_same}
@@ -97,13 +97,14 @@ quiet_elsewhere w host core e port id m told n other (times_out p s) = record {
 
 -- ---- the chain of the end moves
 
-record MovesAt (chains : ℕ) (w : World) (h : Happened) (v : World) (k : ℕ) : Type 0 where
-  before : Chain
-  now : Chain
-  there : slice_get w k ≡ Some before
-  chain_is : chain_of h.0 ≡ k
-  step : ChainStep chains w k before (told_of h) now
-  after : v ≡ slice_set w k now
+pub record MovesAt (chains : ℕ) (w : World) (h : Happened) (v : World) (k : ℕ) : Type 0 where
+  pub before : Chain
+  pub now : Chain
+  pub there : slice_get w k ≡ Some before
+  pub chain_is : chain_of h.0 ≡ k
+  pub step : ChainStep chains w k before (told_of h) now
+  pub good : is_typed h.0 ≡ true → GoodStep chains w k before (told_of h) now step
+  pub after : v ≡ slice_set w k now
 
 module _ (chains : ℕ) (w : World) (h : Happened) (v : World) (inv : Inv w) (e : End) (s : MovesAt chains w h v e.chain) where
   stands_now : (d : Chain) → s.now ≡ d → (n : Channel) → channel_at d.records.core e.port e.channel ≡ Some n → Stands v e n
@@ -183,13 +184,14 @@ module _ (chains : ℕ) (w : World) (h : Happened) (v : World) (inv : Inv w) (e 
 
 -- ---- every step, at every end
 
-here : (chains : ℕ) (w : World) (h : Happened) (v : World) (s : Moves chains w h v) (k : ℕ) → k ≡ s.k → MovesAt chains w h v k
+pub here : (chains : ℕ) (w : World) (h : Happened) (v : World) (s : Moves chains w h v) (k : ℕ) → k ≡ s.k → MovesAt chains w h v k
 here chains w h v s k is = subst (MovesAt chains w h v) (sym is) (record {
   before = s.before;
   now = s.now;
   there = s.there;
   chain_is = s.chain_is;
   step = s.step;
+  good = s.good;
   after = s.after;
 })
 

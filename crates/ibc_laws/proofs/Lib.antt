@@ -7,6 +7,7 @@ pub mod Seen
 pub mod Told
 pub mod CoreSteps
 pub mod AppSteps
+pub mod GoodData
 pub mod Growth
 pub mod ConnectionsPassed
 pub mod ChannelsPassed
@@ -48,3 +49,17 @@ pub mod ChainKinds
 pub mod FlightSums
 pub mod Ports
 pub mod GoneSettled
+pub mod HeldAndIssued
+pub mod TokenShifts
+pub mod TokenEffects
+pub mod BalancedPair
+pub mod PeerFacts
+pub mod ChannelNames
+pub mod KeyEffects
+pub mod Unopened
+pub mod PairSteps
+pub mod FourthLaw
+pub mod EscrowsHold
+pub mod NeverShort
+pub mod RefusedAsPoor
+pub mod NeverPoor

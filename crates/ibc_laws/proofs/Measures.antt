@@ -173,10 +173,6 @@ paid test holder token b after sorted e = go (nat_lt had token.amount) refl e
           measured = omega arith;
         })
 
-pub Moved-then : {test : Test} {a b c : Balances} {out gain out' gain' : ℕ} → Moved test a b out gain → Moved test b c out' gain'
-    → Moved test a c (out + out') (gain + gain')
-Moved-then f g = record { sorted = g.sorted; measured = let x = f.measured in let y = g.measured in omega arith }
-
 -- from one account to another
 pub moved_between : (test : Test) (from to : Text) (token : Token) (b after : Balances) → IsSorted b
     → option_map (give to token) (pay from token b) ≡ Some after

@@ -12,7 +12,7 @@ use Rattle.ibc_laws.proofs.PassedChecks.{bind_passed, ok_same}
 use Rattle.ibc_laws.proofs.Seen.{seeing}
 use Rattle.ibc_laws.proofs.Told.{Quiet, told_by}
 use Rattle.ibc_laws.proofs.CoreSteps.{Did}
-use Rattle.ibc_laws.proofs.AppSteps.{DidBoth, quiet_apps}
+use Rattle.ibc_laws.proofs.AppSteps.{DidBoth, quiet_apps, quiet_good}
 use Rattle.ibc_laws.proofs.ConnectionsPassed.{create_client_did, update_client_did, conn_open_init_did, conn_open_try_did, conn_open_ack_did, conn_open_confirm_did}
 use Rattle.ibc_laws.proofs.ChannelsPassed.{chan_open_init_did, chan_open_try_did, chan_open_ack_did, chan_open_confirm_did, chan_close_init_did, chan_close_confirm_did}
 use Rattle.ibc_laws.proofs.SendsPassed.{transfer_did, transfer_many_did, send_note_did}
@@ -36,7 +36,11 @@ module _ (window : ℕ) (oldest : Bool) (w : World) (host : Host) (records : Rec
       → ((y : Effect × Core) → checked ≡ Ok y → Did w host records.core m y)
       → DidBoth w host records m (in_parts z)
   quietly m checked z e quiet did = of_core m checked z e
-      (λ y is. (did y is, quiet_apps w host records (told_by m y.0) y.1 (did y is) (quiet y.0)))
+      (λ y is. (
+        did y is,
+        quiet_apps w host records (told_by m y.0) y.1 (did y is) (quiet y.0),
+        λ typed. quiet_good w host records (told_by m y.0) y.1 (did y is) (quiet y.0),
+      ))
 
   of_both : (m : Message) (checked : Checked (Effect × Core × Apps)) (z : Effect × Records) → both_step checked ≡ Ok z
       → ((y : Effect × Core × Apps) → checked ≡ Ok y → DidBoth w host records m y) → DidBoth w host records m (in_parts z)

@@ -125,7 +125,7 @@ module _ (window : ℕ) (oldest : Bool) (w : World) (host : Host) (core : Core) 
         },
       )
 
-  acking : (m : AckPacket) (mine : Channel) → ack_checked (seeing window oldest w core) core m ≡ Ok mine
+  pub acking : (m : AckPacket) (mine : Channel) → ack_checked (seeing window oldest w core) core m ≡ Ok mine
       → (channel_at core m.packet.source_port m.packet.source_channel ≡ Some mine)
       × (s : Acks w core m.packet.source_port m.packet.source_channel mine m.packet) × (s.ack ≡ m.ack)
   unfolding ack_checked
@@ -158,7 +158,7 @@ module _ (window : ℕ) (oldest : Bool) (w : World) (host : Host) (core : Core) 
         refl,
       )
 
-  timing_out : (m : Timeout) (mine : Channel) → timeout_checked (seeing window oldest w core) core m ≡ Ok mine
+  pub timing_out : (m : Timeout) (mine : Channel) → timeout_checked (seeing window oldest w core) core m ≡ Ok mine
       → (channel_at core m.packet.source_port m.packet.source_channel ≡ Some mine)
       × TimesOut w core m.packet.source_port m.packet.source_channel mine m.packet
   unfolding timeout_checked
@@ -192,7 +192,7 @@ module _ (window : ℕ) (oldest : Bool) (w : World) (host : Host) (core : Core) 
         },
       )
 
-  timing_out_on_close : (m : TimeoutOnClose) (mine : Channel)
+  pub timing_out_on_close : (m : TimeoutOnClose) (mine : Channel)
       → timeout_on_close_checked (seeing window oldest w core) core m ≡ Ok mine
       → (channel_at core m.packet.source_port m.packet.source_channel ≡ Some mine)
       × TimesOut w core m.packet.source_port m.packet.source_channel mine m.packet
@@ -243,7 +243,7 @@ module _ (window : ℕ) (oldest : Bool) (w : World) (host : Host) (records : Rec
       let passed = receiving window oldest w host records.core m mine checked.1 in
       let did : Text × Apps = on_recv records p.destination_port mine.end.version p in
       subst (DidBoth w host records (message.RecvPacket m)) (ok_same checked.2)
-      (changes_channel _ p.destination_port p.destination_channel mine _ passed.0 (receives p did.0 passed.1), refl)
+      (changes_channel _ p.destination_port p.destination_channel mine _ passed.0 (receives p did.0 passed.1), refl, λ typed. tt)
 
   pub ack_packet_did : (m : AckPacket) (y : Effect × Core × Apps)
       → ack_packet (on_ack records.apps m.packet.source_port) (seeing window oldest w records.core) records.core m ≡ Ok y
@@ -258,6 +258,7 @@ module _ (window : ℕ) (oldest : Bool) (w : World) (host : Host) (records : Rec
       subst (DidBoth w host records (message.AckPacket m)) (ok_same app.2) (
         changes_channel _ p.source_port p.source_channel mine _ passed.0 (acknowledges p passed.1),
         subst (λ ack. on_ack records.apps p.source_port mine.end.version p ack ≡ Ok app.0) (sym passed.2) app.1,
+        λ typed. tt,
       )
 
   pub timeout_did : (m : Timeout) (y : Effect × Core × Apps)
@@ -271,7 +272,7 @@ module _ (window : ℕ) (oldest : Bool) (w : World) (host : Host) (records : Rec
       let app = bind_passed (on_timeout records.apps p.source_port mine.end.version p) _ checked.2 in
       let passed = timing_out window oldest w host records.core m mine checked.1 in
       subst (DidBoth w host records (message.Timeout m)) (ok_same app.2)
-      (changes_channel _ p.source_port p.source_channel mine _ passed.0 (times_out p passed.1), app.1)
+      (changes_channel _ p.source_port p.source_channel mine _ passed.0 (times_out p passed.1), app.1, λ typed. tt)
 
   pub timeout_on_close_did : (m : TimeoutOnClose) (y : Effect × Core × Apps)
       → timeout_on_close (on_timeout records.apps m.packet.source_port) (seeing window oldest w records.core) records.core m ≡ Ok y
@@ -284,4 +285,4 @@ module _ (window : ℕ) (oldest : Bool) (w : World) (host : Host) (records : Rec
       let app = bind_passed (on_timeout records.apps p.source_port mine.end.version p) _ checked.2 in
       let passed = timing_out_on_close window oldest w host records.core m mine checked.1 in
       subst (DidBoth w host records (message.TimeoutOnClose m)) (ok_same app.2)
-      (changes_channel _ p.source_port p.source_channel mine _ passed.0 (times_out p passed.1), app.1)
+      (changes_channel _ p.source_port p.source_channel mine _ passed.0 (times_out p passed.1), app.1, λ typed. tt)

@@ -1,6 +1,5 @@
--- The port of an end fixes its order, so an end of port `transfer` has a peer of that port; and such an end isn't
--- closed by its own chain.
-use Rattle.std.proofs.Common.{◌≡◌, Bool, true, false, refl, subst, Ok, ◌⊎◌, inl, inr, ◌||◌, if◌then◌else◌}
+-- The port of an end fixes its order, so an end of port `transfer` has a peer of that port.
+use Rattle.std.proofs.Common.{◌≡◌, Bool, true, false, refl, Ok, ◌⊎◌, inl, inr, ◌||◌, if◌then◌else◌}
 use Rattle.ibc_ids.specs.Texts.{Text, same_text}
 use Rattle.ibc_ids.specs.declared.refusal.Refusal.{Refusal}
 use Rattle.ibc_wire.specs.declared.records.Order.{Order}
@@ -10,7 +9,6 @@ use Rattle.ibc_machine.specs.Checks.{require}
 use Rattle.ibc_machine.specs.Values.{same_order}
 use Rattle.ibc_machine.specs.Transfers.{transfer_port, opens_for_transfers}
 use Rattle.ibc_machine.specs.Notes.{note_port, opens_for_notes}
-use Rattle.ibc_machine.specs.Applications.{on_close}
 use Rattle.ibc_machine.specs.Machine.{World}
 use Rattle.ibc_machine.specs.Histories.{End}
 use Rattle.ibc_laws.proofs.PassedChecks.{require_passed}
@@ -59,9 +57,3 @@ transfer_peer w inv kinds e f p is =
         | inr ours ↦ absurd (cc (is, ours.0))
       ]
     ]
-
-pub transfers_stay_open : (port : Text) → port ≡ transfer_port → on_close port ≡ Ok tt → ⊥
-transfers_stay_open port is e = none (subst (λ p. on_close p ≡ Ok tt) is e)
-  where
-    none : on_close transfer_port ≡ Ok tt → ⊥
-    none e = absurd (cc e)

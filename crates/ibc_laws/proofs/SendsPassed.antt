@@ -2,6 +2,8 @@
 use Rattle.std.proofs.Common.{◌≡◌, ℕ, Bool, true, refl, ap, sym, ◌∙◌, subst, Some, Ok, inl, inr}
 use Rattle.ibc_ids.specs.declared.refusal.Refusal.TheVariants as refusal
 use Rattle.ibc_ids.specs.Texts.{Text, same_text}
+use Rattle.ibc_wire.specs.Fields.{are_typed}
+use Rattle.ibc_wire.specs.Messages.{message_fields}
 use Rattle.ibc_wire.specs.declared.records.ChannelState.TheVariants as chan
 use Rattle.ibc_wire.specs.declared.messages.Message.TheVariants as message
 use Rattle.ibc_wire.specs.declared.messages.Transfer.{Transfer}
@@ -14,18 +16,19 @@ use Rattle.ibc_machine.specs.Records.{Core, Records, Channel, Commitment, channe
 use Rattle.ibc_machine.specs.Checks.{expect}
 use Rattle.ibc_machine.specs.Evidence.{Host, Evidence, require_number}
 use Rattle.ibc_machine.specs.Packets.{sending_end, require_timeouts, after_send}
-use Rattle.ibc_machine.specs.TokenData.{Data, one_token, several_tokens, data_text}
+use Rattle.ibc_machine.specs.TokenData.{Data, one_token, several_tokens, data_text, is_data}
 use Rattle.ibc_machine.specs.Bank.{Balances}
 use Rattle.ibc_machine.specs.Transfers.{transfer_port, transfer, transfer_many, send_tokens, send_token, each_token, with_tokens_sent, transfer_commitment, transfer_data, transfer_many_data}
 use Rattle.ibc_machine.specs.Notes.{note_port, note_commitment, send_note}
 use Rattle.ibc_machine.specs.Applications.{with_balances}
 use Rattle.ibc_machine.specs.Machine.{World}
 use Rattle.ibc_laws.proofs.PassedChecks.{require_passed, bind_passed, then_passed, expect_passed, ok_same}
-use Rattle.ibc_laws.proofs.PassedTests.{same_channel_state_is, same_text_is}
+use Rattle.ibc_laws.proofs.PassedTests.{both, same_channel_state_is, same_text_is}
 use Rattle.ibc_laws.proofs.Seen.{seeing}
 use Rattle.ibc_laws.proofs.Told.{Sent, told_by}
 use Rattle.ibc_laws.proofs.CoreSteps.{CoreStep, changes_channel, sends}
-use Rattle.ibc_laws.proofs.AppSteps.{AppsOf, DidBoth}
+use Rattle.ibc_laws.proofs.AppSteps.{AppsOf, GoodOf, DidBoth}
+use Rattle.ibc_laws.proofs.GoodData.{transfer_good, transfer_many_good}
 
 -- the end that sends is there, and OPEN
 sending : (core : Core) (port id : Text) (mine : Channel) → sending_end core port id ≡ Ok mine
@@ -63,14 +66,17 @@ module _ (window : ℕ) (oldest : Bool) (w : World) (host : Host) (records : Rec
   tokens_did : (m : Message) (channel version : Text) (mine : Channel) (d : Data) (c : Commitment) (y : Effect × Records)
       → sending_end records.core transfer_port channel ≡ Ok mine → same_text mine.end.version version ≡ true → c.payload ≡ data_text version d
       → told_by m (effect.Sent mine.next_send) ≡ Sent transfer_port channel mine.next_send c
+      → (are_typed (message_fields m) ≡ true → is_data version d ≡ true)
       → send_tokens (seeing window oldest w records.core) records channel mine d c ≡ Ok y → DidBoth w host records m (y.0, y.1.core, y.1.apps)
-  tokens_did m channel version mine d c y there same spelled told e =
+  tokens_did m channel version mine d c y there same spelled told good e =
       let pays = pays_tokens (seeing window oldest w records.core) records channel mine d c y e in
       let end = sending records.core transfer_port channel mine there in
       let version_is : mine.end.version ≡ version = same_text_is mine.end.version version same in
       subst (λ (z : Effect × Records). DidBoth w host records m (z.0, z.1.core, z.1.apps)) pays.after
       (subst (λ t. (did : CoreStep w host records.core t (with_channel transfer_port channel (after_send c mine) records.core))
-      × AppsOf w host records (with_balances records.apps pays.balances) t (with_channel transfer_port channel (after_send c mine) records.core) did) (sym told) (
+      × (apps : AppsOf w host records (with_balances records.apps pays.balances) t (with_channel transfer_port channel (after_send c mine) records.core) did)
+      × (are_typed (message_fields m) ≡ true
+      → GoodOf w host records (with_balances records.apps pays.balances) t (with_channel transfer_port channel (after_send c mine) records.core) did apps)) (sym told) (
         changes_channel _ transfer_port channel mine _ end.0 (sends c end.1),
         inr (record {
           port_is = refl;
@@ -80,6 +86,7 @@ module _ (window : ℕ) (oldest : Bool) (w : World) (host : Host) (records : Rec
           paid = pays.paid;
           after = refl;
         }),
+        λ typed. subst (λ v. is_data v d ≡ true) (sym version_is) (good typed),
       ))
 
   pub transfer_did : (m : Transfer) (y : Effect × Records) → transfer (seeing window oldest w records.core) records m ≡ Ok y
@@ -91,7 +98,7 @@ module _ (window : ℕ) (oldest : Bool) (w : World) (host : Host) (records : Rec
       let version = require_passed _ _ _ there.2 in
       let amount = require_passed _ _ _ version.1 in
       tokens_did (message.Transfer m) m.channel one_token there.0 d (transfer_commitment one_token d m.timeout_height m.timeout_time) y
-      there.1 version.0 refl refl amount.1
+      there.1 version.0 refl refl (transfer_good m amount.0) amount.1
 
   pub transfer_many_did : (m : TransferMany) (y : Effect × Records) → transfer_many (seeing window oldest w records.core) records m ≡ Ok y
       → DidBoth w host records (message.TransferMany m) (y.0, y.1.core, y.1.apps)
@@ -103,7 +110,7 @@ module _ (window : ℕ) (oldest : Bool) (w : World) (host : Host) (records : Rec
       let version = require_passed _ _ _ there.2 in
       let amount = require_passed _ _ _ version.1 in
       tokens_did (message.TransferMany m) m.channel several_tokens there.0 d (transfer_commitment several_tokens d m.timeout_height m.timeout_time) y
-      there.1 version.0 refl refl amount.1
+      there.1 version.0 refl refl (transfer_many_good m form.0 (both _ _ amount.0).0) amount.1
 
   pub send_note_did : (m : SendNote) (y : Effect × Core) → send_note (seeing window oldest w records.core) records.core m ≡ Ok y
       → DidBoth w host records (message.SendNote m) (y.0, y.1, records.apps)
@@ -117,4 +124,4 @@ module _ (window : ℕ) (oldest : Bool) (w : World) (host : Host) (records : Rec
       let number = then_passed (require_number mine.next_send) _ timeouts.1 in
       let end = sending records.core note_port m.channel mine there.1 in
       subst (λ (z : Effect × Core). DidBoth w host records (message.SendNote m) (z.0, z.1, records.apps)) (ok_same number.1)
-      (changes_channel _ note_port m.channel mine _ end.0 (sends c end.1), inl (refl, refl))
+      (changes_channel _ note_port m.channel mine _ end.0 (sends c end.1), inl (refl, refl), λ typed. tt)

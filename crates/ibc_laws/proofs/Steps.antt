@@ -1,5 +1,5 @@
 -- What a step of the machine does: nothing, or one chain moves.
-use Rattle.std.proofs.Common.{◌≡◌, ℕ, Bool, refl, ap, sym, ◌∙◌, subst, length, Option, Some, None, Ok, Err, inl, inr, slice_get, slice_set, leb-true, nat_le}
+use Rattle.std.proofs.Common.{◌≡◌, ℕ, Bool, true, refl, ap, sym, ◌∙◌, subst, length, Option, Some, None, Ok, Err, inl, inr, slice_get, slice_set, leb-true, nat_le}
 use Rattle.std.specs.Prelude.{⊤}
 use Rattle.ibc_ids.specs.declared.refusal.Refusal.{Refusal}
 use Rattle.ibc_ids.specs.declared.refusal.Refusal.TheVariants as refusal
@@ -14,14 +14,14 @@ use Rattle.ibc_machine.specs.Checks.{Checked}
 use Rattle.ibc_machine.specs.Genesis.{GenesisState}
 use Rattle.ibc_machine.specs.Handlers.{handle, host_of, after_message, message_answer, may_commit, after_block, block_answer}
 use Rattle.ibc_machine.specs.Machine.{World, looks, true_marks, answer, at_chain, Step}
-use Rattle.ibc_machine.specs.Ledgers.{chain_of}
+use Rattle.ibc_machine.specs.Ledgers.{chain_of, is_typed}
 use Rattle.ibc_machine.specs.Histories.{Happened}
 use Rattle.ibc_laws.proofs.PassedChecks.{require_passed}
 use Rattle.ibc_laws.proofs.Places.{set-same}
 use Rattle.ibc_laws.proofs.Seen.{seeing}
 use Rattle.ibc_laws.proofs.Told.{Quiet, told_of}
 use Rattle.ibc_laws.proofs.MessagesPassed.{message_did}
-use Rattle.ibc_laws.proofs.Worlds.{ChainStep, acts, ends, next_chain}
+use Rattle.ibc_laws.proofs.Worlds.{ChainStep, acts, ends, GoodStep, next_chain}
 
 -- the chain of the event moves
 pub record Moves (chains : ℕ) (w : World) (h : Happened) (v : World) : Type 0 where
@@ -31,6 +31,7 @@ pub record Moves (chains : ℕ) (w : World) (h : Happened) (v : World) : Type 0 
   pub there : slice_get w k ≡ Some before
   pub chain_is : chain_of h.0 ≡ k
   pub step : ChainStep chains w k before (told_of h) now
+  pub good : is_typed h.0 ≡ true → GoodStep chains w k before (told_of h) now step
   pub after : v ≡ slice_set w k now
 
 pub data Stepped (chains : ℕ) (w : World) (h : Happened) (v : World) : Type 0 where
@@ -50,9 +51,10 @@ module _ (genesis : GenesisState) (oldest : Bool) (w : World) where
       (sym (ap (λ (x : Reply × World). x.1) is))
 
   accepting : (h : Happened) (k : ℕ) (c d : Chain) (r : Reply) (v : World) → slice_get w k ≡ Some c → chain_of h.0 ≡ k
-      → ChainStep (length genesis.chains) w k c (told_of h) d → ◌≡◌ {A = Reply × World} (h.1, slice_set w k d) (r, v)
+      → (step : ChainStep (length genesis.chains) w k c (told_of h) d) → (is_typed h.0 ≡ true → GoodStep (length genesis.chains) w k c (told_of h) d step)
+      → ◌≡◌ {A = Reply × World} (h.1, slice_set w k d) (r, v)
       → Stepped (length genesis.chains) w (h.0, r) v
-  accepting h k c d r v there chain step is =
+  accepting h k c d r v there chain step good is =
       subst (λ (x : Reply × World). Stepped (length genesis.chains) w (h.0, x.0) x.1) is (moves (record {
         k = k;
         before = c;
@@ -60,6 +62,7 @@ module _ (genesis : GenesisState) (oldest : Bool) (w : World) where
         there = there;
         chain_is = chain;
         step = step;
+        good = good;
         after = refl;
       }))
 
@@ -68,8 +71,8 @@ module _ (genesis : GenesisState) (oldest : Bool) (w : World) where
       → handle (seeing genesis.window oldest w c.records.core) (host_of (length genesis.chains) k c) c.records m ≡ o
       → at_chain w k (λ (chain : Chain). after_message c o) (Some c) ≡ (r, v) → Stepped (length genesis.chains) w (event.Message k m, r) v
   of_message k c there m r v (Ok y) is e =
-      accepting (event.Message k m, reply.Ok y.0) k c (record c { records = y.1 }) r v there refl
-      (let did = message_did genesis.window oldest w (host_of (length genesis.chains) k c) c.records m y is in acts _ y.1 did.0 did.1) e
+      let did = message_did genesis.window oldest w (host_of (length genesis.chains) k c) c.records m y is in
+      accepting (event.Message k m, reply.Ok y.0) k c (record c { records = y.1 }) r v there refl (acts _ y.1 did.0 did.1) did.2 e
   of_message k c there m r v (Err why) is e =
       refusing (event.Message k m) why r v (ap (λ x. (reply.No why, x)) (sym (set-same w k c there)) ∙ e)
 
@@ -78,7 +81,7 @@ module _ (genesis : GenesisState) (oldest : Bool) (w : World) where
       → Stepped (length genesis.chains) w (event.Block k t, r) v
   of_block k c there t r v (Ok tt) is e =
       accepting (event.Block k t, _) k c (next_chain c t) r v there refl
-      (ends t (leb-true c.time t (require_passed (nat_le c.time t) _ _ is).0)) e
+      (ends t (leb-true c.time t (require_passed (nat_le c.time t) _ _ is).0)) (λ typed. tt) e
   of_block k c there t r v (Err why) is e =
       refusing (event.Block k t) why r v (ap (λ x. (reply.No why, x)) (sym (set-same w k c there)) ∙ e)
 

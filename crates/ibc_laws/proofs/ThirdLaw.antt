@@ -28,7 +28,7 @@ pub record Ordering (hs : List Happened) (w : World) : Type 0 where
   pub sent : (e : End) → SentInOrder hs w e
   pub received : (f : End) → ReceivedInOrder hs w f
 
-ordering_start : (genesis : GenesisState) → Ordering [] (start genesis)
+pub ordering_start : (genesis : GenesisState) → Ordering [] (start genesis)
 ordering_start genesis = record {
   inv = Inv-start genesis;
   sent = λ e. record {
@@ -44,7 +44,7 @@ ordering_start genesis = record {
   };
 }
 
-ordering_step : (chains : ℕ) (hs : List Happened) (w : World) (h : Happened) (v : World) → Ordering hs w → Stepped chains w h v
+pub ordering_step : (chains : ℕ) (hs : List Happened) (w : World) (h : Happened) (v : World) → Ordering hs w → Stepped chains w h v
     → Ordering (hs ++ h ∷ []) v
 ordering_step chains hs w h v o step = record {
   inv = stepped_inv chains w h v o.inv step;

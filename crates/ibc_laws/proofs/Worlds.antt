@@ -9,7 +9,7 @@ use Rattle.ibc_laws.proofs.Places.{last_or_before, got_below}
 use Rattle.ibc_laws.proofs.Seen.{Sees}
 use Rattle.ibc_laws.proofs.Told.{Told, Quiet}
 use Rattle.ibc_laws.proofs.CoreSteps.{CoreStep}
-use Rattle.ibc_laws.proofs.AppSteps.{AppsOf}
+use Rattle.ibc_laws.proofs.AppSteps.{AppsOf, GoodOf}
 use Rattle.ibc_laws.proofs.Growth.{Grows, Grows-refl, Grows-trans}
 use Rattle.ibc_laws.proofs.CoreShape.{CoreShaped, core_grows, core_shaped}
 
@@ -52,6 +52,11 @@ pub data ChainStep (chains : ℕ) (w : World) (k : ℕ) (c : Chain) : Told → C
       → AppsOf w (host_of chains k c) c.records records.apps told records.core step
       → ChainStep chains w k c told (record c { records = records })
   ends : (t : ℕ) → c.time ≤ t → ChainStep chains w k c Quiet (next_chain c t)
+
+-- where the event is what its type promises, the data that it sends is good
+abbrev pub GoodStep : (chains : ℕ) (w : World) (k : ℕ) (c : Chain) (told : Told) (d : Chain) → ChainStep chains w k c told d → Type 0
+GoodStep chains w k c _ d (acts told records step apps) = GoodOf w (host_of chains k c) c.records records.apps told records.core step apps
+GoodStep chains w k c told d (ends t later) = Unit {0}
 
 block_is : (h : ℕ) (xs : List Block) (y z : Block) → block_of h (xs ++ y ∷ []) ≡ Some z
     → (block_of h xs ≡ Some z) ⊎ ((h ≡ length xs + 1) × (y ≡ z))

@@ -2,7 +2,7 @@
 //! contract of a function that does nothing: to call it is to cite the law.
 #![tactic(auto)]
 
-ghost use Rattle.ibc_machine.specs.Laws.{ExactlyOnce, InOrder, OnePeer};
+ghost use Rattle.ibc_machine.specs.Laws.{Conserved, ExactlyOnce, InOrder, NeverPoor, NeverShort, OnePeer};
 ghost use Rattle.ibc_machine.specs.TokenData.{ReadsData};
 
 /// Each end of a channel that is OPEN or CLOSED has exactly one peer, and no end has two.
@@ -19,6 +19,23 @@ pub fn each_packet_is_handled_once()
 /// On an ordered channel what one end received is a beginning of what the other sent, equal in every field.
 pub fn each_ordered_channel_delivers_in_order()
     ensures { InOrder }
+{}
+
+/// The escrow of a channel equals the vouchers present and under way, of each denomination that doesn't begin with
+/// the channel's own hop.
+pub fn escrow_equals_vouchers_and_flight()
+    ensures { Conserved }
+{}
+
+/// No acknowledgement and no timeout of a packet is refused because an escrow holds too little for the refund.
+pub fn no_refund_is_refused()
+    ensures { NeverPoor }
+{}
+
+/// No escrow holds too little at a receive: before a packet is received, the escrow of its destination holds each of
+/// its tokens that comes home.
+pub fn no_escrow_is_short()
+    ensures { NeverShort }
 {}
 
 /// The data that a packet of tokens is read as is the good data that its payload spells, and good data is read back

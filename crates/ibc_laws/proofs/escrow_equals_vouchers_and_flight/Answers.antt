@@ -1,0 +1,5 @@
+use Rattle.ibc_laws.proofs.FourthLaw.{conserved}
+use Rattle.ibc_laws.proofs.escrow_equals_vouchers_and_flight.Goals as goal
+
+pub returns : goal.returns
+returns c = conserved
