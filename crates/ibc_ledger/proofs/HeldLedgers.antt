@@ -1,0 +1,56 @@
+-- What a ledger keeps stays in order where its pass sees more, and where its history gets longer.
+use Rattle.std.proofs.Common.{◌≡◌, ◌++◌, ◌∷◌, [], List, map, refl, sym, ap, ◌∙◌, subst, Some}
+use Rattle.std.proofs.lemmas.List.{map-append}
+use mathlib.Core.List.{IsPrefix}
+use Rattle.ibc_ids.specs.Publications.{published_by}
+use Rattle.ibc_ids.specs.declared.publication.Publication.{Publication}
+use Rattle.ibc_machine.specs.Replay.{StampedEntry}
+use Rattle.ibc_machine.specs.Ledgers.{Ledger}
+use Rattle.ibc_root_table.specs.Passes.{SamePass, KeepsOwn}
+use Rattle.ibc_records.specs.Held.{IsUnchanged}
+use Rattle.ibc_ledger.specs.declared.entry.StampedEntry.{StampedEntry as KeptEntry}
+use Rattle.ibc_ledger.specs.declared.ledger.Ledger.TheInside.{Inside}
+use Rattle.ibc_ledger.specs.Growing.{seeing_more, with_entry}
+use Rattle.ibc_ledger.specs.Standing.{Stands}
+use Rattle.ibc_ledger.specs.Held.{plain_entry}
+use Rattle.ibc_ledger.specs.Inside.{genesis_of, ledger_of, IsHeld}
+use Rattle.ibc_ledger.proofs.ClientMessages.{stands_unchanged}
+
+-- a step changes the records, the pass and the history, and nothing else
+abbrev pub IsStepped : Inside → Inside → Type 0
+IsStepped l new = new ≡ record l { records = new.records; pass = new.pass; history = new.history }
+
+-- the ledger of these entries and publications
+abbrev with_parts : Inside → List StampedEntry → List Publication → Ledger
+with_parts l history seen = record { genesis = genesis_of l; chain = l.chain; history = history; seen = seen }
+
+module _ (l : Inside) (held : IsHeld l) (new : Inside) (stepped : IsStepped l new) (same : SamePass l.pass new.pass) where
+  pub keeps_own : KeepsOwn l.pass new.pass → published_by l.chain new.pass.seen ≡ published_by l.chain l.pass.seen
+  keeps_own keeps = keeps l.chain held.own
+
+  pub held_by : (history : List StampedEntry) (seen : List Publication) → history ≡ map plain_entry new.history.items → seen ≡ new.pass.seen
+      → Stands (with_parts l history seen) new.records l.balances → IsHeld new
+  held_by history seen is sees stands = subst IsHeld (sym stepped) (record {
+    stands = subst (λ (w : List StampedEntry × List Publication). Stands (with_parts l w.0 w.1) new.records l.balances) (λ i. (is i, sees i)) stands;
+    allowed = held.allowed;
+    table = same.0 ∙ held.table;
+    own = same.1 ∙ held.own;
+    shape = held.shape;
+    chains = held.chains;
+    capacity = held.capacity;
+  })
+
+  -- memory ran out, or passes met
+  pub still_held : IsPrefix l.pass.seen new.pass.seen → KeepsOwn l.pass new.pass → IsUnchanged l.records new.records → new.history.items ≡ l.history.items → IsHeld new
+  still_held prefix keeps unchanged items =
+      held_by (map plain_entry l.history.items) (l.pass.seen ++ prefix.0) (ap (map plain_entry) (sym items)) prefix.1
+      (stands_unchanged (ledger_of l) l.records l.balances held.stands prefix.0 (ap (published_by l.chain) prefix.1 ∙ keeps_own keeps) new.records unchanged)
+
+  -- there is one entry more
+  pub longer_history : (kept : KeptEntry) → new.history.items ≡ l.history.items ++ kept ∷ [] → map plain_entry l.history.items ++ plain_entry kept ∷ [] ≡ map plain_entry new.history.items
+  longer_history kept items = sym (map-append plain_entry l.history.items (kept ∷ [])) ∙ ap (map plain_entry) (sym items)
+
+  pub held_with : (kept : KeptEntry) (e : StampedEntry) (prefix : IsPrefix l.pass.seen new.pass.seen) → new.history.items ≡ l.history.items ++ kept ∷ [] → e ≡ plain_entry kept
+      → Stands (with_entry (ledger_of l) e prefix.0) new.records l.balances → IsHeld new
+  held_with kept e prefix items is stands =
+      held_by (map plain_entry l.history.items ++ e ∷ []) (l.pass.seen ++ prefix.0) (ap (λ x. map plain_entry l.history.items ++ x ∷ []) is ∙ longer_history kept items) prefix.1 stands

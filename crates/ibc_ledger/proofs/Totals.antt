@@ -1,0 +1,57 @@
+-- The amounts of a denomination in a genesis, how often a holding stands there, and which genesis is allowed.
+use Rattle.std.proofs.Common.{◌≡◌, ℕ, Bool, ◌+◌, ◌<◌, ◌≤◌, ◌&&◌, true, false, cond, ltb, leb, List, length, get_or, take, sym, ap, ◌∙◌, subst, arith}
+use Rattle.std.specs.Str.{bytes_eq}
+use Rattle.std.specs.List.{list_all}
+use Rattle.std.proofs.lemmas.List.Sums.{sum_by_more, sum_by_more_le}
+use Rattle.std.proofs.lemmas.Bool.{le-ltb, lt-ltb, le-leb}
+use Rattle.std.proofs.lemmas.List.{take_all}
+use Rattle.ibc_ids.specs.Texts.{Text, same_text}
+use Rattle.ibc_client.proofs.FoundRows.{bytes_eq-same}
+use Rattle.ibc_machine.specs.Genesis.{Holding, ChainState, is_same_holding, is_fair, is_allowed, has_limits, total_of, chain_state, genesis_state}
+use Rattle.ibc_machine.specs.declared.genesis.Genesis.{Genesis}
+use Rattle.ibc_machine.specs.declared.genesis.ChainStart.{ChainStart}
+use Rattle.std.proofs.lemmas.List.{length-map}
+use Rattle.std.proofs.lemmas.List.Folds.{list_all-map}
+
+pub same_holding : (a b : Holding) → (bytes_eq a.0 b.0 && bytes_eq a.1 b.1) ≡ is_same_holding a b
+same_holding a b = ap (λ x. x && bytes_eq a.1 b.1) (bytes_eq-same a.0 b.0) ∙ ap (λ x. same_text a.0 b.0 && x) (bytes_eq-same a.1 b.1)
+
+abbrev amount : Text → Holding → ℕ
+amount denom h = cond (same_text h.1 denom) h.2 0
+
+-- one more holding, h at the place i
+module _ (denom : Text) (holdings : List Holding) (i : ℕ) (h : Holding) (inside : i < length holdings) (here : h ≡ get_or holdings i h) where
+  more : total_of denom (take (i + 1) holdings) ≡ total_of denom (take i holdings) + amount denom h
+  more = sum_by_more (amount denom) holdings i h inside ∙ ap (λ x. total_of denom (take i holdings) + amount denom x) (sym here)
+
+  within : total_of denom (take i holdings) + amount denom h ≤ total_of denom holdings
+  within = subst (λ x. total_of denom (take i holdings) + amount denom x ≤ total_of denom holdings) (sym here) (sum_by_more_le (amount denom) holdings i h inside)
+
+  counts : (b : Bool) → b ≡ bytes_eq h.1 denom → amount denom h ≡ cond b h.2 0
+  counts b is = ap (λ x. cond x h.2 0) (sym (bytes_eq-same h.1 denom) ∙ sym is)
+
+  pub total_more : (b : Bool) → b ≡ bytes_eq h.1 denom → total_of denom (take (i + 1) holdings) ≡ total_of denom (take i holdings) + cond b h.2 0
+  total_more b is = more ∙ ap (λ x. total_of denom (take i holdings) + x) (counts b is)
+
+  pub too_large : (top : ℕ) → true ≡ bytes_eq h.1 denom → top ≤ total_of denom (take i holdings) + h.2 → false ≡ ltb (total_of denom holdings) top
+  too_large top is past = let e = counts true is in sym (le-ltb (total_of denom holdings) top (omega (arith, within, e, past)))
+
+abbrev pub is_fair_start : ChainStart → Bool
+is_fair_start start = list_all (is_fair start.balances.items) start.balances.items
+
+pub allowed : (genesis : Genesis) (fair : Bool) → 2 ≤ length genesis.chains.items → length genesis.chains.items ≤ 8 → has_limits (genesis_state genesis) ≡ true → fair ≡ list_all is_fair_start genesis.chains.items
+    → fair ≡ is_allowed (genesis_state genesis)
+unfolding is_allowed
+allowed genesis fair two eight limits is =
+    let state = genesis_state genesis in
+    let chains = genesis.chains.items in
+    let count = length-map chains chain_state in
+    let e2 : leb 2 (length state.chains) ≡ true = le-leb 2 (length state.chains) (omega (arith, count)) in
+    let e8 : leb (length state.chains) 8 ≡ true = le-leb (length state.chains) 8 (omega (arith, count)) in
+    let e = list_all-map (λ (chain : ChainState). list_all (is_fair chain.balances) chain.balances) chain_state chains in
+    rw e2 (rw e8 (rw limits (is ∙ sym e)))
+
+pub total_all : (denom : Text) (holdings : List Holding) (i total top : ℕ) → length holdings ≤ i → total ≡ total_of denom (take i holdings) → total < top → true ≡ ltb (total_of denom holdings) top
+total_all denom holdings i total top done is small =
+    let e = ap (total_of denom) (take_all i holdings done) in
+    sym (lt-ltb (total_of denom holdings) top (omega (arith, is, e)))

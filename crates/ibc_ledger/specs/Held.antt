@@ -1,0 +1,37 @@
+-- A ledger as its callers see it.
+use Rattle.std.specs.Prelude.{◌≡◌, ℕ, Bool, true, false, length, Option}
+use Rattle.std.specs.Option.{option_map}
+use Rattle.ibc_ids.specs.Texts.{Text}
+use Rattle.ibc_ids.specs.Paths.{account_text}
+use Rattle.ibc_ids.specs.declared.account.Account.{Account}
+use Rattle.ibc_wire.specs.declared.messages.Message.{Message}
+use Rattle.ibc_wire.specs.declared.messages.Message.TheVariants as message
+use Rattle.ibc_machine.specs.Genesis.{GenesisState}
+use Rattle.ibc_machine.specs.Replay.{StampedEntry}
+use Rattle.ibc_machine.specs.Ledgers.{Ledger}
+use Rattle.ibc_root_table.specs.Passes.{TableName}
+use Rattle.ibc_root_table.specs.declared.shape.Shape.{Shape}
+use Rattle.ibc_ledger.specs.declared.entry.StampedEntry.{StampedEntry as KeptEntry}
+
+-- the ledger of a chain, and the table in which it publishes
+pub record HeldLedger : Type 0 where
+  pub ledger : Ledger
+  pub table : TableName
+
+-- an entry with the number of publications that were seen by then
+abbrev pub plain_entry : KeptEntry → StampedEntry
+plain_entry e = record { entry = e.entry; stamp = option_map (λ s. length s.value.seen) e.seen }
+
+-- the shape of a table for the chains of a genesis
+abbrev pub shape_of : GenesisState → Shape
+shape_of genesis = record { chains = length genesis.chains; window = genesis.window; capacity = genesis.capacity }
+
+-- who holds how much of what, by the account's text
+abbrev pub plain_holding : Account × Text × ℕ → (Text × Text) × ℕ
+plain_holding (account, denom, amount) = ((account_text account, denom), amount)
+
+-- the messages of clients (ICS 2)
+abbrev pub is_of_clients : Message → Bool
+is_of_clients (message.CreateClient m) = true
+is_of_clients (message.UpdateClient m) = true
+is_of_clients _ = false

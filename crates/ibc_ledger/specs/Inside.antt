@@ -1,0 +1,27 @@
+-- What a ledger keeps, and the ledger that it is.
+use Rattle.std.specs.Prelude.{◌≡◌, map, length, Some}
+use Rattle.ibc_machine.specs.Genesis.{GenesisState, genesis_state, is_allowed}
+use Rattle.ibc_machine.specs.Ledgers.{Ledger}
+use Rattle.std.specs.Prelude.{IsTrue}
+use Rattle.ibc_ledger.specs.Standing.{Stands}
+use Rattle.ibc_ledger.specs.Held.{HeldLedger, plain_entry, shape_of}
+use Rattle.ibc_ledger.specs.declared.ledger.Ledger.TheInside.{Inside}
+
+abbrev pub genesis_of : Inside → GenesisState
+genesis_of l = genesis_state l.genesis.value
+
+abbrev pub ledger_of : Inside → Ledger
+ledger_of l = record { genesis = genesis_of l; chain = l.chain; history = map plain_entry l.history.items; seen = l.pass.seen }
+
+abbrev pub held_of : Inside → HeldLedger
+held_of l = record { ledger = ledger_of l; table = l.table.value }
+
+-- what is held is the state that the history leaves, and the pass is the chain's own of the table of the genesis
+pub record IsHeld (l : Inside) : Type 0 where
+  pub stands : Stands (ledger_of l) l.records l.balances
+  pub allowed : IsTrue (is_allowed (genesis_of l))
+  pub table : l.pass.table ≡ l.table.value
+  pub own : l.pass.own ≡ Some l.chain
+  pub shape : l.table.value.shape ≡ shape_of (genesis_of l)
+  pub chains : l.chains ≡ length (genesis_of l).chains
+  pub capacity : l.capacity ≡ (genesis_of l).capacity

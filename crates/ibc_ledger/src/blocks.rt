@@ -1,0 +1,92 @@
+//! What a ledger does at the end of a block.
+
+ghost use Rattle.std.specs.Prelude.{◌≡◌, IsSome};
+ghost use Rattle.ibc_ids.specs.Publications.{height_of as published_height};
+ghost use Rattle.ibc_machine.specs.declared.event.Event.TheVariants as event;
+ghost use Rattle.ibc_path_store.specs.Held.{height_of};
+ghost use Rattle.ibc_root_table.specs.Passes.{own_chain};
+ghost use Rattle.ibc_ledger.specs.Adding.{AddsOrNot};
+ghost use Rattle.ibc_ledger.specs.Ending.{IsEnded};
+
+use crate::refusals::with_memory;
+use crate::{Ledger, StampedEntry};
+use ibc_ids::{Refusal, Root};
+use ibc_machine::{Effect, Entry, Event, Reply};
+use ibc_records::Records;
+use ibc_root_table::{Pass, RootTable};
+use std::snapshot::Snapshot;
+
+impl Ledger {
+    /// Ends the working block: it is committed as the next height and published, and the next block has this time. Refused,
+    /// by the first check that fails: `TimeBack` where the time is below the working time, `TableFull` where the chain has
+    /// published as many heights as it may. The history then has one entry more, with the event and the reply; where the
+    /// reply is `NoMemory`, nothing has changed.
+    pub fn end_block(&mut self, next_time: u64) -> Reply
+        ensures table { self.new.table ≡ self.old.table }
+        ensures adds { AddsOrNot self.old.ledger (event.Block self.old.ledger.chain next_time) result self.new.ledger }
+    {
+        let Ok(()) = self.history.reserve(1) else {
+            return Reply::No(Refusal::NoMemory);
+        };
+        let (reply, kept, seen) = match commit_block(
+            &mut self.records,
+            &self.table,
+            &mut self.pass,
+            self.capacity,
+            next_time,
+        ) {
+            Ok(block) => (
+                Reply::Ok(Effect::Block(block.0, block.1)),
+                Reply::Ok(Effect::Block(block.0, block.1)),
+                Some(Snapshot::of(&self.pass)),
+            ),
+            Err(refusal) => {
+                let Ok(other) = with_memory(refusal) else {
+                    return Reply::No(Refusal::NoMemory);
+                };
+                (Reply::No(other), Reply::No(other), None)
+            }
+        };
+        let event = Event::Block {
+            chain: self.chain,
+            next_time,
+        };
+        self.history.push_reserved(StampedEntry {
+            entry: Entry {
+                event,
+                reply: kept,
+                reading: None,
+            },
+            seen,
+        });
+        reply
+    }
+}
+
+// Commits the working block and publishes it: its height and its root.
+fn commit_block(
+    records: &mut Records,
+    table: &RootTable,
+    pass: &mut Pass,
+    capacity: u64,
+    next_time: u64,
+) -> Result<(u64, Root), Refusal>
+    requires table { pass.old.table ≡ table.now }
+    requires own { IsSome pass.old.own }
+    requires capacity { capacity ≡ table.now.shape.capacity }
+    requires height { height_of records.old.store ≡ published_height (own_chain pass.old) pass.old.seen }
+    ensures { IsEnded capacity next_time records.old pass.old result records.new pass.new }
+{
+    let time = records.time();
+    if next_time < time {
+        return Err(Refusal::TimeBack);
+    }
+    if records.height() >= capacity {
+        return Err(Refusal::TableFull);
+    }
+    let root = records.commit(next_time)?;
+    let Ok(height) = table.publish(pass, root, time) else {
+        unreachable!();
+    };
+    Ok((height, root))
+}

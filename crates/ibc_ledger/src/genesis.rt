@@ -1,0 +1,72 @@
+//! Which genesis a world may begin with.
+
+ghost use Rattle.std.specs.Prelude.{◌≡◌, ◌+◌, ◌^◌, nat_lt};
+ghost use Rattle.std.specs.List.{list_all, count_by};
+ghost use Rattle.ibc_machine.specs.Genesis.{genesis_state, chain_state, has_limits, is_same_holding, is_fair, is_allowed, total_of};
+
+use ibc_ids::{Denom, UserName};
+use ibc_machine::{ChainStart, Genesis};
+
+/// Whether a genesis is allowed: 2 to 8 chains; a capacity of 1 to 1,000,000 and a window of 1 to 4,096, at most the
+/// capacity; of each chain, balances of base denominations only, no user and denomination twice, and of no denomination
+/// more than 2^128 - 1 together.
+#[tactic(auto, unfolding(ibc_machine::specs::Genesis::is_allowed))]
+pub fn is_allowed(genesis: &Genesis) -> bool
+    ensures { result ≡ is_allowed (genesis_state genesis.now) }
+{
+    2 <= genesis.chains.len()
+        && genesis.chains.len() <= 8
+        && has_limits(genesis)
+        && genesis.chains.iter().all(is_fair_start)
+}
+
+fn has_limits(genesis: &Genesis) -> bool
+    ensures { result ≡ has_limits (genesis_state genesis.now) }
+{
+    1 <= genesis.capacity
+        && genesis.capacity <= 1_000_000
+        && 1 <= genesis.window
+        && genesis.window <= 4096
+        && genesis.window <= genesis.capacity
+}
+
+fn is_fair_start(start: &ChainStart) -> bool
+    ensures { result ≡ list_all (is_fair start.now.balances.items) start.now.balances.items }
+{
+    let holdings = start.balances.as_slice();
+    holdings.iter().all(|holding| is_fair(holdings, holding))
+}
+
+// The user holds the denomination, a base one, once, and all amounts of it fit 128 bits together.
+fn is_fair(holdings: &[(UserName, Denom, u128)], holding: &(UserName, Denom, u128)) -> bool
+    ensures { result ≡ is_fair holdings.now holding.now }
+{
+    // The name has the form of a user's, by what `as_str` ensures.
+    holding.0.as_str();
+    holding.1.is_base() && count_of(holdings, holding) == 1 && is_total_small(holdings, &holding.1)
+}
+
+fn count_of(holdings: &[(UserName, Denom, u128)], holding: &(UserName, Denom, u128)) -> usize
+    ensures { result ≡ count_by (is_same_holding holding.now) holdings.now }
+{
+    holdings
+        .iter()
+        .filter(|other| holding.0 == other.0 && holding.1 == other.1)
+        .count()
+}
+
+// All amounts of the denomination fit 128 bits together.
+fn is_total_small(holdings: &[(UserName, Denom, u128)], denom: &Denom) -> bool
+    ensures { result ≡ nat_lt (total_of denom.now holdings.now) (2 ^ 128) }
+{
+    let mut total: u128 = 0;
+    for holding in holdings {
+        if holding.1 == *denom {
+            let Some(more) = total.checked_add(holding.2) else {
+                return false;
+            };
+            total = more;
+        }
+    }
+    true
+}

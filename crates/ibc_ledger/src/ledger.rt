@@ -1,0 +1,150 @@
+//! A ledger: a chain with its history, its records and its pass of the table.
+
+ghost use Rattle.std.specs.Prelude.{◌≡◌, ◌<◌, ◌++◌, ℕ, [], Some, length, map, option_map, IfOk, IfErr, IsTrue};
+ghost use mathlib.Core.List.{IsPrefix};
+ghost use Rattle.ibc_ids.specs.Texts.{text_cmp};
+ghost use Rattle.ibc_ids.specs.Maps.{at};
+ghost use Rattle.ibc_ids.specs.Paths.{path};
+ghost use Rattle.ibc_ids.specs.Publications.{height_of};
+ghost use Rattle.ibc_ids.specs.declared.refusal.Refusal.TheVariants.{NoMemory};
+ghost use Rattle.ibc_machine.specs.Genesis.{genesis_state, is_allowed};
+ghost use Rattle.ibc_machine.specs.Image.{image};
+ghost use Rattle.ibc_machine.specs.Ledgers.{IsLedger, SeesMore, state_of};
+ghost use Rattle.ibc_root_table.specs.Passes.{unused_pass};
+ghost use Rattle.ibc_ledger.specs.Held.{plain_entry, plain_holding, shape_of};
+
+use crate::StampedEntry;
+use crate::balances::Balances;
+use ibc_ids::{Account, Bytes, Denom, Key, Refusal};
+use ibc_machine::Genesis;
+use ibc_records::Records;
+use ibc_root_table::{Pass, RootTable};
+use std::alloc::Global;
+use std::marker::Model;
+use std::snapshot::Snapshot;
+use std::sync::Arc;
+
+/// A chain of a genesis. Contracts see its history, of which its state is a function, and the publications that its
+/// pass has seen; they also see what genesis it is of.
+#[derive(Drop)]
+pub struct Ledger {
+    pub(crate) alloc: Global,
+    pub(crate) genesis: Snapshot<Genesis>,
+    pub(crate) chain: u8,
+    pub(crate) chains: u8,
+    pub(crate) capacity: u64,
+    pub(crate) table: Arc<RootTable, Global>,
+    pub(crate) pass: Pass,
+    pub(crate) records: Records,
+    pub(crate) balances: Balances,
+    pub(crate) history: Vec<StampedEntry>,
+}
+
+impl Model for Ledger {
+    ghost use Rattle.ibc_ledger.specs.Held.{HeldLedger};
+    ghost use Rattle.ibc_ledger.specs.Inside.{held_of, IsHeld};
+
+    ghost Value = { HeldLedger };
+
+    ghost view = { held_of };
+
+    ghost invariant = { IsHeld };
+}
+
+impl Ledger {
+    /// The ledger of the chain numbered `chain` of a genesis, which publishes in the table. `NoMemory` where a growth is
+    /// refused.
+    pub fn new(
+        alloc: Global,
+        genesis: &Genesis,
+        chain: u8,
+        table: Arc<RootTable, Global>,
+        pass: Pass,
+    ) -> Result<Ledger, Refusal>
+        requires allowed { IsTrue (is_allowed (genesis_state genesis.now)) }
+        requires chain { chain < length genesis.now.chains.items }
+        requires table { table.value.shape ≡ shape_of (genesis_state genesis.now) }
+        requires pass { pass ≡ unused_pass table.value (Some chain) }
+        ensures ok { IfOk result (λ ledger. ledger ≡ record { ledger = record { genesis = genesis_state genesis.now; chain = chain; history = []; seen = [] }; table = table.value }) }
+        ensures err { IfErr result (λ refusal. refusal ≡ NoMemory) }
+    {
+        let start = &genesis.chains[usize::from(chain)];
+        Ok(Ledger {
+            alloc,
+            genesis: Snapshot::of(genesis),
+            chain,
+            chains: genesis.chains.len() as u8,
+            capacity: genesis.capacity,
+            table,
+            pass,
+            records: Records::new(alloc, genesis.window, start.time)?,
+            balances: Balances::new(alloc, start)?,
+            history: Vec::new(alloc),
+        })
+    }
+
+    /// The number of the chain.
+    pub fn chain(&self) -> u8
+        ensures { result ≡ self.now.ledger.chain }
+    {
+        self.chain
+    }
+
+    /// All that was asked of the chain, and what it answered, in order. What was answered with `NoMemory` isn't there.
+    pub fn history(&self) -> &[StampedEntry]
+        ensures { map plain_entry result.now ≡ self.now.ledger.history }
+    {
+        self.history.as_slice()
+    }
+
+    /// A ledger is one: its state is the replay of its history, whose replies are those of the steps.
+    pub fn is_its_history(&self)
+        ensures { IsLedger self.now.ledger }
+    {
+        let _ = &self.records;
+    }
+
+    /// The value of a key in the working block, or none where the key isn't there (ICS 24). `NoMemory` where a growth is
+    /// refused.
+    pub fn query(&self, key: &Key) -> Result<Option<Bytes>, Refusal>
+        ensures ok { IfOk result (λ value. value ≡ at text_cmp (path key.now) (image (state_of self.now.ledger).chain.records.core)) }
+        ensures err { IfErr result (λ refusal. refusal ≡ NoMemory) }
+    {
+        let path = key.path(self.alloc)?;
+        match self.records.value(path.as_str()) {
+            Some(value) => Ok(Some(Bytes::copy_of(self.alloc, value)?)),
+            None => Ok(None),
+        }
+    }
+
+    /// Who holds how much of what in the working block: the amounts above 0, in the byte order of the accounts' texts and
+    /// then of the denominations. `NoMemory` where a growth is refused.
+    pub fn balances(&self) -> Result<Vec<(Account, Denom, u128)>, Refusal>
+        ensures ok { IfOk result (λ list. map plain_holding list.items ≡ (state_of self.now.ledger).chain.records.apps.balances) }
+        ensures err { IfErr result (λ refusal. refusal ≡ NoMemory) }
+    {
+        Ok(self.balances.list(self.alloc)?)
+    }
+
+    /// Afterwards the passes of the two ledgers have seen the same publications, and each of them all that either had seen.
+    pub fn meet(&mut self, other: &mut Ledger)
+        requires { other.old.table ≡ self.old.table }
+        ensures tables { (self.new.table ≡ self.old.table) × (other.new.table ≡ other.old.table) }
+        ensures same { self.new.ledger.seen ≡ other.new.ledger.seen }
+        ensures own { SeesMore self.old.ledger self.new.ledger }
+        ensures others { SeesMore other.old.ledger other.new.ledger }
+    {
+        self.table.meet(&mut self.pass, &mut other.pass);
+    }
+
+    /// The pass, which has seen less than the leader's, takes over just what the leader's has seen.
+    pub fn follow(&mut self, leader: &mut Ledger)
+        requires table { leader.old.table ≡ self.old.table }
+        requires behind { IsPrefix self.old.ledger.seen leader.old.ledger.seen }
+        ensures leader { leader.new ≡ leader.old }
+        ensures follows { self.new ≡ record self.old { ledger = record self.old.ledger { seen = leader.old.ledger.seen } } }
+        ensures within { (c : ℕ) → 0 < height_of c leader.old.ledger.seen → c < length self.old.ledger.genesis.chains }
+    {
+        self.table.follow(&mut leader.pass, &mut self.pass);
+    }
+}

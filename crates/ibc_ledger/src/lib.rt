@@ -1,0 +1,16 @@
+//! A chain that sees the others through published roots and proofs alone.
+#![tactic(auto)]
+
+mod balances;
+mod blocks;
+mod entry;
+mod genesis;
+mod laws;
+mod ledger;
+mod messages;
+mod refusals;
+
+pub use entry::StampedEntry;
+pub use genesis::is_allowed;
+pub use laws::{a_ledger_goes_on, a_ledger_sees_more};
+pub use ledger::Ledger;
