@@ -59,7 +59,7 @@ module _ (l : Inside) (held : IsHeld l) (new : Inside) (stepped : IsStepped l ne
   longer_ledger : (e : StampedEntry) → e ≡ plain_entry kept → ledger_of new ≡ record (ledger_of l) { history = (ledger_of l).history ++ e ∷ []; seen = l.pass.seen ++ prefix.0 }
   longer_ledger e is =
       let history : map plain_entry new.history.items ≡ map plain_entry l.history.items ++ e ∷ [] =
-          sym (ap (λ x. map plain_entry l.history.items ++ x ∷ []) is ∙ longer_history l held new stepped same kept items) in
+      sym (ap (λ x. map plain_entry l.history.items ++ x ∷ []) is ∙ longer_history l held new stepped same kept items) in
       ap ledger_of stepped
       ∙ (λ i. record { genesis = genesis_of l; chain = l.chain; history = history i; seen = (sym prefix.1) i })
 

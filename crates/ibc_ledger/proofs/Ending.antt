@@ -83,10 +83,10 @@ module _ (l : Inside) (held : IsHeld l) (next_time : ℕ) (fits : next_time < 2 
       may_not = ⊎_elim
           (λ (w : (r ≡ TimeBack) × (next_time < l.records.store.time)). may_commit-back (genesis_of l).capacity chain_now next_time (subst (λ t. next_time < t) held.stands.holds.time w.1) ∙ ap Err (sym w.0))
           (λ other. ⊎_elim
-              (λ (w : (r ≡ TableFull) × (l.records.store.time ≤ next_time) × (l.capacity ≤ height_of l.records.store)).
-                  may_commit-full (genesis_of l).capacity chain_now next_time (subst (λ t. t ≤ next_time) held.stands.holds.time w.1)
-                  (let h = held.stands.holds.height in let c = held.capacity in let f = w.2 in omega arith) ∙ ap Err (sym w.0))
-              (λ none. absurd (plenty none)) other)
+          (λ (w : (r ≡ TableFull) × (l.records.store.time ≤ next_time) × (l.capacity ≤ height_of l.records.store)).
+          may_commit-full (genesis_of l).capacity chain_now next_time (subst (λ t. t ≤ next_time) held.stands.holds.time w.1)
+          (let h = held.stands.holds.height in let c = held.capacity in let f = w.2 in omega arith) ∙ ap Err (sym w.0))
+          (λ none. absurd (plenty none)) other)
           why
 
 -- ---- the entry that a block's end adds

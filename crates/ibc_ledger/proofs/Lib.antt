@@ -14,3 +14,4 @@ pub mod Applying
 pub mod Updating
 pub mod Windows
 pub mod Ending
+pub mod NewLedgers

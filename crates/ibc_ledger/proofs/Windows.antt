@@ -28,3 +28,10 @@ module _ (genesis : GenesisState) where
   small_capacity allowed =
       let both = and_parts (leb 1 genesis.capacity && leb genesis.capacity 1000000) (leb 1 genesis.window) (three allowed) in
       leb-true genesis.capacity 1000000 (and_parts (leb 1 genesis.capacity) (leb genesis.capacity 1000000) both.0).1
+
+  pub few_chains : IsTrue (is_allowed genesis) → length genesis.chains ≤ 8
+  unfolding is_allowed
+  few_chains allowed =
+      let n = length genesis.chains in
+      let front = and_parts (leb 2 n && leb n 8 && has_limits genesis) (list_all (λ (chain : ChainState). list_all (is_fair chain.balances) chain.balances) genesis.chains) allowed in
+      leb-true n 8 (and_parts (leb 2 n) (leb n 8) (and_parts (leb 2 n && leb n 8) (has_limits genesis) front.0).0).1

@@ -64,7 +64,8 @@ impl Ledger {
             reply: outcome.kept,
             reading: None,
         };
-        self.history.push_reserved(StampedEntry { entry, seen: None });
+        self.history
+            .push_reserved(StampedEntry { entry, seen: None });
         outcome.reply
     }
 
@@ -78,8 +79,7 @@ impl Ledger {
         let _client = message.client.as_str();
         are_bytes(message.header.root.bytes());
         let chain = self.chain;
-        let Ok(outcome) = update_in(&mut self.records, &self.table, &mut self.pass, &message)
-        else {
+        let Ok(outcome) = update_in(&mut self.records, &self.table, &mut self.pass, &message) else {
             return Reply::No(Refusal::NoMemory);
         };
         let reading = outcome.reading;

@@ -24,7 +24,7 @@ IsEntryOf c r = IsBlockEntry c.self.inside c.args.next_time r.0 (plain_entry (ke
 
 entry : (c : goal.After-push_reserved) → IsEntryOf c c.match-commit_block.reply
 entry c = elim c.match-commit_block.branch [
-  in-Ok-commit_block w ↦
+  | in-Ok-commit_block w ↦
       subst (IsEntryOf c) (sym w.reply-is)
       (committed_entry c.self.inside c.self.invariant c.args.next_time (omega arith) w.in-Ok-commit_block.block c.commit_block.new.records c.commit_block.new.pass
       w.of.result.value w.of.ensures w.in-Ok-commit_block.ensures)
@@ -33,7 +33,8 @@ entry c = elim c.match-commit_block.branch [
       let why = w.in-Err.ensures in
       subst (IsEntryOf c) (sym w.reply-is)
       (refused_entry c.self.inside c.self.invariant c.args.next_time (omega arith) w.in-Ok-with_memory.other c.commit_block.new.records c.commit_block.new.pass other.1
-      (subst (IsWhy c.self.inside.capacity c.args.next_time c.self.inside.records) (sym other.0) why.0) why.1 why.2) ]
+      (subst (IsWhy c.self.inside.capacity c.args.next_time c.self.inside.records) (sym other.0) why.0) why.1 why.2)
+]
 
 items : (c : goal.After-push_reserved) → c.push_reserved.new.self.items ≡ c.self.inside.history.items ++ kept_as c c.match-commit_block.reply ∷ []
 items c = c.push_reserved.ensures.items ∙ ap (λ (xs : List KeptEntry). xs ++ kept_as c c.match-commit_block.reply ∷ []) c.in-Ok.ensures.items

@@ -44,10 +44,10 @@ answer c =
 
 is_kept : (c : goal.After-push_reserved)
     → entry_of (event.Message c.self.inside.chain (message.UpdateClient c.args.message)) c.in-Ok-update_in.outcome.reply c.in-Ok-update_in.outcome.reading
-      (stamp_if (is_some c.in-Ok-update_in.outcome.reading) (c.self.inside.pass.seen ++ c.update_in.ensures.pass.1.0)) ≡ plain_entry (kept c)
+    (stamp_if (is_some c.in-Ok-update_in.outcome.reading) (c.self.inside.pass.seen ++ c.update_in.ensures.pass.1.0)) ≡ plain_entry (kept c)
 is_kept c =
     let stamp : stamp_if (is_some c.in-Ok-update_in.outcome.reading) (c.self.inside.pass.seen ++ c.update_in.ensures.pass.1.0) ≡ option_map (λ s. length s.value.seen) c.seen_if-seen.result =
-        ap (stamp_if (is_some c.in-Ok-update_in.outcome.reading)) c.update_in.ensures.pass.1.1 ∙ ap (λ b. stamp_if b c.update_in.new.pass.seen) (sym c.is_some.ensures) ∙ sym c.seen_if-seen.ensures in
+    ap (stamp_if (is_some c.in-Ok-update_in.outcome.reading)) c.update_in.ensures.pass.1.1 ∙ ap (λ b. stamp_if b c.update_in.new.pass.seen) (sym c.is_some.ensures) ∙ sym c.seen_if-seen.ensures in
     λ i. entry_of (event.Message c.self.inside.chain (message.UpdateClient c.args.message)) ((sym c.in-Ok-update_in.ensures.ok.0) i) c.in-Ok-update_in.outcome.reading (stamp i)
 
 items : (c : goal.After-push_reserved) → c.push_reserved.new.self.items ≡ c.self.inside.history.items ++ kept c ∷ []
