@@ -1,0 +1,13 @@
+//! Why a world of ledgers is a run of the machine.
+
+ghost use Rattle.ibc_world_core.specs.World.{NewIsWorld, OrderIsRun};
+
+/// The ledgers of a genesis that have no entries are a world.
+pub fn a_new_world_is_one()
+    ensures { NewIsWorld }
+{}
+
+/// A world's kept order is a run of the machine since genesis.
+pub fn the_order_is_a_run()
+    ensures { OrderIsRun }
+{}

@@ -1,0 +1,6 @@
+//! One ledger for each chain, which go on event by event, and the order of their entries.
+#![tactic(auto)]
+
+mod laws;
+
+pub use laws::{a_new_world_is_one, the_order_is_a_run};
