@@ -1,10 +1,9 @@
 -- The ledgers of a genesis that have no entries are a world.
-use Rattle.std.proofs.Common.{◌≡◌, ℕ, ◌<◌, List, [], ◌∷◌, length, map, refl, sym, ap, ◌∙◌, subst, Some, None, Option, option_map, unwrap_or, slice_get, arith}
-use Rattle.std.specs.Prelude.{IsTrue}
+use Rattle.std.proofs.Common.{◌≡◌, ℕ, ◌<◌, List, [], length, map, refl, sym, ap, ◌∙◌, subst, Some, None, Option, option_map, unwrap_or, slice_get, arith}
 use Rattle.std.proofs.lemmas.Option.{slice_get-map, none-some}
 use Rattle.ibc_machine.specs.declared.entry.Entry.{Entry}
-use Rattle.ibc_machine.specs.Records.{Chain, Block}
-use Rattle.ibc_machine.specs.Genesis.{GenesisState, start, starting_chain, is_allowed}
+use Rattle.ibc_machine.specs.Records.{Block}
+use Rattle.ibc_machine.specs.Genesis.{GenesisState, start, starting_chain}
 use Rattle.ibc_machine.specs.Replay.{starting_state, empty_chain}
 use Rattle.ibc_machine.specs.Ledgers.{Ledger, IsLedger, published_as}
 use Rattle.ibc_machine.specs.Image.{image}

@@ -1,5 +1,5 @@
 -- The ledgers of a world are of one table.
-use Rattle.std.proofs.Common.{◌≡◌, ℕ, zero, suc, ◌<◌, true, cond, eqb, List, [], ◌∷◌, length, map, filter, take, refl, sym, ap, ◌∙◌, subst, Some, slice_get, arith, eq-eqb}
+use Rattle.std.proofs.Common.{◌≡◌, ℕ, zero, suc, ◌<◌, true, cond, eqb, List, [], ◌∷◌, length, refl, sym, ap, ◌∙◌, Some, slice_get, arith, eq-eqb}
 use Rattle.std.specs.Prelude.{Bool, false, ◌||◌}
 use Rattle.std.specs.List.{list_all, list_any}
 use Rattle.std.proofs.lemmas.Bool.{and_from}
@@ -10,12 +10,11 @@ use Rattle.ibc_machine.specs.Genesis.{GenesisState}
 use Rattle.ibc_machine.specs.Ledgers.{Ledger}
 use Rattle.ibc_machine.specs.Worlds.{AreLedgersOf, AreOfOneTable}
 use Rattle.ibc_refinement.proofs.Places.{get_there}
-use Rattle.ibc_refinement.specs.Refinement.{KeptOrderIsRun}
 use Rattle.ibc_refinement.proofs.Refined.{kept_order_is_run}
-use Rattle.ibc_world_core.specs.World.{AllSee, AreOfFirst, IsWorld, OrderIsRun}
+use Rattle.ibc_world_core.specs.World.{AllSee, AreOfFirst, OrderIsRun}
 
 -- what its chain has published there is not nothing
-first_published : (q : Publication) (rest : List Publication) → published_by q.chain (q ∷ rest) ≡ q ∷ published_by q.chain rest
+pub first_published : (q : Publication) (rest : List Publication) → published_by q.chain (q ∷ rest) ≡ q ∷ published_by q.chain rest
 first_published q rest = ap (λ b. cond b (q ∷ published_by q.chain rest) (published_by q.chain rest)) (eq-eqb q.chain q.chain refl)
 
 -- a chain publishes no less where there is more

@@ -3,4 +3,4 @@
 
 mod laws;
 
-pub use laws::{a_new_world_is_one, the_order_is_a_run};
+pub use laws::{a_new_world_is_one, a_step_keeps_the_world, runs_refine, the_order_is_a_run};
