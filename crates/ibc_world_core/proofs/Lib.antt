@@ -10,3 +10,4 @@ pub mod Nothing
 pub mod One
 pub mod OneMore
 pub mod Runs
+pub mod Meetings

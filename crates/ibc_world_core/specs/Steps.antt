@@ -22,13 +22,17 @@ abbrev pub AddsIf : Bool → Event → Reply → Ledger → Ledger → Type 0
 AddsIf true event given before after = AddsNext before event given after
 AddsIf false event given before after = SeesMore before after
 
+-- the ledgers have at most seen more
+abbrev pub AllSeeMore : List Ledger → List Ledger → Type 0
+AllSeeMore old new = (k : ℕ) (before after : Ledger) → slice_get old k ≡ Some before → slice_get new k ≡ Some after
+    → SeesMore before after
+
 -- nothing was added: memory ran out, or there is no chain of the event's number
 pub record AddsNothing (old : WorldState) (event : Event) (given : Reply) (new : WorldState) : Type 0 where
   pub no_memory : chain_of event < length old.ledgers → given ≡ reply.No NoMemory
   pub unknown : length old.ledgers ≤ chain_of event → given ≡ reply.No UnknownChain
   pub order : new.order ≡ old.order
-  pub each : (k : ℕ) (before after : Ledger) → slice_get old.ledgers k ≡ Some before
-      → slice_get new.ledgers k ≡ Some after → SeesMore before after
+  pub each : AllSeeMore old.ledgers new.ledgers
 
 -- the ledger of the event's chain has one entry more
 pub record AddsOne (old : WorldState) (event : Event) (given : Reply) (new : WorldState) : Type 0 where

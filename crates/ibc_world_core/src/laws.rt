@@ -2,6 +2,7 @@
 
 ghost use Rattle.ibc_world_core.specs.World.{NewIsWorld, OrderIsRun};
 ghost use Rattle.ibc_world_core.specs.Steps.{StepIsKept, StepsRefine};
+ghost use Rattle.ibc_world_core.specs.Meetings.{MeetingEndsStep, NothingDoneIsStep, StepsGoOn};
 
 /// The ledgers of a genesis that have no entries are a world.
 pub fn a_new_world_is_one()
@@ -21,4 +22,19 @@ pub fn a_step_keeps_the_world()
 /// A world that went on by events went on in the machine by these events, with the same replies.
 pub fn runs_refine()
     ensures { StepsRefine }
+{}
+
+/// An event that was put to a ledger is a step of the world once all ledgers have met.
+pub fn a_meeting_ends_a_step()
+    ensures { MeetingEndsStep }
+{}
+
+/// An event with which nothing is done is a step too.
+pub fn nothing_done_is_a_step()
+    ensures { NothingDoneIsStep }
+{}
+
+/// One step more is behind the others.
+pub fn steps_go_on()
+    ensures { StepsGoOn }
 {}

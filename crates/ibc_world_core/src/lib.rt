@@ -3,4 +3,7 @@
 
 mod laws;
 
-pub use laws::{a_new_world_is_one, a_step_keeps_the_world, runs_refine, the_order_is_a_run};
+pub use laws::{
+    a_meeting_ends_a_step, a_new_world_is_one, a_step_keeps_the_world, nothing_done_is_a_step,
+    runs_refine, steps_go_on, the_order_is_a_run,
+};

@@ -1,0 +1,42 @@
+-- Ledgers of a world meet, so that all have seen the same again.
+use Rattle.std.specs.Prelude.{◌≡◌, ◌⊎◌, ◌≤◌, ◌<◌, ℕ, List, [], ◌∷◌, ◌++◌, length, Some, slice_get}
+use Rattle.ibc_ids.specs.declared.publication.Publication.{Publication}
+use Rattle.ibc_ids.specs.declared.refusal.Refusal.TheVariants.{NoMemory, UnknownChain}
+use Rattle.ibc_machine.specs.declared.event.Event.{Event}
+use Rattle.ibc_machine.specs.declared.reply.Reply.{Reply}
+use Rattle.ibc_machine.specs.declared.reply.Reply.TheVariants as reply
+use Rattle.ibc_machine.specs.Ledgers.{Ledger, IsLedger, chain_of}
+use Rattle.ibc_world_core.specs.World.{WorldState, AllSee, AreOfFirst, IsWorld}
+use Rattle.ibc_world_core.specs.Steps.{AllSeeMore, AddsNothing, AddsOne, IsStep, AreSteps}
+
+-- the ledgers have at most seen more, and all of them the same
+pub record HaveMet (old new : List Ledger) : Type 0 where
+  pub as_many : length new ≡ length old
+  pub each : AllSeeMore old new
+  pub each_is : (k : ℕ) (ledger : Ledger) → slice_get new k ≡ Some ledger → IsLedger ledger
+  pub publications : List Publication
+  pub seen : AllSee publications new
+  pub within : AreOfFirst (length new) publications
+
+-- an event was put to the ledgers, which haven't met since
+pub record IsPut (old : WorldState) (event : Event) (given : Reply) (new : WorldState) : Type 0 where
+  pub genesis : new.genesis ≡ old.genesis
+  pub as_many : length new.ledgers ≡ length old.ledgers
+  pub adds : AddsNothing old event given new ⊎ AddsOne old event given new
+
+-- An event that was put to the ledgers is a step of the world once they have met.
+abbrev pub MeetingEndsStep : Type 0
+MeetingEndsStep = (old mid new : WorldState) (event : Event) (given : Reply) → IsPut old event given mid
+    → HaveMet mid.ledgers new.ledgers → new ≡ record mid { ledgers = new.ledgers } → IsStep old event given new
+
+-- Where nothing is done, the reply is that memory ran out, or that there is no such chain.
+abbrev pub NothingDoneIsStep : Type 0
+NothingDoneIsStep = (world : WorldState) (event : Event) (given : Reply) → IsWorld world
+    → (chain_of event < length world.ledgers → given ≡ reply.No NoMemory)
+    → (length world.ledgers ≤ chain_of event → given ≡ reply.No UnknownChain) → IsStep world event given world
+
+-- One step more is behind the others.
+abbrev pub StepsGoOn : Type 0
+StepsGoOn = (old mid new : WorldState) (events : List Event) (replies : List Reply) (event : Event) (given : Reply)
+    → AreSteps old events replies mid → IsStep mid event given new
+    → AreSteps old (events ++ event ∷ []) (replies ++ given ∷ []) new
