@@ -11,3 +11,4 @@ pub mod One
 pub mod OneMore
 pub mod Runs
 pub mod Meetings
+pub mod Leading

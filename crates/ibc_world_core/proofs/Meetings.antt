@@ -36,7 +36,7 @@ adds_if_then_sees false event given a b c g h = sees_both a b c g h
 
 -- ---- all ledgers
 
-same_one : (ledgers : List Ledger) (k : ℕ) (a b : Ledger) → slice_get ledgers k ≡ Some a → slice_get ledgers k ≡ Some b → a ≡ b
+pub same_one : (ledgers : List Ledger) (k : ℕ) (a b : Ledger) → slice_get ledgers k ≡ Some a → slice_get ledgers k ≡ Some b → a ≡ b
 same_one ledgers k a b there here =
     let both : Some a ≡ Some b = sym there ∙ here in
     cc

@@ -2,7 +2,7 @@
 
 ghost use Rattle.ibc_world_core.specs.World.{NewIsWorld, OrderIsRun};
 ghost use Rattle.ibc_world_core.specs.Steps.{StepIsKept, StepsRefine};
-ghost use Rattle.ibc_world_core.specs.Meetings.{MeetingEndsStep, NothingDoneIsStep, StepsGoOn};
+ghost use Rattle.ibc_world_core.specs.Meetings.{AllMeetTheFirst, MeetingEndsStep, NothingDoneIsStep, StepsGoOn};
 
 /// The ledgers of a genesis that have no entries are a world.
 pub fn a_new_world_is_one()
@@ -22,6 +22,11 @@ pub fn a_step_keeps_the_world()
 /// A world that went on by events went on in the machine by these events, with the same replies.
 pub fn runs_refine()
     ensures { StepsRefine }
+{}
+
+/// The ledgers have met where the first has seen more and the others just what it has seen.
+pub fn all_meet_the_first()
+    ensures { AllMeetTheFirst }
 {}
 
 /// An event that was put to a ledger is a step of the world once all ledgers have met.
