@@ -1,0 +1,14 @@
+pub mod Together
+pub mod New
+pub mod Publications
+pub mod Order
+pub mod Grown
+pub mod Published
+pub mod Turns
+pub mod Step
+pub mod Nothing
+pub mod One
+pub mod OneMore
+pub mod Runs
+pub mod Meetings
+pub mod Leading
