@@ -1,13 +1,11 @@
 -- A ledger with the entry of a message of clients is a ledger.
-use Rattle.std.proofs.Common.{◌≡◌, ℕ, ◌^◌, ◌<◌, ◌≤◌, true, ◌++◌, ◌∷◌, [], List, length, map, refl, sym, ap, ◌∙◌, subst, Some, None, Option, is_some, Ok, Err, inr, arith, append-nil, lt-ltb, eq-eqb}
+use Rattle.std.proofs.Common.{◌≡◌, ℕ, ◌^◌, ◌<◌, ◌≤◌, true, ◌++◌, ◌∷◌, [], length, map, refl, sym, ap, ◌∙◌, subst, None, Option, inr, append-nil, lt-ltb, eq-eqb}
 use Rattle.std.specs.Prelude.{IsTrue, IfSome, nat_lt}
 use Rattle.std.specs.List.{list_all}
 use mathlib.Core.List.{IsPrefix}
 use Rattle.ibc_ids.specs.Names.{is_client}
-use Rattle.ibc_ids.specs.Publications.{published_by, height_of}
-use Rattle.ibc_ids.specs.declared.publication.Publication.{Publication}
+use Rattle.ibc_ids.specs.Publications.{published_by}
 use Rattle.ibc_ids.specs.declared.refusal.Refusal.TheVariants.{NoMemory}
-use Rattle.ibc_wire.specs.Lawful.{AreBytes}
 use Rattle.ibc_wire.specs.declared.messages.Message.TheVariants as message
 use Rattle.ibc_wire.specs.declared.messages.CreateClient.{CreateClient}
 use Rattle.ibc_wire.specs.declared.messages.UpdateClient.{UpdateClient}
@@ -17,24 +15,23 @@ use Rattle.ibc_machine.specs.declared.reply.Effect.TheVariants as effect
 use Rattle.ibc_machine.specs.declared.reply.Reply.{Reply}
 use Rattle.ibc_machine.specs.declared.reply.Reply.TheVariants as reply
 use Rattle.ibc_machine.specs.declared.entry.Reading.{Reading}
-use Rattle.ibc_machine.specs.Clients.{create_client, update_client}
+use Rattle.ibc_machine.specs.Clients.{create_client}
 use Rattle.ibc_machine.specs.Handlers.{host_of}
-use Rattle.ibc_machine.specs.Replay.{StampedEntry, LedgerState, proves}
-use Rattle.ibc_machine.specs.Ledgers.{Ledger, state_of, is_typed, reading_fits}
+use Rattle.ibc_machine.specs.Replay.{StampedEntry}
+use Rattle.ibc_machine.specs.Ledgers.{state_of, is_typed}
 use Rattle.ibc_records.specs.Held.{HeldRecords, core_of}
 use Rattle.ibc_root_table.specs.Passes.{SamePass}
-use Rattle.ibc_client.specs.Looks.{looks_up}
 use Rattle.ibc_ledger.specs.declared.entry.StampedEntry.{StampedEntry as KeptEntry}
 use Rattle.ibc_ledger.specs.declared.ledger.Ledger.TheInside.{Inside}
 use Rattle.ibc_ledger.specs.Growing.{with_entry}
-use Rattle.ibc_ledger.specs.Entries.{entry_of, stamp_if}
+use Rattle.ibc_ledger.specs.Entries.{entry_of}
 use Rattle.ibc_ledger.specs.Standing.{Stands}
 use Rattle.ibc_ledger.specs.Held.{HeldLedger, plain_entry}
 use Rattle.ibc_ledger.specs.Inside.{genesis_of, ledger_of, held_of, IsHeld}
 use Rattle.ibc_ledger.specs.Adding.{AddsOrNot}
-use Rattle.ibc_ledger.specs.Answering.{IsCreatedAs, IsUpdatedAs, IsUpdateAnswer}
-use Rattle.ibc_ledger.proofs.ClientMessages.{stands_created, stands_uncreated, stands_updated, stands_not_updated}
-use Rattle.ibc_ledger.proofs.HeldLedgers.{IsStepped, longer_history, keeps_own}
+use Rattle.ibc_ledger.specs.Answering.{IsCreatedAs}
+use Rattle.ibc_ledger.proofs.ClientMessages.{stands_created, stands_uncreated}
+use Rattle.ibc_ledger.proofs.HeldLedgers.{IsStepped, longer_history}
 
 -- ---- what messages of clients are by their types
 

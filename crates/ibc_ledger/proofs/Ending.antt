@@ -1,5 +1,5 @@
 -- A ledger with the entry of a block's end is a ledger.
-use Rattle.std.proofs.Common.{◌≡◌, ℕ, suc, ◌+◌, ◌-◌, ◌^◌, ◌<◌, ◌≤◌, true, ◌++◌, ◌∷◌, [], List, length, refl, sym, ap, ◌∙◌, subst, Some, None, Option, Ok, Err, inl, inr, ⊎_elim, arith, append-nil, append_assoc, length-append}
+use Rattle.std.proofs.Common.{◌≡◌, ℕ, ◌^◌, ◌<◌, ◌≤◌, ◌++◌, ◌∷◌, [], List, length, refl, sym, ap, ◌∙◌, subst, Some, None, Option, Ok, Err, ⊎_elim, arith, append-nil, append_assoc, length-append}
 use Rattle.std.specs.Prelude.{IfSome}
 use mathlib.Core.List.{IsPrefix}
 use Rattle.ibc_ids.specs.Texts.{Text}
@@ -18,7 +18,7 @@ use Rattle.ibc_machine.specs.Image.{image, core_root}
 use Rattle.ibc_machine.specs.Ledgers.{published_as, state_of}
 use Rattle.ibc_root_table.specs.Passes.{Sight, SamePass, Publishes, own_chain}
 use Rattle.ibc_path_store.specs.Held.{height_of}
-use Rattle.ibc_records.specs.Held.{HeldRecords, core_of}
+use Rattle.ibc_records.specs.Held.{HeldRecords}
 use Rattle.ibc_ledger.specs.declared.ledger.Ledger.TheInside.{Inside}
 use Rattle.ibc_ledger.specs.Growing.{with_entry}
 use Rattle.ibc_ledger.specs.Entries.{entry_of, working_block}

@@ -1,5 +1,5 @@
 -- What a ledger keeps stays in order where its pass sees more, and where its history gets longer.
-use Rattle.std.proofs.Common.{◌≡◌, ◌++◌, ◌∷◌, [], List, map, refl, sym, ap, ◌∙◌, subst, Some}
+use Rattle.std.proofs.Common.{◌≡◌, ◌++◌, ◌∷◌, [], List, map, sym, ap, ◌∙◌, subst}
 use Rattle.std.proofs.lemmas.List.{map-append}
 use mathlib.Core.List.{IsPrefix}
 use Rattle.ibc_ids.specs.Publications.{published_by}
@@ -10,7 +10,7 @@ use Rattle.ibc_root_table.specs.Passes.{SamePass, KeepsOwn}
 use Rattle.ibc_records.specs.Held.{IsUnchanged}
 use Rattle.ibc_ledger.specs.declared.entry.StampedEntry.{StampedEntry as KeptEntry}
 use Rattle.ibc_ledger.specs.declared.ledger.Ledger.TheInside.{Inside}
-use Rattle.ibc_ledger.specs.Growing.{seeing_more, with_entry}
+use Rattle.ibc_ledger.specs.Growing.{with_entry}
 use Rattle.ibc_ledger.specs.Standing.{Stands}
 use Rattle.ibc_ledger.specs.Held.{plain_entry}
 use Rattle.ibc_ledger.specs.Inside.{genesis_of, ledger_of, IsHeld}

@@ -1,5 +1,5 @@
 -- A ledger in the beginning is one.
-use Rattle.std.proofs.Common.{◌≡◌, ◌∙◌, ◌<◌, List, [], length, map, refl, sym, ap, subst, Some, None, Option, option_map}
+use Rattle.std.proofs.Common.{◌≡◌, ◌∙◌, ◌<◌, List, [], length, map, sym, ap, subst, Some, option_map}
 use Rattle.std.specs.Prelude.{IsTrue, slice_get}
 use Rattle.std.proofs.lemmas.List.{length-map}
 use Rattle.std.proofs.lemmas.Option.{slice_get-map}
@@ -12,11 +12,10 @@ use Rattle.ibc_machine.specs.Replay.{StampedEntry}
 use Rattle.ibc_root_table.specs.Passes.{Sight, unused_pass}
 use Rattle.ibc_records.specs.Held.{IsNew}
 use Rattle.ibc_ledger.specs.declared.ledger.Ledger.TheInside.{Inside}
-use Rattle.ibc_ledger.specs.declared.entry.StampedEntry.{StampedEntry as KeptEntry}
 use Rattle.ibc_ledger.specs.Standing.{Stands}
 use Rattle.ibc_ledger.specs.Held.{plain_entry, shape_of}
 use Rattle.ibc_ledger.specs.Inside.{genesis_of, ledger_of, IsHeld}
-use Rattle.ibc_ledger.proofs.EndedBlocks.{new_ledger, stands_new}
+use Rattle.ibc_ledger.proofs.EndedBlocks.{stands_new}
 
 -- what a new ledger is made of
 pub record IsFresh (l : Inside) (genesis : Genesis) : Type 0 where

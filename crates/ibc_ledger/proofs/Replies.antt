@@ -1,6 +1,6 @@
 -- What messages of clients are answered, where they were done and where they were refused.
-use Rattle.std.proofs.Common.{◌≡◌, ℕ, refl, sym, ap, subst, ◌∙◌, Result, Ok, Err, [], None, Option, is_some, inl, inr, ⊎_elim}
-use Rattle.std.specs.Prelude.{IfSome, ⊤}
+use Rattle.std.proofs.Common.{◌≡◌, ℕ, refl, sym, ap, subst, Result, Ok, Err, []}
+use Rattle.std.specs.Prelude.{⊤}
 use Rattle.ibc_ids.specs.Texts.{Text}
 use Rattle.ibc_ids.specs.declared.refusal.Refusal.{Refusal}
 use Rattle.ibc_ids.specs.declared.refusal.Refusal.TheVariants.{NoMemory}
@@ -10,13 +10,11 @@ use Rattle.ibc_machine.specs.declared.reply.Effect.{Effect}
 use Rattle.ibc_machine.specs.declared.reply.Effect.TheVariants as effect
 use Rattle.ibc_machine.specs.declared.reply.Reply.{Reply}
 use Rattle.ibc_machine.specs.declared.reply.Reply.TheVariants as reply
-use Rattle.ibc_machine.specs.declared.entry.Reading.{Reading}
 use Rattle.ibc_machine.specs.Records.{Core}
 use Rattle.ibc_machine.specs.Checks.{Checked}
-use Rattle.ibc_machine.specs.Clients.{create_client, update_client}
-use Rattle.ibc_machine.specs.Replay.{LedgerState, proves, empty_chain}
-use Rattle.ibc_records.specs.Held.{HeldRecords, core_of, IsUnchanged}
-use Rattle.ibc_client.specs.Answers.{IsCreated, IsUpdated, IsRefused}
+use Rattle.ibc_machine.specs.Replay.{LedgerState, empty_chain}
+use Rattle.ibc_records.specs.Held.{HeldRecords, IsUnchanged}
+use Rattle.ibc_client.specs.Answers.{IsCreated, IsUpdated}
 use Rattle.ibc_ledger.specs.Answering.{IsCreatedAs, IsUpdatedAs}
 
 -- twice the same reply

@@ -1,5 +1,5 @@
 -- A ledger with the entry of an update of a client is a ledger.
-use Rattle.std.proofs.Common.{◌≡◌, ℕ, ◌≤◌, Bool, true, false, arith, length-append, ◌++◌, List, length, refl, sym, ap, ◌∙◌, subst, Some, None, Option, is_some, Ok, Err}
+use Rattle.std.proofs.Common.{◌≡◌, ◌≤◌, Bool, true, false, arith, length-append, ◌++◌, List, length, refl, sym, ap, ◌∙◌, subst, Some, None, Option, is_some}
 use Rattle.std.specs.Prelude.{IfSome}
 use mathlib.Core.List.{IsPrefix}
 use Rattle.ibc_ids.specs.Publications.{published_by, height_of}

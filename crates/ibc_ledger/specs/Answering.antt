@@ -1,5 +1,5 @@
 -- What a ledger answers to a message, and what that does to what it holds.
-use Rattle.std.specs.Prelude.{◌≡◌, ℕ, true, List, Bool, is_some, Result, Ok, Err, Option, None, IfSome}
+use Rattle.std.specs.Prelude.{◌≡◌, ℕ, true, is_some, Ok, Err, Option, None, IfSome}
 use Rattle.ibc_ids.specs.Publications.{height_of}
 use Rattle.ibc_ids.specs.declared.refusal.Refusal.TheVariants.{NoMemory}
 use Rattle.ibc_wire.specs.declared.messages.CreateClient.{CreateClient}

@@ -1,5 +1,5 @@
 -- A ledger as its callers see it.
-use Rattle.std.specs.Prelude.{◌≡◌, ℕ, Bool, true, false, length, Option}
+use Rattle.std.specs.Prelude.{ℕ, Bool, true, false, length}
 use Rattle.std.specs.Option.{option_map}
 use Rattle.ibc_ids.specs.Texts.{Text}
 use Rattle.ibc_ids.specs.Paths.{account_text}

@@ -97,11 +97,13 @@ impl Ledger {
         self.history.as_slice()
     }
 
-    /// A ledger is one: its state is the replay of its history, whose replies are those of the steps.
+    /// A ledger is one: its state is the replay of its history, whose replies are those of the steps; and what its pass has
+    /// seen is of the chains of the genesis.
     pub fn is_its_history(&self)
-        ensures { IsLedger self.now.ledger }
+        ensures is { IsLedger self.now.ledger }
+        ensures within { (c : ℕ) → 0 < height_of c self.now.ledger.seen → c < length self.now.ledger.genesis.chains }
     {
-        let _ = &self.records;
+        self.table.holds_what_is_seen(&self.pass);
     }
 
     /// The value of a key in the working block, or none where the key isn't there (ICS 24). `NoMemory` where a growth is
@@ -143,7 +145,6 @@ impl Ledger {
         requires behind { IsPrefix self.old.ledger.seen leader.old.ledger.seen }
         ensures leader { leader.new ≡ leader.old }
         ensures follows { self.new ≡ record self.old { ledger = record self.old.ledger { seen = leader.old.ledger.seen } } }
-        ensures within { (c : ℕ) → 0 < height_of c leader.old.ledger.seen → c < length self.old.ledger.genesis.chains }
     {
         self.table.follow(&mut leader.pass, &mut self.pass);
     }

@@ -294,10 +294,17 @@ impl RootTable {
         ensures pass { SamePass follower.old follower.new }
         ensures seen { follower.new.seen ≡ leader.old.seen }
         ensures own { KeepsOwn follower.old follower.new }
-        ensures within { IsWithin self.now.shape follower.new.seen }
     {
         self.tell(&mut leader.place, &mut follower.place);
         self.board.shared.load::<Adopt>(&mut follower.place, 0);
+    }
+
+    /// What a pass has seen is of the table's chains, none of which has published more than it may.
+    pub fn holds_what_is_seen(&self, pass: &Pass)
+        requires { pass.now.table ≡ self.now }
+        ensures { IsWithin self.now.shape pass.now.seen }
+    {
+        let _place = &pass.place;
     }
 
     // One seat hears what another has seen.

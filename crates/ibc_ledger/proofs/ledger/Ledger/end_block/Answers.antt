@@ -1,4 +1,4 @@
-use Rattle.std.proofs.Common.{List, Option, Some, None, Err, ◌≡◌, ◌∷◌, [], ◌++◌, refl, sym, ap, ◌∙◌, subst, arith}
+use Rattle.std.proofs.Common.{List, Option, None, ◌≡◌, ◌∷◌, [], ◌++◌, refl, sym, ap, ◌∙◌, subst, arith}
 use Rattle.std.specs.declared.snapshot.Snapshot.{Snapshot}
 use Rattle.ibc_machine.specs.declared.event.Event.TheVariants as event
 use Rattle.ibc_machine.specs.declared.reply.Reply.{Reply}

@@ -1,8 +1,7 @@
-use Rattle.std.proofs.Common.{◌≡◌, ◌∙◌, ◌<◌, refl, sym, ap, subst, Some, arith, length, map}
+use Rattle.std.proofs.Common.{◌≡◌, ◌∙◌, ◌<◌, refl, sym, ap, subst, Some, arith, length}
 use Rattle.std.specs.Prelude.{slice_get}
 use Rattle.std.proofs.lemmas.List.{length-map}
 use Rattle.std.proofs.lemmas.Option.{slice_get-get_or}
-use Rattle.ibc_machine.specs.declared.genesis.ChainStart.{ChainStart}
 use Rattle.ibc_machine.specs.Genesis.{genesis_state, chain_state}
 use Rattle.ibc_ledger.specs.declared.ledger.Ledger.TheInside.{Inside}
 use Rattle.ibc_ledger.proofs.Windows.{few_chains}

@@ -1,13 +1,10 @@
-use Rattle.std.proofs.Common.{ℕ, List, Option, Some, ◌≡◌, is_some, length, ◌∷◌, [], ◌++◌, true, refl, sym, ap, ◌∙◌, subst, arith}
-use Rattle.std.specs.Prelude.{option_map, IfSome, ◌≤◌}
-use Rattle.std.proofs.Common.{length-append}
+use Rattle.std.proofs.Common.{List, ◌≡◌, is_some, length, ◌∷◌, [], ◌++◌, true, refl, sym, ap, ◌∙◌, subst, arith}
+use Rattle.std.specs.Prelude.{option_map}
 use Rattle.std.specs.Prelude.{IsTrue, nat_lt}
 use Rattle.std.specs.List.{list_all}
 use Rattle.ibc_ids.specs.Texts.{Text}
 use Rattle.ibc_wire.specs.declared.messages.Message.TheVariants as message
 use Rattle.ibc_machine.specs.declared.event.Event.TheVariants as event
-use Rattle.ibc_machine.specs.declared.reply.Reply.{Reply}
-use Rattle.ibc_machine.specs.declared.entry.Reading.{Reading}
 use Rattle.ibc_machine.specs.Ledgers.{is_typed}
 use Rattle.ibc_root_table.specs.Passes.{TableName}
 use Rattle.ibc_ledger.specs.declared.entry.StampedEntry.{StampedEntry as KeptEntry}
