@@ -1,6 +1,8 @@
-//! Names, encodings, trees and proofs beside vectors that were worked out apart from this code. Tests alone.
+//! Names, records, messages, trees and proofs beside vectors that were worked out apart from this code. Tests alone.
 #![tactic(auto)]
 
+#[cfg(test)]
+mod messages;
 #[cfg(test)]
 mod names;
 #[cfg(test)]
