@@ -1,11 +1,14 @@
 //! The hashes of a tree, and the tree over the counters of a new chain.
 
-ghost use Rattle.std.specs.Prelude.{◌≡◌, IfOk, IsTrue};
+ghost use Rattle.std.specs.Prelude.{◌≡◌, codes, IfOk, IsNone, IsSome, IsTrue};
 ghost use Rattle.std.specs.FinMap.{is_sorted};
+ghost use Rattle.ibc_ids.specs.Maps.{at};
 ghost use Rattle.ibc_ids.specs.Texts.{text_cmp};
 
-use ibc_ids::Bytes;
-use ibc_merkle::{Entry, hash_inner, hash_leaf, hash_value, place, root};
+use ibc_ids::{Bytes, Refusal};
+use ibc_merkle::{
+    Entry, Proof, hash_inner, hash_leaf, hash_value, place, prove_absent, prove_present, root,
+};
 use std::alloc::{AllocError, Global};
 
 const GENESIS_ROOT: &str = "743e73341e7649ed2aa2723bb16e6c43e4fd62a16061f80ea2a37972787768dd";
@@ -70,7 +73,9 @@ fn counter(alloc: Global, key: &str) -> Result<Entry, AllocError>
 
 // The three counters of a new chain.
 fn new_chain(alloc: Global) -> Result<[Entry; 3], AllocError>
-    ensures { IfOk result (λ entries. IsTrue (is_sorted text_cmp entries)) }
+    ensures sorted { IfOk result (λ entries. IsTrue (is_sorted text_cmp entries)) }
+    ensures there { IfOk result (λ entries. IsSome (at text_cmp (codes "nextClientSequence") entries)) }
+    ensures missing { IfOk result (λ entries. IsNone (at text_cmp (codes "nextClient") entries)) }
 {
     let channels = counter(alloc, "nextChannelSequence")?;
     let clients = counter(alloc, "nextClientSequence")?;
@@ -99,4 +104,22 @@ fn place_of(alloc: Global, key: &str) -> Result<Result<usize, usize>, AllocError
 fn places_of_keys(rt: HostRuntime) {
     assert!(rt; matches!(place_of(rt.alloc(), "nextClientSequence"), Ok(Ok(1))));
     assert!(rt; matches!(place_of(rt.alloc(), "nextClient"), Ok(Err(1))));
+}
+
+// The proof that a new chain counts its clients.
+fn presence(alloc: Global) -> Result<Proof, Refusal> {
+    let entries = new_chain(alloc)?;
+    prove_present(alloc, entries.as_slice(), b"nextClientSequence".as_slice())
+}
+
+// The proof that nothing stands at the beginning of that key.
+fn absence(alloc: Global) -> Result<Proof, Refusal> {
+    let entries = new_chain(alloc)?;
+    prove_absent(alloc, entries.as_slice(), b"nextClient".as_slice())
+}
+
+#[test]
+fn proofs_of_both_kinds(rt: HostRuntime) {
+    assert!(rt; matches!(presence(rt.alloc()), Ok(Proof::Present(_))));
+    assert!(rt; matches!(absence(rt.alloc()), Ok(Proof::Absent(_))));
 }
