@@ -148,7 +148,11 @@ fn read_all(alloc: Global, bytes: &[u8]) -> Result<Message, Refusal>
 {
     match read_message(alloc, bytes)? {
         (message, []) => Ok(message),
-        (_, [_, ..]) => Err(Refusal::BadMessage),
+        (message, [_, ..]) => {
+            // by a call: the drop of each kind of messages, written out here, would take minutes to prove
+            drop(message);
+            Err(Refusal::BadMessage)
+        }
     }
 }
 
