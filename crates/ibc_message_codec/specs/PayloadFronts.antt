@@ -1,5 +1,5 @@
 -- The fields of each message behind its tag, and how they are read.
-use Rattle.std.specs.Prelude.{ℕ, List, [], ◌∷◌, ◌++◌, Some}
+use Rattle.std.specs.Prelude.{List, [], ◌∷◌, ◌++◌, Some}
 use Rattle.std.specs.Int.{w64}
 use Rattle.ibc_ids.specs.Texts.{Text}
 use Rattle.ibc_ids.specs.Names.{is_client, is_connection, is_channel, is_port, is_version, is_user, is_denom, is_receiver, is_memo}

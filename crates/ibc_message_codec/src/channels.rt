@@ -2,11 +2,13 @@
 
 ghost use Rattle.ibc_message_codec.specs.PayloadFronts.{chan_open_init_fields, chan_open_try_fields, chan_open_ack_fields, chan_open_confirm_fields, chan_close_init_fields, chan_close_confirm_fields, chan_open_init_at_front, chan_open_try_at_front, chan_open_ack_at_front, chan_open_confirm_at_front, chan_close_init_at_front, chan_close_confirm_at_front};
 
-use ibc_codec::fields::{read_n8, read_name, read_str, write_n8, write_name, write_str};
 use crate::payload::Payload;
 use ibc_codec::Wire;
-use ibc_wire::{ChanCloseConfirm, ChanCloseInit, ChanOpenAck, ChanOpenConfirm, ChanOpenInit, ChanOpenTry, Order};
+use ibc_codec::fields::{read_n8, read_name, read_str, write_n8, write_name, write_str};
 use ibc_ids::Refusal;
+use ibc_wire::{
+    ChanCloseConfirm, ChanCloseInit, ChanOpenAck, ChanOpenConfirm, ChanOpenInit, ChanOpenTry, Order,
+};
 use std::alloc::Global;
 
 impl Payload for ChanOpenInit {

@@ -2,11 +2,11 @@
 
 ghost use Rattle.ibc_message_codec.specs.PayloadFronts.{conn_open_init_fields, conn_open_try_fields, conn_open_ack_fields, conn_open_confirm_fields, conn_open_init_at_front, conn_open_try_at_front, conn_open_ack_at_front, conn_open_confirm_at_front};
 
-use ibc_codec::fields::{read_n8, read_name, read_str, write_n8, write_name, write_str};
 use crate::payload::Payload;
 use ibc_codec::Wire;
-use ibc_wire::{ClientState, ConnOpenAck, ConnOpenConfirm, ConnOpenInit, ConnOpenTry};
+use ibc_codec::fields::{read_n8, read_name, read_str, write_n8, write_name, write_str};
 use ibc_ids::Refusal;
+use ibc_wire::{ClientState, ConnOpenAck, ConnOpenConfirm, ConnOpenInit, ConnOpenTry};
 use std::alloc::Global;
 
 impl Payload for ConnOpenInit {

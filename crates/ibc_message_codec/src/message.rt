@@ -6,10 +6,14 @@ ghost use Rattle.ibc_wire.specs.Messages.{message_fields};
 ghost use Rattle.ibc_wire.specs.Fronts.{Gives, Writes, only};
 ghost use Rattle.ibc_message_codec.specs.MessageFront.{kind_of, message_behind, message_at_front};
 
-use ibc_codec::fields::read_u8;
 use crate::payload::{Payload, write_tagged};
-use ibc_wire::{AckPacket, ChanCloseConfirm, ChanCloseInit, ChanOpenAck, ChanOpenConfirm, ChanOpenInit, ChanOpenTry, ConnOpenAck, ConnOpenConfirm, ConnOpenInit, ConnOpenTry, CreateClient, Message, RecvPacket, SendNote, Timeout, TimeoutOnClose, Transfer, TransferMany, UpdateClient};
+use ibc_codec::fields::read_u8;
 use ibc_ids::Refusal;
+use ibc_wire::{
+    AckPacket, ChanCloseConfirm, ChanCloseInit, ChanOpenAck, ChanOpenConfirm, ChanOpenInit,
+    ChanOpenTry, ConnOpenAck, ConnOpenConfirm, ConnOpenInit, ConnOpenTry, CreateClient, Message,
+    RecvPacket, SendNote, Timeout, TimeoutOnClose, Transfer, TransferMany, UpdateClient,
+};
 use std::alloc::Global;
 
 /// The kinds of messages, in the order of their tags.
@@ -144,7 +148,11 @@ fn read_all(alloc: Global, bytes: &[u8]) -> Result<Message, Refusal>
 {
     match read_message(alloc, bytes)? {
         (message, []) => Ok(message),
-        (_, [_, ..]) => Err(Refusal::BadMessage),
+        (message, [_, ..]) => {
+            // by a call: the drop of each kind of messages, written out here, would take minutes to prove
+            drop(message);
+            Err(Refusal::BadMessage)
+        }
     }
 }
 

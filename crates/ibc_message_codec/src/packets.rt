@@ -2,11 +2,11 @@
 
 ghost use Rattle.ibc_message_codec.specs.PayloadFronts.{recv_packet_fields, ack_packet_fields, timeout_fields, timeout_on_close_fields, recv_packet_at_front, ack_packet_at_front, timeout_at_front, timeout_on_close_at_front};
 
-use ibc_codec::fields::{read_n8, read_str, write_n8, write_str};
 use crate::payload::Payload;
 use ibc_codec::Wire;
-use ibc_wire::{AckPacket, Packet, RecvPacket, Timeout, TimeoutOnClose};
+use ibc_codec::fields::{read_n8, read_str, write_n8, write_str};
 use ibc_ids::Refusal;
+use ibc_wire::{AckPacket, Packet, RecvPacket, Timeout, TimeoutOnClose};
 use std::alloc::Global;
 
 impl Payload for RecvPacket {

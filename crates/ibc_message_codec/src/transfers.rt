@@ -2,13 +2,13 @@
 
 ghost use Rattle.ibc_message_codec.specs.PayloadFronts.{transfer_fields, send_note_fields, transfer_many_fields, transfer_at_front, send_note_at_front, transfer_many_at_front};
 
+use crate::payload::Payload;
+use ibc_codec::Wire;
 use ibc_codec::fields::{
     read_n8, read_n16, read_name, read_str, write_n8, write_n16, write_name, write_str,
 };
-use crate::payload::Payload;
-use ibc_codec::Wire;
-use ibc_wire::{SendNote, Tokens, Transfer, TransferMany};
 use ibc_ids::Refusal;
+use ibc_wire::{SendNote, Tokens, Transfer, TransferMany};
 use std::alloc::Global;
 
 impl Payload for Transfer {

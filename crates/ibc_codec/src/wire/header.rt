@@ -2,10 +2,10 @@
 
 ghost use Rattle.ibc_wire.specs.RecordFronts.{header_fields, header_at_front};
 
-use crate::fields::{read_n8, read_root, read_u8, write_n8, write_root, write_u8};
 use crate::Wire;
-use ibc_wire::Header;
+use crate::fields::{read_n8, read_root, read_u8, write_n8, write_root, write_u8};
 use ibc_ids::Refusal;
+use ibc_wire::Header;
 use std::alloc::Global;
 
 impl Wire for Header {

@@ -3,10 +3,10 @@
 ghost use Rattle.ibc_wire.specs.Spelling.{packet_fields};
 ghost use Rattle.ibc_wire.specs.RecordFronts.{packet_at_front};
 
-use crate::fields::{read_n8, read_name, read_str, write_n8, write_name, write_str};
 use crate::Wire;
-use ibc_wire::Packet;
+use crate::fields::{read_n8, read_name, read_str, write_n8, write_name, write_str};
 use ibc_ids::Refusal;
+use ibc_wire::Packet;
 use std::alloc::Global;
 
 impl Wire for Packet {

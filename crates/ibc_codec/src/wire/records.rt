@@ -6,13 +6,13 @@ ghost use Rattle.ibc_wire.specs.Spelling.{client_state_fields, connection_end_fi
 ghost use Rattle.ibc_wire.specs.Fronts.{Gives, Writes, coded_at_front, same_at_front};
 ghost use Rattle.ibc_wire.specs.RecordFronts.{client_state_at_front, connection_end_at_front, channel_end_at_front, connection_state_of, channel_state_of, order_of};
 
+use crate::Wire;
 use crate::fields::{
     read_n8, read_name, read_peer, read_text, read_u8, write_n8, write_name, write_peer,
     write_text, write_u8,
 };
-use crate::Wire;
-use ibc_wire::{ChannelEnd, ChannelState, ClientState, ConnectionEnd, ConnectionState, Order};
 use ibc_ids::Refusal;
+use ibc_wire::{ChannelEnd, ChannelState, ClientState, ConnectionEnd, ConnectionState, Order};
 use std::alloc::Global;
 
 impl Wire for ClientState {

@@ -6,10 +6,10 @@ ghost use Rattle.ibc_wire.specs.Tokens.{is_rising};
 ghost use Rattle.ibc_wire.specs.RecordFronts.{token_at_front, tokens_at_front};
 
 use super::many::{read_many, write_many};
-use crate::fields::{read_n16, read_name, read_u8, write_count, write_n16, write_name};
 use crate::Wire;
-use ibc_wire::{Token, Tokens};
+use crate::fields::{read_n16, read_name, read_u8, write_count, write_n16, write_name};
 use ibc_ids::Refusal;
+use ibc_wire::{Token, Tokens};
 use std::alloc::Global;
 
 /// The most tokens of a message.

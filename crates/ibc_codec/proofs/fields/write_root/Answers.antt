@@ -1,4 +1,4 @@
-use Rattle.std.proofs.Common.{◌++◌, sym, ap, ◌∙◌, arith, length}
+use Rattle.std.proofs.Common.{◌++◌, sym, ap, ◌∙◌, length}
 use Rattle.ibc_codec.proofs.Writing.{root_is_written}
 use Rattle.ibc_codec.proofs.fields.write_root.Goals as goal
 

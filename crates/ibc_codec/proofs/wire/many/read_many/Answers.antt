@@ -1,4 +1,3 @@
-use Rattle.std.proofs.Common.{◌++◌, ◌∷◌, []}
 use Rattle.std.proofs.lemmas.Result.{err_from_is_err_and}
 use Rattle.ibc_wire.specs.Fronts.{many_at_front}
 use Rattle.ibc_codec.proofs.Rows.{goes_on, ends, is_done}

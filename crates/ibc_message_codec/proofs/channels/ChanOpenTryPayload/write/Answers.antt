@@ -1,4 +1,4 @@
-use Rattle.std.proofs.Common.{[], ◌∷◌, ◌++◌}
+use Rattle.std.proofs.Common.{[], ◌∷◌}
 use Rattle.ibc_ids.specs.Names.{is_channel, is_connection, is_port, is_version}
 use Rattle.ibc_wire.specs.Fields.{u8, n8, str, name}
 use Rattle.ibc_wire.specs.Spelling.{order_number}

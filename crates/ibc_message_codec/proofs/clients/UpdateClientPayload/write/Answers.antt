@@ -1,4 +1,4 @@
-use Rattle.std.proofs.Common.{[], ◌∷◌, ◌++◌}
+use Rattle.std.proofs.Common.{[], ◌∷◌}
 use Rattle.ibc_ids.specs.Names.{is_client}
 use Rattle.ibc_wire.specs.Fields.{name}
 use Rattle.ibc_wire.specs.RecordFronts.{header_fields}

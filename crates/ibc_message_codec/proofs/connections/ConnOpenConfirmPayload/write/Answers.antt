@@ -1,4 +1,4 @@
-use Rattle.std.proofs.Common.{[], ◌∷◌, ◌++◌}
+use Rattle.std.proofs.Common.{[], ◌∷◌}
 use Rattle.ibc_ids.specs.Names.{is_connection}
 use Rattle.ibc_wire.specs.Fields.{n8, str, name}
 use Rattle.ibc_codec.proofs.Writing.{behind}

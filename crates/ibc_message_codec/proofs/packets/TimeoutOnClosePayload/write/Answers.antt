@@ -1,4 +1,4 @@
-use Rattle.std.proofs.Common.{[], ◌∷◌, ◌++◌}
+use Rattle.std.proofs.Common.{[], ◌∷◌}
 use Rattle.ibc_wire.specs.Fields.{n8, str}
 use Rattle.ibc_wire.specs.Spelling.{packet_fields}
 use Rattle.ibc_codec.proofs.Writing.{behind}

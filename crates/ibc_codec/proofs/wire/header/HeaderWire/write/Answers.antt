@@ -1,4 +1,4 @@
-use Rattle.std.proofs.Common.{[], ◌∷◌, ◌++◌}
+use Rattle.std.proofs.Common.{[], ◌∷◌}
 use Rattle.ibc_wire.specs.Fields.{u8, n8, root32}
 use Rattle.ibc_codec.proofs.Writing.{behind}
 use Rattle.ibc_codec.proofs.wire.header.HeaderWire.write.Goals as goal

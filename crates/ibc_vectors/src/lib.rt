@@ -1,0 +1,13 @@
+//! Names, records, messages, trees and proofs beside vectors that were worked out apart from this code. Tests alone.
+#![tactic(auto)]
+
+#[cfg(test)]
+mod messages;
+#[cfg(test)]
+mod names;
+#[cfg(test)]
+mod proofs;
+#[cfg(test)]
+mod records;
+#[cfg(test)]
+mod trees;
