@@ -3,7 +3,7 @@ use Rattle.std.specs.Prelude.{ℕ, ◌<◌, Option}
 use Rattle.std.specs.Option.{option_and_then}
 use Rattle.std.proofs.Props.{props}
 use Rattle.serde_json.specs.Data.{Data}
-use Rattle.serde_json.specs.Find.{get, as_number, as_u64, as_str}
+use Rattle.serde_json.specs.Find.{get, as_number, as_u64}
 use Rattle.ibc_ids.specs.Texts.{Text}
 use Rattle.ibc_script_cli.specs.declared.script.Step.{Step}
 use Rattle.ibc_script_cli.specs.declared.script.Step.TheVariants as step
@@ -24,7 +24,3 @@ IsProp-IsAmong chains (step.Root on height) = hlevel props
 -- the number below 2^64 that a member is
 abbrev pub number_at : Text → Data → Option ℕ
 number_at name value = option_and_then as_u64 (option_and_then as_number (get name value))
-
--- the text that a member is
-abbrev pub text_at : Text → Data → Option Text
-text_at name value = option_and_then as_str (get name value)

@@ -174,7 +174,7 @@ fn long_script(alloc: Global, steps: usize, bytes: usize) -> Result<Vec<u8>, All
         script.extend_from_slice(b"{\"do\":\"Block\",\"on\":\"a\"},")?;
     }
     script.extend_from_slice(b"{\"do\":\"Block\",\"on\":\"a\"}]}")?;
-    while script.len() < bytes {
+    for _ in script.len()..bytes {
         script.push(b' ')?;
     }
     Ok(script)
