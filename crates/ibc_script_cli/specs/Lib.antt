@@ -1,0 +1,7 @@
+pub mod ChainNames
+pub mod EventKinds
+pub mod Faults
+pub mod Heights
+pub mod Lines
+pub mod Scripts
+pub mod Words

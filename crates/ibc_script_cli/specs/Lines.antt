@@ -1,0 +1,62 @@
+-- The lines that the program prints, without their line feeds.
+use Rattle.std.specs.Prelude.{ℕ, codes, List, [], ◌∷◌, ◌++◌, map, ◌&&◌, nat_le, if◌then◌else◌, Option, None, Some}
+use Rattle.std.specs.Fmt.{decimal}
+use Rattle.hex.specs.Hex.{encode_lower}
+use Rattle.base64.specs.Engines.{standard}
+use Rattle.base64.specs.GeneralPurpose.{encode_of}
+use Rattle.ibc_ids.specs.Texts.{Text}
+use Rattle.ibc_ids.specs.Paths.{account_text}
+use Rattle.ibc_ids.specs.Refusals.{number_of}
+use Rattle.ibc_machine.specs.declared.reply.Effect.{Effect}
+use Rattle.ibc_machine.specs.declared.reply.Effect.TheVariants as effect
+use Rattle.ibc_machine.specs.declared.reply.Reply.{Reply}
+use Rattle.ibc_machine.specs.declared.reply.Reply.TheVariants as reply
+use Rattle.ibc_script_cli.specs.EventKinds.{name_of}
+use Rattle.ibc_script_cli.specs.declared.line.Line.{Line}
+use Rattle.ibc_script_cli.specs.declared.line.Line.TheVariants as printed
+
+-- words with a blank between any two
+abbrev pub spaced : List Text → Text
+spaced [] = []
+spaced (word ∷ []) = word
+spaced (word ∷ next ∷ words) = word ++ (codes " " ++ spaced (next ∷ words))
+
+-- a byte of an acknowledgement as it is printed: `?` where it is no printable ASCII
+abbrev pub shown : ℕ → ℕ
+shown c = if nat_le 0x20 c && nat_le c 0x7e then c else 63
+
+-- what an accepted event gives
+abbrev pub effect_words : Effect → List Text
+effect_words effect.None = []
+effect_words (effect.Client id) = id ∷ []
+effect_words (effect.Connection id) = id ∷ []
+effect_words (effect.Channel id) = id ∷ []
+effect_words (effect.Sent sequence) = decimal sequence ∷ []
+effect_words (effect.Ack bytes) = map shown bytes ∷ []
+effect_words (effect.Block height root) = decimal height ∷ []
+
+abbrev pub reply_words : Reply → List Text
+reply_words (reply.Ok given) = codes "ok" ∷ effect_words given
+reply_words (reply.No refusal) = codes "no" ∷ decimal (number_of refusal) ∷ []
+
+-- bytes in lower-case hexadecimal, or `none`
+abbrev pub digits_of : Option Text → Text
+digits_of None = codes "none"
+digits_of (Some bytes) = encode_lower bytes
+
+-- the words of a line
+abbrev pub line_words : Line → List Text
+line_words (printed.Reply chain kind answer) = chain ∷ name_of kind ∷ reply_words answer
+line_words (printed.Missing chain kind) = chain ∷ name_of kind ∷ codes "none" ∷ []
+line_words (printed.Balance chain account denom amount) =
+    codes "balance" ∷ chain ∷ account_text account ∷ denom ∷ decimal amount ∷ []
+line_words (printed.Note chain channel index bytes) =
+    codes "note" ∷ chain ∷ channel ∷ decimal index ∷ encode_of standard bytes ∷ []
+line_words (printed.Root chain height root) =
+    chain ∷ codes "root" ∷ decimal height ∷ digits_of root ∷ []
+line_words (printed.Prove chain height proof) =
+    chain ∷ codes "prove" ∷ decimal height ∷ digits_of proof ∷ []
+
+-- the text of a line
+abbrev pub line : Line → Text
+line printed_line = spaced (line_words printed_line)

@@ -1,0 +1,239 @@
+//! The lines that the program prints.
+
+ghost use Rattle.std.specs.Prelude.{◌≡◌, IfOk, IsOkUnless, string_bytes, map, option_map, codes, ◌∷◌, [], decimal};
+ghost use Rattle.base64.specs.Engines.{standard};
+ghost use Rattle.base64.specs.GeneralPurpose.{encode_of};
+ghost use Rattle.ibc_ids.specs.Paths.{account_text};
+ghost use Rattle.ibc_ids.specs.Refusals.{number_of};
+ghost use Rattle.ibc_script_cli.specs.Lines.{line, shown, spaced, effect_words, reply_words, digits_of};
+
+use crate::{ChainName, EventKind};
+use base64::engine::general_purpose::STANDARD;
+use ibc_ids::{Account, Bytes, ChannelId, Denom, Refusal, Root};
+use ibc_machine::{Effect, Reply};
+use std::alloc::{AllocError, Global};
+
+/// A line that the program prints, without its line feed.
+#[derive(Drop, Debug)]
+pub enum Line {
+    /// The reply to an event.
+    Reply {
+        chain: ChainName,
+        kind: EventKind,
+        reply: Reply,
+    },
+    /// Something that the message needs doesn't exist, and nothing was asked of the chain.
+    Missing {
+        chain: ChainName,
+        kind: EventKind,
+    },
+    /// What an account has at the end.
+    Balance {
+        chain: ChainName,
+        account: Account,
+        denom: Denom,
+        amount: u128,
+    },
+    /// A note that was received, by its number on its channel, from 1.
+    Note {
+        chain: ChainName,
+        channel: ChannelId,
+        index: u64,
+        bytes: Bytes,
+    },
+    /// The root of a height, `None` where the chain doesn't keep the height.
+    Root {
+        chain: ChainName,
+        height: u64,
+        root: Option<Root>,
+    },
+    /// The encoding of a proof at a height, `None` where the chain doesn't keep the height.
+    Prove {
+        chain: ChainName,
+        height: u64,
+        proof: Option<Bytes>,
+    },
+}
+
+fn shown(byte: u8) -> u8
+    ensures { result ≡ shown byte }
+{
+    if 0x20 <= byte && byte <= 0x7e {
+        byte
+    } else {
+        b'?'
+    }
+}
+
+// The bytes of an acknowledgement, each that isn't printable as `?`.
+fn acknowledgement_text(alloc: Global, bytes: &[u8]) -> Result<String, AllocError>
+    ensures { IfOk result (λ text. string_bytes text ≡ map shown bytes.now) }
+{
+    let mut text = String::new(alloc);
+    for byte in bytes {
+        text.push(char::from(shown(*byte)))?;
+    }
+    Ok(text)
+}
+
+fn account_text(alloc: Global, account: &Account) -> Result<String, AllocError>
+    ensures { IfOk result (λ text. string_bytes text ≡ account_text account.now) }
+{
+    match account {
+        Account::User(name) => String::from_str(alloc, name.as_str()),
+        Account::Escrow(channel) => {
+            let channel = channel.as_str();
+            format!(in alloc; "escrow/transfer/{channel}")
+        }
+    }
+}
+
+fn accepted_line(
+    alloc: Global,
+    chain: &str,
+    kind: &str,
+    effect: &Effect,
+) -> Result<String, AllocError>
+    ensures { IfOk result (λ text. string_bytes text ≡ spaced (chain.now ∷ kind.now ∷ codes "ok" ∷ effect_words effect.now)) }
+{
+    match effect {
+        Effect::None => format!(in alloc; "{chain} {kind} ok"),
+        Effect::Client(id) => given_line(alloc, chain, kind, id.as_str()),
+        Effect::Connection(id) => given_line(alloc, chain, kind, id.as_str()),
+        Effect::Channel(id) => given_line(alloc, chain, kind, id.as_str()),
+        Effect::Sent(sequence) => format!(in alloc; "{chain} {kind} ok {sequence}"),
+        Effect::Ack(bytes) => {
+            let shown = acknowledgement_text(alloc, bytes.as_slice())?;
+            given_line(alloc, chain, kind, shown.as_str())
+        }
+        Effect::Block(height, _) => format!(in alloc; "{chain} {kind} ok {height}"),
+    }
+}
+
+fn given_line(alloc: Global, chain: &str, kind: &str, given: &str) -> Result<String, AllocError>
+    ensures { IfOk result (λ text. string_bytes text ≡ spaced (chain.now ∷ kind.now ∷ codes "ok" ∷ given.now ∷ [])) }
+{
+    format!(in alloc; "{chain} {kind} ok {given}")
+}
+
+fn refused_line(
+    alloc: Global,
+    chain: &str,
+    kind: &str,
+    refusal: Refusal,
+) -> Result<String, AllocError>
+    ensures { IfOk result (λ text. string_bytes text ≡ spaced (chain.now ∷ kind.now ∷ codes "no" ∷ decimal (number_of refusal) ∷ [])) }
+{
+    let number = refusal.number();
+    format!(in alloc; "{chain} {kind} no {number}")
+}
+
+fn reply_line(alloc: Global, chain: &str, kind: &str, reply: &Reply) -> Result<String, AllocError>
+    ensures { IfOk result (λ text. string_bytes text ≡ spaced (chain.now ∷ kind.now ∷ reply_words reply.now)) }
+{
+    match reply {
+        Reply::Ok(effect) => accepted_line(alloc, chain, kind, effect),
+        Reply::No(refusal) => refused_line(alloc, chain, kind, *refusal),
+    }
+}
+
+fn balance_line(
+    alloc: Global,
+    chain: &str,
+    account: &Account,
+    denom: &str,
+    amount: u128,
+) -> Result<String, AllocError>
+    ensures { IfOk result (λ text. string_bytes text ≡ spaced (codes "balance" ∷ chain.now ∷ account_text account.now ∷ denom.now ∷ decimal amount ∷ [])) }
+{
+    let account = account_text(alloc, account)?;
+    format!(in alloc; "balance {chain} {account} {denom} {amount}")
+}
+
+fn note_line(
+    alloc: Global,
+    chain: &str,
+    channel: &str,
+    index: u64,
+    bytes: &[u8],
+) -> Result<String, AllocError>
+    ensures { IfOk result (λ text. string_bytes text ≡ spaced (codes "note" ∷ chain.now ∷ channel.now ∷ decimal index ∷ encode_of standard bytes.now ∷ [])) }
+{
+    let bytes = STANDARD.encode(alloc, bytes)?;
+    format!(in alloc; "note {chain} {channel} {index} {bytes}")
+}
+
+// The line of what a height has, in lower-case hexadecimal, or `none`.
+fn height_line(
+    alloc: Global,
+    chain: &str,
+    what: &str,
+    height: u64,
+    bytes: Option<&[u8]>,
+) -> Result<String, AllocError>
+    ensures { IfOk result (λ text. string_bytes text ≡ spaced (chain.now ∷ what.now ∷ decimal height ∷ digits_of (option_map (λ b. b.now) bytes.entry) ∷ [])) }
+{
+    match bytes {
+        Some(bytes) => {
+            let digits = hex::encode(alloc, bytes)?;
+            format!(in alloc; "{chain} {what} {height} {digits}")
+        }
+        None => format!(in alloc; "{chain} {what} {height} none"),
+    }
+}
+
+fn text_of(alloc: Global, printed: &Line) -> Result<String, AllocError>
+    ensures { IfOk result (λ text. string_bytes text ≡ line printed.now) }
+{
+    match printed {
+        Line::Reply { chain, kind, reply } => {
+            reply_line(alloc, chain.as_str(), kind.name(), reply)
+        }
+        Line::Missing { chain, kind } => {
+            let (chain, kind) = (chain.as_str(), kind.name());
+            format!(in alloc; "{chain} {kind} none")
+        }
+        Line::Balance {
+            chain,
+            account,
+            denom,
+            amount,
+        } => balance_line(alloc, chain.as_str(), account, denom.as_str(), *amount),
+        Line::Note {
+            chain,
+            channel,
+            index,
+            bytes,
+        } => note_line(
+            alloc,
+            chain.as_str(),
+            channel.as_str(),
+            *index,
+            bytes.as_slice(),
+        ),
+        Line::Root {
+            chain,
+            height,
+            root,
+        } => {
+            let bytes = root.as_ref().map(|root| root.bytes().as_slice());
+            height_line(alloc, chain.as_str(), "root", *height, bytes)
+        }
+        Line::Prove {
+            chain,
+            height,
+            proof,
+        } => {
+            let bytes = proof.as_ref().map(|proof| proof.as_slice());
+            height_line(alloc, chain.as_str(), "prove", *height, bytes)
+        }
+    }
+}
+
+/// The text of a line, without its line feed. Refused: `NoMemory`.
+pub fn line_text(alloc: Global, printed: &Line) -> Result<String, Refusal>
+    ensures text { IfOk result (λ text. string_bytes text ≡ line printed.now) }
+    ensures memory { IsOkUnless result Refusal.NoMemory }
+{
+    Ok(text_of(alloc, printed)?)
+}
