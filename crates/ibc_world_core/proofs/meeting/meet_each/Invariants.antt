@@ -1,0 +1,13 @@
+use Rattle.std.proofs.Common.{◌≡◌}
+use Rattle.ibc_machine.specs.Ledgers.{SeesMore}
+use Rattle.ibc_world_steps.specs.Meetings.{AreBehind}
+use Rattle.ibc_world_core.specs.Held.{plain, HaveSeenMore}
+use Rattle.ibc_world_core.proofs.meeting.meet_each.Given as goal
+
+abbrev pub invariant-loop-index : goal.invariant-loop-index
+invariant-loop-index l = record {
+  table : l.leader.table ≡ l.fn.leader.table;
+  leader : SeesMore l.fn.leader.ledger l.leader.ledger;
+  others : HaveSeenMore l.fn.leader.table l.fn.others l.others;
+  behind : AreBehind l.index l.leader.ledger.seen (plain l.others);
+}

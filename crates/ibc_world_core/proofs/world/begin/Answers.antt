@@ -1,0 +1,67 @@
+-- One ledger more begins with the next pass.
+use Rattle.std.proofs.Common.{◌∙◌, length, sym, ap, subst, Some, arith}
+use Rattle.std.specs.Vec.Iter.{into_iter_items}
+use Rattle.std.proofs.lemmas.List.{length-map}
+use Rattle.ibc_machine.specs.Genesis.{genesis_state, chain_state}
+use Rattle.ibc_root_table.specs.Passes.{unused_pass}
+use Rattle.ibc_ledger.proofs.Windows.{few_chains}
+use Rattle.ibc_world_steps.specs.World.{new_ledger}
+use Rattle.ibc_world_core.proofs.Beginnings.{BegunSoFar, none_begun, one_is_left, next_pass, one_more_begun, all_begun}
+use Rattle.ibc_world_core.proofs.world.begin.Goals as goal
+
+pub loop-pass-init : goal.loop-pass-init
+loop-pass-init c =
+    let genesis = genesis_state c.args.genesis.now in
+    let table = c.args.table.now.value in
+    let gives = c.into_iter-pass-iterator.ensures.into_iter_gives in
+    let long = length-map c.args.genesis.now.chains.items chain_state in
+    let begun = none_begun genesis table (length c.args.genesis.now.chains.items) c.args.passes.items (sym long) c.requires.passes in
+    record {
+      so_far = subst (λ l. BegunSoFar genesis table l c.in_ok-ledgers.ledgers.items) (sym gives.0) (subst (BegunSoFar genesis table c.args.passes.items) (sym c.in_ok-ledgers.ensures.items) begun);
+      left = gives.1 ∙ c.args.passes.ok.0 ∙ ap length (sym gives.0);
+    }
+
+pub overflow_cast-chain : goal.overflow_cast-chain
+overflow_cast-chain c =
+    let genesis = genesis_state c.args.genesis.now in
+    let so_far = c.loop-pass.invariant.so_far in
+    let low = one_is_left genesis c.args.table.now.value (into_iter_items c.loop-pass.pass-iterator) (into_iter_items c.next.new.self) c.in-Some.pass c.loop-pass.ledgers.items c.in-Some.ensures.steps.0 so_far in
+    let few = few_chains genesis c.requires.allowed in
+    omega (arith, low, few, c.len-chain.ensures, c.loop-pass.ledgers.ok.0)
+
+pub new-requires-clause-chain : goal.new-requires-clause-chain
+new-requires-clause-chain c =
+    let genesis = genesis_state c.args.genesis.now in
+    let so_far = c.loop-pass.invariant.so_far in
+    let low = one_is_left genesis c.args.table.now.value (into_iter_items c.loop-pass.pass-iterator) (into_iter_items c.next.new.self) c.in-Some.pass c.loop-pass.ledgers.items c.in-Some.ensures.steps.0 so_far in
+    let long = length-map c.args.genesis.now.chains.items chain_state in
+    omega (arith, low, long, c.len-chain.ensures, c.loop-pass.ledgers.ok.0)
+
+pub new-requires-clause-pass : goal.new-requires-clause-pass
+new-requires-clause-pass c =
+    let genesis = genesis_state c.args.genesis.now in
+    let so_far = c.loop-pass.invariant.so_far in
+    let next = next_pass genesis c.args.table.now.value (into_iter_items c.loop-pass.pass-iterator) (into_iter_items c.next.new.self) c.in-Some.pass c.loop-pass.ledgers.items c.in-Some.ensures.steps.0 so_far in
+    next ∙ ap (λ n. unused_pass c.args.table.now.value (Some n)) (sym (c.len-chain.ensures ∙ c.loop-pass.ledgers.ok.0)) ∙ ap (λ t. unused_pass t (Some c.len-chain.result)) (sym c.in_ok-table.ensures)
+
+pub loop-pass-preserved : goal.loop-pass-preserved
+loop-pass-preserved c =
+    let genesis = genesis_state c.args.genesis.now in
+    let table = c.args.table.now.value in
+    let at = c.loop-pass in
+    let steps = c.in-Some.ensures.steps in
+    let new = c.in_ok-new.ensures.ok ∙ ap (λ t. record { ledger = new_ledger genesis c.len-chain.result; table = t }) c.in_ok-table.ensures in
+    let more = one_more_begun genesis table (into_iter_items at.pass-iterator) (into_iter_items c.next.new.self) c.in-Some.pass at.ledgers.items steps.0 at.invariant.so_far c.len-chain.result c.in_ok-new.field-0 (c.len-chain.ensures ∙ at.ledgers.ok.0) new in
+    record {
+      so_far = subst (BegunSoFar genesis table (into_iter_items c.next.new.self)) (sym c.in_ok-push.ensures.items) more;
+      left =
+          let was = at.invariant.left in
+          let gone = steps.1 in
+          let short = ap length steps.0 in
+          omega arith;
+    }
+
+pub returns-clause-ok : goal.returns-clause-ok
+returns-clause-ok c =
+    let at = c.loop-pass in
+    all_begun (genesis_state c.args.genesis.now) c.args.table.now.value (into_iter_items at.pass-iterator) at.ledgers.items (sym at.invariant.left ∙ c.in-None.ensures.steps.0) at.invariant.so_far

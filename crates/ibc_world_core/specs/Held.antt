@@ -1,0 +1,47 @@
+-- A world as its callers see it, and what its ledgers have in common.
+use Rattle.std.specs.Prelude.{◌≡◌, ◌<◌, ℕ, List, map, length, Some, slice_get}
+use Rattle.ibc_machine.specs.Ledgers.{Ledger, IsLedger}
+use Rattle.ibc_root_table.specs.Passes.{TableName}
+use Rattle.ibc_ledger.specs.Held.{HeldLedger}
+use Rattle.ibc_machine.specs.Genesis.{GenesisState}
+use Rattle.ibc_machine.specs.declared.event.Event.{Event}
+use Rattle.ibc_machine.specs.declared.reply.Reply.{Reply}
+use Rattle.ibc_world_steps.specs.World.{new_ledger}
+use Rattle.ibc_world_steps.specs.Meetings.{IsPut}
+use Rattle.ibc_world_steps.specs.Steps.{AllSeeMore}
+
+-- the ledgers alone
+abbrev pub plain : List HeldLedger → List Ledger
+plain ledgers = map (λ (h : HeldLedger). h.ledger) ledgers
+
+-- all ledgers publish in this table
+abbrev pub AllAt : TableName → List HeldLedger → Type 0
+AllAt table ledgers = (k : ℕ) (h : HeldLedger) → slice_get ledgers k ≡ Some h → h.table ≡ table
+
+-- as many ledgers at the same table, which have at most seen more
+pub record HaveSeenMore (table : TableName) (old new : List HeldLedger) : Type 0 where
+  pub as_many : length new ≡ length old
+  pub tables : AllAt table new
+  pub more : AllSeeMore (plain old) (plain new)
+
+-- the first so many are ledgers
+abbrev pub FirstAre : ℕ → List Ledger → Type 0
+FirstAre n ledgers = (k : ℕ) (ledger : Ledger) → k < n → slice_get ledgers k ≡ Some ledger → IsLedger ledger
+
+-- the ledgers of a genesis in the beginning, which publish in this table
+pub record AreBegun (genesis : GenesisState) (table : TableName) (ledgers : List HeldLedger) : Type 0 where
+  pub all : length ledgers ≡ length genesis.chains
+  pub each : (k : ℕ) (h : HeldLedger) → slice_get ledgers k ≡ Some h → h ≡ record { ledger = new_ledger genesis k; table = table }
+
+-- each ledger's place is the number of its chain
+abbrev pub AreNumbered : List HeldLedger → Type 0
+AreNumbered ledgers = (k : ℕ) (h : HeldLedger) → slice_get ledgers k ≡ Some h → h.ledger.chain ≡ k
+
+-- each ledger is still at its table
+abbrev pub SameTables : List HeldLedger → List HeldLedger → Type 0
+SameTables old new = (k : ℕ) (g h : HeldLedger) → slice_get old k ≡ Some g → slice_get new k ≡ Some h → h.table ≡ g.table
+
+-- the event was put to the ledgers of a world, whatever its genesis
+abbrev pub IsPutTo : List HeldLedger → List ℕ → Event → Reply → List HeldLedger → List ℕ → Type 0
+IsPutTo old order event given new order' = (genesis : GenesisState)
+    → IsPut (record { genesis = genesis; ledgers = plain old; order = order }) event given (record { genesis = genesis; ledgers = plain new; order = order' })

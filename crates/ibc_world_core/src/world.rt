@@ -1,0 +1,192 @@
+//! A world: one ledger for each chain of a genesis.
+
+ghost use Rattle.std.specs.Prelude.{◌≡◌, ◌⊎◌, ◌↔◌, ◌<◌, ◌++◌, ◌∷◌, ℕ, [], true, false, length, map, option_map, All, Some, slice_get, IfOk, IfErr, OnErr, IsTrue};
+ghost use Rattle.ibc_ids.specs.declared.refusal.Refusal.TheVariants.{NoMemory, BadMessage};
+ghost use Rattle.ibc_machine.specs.declared.reply.Reply.TheVariants as reply_of;
+ghost use Rattle.ibc_machine.specs.Genesis.{genesis_state, is_allowed};
+ghost use Rattle.ibc_machine.specs.Ledgers.{chain_of};
+ghost use Rattle.ibc_root_table.specs.Passes.{TableName, AreDealt};
+ghost use Rattle.ibc_ledger.specs.Held.{HeldLedger, shape_of};
+ghost use Rattle.ibc_ledger.specs.Adding.{AddsOrNot};
+ghost use Rattle.ibc_world_steps.specs.World.{AreNew, HasItsPast, new_ledger};
+ghost use Rattle.ibc_world_steps.specs.Steps.{IsStep, GoesOnBy};
+ghost use Rattle.ibc_world_core.specs.Held.{AreBegun, AreNumbered, IsPutTo, SameTables};
+ghost use Rattle.ibc_world_core.specs.Inside.{is_built};
+
+use crate::meeting::meet_all;
+use ibc_ids::Refusal;
+use ibc_ledger::{Ledger, is_allowed};
+use ibc_machine::{Event, Genesis, Reply};
+use ibc_root_table::{Pass, RootTable};
+use std::alloc::Global;
+use std::marker::Model;
+use std::snapshot::Snapshot;
+use std::sync::Arc;
+
+/// The ledgers of a genesis, in the order of their numbers, and the order of their entries as the numbers of the chains.
+#[derive(Drop)]
+pub struct World {
+    alloc: Global,
+    genesis: Snapshot<Genesis>,
+    ledgers: Vec<Ledger>,
+    order: Vec<u8>,
+}
+
+impl Model for World {
+    ghost use Rattle.ibc_world_steps.specs.World.{WorldState};
+    ghost use Rattle.ibc_world_core.specs.Inside.{state_of, IsHeld};
+
+    ghost Value = { WorldState };
+
+    ghost view = { state_of };
+
+    ghost invariant = { IsHeld };
+}
+
+impl World {
+    /// The world of a genesis in the beginning. Refused: `BadMessage` exactly where the genesis isn't allowed; `NoMemory`.
+    pub fn new(alloc: Global, genesis: &Genesis) -> Result<World, Refusal>
+        ensures genesis { IfOk result (λ world. world.genesis ≡ genesis_state genesis.now) }
+        ensures ledgers { IfOk result (λ world. AreNew (genesis_state genesis.now) world.ledgers) }
+        ensures order { IfOk result (λ world. world.order ≡ []) }
+        ensures bad { (result ≡ Err BadMessage) ↔ (is_allowed (genesis_state genesis.now) ≡ false) }
+        ensures err { IfErr result (λ refusal. (refusal ≡ BadMessage) ⊎ (refusal ≡ NoMemory)) }
+    {
+        if !is_allowed(genesis) {
+            return Err(Refusal::BadMessage);
+        }
+        match ledgers_of(alloc, genesis) {
+            Ok(ledgers) => Ok(World {
+                alloc,
+                genesis: Snapshot::of(genesis),
+                ledgers,
+                order: Vec::new(alloc),
+            }),
+            Err(_) => Err(Refusal::NoMemory),
+        }
+    }
+
+    /// Asks the chains for the events, one after another, and answers with a reply for each. A reply is `NoMemory` where a
+    /// growth was refused, and `UnknownChain` where there is no chain of the event's number: then nothing has changed.
+    /// Where `run` itself answers `NoMemory`, nothing was done.
+    pub fn run(&mut self, events: Vec<Event>) -> Result<Vec<Reply>, Refusal>
+        requires { All (λ event. IsTrue (is_built event)) events.items }
+        ensures runs { IfOk result (λ replies. GoesOnBy self.old events.items replies.items self.new) }
+        ensures past { HasItsPast self.new }
+        ensures err { IfErr result (λ refusal. refusal ≡ NoMemory) }
+        ensures unchanged { OnErr result (self.new ≡ self.old) }
+    {
+        let mut replies = Vec::with_capacity(self.alloc, events.len())?;
+        for event in events {
+            replies.push_reserved(self.step(event));
+        }
+        Ok(replies)
+    }
+
+    /// The ledger of a chain, or none.
+    pub fn ledger(&self, chain: u8) -> Option<&Ledger>
+        ensures { option_map (λ ledger. ledger.now.ledger) result ≡ slice_get self.now.ledgers chain }
+    {
+        self.ledgers.get(usize::from(chain))
+    }
+
+    // Asks the chain of an event for it, and lets the ledgers meet.
+    fn step(&mut self, event: Event) -> Reply
+        requires { IsTrue (is_built event) }
+        ensures { IsStep self.old event result self.new }
+    {
+        let reply = put(self.ledgers.as_mut_slice(), &mut self.order, event);
+        meet_all(self.ledgers.as_mut_slice());
+        reply
+    }
+}
+
+// Puts an event to the ledger of its chain, where there is one, and keeps the order.
+fn put(ledgers: &mut [Ledger], order: &mut Vec<u8>, event: Event) -> Reply
+    requires numbers { AreNumbered ledgers.old }
+    requires built { IsTrue (is_built event) }
+    ensures put { IsPutTo ledgers.old order.old.items event result ledgers.new order.new.items }
+    ensures tables { SameTables ledgers.old ledgers.new }
+{
+    let chain = chain_of(&event);
+    if usize::from(chain) >= ledgers.len() {
+        drop(event);
+        return Reply::No(Refusal::UnknownChain);
+    }
+    let Ok(()) = order.reserve(1) else {
+        drop(event);
+        return Reply::No(Refusal::NoMemory);
+    };
+    let reply = ask(&mut ledgers[usize::from(chain)], event);
+    if adds_an_entry(&reply) {
+        order.push_reserved(chain);
+    }
+    reply
+}
+
+// Whether a ledger that answered so has one entry more.
+fn adds_an_entry(reply: &Reply) -> bool
+    ensures { (result ≡ true) ↔ (reply.now ≡ reply_of.No NoMemory → ⊥) }
+{
+    match reply {
+        Reply::No(Refusal::NoMemory) => false,
+        _ => true,
+    }
+}
+
+// The number of an event's chain.
+fn chain_of(event: &Event) -> u8
+    ensures { result ≡ chain_of event.now }
+{
+    match event {
+        Event::Message { chain, .. } => *chain,
+        Event::Block { chain, .. } => *chain,
+    }
+}
+
+// Asks a ledger for an event of its chain.
+fn ask(ledger: &mut Ledger, event: Event) -> Reply
+    requires chain { chain_of event ≡ ledger.old.ledger.chain }
+    requires built { IsTrue (is_built event) }
+    ensures table { ledger.new.table ≡ ledger.old.table }
+    ensures adds { AddsOrNot ledger.old.ledger event result ledger.new.ledger }
+{
+    match event {
+        Event::Message { message, .. } => ledger.apply(message),
+        Event::Block { next_time, .. } => ledger.end_block(next_time),
+    }
+}
+
+// The table of a genesis, and the ledgers of its chains.
+fn ledgers_of(alloc: Global, genesis: &Genesis) -> Result<Vec<Ledger>, Refusal>
+    requires { IsTrue (is_allowed (genesis_state genesis.now)) }
+    ensures ok { IfOk result (λ ledgers. (table : TableName) × AreBegun (genesis_state genesis.now) table ledgers.items) }
+    ensures err { IfErr result (λ refusal. refusal ≡ NoMemory) }
+{
+    let chains = genesis.chains.len() as u8;
+    let (table, passes) = RootTable::new(alloc, chains, 0, genesis.window, genesis.capacity)?;
+    let table = Arc::new(alloc, table)?;
+    begin(alloc, genesis, &table, passes)
+}
+
+// The ledgers of a genesis at a table.
+fn begin(
+    alloc: Global,
+    genesis: &Genesis,
+    table: &Arc<RootTable, Global>,
+    passes: Vec<Pass>,
+) -> Result<Vec<Ledger>, Refusal>
+    requires allowed { IsTrue (is_allowed (genesis_state genesis.now)) }
+    requires table { table.now.value.shape ≡ shape_of (genesis_state genesis.now) }
+    requires passes { AreDealt (length genesis.now.chains.items) 0 table.now.value passes.items }
+    ensures ok { IfOk result (λ ledgers. AreBegun (genesis_state genesis.now) table.now.value ledgers.items) }
+    ensures err { IfErr result (λ refusal. refusal ≡ NoMemory) }
+{
+    let mut ledgers = Vec::with_capacity(alloc, passes.len())?;
+    for pass in passes {
+        let chain = ledgers.len() as u8;
+        let table = Arc::try_clone(table)?;
+        ledgers.push(Ledger::new(alloc, genesis, chain, table, pass)?)?;
+    }
+    Ok(ledgers)
+}
