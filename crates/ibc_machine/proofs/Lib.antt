@@ -33,4 +33,5 @@ mod GenesisStore
 mod TrueProofs
 mod RelayedPackets
 mod ALedger
+pub mod QuotedTexts
 pub mod DataRead
