@@ -5,4 +5,3 @@ mod meeting;
 mod world;
 
 pub use world::World;
-
