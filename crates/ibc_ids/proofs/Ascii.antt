@@ -1,5 +1,5 @@
 -- Names are short texts of ASCII bytes.
-use Rattle.std.proofs.Common.{◌≡◌, ℕ, ◌<◌, ◌≤◌, Bool, true, false, ◌&&◌, nat_le, eqb, List, [], ◌∷◌, ◌++◌, length, get_or, refl, sym, subst, arith, leb-true}
+use Rattle.std.proofs.Common.{◌≡◌, ℕ, ◌<◌, ◌≤◌, Bool, true, false, ◌&&◌, nat_le, List, [], ◌∷◌, ◌++◌, length, subst, arith, leb-true}
 use Rattle.std.specs.List.{list_all, slice_split, join_with_byte}
 use Rattle.std.specs.Str.{IsAscii}
 use Rattle.std.proofs.lemmas.Bool.{and_parts, false≢true}
@@ -8,7 +8,7 @@ use Rattle.std.proofs.lemmas.Str.Ascii.{IsAscii-nil, IsAscii-cons}
 use Rattle.std.proofs.lemmas.Str.{IsAscii-append}
 use Rattle.std.proofs.lemmas.List.Splits.{join_with_byte-slice_split}
 use Rattle.ibc_ids.specs.Texts.{Text}
-use Rattle.ibc_ids.specs.Names.{is_letter_or_digit, is_identifier_byte, is_plain_byte, is_version_byte, is_made_of, is_port, is_client, is_connection, is_channel, is_user, is_receiver, is_memo, is_version, is_base_denom, is_slash, are_hops_and_base, is_denom}
+use Rattle.ibc_ids.specs.Names.{is_letter_or_digit, is_identifier_byte, is_plain_byte, is_version_byte, is_made_of, is_port, is_client, is_connection, is_channel, is_user, is_receiver, is_memo, is_version, is_slash, are_hops_and_base, is_denom}
 
 all_ascii : (test : ℕ → Bool) → ((c : ℕ) → test c ≡ true → c < 128) → (text : Text) → list_all test text ≡ true → IsAscii text
 all_ascii test small [] h = IsAscii-nil

@@ -5,3 +5,6 @@ pub mod Paths
 pub mod Ascii
 pub mod Maps
 pub mod Numbered
+pub mod Sequences
+pub mod KeyParts
+pub mod Hops

@@ -1,6 +1,6 @@
 -- Maps as lists of entries in the order of their keys: writing at a key that is there, mapping the values, and the
 -- keys after a write.
-use Rattle.std.proofs.Common.{◌≡◌, ℕ, Bool, true, false, option_map, refl, sym, ap, ◌∙◌, cond, List, [], ◌∷◌, map, Option, Some, None, Ordering, Less, Equal, Greater, is_eq}
+use Rattle.std.proofs.Common.{◌≡◌, true, false, option_map, refl, sym, ap, ◌∙◌, cond, List, [], ◌∷◌, map, Option, Some, None, Ordering, Less, Equal, Greater, is_eq}
 use Rattle.std.specs.Cmp.{IsTotalOrder}
 use Rattle.std.specs.Ordering.{match_ordering}
 use Rattle.std.specs.List.{AllByRecursion}

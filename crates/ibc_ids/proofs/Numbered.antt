@@ -1,5 +1,5 @@
 -- The identifiers that a chain gives have their form.
-use Rattle.std.proofs.Common.{◌≡◌, ℕ, ◌<◌, ◌≤◌, ◌^◌, ◌+◌, ◌%◌, Bool, true, ◌&&◌, nat_le, codes, List, [], ◌∷◌, ◌++◌, length, refl, ap, ◌∙◌, arith, le-leb, length-append}
+use Rattle.std.proofs.Common.{◌≡◌, ℕ, ◌<◌, ◌≤◌, ◌^◌, ◌+◌, ◌%◌, true, ◌&&◌, nat_le, codes, [], ◌∷◌, ◌++◌, length, refl, ◌∙◌, arith, le-leb, length-append}
 use Rattle.std.specs.List.{list_all}
 use Rattle.std.specs.Fmt.{decimal}
 use Rattle.std.specs.Prelude.{IsTrue}
@@ -14,7 +14,7 @@ use Rattle.ibc_ids.specs.Paths.{nth_client, nth_connection, nth_channel}
 a_digit : (n : ℕ) → n < 10 → is_identifier_byte (48 + n) ≡ true
 a_digit n h = grind (arith, nat_tests)
 
-digits : (n : ℕ) → n < 2 ^ 64 → list_all is_identifier_byte (decimal n) ≡ true
+pub digits : (n : ℕ) → n < 2 ^ 64 → list_all is_identifier_byte (decimal n) ≡ true
 digits = decimal_by_steps (λ n ds. list_all is_identifier_byte ds ≡ true)
     (λ n h. and_from (is_identifier_byte (48 + n)) true (a_digit n h) refl)
     (λ n ds h so_far. list_all-append is_identifier_byte ds ((48 + n % 10) ∷ []) ∙ and_from (list_all is_identifier_byte ds) (list_all is_identifier_byte ((48 + n % 10) ∷ [])) so_far (and_from (is_identifier_byte (48 + n % 10)) true (a_digit (n % 10) (omega arith)) refl))

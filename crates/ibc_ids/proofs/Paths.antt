@@ -6,7 +6,7 @@ use Rattle.std.proofs.lemmas.List.{append_cancel_left}
 use Rattle.std.proofs.lemmas.Fmt.{decimal_injective}
 use Rattle.std.proofs.lemmas.Bool.{and_parts, false≢true, ltb-true}
 use Rattle.ibc_ids.specs.Texts.{Text}
-use Rattle.ibc_ids.specs.Names.{is_identifier_byte, is_made_of, is_client, is_connection, is_channel, is_port}
+use Rattle.ibc_ids.specs.Names.{is_identifier_byte, is_made_of, is_client, is_channel, is_port}
 use Rattle.ibc_ids.specs.Paths.{channel_path, sequence_path, path, is_key, DifferentPaths}
 use Rattle.ibc_ids.specs.declared.key.Key.{Key}
 use Rattle.ibc_ids.specs.declared.key.Key.TheVariants as key
@@ -14,7 +14,7 @@ use Rattle.ibc_ids.proofs.Texts.{heads_same, tails_same}
 
 -- ---- names have no slash
 
-abbrev HasNoSlash : Text → Type 0
+abbrev pub HasNoSlash : Text → Type 0
 HasNoSlash text = list_all is_identifier_byte text ≡ true
 
 slash_in : {A : Type 0} (y : ℕ) (b : Text) → 47 ≡ y → HasNoSlash (y ∷ b) → A
@@ -33,21 +33,21 @@ fronts (x ∷ a) (y ∷ b) r s h g e =
     let tail = rest.0 in
     ((λ i. head i ∷ tail i), rest.1)
 
-made_of : (test : ℕ → Bool) (low high : ℕ) (text : Text) → is_made_of test low high text ≡ true → list_all test text ≡ true
+pub made_of : (test : ℕ → Bool) (low high : ℕ) (text : Text) → is_made_of test low high text ≡ true → list_all test text ≡ true
 made_of test low high text h = (and_parts _ (list_all test text) h).1
 
-port_clear : (text : Text) → is_port text ≡ true → HasNoSlash text
+pub port_clear : (text : Text) → is_port text ≡ true → HasNoSlash text
 port_clear text h = made_of is_identifier_byte 2 128 text h
 
-channel_clear : (text : Text) → is_channel text ≡ true → HasNoSlash text
+pub channel_clear : (text : Text) → is_channel text ≡ true → HasNoSlash text
 channel_clear text h = made_of is_identifier_byte 8 64 text h
 
-client_clear : (text : Text) → is_client text ≡ true → HasNoSlash text
+pub client_clear : (text : Text) → is_client text ≡ true → HasNoSlash text
 client_clear text h = made_of is_identifier_byte 9 64 text h
 
 -- ---- paths of channels
 
-ports_then : (p c r : Text) → (codes "/ports/" ++ p ++ codes "/channels/" ++ c) ++ r ≡ codes "/ports/" ++ (p ++ 47 ∷ (codes "channels/" ++ (c ++ r)))
+pub ports_then : (p c r : Text) → (codes "/ports/" ++ p ++ codes "/channels/" ++ c) ++ r ≡ codes "/ports/" ++ (p ++ 47 ∷ (codes "channels/" ++ (c ++ r)))
 ports_then p c r =
     append_assoc (codes "/ports/" ++ p ++ codes "/channels/") c r ∙ append_assoc (codes "/ports/" ++ p) (codes "/channels/") (c ++ r) ∙ append_assoc (codes "/ports/") p (codes "/channels/" ++ (c ++ r))
 
@@ -126,10 +126,10 @@ kind_of_path key.NextClientSequence = refl
 kind_of_path key.NextConnectionSequence = refl
 kind_of_path key.NextChannelSequence = refl
 
-two_names : (p c : Text) → (is_port p && is_channel c) ≡ true → HasNoSlash p × HasNoSlash c
+pub two_names : (p c : Text) → (is_port p && is_channel c) ≡ true → HasNoSlash p × HasNoSlash c
 two_names p c h = let parts = and_parts (is_port p) (is_channel c) h in (port_clear p parts.0, channel_clear c parts.1)
 
-a_number : (p c : Text) (n : ℕ) → (is_port p && is_channel c && nat_lt n (2 ^ 64)) ≡ true → HasNoSlash p × HasNoSlash c × (n < 2 ^ 64)
+pub a_number : (p c : Text) (n : ℕ) → (is_port p && is_channel c && nat_lt n (2 ^ 64)) ≡ true → HasNoSlash p × HasNoSlash c × (n < 2 ^ 64)
 a_number p c n h =
     let parts = and_parts (is_port p && is_channel c) (nat_lt n (2 ^ 64)) h in
     let names = two_names p c parts.0 in

@@ -1,5 +1,5 @@
 -- The path of a key (ICS 24, "Path-space"), and the identifiers that a chain gives.
-use Rattle.std.specs.Prelude.{◌≡◌, ℕ, codes, ◌++◌, ◌^◌, ◌&&◌, Bool, true, nat_lt, IsTrue}
+use Rattle.std.specs.Prelude.{◌≡◌, ℕ, codes, List, [], ◌∷◌, ◌++◌, ◌^◌, ◌&&◌, Bool, true, nat_lt, IsTrue}
 use Rattle.ibc_ids.specs.Names.{is_client, is_connection, is_channel, is_port}
 use Rattle.std.specs.Fmt.{decimal}
 use Rattle.ibc_ids.specs.Texts.{Text}
@@ -62,3 +62,29 @@ is_key key.NextChannelSequence = true
 -- different keys have different paths
 abbrev pub DifferentPaths : Type 0
 DifferentPaths = (a b : Key) → IsTrue (is_key a) → IsTrue (is_key b) → path a ≡ path b → a ≡ b
+
+-- ---- a path in parts, between its slashes
+
+abbrev pub channel_parts : Text → Text → List Text → List Text
+channel_parts port channel rest = codes "ports" ∷ port ∷ codes "channels" ∷ channel ∷ rest
+
+abbrev pub sequence_parts : Text → Text → ℕ → List Text
+sequence_parts port channel n = channel_parts port channel (codes "sequences" ∷ decimal n ∷ [])
+
+abbrev pub parts : Key → List Text
+parts (key.ClientState id) = codes "clients" ∷ id ∷ codes "clientState" ∷ []
+parts (key.Connection id) = codes "connections" ∷ id ∷ []
+parts (key.ChannelEnd port channel) = codes "channelEnds" ∷ channel_parts port channel []
+parts (key.NextSequenceSend port channel) = codes "nextSequenceSend" ∷ channel_parts port channel []
+parts (key.NextSequenceRecv port channel) = codes "nextSequenceRecv" ∷ channel_parts port channel []
+parts (key.NextSequenceAck port channel) = codes "nextSequenceAck" ∷ channel_parts port channel []
+parts (key.Commitment port channel n) = codes "commitments" ∷ sequence_parts port channel n
+parts (key.Receipt port channel n) = codes "receipts" ∷ sequence_parts port channel n
+parts (key.Acknowledgement port channel n) = codes "acks" ∷ sequence_parts port channel n
+parts key.NextClientSequence = codes "nextClientSequence" ∷ []
+parts key.NextConnectionSequence = codes "nextConnectionSequence" ∷ []
+parts key.NextChannelSequence = codes "nextChannelSequence" ∷ []
+
+-- the key is one, and its path has these parts
+abbrev pub HasParts : List Text → Key → Type 0
+HasParts texts k = (parts k ≡ texts) × IsTrue (is_key k)

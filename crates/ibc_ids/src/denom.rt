@@ -1,11 +1,14 @@
-//! What a denomination tells.
+//! What a denomination tells, and its hops.
 
-ghost use Rattle.std.specs.Prelude.{◌≡◌};
-ghost use Rattle.ibc_ids.specs.Names.{is_base_denom};
+ghost use Rattle.std.specs.Prelude.{◌≡◌, ◌↔◌, ◌≤◌, ◌<◌, ◌++◌, false, length, IfOk, IfErr, IsErrOf, IsOkUnless, MatchOption};
+ghost use Rattle.ibc_ids.specs.Names.{is_base_denom, hop, came_over};
+ghost use Rattle.ibc_ids.specs.declared.refusal.Refusal.TheVariants.{NoMemory};
 
 use crate::forms::is_word;
 use crate::kinds::DenomKind;
 use crate::name::Name;
+use crate::{ChannelId, Denom, PortId, Refusal};
+use std::alloc::Global;
 
 impl Name<DenomKind> {
     /// Whether the denomination is a base one: no hop stands before it, since it came over no channel (ICS 20).
@@ -13,5 +16,44 @@ impl Name<DenomKind> {
         ensures { result ≡ is_base_denom self.now }
     {
         is_word(self.as_str().as_bytes(), 1, 64)
+    }
+
+    /// The denomination with a hop over the channel before it (ICS 20). Refused: `TooLarge` exactly where it would be
+    /// longer than 256 bytes; `NoMemory`.
+    #[tactic(auto, using(crate::proofs::Hops::hop_length, crate::proofs::Hops::hop_parts, crate::proofs::Hops::longer_is_one))]
+    pub fn hop(&self, alloc: Global, port: &PortId, channel: &ChannelId) -> Result<Denom, Refusal>
+        ensures ok { IfOk result (λ longer. longer ≡ hop port.now channel.now ++ self.now) }
+        ensures too_large { IsErrOf result Refusal.TooLarge ↔ (256 < length (hop port.now channel.now ++ self.now)) }
+        ensures memory { length (hop port.now channel.now ++ self.now) ≤ 256 → IsOkUnless result Refusal.NoMemory }
+    {
+        let port = port.as_str();
+        let channel = channel.as_str();
+        let denom = self.as_str();
+        if port.len() + channel.len() + denom.len() + 2 > 256 {
+            return Err(Refusal::TooLarge);
+        }
+        let text = format!(in alloc; "{port}/{channel}/{denom}")?;
+        Name::parse(alloc, text.as_str())
+    }
+
+    /// The denomination without the channel's hop before it, or none where it didn't come over the channel (ICS 20).
+    /// Refused: `NoMemory`.
+    #[tactic(auto, using(crate::proofs::Hops::hop_parts, crate::proofs::Hops::rest_is_one))]
+    pub fn strip(
+        &self,
+        alloc: Global,
+        port: &PortId,
+        channel: &ChannelId,
+    ) -> Result<Option<Denom>, Refusal>
+        ensures ok { IfOk result (λ rest. MatchOption rest (came_over port.now channel.now self.now ≡ false) (λ denom. self.now ≡ hop port.now channel.now ++ denom)) }
+        ensures memory { IfErr result (λ e. e ≡ NoMemory) }
+    {
+        let port = port.as_str();
+        let channel = channel.as_str();
+        let hop = format!(in alloc; "{port}/{channel}/")?;
+        match self.as_str().strip_prefix(hop.as_str()) {
+            Some(denom) => Ok(Some(Name::parse(alloc, denom)?)),
+            None => Ok(None),
+        }
     }
 }

@@ -9,6 +9,7 @@ mod identifiers;
 mod key;
 mod kinds;
 mod name;
+mod path;
 mod publication;
 mod refusal;
 

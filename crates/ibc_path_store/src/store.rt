@@ -4,6 +4,7 @@ ghost use Rattle.std.specs.Prelude.{◌≡◌, ◌⊎◌, ◌↔◌, ◌+◌, �
 ghost use Rattle.std.specs.Option.{IsSomeAnd};
 ghost use Rattle.ibc_ids.specs.Texts.{text_cmp};
 ghost use Rattle.ibc_ids.specs.Maps.{at, with, without};
+ghost use Rattle.ibc_ids.specs.Paths.{path};
 ghost use Rattle.ibc_ids.specs.declared.refusal.Refusal.TheVariants.{NoMemory, NoConsensus, TimeBack};
 ghost use Rattle.ibc_merkle.specs.Tree.{tree_root};
 ghost use Rattle.ibc_merkle.specs.Written.{written};
@@ -11,7 +12,7 @@ ghost use Rattle.ibc_path_store.specs.Held.{committed, height_of, kept_at};
 
 use crate::path_map::PathMap;
 use crate::snapshot::Snapshot;
-use ibc_ids::{Bytes, Refusal, Root};
+use ibc_ids::{Bytes, Key, Refusal, Root};
 use ibc_merkle::{Proof, prove, root};
 use std::alloc::Global;
 use std::collections::VecDeque;
@@ -144,17 +145,18 @@ impl Store {
         Ok(root)
     }
 
-    /// The proof of what a committed height has at a path: of its presence where it is there, and of its absence where
-    /// not (ICS 23, "CommitmentProof"). `NoConsensus` where the height isn't committed or is gone from the window,
-    /// `NoMemory` where a growth is refused.
-    pub fn prove(&self, height: u64, path: &str) -> Result<Proof, Refusal>
-        ensures ok { IfOk result (λ proof. IsSomeAnd (kept_at self.now height) (λ kept. proof ≡ written kept.0 path.now)) }
+    /// The proof of what a committed height has at the path of a key: of its presence where it is there, and of its
+    /// absence where not (ICS 23, "CommitmentProof"). `NoConsensus` where the height isn't committed or is gone from the
+    /// window, `NoMemory` where a growth is refused.
+    pub fn prove(&self, height: u64, key: &Key) -> Result<Proof, Refusal>
+        ensures ok { IfOk result (λ proof. IsSomeAnd (kept_at self.now height) (λ kept. proof ≡ written kept.0 (path key.now))) }
         ensures unknown { (result ≡ Err NoConsensus) ↔ IsNone (kept_at self.now height) }
         ensures err { IfErr result (λ refusal. (refusal ≡ NoConsensus) ⊎ (refusal ≡ NoMemory)) }
     {
         match self.snapshot(height) {
             Some(snapshot) => {
                 let alloc = *self.kept.allocator();
+                let path = key.path(alloc)?;
                 prove(alloc, snapshot.entries(), path.as_bytes())
             }
             None => Err(Refusal::NoConsensus),

@@ -3,7 +3,7 @@
 ghost use Rattle.std.specs.Prelude.{◌<◌, length, IfOk};
 
 use crate::Store;
-use ibc_ids::{Bytes, Refusal};
+use ibc_ids::{Bytes, Key, Refusal};
 use std::alloc::Global;
 use std::test::Fail;
 
@@ -44,7 +44,7 @@ fn root_of_a_new_chain(rt: HostRuntime) -> Result<(), Fail> {
 
 // Whether the counter of clients is proved at a height.
 fn is_proved(store: &Store, height: u64) -> bool {
-    store.prove(height, "nextClientSequence").is_ok()
+    store.prove(height, &Key::NextClientSequence).is_ok()
 }
 
 #[test]

@@ -1,8 +1,8 @@
 //! Names, identifiers, keys and refusals.
 
 use ibc_ids::{
-    Bytes, ChannelId, ChannelKind, ClientId, ClientKind, ConnectionId, ConnectionKind, DenomKind,
-    Key, Kind, MemoKind, Name, PortId, PortKind, ReceiverKind, Refusal, Root, UserKind,
+    Bytes, ChannelId, ChannelKind, ClientId, ClientKind, ConnectionId, ConnectionKind, Denom,
+    DenomKind, Key, Kind, MemoKind, Name, PortId, PortKind, ReceiverKind, Refusal, Root, UserKind,
     VersionKind, nth_channel, nth_client, nth_connection,
 };
 use std::alloc::Global;
@@ -80,9 +80,10 @@ fn the_identifiers_that_a_chain_gives(rt: HostRuntime) {
     assert!(rt; is_channel(&nth_channel(alloc, 12), "channel-12"));
 }
 
-// Whether the key has this path.
+// Whether the key has this path, and the path this key.
 fn has_path(alloc: Global, key: &Key, path: &str) -> bool {
-    matches!(key.path(alloc), Ok(text) if text.as_str() == path)
+    let is_its_path = matches!(key.path(alloc), Ok(text) if text.as_str() == path);
+    is_its_path && matches!(Key::parse(alloc, path), Ok(other) if other == *key)
 }
 
 // Whether the keys of a client and of a connection have these paths.
@@ -175,6 +176,97 @@ fn paths_of_channels(rt: HostRuntime) {
     ] {
         assert!(rt; matches!(is_at(rt.alloc(), record, path), Ok(true)));
     }
+}
+
+// Whether the text is the path of a key at a sequence.
+fn is_at_sequence(alloc: Global, text: &str, sequence: u64) -> bool {
+    matches!(Key::parse(alloc, text), Ok(Key::Receipt(_, _, n)) if n == sequence)
+}
+
+#[test]
+fn sequences_in_paths(rt: HostRuntime) {
+    let alloc = rt.alloc();
+    assert!(rt;
+        is_at_sequence(
+            alloc,
+            "receipts/ports/note/channels/channel-0/sequences/0",
+            0
+        )
+    );
+    assert!(rt;
+        is_at_sequence(
+            alloc,
+            "receipts/ports/note/channels/channel-0/sequences/18446744073709551615",
+            u64::MAX
+        )
+    );
+}
+
+#[test]
+fn texts_that_are_no_paths(rt: HostRuntime) {
+    for text in [
+        "",
+        "nextSequence",
+        "connections/",
+        "connections/connection-0/",
+        "clients/inprocess-0",
+        "clients/inprocess-0/consensusState",
+        "channelEnds/ports/n/channels/channel-0",
+        "channelEnds/ports/note/channel/channel-0",
+        "channelEnds/ports/note/channels/channel-0/sequences/1",
+        "acks/ports/note/channels/channel-0",
+        "acks/ports/note/channels/channel-0/sequences/01",
+        "acks/ports/note/channels/channel-0/sequences/+1",
+        "acks/ports/note/channels/channel-0/sequences/1/",
+        "acks/ports/note/channels/channel-0/sequences/18446744073709551616",
+    ] {
+        assert!(rt; matches!(Key::parse(rt.alloc(), text), Err(Refusal::BadMessage)));
+    }
+}
+
+// The denomination with so many hops over one channel before it.
+fn hopped(alloc: Global, base: &str, hops: u64) -> Result<Denom, Refusal> {
+    let port = PortId::parse(alloc, "transfer")?;
+    let channel = ChannelId::parse(alloc, "channel-0")?;
+    let mut denom = Denom::parse(alloc, base)?;
+    for _ in 0..hops {
+        denom = denom.hop(alloc, &port, &channel)?;
+    }
+    Ok(denom)
+}
+
+fn is_denom(denom: &Result<Denom, Refusal>, text: &str) -> bool {
+    matches!(denom, Ok(denom) if denom.as_str() == text)
+}
+
+#[test]
+fn denominations_with_hops(rt: HostRuntime) {
+    let alloc = rt.alloc();
+    assert!(rt; is_denom(&hopped(alloc, "atom", 1), "transfer/channel-0/atom"));
+    assert!(rt; matches!(hopped(alloc, "atom", 13), Ok(denom) if denom.as_str().len() == 251));
+    assert!(rt; matches!(hopped(alloc, "atom", 14), Err(Refusal::TooLarge)));
+}
+
+// What the denomination is without its hop over the channel, empty where it didn't come over it.
+fn stripped(alloc: Global, denom: &str, channel: &str) -> Result<String, Refusal> {
+    let port = PortId::parse(alloc, "transfer")?;
+    let channel = ChannelId::parse(alloc, channel)?;
+    match Denom::parse(alloc, denom)?.strip(alloc, &port, &channel)? {
+        Some(rest) => Ok(String::from_str(alloc, rest.as_str())?),
+        None => Ok(String::new(alloc)),
+    }
+}
+
+// Whether the denomination is this one without its hop over the channel.
+fn is_stripped(alloc: Global, denom: &str, channel: &str, rest: &str) -> bool {
+    matches!(stripped(alloc, denom, channel), Ok(text) if text.as_str() == rest)
+}
+
+#[test]
+fn denominations_without_a_hop(rt: HostRuntime) {
+    let alloc = rt.alloc();
+    assert!(rt; is_stripped(alloc, "transfer/channel-0/atom", "channel-0", "atom"));
+    assert!(rt; is_stripped(alloc, "transfer/channel-0/atom", "channel-1", ""));
 }
 
 // Whether a copy of the bytes has them.

@@ -4,7 +4,7 @@ ghost use Rattle.std.specs.Prelude.{◌<◌, length, IfOk};
 
 use ibc_codec::{decode, encode};
 use ibc_ics23_proof::verify_present;
-use ibc_ids::{Bytes, Refusal, Root};
+use ibc_ids::{Bytes, Key, Refusal, Root};
 use ibc_merkle::{Absence, Operation, Operations, Presence, Proof};
 use ibc_path_store::Store;
 use std::alloc::Global;
@@ -92,7 +92,7 @@ fn written(alloc: Global) -> Result<Proof, Refusal> {
     let mut store = Store::new(alloc, 4, 100);
     set_counters(alloc, &mut store)?;
     store.commit(100)?;
-    store.prove(1, KEY)
+    store.prove(1, &Key::NextClientSequence)
 }
 
 // Whether a new chain writes these bytes.

@@ -1,0 +1,62 @@
+-- A hop before a denomination, and a denomination without its first hop, are denominations.
+use Rattle.std.proofs.Common.{◌≡◌, ◌≤◌, ◌+◌, true, false, ◌&&◌, nat_le, eqb, None, subst, codes, List, [], ◌∷◌, ◌++◌, length, ap, sym, ◌∙◌, arith, le-leb, leb-true, length-append, append_assoc}
+use Rattle.std.specs.Prelude.{IsTrue}
+use Rattle.std.specs.List.{slice_split, starts_with}
+use Rattle.std.specs.Str.Pattern.{FindsTextPrefix, StripsPrefix}
+use Rattle.std.proofs.lemmas.Bool.{and_parts, and_from}
+use Rattle.std.proofs.lemmas.Str.Pattern.{starts_text}
+use Rattle.ibc_ids.specs.Texts.{Text}
+use Rattle.ibc_ids.specs.Names.{is_port, is_channel, is_slash, are_hops_and_base, is_denom, hop, came_over}
+use Rattle.ibc_ids.proofs.Paths.{port_clear, channel_clear}
+use Rattle.ibc_ids.proofs.KeyParts.{part_then}
+
+pub hop_parts : (port channel rest : Text) → hop port channel ++ rest ≡ port ++ 47 ∷ (channel ++ 47 ∷ rest)
+hop_parts port channel rest =
+    append_assoc (port ++ codes "/" ++ channel) (codes "/") rest ∙ append_assoc (port ++ codes "/") channel (47 ∷ rest)
+    ∙ append_assoc port (codes "/") (channel ++ 47 ∷ rest)
+
+pub hop_length : (port channel rest : Text) → length (hop port channel ++ rest) ≡ length port + length channel + length rest + 2
+hop_length port channel rest =
+    let whole = ap length (hop_parts port channel rest) in
+    let first = length-append port (47 ∷ (channel ++ 47 ∷ rest)) in
+    let second = length-append channel (47 ∷ rest) in
+    omega (arith, whole, first, second)
+
+hop_split : (port channel rest : Text) → is_port port ≡ true → is_channel channel ≡ true → slice_split is_slash (hop port channel ++ rest) ≡ port ∷ channel ∷ slice_split is_slash rest
+hop_split port channel rest p c =
+    ap (slice_split is_slash) (hop_parts port channel rest) ∙ part_then port (channel ++ 47 ∷ rest) (port_clear port p)
+    ∙ ap (λ (t : List Text). port ∷ t) (part_then channel rest (channel_clear channel c))
+
+-- with a hop before it
+pub longer_is_one : (port channel denom : Text) → IsTrue (is_port port) → IsTrue (is_channel channel) → IsTrue (is_denom denom) → length (hop port channel ++ denom) ≤ 256 → IsTrue (is_denom (hop port channel ++ denom))
+longer_is_one port channel denom p c d few =
+    let parts = and_parts (nat_le (length denom) 256) (are_hops_and_base (slice_split is_slash denom)) d in
+    let both = and_from (is_port port && is_channel channel) (are_hops_and_base (slice_split is_slash denom)) (and_from (is_port port) (is_channel channel) p c) parts.1 in
+    and_from (nat_le (length (hop port channel ++ denom)) 256) (are_hops_and_base (slice_split is_slash (hop port channel ++ denom))) (le-leb (length (hop port channel ++ denom)) 256 few)
+    (ap are_hops_and_base (hop_split port channel denom p c) ∙ both)
+
+-- without it
+pub rest_is_one : (port channel rest : Text) → IsTrue (is_port port) → IsTrue (is_channel channel) → IsTrue (is_denom (hop port channel ++ rest)) → IsTrue (is_denom rest)
+rest_is_one port channel rest p c d =
+    let parts = and_parts (nat_le (length (hop port channel ++ rest)) 256) (are_hops_and_base (slice_split is_slash (hop port channel ++ rest))) d in
+    let few = leb-true (length (hop port channel ++ rest)) 256 parts.0 in
+    let long = hop_length port channel rest in
+    let inner = and_parts (is_port port && is_channel channel) (are_hops_and_base (slice_split is_slash rest)) (sym (ap are_hops_and_base (hop_split port channel rest p c)) ∙ parts.1) in
+    and_from (nat_le (length rest) 256) (are_hops_and_base (slice_split is_slash rest)) (le-leb (length rest) 256 (omega arith)) inner.1
+
+-- ---- what `strip_prefix` says
+
+hop_text : (port channel : Text) → hop port channel ≡ port ++ 47 ∷ (channel ++ 47 ∷ [])
+hop_text port channel = append_assoc (port ++ codes "/") channel (codes "/") ∙ append_assoc port (codes "/") (channel ++ 47 ∷ [])
+
+pub not_over : (port channel denom front : Text) → front ≡ port ++ 47 ∷ (channel ++ 47 ∷ []) → FindsTextPrefix front denom None → came_over port channel denom ≡ false
+not_over port channel denom front is none =
+    ap (λ (t : Text). starts_with eqb denom t) (hop_text port channel ∙ sym is) ∙ sym (starts_text false front denom none)
+
+-- what is behind the hop
+pub stripped_is_one : (port channel denom front rest : Text) → IsTrue (is_port port) → IsTrue (is_channel channel) → IsTrue (is_denom denom) → front ≡ port ++ 47 ∷ (channel ++ 47 ∷ [])
+    → StripsPrefix (FindsTextPrefix front) denom rest → IsTrue (is_denom rest)
+stripped_is_one port channel denom front rest p c d is found =
+    let whole : denom ≡ front ++ rest = found.1.1 ∙ ap (λ (t : Text). front ++ t) (sym found.2) in
+    let hopped : denom ≡ hop port channel ++ rest = whole ∙ ap (λ (t : Text). t ++ rest) (is ∙ sym (hop_text port channel)) in
+    rest_is_one port channel rest p c (subst (λ (t : Text). IsTrue (is_denom t)) hopped d)
