@@ -35,3 +35,4 @@ mod RelayedPackets
 mod ALedger
 pub mod QuotedTexts
 pub mod DataRead
+pub mod PassedChecks

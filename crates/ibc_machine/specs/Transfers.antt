@@ -1,9 +1,10 @@
 -- Transfers of tokens (ICS 20): the application of port `transfer`, and its two messages.
-use Rattle.std.specs.Prelude.{ℕ, Bool, ◌==◌, ◌&&◌, not, nat_le, nat_eq, codes, List, [], ◌∷◌, ◌++◌, length, drop, Option, Some, None, Ok, Err, ⊤, if◌then◌else◌}
-use Rattle.std.specs.List.{list_any, starts_with, sum_by}
+use Rattle.std.specs.Prelude.{ℕ, Bool, ◌==◌, ◌&&◌, not, nat_le, codes, List, [], ◌∷◌, ◌++◌, length, drop, Option, Some, None, Ok, Err, ⊤, if◌then◌else◌}
+use Rattle.std.specs.List.{list_any, sum_by}
 use Rattle.std.specs.Option.{option_and_then}
 use Rattle.ibc_ids.specs.Texts.{Text, same_text}
 use Rattle.ibc_ids.specs.Names.{is_user, hop}
+pub use Rattle.ibc_ids.specs.Names.{came_over}
 use Rattle.ibc_ids.specs.declared.refusal.Refusal.TheVariants.{BadMessage, WrongOrder, WrongVersion, TooLarge, Poor, CloseRefused}
 use Rattle.ibc_wire.specs.Tokens.{is_rising, is_short}
 use Rattle.ibc_wire.specs.declared.records.Order.{Order}
@@ -38,10 +39,6 @@ abbrev pub closes_for_transfers : Checked ⊤
 closes_for_transfers = Err CloseRefused
 
 -- ---- what was burnt
-
--- the denomination came over this channel, and goes back over it
-abbrev pub came_over : Text → Text → Text → Bool
-came_over port channel denom = starts_with nat_eq denom (hop port channel)
 
 abbrev pub burnt_over : Text → (Text × Text) × Channel → ℕ
 burnt_over denom entry =
