@@ -1,5 +1,5 @@
 -- A client is told of a height: what is written through a loan of it is inserted in the map.
-use Rattle.std.proofs.Common.{◌≡◌, ℕ, refl, sym, ap, subst, ◌∙◌, List, Option, Some, None, Result, Ok, Err}
+use Rattle.std.proofs.Common.{◌≡◌, ℕ, sym, ap, subst, ◌∙◌, List, Some, Result, Ok, Err}
 use Rattle.std.specs.Prelude.{⊤, OnOk, OnErr, IfSome}
 use Rattle.std.specs.List.Sorted.{IsStrictlySortedBy}
 use Rattle.std.specs.Map.{keys_of, set_value}

@@ -1,5 +1,10 @@
 pub mod Stores
+pub mod Images
 pub mod NewClients
 pub mod NewRecords
 pub mod Learning
 pub mod UpdatedClients
+pub mod Connections
+pub mod Written
+pub mod Knowing
+pub mod KnownStates

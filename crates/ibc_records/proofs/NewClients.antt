@@ -1,5 +1,5 @@
 -- A client is added: the core has it, and the store is again the image.
-use Rattle.std.proofs.Common.{◌≡◌, ℕ, ◌+◌, List, refl, sym, ap, subst, ◌∙◌}
+use Rattle.std.proofs.Common.{◌≡◌, ℕ, ◌+◌, List, refl, sym, ap, subst}
 use Rattle.std.specs.Prelude.{IsTrue}
 use Rattle.ibc_ids.specs.Texts.{Text, text_cmp}
 use Rattle.ibc_ids.specs.Maps.{with}
@@ -7,61 +7,46 @@ use Rattle.ibc_ids.specs.Names.{is_client}
 use Rattle.ibc_ids.specs.Paths.{path}
 use Rattle.ibc_ids.specs.declared.key.Key.TheVariants as key
 use Rattle.ibc_ids.proofs.Maps.{map_values-with}
-use Rattle.ibc_machine.specs.Records.{Core, Client, with_client}
+use Rattle.ibc_merkle.specs.Tree.{Pairs}
+use Rattle.ibc_machine.specs.Records.{Core, with_client}
 use Rattle.ibc_machine.specs.Clients.{new_client}
 use Rattle.ibc_machine.specs.Values.{ClientIs, NumberIs, value_bytes}
-use Rattle.ibc_machine.specs.Image.{image}
-use Rattle.ibc_machine.proofs.ImageChanges.{IsKeyed, image_changes}
 use Rattle.ibc_machine.proofs.CoreChanges.{changes-with_client, keyed-with_client, changes-next_client, keyed-next_client}
 use Rattle.ibc_path_store.specs.Held.{HeldStore}
 use Rattle.ibc_records.specs.HeldClients.{HeldClient, plain_client, new_held}
-use Rattle.ibc_records.specs.Held.{HeldRecords, IsHeld, IsStored, AddsClient, core_of}
+use Rattle.ibc_records.specs.Held.{HeldRecords, IsHeld, AddsClient, core_of}
 use Rattle.ibc_records.proofs.Stores.{Sets, Becomes, becomes_roomy, becomes_set}
+use Rattle.ibc_records.proofs.Images.{IsImageOf, image_in, image_set, is_held, is_stored}
 
 module _ (old : HeldRecords) (id : Text) (chain : ℕ) (store : HeldStore) where
   abbrev pub after : HeldRecords
   after = record old { clients = with text_cmp id (new_held chain) old.clients; next_client = old.next_client + 1; store = store }
 
-  with_it : Core
+  abbrev with_it : Core
   with_it = with_client id (new_client chain) (core_of old)
+
+  -- the pairs with both paths set
+  abbrev set_pairs : Pairs
+  set_pairs =
+      with text_cmp (path key.NextClientSequence) (value_bytes (NumberIs (old.next_client + 1)))
+      (with text_cmp (path (key.ClientState id)) (value_bytes (ClientIs (new_client chain).state)) old.store.pairs)
 
   pub core-after : core_of after ≡ record (with_client id (new_client chain) (core_of old)) { next_client = old.next_client + 1 }
   core-after =
       ap (λ clients. record (core_of old) { clients = clients; next_client = old.next_client + 1 })
       (map_values-with text_cmp plain_client id (new_held chain) old.clients)
 
-  module _ (held : IsHeld old) (named : IsTrue (is_client id)) (sets : Becomes old.store (with text_cmp (path key.NextClientSequence) (value_bytes (NumberIs (old.next_client + 1))) (with text_cmp (path (key.ClientState id)) (value_bytes (ClientIs (new_client chain).state)) old.store.pairs)) store) where
-    core1 : Core
-    core1 = with_client id (new_client chain) (core_of old)
+  image_after : IsHeld old → IsTrue (is_client id) → IsImageOf (record with_it { next_client = old.next_client + 1 }) set_pairs
+  image_after held named =
+      let keyed = keyed-with_client (core_of old) id (new_client chain) held.keyed named in
+      image_set with_it (record with_it { next_client = old.next_client + 1 }) key.NextClientSequence (NumberIs (old.next_client + 1)) _
+      (image_set (core_of old) with_it (key.ClientState id) (ClientIs (new_client chain).state) old.store.pairs (image_in old held) keyed (changes-with_client (core_of old) id (new_client chain)))
+      (keyed-next_client with_it (old.next_client + 1) keyed) (changes-next_client with_it (old.next_client + 1))
 
-    image1 : image (with_client id (new_client chain) (core_of old)) ≡ with text_cmp (path (key.ClientState id)) (value_bytes (ClientIs (new_client chain).state)) (image (core_of old))
-    image1 =
-        image_changes (core_of old) (with_client id (new_client chain) (core_of old)) (key.ClientState id) (ClientIs (new_client chain).state) held.keyed
-        (keyed-with_client (core_of old) id (new_client chain) held.keyed named) (changes-with_client (core_of old) id (new_client chain))
-
-    keyed1 : IsKeyed (with_client id (new_client chain) (core_of old))
-    keyed1 = keyed-with_client (core_of old) id (new_client chain) held.keyed named
-
-    keyed2 : IsKeyed (record (with_client id (new_client chain) (core_of old)) { next_client = old.next_client + 1 })
-    keyed2 = keyed-next_client (with_client id (new_client chain) (core_of old)) (old.next_client + 1) keyed1
-
-    image2 : image (record (with_client id (new_client chain) (core_of old)) { next_client = old.next_client + 1 }) ≡ with text_cmp (path key.NextClientSequence) (value_bytes (NumberIs (old.next_client + 1))) (image (with_client id (new_client chain) (core_of old)))
-    image2 =
-        image_changes (with_client id (new_client chain) (core_of old)) (record (with_client id (new_client chain) (core_of old)) { next_client = old.next_client + 1 }) key.NextClientSequence
-        (NumberIs (old.next_client + 1)) keyed1 keyed2 (changes-next_client (with_client id (new_client chain) (core_of old)) (old.next_client + 1))
-
-    stored : store.pairs ≡ image (core_of after)
-    stored =
-        sets.pairs_are
-        ∙ ap (λ pairs. with text_cmp (path key.NextClientSequence) (value_bytes (NumberIs (old.next_client + 1))) (with text_cmp (path (key.ClientState id)) (value_bytes (ClientIs (new_client chain).state)) pairs)) held.stored
-        ∙ ap (λ pairs. with text_cmp (path key.NextClientSequence) (value_bytes (NumberIs (old.next_client + 1))) pairs) (sym image1)
-        ∙ sym image2 ∙ ap image (sym core-after)
-
-    pub is_held : IsHeld after
-    is_held = record { keyed = subst IsKeyed (sym core-after) keyed2; stored = stored }
-
-    pub adds_client : AddsClient old id chain after
-    adds_client = record { records = refl; stored = record { store = sets.rewrites; image_of = stored }; core = core-after }
+  pub adds_client : IsHeld old → IsTrue (is_client id) → Becomes old.store set_pairs store → IsHeld after × AddsClient old id chain after
+  adds_client held named becomes =
+      let is_image = image_after held named in
+      (is_held old after _ set_pairs is_image becomes core-after, record { records = refl; stored = is_stored old after _ set_pairs is_image becomes core-after; core = core-after })
 
 -- the same, from what the calls on the map and the store say
 pub added : (old : HeldRecords) (id : Text) (chain : ℕ) (clients : List (Text × HeldClient)) (s1 s2 s3 : HeldStore) {p v q w : Text} → IsHeld old → IsTrue (is_client id)
@@ -72,4 +57,4 @@ pub added : (old : HeldRecords) (id : Text) (chain : ℕ) (clients : List (Text 
 added old id chain clients s1 s2 s3 {p} {v} {q} {w} held named entries ep ev eq ew e f g =
     let sets = becomes_set old.store _ s2 s3 (becomes_set old.store _ s1 s2 (becomes_roomy old.store s1 e) f ep ev) g eq ew in
     subst (λ cs. IsHeld (record old { clients = cs; next_client = old.next_client + 1; store = s3 }) × AddsClient old id chain (record old { clients = cs; next_client = old.next_client + 1; store = s3 }))
-    (sym entries) (is_held old id chain s3 held named sets, adds_client old id chain s3 held named sets)
+    (sym entries) (adds_client old id chain s3 held named sets)

@@ -8,17 +8,16 @@ use Rattle.ibc_ids.specs.Names.{is_client}
 use Rattle.ibc_ids.specs.Paths.{path}
 use Rattle.ibc_ids.specs.declared.key.Key.TheVariants as key
 use Rattle.ibc_ids.proofs.Maps.{map_values-with, keys_of-with}
-use Rattle.ibc_machine.specs.Records.{Core, Client, with_client}
+use Rattle.ibc_machine.specs.Records.{with_client}
 use Rattle.ibc_machine.specs.Clients.{updated}
 use Rattle.ibc_machine.specs.Values.{ClientIs, value_bytes}
-use Rattle.ibc_machine.specs.Image.{image}
-use Rattle.ibc_machine.proofs.ImageChanges.{IsKeyed, image_changes}
 use Rattle.ibc_machine.proofs.CoreChanges.{changes-with_client, keyed-with_client}
 use Rattle.ibc_path_store.specs.Held.{HeldStore}
 use Rattle.ibc_records.specs.declared.client.ConsensusState.{ConsensusState}
 use Rattle.ibc_records.specs.HeldClients.{HeldClient, plain_client, with_height}
 use Rattle.ibc_records.specs.Held.{HeldRecords, IsHeld, UpdatesClient, core_of}
 use Rattle.ibc_records.proofs.Stores.{Sets, Becomes, becomes_roomy, becomes_set}
+use Rattle.ibc_records.proofs.Images.{image_in, image_set, is_held, is_stored}
 
 -- the client in plain
 pub plain-with_height : (height : ℕ) (known : ConsensusState) (client : HeldClient) → plain_client (with_height height known client) ≡ updated height (plain_client client)
@@ -36,29 +35,22 @@ module _ (old : HeldRecords) (id : Text) (height : ℕ) (known : ConsensusState)
       (map_values-with text_cmp plain_client id (with_height height known client) old.clients)
       ∙ ap (λ c. with_client id c (core_of old)) (plain-with_height height known client)
 
-  module _ (held : IsHeld old) (named : IsTrue (is_client id)) (there : at text_cmp id old.clients ≡ Some client)
-      (sets : Becomes old.store (with text_cmp (path (key.ClientState id)) (value_bytes (ClientIs (updated height (plain_client client)).state)) old.store.pairs) store) where
-    stored : store.pairs ≡ image (core_of after)
-    stored =
-        sets.pairs_are ∙ ap (λ pairs. with text_cmp (path (key.ClientState id)) (value_bytes (ClientIs (updated height (plain_client client)).state)) pairs) held.stored
-        ∙ sym (image_changes (core_of old) (with_client id (updated height (plain_client client)) (core_of old)) (key.ClientState id) (ClientIs (updated height (plain_client client)).state) held.keyed
-        (keyed-with_client (core_of old) id (updated height (plain_client client)) held.keyed named) (changes-with_client (core_of old) id (updated height (plain_client client))))
-        ∙ ap image (sym core-after)
-
-    pub is_held : IsHeld after
-    is_held = record {
-      keyed = subst IsKeyed (sym core-after) (keyed-with_client (core_of old) id (updated height (plain_client client)) held.keyed named);
-      stored = stored;
-    }
-
-    pub updates_client : UpdatesClient old id height known after
-    updates_client = record {
-      client = client;
-      stood = there;
-      records = refl;
-      stored = record { store = sets.rewrites; image_of = stored };
-      core = core-after;
-    }
+  pub updates_client : IsHeld old → IsTrue (is_client id) → at text_cmp id old.clients ≡ Some client
+      → Becomes old.store (with text_cmp (path (key.ClientState id)) (value_bytes (ClientIs (updated height (plain_client client)).state)) old.store.pairs) store
+      → IsHeld after × UpdatesClient old id height known after
+  updates_client held named there becomes =
+      let told = updated height (plain_client client) in
+      let is_image = image_set (core_of old) (with_client id told (core_of old)) (key.ClientState id) (ClientIs told.state) old.store.pairs (image_in old held)
+      (keyed-with_client (core_of old) id told held.keyed named) (changes-with_client (core_of old) id told) in (
+        is_held old after _ _ is_image becomes core-after,
+        record {
+          client = client;
+          stood = there;
+          records = refl;
+          stored = is_stored old after _ _ is_image becomes core-after;
+          core = core-after;
+        },
+      )
 
 -- the same, from what the calls on the map and the store say
 pub updated_from : (old : HeldRecords) (id : Text) (height : ℕ) (known : ConsensusState) (client : HeldClient) (clients : List (Text × HeldClient)) (s1 s2 : HeldStore) {p v : Text} → IsHeld old → IsTrue (is_client id)
@@ -69,7 +61,7 @@ pub updated_from : (old : HeldRecords) (id : Text) (height : ℕ) (known : Conse
 updated_from old id height known client clients s1 s2 held named there entries ep ev e f =
     let sets = becomes_set old.store _ s1 s2 (becomes_roomy old.store s1 e) f ep ev in
     subst (λ cs. IsHeld (record old { clients = cs; store = s2 }) × UpdatesClient old id height known (record old { clients = cs; store = s2 }))
-    (sym entries) (is_held old id height known client s2 held named there sets, updates_client old id height known client s2 held named there sets)
+    (sym entries) (updates_client old id height known client s2 held named there sets)
 
 -- a client that is found in the view of records is there
 pub is_there : (view value : HeldRecords) (id : Text) (client : HeldClient) → Some client ≡ at text_cmp id view.clients → view ≡ value → IsNone (at text_cmp id value.clients) → ⊥

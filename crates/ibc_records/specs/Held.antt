@@ -1,10 +1,12 @@
 -- The records of a chain as a ledger holds them: in plain, and as a store of paths.
-use Rattle.std.specs.Prelude.{◌≡◌, ◌+◌, ℕ, List, [], map, Option, Some}
+use Rattle.std.specs.Prelude.{◌≡◌, ◌+◌, ℕ, [], map, Option, Some}
 use Rattle.std.specs.Option.{option_and_then}
 use Rattle.std.specs.Ordering.{nat_cmp}
 use Rattle.ibc_ids.specs.Texts.{Text, text_cmp}
 use Rattle.ibc_ids.specs.Maps.{Map, at, with}
-use Rattle.ibc_machine.specs.Records.{Core, Client, with_client}
+use Rattle.ibc_wire.specs.declared.records.ConnectionEnd.{ConnectionEnd}
+use Rattle.ibc_machine.specs.Records.{Core, Client, with_client, with_connection}
+use Rattle.ibc_machine.specs.Connections.{with_new_connection}
 use Rattle.ibc_machine.specs.Genesis.{empty_core}
 use Rattle.ibc_machine.specs.Image.{image}
 use Rattle.ibc_machine.specs.Clients.{new_client, updated}
@@ -15,6 +17,7 @@ use Rattle.ibc_records.specs.HeldClients.{HeldClient, plain_client, new_held, wi
 
 pub record HeldRecords : Type 0 where
   pub clients : Map Text HeldClient
+  pub connections : Map Text ConnectionEnd
   pub next_client : ℕ
   pub next_connection : ℕ
   pub next_channel : ℕ
@@ -27,7 +30,7 @@ plain_entry entry = (entry.0, plain_client entry.1)
 abbrev pub core_of : HeldRecords → Core
 core_of held = record {
   clients = map plain_entry held.clients;
-  connections = [];
+  connections = held.connections;
   channels = [];
   next_client = held.next_client;
   next_connection = held.next_connection;
@@ -47,6 +50,7 @@ pub record IsHeld (held : HeldRecords) : Type 0 where
 -- the records of a chain in the beginning, whose working block has this time
 pub record IsNew (window time : ℕ) (held : HeldRecords) : Type 0 where
   pub clients : held.clients ≡ []
+  pub connections : held.connections ≡ []
   pub core : core_of held ≡ empty_core
   pub store : held.store ≡ record { pairs = image empty_core; room = held.store.room; time = time; window = window; gone = 0; kept = [] }
 
@@ -79,3 +83,19 @@ pub record UpdatesClient (old : HeldRecords) (id : Text) (height : ℕ) (known :
   }
   pub stored : IsStored old new
   pub core : core_of new ≡ with_client id (updated height (plain_client client)) (core_of old)
+
+-- an end of a connection was added, and the next is counted
+pub record AddsConnection (old : HeldRecords) (id : Text) (end : ConnectionEnd) (new : HeldRecords) : Type 0 where
+  pub records : new ≡ record old {
+    connections = with text_cmp id end old.connections;
+    next_connection = old.next_connection + 1;
+    store = new.store;
+  }
+  pub stored : IsStored old new
+  pub core : core_of new ≡ with_new_connection id end (core_of old)
+
+-- a connection has this end
+pub record SetsConnection (old : HeldRecords) (id : Text) (end : ConnectionEnd) (new : HeldRecords) : Type 0 where
+  pub records : new ≡ record old { connections = with text_cmp id end old.connections; store = new.store }
+  pub stored : IsStored old new
+  pub core : core_of new ≡ with_connection id end (core_of old)

@@ -1,8 +1,8 @@
 -- A client with what it knows, as a ledger holds it.
-use Rattle.std.specs.Prelude.{ℕ, max, [], Option}
+use Rattle.std.specs.Prelude.{ℕ, max, []}
 use Rattle.std.specs.Map.{keys_of}
 use Rattle.std.specs.Ordering.{nat_cmp}
-use Rattle.ibc_ids.specs.Maps.{Map, at, with}
+use Rattle.ibc_ids.specs.Maps.{Map, with}
 use Rattle.ibc_wire.specs.declared.records.ClientState.{ClientState}
 use Rattle.ibc_machine.specs.Records.{Client}
 use Rattle.ibc_records.specs.declared.client.ConsensusState.{ConsensusState}

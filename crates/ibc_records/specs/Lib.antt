@@ -1,2 +1,4 @@
 pub mod HeldClients
 pub mod Held
+pub mod Knowledge
+pub mod Taking

@@ -7,6 +7,7 @@ mod values;
 
 pub use client::{Client, ConsensusState};
 pub use records::Records;
+pub use values::{client_value, connection_value};
 
 #[cfg(test)]
 mod tests;

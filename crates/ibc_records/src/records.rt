@@ -1,22 +1,25 @@
 //! The records of a chain, kept in plain and as a store.
 
-ghost use Rattle.std.specs.Prelude.{◌≡◌, ◌⊎◌, ◌↔◌, ◌+◌, ◌-◌, ◌^◌, ◌<◌, length, min, IsNone, IsSome, IfSome, IfOk, IfErr, OnOk, OnErr, option_map, option_copied};
+ghost use Rattle.std.specs.Prelude.{◌≡◌, ◌⊎◌, ◌↔◌, ◌+◌, ◌-◌, ◌^◌, ◌<◌, length, min, is_some, IsNone, IsSome, IfSome, IfOk, IfErr, OnOk, OnErr, option_map, option_copied};
 ghost use Rattle.ibc_ids.specs.Texts.{text_cmp};
 ghost use Rattle.ibc_ids.specs.Maps.{at, with};
-ghost use Rattle.ibc_ids.specs.declared.refusal.Refusal.TheVariants.{NoMemory, TimeBack, UnknownClient};
+ghost use Rattle.ibc_ids.specs.Paths.{path};
+ghost use Rattle.std.specs.Option.{IsSomeAnd};
+ghost use Rattle.ibc_ids.specs.declared.refusal.Refusal.TheVariants.{NoConsensus, NoMemory, TimeBack, UnknownClient};
+ghost use Rattle.ibc_merkle.specs.Written.{written};
 ghost use Rattle.ibc_records.specs.Held.{core_of, IsNew, AddsClient, UpdatesClient, IsUnchanged};
 ghost use Rattle.ibc_machine.specs.Image.{image, core_root};
 ghost use Rattle.ibc_records.specs.HeldClients.{with_height};
-ghost use Rattle.ibc_path_store.specs.Held.{committed, height_of};
+ghost use Rattle.ibc_path_store.specs.Held.{committed, height_of, kept_at};
+
+mod connections;
 
 use crate::client::{Client, ConsensusState};
-use crate::values::{
-    client_path, client_value, next_channel_path, next_client_path, next_connection_path,
-    number_value, set_reserved,
-};
-use ibc_ids::{ClientId, Refusal, Root};
+use crate::values::{client_path, client_value, counter, set_reserved};
+use ibc_ids::{ClientId, ConnectionId, Key, Refusal, Root};
+use ibc_merkle::Proof;
 use ibc_path_store::Store;
-use ibc_wire::ClientState;
+use ibc_wire::{ClientState, ConnectionEnd};
 use std::alloc::Global;
 use std::collections::BTreeMap;
 use std::marker::Model;
@@ -25,6 +28,7 @@ use std::marker::Model;
 #[derive(Drop, Debug)]
 pub struct Records {
     clients: BTreeMap<ClientId, Client>,
+    connections: BTreeMap<ConnectionId, ConnectionEnd>,
     next_client: u64,
     next_connection: u64,
     next_channel: u64,
@@ -39,6 +43,7 @@ impl Model for Records {
 
     ghost view = { λ records. record {
       clients = records.clients.entries;
+      connections = records.connections.entries;
       next_client = records.next_client;
       next_connection = records.next_connection;
       next_channel = records.next_channel;
@@ -47,6 +52,7 @@ impl Model for Records {
 
     ghost invariant = { λ records. IsHeld (record {
       clients = records.clients.entries;
+      connections = records.connections.entries;
       next_client = records.next_client;
       next_connection = records.next_connection;
       next_channel = records.next_channel;
@@ -63,23 +69,15 @@ impl Records {
     {
         let mut store = Store::new(alloc, window, time);
         store.reserve(3)?;
-        set_reserved(
-            &mut store,
-            next_client_path(alloc)?,
-            number_value(alloc, 0)?,
-        );
-        set_reserved(
-            &mut store,
-            next_connection_path(alloc)?,
-            number_value(alloc, 0)?,
-        );
-        set_reserved(
-            &mut store,
-            next_channel_path(alloc)?,
-            number_value(alloc, 0)?,
-        );
+        let (path, number) = counter(alloc, &Key::NextClientSequence, 0)?;
+        set_reserved(&mut store, path, number);
+        let (path, number) = counter(alloc, &Key::NextConnectionSequence, 0)?;
+        set_reserved(&mut store, path, number);
+        let (path, number) = counter(alloc, &Key::NextChannelSequence, 0)?;
+        set_reserved(&mut store, path, number);
         Ok(Records {
             clients: BTreeMap::new(alloc),
+            connections: BTreeMap::new(alloc),
             next_client: 0,
             next_connection: 0,
             next_channel: 0,
@@ -120,11 +118,11 @@ impl Records {
         let client = Client::new(self.alloc, chain);
         let path = client_path(self.alloc, &id)?;
         let value = client_value(self.alloc, client.state())?;
-        let number_path = next_client_path(self.alloc)?;
-        let number = number_value(self.alloc, self.next_client + 1)?;
+        let next = self.next_client + 1;
+        let (number_path, number) = counter(self.alloc, &Key::NextClientSequence, next)?;
         self.store.reserve(2)?;
         self.clients.insert(id, client)?;
-        self.next_client += 1;
+        self.next_client = next;
         set_reserved(&mut self.store, path, value);
         set_reserved(&mut self.store, number_path, number);
         Ok(())
@@ -183,6 +181,17 @@ impl Records {
         ensures unchanged { OnErr result (self.new ≡ self.old) }
     {
         self.store.commit(next_time)
+    }
+
+    /// The proof of what a committed height has at a key: of its presence where it is there, and of its absence where
+    /// not (ICS 23, "CommitmentProof"). `NoConsensus` exactly where the height isn't committed or is gone from the window;
+    /// `NoMemory` where a growth is refused.
+    pub fn prove(&self, height: u64, key: &Key) -> Result<Proof, Refusal>
+        ensures ok { IfOk result (λ proof. IsSomeAnd (kept_at self.now.store height) (λ kept. proof ≡ written kept.0 (path key.now))) }
+        ensures unknown { (result ≡ Err NoConsensus) ↔ IsNone (kept_at self.now.store height) }
+        ensures err { IfErr result (λ refusal. (refusal ≡ NoConsensus) ⊎ (refusal ≡ NoMemory)) }
+    {
+        self.store.prove(height, key)
     }
 }
 

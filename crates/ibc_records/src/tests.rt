@@ -1,5 +1,5 @@
 use crate::{ConsensusState, Records};
-use ibc_ids::{ClientId, Refusal, Root};
+use ibc_ids::{ClientId, Key, Refusal, Root};
 use std::test::Fail;
 
 // The SHA-256 of 01 and the two nodes of the genesis tree, worked out apart from this code.
@@ -7,6 +7,11 @@ const GENESIS_ROOT: [u8; 32] = [
     0x74, 0x3e, 0x73, 0x34, 0x1e, 0x76, 0x49, 0xed, 0x2a, 0xa2, 0x72, 0x3b, 0xb1, 0x6e, 0x6c, 0x43,
     0xe4, 0xfd, 0x62, 0xa1, 0x60, 0x61, 0xf8, 0x0e, 0xa2, 0xa3, 0x79, 0x72, 0x78, 0x77, 0x68, 0xdd,
 ];
+
+// Whether the counter of clients is proved at a height.
+fn is_proved(records: &Records, height: u64) -> bool {
+    records.prove(height, &Key::NextClientSequence).is_ok()
+}
 
 #[test]
 fn clients_come_and_learn(rt: HostRuntime) -> Result<(), Fail> {
@@ -39,5 +44,7 @@ fn clients_come_and_learn(rt: HostRuntime) -> Result<(), Fail> {
     assert_eq!(rt; records.commit(99), Err(Refusal::TimeBack));
     records.commit(100)?;
     assert_eq!(rt; records.height(), 2);
+    assert!(rt; is_proved(&records, 2));
+    assert!(rt; !is_proved(&records, 3));
     Ok(())
 }

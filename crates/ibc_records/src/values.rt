@@ -1,18 +1,20 @@
 //! Paths and values as they stand in the store.
 
-ghost use Rattle.std.specs.Prelude.{◌≡◌, ◌<◌, ◌≤◌, ◌+◌, IfOk, IfErr, IsTrue, string_bytes};
+ghost use Rattle.std.specs.Prelude.{◌≡◌, ◌<◌, ◌≤◌, ◌+◌, ◌++◌, IfOk, IfErr, OnOk, IsTrue, string_bytes};
 ghost use Rattle.ibc_ids.specs.Texts.{text_cmp};
 ghost use Rattle.ibc_ids.specs.Maps.{with};
-ghost use Rattle.ibc_ids.specs.Names.{is_client};
+ghost use Rattle.ibc_ids.specs.Names.{is_client, is_connection};
 ghost use Rattle.ibc_ids.specs.Paths.{path};
 ghost use Rattle.ibc_ids.specs.declared.key.Key.TheVariants as key;
 ghost use Rattle.ibc_ids.specs.declared.refusal.Refusal.TheVariants.{NoMemory};
-ghost use Rattle.ibc_machine.specs.Values.{value_bytes, NumberIs, ClientIs};
+ghost use Rattle.ibc_wire.specs.Spelling.{connection_end_bytes};
+ghost use Rattle.ibc_machine.specs.Values.{value_bytes, NumberIs, ClientIs, ConnectionIs};
 
-use ibc_codec::encode;
-use ibc_ids::{Bytes, ClientId, Key, Refusal};
+use ibc_codec::fields::{write_name, write_peer, write_text};
+use ibc_codec::{Wire, encode};
+use ibc_ids::{Bytes, ClientId, ConnectionId, Key, Refusal};
 use ibc_path_store::Store;
-use ibc_wire::ClientState;
+use ibc_wire::{ClientState, ConnectionEnd, ConnectionState};
 use std::alloc::Global;
 
 /// The path of a client's state.
@@ -24,28 +26,13 @@ pub fn client_path(alloc: Global, id: &ClientId) -> Result<String, Refusal>
     Ok(format!(in alloc; "clients/{}/clientState", id.as_str())?)
 }
 
-/// The path of the number of the next client.
-pub fn next_client_path(alloc: Global) -> Result<String, Refusal>
-    ensures ok { IfOk result (λ text. string_bytes text ≡ path key.NextClientSequence) }
+/// The path of an end of a connection.
+pub fn connection_path(alloc: Global, id: &ConnectionId) -> Result<String, Refusal>
+    ensures ok { IfOk result (λ text. string_bytes text ≡ path (key.Connection id.now)) }
+    ensures named { IsTrue (is_connection id.now) }
     ensures err { IfErr result (λ refusal. refusal ≡ NoMemory) }
 {
-    Key::NextClientSequence.path(alloc)
-}
-
-/// The path of the number of the next connection.
-pub fn next_connection_path(alloc: Global) -> Result<String, Refusal>
-    ensures ok { IfOk result (λ text. string_bytes text ≡ path key.NextConnectionSequence) }
-    ensures err { IfErr result (λ refusal. refusal ≡ NoMemory) }
-{
-    Key::NextConnectionSequence.path(alloc)
-}
-
-/// The path of the number of the next channel.
-pub fn next_channel_path(alloc: Global) -> Result<String, Refusal>
-    ensures ok { IfOk result (λ text. string_bytes text ≡ path key.NextChannelSequence) }
-    ensures err { IfErr result (λ refusal. refusal ≡ NoMemory) }
-{
-    Key::NextChannelSequence.path(alloc)
+    Ok(format!(in alloc; "connections/{}", id.as_str())?)
 }
 
 /// Sets the value of a path, for which there is room.
@@ -57,12 +44,14 @@ pub fn set_reserved(store: &mut Store, path: String, value: Bytes)
     let _ = store.set(path, value);
 }
 
-/// The bytes of a number.
-pub fn number_value(alloc: Global, n: u64) -> Result<Bytes, Refusal>
-    ensures ok { IfOk result (λ bytes. bytes ≡ value_bytes (NumberIs n)) }
+/// The path of a key, and the bytes of a number that stands there.
+pub fn counter(alloc: Global, key: &Key, n: u64) -> Result<(String, Bytes), Refusal>
+    ensures path { IfOk result (λ entry. string_bytes entry.0 ≡ path key.now) }
+    ensures number { IfOk result (λ entry. entry.1 ≡ value_bytes (NumberIs n)) }
     ensures err { IfErr result (λ refusal. refusal ≡ NoMemory) }
 {
-    Ok(Bytes::copy_of(alloc, &n.to_be_bytes())?)
+    let path = key.path(alloc)?;
+    Ok((path, Bytes::copy_of(alloc, &n.to_be_bytes())?))
 }
 
 /// The bytes of a client's state.
@@ -71,4 +60,31 @@ pub fn client_value(alloc: Global, state: ClientState) -> Result<Bytes, Refusal>
     ensures err { IfErr result (λ refusal. refusal ≡ NoMemory) }
 {
     Ok(Bytes::from_vec(encode(alloc, &state)?))
+}
+
+/// The bytes of an end of a connection (ICS 3, "ConnectionEnd"): its fields in order.
+pub fn connection_value(alloc: Global, end: &ConnectionEnd) -> Result<Bytes, Refusal>
+    ensures ok { IfOk result (λ bytes. bytes ≡ value_bytes (ConnectionIs end.now)) }
+    ensures err { IfErr result (λ refusal. refusal ≡ NoMemory) }
+{
+    let mut bytes = Vec::new(alloc);
+    match write_connection(&mut bytes, end) {
+        Ok(()) => Ok(Bytes::from_vec(bytes)),
+        // What is written has its form, so only a growth is refused.
+        Err(_) => Err(Refusal::NoMemory),
+    }
+}
+
+// Writes the fields of an end. A peer's name that the end's state doesn't allow has no spelling, and is left out.
+fn write_connection(bytes: &mut Vec<u8>, end: &ConnectionEnd) -> Result<(), Refusal>
+    ensures { OnOk result (bytes.new.items ≡ bytes.old.items ++ connection_end_bytes end.now) }
+{
+    end.state.write(bytes)?;
+    write_name(bytes, &end.client)?;
+    write_name(bytes, &end.peer_client)?;
+    let is_init = end.state == ConnectionState::Init;
+    if is_init == end.peer_connection.is_none() {
+        write_peer(bytes, is_init, &end.peer_connection)?;
+    }
+    write_text(bytes, b"1", u16::MAX)
 }

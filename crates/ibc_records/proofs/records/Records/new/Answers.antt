@@ -4,16 +4,16 @@ use Rattle.ibc_records.proofs.records.Records.new.Goals as goal
 
 pub invariant_of-result : goal.invariant_of-result
 invariant_of-result c =
-    (new_held_records c.new.result.entries c.args.window c.args.time c.new-store.result c.reserve.new.self c.set_reserved.new.store c.set_reserved-2.new.store c.set_reserved-3.new.store
-    c.new.ensures.empty c.new-store.ensures.pairs c.new-store.ensures.time c.new-store.ensures.window c.new-store.ensures.gone c.new-store.ensures.kept
+    (new_held_records c.new.result.entries c.new-2.result.entries c.args.window c.args.time c.new-store.result c.reserve.new.self c.set_reserved.new.store c.set_reserved-2.new.store c.set_reserved-3.new.store
+    c.new.ensures.empty c.new-2.ensures.empty c.new-store.ensures.pairs c.new-store.ensures.time c.new-store.ensures.window c.new-store.ensures.gone c.new-store.ensures.kept
     c.in_ok-reserve.ensures.same c.set_reserved.ensures.set c.set_reserved-2.ensures.set c.set_reserved-3.ensures.set
-    c.in_ok-next_client_path.ensures.ok c.in_ok-next_connection_path.ensures.ok c.in_ok-next_channel_path.ensures.ok
-    c.in_ok-number_value.ensures.ok c.in_ok-number_value-2.ensures.ok c.in_ok-number_value-3.ensures.ok).0
+    c.in_ok-path.ensures.path c.in_ok-path-2.ensures.path c.in_ok-path-3.ensures.path
+    c.in_ok-path.ensures.number c.in_ok-path-2.ensures.number c.in_ok-path-3.ensures.number).0
 
 pub returns-clause-ok : goal.returns-clause-ok
 returns-clause-ok c =
-    (new_held_records c.new.result.entries c.args.window c.args.time c.new-store.result c.reserve.new.self c.set_reserved.new.store c.set_reserved-2.new.store c.set_reserved-3.new.store
-    c.new.ensures.empty c.new-store.ensures.pairs c.new-store.ensures.time c.new-store.ensures.window c.new-store.ensures.gone c.new-store.ensures.kept
+    (new_held_records c.new.result.entries c.new-2.result.entries c.args.window c.args.time c.new-store.result c.reserve.new.self c.set_reserved.new.store c.set_reserved-2.new.store c.set_reserved-3.new.store
+    c.new.ensures.empty c.new-2.ensures.empty c.new-store.ensures.pairs c.new-store.ensures.time c.new-store.ensures.window c.new-store.ensures.gone c.new-store.ensures.kept
     c.in_ok-reserve.ensures.same c.set_reserved.ensures.set c.set_reserved-2.ensures.set c.set_reserved-3.ensures.set
-    c.in_ok-next_client_path.ensures.ok c.in_ok-next_connection_path.ensures.ok c.in_ok-next_channel_path.ensures.ok
-    c.in_ok-number_value.ensures.ok c.in_ok-number_value-2.ensures.ok c.in_ok-number_value-3.ensures.ok).1
+    c.in_ok-path.ensures.path c.in_ok-path-2.ensures.path c.in_ok-path-3.ensures.path
+    c.in_ok-path.ensures.number c.in_ok-path-2.ensures.number c.in_ok-path-3.ensures.number).1

@@ -1,0 +1,52 @@
+-- Records that a handler wrote: their clients know nothing that they didn't know.
+use Rattle.std.proofs.Common.{◌≡◌, ℕ, ◌+◌, cond, is_eq, Ordering, Less, Equal, Greater, sym, ap, ◌∙◌, Some, option_and_then}
+use Rattle.std.specs.Ordering.{nat_cmp}
+use Rattle.ibc_ids.specs.Texts.{Text, text_cmp}
+use Rattle.ibc_ids.specs.Maps.{at}
+use Rattle.ibc_ids.proofs.Texts.{text_cmp_total}
+use Rattle.ibc_wire.specs.declared.records.ConnectionEnd.{ConnectionEnd}
+use Rattle.ibc_machine.specs.Records.{with_client, with_connection}
+use Rattle.ibc_machine.specs.Clients.{new_client}
+use Rattle.ibc_machine.specs.Connections.{with_new_connection}
+use Rattle.ibc_machine.proofs.Images.{at-with}
+use Rattle.ibc_records.specs.HeldClients.{HeldClient, new_held}
+use Rattle.ibc_records.specs.Held.{HeldRecords, core_of, consensus_in, AddsClient, AddsConnection, SetsConnection}
+use Rattle.ibc_records.specs.Knowledge.{KnowsNoMore}
+use Rattle.ibc_records.specs.Taking.{IsWritten}
+
+-- the same clients know the same
+pub same_clients : (old new : HeldRecords) → new.clients ≡ old.clients → KnowsNoMore old new
+same_clients old new same client height known e =
+    sym (ap (λ clients. option_and_then (λ (c : HeldClient). at nat_cmp height c.known) (at text_cmp client clients)) same) ∙ e
+
+pub adds_connection_written : (old : HeldRecords) (id : Text) (end : ConnectionEnd) (new : HeldRecords) → AddsConnection old id end new
+    → IsWritten (with_new_connection id end (core_of old)) old new
+adds_connection_written old id end new adds = record {
+  core_is = adds.core;
+  stored = adds.stored;
+  knows = same_clients old new (ap (λ (h : HeldRecords). h.clients) adds.records);
+}
+
+pub sets_connection_written : (old : HeldRecords) (id : Text) (end : ConnectionEnd) (new : HeldRecords) → SetsConnection old id end new
+    → IsWritten (with_connection id end (core_of old)) old new
+sets_connection_written old id end new sets = record {
+  core_is = sets.core;
+  stored = sets.stored;
+  knows = same_clients old new (ap (λ (h : HeldRecords). h.clients) sets.records);
+}
+
+-- a new client knows nothing
+module _ (old : HeldRecords) (id : Text) (chain : ℕ) (new : HeldRecords) (adds : AddsClient old id chain new) where
+  knows_no_more : KnowsNoMore old new
+  knows_no_more client height known e =
+      by_client (text_cmp client id)
+      (sym (ap (option_and_then (λ (c : HeldClient). at nat_cmp height c.known)) (ap (λ (h : HeldRecords). at text_cmp client h.clients) adds.records ∙ at-with text_cmp text_cmp_total client id (new_held chain) old.clients)) ∙ e)
+    where
+      by_client : (o : Ordering) → option_and_then (λ (c : HeldClient). at nat_cmp height c.known) (cond (is_eq o) (Some (new_held chain)) (at text_cmp client old.clients)) ≡ Some known
+          → consensus_in old client height ≡ Some known
+      by_client Less same = same
+      by_client Equal same = absurd (cc)
+      by_client Greater same = same
+
+  pub adds_client_written : IsWritten (record (with_client id (new_client chain) (core_of old)) { next_client = old.next_client + 1 }) old new
+  adds_client_written = record { core_is = adds.core; stored = adds.stored; knows = knows_no_more }

@@ -1,0 +1,41 @@
+-- What becomes of a message that tells no client of a height: it is taken, as its checks say, or refused.
+use Rattle.std.specs.Prelude.{◌≡◌, ◌⊎◌, ◌+◌, ℕ, List, None, Result, Ok, Err}
+use Rattle.ibc_ids.specs.declared.publication.Publication.{Publication}
+use Rattle.ibc_ids.specs.declared.refusal.Refusal.{Refusal}
+use Rattle.ibc_ids.specs.declared.refusal.Refusal.TheVariants.{NoMemory}
+use Rattle.ibc_machine.specs.declared.reply.Effect.{Effect}
+use Rattle.ibc_machine.specs.Records.{Core}
+use Rattle.ibc_machine.specs.Checks.{Checked}
+use Rattle.ibc_machine.specs.Evidence.{Host, Evidence}
+use Rattle.ibc_machine.specs.Replay.{LedgerState, proves}
+use Rattle.ibc_path_store.specs.Held.{height_of}
+use Rattle.ibc_records.specs.Held.{HeldRecords, core_of, IsStored, IsUnchanged}
+use Rattle.ibc_records.specs.Knowledge.{Knows, KnowsNoMore}
+
+-- the records are written, as their checks say they are, and the store is their image
+pub record IsWritten (core : Core) (old new : HeldRecords) : Type 0 where
+  pub core_is : core_of new ≡ core
+  pub stored : IsStored old new
+  pub knows : KnowsNoMore old new
+
+-- The message was taken with this effect, as its checks say, or it was refused: by the check that failed, or for want of
+-- memory, which any check may need. A refusal leaves the records but for room.
+abbrev pub IsTaken : {A : Type 0} → (A → Effect) → Checked (Effect × Core) → HeldRecords → Result A Refusal → HeldRecords → Type 0
+IsTaken effect_of checked old (Ok x) new = (core : Core) × (checked ≡ Ok (effect_of x, core)) × IsWritten core old new
+IsTaken effect_of checked old (Err refusal) new = ((checked ≡ Err refusal) ⊎ (refusal ≡ NoMemory)) × IsUnchanged old new
+
+-- a handler of the core alone
+abbrev pub Handler : Type 0
+Handler = Evidence → Host → Core → Checked (Effect × Core)
+
+-- the chain that the records are of, numbered so among so many
+abbrev pub host_with : ℕ → ℕ → HeldRecords → Host
+host_with chain chains held =
+    record { chain = chain; chains = chains; height = height_of held.store + 1; time = held.store.time }
+
+-- A handler's answer by roots and proofs, where a ledger's state says of heights what the clients of the records know. A
+-- message that tells no client of a height reads no table.
+abbrev pub IsHandled : {A : Type 0} → (A → Effect) → Handler → ℕ → ℕ → HeldRecords → Result A Refusal → HeldRecords → Type 0
+IsHandled effect_of handler chain chains old result new =
+    (seen : List Publication) (state : LedgerState) → Knows old state
+    → IsTaken effect_of (handler (proves seen None state) (host_with chain chains old) (core_of old)) old result new
