@@ -1,3 +1,6 @@
 pub mod Creating
 pub mod FoundRows
 pub mod Updating
+pub mod Claims
+pub mod Judging
+pub mod Taking

@@ -1,2 +1,4 @@
 pub mod Answers
 pub mod Looks
+pub mod Claims
+pub mod Judging

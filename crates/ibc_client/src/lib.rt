@@ -1,11 +1,15 @@
-//! What a chain does with the messages of clients (ICS 2).
+//! What a chain does with the messages of clients, and how it judges what messages prove (ICS 2).
 #![tactic(auto)]
 
 mod create_client;
+mod evidence;
 mod header_check;
+mod proof_check;
 mod update_client;
 
 pub use create_client::create;
+pub use evidence::{check_client, check_known, read_proof};
+pub use proof_check::{check_absent, check_present, knows};
 pub use update_client::{Updated, update};
 
 #[cfg(test)]

@@ -1,0 +1,42 @@
+-- How what a message brings is judged by records and proofs (ICS 2, "Client state verification functions").
+use Rattle.std.specs.Prelude.{◌≡◌, ◌⊎◌, ℕ, List, ⊤, Some, None, Result, Ok, Err}
+use Rattle.ibc_ids.specs.Texts.{Text}
+use Rattle.ibc_ids.specs.declared.publication.Publication.{Publication}
+use Rattle.ibc_ids.specs.declared.refusal.Refusal.{Refusal}
+use Rattle.ibc_ids.specs.declared.refusal.Refusal.TheVariants.{NoMemory, UnknownClient}
+use Rattle.ibc_merkle.specs.declared.proof.Proof.{Proof}
+use Rattle.ibc_wire.specs.Reading.{proof_of}
+use Rattle.ibc_machine.specs.declared.reply.Effect.{Effect}
+use Rattle.ibc_machine.specs.Records.{Core, Client, client_at}
+use Rattle.ibc_machine.specs.Checks.{Checked, expect, ◌>>=◌}
+use Rattle.ibc_machine.specs.Values.{Claim}
+use Rattle.ibc_machine.specs.Evidence.{require_proof}
+use Rattle.ibc_machine.specs.Replay.{LedgerState, proves}
+use Rattle.ibc_records.specs.Held.{HeldRecords, core_of}
+use Rattle.ibc_records.specs.Knowledge.{Knows}
+use Rattle.ibc_records.specs.Taking.{Handler, host_with}
+
+-- there is such a client
+abbrev pub require_client : Core → Text → Checked ⊤
+require_client core client = expect (client_at core client) UnknownClient >>= λ (found : Client). Ok tt
+
+-- what was checked, unless memory ran out
+abbrev pub IsUnlessMemory : {A : Type 0} → Checked A → Result A Refusal → Type 0
+IsUnlessMemory checked result = (result ≡ Err NoMemory) ⊎ (result ≡ checked)
+
+-- the proof shows the claim, or it doesn't, or memory ran out
+abbrev pub IsShown : HeldRecords → Text → ℕ → Claim → Proof → Result ⊤ Refusal → Type 0
+IsShown held client height claim proof result =
+    (seen : List Publication) (state : LedgerState) (bytes : Text) → Knows held state → proof_of bytes ≡ Some proof
+    → IsUnlessMemory (require_proof (proves seen None state) client height claim bytes) result
+
+-- all checks of a message passed, so that it gives this, or the first that failed is the refusal, or memory ran out
+abbrev pub IsPassed : {A B : Type 0} → Checked B → (A → B) → Result A Refusal → Type 0
+IsPassed checked given (Ok x) = checked ≡ Ok (given x)
+IsPassed checked given (Err refusal) = (checked ≡ Err refusal) ⊎ (refusal ≡ NoMemory)
+
+-- the same of a handler, by roots and proofs
+abbrev pub IsJudged : {A : Type 0} → Handler → ℕ → ℕ → HeldRecords → (A → Effect × Core) → Result A Refusal → Type 0
+IsJudged handler chain chains held given result =
+    (seen : List Publication) (state : LedgerState) → Knows held state
+    → IsPassed (handler (proves seen None state) (host_with chain chains held) (core_of held)) given result

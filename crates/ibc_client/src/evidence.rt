@@ -1,0 +1,46 @@
+//! Checks that the messages of connections, channels and packets share.
+
+ghost use Rattle.std.specs.Prelude.{◌≡◌, ◌⊎◌, false, Some, is_some, IfOk, IfErr, IsErrOf};
+ghost use Rattle.ibc_machine.specs.Evidence.{require_known};
+ghost use Rattle.ibc_wire.specs.Reading.{proof_of};
+ghost use Rattle.ibc_records.specs.Held.{core_of};
+ghost use Rattle.ibc_client.specs.Judging.{require_client};
+
+use crate::knows;
+use ibc_codec::decode;
+use ibc_ids::{ClientId, Refusal};
+use ibc_merkle::Proof;
+use ibc_records::Records;
+use ibc_wire::proofs_are_read_as_they_are_spelled;
+use std::alloc::Global;
+
+/// The proof that the bytes spell. Refused: `BadMessage` exactly where they spell none; `NoMemory`.
+pub fn read_proof(alloc: Global, bytes: &[u8]) -> Result<Proof, Refusal>
+    ensures ok { IfOk result (λ proof. proof_of bytes.now ≡ Some proof) }
+    ensures bad { IsErrOf result Refusal.BadMessage → is_some (proof_of bytes.now) ≡ false }
+    ensures err { IfErr result (λ e. (e ≡ Refusal.BadMessage) ⊎ (e ≡ Refusal.NoMemory)) }
+{
+    proofs_are_read_as_they_are_spelled();
+    decode(alloc, bytes)
+}
+
+/// There is such a client, or else `UnknownClient`.
+pub fn check_client(records: &Records, client: &ClientId) -> Result<(), Refusal>
+    ensures { result ≡ require_client (core_of records.now) client.now }
+{
+    match records.client(client) {
+        Some(_) => Ok(()),
+        None => Err(Refusal::UnknownClient),
+    }
+}
+
+/// The client knows the height, or else `NoConsensus`.
+pub fn check_known(records: &Records, client: &ClientId, height: u64) -> Result<(), Refusal>
+    ensures { result ≡ require_known (core_of records.now) client.now height }
+{
+    if knows(records, client, height) {
+        Ok(())
+    } else {
+        Err(Refusal::NoConsensus)
+    }
+}

@@ -1,0 +1,86 @@
+//! What a client shows of the chain that it tracks.
+
+ghost use Rattle.std.specs.Prelude.{◌≡◌, ◌⊎◌};
+ghost use Rattle.ibc_ids.specs.Paths.{path};
+ghost use Rattle.ibc_ids.specs.declared.refusal.Refusal.TheVariants.{NoMemory, BadProof};
+ghost use Rattle.ibc_merkle.specs.Proofs.{accepts_present, accepts_absent};
+ghost use Rattle.ibc_machine.specs.Checks.{require};
+ghost use Rattle.ibc_machine.specs.Records as plain;
+ghost use Rattle.ibc_records.specs.Held.{core_of};
+ghost use Rattle.ibc_client.specs.Claims.{shown, IsKnown};
+
+use ibc_ics23_proof::{verify_absent, verify_present};
+use ibc_ids::{ClientId, Key, Refusal};
+use ibc_merkle::Proof;
+use ibc_records::{ConsensusState, Records};
+use std::alloc::Global;
+
+/// Checks that the chain that a client tracks had a value under a key at a height (ICS 2, "verifyMembership"). Refused,
+/// by the first check that fails: `UnknownClient`; `NoConsensus` where the client doesn't know the height; `BadProof`;
+/// and `NoMemory` where a growth is refused.
+pub fn check_present(
+    alloc: Global,
+    records: &Records,
+    client: &ClientId,
+    height: u64,
+    key: &Key,
+    value: &[u8],
+    proof: &Proof,
+) -> Result<(), Refusal>
+    ensures { (result ≡ Err NoMemory) ⊎ (result ≡ shown records.now client.now height (λ root. accepts_present proof.now root (path key.now) value.now)) }
+{
+    let known = known_at(records, client, height)?;
+    let path = key.path(alloc)?;
+    accept(verify_present(proof, &known.root, path.as_bytes(), value))
+}
+
+/// Checks that the chain that a client tracks had nothing under a key at a height (ICS 2, "verifyNonMembership").
+/// Refused as by `check_present`.
+pub fn check_absent(
+    alloc: Global,
+    records: &Records,
+    client: &ClientId,
+    height: u64,
+    key: &Key,
+    proof: &Proof,
+) -> Result<(), Refusal>
+    ensures { (result ≡ Err NoMemory) ⊎ (result ≡ shown records.now client.now height (λ root. accepts_absent proof.now root (path key.now))) }
+{
+    let known = known_at(records, client, height)?;
+    let path = key.path(alloc)?;
+    accept(verify_absent(proof, &known.root, path.as_bytes()))
+}
+
+/// Whether a client knows a height (ICS 2, "Consensus state").
+pub fn knows(records: &Records, client: &ClientId, height: u64) -> bool
+    ensures { result ≡ plain.knows (core_of records.now) client.now height }
+{
+    match records.client(client) {
+        Some(found) => found.consensus_state(height).is_some(),
+        None => false,
+    }
+}
+
+// What a client knows of a height.
+fn known_at(records: &Records, client: &ClientId, height: u64) -> Result<ConsensusState, Refusal>
+    ensures { IsKnown records.now client.now height result }
+{
+    match records.client(client) {
+        Some(found) => match found.consensus_state(height) {
+            Some(known) => Ok(known),
+            None => Err(Refusal::NoConsensus),
+        },
+        None => Err(Refusal::UnknownClient),
+    }
+}
+
+// A proof that isn't accepted is refused.
+fn accept(accepted: bool) -> Result<(), Refusal>
+    ensures { result ≡ require accepted BadProof }
+{
+    if accepted {
+        Ok(())
+    } else {
+        Err(Refusal::BadProof)
+    }
+}
