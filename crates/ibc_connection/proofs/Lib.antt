@@ -1,0 +1,3 @@
+pub mod Handshake
+pub mod Shown
+pub mod Opened

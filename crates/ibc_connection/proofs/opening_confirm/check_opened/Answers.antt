@@ -1,0 +1,11 @@
+-- The end that is built is the one that the peer must have.
+use Rattle.std.proofs.Common.{None, Some, subst}
+use Rattle.ibc_wire.specs.declared.records.ConnectionState.TheVariants.{Open}
+use Rattle.ibc_machine.specs.Connections.{connection_end, has_connection}
+use Rattle.ibc_client.specs.Judging.{IsShown}
+use Rattle.ibc_connection.proofs.opening_confirm.check_opened.Goals as goal
+
+pub returns : goal.returns
+returns c =
+    subst (λ end. IsShown c.args.records.now c.args.mine.now.client c.args.message.now.height (has_connection c.args.peer.now end) c.args.proof.now c.check_connection.result)
+    (λ i. connection_end Open (c.in_ok-clone.ensures.cases i) (c.in_ok-clone-2.ensures.cases i) (Some (c.in_ok-clone-3.ensures.cases i))) c.check_connection.ensures

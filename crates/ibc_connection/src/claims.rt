@@ -1,0 +1,88 @@
+//! What messages claim of the peer, and the proofs that they bring.
+
+ghost use Rattle.std.specs.Prelude.{◌≡◌, ◌&&◌, ◌⊎◌, true, false, Some, is_some, IfOk, IfErr, IsErrOf};
+ghost use Rattle.ibc_machine.specs.Connections.{has_connection, has_client};
+ghost use Rattle.ibc_machine.specs.Records.{knows};
+ghost use Rattle.ibc_wire.specs.Reading.{proof_of};
+ghost use Rattle.ibc_records.specs.Held.{core_of};
+ghost use Rattle.ibc_client.specs.Judging.{IsShown};
+ghost use Rattle.ibc_connection.specs.Ends.{AreProofs};
+
+use ibc_client::{check_present, read_proof};
+use ibc_ids::{Bytes, ClientId, ConnectionId, Key, Refusal};
+use ibc_merkle::Proof;
+use ibc_records::{Records, client_value, connection_value};
+use ibc_wire::{ClientState, ConnectionEnd};
+use std::alloc::Global;
+
+/// The two proofs of a message: of the peer's end, and of the peer's client.
+#[derive(Drop)]
+pub struct Proofs {
+    pub end: Proof,
+    pub client: Proof,
+}
+
+/// The two proofs of a message. Refused: `BadMessage` exactly where one can't be read; `NoMemory`.
+pub fn read_proofs(alloc: Global, end: &Bytes, client: &Bytes) -> Result<Proofs, Refusal>
+    ensures ok { IfOk result (λ proofs. AreProofs end.now client.now proofs) }
+    ensures bad { IsErrOf result Refusal.BadMessage → (is_some (proof_of end.now) && is_some (proof_of client.now)) ≡ false }
+    ensures err { IfErr result (λ e. (e ≡ Refusal.BadMessage) ⊎ (e ≡ Refusal.NoMemory)) }
+{
+    Ok(Proofs {
+        end: read_proof(alloc, end.as_slice())?,
+        client: read_proof(alloc, client.as_slice())?,
+    })
+}
+
+/// The client's chain had this end under this identifier at a height that the client knows, or else `BadProof`; `NoMemory`.
+pub fn check_connection(
+    alloc: Global,
+    records: &Records,
+    client: &ClientId,
+    height: u64,
+    id: &ConnectionId,
+    end: &ConnectionEnd,
+    proof: &Proof,
+) -> Result<(), Refusal>
+    requires { knows (core_of records.now) client.now height ≡ true }
+    ensures { IsShown records.now client.now height (has_connection id.now end.now) proof.now result }
+{
+    let value = connection_value(alloc, end)?;
+    let key = Key::Connection(id.clone()?);
+    check_present(
+        alloc,
+        records,
+        client,
+        height,
+        &key,
+        value.as_slice(),
+        proof,
+    )
+}
+
+/// The client's chain had a client of this state under this identifier at a height that the client knows, or else
+/// `BadProof`; `NoMemory`.
+pub fn check_client_state(
+    alloc: Global,
+    records: &Records,
+    client: &ClientId,
+    height: u64,
+    id: &ClientId,
+    state: ClientState,
+    proof: &Proof,
+) -> Result<(), Refusal>
+    requires { knows (core_of records.now) client.now height ≡ true }
+    ensures { IsShown records.now client.now height (has_client id.now state) proof.now result }
+{
+    let value = client_value(alloc, state)?;
+    let key = Key::ClientState(id.clone()?);
+    check_present(
+        alloc,
+        records,
+        client,
+        height,
+        &key,
+        value.as_slice(),
+        proof,
+    )
+}

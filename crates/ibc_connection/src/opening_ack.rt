@@ -1,0 +1,121 @@
+//! Opening a connection that the peer answered.
+
+ghost use Rattle.std.specs.Prelude.{◌≡◌, ℕ, Some, true};
+ghost use Rattle.ibc_machine.specs.declared.reply.Effect.TheVariants as effect;
+ghost use Rattle.ibc_machine.specs.Connections.{conn_open_ack, has_connection};
+ghost use Rattle.ibc_machine.specs.Records.{connection_at, knows, with_connection};
+ghost use Rattle.ibc_records.specs.Held.{core_of};
+ghost use Rattle.ibc_records.specs.Taking.{IsHandled};
+ghost use Rattle.ibc_client.specs.Judging.{IsJudged, IsShown};
+ghost use Rattle.ibc_connection.specs.Ends.{AreProofs, acknowledged, answered_there};
+
+use crate::checks::{check_self_client, check_state};
+use crate::claims::{Proofs, check_client_state, check_connection, read_proofs};
+use ibc_client::check_known;
+use ibc_ids::Refusal;
+use ibc_merkle::Proof;
+use ibc_records::Records;
+use ibc_wire::{ConnOpenAck, ConnectionEnd, ConnectionState};
+use std::alloc::Global;
+
+/// Opens a connection that the peer answered (ICS 3, "connOpenAck"), on the chain numbered `chain`. Refused, by the first
+/// check that fails: `BadMessage` where a proof can't be read; `UnknownConnection`; `WrongState` where the end isn't in
+/// `Init`; `WrongSelfClient` where the claimed client of the peer doesn't track this chain, or knows a height that isn't
+/// committed here; `NoConsensus` where the end's client doesn't know the height; `BadProof` where a proof doesn't show the
+/// peer's end, or the claimed client. `NoMemory` where a growth is refused. A refusal leaves the records.
+pub fn open_ack(
+    alloc: Global,
+    records: &mut Records,
+    chain: u8,
+    message: &ConnOpenAck,
+) -> Result<(), Refusal>
+    ensures { (chains : ℕ) → IsHandled (λ _. effect.None) (λ evidence host core. conn_open_ack evidence host core message.now) chain chains records.old result records.new }
+{
+    let proofs = read_proofs(alloc, &message.proof_end, &message.proof_client)?;
+    let judged = judge_ack(alloc, records, chain, message, &proofs);
+    drop(proofs);
+    records.set_connection(message.connection.clone()?, judged?)
+}
+
+// The end as it will stand, where all checks pass.
+fn judge_ack(
+    alloc: Global,
+    records: &Records,
+    chain: u8,
+    message: &ConnOpenAck,
+    proofs: &Proofs,
+) -> Result<ConnectionEnd, Refusal>
+    requires { AreProofs message.now.proof_end message.now.proof_client proofs.now }
+    ensures { (chains : ℕ) → IsJudged (λ evidence host core. conn_open_ack evidence host core message.now) chain chains records.now (λ end. (effect.None, with_connection message.now.connection end (core_of records.now))) result }
+{
+    let Some(mine) = records.connection(&message.connection) else {
+        return Err(Refusal::UnknownConnection);
+    };
+    check_ack(alloc, records, chain, message, mine, proofs)?;
+    Ok(ConnectionEnd {
+        state: ConnectionState::Open,
+        client: mine.client.clone()?,
+        peer_client: mine.peer_client.clone()?,
+        peer_connection: Some(message.peer_connection.clone()?),
+    })
+}
+
+// The checks of the end that was found, in their order.
+fn check_ack(
+    alloc: Global,
+    records: &Records,
+    chain: u8,
+    message: &ConnOpenAck,
+    mine: &ConnectionEnd,
+    proofs: &Proofs,
+) -> Result<(), Refusal>
+    requires read { AreProofs message.now.proof_end message.now.proof_client proofs.now }
+    requires found { connection_at (core_of records.now) message.now.connection ≡ Some mine.now }
+    ensures { (chains : ℕ) → IsJudged (λ evidence host core. conn_open_ack evidence host core message.now) chain chains records.now (λ _. (effect.None, with_connection message.now.connection (acknowledged message.now mine.now) (core_of records.now))) result }
+{
+    let client = &mine.client;
+    let height = message.height;
+    check_state(mine, ConnectionState::Init)?;
+    check_self_client(records, chain, message.claim)?;
+    check_known(records, client, height)?;
+    check_answered(alloc, records, message, mine, &proofs.end)?;
+    check_client_state(
+        alloc,
+        records,
+        client,
+        height,
+        &mine.peer_client,
+        message.claim,
+        &proofs.client,
+    )
+}
+
+// The peer answered the connection, or else `BadProof`; `NoMemory`.
+fn check_answered(
+    alloc: Global,
+    records: &Records,
+    message: &ConnOpenAck,
+    mine: &ConnectionEnd,
+    proof: &Proof,
+) -> Result<(), Refusal>
+    requires { knows (core_of records.now) mine.now.client message.now.height ≡ true }
+    ensures { IsShown records.now mine.now.client message.now.height (has_connection message.now.peer_connection (answered_there message.now mine.now)) proof.now result }
+{
+    let theirs = ConnectionEnd {
+        state: ConnectionState::TryOpen,
+        client: mine.peer_client.clone()?,
+        peer_client: mine.client.clone()?,
+        peer_connection: Some(message.connection.clone()?),
+    };
+    let client = &mine.client;
+    let height = message.height;
+    check_connection(
+        alloc,
+        records,
+        client,
+        height,
+        &message.peer_connection,
+        &theirs,
+        proof,
+    )
+}

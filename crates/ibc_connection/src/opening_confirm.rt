@@ -1,0 +1,87 @@
+//! Opening a connection that the peer opened.
+
+ghost use Rattle.std.specs.Prelude.{◌≡◌, ℕ, Some, true};
+ghost use Rattle.ibc_machine.specs.declared.reply.Effect.TheVariants as effect;
+ghost use Rattle.ibc_machine.specs.Connections.{conn_open_confirm, has_connection};
+ghost use Rattle.ibc_machine.specs.Records.{knows, with_connection};
+ghost use Rattle.ibc_records.specs.Held.{core_of};
+ghost use Rattle.ibc_records.specs.Taking.{IsHandled};
+ghost use Rattle.ibc_client.specs.Judging.{IsJudged, IsShown};
+ghost use Rattle.ibc_wire.specs.Reading.{proof_of};
+ghost use Rattle.ibc_connection.specs.Ends.{opened_there};
+
+use crate::checks::check_state;
+use crate::claims::check_connection;
+use ibc_client::{check_known, read_proof};
+use ibc_ids::{ConnectionId, Refusal};
+use ibc_merkle::Proof;
+use ibc_records::Records;
+use ibc_wire::{ConnOpenConfirm, ConnectionEnd, ConnectionState};
+use std::alloc::Global;
+
+/// Opens a connection that the peer opened (ICS 3, "connOpenConfirm"). Refused, by the first check that fails: `BadMessage`
+/// where the proof can't be read; `UnknownConnection`; `WrongState` where the end isn't in `TryOpen`; `NoConsensus` where
+/// the end's client doesn't know the height; `BadProof` where the proof doesn't show the peer's end. `NoMemory` where a
+/// growth is refused. A refusal leaves the records.
+pub fn open_confirm(
+    alloc: Global,
+    records: &mut Records,
+    message: &ConnOpenConfirm,
+) -> Result<(), Refusal>
+    ensures { (chain chains : ℕ) → IsHandled (λ _. effect.None) (λ evidence host core. conn_open_confirm evidence core message.now) chain chains records.old result records.new }
+{
+    let proof = read_proof(alloc, message.proof.as_slice())?;
+    let judged = judge_confirm(alloc, records, message, &proof);
+    drop(proof);
+    records.set_connection(message.connection.clone()?, judged?)
+}
+
+// The checks in their order, and the end as it will stand.
+fn judge_confirm(
+    alloc: Global,
+    records: &Records,
+    message: &ConnOpenConfirm,
+    proof: &Proof,
+) -> Result<ConnectionEnd, Refusal>
+    requires { proof_of message.now.proof ≡ Some proof.now }
+    ensures { (chain chains : ℕ) → IsJudged (λ evidence host core. conn_open_confirm evidence core message.now) chain chains records.now (λ end. (effect.None, with_connection message.now.connection end (core_of records.now))) result }
+{
+    let Some(mine) = records.connection(&message.connection) else {
+        return Err(Refusal::UnknownConnection);
+    };
+    check_state(mine, ConnectionState::TryOpen)?;
+    let Some(peer) = &mine.peer_connection else {
+        return Err(Refusal::WrongState);
+    };
+    check_known(records, &mine.client, message.height)?;
+    check_opened(alloc, records, message, mine, peer, proof)?;
+    Ok(ConnectionEnd {
+        state: ConnectionState::Open,
+        client: mine.client.clone()?,
+        peer_client: mine.peer_client.clone()?,
+        peer_connection: Some(peer.clone()?),
+    })
+}
+
+// The peer opened the connection, or else `BadProof`; `NoMemory`.
+fn check_opened(
+    alloc: Global,
+    records: &Records,
+    message: &ConnOpenConfirm,
+    mine: &ConnectionEnd,
+    peer: &ConnectionId,
+    proof: &Proof,
+) -> Result<(), Refusal>
+    requires { knows (core_of records.now) mine.now.client message.now.height ≡ true }
+    ensures { IsShown records.now mine.now.client message.now.height (has_connection peer.now (opened_there message.now mine.now)) proof.now result }
+{
+    let theirs = ConnectionEnd {
+        state: ConnectionState::Open,
+        client: mine.peer_client.clone()?,
+        peer_client: mine.client.clone()?,
+        peer_connection: Some(message.connection.clone()?),
+    };
+    let client = &mine.client;
+    let height = message.height;
+    check_connection(alloc, records, client, height, peer, &theirs, proof)
+}

@@ -1,0 +1,106 @@
+//! Answering a connection that the peer began.
+
+ghost use Rattle.std.specs.Prelude.{◌≡◌, ◌-◌, ◌^◌, ◌<◌, ℕ, true, IfOk};
+ghost use Rattle.ibc_ids.specs.Paths.{nth_connection};
+ghost use Rattle.ibc_machine.specs.declared.reply.Effect.TheVariants as effect;
+ghost use Rattle.ibc_machine.specs.Connections.{conn_open_try, has_connection};
+ghost use Rattle.ibc_machine.specs.Records.{knows};
+ghost use Rattle.ibc_records.specs.Held.{core_of};
+ghost use Rattle.ibc_records.specs.Taking.{IsHandled};
+ghost use Rattle.ibc_client.specs.Judging.{IsJudged, IsShown};
+ghost use Rattle.ibc_connection.specs.Ends.{AreProofs, begun, begun_there, tried};
+
+use crate::checks::{add_connection, check_number, check_self_client};
+use crate::claims::{Proofs, check_client_state, check_connection, read_proofs};
+use ibc_client::{check_client, check_known};
+use ibc_ids::{ConnectionId, Refusal};
+use ibc_merkle::Proof;
+use ibc_records::Records;
+use ibc_wire::{ConnOpenTry, ConnectionEnd, ConnectionState};
+use std::alloc::Global;
+
+/// Answers a connection that the peer began (ICS 3, "connOpenTry"), on the chain numbered `chain`. Refused, by the first
+/// check that fails: `BadMessage` where a proof can't be read; `UnknownClient`; `WrongSelfClient` where the claimed client
+/// of the peer doesn't track this chain, or knows a height that isn't committed here; `NumberFull` where the number of the
+/// next connection is 2^64 - 1; `NoConsensus` where the client doesn't know the height; `BadProof` where a proof doesn't show
+/// the peer's end, or the claimed client. `NoMemory` where a growth is refused. A refusal leaves the records.
+pub fn open_try(
+    alloc: Global,
+    records: &mut Records,
+    chain: u8,
+    message: &ConnOpenTry,
+) -> Result<ConnectionId, Refusal>
+    ensures answer { (chains : ℕ) → IsHandled effect.Connection (λ evidence host core. conn_open_try evidence host core message.now) chain chains records.old result records.new }
+    ensures named { IfOk result (λ id. id ≡ nth_connection records.old.next_connection) }
+{
+    let proofs = read_proofs(alloc, &message.proof_end, &message.proof_client)?;
+    let checked = check_try(alloc, records, chain, message, &proofs);
+    drop(proofs);
+    checked?;
+    let mine = ConnectionEnd {
+        state: ConnectionState::TryOpen,
+        client: message.client.clone()?,
+        peer_client: message.peer_client.clone()?,
+        peer_connection: Some(message.peer_connection.clone()?),
+    };
+    add_connection(alloc, records, mine)
+}
+
+// The checks, in their order, once the proofs are read.
+fn check_try(
+    alloc: Global,
+    records: &Records,
+    chain: u8,
+    message: &ConnOpenTry,
+    proofs: &Proofs,
+) -> Result<(), Refusal>
+    requires { AreProofs message.now.proof_end message.now.proof_client proofs.now }
+    ensures judged { (chains : ℕ) → IsJudged (λ evidence host core. conn_open_try evidence host core message.now) chain chains records.now (λ _. begun (tried message.now) (core_of records.now)) result }
+    ensures free { IfOk result (λ _. records.now.next_connection < 2 ^ 64 - 1) }
+{
+    let client = &message.client;
+    let height = message.height;
+    check_client(records, client)?;
+    check_self_client(records, chain, message.claim)?;
+    check_number(records)?;
+    check_known(records, client, height)?;
+    check_begun(alloc, records, message, &proofs.end)?;
+    check_client_state(
+        alloc,
+        records,
+        client,
+        height,
+        &message.peer_client,
+        message.claim,
+        &proofs.client,
+    )
+}
+
+// The peer began the connection, or else `BadProof`; `NoMemory`.
+fn check_begun(
+    alloc: Global,
+    records: &Records,
+    message: &ConnOpenTry,
+    proof: &Proof,
+) -> Result<(), Refusal>
+    requires { knows (core_of records.now) message.now.client message.now.height ≡ true }
+    ensures { IsShown records.now message.now.client message.now.height (has_connection message.now.peer_connection (begun_there message.now)) proof.now result }
+{
+    let theirs = ConnectionEnd {
+        state: ConnectionState::Init,
+        client: message.peer_client.clone()?,
+        peer_client: message.client.clone()?,
+        peer_connection: None,
+    };
+    let client = &message.client;
+    let height = message.height;
+    check_connection(
+        alloc,
+        records,
+        client,
+        height,
+        &message.peer_connection,
+        &theirs,
+        proof,
+    )
+}
