@@ -1,54 +1,38 @@
--- A ledger with the entry of a message of clients is a ledger.
-use Rattle.std.proofs.Common.{◌≡◌, ℕ, ◌^◌, ◌<◌, ◌≤◌, true, ◌++◌, ◌∷◌, [], length, map, refl, sym, ap, ◌∙◌, subst, None, Option, inr, append-nil, lt-ltb, eq-eqb}
-use Rattle.std.specs.Prelude.{IsTrue, IfSome, nat_lt}
-use Rattle.std.specs.List.{list_all}
+-- A ledger with the entry of a message is a ledger.
+use Rattle.std.proofs.Common.{◌≡◌, ◌⊎◌, ℕ, ◌≤◌, Bool, true, false, ◌++◌, ◌∷◌, [], List, length, map, refl, sym, ap, ◌∙◌, subst, Some, None, Option, is_some, inl, inr, ⊎_elim, arith, length-append}
+use Rattle.std.specs.Prelude.{IfSome}
 use mathlib.Core.List.{IsPrefix}
-use Rattle.ibc_ids.specs.Names.{is_client}
-use Rattle.ibc_ids.specs.Publications.{published_by}
+use Rattle.ibc_ids.specs.Publications.{published_by, height_of}
+use Rattle.ibc_ids.specs.declared.publication.Publication.{Publication}
 use Rattle.ibc_ids.specs.declared.refusal.Refusal.TheVariants.{NoMemory}
+use Rattle.ibc_wire.specs.declared.messages.Message.{Message}
 use Rattle.ibc_wire.specs.declared.messages.Message.TheVariants as message
-use Rattle.ibc_wire.specs.declared.messages.CreateClient.{CreateClient}
 use Rattle.ibc_wire.specs.declared.messages.UpdateClient.{UpdateClient}
 use Rattle.ibc_machine.specs.declared.event.Event.{Event}
 use Rattle.ibc_machine.specs.declared.event.Event.TheVariants as event
-use Rattle.ibc_machine.specs.declared.reply.Effect.TheVariants as effect
 use Rattle.ibc_machine.specs.declared.reply.Reply.{Reply}
 use Rattle.ibc_machine.specs.declared.reply.Reply.TheVariants as reply
 use Rattle.ibc_machine.specs.declared.entry.Reading.{Reading}
-use Rattle.ibc_machine.specs.Clients.{create_client}
-use Rattle.ibc_machine.specs.Handlers.{host_of}
-use Rattle.ibc_machine.specs.Replay.{StampedEntry}
-use Rattle.ibc_machine.specs.Ledgers.{state_of, is_typed}
+use Rattle.ibc_machine.specs.Clients.{create_client, update_client}
+use Rattle.ibc_machine.specs.Connections.{conn_open_init, conn_open_try, conn_open_ack, conn_open_confirm}
+use Rattle.ibc_machine.specs.Handlers.{handle}
+use Rattle.ibc_machine.specs.Replay.{StampedEntry, proves}
+use Rattle.ibc_machine.specs.Ledgers.{state_of, is_typed, reading_fits}
 use Rattle.ibc_records.specs.Held.{HeldRecords, core_of}
-use Rattle.ibc_root_table.specs.Passes.{SamePass}
+use Rattle.ibc_root_table.specs.declared.shape.Shape.{Shape}
+use Rattle.ibc_root_table.specs.Passes.{Sight, SamePass}
 use Rattle.ibc_ledger.specs.declared.entry.StampedEntry.{StampedEntry as KeptEntry}
 use Rattle.ibc_ledger.specs.declared.ledger.Ledger.TheInside.{Inside}
 use Rattle.ibc_ledger.specs.Growing.{with_entry}
-use Rattle.ibc_ledger.specs.Entries.{entry_of}
+use Rattle.ibc_ledger.specs.Entries.{entry_of, stamp_if, Reads}
 use Rattle.ibc_ledger.specs.Standing.{Stands}
 use Rattle.ibc_ledger.specs.Held.{HeldLedger, plain_entry}
 use Rattle.ibc_ledger.specs.Inside.{genesis_of, ledger_of, held_of, IsHeld}
 use Rattle.ibc_ledger.specs.Adding.{AddsOrNot}
-use Rattle.ibc_ledger.specs.Answering.{IsCreatedAs}
-use Rattle.ibc_ledger.proofs.ClientMessages.{stands_created, stands_uncreated}
+use Rattle.ibc_records.specs.Taking.{Handler}
+use Rattle.ibc_ledger.specs.Answering.{Answered, Before, IsTakenAs, IsUpdatedAs, IsUpdateAnswer, IsAnswerTo}
+use Rattle.ibc_ledger.proofs.AnsweredMessages.{IsHandledBy, stands_taken, taken_has_memory, stands_updated}
 use Rattle.ibc_ledger.proofs.HeldLedgers.{IsStepped, longer_history}
-
--- ---- what messages of clients are by their types
-
-pub typed_creation : (k : ℕ) (m : CreateClient) → m.chain < 256 → is_typed (event.Message k (message.CreateClient m)) ≡ true
-typed_creation k m low = let e = lt-ltb m.chain 256 low in rw e
-
-pub typed_update : (k : ℕ) (m : UpdateClient) → is_client m.client ≡ true → m.header.chain < 256 → m.header.height < 2 ^ 64 → m.header.time < 2 ^ 64 → length m.header.root ≡ 32
-    → IsTrue (list_all (λ c. nat_lt c 256) m.header.root) → is_typed (event.Message k (message.UpdateClient m)) ≡ true
-typed_update k m named chain height time size bytes =
-    let a = lt-ltb m.header.chain 256 chain in
-    let b = lt-ltb m.header.height (2 ^ 64) height in
-    let c = lt-ltb m.header.time (2 ^ 64) time in
-    let d = eq-eqb (length m.header.root) 32 size in
-    let e = bytes in
-    rw (named, a, b, c, d, e)
-
--- ---- the entry is added
 
 -- an entry that a ledger adds, as its history keeps it
 module _ (l : Inside) (held : IsHeld l) (new : Inside) (stepped : IsStepped l new) (same : SamePass l.pass new.pass) (prefix : IsPrefix l.pass.seen new.pass.seen) (kept : KeptEntry)
@@ -67,33 +51,81 @@ module _ (l : Inside) (held : IsHeld l) (new : Inside) (stepped : IsStepped l ne
       subst (λ (h : HeldLedger). AddsOrNot h.ledger (ev h.ledger.chain) given (ledger_of new)) view
       (inr (plenty, (entry_of (ev l.chain) given reading stamp, prefix.0, refl, refl, longer_ledger (entry_of (ev l.chain) given reading stamp) is, late)))
 
--- ---- a client is made, or not
+-- ---- the table of messages
 
-module _ (l : Inside) (held : IsHeld l) where
-  same_seen : published_by l.chain (l.pass.seen ++ []) ≡ published_by l.chain l.pass.seen
-  same_seen = ap (published_by l.chain) (append-nil l.pass.seen)
+-- a message is a handler's, which reads nothing, or tells a client of a height
+abbrev IsOfAKind : Message → Before → Answered → HeldRecords → Sight → Type 0
+IsOfAKind m old given new pass =
+    ((handler : Handler) × IsHandledBy m handler × IsTakenAs handler old.chain old.chains old.records given new)
+    ⊎ ((update : UpdateClient) × (m ≡ message.UpdateClient update) × IsUpdateAnswer old.table update old.records given new pass)
 
-  abbrev CreatedAs : CreateClient → HeldRecords → Reply → ℕ → Type 0
-  CreatedAs m new r chains = (height time : ℕ) → IsCreatedAs (create_client (record { chain = l.chain; chains = chains; height = height; time = time }) (core_of l.records) m) m l.records r new
+kind : (m : Message) (old : Before) (given : Answered) (new : HeldRecords) (pass : Sight) → IsAnswerTo m old given new pass → IsOfAKind m old given new pass
+unfolding handle
+kind (message.CreateClient m) old given new pass answer =
+    inl ((λ evidence host core. create_client host core m), record { steps = λ evidence host records. refl; looks = λ state k. refl; tells = λ known. refl }, answer.0)
+kind (message.UpdateClient m) old given new pass answer = inr (m, refl, answer)
+kind (message.ConnOpenInit m) old given new pass answer =
+    inl ((λ evidence host core. conn_open_init core m), record { steps = λ evidence host records. refl; looks = λ state k. refl; tells = λ known. refl }, answer.0)
+kind (message.ConnOpenTry m) old given new pass answer =
+    inl ((λ evidence host core. conn_open_try evidence host core m), record { steps = λ evidence host records. refl; looks = λ state k. refl; tells = λ known. refl }, answer.0)
+kind (message.ConnOpenAck m) old given new pass answer =
+    inl ((λ evidence host core. conn_open_ack evidence host core m), record { steps = λ evidence host records. refl; looks = λ state k. refl; tells = λ known. refl }, answer.0)
+kind (message.ConnOpenConfirm m) old given new pass answer =
+    inl ((λ evidence host core. conn_open_confirm evidence core m), record { steps = λ evidence host records. refl; looks = λ state k. refl; tells = λ known. refl }, answer.0)
+kind _ old given new pass answer = absurd answer
 
-  by_reply : (m : CreateClient) (new : HeldRecords) (r : Reply) → m.chain < 256 → CreatedAs m new r (length (genesis_of l).chains)
-      → Stands (with_entry (ledger_of l) (entry_of (event.Message l.chain (message.CreateClient m)) r None None) []) new l.balances
-  by_reply m new (reply.Ok (effect.Client id)) low given =
-      let host = host_of (length (genesis_of l).chains) l.chain (state_of (ledger_of l)).chain in
-      stands_created (ledger_of l) l.records l.balances held.stands [] same_seen m new (typed_creation l.chain m low) id (given host.height host.time)
-  by_reply m new (reply.No r) low given =
-      let host = host_of (length (genesis_of l).chains) l.chain (state_of (ledger_of l)).chain in
-      let w = given host.height host.time in
-      stands_uncreated (ledger_of l) l.records l.balances held.stands [] same_seen m new (typed_creation l.chain m low) r w.0 w.1
-  by_reply m new (reply.Ok _) low given = absurd (given 0 0)
+-- ---- a message that was answered
 
-  pub created_stands : (m : CreateClient) (new : HeldRecords) (r : Reply) → m.chain < 256 → CreatedAs m new r l.chains
-      → Stands (with_entry (ledger_of l) (entry_of (event.Message l.chain (message.CreateClient m)) r None None) []) new l.balances
-  created_stands m new r low given = by_reply m new r low (subst (CreatedAs m new r) held.chains given)
+abbrev pub before_in : Inside → Before
+before_in l = record { chain = l.chain; chains = l.chains; table = l.table.value; records = l.records; pass = l.pass }
 
-  pub creation_has_memory : (m : CreateClient) (new : HeldRecords) (r : Reply) → CreatedAs m new r l.chains → r ≡ reply.No NoMemory → ⊥
-  creation_has_memory m new (reply.No r) given is = (given 0 0).0 (refusal_in is)
-    where
-      refusal_in : reply.No r ≡ reply.No NoMemory → r ≡ NoMemory
-      refusal_in e = cc
-  creation_has_memory m new (reply.Ok x) given is = absurd cc
+module _ (l : Inside) (held : IsHeld l) (new : HeldRecords) (pass : Sight) (prefix : IsPrefix l.pass.seen pass.seen) (own : published_by l.chain pass.seen ≡ published_by l.chain l.pass.seen) where
+  others : published_by l.chain (l.pass.seen ++ prefix.0) ≡ published_by l.chain l.pass.seen
+  others = ap (published_by l.chain) prefix.1 ∙ own
+
+  -- what was read fits what was seen by then
+  fitting : (m : UpdateClient) (reading : Option Reading) → IfSome reading (λ r. reading_fits l.table.value.shape.window (height_of m.header.chain pass.seen) m.header.height r ≡ true)
+      → Reads (genesis_of l).window (l.pass.seen ++ prefix.0) (event.Message l.chain (message.UpdateClient m)) reading
+  fitting m None fits = tt
+  fitting m (Some r) fits = (m.header, refl, subst (λ (z : Shape × List Publication). reading_fits z.0.window (height_of m.header.chain z.1) m.header.height r ≡ true) (λ i. (held.shape i, (sym prefix.1) i)) fits)
+
+  told : (m : UpdateClient) (given : Answered) → IsUpdateAnswer l.table.value m l.records given new pass
+      → IsUpdatedAs (update_client (proves (l.pass.seen ++ prefix.0) given.1 (state_of (ledger_of l))) (core_of l.records) m) m l.records given.0 new
+  told m given answer =
+      subst (λ seen. IsUpdatedAs (update_client (proves seen given.1 (state_of (ledger_of l))) (core_of l.records) m) m l.records given.0 new) (sym prefix.1) (answer.updated (state_of (ledger_of l)))
+
+  update_has_memory : (m : UpdateClient) (given : Answered) → IsUpdateAnswer l.table.value m l.records given new pass → given.0 ≡ reply.No NoMemory → ⊥
+  update_has_memory m given answer is =
+      (subst (λ r. IsUpdatedAs (update_client (proves (l.pass.seen ++ prefix.0) given.1 (state_of (ledger_of l))) (core_of l.records) m) m l.records r new) is (told m given answer)).0 refl
+
+  abbrev StandsWith : Message → Answered → Type 0
+  StandsWith m given = Stands (with_entry (ledger_of l) (entry_of (event.Message l.chain m) given.0 given.1 (stamp_if (is_some given.1) (l.pass.seen ++ prefix.0))) prefix.0) new l.balances
+
+  abbrev IsTyped : Message → Type 0
+  IsTyped m = is_typed (event.Message l.chain m) ≡ true
+
+  of_update : (m : UpdateClient) (given : Answered) → IsUpdateAnswer l.table.value m l.records given new pass → IsTyped (message.UpdateClient m) → StandsWith (message.UpdateClient m) given
+  of_update m given answer typed =
+      stands_updated (ledger_of l) l.records l.balances held.stands prefix.0 others m new given.1 typed answer.looks (fitting m given.1 answer.fits) given.0 (told m given answer)
+
+  module _ (m : Message) (given : Answered) (answer : IsAnswerTo m (before_in l) given new pass) where
+    pub answered_stands : IsTyped m → StandsWith m given
+    answered_stands typed = ⊎_elim
+        (λ (w : (handler : Handler) × IsHandledBy m handler × IsTakenAs handler l.chain l.chains l.records given new).
+        stands_taken (ledger_of l) l.records l.balances held.stands prefix.0 others m w.0 w.1 l.chains held.chains given new w.2 typed)
+        (λ (w : (update : UpdateClient) × (m ≡ message.UpdateClient update) × IsUpdateAnswer l.table.value update l.records given new pass).
+        subst (λ m. IsTyped m → StandsWith m given) (sym w.1) (of_update w.0 given w.2) typed)
+        (kind m (before_in l) given new pass answer)
+
+    pub answer_has_memory : given.0 ≡ reply.No NoMemory → ⊥
+    answer_has_memory = ⊎_elim
+        (λ (w : (handler : Handler) × IsHandledBy m handler × IsTakenAs handler l.chain l.chains l.records given new).
+        taken_has_memory (ledger_of l) l.records l.balances held.stands prefix.0 others m w.0 w.1 l.chains held.chains given new w.2)
+        (λ (w : (update : UpdateClient) × (m ≡ message.UpdateClient update) × IsUpdateAnswer l.table.value update l.records given new pass).
+        update_has_memory w.0 given w.2)
+        (kind m (before_in l) given new pass answer)
+
+-- a stamp counts all that was seen before
+pub late_stamp : (b : Bool) (seen more : List Publication) → IfSome (stamp_if b (seen ++ more)) (λ n. length seen ≤ n)
+late_stamp true seen more = let e = length-append seen more in omega arith
+late_stamp false seen more = tt

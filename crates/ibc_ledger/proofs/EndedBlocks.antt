@@ -1,5 +1,5 @@
 -- A ledger with what it holds, in the beginning and after the end of a block.
-use Rattle.std.proofs.Common.{◌≡◌, refl, ℕ, ◌-◌, ◌^◌, ◌<◌, ◌≤◌, true, false, ltb, leb, List, [], ◌∷◌, ◌++◌, length, map, sym, ap, ◌∙◌, Some, None, option_map, option_and_then, unwrap_or, Ok, Err, subst, le-ltb, lt-ltb, le-leb}
+use Rattle.std.proofs.Common.{◌≡◌, refl, ℕ, ◌-◌, ◌^◌, ◌<◌, ◌≤◌, true, false, ltb, leb, List, [], ◌∷◌, ◌++◌, length, map, sym, ap, ◌∙◌, Some, None, option_map, option_and_then, unwrap_or, Ok, Err, subst, arith, le-ltb, lt-ltb, le-leb}
 use Rattle.std.specs.Prelude.{slice_get}
 use Rattle.std.specs.List.{AllByRecursion}
 use Rattle.std.proofs.lemmas.Bool.{lt-leb}
@@ -31,7 +31,9 @@ use Rattle.ibc_records.specs.HeldClients.{HeldClient}
 use Rattle.ibc_records.specs.Held.{HeldRecords, consensus_in, IsNew}
 use Rattle.ibc_ledger.specs.Growing.{with_entry}
 use Rattle.ibc_ledger.specs.Entries.{entry_of, working_block}
+use Rattle.ibc_ledger.specs.Proving.{passed, kept_of}
 use Rattle.ibc_ledger.specs.Standing.{IsStateOf, Stands}
+use Rattle.ibc_ledger.proofs.Keeping.{drop_none}
 use Rattle.ibc_ledger.proofs.Growing.{ledgers_go_on}
 use Rattle.ibc_ledger.proofs.Entries.{refused_block_next, ended_block_next, block_answer-by}
 use Rattle.ibc_ledger.proofs.Holding.{committed_holds}
@@ -116,6 +118,11 @@ module _ (genesis : GenesisState) (k : ℕ) (start : ChainState) (there : slice_
       window_is = ap (λ (s : HeldStore). s.window) new.store;
       balances_are = refl;
       known = λ client height known e. absurd (nothing client height known e);
+      keeps = record {
+        working = ap (λ (s : HeldStore). s.pairs) new.store;
+        gone = ap (λ (s : HeldStore). s.gone) new.store ∙ omega arith;
+        kept = ap (λ (s : HeldStore). s.kept) new.store ∙ ap (map kept_of) (sym (drop_none (passed genesis.window [])));
+      };
     });
   }
     where

@@ -14,7 +14,7 @@ use Rattle.ibc_ledger.specs.Growing.{with_entry}
 use Rattle.ibc_ledger.specs.Standing.{Stands}
 use Rattle.ibc_ledger.specs.Held.{plain_entry}
 use Rattle.ibc_ledger.specs.Inside.{genesis_of, ledger_of, IsHeld}
-use Rattle.ibc_ledger.proofs.ClientMessages.{stands_unchanged}
+use Rattle.ibc_ledger.proofs.AnsweredMessages.{stands_unchanged}
 
 -- a step changes the records, the pass and the history, and nothing else
 abbrev pub IsStepped : Inside → Inside → Type 0

@@ -1,24 +1,29 @@
 -- What is held stays the state of the ledger: through messages of clients, and through ends of blocks.
-use Rattle.std.proofs.Common.{◌≡◌, ℕ, ◌+◌, ◌-◌, ◌^◌, ◌<◌, cond, is_eq, Ordering, Less, Equal, Greater, [], ◌∷◌, ◌++◌, length, refl, sym, ap, ◌∙◌, Some, option_and_then, option_map, arith, length-append, length-drop}
+use Rattle.std.proofs.Common.{◌≡◌, ℕ, ◌+◌, ◌-◌, ◌^◌, ◌<◌, cond, is_eq, Ordering, Less, Equal, Greater, [], ◌∷◌, ◌++◌, length, refl, sym, ap, ◌∙◌, subst, Some, option_and_then, option_map, arith, length-append, length-drop}
 use Rattle.std.specs.Ordering.{nat_cmp, ordering_then}
 use Rattle.std.proofs.lemmas.Cmp.{nat_cmp_total, then_total, on_total}
 use Rattle.std.specs.Cmp.{IsTotalOrder}
 use Rattle.ibc_ids.specs.Texts.{Text, text_cmp}
 use Rattle.ibc_ids.specs.Maps.{at}
 use Rattle.ibc_ids.proofs.Texts.{text_cmp_total, text_tied}
-use Rattle.ibc_wire.specs.declared.messages.CreateClient.{CreateClient}
 use Rattle.ibc_wire.specs.declared.messages.UpdateClient.{UpdateClient}
+use Rattle.ibc_wire.specs.declared.messages.Message.{Message}
 use Rattle.ibc_wire.specs.declared.messages.Message.TheVariants as message
+use Rattle.ibc_machine.specs.Records.{Core}
 use Rattle.ibc_machine.specs.Bank.{Balances}
-use Rattle.ibc_machine.specs.Replay.{LedgerState, consensus_cmp, consensus_at}
+use Rattle.ibc_machine.specs.Replay.{LedgerState, consensus_cmp, consensus_at, with_consensus}
 use Rattle.ibc_machine.proofs.Images.{at-with}
 use Rattle.ibc_path_store.specs.Held.{HeldStore, height_of, committed}
 use Rattle.ibc_records.specs.declared.client.ConsensusState.{ConsensusState}
-use Rattle.ibc_records.specs.HeldClients.{HeldClient, new_held, with_height}
-use Rattle.ibc_records.specs.Held.{HeldRecords, core_of, consensus_in, IsUnchanged, AddsClient, UpdatesClient}
+use Rattle.ibc_records.specs.HeldClients.{HeldClient, with_height}
+use Rattle.ibc_records.specs.Held.{HeldRecords, core_of, consensus_in, IsUnchanged, UpdatesClient}
+use Rattle.ibc_records.specs.Knowledge.{plain_consensus}
+use Rattle.ibc_records.specs.Taking.{IsWritten}
 use Rattle.ibc_client.specs.Answers.{consensus_of}
 use Rattle.ibc_ledger.specs.Entries.{working_block}
-use Rattle.ibc_ledger.specs.Standing.{IsStateOf, plain_consensus}
+use Rattle.ibc_ledger.specs.Standing.{IsStateOf}
+use Rattle.ibc_ledger.specs.Proving.{KeepsBlocks}
+use Rattle.ibc_ledger.proofs.Keeping.{keeps_stored, keeps_unchanged, keeps_committed}
 use Rattle.ibc_ledger.proofs.Standing.{with_core}
 
 consensus_cmp_total : IsTotalOrder consensus_cmp
@@ -34,27 +39,20 @@ module _ (window : ℕ) (state : LedgerState) (old : HeldRecords) (balances : Ba
     window_is = ap (λ (h : HeldRecords). h.store.window) same ∙ holds.window_is;
     balances_are = holds.balances_are;
     known = λ client height known e. holds.known client height known (sym (ap (λ (h : HeldRecords). consensus_in h client height) same) ∙ e);
+    keeps = keeps_unchanged window state.chain old new holds.keeps same;
   }
 
-  -- a new client knows nothing
-  pub created_holds : (m : CreateClient) (id : Text) (new : HeldRecords) → AddsClient old id m.chain new → IsStateOf window (with_core (message.CreateClient m) state (core_of new)) new balances
-  created_holds m id new adds = record {
-    core = refl;
-    time = ap (λ (s : HeldStore). s.time) adds.stored.store ∙ holds.time;
-    height = ap (λ (s : HeldStore). height_of s) adds.stored.store ∙ holds.height;
-    window_is = ap (λ (s : HeldStore). s.window) adds.stored.store ∙ holds.window_is;
+  -- the records were written, by a message that tells no client of a height
+  pub written_holds : (m : Message) (core : Core) (new : HeldRecords) → IsWritten core old new → with_consensus m state.consensus ≡ state.consensus → IsStateOf window (with_core m state core) new balances
+  written_holds m core new written same = record {
+    core = written.core_is;
+    time = ap (λ (s : HeldStore). s.time) written.stored.store ∙ holds.time;
+    height = ap (λ (s : HeldStore). height_of s) written.stored.store ∙ holds.height;
+    window_is = ap (λ (s : HeldStore). s.window) written.stored.store ∙ holds.window_is;
     balances_are = holds.balances_are;
-    known = λ client height known e.
-        by_client client height known (text_cmp client id)
-        (sym (ap (option_and_then (λ (c : HeldClient). at nat_cmp height c.known)) (ap (λ (h : HeldRecords). at text_cmp client h.clients) adds.records ∙ at-with text_cmp text_cmp_total client id (new_held m.chain) old.clients)) ∙ e);
+    known = λ client height known e. ap (λ consensus. at consensus_cmp (client, height) consensus) same ∙ holds.known client height known (written.knows client height known e);
+    keeps = keeps_stored window state.chain old new core holds.keeps written.stored written.core_is;
   }
-    where
-      by_client : (client : Text) (height : ℕ) (known : ConsensusState) (o : Ordering)
-          → option_and_then (λ (c : HeldClient). at nat_cmp height c.known) (cond (is_eq o) (Some (new_held m.chain)) (at text_cmp client old.clients)) ≡ Some known
-          → consensus_at state client height ≡ Some (plain_consensus known)
-      by_client client height known Less e = holds.known client height known e
-      by_client client height known Equal e = absurd (cc)
-      by_client client height known Greater e = holds.known client height known e
 
   -- a client that was told of a header knows what the ledger's state says of it
   module _ (m : UpdateClient) (new : HeldRecords) (updates : UpdatesClient old m.client m.header.height (consensus_of m.header) new) where
@@ -85,6 +83,7 @@ module _ (window : ℕ) (state : LedgerState) (old : HeldRecords) (balances : Ba
           at-with consensus_cmp consensus_cmp_total (client, height) (m.client, m.header.height) (plain_consensus (consensus_of m.header)) state.consensus
           ∙ by_client client height known (text_cmp client m.client) refl
           (sym (ap (option_and_then (λ (c : HeldClient). at nat_cmp height c.known)) (ap (λ (h : HeldRecords). at text_cmp client h.clients) updates.records ∙ at-with text_cmp text_cmp_total client m.client (with_height m.header.height (consensus_of m.header) updates.client) old.clients)) ∙ e);
+      keeps = keeps_stored window state.chain old new (core_of new) holds.keeps updates.stored refl;
     }
 
   -- the working block joins the committed ones
@@ -97,6 +96,8 @@ module _ (window : ℕ) (state : LedgerState) (old : HeldRecords) (balances : Ba
     window_is = ap (λ (h : HeldRecords). h.store.window) is ∙ holds.window_is;
     balances_are = holds.balances_are;
     known = λ client height known e. holds.known client height known (sym (ap (λ (h : HeldRecords). consensus_in h client height) is) ∙ e);
+    keeps = subst (λ (h : HeldRecords). KeepsBlocks window (record { records = state.chain.records; time = next_time; committed = state.chain.committed ++ working_block state.chain ∷ [] }) h.store) (sym is)
+        (keeps_committed window state.chain old.store next_time some room holds.window_is holds.time holds.height holds.keeps);
   }
     where
       one_more : height_of (committed old.store next_time) ≡ length (state.chain.committed ++ working_block state.chain ∷ [])

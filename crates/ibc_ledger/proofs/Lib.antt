@@ -3,15 +3,15 @@ pub mod OwnEntries
 pub mod Growing
 pub mod Entries
 pub mod Standing
+pub mod Keeping
 pub mod Holding
-pub mod ClientMessages
+pub mod AnsweredMessages
 pub mod EndedBlocks
 pub mod HeldLedgers
 pub mod Replies
 pub mod Totals
 pub mod StartingBalances
 pub mod Applying
-pub mod Updating
 pub mod Windows
 pub mod Ending
 pub mod NewLedgers

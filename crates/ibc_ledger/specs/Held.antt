@@ -30,8 +30,12 @@ shape_of genesis = record { chains = length genesis.chains; window = genesis.win
 abbrev pub plain_holding : Account × Text × ℕ → (Text × Text) × ℕ
 plain_holding (account, denom, amount) = ((account_text account, denom), amount)
 
--- the messages of clients (ICS 2)
-abbrev pub is_of_clients : Message → Bool
-is_of_clients (message.CreateClient m) = true
-is_of_clients (message.UpdateClient m) = true
-is_of_clients _ = false
+-- a ledger has a handler for the message: those of clients and of connections (ICS 2, ICS 3)
+abbrev pub has_handler : Message → Bool
+has_handler (message.CreateClient m) = true
+has_handler (message.UpdateClient m) = true
+has_handler (message.ConnOpenInit m) = true
+has_handler (message.ConnOpenTry m) = true
+has_handler (message.ConnOpenAck m) = true
+has_handler (message.ConnOpenConfirm m) = true
+has_handler _ = false

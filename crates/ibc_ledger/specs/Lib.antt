@@ -1,5 +1,6 @@
 pub mod Growing
 pub mod Entries
+pub mod Proving
 pub mod Standing
 pub mod Held
 pub mod Inside

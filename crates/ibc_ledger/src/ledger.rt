@@ -1,22 +1,26 @@
 //! A ledger: a chain with its history, its records and its pass of the table.
 
-ghost use Rattle.std.specs.Prelude.{◌≡◌, ◌<◌, ◌++◌, ℕ, [], Some, length, map, option_map, IfOk, IfErr, IsTrue};
+ghost use Rattle.std.specs.Prelude.{◌≡◌, ◌<◌, ◌⊎◌, ◌↔◌, ◌++◌, ℕ, [], Some, length, map, option_map, IfOk, IfErr, IsNone, IsTrue};
+ghost use Rattle.std.specs.Option.{IsSomeAnd};
 ghost use mathlib.Core.List.{IsPrefix};
 ghost use Rattle.ibc_ids.specs.Texts.{text_cmp};
 ghost use Rattle.ibc_ids.specs.Maps.{at};
 ghost use Rattle.ibc_ids.specs.Paths.{path};
 ghost use Rattle.ibc_ids.specs.Publications.{height_of};
-ghost use Rattle.ibc_ids.specs.declared.refusal.Refusal.TheVariants.{NoMemory};
+ghost use Rattle.ibc_ids.specs.declared.refusal.Refusal.TheVariants.{NoConsensus, NoMemory};
+ghost use Rattle.ibc_merkle.specs.Written.{written};
 ghost use Rattle.ibc_machine.specs.Genesis.{genesis_state, is_allowed};
 ghost use Rattle.ibc_machine.specs.Image.{image};
 ghost use Rattle.ibc_machine.specs.Ledgers.{IsLedger, SeesMore, state_of};
 ghost use Rattle.ibc_root_table.specs.Passes.{unused_pass};
 ghost use Rattle.ibc_ledger.specs.Held.{plain_entry, plain_holding, shape_of};
+ghost use Rattle.ibc_ledger.specs.Proving.{provable};
 
 use crate::StampedEntry;
 use crate::balances::Balances;
 use ibc_ids::{Account, Bytes, Denom, Key, Refusal};
 use ibc_machine::Genesis;
+use ibc_merkle::Proof;
 use ibc_records::Records;
 use ibc_root_table::{Pass, RootTable};
 use std::alloc::Global;
@@ -117,6 +121,17 @@ impl Ledger {
             Some(value) => Ok(Some(Bytes::copy_of(self.alloc, value)?)),
             None => Ok(None),
         }
+    }
+
+    /// The proof of what a committed height has at a key: of its presence where it is there, and of its absence where not
+    /// (ICS 23, "CommitmentProof"). `NoConsensus` exactly where the height isn't among the last ones that were committed, as
+    /// many as the window of the genesis says; `NoMemory` where a growth is refused.
+    pub fn query_proof(&self, height: u64, key: &Key) -> Result<Proof, Refusal>
+        ensures ok { IfOk result (λ proof. IsSomeAnd (provable self.now.ledger.genesis.window (state_of self.now.ledger).chain.committed height) (λ block. proof ≡ written (image block.records.core) (path key.now))) }
+        ensures unknown { (result ≡ Err NoConsensus) ↔ IsNone (provable self.now.ledger.genesis.window (state_of self.now.ledger).chain.committed height) }
+        ensures err { IfErr result (λ refusal. (refusal ≡ NoConsensus) ⊎ (refusal ≡ NoMemory)) }
+    {
+        self.records.prove(height, key)
     }
 
     /// Who holds how much of what in the working block: the amounts above 0, in the byte order of the accounts' texts and

@@ -3,12 +3,15 @@
 
 mod balances;
 mod blocks;
+mod connections;
 mod entry;
 mod genesis;
 mod laws;
 mod ledger;
 mod messages;
+mod outcome;
 mod refusals;
+mod typed;
 
 pub use entry::StampedEntry;
 pub use genesis::is_allowed;

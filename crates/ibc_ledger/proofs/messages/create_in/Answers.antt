@@ -1,22 +1,41 @@
-use Rattle.std.proofs.Common.{Err, refl, sym, ap, ◌∙◌}
-use Rattle.ibc_ids.specs.Paths.{nth_client}
-use Rattle.ibc_ledger.proofs.Replies.{created, uncreated, creating_unchanged}
-use Rattle.ibc_ledger.proofs.messages.create_in.Goals.{in-Ok-create, in-Err+in-Ok-with_memory}
+use Rattle.std.proofs.Common.{refl, sym, subst, Result}
+use Rattle.ibc_ids.specs.Texts.{Text}
+use Rattle.ibc_ids.specs.declared.refusal.Refusal.{Refusal}
+use Rattle.ibc_machine.specs.declared.reply.Effect.{Effect}
+use Rattle.ibc_machine.specs.declared.reply.Effect.TheVariants as effect
+use Rattle.ibc_machine.specs.Clients.{create_client}
+use Rattle.ibc_records.specs.Held.{core_of}
+use Rattle.ibc_client.proofs.Taking.{created_taken}
+use Rattle.ibc_records.specs.Taking.{Handler, host_with}
+use Rattle.ibc_ledger.proofs.Replies.{HaveSameEffect, same_outcome, same_refusal, outcome_taken, outcome_untaken}
+use Rattle.ibc_ledger.proofs.messages.create_in.Goals.{in-Ok-create, in-Err}
 use Rattle.ibc_ledger.proofs.messages.create_in.Goals as goal
 
-pub returns-in_default-with_memory-clause-err : goal.returns-in_default-with_memory-clause-err
-returns-in_default-with_memory-clause-err c =
-    creating_unchanged c.args.message.now c.args.records.now c.create.new.records _ c.create.result c.create.ensures.answer _ c.in-Err.is
-
-pub returns-clause-ok : goal.returns-clause-ok
-returns-clause-ok c = elim c.match-create.branch [
+-- what is told and kept is what was made
+same : (c : goal.Joined-drop) → HaveSameEffect (λ (effects : Effect × Effect). effects.0) c.match-create.of_effect effect.Client c.create.result
+same c = elim c.match-create.branch [
   | in-Ok-create w ↦
-      let p = created c.args.message.now c.args.records.now c.create.new.records _ c.create.result c.create.ensures.answer c.match-create.reply w.in-Ok-create.id c.in-Ok.named w.reply-is
-      (w.in-Ok-create.ensures.named ∙ sym (c.in-Ok.ensures.ok ∙ ap nth_client c.next_client.ensures)) w.in-Ok-create.is in
-      (p.0, (refl, p.1))
-  | in-Err+in-Ok-with_memory w ↦
-      let other = w.in-Ok-with_memory.ensures.ok in
-      let p = uncreated c.args.message.now c.args.records.now c.create.new.records _ c.create.result c.create.ensures.answer c.match-create.reply w.in-Ok-with_memory.other w.reply-is other.1
-      (w.in-Err.is ∙ ap Err (sym other.0)) in
-      (p.0, (refl, p.1))
+      subst (λ (z : Result (Effect × Effect) Refusal × Result Text Refusal). HaveSameEffect (λ (effects : Effect × Effect). effects.0) z.0 effect.Client z.1) (λ i. ((sym w.of_effect-is) i, (sym w.in-Ok-create.is) i)) refl
+  | in-Err w ↦
+      subst (λ (z : Result (Effect × Effect) Refusal × Result Text Refusal). HaveSameEffect (λ (effects : Effect × Effect). effects.0) z.0 effect.Client z.1) (λ i. ((sym w.of_effect-is) i, (sym w.in-Err.is) i)) refl
 ]
+
+abbrev handler : goal.Joined-drop → Handler
+handler c = λ evidence host core. create_client host core c.args.message.now
+
+pub returns-clause-answer : goal.returns-clause-answer
+returns-clause-answer c =
+    let host = host_with c.args.chain c.args.chains c.args.records.now in
+    outcome_taken effect.Client (handler c) c.args.chain c.args.chains c.args.records.now c.create.new.records c.create.result
+    (λ state seen knows. created_taken (create_client host (core_of c.args.records.now) c.args.message.now) c.args.message.now c.args.records.now c.create.new.records c.create.result (c.create.ensures.answer host.height host.time))
+    c.of_effect.result (λ id. refl)
+    (same_outcome (λ (effects : Effect × Effect). effects.0) effect.Client c.match-create.of_effect c.create.result c.of_effect.result (same c) c.of_effect.ensures.reply)
+    c.of_effect.ensures.unread
+
+pub returns-clause-err : goal.returns-clause-err
+returns-clause-err c =
+    let host = host_with c.args.chain c.args.chains c.args.records.now in
+    outcome_untaken effect.Client (handler c) c.args.chain c.args.chains c.args.records.now c.create.new.records c.create.result
+    (λ state seen knows. created_taken (create_client host (core_of c.args.records.now) c.args.message.now) c.args.message.now c.args.records.now c.create.new.records c.create.result (c.create.ensures.answer host.height host.time))
+    c.of_effect.result
+    (λ failed. same_refusal (λ (effects : Effect × Effect). effects.0) effect.Client c.match-create.of_effect c.create.result (same c) (c.of_effect.ensures.err failed))

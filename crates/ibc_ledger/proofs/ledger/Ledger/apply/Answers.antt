@@ -1,0 +1,59 @@
+use Rattle.std.proofs.Common.{List, ◌≡◌, is_some, length, ◌∷◌, [], ◌++◌, refl, sym, ap, ◌∙◌, subst}
+use Rattle.std.specs.Prelude.{option_map}
+use Rattle.ibc_machine.specs.declared.event.Event.TheVariants as event
+use Rattle.ibc_root_table.specs.Passes.{TableName}
+use Rattle.ibc_ledger.specs.declared.entry.StampedEntry.{StampedEntry as KeptEntry}
+use Rattle.ibc_ledger.specs.declared.ledger.Ledger.TheInside.{Inside}
+use Rattle.ibc_ledger.specs.Entries.{entry_of, stamp_if}
+use Rattle.ibc_ledger.specs.Held.{plain_entry}
+use Rattle.ibc_ledger.specs.Answering.{Answered, IsAnswerTo}
+use Rattle.ibc_ledger.proofs.HeldLedgers.{keeps_own, still_held, held_with}
+use Rattle.ibc_ledger.proofs.Applying.{before_in, adds, answered_stands, answer_has_memory, late_stamp}
+use Rattle.ibc_ledger.proofs.ledger.Ledger.apply.Goals as goal
+
+pub invariant_of-self-in_default-answer : goal.invariant_of-self-in_default-answer
+invariant_of-self-in_default-answer c =
+    let passes = c.answer.ensures.pass in
+    still_held c.self.inside c.self.invariant (record c.self.inside { pass = c.answer.new.pass; records = c.answer.new.records; history = c.reserve.new.self }) refl
+    passes.0 passes.1 passes.2 c.in_default-answer.ensures.err c.in-Ok.ensures.items
+
+abbrev new_inside : goal.After-push_reserved → Inside
+new_inside c = record c.self.inside { pass = c.answer.new.pass; records = c.answer.new.records; history = c.push_reserved.new.self }
+
+abbrev given : goal.After-push_reserved → Answered
+given c = (c.in-Ok-answer.outcome.reply, c.in-Ok-answer.outcome.reading)
+
+abbrev kept : goal.After-push_reserved → KeptEntry
+kept c = record { entry = record { event = event.Message c.self.inside.chain c.args.message; reply = c.in-Ok-answer.outcome.kept; reading = (given c).1 }; seen = c.seen_if-seen.result }
+
+answer : (c : goal.After-push_reserved) → IsAnswerTo c.args.message (before_in c.self.inside) (given c) c.answer.new.records c.answer.new.pass
+answer c =
+    subst (λ (t : TableName). IsAnswerTo c.args.message (record (before_in c.self.inside) { table = t }) (given c) c.answer.new.records c.answer.new.pass) c.deref.ensures
+    c.in-Ok-answer.ensures.answer
+
+is_kept : (c : goal.After-push_reserved)
+    → entry_of (event.Message c.self.inside.chain c.args.message) (given c).0 (given c).1 (stamp_if (is_some (given c).1) (c.self.inside.pass.seen ++ c.answer.ensures.pass.1.0)) ≡ plain_entry (kept c)
+is_kept c =
+    let stamp : stamp_if (is_some (given c).1) (c.self.inside.pass.seen ++ c.answer.ensures.pass.1.0) ≡ option_map (λ s. length s.value.seen) c.seen_if-seen.result =
+    ap (stamp_if (is_some (given c).1)) c.answer.ensures.pass.1.1 ∙ ap (λ b. stamp_if b c.answer.new.pass.seen) (sym c.is_some.ensures) ∙ sym c.seen_if-seen.ensures in
+    λ i. entry_of (event.Message c.self.inside.chain c.args.message) ((sym c.in-Ok-answer.ensures.kept) i) (given c).1 (stamp i)
+
+items : (c : goal.After-push_reserved) → c.push_reserved.new.self.items ≡ c.self.inside.history.items ++ kept c ∷ []
+items c = c.push_reserved.ensures.items ∙ ap (λ (xs : List KeptEntry). xs ++ kept c ∷ []) c.in-Ok.ensures.items
+
+pub invariant_of-self-2 : goal.invariant_of-self-2
+invariant_of-self-2 c =
+    let passes = c.answer.ensures.pass in
+    held_with c.self.inside c.self.invariant (new_inside c) refl passes.0 (kept c) _ passes.1 (items c) (is_kept c)
+    (answered_stands c.self.inside c.self.invariant c.answer.new.records c.answer.new.pass passes.1
+    (keeps_own c.self.inside c.self.invariant (new_inside c) refl passes.0 passes.2) c.args.message (given c) (answer c) c.is_typed.ensures)
+
+pub returns-clause-adds : goal.returns-clause-adds
+returns-clause-adds c =
+    let passes = c.answer.ensures.pass in
+    adds c.self.inside c.self.invariant (new_inside c) refl passes.0 passes.1 (kept c) (items c)
+    (λ k. event.Message k c.args.message) (given c).0 (given c).1
+    (stamp_if (is_some (given c).1) (c.self.inside.pass.seen ++ passes.1.0)) (is_kept c)
+    (answer_has_memory c.self.inside c.self.invariant c.answer.new.records c.answer.new.pass passes.1
+    (keeps_own c.self.inside c.self.invariant (new_inside c) refl passes.0 passes.2) c.args.message (given c) (answer c))
+    (late_stamp (is_some (given c).1) c.self.inside.pass.seen passes.1.0) c.args.self.now c.self.view_is

@@ -1,0 +1,28 @@
+use Rattle.std.proofs.Common.{◌≡◌, subst, Err}
+use Rattle.std.specs.Prelude.{◌↔◌, IfOk, IsNone}
+use Rattle.std.specs.Option.{IsSomeAnd}
+use Rattle.ibc_ids.specs.Paths.{path}
+use Rattle.ibc_ids.specs.declared.refusal.Refusal.TheVariants.{NoConsensus}
+use Rattle.ibc_merkle.specs.Written.{written}
+use Rattle.ibc_machine.specs.Image.{image}
+use Rattle.ibc_machine.specs.Ledgers.{state_of}
+use Rattle.ibc_ledger.specs.Held.{HeldLedger}
+use Rattle.ibc_ledger.specs.Inside.{genesis_of, ledger_of}
+use Rattle.ibc_ledger.specs.Proving.{provable}
+use Rattle.ibc_ledger.proofs.Keeping.{proof_of_block, no_consensus}
+use Rattle.ibc_ledger.proofs.ledger.Ledger.query_proof.Goals as goal
+
+pub returns-clause-ok : goal.returns-clause-ok
+returns-clause-ok c =
+    let l = c.self.inside in
+    subst (λ (h : HeldLedger). IfOk c.prove.result (λ proof. IsSomeAnd (provable h.ledger.genesis.window (state_of h.ledger).chain.committed c.args.height) (λ block. proof ≡ written (image block.records.core) (path c.args.key.now))))
+    c.self.view_is
+    (proof_of_block (genesis_of l).window (state_of (ledger_of l)).chain l.records.store c.self.invariant.stands.holds.keeps c.args.height c.prove.result (path c.args.key.now)
+    c.prove.ensures.ok)
+
+pub returns-clause-unknown : goal.returns-clause-unknown
+returns-clause-unknown c =
+    let l = c.self.inside in
+    subst (λ (h : HeldLedger). (c.prove.result ≡ Err NoConsensus) ↔ IsNone (provable h.ledger.genesis.window (state_of h.ledger).chain.committed c.args.height))
+    c.self.view_is
+    (no_consensus (genesis_of l).window (state_of (ledger_of l)).chain l.records.store c.self.invariant.stands.holds.keeps c.args.height c.prove.result c.prove.ensures.unknown)
