@@ -3,6 +3,12 @@ use Rattle.std.specs.Prelude.{codes}
 use Rattle.ibc_ids.specs.Texts.{Text}
 use Rattle.ibc_wire.specs.declared.messages.Message.{Message}
 use Rattle.ibc_wire.specs.declared.messages.Message.TheVariants as message
+use Rattle.ibc_script_cli.specs.declared.draft.ClientDraft.{ClientDraft}
+use Rattle.ibc_script_cli.specs.declared.draft.ClientDraft.TheVariants as client
+use Rattle.ibc_script_cli.specs.declared.draft.ConnectionDraft.{ConnectionDraft}
+use Rattle.ibc_script_cli.specs.declared.draft.ConnectionDraft.TheVariants as connection
+use Rattle.ibc_script_cli.specs.declared.draft.Draft.{Draft}
+use Rattle.ibc_script_cli.specs.declared.draft.Draft.TheVariants as draft
 use Rattle.ibc_script_cli.specs.declared.event_kind.EventKind.{EventKind}
 use Rattle.ibc_script_cli.specs.declared.event_kind.EventKind.TheVariants as kind
 
@@ -26,6 +32,21 @@ kind_of (message.RecvPacket m) = kind.RecvPacket
 kind_of (message.AckPacket m) = kind.AckPacket
 kind_of (message.Timeout m) = kind.Timeout
 kind_of (message.TimeoutOnClose m) = kind.TimeoutOnClose
+
+-- the kinds of the messages that a script's steps name
+abbrev pub client_draft_kind : ClientDraft → EventKind
+client_draft_kind (client.Create of) = kind.CreateClient
+client_draft_kind (client.Update id height) = kind.UpdateClient
+
+abbrev pub connection_draft_kind : ConnectionDraft → EventKind
+connection_draft_kind (connection.OpenInit id peer_client) = kind.ConnOpenInit
+connection_draft_kind (connection.OpenTry id peer_client peer_connection from) = kind.ConnOpenTry
+connection_draft_kind (connection.OpenAck id peer_connection from) = kind.ConnOpenAck
+connection_draft_kind (connection.OpenConfirm id from) = kind.ConnOpenConfirm
+
+abbrev pub draft_kind : Draft → EventKind
+draft_kind (draft.Client d) = client_draft_kind d
+draft_kind (draft.Connection d) = connection_draft_kind d
 
 abbrev pub name_of : EventKind → Text
 name_of kind.CreateClient = codes "CreateClient"

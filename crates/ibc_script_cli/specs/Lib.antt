@@ -1,4 +1,5 @@
 pub mod ChainNames
+pub mod Completing
 pub mod EventKinds
 pub mod Faults
 pub mod Heights

@@ -4,25 +4,16 @@ ghost use Rattle.std.specs.Prelude.{◌≡◌, ◌<◌, ◌≤◌, length, All, 
 ghost use Rattle.ibc_script_cli.specs.Faults.{StopsRun};
 ghost use Rattle.ibc_script_cli.specs.Scripts.{IsAmong};
 
+use crate::completing::Completer;
 use crate::heights::Heights;
-use crate::{ChainName, EventKind, Fault, Line, Step, line_text, write_line};
-use ibc_ids::{Account, ClientId, Denom, Refusal, Root};
+use crate::{
+    ChainName, Chains, Draft, EventKind, Fault, Line, Origin, Step, line_text, write_line,
+};
+use ibc_ids::{Key, Refusal};
 use ibc_machine::{Effect, Event, Reply};
-use ibc_wire::{ClientState, CreateClient, Header, Message, UpdateClient};
+use ibc_wire::Message;
 use std::alloc::Global;
 use std::io::Write;
-
-/// The chains that the steps of a script are run on, by their numbers. Each call is refused with `NoMemory` alone.
-pub trait Chains {
-    /// Asks a chain for an event.
-    fn ask(&mut self, event: Event) -> Result<Reply, Refusal>;
-
-    /// The state of a client of a chain as it stands, `None` where there is no such client.
-    fn client_state(&self, chain: u8, client: &ClientId) -> Result<Option<ClientState>, Refusal>;
-
-    /// The amounts above 0 on a chain, by account and then denomination, in the byte order of their texts.
-    fn balances(&self, chain: u8) -> Result<Vec<(Account, Denom, u128)>, Refusal>;
-}
 
 /// A run of a script: the names of its chains, what they have committed, and the chains.
 #[derive(Drop)]
@@ -48,29 +39,6 @@ fn print<W: Write>(alloc: Global, output: &mut W, line: &Line) -> Result<(), Fau
     write_line(output, text.as_str())
 }
 
-/// The header of a chain that an update names: the true one where the height is kept, and else one with time 0 and a
-/// zero root.
-fn header_at(chain: u8, heights: &Heights, height: u64) -> Header {
-    match heights.at(height) {
-        Some(committed) => Header {
-            chain,
-            height,
-            time: committed.time,
-            root: committed.root,
-        },
-        None => empty_header(chain, height),
-    }
-}
-
-fn empty_header(chain: u8, height: u64) -> Header {
-    Header {
-        chain,
-        height,
-        time: 0,
-        root: Root::from_bytes([0; 32]),
-    }
-}
-
 impl<'s, C: Chains + Drop> Runner<'s, C> {
     /// A run on chains that have committed nothing yet.
     pub fn new(
@@ -91,20 +59,6 @@ impl<'s, C: Chains + Drop> Runner<'s, C> {
         }
     }
 
-    /// The header that an update of a client on a chain names. Where there is no such client, or it tracks no chain
-    /// of the script, it is an empty one of the chain itself.
-    fn header(&self, on: u8, client: &ClientId, height: u64) -> Result<Header, Fault>
-        ensures { IfErr result (λ fault. fault ≡ Fault.NoMemory) }
-    {
-        let Some(state) = self.chains.client_state(on, client).map_err(no_memory)? else {
-            return Ok(empty_header(on, height));
-        };
-        match self.heights.get(state.chain as usize) {
-            Some(heights) => Ok(header_at(state.chain, heights, height)),
-            None => Ok(empty_header(on, height)),
-        }
-    }
-
     /// Sends a message to a chain, and prints the reply.
     fn send<W: Write>(&mut self, on: u8, message: Message, output: &mut W) -> Result<(), Fault>
         requires { on < length self.old.names.now }
@@ -116,6 +70,39 @@ impl<'s, C: Chains + Drop> Runner<'s, C> {
         let event = Event::Message { chain: on, message };
         let reply = self.chains.ask(event).map_err(no_memory)?;
         print(self.alloc, output, &Line::Reply { chain, kind, reply })
+    }
+
+    /// Prints that something that a message needs isn't there.
+    fn print_missing<W: Write>(&self, on: u8, kind: EventKind, output: &mut W) -> Result<(), Fault>
+        requires { on < length self.now.names.now }
+        ensures { IfErr result StopsRun }
+    {
+        let chain = self.names[on as usize].clone()?;
+        print(self.alloc, output, &Line::Missing { chain, kind })
+    }
+
+    /// What completes the messages of steps as the chains stand.
+    fn completer(&self) -> Completer<'_, C>
+        ensures { (result.heights.now ≡ self.now.heights.items) × (result.chains.now ≡ self.now.chains) }
+    {
+        Completer {
+            alloc: self.alloc,
+            heights: self.heights.as_slice(),
+            chains: &self.chains,
+        }
+    }
+
+    /// Sends the message that a step names, and prints the reply; where something that it needs isn't there, nothing
+    /// is sent, and the line says so.
+    fn submit<W: Write>(&mut self, on: u8, draft: &Draft, output: &mut W) -> Result<(), Fault>
+        requires { on < length self.old.names.now }
+        ensures same { self.new.names.now ≡ self.old.names.now }
+        ensures faults { IfErr result StopsRun }
+    {
+        match self.completer().complete(on, draft)? {
+            Some(message) => self.send(on, message, output),
+            None => self.print_missing(on, draft.kind(), output),
+        }
     }
 
     /// Ends the working block of a chain, and prints the reply.
@@ -162,24 +149,38 @@ impl<'s, C: Chains + Drop> Runner<'s, C> {
         print(self.alloc, output, &line)
     }
 
+    /// Prints the proof of what a height of a chain has at a key.
+    fn print_proof<W: Write>(
+        &self,
+        on: u8,
+        height: u64,
+        key: &Key,
+        output: &mut W,
+    ) -> Result<(), Fault>
+        requires { on < length self.now.names.now }
+        ensures { IfErr result StopsRun }
+    {
+        let chain = self.names[on as usize].clone()?;
+        let from = Origin { chain: on, height };
+        let proof = self.completer().proof(from, key.clone()?)?;
+        let line = Line::Prove {
+            chain,
+            height,
+            proof,
+        };
+        print(self.alloc, output, &line)
+    }
+
     fn run<W: Write>(&mut self, step: &Step, output: &mut W) -> Result<(), Fault>
         requires { IsAmong (length self.old.names.now) step.now }
         ensures same { self.new.names.now ≡ self.old.names.now }
         ensures faults { IfErr result StopsRun }
     {
         match step {
-            Step::CreateClient { on, of } => {
-                let message = Message::CreateClient(CreateClient { chain: *of });
-                self.send(*on, message, output)
-            }
-            Step::UpdateClient { on, client, height } => {
-                let header = self.header(*on, client, *height)?;
-                let client = client.clone()?;
-                let message = Message::UpdateClient(UpdateClient { client, header });
-                self.send(*on, message, output)
-            }
+            Step::Message { on, draft } => self.submit(*on, draft, output),
             Step::Block { on, time } => self.end_block(*on, *time, output),
             Step::Root { on, height } => self.print_root(*on, *height, output),
+            Step::Prove { on, height, key } => self.print_proof(*on, *height, key, output),
         }
     }
 

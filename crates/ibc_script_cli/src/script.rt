@@ -4,8 +4,8 @@ ghost use Rattle.std.specs.Prelude.{◌≡◌, ◌≤◌, length, All};
 ghost use Rattle.std.proofs.Props.{props};
 ghost use Rattle.ibc_script_cli.specs.Scripts.{IsAmong, IsProp-IsAmong};
 
-use crate::ChainName;
-use ibc_ids::ClientId;
+use crate::{ChainName, Draft};
+use ibc_ids::Key;
 use ibc_machine::Genesis;
 
 /// A script names at most so many chains.
@@ -17,27 +17,14 @@ pub const MOST_STEPS: usize = 10_000;
 /// A step of a script. Chains are numbers: their places in the script, from 0.
 #[derive(Drop, Debug)]
 pub enum Step {
-    /// The chain makes a client of another one.
-    CreateClient {
-        on: u8,
-        of: u8,
-    },
-    /// A client is told of a height of the chain that it tracks.
-    UpdateClient {
-        on: u8,
-        client: ClientId,
-        height: u64,
-    },
+    /// The chain is sent a message.
+    Message { on: u8, draft: Draft },
     /// The chain's working block ends. The next one has this time, or the same where it is `None`.
-    Block {
-        on: u8,
-        time: Option<u64>,
-    },
+    Block { on: u8, time: Option<u64> },
     /// The root of a height is printed.
-    Root {
-        on: u8,
-        height: u64,
-    },
+    Root { on: u8, height: u64 },
+    /// The proof of what a height has at a key is printed.
+    Prove { on: u8, height: u64, key: Key },
 }
 
 /// A script: how the world begins, the names of its chains in their order, and the steps. The genesis may still be

@@ -1,7 +1,10 @@
+mod connections;
+
 use crate::{Chains, Fault, MOST_BYTES, MOST_STEPS, Worlds, drive, read_script};
-use ibc_ids::{Account, ClientId, Denom, Refusal, Root};
+use ibc_ids::{Account, ClientId, ConnectionId, Denom, Key, Refusal, Root};
 use ibc_machine::{Effect, Event, Genesis, Reply};
-use ibc_wire::ClientState;
+use ibc_merkle::Proof;
+use ibc_wire::{ClientState, ConnectionEnd};
 use std::alloc::{AllocError, Global};
 use std::io;
 use std::io::{Read, Write};
@@ -24,6 +27,18 @@ impl Chains for Blocks {
     }
 
     fn client_state(&self, _chain: u8, _client: &ClientId) -> Result<Option<ClientState>, Refusal> {
+        Ok(None)
+    }
+
+    fn connection(
+        &self,
+        _chain: u8,
+        _connection: &ConnectionId,
+    ) -> Result<Option<ConnectionEnd>, Refusal> {
+        Ok(None)
+    }
+
+    fn proof(&self, _chain: u8, _height: u64, _key: &Key) -> Result<Option<Proof>, Refusal> {
         Ok(None)
     }
 

@@ -1,5 +1,5 @@
 use Rattle.std.proofs.Common.{◌≡◌, length}
-use Rattle.ibc_script_cli.proofs.reading.read_chains.Given as goal
+use Rattle.ibc_script_cli.proofs.reading.chains.read_chains.Given as goal
 
 abbrev pub invariant-loop-value : goal.invariant-loop-value
 invariant-loop-value l = record {

@@ -1,0 +1,161 @@
+-- The messages that a script's steps become: the steps' own fields, and what the chains answer.
+use Rattle.std.specs.Prelude.{◌≡◌, ◌⊎◌, ℕ, false, List, Option, None, Some, slice_get, option_map, option_and_then, unwrap_or, replicate}
+use Rattle.ibc_ids.specs.Texts.{Text}
+use Rattle.ibc_ids.specs.declared.key.Key.{Key}
+use Rattle.ibc_ids.specs.declared.key.Key.TheVariants as key
+use Rattle.ibc_merkle.specs.declared.proof.Proof.{Proof}
+use Rattle.ibc_merkle.specs.declared.proof.Proof.TheVariants.{Present, Absent}
+use Rattle.ibc_wire.specs.Fields.{Spells, have_form}
+use Rattle.ibc_wire.specs.Spelling.{client_state_fields, proof_fields, proof_bytes}
+use Rattle.ibc_wire.specs.declared.header.Header.{Header}
+use Rattle.ibc_wire.specs.declared.messages.Message.{Message}
+use Rattle.ibc_wire.specs.declared.messages.Message.TheVariants as message
+use Rattle.ibc_wire.specs.declared.records.ClientState.{ClientState}
+use Rattle.ibc_wire.specs.declared.records.ConnectionEnd.{ConnectionEnd}
+use Rattle.ibc_script_cli.specs.Heights.{kept_at}
+use Rattle.ibc_script_cli.specs.declared.completing.Claim.{Claim}
+use Rattle.ibc_script_cli.specs.declared.draft.ClientDraft.{ClientDraft}
+use Rattle.ibc_script_cli.specs.declared.draft.ClientDraft.TheVariants as client
+use Rattle.ibc_script_cli.specs.declared.draft.ConnectionDraft.{ConnectionDraft}
+use Rattle.ibc_script_cli.specs.declared.draft.ConnectionDraft.TheVariants as connection
+use Rattle.ibc_script_cli.specs.declared.draft.Draft.{Draft}
+use Rattle.ibc_script_cli.specs.declared.draft.Draft.TheVariants as draft
+use Rattle.ibc_script_cli.specs.declared.draft.Origin.{Origin}
+use Rattle.ibc_script_cli.specs.declared.heights.Committed.{Committed}
+use Rattle.ibc_script_cli.specs.declared.heights.Heights.{Heights}
+
+-- ---- what chains answer
+
+-- what a chain says of its clients, by the chain's number
+abbrev pub SaysOfClients : Type 1
+SaysOfClients = ℕ → Text → Option ClientState → Type 0
+
+-- what a chain says of its ends of connections
+abbrev pub SaysOfConnections : Type 1
+SaysOfConnections = ℕ → Text → Option ConnectionEnd → Type 0
+
+-- what a chain proves at a height
+abbrev pub Proves : Type 1
+Proves = ℕ → ℕ → Key → Option Proof → Type 0
+
+-- the encoding of a proof that was found
+abbrev pub IsEncoding : Option Proof → Option Text → Type 0
+IsEncoding None bytes = bytes ≡ None
+IsEncoding (Some proof) None = have_form (proof_fields proof) ≡ false
+IsEncoding (Some proof) (Some bytes) = bytes ≡ proof_bytes proof
+
+-- the encoding of the proof of a key
+abbrev pub IsProofAt : Proves → Origin → Key → Option Text → Type 0
+IsProofAt proves from key bytes =
+    (found : Option Proof) × proves from.chain from.height key found × IsEncoding found bytes
+
+-- what a proof that was found shows of a client: its state, and the proof's encoding
+abbrev pub IsClaim : Option Proof → Option Claim → Type 0
+IsClaim None claim = claim ≡ None
+IsClaim (Some (Absent absence)) claim = claim ≡ None
+IsClaim (Some (Present presence)) None =
+    (have_form (proof_fields (Present presence)) ≡ false)
+    ⊎ ((state : ClientState) → ¬ Spells (client_state_fields state) presence.value)
+IsClaim (Some (Present presence)) (Some claim) =
+    Spells (client_state_fields claim.state) presence.value × (claim.proof ≡ proof_bytes (Present presence))
+
+-- what the proof of a client's state shows
+abbrev pub IsClaimAt : Proves → Origin → Text → Option Claim → Type 0
+IsClaimAt proves from id claim =
+    (found : Option Proof) × proves from.chain from.height (key.ClientState id) found × IsClaim found claim
+
+-- ---- messages for clients
+
+-- the true header of a committed height, or one with time 0 and a zero root
+abbrev pub header_from : ℕ → ℕ → Option Committed → Header
+header_from chain height None = record { chain = chain; height = height; time = 0; root = replicate 32 0 }
+header_from chain height (Some known) =
+    record { chain = chain; height = height; time = known.time; root = known.root }
+
+abbrev pub header_at : ℕ → ℕ → Option Heights → Option Header
+header_at chain height = option_map (λ heights. header_from chain height (kept_at heights.window heights.committed.items height))
+
+-- the header of an update: of the chain that the client tracks, and else of the step's own
+abbrev pub header_of : List Heights → ℕ → ℕ → Option ClientState → Header
+header_of heights on height None = header_from on height None
+header_of heights on height (Some state) =
+    unwrap_or (header_at state.chain height (slice_get heights state.chain)) (header_from on height None)
+
+abbrev pub MakesClientMessage : SaysOfClients → List Heights → ℕ → ClientDraft → Message → Type 0
+MakesClientMessage says heights on (client.Create of) made = made ≡ message.CreateClient (record { chain = of })
+MakesClientMessage says heights on (client.Update id height) made =
+    (state : Option ClientState) × says on id state
+    × (made ≡ message.UpdateClient (record { client = id; header = header_of heights on height state }))
+
+-- ---- messages for connections
+
+abbrev pub try_message : Text → Text → Text → ℕ → Option Text → Option Claim → Option Message
+try_message id peer_client peer_connection height (Some proof_end) (Some claim) =
+    Some (message.ConnOpenTry (record {
+      client = id;
+      peer_client = peer_client;
+      peer_connection = peer_connection;
+      claim = claim.state;
+      height = height;
+      proof_end = proof_end;
+      proof_client = claim.proof;
+    }))
+try_message id peer_client peer_connection height _ _ = None
+
+abbrev pub ack_message : Text → Text → ℕ → Option Text → Option Claim → Option Message
+ack_message id peer_connection height (Some proof_end) (Some claim) =
+    Some (message.ConnOpenAck (record {
+      connection = id;
+      peer_connection = peer_connection;
+      claim = claim.state;
+      height = height;
+      proof_end = proof_end;
+      proof_client = claim.proof;
+    }))
+ack_message id peer_connection height _ _ = None
+
+abbrev pub confirm_message : Text → ℕ → Option Text → Option Message
+confirm_message id height =
+    option_map (λ proof. message.ConnOpenConfirm (record { connection = id; height = height; proof = proof }))
+
+-- the peer's client being known
+abbrev pub MakesAckOf : Proves → Text → Text → Origin → Text → Option Message → Type 0
+MakesAckOf proves id peer_connection from peer_client made =
+    (proof_end : Option Text) × (claim : Option Claim)
+    × IsProofAt proves from (key.Connection peer_connection) proof_end × IsClaimAt proves from peer_client claim
+    × (made ≡ ack_message id peer_connection from.height proof_end claim)
+
+-- the peer's client is the one that the own end names
+abbrev pub MakesAck : Proves → Text → Text → Origin → Option ConnectionEnd → Option Message → Type 0
+MakesAck proves id peer_connection from None made = made ≡ None
+MakesAck proves id peer_connection from (Some end) made = MakesAckOf proves id peer_connection from end.peer_client made
+
+-- the peer's connection is the one that the own end names
+abbrev pub MakesConfirm : Proves → Text → Origin → Option Text → Option Message → Type 0
+MakesConfirm proves id from None made = made ≡ None
+MakesConfirm proves id from (Some peer_connection) made =
+    (proof : Option Text) × IsProofAt proves from (key.Connection peer_connection) proof
+    × (made ≡ confirm_message id from.height proof)
+
+-- the message that a step becomes, none where something that it needs isn't there
+abbrev pub MakesConnectionMessage : SaysOfConnections → Proves → ℕ → ConnectionDraft → Option Message → Type 0
+MakesConnectionMessage says proves on (connection.OpenInit id peer_client) made =
+    made ≡ Some (message.ConnOpenInit (record { client = id; peer_client = peer_client }))
+MakesConnectionMessage says proves on (connection.OpenTry id peer_client peer_connection from) made =
+    (proof_end : Option Text) × (claim : Option Claim)
+    × IsProofAt proves from (key.Connection peer_connection) proof_end × IsClaimAt proves from peer_client claim
+    × (made ≡ try_message id peer_client peer_connection from.height proof_end claim)
+MakesConnectionMessage says proves on (connection.OpenAck id peer_connection from) made =
+    (own : Option ConnectionEnd) × says on id own × MakesAck proves id peer_connection from own made
+MakesConnectionMessage says proves on (connection.OpenConfirm id from) made =
+    (own : Option ConnectionEnd) × says on id own
+    × MakesConfirm proves id from (option_and_then (λ end. end.peer_connection) own) made
+
+-- ---- all messages
+
+-- the message that a step becomes, none where something that it needs isn't there
+abbrev pub MakesMessage : SaysOfClients → SaysOfConnections → Proves → List Heights → ℕ → Draft → Option Message → Type 0
+MakesMessage of_clients of_connections proves heights on (draft.Client d) made =
+    (sent : Message) × (made ≡ Some sent) × MakesClientMessage of_clients heights on d sent
+MakesMessage of_clients of_connections proves heights on (draft.Connection d) made =
+    MakesConnectionMessage of_connections proves on d made

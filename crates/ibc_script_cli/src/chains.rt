@@ -1,0 +1,48 @@
+//! The chains that the steps of a script are run on.
+
+ghost use Rattle.std.specs.Prelude.{ℕ, Option, ⊤, IfOk};
+ghost use Rattle.ibc_ids.specs.Texts.{Text};
+ghost use Rattle.ibc_ids.specs.declared.key.Key.{Key};
+ghost use Rattle.ibc_merkle.specs.declared.proof.Proof.{Proof};
+ghost use Rattle.ibc_wire.specs.declared.records.ClientState.{ClientState};
+ghost use Rattle.ibc_wire.specs.declared.records.ConnectionEnd.{ConnectionEnd};
+
+use ibc_ids::{Account, ClientId, ConnectionId, Denom, Key, Refusal};
+use ibc_machine::{Event, Reply};
+use ibc_merkle::Proof;
+use ibc_wire::{ClientState, ConnectionEnd};
+
+/// The chains that the steps of a script are run on, by their numbers. Each call is refused with `NoMemory` alone.
+pub trait Chains {
+    // What a chain says of a client.
+    ghost has_client: { Self → ℕ → Text → Option ClientState → Type 0 } = { λ _ _ _ _. ⊤ };
+
+    // What a chain says of its end of a connection.
+    ghost has_connection: { Self → ℕ → Text → Option ConnectionEnd → Type 0 } = { λ _ _ _ _. ⊤ };
+
+    // What a chain proves at a height of a key.
+    ghost has_proof: { Self → ℕ → ℕ → Key → Option Proof → Type 0 } = { λ _ _ _ _ _. ⊤ };
+
+    /// Asks a chain for an event.
+    fn ask(&mut self, event: Event) -> Result<Reply, Refusal>;
+
+    /// The state of a client of a chain as it stands, `None` where there is no such client.
+    fn client_state(&self, chain: u8, client: &ClientId) -> Result<Option<ClientState>, Refusal>
+        ensures { IfOk result (has_client self.now chain client.now) };
+
+    /// The end of a connection of a chain as it stands, `None` where there is none.
+    fn connection(
+        &self,
+        chain: u8,
+        connection: &ConnectionId,
+    ) -> Result<Option<ConnectionEnd>, Refusal>
+        ensures { IfOk result (has_connection self.now chain connection.now) };
+
+    /// The proof of what a committed height of a chain has at a key, `None` where the height isn't committed or its
+    /// records are gone.
+    fn proof(&self, chain: u8, height: u64, key: &Key) -> Result<Option<Proof>, Refusal>
+        ensures { IfOk result (has_proof self.now chain height key.now) };
+
+    /// The amounts above 0 on a chain, by account and then denomination, in the byte order of their texts.
+    fn balances(&self, chain: u8) -> Result<Vec<(Account, Denom, u128)>, Refusal>;
+}

@@ -1,0 +1,109 @@
+//! The messages of steps are completed from what the chains answer.
+
+ghost use Rattle.std.specs.Prelude.{◌≡◌, Some, IfOk, IfErr, IfSome};
+ghost use Rattle.ibc_script_cli.specs.EventKinds.{kind_of, draft_kind};
+ghost use Rattle.ibc_script_cli.specs.Completing.{IsEncoding, IsClaim, IsProofAt, IsClaimAt, MakesMessage};
+
+mod clients;
+mod connections;
+
+use crate::heights::Heights;
+use crate::{Chains, Draft, Fault, Origin};
+use ibc_codec::{decode, encode};
+use ibc_ids::{Bytes, ClientId, Key, Refusal};
+use ibc_merkle::{Presence, Proof};
+use ibc_wire::{ClientState, Message};
+use std::alloc::Global;
+
+/// What completes the messages of a script: the heights that its chains have committed, and the chains.
+#[derive(Drop)]
+pub struct Completer<'r, C: Chains + Drop> {
+    pub alloc: Global,
+    pub heights: &'r [Heights],
+    pub chains: &'r C,
+}
+
+/// What is claimed of a client: its state, and the encoding of the proof that shows it.
+#[derive(Drop, Debug)]
+struct Claim {
+    state: ClientState,
+    proof: Bytes,
+}
+
+fn no_memory(_refusal: Refusal) -> Fault
+    ensures { result ≡ Fault.NoMemory }
+{
+    Fault::NoMemory
+}
+
+/// The encoding of a proof, `None` where it has none.
+fn encoding_of(alloc: Global, proof: &Proof) -> Result<Option<Bytes>, Fault>
+    ensures is { IfOk result (IsEncoding (Some proof.now)) }
+    ensures err { IfErr result (λ fault. fault ≡ Fault.NoMemory) }
+{
+    match encode(alloc, proof) {
+        Ok(bytes) => Ok(Some(Bytes::from_vec(bytes))),
+        Err(Refusal::BadMessage) => Ok(None),
+        Err(_) => Err(Fault::NoMemory),
+    }
+}
+
+impl<C: Chains + Drop> Completer<'_, C> {
+    /// The message that a step of a chain sends, `None` where something that it needs isn't there. Fault: `NoMemory`.
+    pub fn complete(&self, on: u8, draft: &Draft) -> Result<Option<Message>, Fault>
+        ensures made { IfOk result (MakesMessage (C.has_client self.now.chains.now) (C.has_connection self.now.chains.now) (C.has_proof self.now.chains.now) self.now.heights.now on draft.now) }
+        ensures kind { IfOk result (λ made. IfSome made (λ message. kind_of message ≡ draft_kind draft.now)) }
+        ensures err { IfErr result (λ fault. fault ≡ Fault.NoMemory) }
+    {
+        match draft {
+            Draft::Client(draft) => Ok(Some(self.client_message(on, draft)?)),
+            Draft::Connection(draft) => self.connection_message(on, draft),
+        }
+    }
+
+    /// The encoding of the proof of a key at a height, `None` where there is none.
+    pub fn proof(&self, from: Origin, key: Key) -> Result<Option<Bytes>, Fault>
+        ensures is { IfOk result (IsProofAt (C.has_proof self.now.chains.now) from key) }
+        ensures err { IfErr result (λ fault. fault ≡ Fault.NoMemory) }
+    {
+        let found = self.chains.proof(from.chain, from.height, &key);
+        drop(key);
+        match found.map_err(no_memory)? {
+            Some(proof) => encoding_of(self.alloc, &proof),
+            None => Ok(None),
+        }
+    }
+
+    /// The state of a client at a height, with the encoding of the proof that shows it; `None` where there is none.
+    fn claim(&self, from: Origin, client: &ClientId) -> Result<Option<Claim>, Fault>
+        ensures is { IfOk result (IsClaimAt (C.has_proof self.now.chains.now) from client.now) }
+        ensures err { IfErr result (λ fault. fault ≡ Fault.NoMemory) }
+    {
+        let key = Key::ClientState(client.clone()?);
+        let found = self.chains.proof(from.chain, from.height, &key);
+        drop(key);
+        match found.map_err(no_memory)? {
+            Some(proof) => claim_of(self.alloc, &proof),
+            None => Ok(None),
+        }
+    }
+}
+
+/// What a proof shows of a client, `None` where it shows no state.
+fn claim_of(alloc: Global, proof: &Proof) -> Result<Option<Claim>, Fault>
+    ensures is { IfOk result (IsClaim (Some proof.now)) }
+    ensures err { IfErr result (λ fault. fault ≡ Fault.NoMemory) }
+{
+    let Proof::Present(Presence { value, .. }) = proof else {
+        return Ok(None);
+    };
+    let state = match decode(alloc, value.as_slice()) {
+        Ok(state) => state,
+        Err(Refusal::BadMessage) => return Ok(None),
+        Err(_) => return Err(Fault::NoMemory),
+    };
+    match encoding_of(alloc, proof)? {
+        Some(proof) => Ok(Some(Claim { state, proof })),
+        None => Ok(None),
+    }
+}
