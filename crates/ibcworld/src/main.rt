@@ -1,10 +1,8 @@
 //! Runs a script of several chains, and prints what they answer.
 #![tactic(auto)]
 
-mod worlds;
-
-use crate::worlds::NewWorlds;
 use ibc_script_cli::{Fault, drive};
+use ibc_script_worlds::NewWorlds;
 use std::env::Env;
 use std::io::BufWriter;
 use std::process::ExitCode;
@@ -28,8 +26,13 @@ fn run(rt: &(impl Env + Input + Print + AllocGlobal)) -> Result<(), Fault> {
     }
     let words: Vec<&str> = texts.iter().map(|word| word.as_str()).collect(alloc)?;
     let mut output = BufWriter::new(alloc, io::writer(rt)).map_err(fault_of)?;
-    let worlds = NewWorlds { alloc };
-    drive(alloc, &worlds, words.as_slice(), rt.reader(), &mut output)
+    drive(
+        alloc,
+        &NewWorlds::new(alloc),
+        words.as_slice(),
+        rt.reader(),
+        &mut output,
+    )
 }
 
 fn main(rt: HostRuntime) -> io::Result<ExitCode> {

@@ -1,20 +1,28 @@
-//! The chains of a script are the ledgers of a world.
+//! Worlds, as the steps of a script see them.
 
 ghost use Rattle.std.specs.Prelude.{◌≡◌};
 ghost use Rattle.ibc_world_core.specs.Inside.{is_built};
 
 use ibc_codec::decode;
-use ibc_ids::{Account, ClientId, Denom, Key, Refusal};
+use ibc_ids::{Account, ClientId, ConnectionId, Denom, Key, Refusal};
 use ibc_machine::{Event, Genesis, Reply};
+use ibc_merkle::Proof;
 use ibc_script_cli::{Chains, Worlds};
-use ibc_wire::{ClientState, Message};
+use ibc_wire::{ClientState, ConnectionEnd, Message};
 use ibc_world_core::World;
 use std::alloc::Global;
 
 /// Makes the world of each genesis.
 #[derive(Drop)]
 pub struct NewWorlds {
-    pub alloc: Global,
+    alloc: Global,
+}
+
+impl NewWorlds {
+    /// What makes worlds, with their memory from here.
+    pub fn new(alloc: Global) -> NewWorlds {
+        NewWorlds { alloc }
+    }
 }
 
 /// A world, as the steps of a script see it.
@@ -57,6 +65,31 @@ impl Chains for Ledgers {
         }
     }
 
+    fn connection(
+        &self,
+        chain: u8,
+        connection: &ConnectionId,
+    ) -> Result<Option<ConnectionEnd>, Refusal> {
+        let Some(ledger) = self.world.ledger(chain) else {
+            return Ok(None);
+        };
+        match ledger.query(&Key::Connection(connection.clone()?))? {
+            Some(bytes) => Ok(Some(decode(self.alloc, bytes.as_slice())?)),
+            None => Ok(None),
+        }
+    }
+
+    fn proof(&self, chain: u8, height: u64, key: &Key) -> Result<Option<Proof>, Refusal> {
+        let Some(ledger) = self.world.ledger(chain) else {
+            return Ok(None);
+        };
+        match ledger.query_proof(height, key) {
+            Ok(proof) => Ok(Some(proof)),
+            Err(Refusal::NoConsensus) => Ok(None),
+            Err(refusal) => Err(refusal),
+        }
+    }
+
     fn balances(&self, chain: u8) -> Result<Vec<(Account, Denom, u128)>, Refusal> {
         match self.world.ledger(chain) {
             Some(ledger) => ledger.balances(),
@@ -65,14 +98,20 @@ impl Chains for Ledgers {
     }
 }
 
-// Whether the event is the end of a block or a message of clients, which are those that the ledgers answer so far.
+// Whether the ledgers have a handler for the event: the end of a block, or a message of clients or connections.
 fn is_built(event: &Event) -> bool
     ensures { result ≡ is_built event.now }
 {
     match event {
-        Event::Message { message, .. } => {
-            matches!(message, Message::CreateClient(_) | Message::UpdateClient(_))
-        }
+        Event::Message { message, .. } => matches!(
+            message,
+            Message::CreateClient(_)
+                | Message::UpdateClient(_)
+                | Message::ConnOpenInit(_)
+                | Message::ConnOpenTry(_)
+                | Message::ConnOpenAck(_)
+                | Message::ConnOpenConfirm(_)
+        ),
         Event::Block { .. } => true,
     }
 }
