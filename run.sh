@@ -25,7 +25,12 @@ cd "$(dirname "$0")/crates/ibcworld"
 
 if [ "$proved" = no ]; then
     echo "run.sh: building without proofs, a minute or two (./run.sh --proved runs the proved program)" >&2
-    exec rt try -- run <"$script" 2>/dev/null
+    log=$(mktemp)
+    trap 'rm -f "$log"' EXIT
+    status=0
+    rt try -- run <"$script" 2>"$log" || status=$?
+    [ "$status" -eq 0 ] || cat "$log" >&2
+    exit "$status"
 fi
 echo "run.sh: proving and building what isn't yet; from nothing that takes about half an hour" >&2
 rt lib >&2
