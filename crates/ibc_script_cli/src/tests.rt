@@ -1,5 +1,3 @@
-mod connections;
-
 use crate::{Chains, Fault, MOST_BYTES, MOST_STEPS, Worlds, drive, read_script};
 use ibc_ids::{Account, ClientId, ConnectionId, Denom, Key, Refusal, Root};
 use ibc_machine::{Effect, Event, Genesis, Reply};

@@ -1,0 +1,223 @@
+//! Sends forged messages of a handshake before each honest one, and prints how often each refusal was the answer.
+#![tactic(auto)]
+
+mod counts;
+mod forging;
+mod handshake;
+
+use crate::counts::Counts;
+use crate::forging::{with_a_byte_changed, with_a_byte_more};
+use crate::handshake::{
+    Claims, Sent, begin, confirm_another, create_client, end_block, send_with, true_claims,
+    two_chains, update,
+};
+use ibc_ids::{Bytes, Refusal, Root};
+use ibc_machine::Reply;
+use ibc_script_worlds::Ledgers;
+use ibc_wire::Header;
+use std::alloc::Global;
+use std::io;
+use std::io::{BufWriter, Write};
+
+/// Which of the two proofs is forged.
+#[derive(Clone, Copy, Debug, PartialEq, Eq, Drop)]
+enum Forged {
+    End,
+    Client,
+}
+
+impl Forged {
+    // The claims, of which one proof is another.
+    fn in_claims(self, claims: Claims, forged: Bytes) -> Claims {
+        match self {
+            Forged::End => Claims {
+                height: claims.height,
+                end: forged,
+                client: claims.client,
+            },
+            Forged::Client => Claims {
+                height: claims.height,
+                end: claims.end,
+                client: forged,
+            },
+        }
+    }
+
+    // The proof, as it truly is.
+    fn of(self, claims: &Claims) -> &Bytes {
+        match self {
+            Forged::End => &claims.end,
+            Forged::Client => &claims.client,
+        }
+    }
+}
+
+// Sends a message with a forged proof.
+fn send_forged(
+    alloc: Global,
+    chains: &mut Ledgers,
+    sent: Sent,
+    which: Forged,
+    forged: Bytes,
+) -> Result<Reply, Refusal> {
+    let honest = true_claims(alloc, chains, sent, sent.height())?;
+    send_with(alloc, chains, sent, which.in_claims(honest, forged))
+}
+
+// Sends a message with each byte of a proof changed, with one more, and with none.
+fn send_changed(
+    alloc: Global,
+    chains: &mut Ledgers,
+    sent: Sent,
+    which: Forged,
+) -> Result<Counts, Refusal> {
+    let honest = true_claims(alloc, chains, sent, sent.height())?;
+    let mut counts = changed_bytes(alloc, chains, sent, which, which.of(&honest).as_slice())?;
+    let longer = with_a_byte_more(alloc, which.of(&honest).as_slice())?;
+    counts.add(send_forged(alloc, chains, sent, which, longer)?);
+    let empty = Bytes::from_vec(Vec::new(alloc));
+    counts.add(send_forged(alloc, chains, sent, which, empty)?);
+    Ok(counts)
+}
+
+// Sends a message with each byte of a proof changed.
+fn changed_bytes(
+    alloc: Global,
+    chains: &mut Ledgers,
+    sent: Sent,
+    which: Forged,
+    bytes: &[u8],
+) -> Result<Counts, Refusal> {
+    let mut counts = Counts::new();
+    for at in 0..bytes.len() {
+        let forged = with_a_byte_changed(alloc, bytes, at)?;
+        counts.add(send_forged(alloc, chains, sent, which, forged)?);
+    }
+    Ok(counts)
+}
+
+// Sends a message with its two proofs in each other's place, and with a height that its client doesn't know; the last one
+// also with the proofs of the height before, and for a connection that isn't there.
+fn send_moved(alloc: Global, chains: &mut Ledgers, sent: Sent) -> Result<Counts, Refusal> {
+    let mut counts = Counts::new();
+    let honest = true_claims(alloc, chains, sent, sent.height())?;
+    let swapped = Claims {
+        height: honest.height,
+        end: honest.client,
+        client: honest.end,
+    };
+    counts.add(send_with(alloc, chains, sent, swapped)?);
+    let mut late = true_claims(alloc, chains, sent, sent.height())?;
+    late.height = sent.height().saturating_add(1);
+    counts.add(send_with(alloc, chains, sent, late)?);
+    if sent == Sent::Confirm {
+        let mut early = true_claims(alloc, chains, sent, 1)?;
+        early.height = sent.height();
+        counts.add(send_with(alloc, chains, sent, early)?);
+        let another = true_claims(alloc, chains, sent, sent.height())?;
+        counts.add(confirm_another(alloc, chains, another)?);
+    }
+    Ok(counts)
+}
+
+// Sends a message as it truly is.
+fn send_honest(alloc: Global, chains: &mut Ledgers, sent: Sent) -> Result<Counts, Refusal> {
+    let mut counts = Counts::new();
+    let honest = true_claims(alloc, chains, sent, sent.height())?;
+    counts.add(send_with(alloc, chains, sent, honest)?);
+    Ok(counts)
+}
+
+/// What was answered to a message with proofs and to its forgeries, and before that to headers of the height.
+#[derive(Drop)]
+struct Answers {
+    headers: Counts,
+    end: Counts,
+    client: Counts,
+    moved: Counts,
+    honest: Counts,
+}
+
+// Ends a block of a chain, and tells the other chain of it: with another time, with another root, and then truly.
+fn publish(alloc: Global, chains: &mut Ledgers, sent: Sent) -> Result<Counts, Refusal> {
+    let mut counts = Counts::new();
+    let header = end_block(chains, sent.of())?;
+    let late = Header {
+        time: 101,
+        ..header
+    };
+    counts.add(update(alloc, chains, sent.to(), late)?);
+    let other = Header {
+        root: Root::from_bytes([0; 32]),
+        ..header
+    };
+    counts.add(update(alloc, chains, sent.to(), other)?);
+    counts.add(update(alloc, chains, sent.to(), header)?);
+    Ok(counts)
+}
+
+// Sends the forgeries of a message, and then the message.
+fn send_all(alloc: Global, chains: &mut Ledgers, sent: Sent) -> Result<Answers, Refusal> {
+    Ok(Answers {
+        headers: publish(alloc, chains, sent)?,
+        end: send_changed(alloc, chains, sent, Forged::End)?,
+        client: match sent {
+            Sent::Try | Sent::Ack => send_changed(alloc, chains, sent, Forged::Client)?,
+            // It proves no client.
+            Sent::Confirm => Counts::new(),
+        },
+        moved: send_moved(alloc, chains, sent)?,
+        honest: send_honest(alloc, chains, sent)?,
+    })
+}
+
+// A handshake, with its forgeries.
+fn run(alloc: Global, chains: &mut Ledgers) -> Result<[Answers; 3], Refusal> {
+    drop(create_client(chains, 0, 1)?);
+    drop(create_client(chains, 1, 0)?);
+    drop(begin(alloc, chains)?);
+    let tried = send_all(alloc, chains, Sent::Try)?;
+    let acknowledged = send_all(alloc, chains, Sent::Ack)?;
+    let confirmed = send_all(alloc, chains, Sent::Confirm)?;
+    Ok([tried, acknowledged, confirmed])
+}
+
+// Prints what was answered to a message and to its forgeries.
+fn print<W: Write>(output: &mut W, sent: Sent, answers: &Answers) -> io::Result<()> {
+    let name = sent.name();
+    writeln!(
+        output,
+        "UpdateClient, another time, another root, true: {}",
+        answers.headers
+    )?;
+    writeln!(output, "{name}, proof of the end forged: {}", answers.end)?;
+    writeln!(
+        output,
+        "{name}, proof of the client forged: {}",
+        answers.client
+    )?;
+    writeln!(
+        output,
+        "{name}, proofs of another key or height, or another connection: {}",
+        answers.moved
+    )?;
+    writeln!(output, "{name}, honest: {}", answers.honest)
+}
+
+fn main(rt: HostRuntime) -> io::Result<()> {
+    let alloc = rt.alloc();
+    let mut output = BufWriter::new(alloc, io::writer(&rt))?;
+    let answers = match two_chains(alloc) {
+        Ok(mut chains) => run(alloc, &mut chains),
+        Err(refusal) => Err(refusal),
+    };
+    match answers {
+        Ok([tried, acknowledged, confirmed]) => {
+            print(&mut output, Sent::Try, &tried)?;
+            print(&mut output, Sent::Ack, &acknowledged)?;
+            print(&mut output, Sent::Confirm, &confirmed)?;
+        }
+        Err(refusal) => writeln!(&mut output, "{refusal}")?,
+    }
+    output.flush()
+}
