@@ -2,7 +2,7 @@
 # Runs a script of chains and prints what they answer.
 #
 #   ./run.sh SCRIPT            a first look: builds the program anew without its proofs, in a minute or two
-#   ./run.sh --proved SCRIPT   the program for use: proves all that it stands on and builds it, once, and then starts at once
+#   ./run.sh --proved SCRIPT   the program for use: proves all that it stands on and builds it, where that isn't done yet
 set -eu
 
 usage() {
@@ -33,5 +33,4 @@ if [ "$proved" = no ]; then
     exit "$status"
 fi
 echo "run.sh: proving and building what isn't yet; from nothing that takes about half an hour" >&2
-rt lib >&2
 exec rt run -- run <"$script"
