@@ -14,7 +14,7 @@ use Rattle.ibc_machine.specs.Ledgers.{chain_of, is_typed}
 use Rattle.ibc_machine.specs.Machine.{World}
 use Rattle.ibc_machine.specs.Histories.{Happened, End, is_end, packet_if}
 use Rattle.ibc_laws.proofs.PassedTests.{both, same_text_is}
-use Rattle.ibc_laws.proofs.FiniteMaps.{by_pair, at-with_split}
+use Rattle.ibc_machine.proofs.FiniteMaps.{by_pair, at-with_split}
 use Rattle.ibc_laws.proofs.Places.{some_is, same_or_not, get-set_same, get-set_other}
 use Rattle.ibc_laws.proofs.Told.{Told, Quiet, told_of, sent_in, received_in, acknowledged_in, timed_out_in}
 use Rattle.ibc_laws.proofs.CoreSteps.{CoreStep, creates_client, updates_client, starts_connection, answers_connection, confirms_connection, opens_channel, changes_channel, ChannelStep, answers, follows, closes, sends, receives, acknowledges, times_out}

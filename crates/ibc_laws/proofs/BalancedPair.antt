@@ -11,7 +11,7 @@ use Rattle.ibc_machine.specs.TokenData.{amount_of, tokens_of, success}
 use Rattle.ibc_machine.specs.Bank.{Balances, balance, supply, escrow}
 use Rattle.ibc_machine.specs.Transfers.{transfer_port, came_over}
 use Rattle.ibc_machine.specs.Totals.{succeeded, amount_under_way}
-use Rattle.ibc_laws.proofs.SortedMaps.{Sorted}
+use Rattle.ibc_machine.proofs.SortedMaps.{Sorted}
 use Rattle.ibc_laws.proofs.FlightSums.{under_way-sent, under_way-settled, under_way-acknowledged}
 use Rattle.ibc_laws.proofs.TokenShifts.{Unshifted}
 use Rattle.ibc_laws.proofs.TokenEffects.{Leaving, Returning, Arriving, SameBooks, Noted, Removed}

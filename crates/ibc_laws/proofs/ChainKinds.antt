@@ -16,7 +16,7 @@ use Rattle.ibc_machine.specs.Genesis.{GenesisState, ChainState, start, starting_
 use Rattle.ibc_machine.specs.Machine.{World}
 use Rattle.ibc_machine.specs.Histories.{Happened}
 use Rattle.ibc_laws.proofs.PassedTests.{number-self}
-use Rattle.ibc_laws.proofs.FiniteMaps.{by_text, by_pair, found_in_with}
+use Rattle.ibc_machine.proofs.FiniteMaps.{by_text, by_pair, found_in_with}
 use Rattle.ibc_laws.proofs.Places.{placed}
 use Rattle.ibc_laws.proofs.Told.{Told, told_of}
 use Rattle.ibc_laws.proofs.CoreSteps.{CoreStep, creates_client, updates_client, starts_connection, answers_connection, confirms_connection, opens_channel, changes_channel, ChannelStep, answers, follows, closes, sends, receives, acknowledges, times_out, IsTaken}

@@ -13,8 +13,8 @@ use Rattle.ibc_machine.specs.Machine.{World}
 use Rattle.ibc_machine.specs.Histories.{End}
 use Rattle.std.specs.Cmp.{nat_cmp_total}
 use Rattle.ibc_laws.proofs.Places.{same_or_not}
-use Rattle.ibc_laws.proofs.FiniteMaps.{by_number, at-with_split}
-use Rattle.ibc_laws.proofs.SortedMaps.{at-without_other}
+use Rattle.ibc_machine.proofs.FiniteMaps.{by_number, at-with_split}
+use Rattle.ibc_machine.proofs.SortedMaps.{at-without_other}
 use Rattle.ibc_laws.proofs.Told.{Told, Sent, Received}
 use Rattle.ibc_laws.proofs.CoreSteps.{ChannelStep, answers, follows, closes, sends, receives, acknowledges, times_out}
 use Rattle.ibc_laws.proofs.EndSteps.{IsShaped, gone, taken, acked, over}

@@ -13,8 +13,8 @@ use Rattle.ibc_machine.specs.Evidence.{Host}
 use Rattle.ibc_machine.specs.Channels.{in_state}
 use Rattle.ibc_machine.specs.Packets.{is_ordered, has_received, after_send, after_receive, without_commitment}
 use Rattle.ibc_machine.specs.Machine.{World}
-use Rattle.ibc_laws.proofs.FiniteMaps.{by_number, at-with_split, found_in_with}
-use Rattle.ibc_laws.proofs.SortedMaps.{Sorted, Sorted-with, Sorted-without, at-without_same, at-without_other, added_kept, added_there}
+use Rattle.ibc_machine.proofs.FiniteMaps.{by_number, at-with_split, found_in_with}
+use Rattle.ibc_machine.proofs.SortedMaps.{Sorted, Sorted-with, Sorted-without, at-without_same, at-without_other, added_kept, added_there}
 use Rattle.ibc_laws.proofs.Told.{Told}
 use Rattle.ibc_laws.proofs.CoreSteps.{rank, ChannelStep, answers, follows, closes, sends, receives, acknowledges, times_out, Receives}
 use Rattle.ibc_laws.proofs.Growth.{EndGrows-refl, SendingGrows, SendingGrows-refl, ReceivingGrows-same, ChannelGrows}

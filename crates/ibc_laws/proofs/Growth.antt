@@ -7,7 +7,7 @@ use Rattle.ibc_wire.specs.declared.records.ConnectionEnd.{ConnectionEnd}
 use Rattle.ibc_wire.specs.declared.records.ChannelEnd.{ChannelEnd}
 use Rattle.ibc_machine.specs.Records.{Core, Client, Channel, Commitment, client_at, connection_at, channel_at, with_client, with_connection, with_channel, is_one_of}
 use Rattle.ibc_laws.proofs.CoreSteps.{rank}
-use Rattle.ibc_laws.proofs.FiniteMaps.{by_text, by_pair, kept_in_with}
+use Rattle.ibc_machine.proofs.FiniteMaps.{by_text, by_pair, kept_in_with}
 
 -- a connection end keeps its clients and, once it has one, its peer; OPEN stays
 pub record ConnectionGrows (c d : ConnectionEnd) : Type 0 where

@@ -13,7 +13,7 @@ use Rattle.ibc_machine.specs.TokenData.{amount_of}
 use Rattle.ibc_machine.specs.Bank.{Balances, balance, escrow}
 use Rattle.ibc_machine.specs.Transfers.{transfer_port, came_over}
 use Rattle.ibc_laws.proofs.PassedTests.{both, and_true, same_text_is, same_text-self}
-use Rattle.ibc_laws.proofs.FiniteMaps.{by_pair}
+use Rattle.ibc_machine.proofs.FiniteMaps.{by_pair}
 use Rattle.ibc_laws.proofs.Measures.{Test, IsSorted, amount_in, measure, weigh}
 use Rattle.ibc_laws.proofs.TokenMoves.{unless_burnt}
 use Rattle.ibc_laws.proofs.FlightSums.{sums-differ}

@@ -1,7 +1,5 @@
 pub mod PassedChecks
 pub mod PassedTests
-pub mod FiniteMaps
-pub mod SortedMaps
 pub mod Identifiers
 pub mod Seen
 pub mod Told

@@ -14,8 +14,8 @@ use Rattle.ibc_wire.specs.declared.token.Token.{Token}
 use Rattle.ibc_machine.specs.Bank.{Balances, balance, with_balance, give, pay}
 use Rattle.ibc_machine.specs.Transfers.{each_token}
 use Rattle.ibc_laws.proofs.Places.{some_is}
-use Rattle.ibc_laws.proofs.FiniteMaps.{TellsApart, is_equal, by_pair}
-use Rattle.ibc_laws.proofs.SortedMaps.{Below-less, Sorted, at-below, Sorted-with, Sorted-without}
+use Rattle.ibc_machine.proofs.FiniteMaps.{TellsApart, is_equal, by_pair}
+use Rattle.ibc_machine.proofs.SortedMaps.{Below-less, Sorted, at-below, Sorted-with, Sorted-without}
 
 -- ---- a sum over a map, where one entry changes
 

@@ -13,7 +13,7 @@ use Rattle.ibc_machine.specs.Evidence.{Host}
 use Rattle.ibc_machine.specs.Channels.{is_open, client_of, peer_connection_of, peer_channel_of, new_channel}
 use Rattle.ibc_machine.specs.Machine.{World}
 use Rattle.ibc_laws.proofs.PassedTests.{same_connection_state_is}
-use Rattle.ibc_laws.proofs.FiniteMaps.{by_text, by_pair, found_in_with}
+use Rattle.ibc_machine.proofs.FiniteMaps.{by_text, by_pair, found_in_with}
 use Rattle.ibc_laws.proofs.Places.{some_is}
 use Rattle.ibc_laws.proofs.Told.{Told}
 use Rattle.ibc_laws.proofs.CoreSteps.{rank, HadChannel, their_end, CoreStep, creates_client, updates_client, starts_connection, answers_connection, confirms_connection, opens_channel, changes_channel, ChannelStep, answers, follows, closes, sends, receives, acknowledges, times_out, StartsConnection, AnswersConnection, ConfirmsConnection, SeesPeer}

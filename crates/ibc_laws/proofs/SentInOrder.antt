@@ -8,7 +8,7 @@ use Rattle.ibc_machine.specs.Records.{Records, Block, Chain, Channel, Commitment
 use Rattle.ibc_machine.specs.Channels.{new_channel}
 use Rattle.ibc_machine.specs.Machine.{World, block_of}
 use Rattle.ibc_machine.specs.Histories.{Happened, End, packet_from, sent}
-use Rattle.ibc_laws.proofs.FiniteMaps.{by_number, found_in_with}
+use Rattle.ibc_machine.proofs.FiniteMaps.{by_number, found_in_with}
 use Rattle.ibc_laws.proofs.Steps.{Stepped}
 use Rattle.ibc_laws.proofs.Invariant.{Inv, stepped_grows, stepped_back}
 use Rattle.ibc_laws.proofs.Peers.{Stands, stands_same, stands_on}

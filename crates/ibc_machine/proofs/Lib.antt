@@ -5,9 +5,12 @@ pub mod PacketScripts
 mod PublishedHeights
 mod WindowOfHeights
 pub mod Members
+pub mod FiniteMaps
+pub mod SortedMaps
 pub mod Images
 pub mod ImageChanges
 pub mod CoreChanges
+pub mod ChannelChanges
 mod Handshake
 mod ForgedHandshakes
 mod CrossedClaims

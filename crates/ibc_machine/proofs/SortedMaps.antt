@@ -1,12 +1,16 @@
 -- Maps in the order of their keys: they stay so, and what is taken out is gone.
-use Rattle.std.proofs.Common.{◌≡◌, ℕ, Bool, true, false, refl, ap, sym, ◌∙◌, subst, List, [], ◌∷◌, Some, None, Ordering, Less, Equal, Greater, nat_cmp, cond, is_eq, arith, ◌==◌, ◌||◌}
+use Rattle.std.proofs.Common.{◌≡◌, ℕ, Bool, true, false, refl, ap, sym, ◌∙◌, subst, List, [], ◌∷◌, Some, None, Ordering, Less, Equal, Greater, nat_cmp, cond, is_eq, is_lt, arith, ◌==◌, ◌||◌}
 use Rattle.std.specs.Prelude.{⊤}
 use Rattle.std.specs.Ordering.{match_ordering, ordering_reverse}
 use Rattle.std.specs.BTreeMap.{is_at}
 use Rattle.std.specs.Cmp.{IsTotalOrder}
+use Rattle.std.specs.FinMap.{is_sorted}
+use Rattle.std.specs.FinMap.Entries.{below_all}
+use Rattle.std.proofs.lemmas.Bool.{and_parts, and_from}
+use Rattle.ibc_ids.proofs.Texts.{lt_is_less}
 use Rattle.ibc_ids.specs.Maps.{Map, at, with, without}
 use Rattle.ibc_machine.specs.Records.{is_one_of, added}
-use Rattle.ibc_laws.proofs.FiniteMaps.{TellsApart, is_equal, by_number}
+use Rattle.ibc_machine.proofs.FiniteMaps.{TellsApart, is_equal, by_number}
 
 -- the key is below all others
 abbrev pub Below : {K V : Type 0} → (K → K → Ordering) → K → Map K V → Type 0
@@ -16,6 +20,27 @@ Below order k (e ∷ es) = (order k e.0 ≡ Less) × Below order k es
 abbrev pub Sorted : {K V : Type 0} → (K → K → Ordering) → Map K V → Type 0
 Sorted order [] = ⊤
 Sorted order (e ∷ es) = Below order e.0 es × Sorted order es
+
+-- by the test of a map's keys
+Below-from : {K V : Type 0} (order : K → K → Ordering) (k : K) (m : Map K V) → below_all order k m ≡ true → Below order k m
+Below-from order k [] h = tt
+Below-from order k (e ∷ es) h =
+    let parts = and_parts (is_lt (order k e.0)) (below_all order k es) h in
+    (lt_is_less (order k e.0) parts.0, Below-from order k es parts.1)
+
+pub Sorted-from : {K V : Type 0} (order : K → K → Ordering) (m : Map K V) → is_sorted order m ≡ true → Sorted order m
+Sorted-from order [] h = tt
+Sorted-from order (e ∷ es) h =
+    let parts = and_parts (below_all order e.0 es) (is_sorted order es) h in
+    (Below-from order e.0 es parts.0, Sorted-from order es parts.1)
+
+Below-to : {K V : Type 0} (order : K → K → Ordering) (k : K) (m : Map K V) → Below order k m → below_all order k m ≡ true
+Below-to order k [] h = refl
+Below-to order k (e ∷ es) h = and_from (is_lt (order k e.0)) (below_all order k es) (ap is_lt h.0) (Below-to order k es h.1)
+
+pub Sorted-to : {K V : Type 0} (order : K → K → Ordering) (m : Map K V) → Sorted order m → is_sorted order m ≡ true
+Sorted-to order [] h = refl
+Sorted-to order (e ∷ es) h = and_from (below_all order e.0 es) (is_sorted order es) (Below-to order e.0 es h.0) (Sorted-to order es h.1)
 
 less_is_not_equal : {o : Ordering} → o ≡ Less → is_eq o ≡ false
 less_is_not_equal e = ap is_eq e
