@@ -1,9 +1,10 @@
 -- What two paths set in a store leave.
-use Rattle.std.proofs.Common.{◌≡◌, ap, ◌∙◌}
+use Rattle.std.proofs.Common.{◌≡◌, [], ◌∷◌, ap, ◌∙◌}
 use Rattle.ibc_ids.specs.Texts.{Text, text_cmp}
 use Rattle.ibc_ids.specs.Maps.{with}
 use Rattle.ibc_merkle.specs.Tree.{Pairs}
 use Rattle.ibc_path_store.specs.Held.{HeldStore}
+use Rattle.ibc_records.specs.Entries.{with_all}
 
 -- the second store is the first but for its pairs and its room
 abbrev pub Rewrites : HeldStore → HeldStore → Type 0
@@ -19,12 +20,16 @@ rewrites_twice a b c e f = λ i. record {
   kept = (ap (λ (s : HeldStore). s.kept) f ∙ ap (λ (s : HeldStore). s.kept) e) i;
 }
 
+-- the store has these values at these paths
+abbrev pub SetsAll : HeldStore → Pairs → HeldStore → Type 0
+SetsAll old entries new = new ≡ record old { pairs = with_all entries old.pairs; room = new.room }
+
 -- the store has the value at the path
 abbrev pub Sets : HeldStore → Text → Text → HeldStore → Type 0
 Sets old path value new = new ≡ record old { pairs = with text_cmp path value old.pairs; room = new.room }
 
-pub sets_rewrites : (old : HeldStore) (path value : Text) (new : HeldStore) → Sets old path value new → Rewrites old new
-sets_rewrites old path value new e = λ i. record {
+sets_rewrites : (old : HeldStore) (pairs : Pairs) (new : HeldStore) → new ≡ record old { pairs = pairs; room = new.room } → Rewrites old new
+sets_rewrites old pairs new e = λ i. record {
   pairs = new.pairs;
   room = new.room;
   time = ap (λ (s : HeldStore). s.time) e i;
@@ -52,9 +57,14 @@ becomes_roomy old new e = record {
   pairs_are = ap (λ (s : HeldStore). s.pairs) e;
 }
 
+-- more paths were set
+pub becomes_set_all : (old : HeldStore) (pairs : Pairs) (mid new : HeldStore) {entries entries' : Pairs} → Becomes old pairs mid → SetsAll mid entries new → entries ≡ entries' → Becomes old (with_all entries' pairs) new
+becomes_set_all old pairs mid new {entries} {entries'} before sets same = record {
+  rewrites = rewrites_twice old mid new before.rewrites (sets_rewrites mid (with_all entries mid.pairs) new sets);
+  pairs_are = ap (λ (s : HeldStore). s.pairs) sets ∙ λ i. with_all (same i) (before.pairs_are i);
+}
+
 -- one path more was set
 pub becomes_set : (old : HeldStore) (pairs : Pairs) (mid new : HeldStore) {p p' v v' : Text} → Becomes old pairs mid → Sets mid p v new → p ≡ p' → v ≡ v' → Becomes old (with text_cmp p' v' pairs) new
-becomes_set old pairs mid new {p} {p'} {v} {v'} before sets ep ev = record {
-  rewrites = rewrites_twice old mid new before.rewrites (sets_rewrites mid p v new sets);
-  pairs_are = ap (λ (s : HeldStore). s.pairs) sets ∙ λ i. with text_cmp (ep i) (ev i) (before.pairs_are i);
-}
+becomes_set old pairs mid new {p} {p'} {v} {v'} before sets ep ev =
+    becomes_set_all old pairs mid new {entries = (p, v) ∷ []} {entries' = (p', v') ∷ []} before sets (λ i. (ep i, ev i) ∷ [])

@@ -5,12 +5,14 @@ use Rattle.ibc_ids.specs.Texts.{Text, text_cmp}
 use Rattle.ibc_ids.specs.Maps.{at}
 use Rattle.ibc_ids.proofs.Texts.{text_cmp_total}
 use Rattle.ibc_wire.specs.declared.records.ConnectionEnd.{ConnectionEnd}
-use Rattle.ibc_machine.specs.Records.{with_client, with_connection}
+use Rattle.ibc_wire.specs.declared.records.ChannelEnd.{ChannelEnd}
+use Rattle.ibc_machine.specs.Records.{with_client, with_connection, with_channel}
 use Rattle.ibc_machine.specs.Clients.{new_client}
 use Rattle.ibc_machine.specs.Connections.{with_new_connection}
+use Rattle.ibc_machine.specs.Channels.{with_new_channel}
 use Rattle.ibc_machine.proofs.Images.{at-with}
 use Rattle.ibc_records.specs.HeldClients.{HeldClient, new_held}
-use Rattle.ibc_records.specs.Held.{HeldRecords, core_of, consensus_in, AddsClient, AddsConnection, SetsConnection}
+use Rattle.ibc_records.specs.Held.{HeldRecords, core_of, consensus_in, AddsClient, AddsConnection, SetsConnection, AddsChannel, SetsChannelEnd}
 use Rattle.ibc_records.specs.Knowledge.{KnowsNoMore}
 use Rattle.ibc_records.specs.Taking.{IsWritten}
 
@@ -30,6 +32,22 @@ adds_connection_written old id end new adds = record {
 pub sets_connection_written : (old : HeldRecords) (id : Text) (end : ConnectionEnd) (new : HeldRecords) → SetsConnection old id end new
     → IsWritten (with_connection id end (core_of old)) old new
 sets_connection_written old id end new sets = record {
+  core_is = sets.core;
+  stored = sets.stored;
+  knows = same_clients old new (ap (λ (h : HeldRecords). h.clients) sets.records);
+}
+
+pub adds_channel_written : (old : HeldRecords) (port id : Text) (end : ChannelEnd) (new : HeldRecords) → AddsChannel old port id end new
+    → IsWritten (with_new_channel port id end (core_of old)) old new
+adds_channel_written old port id end new adds = record {
+  core_is = adds.core;
+  stored = adds.stored;
+  knows = same_clients old new (ap (λ (h : HeldRecords). h.clients) adds.records);
+}
+
+pub sets_channel_end_written : (old : HeldRecords) (port id : Text) (end : ChannelEnd) (new : HeldRecords) (sets : SetsChannelEnd old port id end new)
+    → IsWritten (with_channel port id (record sets.channel { end = end }) (core_of old)) old new
+sets_channel_end_written old port id end new sets = record {
   core_is = sets.core;
   stored = sets.stored;
   knows = same_clients old new (ap (λ (h : HeldRecords). h.clients) sets.records);

@@ -2,22 +2,27 @@
 use Rattle.std.specs.Prelude.{◌≡◌, ◌+◌, ℕ, [], map, Option, Some}
 use Rattle.std.specs.Option.{option_and_then}
 use Rattle.std.specs.Ordering.{nat_cmp}
-use Rattle.ibc_ids.specs.Texts.{Text, text_cmp}
+use Rattle.ibc_ids.specs.Texts.{Text, text_cmp, pair_cmp}
 use Rattle.ibc_ids.specs.Maps.{Map, at, with}
 use Rattle.ibc_wire.specs.declared.records.ConnectionEnd.{ConnectionEnd}
-use Rattle.ibc_machine.specs.Records.{Core, Client, with_client, with_connection}
+use Rattle.ibc_wire.specs.declared.records.ChannelEnd.{ChannelEnd}
+use Rattle.ibc_machine.specs.Records.{Core, Client, Channel, with_client, with_connection, with_channel}
 use Rattle.ibc_machine.specs.Connections.{with_new_connection}
+use Rattle.ibc_machine.specs.Channels.{new_channel, with_new_channel}
 use Rattle.ibc_machine.specs.Genesis.{empty_core}
 use Rattle.ibc_machine.specs.Image.{image}
 use Rattle.ibc_machine.specs.Clients.{new_client, updated}
 use Rattle.ibc_machine.proofs.ImageChanges.{IsKeyed}
+use Rattle.ibc_machine.proofs.ChannelChanges.{HasNoPackets}
 use Rattle.ibc_path_store.specs.Held.{HeldStore}
 use Rattle.ibc_records.specs.declared.client.ConsensusState.{ConsensusState}
+use Rattle.ibc_records.specs.declared.records.NextNumbers.{NextNumbers}
 use Rattle.ibc_records.specs.HeldClients.{HeldClient, plain_client, new_held, with_height}
 
 pub record HeldRecords : Type 0 where
   pub clients : Map Text HeldClient
   pub connections : Map Text ConnectionEnd
+  pub channels : Map (Text × Text) Channel
   pub next_client : ℕ
   pub next_connection : ℕ
   pub next_channel : ℕ
@@ -31,7 +36,7 @@ abbrev pub core_of : HeldRecords → Core
 core_of held = record {
   clients = map plain_entry held.clients;
   connections = held.connections;
-  channels = [];
+  channels = held.channels;
   next_client = held.next_client;
   next_connection = held.next_connection;
   next_channel = held.next_channel;
@@ -42,17 +47,33 @@ abbrev pub consensus_in : HeldRecords → Text → ℕ → Option ConsensusState
 consensus_in held client height =
     option_and_then (λ (c : HeldClient). at nat_cmp height c.known) (at text_cmp client held.clients)
 
--- the store is the image of the core, every key of which has names for its names
+-- no packets stand on these channels
+abbrev pub AreQuiet : Map (Text × Text) Channel → Type 0
+AreQuiet channels =
+    (name : Text × Text) (channel : Channel) → at pair_cmp name channels ≡ Some channel → HasNoPackets channel
+
+-- the store is the image of the core, every key of which has names for its names, and no channel has packets
 pub record IsHeld (held : HeldRecords) : Type 0 where
   pub keyed : IsKeyed (core_of held)
   pub stored : held.store.pairs ≡ image (core_of held)
+  pub quiet : AreQuiet held.channels
 
--- the records of a chain in the beginning, whose working block has this time
-pub record IsNew (window time : ℕ) (held : HeldRecords) : Type 0 where
+-- the core of a chain in the beginning, but that the next ones have these numbers
+abbrev pub core_from : NextNumbers → Core
+core_from next =
+    record empty_core { next_client = next.client; next_connection = next.connection; next_channel = next.channel }
+
+-- records as of a chain in the beginning, whose working block has this time, but that the next ones have these numbers
+pub record IsCountingFrom (window time : ℕ) (next : NextNumbers) (held : HeldRecords) : Type 0 where
   pub clients : held.clients ≡ []
   pub connections : held.connections ≡ []
-  pub core : core_of held ≡ empty_core
-  pub store : held.store ≡ record { pairs = image empty_core; room = held.store.room; time = time; window = window; gone = 0; kept = [] }
+  pub channels : held.channels ≡ []
+  pub core : core_of held ≡ core_from next
+  pub store : held.store ≡ record { pairs = image (core_from next); room = held.store.room; time = time; window = window; gone = 0; kept = [] }
+
+-- the records of a chain in the beginning, whose working block has this time
+abbrev pub IsNew : ℕ → ℕ → HeldRecords → Type 0
+IsNew window time = IsCountingFrom window time (record { client = 0; connection = 0; channel = 0 })
 
 -- nothing changed but how much room there is
 abbrev pub IsUnchanged : HeldRecords → HeldRecords → Type 0
@@ -99,3 +120,24 @@ pub record SetsConnection (old : HeldRecords) (id : Text) (end : ConnectionEnd) 
   pub records : new ≡ record old { connections = with text_cmp id end old.connections; store = new.store }
   pub stored : IsStored old new
   pub core : core_of new ≡ with_connection id end (core_of old)
+
+-- a channel with this end was added, its counters at 1, and the next is counted
+pub record AddsChannel (old : HeldRecords) (port id : Text) (end : ChannelEnd) (new : HeldRecords) : Type 0 where
+  pub records : new ≡ record old {
+    channels = with pair_cmp (port, id) (new_channel end) old.channels;
+    next_channel = old.next_channel + 1;
+    store = new.store;
+  }
+  pub stored : IsStored old new
+  pub core : core_of new ≡ with_new_channel port id end (core_of old)
+
+-- a channel has this end, and its counters as before
+pub record SetsChannelEnd (old : HeldRecords) (port id : Text) (end : ChannelEnd) (new : HeldRecords) : Type 0 where
+  pub channel : Channel
+  pub stood : at pair_cmp (port, id) old.channels ≡ Some channel
+  pub records : new ≡ record old {
+    channels = with pair_cmp (port, id) (record channel { end = end }) old.channels;
+    store = new.store;
+  }
+  pub stored : IsStored old new
+  pub core : core_of new ≡ with_channel port id (record channel { end = end }) (core_of old)

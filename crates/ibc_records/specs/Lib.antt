@@ -1,4 +1,5 @@
 pub mod HeldClients
 pub mod Held
+pub mod Entries
 pub mod Knowledge
 pub mod Taking

@@ -7,16 +7,19 @@ ghost use Rattle.ibc_ids.specs.Paths.{path};
 ghost use Rattle.std.specs.Option.{IsSomeAnd};
 ghost use Rattle.ibc_ids.specs.declared.refusal.Refusal.TheVariants.{NoConsensus, NoMemory, TimeBack, UnknownClient};
 ghost use Rattle.ibc_merkle.specs.Written.{written};
-ghost use Rattle.ibc_records.specs.Held.{core_of, IsNew, AddsClient, UpdatesClient, IsUnchanged};
+ghost use Rattle.ibc_records.specs.Held.{core_of, IsNew, IsCountingFrom, AddsClient, UpdatesClient, IsUnchanged};
 ghost use Rattle.ibc_machine.specs.Image.{image, core_root};
+ghost use Rattle.ibc_machine.proofs.ImageChanges.{IsKeyed};
 ghost use Rattle.ibc_records.specs.HeldClients.{with_height};
 ghost use Rattle.ibc_path_store.specs.Held.{committed, height_of, kept_at};
 
+mod channels;
 mod connections;
 
+use crate::channel::Channel;
 use crate::client::{Client, ConsensusState};
 use crate::values::{client_path, client_value, counter, set_reserved};
-use ibc_ids::{ClientId, ConnectionId, Key, Refusal, Root};
+use ibc_ids::{ChannelId, ClientId, ConnectionId, Key, PortId, Refusal, Root};
 use ibc_merkle::Proof;
 use ibc_path_store::Store;
 use ibc_wire::{ClientState, ConnectionEnd};
@@ -24,11 +27,20 @@ use std::alloc::Global;
 use std::collections::BTreeMap;
 use std::marker::Model;
 
+/// The numbers of the next client, connection and channel.
+#[derive(Clone, Copy, Debug, PartialEq, Eq, Drop)]
+pub struct NextNumbers {
+    pub client: u64,
+    pub connection: u64,
+    pub channel: u64,
+}
+
 /// What a chain proves to others, in plain, and the store of paths that is its image (ICS 24, "Provable store").
 #[derive(Drop, Debug)]
 pub struct Records {
     clients: BTreeMap<ClientId, Client>,
     connections: BTreeMap<ConnectionId, ConnectionEnd>,
+    channels: BTreeMap<(PortId, ChannelId), Channel>,
     next_client: u64,
     next_connection: u64,
     next_channel: u64,
@@ -44,6 +56,7 @@ impl Model for Records {
     ghost view = { λ records. record {
       clients = records.clients.entries;
       connections = records.connections.entries;
+      channels = records.channels.entries;
       next_client = records.next_client;
       next_connection = records.next_connection;
       next_channel = records.next_channel;
@@ -53,6 +66,7 @@ impl Model for Records {
     ghost invariant = { λ records. IsHeld (record {
       clients = records.clients.entries;
       connections = records.connections.entries;
+      channels = records.channels.entries;
       next_client = records.next_client;
       next_connection = records.next_connection;
       next_channel = records.next_channel;
@@ -67,23 +81,50 @@ impl Records {
         ensures ok { IfOk result (λ records. IsNew window time records) }
         ensures err { IfErr result (λ refusal. refusal ≡ NoMemory) }
     {
+        let next = NextNumbers {
+            client: 0,
+            connection: 0,
+            channel: 0,
+        };
+        Records::counting_from(alloc, window, time, next)
+    }
+
+    /// Records as those of a chain in the beginning, but that the next client, connection and channel have these
+    /// numbers. `NoMemory` where a growth is refused.
+    pub fn counting_from(
+        alloc: Global,
+        window: u64,
+        time: u64,
+        next: NextNumbers,
+    ) -> Result<Records, Refusal>
+        ensures ok { IfOk result (λ records. IsCountingFrom window time next records) }
+        ensures err { IfErr result (λ refusal. refusal ≡ NoMemory) }
+    {
         let mut store = Store::new(alloc, window, time);
         store.reserve(3)?;
-        let (path, number) = counter(alloc, &Key::NextClientSequence, 0)?;
+        let (path, number) = counter(alloc, &Key::NextClientSequence, next.client)?;
         set_reserved(&mut store, path, number);
-        let (path, number) = counter(alloc, &Key::NextConnectionSequence, 0)?;
+        let (path, number) = counter(alloc, &Key::NextConnectionSequence, next.connection)?;
         set_reserved(&mut store, path, number);
-        let (path, number) = counter(alloc, &Key::NextChannelSequence, 0)?;
+        let (path, number) = counter(alloc, &Key::NextChannelSequence, next.channel)?;
         set_reserved(&mut store, path, number);
         Ok(Records {
             clients: BTreeMap::new(alloc),
             connections: BTreeMap::new(alloc),
-            next_client: 0,
-            next_connection: 0,
-            next_channel: 0,
+            channels: BTreeMap::new(alloc),
+            next_client: next.client,
+            next_connection: next.connection,
+            next_channel: next.channel,
             store,
             alloc,
         })
+    }
+
+    /// Every key that has a value has names for its names (ICS 24, "Identifiers").
+    pub fn names_are_names(&self)
+        ensures { IsKeyed (core_of self.now) }
+    {
+        let _number = self.next_client;
     }
 
     /// A client by its identifier, or none.

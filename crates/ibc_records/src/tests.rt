@@ -1,5 +1,7 @@
-use crate::{ConsensusState, Records};
-use ibc_ids::{ClientId, Key, Refusal, Root};
+use crate::{ConsensusState, NextNumbers, Records};
+use ibc_ids::{ChannelId, ClientId, ConnectionId, Key, PortId, Refusal, Root, Version};
+use ibc_wire::{ChannelEnd, ChannelState, Order};
+use std::alloc::Global;
 use std::test::Fail;
 
 // The SHA-256 of 01 and the two nodes of the genesis tree, worked out apart from this code.
@@ -46,5 +48,115 @@ fn clients_come_and_learn(rt: HostRuntime) -> Result<(), Fail> {
     assert_eq!(rt; records.height(), 2);
     assert!(rt; is_proved(&records, 2));
     assert!(rt; !is_proved(&records, 3));
+    Ok(())
+}
+
+// An end of a channel, as it begins or as it is open to a peer.
+fn end_to(alloc: Global, peer_channel: Option<ChannelId>) -> Result<ChannelEnd, Refusal> {
+    let state = if peer_channel.is_none() {
+        ChannelState::Init
+    } else {
+        ChannelState::Open
+    };
+    Ok(ChannelEnd {
+        state,
+        order: Order::Ordered,
+        peer_port: PortId::parse(alloc, "note")?,
+        peer_channel,
+        connection: ConnectionId::parse(alloc, "connection-0")?,
+        version: Version::parse(alloc, "note-1")?,
+    })
+}
+
+// Records whose one channel is named so.
+fn with_channel(alloc: Global, port: &PortId, id: &ChannelId) -> Result<Records, Refusal> {
+    let mut records = Records::new(alloc, 2, 100)?;
+    let end = end_to(alloc, None)?;
+    records.add_channel(port.clone()?, id.clone()?, end)?;
+    Ok(records)
+}
+
+#[test]
+fn channels_come(rt: HostRuntime) -> Result<(), Fail> {
+    let alloc = rt.alloc();
+    let port = PortId::parse(alloc, "note")?;
+    let id = ChannelId::parse(alloc, "channel-0")?;
+    let other = PortId::parse(alloc, "transfer")?;
+    let records = with_channel(alloc, &port, &id)?;
+    assert_eq!(rt; records.next_channel(), 1);
+    assert!(rt; records.channel(&other, &id)?.is_none());
+    let one: &[u8] = &[0, 0, 0, 0, 0, 0, 0, 1];
+    assert_eq!(rt;
+        records.value("nextSequenceSend/ports/note/channels/channel-0"),
+        Some(one)
+    );
+    assert_eq!(rt;
+        records.value("nextSequenceRecv/ports/note/channels/channel-0"),
+        Some(one)
+    );
+    assert_eq!(rt;
+        records.value("nextSequenceAck/ports/note/channels/channel-0"),
+        Some(one)
+    );
+    assert_eq!(rt; records.value("nextChannelSequence"), Some(one));
+    let end: &[u8] = b"\x01\x02\x00\x04note\x00\x00\x00\x0cconnection-0\x00\x06note-1";
+    assert_eq!(rt;
+        records.value("channelEnds/ports/note/channels/channel-0"),
+        Some(end)
+    );
+    Ok(())
+}
+
+#[test]
+fn channels_open(rt: HostRuntime) -> Result<(), Fail> {
+    let alloc = rt.alloc();
+    let port = PortId::parse(alloc, "note")?;
+    let id = ChannelId::parse(alloc, "channel-0")?;
+    let mut records = with_channel(alloc, &port, &id)?;
+    let end = end_to(alloc, Some(id.clone()?))?;
+    records.set_channel_end(port.clone()?, id.clone()?, end)?;
+    let channel = records.channel(&port, &id)?.ok_or("a channel")?;
+    assert_eq!(rt; channel.end().state, ChannelState::Open);
+    assert_eq!(rt; channel.end().peer_channel.as_ref(), Some(&id));
+    assert_eq!(rt; records.next_channel(), 1);
+    let end: &[u8] = b"\x03\x02\x00\x04note\x00\x09channel-0\x00\x0cconnection-0\x00\x06note-1";
+    assert_eq!(rt;
+        records.value("channelEnds/ports/note/channels/channel-0"),
+        Some(end)
+    );
+    Ok(())
+}
+
+#[test]
+fn unknown_channels_stay_so(rt: HostRuntime) -> Result<(), Fail> {
+    let alloc = rt.alloc();
+    let port = PortId::parse(alloc, "note")?;
+    let id = ChannelId::parse(alloc, "channel-0")?;
+    let mut records = Records::new(alloc, 2, 100)?;
+    let end = end_to(alloc, None)?;
+    assert_eq!(rt;
+        records.set_channel_end(port, id, end),
+        Err(Refusal::UnknownChannel)
+    );
+    assert_eq!(rt;
+        records.value("channelEnds/ports/note/channels/channel-0"),
+        None
+    );
+    Ok(())
+}
+
+#[test]
+fn counters_begin_elsewhere(rt: HostRuntime) -> Result<(), Fail> {
+    let next = NextNumbers {
+        client: 7,
+        connection: u64::MAX,
+        channel: 256,
+    };
+    let records = Records::counting_from(rt.alloc(), 2, 100, next)?;
+    assert_eq!(rt; records.next_client(), 7);
+    assert_eq!(rt; records.next_connection(), u64::MAX);
+    assert_eq!(rt; records.next_channel(), 256);
+    let number: &[u8] = &[0, 0, 0, 0, 0, 0, 1, 0];
+    assert_eq!(rt; records.value("nextChannelSequence"), Some(number));
     Ok(())
 }

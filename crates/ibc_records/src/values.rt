@@ -1,20 +1,20 @@
 //! Paths and values as they stand in the store.
 
-ghost use Rattle.std.specs.Prelude.{◌≡◌, ◌<◌, ◌≤◌, ◌+◌, ◌++◌, IfOk, IfErr, OnOk, IsTrue, string_bytes};
+ghost use Rattle.std.specs.Prelude.{◌≡◌, ◌<◌, ◌≤◌, ◌+◌, ◌++◌, ◌&&◌, IfOk, IfErr, OnOk, IsTrue, string_bytes};
 ghost use Rattle.ibc_ids.specs.Texts.{text_cmp};
 ghost use Rattle.ibc_ids.specs.Maps.{with};
-ghost use Rattle.ibc_ids.specs.Names.{is_client, is_connection};
-ghost use Rattle.ibc_ids.specs.Paths.{path};
+ghost use Rattle.ibc_ids.specs.Names.{is_client, is_connection, is_port, is_channel};
+ghost use Rattle.ibc_ids.specs.Paths.{path, channel_path as path_of_channel};
 ghost use Rattle.ibc_ids.specs.declared.key.Key.TheVariants as key;
 ghost use Rattle.ibc_ids.specs.declared.refusal.Refusal.TheVariants.{NoMemory};
-ghost use Rattle.ibc_wire.specs.Spelling.{connection_end_bytes};
-ghost use Rattle.ibc_machine.specs.Values.{value_bytes, NumberIs, ClientIs, ConnectionIs};
+ghost use Rattle.ibc_wire.specs.Spelling.{connection_end_bytes, channel_end_bytes};
+ghost use Rattle.ibc_machine.specs.Values.{value_bytes, NumberIs, ClientIs, ConnectionIs, ChannelIs};
 
 use ibc_codec::fields::{write_name, write_peer, write_text};
 use ibc_codec::{Wire, encode};
-use ibc_ids::{Bytes, ClientId, ConnectionId, Key, Refusal};
+use ibc_ids::{Bytes, ChannelId, ClientId, ConnectionId, Key, PortId, Refusal};
 use ibc_path_store::Store;
-use ibc_wire::{ClientState, ConnectionEnd, ConnectionState};
+use ibc_wire::{ChannelEnd, ChannelState, ClientState, ConnectionEnd, ConnectionState};
 use std::alloc::Global;
 
 /// The path of a client's state.
@@ -33,6 +33,22 @@ pub fn connection_path(alloc: Global, id: &ConnectionId) -> Result<String, Refus
     ensures err { IfErr result (λ refusal. refusal ≡ NoMemory) }
 {
     Ok(format!(in alloc; "connections/{}", id.as_str())?)
+}
+
+/// The path of a channel's record of this kind.
+pub fn channel_path(
+    alloc: Global,
+    kind: &str,
+    port: &PortId,
+    id: &ChannelId,
+) -> Result<String, Refusal>
+    ensures ok { IfOk result (λ text. string_bytes text ≡ kind.now ++ path_of_channel port.now id.now) }
+    ensures named { IsTrue (is_port port.now && is_channel id.now) }
+    ensures err { IfErr result (λ refusal. refusal ≡ NoMemory) }
+{
+    let port = port.as_str();
+    let id = id.as_str();
+    Ok(format!(in alloc; "{kind}/ports/{port}/channels/{id}")?)
 }
 
 /// Sets the value of a path, for which there is room.
@@ -87,4 +103,32 @@ fn write_connection(bytes: &mut Vec<u8>, end: &ConnectionEnd) -> Result<(), Refu
         write_peer(bytes, is_init, &end.peer_connection)?;
     }
     write_text(bytes, b"1", u16::MAX)
+}
+
+/// The bytes of an end of a channel (ICS 4, "ChannelEnd"): its fields in order.
+pub fn channel_value(alloc: Global, end: &ChannelEnd) -> Result<Bytes, Refusal>
+    ensures ok { IfOk result (λ bytes. bytes ≡ value_bytes (ChannelIs end.now)) }
+    ensures err { IfErr result (λ refusal. refusal ≡ NoMemory) }
+{
+    let mut bytes = Vec::new(alloc);
+    match write_channel(&mut bytes, end) {
+        Ok(()) => Ok(Bytes::from_vec(bytes)),
+        // What is written has its form, so only a growth is refused.
+        Err(_) => Err(Refusal::NoMemory),
+    }
+}
+
+// Writes the fields of an end. A peer's name that the end's state doesn't allow has no spelling, and is left out.
+fn write_channel(bytes: &mut Vec<u8>, end: &ChannelEnd) -> Result<(), Refusal>
+    ensures { OnOk result (bytes.new.items ≡ bytes.old.items ++ channel_end_bytes end.now) }
+{
+    end.state.write(bytes)?;
+    end.order.write(bytes)?;
+    write_name(bytes, &end.peer_port)?;
+    let is_init = end.state == ChannelState::Init;
+    if is_init == end.peer_channel.is_none() {
+        write_peer(bytes, is_init, &end.peer_channel)?;
+    }
+    write_name(bytes, &end.connection)?;
+    write_name(bytes, &end.version)
 }

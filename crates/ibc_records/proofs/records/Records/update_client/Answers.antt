@@ -23,7 +23,7 @@ returns-in_err-reserve-clause-unknown c = λ none. absurd (is_there _ c.args.sel
 
 pub invariant_of-self-2 : goal.invariant_of-self-2
 invariant_of-self-2 c =
-    (updated_from (record { clients = c.self.inside.clients.entries; connections = c.self.inside.connections.entries; next_client = c.self.inside.next_client; next_connection = c.self.inside.next_connection; next_channel = c.self.inside.next_channel; store = c.self.inside.store })
+    (updated_from (record { clients = c.self.inside.clients.entries; connections = c.self.inside.connections.entries; channels = c.self.inside.channels.entries; next_client = c.self.inside.next_client; next_connection = c.self.inside.next_connection; next_channel = c.self.inside.next_channel; store = c.self.inside.store })
     c.args.id.now c.args.height c.args.known c.in-Some.client.now c.learn.new.clients.entries c.reserve.new.self c.set_reserved.new.store c.self.invariant c.client_path.ensures.named (sym c.in-Some.ensures.value)
     (subst (λ o. IfSome o (λ client. c.learn.new.clients.entries ≡ with text_cmp c.args.id.now (with_height c.args.height c.args.known client) c.self.inside.clients.entries)) (sym c.in-Some.ensures.value) c.in_ok-learn.ensures.ok)
     c.in_ok-path.ensures.ok (c.in_ok-value.ensures.ok ∙ ap (λ latest. value_bytes (ClientIs (record { chain = c.state-state.result.chain; latest = latest }))) c.max-latest.ensures ∙ ap (λ state. value_bytes (ClientIs (record { chain = state.chain; latest = max state.latest c.args.height }))) c.state-state.ensures)
@@ -34,12 +34,13 @@ returns-clause-ok c =
     subst (λ (old : HeldRecords). UpdatesClient old c.args.id.now c.args.height c.args.known (record {
       clients = c.learn.new.clients.entries;
       connections = c.self.inside.connections.entries;
+      channels = c.self.inside.channels.entries;
       next_client = c.self.inside.next_client;
       next_connection = c.self.inside.next_connection;
       next_channel = c.self.inside.next_channel;
       store = c.set_reserved.new.store;
     })) c.self.view_is
-    (updated_from (record { clients = c.self.inside.clients.entries; connections = c.self.inside.connections.entries; next_client = c.self.inside.next_client; next_connection = c.self.inside.next_connection; next_channel = c.self.inside.next_channel; store = c.self.inside.store })
+    (updated_from (record { clients = c.self.inside.clients.entries; connections = c.self.inside.connections.entries; channels = c.self.inside.channels.entries; next_client = c.self.inside.next_client; next_connection = c.self.inside.next_connection; next_channel = c.self.inside.next_channel; store = c.self.inside.store })
     c.args.id.now c.args.height c.args.known c.in-Some.client.now c.learn.new.clients.entries c.reserve.new.self c.set_reserved.new.store c.self.invariant c.client_path.ensures.named (sym c.in-Some.ensures.value)
     (subst (λ o. IfSome o (λ client. c.learn.new.clients.entries ≡ with text_cmp c.args.id.now (with_height c.args.height c.args.known client) c.self.inside.clients.entries)) (sym c.in-Some.ensures.value) c.in_ok-learn.ensures.ok)
     c.in_ok-path.ensures.ok (c.in_ok-value.ensures.ok ∙ ap (λ latest. value_bytes (ClientIs (record { chain = c.state-state.result.chain; latest = latest }))) c.max-latest.ensures ∙ ap (λ state. value_bytes (ClientIs (record { chain = state.chain; latest = max state.latest c.args.height }))) c.state-state.ensures)

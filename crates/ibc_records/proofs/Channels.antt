@@ -1,0 +1,112 @@
+-- A channel is added, or its end is set: the store is again the image.
+use Rattle.std.proofs.Common.{◌≡◌, ◌+◌, ◌&&◌, true, is_some, List, [], ◌∷◌, Option, Some, None, refl, sym, ap, subst, ◌∙◌, inl, inr}
+use Rattle.std.specs.Prelude.{IsTrue, IfSome, IsNone}
+use Rattle.ibc_ids.specs.Texts.{Text, pair_cmp}
+use Rattle.ibc_ids.specs.Maps.{at, with}
+use Rattle.ibc_ids.specs.Names.{is_port, is_channel}
+use Rattle.ibc_ids.specs.Paths.{path}
+use Rattle.ibc_ids.specs.declared.key.Key.TheVariants as key
+use Rattle.ibc_merkle.specs.Tree.{Pairs}
+use Rattle.ibc_wire.specs.declared.records.ChannelEnd.{ChannelEnd}
+use Rattle.ibc_machine.specs.Records.{Core, Channel, with_channel}
+use Rattle.ibc_machine.specs.Channels.{new_channel, with_new_channel}
+use Rattle.ibc_machine.specs.Values.{ChannelIs, NumberIs, value_bytes}
+use Rattle.ibc_machine.proofs.FiniteMaps.{by_pair, found_in_with}
+use Rattle.ibc_machine.proofs.CoreChanges.{changes-next_channel, keyed-next_channel}
+use Rattle.ibc_machine.proofs.ChannelChanges.{HasNoPackets, new_channel_at, changes-with_new_channel, keyed-with_new_channel, changes-with_channel_end, keyed-with_channel_end}
+use Rattle.ibc_path_store.specs.Held.{HeldStore}
+use Rattle.ibc_records.specs.Held.{HeldRecords, IsHeld, AreQuiet, AddsChannel, SetsChannelEnd, core_of}
+use Rattle.ibc_records.proofs.Stores.{Sets, SetsAll, becomes_roomy, becomes_set, becomes_set_all}
+use Rattle.ibc_records.proofs.Images.{image_in, image_set, image_changed, is_held, is_stored}
+
+abbrev pub Channels : Type 0
+Channels = List ((Text × Text) × Channel)
+
+still_quiet : (channels : Channels) (name : Text × Text) (channel : Channel) → AreQuiet channels → HasNoPackets channel
+    → AreQuiet (with pair_cmp name channel channels)
+still_quiet channels name channel quiet none other c found = elim (found_in_with by_pair name other channel c channels found) [
+  | inl h ↦ subst HasNoPackets h.1 none
+  | inr h ↦ quiet other c h
+]
+
+-- the paths of a new channel with what stands there
+abbrev pub new_entries : Text → Text → ChannelEnd → Pairs
+new_entries port id end =
+    (path (key.ChannelEnd port id), value_bytes (ChannelIs end)) ∷ (path (key.NextSequenceSend port id), value_bytes (NumberIs 1))
+    ∷ (path (key.NextSequenceRecv port id), value_bytes (NumberIs 1)) ∷ (path (key.NextSequenceAck port id), value_bytes (NumberIs 1)) ∷ []
+
+module _ (old : HeldRecords) (port id : Text) (end : ChannelEnd) (channels : Channels) (held : IsHeld old) (named : IsTrue (is_port port && is_channel id)) where
+  -- from what the calls on the map and the store say
+  pub adds : (s1 s2 s3 : HeldStore) {entries : Pairs} {q w : Text} → channels ≡ with pair_cmp (port, id) (new_channel end) old.channels
+      → entries ≡ new_entries port id end → q ≡ path key.NextChannelSequence → w ≡ value_bytes (NumberIs (old.next_channel + 1))
+      → s1 ≡ record old.store { room = s1.room } → SetsAll s1 entries s2 → Sets s2 q w s3
+      → IsHeld (record old { channels = channels; next_channel = old.next_channel + 1; store = s3 })
+      × AddsChannel old port id end (record old { channels = channels; next_channel = old.next_channel + 1; store = s3 })
+  adds s1 s2 s3 {entries} {q} {w} is ee eq ew e f g =
+      let becomes = becomes_set old.store _ s2 s3 (becomes_set_all old.store _ s1 s2 (becomes_roomy old.store s1 e) f ee) g eq ew in
+      let with_it : Core = with_channel port id (new_channel end) (core_of old) in
+      let quiet : (c : Channel) → at pair_cmp (port, id) old.channels ≡ Some c → HasNoPackets c = held.quiet (port, id) in
+      let image_with = image_changed (core_of old) with_it (new_channel_at port id end) old.store.pairs (image_in old held)
+      (keyed-with_new_channel (core_of old) port id end quiet held.keyed named) (changes-with_new_channel (core_of old) port id end quiet named) in
+      let core = with_new_channel port id end (core_of old) in
+      let is_image = image_set with_it core key.NextChannelSequence (NumberIs (old.next_channel + 1)) _ image_with
+      (keyed-next_channel with_it (old.next_channel + 1) image_with.keyed) (changes-next_channel with_it (old.next_channel + 1)) in
+      let after : HeldRecords = record old { channels = with pair_cmp (port, id) (new_channel end) old.channels; next_channel = old.next_channel + 1; store = s3 } in
+      let still = still_quiet old.channels (port, id) (new_channel end) held.quiet (record { commitments = refl; receipts = refl; acks = refl }) in
+      subst (λ cs. IsHeld (record old { channels = cs; next_channel = old.next_channel + 1; store = s3 }) × AddsChannel old port id end (record old { channels = cs; next_channel = old.next_channel + 1; store = s3 })) (sym is)
+      (is_held old after core _ is_image becomes refl still, record { records = refl; stored = is_stored old after core _ is_image becomes refl; core = refl })
+
+  pub sets : (channel : Channel) (s1 s2 : HeldStore) {p v : Text} → at pair_cmp (port, id) old.channels ≡ Some channel
+      → channels ≡ with pair_cmp (port, id) (record channel { end = end }) old.channels
+      → p ≡ path (key.ChannelEnd port id) → v ≡ value_bytes (ChannelIs end)
+      → s1 ≡ record old.store { room = s1.room } → Sets s1 p v s2
+      → IsHeld (record old { channels = channels; store = s2 }) × SetsChannelEnd old port id end (record old { channels = channels; store = s2 })
+  sets channel s1 s2 {p} {v} there is ep ev e f =
+      let becomes = becomes_set old.store _ s1 s2 (becomes_roomy old.store s1 e) f ep ev in
+      let core : Core = with_channel port id (record channel { end = end }) (core_of old) in
+      let is_image = image_set (core_of old) core (key.ChannelEnd port id) (ChannelIs end) old.store.pairs (image_in old held)
+      (keyed-with_channel_end (core_of old) port id channel end there held.keyed named) (changes-with_channel_end (core_of old) port id channel end there) in
+      let after : HeldRecords = record old { channels = with pair_cmp (port, id) (record channel { end = end }) old.channels; store = s2 } in
+      let none = held.quiet (port, id) channel there in
+      let still = still_quiet old.channels (port, id) (record channel { end = end }) held.quiet (record { commitments = none.commitments; receipts = none.receipts; acks = none.acks }) in
+      subst (λ cs. IsHeld (record old { channels = cs; store = s2 }) × SetsChannelEnd old port id end (record old { channels = cs; store = s2 })) (sym is) (
+        is_held old after core _ is_image becomes refl still,
+        record {
+          channel = channel;
+          stood = there;
+          records = refl;
+          stored = is_stored old after core _ is_image becomes refl;
+          core = refl;
+        },
+      )
+
+  -- the same, where it is known that there is a channel
+  pub sets_there : (s1 s2 : HeldStore) {p v : Text} → is_some (at pair_cmp (port, id) old.channels) ≡ true
+      → IfSome (at pair_cmp (port, id) old.channels) (λ channel. channels ≡ with pair_cmp (port, id) (record channel { end = end }) old.channels)
+      → p ≡ path (key.ChannelEnd port id) → v ≡ value_bytes (ChannelIs end)
+      → s1 ≡ record old.store { room = s1.room } → Sets s1 p v s2
+      → IsHeld (record old { channels = channels; store = s2 }) × SetsChannelEnd old port id end (record old { channels = channels; store = s2 })
+  sets_there s1 s2 some is ep ev e f = go (at pair_cmp (port, id) old.channels) refl some is
+    where
+      go : (o : Option Channel) → at pair_cmp (port, id) old.channels ≡ o → is_some o ≡ true
+          → IfSome o (λ channel. channels ≡ with pair_cmp (port, id) (record channel { end = end }) old.channels)
+          → IsHeld (record old { channels = channels; store = s2 }) × SetsChannelEnd old port id end (record old { channels = channels; store = s2 })
+      go None there some is = absurd (cc)
+      go (Some channel) there some is = sets channel s1 s2 there is ep ev e f
+
+-- room was made, and no channel came
+pub roomy : (old : HeldRecords) (channels : Channels) (s1 : HeldStore) → IsHeld old → channels ≡ old.channels → s1 ≡ record old.store { room = s1.room }
+    → IsHeld (record old { channels = channels; store = s1 })
+roomy old channels s1 held same e =
+    subst (λ cs. IsHeld (record old { channels = cs; store = s1 })) (sym same)
+    (record { keyed = held.keyed; stored = ap (λ (s : HeldStore). s.pairs) e ∙ held.stored; quiet = held.quiet })
+
+-- a channel that is there in the view of records isn't missing
+pub is_not_missing : (view value : HeldRecords) (name : Text × Text) → is_some (at pair_cmp name view.channels) ≡ true → view ≡ value
+    → IsNone (at pair_cmp name value.channels) → ⊥
+is_not_missing view value name some same none =
+    go (at pair_cmp name value.channels) (ap (λ (held : HeldRecords). is_some (at pair_cmp name held.channels)) (sym same) ∙ some) none
+  where
+    go : (o : Option Channel) → is_some o ≡ true → IsNone o → ⊥
+    go None some none = cc
+    go (Some channel) some none = cc

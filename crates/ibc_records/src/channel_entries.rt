@@ -1,0 +1,99 @@
+//! What stands at the paths of a new channel.
+
+ghost use Rattle.std.specs.Prelude.{◌≡◌, ◌+◌, ◌++◌, ◌&&◌, ◌≤◌, ◌∷◌, [], IsTrue, IfOk, IfErr, string_bytes};
+ghost use Rattle.ibc_ids.specs.Names.{is_port, is_channel};
+ghost use Rattle.ibc_ids.specs.Paths.{path, channel_path as path_of_channel};
+ghost use Rattle.ibc_ids.specs.declared.key.Key.TheVariants as key;
+ghost use Rattle.ibc_ids.specs.declared.refusal.Refusal.TheVariants.{NoMemory};
+ghost use Rattle.ibc_machine.specs.Values.{value_bytes, NumberIs, ChannelIs};
+ghost use Rattle.ibc_records.specs.Entries.{with_all};
+
+use crate::values::{channel_path, channel_value, set_reserved};
+use ibc_ids::{Bytes, ChannelId, PortId, Refusal};
+use ibc_path_store::Store;
+use ibc_wire::ChannelEnd;
+use std::alloc::Global;
+use std::marker::Model;
+
+/// The end of a new channel and its three counters, each a path with the bytes that stand there.
+#[derive(Drop, Debug)]
+pub struct ChannelEntries {
+    end: (String, Bytes),
+    next_send: (String, Bytes),
+    next_recv: (String, Bytes),
+    next_ack: (String, Bytes),
+}
+
+impl Model for ChannelEntries {
+    ghost use Rattle.std.specs.Prelude.{◌∷◌, [], string_bytes};
+    ghost use Rattle.ibc_merkle.specs.Tree.{Pairs};
+
+    ghost Value = { Pairs };
+
+    ghost view = { λ entries.
+        (string_bytes entries.end.0, entries.end.1)
+        ∷ (string_bytes entries.next_send.0, entries.next_send.1)
+        ∷ (string_bytes entries.next_recv.0, entries.next_recv.1)
+        ∷ (string_bytes entries.next_ack.0, entries.next_ack.1)
+        ∷ [] };
+}
+
+impl ChannelEntries {
+    /// The entries of a channel with this end, whose counters are 1. Refused: `NoMemory`.
+    pub fn new(
+        alloc: Global,
+        port: &PortId,
+        id: &ChannelId,
+        end: &ChannelEnd,
+    ) -> Result<ChannelEntries, Refusal>
+        ensures ok { IfOk result (λ entries. entries ≡
+            (path (key.ChannelEnd port.now id.now), value_bytes (ChannelIs end.now))
+            ∷ (path (key.NextSequenceSend port.now id.now), value_bytes (NumberIs 1))
+            ∷ (path (key.NextSequenceRecv port.now id.now), value_bytes (NumberIs 1))
+            ∷ (path (key.NextSequenceAck port.now id.now), value_bytes (NumberIs 1))
+            ∷ []) }
+        ensures named { IsTrue (is_port port.now && is_channel id.now) }
+        ensures err { IfErr result (λ refusal. refusal ≡ NoMemory) }
+    {
+        let path = channel_path(alloc, "channelEnds", port, id)?;
+        Ok(ChannelEntries {
+            end: (path, channel_value(alloc, end)?),
+            next_send: first_sequence(alloc, "nextSequenceSend", port, id)?,
+            next_recv: first_sequence(alloc, "nextSequenceRecv", port, id)?,
+            next_ack: first_sequence(alloc, "nextSequenceAck", port, id)?,
+        })
+    }
+}
+
+// The path of a counter of a channel, and the bytes of the first sequence.
+fn first_sequence(
+    alloc: Global,
+    kind: &str,
+    port: &PortId,
+    id: &ChannelId,
+) -> Result<(String, Bytes), Refusal>
+    ensures path { IfOk result (λ entry. string_bytes entry.0 ≡ kind.now ++ path_of_channel port.now id.now) }
+    ensures number { IfOk result (λ entry. entry.1 ≡ value_bytes (NumberIs 1)) }
+    ensures err { IfErr result (λ refusal. refusal ≡ NoMemory) }
+{
+    let path = channel_path(alloc, kind, port, id)?;
+    Ok((path, Bytes::copy_of(alloc, &1_u64.to_be_bytes())?))
+}
+
+/// Sets the paths of a new channel, for which there is room.
+pub fn set_entries(store: &mut Store, entries: ChannelEntries)
+    requires { 4 ≤ store.old.room }
+    ensures set { store.new ≡ record store.old { pairs = with_all entries store.old.pairs; room = store.new.room } }
+    ensures room { store.old.room ≤ store.new.room + 4 }
+{
+    let ChannelEntries {
+        end,
+        next_send,
+        next_recv,
+        next_ack,
+    } = entries;
+    set_reserved(store, end.0, end.1);
+    set_reserved(store, next_send.0, next_send.1);
+    set_reserved(store, next_recv.0, next_recv.1);
+    set_reserved(store, next_ack.0, next_ack.1);
+}
