@@ -1,5 +1,5 @@
 -- What a proof shows under a root that a client holds is what the ledger's state says of it.
-use Rattle.std.proofs.Common.{◌≡◌, ℕ, Bool, true, false, is_some, refl, sym, ap, ◌∙◌, List, Option, Some, None, Ok, Err, option_map, option_and_then}
+use Rattle.std.proofs.Common.{◌≡◌, ℕ, Bool, true, false, is_some, refl, sym, ap, ◌∙◌, List, Option, Some, None, Err, option_map, option_and_then}
 use Rattle.std.specs.Prelude.{⊤}
 use Rattle.std.specs.Option.{option_map_or}
 use Rattle.std.specs.Ordering.{nat_cmp}
@@ -15,7 +15,7 @@ use Rattle.ibc_wire.specs.Reading.{proof_of}
 use Rattle.ibc_machine.specs.Checks.{Checked, require, expect, go_on, ◌>>=◌}
 use Rattle.ibc_machine.specs.Evidence.{require_proof}
 use Rattle.ibc_machine.specs.Records.{knows}
-use Rattle.ibc_machine.specs.Replay.{LedgerState, Consensus, proves, is_shown, consensus_at}
+use Rattle.ibc_machine.specs.Replay.{LedgerState, Consensus, proves, is_shown}
 use Rattle.ibc_machine.specs.Values.{Value, Claim, has, lacks, value_bytes}
 use Rattle.ibc_records.specs.declared.client.ConsensusState.{ConsensusState}
 use Rattle.ibc_records.specs.HeldClients.{HeldClient}

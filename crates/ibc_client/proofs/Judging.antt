@@ -1,6 +1,6 @@
 -- How the checks of a message, one after another, decide what becomes of it.
-use Rattle.std.proofs.Common.{◌≡◌, ◌⊎◌, ◌<◌, ◌↔◌, ℕ, Bool, false, inl, inr, refl, sym, ap, subst, ◌∙◌, Ok, Err, Some, None, Option, is_some, length, option_map}
-use Rattle.std.specs.Prelude.{⊤, Result, IfOk, IsErrOf, slice_index}
+use Rattle.std.proofs.Common.{◌≡◌, ◌⊎◌, ◌<◌, ℕ, Bool, false, inl, inr, refl, sym, ap, subst, ◌∙◌, Ok, Err, Some, None, Option, is_some, length, option_map}
+use Rattle.std.specs.Prelude.{⊤, Result, IfOk, IfErr, OnOk, OnErr, slice_index}
 use Rattle.std.proofs.lemmas.Result.{IfOk-weaker}
 use Rattle.ibc_ids.specs.Texts.{Text, text_cmp}
 use Rattle.ibc_ids.specs.Maps.{at}
@@ -11,12 +11,13 @@ use Rattle.ibc_wire.specs.Fields.{Spells}
 use Rattle.ibc_wire.specs.Spelling.{proof_fields}
 use Rattle.ibc_wire.specs.Reading.{proof_of, ReadsWhatIsSpelled}
 use Rattle.ibc_machine.specs.declared.reply.Effect.{Effect}
+use Rattle.ibc_machine.specs.declared.reply.Effect.TheVariants as effect
 use Rattle.ibc_machine.specs.Records.{Core, Client}
 use Rattle.ibc_machine.specs.Checks.{Checked, require, expect, go_on, ◌>>=◌, ◌>>◌}
 use Rattle.ibc_machine.proofs.PassedChecks.{pass, fail, miss}
 use Rattle.ibc_records.specs.HeldClients.{HeldClient, plain_client}
 use Rattle.ibc_records.specs.Held.{HeldRecords, core_of, IsUnchanged}
-use Rattle.ibc_records.specs.Taking.{IsTaken}
+use Rattle.ibc_records.specs.Taking.{IsTaken, IsWritten}
 use Rattle.ibc_client.specs.Judging.{require_client, IsUnlessMemory, IsPassed}
 use Rattle.ibc_client.proofs.Updating.{client_at-held}
 
@@ -31,6 +32,10 @@ failed (inr e) = inl (sym e)
 pub passed : {A : Type 0} {checked : Checked A} {x : A} → IsUnlessMemory checked (Ok x) → checked ≡ Ok x
 passed (inl e) = absurd cc
 passed (inr e) = sym e
+
+-- memory ran out before a check was made
+pub unchecked : {A : Type 0} {checked : Checked A} (result : Result A Refusal) {e : Refusal} → result ≡ Err e → e ≡ NoMemory → IsUnlessMemory checked result
+unchecked result is memory = inl (is ∙ ap Err memory)
 
 -- an answer that goes on with a check that failed
 pub stops : {B : Type 0} {y : Checked B} {x : Checked ⊤} {r : Refusal} (rest : Checked B) → IsRefusedBy x r → y ≡ (x >> rest) → IsRefusedBy y r
@@ -61,6 +66,29 @@ pub untaken : {A : Type 0} (effect_of : A → Effect) (checked : Checked (Effect
     → result ≡ Err e → e ≡ r → IsRefusedBy checked r → IsUnchanged old new → IsTaken effect_of checked old result new
 untaken effect_of checked old result new is same why unchanged =
     subst (λ r. IsTaken effect_of checked old r new) (sym is) (subst (IsRefusedBy checked) (sym same) why, unchanged)
+
+-- the value of checks that passed, once it was made
+pub made : {A B : Type 0} (checked : Checked B) (given : A → B) (value : A) (result : Result A Refusal) → checked ≡ Ok (given value)
+    → IfOk result (λ x. x ≡ value) → IfErr result (λ refusal. refusal ≡ NoMemory) → IsPassed checked given result
+made checked given value (Ok x) is same memory = is ∙ ap (λ v. Ok (given v)) (sym same)
+made checked given value (Err refusal) is same memory = inr memory
+
+-- the result of a message that all checks let through
+module _ (checked : Checked (Effect × Core)) (old new : HeldRecords) where
+  -- what it added has this name
+  pub added_taken : (effect_of : Text → Effect) (name : Text) (core_with : Text → Core) (result : Result Text Refusal) → checked ≡ Ok (effect_of name, core_with name)
+      → IfOk result (λ id. (id ≡ name) × IsWritten (core_with id) old new) → IfErr result (λ refusal. refusal ≡ NoMemory) → OnErr result (IsUnchanged old new)
+      → IsTaken effect_of checked old result new
+  added_taken effect_of name core_with (Ok id) is added err unchanged =
+      (core_with id, is ∙ ap (λ n. Ok (effect_of n, core_with n)) (sym added.0), added.1)
+  added_taken effect_of name core_with (Err refusal) is added err unchanged = (inr err, unchanged)
+
+  -- it set something
+  pub set_taken : (core : Core) (result : Result ⊤ Refusal) → checked ≡ Ok (effect.None, core)
+      → OnOk result (IsWritten core old new) → IfErr result (λ refusal. refusal ≡ NoMemory) → OnErr result (IsUnchanged old new)
+      → IsTaken (λ _. effect.None) checked old result new
+  set_taken core (Ok x) is written err unchanged = (core, is, written)
+  set_taken core (Err refusal) is written err unchanged = (inr err, unchanged)
 
 -- ---- what the code finds
 

@@ -1,7 +1,7 @@
 //! Checks that the messages of connections, channels and packets share.
 
-ghost use Rattle.std.specs.Prelude.{◌≡◌, ◌⊎◌, false, Some, is_some, IfOk, IfErr, IsErrOf};
-ghost use Rattle.ibc_machine.specs.Evidence.{require_known};
+ghost use Rattle.std.specs.Prelude.{◌≡◌, ◌⊎◌, ◌-◌, ◌^◌, ◌<◌, false, Some, is_some, IfOk, IfErr, IsErrOf};
+ghost use Rattle.ibc_machine.specs.Evidence.{require_known, require_number};
 ghost use Rattle.ibc_wire.specs.Reading.{proof_of};
 ghost use Rattle.ibc_records.specs.Held.{core_of};
 ghost use Rattle.ibc_client.specs.Judging.{require_client};
@@ -42,5 +42,17 @@ pub fn check_known(records: &Records, client: &ClientId, height: u64) -> Result<
         Ok(())
     } else {
         Err(Refusal::NoConsensus)
+    }
+}
+
+/// A number that counts up isn't the last, or else `NumberFull`.
+pub fn check_number(number: u64) -> Result<(), Refusal>
+    ensures checked { result ≡ require_number number }
+    ensures free { IfOk result (λ _. number < 2 ^ 64 - 1) }
+{
+    if number == u64::MAX {
+        Err(Refusal::NumberFull)
+    } else {
+        Ok(())
     }
 }

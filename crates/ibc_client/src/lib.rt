@@ -8,8 +8,8 @@ mod proof_check;
 mod update_client;
 
 pub use create_client::create;
-pub use evidence::{check_client, check_known, read_proof};
-pub use proof_check::{check_absent, check_present, knows};
+pub use evidence::{check_client, check_known, check_number, read_proof};
+pub use proof_check::{check_absent, check_path, check_present, knows};
 pub use update_client::{Updated, update};
 
 #[cfg(test)]

@@ -29,8 +29,23 @@ pub fn check_present(
 ) -> Result<(), Refusal>
     ensures { (result ≡ Err NoMemory) ⊎ (result ≡ shown records.now client.now height (λ root. accepts_present proof.now root (path key.now) value.now)) }
 {
-    let known = known_at(records, client, height)?;
     let path = key.path(alloc)?;
+    check_path(records, client, height, path.as_str(), value, proof)
+}
+
+/// Checks that the chain that a client tracks had a value at a path at a height (ICS 2, "verifyMembership"). Refused as
+/// by `check_present`, and never for want of memory.
+pub fn check_path(
+    records: &Records,
+    client: &ClientId,
+    height: u64,
+    path: &str,
+    value: &[u8],
+    proof: &Proof,
+) -> Result<(), Refusal>
+    ensures { result ≡ shown records.now client.now height (λ root. accepts_present proof.now root path.now value.now) }
+{
+    let known = known_at(records, client, height)?;
     accept(verify_present(proof, &known.root, path.as_bytes(), value))
 }
 

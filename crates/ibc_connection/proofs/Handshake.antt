@@ -1,9 +1,8 @@
 -- The checks of the handshake in a row, as the code makes them.
-use Rattle.std.proofs.Common.{◌≡◌, ◌&&◌, Some, None, Ok, refl, ap}
+use Rattle.std.proofs.Common.{◌≡◌, ◌&&◌, Ok, refl, ap}
 use Rattle.ibc_ids.specs.Texts.{Text}
-use Rattle.ibc_ids.specs.Paths.{nth_connection}
 use Rattle.ibc_ids.specs.declared.refusal.Refusal.TheVariants.{UnknownClient, UnknownConnection, WrongState, WrongSelfClient, BadMessage}
-use Rattle.ibc_wire.specs.declared.records.ConnectionState.TheVariants.{Init, TryOpen, Open}
+use Rattle.ibc_wire.specs.declared.records.ConnectionState.TheVariants.{Init, TryOpen}
 use Rattle.ibc_wire.specs.declared.records.ConnectionEnd.{ConnectionEnd}
 use Rattle.ibc_wire.specs.declared.messages.ConnOpenInit.{ConnOpenInit}
 use Rattle.ibc_wire.specs.declared.messages.ConnOpenTry.{ConnOpenTry}
@@ -15,7 +14,7 @@ use Rattle.ibc_machine.specs.Records.{Core, client_at, connection_at, with_conne
 use Rattle.ibc_machine.specs.Values.{same_connection_state}
 use Rattle.ibc_machine.specs.Checks.{Checked, require, expect, ◌>>=◌, ◌>>◌}
 use Rattle.ibc_machine.specs.Evidence.{Host, Evidence, require_number, require_known, require_proof}
-use Rattle.ibc_machine.specs.Connections.{names_host, connection_end, has_connection, has_client, conn_open_init, conn_open_try, conn_open_ack, conn_open_confirm}
+use Rattle.ibc_machine.specs.Connections.{names_host, has_connection, has_client, conn_open_init, conn_open_try, conn_open_ack, conn_open_confirm}
 use Rattle.ibc_machine.proofs.PassedChecks.{unused}
 use Rattle.ibc_client.specs.Judging.{require_client}
 use Rattle.ibc_connection.specs.Ends.{begun, inited, tried, acknowledged, confirmed, begun_there, answered_there, opened_there}

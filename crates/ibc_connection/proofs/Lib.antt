@@ -1,3 +1,2 @@
 pub mod Handshake
-pub mod Shown
 pub mod Opened

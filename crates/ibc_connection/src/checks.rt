@@ -34,11 +34,7 @@ pub fn check_number(records: &Records) -> Result<(), Refusal>
     ensures checked { result ≡ require_number records.now.next_connection }
     ensures free { IfOk result (λ _. records.now.next_connection < 2 ^ 64 - 1) }
 {
-    if records.next_connection() == u64::MAX {
-        Err(Refusal::NumberFull)
-    } else {
-        Ok(())
-    }
+    ibc_client::check_number(records.next_connection())
 }
 
 /// The connection is in this state, or else `WrongState`.

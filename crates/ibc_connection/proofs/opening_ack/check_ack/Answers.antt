@@ -1,16 +1,16 @@
 -- Each check of the code is the definition's.
-use Rattle.std.proofs.Common.{ℕ, List, None, is_some, ◌&&◌, Some, refl, sym, ap, ◌∙◌, inl, inr}
+use Rattle.std.proofs.Common.{ℕ, List, None, is_some, ◌&&◌, sym, inl}
 use Rattle.std.proofs.lemmas.Result.{err_from_is_err_and}
 use Rattle.ibc_ids.specs.declared.refusal.Refusal.TheVariants.{BadMessage, UnknownConnection}
 use Rattle.ibc_ids.specs.declared.publication.Publication.{Publication}
 use Rattle.ibc_wire.specs.declared.messages.ConnOpenAck.{ConnOpenAck}
 use Rattle.ibc_machine.specs.declared.reply.Effect.{Effect}
 use Rattle.ibc_machine.specs.declared.reply.Effect.TheVariants as effect
-use Rattle.ibc_machine.specs.Records.{Core, connection_at, with_connection}
+use Rattle.ibc_machine.specs.Records.{Core, with_connection}
 use Rattle.ibc_machine.specs.Checks.{Checked, require, expect}
 use Rattle.ibc_machine.specs.Connections.{conn_open_ack}
 use Rattle.ibc_machine.specs.Replay.{LedgerState, proves}
-use Rattle.ibc_machine.proofs.PassedChecks.{pass, fail, find, miss}
+use Rattle.ibc_machine.proofs.PassedChecks.{pass, fail, find}
 use Rattle.ibc_records.specs.Held.{HeldRecords, core_of}
 use Rattle.ibc_records.specs.Taking.{host_with}
 use Rattle.ibc_client.proofs.Judging.{failed, passed, stops, refuses, ends}

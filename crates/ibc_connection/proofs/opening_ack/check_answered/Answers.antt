@@ -1,5 +1,5 @@
 -- The end that is built is the one that the peer must have.
-use Rattle.std.proofs.Common.{None, Some, subst}
+use Rattle.std.proofs.Common.{Some, subst}
 use Rattle.ibc_wire.specs.declared.records.ConnectionState.TheVariants.{TryOpen}
 use Rattle.ibc_machine.specs.Connections.{connection_end, has_connection}
 use Rattle.ibc_client.specs.Judging.{IsShown}

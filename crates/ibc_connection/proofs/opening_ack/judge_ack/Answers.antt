@@ -1,21 +1,16 @@
 -- The end was found or not, and its checks decide.
-use Rattle.std.proofs.Common.{◌≡◌, ◌&&◌, ℕ, List, None, is_some, Some, Ok, Err, refl, sym, ap, ◌∙◌, subst, inl, inr}
+use Rattle.std.proofs.Common.{◌&&◌, None, is_some, Some, Ok, sym, ap, ◌∙◌, inl}
 use Rattle.std.proofs.lemmas.Result.{err_from_is_err_and}
 use Rattle.ibc_ids.specs.declared.refusal.Refusal.TheVariants.{BadMessage, UnknownConnection}
-use Rattle.ibc_ids.specs.declared.publication.Publication.{Publication}
 use Rattle.ibc_wire.specs.declared.records.ConnectionState.TheVariants.{Open}
-use Rattle.ibc_wire.specs.declared.records.ConnectionEnd.{ConnectionEnd}
-use Rattle.ibc_wire.specs.declared.messages.ConnOpenAck.{ConnOpenAck}
-use Rattle.ibc_machine.specs.declared.reply.Effect.{Effect}
 use Rattle.ibc_machine.specs.declared.reply.Effect.TheVariants as effect
-use Rattle.ibc_machine.specs.Records.{Core, with_connection}
-use Rattle.ibc_machine.specs.Checks.{Checked, require, expect}
+use Rattle.ibc_machine.specs.Records.{with_connection}
+use Rattle.ibc_machine.specs.Checks.{require, expect}
 use Rattle.ibc_machine.specs.Connections.{connection_end, conn_open_ack}
-use Rattle.ibc_machine.specs.Replay.{LedgerState, proves}
+use Rattle.ibc_machine.specs.Replay.{proves}
 use Rattle.ibc_machine.proofs.PassedChecks.{pass, miss}
-use Rattle.ibc_records.specs.Held.{HeldRecords, core_of}
+use Rattle.ibc_records.specs.Held.{core_of}
 use Rattle.ibc_records.specs.Taking.{host_with}
-use Rattle.ibc_client.specs.Judging.{IsPassed}
 use Rattle.ibc_client.proofs.Judging.{refuses}
 use Rattle.ibc_connection.proofs.Handshake.{ack_checks}
 use Rattle.ibc_connection.proofs.opening_ack.judge_ack.Goals as goal

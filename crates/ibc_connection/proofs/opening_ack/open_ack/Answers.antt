@@ -9,7 +9,7 @@ use Rattle.ibc_records.specs.Held.{core_of}
 use Rattle.ibc_records.specs.Taking.{host_with}
 use Rattle.ibc_client.proofs.Judging.{stops, unread, untaken}
 use Rattle.ibc_connection.proofs.Handshake.{ack_checks}
-use Rattle.ibc_connection.proofs.Opened.{set_taken}
+use Rattle.ibc_connection.proofs.Opened.{end_taken}
 use Rattle.ibc_connection.proofs.opening_ack.open_ack.Goals as goal
 
 pub returns-in_err-proofs : goal.returns-in_err-proofs
@@ -38,6 +38,6 @@ pub returns : goal.returns
 returns c =
     let old = c.args.records.now in
     λ chains seen state knows.
-    set_taken (conn_open_ack (proves seen None state) (host_with c.args.chain chains old) (core_of old) c.args.message.now) old c.set_connection.new.self c.in_ok-clone.field-0 c.in_ok-judged.field-0 c.set_connection.result
+    end_taken (conn_open_ack (proves seen None state) (host_with c.args.chain chains old) (core_of old) c.args.message.now) old c.set_connection.new.self c.in_ok-clone.field-0 c.in_ok-judged.field-0 c.set_connection.result
     (c.in_ok-judged.ensures chains seen state knows ∙ ap (λ id. Ok (effect.None, with_connection id c.in_ok-judged.field-0 (core_of old))) (sym c.in_ok-clone.ensures.cases))
     c.set_connection.ensures.ok c.set_connection.ensures.err c.set_connection.ensures.unchanged

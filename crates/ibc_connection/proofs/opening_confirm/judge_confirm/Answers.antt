@@ -1,21 +1,15 @@
 -- Each check of the code is the definition's.
-use Rattle.std.proofs.Common.{◌≡◌, ℕ, List, None, is_some, Some, Ok, Err, refl, sym, ap, ◌∙◌, subst, inl, inr}
+use Rattle.std.proofs.Common.{None, is_some, Some, Ok, sym, ap, ◌∙◌, inl}
 use Rattle.std.proofs.lemmas.Result.{err_from_is_err_and}
 use Rattle.ibc_ids.specs.declared.refusal.Refusal.TheVariants.{BadMessage, UnknownConnection, WrongState}
-use Rattle.ibc_ids.specs.declared.publication.Publication.{Publication}
 use Rattle.ibc_wire.specs.declared.records.ConnectionState.TheVariants.{Open}
-use Rattle.ibc_wire.specs.declared.records.ConnectionEnd.{ConnectionEnd}
-use Rattle.ibc_wire.specs.declared.messages.ConnOpenConfirm.{ConnOpenConfirm}
-use Rattle.ibc_machine.specs.declared.reply.Effect.{Effect}
 use Rattle.ibc_machine.specs.declared.reply.Effect.TheVariants as effect
-use Rattle.ibc_machine.specs.Records.{Core, with_connection}
-use Rattle.ibc_machine.specs.Checks.{Checked, require, expect}
+use Rattle.ibc_machine.specs.Records.{with_connection}
+use Rattle.ibc_machine.specs.Checks.{require, expect}
 use Rattle.ibc_machine.specs.Connections.{connection_end, conn_open_confirm}
-use Rattle.ibc_machine.specs.Replay.{LedgerState, proves}
+use Rattle.ibc_machine.specs.Replay.{proves}
 use Rattle.ibc_machine.proofs.PassedChecks.{pass, fail, find, miss}
-use Rattle.ibc_records.specs.Held.{HeldRecords, core_of}
-use Rattle.ibc_records.specs.Taking.{host_with}
-use Rattle.ibc_client.specs.Judging.{IsPassed}
+use Rattle.ibc_records.specs.Held.{core_of}
 use Rattle.ibc_client.proofs.Judging.{failed, passed, stops, refuses}
 use Rattle.ibc_connection.proofs.Handshake.{confirm_checks}
 use Rattle.ibc_connection.proofs.opening_confirm.judge_confirm.Goals as goal

@@ -10,7 +10,7 @@ use Rattle.ibc_records.specs.Held.{core_of}
 use Rattle.ibc_client.proofs.Judging.{untaken}
 use Rattle.ibc_connection.specs.Ends.{inited}
 use Rattle.ibc_connection.proofs.Handshake.{init_checks}
-use Rattle.ibc_connection.proofs.Opened.{IsAdded, added_taken}
+use Rattle.ibc_connection.proofs.Opened.{IsAdded, begun_taken}
 use Rattle.ibc_connection.proofs.opening_init.open_init.Goals as goal
 
 pub returns-in_err-check_client-clause-answer : goal.returns-in_err-check_client-clause-answer
@@ -36,7 +36,7 @@ pub returns-clause-answer : goal.returns-clause-answer
 returns-clause-answer c =
     let old = c.args.records.now in
     λ chain chains seen state knows.
-    added_taken (conn_open_init (core_of old) c.args.message.now) old c.add_connection.new.records (inited c.args.message.now) c.add_connection.result
+    begun_taken (conn_open_init (core_of old) c.args.message.now) old c.add_connection.new.records (inited c.args.message.now) c.add_connection.result
     (pass (sym c.in_ok-check_number.ensures.checked) (pass (sym c.in_ok-check_client.ensures) (init_checks (core_of old) c.args.message.now)))
     (subst (λ end. IfOk c.add_connection.result (IsAdded end old c.add_connection.new.records)) (λ i. connection_end Init (c.in_ok-clone.ensures.cases i) (c.in_ok-clone-2.ensures.cases i) None) c.add_connection.ensures.ok)
     c.add_connection.ensures.err c.add_connection.ensures.unchanged

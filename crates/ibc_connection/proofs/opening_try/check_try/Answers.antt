@@ -1,5 +1,5 @@
 -- Each check of the code is the definition's.
-use Rattle.std.proofs.Common.{ℕ, List, None, is_some, ◌&&◌, Some, refl, sym, ap, ◌∙◌, inl, inr}
+use Rattle.std.proofs.Common.{ℕ, List, None, is_some, ◌&&◌, sym, inl}
 use Rattle.std.proofs.lemmas.Result.{err_from_is_err_and}
 use Rattle.ibc_ids.specs.declared.refusal.Refusal.TheVariants.{BadMessage}
 use Rattle.ibc_ids.specs.declared.publication.Publication.{Publication}

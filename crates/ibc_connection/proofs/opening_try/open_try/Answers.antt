@@ -16,7 +16,7 @@ use Rattle.ibc_records.specs.Taking.{host_with}
 use Rattle.ibc_client.proofs.Judging.{stops, unread, untaken}
 use Rattle.ibc_connection.specs.Ends.{tried}
 use Rattle.ibc_connection.proofs.Handshake.{try_checks}
-use Rattle.ibc_connection.proofs.Opened.{IsAdded, added_taken}
+use Rattle.ibc_connection.proofs.Opened.{IsAdded, begun_taken}
 use Rattle.ibc_connection.proofs.opening_try.open_try.Goals as goal
 
 -- the definition
@@ -46,7 +46,7 @@ pub returns-clause-answer : goal.returns-clause-answer
 returns-clause-answer c =
     let old = c.args.records.now in
     λ chains seen state knows.
-    added_taken (says old c.args.message.now c.args.chain chains seen state) old c.add_connection.new.records (tried c.args.message.now) c.add_connection.result
+    begun_taken (says old c.args.message.now c.args.chain chains seen state) old c.add_connection.new.records (tried c.args.message.now) c.add_connection.result
     (c.in_ok-checked.ensures.judged chains seen state knows)
     (subst (λ end. IfOk c.add_connection.result (IsAdded end old c.add_connection.new.records))
     (λ i. connection_end TryOpen (c.in_ok-clone.ensures.cases i) (c.in_ok-clone-2.ensures.cases i) (Some (c.in_ok-clone-3.ensures.cases i))) c.add_connection.ensures.ok)

@@ -1,0 +1,26 @@
+-- What a check of a proof says of the claim.
+use Rattle.std.proofs.Common.{◌≡◌, ◌⊎◌, ℕ, true, Err, inl, inr, ◌∙◌}
+use Rattle.std.specs.Prelude.{⊤, Result}
+use Rattle.ibc_ids.specs.Texts.{Text}
+use Rattle.ibc_ids.specs.Paths.{path}
+use Rattle.ibc_ids.specs.declared.key.Key.{Key}
+use Rattle.ibc_ids.specs.declared.refusal.Refusal.{Refusal}
+use Rattle.ibc_ids.specs.declared.refusal.Refusal.TheVariants.{NoMemory}
+use Rattle.ibc_merkle.specs.Proofs.{accepts_present}
+use Rattle.ibc_merkle.specs.declared.proof.Proof.{Proof}
+use Rattle.ibc_machine.specs.Records.{knows}
+use Rattle.ibc_machine.specs.Values.{Value, has, value_bytes}
+use Rattle.ibc_records.specs.Held.{HeldRecords, core_of}
+use Rattle.ibc_client.specs.Claims.{shown}
+use Rattle.ibc_client.specs.Judging.{IsShown}
+use Rattle.ibc_client.proofs.Claims.{shown_present}
+
+module _ (held : HeldRecords) (client : Text) (height : ℕ) (knowing : knows (core_of held) client height ≡ true) (key : Key) (value : Value) (proof : Proof) where
+  -- the value's bytes were looked for at the key's path
+  pub is_shown : (result : Result ⊤ Refusal) {text bytes : Text} → text ≡ path key → bytes ≡ value_bytes value
+      → (result ≡ Err NoMemory) ⊎ (result ≡ shown held client height (λ root. accepts_present proof root text bytes))
+      → IsShown held client height (has key value) proof result
+  is_shown result same valued (inl memory) seen state spelled knowledge reads = inl memory
+  is_shown result same valued (inr checked) seen state spelled knowledge reads =
+      inr (checked ∙ (λ i. shown held client height (λ root. accepts_present proof root (same i) (valued i)))
+      ∙ shown_present held state seen client height key value spelled proof knowledge knowing reads)
