@@ -1,0 +1,77 @@
+-- What the code finds in the records, beside the definitions' words for it.
+use Rattle.std.proofs.Common.{◌≡◌, ℕ, false, Option, Some, None, Ok, Err, refl, sym, ap, ◌∙◌}
+use Rattle.std.specs.Prelude.{⊤, [], IsTrue, IsSome}
+use Rattle.std.specs.Option.{option_map, option_map_or}
+use Rattle.ibc_ids.specs.Texts.{Text}
+use Rattle.ibc_ids.specs.Names.{is_client}
+use Rattle.ibc_ids.specs.declared.key.Key.TheVariants as key
+use Rattle.ibc_ids.specs.declared.refusal.Refusal.TheVariants.{UnknownConnection, NoConsensus}
+use Rattle.ibc_wire.specs.declared.records.ConnectionEnd.{ConnectionEnd}
+use Rattle.ibc_wire.specs.declared.records.ChannelEnd.{ChannelEnd}
+use Rattle.ibc_machine.specs.Records.{Core, Client, Channel, client_at, connection_at, channel_at, with_channel, is_one_of, knows}
+use Rattle.ibc_machine.specs.Values.{ClientIs}
+use Rattle.ibc_machine.specs.Checks.{Checked, require, expect, go_on, ◌>>=◌}
+use Rattle.ibc_machine.specs.Evidence.{require_known}
+use Rattle.ibc_machine.specs.Channels.{client_of}
+use Rattle.ibc_machine.proofs.ImageChanges.{IsKeyed}
+use Rattle.ibc_records.specs.Held.{HeldRecords, core_of, SetsChannelEnd}
+use Rattle.ibc_records.specs.Taking.{IsWritten}
+use Rattle.ibc_records.proofs.Written.{sets_channel_end_written}
+use Rattle.ibc_channel.specs.Ends.{end_at, with_end, require_connection}
+
+-- ---- a connection
+
+module _ (core : Core) (id : Text) where
+  found : Option ConnectionEnd → Checked ⊤
+  found o = expect o UnknownConnection >>= λ (c : ConnectionEnd). Ok tt
+
+  pub connection_there : (end : ConnectionEnd) → Some end ≡ connection_at core id → Ok tt ≡ require_connection core id
+  unfolding go_on found
+  connection_there end some = ap found some
+
+  pub connection_gone : None ≡ connection_at core id → Err UnknownConnection ≡ require_connection core id
+  unfolding go_on found
+  connection_gone none = ap found none
+
+  -- the client under a connection that is there is asked
+  pub known_over : (height : ℕ) (end : ConnectionEnd) → connection_at core id ≡ Some end → require_known core (client_of core id) height ≡ require_known core end.client height
+  known_over height end there = ap (λ (o : Option ConnectionEnd). require_known core (option_map_or (λ (c : ConnectionEnd). c.client) o []) height) there
+
+  -- no client has an empty name, so that none is asked where there is no connection
+  nobody : IsKeyed core → (height : ℕ) → knows core [] height ≡ false
+  nobody keyed height = go (client_at core []) refl
+    where
+      go : (o : Option Client) → client_at core [] ≡ o → option_map_or (λ (c : Client). is_one_of c.known height) o false ≡ false
+      go None is = refl
+      go (Some c) is =
+          let empty : IsTrue (is_client []) = keyed.keyed (key.ClientState []) (ClientIs c.state) (ap (option_map (λ (client : Client). ClientIs client.state)) is) in
+          absurd (cc)
+
+  pub known_nowhere : IsKeyed core → (height : ℕ) → connection_at core id ≡ None → require_known core (client_of core id) height ≡ Err NoConsensus
+  known_nowhere keyed height gone =
+      ap (λ (o : Option ConnectionEnd). require_known core (option_map_or (λ (c : ConnectionEnd). c.client) o []) height) gone
+      ∙ ap (λ b. require b NoConsensus) (nobody keyed height)
+
+-- ---- an end of a channel
+
+module _ (core : Core) (port channel : Text) where
+  pub end_found : (o : Option Channel) → o ≡ channel_at core port channel → option_map (λ (c : Channel). c.end) o ≡ end_at core port channel
+  end_found o is = ap (option_map (λ (c : Channel). c.end)) is
+
+  -- where there is an end there is a channel
+  pub channel_there : IsSome (end_at core port channel) → IsSome (channel_at core port channel)
+  channel_there there = go (channel_at core port channel) there
+    where
+      go : (o : Option Channel) → IsSome (option_map (λ (c : Channel). c.end) o) → IsSome o
+      go (Some c) is = refl
+      go None is = absurd (cc)
+
+pub end_written : (old : HeldRecords) (port channel : Text) (end : ChannelEnd) (new : HeldRecords) → SetsChannelEnd old port channel end new
+    → IsWritten (with_end port channel end (core_of old)) old new
+end_written old port channel end new sets =
+    let written = sets_channel_end_written old port channel end new sets in
+    record {
+      core_is = written.core_is ∙ sym (ap (λ (o : Option Channel). option_map_or (λ (c : Channel). with_channel port channel (record c { end = end }) (core_of old)) o (core_of old)) sets.stood);
+      stored = written.stored;
+      knows = written.knows;
+    }

@@ -1,0 +1,152 @@
+-- The checks of the handshakes in a row, as the code makes them.
+use Rattle.std.proofs.Common.{◌≡◌, ◌||◌, Option, Some, None, Ok, refl, sym, ap}
+use Rattle.std.specs.Prelude.{⊤, [], false}
+use Rattle.std.specs.Option.{option_map, option_map_or}
+use Rattle.ibc_ids.specs.Texts.{Text}
+use Rattle.ibc_ids.specs.declared.refusal.Refusal.TheVariants.{UnknownConnection, UnknownChannel, WrongState, BadMessage}
+use Rattle.ibc_wire.specs.declared.records.ConnectionState.TheVariants as conn
+use Rattle.ibc_wire.specs.declared.records.ConnectionEnd.{ConnectionEnd}
+use Rattle.ibc_wire.specs.declared.records.ChannelState.TheVariants.{Init, TryOpen, Open, Closed}
+use Rattle.ibc_wire.specs.declared.records.ChannelEnd.{ChannelEnd}
+use Rattle.ibc_wire.specs.declared.records.Order.{Order}
+use Rattle.ibc_wire.specs.declared.messages.ChanOpenInit.{ChanOpenInit}
+use Rattle.ibc_wire.specs.declared.messages.ChanOpenTry.{ChanOpenTry}
+use Rattle.ibc_wire.specs.declared.messages.ChanOpenAck.{ChanOpenAck}
+use Rattle.ibc_wire.specs.declared.messages.ChanOpenConfirm.{ChanOpenConfirm}
+use Rattle.ibc_wire.specs.declared.messages.ChanCloseInit.{ChanCloseInit}
+use Rattle.ibc_wire.specs.declared.messages.ChanCloseConfirm.{ChanCloseConfirm}
+use Rattle.ibc_machine.specs.declared.reply.Effect.{Effect}
+use Rattle.ibc_machine.specs.declared.reply.Effect.TheVariants as effect
+use Rattle.ibc_machine.specs.Records.{Core, Channel, connection_at, channel_at, with_channel}
+use Rattle.ibc_machine.specs.Values.{same_connection_state, same_channel_state}
+use Rattle.ibc_machine.specs.Checks.{Checked, require, expect, go_on, and_then, ◌>>=◌, ◌>>◌}
+use Rattle.ibc_machine.specs.Evidence.{Evidence, require_number, require_known, require_proof}
+use Rattle.ibc_machine.specs.Channels.{client_of, peer_channel_of, has_channel, chan_open_init, chan_open_try, chan_open_ack, chan_open_confirm, chan_close_init, chan_close_confirm}
+use Rattle.ibc_machine.proofs.PassedChecks.{unused}
+use Rattle.ibc_channel.specs.Ends.{end_at, with_end, begun, inited, tried, acknowledged, moved, require_connection, require_open, begun_there, answered_there, opened_there, closed_there}
+
+-- ---- a new channel
+
+module _ (has_port : Checked ⊤) (opens : Order → Text → Checked ⊤) (core : Core) where
+  pub init_checks : (m : ChanOpenInit)
+      → chan_open_init has_port opens core m
+      ≡ (has_port
+      >> (require_connection core m.connection
+      >> (opens m.order m.version
+      >> (require_number core.next_channel
+      >> Ok (begun m.port (inited m) core)))))
+  unfolding chan_open_init
+  init_checks m = ap (λ rest. has_port >> rest) (unused (connection_at core m.connection) UnknownConnection _)
+
+  -- what stands behind the checks of the connection, whose client is this one
+  abbrev try_over : Evidence → ChanOpenTry → Text → Checked (Effect × Core)
+  try_over evidence m client =
+      opens m.order m.version
+      >> (require_number core.next_channel
+      >> (require_known core client m.height
+      >> (require_proof evidence client m.height (has_channel (tried m) m.peer_channel (begun_there core m (tried m))) m.proof
+      >> Ok (begun m.port (tried m) core))))
+
+  -- a connection that is found and open, and the client under it
+  over_connection : (o : Option ConnectionEnd) (rest : Text → Checked (Effect × Core))
+      → (expect o UnknownConnection >>= λ (c : ConnectionEnd). (require (same_connection_state c.state conn.Open) WrongState >> rest c.client))
+      ≡ ((expect o UnknownConnection >>= λ (c : ConnectionEnd). Ok tt)
+      >> (require (option_map_or (λ (c : ConnectionEnd). same_connection_state c.state conn.Open) o false) WrongState
+      >> rest (option_map_or (λ (c : ConnectionEnd). c.client) o [])))
+  unfolding go_on and_then
+  over_connection None rest = refl
+  over_connection (Some c) rest = refl
+
+  pub try_checks : (evidence : Evidence) (m : ChanOpenTry)
+      → chan_open_try has_port opens evidence core m
+      ≡ (require (evidence.is_proof m.proof) BadMessage
+      >> (has_port
+      >> (require_connection core m.connection
+      >> (require_open core m.connection
+      >> try_over evidence m (client_of core m.connection)))))
+  unfolding chan_open_try
+  try_checks evidence m =
+      ap (λ rest. require (evidence.is_proof m.proof) BadMessage >> (has_port >> rest))
+      (over_connection (connection_at core m.connection) (try_over evidence m))
+
+-- ---- a channel that is there
+
+module _ (core : Core) (port channel : Text) where
+  -- checks that look at the end alone, and set it
+  of_end : (checks : ChannelEnd → Core → Checked (Effect × Core)) (after : ChannelEnd → ChannelEnd)
+      → (expect (channel_at core port channel) UnknownChannel >>= λ (found : Channel). checks found.end (with_channel port channel (record found { end = after found.end }) core))
+      ≡ (expect (end_at core port channel) UnknownChannel >>= λ (mine : ChannelEnd). checks mine (with_end port channel (after mine) core))
+  unfolding go_on
+  of_end checks after = go (channel_at core port channel) refl
+    where
+      go : (o : Option Channel) → channel_at core port channel ≡ o
+          → (expect o UnknownChannel >>= λ (found : Channel). checks found.end (with_channel port channel (record found { end = after found.end }) core))
+          ≡ (expect (option_map (λ (found : Channel). found.end) o) UnknownChannel >>= λ (mine : ChannelEnd). checks mine (with_end port channel (after mine) core))
+      go None is = refl
+      go (Some found) is =
+          ap (checks found.end) (sym (ap (λ o. option_map_or (λ (c : Channel). with_channel port channel (record c { end = after found.end }) core) o core) is))
+
+module _ (evidence : Evidence) (core : Core) where
+  abbrev ack_sets : ChanOpenAck → ChannelEnd → Core → Checked (Effect × Core)
+  ack_sets m mine set =
+      require (same_channel_state mine.state Init) WrongState
+      >> (require_open core mine.connection
+      >> (require_known core (client_of core mine.connection) m.height
+      >> (require_proof evidence (client_of core mine.connection) m.height (has_channel mine m.peer_channel (answered_there core m mine)) m.proof
+      >> Ok (effect.None, set))))
+
+  abbrev pub ack_after : ChanOpenAck → ChannelEnd → Checked (Effect × Core)
+  ack_after m mine = ack_sets m mine (with_end m.port m.channel (acknowledged m mine) core)
+
+  pub ack_checks : (m : ChanOpenAck)
+      → chan_open_ack evidence core m
+      ≡ (require (evidence.is_proof m.proof) BadMessage >> (expect (end_at core m.port m.channel) UnknownChannel >>= ack_after m))
+  unfolding chan_open_ack
+  ack_checks m =
+      ap (λ rest. require (evidence.is_proof m.proof) BadMessage >> rest) (of_end core m.port m.channel (ack_sets m) (acknowledged m))
+
+  abbrev confirm_sets : ChanOpenConfirm → ChannelEnd → Core → Checked (Effect × Core)
+  confirm_sets m mine set =
+      require (same_channel_state mine.state TryOpen) WrongState
+      >> (require_known core (client_of core mine.connection) m.height
+      >> (require_proof evidence (client_of core mine.connection) m.height (has_channel mine (peer_channel_of mine) (opened_there core m mine)) m.proof
+      >> Ok (effect.None, set)))
+
+  abbrev pub confirm_after : ChanOpenConfirm → ChannelEnd → Checked (Effect × Core)
+  confirm_after m mine = confirm_sets m mine (with_end m.port m.channel (moved Open mine) core)
+
+  pub confirm_checks : (m : ChanOpenConfirm)
+      → chan_open_confirm evidence core m
+      ≡ (require (evidence.is_proof m.proof) BadMessage >> (expect (end_at core m.port m.channel) UnknownChannel >>= confirm_after m))
+  unfolding chan_open_confirm
+  confirm_checks m =
+      ap (λ rest. require (evidence.is_proof m.proof) BadMessage >> rest) (of_end core m.port m.channel (confirm_sets m) (moved Open))
+
+  abbrev close_sets : ChanCloseConfirm → ChannelEnd → Core → Checked (Effect × Core)
+  close_sets m mine set =
+      require (same_channel_state mine.state TryOpen || same_channel_state mine.state Open) WrongState
+      >> (require_known core (client_of core mine.connection) m.height
+      >> (require_proof evidence (client_of core mine.connection) m.height (has_channel mine (peer_channel_of mine) (closed_there core m mine)) m.proof
+      >> Ok (effect.None, set)))
+
+  abbrev pub close_after : ChanCloseConfirm → ChannelEnd → Checked (Effect × Core)
+  close_after m mine = close_sets m mine (with_end m.port m.channel (moved Closed mine) core)
+
+  pub close_confirm_checks : (m : ChanCloseConfirm)
+      → chan_close_confirm evidence core m
+      ≡ (require (evidence.is_proof m.proof) BadMessage >> (expect (end_at core m.port m.channel) UnknownChannel >>= close_after m))
+  unfolding chan_close_confirm
+  close_confirm_checks m =
+      ap (λ rest. require (evidence.is_proof m.proof) BadMessage >> rest) (of_end core m.port m.channel (close_sets m) (moved Closed))
+
+module _ (closes : Checked ⊤) (core : Core) (m : ChanCloseInit) where
+  abbrev close_init_sets : ChannelEnd → Core → Checked (Effect × Core)
+  close_init_sets mine set =
+      require (same_channel_state mine.state Open) WrongState >> (closes >> Ok (effect.None, set))
+
+  abbrev pub close_init_after : ChannelEnd → Checked (Effect × Core)
+  close_init_after mine = close_init_sets mine (with_end m.port m.channel (moved Closed mine) core)
+
+  pub close_init_checks : chan_close_init closes core m ≡ (expect (end_at core m.port m.channel) UnknownChannel >>= close_init_after)
+  unfolding chan_close_init
+  close_init_checks = of_end core m.port m.channel close_init_sets (moved Closed)

@@ -1,0 +1,100 @@
+-- The ends that the handshakes leave, and the parts of their checks (ICS 4, "Opening handshake" and "Closing handshake").
+use Rattle.std.specs.Prelude.{ℕ, ⊤, [], ◌∷◌, Option, Some, None, Result, Ok}
+use Rattle.std.specs.Option.{option_map, option_map_or, unwrap_or}
+use Rattle.ibc_ids.specs.Texts.{Text}
+use Rattle.ibc_ids.specs.Paths.{nth_channel}
+use Rattle.ibc_ids.specs.declared.refusal.Refusal.{Refusal}
+use Rattle.ibc_ids.specs.declared.refusal.Refusal.TheVariants.{UnknownConnection, WrongState}
+use Rattle.ibc_wire.specs.Fields.{u8, str, bytes_of}
+use Rattle.ibc_wire.specs.Spelling.{channel_state_number, order_number}
+use Rattle.ibc_wire.specs.declared.records.ConnectionEnd.{ConnectionEnd}
+use Rattle.ibc_wire.specs.declared.records.ChannelState.{ChannelState}
+use Rattle.ibc_wire.specs.declared.records.ChannelState.TheVariants.{Init, TryOpen, Open, Closed}
+use Rattle.ibc_wire.specs.declared.records.ChannelEnd.{ChannelEnd}
+use Rattle.ibc_wire.specs.declared.records.Order.{Order}
+use Rattle.ibc_wire.specs.declared.messages.ChanOpenInit.{ChanOpenInit}
+use Rattle.ibc_wire.specs.declared.messages.ChanOpenTry.{ChanOpenTry}
+use Rattle.ibc_wire.specs.declared.messages.ChanOpenAck.{ChanOpenAck}
+use Rattle.ibc_wire.specs.declared.messages.ChanOpenConfirm.{ChanOpenConfirm}
+use Rattle.ibc_wire.specs.declared.messages.ChanCloseConfirm.{ChanCloseConfirm}
+use Rattle.ibc_merkle.specs.declared.proof.Proof.{Proof}
+use Rattle.ibc_machine.specs.declared.reply.Effect.{Effect}
+use Rattle.ibc_machine.specs.declared.reply.Effect.TheVariants as effect
+use Rattle.ibc_machine.specs.Records.{Core, Channel, connection_at, channel_at, with_channel}
+use Rattle.ibc_machine.specs.Checks.{Checked, require, expect, ◌>>=◌}
+use Rattle.ibc_machine.specs.Channels.{is_open, client_of, channel_end, counterpart, has_channel, with_new_channel}
+use Rattle.ibc_records.specs.Held.{HeldRecords, core_of}
+use Rattle.ibc_client.specs.Judging.{IsShown}
+
+-- ---- ends of this chain
+
+-- the end of a channel, without its counters
+abbrev pub end_at : Core → Text → Text → Option ChannelEnd
+end_at core port channel = option_map (λ (found : Channel). found.end) (channel_at core port channel)
+
+-- the channel has this end, where there is such a channel
+abbrev pub with_end : Text → Text → ChannelEnd → Core → Core
+with_end port channel end core =
+    option_map_or (λ (found : Channel). with_channel port channel (record found { end = end }) core) (channel_at core port channel) core
+
+-- a new end, under the next name
+abbrev pub begun : Text → ChannelEnd → Core → Effect × Core
+begun port end core =
+    (effect.Channel (nth_channel core.next_channel), with_new_channel port (nth_channel core.next_channel) end core)
+
+-- an end that was set
+abbrev pub settled : Text → Text → Core → ChannelEnd → Effect × Core
+settled port channel core end = (effect.None, with_end port channel end core)
+
+abbrev pub inited : ChanOpenInit → ChannelEnd
+inited m = channel_end Init m.order m.peer_port None m.connection m.version
+
+abbrev pub tried : ChanOpenTry → ChannelEnd
+tried m = channel_end TryOpen m.order m.peer_port (Some m.peer_channel) m.connection m.version
+
+abbrev pub acknowledged : ChanOpenAck → ChannelEnd → ChannelEnd
+acknowledged m mine = record mine { state = Open; peer_channel = Some m.peer_channel }
+
+abbrev pub moved : ChannelState → ChannelEnd → ChannelEnd
+moved state mine = record mine { state = state }
+
+-- ---- checks
+
+-- there is such a connection
+abbrev pub require_connection : Core → Text → Checked ⊤
+require_connection core id = expect (connection_at core id) UnknownConnection >>= λ (found : ConnectionEnd). Ok tt
+
+-- the connection is there and open
+abbrev pub require_open : Core → Text → Checked ⊤
+require_open core id = require (is_open (connection_at core id)) WrongState
+
+-- ---- the peer's end, as each message says that it is
+
+abbrev pub begun_there : Core → ChanOpenTry → ChannelEnd → ChannelEnd
+begun_there core m mine = counterpart core mine m.port None Init
+
+abbrev pub answered_there : Core → ChanOpenAck → ChannelEnd → ChannelEnd
+answered_there core m mine = counterpart core mine m.port (Some m.channel) TryOpen
+
+abbrev pub opened_there : Core → ChanOpenConfirm → ChannelEnd → ChannelEnd
+opened_there core m mine = counterpart core mine m.port (Some m.channel) Open
+
+abbrev pub closed_there : Core → ChanCloseConfirm → ChannelEnd → ChannelEnd
+closed_there core m mine = counterpart core mine m.port (Some m.channel) Closed
+
+-- the proof shows that the peer of an own end is this end, at a height that the client under its connection knows
+abbrev pub IsPeerShown : HeldRecords → ChannelEnd → ℕ → Text → ChannelEnd → Proof → Result ⊤ Refusal → Type 0
+IsPeerShown held mine height peer_channel theirs proof result =
+    IsShown held (client_of (core_of held) mine.connection) height (has_channel mine peer_channel theirs) proof result
+
+-- ---- the peer's end, as its bytes
+
+-- a name's text, empty where there is none
+abbrev pub text_of : Option Text → Text
+text_of name = unwrap_or name []
+
+-- the bytes of an end whose names are these texts, empty where there is none
+abbrev pub end_bytes : ChannelState → Order → Text → Text → Text → Text → Text
+end_bytes state order peer_port peer_channel connection version =
+    bytes_of
+    (u8 (channel_state_number state) ∷ u8 (order_number order) ∷ str peer_port ∷ str peer_channel ∷ str connection ∷ str version ∷ [])

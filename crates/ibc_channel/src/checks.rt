@@ -1,0 +1,85 @@
+//! Checks that several of the messages make.
+
+ghost use Rattle.std.specs.Prelude.{◌≡◌, ◌||◌, ◌-◌, ◌^◌, ◌<◌, true, Some, Ok, Err, IfOk, IfErr};
+ghost use Rattle.ibc_ids.specs.declared.refusal.Refusal.TheVariants.{WrongState};
+ghost use Rattle.ibc_machine.specs.Channels.{client_of};
+ghost use Rattle.ibc_machine.specs.Checks.{require};
+ghost use Rattle.ibc_machine.specs.Evidence.{require_known, require_number};
+ghost use Rattle.ibc_machine.specs.Records.{connection_at, knows};
+ghost use Rattle.ibc_machine.specs.Values.{same_channel_state};
+ghost use Rattle.ibc_records.specs.Held.{core_of};
+ghost use Rattle.ibc_channel.specs.Ends.{require_connection, require_open};
+
+use ibc_client::check_known;
+use ibc_ids::{ConnectionId, Refusal};
+use ibc_records::Records;
+use ibc_wire::{ChannelEnd, ChannelState, ConnectionEnd, ConnectionState};
+
+/// There is such a connection, or else `UnknownConnection`.
+pub fn check_connection(records: &Records, connection: &ConnectionId) -> Result<(), Refusal>
+    ensures { result ≡ require_connection (core_of records.now) connection.now }
+{
+    match records.connection(connection) {
+        Some(_) => Ok(()),
+        None => Err(Refusal::UnknownConnection),
+    }
+}
+
+/// The connection is there and open, or else `WrongState`.
+pub fn check_open(records: &Records, connection: &ConnectionId) -> Result<(), Refusal>
+    ensures { result ≡ require_open (core_of records.now) connection.now }
+{
+    match records.connection(connection) {
+        Some(end) if end.state == ConnectionState::Open => Ok(()),
+        _ => Err(Refusal::WrongState),
+    }
+}
+
+/// The number of the next channel isn't the last, or else `NumberFull`.
+pub fn check_number(records: &Records) -> Result<(), Refusal>
+    ensures checked { result ≡ require_number records.now.next_channel }
+    ensures free { IfOk result (λ _. records.now.next_channel < 2 ^ 64 - 1) }
+{
+    ibc_client::check_number(records.next_channel())
+}
+
+/// The end is in this state, or else `WrongState`.
+pub fn check_state(end: &ChannelEnd, state: ChannelState) -> Result<(), Refusal>
+    ensures { result ≡ require (same_channel_state end.now.state state) WrongState }
+{
+    if end.state == state {
+        Ok(())
+    } else {
+        Err(Refusal::WrongState)
+    }
+}
+
+/// The end is in `TryOpen` or `Open`, or else `WrongState`.
+pub fn check_answered_or_open(end: &ChannelEnd) -> Result<(), Refusal>
+    ensures { result ≡ require (same_channel_state end.now.state ChannelState.TryOpen || same_channel_state end.now.state ChannelState.Open) WrongState }
+{
+    match end.state {
+        ChannelState::TryOpen | ChannelState::Open => Ok(()),
+        ChannelState::Init | ChannelState::Closed => Err(Refusal::WrongState),
+    }
+}
+
+/// The connection, whose client knows the height, or else `NoConsensus`. Where there is no such connection the client of
+/// the empty name is asked, which no chain has.
+pub fn known_connection<'a>(
+    records: &'a Records,
+    connection: &ConnectionId,
+    height: u64,
+) -> Result<&'a ConnectionEnd, Refusal>
+    ensures there { IfOk result (λ end. connection_at (core_of records.now) connection.now ≡ Some end.now) }
+    ensures known { IfOk result (λ end. knows (core_of records.now) end.now.client height ≡ true) }
+    ensures passed { IfOk result (λ _. require_known (core_of records.now) (client_of (core_of records.now) connection.now) height ≡ Ok tt) }
+    ensures failed { IfErr result (λ refusal. require_known (core_of records.now) (client_of (core_of records.now) connection.now) height ≡ Err refusal) }
+{
+    records.names_are_names();
+    let Some(end) = records.connection(connection) else {
+        return Err(Refusal::NoConsensus);
+    };
+    check_known(records, &end.client, height)?;
+    Ok(end)
+}

@@ -1,0 +1,103 @@
+//! Ends of channels: the ones that are there, and the ones that are added or set.
+
+ghost use Rattle.std.specs.Prelude.{◌≡◌, ◌⊎◌, ◌-◌, ◌^◌, ◌<◌, Some, Err, IsSome, IfOk, IfErr, OnOk, OnErr};
+ghost use Rattle.ibc_ids.specs.Paths.{nth_channel};
+ghost use Rattle.ibc_ids.specs.declared.refusal.Refusal.TheVariants.{NoMemory, UnknownChannel};
+ghost use Rattle.ibc_machine.specs.Channels.{channel_end, with_new_channel};
+ghost use Rattle.ibc_machine.specs.Checks.{expect};
+ghost use Rattle.ibc_records.specs.Held.{core_of, IsUnchanged};
+ghost use Rattle.ibc_records.specs.Taking.{IsWritten};
+ghost use Rattle.ibc_channel.specs.Ends.{end_at, moved, with_end};
+
+use ibc_ids::{ChannelId, ConnectionId, PortId, Refusal, Version, nth_channel};
+use ibc_records::Records;
+use ibc_wire::{ChannelEnd, ChannelState, Order};
+use std::alloc::Global;
+
+/// The end of a channel, or else `UnknownChannel`; `NoMemory`.
+pub fn find_end<'a>(
+    records: &'a Records,
+    port: &PortId,
+    channel: &ChannelId,
+) -> Result<&'a ChannelEnd, Refusal>
+    ensures ok { IfOk result (λ end. end_at (core_of records.now) port.now channel.now ≡ Some end.now) }
+    ensures err { IfErr result (λ refusal. (expect (end_at (core_of records.now) port.now channel.now) UnknownChannel ≡ Err refusal) ⊎ (refusal ≡ NoMemory)) }
+{
+    match records.channel(port, channel)? {
+        Some(found) => Ok(found.end()),
+        None => Err(Refusal::UnknownChannel),
+    }
+}
+
+/// An end with these fields. `NoMemory` where a growth is refused.
+pub fn new_end(
+    state: ChannelState,
+    order: Order,
+    peer_port: &PortId,
+    peer_channel: Option<ChannelId>,
+    connection: &ConnectionId,
+    version: &Version,
+) -> Result<ChannelEnd, Refusal>
+    ensures ok { IfOk result (λ end. end ≡ channel_end state order peer_port.now peer_channel connection.now version.now) }
+    ensures err { IfErr result (λ refusal. refusal ≡ NoMemory) }
+{
+    Ok(ChannelEnd {
+        state,
+        order,
+        peer_port: peer_port.clone()?,
+        peer_channel,
+        connection: connection.clone()?,
+        version: version.clone()?,
+    })
+}
+
+/// The end in another state. `NoMemory` where a growth is refused.
+pub fn move_end(end: &ChannelEnd, state: ChannelState) -> Result<ChannelEnd, Refusal>
+    ensures ok { IfOk result (λ after. after ≡ moved state end.now) }
+    ensures err { IfErr result (λ refusal. refusal ≡ NoMemory) }
+{
+    let peer_channel = match &end.peer_channel {
+        Some(peer) => Some(peer.clone()?),
+        None => None,
+    };
+    new_end(
+        state,
+        end.order,
+        &end.peer_port,
+        peer_channel,
+        &end.connection,
+        &end.version,
+    )
+}
+
+/// Adds an end of a port under the next identifier. `NoMemory` where a growth is refused; the records are then as before.
+pub fn add_channel(
+    alloc: Global,
+    records: &mut Records,
+    port: &PortId,
+    end: ChannelEnd,
+) -> Result<ChannelId, Refusal>
+    requires { records.old.next_channel < 2 ^ 64 - 1 }
+    ensures ok { IfOk result (λ id. (id ≡ nth_channel records.old.next_channel) × IsWritten (with_new_channel port.now id end (core_of records.old)) records.old records.new) }
+    ensures err { IfErr result (λ refusal. refusal ≡ NoMemory) }
+    ensures unchanged { OnErr result (IsUnchanged records.old records.new) }
+{
+    let id = nth_channel(alloc, records.next_channel())?;
+    records.add_channel(port.clone()?, id.clone()?, end)?;
+    Ok(id)
+}
+
+/// Sets the end of a channel that is there. `NoMemory` where a growth is refused; the records are then as before.
+pub fn set_end(
+    records: &mut Records,
+    port: &PortId,
+    channel: &ChannelId,
+    end: ChannelEnd,
+) -> Result<(), Refusal>
+    requires { IsSome (end_at (core_of records.old) port.now channel.now) }
+    ensures ok { OnOk result (IsWritten (with_end port.now channel.now end (core_of records.old)) records.old records.new) }
+    ensures err { IfErr result (λ refusal. refusal ≡ NoMemory) }
+    ensures unchanged { OnErr result (IsUnchanged records.old records.new) }
+{
+    records.set_channel_end(port.clone()?, channel.clone()?, end)
+}

@@ -1,0 +1,81 @@
+//! Opening a channel that the peer answered.
+
+ghost use Rattle.std.specs.Prelude.{◌≡◌, ℕ, true, Some, IsSome, IfOk};
+ghost use Rattle.ibc_wire.specs.Reading.{proof_of};
+ghost use Rattle.ibc_machine.specs.declared.reply.Effect.TheVariants as effect;
+ghost use Rattle.ibc_machine.specs.Channels.{chan_open_ack};
+ghost use Rattle.ibc_machine.specs.Records.{connection_at, knows};
+ghost use Rattle.ibc_records.specs.Held.{core_of};
+ghost use Rattle.ibc_records.specs.Taking.{IsHandled};
+ghost use Rattle.ibc_client.specs.Judging.{IsJudged};
+ghost use Rattle.ibc_channel.specs.Ends.{answered_there, end_at, settled, IsPeerShown};
+
+use crate::checks::{check_open, check_state, known_connection};
+use crate::claims::{check_claim, claim_peer};
+use crate::ends::{find_end, new_end, set_end};
+use ibc_client::read_proof;
+use ibc_ids::Refusal;
+use ibc_merkle::Proof;
+use ibc_records::Records;
+use ibc_wire::{ChanOpenAck, ChannelEnd, ChannelState, ConnectionEnd};
+use std::alloc::Global;
+
+/// Opens a channel that the peer answered (ICS 4, "chanOpenAck"). Refused, by the first check that fails: `BadMessage`
+/// where the proof can't be read; `UnknownChannel`; `WrongState` where the end isn't in `Init`, or its connection isn't
+/// open; `NoConsensus` where the connection's client doesn't know the height; `BadProof` where the proof doesn't show the
+/// peer's end. `NoMemory` where a growth is refused. A refusal leaves the records.
+pub fn open_ack(alloc: Global, records: &mut Records, message: &ChanOpenAck) -> Result<(), Refusal>
+    ensures { (chain chains : ℕ) → IsHandled (λ _. effect.None) (λ evidence host core. chan_open_ack evidence core message.now) chain chains records.old result records.new }
+{
+    let proof = read_proof(alloc, message.proof.as_slice())?;
+    let judged = judge_ack(alloc, records, message, &proof);
+    drop(proof);
+    set_end(records, &message.port, &message.channel, judged?)
+}
+
+// The checks, in their order, and the end as it will stand.
+fn judge_ack(
+    alloc: Global,
+    records: &Records,
+    message: &ChanOpenAck,
+    proof: &Proof,
+) -> Result<ChannelEnd, Refusal>
+    requires { proof_of message.now.proof ≡ Some proof.now }
+    ensures judged { (chain chains : ℕ) → IsJudged (λ evidence host core. chan_open_ack evidence core message.now) chain chains records.now (settled message.now.port message.now.channel (core_of records.now)) result }
+    ensures there { IfOk result (λ _. IsSome (end_at (core_of records.now) message.now.port message.now.channel)) }
+{
+    let mine = find_end(records, &message.port, &message.channel)?;
+    check_state(mine, ChannelState::Init)?;
+    check_open(records, &mine.connection)?;
+    let connection = known_connection(records, &mine.connection, message.height)?;
+    check_answered(alloc, records, message, mine, connection, proof)?;
+    new_end(
+        ChannelState::Open,
+        mine.order,
+        &mine.peer_port,
+        Some(message.peer_channel.clone()?),
+        &mine.connection,
+        &mine.version,
+    )
+}
+
+// The peer answered the channel, or else `BadProof`; `NoMemory`.
+fn check_answered(
+    alloc: Global,
+    records: &Records,
+    message: &ChanOpenAck,
+    mine: &ChannelEnd,
+    connection: &ConnectionEnd,
+    proof: &Proof,
+) -> Result<(), Refusal>
+    requires there { connection_at (core_of records.now) mine.now.connection ≡ Some connection.now }
+    requires known { knows (core_of records.now) connection.now.client message.now.height ≡ true }
+    ensures { IsPeerShown records.now mine.now message.now.height message.now.peer_channel (answered_there (core_of records.now) message.now mine.now) proof.now result }
+{
+    let peer = message.peer_channel.as_str();
+    let port = &message.port;
+    let channel = message.channel.as_str();
+    let state = ChannelState::TryOpen;
+    let claim = claim_peer(alloc, mine, connection, peer, port, channel, state)?;
+    check_claim(records, &connection.client, message.height, &claim, proof)
+}

@@ -1,0 +1,99 @@
+//! Answering a channel that the peer began.
+
+ghost use Rattle.std.specs.Prelude.{◌≡◌, ◌-◌, ◌^◌, ◌<◌, ℕ, true, Some, is_some, IfOk};
+ghost use Rattle.ibc_ids.specs.Paths.{nth_channel};
+ghost use Rattle.ibc_ids.specs.declared.refusal.Refusal.TheVariants.{UnknownPort};
+ghost use Rattle.ibc_wire.specs.Reading.{proof_of};
+ghost use Rattle.ibc_machine.specs.declared.reply.Effect.TheVariants as effect;
+ghost use Rattle.ibc_machine.specs.Channels.{chan_open_try};
+ghost use Rattle.ibc_machine.specs.Checks.{require};
+ghost use Rattle.ibc_machine.specs.Records.{connection_at, knows};
+ghost use Rattle.ibc_records.specs.Held.{core_of};
+ghost use Rattle.ibc_records.specs.Taking.{IsHandled};
+ghost use Rattle.ibc_client.specs.Judging.{IsJudged};
+ghost use Rattle.ibc_channel.specs.Ends.{begun, begun_there, tried, IsPeerShown};
+
+use crate::checks::{check_connection, check_number, check_open, known_connection};
+use crate::claims::{check_claim, claim_peer};
+use crate::ends::{add_channel, new_end};
+use ibc_app_port::App;
+use ibc_client::read_proof;
+use ibc_ids::{ChannelId, Refusal};
+use ibc_merkle::Proof;
+use ibc_records::Records;
+use ibc_wire::{ChanOpenTry, ChannelEnd, ChannelState, ConnectionEnd};
+use std::alloc::Global;
+
+/// Answers a channel that the peer began, for the application of the message's port (ICS 4, "chanOpenTry"); `app` is none
+/// where the port has none. Refused, by the first check that fails: `BadMessage` where the proof can't be read;
+/// `UnknownPort` where the port has no application; `UnknownConnection`; `WrongState` where the connection isn't open; as
+/// the application refuses the order or the version, `WrongOrder` or `WrongVersion`; `NumberFull` where the number of the
+/// next channel is 2^64 - 1; `NoConsensus` where the connection's client doesn't know the height; `BadProof` where the
+/// proof doesn't show the peer's end. `NoMemory` where a growth is refused. A refusal leaves the records.
+pub fn open_try<A: App>(
+    alloc: Global,
+    records: &mut Records,
+    app: Option<&A>,
+    message: &ChanOpenTry,
+) -> Result<ChannelId, Refusal>
+    ensures answer { (chain chains : ℕ) → IsHandled effect.Channel (λ evidence host core. chan_open_try (require (is_some app.entry) UnknownPort) A.opens evidence core message.now) chain chains records.old result records.new }
+    ensures named { IfOk result (λ id. id ≡ nth_channel records.old.next_channel) }
+{
+    let proof = read_proof(alloc, message.proof.as_slice())?;
+    let judged = judge_try(alloc, records, app, message, &proof);
+    drop(proof);
+    add_channel(alloc, records, &message.port, judged?)
+}
+
+// The checks, in their order, and the end as it will stand.
+fn judge_try<A: App>(
+    alloc: Global,
+    records: &Records,
+    app: Option<&A>,
+    message: &ChanOpenTry,
+    proof: &Proof,
+) -> Result<ChannelEnd, Refusal>
+    requires { proof_of message.now.proof ≡ Some proof.now }
+    ensures judged { (chain chains : ℕ) → IsJudged (λ evidence host core. chan_open_try (require (is_some app.entry) UnknownPort) A.opens evidence core message.now) chain chains records.now (λ end. begun message.now.port end (core_of records.now)) result }
+    ensures free { IfOk result (λ _. records.now.next_channel < 2 ^ 64 - 1) }
+{
+    let Some(app) = app else {
+        return Err(Refusal::UnknownPort);
+    };
+    check_connection(records, &message.connection)?;
+    check_open(records, &message.connection)?;
+    app.on_open(message.order, &message.version)?;
+    check_number(records)?;
+    let connection = known_connection(records, &message.connection, message.height)?;
+    let mine = new_end(
+        ChannelState::TryOpen,
+        message.order,
+        &message.peer_port,
+        Some(message.peer_channel.clone()?),
+        &message.connection,
+        &message.version,
+    )?;
+    match check_begun(alloc, records, message, &mine, connection, proof) {
+        Ok(()) => Ok(mine),
+        Err(refusal) => Err(refusal),
+    }
+}
+
+// The peer began the channel, or else `BadProof`; `NoMemory`.
+fn check_begun(
+    alloc: Global,
+    records: &Records,
+    message: &ChanOpenTry,
+    mine: &ChannelEnd,
+    connection: &ConnectionEnd,
+    proof: &Proof,
+) -> Result<(), Refusal>
+    requires there { connection_at (core_of records.now) mine.now.connection ≡ Some connection.now }
+    requires known { knows (core_of records.now) connection.now.client message.now.height ≡ true }
+    ensures { IsPeerShown records.now mine.now message.now.height message.now.peer_channel (begun_there (core_of records.now) message.now mine.now) proof.now result }
+{
+    let peer = message.peer_channel.as_str();
+    let port = &message.port;
+    let claim = claim_peer(alloc, mine, connection, peer, port, "", ChannelState::Init)?;
+    check_claim(records, &connection.client, message.height, &claim, proof)
+}
