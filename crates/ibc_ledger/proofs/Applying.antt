@@ -15,6 +15,8 @@ use Rattle.ibc_machine.specs.declared.reply.Reply.TheVariants as reply
 use Rattle.ibc_machine.specs.declared.entry.Reading.{Reading}
 use Rattle.ibc_machine.specs.Clients.{create_client, update_client}
 use Rattle.ibc_machine.specs.Connections.{conn_open_init, conn_open_try, conn_open_ack, conn_open_confirm}
+use Rattle.ibc_machine.specs.Channels.{chan_open_init, chan_open_try, chan_open_ack, chan_open_confirm, chan_close_init, chan_close_confirm}
+use Rattle.ibc_machine.specs.Applications.{require_application, on_open, on_close}
 use Rattle.ibc_machine.specs.Handlers.{handle}
 use Rattle.ibc_machine.specs.Replay.{StampedEntry, proves}
 use Rattle.ibc_machine.specs.Ledgers.{state_of, is_typed, reading_fits}
@@ -72,6 +74,18 @@ kind (message.ConnOpenAck m) old given new pass answer =
     inl ((λ evidence host core. conn_open_ack evidence host core m), record { steps = λ evidence host records. refl; looks = λ state k. refl; tells = λ known. refl }, answer.0)
 kind (message.ConnOpenConfirm m) old given new pass answer =
     inl ((λ evidence host core. conn_open_confirm evidence core m), record { steps = λ evidence host records. refl; looks = λ state k. refl; tells = λ known. refl }, answer.0)
+kind (message.ChanOpenInit m) old given new pass answer =
+    inl ((λ evidence host core. chan_open_init (require_application m.port) (on_open m.port) core m), record { steps = λ evidence host records. refl; looks = λ state k. refl; tells = λ known. refl }, answer.0)
+kind (message.ChanOpenTry m) old given new pass answer =
+    inl ((λ evidence host core. chan_open_try (require_application m.port) (on_open m.port) evidence core m), record { steps = λ evidence host records. refl; looks = λ state k. refl; tells = λ known. refl }, answer.0)
+kind (message.ChanOpenAck m) old given new pass answer =
+    inl ((λ evidence host core. chan_open_ack evidence core m), record { steps = λ evidence host records. refl; looks = λ state k. refl; tells = λ known. refl }, answer.0)
+kind (message.ChanOpenConfirm m) old given new pass answer =
+    inl ((λ evidence host core. chan_open_confirm evidence core m), record { steps = λ evidence host records. refl; looks = λ state k. refl; tells = λ known. refl }, answer.0)
+kind (message.ChanCloseInit m) old given new pass answer =
+    inl ((λ evidence host core. chan_close_init (on_close m.port) core m), record { steps = λ evidence host records. refl; looks = λ state k. refl; tells = λ known. refl }, answer.0)
+kind (message.ChanCloseConfirm m) old given new pass answer =
+    inl ((λ evidence host core. chan_close_confirm evidence core m), record { steps = λ evidence host records. refl; looks = λ state k. refl; tells = λ known. refl }, answer.0)
 kind _ old given new pass answer = absurd answer
 
 -- ---- a message that was answered
@@ -99,20 +113,20 @@ module _ (l : Inside) (held : IsHeld l) (new : HeldRecords) (pass : Sight) (pref
       (subst (λ r. IsUpdatedAs (update_client (proves (l.pass.seen ++ prefix.0) given.1 (state_of (ledger_of l))) (core_of l.records) m) m l.records r new) is (told m given answer)).0 refl
 
   abbrev StandsWith : Message → Answered → Type 0
-  StandsWith m given = Stands (with_entry (ledger_of l) (entry_of (event.Message l.chain m) given.0 given.1 (stamp_if (is_some given.1) (l.pass.seen ++ prefix.0))) prefix.0) new l.balances
+  StandsWith m given = Stands (with_entry (ledger_of l) (entry_of (event.Message l.chain m) given.0 given.1 (stamp_if (is_some given.1) (l.pass.seen ++ prefix.0))) prefix.0) new l.applications
 
   abbrev IsTyped : Message → Type 0
   IsTyped m = is_typed (event.Message l.chain m) ≡ true
 
   of_update : (m : UpdateClient) (given : Answered) → IsUpdateAnswer l.table.value m l.records given new pass → IsTyped (message.UpdateClient m) → StandsWith (message.UpdateClient m) given
   of_update m given answer typed =
-      stands_updated (ledger_of l) l.records l.balances held.stands prefix.0 others m new given.1 typed answer.looks (fitting m given.1 answer.fits) given.0 (told m given answer)
+      stands_updated (ledger_of l) l.records l.applications held.stands prefix.0 others m new given.1 typed answer.looks (fitting m given.1 answer.fits) given.0 (told m given answer)
 
   module _ (m : Message) (given : Answered) (answer : IsAnswerTo m (before_in l) given new pass) where
     pub answered_stands : IsTyped m → StandsWith m given
     answered_stands typed = ⊎_elim
         (λ (w : (handler : Handler) × IsHandledBy m handler × IsTakenAs handler l.chain l.chains l.records given new).
-        stands_taken (ledger_of l) l.records l.balances held.stands prefix.0 others m w.0 w.1 l.chains held.chains given new w.2 typed)
+        stands_taken (ledger_of l) l.records l.applications held.stands prefix.0 others m w.0 w.1 l.chains held.chains given new w.2 typed)
         (λ (w : (update : UpdateClient) × (m ≡ message.UpdateClient update) × IsUpdateAnswer l.table.value update l.records given new pass).
         subst (λ m. IsTyped m → StandsWith m given) (sym w.1) (of_update w.0 given w.2) typed)
         (kind m (before_in l) given new pass answer)
@@ -120,7 +134,7 @@ module _ (l : Inside) (held : IsHeld l) (new : HeldRecords) (pass : Sight) (pref
     pub answer_has_memory : given.0 ≡ reply.No NoMemory → ⊥
     answer_has_memory = ⊎_elim
         (λ (w : (handler : Handler) × IsHandledBy m handler × IsTakenAs handler l.chain l.chains l.records given new).
-        taken_has_memory (ledger_of l) l.records l.balances held.stands prefix.0 others m w.0 w.1 l.chains held.chains given new w.2)
+        taken_has_memory (ledger_of l) l.records l.applications held.stands prefix.0 others m w.0 w.1 l.chains held.chains given new w.2)
         (λ (w : (update : UpdateClient) × (m ≡ message.UpdateClient update) × IsUpdateAnswer l.table.value update l.records given new pass).
         update_has_memory w.0 given w.2)
         (kind m (before_in l) given new pass answer)

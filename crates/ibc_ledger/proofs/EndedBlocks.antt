@@ -16,12 +16,11 @@ use Rattle.ibc_machine.specs.declared.event.Event.TheVariants as event
 use Rattle.ibc_machine.specs.declared.reply.Effect.TheVariants as effect
 use Rattle.ibc_machine.specs.declared.reply.Reply.{Reply}
 use Rattle.ibc_machine.specs.declared.reply.Reply.TheVariants as reply
-use Rattle.ibc_machine.specs.Records.{Chain, Block}
+use Rattle.ibc_machine.specs.Records.{Apps, Chain, Block}
 use Rattle.ibc_machine.specs.Checks.{and_then}
-use Rattle.ibc_machine.specs.Genesis.{GenesisState, ChainState, starting_chain, starting_balances}
+use Rattle.ibc_machine.specs.Genesis.{GenesisState, ChainState, starting_chain}
 use Rattle.ibc_machine.specs.Handlers.{may_commit, working_height}
 use Rattle.ibc_machine.specs.Image.{image, core_root}
-use Rattle.ibc_machine.specs.Bank.{Balances}
 use Rattle.ibc_machine.specs.Replay.{LedgerState, empty_chain}
 use Rattle.ibc_machine.specs.Ledgers.{Ledger, IsLedger, published_as, state_of}
 use Rattle.ibc_root_table.specs.Passes.{Publishes}
@@ -32,7 +31,7 @@ use Rattle.ibc_records.specs.Held.{HeldRecords, consensus_in, IsNew}
 use Rattle.ibc_ledger.specs.Growing.{with_entry}
 use Rattle.ibc_ledger.specs.Entries.{entry_of, working_block}
 use Rattle.ibc_ledger.specs.Proving.{passed, kept_of}
-use Rattle.ibc_ledger.specs.Standing.{IsStateOf, Stands}
+use Rattle.ibc_ledger.specs.Standing.{starting_apps, IsStateOf, Stands}
 use Rattle.ibc_ledger.proofs.Keeping.{drop_none}
 use Rattle.ibc_ledger.proofs.Growing.{ledgers_go_on}
 use Rattle.ibc_ledger.proofs.Entries.{refused_block_next, ended_block_next, block_answer-by}
@@ -65,15 +64,15 @@ published_height ledger is = ap length is.published ∙ length-map (state_of led
 
 -- ---- ends of blocks
 
-module _ (ledger : Ledger) (old : HeldRecords) (balances : Balances) (stands : Stands ledger old balances) (more : List Publication) (next_time : ℕ) (fits : next_time < 2 ^ 64) where
+module _ (ledger : Ledger) (old : HeldRecords) (apps : Apps) (stands : Stands ledger old apps) (more : List Publication) (next_time : ℕ) (fits : next_time < 2 ^ 64) where
   pub stands_not_ended : (r : Refusal) → may_commit ledger.genesis.capacity (state_of ledger).chain next_time ≡ Err r
       → published_by ledger.chain (ledger.seen ++ more) ≡ published_by ledger.chain ledger.seen
-      → Stands (with_entry ledger (entry_of (event.Block ledger.chain next_time) (reply.No r) None None) more) old balances
+      → Stands (with_entry ledger (entry_of (event.Block ledger.chain next_time) (reply.No r) None None) more) old apps
   stands_not_ended r e others =
       let w = ledgers_go_on ledger (entry_of (event.Block ledger.chain next_time) (reply.No r) None None) more stands.is (refused_block_next ledger more stands.is next_time fits r e others) in
       record {
         is = w.0;
-        holds = subst (λ (s : LedgerState). IsStateOf ledger.genesis.window s old balances)
+        holds = subst (λ (s : LedgerState). IsStateOf ledger.genesis.window s old apps)
             (sym (w.1 ∙ ap (λ (w : Reply × LedgerState). w.1) (block_answer-by ledger more stands.is next_time fits (Err r) e))) stands.holds;
       }
 
@@ -81,16 +80,16 @@ module _ (ledger : Ledger) (old : HeldRecords) (balances : Balances) (stands : S
       → Publishes ledger.seen (published_as ledger.chain (working_block (state_of ledger).chain)) (ledger.seen ++ more)
       → published_by ledger.chain (ledger.seen ++ more) ≡ published_by ledger.chain ledger.seen ++ published_as ledger.chain (working_block (state_of ledger).chain) ∷ []
       → 0 < ledger.genesis.window → height_of old.store < 2 ^ 64 - 1 → new ≡ record old { store = committed old.store next_time }
-      → Stands (with_entry ledger (entry_of (event.Block ledger.chain next_time) (reply.Ok (effect.Block (working_height (state_of ledger).chain) (core_root (state_of ledger).chain.records.core))) None (Some (length (ledger.seen ++ more)))) more) new balances
+      → Stands (with_entry ledger (entry_of (event.Block ledger.chain next_time) (reply.Ok (effect.Block (working_height (state_of ledger).chain) (core_root (state_of ledger).chain.records.core))) None (Some (length (ledger.seen ++ more)))) more) new apps
   stands_ended small new e publishes own_last some room is =
       let w = ledgers_go_on ledger (entry_of (event.Block ledger.chain next_time) (reply.Ok (effect.Block (working_height (state_of ledger).chain) (core_root (state_of ledger).chain.records.core))) None (Some (length (ledger.seen ++ more)))) more stands.is
       (ended_block_next ledger more stands.is next_time fits small tt e publishes own_last)
       in
       record {
         is = w.0;
-        holds = subst (λ (s : LedgerState). IsStateOf ledger.genesis.window s new balances)
+        holds = subst (λ (s : LedgerState). IsStateOf ledger.genesis.window s new apps)
             (sym (w.1 ∙ ap (λ (w : Reply × LedgerState). w.1) (block_answer-by ledger more stands.is next_time fits (Ok tt) e)))
-            (committed_holds ledger.genesis.window (state_of ledger) old balances stands.holds next_time new some room is);
+            (committed_holds ledger.genesis.window (state_of ledger) old apps stands.holds next_time new some room is);
       }
 
 -- ---- the beginning
@@ -102,7 +101,7 @@ module _ (genesis : GenesisState) (k : ℕ) (start : ChainState) (there : slice_
   first_state : state_of new_ledger ≡ record { chain = starting_chain start; consensus = [] }
   first_state = ap (λ o. record { chain = unwrap_or o empty_chain; consensus = [] }) (slice_get-map starting_chain genesis.chains k ∙ ap (option_map starting_chain) there)
 
-  pub stands_new : (held : HeldRecords) → IsNew genesis.window start.time held → Stands new_ledger held (starting_balances start.balances)
+  pub stands_new : (held : HeldRecords) → IsNew genesis.window start.time held → Stands new_ledger held (starting_apps start.balances)
   stands_new held new = record {
     is = record {
       number = inside;
@@ -111,12 +110,12 @@ module _ (genesis : GenesisState) (k : ℕ) (start : ChainState) (there : slice_
       stamps = tt;
       small = subst (λ (s : LedgerState). AllByRecursion (λ (block : Block). length (image block.records.core) < 2 ^ 64) s.chain.committed) (sym first_state) tt;
     };
-    holds = subst (λ (s : LedgerState). IsStateOf genesis.window s held (starting_balances start.balances)) (sym first_state) (record {
+    holds = subst (λ (s : LedgerState). IsStateOf genesis.window s held (starting_apps start.balances)) (sym first_state) (record {
       core = new.core;
       time = ap (λ (s : HeldStore). s.time) new.store;
       height = ap (λ (s : HeldStore). height_of s) new.store;
       window_is = ap (λ (s : HeldStore). s.window) new.store;
-      balances_are = refl;
+      apps_are = refl;
       known = λ client height known e. absurd (nothing client height known e);
       keeps = record {
         working = ap (λ (s : HeldStore). s.pairs) new.store;

@@ -67,17 +67,17 @@ module _ (l : Inside) (held : IsHeld l) (next_time : ℕ) (fits : next_time < 2 
         let height : given.0 ≡ working_height chain_now = omega (arith, committed.height) in
         λ i. effect.Block (height i) ((committed.root ∙ ap core_root held.stands.holds.core) i)
 
-    pub ended_stands : Stands (with_entry (ledger_of l) (entry_of (event.Block l.chain next_time) (reply.Ok (effect.Block given.0 given.1)) None (Some (length (l.pass.seen ++ prefix.0)))) prefix.0) new l.balances
+    pub ended_stands : Stands (with_entry (ledger_of l) (entry_of (event.Block l.chain next_time) (reply.Ok (effect.Block given.0 given.1)) None (Some (length (l.pass.seen ++ prefix.0)))) prefix.0) new l.applications
     ended_stands =
-        subst (λ e. Stands (with_entry (ledger_of l) (entry_of (event.Block l.chain next_time) (reply.Ok e) None (Some (length (l.pass.seen ++ prefix.0)))) prefix.0) new l.balances) (sym same_effect)
-        (stands_ended (ledger_of l) l.records l.balances held.stands prefix.0 next_time fits
+        subst (λ e. Stands (with_entry (ledger_of l) (entry_of (event.Block l.chain next_time) (reply.Ok e) None (Some (length (l.pass.seen ++ prefix.0)))) prefix.0) new l.applications) (sym same_effect)
+        (stands_ended (ledger_of l) l.records l.applications held.stands prefix.0 next_time fits
         (subst (λ core. length (image core) < 2 ^ 64) held.stands.holds.core committed.small) new may publishes own_last (some_window (genesis_of l) held.allowed)
         (let s = small_capacity (genesis_of l) held.allowed in let c = held.capacity in let r = committed.room in omega arith) committed.records)
 
   pub not_ended_stands : (r : Refusal) → (r ≡ NoMemory → ⊥) → IsWhy l.capacity next_time l.records r
-      → Stands (with_entry (ledger_of l) (entry_of (event.Block l.chain next_time) (reply.No r) None None) []) l.records l.balances
+      → Stands (with_entry (ledger_of l) (entry_of (event.Block l.chain next_time) (reply.No r) None None) []) l.records l.applications
   not_ended_stands r plenty why =
-      stands_not_ended (ledger_of l) l.records l.balances held.stands [] next_time fits r may_not (ap (published_by l.chain) (append-nil l.pass.seen))
+      stands_not_ended (ledger_of l) l.records l.applications held.stands [] next_time fits r may_not (ap (published_by l.chain) (append-nil l.pass.seen))
     where
       may_not : may_commit (genesis_of l).capacity chain_now next_time ≡ Err r
       may_not = ⊎_elim
@@ -95,7 +95,7 @@ pub record IsBlockEntry (l : Inside) (next_time : ℕ) (given : Reply) (e : Stam
   pub prefix : IsPrefix l.pass.seen pass.seen
   pub stamp : Option ℕ
   pub is : entry_of (event.Block l.chain next_time) given None stamp ≡ e
-  pub stands : Stands (with_entry (ledger_of l) (entry_of (event.Block l.chain next_time) given None stamp) prefix.0) new l.balances
+  pub stands : Stands (with_entry (ledger_of l) (entry_of (event.Block l.chain next_time) given None stamp) prefix.0) new l.applications
   pub same : SamePass l.pass pass
   pub plenty : given ≡ reply.No NoMemory → ⊥
   pub late : IfSome stamp (λ n. length l.pass.seen ≤ n)

@@ -29,9 +29,9 @@ module _ (l : Inside) (held : IsHeld l) (new : Inside) (stepped : IsStepped l ne
   keeps_own keeps = keeps l.chain held.own
 
   pub held_by : (history : List StampedEntry) (seen : List Publication) → history ≡ map plain_entry new.history.items → seen ≡ new.pass.seen
-      → Stands (with_parts l history seen) new.records l.balances → IsHeld new
+      → Stands (with_parts l history seen) new.records l.applications → IsHeld new
   held_by history seen is sees stands = subst IsHeld (sym stepped) (record {
-    stands = subst (λ (w : List StampedEntry × List Publication). Stands (with_parts l w.0 w.1) new.records l.balances) (λ i. (is i, sees i)) stands;
+    stands = subst (λ (w : List StampedEntry × List Publication). Stands (with_parts l w.0 w.1) new.records l.applications) (λ i. (is i, sees i)) stands;
     allowed = held.allowed;
     table = same.0 ∙ held.table;
     own = same.1 ∙ held.own;
@@ -44,13 +44,13 @@ module _ (l : Inside) (held : IsHeld l) (new : Inside) (stepped : IsStepped l ne
   pub still_held : IsPrefix l.pass.seen new.pass.seen → KeepsOwn l.pass new.pass → IsUnchanged l.records new.records → new.history.items ≡ l.history.items → IsHeld new
   still_held prefix keeps unchanged items =
       held_by (map plain_entry l.history.items) (l.pass.seen ++ prefix.0) (ap (map plain_entry) (sym items)) prefix.1
-      (stands_unchanged (ledger_of l) l.records l.balances held.stands prefix.0 (ap (published_by l.chain) prefix.1 ∙ keeps_own keeps) new.records unchanged)
+      (stands_unchanged (ledger_of l) l.records l.applications held.stands prefix.0 (ap (published_by l.chain) prefix.1 ∙ keeps_own keeps) new.records unchanged)
 
   -- there is one entry more
   pub longer_history : (kept : KeptEntry) → new.history.items ≡ l.history.items ++ kept ∷ [] → map plain_entry l.history.items ++ plain_entry kept ∷ [] ≡ map plain_entry new.history.items
   longer_history kept items = sym (map-append plain_entry l.history.items (kept ∷ [])) ∙ ap (map plain_entry) (sym items)
 
   pub held_with : (kept : KeptEntry) (e : StampedEntry) (prefix : IsPrefix l.pass.seen new.pass.seen) → new.history.items ≡ l.history.items ++ kept ∷ [] → e ≡ plain_entry kept
-      → Stands (with_entry (ledger_of l) e prefix.0) new.records l.balances → IsHeld new
+      → Stands (with_entry (ledger_of l) e prefix.0) new.records l.applications → IsHeld new
   held_with kept e prefix items is stands =
       held_by (map plain_entry l.history.items ++ e ∷ []) (l.pass.seen ++ prefix.0) (ap (λ x. map plain_entry l.history.items ++ x ∷ []) is ∙ longer_history kept items) prefix.1 stands

@@ -9,8 +9,7 @@ use Rattle.ibc_ids.proofs.Texts.{text_cmp_total, text_tied}
 use Rattle.ibc_wire.specs.declared.messages.UpdateClient.{UpdateClient}
 use Rattle.ibc_wire.specs.declared.messages.Message.{Message}
 use Rattle.ibc_wire.specs.declared.messages.Message.TheVariants as message
-use Rattle.ibc_machine.specs.Records.{Core}
-use Rattle.ibc_machine.specs.Bank.{Balances}
+use Rattle.ibc_machine.specs.Records.{Core, Apps}
 use Rattle.ibc_machine.specs.Replay.{LedgerState, consensus_cmp, consensus_at, with_consensus}
 use Rattle.ibc_machine.proofs.Images.{at-with}
 use Rattle.ibc_path_store.specs.Held.{HeldStore, height_of, committed}
@@ -29,27 +28,27 @@ use Rattle.ibc_ledger.proofs.Standing.{with_core}
 consensus_cmp_total : IsTotalOrder consensus_cmp
 consensus_cmp_total = then_total (on_total (λ (x : Text × ℕ). x.0) text_cmp_total) (on_total (λ (x : Text × ℕ). x.1) nat_cmp_total)
 
-module _ (window : ℕ) (state : LedgerState) (old : HeldRecords) (balances : Balances) (holds : IsStateOf window state old balances) where
+module _ (window : ℕ) (state : LedgerState) (old : HeldRecords) (apps : Apps) (holds : IsStateOf window state old apps) where
   -- only how much room there is changed
-  pub unchanged_holds : (new : HeldRecords) → IsUnchanged old new → IsStateOf window state new balances
+  pub unchanged_holds : (new : HeldRecords) → IsUnchanged old new → IsStateOf window state new apps
   unchanged_holds new same = record {
     core = ap core_of same ∙ holds.core;
     time = ap (λ (h : HeldRecords). h.store.time) same ∙ holds.time;
     height = ap (λ (h : HeldRecords). height_of h.store) same ∙ holds.height;
     window_is = ap (λ (h : HeldRecords). h.store.window) same ∙ holds.window_is;
-    balances_are = holds.balances_are;
+    apps_are = holds.apps_are;
     known = λ client height known e. holds.known client height known (sym (ap (λ (h : HeldRecords). consensus_in h client height) same) ∙ e);
     keeps = keeps_unchanged window state.chain old new holds.keeps same;
   }
 
   -- the records were written, by a message that tells no client of a height
-  pub written_holds : (m : Message) (core : Core) (new : HeldRecords) → IsWritten core old new → with_consensus m state.consensus ≡ state.consensus → IsStateOf window (with_core m state core) new balances
+  pub written_holds : (m : Message) (core : Core) (new : HeldRecords) → IsWritten core old new → with_consensus m state.consensus ≡ state.consensus → IsStateOf window (with_core m state core) new apps
   written_holds m core new written same = record {
     core = written.core_is;
     time = ap (λ (s : HeldStore). s.time) written.stored.store ∙ holds.time;
     height = ap (λ (s : HeldStore). height_of s) written.stored.store ∙ holds.height;
     window_is = ap (λ (s : HeldStore). s.window) written.stored.store ∙ holds.window_is;
-    balances_are = holds.balances_are;
+    apps_are = holds.apps_are;
     known = λ client height known e. ap (λ consensus. at consensus_cmp (client, height) consensus) same ∙ holds.known client height known (written.knows client height known e);
     keeps = keeps_stored window state.chain old new core holds.keeps written.stored written.core_is;
   }
@@ -72,13 +71,13 @@ module _ (window : ℕ) (state : LedgerState) (old : HeldRecords) (balances : Ba
         by_height client height known is (nat_cmp height m.header.height)
         (sym (at-with nat_cmp nat_cmp_total height m.header.height (consensus_of m.header) updates.client.known) ∙ e)
 
-    pub updated_holds : IsStateOf window (with_core (message.UpdateClient m) state (core_of new)) new balances
+    pub updated_holds : IsStateOf window (with_core (message.UpdateClient m) state (core_of new)) new apps
     updated_holds = record {
       core = refl;
       time = ap (λ (s : HeldStore). s.time) updates.stored.store ∙ holds.time;
       height = ap (λ (s : HeldStore). height_of s) updates.stored.store ∙ holds.height;
       window_is = ap (λ (s : HeldStore). s.window) updates.stored.store ∙ holds.window_is;
-      balances_are = holds.balances_are;
+      apps_are = holds.apps_are;
       known = λ client height known e.
           at-with consensus_cmp consensus_cmp_total (client, height) (m.client, m.header.height) (plain_consensus (consensus_of m.header)) state.consensus
           ∙ by_client client height known (text_cmp client m.client) refl
@@ -88,13 +87,13 @@ module _ (window : ℕ) (state : LedgerState) (old : HeldRecords) (balances : Ba
 
   -- the working block joins the committed ones
   pub committed_holds : (next_time : ℕ) (new : HeldRecords) → 0 < window → height_of old.store < 2 ^ 64 - 1 → new ≡ record old { store = committed old.store next_time }
-      → IsStateOf window (record state { chain = record { records = state.chain.records; time = next_time; committed = state.chain.committed ++ working_block state.chain ∷ [] } }) new balances
+      → IsStateOf window (record state { chain = record { records = state.chain.records; time = next_time; committed = state.chain.committed ++ working_block state.chain ∷ [] } }) new apps
   committed_holds next_time new some room is = record {
     core = ap core_of is ∙ holds.core;
     time = ap (λ (h : HeldRecords). h.store.time) is;
     height = ap (λ (h : HeldRecords). height_of h.store) is ∙ one_more;
     window_is = ap (λ (h : HeldRecords). h.store.window) is ∙ holds.window_is;
-    balances_are = holds.balances_are;
+    apps_are = holds.apps_are;
     known = λ client height known e. holds.known client height known (sym (ap (λ (h : HeldRecords). consensus_in h client height) is) ∙ e);
     keeps = subst (λ (h : HeldRecords). KeepsBlocks window (record { records = state.chain.records; time = next_time; committed = state.chain.committed ++ working_block state.chain ∷ [] }) h.store) (sym is)
         (keeps_committed window state.chain old.store next_time some room holds.window_is holds.time holds.height holds.keeps);

@@ -13,5 +13,6 @@ pub mod Totals
 pub mod StartingBalances
 pub mod Applying
 pub mod Windows
+pub mod Ports
 pub mod Ending
 pub mod NewLedgers

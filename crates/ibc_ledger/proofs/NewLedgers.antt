@@ -6,13 +6,13 @@ use Rattle.std.proofs.lemmas.Option.{slice_get-map}
 use Rattle.ibc_ids.specs.declared.publication.Publication.{Publication}
 use Rattle.ibc_machine.specs.declared.genesis.Genesis.{Genesis}
 use Rattle.ibc_machine.specs.declared.genesis.ChainStart.{ChainStart}
-use Rattle.ibc_machine.specs.Bank.{Balances}
-use Rattle.ibc_machine.specs.Genesis.{genesis_state, chain_state, is_allowed, starting_balances}
+use Rattle.ibc_machine.specs.Records.{Apps}
+use Rattle.ibc_machine.specs.Genesis.{genesis_state, chain_state, is_allowed}
 use Rattle.ibc_machine.specs.Replay.{StampedEntry}
 use Rattle.ibc_root_table.specs.Passes.{Sight, unused_pass}
 use Rattle.ibc_records.specs.Held.{IsNew}
 use Rattle.ibc_ledger.specs.declared.ledger.Ledger.TheInside.{Inside}
-use Rattle.ibc_ledger.specs.Standing.{Stands}
+use Rattle.ibc_ledger.specs.Standing.{starting_apps, Stands}
 use Rattle.ibc_ledger.specs.Held.{plain_entry, shape_of}
 use Rattle.ibc_ledger.specs.Inside.{genesis_of, ledger_of, IsHeld}
 use Rattle.ibc_ledger.proofs.EndedBlocks.{stands_new}
@@ -28,20 +28,20 @@ pub record IsFresh (l : Inside) (genesis : Genesis) : Type 0 where
   pub shape : l.table.value.shape ≡ shape_of (genesis_state genesis)
   pub pass : l.pass ≡ unused_pass l.table.value (Some l.chain)
   pub records : IsNew genesis.window start.time l.records
-  pub balances : l.balances ≡ starting_balances start.balances.items
+  pub applications : l.applications ≡ starting_apps start.balances.items
   pub history : l.history.items ≡ []
 
 module _ (l : Inside) (fresh : IsFresh l l.genesis.value) where
   as_many : length (genesis_of l).chains ≡ length l.genesis.value.chains.items
   as_many = length-map l.genesis.value.chains.items chain_state
 
-  stands : Stands (ledger_of l) l.records l.balances
+  stands : Stands (ledger_of l) l.records l.applications
   stands =
       let history : [] ≡ map plain_entry l.history.items = ap (map plain_entry) (sym fresh.history) in
       let seen : [] ≡ l.pass.seen = ap (λ (s : Sight). s.seen) (sym fresh.pass) in
       let there = slice_get-map chain_state l.genesis.value.chains.items l.chain ∙ ap (option_map chain_state) fresh.there in
-      subst (λ (w : (List StampedEntry × List Publication) × Balances). Stands (record { genesis = genesis_of l; chain = l.chain; history = w.0.0; seen = w.0.1 }) l.records w.1)
-      (λ i. ((history i, seen i), (sym fresh.balances) i))
+      subst (λ (w : (List StampedEntry × List Publication) × Apps). Stands (record { genesis = genesis_of l; chain = l.chain; history = w.0.0; seen = w.0.1 }) l.records w.1)
+      (λ i. ((history i, seen i), (sym fresh.applications) i))
       (stands_new (genesis_of l) l.chain (chain_state fresh.start) there (subst (λ n. l.chain < n) (sym as_many) fresh.inside) l.records fresh.records)
 
   pub fresh_held : IsHeld l

@@ -17,6 +17,8 @@ use Rattle.ibc_machine.specs.Checks.{Checked}
 use Rattle.ibc_machine.specs.Evidence.{Host, Evidence}
 use Rattle.ibc_machine.specs.Clients.{create_client, update_client}
 use Rattle.ibc_machine.specs.Connections.{conn_open_init, conn_open_try, conn_open_ack, conn_open_confirm}
+use Rattle.ibc_machine.specs.Channels.{chan_open_init, chan_open_try, chan_open_ack, chan_open_confirm, chan_close_init, chan_close_confirm}
+use Rattle.ibc_machine.specs.Applications.{require_application, on_open, on_close}
 use Rattle.ibc_machine.specs.Ledgers.{is_block_reply, reading_fits}
 use Rattle.ibc_machine.specs.Replay.{LedgerState, proves}
 use Rattle.ibc_path_store.specs.Held.{height_of}
@@ -92,4 +94,16 @@ IsAnswerTo (message.ConnOpenAck m) old given new pass =
     IsTakenUnseen (λ evidence host core. conn_open_ack evidence host core m) old given new pass
 IsAnswerTo (message.ConnOpenConfirm m) old given new pass =
     IsTakenUnseen (λ evidence host core. conn_open_confirm evidence core m) old given new pass
+IsAnswerTo (message.ChanOpenInit m) old given new pass =
+    IsTakenUnseen (λ evidence host core. chan_open_init (require_application m.port) (on_open m.port) core m) old given new pass
+IsAnswerTo (message.ChanOpenTry m) old given new pass =
+    IsTakenUnseen (λ evidence host core. chan_open_try (require_application m.port) (on_open m.port) evidence core m) old given new pass
+IsAnswerTo (message.ChanOpenAck m) old given new pass =
+    IsTakenUnseen (λ evidence host core. chan_open_ack evidence core m) old given new pass
+IsAnswerTo (message.ChanOpenConfirm m) old given new pass =
+    IsTakenUnseen (λ evidence host core. chan_open_confirm evidence core m) old given new pass
+IsAnswerTo (message.ChanCloseInit m) old given new pass =
+    IsTakenUnseen (λ evidence host core. chan_close_init (on_close m.port) core m) old given new pass
+IsAnswerTo (message.ChanCloseConfirm m) old given new pass =
+    IsTakenUnseen (λ evidence host core. chan_close_confirm evidence core m) old given new pass
 IsAnswerTo _ old given new pass = ⊥

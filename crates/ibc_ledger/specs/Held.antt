@@ -1,12 +1,13 @@
 -- A ledger as its callers see it.
-use Rattle.std.specs.Prelude.{ℕ, Bool, true, false, length}
+use Rattle.std.specs.Prelude.{ℕ, Bool, true, false, not, length}
 use Rattle.std.specs.Option.{option_map}
-use Rattle.ibc_ids.specs.Texts.{Text}
+use Rattle.ibc_ids.specs.Texts.{Text, same_text}
 use Rattle.ibc_ids.specs.Paths.{account_text}
 use Rattle.ibc_ids.specs.declared.account.Account.{Account}
 use Rattle.ibc_wire.specs.declared.messages.Message.{Message}
 use Rattle.ibc_wire.specs.declared.messages.Message.TheVariants as message
 use Rattle.ibc_machine.specs.Genesis.{GenesisState}
+use Rattle.ibc_machine.specs.Transfers.{transfer_port}
 use Rattle.ibc_machine.specs.Replay.{StampedEntry}
 use Rattle.ibc_machine.specs.Ledgers.{Ledger}
 use Rattle.ibc_root_table.specs.Passes.{TableName}
@@ -30,7 +31,12 @@ shape_of genesis = record { chains = length genesis.chains; window = genesis.win
 abbrev pub plain_holding : Account × Text × ℕ → (Text × Text) × ℕ
 plain_holding (account, denom, amount) = ((account_text account, denom), amount)
 
--- a ledger has a handler for the message: those of clients and of connections (ICS 2, ICS 3)
+-- what there is to ask on the port is built: port `transfer` is not
+abbrev pub is_built_port : Text → Bool
+is_built_port port = not (same_text port transfer_port)
+
+-- a ledger has a handler for the message: those of clients, connections and channels (ICS 2, ICS 3, ICS 4), where they
+-- don't ask the application of a port that isn't built
 abbrev pub has_handler : Message → Bool
 has_handler (message.CreateClient m) = true
 has_handler (message.UpdateClient m) = true
@@ -38,4 +44,10 @@ has_handler (message.ConnOpenInit m) = true
 has_handler (message.ConnOpenTry m) = true
 has_handler (message.ConnOpenAck m) = true
 has_handler (message.ConnOpenConfirm m) = true
+has_handler (message.ChanOpenInit m) = is_built_port m.port
+has_handler (message.ChanOpenTry m) = is_built_port m.port
+has_handler (message.ChanOpenAck m) = true
+has_handler (message.ChanOpenConfirm m) = true
+has_handler (message.ChanCloseInit m) = is_built_port m.port
+has_handler (message.ChanCloseConfirm m) = true
 has_handler _ = false

@@ -18,7 +18,7 @@ held_of l = record { ledger = ledger_of l; table = l.table.value }
 
 -- what is held is the state that the history leaves, and the pass is the chain's own of the table of the genesis
 pub record IsHeld (l : Inside) : Type 0 where
-  pub stands : Stands (ledger_of l) l.records l.balances
+  pub stands : Stands (ledger_of l) l.records l.applications
   pub allowed : IsTrue (is_allowed (genesis_of l))
   pub table : l.pass.table ≡ l.table.value
   pub own : l.pass.own ≡ Some l.chain

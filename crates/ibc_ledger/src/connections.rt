@@ -8,7 +8,6 @@ ghost use Rattle.ibc_ledger.specs.Answering.{IsTakenAs};
 use crate::outcome::Outcome;
 use ibc_connection::{open_ack, open_confirm, open_init, open_try};
 use ibc_ids::nth_connection;
-use ibc_machine::Effect;
 use ibc_records::Records;
 use ibc_wire::{ConnOpenAck, ConnOpenConfirm, ConnOpenInit, ConnOpenTry};
 use std::alloc::{AllocError, Global};
@@ -26,10 +25,7 @@ pub fn init_in(
     let Ok(named) = nth_connection(alloc, records.next_connection()) else {
         return Err(AllocError);
     };
-    Outcome::of_effect(match open_init(alloc, records, message) {
-        Ok(id) => Ok((Effect::Connection(id), Effect::Connection(named))),
-        Err(refusal) => Err(refusal),
-    })
+    Outcome::of_connection(open_init(alloc, records, message), named)
 }
 
 /// Answers a connection of the peer in the records.
@@ -46,10 +42,7 @@ pub fn try_in(
     let Ok(named) = nth_connection(alloc, records.next_connection()) else {
         return Err(AllocError);
     };
-    Outcome::of_effect(match open_try(alloc, records, chain, message) {
-        Ok(id) => Ok((Effect::Connection(id), Effect::Connection(named))),
-        Err(refusal) => Err(refusal),
-    })
+    Outcome::of_connection(open_try(alloc, records, chain, message), named)
 }
 
 /// Opens a connection that the peer answered, in the records.

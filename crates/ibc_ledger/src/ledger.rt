@@ -17,7 +17,7 @@ ghost use Rattle.ibc_ledger.specs.Held.{plain_entry, plain_holding, shape_of};
 ghost use Rattle.ibc_ledger.specs.Proving.{provable};
 
 use crate::StampedEntry;
-use crate::balances::Balances;
+use crate::applications::Applications;
 use ibc_ids::{Account, Bytes, Denom, Key, Refusal};
 use ibc_machine::Genesis;
 use ibc_merkle::Proof;
@@ -40,7 +40,7 @@ pub struct Ledger {
     pub(crate) table: Arc<RootTable, Global>,
     pub(crate) pass: Pass,
     pub(crate) records: Records,
-    pub(crate) balances: Balances,
+    pub(crate) applications: Applications,
     pub(crate) history: Vec<StampedEntry>,
 }
 
@@ -82,7 +82,7 @@ impl Ledger {
             table,
             pass,
             records: Records::new(alloc, genesis.window, start.time)?,
-            balances: Balances::new(alloc, start)?,
+            applications: Applications::new(alloc, start)?,
             history: Vec::new(alloc),
         })
     }
@@ -140,7 +140,7 @@ impl Ledger {
         ensures ok { IfOk result (λ list. map plain_holding list.items ≡ (state_of self.now.ledger).chain.records.apps.balances) }
         ensures err { IfErr result (λ refusal. refusal ≡ NoMemory) }
     {
-        Ok(self.balances.list(self.alloc)?)
+        Ok(self.applications.balances.list(self.alloc)?)
     }
 
     /// Afterwards the passes of the two ledgers have seen the same publications, and each of them all that either had seen.

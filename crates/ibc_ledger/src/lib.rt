@@ -1,11 +1,14 @@
 //! A chain that sees the others through published roots and proofs alone.
 #![tactic(auto)]
 
+mod applications;
 mod balances;
 mod blocks;
+mod channels;
 mod connections;
 mod entry;
 mod genesis;
+mod handlers;
 mod laws;
 mod ledger;
 mod messages;
@@ -15,5 +18,6 @@ mod typed;
 
 pub use entry::StampedEntry;
 pub use genesis::is_allowed;
+pub use handlers::has_handler;
 pub use laws::{a_ledger_goes_on, a_ledger_sees_more};
 pub use ledger::Ledger;

@@ -11,13 +11,13 @@ ghost use Rattle.ibc_ledger.specs.Answering.{IsAnswerTo, IsTakenAs, IsUpdateAnsw
 ghost use Rattle.ibc_ledger.specs.Entries.{stamp_if};
 ghost use Rattle.ibc_ledger.specs.Held.{has_handler};
 
-use crate::connections::{ack_in, confirm_in, init_in, try_in};
+use crate::applications::Applications;
 use crate::outcome::Outcome;
 use crate::typed::is_typed;
-use crate::{Ledger, StampedEntry};
+use crate::{Ledger, StampedEntry, channels, connections};
 use ibc_client::{create, update};
 use ibc_ids::{Refusal, nth_client};
-use ibc_machine::{Effect, Entry, Event, Reply};
+use ibc_machine::{Entry, Event, Reply};
 use ibc_records::Records;
 use ibc_root_table::{Pass, RootTable};
 use ibc_wire::{CreateClient, Message, UpdateClient};
@@ -41,6 +41,7 @@ impl Ledger {
         let Ok(outcome) = answer(
             self.alloc,
             &mut self.records,
+            &self.applications,
             &self.table,
             &mut self.pass,
             chain,
@@ -69,6 +70,7 @@ impl Ledger {
 fn answer(
     alloc: Global,
     records: &mut Records,
+    applications: &Applications,
     table: &RootTable,
     pass: &mut Pass,
     chain: u8,
@@ -85,10 +87,16 @@ fn answer(
     match message {
         Message::CreateClient(message) => create_in(alloc, records, chain, chains, message),
         Message::UpdateClient(message) => update_in(records, table, pass, message),
-        Message::ConnOpenInit(message) => init_in(alloc, records, message),
-        Message::ConnOpenTry(message) => try_in(alloc, records, chain, message),
-        Message::ConnOpenAck(message) => ack_in(alloc, records, chain, message),
-        Message::ConnOpenConfirm(message) => confirm_in(alloc, records, message),
+        Message::ConnOpenInit(message) => connections::init_in(alloc, records, message),
+        Message::ConnOpenTry(message) => connections::try_in(alloc, records, chain, message),
+        Message::ConnOpenAck(message) => connections::ack_in(alloc, records, chain, message),
+        Message::ConnOpenConfirm(message) => connections::confirm_in(alloc, records, message),
+        Message::ChanOpenInit(message) => channels::init_in(alloc, records, applications, message),
+        Message::ChanOpenTry(message) => channels::try_in(alloc, records, applications, message),
+        Message::ChanOpenAck(message) => channels::ack_in(alloc, records, message),
+        Message::ChanOpenConfirm(message) => channels::confirm_in(alloc, records, message),
+        Message::ChanCloseInit(message) => channels::close_in(records, applications, message),
+        Message::ChanCloseConfirm(message) => channels::close_confirm_in(alloc, records, message),
         _ => unreachable!(),
     }
 }
@@ -108,10 +116,7 @@ fn create_in(
     let Ok(named) = nth_client(alloc, records.next_client()) else {
         return Err(AllocError);
     };
-    Outcome::of_effect(match create(alloc, records, chain, chains, message) {
-        Ok(id) => Ok((Effect::Client(id), Effect::Client(named))),
-        Err(refusal) => Err(refusal),
-    })
+    Outcome::of_client(create(alloc, records, chain, chains, message), named)
 }
 
 // Tells a client in the records of a height.

@@ -6,7 +6,7 @@ ghost use Rattle.ibc_machine.specs.declared.reply.Effect.TheVariants as effect_o
 ghost use Rattle.ibc_ledger.specs.Answering.{IsReplyTo};
 
 use crate::refusals::with_memory;
-use ibc_ids::Refusal;
+use ibc_ids::{ChannelId, ClientId, ConnectionId, Refusal};
 use ibc_machine::{Effect, Reading, Reply};
 use std::alloc::AllocError;
 
@@ -41,6 +41,57 @@ impl Outcome {
                     reading: None,
                 })
             }
+        }
+    }
+
+    /// The outcome of a call that made a client of this name. Error: memory ran out.
+    pub fn of_client(
+        made: Result<ClientId, Refusal>,
+        named: ClientId,
+    ) -> Result<Outcome, AllocError>
+        requires { IfOk made (λ id. id ≡ named) }
+        ensures kept { IfOk result (λ outcome. outcome.kept ≡ outcome.reply) }
+        ensures reply { IfOk result (λ outcome. IsReplyTo effect_of.Client made outcome.reply) }
+        ensures unread { IfOk result (λ outcome. outcome.reading ≡ None) }
+        ensures err { IsErr result → made ≡ Err NoMemory }
+    {
+        match made {
+            Ok(id) => Outcome::of_effect(Ok((Effect::Client(id), Effect::Client(named)))),
+            Err(refusal) => Outcome::of_effect(Err(refusal)),
+        }
+    }
+
+    /// The outcome of a call that made a connection of this name. Error: memory ran out.
+    pub fn of_connection(
+        made: Result<ConnectionId, Refusal>,
+        named: ConnectionId,
+    ) -> Result<Outcome, AllocError>
+        requires { IfOk made (λ id. id ≡ named) }
+        ensures kept { IfOk result (λ outcome. outcome.kept ≡ outcome.reply) }
+        ensures reply { IfOk result (λ outcome. IsReplyTo effect_of.Connection made outcome.reply) }
+        ensures unread { IfOk result (λ outcome. outcome.reading ≡ None) }
+        ensures err { IsErr result → made ≡ Err NoMemory }
+    {
+        match made {
+            Ok(id) => Outcome::of_effect(Ok((Effect::Connection(id), Effect::Connection(named)))),
+            Err(refusal) => Outcome::of_effect(Err(refusal)),
+        }
+    }
+
+    /// The outcome of a call that made a channel of this name. Error: memory ran out.
+    pub fn of_channel(
+        made: Result<ChannelId, Refusal>,
+        named: ChannelId,
+    ) -> Result<Outcome, AllocError>
+        requires { IfOk made (λ id. id ≡ named) }
+        ensures kept { IfOk result (λ outcome. outcome.kept ≡ outcome.reply) }
+        ensures reply { IfOk result (λ outcome. IsReplyTo effect_of.Channel made outcome.reply) }
+        ensures unread { IfOk result (λ outcome. outcome.reading ≡ None) }
+        ensures err { IsErr result → made ≡ Err NoMemory }
+    {
+        match made {
+            Ok(id) => Outcome::of_effect(Ok((Effect::Channel(id), Effect::Channel(named)))),
+            Err(refusal) => Outcome::of_effect(Err(refusal)),
         }
     }
 

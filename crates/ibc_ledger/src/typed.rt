@@ -2,15 +2,18 @@
 
 ghost use Rattle.std.specs.Prelude.{nat_lt, IsTrue};
 ghost use Rattle.std.specs.List.{list_all};
-ghost use Rattle.ibc_ids.specs.Names.{is_client, is_connection};
+ghost use Rattle.ibc_ids.specs.Names.{is_client, is_connection, is_channel, is_port, is_version};
 ghost use Rattle.ibc_wire.specs.Fields.{are_typed, n8, root32, str, u8};
 ghost use Rattle.ibc_wire.specs.Messages.{message_fields};
+ghost use Rattle.ibc_wire.specs.Spelling.{order_number};
 ghost use Rattle.ibc_wire.specs.declared.messages.Message.TheVariants as message_of;
 ghost use Rattle.ibc_ledger.specs.Held.{has_handler};
 
-use ibc_ids::{Bytes, ClientId, ConnectionId, Root};
+use ibc_ids::{Bytes, ChannelId, ClientId, ConnectionId, PortId, Root, Version};
 use ibc_wire::{
-    ConnOpenAck, ConnOpenConfirm, ConnOpenInit, ConnOpenTry, CreateClient, Message, UpdateClient,
+    ChanCloseConfirm, ChanCloseInit, ChanOpenAck, ChanOpenConfirm, ChanOpenInit, ChanOpenTry,
+    ConnOpenAck, ConnOpenConfirm, ConnOpenInit, ConnOpenTry, CreateClient, Message, Order,
+    UpdateClient,
 };
 
 /// A message is what its type promises.
@@ -25,6 +28,12 @@ pub fn is_typed(message: &Message)
         Message::ConnOpenTry(message) => is_typed_try(message),
         Message::ConnOpenAck(message) => is_typed_ack(message),
         Message::ConnOpenConfirm(message) => is_typed_confirm(message),
+        Message::ChanOpenInit(message) => is_typed_chan_init(message),
+        Message::ChanOpenTry(message) => is_typed_chan_try(message),
+        Message::ChanOpenAck(message) => is_typed_chan_ack(message),
+        Message::ChanOpenConfirm(message) => is_typed_chan_confirm(message),
+        Message::ChanCloseInit(message) => is_typed_close_init(message),
+        Message::ChanCloseConfirm(message) => is_typed_close_confirm(message),
         _ => unreachable!(),
     }
 }
@@ -85,6 +94,64 @@ fn is_typed_confirm(message: &ConnOpenConfirm)
     is_text(&message.proof);
 }
 
+fn is_typed_chan_init(message: &ChanOpenInit)
+    ensures { IsTrue (are_typed (message_fields (message_of.ChanOpenInit message.now))) }
+{
+    is_port(&message.port);
+    is_order(message.order);
+    is_connection(&message.connection);
+    is_port(&message.peer_port);
+    is_version(&message.version);
+}
+
+fn is_typed_chan_try(message: &ChanOpenTry)
+    ensures { IsTrue (are_typed (message_fields (message_of.ChanOpenTry message.now))) }
+{
+    is_port(&message.port);
+    is_order(message.order);
+    is_connection(&message.connection);
+    is_port(&message.peer_port);
+    is_channel(&message.peer_channel);
+    is_version(&message.version);
+    is_u64(message.height);
+    is_text(&message.proof);
+}
+
+fn is_typed_chan_ack(message: &ChanOpenAck)
+    ensures { IsTrue (are_typed (message_fields (message_of.ChanOpenAck message.now))) }
+{
+    is_port(&message.port);
+    is_channel(&message.channel);
+    is_channel(&message.peer_channel);
+    is_u64(message.height);
+    is_text(&message.proof);
+}
+
+fn is_typed_chan_confirm(message: &ChanOpenConfirm)
+    ensures { IsTrue (are_typed (message_fields (message_of.ChanOpenConfirm message.now))) }
+{
+    is_port(&message.port);
+    is_channel(&message.channel);
+    is_u64(message.height);
+    is_text(&message.proof);
+}
+
+fn is_typed_close_init(message: &ChanCloseInit)
+    ensures { IsTrue (are_typed (message_fields (message_of.ChanCloseInit message.now))) }
+{
+    is_port(&message.port);
+    is_channel(&message.channel);
+}
+
+fn is_typed_close_confirm(message: &ChanCloseConfirm)
+    ensures { IsTrue (are_typed (message_fields (message_of.ChanCloseConfirm message.now))) }
+{
+    is_port(&message.port);
+    is_channel(&message.channel);
+    is_u64(message.height);
+    is_text(&message.proof);
+}
+
 fn is_client(id: &ClientId)
     ensures { IsTrue (is_client id.now) }
 {
@@ -95,6 +162,33 @@ fn is_connection(id: &ConnectionId)
     ensures { IsTrue (is_connection id.now) }
 {
     let _text = id.as_str();
+}
+
+fn is_channel(id: &ChannelId)
+    ensures { IsTrue (is_channel id.now) }
+{
+    let _text = id.as_str();
+}
+
+fn is_port(id: &PortId)
+    ensures { IsTrue (is_port id.now) }
+{
+    let _text = id.as_str();
+}
+
+fn is_version(version: &Version)
+    ensures { IsTrue (is_version version.now) }
+{
+    let _text = version.as_str();
+}
+
+fn is_order(order: Order)
+    ensures { IsTrue (u8 (order_number order)).in_type }
+{
+    match order {
+        Order::Unordered => is_u8(1),
+        Order::Ordered => is_u8(2),
+    }
 }
 
 fn is_u8(number: u8)

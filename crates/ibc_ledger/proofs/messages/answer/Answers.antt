@@ -1,4 +1,4 @@
--- A message of connections is answered as its handler says, and the pass has seen no more.
+-- A message of connections or channels is answered as its handler says, and the pass has seen no more.
 use Rattle.std.proofs.Common.{refl, sym, subst}
 use Rattle.std.specs.Prelude.{IfOk}
 use Rattle.std.proofs.lemmas.Result.{IfOk-weaker}
@@ -28,3 +28,39 @@ returns-in-ConnOpenConfirm-clause-answer c =
     let before : Before = record { chain = c.args.chain; chains = c.args.chains; table = c.args.table.now; records = c.args.records.now; pass = c.args.pass.now } in
     subst (λ m. IfOk c.confirm_in.result (λ outcome. IsAnswerTo m before (outcome.reply, outcome.reading) c.confirm_in.new.records c.args.pass.now)) (sym c.in-ConnOpenConfirm.is)
     (IfOk-weaker c.confirm_in.result _ _ (λ outcome taken. (taken, refl)) (c.confirm_in.ensures.answer c.args.chain c.args.chains))
+
+pub returns-in-ChanOpenInit-clause-answer : goal.returns-in-ChanOpenInit-clause-answer
+returns-in-ChanOpenInit-clause-answer c =
+    let before : Before = record { chain = c.args.chain; chains = c.args.chains; table = c.args.table.now; records = c.args.records.now; pass = c.args.pass.now } in
+    subst (λ m. IfOk c.init_in-in-ChanOpenInit.result (λ outcome. IsAnswerTo m before (outcome.reply, outcome.reading) c.init_in-in-ChanOpenInit.new.records c.args.pass.now)) (sym c.in-ChanOpenInit.is)
+    (IfOk-weaker c.init_in-in-ChanOpenInit.result _ _ (λ outcome taken. (taken, refl)) (c.init_in-in-ChanOpenInit.ensures.answer c.args.chain c.args.chains))
+
+pub returns-in-ChanOpenTry-clause-answer : goal.returns-in-ChanOpenTry-clause-answer
+returns-in-ChanOpenTry-clause-answer c =
+    let before : Before = record { chain = c.args.chain; chains = c.args.chains; table = c.args.table.now; records = c.args.records.now; pass = c.args.pass.now } in
+    subst (λ m. IfOk c.try_in-in-ChanOpenTry.result (λ outcome. IsAnswerTo m before (outcome.reply, outcome.reading) c.try_in-in-ChanOpenTry.new.records c.args.pass.now)) (sym c.in-ChanOpenTry.is)
+    (IfOk-weaker c.try_in-in-ChanOpenTry.result _ _ (λ outcome taken. (taken, refl)) (c.try_in-in-ChanOpenTry.ensures.answer c.args.chain c.args.chains))
+
+pub returns-in-ChanOpenAck-clause-answer : goal.returns-in-ChanOpenAck-clause-answer
+returns-in-ChanOpenAck-clause-answer c =
+    let before : Before = record { chain = c.args.chain; chains = c.args.chains; table = c.args.table.now; records = c.args.records.now; pass = c.args.pass.now } in
+    subst (λ m. IfOk c.ack_in-in-ChanOpenAck.result (λ outcome. IsAnswerTo m before (outcome.reply, outcome.reading) c.ack_in-in-ChanOpenAck.new.records c.args.pass.now)) (sym c.in-ChanOpenAck.is)
+    (IfOk-weaker c.ack_in-in-ChanOpenAck.result _ _ (λ outcome taken. (taken, refl)) (c.ack_in-in-ChanOpenAck.ensures.answer c.args.chain c.args.chains))
+
+pub returns-in-ChanOpenConfirm-clause-answer : goal.returns-in-ChanOpenConfirm-clause-answer
+returns-in-ChanOpenConfirm-clause-answer c =
+    let before : Before = record { chain = c.args.chain; chains = c.args.chains; table = c.args.table.now; records = c.args.records.now; pass = c.args.pass.now } in
+    subst (λ m. IfOk c.confirm_in-in-ChanOpenConfirm.result (λ outcome. IsAnswerTo m before (outcome.reply, outcome.reading) c.confirm_in-in-ChanOpenConfirm.new.records c.args.pass.now)) (sym c.in-ChanOpenConfirm.is)
+    (IfOk-weaker c.confirm_in-in-ChanOpenConfirm.result _ _ (λ outcome taken. (taken, refl)) (c.confirm_in-in-ChanOpenConfirm.ensures.answer c.args.chain c.args.chains))
+
+pub returns-in-ChanCloseInit-clause-answer : goal.returns-in-ChanCloseInit-clause-answer
+returns-in-ChanCloseInit-clause-answer c =
+    let before : Before = record { chain = c.args.chain; chains = c.args.chains; table = c.args.table.now; records = c.args.records.now; pass = c.args.pass.now } in
+    subst (λ m. IfOk c.close_in.result (λ outcome. IsAnswerTo m before (outcome.reply, outcome.reading) c.close_in.new.records c.args.pass.now)) (sym c.in-ChanCloseInit.is)
+    (IfOk-weaker c.close_in.result _ _ (λ outcome taken. (taken, refl)) (c.close_in.ensures.answer c.args.chain c.args.chains))
+
+pub returns-in-ChanCloseConfirm-clause-answer : goal.returns-in-ChanCloseConfirm-clause-answer
+returns-in-ChanCloseConfirm-clause-answer c =
+    let before : Before = record { chain = c.args.chain; chains = c.args.chains; table = c.args.table.now; records = c.args.records.now; pass = c.args.pass.now } in
+    subst (λ m. IfOk c.close_confirm_in.result (λ outcome. IsAnswerTo m before (outcome.reply, outcome.reading) c.close_confirm_in.new.records c.args.pass.now)) (sym c.in-ChanCloseConfirm.is)
+    (IfOk-weaker c.close_confirm_in.result _ _ (λ outcome taken. (taken, refl)) (c.close_confirm_in.ensures.answer c.args.chain c.args.chains))

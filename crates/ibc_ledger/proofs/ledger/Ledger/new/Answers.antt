@@ -27,7 +27,7 @@ invariant_of-result c =
       table = c.args.table;
       pass = c.args.pass;
       records = c.in_ok-new.field-0;
-      balances = c.in_ok-new-2.field-0;
+      applications = c.in_ok-new-2.field-0;
       history = c.new-3.result;
     } in
     let there : slice_get items c.args.chain ≡ Some start =
@@ -42,6 +42,6 @@ invariant_of-result c =
       shape = c.requires.table;
       pass = c.requires.pass;
       records = c.in_ok-new.ensures.ok;
-      balances = c.in_ok-new-2.ensures;
+      applications = c.in_ok-new-2.ensures;
       history = c.new-3.ensures.items;
     }))
