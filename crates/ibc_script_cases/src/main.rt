@@ -1,7 +1,7 @@
 //! Judges scripts, one on each line of the input: a line is printed for each that says whether it is a script.
 #![tactic(auto)]
 
-use ibc_script_cli::read_script;
+use ibc_script::read_script;
 use std::io;
 use std::io::{BufWriter, Read, Write};
 

@@ -1,3 +1,3 @@
-pub mod Ascii
 pub mod AskedWords
+pub mod Openings
 mod PrintedLines

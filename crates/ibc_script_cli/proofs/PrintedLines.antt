@@ -8,11 +8,14 @@ use Rattle.ibc_ids.specs.declared.refusal.Refusal.TheVariants as refusal
 use Rattle.ibc_machine.specs.declared.reply.Effect.TheVariants as effect
 use Rattle.ibc_machine.specs.declared.reply.Reply.TheVariants as reply
 use Rattle.ibc_script_cli.specs.Lines.{line}
-use Rattle.ibc_script_cli.specs.declared.event_kind.EventKind.TheVariants as kind
+use Rattle.ibc_script.specs.declared.event_kind.EventKind.TheVariants as kind
 use Rattle.ibc_script_cli.specs.declared.line.Line.TheVariants as printed
 
 a_client : line (printed.Reply (codes "a") kind.CreateClient (reply.Ok (effect.Client (codes "inprocess-0")))) ≡ codes "a CreateClient ok inprocess-0"
 a_client = refl
+
+a_channel : line (printed.Reply (codes "a") kind.ChanOpenInit (reply.Ok (effect.Channel (codes "channel-0")))) ≡ codes "a ChanOpenInit ok channel-0"
+a_channel = refl
 
 an_update : line (printed.Reply (codes "a") kind.UpdateClient (reply.Ok effect.None)) ≡ codes "a UpdateClient ok"
 an_update = refl

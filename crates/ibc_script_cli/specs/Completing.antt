@@ -12,15 +12,19 @@ use Rattle.ibc_wire.specs.declared.messages.Message.{Message}
 use Rattle.ibc_wire.specs.declared.messages.Message.TheVariants as message
 use Rattle.ibc_wire.specs.declared.records.ClientState.{ClientState}
 use Rattle.ibc_wire.specs.declared.records.ConnectionEnd.{ConnectionEnd}
+use Rattle.ibc_wire.specs.declared.records.ChannelEnd.{ChannelEnd}
 use Rattle.ibc_script_cli.specs.Heights.{kept_at}
 use Rattle.ibc_script_cli.specs.declared.completing.Claim.{Claim}
-use Rattle.ibc_script_cli.specs.declared.draft.ClientDraft.{ClientDraft}
-use Rattle.ibc_script_cli.specs.declared.draft.ClientDraft.TheVariants as client
-use Rattle.ibc_script_cli.specs.declared.draft.ConnectionDraft.{ConnectionDraft}
-use Rattle.ibc_script_cli.specs.declared.draft.ConnectionDraft.TheVariants as connection
-use Rattle.ibc_script_cli.specs.declared.draft.Draft.{Draft}
-use Rattle.ibc_script_cli.specs.declared.draft.Draft.TheVariants as draft
-use Rattle.ibc_script_cli.specs.declared.draft.Origin.{Origin}
+use Rattle.ibc_script.specs.declared.draft.ClientDraft.{ClientDraft}
+use Rattle.ibc_script.specs.declared.draft.ClientDraft.TheVariants as client
+use Rattle.ibc_script.specs.declared.draft.ConnectionDraft.{ConnectionDraft}
+use Rattle.ibc_script.specs.declared.draft.ConnectionDraft.TheVariants as connection
+use Rattle.ibc_script.specs.declared.draft.ChannelDraft.{ChannelDraft}
+use Rattle.ibc_script.specs.declared.draft.ChannelDraft.TheVariants as channel
+use Rattle.ibc_script.specs.declared.draft.ChannelTry.{ChannelTry}
+use Rattle.ibc_script.specs.declared.draft.Draft.{Draft}
+use Rattle.ibc_script.specs.declared.draft.Draft.TheVariants as draft
+use Rattle.ibc_script.specs.declared.draft.Origin.{Origin}
 use Rattle.ibc_script_cli.specs.declared.heights.Committed.{Committed}
 use Rattle.ibc_script_cli.specs.declared.heights.Heights.{Heights}
 
@@ -33,6 +37,10 @@ SaysOfClients = ℕ → Text → Option ClientState → Type 0
 -- what a chain says of its ends of connections
 abbrev pub SaysOfConnections : Type 1
 SaysOfConnections = ℕ → Text → Option ConnectionEnd → Type 0
+
+-- what a chain says of its ends of channels, by port and channel
+abbrev pub SaysOfChannels : Type 1
+SaysOfChannels = ℕ → Text → Text → Option ChannelEnd → Type 0
 
 -- what a chain proves at a height
 abbrev pub Proves : Type 1
@@ -48,6 +56,11 @@ IsEncoding (Some proof) (Some bytes) = bytes ≡ proof_bytes proof
 abbrev pub IsProofAt : Proves → Origin → Key → Option Text → Type 0
 IsProofAt proves from key bytes =
     (found : Option Proof) × proves from.chain from.height key found × IsEncoding found bytes
+
+-- the same, none where there is no key
+abbrev pub IsProofOf : Proves → Origin → Option Key → Option Text → Type 0
+IsProofOf proves from None bytes = bytes ≡ None
+IsProofOf proves from (Some key) bytes = IsProofAt proves from key bytes
 
 -- what a proof that was found shows of a client: its state, and the proof's encoding
 abbrev pub IsClaim : Option Proof → Option Claim → Type 0
@@ -151,11 +164,82 @@ MakesConnectionMessage says proves on (connection.OpenConfirm id from) made =
     (own : Option ConnectionEnd) × says on id own
     × MakesConfirm proves id from (option_and_then (λ end. end.peer_connection) own) made
 
+-- ---- messages for channels
+
+-- the key of the end that an own end names as the peer's, none in state INIT
+abbrev pub peer_key : ChannelEnd → Option Key
+peer_key end = option_map (key.ChannelEnd end.peer_port) end.peer_channel
+
+-- the key of the end of a channel that a message names, on the port that the own end names
+abbrev pub answer_key : Text → ChannelEnd → Key
+answer_key peer_channel end = key.ChannelEnd end.peer_port peer_channel
+
+-- the proof of the end that the own end names as the peer's
+abbrev pub IsPeerProof : SaysOfChannels → Proves → ℕ → Text → Text → Origin → Option Text → Type 0
+IsPeerProof says proves on port id from proof =
+    (own : Option ChannelEnd) × says on port id own × IsProofOf proves from (option_and_then peer_key own) proof
+
+-- the proof of the end that a message names as the peer's
+abbrev pub IsAnswerProof : SaysOfChannels → Proves → ℕ → Text → Text → Text → Origin → Option Text → Type 0
+IsAnswerProof says proves on port id peer_channel from proof =
+    (own : Option ChannelEnd) × says on port id own
+    × IsProofOf proves from (option_map (answer_key peer_channel) own) proof
+
+abbrev pub channel_try_message : ChannelTry → Option Text → Option Message
+channel_try_message d =
+    option_map (λ proof. message.ChanOpenTry (record {
+      port = d.port;
+      order = d.order;
+      connection = d.connection;
+      peer_port = d.peer_port;
+      peer_channel = d.peer_channel;
+      version = d.version;
+      height = d.from.height;
+      proof = proof;
+    }))
+
+abbrev pub channel_ack_message : Text → Text → Text → ℕ → Option Text → Option Message
+channel_ack_message port id peer_channel height =
+    option_map (λ proof. message.ChanOpenAck (record {
+      port = port;
+      channel = id;
+      peer_channel = peer_channel;
+      height = height;
+      proof = proof;
+    }))
+
+abbrev pub channel_confirm_message : Text → Text → ℕ → Option Text → Option Message
+channel_confirm_message port id height =
+    option_map (λ proof. message.ChanOpenConfirm (record { port = port; channel = id; height = height; proof = proof }))
+
+abbrev pub close_confirm_message : Text → Text → ℕ → Option Text → Option Message
+close_confirm_message port id height =
+    option_map (λ proof. message.ChanCloseConfirm (record { port = port; channel = id; height = height; proof = proof }))
+
+-- the message that a step becomes, none where something that it needs isn't there
+abbrev pub MakesChannelMessage : SaysOfChannels → Proves → ℕ → ChannelDraft → Option Message → Type 0
+MakesChannelMessage says proves on (channel.OpenInit m) made = made ≡ Some (message.ChanOpenInit m)
+MakesChannelMessage says proves on (channel.OpenTry d) made =
+    (proof : Option Text) × IsProofAt proves d.from (key.ChannelEnd d.peer_port d.peer_channel) proof
+    × (made ≡ channel_try_message d proof)
+MakesChannelMessage says proves on (channel.OpenAck port id peer_channel from) made =
+    (proof : Option Text) × IsAnswerProof says proves on port id peer_channel from proof
+    × (made ≡ channel_ack_message port id peer_channel from.height proof)
+MakesChannelMessage says proves on (channel.OpenConfirm port id from) made =
+    (proof : Option Text) × IsPeerProof says proves on port id from proof
+    × (made ≡ channel_confirm_message port id from.height proof)
+MakesChannelMessage says proves on (channel.CloseInit m) made = made ≡ Some (message.ChanCloseInit m)
+MakesChannelMessage says proves on (channel.CloseConfirm port id from) made =
+    (proof : Option Text) × IsPeerProof says proves on port id from proof
+    × (made ≡ close_confirm_message port id from.height proof)
+
 -- ---- all messages
 
 -- the message that a step becomes, none where something that it needs isn't there
-abbrev pub MakesMessage : SaysOfClients → SaysOfConnections → Proves → List Heights → ℕ → Draft → Option Message → Type 0
-MakesMessage of_clients of_connections proves heights on (draft.Client d) made =
+abbrev pub MakesMessage : SaysOfClients → SaysOfConnections → SaysOfChannels → Proves → List Heights → ℕ → Draft → Option Message → Type 0
+MakesMessage of_clients of_connections of_channels proves heights on (draft.Client d) made =
     (sent : Message) × (made ≡ Some sent) × MakesClientMessage of_clients heights on d sent
-MakesMessage of_clients of_connections proves heights on (draft.Connection d) made =
+MakesMessage of_clients of_connections of_channels proves heights on (draft.Connection d) made =
     MakesConnectionMessage of_connections proves on d made
+MakesMessage of_clients of_connections of_channels proves heights on (draft.Channel d) made =
+    MakesChannelMessage of_channels proves on d made

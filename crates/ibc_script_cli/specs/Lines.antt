@@ -11,7 +11,7 @@ use Rattle.ibc_machine.specs.declared.reply.Effect.{Effect}
 use Rattle.ibc_machine.specs.declared.reply.Effect.TheVariants as effect
 use Rattle.ibc_machine.specs.declared.reply.Reply.{Reply}
 use Rattle.ibc_machine.specs.declared.reply.Reply.TheVariants as reply
-use Rattle.ibc_script_cli.specs.EventKinds.{name_of}
+use Rattle.ibc_script.specs.EventKinds.{name_of}
 use Rattle.ibc_script_cli.specs.declared.line.Line.{Line}
 use Rattle.ibc_script_cli.specs.declared.line.Line.TheVariants as printed
 

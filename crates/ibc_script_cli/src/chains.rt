@@ -6,11 +6,12 @@ ghost use Rattle.ibc_ids.specs.declared.key.Key.{Key};
 ghost use Rattle.ibc_merkle.specs.declared.proof.Proof.{Proof};
 ghost use Rattle.ibc_wire.specs.declared.records.ClientState.{ClientState};
 ghost use Rattle.ibc_wire.specs.declared.records.ConnectionEnd.{ConnectionEnd};
+ghost use Rattle.ibc_wire.specs.declared.records.ChannelEnd.{ChannelEnd};
 
-use ibc_ids::{Account, ClientId, ConnectionId, Denom, Key, Refusal};
+use ibc_ids::{Account, ChannelId, ClientId, ConnectionId, Denom, Key, PortId, Refusal};
 use ibc_machine::{Event, Reply};
 use ibc_merkle::Proof;
-use ibc_wire::{ClientState, ConnectionEnd};
+use ibc_wire::{ChannelEnd, ClientState, ConnectionEnd};
 
 /// The chains that the steps of a script are run on, by their numbers. Each call is refused with `NoMemory` alone.
 pub trait Chains {
@@ -19,6 +20,9 @@ pub trait Chains {
 
     // What a chain says of its end of a connection.
     ghost has_connection: { Self → ℕ → Text → Option ConnectionEnd → Type 0 } = { λ _ _ _ _. ⊤ };
+
+    // What a chain says of its end of a channel.
+    ghost has_channel: { Self → ℕ → Text → Text → Option ChannelEnd → Type 0 } = { λ _ _ _ _ _. ⊤ };
 
     // What a chain proves at a height of a key.
     ghost has_proof: { Self → ℕ → ℕ → Key → Option Proof → Type 0 } = { λ _ _ _ _ _. ⊤ };
@@ -37,6 +41,15 @@ pub trait Chains {
         connection: &ConnectionId,
     ) -> Result<Option<ConnectionEnd>, Refusal>
         ensures { IfOk result (has_connection self.now chain connection.now) };
+
+    /// The end of a channel of a chain as it stands, `None` where there is none.
+    fn channel(
+        &self,
+        chain: u8,
+        port: &PortId,
+        channel: &ChannelId,
+    ) -> Result<Option<ChannelEnd>, Refusal>
+        ensures { IfOk result (has_channel self.now chain port.now channel.now) };
 
     /// The proof of what a committed height of a chain has at a key, `None` where the height isn't committed or its
     /// records are gone.

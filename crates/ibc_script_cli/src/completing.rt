@@ -1,17 +1,19 @@
 //! The messages of steps are completed from what the chains answer.
 
 ghost use Rattle.std.specs.Prelude.{◌≡◌, Some, IfOk, IfErr, IfSome};
-ghost use Rattle.ibc_script_cli.specs.EventKinds.{kind_of, draft_kind};
+ghost use Rattle.ibc_script.specs.EventKinds.{kind_of, draft_kind};
 ghost use Rattle.ibc_script_cli.specs.Completing.{IsEncoding, IsClaim, IsProofAt, IsClaimAt, MakesMessage};
 
+mod channels;
 mod clients;
 mod connections;
 
+use crate::Chains;
 use crate::heights::Heights;
-use crate::{Chains, Draft, Fault, Origin};
 use ibc_codec::{decode, encode};
 use ibc_ids::{Bytes, ClientId, Key, Refusal};
 use ibc_merkle::{Presence, Proof};
+use ibc_script::{Draft, Fault, Origin};
 use ibc_wire::{ClientState, Message};
 use std::alloc::Global;
 
@@ -30,12 +32,6 @@ struct Claim {
     proof: Bytes,
 }
 
-fn no_memory(_refusal: Refusal) -> Fault
-    ensures { result ≡ Fault.NoMemory }
-{
-    Fault::NoMemory
-}
-
 /// The encoding of a proof, `None` where it has none.
 fn encoding_of(alloc: Global, proof: &Proof) -> Result<Option<Bytes>, Fault>
     ensures is { IfOk result (IsEncoding (Some proof.now)) }
@@ -51,13 +47,14 @@ fn encoding_of(alloc: Global, proof: &Proof) -> Result<Option<Bytes>, Fault>
 impl<C: Chains + Drop> Completer<'_, C> {
     /// The message that a step of a chain sends, `None` where something that it needs isn't there. Fault: `NoMemory`.
     pub fn complete(&self, on: u8, draft: &Draft) -> Result<Option<Message>, Fault>
-        ensures made { IfOk result (MakesMessage (C.has_client self.now.chains.now) (C.has_connection self.now.chains.now) (C.has_proof self.now.chains.now) self.now.heights.now on draft.now) }
+        ensures made { IfOk result (MakesMessage (C.has_client self.now.chains.now) (C.has_connection self.now.chains.now) (C.has_channel self.now.chains.now) (C.has_proof self.now.chains.now) self.now.heights.now on draft.now) }
         ensures kind { IfOk result (λ made. IfSome made (λ message. kind_of message ≡ draft_kind draft.now)) }
         ensures err { IfErr result (λ fault. fault ≡ Fault.NoMemory) }
     {
         match draft {
             Draft::Client(draft) => Ok(Some(self.client_message(on, draft)?)),
             Draft::Connection(draft) => self.connection_message(on, draft),
+            Draft::Channel(draft) => self.channel_message(on, draft),
         }
     }
 
@@ -68,7 +65,7 @@ impl<C: Chains + Drop> Completer<'_, C> {
     {
         let found = self.chains.proof(from.chain, from.height, &key);
         drop(key);
-        match found.map_err(no_memory)? {
+        match found.map_err(Fault::no_memory)? {
             Some(proof) => encoding_of(self.alloc, &proof),
             None => Ok(None),
         }
@@ -82,7 +79,7 @@ impl<C: Chains + Drop> Completer<'_, C> {
         let key = Key::ClientState(client.clone()?);
         let found = self.chains.proof(from.chain, from.height, &key);
         drop(key);
-        match found.map_err(no_memory)? {
+        match found.map_err(Fault::no_memory)? {
             Some(proof) => claim_of(self.alloc, &proof),
             None => Ok(None),
         }

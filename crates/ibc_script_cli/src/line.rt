@@ -7,10 +7,10 @@ ghost use Rattle.ibc_ids.specs.Paths.{account_text};
 ghost use Rattle.ibc_ids.specs.Refusals.{number_of};
 ghost use Rattle.ibc_script_cli.specs.Lines.{line, shown, spaced, effect_words, reply_words, digits_of};
 
-use crate::{ChainName, EventKind};
 use base64::engine::general_purpose::STANDARD;
 use ibc_ids::{Account, Bytes, ChannelId, Denom, Refusal, Root};
 use ibc_machine::{Effect, Reply};
+use ibc_script::{ChainName, EventKind};
 use std::alloc::{AllocError, Global};
 
 /// A line that the program prints, without its line feed.

@@ -1,14 +1,15 @@
 //! The program, from its words and its input to the lines on its output.
 
 ghost use Rattle.std.specs.Prelude.{◌≡◌, ◌⊎◌, ◌<◌, map, true, false, length, IfOk, IfErr, IfSome, IsErrOf, Err};
-ghost use Rattle.ibc_script_cli.specs.Faults.{StopsRun};
+ghost use Rattle.ibc_script.specs.Faults.{StopsRun};
 ghost use Rattle.ibc_script_cli.specs.Words.{are_words};
 
 use crate::heights::heights_at;
 use crate::runner::Runner;
-use crate::{Chains, Command, Fault, Script, read_input, read_script, read_words};
+use crate::{Chains, Command, read_input, read_words};
 use ibc_ids::Refusal;
 use ibc_machine::Genesis;
+use ibc_script::{Fault, Script, read_script};
 use std::alloc::Global;
 use std::io::{Read, Write};
 

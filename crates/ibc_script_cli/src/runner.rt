@@ -1,16 +1,17 @@
 //! The steps of a script are run, and their lines printed.
 
-ghost use Rattle.std.specs.Prelude.{◌≡◌, ◌<◌, ◌≤◌, length, All, IfErr};
-ghost use Rattle.ibc_script_cli.specs.Faults.{StopsRun};
-ghost use Rattle.ibc_script_cli.specs.Scripts.{IsAmong};
+ghost use Rattle.std.specs.Prelude.{◌≡◌, ◌<◌, ◌≤◌, length, All, IfOk, IfErr};
+ghost use Rattle.ibc_script.specs.Faults.{StopsRun};
+ghost use Rattle.ibc_script.specs.Scripts.{IsAmong};
+ghost use Rattle.ibc_script_cli.specs.Opening.{own_of, given_by};
 
 use crate::completing::Completer;
 use crate::heights::Heights;
-use crate::{
-    ChainName, Chains, Draft, EventKind, Fault, Line, Origin, Step, line_text, write_line,
-};
-use ibc_ids::{Key, Refusal};
+use crate::opening::{Opening, PLAN, Side};
+use crate::{Chains, Line, line_text, write_line};
+use ibc_ids::Key;
 use ibc_machine::{Effect, Event, Reply};
+use ibc_script::{ChainName, Draft, EventKind, Fault, Origin, Step};
 use ibc_wire::Message;
 use std::alloc::Global;
 use std::io::Write;
@@ -26,16 +27,20 @@ pub struct Runner<'s, C: Chains + Drop> {
     ghost few: { length names.now ≤ 8 },
 }
 
-fn no_memory(_refusal: Refusal) -> Fault
-    ensures { result ≡ Fault.NoMemory }
+/// What an accepted event gives, `None` where it was refused.
+fn given_by(reply: Reply) -> Option<Effect>
+    ensures { result ≡ given_by reply }
 {
-    Fault::NoMemory
+    match reply {
+        Reply::Ok(effect) => Some(effect),
+        Reply::No(_) => None,
+    }
 }
 
 fn print<W: Write>(alloc: Global, output: &mut W, line: &Line) -> Result<(), Fault>
     ensures { IfErr result StopsRun }
 {
-    let text = line_text(alloc, line).map_err(no_memory)?;
+    let text = line_text(alloc, line).map_err(Fault::no_memory)?;
     write_line(output, text.as_str())
 }
 
@@ -59,17 +64,42 @@ impl<'s, C: Chains + Drop> Runner<'s, C> {
         }
     }
 
-    /// Sends a message to a chain, and prints the reply.
-    fn send<W: Write>(&mut self, on: u8, message: Message, output: &mut W) -> Result<(), Fault>
+    /// Prints a reply of a chain, and gives what the accepted event gives.
+    fn print_reply<W: Write>(
+        &self,
+        on: u8,
+        kind: EventKind,
+        reply: Reply,
+        output: &mut W,
+    ) -> Result<Option<Effect>, Fault>
+        requires { on < length self.now.names.now }
+        ensures given { IfOk result (λ given. given ≡ given_by reply) }
+        ensures faults { IfErr result StopsRun }
+    {
+        let line = Line::Reply {
+            chain: self.names[on as usize].clone()?,
+            kind,
+            reply: reply.clone()?,
+        };
+        print(self.alloc, output, &line)?;
+        Ok(given_by(reply))
+    }
+
+    /// Sends a message to a chain, and prints the reply. The result is what the accepted event gives.
+    fn send<W: Write>(
+        &mut self,
+        on: u8,
+        message: Message,
+        output: &mut W,
+    ) -> Result<Option<Effect>, Fault>
         requires { on < length self.old.names.now }
         ensures same { self.new.names.now ≡ self.old.names.now }
         ensures faults { IfErr result StopsRun }
     {
-        let chain = self.names[on as usize].clone()?;
         let kind = EventKind::of_message(&message);
         let event = Event::Message { chain: on, message };
-        let reply = self.chains.ask(event).map_err(no_memory)?;
-        print(self.alloc, output, &Line::Reply { chain, kind, reply })
+        let reply = self.chains.ask(event).map_err(Fault::no_memory)?;
+        self.print_reply(on, kind, reply, output)
     }
 
     /// Prints that something that a message needs isn't there.
@@ -93,30 +123,37 @@ impl<'s, C: Chains + Drop> Runner<'s, C> {
     }
 
     /// Sends the message that a step names, and prints the reply; where something that it needs isn't there, nothing
-    /// is sent, and the line says so.
-    fn submit<W: Write>(&mut self, on: u8, draft: &Draft, output: &mut W) -> Result<(), Fault>
+    /// is sent, and the line says so. The result is what the accepted event gives.
+    fn submit<W: Write>(
+        &mut self,
+        on: u8,
+        draft: &Draft,
+        output: &mut W,
+    ) -> Result<Option<Effect>, Fault>
         requires { on < length self.old.names.now }
         ensures same { self.new.names.now ≡ self.old.names.now }
         ensures faults { IfErr result StopsRun }
     {
         match self.completer().complete(on, draft)? {
             Some(message) => self.send(on, message, output),
-            None => self.print_missing(on, draft.kind(), output),
+            None => {
+                self.print_missing(on, draft.kind(), output)?;
+                Ok(None)
+            }
         }
     }
 
-    /// Ends the working block of a chain, and prints the reply.
+    /// Ends the working block of a chain, and prints the reply. The result is what the accepted event gives.
     fn end_block<W: Write>(
         &mut self,
         on: u8,
         time: Option<u64>,
         output: &mut W,
-    ) -> Result<(), Fault>
+    ) -> Result<Option<Effect>, Fault>
         requires { on < length self.old.names.now }
         ensures same { self.new.names.now ≡ self.old.names.now }
         ensures faults { IfErr result StopsRun }
     {
-        let chain = self.names[on as usize].clone()?;
         let heights = &mut self.heights[on as usize];
         heights.reserve()?;
         let next_time = time.unwrap_or(heights.working_time);
@@ -124,12 +161,50 @@ impl<'s, C: Chains + Drop> Runner<'s, C> {
             chain: on,
             next_time,
         };
-        let reply = self.chains.ask(event).map_err(no_memory)?;
+        let reply = self.chains.ask(event).map_err(Fault::no_memory)?;
         if let Reply::Ok(Effect::Block(_, root)) = &reply {
             heights.commit(*root, next_time);
         }
-        let kind = EventKind::Block;
-        print(self.alloc, output, &Line::Reply { chain, kind, reply })
+        self.print_reply(on, EventKind::Block, reply, output)
+    }
+
+    /// Takes one turn of an `open`. The result is what the accepted event gives.
+    fn take<W: Write>(
+        &mut self,
+        opening: &Opening,
+        side: Side,
+        kind: EventKind,
+        output: &mut W,
+    ) -> Result<Option<Effect>, Fault>
+        requires { (own_of side opening.now).chain < length self.old.names.now }
+        ensures same { self.new.names.now ≡ self.old.names.now }
+        ensures faults { IfErr result StopsRun }
+    {
+        let on = opening.chain(side);
+        if kind == EventKind::Block {
+            return self.end_block(on, None, output);
+        }
+        match opening.draft(self.alloc, side, kind)? {
+            Some(draft) => self.submit(on, &draft, output),
+            None => Ok(None),
+        }
+    }
+
+    /// Opens a channel of an application between two chains, on a new connection between new clients. After a refusal,
+    /// and where something that a message needs isn't there, the rest is left out.
+    fn open<W: Write>(&mut self, mut opening: Opening, output: &mut W) -> Result<(), Fault>
+        requires first { opening.first.chain < length self.old.names.now }
+        requires second { opening.second.chain < length self.old.names.now }
+        ensures same { self.new.names.now ≡ self.old.names.now }
+        ensures faults { IfErr result StopsRun }
+    {
+        for (side, kind) in PLAN {
+            let Some(effect) = self.take(&opening, side, kind, output)? else {
+                return Ok(());
+            };
+            opening.learn(side, effect);
+        }
+        Ok(())
     }
 
     /// Prints the root of a height of a chain.
@@ -177,10 +252,15 @@ impl<'s, C: Chains + Drop> Runner<'s, C> {
         ensures faults { IfErr result StopsRun }
     {
         match step {
-            Step::Message { on, draft } => self.submit(*on, draft, output),
-            Step::Block { on, time } => self.end_block(*on, *time, output),
+            Step::Message { on, draft } => self.submit(*on, draft, output).map(drop),
+            Step::Block { on, time } => self.end_block(*on, *time, output).map(drop),
             Step::Root { on, height } => self.print_root(*on, *height, output),
             Step::Prove { on, height, key } => self.print_proof(*on, *height, key, output),
+            Step::Open {
+                first,
+                second,
+                application,
+            } => self.open(Opening::new(*application, *first, *second), output),
         }
     }
 
@@ -204,7 +284,7 @@ impl<'s, C: Chains + Drop> Runner<'s, C> {
     ) -> Result<(), Fault>
         ensures { IfErr result StopsRun }
     {
-        for (account, denom, amount) in self.chains.balances(number).map_err(no_memory)? {
+        for (account, denom, amount) in self.chains.balances(number).map_err(Fault::no_memory)? {
             let line = Line::Balance {
                 chain: name.clone()?,
                 account,

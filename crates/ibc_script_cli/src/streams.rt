@@ -3,13 +3,10 @@
 ghost use Rattle.std.specs.Prelude.{◌≡◌, ◌⊎◌, ◌++◌, codes, take, IfOk, IfErr, IfSome, OnOk};
 ghost use Rattle.std.specs.Io.KnownBytes.{Appends};
 
-use crate::Fault;
+use ibc_script::{Fault, MOST_BYTES};
 use std::alloc::Global;
 use std::io;
 use std::io::{Read, Write};
-
-/// A script has at most so many bytes.
-pub const MOST_BYTES: usize = 1_048_576;
 
 /// The bytes of the input, at most one more than a script may have. Faults: `CannotRead` where the reader fails for
 /// another cause than memory, `NoMemory`.

@@ -1,8 +1,9 @@
-use crate::{Chains, Fault, MOST_BYTES, MOST_STEPS, Worlds, drive, read_script};
-use ibc_ids::{Account, ClientId, ConnectionId, Denom, Key, Refusal, Root};
+use crate::{Chains, Worlds, drive};
+use ibc_ids::{Account, ChannelId, ClientId, ConnectionId, Denom, Key, PortId, Refusal, Root};
 use ibc_machine::{Effect, Event, Genesis, Reply};
 use ibc_merkle::Proof;
-use ibc_wire::{ClientState, ConnectionEnd};
+use ibc_script::{Fault, MOST_BYTES, MOST_STEPS, read_script};
+use ibc_wire::{ChannelEnd, ClientState, ConnectionEnd};
 use std::alloc::{AllocError, Global};
 use std::io;
 use std::io::{Read, Write};
@@ -33,6 +34,15 @@ impl Chains for Blocks {
         _chain: u8,
         _connection: &ConnectionId,
     ) -> Result<Option<ConnectionEnd>, Refusal> {
+        Ok(None)
+    }
+
+    fn channel(
+        &self,
+        _chain: u8,
+        _port: &PortId,
+        _channel: &ChannelId,
+    ) -> Result<Option<ChannelEnd>, Refusal> {
         Ok(None)
     }
 

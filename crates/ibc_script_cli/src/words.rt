@@ -4,9 +4,9 @@ ghost use Rattle.std.specs.Prelude.{◌≡◌, ◌≢◌, ◌⊎◌, ◌↔◌, 
 ghost use Rattle.clap.specs.Words.{app_of, kind_of};
 ghost use Rattle.ibc_script_cli.specs.Words.{ibcworld, are_words};
 
-use crate::Fault;
 use clap::error::ErrorKind;
 use clap::{Command as Parser, Error};
+use ibc_script::Fault;
 use std::alloc::Global;
 
 /// What the words ask for.

@@ -2,13 +2,15 @@
 
 ghost use Rattle.std.specs.Prelude.{◌≡◌};
 ghost use Rattle.ibc_world_core.specs.Inside.{is_built};
+ghost use Rattle.ibc_script_worlds.specs.Unbuilt.{unbuilt_refusal};
 
 use ibc_codec::decode;
-use ibc_ids::{Account, ClientId, ConnectionId, Denom, Key, Refusal};
+use ibc_ids::{Account, ChannelId, ClientId, ConnectionId, Denom, Key, PortId, Refusal};
+use ibc_ledger::has_handler;
 use ibc_machine::{Event, Genesis, Reply};
 use ibc_merkle::Proof;
 use ibc_script_cli::{Chains, Worlds};
-use ibc_wire::{ClientState, ConnectionEnd, Message};
+use ibc_wire::{ChannelEnd, ClientState, ConnectionEnd, Message};
 use ibc_world_core::World;
 use std::alloc::Global;
 
@@ -46,8 +48,9 @@ impl Worlds for NewWorlds {
 impl Chains for Ledgers {
     fn ask(&mut self, event: Event) -> Result<Reply, Refusal> {
         if !is_built(&event) {
+            let refusal = unbuilt_refusal(&event);
             drop(event);
-            return Ok(Reply::No(Refusal::BadMessage));
+            return Ok(Reply::No(refusal));
         }
         let mut events = Vec::with_capacity(self.alloc, 1)?;
         events.push(event)?;
@@ -79,6 +82,21 @@ impl Chains for Ledgers {
         }
     }
 
+    fn channel(
+        &self,
+        chain: u8,
+        port: &PortId,
+        channel: &ChannelId,
+    ) -> Result<Option<ChannelEnd>, Refusal> {
+        let Some(ledger) = self.world.ledger(chain) else {
+            return Ok(None);
+        };
+        match ledger.query(&Key::ChannelEnd(port.clone()?, channel.clone()?))? {
+            Some(bytes) => Ok(Some(decode(self.alloc, bytes.as_slice())?)),
+            None => Ok(None),
+        }
+    }
+
     fn proof(&self, chain: u8, height: u64, key: &Key) -> Result<Option<Proof>, Refusal> {
         let Some(ledger) = self.world.ledger(chain) else {
             return Ok(None);
@@ -98,20 +116,27 @@ impl Chains for Ledgers {
     }
 }
 
-// Whether the ledgers have a handler for the event: the end of a block, or a message of clients or connections.
+// Whether the ledgers have a handler for the event.
 fn is_built(event: &Event) -> bool
     ensures { result ≡ is_built event.now }
 {
     match event {
-        Event::Message { message, .. } => matches!(
-            message,
-            Message::CreateClient(_)
-                | Message::UpdateClient(_)
-                | Message::ConnOpenInit(_)
-                | Message::ConnOpenTry(_)
-                | Message::ConnOpenAck(_)
-                | Message::ConnOpenConfirm(_)
-        ),
+        Event::Message { message, .. } => has_handler(message),
         Event::Block { .. } => true,
+    }
+}
+
+// The answer to an event that the ledgers have no handler for: the application that it asks isn't there, and so no
+// channel has its port.
+fn unbuilt_refusal(event: &Event) -> Refusal
+    ensures { result ≡ unbuilt_refusal event.now }
+{
+    match event {
+        Event::Message { message, .. } => match message {
+            Message::ChanOpenInit(_) | Message::ChanOpenTry(_) => Refusal::UnknownPort,
+            Message::ChanCloseInit(_) => Refusal::UnknownChannel,
+            _ => Refusal::BadMessage,
+        },
+        Event::Block { .. } => Refusal::BadMessage,
     }
 }

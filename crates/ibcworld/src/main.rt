@@ -1,7 +1,8 @@
 //! Runs a script of several chains, and prints what they answer.
 #![tactic(auto)]
 
-use ibc_script_cli::{Fault, drive};
+use ibc_script::Fault;
+use ibc_script_cli::drive;
 use ibc_script_worlds::NewWorlds;
 use std::env::Env;
 use std::io::BufWriter;

@@ -3,12 +3,13 @@
 ghost use Rattle.std.specs.Prelude.{◌≡◌, None, IfOk, IfErr};
 ghost use Rattle.ibc_script_cli.specs.Completing.{header_from, header_of, MakesClientMessage};
 ghost use Rattle.ibc_script_cli.specs.Heights.{kept_at};
-ghost use Rattle.ibc_script_cli.specs.declared.draft.ClientDraft.TheVariants as client_draft;
+ghost use Rattle.ibc_script.specs.declared.draft.ClientDraft.TheVariants as client_draft;
 
-use super::{Completer, no_memory};
+use super::Completer;
+use crate::Chains;
 use crate::heights::Heights;
-use crate::{Chains, ClientDraft, Fault};
 use ibc_ids::{ClientId, Root};
+use ibc_script::{ClientDraft, Fault};
 use ibc_wire::{ClientState, CreateClient, Header, Message, UpdateClient};
 
 /// The header of a chain that an update names: the true one where the height is kept, and else one with time 0 and a
@@ -57,7 +58,10 @@ impl<C: Chains + Drop> Completer<'_, C> {
         ensures made { IfOk result (MakesClientMessage (C.has_client self.now.chains.now) self.now.heights.now on (client_draft.Update client.now height)) }
         ensures err { IfErr result (λ fault. fault ≡ Fault.NoMemory) }
     {
-        let state = self.chains.client_state(on, client).map_err(no_memory)?;
+        let state = self
+            .chains
+            .client_state(on, client)
+            .map_err(Fault::no_memory)?;
         Ok(Message::UpdateClient(UpdateClient {
             client: client.clone()?,
             header: self.header(on, state, height),

@@ -2,11 +2,12 @@
 
 ghost use Rattle.std.specs.Prelude.{◌≡◌, IfOk, IfErr};
 ghost use Rattle.ibc_script_cli.specs.Completing.{MakesAckOf, MakesConnectionMessage};
-ghost use Rattle.ibc_script_cli.specs.declared.draft.ConnectionDraft.TheVariants as connection_draft;
+ghost use Rattle.ibc_script.specs.declared.draft.ConnectionDraft.TheVariants as connection_draft;
 
-use super::{Completer, no_memory};
-use crate::{Chains, ConnectionDraft, Fault, Origin};
+use super::Completer;
+use crate::Chains;
 use ibc_ids::{ClientId, ConnectionId, Key};
+use ibc_script::{ConnectionDraft, Fault, Origin};
 use ibc_wire::{ConnOpenAck, ConnOpenConfirm, ConnOpenInit, ConnOpenTry, Message};
 
 impl<C: Chains + Drop> Completer<'_, C> {
@@ -71,7 +72,11 @@ impl<C: Chains + Drop> Completer<'_, C> {
         ensures made { IfOk result (MakesConnectionMessage (C.has_connection self.now.chains.now) (C.has_proof self.now.chains.now) on (connection_draft.OpenAck connection.now peer_connection.now from)) }
         ensures err { IfErr result (λ fault. fault ≡ Fault.NoMemory) }
     {
-        match self.chains.connection(on, connection).map_err(no_memory)? {
+        match self
+            .chains
+            .connection(on, connection)
+            .map_err(Fault::no_memory)?
+        {
             Some(own) => self.conn_open_ack_of(connection, peer_connection, &own.peer_client, from),
             None => Ok(None),
         }
@@ -86,7 +91,10 @@ impl<C: Chains + Drop> Completer<'_, C> {
         ensures made { IfOk result (MakesConnectionMessage (C.has_connection self.now.chains.now) (C.has_proof self.now.chains.now) on (connection_draft.OpenConfirm connection.now from)) }
         ensures err { IfErr result (λ fault. fault ≡ Fault.NoMemory) }
     {
-        let own = self.chains.connection(on, connection).map_err(no_memory)?;
+        let own = self
+            .chains
+            .connection(on, connection)
+            .map_err(Fault::no_memory)?;
         let Some(peer_connection) = own.and_then(|own| own.peer_connection) else {
             return Ok(None);
         };

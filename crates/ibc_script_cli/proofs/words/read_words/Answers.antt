@@ -1,7 +1,7 @@
 use Rattle.std.proofs.Common.{◌≡◌, map}
 use Rattle.clap.specs.Words.{app_of}
 use Rattle.ibc_script_cli.proofs.AskedWords.{asked, not_asked}
-use Rattle.ibc_script_cli.specs.declared.fault.Fault.TheVariants.{BadArguments}
+use Rattle.ibc_script.specs.declared.fault.Fault.TheVariants.{BadArguments}
 use Rattle.ibc_script_cli.proofs.words.read_words.Goals as goal
 
 pub returns-in-Ok-clause-asked : goal.returns-in-Ok-clause-asked

@@ -1,0 +1,17 @@
+-- The applications that channels are opened for.
+use Rattle.std.specs.Prelude.{codes}
+use Rattle.ibc_ids.specs.Texts.{Text}
+use Rattle.ibc_wire.specs.declared.records.Order.{Order}
+use Rattle.ibc_wire.specs.declared.records.Order.TheVariants.{Ordered}
+use Rattle.ibc_script.specs.declared.application.Application.{Application}
+use Rattle.ibc_script.specs.declared.application.Application.TheVariants.{Note}
+
+-- the port, the order and the version of an application's channels
+abbrev pub port_of : Application → Text
+port_of Note = codes "note"
+
+abbrev pub order_of : Application → Order
+order_of Note = Ordered
+
+abbrev pub version_of : Application → Text
+version_of Note = codes "note-1"

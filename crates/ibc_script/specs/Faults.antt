@@ -1,0 +1,27 @@
+-- How the program ends on a fault.
+use Rattle.std.specs.Prelude.{◌≡◌, ◌⊎◌, ℕ}
+use Rattle.ibc_ids.specs.declared.refusal.Refusal.{Refusal}
+use Rattle.ibc_ids.specs.declared.refusal.Refusal.TheVariants as refusal
+use Rattle.ibc_script.specs.declared.fault.Fault.{Fault}
+use Rattle.ibc_script.specs.declared.fault.Fault.TheVariants.{BadArguments, BadScript, CannotRead, CannotWrite, NoMemory}
+
+-- the program's status
+abbrev pub status_of : Fault → ℕ
+status_of BadArguments = 2
+status_of BadScript = 1
+status_of CannotRead = 1
+status_of CannotWrite = 1
+status_of NoMemory = 1
+
+-- what a refusal makes of a script
+abbrev pub fault_of : Refusal → Fault
+fault_of refusal.NoMemory = NoMemory
+fault_of _ = BadScript
+
+-- a fault that may come while steps are run
+abbrev pub StopsRun : Fault → Type 0
+StopsRun fault = (fault ≡ CannotWrite) ⊎ (fault ≡ NoMemory)
+
+-- a fault that may come while a script is judged
+abbrev pub JudgesScript : Fault → Type 0
+JudgesScript fault = (fault ≡ BadScript) ⊎ (fault ≡ NoMemory)

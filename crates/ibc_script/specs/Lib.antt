@@ -1,0 +1,5 @@
+pub mod Applications
+pub mod ChainNames
+pub mod EventKinds
+pub mod Faults
+pub mod Scripts

@@ -1,0 +1,47 @@
+//! The applications that channels are opened for.
+
+ghost use Rattle.std.specs.Prelude.{◌≡◌, IfOk, IfErr};
+ghost use Rattle.ibc_script.specs.Applications.{port_of, order_of, version_of};
+
+use crate::Fault;
+use ibc_ids::{Name, PortId, Version};
+use ibc_wire::Order;
+use std::alloc::Global;
+
+/// An application that the step `open` opens a channel for (ICS 26, "Module callback interface").
+#[derive(Clone, Copy, Debug, PartialEq, Eq, Drop)]
+pub enum Application {
+    /// Notes.
+    Note,
+}
+
+impl Application {
+    /// The port of the application, the same on all chains. Fault: `NoMemory`.
+    pub fn port(self, alloc: Global) -> Result<PortId, Fault>
+        ensures port { IfOk result (λ port. port ≡ port_of self) }
+        ensures memory { IfErr result (λ fault. fault ≡ Fault.NoMemory) }
+    {
+        match self {
+            Application::Note => Name::parse(alloc, "note").map_err(Fault::of_refusal),
+        }
+    }
+
+    /// The order of the application's channels.
+    pub fn order(self) -> Order
+        ensures { result ≡ order_of self }
+    {
+        match self {
+            Application::Note => Order::Ordered,
+        }
+    }
+
+    /// The version of the application's channels. Fault: `NoMemory`.
+    pub fn version(self, alloc: Global) -> Result<Version, Fault>
+        ensures version { IfOk result (λ version. version ≡ version_of self) }
+        ensures memory { IfErr result (λ fault. fault ≡ Fault.NoMemory) }
+    {
+        match self {
+            Application::Note => Name::parse(alloc, "note-1").map_err(Fault::of_refusal),
+        }
+    }
+}

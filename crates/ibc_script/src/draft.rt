@@ -1,0 +1,154 @@
+//! Messages as the steps of a script name them.
+
+ghost use Rattle.std.specs.Prelude.{◌≡◌};
+ghost use Rattle.ibc_script.specs.EventKinds.{client_draft_kind, connection_draft_kind, channel_draft_kind, draft_kind};
+
+use crate::EventKind;
+use ibc_ids::{ChannelId, ClientId, ConnectionId, PortId, Version};
+use ibc_wire::{ChanCloseInit, ChanOpenInit, Order};
+
+/// The height of a chain from which the proofs of a message are taken.
+#[derive(Clone, Copy, Debug, PartialEq, Eq, Drop)]
+pub struct Origin {
+    pub chain: u8,
+    pub height: u64,
+}
+
+/// A message for clients (ICS 2).
+#[derive(Drop, Debug)]
+pub enum ClientDraft {
+    /// A client is made of a chain.
+    Create { of: u8 },
+    /// A client is told of a height of the chain that it tracks.
+    Update { client: ClientId, height: u64 },
+}
+
+/// A message for connections (ICS 3).
+#[derive(Drop, Debug)]
+pub enum ConnectionDraft {
+    /// A connection is begun.
+    OpenInit {
+        client: ClientId,
+        peer_client: ClientId,
+    },
+    /// A connection that the peer began is answered.
+    OpenTry {
+        client: ClientId,
+        peer_client: ClientId,
+        peer_connection: ConnectionId,
+        from: Origin,
+    },
+    /// A connection that the peer answered is opened.
+    OpenAck {
+        connection: ConnectionId,
+        peer_connection: ConnectionId,
+        from: Origin,
+    },
+    /// A connection that the peer opened is opened.
+    OpenConfirm {
+        connection: ConnectionId,
+        from: Origin,
+    },
+}
+
+/// The answer to a channel that the peer began, without its proof.
+#[derive(Drop, Debug)]
+pub struct ChannelTry {
+    pub port: PortId,
+    pub order: Order,
+    pub connection: ConnectionId,
+    pub peer_port: PortId,
+    pub peer_channel: ChannelId,
+    pub version: Version,
+    pub from: Origin,
+}
+
+/// A message for channels (ICS 4).
+#[derive(Drop, Debug)]
+pub enum ChannelDraft {
+    /// A channel is begun.
+    OpenInit(ChanOpenInit),
+    /// A channel that the peer began is answered.
+    OpenTry(ChannelTry),
+    /// A channel that the peer answered is opened.
+    OpenAck {
+        port: PortId,
+        channel: ChannelId,
+        peer_channel: ChannelId,
+        from: Origin,
+    },
+    /// A channel that the peer opened is opened.
+    OpenConfirm {
+        port: PortId,
+        channel: ChannelId,
+        from: Origin,
+    },
+    /// A channel is closed.
+    CloseInit(ChanCloseInit),
+    /// A channel that the peer closed is closed.
+    CloseConfirm {
+        port: PortId,
+        channel: ChannelId,
+        from: Origin,
+    },
+}
+
+/// A message as a step of a script names it. Its other fields come from what the chains answer when the step is run.
+#[derive(Drop, Debug)]
+pub enum Draft {
+    Client(ClientDraft),
+    Connection(ConnectionDraft),
+    Channel(ChannelDraft),
+}
+
+impl ClientDraft {
+    fn kind(&self) -> EventKind
+        ensures { result ≡ client_draft_kind self.now }
+    {
+        match self {
+            ClientDraft::Create { .. } => EventKind::CreateClient,
+            ClientDraft::Update { .. } => EventKind::UpdateClient,
+        }
+    }
+}
+
+impl ConnectionDraft {
+    fn kind(&self) -> EventKind
+        ensures { result ≡ connection_draft_kind self.now }
+    {
+        match self {
+            ConnectionDraft::OpenInit { .. } => EventKind::ConnOpenInit,
+            ConnectionDraft::OpenTry { .. } => EventKind::ConnOpenTry,
+            ConnectionDraft::OpenAck { .. } => EventKind::ConnOpenAck,
+            ConnectionDraft::OpenConfirm { .. } => EventKind::ConnOpenConfirm,
+        }
+    }
+}
+
+impl ChannelDraft {
+    fn kind(&self) -> EventKind
+        ensures { result ≡ channel_draft_kind self.now }
+    {
+        match self {
+            ChannelDraft::OpenInit(_) => EventKind::ChanOpenInit,
+            ChannelDraft::OpenTry(_) => EventKind::ChanOpenTry,
+            ChannelDraft::OpenAck { .. } => EventKind::ChanOpenAck,
+            ChannelDraft::OpenConfirm { .. } => EventKind::ChanOpenConfirm,
+            ChannelDraft::CloseInit(_) => EventKind::ChanCloseInit,
+            ChannelDraft::CloseConfirm { .. } => EventKind::ChanCloseConfirm,
+        }
+    }
+}
+
+impl Draft {
+    /// The kind of the message.
+    pub fn kind(&self) -> EventKind
+        ensures { result ≡ draft_kind self.now }
+    {
+        match self {
+            Draft::Client(draft) => draft.kind(),
+            Draft::Connection(draft) => draft.kind(),
+            Draft::Channel(draft) => draft.kind(),
+        }
+    }
+}

@@ -1,0 +1,69 @@
+//! Scripts are read from JSON.
+
+ghost use Rattle.std.specs.Prelude.{◌≡◌, ◌<◌, length, IfErr, IsErrOf};
+ghost use Rattle.ibc_script.specs.Faults.{JudgesScript};
+
+mod chains;
+mod channels;
+mod clients;
+mod connections;
+mod step_reader;
+mod steps;
+
+use crate::members::{has_only, list, number, optional_number};
+use crate::{Fault, MOST_BYTES, Script};
+use chains::read_chains;
+use ibc_ids::{Kind, Name};
+use ibc_machine::Genesis;
+use serde_json::Value;
+use std::alloc::Global;
+use steps::read_steps;
+
+/// The heights that a chain keeps where the script doesn't say how many, unless its capacity is smaller.
+const USUAL_WINDOW: u64 = 4_096;
+
+fn parsed(alloc: Global, bytes: &[u8]) -> Result<Value, Fault>
+    ensures { IfErr result JudgesScript }
+{
+    match Value::from_slice(alloc, bytes) {
+        Ok(value) => Ok(value),
+        Err(error) if error.is_memory() => Err(Fault::NoMemory),
+        Err(_) => Err(Fault::BadScript),
+    }
+}
+
+fn parse_name<K: Kind>(alloc: Global, text: &str) -> Result<Name<K>, Fault>
+    ensures { IfErr result JudgesScript }
+{
+    match Name::parse(alloc, text) {
+        Ok(name) => Ok(name),
+        Err(refusal) => Err(Fault::of_refusal(refusal)),
+    }
+}
+
+/// The script that the bytes write in JSON. That a world begins with its genesis is judged by the world. Faults:
+/// `BadScript` where the bytes are too many or no JSON, or something is missing, unknown or out of its form;
+/// `NoMemory`.
+pub fn read_script(alloc: Global, bytes: &[u8]) -> Result<Script, Fault>
+    ensures too_long { 1048576 < length bytes.now → IsErrOf result Fault.BadScript }
+    ensures faults { IfErr result JudgesScript }
+{
+    if bytes.len() > MOST_BYTES {
+        return Err(Fault::BadScript);
+    }
+    let script = parsed(alloc, bytes)?;
+    has_only(&script, &["capacity", "window", "chains", "steps"])?;
+    let capacity = number(&script, "capacity")?;
+    let window = optional_number(&script, "window")?.unwrap_or(capacity.min(USUAL_WINDOW));
+    let (names, chains) = read_chains(alloc, list(&script, "chains")?)?;
+    let steps = read_steps(alloc, names.as_slice(), list(&script, "steps")?)?;
+    Ok(Script {
+        genesis: Genesis {
+            capacity,
+            window,
+            chains,
+        },
+        names,
+        steps,
+    })
+}

@@ -1,0 +1,74 @@
+//! The chains of a script, and how they begin.
+
+ghost use Rattle.std.specs.Prelude.{◌≡◌, ◌≤◌, length, IfOk, IfErr};
+ghost use Rattle.ibc_script.specs.Faults.{JudgesScript};
+
+use super::parse_name;
+use crate::amount::amount_of;
+use crate::members::{has_only, list, number, text};
+use crate::script::MOST_CHAINS;
+use crate::{ChainName, Fault};
+use ibc_ids::{Denom, UserName};
+use ibc_machine::ChainStart;
+use serde_json::Value;
+use std::alloc::Global;
+
+/// One balance: `[user, denomination, amount]`, all texts.
+fn read_balance(alloc: Global, value: &Value) -> Result<(UserName, Denom, u128), Fault>
+    ensures { IfErr result JudgesScript }
+{
+    let items = value.as_array().ok_or(Fault::BadScript)?;
+    let [user, denom, amount] = items.as_slice() else {
+        return Err(Fault::BadScript);
+    };
+    let user = user.as_str().ok_or(Fault::BadScript)?;
+    let denom = denom.as_str().ok_or(Fault::BadScript)?;
+    let amount = amount.as_str().ok_or(Fault::BadScript)?;
+    let amount = amount_of(alloc, amount)?.ok_or(Fault::BadScript)?;
+    Ok((parse_name(alloc, user)?, parse_name(alloc, denom)?, amount))
+}
+
+fn read_balances(alloc: Global, values: &[Value]) -> Result<Vec<(UserName, Denom, u128)>, Fault>
+    ensures { IfErr result JudgesScript }
+{
+    let mut balances = Vec::with_capacity(alloc, values.len())?;
+    for value in values {
+        balances.push(read_balance(alloc, value)?)?;
+    }
+    Ok(balances)
+}
+
+fn read_chain(alloc: Global, value: &Value) -> Result<(ChainName, ChainStart), Fault>
+    ensures { IfErr result JudgesScript }
+{
+    has_only(value, &["name", "time", "balances"])?;
+    let name = parse_name(alloc, text(value, "name")?)?;
+    let time = number(value, "time")?;
+    let balances = read_balances(alloc, list(value, "balances")?)?;
+    Ok((name, ChainStart { time, balances }))
+}
+
+/// The names of the chains and how they begin. Each name stands once.
+pub fn read_chains(
+    alloc: Global,
+    values: &[Value],
+) -> Result<(Vec<ChainName>, Vec<ChainStart>), Fault>
+    ensures named { IfOk result (λ r. length r.0.items ≡ length r.1.items) }
+    ensures few { IfOk result (λ r. length r.0.items ≤ 8) }
+    ensures faults { IfErr result JudgesScript }
+{
+    if values.len() > MOST_CHAINS {
+        return Err(Fault::BadScript);
+    }
+    let mut names: Vec<ChainName> = Vec::with_capacity(alloc, values.len())?;
+    let mut starts = Vec::with_capacity(alloc, values.len())?;
+    for value in values {
+        let (name, start) = read_chain(alloc, value)?;
+        if names.contains(&name) {
+            return Err(Fault::BadScript);
+        }
+        names.push(name)?;
+        starts.push(start)?;
+    }
+    Ok((names, starts))
+}

@@ -1,0 +1,33 @@
+//! The steps that send messages for clients.
+
+ghost use Rattle.std.specs.Prelude.{◌≡◌, ◌<◌, length, IfOk, IfErr};
+ghost use Rattle.ibc_script.specs.Faults.{JudgesScript};
+ghost use Rattle.ibc_script.specs.Scripts.{IsClientAmong};
+
+use super::step_reader::StepReader;
+use crate::Fault;
+use crate::draft::ClientDraft;
+use crate::members::has_only;
+
+impl StepReader<'_> {
+    pub fn create_client(&self) -> Result<ClientDraft, Fault>
+        ensures among { IfOk result (IsClientAmong (length self.now.names.now)) }
+        ensures faults { IfErr result JudgesScript }
+    {
+        has_only(self.object, &["do", "on", "of"])?;
+        Ok(ClientDraft::Create {
+            of: self.chain("of")?,
+        })
+    }
+
+    pub fn update_client(&self) -> Result<ClientDraft, Fault>
+        ensures among { IfOk result (IsClientAmong (length self.now.names.now)) }
+        ensures faults { IfErr result JudgesScript }
+    {
+        has_only(self.object, &["do", "on", "client", "height"])?;
+        Ok(ClientDraft::Update {
+            client: self.name("client")?,
+            height: self.number("height")?,
+        })
+    }
+}

@@ -1,0 +1,127 @@
+//! The steps of a script.
+
+ghost use Rattle.std.specs.Prelude.{◌≡◌, ◌≤◌, ◌<◌, length, All, IfOk, IfErr};
+ghost use Rattle.ibc_script.specs.Faults.{JudgesScript};
+ghost use Rattle.ibc_script.specs.Scripts.{IsAmong, IsDraftAmong};
+
+use super::step_reader::StepReader;
+use crate::members::{has_only, optional_number, text};
+use crate::script::MOST_STEPS;
+use crate::{ChainName, Draft, Fault, Step};
+use serde_json::Value;
+use std::alloc::Global;
+
+impl StepReader<'_> {
+    fn block(&self) -> Result<Step, Fault>
+        ensures among { IfOk result (IsAmong (length self.now.names.now)) }
+        ensures faults { IfErr result JudgesScript }
+    {
+        has_only(self.object, &["do", "on", "time"])?;
+        Ok(Step::Block {
+            on: self.chain("on")?,
+            time: optional_number(self.object, "time")?,
+        })
+    }
+
+    fn root(&self) -> Result<Step, Fault>
+        ensures among { IfOk result (IsAmong (length self.now.names.now)) }
+        ensures faults { IfErr result JudgesScript }
+    {
+        has_only(self.object, &["do", "on", "height"])?;
+        Ok(Step::Root {
+            on: self.chain("on")?,
+            height: self.number("height")?,
+        })
+    }
+
+    fn prove(&self) -> Result<Step, Fault>
+        ensures among { IfOk result (IsAmong (length self.now.names.now)) }
+        ensures faults { IfErr result JudgesScript }
+    {
+        has_only(self.object, &["do", "on", "height", "path"])?;
+        Ok(Step::Prove {
+            on: self.chain("on")?,
+            height: self.number("height")?,
+            key: self.key("path")?,
+        })
+    }
+
+    fn open(&self) -> Result<Step, Fault>
+        ensures among { IfOk result (IsAmong (length self.now.names.now)) }
+        ensures faults { IfErr result JudgesScript }
+    {
+        has_only(self.object, &["do", "chains", "app"])?;
+        let (first, second) = self.two_chains("chains")?;
+        Ok(Step::Open {
+            first,
+            second,
+            application: self.application("app")?,
+        })
+    }
+
+    /// The message of a step whose `do` is the name of one.
+    fn draft(&self, kind: &str) -> Result<Draft, Fault>
+        ensures among { IfOk result (IsDraftAmong (length self.now.names.now)) }
+        ensures faults { IfErr result JudgesScript }
+    {
+        Ok(match kind {
+            "CreateClient" => Draft::Client(self.create_client()?),
+            "UpdateClient" => Draft::Client(self.update_client()?),
+            "ConnOpenInit" => Draft::Connection(self.conn_open_init()?),
+            "ConnOpenTry" => Draft::Connection(self.conn_open_try()?),
+            "ConnOpenAck" => Draft::Connection(self.conn_open_ack()?),
+            "ConnOpenConfirm" => Draft::Connection(self.conn_open_confirm()?),
+            "ChanOpenInit" => Draft::Channel(self.chan_open_init()?),
+            "ChanOpenTry" => Draft::Channel(self.chan_open_try()?),
+            "ChanOpenAck" => Draft::Channel(self.chan_open_ack()?),
+            "ChanOpenConfirm" => Draft::Channel(self.chan_open_confirm()?),
+            "ChanCloseInit" => Draft::Channel(self.chan_close_init()?),
+            "ChanCloseConfirm" => Draft::Channel(self.chan_close_confirm()?),
+            _ => return Err(Fault::BadScript),
+        })
+    }
+
+    fn message(&self, kind: &str) -> Result<Step, Fault>
+        ensures among { IfOk result (IsAmong (length self.now.names.now)) }
+        ensures faults { IfErr result JudgesScript }
+    {
+        Ok(Step::Message {
+            on: self.chain("on")?,
+            draft: self.draft(kind)?,
+        })
+    }
+
+    fn step(&self) -> Result<Step, Fault>
+        ensures among { IfOk result (IsAmong (length self.now.names.now)) }
+        ensures faults { IfErr result JudgesScript }
+    {
+        match text(self.object, "do")? {
+            "Block" => self.block(),
+            "root" => self.root(),
+            "prove" => self.prove(),
+            "open" => self.open(),
+            kind => self.message(kind),
+        }
+    }
+}
+
+/// The steps of a script, each of which names chains of the script alone.
+pub fn read_steps(alloc: Global, names: &[ChainName], values: &[Value]) -> Result<Vec<Step>, Fault>
+    requires { length names.now ≤ 8 }
+    ensures among { IfOk result (λ steps. All (IsAmong (length names.now)) steps.items) }
+    ensures faults { IfErr result JudgesScript }
+{
+    if values.len() > MOST_STEPS {
+        return Err(Fault::BadScript);
+    }
+    let mut steps = Vec::with_capacity(alloc, values.len())?;
+    for object in values {
+        let reader = StepReader {
+            alloc,
+            names,
+            object,
+        };
+        steps.push(reader.step()?)?;
+    }
+    Ok(steps)
+}

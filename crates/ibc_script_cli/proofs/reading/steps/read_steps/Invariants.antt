@@ -1,6 +1,0 @@
-use Rattle.std.proofs.Common.{All, length}
-use Rattle.ibc_script_cli.specs.Scripts.{IsAmong}
-use Rattle.ibc_script_cli.proofs.reading.steps.read_steps.Given as goal
-
-abbrev pub invariant-loop-object : goal.invariant-loop-object
-invariant-loop-object l = All (IsAmong (length l.names)) l.steps.items

@@ -1,0 +1,9 @@
+use Rattle.std.proofs.Common.{◌≡◌, ◌<◌, length}
+use Rattle.ibc_script_cli.proofs.runner.Runner.open.Given as goal
+
+abbrev pub invariant-loop-side : goal.invariant-loop-side
+invariant-loop-side g l = record {
+  names : l.self.names.now ≡ l.initial.self.names.now;
+  first : l.opening.first.chain < length l.self.names.now;
+  second : l.opening.second.chain < length l.self.names.now;
+}

@@ -1,0 +1,146 @@
+-- The messages of the step `open`, by what its two chains have given so far.
+use Rattle.std.specs.Prelude.{ℕ, Option, None, Some, option_map}
+use Rattle.ibc_ids.specs.Texts.{Text}
+use Rattle.ibc_machine.specs.declared.reply.Effect.{Effect}
+use Rattle.ibc_machine.specs.declared.reply.Effect.TheVariants as effect
+use Rattle.ibc_machine.specs.declared.reply.Reply.{Reply}
+use Rattle.ibc_machine.specs.declared.reply.Reply.TheVariants as reply
+use Rattle.ibc_script.specs.Applications.{port_of, order_of, version_of}
+use Rattle.ibc_script.specs.declared.application.Application.{Application}
+use Rattle.ibc_script.specs.declared.draft.ChannelDraft.TheVariants as channel
+use Rattle.ibc_script.specs.declared.draft.ClientDraft.TheVariants as client
+use Rattle.ibc_script.specs.declared.draft.ConnectionDraft.TheVariants as connection
+use Rattle.ibc_script.specs.declared.draft.Draft.{Draft}
+use Rattle.ibc_script.specs.declared.draft.Draft.TheVariants as draft
+use Rattle.ibc_script.specs.declared.draft.Origin.{Origin}
+use Rattle.ibc_script.specs.declared.event_kind.EventKind.{EventKind}
+use Rattle.ibc_script.specs.declared.event_kind.EventKind.TheVariants as kind
+use Rattle.ibc_script_cli.specs.declared.opening.Opening.{Opening}
+use Rattle.ibc_script_cli.specs.declared.opening.Party.{Party}
+use Rattle.ibc_script_cli.specs.declared.opening.Side.{Side}
+use Rattle.ibc_script_cli.specs.declared.opening.Side.TheVariants.{First, Second}
+
+-- ---- what the chains have given
+
+-- what an accepted event gives, none where it is refused
+abbrev pub given_by : Reply → Option Effect
+given_by (reply.Ok given) = Some given
+given_by (reply.No refusal) = None
+
+abbrev pub new_party : ℕ → Party
+new_party chain = record { chain = chain; client = None; connection = None; channel = None; height = 0 }
+
+abbrev pub with_given : Effect → Party → Party
+with_given (effect.Client id) p = record p { client = Some id }
+with_given (effect.Connection id) p = record p { connection = Some id }
+with_given (effect.Channel id) p = record p { channel = Some id }
+with_given (effect.Block height root) p = record p { height = height }
+with_given effect.None p = p
+with_given (effect.Sent sequence) p = p
+with_given (effect.Ack bytes) p = p
+
+-- where the proofs of what a chain has are taken
+abbrev pub origin_of : Party → Origin
+origin_of p = record { chain = p.chain; height = p.height }
+
+-- ---- messages, to a chain of its own names and the peer's; none where a name isn't given
+
+abbrev pub update_of : ℕ → Option Text → Option Draft
+update_of height = option_map (λ id. draft.Client (client.Update id height))
+
+abbrev pub update_draft : Party → Party → Option Draft
+update_draft own peer = update_of peer.height own.client
+
+abbrev pub init_of : Option Text → Option Text → Option Draft
+init_of (Some id) (Some peer_client) = Some (draft.Connection (connection.OpenInit id peer_client))
+init_of _ _ = None
+
+abbrev pub init_draft : Party → Party → Option Draft
+init_draft own peer = init_of own.client peer.client
+
+abbrev pub try_of : Origin → Option Text → Option Text → Option Text → Option Draft
+try_of from (Some id) (Some peer_client) (Some peer_connection) =
+    Some (draft.Connection (connection.OpenTry id peer_client peer_connection from))
+try_of from _ _ _ = None
+
+abbrev pub try_draft : Party → Party → Option Draft
+try_draft own peer = try_of (origin_of peer) own.client peer.client peer.connection
+
+abbrev pub ack_of : Origin → Option Text → Option Text → Option Draft
+ack_of from (Some id) (Some peer_connection) = Some (draft.Connection (connection.OpenAck id peer_connection from))
+ack_of from _ _ = None
+
+abbrev pub ack_draft : Party → Party → Option Draft
+ack_draft own peer = ack_of (origin_of peer) own.connection peer.connection
+
+abbrev pub confirm_draft : Party → Party → Option Draft
+confirm_draft own peer = option_map (λ id. draft.Connection (connection.OpenConfirm id (origin_of peer))) own.connection
+
+abbrev pub channel_init_draft : Application → Party → Option Draft
+channel_init_draft app own =
+    option_map (λ id. draft.Channel (channel.OpenInit (record {
+      port = port_of app;
+      order = order_of app;
+      connection = id;
+      peer_port = port_of app;
+      version = version_of app;
+    }))) own.connection
+
+abbrev pub channel_try_of : Application → Origin → Option Text → Option Text → Option Draft
+channel_try_of app from (Some id) (Some peer_channel) =
+    Some (draft.Channel (channel.OpenTry (record {
+      port = port_of app;
+      order = order_of app;
+      connection = id;
+      peer_port = port_of app;
+      peer_channel = peer_channel;
+      version = version_of app;
+      from = from;
+    })))
+channel_try_of app from _ _ = None
+
+abbrev pub channel_try_draft : Application → Party → Party → Option Draft
+channel_try_draft app own peer = channel_try_of app (origin_of peer) own.connection peer.channel
+
+abbrev pub channel_ack_of : Application → Origin → Option Text → Option Text → Option Draft
+channel_ack_of app from (Some id) (Some peer_channel) =
+    Some (draft.Channel (channel.OpenAck (port_of app) id peer_channel from))
+channel_ack_of app from _ _ = None
+
+abbrev pub channel_ack_draft : Application → Party → Party → Option Draft
+channel_ack_draft app own peer = channel_ack_of app (origin_of peer) own.channel peer.channel
+
+abbrev pub channel_confirm_draft : Application → Party → Party → Option Draft
+channel_confirm_draft app own peer =
+    option_map (λ id. draft.Channel (channel.OpenConfirm (port_of app) id (origin_of peer))) own.channel
+
+-- the message of a kind
+abbrev pub draft_of : Application → EventKind → Party → Party → Option Draft
+draft_of app kind.CreateClient own peer = Some (draft.Client (client.Create peer.chain))
+draft_of app kind.UpdateClient own peer = update_draft own peer
+draft_of app kind.ConnOpenInit own peer = init_draft own peer
+draft_of app kind.ConnOpenTry own peer = try_draft own peer
+draft_of app kind.ConnOpenAck own peer = ack_draft own peer
+draft_of app kind.ConnOpenConfirm own peer = confirm_draft own peer
+draft_of app kind.ChanOpenInit own peer = channel_init_draft app own
+draft_of app kind.ChanOpenTry own peer = channel_try_draft app own peer
+draft_of app kind.ChanOpenAck own peer = channel_ack_draft app own peer
+draft_of app kind.ChanOpenConfirm own peer = channel_confirm_draft app own peer
+draft_of app _ own peer = None
+
+-- ---- both chains
+
+abbrev pub own_of : Side → Opening → Party
+own_of First o = o.first
+own_of Second o = o.second
+
+abbrev pub peer_of : Side → Opening → Party
+peer_of First o = o.second
+peer_of Second o = o.first
+
+abbrev pub turn_draft : Side → EventKind → Opening → Option Draft
+turn_draft side k o = draft_of o.application k (own_of side o) (peer_of side o)
+
+abbrev pub with_learnt : Side → Effect → Opening → Opening
+with_learnt First given o = record o { first = with_given given o.first }
+with_learnt Second given o = record o { second = with_given given o.second }
