@@ -1,23 +1,26 @@
 //! Sends forged messages of a handshake before each honest one, and prints how often each refusal was the answer.
 #![tactic(auto)]
 
-mod counts;
-mod forging;
-mod handshake;
-
-use crate::counts::Counts;
-use crate::forging::{with_a_byte_changed, with_a_byte_more};
-use crate::handshake::{
-    Claims, Sent, begin, confirm_another, create_client, end_block, send_with, true_claims,
-    two_chains, update,
+use ibc_forging::{
+    Claims, ConnectionMessage, Counts, begin, create_client, end_block, forgeries, send, send_with,
+    true_claims, two_chains, update,
 };
-use ibc_ids::{Bytes, Refusal, Root};
+use ibc_ids::{Bytes, Refusal, Root, nth_connection};
 use ibc_machine::Reply;
 use ibc_script_worlds::Ledgers;
-use ibc_wire::Header;
+use ibc_wire::{ConnOpenConfirm, Header, Message};
 use std::alloc::Global;
 use std::io;
 use std::io::{BufWriter, Write};
+
+// The refusals that are counted apart.
+const COLUMNS: [Refusal; 5] = [
+    Refusal::WrongHeader,
+    Refusal::UnknownConnection,
+    Refusal::NoConsensus,
+    Refusal::BadProof,
+    Refusal::BadMessage,
+];
 
 /// Which of the two proofs is forged.
 #[derive(Clone, Copy, Debug, PartialEq, Eq, Drop)]
@@ -56,7 +59,7 @@ impl Forged {
 fn send_forged(
     alloc: Global,
     chains: &mut Ledgers,
-    sent: Sent,
+    sent: ConnectionMessage,
     which: Forged,
     forged: Bytes,
 ) -> Result<Reply, Refusal> {
@@ -68,37 +71,41 @@ fn send_forged(
 fn send_changed(
     alloc: Global,
     chains: &mut Ledgers,
-    sent: Sent,
+    sent: ConnectionMessage,
     which: Forged,
 ) -> Result<Counts, Refusal> {
     let honest = true_claims(alloc, chains, sent, sent.height())?;
-    let mut counts = changed_bytes(alloc, chains, sent, which, which.of(&honest).as_slice())?;
-    let longer = with_a_byte_more(alloc, which.of(&honest).as_slice())?;
-    counts.add(send_forged(alloc, chains, sent, which, longer)?);
-    let empty = Bytes::from_vec(Vec::new(alloc));
-    counts.add(send_forged(alloc, chains, sent, which, empty)?);
-    Ok(counts)
-}
-
-// Sends a message with each byte of a proof changed.
-fn changed_bytes(
-    alloc: Global,
-    chains: &mut Ledgers,
-    sent: Sent,
-    which: Forged,
-    bytes: &[u8],
-) -> Result<Counts, Refusal> {
+    let changed = forgeries(alloc, which.of(&honest).as_slice());
+    drop(honest);
     let mut counts = Counts::new();
-    for at in 0..bytes.len() {
-        let forged = with_a_byte_changed(alloc, bytes, at)?;
+    for forged in changed? {
         counts.add(send_forged(alloc, chains, sent, which, forged)?);
     }
     Ok(counts)
 }
 
+// Confirms a connection that isn't there.
+fn confirm_another(alloc: Global, chains: &mut Ledgers, claims: Claims) -> Result<Reply, Refusal> {
+    let connection = nth_connection(alloc, 7)?;
+    let message = ConnOpenConfirm {
+        connection,
+        height: claims.height,
+        proof: claims.end,
+    };
+    send(
+        chains,
+        ConnectionMessage::Confirm.to(),
+        Message::ConnOpenConfirm(message),
+    )
+}
+
 // Sends a message with its two proofs in each other's place, and with a height that its client doesn't know; the last one
 // also with the proofs of the height before, and for a connection that isn't there.
-fn send_moved(alloc: Global, chains: &mut Ledgers, sent: Sent) -> Result<Counts, Refusal> {
+fn send_moved(
+    alloc: Global,
+    chains: &mut Ledgers,
+    sent: ConnectionMessage,
+) -> Result<Counts, Refusal> {
     let mut counts = Counts::new();
     let honest = true_claims(alloc, chains, sent, sent.height())?;
     let swapped = Claims {
@@ -110,7 +117,7 @@ fn send_moved(alloc: Global, chains: &mut Ledgers, sent: Sent) -> Result<Counts,
     let mut late = true_claims(alloc, chains, sent, sent.height())?;
     late.height = sent.height().saturating_add(1);
     counts.add(send_with(alloc, chains, sent, late)?);
-    if sent == Sent::Confirm {
+    if sent == ConnectionMessage::Confirm {
         let mut early = true_claims(alloc, chains, sent, 1)?;
         early.height = sent.height();
         counts.add(send_with(alloc, chains, sent, early)?);
@@ -121,7 +128,11 @@ fn send_moved(alloc: Global, chains: &mut Ledgers, sent: Sent) -> Result<Counts,
 }
 
 // Sends a message as it truly is.
-fn send_honest(alloc: Global, chains: &mut Ledgers, sent: Sent) -> Result<Counts, Refusal> {
+fn send_honest(
+    alloc: Global,
+    chains: &mut Ledgers,
+    sent: ConnectionMessage,
+) -> Result<Counts, Refusal> {
     let mut counts = Counts::new();
     let honest = true_claims(alloc, chains, sent, sent.height())?;
     counts.add(send_with(alloc, chains, sent, honest)?);
@@ -139,7 +150,11 @@ struct Answers {
 }
 
 // Ends a block of a chain, and tells the other chain of it: with another time, with another root, and then truly.
-fn publish(alloc: Global, chains: &mut Ledgers, sent: Sent) -> Result<Counts, Refusal> {
+fn publish(
+    alloc: Global,
+    chains: &mut Ledgers,
+    sent: ConnectionMessage,
+) -> Result<Counts, Refusal> {
     let mut counts = Counts::new();
     let header = end_block(chains, sent.of())?;
     let late = Header {
@@ -157,14 +172,23 @@ fn publish(alloc: Global, chains: &mut Ledgers, sent: Sent) -> Result<Counts, Re
 }
 
 // Sends the forgeries of a message, and then the message.
-fn send_all(alloc: Global, chains: &mut Ledgers, sent: Sent) -> Result<Answers, Refusal> {
+fn send_all(
+    alloc: Global,
+    chains: &mut Ledgers,
+    sent: ConnectionMessage,
+) -> Result<Answers, Refusal> {
     Ok(Answers {
         headers: publish(alloc, chains, sent)?,
         end: send_changed(alloc, chains, sent, Forged::End)?,
         client: match sent {
-            Sent::Try | Sent::Ack => send_changed(alloc, chains, sent, Forged::Client)?,
+            ConnectionMessage::Try | ConnectionMessage::Ack => send_changed(
+                alloc,
+                chains,
+                sent,
+                Forged::Client,
+            )?,
             // It proves no client.
-            Sent::Confirm => Counts::new(),
+            ConnectionMessage::Confirm => Counts::new(),
         },
         moved: send_moved(alloc, chains, sent)?,
         honest: send_honest(alloc, chains, sent)?,
@@ -176,32 +200,32 @@ fn run(alloc: Global, chains: &mut Ledgers) -> Result<[Answers; 3], Refusal> {
     drop(create_client(chains, 0, 1)?);
     drop(create_client(chains, 1, 0)?);
     drop(begin(alloc, chains)?);
-    let tried = send_all(alloc, chains, Sent::Try)?;
-    let acknowledged = send_all(alloc, chains, Sent::Ack)?;
-    let confirmed = send_all(alloc, chains, Sent::Confirm)?;
+    let tried = send_all(alloc, chains, ConnectionMessage::Try)?;
+    let acknowledged = send_all(alloc, chains, ConnectionMessage::Ack)?;
+    let confirmed = send_all(alloc, chains, ConnectionMessage::Confirm)?;
     Ok([tried, acknowledged, confirmed])
 }
 
+// Prints what was answered to a message in this manner.
+fn print_counts<W: Write>(
+    output: &mut W,
+    name: &str,
+    manner: &str,
+    counts: &Counts,
+) -> io::Result<()> {
+    writeln!(output, "{name}, {manner}: {}", counts.shown(&COLUMNS))
+}
+
 // Prints what was answered to a message and to its forgeries.
-fn print<W: Write>(output: &mut W, sent: Sent, answers: &Answers) -> io::Result<()> {
+fn print<W: Write>(output: &mut W, sent: ConnectionMessage, answers: &Answers) -> io::Result<()> {
     let name = sent.name();
-    writeln!(
-        output,
-        "UpdateClient, another time, another root, true: {}",
-        answers.headers
-    )?;
-    writeln!(output, "{name}, proof of the end forged: {}", answers.end)?;
-    writeln!(
-        output,
-        "{name}, proof of the client forged: {}",
-        answers.client
-    )?;
-    writeln!(
-        output,
-        "{name}, proofs of another key or height, or another connection: {}",
-        answers.moved
-    )?;
-    writeln!(output, "{name}, honest: {}", answers.honest)
+    let headers = "another time, another root, true";
+    let moved = "proofs of another key or height, or another connection";
+    print_counts(output, "UpdateClient", headers, &answers.headers)?;
+    print_counts(output, name, "proof of the end forged", &answers.end)?;
+    print_counts(output, name, "proof of the client forged", &answers.client)?;
+    print_counts(output, name, moved, &answers.moved)?;
+    print_counts(output, name, "honest", &answers.honest)
 }
 
 fn main(rt: HostRuntime) -> io::Result<()> {
@@ -213,9 +237,9 @@ fn main(rt: HostRuntime) -> io::Result<()> {
     };
     match answers {
         Ok([tried, acknowledged, confirmed]) => {
-            print(&mut output, Sent::Try, &tried)?;
-            print(&mut output, Sent::Ack, &acknowledged)?;
-            print(&mut output, Sent::Confirm, &confirmed)?;
+            print(&mut output, ConnectionMessage::Try, &tried)?;
+            print(&mut output, ConnectionMessage::Ack, &acknowledged)?;
+            print(&mut output, ConnectionMessage::Confirm, &confirmed)?;
         }
         Err(refusal) => writeln!(&mut output, "{refusal}")?,
     }

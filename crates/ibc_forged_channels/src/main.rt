@@ -1,0 +1,164 @@
+//! Opens a channel and closes it, and sends forged messages before each honest one, which is sent twice: prints how often
+//! each refusal was the answer, and whether the blocks are those of a world that is sent the honest messages alone.
+#![tactic(auto)]
+
+mod channel_message;
+mod forgery;
+mod report;
+
+use crate::channel_message::{
+    ChannelMessage, HONEST_NAMES, begin_channel, close_channel, send_named, true_claim,
+};
+use crate::forgery::{ALL_FORGERIES, Forgery};
+use crate::report::{Answered, Report};
+use ibc_forging::{
+    ConnectionMessage, begin, create_client, end_block, send_with, tell, true_claims, two_chains,
+};
+use ibc_ids::{Refusal, Root};
+use ibc_machine::Reply;
+use ibc_script_worlds::Ledgers;
+use std::alloc::Global;
+use std::io;
+use std::io::{BufWriter, Write};
+
+// Ends a block of the chain that a message of a connection proves something of, tells the other chain of it, and sends
+// the message.
+fn take_turn(
+    alloc: Global,
+    chains: &mut Ledgers,
+    sent: ConnectionMessage,
+) -> Result<Root, Refusal> {
+    let root = tell(alloc, chains, sent.of(), sent.to())?;
+    let claims = true_claims(alloc, chains, sent, sent.height())?;
+    drop(send_with(alloc, chains, sent, claims)?);
+    Ok(root)
+}
+
+// Opens a connection. The channel is begun before its last message, so that one block shows both.
+fn connect(alloc: Global, chains: &mut Ledgers) -> Result<Root, Refusal> {
+    drop(create_client(chains, 0, 1)?);
+    drop(create_client(chains, 1, 0)?);
+    drop(begin(alloc, chains)?);
+    let _first = take_turn(alloc, chains, ConnectionMessage::Try)?;
+    let _second = take_turn(alloc, chains, ConnectionMessage::Ack)?;
+    drop(begin_channel(alloc, chains)?);
+    take_turn(alloc, chains, ConnectionMessage::Confirm)
+}
+
+// Sends a message of a channel as it truly is.
+fn send_honest(
+    alloc: Global,
+    chains: &mut Ledgers,
+    sent: ChannelMessage,
+) -> Result<Reply, Refusal> {
+    let claim = true_claim(alloc, chains, sent, sent.height())?;
+    send_named(alloc, chains, sent, HONEST_NAMES, claim)
+}
+
+// Sends the forgeries of a message, and then twice the message.
+fn send_all(
+    alloc: Global,
+    chains: &mut Ledgers,
+    sent: ChannelMessage,
+    forgeries: &[Forgery],
+    report: &mut Report,
+) -> Result<(), Refusal> {
+    for forgery in forgeries {
+        let counts = forgery.send(alloc, chains, sent)?;
+        report.answers.push(Answered::Forged {
+            sent,
+            forgery: *forgery,
+            counts,
+        })?;
+    }
+    send_and_note(alloc, chains, sent, report)?;
+    send_and_note(alloc, chains, sent, report)
+}
+
+// Sends a message as it truly is, and notes what was answered.
+fn send_and_note(
+    alloc: Global,
+    chains: &mut Ledgers,
+    sent: ChannelMessage,
+    report: &mut Report,
+) -> Result<(), Refusal> {
+    let reply = send_honest(alloc, chains, sent)?;
+    Ok(report.answers.push(Answered::Honest { sent, reply })?)
+}
+
+// Opens a channel of port `note` and closes it, with these forgeries before each message that has a proof, and notes the
+// root of the block after it.
+fn run(
+    alloc: Global,
+    chains: &mut Ledgers,
+    forgeries: &[Forgery],
+    report: &mut Report,
+) -> Result<(), Refusal> {
+    let root = connect(alloc, chains)?;
+    report.roots.push(root)?;
+    send_all(alloc, chains, ChannelMessage::OpenTry, forgeries, report)?;
+    report.roots.push(tell(alloc, chains, 1, 0)?)?;
+    send_all(alloc, chains, ChannelMessage::OpenAck, forgeries, report)?;
+    report.roots.push(tell(alloc, chains, 0, 1)?)?;
+    send_all(
+        alloc,
+        chains,
+        ChannelMessage::OpenConfirm,
+        forgeries,
+        report,
+    )?;
+    report.roots.push(tell(alloc, chains, 1, 0)?)?;
+    drop(close_channel(alloc, chains)?);
+    report.roots.push(tell(alloc, chains, 0, 1)?)?;
+    send_all(
+        alloc,
+        chains,
+        ChannelMessage::CloseConfirm,
+        forgeries,
+        report,
+    )?;
+    report.roots.push(end_block(chains, 1)?.root)?;
+    Ok(())
+}
+
+// What a world answers, that is sent these forgeries.
+fn report_of(alloc: Global, forgeries: &[Forgery]) -> Result<Report, Refusal> {
+    let mut chains = two_chains(alloc)?;
+    let mut report = Report::new(alloc);
+    match run(alloc, &mut chains, forgeries, &mut report) {
+        Ok(()) => Ok(report),
+        Err(refusal) => Err(refusal),
+    }
+}
+
+// Prints what a world answered that was sent forged messages, and how its roots are beside those of another world.
+fn print<W: Write>(output: &mut W, attacked: &Report, spared: &Report) -> io::Result<()> {
+    attacked.print(output)?;
+    let word = if attacked.roots == spared.roots {
+        "the same"
+    } else {
+        "others"
+    };
+    let count = attacked.roots.len();
+    writeln!(
+        output,
+        "the roots of {count} blocks, beside those without forged messages: {word}"
+    )
+}
+
+// What a world answers that is sent every forgery, and one that is sent none.
+fn both_reports(alloc: Global) -> Result<(Report, Report), Refusal> {
+    let attacked = report_of(alloc, &ALL_FORGERIES)?;
+    let spared = report_of(alloc, &[])?;
+    Ok((attacked, spared))
+}
+
+fn main(rt: HostRuntime) -> io::Result<()> {
+    let alloc = rt.alloc();
+    let mut output = BufWriter::new(alloc, io::writer(&rt))?;
+    match both_reports(alloc) {
+        Ok((attacked, spared)) => print(&mut output, &attacked, &spared)?,
+        Err(refusal) => writeln!(&mut output, "{refusal}")?,
+    }
+    output.flush()
+}
