@@ -4,3 +4,6 @@
 mod sorted_map;
 
 pub use sorted_map::SortedMap;
+
+#[cfg(test)]
+mod tests;

@@ -1,6 +1,8 @@
 //! A map as a sorted vector.
 
 ghost use Rattle.std.specs.Prelude.{◌≡◌, ◌+◌, ◌≤◌, ◌<◌, length, [], IsTrue, IsOk, OnOk, OnErr, IfOk, IfErr, None, option_copied};
+ghost use Rattle.std.specs.Borrow.{sem};
+ghost use Rattle.std.specs.Option.{option_copied_mut};
 ghost use Rattle.std.specs.List.{HoldsAt};
 ghost use Rattle.std.specs.List.Sorted.{IsPartitionPoint};
 ghost use Rattle.std.specs.FinMap.{is_sorted};
@@ -33,6 +35,8 @@ impl<K: Ord, V> Model for SortedMap<K, V> {
 }
 
 impl<K: Ord, V> SortedMap<K, V> {
+    ghost use Rattle.ibc_sorted_map.specs.Lending.{lends_value};
+
     /// An empty map.
     pub fn new(alloc: Global) -> SortedMap<K, V>
         ensures { result.pairs ≡ [] }
@@ -74,6 +78,20 @@ impl<K: Ord, V> SortedMap<K, V> {
     {
         match self.place(key) {
             Ok(index) => Some(&self.entries[index].1),
+            Err(_) => None,
+        }
+    }
+
+    /// The value of a key, to write to, or none.
+    pub fn get_mut(&mut self, key: &K) -> Option<&mut V>
+        ensures* writes_back { sem 𝓛 (lends_value K.row V.row K.Ord self.entry key.now result) }
+        ensures value { option_copied_mut result ≡ at K.cmp key.now self.old.pairs }
+    {
+        match self.place(key) {
+            Ok(index) => {
+                let entry = &mut self.entries[index];
+                Some(&mut entry.1)
+            }
             Err(_) => None,
         }
     }
