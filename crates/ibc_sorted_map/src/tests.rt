@@ -1,11 +1,13 @@
 //! Maps with numbers and with names as keys.
 
-ghost use Rattle.std.specs.Prelude.{◌≡◌, IsSome};
+ghost use Rattle.std.specs.Prelude.{◌≡◌, IsSome, OnOk};
 ghost use Rattle.std.specs.Ordering.{nat_cmp};
+ghost use Rattle.ibc_ids.specs.Texts.{pair_cmp};
 ghost use Rattle.ibc_ids.specs.Maps.{at, with};
 
 use crate::SortedMap;
-use ibc_ids::UserName;
+use ibc_ids::{Denom, UserName};
+use std::alloc::AllocError;
 use std::test::Fail;
 
 // A caller learns what the map becomes by what it writes.
@@ -16,6 +18,17 @@ fn write(map: &mut SortedMap<u64, u64>, key: u64, value: u64)
     if let Some(place) = map.get_mut(&key) {
         *place = value;
     }
+}
+
+// Pairs of names are keys in the order of the definitions.
+fn hold(
+    map: &mut SortedMap<(UserName, Denom), u128>,
+    holder: (UserName, Denom),
+    amount: u128,
+) -> Result<(), AllocError>
+    ensures { OnOk result (map.new.pairs ≡ with pair_cmp holder amount map.old.pairs) }
+{
+    map.set(holder, amount)
 }
 
 #[test]
