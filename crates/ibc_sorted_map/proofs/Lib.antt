@@ -1,3 +1,4 @@
 pub mod Sorted
 pub mod Edits
 pub mod Places
+pub mod Keys
