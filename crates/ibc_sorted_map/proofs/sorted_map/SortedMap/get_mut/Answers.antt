@@ -1,5 +1,5 @@
 -- What stands at the place of the key, and what the map becomes by what is written there.
-use Rattle.std.proofs.Common.{◌≡◌, ◌-◌, ◌⊎◌, refl, ap, inl, vec_len, vec_capacity}
+use Rattle.std.proofs.Common.{◌≡◌, ◌-◌, ◌⊎◌, refl, ap, inl, set, vec_len, vec_capacity}
 use Rattle.ibc_sorted_map.proofs.Places.{found-at, found-with, gap-at, set_is_sorted}
 use Rattle.ibc_sorted_map.proofs.sorted_map.SortedMap.get_mut.Goals as goal
 
@@ -20,7 +20,7 @@ returns-in-Ok g c =
     let here = c.in-Ok.ensures.here entry in
     let written = λ (w : g.row.V.Denot). found-with total pairs c.args.key.now c.in-Ok.index entry w c.self.invariant c.in-Ok.ensures.found c.index_mut-entry.ensures.value here in
     rw (← c.self.view_is) (
-      same_end (λ i w. record { pairs = written w i; room = room }),
+      same_end {f = λ w. record { pairs = set pairs c.in-Ok.index (entry.0, w); room = room }} (λ i w. record { pairs = written w i; room = room }),
       record { writes_back = tt; value = found-at total pairs c.args.key.now c.in-Ok.index entry c.self.invariant c.in-Ok.ensures.found c.index_mut-entry.ensures.value here },
     )
 
