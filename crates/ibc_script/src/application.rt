@@ -8,7 +8,7 @@ use ibc_ids::{Name, PortId, Version};
 use ibc_wire::Order;
 use std::alloc::Global;
 
-/// An application that the step `open` opens a channel for (ICS 26, "Module callback interface").
+/// An application that the step `open` opens a channel for.
 #[derive(Clone, Copy, Debug, PartialEq, Eq, Drop)]
 pub enum Application {
     /// Notes.
