@@ -21,7 +21,7 @@ use Rattle.ibc_laws.proofs.CoreSteps.{CoreStep, creates_client, updates_client, 
 use Rattle.ibc_laws.proofs.Worlds.{ChainStep, acts, ends, GoodStep, next_chain}
 use Rattle.ibc_laws.proofs.CoreShape.{HasChannel}
 use Rattle.ibc_laws.proofs.Numbered.{none_yet}
-use Rattle.ibc_laws.proofs.Identifiers.{nth_channel_same}
+use Rattle.ibc_machine.proofs.Identifiers.{nth_channel_same}
 use Rattle.ibc_laws.proofs.Invariant.{Inv}
 use Rattle.ibc_laws.proofs.Steps.{Moves, Stepped, rests, moves}
 use Rattle.ibc_laws.proofs.Peers.{Stands}

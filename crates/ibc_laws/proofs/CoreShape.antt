@@ -14,7 +14,7 @@ use Rattle.ibc_machine.specs.Channels.{new_channel}
 use Rattle.ibc_machine.specs.Machine.{World}
 use Rattle.ibc_laws.proofs.Places.{some_is}
 use Rattle.ibc_machine.proofs.FiniteMaps.{by_text, by_pair, found_in_with}
-use Rattle.ibc_laws.proofs.Identifiers.{nth_client_same, nth_connection_same, nth_channel_same}
+use Rattle.ibc_machine.proofs.Identifiers.{nth_client_same, nth_connection_same, nth_channel_same}
 use Rattle.ibc_laws.proofs.Told.{Told}
 use Rattle.ibc_laws.proofs.CoreSteps.{CoreStep, creates_client, updates_client, starts_connection, answers_connection, confirms_connection, opens_channel, changes_channel}
 use Rattle.ibc_laws.proofs.Growth.{ConnectionGrows, ChannelGrows, Grows, Grows-trans, Grows-with_client, Grows-with_connection, Grows-with_channel, Grows-same_ends}

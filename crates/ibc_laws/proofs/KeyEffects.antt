@@ -12,7 +12,7 @@ use Rattle.ibc_machine.specs.Channels.{new_channel}
 use Rattle.ibc_machine.specs.Transfers.{transfer_port}
 use Rattle.ibc_machine.specs.Machine.{World}
 use Rattle.ibc_machine.proofs.FiniteMaps.{by_pair, at-with_split}
-use Rattle.ibc_laws.proofs.Identifiers.{nth_channel_same}
+use Rattle.ibc_machine.proofs.Identifiers.{nth_channel_same}
 use Rattle.ibc_laws.proofs.Told.{Told}
 use Rattle.ibc_laws.proofs.CoreSteps.{CoreStep, creates_client, updates_client, starts_connection, answers_connection, confirms_connection, opens_channel, changes_channel, ChannelStep}
 use Rattle.ibc_laws.proofs.AppSteps.{AppsOf, AppsOfEnd, GoodOf, GoodOfEnd}

@@ -1,6 +1,5 @@
 pub mod PassedChecks
 pub mod PassedTests
-pub mod Identifiers
 pub mod Seen
 pub mod Told
 pub mod CoreSteps

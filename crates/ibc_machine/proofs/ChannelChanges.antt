@@ -16,25 +16,25 @@ use Rattle.ibc_machine.proofs.FiniteMaps.{by_pair, at-with_same, at-with_other, 
 use Rattle.ibc_machine.proofs.ImageChanges.{IsKeyed, Change, ChangesAt, ChangesIn, IsApart}
 
 -- what a channel tells, by the kind of the key
-abbrev end_of : Option Channel → Option Value
+abbrev pub end_of : Option Channel → Option Value
 end_of = option_map (λ (c : Channel). ChannelIs c.end)
 
-abbrev send_of : Option Channel → Option Value
+abbrev pub send_of : Option Channel → Option Value
 send_of = option_map (λ (c : Channel). NumberIs c.next_send)
 
-abbrev recv_of : Option Channel → Option Value
+abbrev pub recv_of : Option Channel → Option Value
 recv_of = option_map (λ (c : Channel). NumberIs c.next_recv)
 
-abbrev ack_of : Option Channel → Option Value
+abbrev pub ack_of : Option Channel → Option Value
 ack_of = option_map (λ (c : Channel). NumberIs c.next_ack)
 
-abbrev commitment_at : ℕ → Option Channel → Option Value
+abbrev pub commitment_at : ℕ → Option Channel → Option Value
 commitment_at n = option_and_then (λ (c : Channel). option_map CommitmentIs (at nat_cmp n c.commitments))
 
-abbrev receipt_at : ℕ → Option Channel → Option Value
+abbrev pub receipt_at : ℕ → Option Channel → Option Value
 receipt_at n = option_and_then (λ (c : Channel). receipt_if (is_one_of c.receipts n))
 
-abbrev acknowledgement_at : ℕ → Option Channel → Option Value
+abbrev pub acknowledgement_at : ℕ → Option Channel → Option Value
 acknowledgement_at n = option_and_then (λ (c : Channel). option_map AckIs (at nat_cmp n c.acks))
 
 -- ---- another end of a channel that is there

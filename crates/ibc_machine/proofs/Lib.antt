@@ -5,12 +5,14 @@ pub mod PacketScripts
 mod PublishedHeights
 mod WindowOfHeights
 pub mod Members
+pub mod Identifiers
 pub mod FiniteMaps
 pub mod SortedMaps
 pub mod Images
 pub mod ImageChanges
 pub mod CoreChanges
 pub mod ChannelChanges
+pub mod PacketChanges
 mod Handshake
 mod ForgedHandshakes
 mod CrossedClaims

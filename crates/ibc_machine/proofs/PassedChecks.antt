@@ -23,6 +23,22 @@ pass {B} {y} {x} {rest} e is = is ∙ after_passed x rest e
 pub fail : {B : Type 0} {y : Checked B} {x : Checked ⊤} {r : Refusal} (rest : Checked B) → x ≡ Err r → y ≡ (x >> rest) → y ≡ Err r
 fail {B} {y} {x} rest e is = is ∙ after_failed x rest e
 
+-- ---- checks that are one check
+
+pub grouped : {B : Type 0} (x y : Checked ⊤) (rest : Checked B) → (x >> (y >> rest)) ≡ ((x >> y) >> rest)
+unfolding and_then
+grouped (Ok t) y rest = refl
+grouped (Err r) y rest = refl
+
+pub three_grouped : {B : Type 0} (x y z : Checked ⊤) (rest : Checked B) → (x >> (y >> (z >> rest))) ≡ ((x >> (y >> z)) >> rest)
+three_grouped x y z rest = ap (λ row. x >> row) (grouped y z rest) ∙ grouped x (y >> z) rest
+
+pub four_grouped : {B : Type 0} (w x y z : Checked ⊤) (rest : Checked B) → (w >> (x >> (y >> (z >> rest)))) ≡ ((w >> (x >> (y >> z))) >> rest)
+four_grouped w x y z rest = ap (λ row. w >> row) (three_grouped x y z rest) ∙ grouped w (x >> (y >> z)) rest
+
+pub five_grouped : {B : Type 0} (v w x y z : Checked ⊤) (rest : Checked B) → (v >> (w >> (x >> (y >> (z >> rest))))) ≡ ((v >> (w >> (x >> (y >> z)))) >> rest)
+five_grouped v w x y z rest = ap (λ row. v >> row) (four_grouped w x y z rest) ∙ grouped v (w >> (x >> (y >> z))) rest
+
 -- ---- checks that find something
 
 after_found : {A B : Type 0} (x : Checked A) (rest : A → Checked B) {a : A} → x ≡ Ok a → (x >>= rest) ≡ rest a
