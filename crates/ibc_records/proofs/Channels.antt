@@ -1,10 +1,10 @@
 -- A channel is added, or its end is set: the store is again the image.
-use Rattle.std.proofs.Common.{◌≡◌, ◌+◌, ◌&&◌, true, is_some, List, [], ◌∷◌, Option, Some, None, refl, sym, ap, subst, ◌∙◌, inl, inr}
+use Rattle.std.proofs.Common.{◌≡◌, ℕ, ◌+◌, ◌-◌, ◌^◌, ◌<◌, arith, ◌&&◌, true, is_some, List, [], ◌∷◌, Option, Some, None, refl, sym, ap, subst, ◌∙◌, inl, inr}
 use Rattle.std.specs.Prelude.{IsTrue, IfSome, IsNone}
 use Rattle.ibc_ids.specs.Texts.{Text, pair_cmp}
 use Rattle.ibc_ids.specs.Maps.{at, with}
 use Rattle.ibc_ids.specs.Names.{is_port, is_channel}
-use Rattle.ibc_ids.specs.Paths.{path}
+use Rattle.ibc_ids.specs.Paths.{path, nth_channel}
 use Rattle.ibc_ids.specs.declared.key.Key.TheVariants as key
 use Rattle.ibc_merkle.specs.Tree.{Pairs}
 use Rattle.ibc_wire.specs.declared.records.ChannelEnd.{ChannelEnd}
@@ -12,22 +12,46 @@ use Rattle.ibc_machine.specs.Records.{Core, Channel, with_channel}
 use Rattle.ibc_machine.specs.Channels.{new_channel, with_new_channel}
 use Rattle.ibc_machine.specs.Values.{ChannelIs, NumberIs, value_bytes}
 use Rattle.ibc_machine.proofs.FiniteMaps.{by_pair, found_in_with}
+use Rattle.ibc_machine.proofs.Identifiers.{nth_channel_same}
 use Rattle.ibc_machine.proofs.CoreChanges.{changes-next_channel, keyed-next_channel}
 use Rattle.ibc_machine.proofs.ChannelChanges.{HasNoPackets, new_channel_at, changes-with_new_channel, keyed-with_new_channel, changes-with_channel_end, keyed-with_channel_end}
 use Rattle.ibc_path_store.specs.Held.{HeldStore}
-use Rattle.ibc_records.specs.Held.{HeldRecords, IsHeld, AreQuiet, AddsChannel, SetsChannelEnd, core_of}
+use Rattle.ibc_records.specs.Held.{HeldRecords, IsHeld, AreNumbered, AddsChannel, SetsChannelEnd, core_of}
 use Rattle.ibc_records.proofs.Stores.{Sets, SetsAll, becomes_roomy, becomes_set, becomes_set_all}
 use Rattle.ibc_records.proofs.Images.{image_in, image_set, image_changed, is_held, is_stored}
 
 abbrev pub Channels : Type 0
 Channels = List ((Text × Text) × Channel)
 
-still_quiet : (channels : Channels) (name : Text × Text) (channel : Channel) → AreQuiet channels → HasNoPackets channel
-    → AreQuiet (with pair_cmp name channel channels)
-still_quiet channels name channel quiet none other c found = elim (found_in_with by_pair name other channel c channels found) [
-  | inl h ↦ subst HasNoPackets h.1 none
-  | inr h ↦ quiet other c h
+still_numbered : (next : ℕ) (channels : Channels) (name : Text × Text) (channel : Channel) → AreNumbered next channels
+    → (n : ℕ) × (n < next) × (name.1 ≡ nth_channel n) → AreNumbered next (with pair_cmp name channel channels)
+still_numbered next channels name channel numbered new port id c found = elim (found_in_with by_pair name (port, id) channel c channels found) [
+  | inl h ↦ (new.0, new.1, ap (λ (x : Text × Text). x.1) h.0 ∙ new.2)
+  | inr h ↦ numbered port id c h
 ]
+
+-- a channel that is there again
+pub still_there : (old : HeldRecords) (port id : Text) (mine channel : Channel) → IsHeld old → at pair_cmp (port, id) old.channels ≡ Some mine
+    → AreNumbered old.next_channel (with pair_cmp (port, id) channel old.channels)
+still_there old port id mine channel held stood =
+    still_numbered old.next_channel old.channels (port, id) channel held.numbered (held.numbered port id mine stood)
+
+-- one number more
+counted : (next : ℕ) (channels : Channels) → AreNumbered next channels → AreNumbered (next + 1) channels
+counted next channels numbered port id c found =
+    let was = numbered port id c found in
+    let less : was.0 < next + 1 = omega (arith, was.1) in
+    (was.0, less, was.2)
+
+-- the next name is free
+is_free : (next : ℕ) (channels : Channels) → AreNumbered next channels → next < 2 ^ 64 - 1 → (port id : Text) → id ≡ nth_channel next → (c : Channel)
+    → at pair_cmp (port, id) channels ≡ Some c → ⊥
+is_free next channels numbered fits port id is c found =
+    let was = numbered port id c found in
+    let next_fits : next < 2 ^ 64 = omega (arith, fits) in
+    let was_fits : was.0 < 2 ^ 64 = omega (arith, fits, was.1) in
+    let same : next ≡ was.0 = nth_channel_same next was.0 next_fits was_fits (sym is ∙ was.2) in
+    omega (arith, same, was.1)
 
 -- the paths of a new channel with what stands there
 abbrev pub new_entries : Text → Text → ChannelEnd → Pairs
@@ -37,22 +61,23 @@ new_entries port id end =
 
 module _ (old : HeldRecords) (port id : Text) (end : ChannelEnd) (channels : Channels) (held : IsHeld old) (named : IsTrue (is_port port && is_channel id)) where
   -- from what the calls on the map and the store say
-  pub adds : (s1 s2 s3 : HeldStore) {entries : Pairs} {q w : Text} → channels ≡ with pair_cmp (port, id) (new_channel end) old.channels
+  pub adds : (s1 s2 s3 : HeldStore) {entries : Pairs} {q w : Text} → old.next_channel < 2 ^ 64 - 1 → id ≡ nth_channel old.next_channel → channels ≡ with pair_cmp (port, id) (new_channel end) old.channels
       → entries ≡ new_entries port id end → q ≡ path key.NextChannelSequence → w ≡ value_bytes (NumberIs (old.next_channel + 1))
       → s1 ≡ record old.store { room = s1.room } → SetsAll s1 entries s2 → Sets s2 q w s3
       → IsHeld (record old { channels = channels; next_channel = old.next_channel + 1; store = s3 })
       × AddsChannel old port id end (record old { channels = channels; next_channel = old.next_channel + 1; store = s3 })
-  adds s1 s2 s3 {entries} {q} {w} is ee eq ew e f g =
+  adds s1 s2 s3 {entries} {q} {w} fits next is ee eq ew e f g =
       let becomes = becomes_set old.store _ s2 s3 (becomes_set_all old.store _ s1 s2 (becomes_roomy old.store s1 e) f ee) g eq ew in
       let with_it : Core = with_channel port id (new_channel end) (core_of old) in
-      let quiet : (c : Channel) → at pair_cmp (port, id) old.channels ≡ Some c → HasNoPackets c = held.quiet (port, id) in
+      let quiet : (c : Channel) → at pair_cmp (port, id) old.channels ≡ Some c → HasNoPackets c = λ c found. absurd (is_free old.next_channel old.channels held.numbered fits port id next c found) in
       let image_with = image_changed (core_of old) with_it (new_channel_at port id end) old.store.pairs (image_in old held)
       (keyed-with_new_channel (core_of old) port id end quiet held.keyed named) (changes-with_new_channel (core_of old) port id end quiet named) in
       let core = with_new_channel port id end (core_of old) in
       let is_image = image_set with_it core key.NextChannelSequence (NumberIs (old.next_channel + 1)) _ image_with
       (keyed-next_channel with_it (old.next_channel + 1) image_with.keyed) (changes-next_channel with_it (old.next_channel + 1)) in
       let after : HeldRecords = record old { channels = with pair_cmp (port, id) (new_channel end) old.channels; next_channel = old.next_channel + 1; store = s3 } in
-      let still = still_quiet old.channels (port, id) (new_channel end) held.quiet (record { commitments = refl; receipts = refl; acks = refl }) in
+      let above : old.next_channel < old.next_channel + 1 = omega arith in
+      let still = still_numbered (old.next_channel + 1) old.channels (port, id) (new_channel end) (counted old.next_channel old.channels held.numbered) (old.next_channel, above, next) in
       subst (λ cs. IsHeld (record old { channels = cs; next_channel = old.next_channel + 1; store = s3 }) × AddsChannel old port id end (record old { channels = cs; next_channel = old.next_channel + 1; store = s3 })) (sym is)
       (is_held old after core _ is_image becomes refl still, record { records = refl; stored = is_stored old after core _ is_image becomes refl; core = refl })
 
@@ -67,8 +92,7 @@ module _ (old : HeldRecords) (port id : Text) (end : ChannelEnd) (channels : Cha
       let is_image = image_set (core_of old) core (key.ChannelEnd port id) (ChannelIs end) old.store.pairs (image_in old held)
       (keyed-with_channel_end (core_of old) port id channel end there held.keyed named) (changes-with_channel_end (core_of old) port id channel end there) in
       let after : HeldRecords = record old { channels = with pair_cmp (port, id) (record channel { end = end }) old.channels; store = s2 } in
-      let none = held.quiet (port, id) channel there in
-      let still = still_quiet old.channels (port, id) (record channel { end = end }) held.quiet (record { commitments = none.commitments; receipts = none.receipts; acks = none.acks }) in
+      let still = still_there old port id channel (record channel { end = end }) held there in
       subst (λ cs. IsHeld (record old { channels = cs; store = s2 }) × SetsChannelEnd old port id end (record old { channels = cs; store = s2 })) (sym is) (
         is_held old after core _ is_image becomes refl still,
         record {
@@ -99,7 +123,7 @@ pub roomy : (old : HeldRecords) (channels : Channels) (s1 : HeldStore) → IsHel
     → IsHeld (record old { channels = channels; store = s1 })
 roomy old channels s1 held same e =
     subst (λ cs. IsHeld (record old { channels = cs; store = s1 })) (sym same)
-    (record { keyed = held.keyed; stored = ap (λ (s : HeldStore). s.pairs) e ∙ held.stored; quiet = held.quiet })
+    (record { keyed = held.keyed; stored = ap (λ (s : HeldStore). s.pairs) e ∙ held.stored; numbered = held.numbered })
 
 -- a channel that is there in the view of records isn't missing
 pub is_not_missing : (view value : HeldRecords) (name : Text × Text) → is_some (at pair_cmp name view.channels) ≡ true → view ≡ value

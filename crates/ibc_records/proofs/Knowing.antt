@@ -1,5 +1,5 @@
 -- A client knows a height just where it holds a consensus state of it.
-use Rattle.std.proofs.Common.{◌≡◌, ℕ, true, false, ◌||◌, eqb, eq-eqb, ne_eqb, cond, is_eq, is_some, Ordering, Less, Equal, Greater, [], ◌∷◌, refl, sym, ap, ◌∙◌, Option, Some, None, option_map, option_and_then}
+use Rattle.std.proofs.Common.{◌≡◌, ℕ, true, false, ◌||◌, eqb, eq-eqb, ne_eqb, cond, is_eq, is_some, Ordering, Less, Equal, Greater, [], ◌∷◌, refl, sym, ap, ◌∙◌, Option, Some, None, Bor, option_copied, option_map, option_and_then}
 use Rattle.std.specs.Option.{option_map_or}
 use Rattle.std.specs.Cmp.{nat_cmp_is}
 use Rattle.std.specs.Map.{keys_of}
@@ -27,7 +27,7 @@ same_number n m = go (nat_cmp n m) refl
     go Greater is = ne_eqb m n (not_greater is)
 
 -- a number is one of a map's keys just where the map has a value there
-is_key_of : {X : Type 0} (n : ℕ) (entries : Map ℕ X) → is_one_of (keys_of entries) n ≡ is_some (at nat_cmp n entries)
+pub is_key_of : {X : Type 0} (n : ℕ) (entries : Map ℕ X) → is_one_of (keys_of entries) n ≡ is_some (at nat_cmp n entries)
 is_key_of n [] = refl
 is_key_of {X} n (e ∷ entries) =
     ap (λ b. b || is_one_of (keys_of entries) n) (same_number n e.0) ∙ elim (is_eq (nat_cmp n e.0)) as (λ b. (b || is_one_of (keys_of entries) n) ≡ is_some (cond b (Some e.1) (at nat_cmp n entries))) [
@@ -44,3 +44,8 @@ knows-held held client height =
         ≡ is_some (option_and_then (λ (c : HeldClient). at nat_cmp height c.known) o)
     go None = refl
     go (Some c) = is_key_of height c.known
+
+-- a loan stands just where there is a value
+pub is_some-copied : {X : Type 0} (o : Option (Bor X)) → is_some (option_copied o) ≡ is_some o
+is_some-copied None = refl
+is_some-copied (Some x) = refl

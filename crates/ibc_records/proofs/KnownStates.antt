@@ -1,18 +1,13 @@
 -- A ledger's state that says all that clients know.
-use Rattle.std.proofs.Common.{◌≡◌, ℕ, ◌+◌, false, cond, is_eq, Ordering, Less, Equal, Greater, [], ◌∷◌, ◌++◌, map, refl, sym, ap, ◌∙◌, Some, option_and_then, option_map}
+use Rattle.std.proofs.Common.{◌≡◌, ℕ, false, cond, is_eq, Ordering, Less, Equal, Greater, [], ◌∷◌, ◌++◌, map, refl, ap, ◌∙◌, Some, option_and_then, option_map}
 use Rattle.std.specs.Ordering.{nat_cmp}
 use Rattle.ibc_ids.specs.Texts.{Text, text_cmp}
 use Rattle.ibc_ids.specs.Maps.{Map, at}
-use Rattle.ibc_ids.proofs.Texts.{text_cmp_total}
-use Rattle.ibc_machine.specs.Records.{with_client}
-use Rattle.ibc_machine.specs.Clients.{new_client}
 use Rattle.ibc_machine.specs.Replay.{LedgerState, Consensus, consensus_cmp, empty_chain}
-use Rattle.ibc_machine.proofs.Images.{at-with}
 use Rattle.ibc_records.specs.declared.client.ConsensusState.{ConsensusState}
-use Rattle.ibc_records.specs.HeldClients.{HeldClient, new_held}
-use Rattle.ibc_records.specs.Held.{HeldRecords, core_of, consensus_in, AddsClient}
+use Rattle.ibc_records.specs.HeldClients.{HeldClient}
+use Rattle.ibc_records.specs.Held.{HeldRecords}
 use Rattle.ibc_records.specs.Knowledge.{Knows, plain_consensus}
-use Rattle.ibc_records.specs.Taking.{IsWritten}
 
 -- what a client knows, under its name
 abbrev known_of : Text → Map ℕ ConsensusState → Map (Text × ℕ) Consensus

@@ -9,3 +9,5 @@ pub mod Channels
 pub mod Written
 pub mod Knowing
 pub mod KnownStates
+pub mod Receiving
+pub mod PacketSteps

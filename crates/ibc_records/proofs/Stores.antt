@@ -1,10 +1,10 @@
 -- What two paths set in a store leave.
-use Rattle.std.proofs.Common.{◌≡◌, [], ◌∷◌, ap, ◌∙◌}
+use Rattle.std.proofs.Common.{◌≡◌, [], ◌∷◌, ap, ◌∙◌, Option}
 use Rattle.ibc_ids.specs.Texts.{Text, text_cmp}
-use Rattle.ibc_ids.specs.Maps.{with}
+use Rattle.ibc_ids.specs.Maps.{with, without}
 use Rattle.ibc_merkle.specs.Tree.{Pairs}
 use Rattle.ibc_path_store.specs.Held.{HeldStore}
-use Rattle.ibc_records.specs.Entries.{with_all}
+use Rattle.ibc_records.specs.Entries.{with_all, with_entry}
 
 -- the second store is the first but for its pairs and its room
 abbrev pub Rewrites : HeldStore → HeldStore → Type 0
@@ -68,3 +68,14 @@ becomes_set_all old pairs mid new {entries} {entries'} before sets same = record
 pub becomes_set : (old : HeldStore) (pairs : Pairs) (mid new : HeldStore) {p p' v v' : Text} → Becomes old pairs mid → Sets mid p v new → p ≡ p' → v ≡ v' → Becomes old (with text_cmp p' v' pairs) new
 becomes_set old pairs mid new {p} {p'} {v} {v'} before sets ep ev =
     becomes_set_all old pairs mid new {entries = (p, v) ∷ []} {entries' = (p', v') ∷ []} before sets (λ i. (ep i, ev i) ∷ [])
+
+-- a path was removed, and another is set, if there is one
+abbrev pub Settles : HeldStore → Text → Option (Text × Text) → HeldStore → Type 0
+Settles old path other new = new ≡ record old { pairs = with_entry other (without text_cmp path old.pairs); room = new.room }
+
+pub becomes_settled : (old : HeldStore) (pairs : Pairs) (mid new : HeldStore) {p p' : Text} {other other' : Option (Text × Text)} → Becomes old pairs mid → Settles mid p other new → p ≡ p' → other ≡ other'
+    → Becomes old (with_entry other' (without text_cmp p' pairs)) new
+becomes_settled old pairs mid new {p} {p'} {other} {other'} before settles ep same = record {
+  rewrites = rewrites_twice old mid new before.rewrites (sets_rewrites mid (with_entry other (without text_cmp p mid.pairs)) new settles);
+  pairs_are = ap (λ (s : HeldStore). s.pairs) settles ∙ λ i. with_entry (same i) (without text_cmp (ep i) (before.pairs_are i));
+}

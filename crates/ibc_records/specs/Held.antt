@@ -1,9 +1,10 @@
 -- The records of a chain as a ledger holds them: in plain, and as a store of paths.
-use Rattle.std.specs.Prelude.{◌≡◌, ◌+◌, ℕ, [], map, Option, Some}
+use Rattle.std.specs.Prelude.{◌≡◌, ◌+◌, ◌<◌, ℕ, [], map, Option, Some}
 use Rattle.std.specs.Option.{option_and_then}
 use Rattle.std.specs.Ordering.{nat_cmp}
 use Rattle.ibc_ids.specs.Texts.{Text, text_cmp, pair_cmp}
 use Rattle.ibc_ids.specs.Maps.{Map, at, with}
+use Rattle.ibc_ids.specs.Paths.{nth_channel}
 use Rattle.ibc_wire.specs.declared.records.ConnectionEnd.{ConnectionEnd}
 use Rattle.ibc_wire.specs.declared.records.ChannelEnd.{ChannelEnd}
 use Rattle.ibc_machine.specs.Records.{Core, Client, Channel, with_client, with_connection, with_channel}
@@ -13,7 +14,6 @@ use Rattle.ibc_machine.specs.Genesis.{empty_core}
 use Rattle.ibc_machine.specs.Image.{image}
 use Rattle.ibc_machine.specs.Clients.{new_client, updated}
 use Rattle.ibc_machine.proofs.ImageChanges.{IsKeyed}
-use Rattle.ibc_machine.proofs.ChannelChanges.{HasNoPackets}
 use Rattle.ibc_path_store.specs.Held.{HeldStore}
 use Rattle.ibc_records.specs.declared.client.ConsensusState.{ConsensusState}
 use Rattle.ibc_records.specs.declared.records.NextNumbers.{NextNumbers}
@@ -47,16 +47,16 @@ abbrev pub consensus_in : HeldRecords → Text → ℕ → Option ConsensusState
 consensus_in held client height =
     option_and_then (λ (c : HeldClient). at nat_cmp height c.known) (at text_cmp client held.clients)
 
--- no packets stand on these channels
-abbrev pub AreQuiet : Map (Text × Text) Channel → Type 0
-AreQuiet channels =
-    (name : Text × Text) (channel : Channel) → at pair_cmp name channels ≡ Some channel → HasNoPackets channel
+-- each channel's name was given by a number below this one
+abbrev pub AreNumbered : ℕ → Map (Text × Text) Channel → Type 0
+AreNumbered next channels =
+    (port id : Text) (channel : Channel) → at pair_cmp (port, id) channels ≡ Some channel → (n : ℕ) × (n < next) × (id ≡ nth_channel n)
 
--- the store is the image of the core, every key of which has names for its names, and no channel has packets
+-- the store is the image of the core, every key of which has names for its names, and the next channel's name is free
 pub record IsHeld (held : HeldRecords) : Type 0 where
   pub keyed : IsKeyed (core_of held)
   pub stored : held.store.pairs ≡ image (core_of held)
-  pub quiet : AreQuiet held.channels
+  pub numbered : AreNumbered held.next_channel held.channels
 
 -- the core of a chain in the beginning, but that the next ones have these numbers
 abbrev pub core_from : NextNumbers → Core

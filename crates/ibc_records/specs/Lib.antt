@@ -3,3 +3,4 @@ pub mod Held
 pub mod Entries
 pub mod Knowledge
 pub mod Taking
+pub mod Packets

@@ -39,3 +39,19 @@ abbrev pub IsHandled : {A : Type 0} → (A → Effect) → Handler → ℕ → �
 IsHandled effect_of handler chain chains old result new =
     (seen : List Publication) (state : LedgerState) → Knows old state
     → IsTaken effect_of (handler (proves seen None state) (host_with chain chains old) (core_of old)) old result new
+
+-- a handler of the core and of what an application keeps
+abbrev pub HandlerWith : Type 0 → Type 0
+HandlerWith App = Evidence → Host → Core → Checked (Effect × Core × App)
+
+-- The message was taken with this effect, as its checks and the application say, or it was refused, by them or for want
+-- of memory. A refusal leaves the records but for room, and the application.
+abbrev pub IsTakenWith : {A App : Type 0} → (A → Effect) → Checked (Effect × Core × App) → HeldRecords → App → Result A Refusal → HeldRecords → App → Type 0
+IsTakenWith effect_of checked old app (Ok x) new after = (core : Core) × (checked ≡ Ok (effect_of x, core, after)) × IsWritten core old new
+IsTakenWith effect_of checked old app (Err refusal) new after = ((checked ≡ Err refusal) ⊎ (refusal ≡ NoMemory)) × IsUnchanged old new × (after ≡ app)
+
+-- a handler's answer by roots and proofs, as above, where an application takes part
+abbrev pub IsHandledWith : {A App : Type 0} → (A → Effect) → HandlerWith App → ℕ → ℕ → HeldRecords → App → Result A Refusal → HeldRecords → App → Type 0
+IsHandledWith effect_of handler chain chains old app result new after =
+    (seen : List Publication) (state : LedgerState) → Knows old state
+    → IsTakenWith effect_of (handler (proves seen None state) (host_with chain chains old) (core_of old)) old app result new after

@@ -1,23 +1,41 @@
-//! An end of a channel with its counters.
+//! An end of a channel with its counters and its packets.
 
-ghost use Rattle.std.specs.Prelude.{◌≡◌};
+ghost use Rattle.std.specs.Prelude.{◌≡◌, ◌-◌, ◌^◌, ◌<◌, ◌≤◌, true, IsTrue, IfOk, IfErr, OnOk, OnErr, option_copied};
+ghost use Rattle.std.specs.FinMap.{is_sorted};
+ghost use Rattle.std.specs.Ordering.{nat_cmp};
+ghost use Rattle.ibc_ids.specs.Maps.{at};
+ghost use Rattle.ibc_ids.specs.declared.refusal.Refusal.TheVariants.{NoMemory};
+ghost use Rattle.ibc_machine.specs.Records.{is_one_of};
 ghost use Rattle.ibc_machine.specs.Channels.{new_channel};
+ghost use Rattle.ibc_machine.specs.Packets.{is_ordered, after_send, after_receive, without_commitment, after_ack, after_timeout};
+ghost use Rattle.ibc_machine.specs.Values.{value_bytes, AckIs};
 
-use ibc_wire::ChannelEnd;
+use crate::acknowledgement::{AckCopies, AckRoom};
+use crate::commitment::Commitment;
+use ibc_app_port::App;
+use ibc_ids::{Bytes, Refusal};
+use ibc_sorted_map::SortedMap;
+use ibc_wire::{ChannelEnd, ChannelState, Order, Packet};
+use std::alloc::Global;
 use std::marker::Model;
 
 /// An end of a channel with its three counters (ICS 4, "Channel paths"): the sequences of the packet that it sends next,
-/// that it receives next, and whose acknowledgement it takes next. Sequences count from 1.
+/// that it receives next, and whose acknowledgement it takes next. Sequences count from 1. And with its packets, by their
+/// sequences: what is committed of those that it sent and that aren't settled, the receipts of those that it received in
+/// any order, and the acknowledgements that it wrote.
 #[derive(Drop, Debug)]
 pub struct Channel {
     end: ChannelEnd,
     next_send: u64,
     next_recv: u64,
     next_ack: u64,
+    commitments: SortedMap<u64, Commitment>,
+    receipts: SortedMap<u64, ()>,
+    acks: SortedMap<u64, Bytes>,
 }
 
 impl Model for Channel {
-    ghost use Rattle.std.specs.Prelude.{[]};
+    ghost use Rattle.std.specs.Map.{keys_of};
     ghost use Rattle.ibc_machine.specs.Records.{Channel as PlainChannel};
 
     ghost Value = { PlainChannel };
@@ -27,15 +45,16 @@ impl Model for Channel {
       next_send = channel.next_send;
       next_recv = channel.next_recv;
       next_ack = channel.next_ack;
-      commitments = [];
-      receipts = [];
-      acks = [];
+      commitments = channel.commitments.pairs;
+      receipts = keys_of channel.receipts.pairs;
+      acks = channel.acks.pairs;
     } };
 }
 
 impl Channel {
-    /// A channel with this end, whose three counters are 1 (ICS 4, "chanOpenInit" and "chanOpenTry").
-    pub fn new(end: ChannelEnd) -> Channel
+    /// A channel with this end, whose three counters are 1 (ICS 4, "chanOpenInit" and "chanOpenTry"), and which has no
+    /// packets.
+    pub fn new(alloc: Global, end: ChannelEnd) -> Channel
         ensures { result ≡ new_channel end }
     {
         Channel {
@@ -43,6 +62,9 @@ impl Channel {
             next_send: 1,
             next_recv: 1,
             next_ack: 1,
+            commitments: SortedMap::new(alloc),
+            receipts: SortedMap::new(alloc),
+            acks: SortedMap::new(alloc),
         }
     }
 
@@ -53,10 +75,138 @@ impl Channel {
         &self.end
     }
 
-    /// Sets the end, and leaves the counters.
+    /// The sequence of the packet that is sent next.
+    pub fn next_send(&self) -> u64
+        ensures { result ≡ self.now.next_send }
+    {
+        self.next_send
+    }
+
+    /// The sequence of the packet that is received next, where the channel is ordered.
+    pub fn next_recv(&self) -> u64
+        ensures { result ≡ self.now.next_recv }
+    {
+        self.next_recv
+    }
+
+    /// The sequence of the packet whose acknowledgement is taken next, where the channel is ordered.
+    pub fn next_ack(&self) -> u64
+        ensures { result ≡ self.now.next_ack }
+    {
+        self.next_ack
+    }
+
+    /// The packets come in their order.
+    pub fn is_ordered(&self) -> bool
+        ensures { result ≡ is_ordered self.now }
+    {
+        self.end.order == Order::Ordered
+    }
+
+    /// What is committed of the packet of a sequence, or none.
+    pub fn commitment(&self, sequence: u64) -> Option<&Commitment>
+        ensures { option_copied result ≡ at nat_cmp sequence self.now.commitments }
+    {
+        self.commitments.get(&sequence)
+    }
+
+    /// The packet of a sequence was received, where they come in any order.
+    pub fn has_receipt(&self, sequence: u64) -> bool
+        ensures { result ≡ is_one_of self.now.receipts sequence }
+    {
+        self.receipts.get(&sequence).is_some()
+    }
+
+    /// The acknowledgement of the packet of a sequence that was received, or none.
+    pub fn ack(&self, sequence: u64) -> Option<&Bytes>
+        ensures { option_copied result ≡ at nat_cmp sequence self.now.acks }
+    {
+        self.acks.get(&sequence)
+    }
+
+    /// Sets the end, and leaves the counters and the packets.
     pub fn set_end(&mut self, end: ChannelEnd)
         ensures { self.new ≡ record self.old { end = end } }
     {
         self.end = end;
+    }
+
+    /// Commits to a packet under the next sequence, and counts on (ICS 4, "sendPacket"). `NoMemory` where a growth is
+    /// refused; the channel is then as before.
+    pub(crate) fn send(&mut self, commitment: Commitment) -> Result<(), Refusal>
+        requires { self.old.next_send < 2 ^ 64 - 1 }
+        ensures ok { OnOk result (self.new ≡ after_send commitment self.old) }
+        ensures err { IfErr result (λ refusal. refusal ≡ NoMemory) }
+        ensures unchanged { OnErr result (self.new ≡ self.old) }
+    {
+        self.commitments.set(self.next_send, commitment)?;
+        self.next_send += 1;
+        Ok(())
+    }
+
+    /// Asks the application what it acknowledges a packet with, and keeps the acknowledgement; an ordered channel counts
+    /// on, another keeps a receipt (ICS 4, "recvPacket"). `NoMemory` where a growth is refused; the channel and the
+    /// application are then as before.
+    pub(crate) fn receive<A: App>(
+        &mut self,
+        app: &mut A,
+        packet: &Packet,
+        room: AckRoom,
+    ) -> Result<AckCopies, Refusal>
+        requires counter { is_ordered self.old ≡ true → self.old.next_recv < 2 ^ 64 - 1 }
+        requires room { 1024 ≤ room }
+        ensures answer { IfOk result (λ acks. (acks.reply, app.new) ≡ A.receives app.old self.old.end.version packet.now) }
+        ensures copy { IfOk result (λ acks. acks.copy ≡ acks.reply) }
+        ensures value { IfOk result (λ acks. acks.value ≡ value_bytes (AckIs acks.reply)) }
+        ensures ok { IfOk result (λ acks. self.new ≡ after_receive packet.now.sequence acks.reply self.old) }
+        ensures err { IfErr result (λ refusal. refusal ≡ NoMemory) }
+        ensures unchanged { OnErr result ((self.new ≡ self.old) × (app.new ≡ app.old)) }
+    {
+        let in_order = self.is_ordered();
+        self.acks.reserve(1)?;
+        self.receipts.reserve(1)?;
+        let ack = app.on_recv(&self.end.version, packet)?;
+        let copies = room.fill(ack.as_slice());
+        let _ = self.acks.set(packet.sequence, ack);
+        if in_order {
+            self.next_recv += 1;
+        } else {
+            let _ = self.receipts.set(packet.sequence, ());
+        }
+        Ok(copies)
+    }
+
+    /// Removes the commitment of a packet that was acknowledged; an ordered channel counts on (ICS 4,
+    /// "acknowledgePacket").
+    pub(crate) fn acknowledge(&mut self, sequence: u64)
+        requires { is_ordered self.old ≡ true → self.old.next_ack < 2 ^ 64 - 1 }
+        ensures sorted { IsTrue (is_sorted nat_cmp self.old.commitments) }
+        ensures after { self.new ≡ after_ack sequence self.old }
+    {
+        self.remove_commitment(sequence);
+        if self.end.order == Order::Ordered {
+            self.next_ack += 1;
+        }
+    }
+
+    /// Removes the commitment of a packet that won't be received any more; an ordered channel is closed (ICS 4,
+    /// "timeoutPacket").
+    pub(crate) fn time_out(&mut self, sequence: u64)
+        ensures sorted { IsTrue (is_sorted nat_cmp self.old.commitments) }
+        ensures after { self.new ≡ after_timeout sequence self.old }
+    {
+        self.remove_commitment(sequence);
+        if self.end.order == Order::Ordered {
+            self.end.state = ChannelState::Closed;
+        }
+    }
+
+    // Removes the commitment of a packet.
+    fn remove_commitment(&mut self, sequence: u64)
+        ensures sorted { IsTrue (is_sorted nat_cmp self.old.commitments) }
+        ensures removed { self.new ≡ without_commitment sequence self.old }
+    {
+        let _in_order = self.commitments.entries();
+        self.commitments.remove(&sequence);
     }
 }

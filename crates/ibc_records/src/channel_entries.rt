@@ -2,12 +2,13 @@
 
 ghost use Rattle.std.specs.Prelude.{◌≡◌, ◌+◌, ◌++◌, ◌&&◌, ◌≤◌, ◌∷◌, [], IsTrue, IfOk, IfErr, string_bytes};
 ghost use Rattle.ibc_ids.specs.Names.{is_port, is_channel};
-ghost use Rattle.ibc_ids.specs.Paths.{path, channel_path as path_of_channel};
+ghost use Rattle.ibc_ids.specs.Paths.{path};
 ghost use Rattle.ibc_ids.specs.declared.key.Key.TheVariants as key;
 ghost use Rattle.ibc_ids.specs.declared.refusal.Refusal.TheVariants.{NoMemory};
 ghost use Rattle.ibc_machine.specs.Values.{value_bytes, NumberIs, ChannelIs};
 ghost use Rattle.ibc_records.specs.Entries.{with_all};
 
+use crate::packet_values::channel_counter;
 use crate::values::{channel_path, channel_value, set_reserved};
 use ibc_ids::{Bytes, ChannelId, PortId, Refusal};
 use ibc_path_store::Store;
@@ -58,26 +59,11 @@ impl ChannelEntries {
         let path = channel_path(alloc, "channelEnds", port, id)?;
         Ok(ChannelEntries {
             end: (path, channel_value(alloc, end)?),
-            next_send: first_sequence(alloc, "nextSequenceSend", port, id)?,
-            next_recv: first_sequence(alloc, "nextSequenceRecv", port, id)?,
-            next_ack: first_sequence(alloc, "nextSequenceAck", port, id)?,
+            next_send: channel_counter(alloc, "nextSequenceSend", port, id, 1)?,
+            next_recv: channel_counter(alloc, "nextSequenceRecv", port, id, 1)?,
+            next_ack: channel_counter(alloc, "nextSequenceAck", port, id, 1)?,
         })
     }
-}
-
-// The path of a counter of a channel, and the bytes of the first sequence.
-fn first_sequence(
-    alloc: Global,
-    kind: &str,
-    port: &PortId,
-    id: &ChannelId,
-) -> Result<(String, Bytes), Refusal>
-    ensures path { IfOk result (λ entry. string_bytes entry.0 ≡ kind.now ++ path_of_channel port.now id.now) }
-    ensures number { IfOk result (λ entry. entry.1 ≡ value_bytes (NumberIs 1)) }
-    ensures err { IfErr result (λ refusal. refusal ≡ NoMemory) }
-{
-    let path = channel_path(alloc, kind, port, id)?;
-    Ok((path, Bytes::copy_of(alloc, &1_u64.to_be_bytes())?))
 }
 
 /// Sets the paths of a new channel, for which there is room.

@@ -15,6 +15,7 @@ ghost use Rattle.ibc_path_store.specs.Held.{committed, height_of, kept_at};
 
 mod channels;
 mod connections;
+mod packets;
 
 use crate::channel::Channel;
 use crate::client::{Client, ConsensusState};

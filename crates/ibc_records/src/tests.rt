@@ -1,5 +1,7 @@
 use crate::{ConsensusState, NextNumbers, Records};
-use ibc_ids::{ChannelId, ClientId, ConnectionId, Key, PortId, Refusal, Root, Version};
+use ibc_ids::{
+    ChannelId, ClientId, ConnectionId, Key, PortId, Refusal, Root, Version, nth_channel,
+};
 use ibc_wire::{ChannelEnd, ChannelState, Order};
 use std::alloc::Global;
 use std::test::Fail;
@@ -68,11 +70,12 @@ fn end_to(alloc: Global, peer_channel: Option<ChannelId>) -> Result<ChannelEnd, 
     })
 }
 
-// Records whose one channel is named so.
-fn with_channel(alloc: Global, port: &PortId, id: &ChannelId) -> Result<Records, Refusal> {
+// Records whose one channel, `channel-0`, is of this port.
+fn with_channel(alloc: Global, port: &PortId) -> Result<Records, Refusal> {
     let mut records = Records::new(alloc, 2, 100)?;
     let end = end_to(alloc, None)?;
-    records.add_channel(port.clone()?, id.clone()?, end)?;
+    let id = nth_channel(alloc, records.next_channel())?;
+    records.add_channel(port.clone()?, id, end)?;
     Ok(records)
 }
 
@@ -82,7 +85,7 @@ fn channels_come(rt: HostRuntime) -> Result<(), Fail> {
     let port = PortId::parse(alloc, "note")?;
     let id = ChannelId::parse(alloc, "channel-0")?;
     let other = PortId::parse(alloc, "transfer")?;
-    let records = with_channel(alloc, &port, &id)?;
+    let records = with_channel(alloc, &port)?;
     assert_eq!(rt; records.next_channel(), 1);
     assert!(rt; records.channel(&other, &id)?.is_none());
     let one: &[u8] = &[0, 0, 0, 0, 0, 0, 0, 1];
@@ -112,7 +115,7 @@ fn channels_open(rt: HostRuntime) -> Result<(), Fail> {
     let alloc = rt.alloc();
     let port = PortId::parse(alloc, "note")?;
     let id = ChannelId::parse(alloc, "channel-0")?;
-    let mut records = with_channel(alloc, &port, &id)?;
+    let mut records = with_channel(alloc, &port)?;
     let end = end_to(alloc, Some(id.clone()?))?;
     records.set_channel_end(port.clone()?, id.clone()?, end)?;
     let channel = records.channel(&port, &id)?.ok_or("a channel")?;

@@ -3,6 +3,7 @@
 ghost use Rattle.std.specs.Prelude.{◌≡◌, ◌-◌, ◌^◌, ◌<◌, IfSome, IsNone, IsSome, IfOk, IfErr, OnOk, OnErr, option_copied};
 ghost use Rattle.ibc_ids.specs.Texts.{pair_cmp};
 ghost use Rattle.ibc_ids.specs.Maps.{at, with};
+ghost use Rattle.ibc_ids.specs.Paths.{nth_channel};
 ghost use Rattle.ibc_ids.specs.declared.refusal.Refusal.TheVariants.{NoMemory, UnknownChannel};
 ghost use Rattle.ibc_records.specs.Held.{AddsChannel, SetsChannelEnd, IsUnchanged};
 
@@ -31,15 +32,17 @@ impl Records {
         self.next_channel
     }
 
-    /// Adds a channel with this end under a port and an identifier, its three counters at 1, and counts the next one
-    /// (ICS 4, "chanOpenInit" and "chanOpenTry"). `NoMemory` where a growth is refused; the records are then as before.
+    /// Adds a channel with this end under a port and the next identifier, its three counters at 1 and without packets, and
+    /// counts the next one (ICS 4, "chanOpenInit" and "chanOpenTry"). `NoMemory` where a growth is refused; the records
+    /// are then as before.
     pub fn add_channel(
         &mut self,
         port: PortId,
         id: ChannelId,
         end: ChannelEnd,
     ) -> Result<(), Refusal>
-        requires { self.old.next_channel < 2 ^ 64 - 1 }
+        requires room { self.old.next_channel < 2 ^ 64 - 1 }
+        requires next { id ≡ nth_channel self.old.next_channel }
         ensures ok { OnOk result (AddsChannel self.old port id end self.new) }
         ensures err { IfErr result (λ refusal. refusal ≡ NoMemory) }
         ensures unchanged { OnErr result (IsUnchanged self.old self.new) }
@@ -48,7 +51,8 @@ impl Records {
         let next = self.next_channel + 1;
         let (number_path, number) = counter(self.alloc, &Key::NextChannelSequence, next)?;
         self.store.reserve(5)?;
-        self.channels.insert((port, id), Channel::new(end))?;
+        self.channels
+            .insert((port, id), Channel::new(self.alloc, end))?;
         self.next_channel = next;
         set_entries(&mut self.store, entries);
         set_reserved(&mut self.store, number_path, number);

@@ -1,0 +1,61 @@
+-- The store is again the image of the core, in which the channel has the commitment.
+use Rattle.std.proofs.Common.{◌≡◌, ◌+◌, ◌-◌, ◌^◌, ◌<◌, arith, sym, ap, ◌∙◌, Some}
+use Rattle.ibc_ids.specs.Texts.{pair_cmp}
+use Rattle.ibc_ids.specs.Maps.{at, with}
+use Rattle.ibc_ids.specs.Paths.{path}
+use Rattle.ibc_ids.specs.declared.key.Key.TheVariants as key
+use Rattle.ibc_machine.specs.Records.{Channel}
+use Rattle.ibc_machine.specs.Packets.{after_send}
+use Rattle.ibc_machine.specs.Values.{value_bytes, NumberIs}
+use Rattle.ibc_records.specs.Held.{HeldRecords}
+use Rattle.ibc_records.proofs.Channels.{roomy}
+use Rattle.ibc_records.proofs.PacketSteps.{sends, where_found, found, asked, not_missing, written_at}
+use Rattle.ibc_records.proofs.records.Records.send.Goals as goal
+
+pub returns-in-None-clause-err : goal.returns-in-None-clause-err
+returns-in-None-clause-err c =
+    let old : HeldRecords = record { clients = c.self.inside.clients.entries; connections = c.self.inside.connections.entries; channels = c.self.inside.channels.entries; next_client = c.self.inside.next_client; next_connection = c.self.inside.next_connection; next_channel = c.self.inside.next_channel; store = c.self.inside.store } in
+    absurd (not_missing old c.args.self.now c.in_ok-name.name c.args.port.now c.args.id.now c.self.view_is c.in_ok-name.ensures.ok (λ (mine : Channel). mine.next_send < 2 ^ 64 - 1) c.requires (sym c.in-None.ensures.value))
+
+pub overflow_add-next : goal.overflow_add-next
+overflow_add-next c =
+    let old : HeldRecords = record { clients = c.self.inside.clients.entries; connections = c.self.inside.connections.entries; channels = c.self.inside.channels.entries; next_client = c.self.inside.next_client; next_connection = c.self.inside.next_connection; next_channel = c.self.inside.next_channel; store = c.self.inside.store } in
+    let below = asked old c.args.self.now c.in_ok-name.name c.args.port.now c.args.id.now c.self.view_is c.in_ok-name.ensures.ok (λ (mine : Channel). mine.next_send < 2 ^ 64 - 1) c.in-Some.channel.now c.requires (sym c.in-Some.ensures.value) in
+    omega (arith, below, c.next_send-sequence.ensures)
+
+pub invariant_of-self-in_err-send_on : goal.invariant_of-self-in_err-send_on
+invariant_of-self-in_err-send_on c =
+    let old : HeldRecords = record { clients = c.self.inside.clients.entries; connections = c.self.inside.connections.entries; channels = c.self.inside.channels.entries; next_client = c.self.inside.next_client; next_connection = c.self.inside.next_connection; next_channel = c.self.inside.next_channel; store = c.self.inside.store } in
+    roomy old c.send_on.new.channels.entries c.reserve.new.self c.self.invariant c.in_err-send_on.ensures.unchanged c.in_ok-reserve.ensures.same
+
+pub invariant_of-self-2 : goal.invariant_of-self-2
+invariant_of-self-2 c =
+    let old : HeldRecords = record { clients = c.self.inside.clients.entries; connections = c.self.inside.connections.entries; channels = c.self.inside.channels.entries; next_client = c.self.inside.next_client; next_connection = c.self.inside.next_connection; next_channel = c.self.inside.next_channel; store = c.self.inside.store } in
+    let mine : Channel = c.in-Some.channel.now in
+    let there : at pair_cmp c.in_ok-name.name old.channels ≡ Some mine = sym c.in-Some.ensures.value in
+    let below = asked old c.args.self.now c.in_ok-name.name c.args.port.now c.args.id.now c.self.view_is c.in_ok-name.ensures.ok (λ (mine : Channel). mine.next_send < 2 ^ 64 - 1) mine c.requires there in
+    let fits : mine.next_send < 2 ^ 64 = omega (arith, below) in
+    let entries = where_found (at pair_cmp c.in_ok-name.name old.channels) (λ (x : Channel). c.send_on.new.channels.entries ≡ with pair_cmp c.in_ok-name.name (after_send c.args.commitment x) old.channels) mine there c.in_ok-send_on.ensures.ok in
+    (sends old c.in_ok-name.name.0 c.in_ok-name.name.1 mine c.send_on.new.channels.entries c.self.invariant c.packet_path.ensures.named there c.args.commitment c.reserve.new.self c.set_reserved.new.store c.set_reserved-2.new.store
+    fits entries (c.in_ok-path.ensures.ok ∙ ap (λ n. path (key.Commitment c.in_ok-name.name.0 c.in_ok-name.name.1 n)) c.next_send-sequence.ensures) c.in_ok-value.ensures.ok
+    c.in_ok-next_path.ensures.path (c.in_ok-next_path.ensures.number ∙ ap (λ n. value_bytes (NumberIs (n + 1))) c.next_send-sequence.ensures)
+    c.in_ok-reserve.ensures.same c.set_reserved.ensures.set c.set_reserved-2.ensures.set).0
+
+pub returns-clause-ok : goal.returns-clause-ok
+returns-clause-ok c =
+    let old : HeldRecords = record { clients = c.self.inside.clients.entries; connections = c.self.inside.connections.entries; channels = c.self.inside.channels.entries; next_client = c.self.inside.next_client; next_connection = c.self.inside.next_connection; next_channel = c.self.inside.next_channel; store = c.self.inside.store } in
+    let mine : Channel = c.in-Some.channel.now in
+    let there : at pair_cmp c.in_ok-name.name old.channels ≡ Some mine = sym c.in-Some.ensures.value in
+    let below = asked old c.args.self.now c.in_ok-name.name c.args.port.now c.args.id.now c.self.view_is c.in_ok-name.ensures.ok (λ (mine : Channel). mine.next_send < 2 ^ 64 - 1) mine c.requires there in
+    let fits : mine.next_send < 2 ^ 64 = omega (arith, below) in
+    let entries = where_found (at pair_cmp c.in_ok-name.name old.channels) (λ (x : Channel). c.send_on.new.channels.entries ≡ with pair_cmp c.in_ok-name.name (after_send c.args.commitment x) old.channels) mine there c.in_ok-send_on.ensures.ok in
+    let written = (sends old c.in_ok-name.name.0 c.in_ok-name.name.1 mine c.send_on.new.channels.entries c.self.invariant c.packet_path.ensures.named there c.args.commitment c.reserve.new.self c.set_reserved.new.store c.set_reserved-2.new.store
+    fits entries (c.in_ok-path.ensures.ok ∙ ap (λ n. path (key.Commitment c.in_ok-name.name.0 c.in_ok-name.name.1 n)) c.next_send-sequence.ensures) c.in_ok-value.ensures.ok
+    c.in_ok-next_path.ensures.path (c.in_ok-next_path.ensures.number ∙ ap (λ n. value_bytes (NumberIs (n + 1))) c.next_send-sequence.ensures)
+    c.in_ok-reserve.ensures.same c.set_reserved.ensures.set c.set_reserved-2.ensures.set).1 in
+    record {
+      mine = mine;
+      stood = found old c.args.self.now c.in_ok-name.name c.args.port.now c.args.id.now c.self.view_is c.in_ok-name.ensures.ok mine there;
+      sequence = c.next_send-sequence.ensures;
+      written = written_at old c.args.self.now c.in_ok-name.name c.args.port.now c.args.id.now c.self.view_is c.in_ok-name.ensures.ok (after_send c.args.commitment mine) _ written;
+    }

@@ -1,0 +1,25 @@
+//! What is committed of a packet.
+
+use ibc_ids::Bytes;
+use std::marker::Model;
+
+/// What is committed of a packet that was sent (ICS 4, "Packet commitment"): its payload and its two timeouts, a height
+/// and a time of the receiving chain, each 0 where there is none.
+#[derive(Drop, Debug)]
+pub struct Commitment {
+    pub payload: Bytes,
+    pub timeout_height: u64,
+    pub timeout_time: u64,
+}
+
+impl Model for Commitment {
+    ghost use Rattle.ibc_machine.specs.Records.{Commitment as PlainCommitment};
+
+    ghost Value = { PlainCommitment };
+
+    ghost view = { λ commitment. record {
+      payload = commitment.payload;
+      timeout_height = commitment.timeout_height;
+      timeout_time = commitment.timeout_time;
+    } };
+}

@@ -1,0 +1,86 @@
+//! What stands at a channel's paths once a packet is received, acknowledged or timed out, beside the packet's own records.
+
+ghost use Rattle.std.specs.Prelude.{◌≡◌, ◌-◌, ◌^◌, ◌<◌, true, IfOk, IfErr, option_map, string_bytes};
+ghost use Rattle.ibc_ids.specs.Texts.{text_cmp};
+ghost use Rattle.ibc_ids.specs.Maps.{without};
+ghost use Rattle.ibc_ids.specs.declared.refusal.Refusal.TheVariants.{NoMemory};
+ghost use Rattle.ibc_machine.specs.Packets.{is_ordered};
+ghost use Rattle.ibc_machine.specs.Values.{value_bytes};
+ghost use Rattle.ibc_machine.proofs.PacketChanges.{received, acknowledged, timed_out, entry_of};
+ghost use Rattle.ibc_records.specs.Entries.{with_entry};
+
+use crate::channel::Channel;
+use crate::packet_values::{channel_counter, packet_path};
+use crate::values::{channel_path, channel_value, set_reserved};
+use ibc_ids::{Bytes, ChannelId, PortId, Refusal};
+use ibc_path_store::Store;
+use ibc_wire::ChannelState;
+use std::alloc::Global;
+
+/// The counter of an ordered channel that receives a packet, or the packet's receipt on another. Refused: `NoMemory`.
+pub fn received_entry(
+    alloc: Global,
+    port: &PortId,
+    id: &ChannelId,
+    channel: &Channel,
+    sequence: u64,
+) -> Result<(String, Bytes), Refusal>
+    requires { is_ordered channel.now ≡ true → channel.now.next_recv < 2 ^ 64 - 1 }
+    ensures ok { IfOk result (λ entry. (string_bytes entry.0, entry.1) ≡ entry_of port.now id.now (received sequence channel.now)) }
+    ensures err { IfErr result (λ refusal. refusal ≡ NoMemory) }
+{
+    if channel.is_ordered() {
+        channel_counter(alloc, "nextSequenceRecv", port, id, channel.next_recv() + 1)
+    } else {
+        let path = packet_path(alloc, "receipts", port, id, sequence)?;
+        Ok((path, Bytes::copy_of(alloc, &[1])?))
+    }
+}
+
+/// The counter of an ordered channel whose packet is acknowledged. Refused: `NoMemory`.
+pub fn acknowledged_entry(
+    alloc: Global,
+    port: &PortId,
+    id: &ChannelId,
+    channel: &Channel,
+) -> Result<Option<(String, Bytes)>, Refusal>
+    requires { is_ordered channel.now ≡ true → channel.now.next_ack < 2 ^ 64 - 1 }
+    ensures ok { IfOk result (λ found. option_map (λ entry. (string_bytes entry.0, entry.1)) found ≡ option_map (entry_of port.now id.now) (acknowledged channel.now)) }
+    ensures err { IfErr result (λ refusal. refusal ≡ NoMemory) }
+{
+    if !channel.is_ordered() {
+        return Ok(None);
+    }
+    let entry = channel_counter(alloc, "nextSequenceAck", port, id, channel.next_ack() + 1)?;
+    Ok(Some(entry))
+}
+
+/// The end of an ordered channel whose packet is timed out: it is closed. Refused: `NoMemory`.
+pub fn closed_entry(
+    alloc: Global,
+    port: &PortId,
+    id: &ChannelId,
+    channel: &Channel,
+) -> Result<Option<(String, Bytes)>, Refusal>
+    ensures ok { IfOk result (λ found. option_map (λ entry. (string_bytes entry.0, entry.1)) found ≡ option_map (entry_of port.now id.now) (timed_out channel.now)) }
+    ensures err { IfErr result (λ refusal. refusal ≡ NoMemory) }
+{
+    if !channel.is_ordered() {
+        return Ok(None);
+    }
+    let path = channel_path(alloc, "channelEnds", port, id)?;
+    let mut end = channel.end().clone()?;
+    end.state = ChannelState::Closed;
+    Ok(Some((path, channel_value(alloc, &end)?)))
+}
+
+/// Removes the path of a settled packet's commitment, and sets the other path, for which there is room.
+pub fn settle(store: &mut Store, commitment: &str, other: Option<(String, Bytes)>)
+    requires { 0 < store.old.room }
+    ensures { store.new ≡ record store.old { pairs = with_entry (option_map (λ entry. (string_bytes entry.0, entry.1)) other) (without text_cmp commitment.now store.old.pairs); room = store.new.room } }
+{
+    store.remove(commitment);
+    if let Some((path, value)) = other {
+        set_reserved(store, path, value);
+    }
+}

@@ -1,0 +1,223 @@
+//! The packets of a chain's channels.
+
+ghost use Rattle.std.specs.Prelude.{◌≡◌, ◌⊎◌, ◌-◌, ◌^◌, ◌<◌, ◌≤◌, true, Err, IsTrue, IsSome, IfSome, IfOk, IfErr, OnOk, OnErr};
+ghost use Rattle.std.specs.FinMap.{is_sorted};
+ghost use Rattle.std.specs.Option.{IsSomeAnd};
+ghost use Rattle.std.specs.Ordering.{nat_cmp};
+ghost use Rattle.ibc_ids.specs.Texts.{pair_cmp};
+ghost use Rattle.ibc_ids.specs.Maps.{at, with};
+ghost use Rattle.ibc_ids.specs.declared.refusal.Refusal.TheVariants.{NoMemory};
+ghost use Rattle.ibc_machine.specs.Records.{channel_at};
+ghost use Rattle.ibc_machine.specs.Packets.{is_ordered, after_send, after_receive, after_ack, after_timeout};
+ghost use Rattle.ibc_machine.specs.Values.{value_bytes, AckIs};
+ghost use Rattle.ibc_records.specs.Held.{core_of, IsUnchanged};
+ghost use Rattle.ibc_records.specs.Packets.{SendsPacket, ReceivesPacket, AcknowledgesPacket, TimesOutPacket};
+
+use crate::Records;
+use crate::acknowledgement::{AckCopies, AckRoom};
+use crate::channel::Channel;
+use crate::commitment::Commitment;
+use crate::packet_entries::{acknowledged_entry, closed_entry, received_entry, settle};
+use crate::packet_values::{channel_counter, commitment_value, packet_path};
+use crate::values::set_reserved;
+use ibc_app_port::App;
+use ibc_ids::{Bytes, ChannelId, PortId, Refusal};
+use ibc_wire::Packet;
+use std::collections::BTreeMap;
+
+impl Records {
+    /// Commits to a packet under the next sequence of a channel, and answers it (ICS 4, "sendPacket"). `NoMemory` where a
+    /// growth is refused; the records are then as before.
+    pub fn send(
+        &mut self,
+        port: &PortId,
+        id: &ChannelId,
+        commitment: Commitment,
+    ) -> Result<u64, Refusal>
+        requires { IsSomeAnd (channel_at (core_of self.old) port.now id.now) (λ mine. mine.next_send < 2 ^ 64 - 1) }
+        ensures ok { IfOk result (λ n. SendsPacket self.old port.now id.now commitment n self.new) }
+        ensures err { IfErr result (λ refusal. refusal ≡ NoMemory) }
+        ensures unchanged { OnErr result (IsUnchanged self.old self.new) }
+    {
+        let name = name_of(port, id)?;
+        let sequence = match self.channels.get(&name) {
+            Some(channel) => channel.next_send(),
+            None => return Err(Refusal::UnknownChannel),
+        };
+        let path = packet_path(self.alloc, "commitments", &name.0, &name.1, sequence)?;
+        let value = commitment_value(self.alloc, &commitment)?;
+        let next = sequence + 1;
+        let (next_path, next) = channel_counter(
+            self.alloc,
+            "nextSequenceSend",
+            &name.0,
+            &name.1,
+            next,
+        )?;
+        self.store.reserve(2)?;
+        send_on(&mut self.channels, &name, commitment)?;
+        set_reserved(&mut self.store, path, value);
+        set_reserved(&mut self.store, next_path, next);
+        Ok(sequence)
+    }
+
+    /// Hands a packet to the application of its channel, and writes the acknowledgement, which it answers twice, to be
+    /// told and to be kept (ICS 4, "recvPacket"). `NoMemory` where a growth is refused; the records and the application
+    /// are then as before.
+    pub fn receive<A: App>(
+        &mut self,
+        app: &mut A,
+        packet: &Packet,
+    ) -> Result<(Bytes, Bytes), Refusal>
+        requires { IsSomeAnd (channel_at (core_of self.old) packet.now.destination_port packet.now.destination_channel) (λ mine. is_ordered mine ≡ true → mine.next_recv < 2 ^ 64 - 1) }
+        ensures ok { IfOk result (λ acks. ReceivesPacket A.receives self.old app.old packet.now acks.0 self.new app.new) }
+        ensures copy { IfOk result (λ acks. acks.1 ≡ acks.0) }
+        ensures err { IfErr result (λ refusal. refusal ≡ NoMemory) }
+        ensures unchanged { OnErr result (IsUnchanged self.old self.new × (app.new ≡ app.old)) }
+    {
+        let name = name_of(&packet.destination_port, &packet.destination_channel)?;
+        let Some(channel) = self.channels.get(&name) else {
+            return Err(Refusal::UnknownChannel);
+        };
+        let (other_path, other) = received_entry(
+            self.alloc,
+            &name.0,
+            &name.1,
+            channel,
+            packet.sequence,
+        )?;
+        let path = packet_path(self.alloc, "acks", &name.0, &name.1, packet.sequence)?;
+        let room = AckRoom::new(self.alloc)?;
+        self.store.reserve(2)?;
+        let acks = receive_on(&mut self.channels, &name, app, packet, room)?;
+        set_reserved(&mut self.store, path, acks.value);
+        set_reserved(&mut self.store, other_path, other);
+        Ok((acks.reply, acks.copy))
+    }
+
+    /// Tells the application the acknowledgement of a packet that its channel sent, and removes the packet's commitment
+    /// (ICS 4, "acknowledgePacket"). What the application refuses; `NoMemory` where a growth is refused. The records and
+    /// the application are then as before.
+    pub fn acknowledge<A: App>(
+        &mut self,
+        app: &mut A,
+        packet: &Packet,
+        ack: &[u8],
+    ) -> Result<(), Refusal>
+        requires { IsSomeAnd (channel_at (core_of self.old) packet.now.source_port packet.now.source_channel) (λ mine. is_ordered mine ≡ true → mine.next_ack < 2 ^ 64 - 1) }
+        ensures ok { OnOk result (AcknowledgesPacket A.is_acknowledged self.old app.old packet.now ack.now self.new app.new) }
+        ensures err { IfErr result (λ refusal. (refusal ≡ NoMemory) ⊎ IfSome (channel_at (core_of self.old) packet.now.source_port packet.now.source_channel) (λ mine. A.is_acknowledged app.old mine.end.version packet.now ack.now ≡ Err refusal)) }
+        ensures unchanged { OnErr result (IsUnchanged self.old self.new × (app.new ≡ app.old)) }
+    {
+        let name = name_of(&packet.source_port, &packet.source_channel)?;
+        let Some(channel) = self.channels.get(&name) else {
+            return Err(Refusal::UnknownChannel);
+        };
+        let path = packet_path(self.alloc, "commitments", &name.0, &name.1, packet.sequence)?;
+        let counter = acknowledged_entry(self.alloc, &name.0, &name.1, channel)?;
+        self.store.reserve(1)?;
+        app.on_ack(&channel.end().version, packet, ack)?;
+        acknowledge_on(&mut self.channels, &name, packet.sequence);
+        settle(&mut self.store, path.as_str(), counter);
+        Ok(())
+    }
+
+    /// Tells the application that a packet that its channel sent won't be received any more, and removes the packet's
+    /// commitment; an ordered channel is closed (ICS 4, "timeoutPacket" and "timeoutOnClose"). What the application
+    /// refuses; `NoMemory` where a growth is refused. The records and the application are then as before.
+    pub fn time_out<A: App>(&mut self, app: &mut A, packet: &Packet) -> Result<(), Refusal>
+        requires { IsSome (channel_at (core_of self.old) packet.now.source_port packet.now.source_channel) }
+        ensures ok { OnOk result (TimesOutPacket A.times_out self.old app.old packet.now self.new app.new) }
+        ensures err { IfErr result (λ refusal. (refusal ≡ NoMemory) ⊎ IfSome (channel_at (core_of self.old) packet.now.source_port packet.now.source_channel) (λ mine. A.times_out app.old mine.end.version packet.now ≡ Err refusal)) }
+        ensures unchanged { OnErr result (IsUnchanged self.old self.new × (app.new ≡ app.old)) }
+    {
+        let name = name_of(&packet.source_port, &packet.source_channel)?;
+        let Some(channel) = self.channels.get(&name) else {
+            return Err(Refusal::UnknownChannel);
+        };
+        let path = packet_path(self.alloc, "commitments", &name.0, &name.1, packet.sequence)?;
+        let closed = closed_entry(self.alloc, &name.0, &name.1, channel)?;
+        self.store.reserve(1)?;
+        app.on_timeout(&channel.end().version, packet)?;
+        time_out_on(&mut self.channels, &name, packet.sequence);
+        settle(&mut self.store, path.as_str(), closed);
+        Ok(())
+    }
+}
+
+// The name of an end of a channel.
+fn name_of(port: &PortId, id: &ChannelId) -> Result<(PortId, ChannelId), Refusal>
+    ensures ok { IfOk result (λ name. name ≡ (port.now, id.now)) }
+    ensures err { IfErr result (λ refusal. refusal ≡ NoMemory) }
+{
+    Ok((port.clone()?, id.clone()?))
+}
+
+// A channel that is there commits to a packet.
+fn send_on(
+    channels: &mut BTreeMap<(PortId, ChannelId), Channel>,
+    name: &(PortId, ChannelId),
+    commitment: Commitment,
+) -> Result<(), Refusal>
+    requires { IsSomeAnd (at pair_cmp name.now channels.old.entries) (λ mine. mine.next_send < 2 ^ 64 - 1) }
+    ensures ok { OnOk result (IfSome (at pair_cmp name.now channels.old.entries) (λ mine. channels.new.entries ≡ with pair_cmp name.now (after_send commitment mine) channels.old.entries)) }
+    ensures err { IfErr result (λ refusal. refusal ≡ NoMemory) }
+    ensures unchanged { OnErr result (channels.new.entries ≡ channels.old.entries) }
+{
+    match channels.get_mut(name) {
+        Some(channel) => channel.send(commitment),
+        None => Err(Refusal::UnknownChannel),
+    }
+}
+
+// A channel that is there receives a packet.
+fn receive_on<A: App>(
+    channels: &mut BTreeMap<(PortId, ChannelId), Channel>,
+    name: &(PortId, ChannelId),
+    app: &mut A,
+    packet: &Packet,
+    room: AckRoom,
+) -> Result<AckCopies, Refusal>
+    requires some { IsSomeAnd (at pair_cmp name.now channels.old.entries) (λ mine. is_ordered mine ≡ true → mine.next_recv < 2 ^ 64 - 1) }
+    requires room { 1024 ≤ room }
+    ensures answer { IfOk result (λ acks. IfSome (at pair_cmp name.now channels.old.entries) (λ mine. (acks.reply, app.new) ≡ A.receives app.old mine.end.version packet.now)) }
+    ensures copy { IfOk result (λ acks. acks.copy ≡ acks.reply) }
+    ensures value { IfOk result (λ acks. acks.value ≡ value_bytes (AckIs acks.reply)) }
+    ensures ok { IfOk result (λ acks. IfSome (at pair_cmp name.now channels.old.entries) (λ mine. channels.new.entries ≡ with pair_cmp name.now (after_receive packet.now.sequence acks.reply mine) channels.old.entries)) }
+    ensures err { IfErr result (λ refusal. refusal ≡ NoMemory) }
+    ensures unchanged { OnErr result ((channels.new.entries ≡ channels.old.entries) × (app.new ≡ app.old)) }
+{
+    match channels.get_mut(name) {
+        Some(channel) => channel.receive(app, packet, room),
+        None => Err(Refusal::UnknownChannel),
+    }
+}
+
+// A packet of a channel that is there was acknowledged.
+fn acknowledge_on(
+    channels: &mut BTreeMap<(PortId, ChannelId), Channel>,
+    name: &(PortId, ChannelId),
+    sequence: u64,
+)
+    requires { IfSome (at pair_cmp name.now channels.old.entries) (λ mine. is_ordered mine ≡ true → mine.next_ack < 2 ^ 64 - 1) }
+    ensures sorted { IfSome (at pair_cmp name.now channels.old.entries) (λ mine. IsTrue (is_sorted nat_cmp mine.commitments)) }
+    ensures ok { IfSome (at pair_cmp name.now channels.old.entries) (λ mine. channels.new.entries ≡ with pair_cmp name.now (after_ack sequence mine) channels.old.entries) }
+{
+    if let Some(channel) = channels.get_mut(name) {
+        channel.acknowledge(sequence);
+    }
+}
+
+// A packet of a channel that is there won't be received any more.
+fn time_out_on(
+    channels: &mut BTreeMap<(PortId, ChannelId), Channel>,
+    name: &(PortId, ChannelId),
+    sequence: u64,
+)
+    ensures sorted { IfSome (at pair_cmp name.now channels.old.entries) (λ mine. IsTrue (is_sorted nat_cmp mine.commitments)) }
+    ensures ok { IfSome (at pair_cmp name.now channels.old.entries) (λ mine. channels.new.entries ≡ with pair_cmp name.now (after_timeout sequence mine) channels.old.entries) }
+{
+    if let Some(channel) = channels.get_mut(name) {
+        channel.time_out(sequence);
+    }
+}
