@@ -33,25 +33,6 @@ module _ (core : Core) (id : Text) where
   unfolding go_on found
   connection_gone none = ap found none
 
-  -- the client under a connection that is there is asked
-  pub known_over : (height : ℕ) (end : ConnectionEnd) → connection_at core id ≡ Some end → require_known core (client_of core id) height ≡ require_known core end.client height
-  known_over height end there = ap (λ (o : Option ConnectionEnd). require_known core (option_map_or (λ (c : ConnectionEnd). c.client) o []) height) there
-
-  -- no client has an empty name, so that none is asked where there is no connection
-  nobody : IsKeyed core → (height : ℕ) → knows core [] height ≡ false
-  nobody keyed height = go (client_at core []) refl
-    where
-      go : (o : Option Client) → client_at core [] ≡ o → option_map_or (λ (c : Client). is_one_of c.known height) o false ≡ false
-      go None is = refl
-      go (Some c) is =
-          let empty : IsTrue (is_client []) = keyed.keyed (key.ClientState []) (ClientIs c.state) (ap (option_map (λ (client : Client). ClientIs client.state)) is) in
-          absurd (cc)
-
-  pub known_nowhere : IsKeyed core → (height : ℕ) → connection_at core id ≡ None → require_known core (client_of core id) height ≡ Err NoConsensus
-  known_nowhere keyed height gone =
-      ap (λ (o : Option ConnectionEnd). require_known core (option_map_or (λ (c : ConnectionEnd). c.client) o []) height) gone
-      ∙ ap (λ b. require b NoConsensus) (nobody keyed height)
-
 -- ---- an end of a channel
 
 module _ (core : Core) (port channel : Text) where

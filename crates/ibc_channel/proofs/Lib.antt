@@ -1,3 +1,2 @@
 pub mod Handshake
-pub mod Claimed
 pub mod Found

@@ -81,20 +81,3 @@ opened_there core m mine = counterpart core mine m.port (Some m.channel) Open
 
 abbrev pub closed_there : Core → ChanCloseConfirm → ChannelEnd → ChannelEnd
 closed_there core m mine = counterpart core mine m.port (Some m.channel) Closed
-
--- the proof shows that the peer of an own end is this end, at a height that the client under its connection knows
-abbrev pub IsPeerShown : HeldRecords → ChannelEnd → ℕ → Text → ChannelEnd → Proof → Result ⊤ Refusal → Type 0
-IsPeerShown held mine height peer_channel theirs proof result =
-    IsShown held (client_of (core_of held) mine.connection) height (has_channel mine peer_channel theirs) proof result
-
--- ---- the peer's end, as its bytes
-
--- a name's text, empty where there is none
-abbrev pub text_of : Option Text → Text
-text_of name = unwrap_or name []
-
--- the bytes of an end whose names are these texts, empty where there is none
-abbrev pub end_bytes : ChannelState → Order → Text → Text → Text → Text → Text
-end_bytes state order peer_port peer_channel connection version =
-    bytes_of
-    (u8 (channel_state_number state) ∷ u8 (order_number order) ∷ str peer_port ∷ str peer_channel ∷ str connection ∷ str version ∷ [])

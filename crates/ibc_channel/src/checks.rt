@@ -1,19 +1,16 @@
 //! Checks that several of the messages make.
 
-ghost use Rattle.std.specs.Prelude.{◌≡◌, ◌||◌, ◌-◌, ◌^◌, ◌<◌, true, Some, Ok, Err, IfOk, IfErr};
+ghost use Rattle.std.specs.Prelude.{◌≡◌, ◌||◌, ◌-◌, ◌^◌, ◌<◌, IfOk};
 ghost use Rattle.ibc_ids.specs.declared.refusal.Refusal.TheVariants.{WrongState};
-ghost use Rattle.ibc_machine.specs.Channels.{client_of};
 ghost use Rattle.ibc_machine.specs.Checks.{require};
-ghost use Rattle.ibc_machine.specs.Evidence.{require_known, require_number};
-ghost use Rattle.ibc_machine.specs.Records.{connection_at, knows};
+ghost use Rattle.ibc_machine.specs.Evidence.{require_number};
 ghost use Rattle.ibc_machine.specs.Values.{same_channel_state};
 ghost use Rattle.ibc_records.specs.Held.{core_of};
 ghost use Rattle.ibc_channel.specs.Ends.{require_connection, require_open};
 
-use ibc_client::check_known;
 use ibc_ids::{ConnectionId, Refusal};
 use ibc_records::Records;
-use ibc_wire::{ChannelEnd, ChannelState, ConnectionEnd, ConnectionState};
+use ibc_wire::{ChannelEnd, ChannelState, ConnectionState};
 
 /// There is such a connection, or else `UnknownConnection`.
 pub fn check_connection(records: &Records, connection: &ConnectionId) -> Result<(), Refusal>
@@ -62,24 +59,4 @@ pub fn check_answered_or_open(end: &ChannelEnd) -> Result<(), Refusal>
         ChannelState::TryOpen | ChannelState::Open => Ok(()),
         ChannelState::Init | ChannelState::Closed => Err(Refusal::WrongState),
     }
-}
-
-/// The connection, whose client knows the height, or else `NoConsensus`. Where there is no such connection the client of
-/// the empty name is asked, which no chain has.
-pub fn known_connection<'a>(
-    records: &'a Records,
-    connection: &ConnectionId,
-    height: u64,
-) -> Result<&'a ConnectionEnd, Refusal>
-    ensures there { IfOk result (λ end. connection_at (core_of records.now) connection.now ≡ Some end.now) }
-    ensures known { IfOk result (λ end. knows (core_of records.now) end.now.client height ≡ true) }
-    ensures passed { IfOk result (λ _. require_known (core_of records.now) (client_of (core_of records.now) connection.now) height ≡ Ok tt) }
-    ensures failed { IfErr result (λ refusal. require_known (core_of records.now) (client_of (core_of records.now) connection.now) height ≡ Err refusal) }
-{
-    records.names_are_names();
-    let Some(end) = records.connection(connection) else {
-        return Err(Refusal::NoConsensus);
-    };
-    check_known(records, &end.client, height)?;
-    Ok(end)
 }

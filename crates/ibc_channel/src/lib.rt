@@ -2,7 +2,6 @@
 #![tactic(auto)]
 
 mod checks;
-mod claims;
 mod closing_confirm;
 mod closing_init;
 mod ends;

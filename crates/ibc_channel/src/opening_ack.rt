@@ -8,12 +8,12 @@ ghost use Rattle.ibc_machine.specs.Records.{connection_at, knows};
 ghost use Rattle.ibc_records.specs.Held.{core_of};
 ghost use Rattle.ibc_records.specs.Taking.{IsHandled};
 ghost use Rattle.ibc_client.specs.Judging.{IsJudged};
-ghost use Rattle.ibc_channel.specs.Ends.{answered_there, end_at, settled, IsPeerShown};
+ghost use Rattle.ibc_client.specs.Peers.{IsPeerShown};
+ghost use Rattle.ibc_channel.specs.Ends.{answered_there, end_at, settled};
 
-use crate::checks::{check_open, check_state, known_connection};
-use crate::claims::{check_claim, claim_peer};
+use crate::checks::{check_open, check_state};
 use crate::ends::{find_end, new_end, set_end};
-use ibc_client::read_proof;
+use ibc_client::{check_claim, claim_peer, known_connection, read_proof};
 use ibc_ids::Refusal;
 use ibc_merkle::Proof;
 use ibc_records::Records;

@@ -11,13 +11,13 @@ ghost use Rattle.ibc_machine.specs.Records.{connection_at, knows};
 ghost use Rattle.ibc_records.specs.Held.{core_of};
 ghost use Rattle.ibc_records.specs.Taking.{IsHandled};
 ghost use Rattle.ibc_client.specs.Judging.{IsJudged};
-ghost use Rattle.ibc_channel.specs.Ends.{begun, begun_there, tried, IsPeerShown};
+ghost use Rattle.ibc_client.specs.Peers.{IsPeerShown};
+ghost use Rattle.ibc_channel.specs.Ends.{begun, begun_there, tried};
 
-use crate::checks::{check_connection, check_number, check_open, known_connection};
-use crate::claims::{check_claim, claim_peer};
+use crate::checks::{check_connection, check_number, check_open};
 use crate::ends::{add_channel, new_end};
 use ibc_app_port::App;
-use ibc_client::read_proof;
+use ibc_client::{check_claim, claim_peer, known_connection, read_proof};
 use ibc_ids::{ChannelId, Refusal};
 use ibc_merkle::Proof;
 use ibc_records::Records;

@@ -5,3 +5,6 @@ pub mod Claims
 pub mod Judging
 pub mod Shown
 pub mod Taking
+pub mod Connections
+pub mod Claimed
+pub mod Times

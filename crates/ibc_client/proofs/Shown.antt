@@ -1,19 +1,19 @@
 -- What a check of a proof says of the claim.
-use Rattle.std.proofs.Common.{◌≡◌, ◌⊎◌, ℕ, true, Err, inl, inr, ◌∙◌}
+use Rattle.std.proofs.Common.{◌≡◌, ◌⊎◌, ℕ, true, Err, inl, inr, ap, ◌∙◌}
 use Rattle.std.specs.Prelude.{⊤, Result}
 use Rattle.ibc_ids.specs.Texts.{Text}
 use Rattle.ibc_ids.specs.Paths.{path}
 use Rattle.ibc_ids.specs.declared.key.Key.{Key}
 use Rattle.ibc_ids.specs.declared.refusal.Refusal.{Refusal}
 use Rattle.ibc_ids.specs.declared.refusal.Refusal.TheVariants.{NoMemory}
-use Rattle.ibc_merkle.specs.Proofs.{accepts_present}
+use Rattle.ibc_merkle.specs.Proofs.{accepts_present, accepts_absent}
 use Rattle.ibc_merkle.specs.declared.proof.Proof.{Proof}
 use Rattle.ibc_machine.specs.Records.{knows}
-use Rattle.ibc_machine.specs.Values.{Value, has, value_bytes}
+use Rattle.ibc_machine.specs.Values.{Value, has, lacks, value_bytes}
 use Rattle.ibc_records.specs.Held.{HeldRecords, core_of}
 use Rattle.ibc_client.specs.Claims.{shown}
 use Rattle.ibc_client.specs.Judging.{IsShown}
-use Rattle.ibc_client.proofs.Claims.{shown_present}
+use Rattle.ibc_client.proofs.Claims.{shown_present, shown_absent}
 
 module _ (held : HeldRecords) (client : Text) (height : ℕ) (knowing : knows (core_of held) client height ≡ true) (key : Key) (value : Value) (proof : Proof) where
   -- the value's bytes were looked for at the key's path
@@ -24,3 +24,12 @@ module _ (held : HeldRecords) (client : Text) (height : ℕ) (knowing : knows (c
   is_shown result same valued (inr checked) seen state spelled knowledge reads =
       inr (checked ∙ (λ i. shown held client height (λ root. accepts_present proof root (same i) (valued i)))
       ∙ shown_present held state seen client height key value spelled proof knowledge knowing reads)
+
+-- nothing was looked for at the key's path
+pub is_shown_absent : (held : HeldRecords) (client : Text) (height : ℕ) → knows (core_of held) client height ≡ true → (key : Key) (proof : Proof) (result : Result ⊤ Refusal) {text : Text} → text ≡ path key
+    → (result ≡ Err NoMemory) ⊎ (result ≡ shown held client height (λ root. accepts_absent proof root text))
+    → IsShown held client height (lacks key) proof result
+is_shown_absent held client height knowing key proof result same (inl memory) seen state spelled knowledge reads = inl memory
+is_shown_absent held client height knowing key proof result same (inr checked) seen state spelled knowledge reads =
+    inr (checked ∙ ap (λ text. shown held client height (λ root. accepts_absent proof root text)) same
+    ∙ shown_absent held state seen client height key spelled proof knowledge knowing reads)

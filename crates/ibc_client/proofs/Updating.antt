@@ -15,6 +15,7 @@ use Rattle.ibc_machine.specs.declared.reply.Effect.TheVariants as effect
 use Rattle.ibc_machine.specs.Records.{Core, Client, client_at, with_client}
 use Rattle.ibc_machine.specs.Checks.{Checked, require, expect, go_on, and_then, ◌>>=◌, ◌>>◌}
 use Rattle.ibc_machine.specs.Evidence.{Evidence, require_row}
+use Rattle.ibc_machine.proofs.PassedChecks.{grouped}
 use Rattle.ibc_machine.specs.Clients.{update_client, updated, is_of_client}
 use Rattle.ibc_machine.specs.Replay.{LedgerState, proves, row_read}
 use Rattle.ibc_records.specs.HeldClients.{HeldClient, plain_client}
@@ -37,11 +38,6 @@ passed_first : {B : Type 0} (x : Checked ⊤) (rest : Checked B) {t : ⊤} → x
 unfolding and_then
 passed_first (Ok t) rest e = refl
 passed_first (Err s) rest e = absurd cc
-
-grouped : {B : Type 0} (x y : Checked ⊤) (rest : Checked B) → (x >> (y >> rest)) ≡ ((x >> y) >> rest)
-unfolding and_then
-grouped (Ok t) y rest = refl
-grouped (Err r) y rest = refl
 
 untracked : {A : Type 0} (o : Option Client) (test : Client → Bool) (rest : Client → Checked A) (r : Refusal)
     → (expect o UnknownClient >>= λ (c : Client). require (test c) WrongHeader) ≡ Err r → (expect o UnknownClient >>= λ (c : Client). (require (test c) WrongHeader >> rest c)) ≡ Err r

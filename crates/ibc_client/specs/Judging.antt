@@ -6,15 +6,14 @@ use Rattle.ibc_ids.specs.declared.refusal.Refusal.{Refusal}
 use Rattle.ibc_ids.specs.declared.refusal.Refusal.TheVariants.{NoMemory, UnknownClient}
 use Rattle.ibc_merkle.specs.declared.proof.Proof.{Proof}
 use Rattle.ibc_wire.specs.Reading.{proof_of}
-use Rattle.ibc_machine.specs.declared.reply.Effect.{Effect}
 use Rattle.ibc_machine.specs.Records.{Core, Client, client_at}
 use Rattle.ibc_machine.specs.Checks.{Checked, expect, ◌>>=◌}
 use Rattle.ibc_machine.specs.Values.{Claim}
-use Rattle.ibc_machine.specs.Evidence.{require_proof}
+use Rattle.ibc_machine.specs.Evidence.{Host, Evidence, require_proof}
 use Rattle.ibc_machine.specs.Replay.{LedgerState, proves}
 use Rattle.ibc_records.specs.Held.{HeldRecords, core_of}
 use Rattle.ibc_records.specs.Knowledge.{Knows}
-use Rattle.ibc_records.specs.Taking.{Handler, host_with}
+use Rattle.ibc_records.specs.Taking.{host_with}
 
 -- there is such a client
 abbrev pub require_client : Core → Text → Checked ⊤
@@ -35,8 +34,13 @@ abbrev pub IsPassed : {A B : Type 0} → Checked B → (A → B) → Result A Re
 IsPassed checked given (Ok x) = checked ≡ Ok (given x)
 IsPassed checked given (Err refusal) = (checked ≡ Err refusal) ⊎ (refusal ≡ NoMemory)
 
--- the same of a handler, by roots and proofs
-abbrev pub IsJudged : {A : Type 0} → Handler → ℕ → ℕ → HeldRecords → (A → Effect × Core) → Result A Refusal → Type 0
-IsJudged handler chain chains held given result =
+-- the same of checks of the core, by roots and proofs
+abbrev pub IsJudged : {A B : Type 0} → (Evidence → Host → Core → Checked B) → ℕ → ℕ → HeldRecords → (A → B) → Result A Refusal → Type 0
+IsJudged checks chain chains held given result =
     (seen : List Publication) (state : LedgerState) → Knows held state
-    → IsPassed (handler (proves seen None state) (host_with chain chains held) (core_of held)) given result
+    → IsPassed (checks (proves seen None state) (host_with chain chains held) (core_of held)) given result
+
+-- what the evidence of roots and proofs says
+abbrev pub IsEvident : {A : Type 0} → HeldRecords → (Evidence → A) → A → Type 0
+IsEvident held says result =
+    (seen : List Publication) (state : LedgerState) → Knows held state → result ≡ says (proves seen None state)

@@ -1,17 +1,19 @@
 //! Checks that the messages of connections, channels and packets share.
 
-ghost use Rattle.std.specs.Prelude.{◌≡◌, ◌⊎◌, ◌-◌, ◌^◌, ◌<◌, false, Some, is_some, IfOk, IfErr, IsErrOf};
+ghost use Rattle.std.specs.Prelude.{◌≡◌, ◌⊎◌, ◌-◌, ◌^◌, ◌<◌, true, false, Some, Ok, Err, is_some, IfOk, IfErr, IsErrOf};
+ghost use Rattle.ibc_machine.specs.Channels.{client_of};
 ghost use Rattle.ibc_machine.specs.Evidence.{require_known, require_number};
+ghost use Rattle.ibc_machine.specs.Records as plain;
 ghost use Rattle.ibc_wire.specs.Reading.{proof_of};
 ghost use Rattle.ibc_records.specs.Held.{core_of};
 ghost use Rattle.ibc_client.specs.Judging.{require_client};
 
 use crate::knows;
 use ibc_codec::decode;
-use ibc_ids::{ClientId, Refusal};
+use ibc_ids::{ClientId, ConnectionId, Refusal};
 use ibc_merkle::Proof;
 use ibc_records::Records;
-use ibc_wire::proofs_are_read_as_they_are_spelled;
+use ibc_wire::{ConnectionEnd, proofs_are_read_as_they_are_spelled};
 use std::alloc::Global;
 
 /// The proof that the bytes spell. Refused: `BadMessage` exactly where they spell none; `NoMemory`.
@@ -43,6 +45,26 @@ pub fn check_known(records: &Records, client: &ClientId, height: u64) -> Result<
     } else {
         Err(Refusal::NoConsensus)
     }
+}
+
+/// The connection, whose client knows the height, or else `NoConsensus`. Where there is no such connection the client of
+/// the empty name is asked, which no chain has.
+pub fn known_connection<'a>(
+    records: &'a Records,
+    connection: &ConnectionId,
+    height: u64,
+) -> Result<&'a ConnectionEnd, Refusal>
+    ensures there { IfOk result (λ end. plain.connection_at (core_of records.now) connection.now ≡ Some end.now) }
+    ensures known { IfOk result (λ end. plain.knows (core_of records.now) end.now.client height ≡ true) }
+    ensures passed { IfOk result (λ _. require_known (core_of records.now) (client_of (core_of records.now) connection.now) height ≡ Ok tt) }
+    ensures failed { IfErr result (λ refusal. require_known (core_of records.now) (client_of (core_of records.now) connection.now) height ≡ Err refusal) }
+{
+    records.names_are_names();
+    let Some(end) = records.connection(connection) else {
+        return Err(Refusal::NoConsensus);
+    };
+    check_known(records, &end.client, height)?;
+    Ok(end)
 }
 
 /// A number that counts up isn't the last, or else `NumberFull`.

@@ -4,12 +4,14 @@
 mod create_client;
 mod evidence;
 mod header_check;
+mod peers;
 mod proof_check;
 mod update_client;
 
 pub use create_client::create;
-pub use evidence::{check_client, check_known, check_number, read_proof};
-pub use proof_check::{check_absent, check_path, check_present, knows};
+pub use evidence::{check_client, check_known, check_number, known_connection, read_proof};
+pub use peers::{Claim, check_claim, claim_peer, name_or_none};
+pub use proof_check::{check_absent, check_path, check_present, known_time, knows};
 pub use update_client::{Updated, update};
 
 #[cfg(test)]

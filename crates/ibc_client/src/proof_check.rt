@@ -1,12 +1,12 @@
 //! What a client shows of the chain that it tracks.
 
-ghost use Rattle.std.specs.Prelude.{◌≡◌, ◌⊎◌};
+ghost use Rattle.std.specs.Prelude.{◌≡◌, ◌⊎◌, option_map};
 ghost use Rattle.ibc_ids.specs.Paths.{path};
 ghost use Rattle.ibc_ids.specs.declared.refusal.Refusal.TheVariants.{NoMemory, BadProof};
 ghost use Rattle.ibc_merkle.specs.Proofs.{accepts_present, accepts_absent};
 ghost use Rattle.ibc_machine.specs.Checks.{require};
 ghost use Rattle.ibc_machine.specs.Records as plain;
-ghost use Rattle.ibc_records.specs.Held.{core_of};
+ghost use Rattle.ibc_records.specs.Held.{core_of, consensus_in};
 ghost use Rattle.ibc_client.specs.Claims.{shown, IsKnown};
 
 use ibc_ics23_proof::{verify_absent, verify_present};
@@ -74,6 +74,14 @@ pub fn knows(records: &Records, client: &ClientId, height: u64) -> bool
         Some(found) => found.consensus_state(height).is_some(),
         None => false,
     }
+}
+
+/// The time of a height that a client knows, or none (ICS 2, "Consensus state").
+pub fn known_time(records: &Records, client: &ClientId, height: u64) -> Option<u64>
+    ensures { result ≡ option_map (λ known. known.time) (consensus_in records.now client.now height) }
+{
+    let known = records.client(client)?.consensus_state(height)?;
+    Some(known.time)
 }
 
 // What a client knows of a height.

@@ -1,6 +1,6 @@
 //! The notes of one channel.
 
-ghost use Rattle.std.specs.Prelude.{◌≡◌, [], ◌∷◌, ◌++◌, OnOk, OnErr};
+ghost use Rattle.std.specs.Prelude.{◌≡◌, [], ◌∷◌, ◌++◌, IfOk, OnOk, OnErr};
 
 use ibc_ids::Bytes;
 use std::alloc::{AllocError, Global};
@@ -43,5 +43,12 @@ impl NoteList {
         ensures { result.now ≡ self.now }
     {
         self.items.as_slice()
+    }
+
+    /// A copy of the notes.
+    pub fn to_vec(&self) -> Result<Vec<Bytes>, AllocError>
+        ensures { IfOk result (λ copy. copy.items ≡ self.now) }
+    {
+        self.items.clone()
     }
 }

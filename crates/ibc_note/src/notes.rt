@@ -1,18 +1,19 @@
 //! The notes of a chain, as the application of port `note`.
 
-ghost use Rattle.std.specs.Prelude.{◌≡◌, codes, [], ◌∷◌, ◌++◌, List, Ok, OnOk, OnErr, IfErr};
+ghost use Rattle.std.specs.Prelude.{◌≡◌, codes, [], ◌∷◌, ◌++◌, List, map, Ok, OnOk, OnErr, IfOk, IfErr};
 ghost use Rattle.std.specs.Option.{unwrap_or};
 ghost use Rattle.ibc_ids.specs.Texts.{Text, same_text, text_cmp};
 ghost use Rattle.ibc_ids.specs.Maps.{at, with};
 ghost use Rattle.ibc_ids.specs.declared.refusal.Refusal.TheVariants.{NoMemory};
 ghost use Rattle.ibc_machine.specs.Notes.{note_port, opens_for_notes, closes_for_notes, receive_note};
 ghost use Rattle.ibc_note.specs.Laws.{notes_open_or_refuse, notes_write_sized_acks};
+ghost use Rattle.ibc_note.specs.Plain.{plain_notes};
 
 use crate::list::NoteList;
 use ibc_app_port::App;
 use ibc_ids::{Bytes, ChannelId, PortId, Refusal, Version};
 use ibc_wire::{Order, Packet};
-use std::alloc::Global;
+use std::alloc::{AllocError, Global};
 use std::collections::BTreeMap;
 use std::marker::Model;
 
@@ -52,6 +53,17 @@ impl Notes {
             Some(list) => list.as_slice(),
             None => &[],
         }
+    }
+
+    /// The notes of each channel over which one came, in the byte order of the channels' names.
+    pub fn all(&self, alloc: Global) -> Result<Vec<(ChannelId, Vec<Bytes>)>, AllocError>
+        ensures { IfOk result (λ all. map plain_notes all.items ≡ self.now) }
+    {
+        let mut all = Vec::with_capacity(alloc, self.notes.len())?;
+        for (channel, list) in &self.notes {
+            all.push((channel.clone()?, list.to_vec()?))?;
+        }
+        Ok(all)
     }
 
     // A note joins those of its channel.

@@ -12,7 +12,8 @@ use Rattle.ibc_machine.specs.Replay.{proves}
 use Rattle.ibc_machine.proofs.PassedChecks.{pass, fail}
 use Rattle.ibc_records.specs.Held.{core_of}
 use Rattle.ibc_client.proofs.Judging.{failed, passed, stops, refuses}
-use Rattle.ibc_channel.specs.Ends.{begun, begun_there, tried, IsPeerShown}
+use Rattle.ibc_client.specs.Peers.{IsPeerShown}
+use Rattle.ibc_channel.specs.Ends.{begun, begun_there, tried}
 use Rattle.ibc_channel.proofs.Handshake.{try_checks}
 use Rattle.ibc_channel.proofs.opening_try.judge_try.Goals as goal
 

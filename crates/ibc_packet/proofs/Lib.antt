@@ -1,0 +1,4 @@
+pub mod OwnEnd
+pub mod Limits
+pub mod Rows
+pub mod Taken

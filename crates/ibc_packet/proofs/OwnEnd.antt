@@ -1,0 +1,33 @@
+-- What the code finds of the own end, beside the definitions' words for it.
+use Rattle.std.proofs.Common.{◌≡◌, ◌&&◌, ℕ, true, false, eqb, Some, sym, ap, ◌∙◌, if◌then◌else◌}
+use Rattle.std.specs.Str.{bytes_eq}
+use Rattle.ibc_ids.specs.Texts.{Text, same_text}
+use Rattle.ibc_ids.specs.declared.key.Key.TheVariants as key
+use Rattle.ibc_wire.specs.declared.packet.Packet.{Packet}
+use Rattle.ibc_wire.specs.declared.records.ChannelEnd.{ChannelEnd}
+use Rattle.ibc_machine.specs.Records.{Channel, Commitment}
+use Rattle.ibc_machine.specs.Values.{NumberIs, has, lacks, same_optional, same_commitment}
+use Rattle.ibc_machine.specs.Packets.{has_peer, is_ordered, not_received}
+use Rattle.ibc_client.proofs.FoundRows.{bytes_eq-same}
+
+pub peer_named : (mine : Channel) (port channel : Text) (end : ChannelEnd) (peer : Text) → end ≡ mine.end → end.peer_channel ≡ Some peer
+    → (bytes_eq port end.peer_port && bytes_eq peer channel) ≡ has_peer mine port channel
+peer_named mine port channel end peer same named =
+    (λ i. bytes_eq-same port end.peer_port i && bytes_eq-same peer channel i)
+    ∙ (λ i. same_text port end.peer_port && same_optional (sym named i) (Some channel))
+    ∙ ap (λ (e : ChannelEnd). same_text port e.peer_port && same_optional e.peer_channel (Some channel)) same
+
+pub same_payload : (a b : Commitment) → (bytes_eq a.payload b.payload && eqb a.timeout_height b.timeout_height && eqb a.timeout_time b.timeout_time) ≡ same_commitment a b
+same_payload a b = ap (λ t. t && eqb a.timeout_height b.timeout_height && eqb a.timeout_time b.timeout_time) (bytes_eq-same a.payload b.payload)
+
+-- what the peer must show, by the order of the end
+module _ (mine : Channel) (p : Packet) (next_recv : ℕ) where
+  pub not_received_in_order : true ≡ is_ordered mine → has (key.NextSequenceRecv p.destination_port p.destination_channel) (NumberIs next_recv) ≡ not_received mine p next_recv
+  not_received_in_order ordered = λ i.
+      if ordered i then has (key.NextSequenceRecv p.destination_port p.destination_channel) (NumberIs next_recv)
+      else lacks (key.Receipt p.destination_port p.destination_channel p.sequence)
+
+  pub not_received_in_any_order : false ≡ is_ordered mine → lacks (key.Receipt p.destination_port p.destination_channel p.sequence) ≡ not_received mine p next_recv
+  not_received_in_any_order unordered = λ i.
+      if unordered i then has (key.NextSequenceRecv p.destination_port p.destination_channel) (NumberIs next_recv)
+      else lacks (key.Receipt p.destination_port p.destination_channel p.sequence)

@@ -1,0 +1,97 @@
+//! Receiving packets.
+
+ghost use Rattle.std.specs.Prelude.{◌≡◌, ◌≤◌, ℕ, true, Some, IfOk};
+ghost use Rattle.ibc_wire.specs.Reading.{proof_of};
+ghost use Rattle.ibc_machine.specs.declared.reply.Effect.TheVariants as effect;
+ghost use Rattle.ibc_machine.specs.Packets as plain;
+ghost use Rattle.ibc_machine.specs.Packets.{is_ordered, recv_checked, recv_packet};
+ghost use Rattle.ibc_machine.specs.Records.{channel_at};
+ghost use Rattle.ibc_records.specs.Held.{core_of};
+ghost use Rattle.ibc_records.specs.Taking.{host_with, IsHandledWith};
+ghost use Rattle.ibc_client.specs.Judging.{IsJudged};
+ghost use Rattle.ibc_packet.specs.Allowed.{may_receive};
+
+use crate::claims::check_sent;
+use crate::ends::{find_channel, has_peer, has_received, is_open, waits_before};
+use crate::forms::{has_form, proof_in_form};
+use crate::times::is_late;
+use ibc_app_port::App;
+use ibc_client::known_connection;
+use ibc_ids::{Bytes, Refusal};
+use ibc_merkle::Proof;
+use ibc_records::{Channel, Records};
+use ibc_wire::{Packet, RecvPacket};
+use std::alloc::Global;
+
+/// Receives a packet that the peer sent, hands it to the application of its port, and writes the acknowledgement, which it
+/// answers twice (ICS 4, "recvPacket"). Refused, by the first check that fails: `BadMessage` where the packet hasn't the
+/// form of packets, or the proof can't be read; `UnknownChannel`; `WrongState` where the end isn't in `Open`; `WrongPeer`
+/// where its peer isn't the packet's source; `TimeoutPassed` where a timeout is reached in the working block;
+/// `AlreadyReceived`; `OutOfOrder` where an ordered end receives another sequence next; `NoConsensus` where the
+/// connection's client doesn't know the height; `BadProof` where the proof doesn't show the packet's commitment. `NoMemory`
+/// where a growth is refused. A refusal leaves the records and the application.
+pub fn recv<A: App>(
+    alloc: Global,
+    records: &mut Records,
+    app: &mut A,
+    message: &RecvPacket,
+) -> Result<(Bytes, Bytes), Refusal>
+    ensures answer { (chain chains : ℕ) → IsHandledWith (λ acks. effect.Ack acks.0) (λ evidence host core. recv_packet (A.receives app.old) evidence host core message.now) chain chains records.old app.old result records.new app.new }
+    ensures copy { IfOk result (λ acks. acks.1 ≡ acks.0) }
+{
+    let form = has_form(&message.packet);
+    let proof = proof_in_form(alloc, form, message.proof.as_slice())?;
+    let judged = judge_recv(alloc, records, message, &proof);
+    drop(proof);
+    judged?;
+    records.receive(app, &message.packet)
+}
+
+// The checks, in their order, and the end that receives.
+fn judge_recv<'a>(
+    alloc: Global,
+    records: &'a Records,
+    message: &RecvPacket,
+    proof: &Proof,
+) -> Result<&'a Channel, Refusal>
+    requires form { plain.has_form message.now.packet ≡ true }
+    requires reads { proof_of message.now.proof ≡ Some proof.now }
+    ensures judged { (chain chains : ℕ) → IsJudged (λ evidence host core. recv_checked evidence host core message.now) chain chains records.now (λ mine. mine.now) result }
+    ensures there { IfOk result (λ mine. channel_at (core_of records.now) message.now.packet.destination_port message.now.packet.destination_channel ≡ Some mine.now) }
+    ensures next { IfOk result (λ mine. is_ordered mine.now ≡ true → mine.now.next_recv ≤ message.now.packet.sequence) }
+{
+    let packet = &message.packet;
+    let mine = find_channel(
+        records,
+        &packet.destination_port,
+        &packet.destination_channel,
+    )?;
+    check_receivable(records, mine, packet)?;
+    let connection = known_connection(records, &mine.end().connection, message.height)?;
+    check_sent(alloc, records, &connection.client, message, proof)?;
+    Ok(mine)
+}
+
+// The end may receive the packet in the working block.
+#[tactic(auto, unfolding(ibc_machine::specs::Checks::and_then))]
+fn check_receivable(records: &Records, mine: &Channel, packet: &Packet) -> Result<(), Refusal>
+    ensures checked { (chain chains : ℕ) → result ≡ may_receive (host_with chain chains records.now) mine.now packet.now }
+    ensures next { IfOk result (λ _. is_ordered mine.now ≡ true → mine.now.next_recv ≤ packet.now.sequence) }
+{
+    if !is_open(mine) {
+        return Err(Refusal::WrongState);
+    }
+    if !has_peer(mine, &packet.source_port, &packet.source_channel) {
+        return Err(Refusal::WrongPeer);
+    }
+    if is_late(records, packet) {
+        return Err(Refusal::TimeoutPassed);
+    }
+    if has_received(mine, packet.sequence) {
+        return Err(Refusal::AlreadyReceived);
+    }
+    if waits_before(mine, packet.sequence) {
+        return Err(Refusal::OutOfOrder);
+    }
+    Ok(())
+}
