@@ -16,13 +16,15 @@ use Rattle.ibc_machine.specs.declared.entry.Reading.{Reading}
 use Rattle.ibc_machine.specs.Clients.{create_client, update_client}
 use Rattle.ibc_machine.specs.Connections.{conn_open_init, conn_open_try, conn_open_ack, conn_open_confirm}
 use Rattle.ibc_machine.specs.Channels.{chan_open_init, chan_open_try, chan_open_ack, chan_open_confirm, chan_close_init, chan_close_confirm}
+use Rattle.ibc_machine.specs.Notes.{send_note}
 use Rattle.ibc_machine.specs.Applications.{require_application, on_open, on_close}
+use Rattle.ibc_machine.specs.Records.{Apps}
 use Rattle.ibc_machine.specs.Handlers.{handle}
 use Rattle.ibc_machine.specs.Replay.{StampedEntry, proves}
 use Rattle.ibc_machine.specs.Ledgers.{state_of, is_typed, reading_fits}
-use Rattle.ibc_records.specs.Held.{HeldRecords, core_of}
+use Rattle.ibc_records.specs.Held.{core_of}
 use Rattle.ibc_root_table.specs.declared.shape.Shape.{Shape}
-use Rattle.ibc_root_table.specs.Passes.{Sight, SamePass}
+use Rattle.ibc_root_table.specs.Passes.{SamePass}
 use Rattle.ibc_ledger.specs.declared.entry.StampedEntry.{StampedEntry as KeptEntry}
 use Rattle.ibc_ledger.specs.declared.ledger.Ledger.TheInside.{Inside}
 use Rattle.ibc_ledger.specs.Growing.{with_entry}
@@ -32,8 +34,9 @@ use Rattle.ibc_ledger.specs.Held.{HeldLedger, plain_entry}
 use Rattle.ibc_ledger.specs.Inside.{genesis_of, ledger_of, held_of, IsHeld}
 use Rattle.ibc_ledger.specs.Adding.{AddsOrNot}
 use Rattle.ibc_records.specs.Taking.{Handler}
-use Rattle.ibc_ledger.specs.Answering.{Answered, Before, IsTakenAs, IsUpdatedAs, IsUpdateAnswer, IsAnswerTo}
-use Rattle.ibc_ledger.proofs.AnsweredMessages.{IsHandledBy, stands_taken, taken_has_memory, stands_updated}
+use Rattle.ibc_records.specs.Taking.{HandlerWith}
+use Rattle.ibc_ledger.specs.Answering.{Answered, Before, After, IsTakenAs, IsBothTakenAs, IsUpdatedAs, IsUpdateAnswer, IsAnswerTo, recv_with, ack_with, timeout_with, timeout_on_close_with}
+use Rattle.ibc_ledger.proofs.AnsweredMessages.{IsHandledBy, IsBothHandledBy, stands_taken, taken_has_memory, stands_both_taken, both_taken_has_memory, stands_updated}
 use Rattle.ibc_ledger.proofs.HeldLedgers.{IsStepped, longer_history}
 
 -- an entry that a ledger adds, as its history keeps it
@@ -55,89 +58,108 @@ module _ (l : Inside) (held : IsHeld l) (new : Inside) (stepped : IsStepped l ne
 
 -- ---- the table of messages
 
--- a message is a handler's, which reads nothing, or tells a client of a height
-abbrev IsOfAKind : Message → Before → Answered → HeldRecords → Sight → Type 0
-IsOfAKind m old given new pass =
-    ((handler : Handler) × IsHandledBy m handler × IsTakenAs handler old.chain old.chains old.records given new)
-    ⊎ ((update : UpdateClient) × (m ≡ message.UpdateClient update) × IsUpdateAnswer old.table update old.records given new pass)
+-- a message is a handler's, which changes the core alone, or the core and what the applications keep; or it tells a client
+-- of a height
+module _ (m : Message) (old : Before) (given : Answered) (new : After) where
+  abbrev IsOfTheCore : Type 0
+  IsOfTheCore = (handler : Handler) × IsHandledBy m handler × IsTakenAs handler old.chain old.chains old.records given new.records × (new.apps ≡ old.apps)
 
-kind : (m : Message) (old : Before) (given : Answered) (new : HeldRecords) (pass : Sight) → IsAnswerTo m old given new pass → IsOfAKind m old given new pass
+  abbrev IsOfBoth : Type 0
+  IsOfBoth = (handler : Apps → HandlerWith Apps) × IsBothHandledBy m handler × IsBothTakenAs (handler old.apps) old.chain old.chains old.records old.apps given new.records new.apps
+
+  abbrev IsAnUpdate : Type 0
+  IsAnUpdate = (update : UpdateClient) × (m ≡ message.UpdateClient update) × IsUpdateAnswer old.table update old.records given new.records new.pass × (new.apps ≡ old.apps)
+
+  abbrev IsOfAKind : Type 0
+  IsOfAKind = IsOfTheCore ⊎ IsOfBoth ⊎ IsAnUpdate
+
+kind : (m : Message) (old : Before) (given : Answered) (new : After) → IsAnswerTo m old given new → IsOfAKind m old given new
 unfolding handle
-kind (message.CreateClient m) old given new pass answer =
-    inl ((λ evidence host core. create_client host core m), record { steps = λ evidence host records. refl; looks = λ state k. refl; tells = λ known. refl }, answer.0)
-kind (message.UpdateClient m) old given new pass answer = inr (m, refl, answer)
-kind (message.ConnOpenInit m) old given new pass answer =
-    inl ((λ evidence host core. conn_open_init core m), record { steps = λ evidence host records. refl; looks = λ state k. refl; tells = λ known. refl }, answer.0)
-kind (message.ConnOpenTry m) old given new pass answer =
-    inl ((λ evidence host core. conn_open_try evidence host core m), record { steps = λ evidence host records. refl; looks = λ state k. refl; tells = λ known. refl }, answer.0)
-kind (message.ConnOpenAck m) old given new pass answer =
-    inl ((λ evidence host core. conn_open_ack evidence host core m), record { steps = λ evidence host records. refl; looks = λ state k. refl; tells = λ known. refl }, answer.0)
-kind (message.ConnOpenConfirm m) old given new pass answer =
-    inl ((λ evidence host core. conn_open_confirm evidence core m), record { steps = λ evidence host records. refl; looks = λ state k. refl; tells = λ known. refl }, answer.0)
-kind (message.ChanOpenInit m) old given new pass answer =
-    inl ((λ evidence host core. chan_open_init (require_application m.port) (on_open m.port) core m), record { steps = λ evidence host records. refl; looks = λ state k. refl; tells = λ known. refl }, answer.0)
-kind (message.ChanOpenTry m) old given new pass answer =
-    inl ((λ evidence host core. chan_open_try (require_application m.port) (on_open m.port) evidence core m), record { steps = λ evidence host records. refl; looks = λ state k. refl; tells = λ known. refl }, answer.0)
-kind (message.ChanOpenAck m) old given new pass answer =
-    inl ((λ evidence host core. chan_open_ack evidence core m), record { steps = λ evidence host records. refl; looks = λ state k. refl; tells = λ known. refl }, answer.0)
-kind (message.ChanOpenConfirm m) old given new pass answer =
-    inl ((λ evidence host core. chan_open_confirm evidence core m), record { steps = λ evidence host records. refl; looks = λ state k. refl; tells = λ known. refl }, answer.0)
-kind (message.ChanCloseInit m) old given new pass answer =
-    inl ((λ evidence host core. chan_close_init (on_close m.port) core m), record { steps = λ evidence host records. refl; looks = λ state k. refl; tells = λ known. refl }, answer.0)
-kind (message.ChanCloseConfirm m) old given new pass answer =
-    inl ((λ evidence host core. chan_close_confirm evidence core m), record { steps = λ evidence host records. refl; looks = λ state k. refl; tells = λ known. refl }, answer.0)
-kind _ old given new pass answer = absurd answer
+kind (message.CreateClient m) old given new answer =
+    inl ((λ evidence host core. create_client host core m), record { steps = λ evidence host records. refl; reads_nothing = record { looks = λ state k. refl; tells = λ known. refl } }, answer.0, answer.1)
+kind (message.UpdateClient m) old given new answer = inr (inr (m, refl, answer.0, answer.1))
+kind (message.ConnOpenInit m) old given new answer =
+    inl ((λ evidence host core. conn_open_init core m), record { steps = λ evidence host records. refl; reads_nothing = record { looks = λ state k. refl; tells = λ known. refl } }, answer.0, answer.1)
+kind (message.ConnOpenTry m) old given new answer =
+    inl ((λ evidence host core. conn_open_try evidence host core m), record { steps = λ evidence host records. refl; reads_nothing = record { looks = λ state k. refl; tells = λ known. refl } }, answer.0, answer.1)
+kind (message.ConnOpenAck m) old given new answer =
+    inl ((λ evidence host core. conn_open_ack evidence host core m), record { steps = λ evidence host records. refl; reads_nothing = record { looks = λ state k. refl; tells = λ known. refl } }, answer.0, answer.1)
+kind (message.ConnOpenConfirm m) old given new answer =
+    inl ((λ evidence host core. conn_open_confirm evidence core m), record { steps = λ evidence host records. refl; reads_nothing = record { looks = λ state k. refl; tells = λ known. refl } }, answer.0, answer.1)
+kind (message.ChanOpenInit m) old given new answer =
+    inl ((λ evidence host core. chan_open_init (require_application m.port) (on_open m.port) core m), record { steps = λ evidence host records. refl; reads_nothing = record { looks = λ state k. refl; tells = λ known. refl } }, answer.0, answer.1)
+kind (message.ChanOpenTry m) old given new answer =
+    inl ((λ evidence host core. chan_open_try (require_application m.port) (on_open m.port) evidence core m), record { steps = λ evidence host records. refl; reads_nothing = record { looks = λ state k. refl; tells = λ known. refl } }, answer.0, answer.1)
+kind (message.ChanOpenAck m) old given new answer =
+    inl ((λ evidence host core. chan_open_ack evidence core m), record { steps = λ evidence host records. refl; reads_nothing = record { looks = λ state k. refl; tells = λ known. refl } }, answer.0, answer.1)
+kind (message.ChanOpenConfirm m) old given new answer =
+    inl ((λ evidence host core. chan_open_confirm evidence core m), record { steps = λ evidence host records. refl; reads_nothing = record { looks = λ state k. refl; tells = λ known. refl } }, answer.0, answer.1)
+kind (message.ChanCloseInit m) old given new answer =
+    inl ((λ evidence host core. chan_close_init (on_close m.port) core m), record { steps = λ evidence host records. refl; reads_nothing = record { looks = λ state k. refl; tells = λ known. refl } }, answer.0, answer.1)
+kind (message.ChanCloseConfirm m) old given new answer =
+    inl ((λ evidence host core. chan_close_confirm evidence core m), record { steps = λ evidence host records. refl; reads_nothing = record { looks = λ state k. refl; tells = λ known. refl } }, answer.0, answer.1)
+kind (message.SendNote m) old given new answer =
+    inl ((λ evidence host core. send_note evidence core m), record { steps = λ evidence host records. refl; reads_nothing = record { looks = λ state k. refl; tells = λ known. refl } }, answer.0, answer.1)
+kind (message.RecvPacket m) old given new answer =
+    inr (inl ((λ apps. recv_with apps m), record { steps = λ evidence host records. refl; reads_nothing = record { looks = λ state k. refl; tells = λ known. refl } }, answer.0))
+kind (message.AckPacket m) old given new answer =
+    inr (inl ((λ apps. ack_with apps m), record { steps = λ evidence host records. refl; reads_nothing = record { looks = λ state k. refl; tells = λ known. refl } }, answer.0))
+kind (message.Timeout m) old given new answer =
+    inr (inl ((λ apps. timeout_with apps m), record { steps = λ evidence host records. refl; reads_nothing = record { looks = λ state k. refl; tells = λ known. refl } }, answer.0))
+kind (message.TimeoutOnClose m) old given new answer =
+    inr (inl ((λ apps. timeout_on_close_with apps m), record { steps = λ evidence host records. refl; reads_nothing = record { looks = λ state k. refl; tells = λ known. refl } }, answer.0))
+kind _ old given new answer = absurd answer
 
 -- ---- a message that was answered
 
 abbrev pub before_in : Inside → Before
-before_in l = record { chain = l.chain; chains = l.chains; table = l.table.value; records = l.records; pass = l.pass }
+before_in l = record { chain = l.chain; chains = l.chains; table = l.table.value; records = l.records; apps = l.applications; pass = l.pass }
 
-module _ (l : Inside) (held : IsHeld l) (new : HeldRecords) (pass : Sight) (prefix : IsPrefix l.pass.seen pass.seen) (own : published_by l.chain pass.seen ≡ published_by l.chain l.pass.seen) where
+module _ (l : Inside) (held : IsHeld l) (new : After) (prefix : IsPrefix l.pass.seen new.pass.seen) (own : published_by l.chain new.pass.seen ≡ published_by l.chain l.pass.seen) where
   others : published_by l.chain (l.pass.seen ++ prefix.0) ≡ published_by l.chain l.pass.seen
   others = ap (published_by l.chain) prefix.1 ∙ own
 
   -- what was read fits what was seen by then
-  fitting : (m : UpdateClient) (reading : Option Reading) → IfSome reading (λ r. reading_fits l.table.value.shape.window (height_of m.header.chain pass.seen) m.header.height r ≡ true)
+  fitting : (m : UpdateClient) (reading : Option Reading) → IfSome reading (λ r. reading_fits l.table.value.shape.window (height_of m.header.chain new.pass.seen) m.header.height r ≡ true)
       → Reads (genesis_of l).window (l.pass.seen ++ prefix.0) (event.Message l.chain (message.UpdateClient m)) reading
   fitting m None fits = tt
   fitting m (Some r) fits = (m.header, refl, subst (λ (z : Shape × List Publication). reading_fits z.0.window (height_of m.header.chain z.1) m.header.height r ≡ true) (λ i. (held.shape i, (sym prefix.1) i)) fits)
 
-  told : (m : UpdateClient) (given : Answered) → IsUpdateAnswer l.table.value m l.records given new pass
-      → IsUpdatedAs (update_client (proves (l.pass.seen ++ prefix.0) given.1 (state_of (ledger_of l))) (core_of l.records) m) m l.records given.0 new
+  told : (m : UpdateClient) (given : Answered) → IsUpdateAnswer l.table.value m l.records given new.records new.pass
+      → IsUpdatedAs (update_client (proves (l.pass.seen ++ prefix.0) given.1 (state_of (ledger_of l))) (core_of l.records) m) m l.records given.0 new.records
   told m given answer =
-      subst (λ seen. IsUpdatedAs (update_client (proves seen given.1 (state_of (ledger_of l))) (core_of l.records) m) m l.records given.0 new) (sym prefix.1) (answer.updated (state_of (ledger_of l)))
+      subst (λ seen. IsUpdatedAs (update_client (proves seen given.1 (state_of (ledger_of l))) (core_of l.records) m) m l.records given.0 new.records) (sym prefix.1) (answer.updated (state_of (ledger_of l)))
 
-  update_has_memory : (m : UpdateClient) (given : Answered) → IsUpdateAnswer l.table.value m l.records given new pass → given.0 ≡ reply.No NoMemory → ⊥
+  update_has_memory : (m : UpdateClient) (given : Answered) → IsUpdateAnswer l.table.value m l.records given new.records new.pass → given.0 ≡ reply.No NoMemory → ⊥
   update_has_memory m given answer is =
-      (subst (λ r. IsUpdatedAs (update_client (proves (l.pass.seen ++ prefix.0) given.1 (state_of (ledger_of l))) (core_of l.records) m) m l.records r new) is (told m given answer)).0 refl
+      (subst (λ r. IsUpdatedAs (update_client (proves (l.pass.seen ++ prefix.0) given.1 (state_of (ledger_of l))) (core_of l.records) m) m l.records r new.records) is (told m given answer)).0 refl
 
   abbrev StandsWith : Message → Answered → Type 0
-  StandsWith m given = Stands (with_entry (ledger_of l) (entry_of (event.Message l.chain m) given.0 given.1 (stamp_if (is_some given.1) (l.pass.seen ++ prefix.0))) prefix.0) new l.applications
+  StandsWith m given = Stands (with_entry (ledger_of l) (entry_of (event.Message l.chain m) given.0 given.1 (stamp_if (is_some given.1) (l.pass.seen ++ prefix.0))) prefix.0) new.records new.apps
 
   abbrev IsTyped : Message → Type 0
   IsTyped m = is_typed (event.Message l.chain m) ≡ true
 
-  of_update : (m : UpdateClient) (given : Answered) → IsUpdateAnswer l.table.value m l.records given new pass → IsTyped (message.UpdateClient m) → StandsWith (message.UpdateClient m) given
-  of_update m given answer typed =
-      stands_updated (ledger_of l) l.records l.applications held.stands prefix.0 others m new given.1 typed answer.looks (fitting m given.1 answer.fits) given.0 (told m given answer)
+  of_update : (m : UpdateClient) (given : Answered) → IsUpdateAnswer l.table.value m l.records given new.records new.pass → new.apps ≡ l.applications → IsTyped (message.UpdateClient m) → StandsWith (message.UpdateClient m) given
+  of_update m given answer kept typed =
+      stands_updated (ledger_of l) l.records l.applications held.stands prefix.0 others m new.records new.apps kept given.1 typed answer.looks (fitting m given.1 answer.fits) given.0 (told m given answer)
 
-  module _ (m : Message) (given : Answered) (answer : IsAnswerTo m (before_in l) given new pass) where
+  module _ (m : Message) (given : Answered) (answer : IsAnswerTo m (before_in l) given new) where
     pub answered_stands : IsTyped m → StandsWith m given
     answered_stands typed = ⊎_elim
-        (λ (w : (handler : Handler) × IsHandledBy m handler × IsTakenAs handler l.chain l.chains l.records given new).
-        stands_taken (ledger_of l) l.records l.applications held.stands prefix.0 others m w.0 w.1 l.chains held.chains given new w.2 typed)
-        (λ (w : (update : UpdateClient) × (m ≡ message.UpdateClient update) × IsUpdateAnswer l.table.value update l.records given new pass).
-        subst (λ m. IsTyped m → StandsWith m given) (sym w.1) (of_update w.0 given w.2) typed)
-        (kind m (before_in l) given new pass answer)
+        (λ (w : IsOfTheCore m (before_in l) given new). stands_taken (ledger_of l) l.records l.applications held.stands prefix.0 others m w.0 w.1 l.chains held.chains given new.records new.apps w.3 w.2 typed)
+        (⊎_elim
+        (λ (w : IsOfBoth m (before_in l) given new). stands_both_taken (ledger_of l) l.records l.applications held.stands prefix.0 others m w.0 w.1 l.chains held.chains given new.records new.apps w.2 typed)
+        (λ (w : IsAnUpdate m (before_in l) given new). subst (λ m. IsTyped m → StandsWith m given) (sym w.1) (of_update w.0 given w.2 w.3) typed))
+        (kind m (before_in l) given new answer)
 
     pub answer_has_memory : given.0 ≡ reply.No NoMemory → ⊥
     answer_has_memory = ⊎_elim
-        (λ (w : (handler : Handler) × IsHandledBy m handler × IsTakenAs handler l.chain l.chains l.records given new).
-        taken_has_memory (ledger_of l) l.records l.applications held.stands prefix.0 others m w.0 w.1 l.chains held.chains given new w.2)
-        (λ (w : (update : UpdateClient) × (m ≡ message.UpdateClient update) × IsUpdateAnswer l.table.value update l.records given new pass).
-        update_has_memory w.0 given w.2)
-        (kind m (before_in l) given new pass answer)
+        (λ (w : IsOfTheCore m (before_in l) given new). taken_has_memory (ledger_of l) l.records l.applications held.stands prefix.0 others m w.0 w.1 l.chains held.chains given new.records new.apps w.3 w.2)
+        (⊎_elim
+        (λ (w : IsOfBoth m (before_in l) given new). both_taken_has_memory (ledger_of l) l.records l.applications held.stands prefix.0 others m w.0 w.1 l.chains held.chains given new.records new.apps w.2)
+        (λ (w : IsAnUpdate m (before_in l) given new). update_has_memory w.0 given w.2))
+        (kind m (before_in l) given new answer)
 
 -- a stamp counts all that was seen before
 pub late_stamp : (b : Bool) (seen more : List Publication) → IfSome (stamp_if b (seen ++ more)) (λ n. length seen ≤ n)

@@ -31,9 +31,9 @@ use Rattle.ibc_ledger.specs.Entries.{entry_of, stamp_if, working_block, Reads, I
 abbrev IsSmall : Block → Type 0
 IsSmall block = length (image block.records.core) < 2 ^ 64
 
-small_last : (blocks : List Block) (last : Block) → AllByRecursion IsSmall blocks → IsSmall last → AllByRecursion IsSmall (blocks ++ last ∷ [])
-small_last [] last all small = (small, tt)
-small_last (b ∷ blocks) last all small = (all.0, small_last blocks last all.1 small)
+pub all_last : {A : Type 0} (P : A → Type 0) (xs : List A) (last : A) → AllByRecursion P xs → P last → AllByRecursion P (xs ++ last ∷ [])
+all_last P [] last all is = (is, tt)
+all_last P (x ∷ xs) last all is = (all.0, all_last P xs last all.1 is)
 
 -- ---- messages
 
@@ -132,5 +132,5 @@ module _ (ledger : Ledger) (more : List Publication) (is : IsLedger ledger) wher
           stamp = (let low = w.1 in let long = w.2 in omega arith, λ accepted. let low = w.1 in let long = w.2 in omega arith);
           published = own_last ∙ ap (λ xs. xs ++ working ∷ []) is.published ∙ sym (map-append (published_as ledger.chain) (state_of ledger).chain.committed (working_block (state_of ledger).chain ∷ []))
               ∙ ap (λ (w : Reply × LedgerState). map (published_as ledger.chain) w.1.chain.committed) (sym (block_answer-by (Ok allowed) e));
-          small = subst (λ (w : Reply × LedgerState). AllByRecursion IsSmall w.1.chain.committed) (sym (block_answer-by (Ok allowed) e)) (small_last (state_of ledger).chain.committed (working_block (state_of ledger).chain) is.small small);
+          small = subst (λ (w : Reply × LedgerState). AllByRecursion IsSmall w.1.chain.committed) (sym (block_answer-by (Ok allowed) e)) (all_last IsSmall (state_of ledger).chain.committed (working_block (state_of ledger).chain) is.small small);
         }

@@ -1,6 +1,6 @@
 -- What a ledger keeps stays in order where its pass sees more, and where its history gets longer.
-use Rattle.std.proofs.Common.{◌≡◌, ◌++◌, ◌∷◌, [], List, map, sym, ap, ◌∙◌, subst}
-use Rattle.std.proofs.lemmas.List.{map-append}
+use Rattle.std.proofs.Common.{◌≡◌, ◌++◌, ◌∷◌, [], List, length, map, sym, ap, ◌∙◌, subst}
+use Rattle.std.proofs.lemmas.List.{map-append, length-map}
 use mathlib.Core.List.{IsPrefix}
 use Rattle.ibc_ids.specs.Publications.{published_by}
 use Rattle.ibc_ids.specs.declared.publication.Publication.{Publication}
@@ -13,12 +13,18 @@ use Rattle.ibc_ledger.specs.declared.ledger.Ledger.TheInside.{Inside}
 use Rattle.ibc_ledger.specs.Growing.{with_entry}
 use Rattle.ibc_ledger.specs.Standing.{Stands}
 use Rattle.ibc_ledger.specs.Held.{plain_entry}
+use Rattle.ibc_ledger.specs.Happened.{happened_of, happened_on, IsHandledEntry}
+use Rattle.ibc_ledger.specs.SentPackets.{Places, AreFirst, sent_name, with_first}
+use Rattle.ibc_ledger.proofs.SentPackets.{first_more}
+use Rattle.ibc_machine.specs.Histories.{Happened}
+use Rattle.std.specs.List.{AllByRecursion}
 use Rattle.ibc_ledger.specs.Inside.{genesis_of, ledger_of, IsHeld}
+use Rattle.ibc_ledger.proofs.Entries.{all_last}
 use Rattle.ibc_ledger.proofs.AnsweredMessages.{stands_unchanged}
 
--- a step changes the records, the pass and the history, and nothing else
+-- a step changes the records, the applications, the pass, the history and the places in it, and nothing else
 abbrev pub IsStepped : Inside → Inside → Type 0
-IsStepped l new = new ≡ record l { records = new.records; pass = new.pass; history = new.history }
+IsStepped l new = new ≡ record l { records = new.records; applications = new.applications; pass = new.pass; history = new.history; sent = new.sent }
 
 -- the ledger of these entries and publications
 abbrev with_parts : Inside → List StampedEntry → List Publication → Ledger
@@ -29,28 +35,40 @@ module _ (l : Inside) (held : IsHeld l) (new : Inside) (stepped : IsStepped l ne
   keeps_own keeps = keeps l.chain held.own
 
   pub held_by : (history : List StampedEntry) (seen : List Publication) → history ≡ map plain_entry new.history.items → seen ≡ new.pass.seen
-      → Stands (with_parts l history seen) new.records l.applications → IsHeld new
-  held_by history seen is sees stands = subst IsHeld (sym stepped) (record {
-    stands = subst (λ (w : List StampedEntry × List Publication). Stands (with_parts l w.0 w.1) new.records l.applications) (λ i. (is i, sees i)) stands;
+      → Stands (with_parts l history seen) new.records new.applications → AllByRecursion (IsHandledEntry l.chain) history → AreFirst new.sent.pairs (map happened_of history) → IsHeld new
+  held_by history seen is sees stands handled sent = subst IsHeld (sym stepped) (record {
+    stands = subst (λ (w : List StampedEntry × List Publication). Stands (with_parts l w.0 w.1) new.records new.applications) (λ i. (is i, sees i)) stands;
     allowed = held.allowed;
     table = same.0 ∙ held.table;
     own = same.1 ∙ held.own;
     shape = held.shape;
     chains = held.chains;
     capacity = held.capacity;
+    handled = subst (AllByRecursion (IsHandledEntry l.chain)) is handled;
+    sent = subst (λ (w : List StampedEntry). AreFirst new.sent.pairs (map happened_of w)) is sent;
   })
 
   -- memory ran out, or passes met
-  pub still_held : IsPrefix l.pass.seen new.pass.seen → KeepsOwn l.pass new.pass → IsUnchanged l.records new.records → new.history.items ≡ l.history.items → IsHeld new
-  still_held prefix keeps unchanged items =
+  pub still_held : IsPrefix l.pass.seen new.pass.seen → KeepsOwn l.pass new.pass → IsUnchanged l.records new.records → new.applications ≡ l.applications → new.history.items ≡ l.history.items → new.sent.pairs ≡ l.sent.pairs → IsHeld new
+  still_held prefix keeps unchanged kept items sent =
       held_by (map plain_entry l.history.items) (l.pass.seen ++ prefix.0) (ap (map plain_entry) (sym items)) prefix.1
-      (stands_unchanged (ledger_of l) l.records l.applications held.stands prefix.0 (ap (published_by l.chain) prefix.1 ∙ keeps_own keeps) new.records unchanged)
+      (stands_unchanged (ledger_of l) l.records l.applications held.stands prefix.0 (ap (published_by l.chain) prefix.1 ∙ keeps_own keeps) new.records new.applications unchanged kept)
+      held.handled (subst (λ places. AreFirst places (map happened_of (map plain_entry l.history.items))) (sym sent) held.sent)
 
   -- there is one entry more
   pub longer_history : (kept : KeptEntry) → new.history.items ≡ l.history.items ++ kept ∷ [] → map plain_entry l.history.items ++ plain_entry kept ∷ [] ≡ map plain_entry new.history.items
   longer_history kept items = sym (map-append plain_entry l.history.items (kept ∷ [])) ∙ ap (map plain_entry) (sym items)
 
+  longer_sent : (e : StampedEntry) → new.sent.pairs ≡ with_first (sent_name (happened_of e)) (length l.history.items) l.sent.pairs → AreFirst new.sent.pairs (map happened_of (map plain_entry l.history.items ++ e ∷ []))
+  longer_sent e sent =
+      let as_long = length-map (map plain_entry l.history.items) happened_of ∙ length-map l.history.items plain_entry in
+      let places = ap (λ n. with_first (sent_name (happened_of e)) n l.sent.pairs) as_long ∙ sym sent in
+      subst (λ (w : Places × List Happened). AreFirst w.0 w.1) (λ i. (places i, sym (map-append happened_of (map plain_entry l.history.items) (e ∷ [])) i))
+      (first_more l.sent.pairs (happened_on (ledger_of l)) held.sent (happened_of e))
+
   pub held_with : (kept : KeptEntry) (e : StampedEntry) (prefix : IsPrefix l.pass.seen new.pass.seen) → new.history.items ≡ l.history.items ++ kept ∷ [] → e ≡ plain_entry kept
-      → Stands (with_entry (ledger_of l) e prefix.0) new.records l.applications → IsHeld new
-  held_with kept e prefix items is stands =
+      → Stands (with_entry (ledger_of l) e prefix.0) new.records new.applications → IsHandledEntry l.chain e
+      → new.sent.pairs ≡ with_first (sent_name (happened_of e)) (length l.history.items) l.sent.pairs → IsHeld new
+  held_with kept e prefix items is stands handled sent =
       held_by (map plain_entry l.history.items ++ e ∷ []) (l.pass.seen ++ prefix.0) (ap (λ x. map plain_entry l.history.items ++ x ∷ []) is ∙ longer_history kept items) prefix.1 stands
+      (all_last (IsHandledEntry l.chain) (map plain_entry l.history.items) e held.handled handled) (longer_sent e sent)

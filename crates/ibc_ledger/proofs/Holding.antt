@@ -1,4 +1,4 @@
--- What is held stays the state of the ledger: through messages of clients, and through ends of blocks.
+-- What is held stays the state of the ledger: through messages, and through ends of blocks.
 use Rattle.std.proofs.Common.{◌≡◌, ℕ, ◌+◌, ◌-◌, ◌^◌, ◌<◌, cond, is_eq, Ordering, Less, Equal, Greater, [], ◌∷◌, ◌++◌, length, refl, sym, ap, ◌∙◌, subst, Some, option_and_then, option_map, arith, length-append, length-drop}
 use Rattle.std.specs.Ordering.{nat_cmp, ordering_then}
 use Rattle.std.proofs.lemmas.Cmp.{nat_cmp_total, then_total, on_total}
@@ -23,34 +23,35 @@ use Rattle.ibc_ledger.specs.Entries.{working_block}
 use Rattle.ibc_ledger.specs.Standing.{IsStateOf}
 use Rattle.ibc_ledger.specs.Proving.{KeepsBlocks}
 use Rattle.ibc_ledger.proofs.Keeping.{keeps_stored, keeps_unchanged, keeps_committed}
-use Rattle.ibc_ledger.proofs.Standing.{with_core}
+use Rattle.ibc_ledger.proofs.Standing.{with_records}
 
 consensus_cmp_total : IsTotalOrder consensus_cmp
 consensus_cmp_total = then_total (on_total (λ (x : Text × ℕ). x.0) text_cmp_total) (on_total (λ (x : Text × ℕ). x.1) nat_cmp_total)
 
 module _ (window : ℕ) (state : LedgerState) (old : HeldRecords) (apps : Apps) (holds : IsStateOf window state old apps) where
   -- only how much room there is changed
-  pub unchanged_holds : (new : HeldRecords) → IsUnchanged old new → IsStateOf window state new apps
-  unchanged_holds new same = record {
+  pub unchanged_holds : (new : HeldRecords) (left : Apps) → IsUnchanged old new → left ≡ apps → IsStateOf window state new left
+  unchanged_holds new left same kept = record {
     core = ap core_of same ∙ holds.core;
     time = ap (λ (h : HeldRecords). h.store.time) same ∙ holds.time;
     height = ap (λ (h : HeldRecords). height_of h.store) same ∙ holds.height;
     window_is = ap (λ (h : HeldRecords). h.store.window) same ∙ holds.window_is;
-    apps_are = holds.apps_are;
+    apps_are = kept ∙ holds.apps_are;
     known = λ client height known e. holds.known client height known (sym (ap (λ (h : HeldRecords). consensus_in h client height) same) ∙ e);
     keeps = keeps_unchanged window state.chain old new holds.keeps same;
   }
 
-  -- the records were written, by a message that tells no client of a height
-  pub written_holds : (m : Message) (core : Core) (new : HeldRecords) → IsWritten core old new → with_consensus m state.consensus ≡ state.consensus → IsStateOf window (with_core m state core) new apps
-  written_holds m core new written same = record {
+  -- the records and the applications were written, by a message that tells no client of a height
+  pub written_holds : (m : Message) (core : Core) (left kept : Apps) (new : HeldRecords) → left ≡ kept → IsWritten core old new → with_consensus m state.consensus ≡ state.consensus
+      → IsStateOf window (with_records m state (record { core = core; apps = kept })) new left
+  written_holds m core left kept new left_is written same = record {
     core = written.core_is;
     time = ap (λ (s : HeldStore). s.time) written.stored.store ∙ holds.time;
     height = ap (λ (s : HeldStore). height_of s) written.stored.store ∙ holds.height;
     window_is = ap (λ (s : HeldStore). s.window) written.stored.store ∙ holds.window_is;
-    apps_are = holds.apps_are;
+    apps_are = left_is;
     known = λ client height known e. ap (λ consensus. at consensus_cmp (client, height) consensus) same ∙ holds.known client height known (written.knows client height known e);
-    keeps = keeps_stored window state.chain old new core holds.keeps written.stored written.core_is;
+    keeps = keeps_stored window state.chain old new (record { core = core; apps = kept }) holds.keeps written.stored written.core_is;
   }
 
   -- a client that was told of a header knows what the ledger's state says of it
@@ -71,18 +72,18 @@ module _ (window : ℕ) (state : LedgerState) (old : HeldRecords) (apps : Apps) 
         by_height client height known is (nat_cmp height m.header.height)
         (sym (at-with nat_cmp nat_cmp_total height m.header.height (consensus_of m.header) updates.client.known) ∙ e)
 
-    pub updated_holds : IsStateOf window (with_core (message.UpdateClient m) state (core_of new)) new apps
-    updated_holds = record {
+    pub updated_holds : (left : Apps) → left ≡ apps → IsStateOf window (with_records (message.UpdateClient m) state (record state.chain.records { core = core_of new })) new left
+    updated_holds left kept = record {
       core = refl;
       time = ap (λ (s : HeldStore). s.time) updates.stored.store ∙ holds.time;
       height = ap (λ (s : HeldStore). height_of s) updates.stored.store ∙ holds.height;
       window_is = ap (λ (s : HeldStore). s.window) updates.stored.store ∙ holds.window_is;
-      apps_are = holds.apps_are;
+      apps_are = kept ∙ holds.apps_are;
       known = λ client height known e.
           at-with consensus_cmp consensus_cmp_total (client, height) (m.client, m.header.height) (plain_consensus (consensus_of m.header)) state.consensus
           ∙ by_client client height known (text_cmp client m.client) refl
           (sym (ap (option_and_then (λ (c : HeldClient). at nat_cmp height c.known)) (ap (λ (h : HeldRecords). at text_cmp client h.clients) updates.records ∙ at-with text_cmp text_cmp_total client m.client (with_height m.header.height (consensus_of m.header) updates.client) old.clients)) ∙ e);
-      keeps = keeps_stored window state.chain old new (core_of new) holds.keeps updates.stored refl;
+      keeps = keeps_stored window state.chain old new (record state.chain.records { core = core_of new }) holds.keeps updates.stored refl;
     }
 
   -- the working block joins the committed ones

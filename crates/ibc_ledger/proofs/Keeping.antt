@@ -10,7 +10,7 @@ use Rattle.ibc_ids.specs.declared.refusal.Refusal.TheVariants.{NoConsensus}
 use Rattle.ibc_merkle.specs.Tree.{Pairs}
 use Rattle.ibc_merkle.specs.declared.proof.Proof.{Proof}
 use Rattle.ibc_merkle.specs.Written.{written}
-use Rattle.ibc_machine.specs.Records.{Core, Block, Chain}
+use Rattle.ibc_machine.specs.Records.{Records, Block, Chain}
 use Rattle.ibc_machine.specs.Image.{image}
 use Rattle.ibc_machine.specs.Machine.{block_of}
 use Rattle.ibc_path_store.specs.Held.{HeldStore, height_of, committed, kept_at, excess, gone_after}
@@ -37,11 +37,8 @@ get_drop (suc n) i (x ∷ xs) = let e : suc (n + i) ≡ suc n + i = omega arith 
 -- ---- messages
 
 module _ (window : ℕ) (chain : Chain) where
-  abbrev with_core : Core → Chain
-  with_core core = record chain { records = record chain.records { core = core } }
-
-  pub keeps_stored : (old new : HeldRecords) (core : Core) → KeepsBlocks window chain old.store → IsStored old new → core_of new ≡ core → KeepsBlocks window (with_core core) new.store
-  keeps_stored old new core keeps stored is = record {
+  pub keeps_stored : (old new : HeldRecords) (records : Records) → KeepsBlocks window chain old.store → IsStored old new → core_of new ≡ records.core → KeepsBlocks window (record chain { records = records }) new.store
+  keeps_stored old new records keeps stored is = record {
     working = stored.image_of ∙ ap image is;
     gone = ap (λ (s : HeldStore). s.gone) stored.store ∙ keeps.gone;
     kept = ap (λ (s : HeldStore). s.kept) stored.store ∙ keeps.kept;

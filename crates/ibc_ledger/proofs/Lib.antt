@@ -3,6 +3,7 @@ pub mod OwnEntries
 pub mod Growing
 pub mod Entries
 pub mod Standing
+pub mod SentPackets
 pub mod Keeping
 pub mod Holding
 pub mod AnsweredMessages
@@ -13,6 +14,9 @@ pub mod Totals
 pub mod StartingBalances
 pub mod Applying
 pub mod Windows
+pub mod AppParts
 pub mod Ports
+pub mod PacketReplies
 pub mod Ending
 pub mod NewLedgers
+pub mod FoundPackets

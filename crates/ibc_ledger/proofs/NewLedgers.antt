@@ -1,5 +1,5 @@
 -- A ledger in the beginning is one.
-use Rattle.std.proofs.Common.{◌≡◌, ◌∙◌, ◌<◌, List, [], length, map, sym, ap, subst, Some, option_map}
+use Rattle.std.proofs.Common.{◌≡◌, ◌∙◌, ◌<◌, List, [], length, map, refl, sym, ap, subst, Some, option_map}
 use Rattle.std.specs.Prelude.{IsTrue, slice_get}
 use Rattle.std.proofs.lemmas.List.{length-map}
 use Rattle.std.proofs.lemmas.Option.{slice_get-map}
@@ -14,6 +14,10 @@ use Rattle.ibc_records.specs.Held.{IsNew}
 use Rattle.ibc_ledger.specs.declared.ledger.Ledger.TheInside.{Inside}
 use Rattle.ibc_ledger.specs.Standing.{starting_apps, Stands}
 use Rattle.ibc_ledger.specs.Held.{plain_entry, shape_of}
+use Rattle.ibc_ledger.specs.declared.entry.StampedEntry.{StampedEntry as KeptEntry}
+use Rattle.ibc_ledger.specs.Happened.{happened_of, IsHandledEntry}
+use Rattle.ibc_ledger.specs.SentPackets.{Places, AreFirst}
+use Rattle.std.specs.List.{AllByRecursion}
 use Rattle.ibc_ledger.specs.Inside.{genesis_of, ledger_of, IsHeld}
 use Rattle.ibc_ledger.proofs.EndedBlocks.{stands_new}
 
@@ -30,6 +34,7 @@ pub record IsFresh (l : Inside) (genesis : Genesis) : Type 0 where
   pub records : IsNew genesis.window start.time l.records
   pub applications : l.applications ≡ starting_apps start.balances.items
   pub history : l.history.items ≡ []
+  pub sent : l.sent.pairs ≡ []
 
 module _ (l : Inside) (fresh : IsFresh l l.genesis.value) where
   as_many : length (genesis_of l).chains ≡ length l.genesis.value.chains.items
@@ -53,4 +58,6 @@ module _ (l : Inside) (fresh : IsFresh l l.genesis.value) where
     shape = fresh.shape;
     chains = fresh.chains ∙ sym as_many;
     capacity = fresh.capacity;
+    handled = subst (λ (xs : List KeptEntry). AllByRecursion (IsHandledEntry l.chain) (map plain_entry xs)) (sym fresh.history) tt;
+    sent = subst (λ (w : Places × List KeptEntry). AreFirst w.0 (map happened_of (map plain_entry w.1))) (λ i. (sym fresh.sent i, sym fresh.history i)) (λ name. refl);
   }

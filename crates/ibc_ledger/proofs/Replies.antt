@@ -31,7 +31,7 @@ taken_by effect_of checked old new (Ok x) given is taken = subst (λ r. IsTakenB
 taken_by effect_of checked old new (Err refusal) given is taken =
     subst (λ r. IsTakenBy checked old r new) (sym is.1) (is.0, ⊎_elim (λ e. e) (λ none. absurd (is.0 none)) taken.0, taken.1)
 
-no_block_by : {A : Type 0} (effect_of : A → Effect) (result : Result A Refusal) (given : Reply) → ((x : A) → is_block_reply (reply.Ok (effect_of x)) ≡ false) → IsReplyTo effect_of result given → is_block_reply given ≡ false
+pub no_block_by : {A : Type 0} (effect_of : A → Effect) (result : Result A Refusal) (given : Reply) → ((x : A) → is_block_reply (reply.Ok (effect_of x)) ≡ false) → IsReplyTo effect_of result given → is_block_reply given ≡ false
 no_block_by effect_of (Ok x) given none is = subst (λ r. is_block_reply r ≡ false) (sym is) (none x)
 no_block_by effect_of (Err refusal) given none is = subst (λ r. is_block_reply r ≡ false) (sym is.1) refl
 

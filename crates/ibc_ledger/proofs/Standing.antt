@@ -1,5 +1,5 @@
--- What a message does to the core alone is what its entry says.
-use Rattle.std.proofs.Common.{◌≡◌, ℕ, List, length, ap, ◌∙◌, Option, Ok, Err}
+-- What a message does to the records is what its entry says.
+use Rattle.std.proofs.Common.{◌≡◌, ℕ, List, length, ap, Option, Ok, Err}
 use Rattle.ibc_ids.specs.declared.publication.Publication.{Publication}
 use Rattle.ibc_ids.specs.declared.refusal.Refusal.{Refusal}
 use Rattle.ibc_wire.specs.declared.messages.Message.{Message}
@@ -7,30 +7,29 @@ use Rattle.ibc_machine.specs.declared.event.Event.TheVariants as event
 use Rattle.ibc_machine.specs.declared.reply.Effect.{Effect}
 use Rattle.ibc_machine.specs.declared.reply.Reply.TheVariants as reply
 use Rattle.ibc_machine.specs.declared.entry.Reading.{Reading}
-use Rattle.ibc_machine.specs.Records.{Core}
-use Rattle.ibc_machine.specs.Checks.{Checked, go_on}
+use Rattle.ibc_machine.specs.Records.{Records}
+use Rattle.ibc_machine.specs.Checks.{Checked}
 use Rattle.ibc_machine.specs.Genesis.{GenesisState}
-use Rattle.ibc_machine.specs.Handlers.{handle, core_step, after_message, host_of}
+use Rattle.ibc_machine.specs.Handlers.{handle, after_message, host_of}
 use Rattle.ibc_machine.specs.Replay.{LedgerState, proves, after_answer, with_consensus, ledger_answer}
 
--- the state with this core, after this message
-abbrev pub with_core : Message → LedgerState → Core → LedgerState
-with_core m state core = record {
-  chain = record state.chain { records = record state.chain.records { core = core } };
+-- the state with these records, after this message
+abbrev pub with_records : Message → LedgerState → Records → LedgerState
+with_records m state records = record {
+  chain = record state.chain { records = records };
   consensus = with_consensus m state.consensus;
 }
 
-module _ (genesis : GenesisState) (k : ℕ) (seen : List Publication) (reading : Option Reading) (state : LedgerState) (m : Message) (checked : Checked (Effect × Core)) where
-  -- the message changes the core alone, as its checks say
-  abbrev pub StepsBy : Type 0
-  StepsBy = handle (proves seen reading state) (host_of (length genesis.chains) k state.chain) state.chain.records m ≡ core_step state.chain.records checked
+module _ (genesis : GenesisState) (k : ℕ) (seen : List Publication) (reading : Option Reading) (state : LedgerState) (m : Message) where
+  -- the effect of the message and the records after it, or why it is refused
+  abbrev pub step : Checked (Effect × Records)
+  step = handle (proves seen reading state) (host_of (length genesis.chains) k state.chain) state.chain.records m
 
-  pub taken_answer : StepsBy → (effect : Effect) (core : Core) → checked ≡ Ok (effect, core)
-      → ledger_answer genesis k seen reading state (event.Message k m) ≡ (reply.Ok effect, with_core m state core)
-  unfolding ledger_answer go_on
-  taken_answer steps effect core e = ap (λ x. after_answer m state (after_message state.chain x)) (steps ∙ ap (core_step state.chain.records) e)
+  pub taken_answer : (effect : Effect) (records : Records) → step ≡ Ok (effect, records)
+      → ledger_answer genesis k seen reading state (event.Message k m) ≡ (reply.Ok effect, with_records m state records)
+  unfolding ledger_answer
+  taken_answer effect records e = ap (λ x. after_answer m state (after_message state.chain x)) e
 
-  pub refused_answer : StepsBy → (r : Refusal) → checked ≡ Err r
-      → ledger_answer genesis k seen reading state (event.Message k m) ≡ (reply.No r, state)
-  unfolding ledger_answer go_on
-  refused_answer steps r e = ap (λ x. after_answer m state (after_message state.chain x)) (steps ∙ ap (core_step state.chain.records) e)
+  pub refused_answer : (r : Refusal) → step ≡ Err r → ledger_answer genesis k seen reading state (event.Message k m) ≡ (reply.No r, state)
+  unfolding ledger_answer
+  refused_answer r e = ap (λ x. after_answer m state (after_message state.chain x)) e

@@ -1,5 +1,5 @@
 -- What a ledger answers to a message, and what that does to what it holds.
-use Rattle.std.specs.Prelude.{◌≡◌, ◌+◌, ℕ, true, false, is_some, Result, Ok, Err, List, Option, None, IfSome}
+use Rattle.std.specs.Prelude.{◌≡◌, ℕ, true, false, is_some, Result, Ok, Err, List, Option, None, IfSome}
 use Rattle.ibc_ids.specs.Publications.{height_of as published_height}
 use Rattle.ibc_ids.specs.declared.publication.Publication.{Publication}
 use Rattle.ibc_ids.specs.declared.refusal.Refusal.{Refusal}
@@ -7,24 +7,29 @@ use Rattle.ibc_ids.specs.declared.refusal.Refusal.TheVariants.{NoMemory}
 use Rattle.ibc_wire.specs.declared.messages.Message.{Message}
 use Rattle.ibc_wire.specs.declared.messages.Message.TheVariants as message
 use Rattle.ibc_wire.specs.declared.messages.UpdateClient.{UpdateClient}
+use Rattle.ibc_wire.specs.declared.messages.RecvPacket.{RecvPacket}
+use Rattle.ibc_wire.specs.declared.messages.AckPacket.{AckPacket}
+use Rattle.ibc_wire.specs.declared.messages.Timeout.{Timeout}
+use Rattle.ibc_wire.specs.declared.messages.TimeoutOnClose.{TimeoutOnClose}
 use Rattle.ibc_machine.specs.declared.reply.Effect.{Effect}
 use Rattle.ibc_machine.specs.declared.reply.Effect.TheVariants as effect
 use Rattle.ibc_machine.specs.declared.reply.Reply.{Reply}
 use Rattle.ibc_machine.specs.declared.reply.Reply.TheVariants as reply
 use Rattle.ibc_machine.specs.declared.entry.Reading.{Reading}
-use Rattle.ibc_machine.specs.Records.{Core}
+use Rattle.ibc_machine.specs.Records.{Core, Apps}
 use Rattle.ibc_machine.specs.Checks.{Checked}
-use Rattle.ibc_machine.specs.Evidence.{Host, Evidence}
 use Rattle.ibc_machine.specs.Clients.{create_client, update_client}
 use Rattle.ibc_machine.specs.Connections.{conn_open_init, conn_open_try, conn_open_ack, conn_open_confirm}
 use Rattle.ibc_machine.specs.Channels.{chan_open_init, chan_open_try, chan_open_ack, chan_open_confirm, chan_close_init, chan_close_confirm}
-use Rattle.ibc_machine.specs.Applications.{require_application, on_open, on_close}
+use Rattle.ibc_machine.specs.Packets.{recv_packet, ack_packet, timeout, timeout_on_close}
+use Rattle.ibc_machine.specs.Notes.{send_note}
+use Rattle.ibc_machine.specs.Applications.{require_application, on_open, on_close, on_recv, on_ack, on_timeout}
 use Rattle.ibc_machine.specs.Ledgers.{is_block_reply, reading_fits}
 use Rattle.ibc_machine.specs.Replay.{LedgerState, proves}
-use Rattle.ibc_path_store.specs.Held.{height_of}
 use Rattle.ibc_records.specs.Held.{HeldRecords, core_of, IsUnchanged}
 use Rattle.ibc_records.specs.Knowledge.{Knows}
 use Rattle.ibc_records.specs.Taking.{Handler, host_with, IsWritten}
+use Rattle.ibc_records.specs.Taking.{HandlerWith}
 use Rattle.ibc_root_table.specs.Passes.{TableName, Sight}
 use Rattle.ibc_client.specs.Answers.{IsUpdated}
 use Rattle.ibc_client.specs.Looks.{looks_up}
@@ -53,6 +58,20 @@ pub record IsTakenAs (handler : Handler) (chain chains : ℕ) (old : HeldRecords
   pub no_block : is_block_reply given.0 ≡ false
   pub unread : given.1 ≡ None
 
+-- ---- messages that read nothing, where applications take part
+
+-- all checks passed and the records and the applications are written, or a check failed and both stay
+abbrev pub IsBothTakenBy : Checked (Effect × Core × Apps) → HeldRecords → Apps → Reply → HeldRecords → Apps → Type 0
+IsBothTakenBy checked old apps (reply.Ok effect) new left = (core : Core) × (checked ≡ Ok (effect, core, left)) × IsWritten core old new
+IsBothTakenBy checked old apps (reply.No refusal) new left =
+    (refusal ≡ NoMemory → ⊥) × (checked ≡ Err refusal) × IsUnchanged old new × (left ≡ apps)
+
+pub record IsBothTakenAs (handler : HandlerWith Apps) (chain chains : ℕ) (old : HeldRecords) (apps : Apps) (given : Answered) (new : HeldRecords) (left : Apps) : Type 0 where
+  pub taken : (state : LedgerState) (seen : List Publication) → Knows old state
+      → IsBothTakenBy (handler (proves seen None state) (host_with chain chains old) (core_of old)) old apps given.0 new left
+  pub no_block : is_block_reply given.0 ≡ false
+  pub unread : given.1 ≡ None
+
 -- ---- updates of clients
 
 -- a client was told of a height, or the message was refused for another cause than memory
@@ -66,44 +85,80 @@ pub record IsUpdateAnswer (table : TableName) (m : UpdateClient) (old : HeldReco
   pub looks : is_some given.1 ≡ looks_up (core_of old) m
   pub fits : IfSome given.1 (λ r. reading_fits table.shape.window (published_height m.header.chain pass.seen) m.header.height r ≡ true)
 
+-- ---- the handlers of packets
+
+-- what a message that brings a packet does, where the applications keep this
+abbrev pub recv_with : Apps → RecvPacket → HandlerWith Apps
+recv_with apps m evidence host core =
+    recv_packet (on_recv (record { core = core; apps = apps }) m.packet.destination_port) evidence host core m
+
+abbrev pub ack_with : Apps → AckPacket → HandlerWith Apps
+ack_with apps m evidence host core = ack_packet (on_ack apps m.packet.source_port) evidence core m
+
+abbrev pub timeout_with : Apps → Timeout → HandlerWith Apps
+timeout_with apps m evidence host core = timeout (on_timeout apps m.packet.source_port) evidence core m
+
+abbrev pub timeout_on_close_with : Apps → TimeoutOnClose → HandlerWith Apps
+timeout_on_close_with apps m evidence host core = timeout_on_close (on_timeout apps m.packet.source_port) evidence core m
+
 -- ---- all messages
 
--- what a ledger has at a message: its number among so many chains, its records, and its pass of the table
+-- what a ledger has at a message: its number among so many chains, its records, what its applications keep, and its pass
+-- of the table
 pub record Before : Type 0 where
   pub chain : ℕ
   pub chains : ℕ
   pub table : TableName
   pub records : HeldRecords
+  pub apps : Apps
   pub pass : Sight
 
--- the answer is the handler's, and the pass has seen no more
-abbrev IsTakenUnseen : Handler → Before → Answered → HeldRecords → Sight → Type 0
-IsTakenUnseen handler old given new pass =
-    IsTakenAs handler old.chain old.chains old.records given new × (pass ≡ old.pass)
+-- what it has after the message
+pub record After : Type 0 where
+  pub records : HeldRecords
+  pub apps : Apps
+  pub pass : Sight
 
--- the answer to a message that a ledger takes, with the records and the pass after it
-abbrev pub IsAnswerTo : Message → Before → Answered → HeldRecords → Sight → Type 0
-IsAnswerTo (message.CreateClient m) old given new pass =
-    IsTakenUnseen (λ evidence host core. create_client host core m) old given new pass
-IsAnswerTo (message.UpdateClient m) old given new pass = IsUpdateAnswer old.table m old.records given new pass
-IsAnswerTo (message.ConnOpenInit m) old given new pass =
-    IsTakenUnseen (λ evidence host core. conn_open_init core m) old given new pass
-IsAnswerTo (message.ConnOpenTry m) old given new pass =
-    IsTakenUnseen (λ evidence host core. conn_open_try evidence host core m) old given new pass
-IsAnswerTo (message.ConnOpenAck m) old given new pass =
-    IsTakenUnseen (λ evidence host core. conn_open_ack evidence host core m) old given new pass
-IsAnswerTo (message.ConnOpenConfirm m) old given new pass =
-    IsTakenUnseen (λ evidence host core. conn_open_confirm evidence core m) old given new pass
-IsAnswerTo (message.ChanOpenInit m) old given new pass =
-    IsTakenUnseen (λ evidence host core. chan_open_init (require_application m.port) (on_open m.port) core m) old given new pass
-IsAnswerTo (message.ChanOpenTry m) old given new pass =
-    IsTakenUnseen (λ evidence host core. chan_open_try (require_application m.port) (on_open m.port) evidence core m) old given new pass
-IsAnswerTo (message.ChanOpenAck m) old given new pass =
-    IsTakenUnseen (λ evidence host core. chan_open_ack evidence core m) old given new pass
-IsAnswerTo (message.ChanOpenConfirm m) old given new pass =
-    IsTakenUnseen (λ evidence host core. chan_open_confirm evidence core m) old given new pass
-IsAnswerTo (message.ChanCloseInit m) old given new pass =
-    IsTakenUnseen (λ evidence host core. chan_close_init (on_close m.port) core m) old given new pass
-IsAnswerTo (message.ChanCloseConfirm m) old given new pass =
-    IsTakenUnseen (λ evidence host core. chan_close_confirm evidence core m) old given new pass
-IsAnswerTo _ old given new pass = ⊥
+-- the answer is the handler's, which leaves what the applications keep, and the pass has seen no more
+abbrev IsTakenUnseen : Handler → Before → Answered → After → Type 0
+IsTakenUnseen handler old given new =
+    IsTakenAs handler old.chain old.chains old.records given new.records × (new.apps ≡ old.apps) × (new.pass ≡ old.pass)
+
+-- the answer is the handler's, and the pass has seen no more
+abbrev IsBothTakenUnseen : HandlerWith Apps → Before → Answered → After → Type 0
+IsBothTakenUnseen handler old given new =
+    IsBothTakenAs handler old.chain old.chains old.records old.apps given new.records new.apps × (new.pass ≡ old.pass)
+
+-- the answer to a message that a ledger takes, with what it has after it
+abbrev pub IsAnswerTo : Message → Before → Answered → After → Type 0
+IsAnswerTo (message.CreateClient m) old given new =
+    IsTakenUnseen (λ evidence host core. create_client host core m) old given new
+IsAnswerTo (message.UpdateClient m) old given new =
+    IsUpdateAnswer old.table m old.records given new.records new.pass × (new.apps ≡ old.apps)
+IsAnswerTo (message.ConnOpenInit m) old given new =
+    IsTakenUnseen (λ evidence host core. conn_open_init core m) old given new
+IsAnswerTo (message.ConnOpenTry m) old given new =
+    IsTakenUnseen (λ evidence host core. conn_open_try evidence host core m) old given new
+IsAnswerTo (message.ConnOpenAck m) old given new =
+    IsTakenUnseen (λ evidence host core. conn_open_ack evidence host core m) old given new
+IsAnswerTo (message.ConnOpenConfirm m) old given new =
+    IsTakenUnseen (λ evidence host core. conn_open_confirm evidence core m) old given new
+IsAnswerTo (message.ChanOpenInit m) old given new =
+    IsTakenUnseen (λ evidence host core. chan_open_init (require_application m.port) (on_open m.port) core m) old given new
+IsAnswerTo (message.ChanOpenTry m) old given new =
+    IsTakenUnseen (λ evidence host core. chan_open_try (require_application m.port) (on_open m.port) evidence core m) old given new
+IsAnswerTo (message.ChanOpenAck m) old given new =
+    IsTakenUnseen (λ evidence host core. chan_open_ack evidence core m) old given new
+IsAnswerTo (message.ChanOpenConfirm m) old given new =
+    IsTakenUnseen (λ evidence host core. chan_open_confirm evidence core m) old given new
+IsAnswerTo (message.ChanCloseInit m) old given new =
+    IsTakenUnseen (λ evidence host core. chan_close_init (on_close m.port) core m) old given new
+IsAnswerTo (message.ChanCloseConfirm m) old given new =
+    IsTakenUnseen (λ evidence host core. chan_close_confirm evidence core m) old given new
+IsAnswerTo (message.SendNote m) old given new =
+    IsTakenUnseen (λ evidence host core. send_note evidence core m) old given new
+IsAnswerTo (message.RecvPacket m) old given new = IsBothTakenUnseen (recv_with old.apps m) old given new
+IsAnswerTo (message.AckPacket m) old given new = IsBothTakenUnseen (ack_with old.apps m) old given new
+IsAnswerTo (message.Timeout m) old given new = IsBothTakenUnseen (timeout_with old.apps m) old given new
+IsAnswerTo (message.TimeoutOnClose m) old given new = IsBothTakenUnseen (timeout_on_close_with old.apps m) old given new
+IsAnswerTo _ old given new = ⊥

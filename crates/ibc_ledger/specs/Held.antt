@@ -35,8 +35,8 @@ plain_holding (account, denom, amount) = ((account_text account, denom), amount)
 abbrev pub is_built_port : Text → Bool
 is_built_port port = not (same_text port transfer_port)
 
--- a ledger has a handler for the message: those of clients, connections and channels (ICS 2, ICS 3, ICS 4), where they
--- don't ask the application of a port that isn't built
+-- a ledger has a handler for the message: those of clients, connections, channels and packets (ICS 2, ICS 3, ICS 4),
+-- where they don't ask the application of a port that isn't built, and those of notes
 abbrev pub has_handler : Message → Bool
 has_handler (message.CreateClient m) = true
 has_handler (message.UpdateClient m) = true
@@ -50,4 +50,9 @@ has_handler (message.ChanOpenAck m) = true
 has_handler (message.ChanOpenConfirm m) = true
 has_handler (message.ChanCloseInit m) = is_built_port m.port
 has_handler (message.ChanCloseConfirm m) = true
+has_handler (message.SendNote m) = true
+has_handler (message.RecvPacket m) = is_built_port m.packet.destination_port
+has_handler (message.AckPacket m) = is_built_port m.packet.source_port
+has_handler (message.Timeout m) = is_built_port m.packet.source_port
+has_handler (message.TimeoutOnClose m) = is_built_port m.packet.source_port
 has_handler _ = false

@@ -3,8 +3,11 @@ use Rattle.std.specs.Prelude.{◌≡◌, map, length, Some}
 use Rattle.ibc_machine.specs.Genesis.{GenesisState, genesis_state, is_allowed}
 use Rattle.ibc_machine.specs.Ledgers.{Ledger}
 use Rattle.std.specs.Prelude.{IsTrue}
+use Rattle.std.specs.List.{AllByRecursion}
 use Rattle.ibc_ledger.specs.Standing.{Stands}
 use Rattle.ibc_ledger.specs.Held.{HeldLedger, plain_entry, shape_of}
+use Rattle.ibc_ledger.specs.Happened.{happened_on, IsHandledEntry}
+use Rattle.ibc_ledger.specs.SentPackets.{AreFirst}
 use Rattle.ibc_ledger.specs.declared.ledger.Ledger.TheInside.{Inside}
 
 abbrev pub genesis_of : Inside → GenesisState
@@ -16,7 +19,8 @@ ledger_of l = record { genesis = genesis_of l; chain = l.chain; history = map pl
 abbrev pub held_of : Inside → HeldLedger
 held_of l = record { ledger = ledger_of l; table = l.table.value }
 
--- what is held is the state that the history leaves, and the pass is the chain's own of the table of the genesis
+-- what is held is the state that the history leaves, and the pass is the chain's own of the table of the genesis; the
+-- history is of the chain, and where in it packets were sent is known
 pub record IsHeld (l : Inside) : Type 0 where
   pub stands : Stands (ledger_of l) l.records l.applications
   pub allowed : IsTrue (is_allowed (genesis_of l))
@@ -25,3 +29,5 @@ pub record IsHeld (l : Inside) : Type 0 where
   pub shape : l.table.value.shape ≡ shape_of (genesis_of l)
   pub chains : l.chains ≡ length (genesis_of l).chains
   pub capacity : l.capacity ≡ (genesis_of l).capacity
+  pub handled : AllByRecursion (IsHandledEntry l.chain) (ledger_of l).history
+  pub sent : AreFirst l.sent.pairs (happened_on (ledger_of l))

@@ -3,6 +3,8 @@ pub mod Entries
 pub mod Proving
 pub mod Standing
 pub mod Held
+pub mod Happened
+pub mod SentPackets
 pub mod Inside
 pub mod Ending
 pub mod Answering

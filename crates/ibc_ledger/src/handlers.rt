@@ -6,8 +6,8 @@ ghost use Rattle.ibc_ledger.specs.Held.{has_handler, is_built_port};
 use ibc_ids::PortId;
 use ibc_wire::Message;
 
-/// Whether ledgers have a handler for a message: for those of clients, connections and channels, where they don't ask the
-/// application of port `transfer`.
+/// Whether ledgers have a handler for a message: for those of clients, connections, channels and packets, where they don't
+/// ask the application of port `transfer`, and for those of notes.
 pub fn has_handler(message: &Message) -> bool
     ensures { result ≡ has_handler message.now }
 {
@@ -20,11 +20,16 @@ pub fn has_handler(message: &Message) -> bool
         | Message::ConnOpenConfirm(_)
         | Message::ChanOpenAck(_)
         | Message::ChanOpenConfirm(_)
-        | Message::ChanCloseConfirm(_) => true,
+        | Message::ChanCloseConfirm(_)
+        | Message::SendNote(_) => true,
         Message::ChanOpenInit(message) => is_built_port(&message.port),
         Message::ChanOpenTry(message) => is_built_port(&message.port),
         Message::ChanCloseInit(message) => is_built_port(&message.port),
-        _ => false,
+        Message::RecvPacket(message) => is_built_port(&message.packet.destination_port),
+        Message::AckPacket(message) => is_built_port(&message.packet.source_port),
+        Message::Timeout(message) => is_built_port(&message.packet.source_port),
+        Message::TimeoutOnClose(message) => is_built_port(&message.packet.source_port),
+        Message::Transfer(_) | Message::TransferMany(_) => false,
     }
 }
 

@@ -13,16 +13,21 @@ ghost use Rattle.ibc_machine.specs.Genesis.{genesis_state, is_allowed};
 ghost use Rattle.ibc_machine.specs.Image.{image};
 ghost use Rattle.ibc_machine.specs.Ledgers.{IsLedger, SeesMore, state_of};
 ghost use Rattle.ibc_root_table.specs.Passes.{unused_pass};
+ghost use Rattle.ibc_note.specs.Plain.{plain_notes};
 ghost use Rattle.ibc_ledger.specs.Held.{plain_entry, plain_holding, shape_of};
+ghost use Rattle.ibc_ledger.specs.Happened.{ack_on, packet_on};
 ghost use Rattle.ibc_ledger.specs.Proving.{provable};
 
 use crate::StampedEntry;
 use crate::applications::Applications;
-use ibc_ids::{Account, Bytes, Denom, Key, Refusal};
+use crate::packets::{note_in, note_packet};
+use crate::places::{Places, place_of};
+use ibc_ids::{Account, Bytes, ChannelId, Denom, Key, PortId, Refusal};
 use ibc_machine::Genesis;
 use ibc_merkle::Proof;
 use ibc_records::Records;
 use ibc_root_table::{Pass, RootTable};
+use ibc_wire::Packet;
 use std::alloc::Global;
 use std::marker::Model;
 use std::snapshot::Snapshot;
@@ -42,6 +47,7 @@ pub struct Ledger {
     pub(crate) records: Records,
     pub(crate) applications: Applications,
     pub(crate) history: Vec<StampedEntry>,
+    pub(crate) sent: Places,
 }
 
 impl Model for Ledger {
@@ -84,6 +90,7 @@ impl Ledger {
             records: Records::new(alloc, genesis.window, start.time)?,
             applications: Applications::new(alloc, start)?,
             history: Vec::new(alloc),
+            sent: Places::new(alloc),
         })
     }
 
@@ -141,6 +148,63 @@ impl Ledger {
         ensures err { IfErr result (λ refusal. refusal ≡ NoMemory) }
     {
         Ok(self.applications.balances.list(self.alloc)?)
+    }
+
+    /// The notes that came over each channel of port `note`, in the order in which they came; the channels in the byte order
+    /// of their names. `NoMemory` where a growth is refused.
+    pub fn all_notes(&self) -> Result<Vec<(ChannelId, Vec<Bytes>)>, Refusal>
+        ensures ok { IfOk result (λ list. map plain_notes list.items ≡ (state_of self.now.ledger).chain.records.apps.notes) }
+        ensures err { IfErr result (λ refusal. refusal ≡ NoMemory) }
+    {
+        Ok(self.applications.notes.all(self.alloc)?)
+    }
+
+    /// The packet that was sent from an end of a channel under a sequence (ICS 4, "sendPacket"), whether its commitment stands
+    /// or not. None where no such packet was sent, where there is no such end, and where the end doesn't know its peer yet.
+    /// `NoMemory` where a growth is refused.
+    pub fn packet(
+        &self,
+        port: &PortId,
+        channel: &ChannelId,
+        sequence: u64,
+    ) -> Result<Option<Packet>, Refusal>
+        ensures ok { IfOk result (λ packet. packet ≡ packet_on self.now.ledger port.now channel.now sequence) }
+        ensures err { IfErr result (λ refusal. refusal ≡ NoMemory) }
+    {
+        let Some(mine) = self.records.channel(port, channel)? else {
+            return Ok(None);
+        };
+        let end = mine.end();
+        let Some(peer) = &end.peer_channel else {
+            return Ok(None);
+        };
+        let Some(place) = place_of(&self.sent, port, channel, sequence)? else {
+            return Ok(None);
+        };
+        let Some(note) = note_in(&self.history[place].entry.event) else {
+            unreachable!();
+        };
+        Ok(Some(note_packet(port, channel, sequence, end, peer, note)?))
+    }
+
+    /// The acknowledgement that was written at an end of a channel for a sequence (ICS 4, "writeAcknowledgement"). None where
+    /// none was written, and where there is no such end. `NoMemory` where a growth is refused.
+    pub fn ack(
+        &self,
+        port: &PortId,
+        channel: &ChannelId,
+        sequence: u64,
+    ) -> Result<Option<Bytes>, Refusal>
+        ensures ok { IfOk result (λ ack. ack ≡ ack_on self.now.ledger port.now channel.now sequence) }
+        ensures err { IfErr result (λ refusal. refusal ≡ NoMemory) }
+    {
+        let Some(mine) = self.records.channel(port, channel)? else {
+            return Ok(None);
+        };
+        match mine.ack(sequence) {
+            Some(ack) => Ok(Some(ack.clone()?)),
+            None => Ok(None),
+        }
     }
 
     /// Afterwards the passes of the two ledgers have seen the same publications, and each of them all that either had seen.

@@ -13,6 +13,8 @@ mod laws;
 mod ledger;
 mod messages;
 mod outcome;
+mod packets;
+mod places;
 mod refusals;
 mod typed;
 

@@ -13,8 +13,9 @@ ghost use Rattle.ibc_ledger.specs.Held.{has_handler};
 
 use crate::applications::Applications;
 use crate::outcome::Outcome;
+use crate::places::{keep_first, make_room};
 use crate::typed::is_typed;
-use crate::{Ledger, StampedEntry, channels, connections};
+use crate::{Ledger, StampedEntry, channels, connections, packets};
 use ibc_client::{create, update};
 use ibc_ids::{Refusal, nth_client};
 use ibc_machine::{Entry, Event, Reply};
@@ -36,23 +37,29 @@ impl Ledger {
             drop(message);
             return Reply::No(Refusal::NoMemory);
         };
+        let Ok(sender) = make_room(self.alloc, &mut self.sent, &message) else {
+            drop(message);
+            return Reply::No(Refusal::NoMemory);
+        };
         is_typed(&message);
         let chain = self.chain;
         let Ok(outcome) = answer(
             self.alloc,
             &mut self.records,
-            &self.applications,
+            &mut self.applications,
             &self.table,
             &mut self.pass,
             chain,
             self.chains,
             &message,
         ) else {
+            drop(sender);
             drop(message);
             return Reply::No(Refusal::NoMemory);
         };
         let reading = outcome.reading;
         let seen = seen_if(&self.pass, reading.is_some());
+        keep_first(&mut self.sent, sender, &outcome.kept, self.history.len());
         self.history.push_reserved(StampedEntry {
             entry: Entry {
                 event: Event::Message { chain, message },
@@ -70,7 +77,7 @@ impl Ledger {
 fn answer(
     alloc: Global,
     records: &mut Records,
-    applications: &Applications,
+    applications: &mut Applications,
     table: &RootTable,
     pass: &mut Pass,
     chain: u8,
@@ -80,8 +87,8 @@ fn answer(
     requires handled { IsTrue (has_handler message.now) }
     requires table { pass.old.table ≡ table.now }
     ensures kept { IfOk result (λ outcome. outcome.kept ≡ outcome.reply) }
-    ensures answer { IfOk result (λ outcome. IsAnswerTo message.now (record { chain = chain; chains = chains; table = table.now; records = records.old; pass = pass.old }) (outcome.reply, outcome.reading) records.new pass.new) }
-    ensures err { OnErr result (IsUnchanged records.old records.new) }
+    ensures answer { IfOk result (λ outcome. IsAnswerTo message.now (record { chain = chain; chains = chains; table = table.now; records = records.old; apps = applications.old; pass = pass.old }) (outcome.reply, outcome.reading) (record { records = records.new; apps = applications.new; pass = pass.new })) }
+    ensures err { OnErr result (IsUnchanged records.old records.new × (applications.new ≡ applications.old)) }
     ensures pass { SamePass pass.old pass.new × IsPrefix pass.old.seen pass.new.seen × KeepsOwn pass.old pass.new }
 {
     match message {
@@ -97,7 +104,14 @@ fn answer(
         Message::ChanOpenConfirm(message) => channels::confirm_in(alloc, records, message),
         Message::ChanCloseInit(message) => channels::close_in(records, applications, message),
         Message::ChanCloseConfirm(message) => channels::close_confirm_in(alloc, records, message),
-        _ => unreachable!(),
+        Message::SendNote(message) => packets::send_in(alloc, records, message),
+        Message::RecvPacket(message) => packets::recv_in(alloc, records, applications, message),
+        Message::AckPacket(message) => packets::ack_in(alloc, records, applications, message),
+        Message::Timeout(message) => packets::timeout_in(alloc, records, applications, message),
+        Message::TimeoutOnClose(message) => {
+            packets::timeout_on_close_in(alloc, records, applications, message)
+        }
+        Message::Transfer(_) | Message::TransferMany(_) => unreachable!(),
     }
 }
 

@@ -6,7 +6,7 @@ ghost use Rattle.ibc_machine.specs.declared.reply.Effect.TheVariants as effect_o
 ghost use Rattle.ibc_ledger.specs.Answering.{IsReplyTo};
 
 use crate::refusals::with_memory;
-use ibc_ids::{ChannelId, ClientId, ConnectionId, Refusal};
+use ibc_ids::{Bytes, ChannelId, ClientId, ConnectionId, Refusal};
 use ibc_machine::{Effect, Reading, Reply};
 use std::alloc::AllocError;
 
@@ -91,6 +91,36 @@ impl Outcome {
     {
         match made {
             Ok(id) => Outcome::of_effect(Ok((Effect::Channel(id), Effect::Channel(named)))),
+            Err(refusal) => Outcome::of_effect(Err(refusal)),
+        }
+    }
+
+    /// The outcome of a call that sent a packet under this sequence. Error: memory ran out.
+    pub fn of_sent(sent: Result<u64, Refusal>) -> Result<Outcome, AllocError>
+        ensures kept { IfOk result (λ outcome. outcome.kept ≡ outcome.reply) }
+        ensures reply { IfOk result (λ outcome. IsReplyTo effect_of.Sent sent outcome.reply) }
+        ensures unread { IfOk result (λ outcome. outcome.reading ≡ None) }
+        ensures err { IsErr result → sent ≡ Err NoMemory }
+    {
+        match sent {
+            Ok(sequence) => Outcome::of_effect(Ok((
+                Effect::Sent(sequence),
+                Effect::Sent(sequence),
+            ))),
+            Err(refusal) => Outcome::of_effect(Err(refusal)),
+        }
+    }
+
+    /// The outcome of a call that wrote an acknowledgement, of which it gives a copy too. Error: memory ran out.
+    pub fn of_ack(written: Result<(Bytes, Bytes), Refusal>) -> Result<Outcome, AllocError>
+        requires { IfOk written (λ acks. acks.1 ≡ acks.0) }
+        ensures kept { IfOk result (λ outcome. outcome.kept ≡ outcome.reply) }
+        ensures reply { IfOk result (λ outcome. IsReplyTo (λ acks. effect_of.Ack acks.0) written outcome.reply) }
+        ensures unread { IfOk result (λ outcome. outcome.reading ≡ None) }
+        ensures err { IsErr result → written ≡ Err NoMemory }
+    {
+        match written {
+            Ok((ack, kept)) => Outcome::of_effect(Ok((Effect::Ack(ack), Effect::Ack(kept)))),
             Err(refusal) => Outcome::of_effect(Err(refusal)),
         }
     }

@@ -5,15 +5,15 @@ ghost use Rattle.std.specs.List.{list_all};
 ghost use Rattle.ibc_ids.specs.Names.{is_client, is_connection, is_channel, is_port, is_version};
 ghost use Rattle.ibc_wire.specs.Fields.{are_typed, n8, root32, str, u8};
 ghost use Rattle.ibc_wire.specs.Messages.{message_fields};
-ghost use Rattle.ibc_wire.specs.Spelling.{order_number};
+ghost use Rattle.ibc_wire.specs.Spelling.{order_number, packet_fields};
 ghost use Rattle.ibc_wire.specs.declared.messages.Message.TheVariants as message_of;
 ghost use Rattle.ibc_ledger.specs.Held.{has_handler};
 
 use ibc_ids::{Bytes, ChannelId, ClientId, ConnectionId, PortId, Root, Version};
 use ibc_wire::{
-    ChanCloseConfirm, ChanCloseInit, ChanOpenAck, ChanOpenConfirm, ChanOpenInit, ChanOpenTry,
-    ConnOpenAck, ConnOpenConfirm, ConnOpenInit, ConnOpenTry, CreateClient, Message, Order,
-    UpdateClient,
+    AckPacket, ChanCloseConfirm, ChanCloseInit, ChanOpenAck, ChanOpenConfirm, ChanOpenInit,
+    ChanOpenTry, ConnOpenAck, ConnOpenConfirm, ConnOpenInit, ConnOpenTry, CreateClient, Message,
+    Order, Packet, RecvPacket, SendNote, Timeout, TimeoutOnClose, UpdateClient,
 };
 
 /// A message is what its type promises.
@@ -34,7 +34,12 @@ pub fn is_typed(message: &Message)
         Message::ChanOpenConfirm(message) => is_typed_chan_confirm(message),
         Message::ChanCloseInit(message) => is_typed_close_init(message),
         Message::ChanCloseConfirm(message) => is_typed_close_confirm(message),
-        _ => unreachable!(),
+        Message::SendNote(message) => is_typed_send(message),
+        Message::RecvPacket(message) => is_typed_recv(message),
+        Message::AckPacket(message) => is_typed_ack_packet(message),
+        Message::Timeout(message) => is_typed_timeout(message),
+        Message::TimeoutOnClose(message) => is_typed_timeout_on_close(message),
+        Message::Transfer(_) | Message::TransferMany(_) => unreachable!(),
     }
 }
 
@@ -150,6 +155,64 @@ fn is_typed_close_confirm(message: &ChanCloseConfirm)
     is_channel(&message.channel);
     is_u64(message.height);
     is_text(&message.proof);
+}
+
+fn is_typed_send(message: &SendNote)
+    ensures { IsTrue (are_typed (message_fields (message_of.SendNote message.now))) }
+{
+    is_channel(&message.channel);
+    is_text(&message.payload);
+    is_u64(message.timeout_height);
+    is_u64(message.timeout_time);
+}
+
+fn is_typed_recv(message: &RecvPacket)
+    ensures { IsTrue (are_typed (message_fields (message_of.RecvPacket message.now))) }
+{
+    is_typed_packet(&message.packet);
+    is_u64(message.height);
+    is_text(&message.proof);
+}
+
+fn is_typed_ack_packet(message: &AckPacket)
+    ensures { IsTrue (are_typed (message_fields (message_of.AckPacket message.now))) }
+{
+    is_typed_packet(&message.packet);
+    is_text(&message.ack);
+    is_u64(message.height);
+    is_text(&message.proof);
+}
+
+fn is_typed_timeout(message: &Timeout)
+    ensures { IsTrue (are_typed (message_fields (message_of.Timeout message.now))) }
+{
+    is_typed_packet(&message.packet);
+    is_u64(message.next_recv);
+    is_u64(message.height);
+    is_text(&message.proof);
+}
+
+fn is_typed_timeout_on_close(message: &TimeoutOnClose)
+    ensures { IsTrue (are_typed (message_fields (message_of.TimeoutOnClose message.now))) }
+{
+    is_typed_packet(&message.packet);
+    is_u64(message.next_recv);
+    is_u64(message.height);
+    is_text(&message.proof);
+    is_text(&message.proof_close);
+}
+
+fn is_typed_packet(packet: &Packet)
+    ensures { IsTrue (are_typed (packet_fields packet.now)) }
+{
+    is_u64(packet.sequence);
+    is_u64(packet.timeout_height);
+    is_u64(packet.timeout_time);
+    is_port(&packet.source_port);
+    is_channel(&packet.source_channel);
+    is_port(&packet.destination_port);
+    is_channel(&packet.destination_channel);
+    is_text(&packet.payload);
 }
 
 fn is_client(id: &ClientId)

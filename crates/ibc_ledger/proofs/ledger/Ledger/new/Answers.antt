@@ -29,6 +29,7 @@ invariant_of-result c =
       records = c.in_ok-new.field-0;
       applications = c.in_ok-new-2.field-0;
       history = c.new-3.result;
+      sent = c.new-4.result;
     } in
     let there : slice_get items c.args.chain ≡ Some start =
     ap (slice_get items) (sym c.from.ensures) ∙ slice_get-get_or items c.from.result start (subst (λ n. n < length items) (sym c.from.ensures) c.requires.chain) ∙ ap Some (sym c.index-start.ensures) in
@@ -44,4 +45,5 @@ invariant_of-result c =
       records = c.in_ok-new.ensures.ok;
       applications = c.in_ok-new-2.ensures;
       history = c.new-3.ensures.items;
+      sent = c.new-4.ensures;
     }))

@@ -1,0 +1,103 @@
+-- What a ledger says of a packet that it sent, by what it keeps.
+use Rattle.std.proofs.Common.{◌≡◌, ◌<◌, ℕ, true, List, [], ◌∷◌, length, map, refl, sym, ap, ◌∙◌, subst, Some, None, Option, slice_get, option_map, option_and_then}
+use Rattle.std.specs.Prelude.{◌==◌}
+use Rattle.std.proofs.lemmas.Option.{slice_get-map, slice_get_within}
+use Rattle.ibc_ids.specs.Texts.{Text, pair_cmp}
+use Rattle.ibc_ids.specs.Maps.{at}
+use Rattle.ibc_wire.specs.declared.packet.Packet.{Packet}
+use Rattle.ibc_machine.specs.Records.{Core, Channel, channel_at}
+use Rattle.ibc_machine.specs.Histories.{Happened, End, sent_by, packet_sent}
+use Rattle.ibc_wire.specs.declared.messages.SendNote.{SendNote}
+use Rattle.std.specs.Option.{unwrap_or}
+use Rattle.ibc_machine.specs.Replay.{StampedEntry}
+use Rattle.ibc_machine.specs.Ledgers.{chain_of}
+use Rattle.ibc_ledger.specs.declared.entry.StampedEntry.{StampedEntry as KeptEntry}
+use Rattle.ibc_ledger.specs.declared.ledger.Ledger.TheInside.{Inside}
+use Rattle.ibc_ledger.specs.Held.{plain_entry}
+use Rattle.ibc_ledger.specs.Inside.{ledger_of, IsHeld}
+use Rattle.ibc_ledger.specs.Happened.{happened_of, happened_on, packet_on, is_handled, IsHandledEntry}
+use Rattle.ibc_ledger.specs.SentPackets.{note_in, note_packet, SentName, sent_cmp, is_named}
+use Rattle.ibc_ledger.proofs.SentPackets.{sent_at, stands_at, named_note, names_a_note}
+use Rattle.std.specs.List.{AllByRecursion}
+
+all_happened : (chain : ℕ) (history : List StampedEntry) → AllByRecursion (IsHandledEntry chain) history
+    → AllByRecursion (λ (h : Happened). ((chain_of h.0 == chain) ≡ true) × (is_handled h.0 ≡ true)) (map happened_of history)
+all_happened chain [] all = tt
+all_happened chain (e ∷ history) all = (all.0, all_happened chain history all.1)
+
+module _ (l : Inside) (held : IsHeld l) (port channel : Text) (n : ℕ) where
+  abbrev from : End
+  from = record { chain = l.chain; port = port; channel = channel }
+
+  abbrev name : SentName
+  name = ((port, channel), n)
+
+  abbrev happened : List Happened
+  happened = happened_on (ledger_of l)
+
+  -- the end, as the records have it
+  abbrev its_end : Option Channel
+  its_end = at pair_cmp (port, channel) l.records.channels
+
+  abbrev Says : Option Channel → Option Packet
+  Says o = option_and_then (λ (mine : Channel). option_and_then (λ peer. packet_sent from mine happened n) mine.end.peer_channel) o
+
+  says : packet_on (ledger_of l) port channel n ≡ Says its_end
+  says = ap (λ (core : Core). Says (channel_at core port channel)) (sym held.stands.holds.core)
+
+  pub no_end : its_end ≡ None → packet_on (ledger_of l) port channel n ≡ None
+  no_end none = says ∙ ap Says none
+
+  module _ (mine : Channel) (is : its_end ≡ Some mine) where
+    abbrev AtPeer : Option Text → Option Packet
+    AtPeer o = option_and_then (λ peer. packet_sent from mine happened n) o
+
+    pub no_peer : mine.end.peer_channel ≡ None → packet_on (ledger_of l) port channel n ≡ None
+    no_peer none = says ∙ ap Says is ∙ ap AtPeer none
+
+    sent_there : packet_sent from mine happened n ≡ option_and_then (λ i. option_and_then (sent_by from mine) (slice_get happened i)) (at sent_cmp name l.sent.pairs)
+    sent_there = sent_at from mine n happened (all_happened l.chain (ledger_of l).history held.handled) l.sent.pairs held.sent
+
+    at_peer : (peer : Text) → mine.end.peer_channel ≡ Some peer → packet_on (ledger_of l) port channel n
+        ≡ option_and_then (λ i. option_and_then (sent_by from mine) (slice_get happened i)) (at sent_cmp name l.sent.pairs)
+    at_peer peer knows = says ∙ ap Says is ∙ ap AtPeer knows ∙ sent_there
+
+    pub not_sent : (peer : Text) → mine.end.peer_channel ≡ Some peer → at sent_cmp name l.sent.pairs ≡ None → packet_on (ledger_of l) port channel n ≡ None
+    not_sent peer knows none = at_peer peer knows ∙ ap (option_and_then (λ i. option_and_then (sent_by from mine) (slice_get happened i))) none
+
+  -- ---- what stands at a place
+
+  its_entry : (i : ℕ) → slice_get happened i ≡ option_map (λ e. happened_of (plain_entry e)) (slice_get l.history.items i)
+  its_entry i = slice_get-map happened_of (map plain_entry l.history.items) i ∙ ap (option_map happened_of) (slice_get-map plain_entry l.history.items i) ∙ twice (slice_get l.history.items i)
+    where
+      twice : (o : Option KeptEntry) → option_map happened_of (option_map plain_entry o) ≡ option_map (λ e. happened_of (plain_entry e)) o
+      twice (Some e) = refl
+      twice None = refl
+
+  module _ (i : ℕ) (found : at sent_cmp name l.sent.pairs ≡ Some i) where
+    pub within : i < length l.history.items
+    within = by_entry (slice_get l.history.items i) refl (sym (its_entry i) ∙ (stands_at l.sent.pairs happened held.sent name i found).1)
+      where
+        by_entry : (o : Option KeptEntry) → slice_get l.history.items i ≡ o → option_map (λ e. happened_of (plain_entry e)) o ≡ Some (stands_at l.sent.pairs happened held.sent name i found).0 → i < length l.history.items
+        by_entry (Some e) is there = slice_get_within l.history.items i e is
+        by_entry None is there = absurd (cc there)
+
+    module _ (e : KeptEntry) (here : slice_get l.history.items i ≡ Some e) where
+      is_there : slice_get happened i ≡ Some (happened_of (plain_entry e))
+      is_there = its_entry i ∙ ap (option_map (λ e. happened_of (plain_entry e))) here
+
+      is_named_so : is_named name (happened_of (plain_entry e)) ≡ true
+      is_named_so =
+          let w = stands_at l.sent.pairs happened held.sent name i found in
+          let same : w.0 ≡ happened_of (plain_entry e) = (let s = sym w.1 ∙ is_there in cc) in
+          subst (λ h. is_named name h ≡ true) same w.2
+
+      pub no_other : note_in e.entry.event ≡ None → ⊥
+      no_other = names_a_note name (happened_of (plain_entry e)) is_named_so
+
+      pub was_sent : (mine : Channel) → its_end ≡ Some mine → (peer : Text) → mine.end.peer_channel ≡ Some peer → (m : SendNote) → note_in e.entry.event ≡ Some m
+          → packet_on (ledger_of l) port channel n ≡ Some (note_packet port channel n mine.end peer m)
+      was_sent mine is peer knows m sends =
+          at_peer mine is peer knows ∙ ap (option_and_then (λ i. option_and_then (sent_by from mine) (slice_get happened i))) found
+          ∙ ap (option_and_then (sent_by from mine)) is_there ∙ named_note from mine n (happened_of (plain_entry e)) m sends is_named_so
+          ∙ ap (λ o. Some (note_packet port channel n mine.end (unwrap_or o []) m)) knows

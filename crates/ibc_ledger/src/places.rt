@@ -1,0 +1,90 @@
+//! Where in a history the packets stand that were sent.
+
+ghost use Rattle.std.specs.Prelude.{◌≡◌, ◌<◌, IfOk, OnOk};
+ghost use Rattle.ibc_ids.specs.Maps.{at};
+ghost use Rattle.ibc_machine.specs.Notes.{note_port};
+ghost use Rattle.ibc_ledger.specs.SentPackets.{sender_of, sent_as, sent_cmp, with_first};
+
+use ibc_ids::{ChannelId, PortId};
+use ibc_machine::{Effect, Reply};
+use ibc_sorted_map::SortedMap;
+use ibc_wire::Message;
+use std::alloc::{AllocError, Global};
+
+/// The end from which a packet is sent: its port and its name.
+pub type Sender = (PortId, ChannelId);
+
+/// The places of packets that were sent, by their ends and sequences.
+pub type Places = SortedMap<(Sender, u64), usize>;
+
+/// Makes room for the place of a packet, and gives the end from which the message sends one, or none. Error: memory ran
+/// out.
+pub fn make_room(
+    alloc: Global,
+    places: &mut Places,
+    message: &Message,
+) -> Result<Option<Sender>, AllocError>
+    ensures pairs { places.new.pairs ≡ places.old.pairs }
+    ensures sender { IfOk result (λ sender. sender ≡ sender_of message.now) }
+    ensures room { OnOk result (0 < places.new.room) }
+{
+    places.reserve(1)?;
+    sender_of(alloc, message)
+}
+
+/// The place of the packet of this name, or none where none was sent. Error: memory ran out.
+pub fn place_of(
+    places: &Places,
+    port: &PortId,
+    channel: &ChannelId,
+    sequence: u64,
+) -> Result<Option<usize>, AllocError>
+    ensures { IfOk result (λ place. place ≡ at sent_cmp ((port.now, channel.now), sequence) places.now.pairs) }
+{
+    let port = port.clone()?;
+    let channel = channel.clone()?;
+    let name = ((port, channel), sequence);
+    Ok(places.get(&name).copied())
+}
+
+// The end from which a message sends a packet, or none. Error: memory ran out.
+fn sender_of(alloc: Global, message: &Message) -> Result<Option<Sender>, AllocError>
+    ensures { IfOk result (λ sender. sender ≡ sender_of message.now) }
+{
+    match message {
+        Message::SendNote(message) => {
+            let channel = message.channel.clone()?;
+            Ok(Some((note_port(alloc)?, channel)))
+        }
+        _ => Ok(None),
+    }
+}
+
+/// Keeps the place of the packet that was sent by this reply, if one was. The first packet of a name stays.
+pub fn keep_first(places: &mut Places, sender: Option<Sender>, reply: &Reply, place: usize)
+    requires { 0 < places.old.room }
+    ensures { places.new.pairs ≡ with_first (sent_as sender reply.now) place places.old.pairs }
+{
+    let Some(sender) = sender else {
+        return;
+    };
+    let Reply::Ok(Effect::Sent(sequence)) = reply else {
+        return;
+    };
+    let name = (sender, *sequence);
+    if places.get(&name).is_some() {
+        return;
+    }
+    let Ok(()) = places.set(name, place) else {
+        unreachable!();
+    };
+}
+
+fn note_port(alloc: Global) -> Result<PortId, AllocError>
+    ensures { IfOk result (λ port. port ≡ note_port) }
+{
+    match PortId::parse(alloc, "note") {
+        Ok(port) => Ok(port),
+        Err(_) => Err(AllocError),
+    }
+}
