@@ -9,6 +9,8 @@ use Rattle.ibc_script.specs.declared.draft.ConnectionDraft.{ConnectionDraft}
 use Rattle.ibc_script.specs.declared.draft.ConnectionDraft.TheVariants as connection
 use Rattle.ibc_script.specs.declared.draft.ChannelDraft.{ChannelDraft}
 use Rattle.ibc_script.specs.declared.draft.ChannelDraft.TheVariants as channel
+use Rattle.ibc_script.specs.declared.draft.PacketDraft.{PacketDraft}
+use Rattle.ibc_script.specs.declared.draft.PacketDraft.TheVariants as packet
 use Rattle.ibc_script.specs.declared.draft.Draft.{Draft}
 use Rattle.ibc_script.specs.declared.draft.Draft.TheVariants as draft
 use Rattle.ibc_script.specs.declared.event_kind.EventKind.{EventKind}
@@ -54,10 +56,18 @@ channel_draft_kind (channel.OpenConfirm port id from) = kind.ChanOpenConfirm
 channel_draft_kind (channel.CloseInit m) = kind.ChanCloseInit
 channel_draft_kind (channel.CloseConfirm port id from) = kind.ChanCloseConfirm
 
+abbrev pub packet_draft_kind : PacketDraft → EventKind
+packet_draft_kind (packet.SendNote m) = kind.SendNote
+packet_draft_kind (packet.Recv sent height) = kind.RecvPacket
+packet_draft_kind (packet.Ack sent from) = kind.AckPacket
+packet_draft_kind (packet.Timeout sent from) = kind.Timeout
+packet_draft_kind (packet.TimeoutOnClose sent from) = kind.TimeoutOnClose
+
 abbrev pub draft_kind : Draft → EventKind
 draft_kind (draft.Client d) = client_draft_kind d
 draft_kind (draft.Connection d) = connection_draft_kind d
 draft_kind (draft.Channel d) = channel_draft_kind d
+draft_kind (draft.Packet d) = packet_draft_kind d
 
 abbrev pub name_of : EventKind → Text
 name_of kind.CreateClient = codes "CreateClient"

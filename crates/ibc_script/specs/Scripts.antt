@@ -11,6 +11,8 @@ use Rattle.ibc_script.specs.declared.draft.ConnectionDraft.{ConnectionDraft}
 use Rattle.ibc_script.specs.declared.draft.ConnectionDraft.TheVariants as connection
 use Rattle.ibc_script.specs.declared.draft.ChannelDraft.{ChannelDraft}
 use Rattle.ibc_script.specs.declared.draft.ChannelDraft.TheVariants as channel
+use Rattle.ibc_script.specs.declared.draft.PacketDraft.{PacketDraft}
+use Rattle.ibc_script.specs.declared.draft.PacketDraft.TheVariants as packet
 use Rattle.ibc_script.specs.declared.draft.Draft.{Draft}
 use Rattle.ibc_script.specs.declared.draft.Draft.TheVariants as draft
 use Rattle.ibc_script.specs.declared.script.Step.{Step}
@@ -35,10 +37,18 @@ IsChannelAmong chains (channel.OpenConfirm port id from) = from.chain < chains
 IsChannelAmong chains (channel.CloseInit m) = ⊤
 IsChannelAmong chains (channel.CloseConfirm port id from) = from.chain < chains
 
+abbrev pub IsPacketAmong : ℕ → PacketDraft → Type 0
+IsPacketAmong chains (packet.SendNote m) = ⊤
+IsPacketAmong chains (packet.Recv sent height) = sent.chain < chains
+IsPacketAmong chains (packet.Ack sent from) = (sent.chain < chains) × (from.chain < chains)
+IsPacketAmong chains (packet.Timeout sent from) = (sent.chain < chains) × (from.chain < chains)
+IsPacketAmong chains (packet.TimeoutOnClose sent from) = (sent.chain < chains) × (from.chain < chains)
+
 abbrev pub IsDraftAmong : ℕ → Draft → Type 0
 IsDraftAmong chains (draft.Client d) = IsClientAmong chains d
 IsDraftAmong chains (draft.Connection d) = IsConnectionAmong chains d
 IsDraftAmong chains (draft.Channel d) = IsChannelAmong chains d
+IsDraftAmong chains (draft.Packet d) = IsPacketAmong chains d
 
 -- the chains that a step names are among so many, and where it names two they differ
 abbrev pub IsAmong : ℕ → Step → Type 0
@@ -66,10 +76,18 @@ IsProp-IsChannelAmong chains (channel.OpenConfirm port id from) = hlevel props
 IsProp-IsChannelAmong chains (channel.CloseInit m) = hlevel props
 IsProp-IsChannelAmong chains (channel.CloseConfirm port id from) = hlevel props
 
+pub IsProp-IsPacketAmong : (chains : ℕ) (d : PacketDraft) → IsProp (IsPacketAmong chains d)
+IsProp-IsPacketAmong chains (packet.SendNote m) = hlevel props
+IsProp-IsPacketAmong chains (packet.Recv sent height) = hlevel props
+IsProp-IsPacketAmong chains (packet.Ack sent from) = hlevel props
+IsProp-IsPacketAmong chains (packet.Timeout sent from) = hlevel props
+IsProp-IsPacketAmong chains (packet.TimeoutOnClose sent from) = hlevel props
+
 pub IsProp-IsDraftAmong : (chains : ℕ) (d : Draft) → IsProp (IsDraftAmong chains d)
 IsProp-IsDraftAmong chains (draft.Client d) = IsProp-IsClientAmong chains d
 IsProp-IsDraftAmong chains (draft.Connection d) = IsProp-IsConnectionAmong chains d
 IsProp-IsDraftAmong chains (draft.Channel d) = IsProp-IsChannelAmong chains d
+IsProp-IsDraftAmong chains (draft.Packet d) = IsProp-IsPacketAmong chains d
 
 pub IsProp-IsAmong : (chains : ℕ) (s : Step) → IsProp (IsAmong chains s)
 IsProp-IsAmong chains (step.Message on d) = hlevel (props, IsProp-IsDraftAmong)

@@ -1,11 +1,11 @@
 //! Messages as the steps of a script name them.
 
 ghost use Rattle.std.specs.Prelude.{◌≡◌};
-ghost use Rattle.ibc_script.specs.EventKinds.{client_draft_kind, connection_draft_kind, channel_draft_kind, draft_kind};
+ghost use Rattle.ibc_script.specs.EventKinds.{client_draft_kind, connection_draft_kind, channel_draft_kind, packet_draft_kind, draft_kind};
 
 use crate::EventKind;
 use ibc_ids::{ChannelId, ClientId, ConnectionId, PortId, Version};
-use ibc_wire::{ChanCloseInit, ChanOpenInit, Order};
+use ibc_wire::{ChanCloseInit, ChanOpenInit, Order, SendNote};
 
 /// The height of a chain from which the proofs of a message are taken.
 #[derive(Clone, Copy, Debug, PartialEq, Eq, Drop)]
@@ -93,12 +93,38 @@ pub enum ChannelDraft {
     },
 }
 
+/// A packet, by the chain, the port and the channel that it was sent from, and its sequence there (ICS 4, "Packet").
+/// There may be no such packet.
+#[derive(Drop, Debug)]
+pub struct SentPacket {
+    pub chain: u8,
+    pub port: PortId,
+    pub channel: ChannelId,
+    pub sequence: u64,
+}
+
+/// A message for packets (ICS 4, "Packet flow & handling").
+#[derive(Drop, Debug)]
+pub enum PacketDraft {
+    /// A note is sent.
+    SendNote(SendNote),
+    /// A packet is received. Its proof is of this height of the chain that sent it.
+    Recv { packet: SentPacket, height: u64 },
+    /// The sender is told how its packet was acknowledged.
+    Ack { packet: SentPacket, from: Origin },
+    /// The sender is told that its packet wasn't received in time.
+    Timeout { packet: SentPacket, from: Origin },
+    /// The sender is told that its packet wasn't received, and that the peer's end is closed.
+    TimeoutOnClose { packet: SentPacket, from: Origin },
+}
+
 /// A message as a step of a script names it. Its other fields come from what the chains answer when the step is run.
 #[derive(Drop, Debug)]
 pub enum Draft {
     Client(ClientDraft),
     Connection(ConnectionDraft),
     Channel(ChannelDraft),
+    Packet(PacketDraft),
 }
 
 impl ClientDraft {
@@ -140,6 +166,20 @@ impl ChannelDraft {
     }
 }
 
+impl PacketDraft {
+    fn kind(&self) -> EventKind
+        ensures { result ≡ packet_draft_kind self.now }
+    {
+        match self {
+            PacketDraft::SendNote(_) => EventKind::SendNote,
+            PacketDraft::Recv { .. } => EventKind::RecvPacket,
+            PacketDraft::Ack { .. } => EventKind::AckPacket,
+            PacketDraft::Timeout { .. } => EventKind::Timeout,
+            PacketDraft::TimeoutOnClose { .. } => EventKind::TimeoutOnClose,
+        }
+    }
+}
+
 impl Draft {
     /// The kind of the message.
     pub fn kind(&self) -> EventKind
@@ -149,6 +189,7 @@ impl Draft {
             Draft::Client(draft) => draft.kind(),
             Draft::Connection(draft) => draft.kind(),
             Draft::Channel(draft) => draft.kind(),
+            Draft::Packet(draft) => draft.kind(),
         }
     }
 }

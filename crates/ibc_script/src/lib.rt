@@ -8,12 +8,15 @@ mod draft;
 mod event_kind;
 mod fault;
 mod members;
+mod payload;
 mod reading;
 mod script;
 
 pub use application::Application;
 pub use chain_name::{ChainName, ChainNameKind};
-pub use draft::{ChannelDraft, ChannelTry, ClientDraft, ConnectionDraft, Draft, Origin};
+pub use draft::{
+    ChannelDraft, ChannelTry, ClientDraft, ConnectionDraft, Draft, Origin, PacketDraft, SentPacket,
+};
 pub use event_kind::EventKind;
 pub use fault::Fault;
 pub use reading::read_script;

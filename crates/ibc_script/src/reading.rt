@@ -7,6 +7,7 @@ mod chains;
 mod channels;
 mod clients;
 mod connections;
+mod packets;
 mod step_reader;
 mod steps;
 

@@ -1,5 +1,6 @@
 -- The messages that a script's steps become: the steps' own fields, and what the chains answer.
-use Rattle.std.specs.Prelude.{◌≡◌, ◌⊎◌, ℕ, false, List, Option, None, Some, slice_get, option_map, option_and_then, unwrap_or, replicate}
+use Rattle.std.specs.Prelude.{◌≡◌, ◌⊎◌, ℕ, false, ◌==◌, if◌then◌else◌, List, length, Option, None, Some, slice_get, option_map, option_and_then, unwrap_or, replicate}
+use Rattle.std.specs.Int.{w64, from_be_bytes}
 use Rattle.ibc_ids.specs.Texts.{Text}
 use Rattle.ibc_ids.specs.declared.key.Key.{Key}
 use Rattle.ibc_ids.specs.declared.key.Key.TheVariants as key
@@ -10,11 +11,15 @@ use Rattle.ibc_wire.specs.Spelling.{client_state_fields, proof_fields, proof_byt
 use Rattle.ibc_wire.specs.declared.header.Header.{Header}
 use Rattle.ibc_wire.specs.declared.messages.Message.{Message}
 use Rattle.ibc_wire.specs.declared.messages.Message.TheVariants as message
+use Rattle.ibc_wire.specs.declared.packet.Packet.{Packet}
 use Rattle.ibc_wire.specs.declared.records.ClientState.{ClientState}
 use Rattle.ibc_wire.specs.declared.records.ConnectionEnd.{ConnectionEnd}
 use Rattle.ibc_wire.specs.declared.records.ChannelEnd.{ChannelEnd}
+use Rattle.ibc_wire.specs.declared.records.Order.{Order}
+use Rattle.ibc_wire.specs.declared.records.Order.TheVariants.{Unordered, Ordered}
 use Rattle.ibc_script_cli.specs.Heights.{kept_at}
 use Rattle.ibc_script_cli.specs.declared.completing.Claim.{Claim}
+use Rattle.ibc_script_cli.specs.declared.completing.packets.Unreceived.{Unreceived}
 use Rattle.ibc_script.specs.declared.draft.ClientDraft.{ClientDraft}
 use Rattle.ibc_script.specs.declared.draft.ClientDraft.TheVariants as client
 use Rattle.ibc_script.specs.declared.draft.ConnectionDraft.{ConnectionDraft}
@@ -22,6 +27,9 @@ use Rattle.ibc_script.specs.declared.draft.ConnectionDraft.TheVariants as connec
 use Rattle.ibc_script.specs.declared.draft.ChannelDraft.{ChannelDraft}
 use Rattle.ibc_script.specs.declared.draft.ChannelDraft.TheVariants as channel
 use Rattle.ibc_script.specs.declared.draft.ChannelTry.{ChannelTry}
+use Rattle.ibc_script.specs.declared.draft.PacketDraft.{PacketDraft}
+use Rattle.ibc_script.specs.declared.draft.PacketDraft.TheVariants as packet
+use Rattle.ibc_script.specs.declared.draft.SentPacket.{SentPacket}
 use Rattle.ibc_script.specs.declared.draft.Draft.{Draft}
 use Rattle.ibc_script.specs.declared.draft.Draft.TheVariants as draft
 use Rattle.ibc_script.specs.declared.draft.Origin.{Origin}
@@ -41,6 +49,14 @@ SaysOfConnections = ℕ → Text → Option ConnectionEnd → Type 0
 -- what a chain says of its ends of channels, by port and channel
 abbrev pub SaysOfChannels : Type 1
 SaysOfChannels = ℕ → Text → Text → Option ChannelEnd → Type 0
+
+-- what a chain says of the packets that it sent, by port, channel and sequence
+abbrev pub SaysOfPackets : Type 1
+SaysOfPackets = ℕ → Text → Text → ℕ → Option Packet → Type 0
+
+-- what a chain says of the acknowledgements that it wrote, by port, channel and sequence
+abbrev pub SaysOfAcks : Type 1
+SaysOfAcks = ℕ → Text → Text → ℕ → Option Text → Type 0
 
 -- what a chain proves at a height
 abbrev pub Proves : Type 1
@@ -233,13 +249,143 @@ MakesChannelMessage says proves on (channel.CloseConfirm port id from) made =
     (proof : Option Text) × IsPeerProof says proves on port id from proof
     × (made ≡ close_confirm_message port id from.height proof)
 
+-- ---- messages for packets: what is proved of a packet stands under its own ports, channels and sequence
+
+abbrev pub commitment_key : Packet → Key
+commitment_key p = key.Commitment p.source_port p.source_channel p.sequence
+
+abbrev pub ack_key : Packet → Key
+ack_key p = key.Acknowledgement p.destination_port p.destination_channel p.sequence
+
+abbrev pub receipt_key : Packet → Key
+receipt_key p = key.Receipt p.destination_port p.destination_channel p.sequence
+
+abbrev pub next_recv_key : Packet → Key
+next_recv_key p = key.NextSequenceRecv p.destination_port p.destination_channel
+
+abbrev pub destination_key : Packet → Key
+destination_key p = key.ChannelEnd p.destination_port p.destination_channel
+
+-- the number that 8 bytes are, big-endian
+abbrev pub number_in : Text → Option ℕ
+number_in bytes = if length bytes == 8 then Some (from_be_bytes w64 bytes) else None
+
+-- what shows that a packet wasn't received: the sequence that is received next, and a proof's encoding
+abbrev pub unreceived : Option ℕ → Option Text → Option Unreceived
+unreceived (Some next_recv) (Some proof) = Some (record { next_recv = next_recv; proof = proof })
+unreceived _ _ = None
+
+-- the sequence that a proof that was found shows, and the proof's encoding
+abbrev pub IsNextRecv : Option Proof → Option Unreceived → Type 0
+IsNextRecv None shown = shown ≡ None
+IsNextRecv (Some (Absent absence)) shown = shown ≡ None
+IsNextRecv (Some (Present presence)) shown =
+    (proof : Option Text) × IsEncoding (Some (Present presence)) proof
+    × (shown ≡ unreceived (number_in presence.value) proof)
+
+-- by the order of the own end: the sequence that is received next, or that there is no receipt
+abbrev pub IsUnreceived : Proves → Origin → Packet → Order → Option Unreceived → Type 0
+IsUnreceived proves from p Ordered shown =
+    (found : Option Proof) × proves from.chain from.height (next_recv_key p) found × IsNextRecv found shown
+IsUnreceived proves from p Unordered shown =
+    (proof : Option Text) × IsProofAt proves from (receipt_key p) proof × (shown ≡ unreceived (Some 0) proof)
+
+-- the same, none where there is no own end
+abbrev pub IsUnreceivedBy : Proves → Origin → Packet → Option ChannelEnd → Option Unreceived → Type 0
+IsUnreceivedBy proves from p None shown = shown ≡ None
+IsUnreceivedBy proves from p (Some own) shown = IsUnreceived proves from p own.order shown
+
+-- the own end is that of the packet's source, on the chain that is told
+abbrev pub IsUnreceivedAt : SaysOfChannels → Proves → ℕ → Origin → Packet → Option Unreceived → Type 0
+IsUnreceivedAt says proves on from p shown =
+    (own : Option ChannelEnd) × says on p.source_port p.source_channel own × IsUnreceivedBy proves from p own shown
+
+abbrev pub recv_message : Packet → ℕ → Option Text → Option Message
+recv_message p height =
+    option_map (λ proof. message.RecvPacket (record { packet = p; height = height; proof = proof }))
+
+abbrev pub ack_packet_message : Packet → ℕ → Option Text → Option Text → Option Message
+ack_packet_message p height (Some ack) (Some proof) =
+    Some (message.AckPacket (record { packet = p; ack = ack; height = height; proof = proof }))
+ack_packet_message p height _ _ = None
+
+abbrev pub timeout_message : Packet → ℕ → Option Unreceived → Option Message
+timeout_message p height =
+    option_map (λ (shown : Unreceived). message.Timeout (record {
+      packet = p;
+      next_recv = shown.next_recv;
+      height = height;
+      proof = shown.proof;
+    }))
+
+abbrev pub timeout_on_close_message : Packet → ℕ → Option Unreceived → Option Text → Option Message
+timeout_on_close_message p height (Some shown) (Some proof_close) =
+    Some (message.TimeoutOnClose (record {
+      packet = p;
+      next_recv = shown.next_recv;
+      height = height;
+      proof = shown.proof;
+      proof_close = proof_close;
+    }))
+timeout_on_close_message p height _ _ = None
+
+-- the packet was committed
+abbrev pub MakesRecv : Proves → Origin → Packet → Option Message → Type 0
+MakesRecv proves from p made =
+    (proof : Option Text) × IsProofAt proves from (commitment_key p) proof × (made ≡ recv_message p from.height proof)
+
+-- the acknowledgement is the one that was written, at whatever height
+abbrev pub MakesAckPacket : SaysOfAcks → Proves → Origin → Packet → Option Message → Type 0
+MakesAckPacket says proves from p made =
+    (ack : Option Text) × (proof : Option Text)
+    × says from.chain p.destination_port p.destination_channel p.sequence ack
+    × IsProofAt proves from (ack_key p) proof × (made ≡ ack_packet_message p from.height ack proof)
+
+abbrev pub MakesTimeout : SaysOfChannels → Proves → ℕ → Origin → Packet → Option Message → Type 0
+MakesTimeout says proves on from p made =
+    (shown : Option Unreceived) × IsUnreceivedAt says proves on from p shown
+    × (made ≡ timeout_message p from.height shown)
+
+-- and the peer's end is proved, which is to be closed
+abbrev pub MakesTimeoutOnClose : SaysOfChannels → Proves → ℕ → Origin → Packet → Option Message → Type 0
+MakesTimeoutOnClose says proves on from p made =
+    (shown : Option Unreceived) × (proof_close : Option Text) × IsUnreceivedAt says proves on from p shown
+    × IsProofAt proves from (destination_key p) proof_close
+    × (made ≡ timeout_on_close_message p from.height shown proof_close)
+
+-- where there is a packet
+abbrev pub MakesOfFound : (Packet → Option Message → Type 0) → Option Packet → Option Message → Type 0
+MakesOfFound makes None made = made ≡ None
+MakesOfFound makes (Some p) made = makes p made
+
+-- the packet is the one that the step names
+abbrev pub MakesOf : SaysOfPackets → SentPacket → (Packet → Option Message → Type 0) → Option Message → Type 0
+MakesOf says sent makes made =
+    (found : Option Packet) × says sent.chain sent.port sent.channel sent.sequence found × MakesOfFound makes found made
+
+-- the message that a step becomes, none where something that it needs isn't there; a packet is received with a proof
+-- of the chain that sent it
+abbrev pub MakesPacketMessage : SaysOfChannels → SaysOfPackets → SaysOfAcks → Proves → ℕ → PacketDraft → Option Message → Type 0
+MakesPacketMessage of_channels of_packets of_acks proves on (packet.SendNote m) made =
+    made ≡ Some (message.SendNote m)
+MakesPacketMessage of_channels of_packets of_acks proves on (packet.Recv sent height) made =
+    MakesOf of_packets sent (MakesRecv proves (record { chain = sent.chain; height = height })) made
+MakesPacketMessage of_channels of_packets of_acks proves on (packet.Ack sent from) made =
+    MakesOf of_packets sent (MakesAckPacket of_acks proves from) made
+MakesPacketMessage of_channels of_packets of_acks proves on (packet.Timeout sent from) made =
+    MakesOf of_packets sent (MakesTimeout of_channels proves on from) made
+MakesPacketMessage of_channels of_packets of_acks proves on (packet.TimeoutOnClose sent from) made =
+    MakesOf of_packets sent (MakesTimeoutOnClose of_channels proves on from) made
+
 -- ---- all messages
 
 -- the message that a step becomes, none where something that it needs isn't there
-abbrev pub MakesMessage : SaysOfClients → SaysOfConnections → SaysOfChannels → Proves → List Heights → ℕ → Draft → Option Message → Type 0
-MakesMessage of_clients of_connections of_channels proves heights on (draft.Client d) made =
+abbrev pub MakesMessage : SaysOfClients → SaysOfConnections → SaysOfChannels → SaysOfPackets → SaysOfAcks → Proves → List Heights → ℕ → Draft → Option Message → Type 0
+MakesMessage of_clients of_connections of_channels of_packets of_acks proves heights on (draft.Client d) made =
     (sent : Message) × (made ≡ Some sent) × MakesClientMessage of_clients heights on d sent
-MakesMessage of_clients of_connections of_channels proves heights on (draft.Connection d) made =
+MakesMessage of_clients of_connections of_channels of_packets of_acks proves heights on (draft.Connection d) made =
     MakesConnectionMessage of_connections proves on d made
-MakesMessage of_clients of_connections of_channels proves heights on (draft.Channel d) made =
+MakesMessage of_clients of_connections of_channels of_packets of_acks proves heights on (draft.Channel d) made =
     MakesChannelMessage of_channels proves on d made
+MakesMessage of_clients of_connections of_channels of_packets of_acks proves heights on (draft.Packet d) made =
+    MakesPacketMessage of_channels of_packets of_acks proves on d made

@@ -4,14 +4,15 @@ ghost use Rattle.std.specs.Prelude.{ℕ, Option, ⊤, IfOk};
 ghost use Rattle.ibc_ids.specs.Texts.{Text};
 ghost use Rattle.ibc_ids.specs.declared.key.Key.{Key};
 ghost use Rattle.ibc_merkle.specs.declared.proof.Proof.{Proof};
+ghost use Rattle.ibc_wire.specs.declared.packet.Packet.{Packet};
 ghost use Rattle.ibc_wire.specs.declared.records.ClientState.{ClientState};
 ghost use Rattle.ibc_wire.specs.declared.records.ConnectionEnd.{ConnectionEnd};
 ghost use Rattle.ibc_wire.specs.declared.records.ChannelEnd.{ChannelEnd};
 
-use ibc_ids::{Account, ChannelId, ClientId, ConnectionId, Denom, Key, PortId, Refusal};
+use ibc_ids::{Account, Bytes, ChannelId, ClientId, ConnectionId, Denom, Key, PortId, Refusal};
 use ibc_machine::{Event, Reply};
 use ibc_merkle::Proof;
-use ibc_wire::{ChannelEnd, ClientState, ConnectionEnd};
+use ibc_wire::{ChannelEnd, ClientState, ConnectionEnd, Packet};
 
 /// The chains that the steps of a script are run on, by their numbers. Each call is refused with `NoMemory` alone.
 pub trait Chains {
@@ -23,6 +24,12 @@ pub trait Chains {
 
     // What a chain says of its end of a channel.
     ghost has_channel: { Self → ℕ → Text → Text → Option ChannelEnd → Type 0 } = { λ _ _ _ _ _. ⊤ };
+
+    // What a chain says of a packet that it sent from an end of a channel, by its sequence.
+    ghost has_packet: { Self → ℕ → Text → Text → ℕ → Option Packet → Type 0 } = { λ _ _ _ _ _ _. ⊤ };
+
+    // What a chain says of the acknowledgement that it wrote at an end of a channel, by the packet's sequence.
+    ghost has_ack: { Self → ℕ → Text → Text → ℕ → Option Text → Type 0 } = { λ _ _ _ _ _ _. ⊤ };
 
     // What a chain proves at a height of a key.
     ghost has_proof: { Self → ℕ → ℕ → Key → Option Proof → Type 0 } = { λ _ _ _ _ _. ⊤ };
@@ -51,6 +58,28 @@ pub trait Chains {
     ) -> Result<Option<ChannelEnd>, Refusal>
         ensures { IfOk result (has_channel self.now chain port.now channel.now) };
 
+    /// The packet that a chain sent from an end of a channel under a sequence, whether its commitment still stands or
+    /// not; `None` where it sent none.
+    fn packet(
+        &self,
+        chain: u8,
+        port: &PortId,
+        channel: &ChannelId,
+        sequence: u64,
+    ) -> Result<Option<Packet>, Refusal>
+        ensures { IfOk result (has_packet self.now chain port.now channel.now sequence) };
+
+    /// The acknowledgement that a chain wrote at an end of a channel for the packet of a sequence, be it committed
+    /// yet or not; `None` where it wrote none.
+    fn ack(
+        &self,
+        chain: u8,
+        port: &PortId,
+        channel: &ChannelId,
+        sequence: u64,
+    ) -> Result<Option<Bytes>, Refusal>
+        ensures { IfOk result (has_ack self.now chain port.now channel.now sequence) };
+
     /// The proof of what a committed height of a chain has at a key, `None` where the height isn't committed or its
     /// records are gone.
     fn proof(&self, chain: u8, height: u64, key: &Key) -> Result<Option<Proof>, Refusal>
@@ -58,4 +87,8 @@ pub trait Chains {
 
     /// The amounts above 0 on a chain, by account and then denomination, in the byte order of their texts.
     fn balances(&self, chain: u8) -> Result<Vec<(Account, Denom, u128)>, Refusal>;
+
+    /// The notes that came over each channel of a chain, in the order in which they came: the channels that have some,
+    /// in the byte order of their texts.
+    fn notes(&self, chain: u8) -> Result<Vec<(ChannelId, Vec<Bytes>)>, Refusal>;
 }

@@ -7,6 +7,7 @@ ghost use Rattle.ibc_script_cli.specs.Completing.{IsEncoding, IsClaim, IsProofAt
 mod channels;
 mod clients;
 mod connections;
+mod packets;
 
 use crate::Chains;
 use crate::heights::Heights;
@@ -47,7 +48,7 @@ fn encoding_of(alloc: Global, proof: &Proof) -> Result<Option<Bytes>, Fault>
 impl<C: Chains + Drop> Completer<'_, C> {
     /// The message that a step of a chain sends, `None` where something that it needs isn't there. Fault: `NoMemory`.
     pub fn complete(&self, on: u8, draft: &Draft) -> Result<Option<Message>, Fault>
-        ensures made { IfOk result (MakesMessage (C.has_client self.now.chains.now) (C.has_connection self.now.chains.now) (C.has_channel self.now.chains.now) (C.has_proof self.now.chains.now) self.now.heights.now on draft.now) }
+        ensures made { IfOk result (MakesMessage (C.has_client self.now.chains.now) (C.has_connection self.now.chains.now) (C.has_channel self.now.chains.now) (C.has_packet self.now.chains.now) (C.has_ack self.now.chains.now) (C.has_proof self.now.chains.now) self.now.heights.now on draft.now) }
         ensures kind { IfOk result (λ made. IfSome made (λ message. kind_of message ≡ draft_kind draft.now)) }
         ensures err { IfErr result (λ fault. fault ≡ Fault.NoMemory) }
     {
@@ -55,6 +56,7 @@ impl<C: Chains + Drop> Completer<'_, C> {
             Draft::Client(draft) => Ok(Some(self.client_message(on, draft)?)),
             Draft::Connection(draft) => self.connection_message(on, draft),
             Draft::Channel(draft) => self.channel_message(on, draft),
+            Draft::Packet(draft) => self.packet_message(on, draft),
         }
     }
 

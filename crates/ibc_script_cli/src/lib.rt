@@ -16,6 +16,3 @@ pub use line::{Line, line_text};
 pub use program::{Worlds, drive};
 pub use streams::{read_input, write_line};
 pub use words::{Command, read_words};
-
-#[cfg(test)]
-mod tests;

@@ -9,7 +9,7 @@ use crate::completing::Completer;
 use crate::heights::Heights;
 use crate::opening::{Opening, PLAN, Side};
 use crate::{Chains, Line, line_text, write_line};
-use ibc_ids::Key;
+use ibc_ids::{Bytes, ChannelId, Key};
 use ibc_machine::{Effect, Event, Reply};
 use ibc_script::{ChainName, Draft, EventKind, Fault, Origin, Step};
 use ibc_wire::Message;
@@ -306,13 +306,62 @@ impl<'s, C: Chains + Drop> Runner<'s, C> {
         Ok(())
     }
 
-    /// Runs steps in turn and prints their lines, and then the balances. Faults: `CannotWrite`, `NoMemory`; what was
-    /// written stays written.
+    /// Prints the notes that came over a channel of a chain, numbered from 1.
+    fn print_notes_over<W: Write>(
+        &self,
+        name: &ChainName,
+        channel: &ChannelId,
+        notes: &[Bytes],
+        output: &mut W,
+    ) -> Result<(), Fault>
+        ensures { IfErr result StopsRun }
+    {
+        for (index, bytes) in notes.iter().enumerate() {
+            let line = Line::Note {
+                chain: name.clone()?,
+                channel: channel.clone()?,
+                index: index as u64 + 1,
+                bytes: bytes.clone()?,
+            };
+            print(self.alloc, output, &line)?;
+        }
+        Ok(())
+    }
+
+    /// Prints the notes of a chain.
+    fn print_notes_of<W: Write>(
+        &self,
+        number: u8,
+        name: &ChainName,
+        output: &mut W,
+    ) -> Result<(), Fault>
+        ensures { IfErr result StopsRun }
+    {
+        let notes = self.chains.notes(number).map_err(Fault::no_memory)?;
+        for (channel, notes) in &notes {
+            self.print_notes_over(name, channel, notes.as_slice(), output)?;
+        }
+        Ok(())
+    }
+
+    /// Prints the notes of all chains, in the chains' order.
+    fn print_notes<W: Write>(&self, output: &mut W) -> Result<(), Fault>
+        ensures { IfErr result StopsRun }
+    {
+        for (number, name) in self.names.iter().enumerate() {
+            self.print_notes_of(number as u8, name, output)?;
+        }
+        Ok(())
+    }
+
+    /// Runs steps in turn and prints their lines, and then the balances and the notes. Faults: `CannotWrite`,
+    /// `NoMemory`; what was written stays written.
     pub fn run_all<W: Write>(&mut self, steps: &[Step], output: &mut W) -> Result<(), Fault>
         requires { All (IsAmong (length self.old.names.now)) steps.now }
         ensures { IfErr result StopsRun }
     {
         self.run_each(steps, output)?;
-        self.print_balances(output)
+        self.print_balances(output)?;
+        self.print_notes(output)
     }
 }

@@ -10,6 +10,10 @@ abbrev pub message_refusal : Message → Refusal
 message_refusal (message.ChanOpenInit m) = UnknownPort
 message_refusal (message.ChanOpenTry m) = UnknownPort
 message_refusal (message.ChanCloseInit m) = UnknownChannel
+message_refusal (message.RecvPacket m) = UnknownChannel
+message_refusal (message.AckPacket m) = UnknownChannel
+message_refusal (message.Timeout m) = UnknownChannel
+message_refusal (message.TimeoutOnClose m) = UnknownChannel
 message_refusal _ = BadMessage
 
 -- an application that isn't there has no port, and no channel has its port

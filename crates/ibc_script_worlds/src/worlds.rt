@@ -5,12 +5,12 @@ ghost use Rattle.ibc_world_core.specs.Inside.{is_built};
 ghost use Rattle.ibc_script_worlds.specs.Unbuilt.{unbuilt_refusal};
 
 use ibc_codec::decode;
-use ibc_ids::{Account, ChannelId, ClientId, ConnectionId, Denom, Key, PortId, Refusal};
+use ibc_ids::{Account, Bytes, ChannelId, ClientId, ConnectionId, Denom, Key, PortId, Refusal};
 use ibc_ledger::has_handler;
 use ibc_machine::{Event, Genesis, Reply};
 use ibc_merkle::Proof;
 use ibc_script_cli::{Chains, Worlds};
-use ibc_wire::{ChannelEnd, ClientState, ConnectionEnd, Message};
+use ibc_wire::{ChannelEnd, ClientState, ConnectionEnd, Message, Packet};
 use ibc_world_core::World;
 use std::alloc::Global;
 
@@ -52,8 +52,11 @@ impl Chains for Ledgers {
             drop(event);
             return Ok(Reply::No(refusal));
         }
-        let mut events = Vec::with_capacity(self.alloc, 1)?;
-        events.push(event)?;
+        let Ok(mut events) = Vec::with_capacity(self.alloc, 1) else {
+            drop(event);
+            return Err(Refusal::NoMemory);
+        };
+        events.push_reserved(event);
         let mut replies = self.world.run(events)?;
         replies.pop().ok_or(Refusal::NoMemory)
     }
@@ -97,6 +100,32 @@ impl Chains for Ledgers {
         }
     }
 
+    fn packet(
+        &self,
+        chain: u8,
+        port: &PortId,
+        channel: &ChannelId,
+        sequence: u64,
+    ) -> Result<Option<Packet>, Refusal> {
+        match self.world.ledger(chain) {
+            Some(ledger) => ledger.packet(port, channel, sequence),
+            None => Ok(None),
+        }
+    }
+
+    fn ack(
+        &self,
+        chain: u8,
+        port: &PortId,
+        channel: &ChannelId,
+        sequence: u64,
+    ) -> Result<Option<Bytes>, Refusal> {
+        match self.world.ledger(chain) {
+            Some(ledger) => ledger.ack(port, channel, sequence),
+            None => Ok(None),
+        }
+    }
+
     fn proof(&self, chain: u8, height: u64, key: &Key) -> Result<Option<Proof>, Refusal> {
         let Some(ledger) = self.world.ledger(chain) else {
             return Ok(None);
@@ -111,6 +140,13 @@ impl Chains for Ledgers {
     fn balances(&self, chain: u8) -> Result<Vec<(Account, Denom, u128)>, Refusal> {
         match self.world.ledger(chain) {
             Some(ledger) => ledger.balances(),
+            None => Ok(Vec::new(self.alloc)),
+        }
+    }
+
+    fn notes(&self, chain: u8) -> Result<Vec<(ChannelId, Vec<Bytes>)>, Refusal> {
+        match self.world.ledger(chain) {
+            Some(ledger) => ledger.all_notes(),
             None => Ok(Vec::new(self.alloc)),
         }
     }
@@ -134,7 +170,11 @@ fn unbuilt_refusal(event: &Event) -> Refusal
     match event {
         Event::Message { message, .. } => match message {
             Message::ChanOpenInit(_) | Message::ChanOpenTry(_) => Refusal::UnknownPort,
-            Message::ChanCloseInit(_) => Refusal::UnknownChannel,
+            Message::ChanCloseInit(_)
+            | Message::RecvPacket(_)
+            | Message::AckPacket(_)
+            | Message::Timeout(_)
+            | Message::TimeoutOnClose(_) => Refusal::UnknownChannel,
             _ => Refusal::BadMessage,
         },
         Event::Block { .. } => Refusal::BadMessage,

@@ -22,7 +22,8 @@ pub struct StepReader<'v> {
 }
 
 impl StepReader<'_> {
-    fn chain_of(&self, name: &str) -> Result<u8, Fault>
+    /// The number of the chain of this name.
+    pub fn chain_of(&self, name: &str) -> Result<u8, Fault>
         ensures among { IfOk result (λ chain. chain < length self.now.names.now) }
         ensures faults { IfErr result JudgesScript }
     {

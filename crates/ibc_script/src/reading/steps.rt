@@ -77,6 +77,11 @@ impl StepReader<'_> {
             "ChanOpenConfirm" => Draft::Channel(self.chan_open_confirm()?),
             "ChanCloseInit" => Draft::Channel(self.chan_close_init()?),
             "ChanCloseConfirm" => Draft::Channel(self.chan_close_confirm()?),
+            "SendNote" => Draft::Packet(self.send_note()?),
+            "RecvPacket" => Draft::Packet(self.recv_packet()?),
+            "AckPacket" => Draft::Packet(self.ack_packet()?),
+            "Timeout" => Draft::Packet(self.timeout()?),
+            "TimeoutOnClose" => Draft::Packet(self.timeout_on_close()?),
             _ => return Err(Fault::BadScript),
         })
     }

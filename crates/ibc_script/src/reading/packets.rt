@@ -1,0 +1,115 @@
+//! The steps that send messages for packets.
+
+ghost use Rattle.std.specs.Prelude.{◌≡◌, ◌<◌, length, IfOk, IfErr};
+ghost use Rattle.ibc_script.specs.Faults.{JudgesScript};
+ghost use Rattle.ibc_script.specs.Scripts.{IsPacketAmong};
+
+use super::parse_name;
+use super::step_reader::StepReader;
+use crate::Fault;
+use crate::draft::{Origin, PacketDraft, SentPacket};
+use crate::members::{has_only, list, text};
+use crate::payload::payload_of;
+use ibc_ids::{Bytes, Kind, Name};
+use ibc_wire::SendNote;
+use serde_json::Value;
+
+impl StepReader<'_> {
+    /// The bytes that a member writes in base64.
+    fn payload(&self, member: &str) -> Result<Bytes, Fault>
+        ensures { IfErr result JudgesScript }
+    {
+        payload_of(self.alloc, text(self.object, member)?)?.ok_or(Fault::BadScript)
+    }
+
+    fn item_name<K: Kind>(&self, item: &Value) -> Result<Name<K>, Fault>
+        ensures { IfErr result JudgesScript }
+    {
+        parse_name(self.alloc, item.as_str().ok_or(Fault::BadScript)?)
+    }
+
+    /// The packet that the member `packet` names: `[chain, port, channel, sequence]`.
+    fn packet(&self) -> Result<SentPacket, Fault>
+        ensures among { IfOk result (λ sent. sent.chain < length self.now.names.now) }
+        ensures faults { IfErr result JudgesScript }
+    {
+        let [chain, port, channel, sequence] = list(self.object, "packet")? else {
+            return Err(Fault::BadScript);
+        };
+        Ok(SentPacket {
+            chain: self.chain_of(chain.as_str().ok_or(Fault::BadScript)?)?,
+            sequence: sequence.as_u64().ok_or(Fault::BadScript)?,
+            port: self.item_name(port)?,
+            channel: self.item_name(channel)?,
+        })
+    }
+
+    /// The packet of a step with the members of an acknowledgement or a timeout, and the height that proves it.
+    fn packet_from(&self) -> Result<(SentPacket, Origin), Fault>
+        ensures sent { IfOk result (λ read. read.0.chain < length self.now.names.now) }
+        ensures from { IfOk result (λ read. read.1.chain < length self.now.names.now) }
+        ensures faults { IfErr result JudgesScript }
+    {
+        has_only(self.object, &["do", "on", "packet", "from", "height"])?;
+        let from = self.origin()?;
+        Ok((self.packet()?, from))
+    }
+
+    pub fn send_note(&self) -> Result<PacketDraft, Fault>
+        ensures among { IfOk result (IsPacketAmong (length self.now.names.now)) }
+        ensures faults { IfErr result JudgesScript }
+    {
+        has_only(
+            self.object,
+            &[
+                "do",
+                "on",
+                "channel",
+                "data",
+                "timeout_height",
+                "timeout_time",
+            ],
+        )?;
+        Ok(PacketDraft::SendNote(SendNote {
+            timeout_height: self.number("timeout_height")?,
+            timeout_time: self.number("timeout_time")?,
+            channel: self.name("channel")?,
+            payload: self.payload("data")?,
+        }))
+    }
+
+    pub fn recv_packet(&self) -> Result<PacketDraft, Fault>
+        ensures among { IfOk result (IsPacketAmong (length self.now.names.now)) }
+        ensures faults { IfErr result JudgesScript }
+    {
+        has_only(self.object, &["do", "on", "packet", "height"])?;
+        Ok(PacketDraft::Recv {
+            height: self.number("height")?,
+            packet: self.packet()?,
+        })
+    }
+
+    pub fn ack_packet(&self) -> Result<PacketDraft, Fault>
+        ensures among { IfOk result (IsPacketAmong (length self.now.names.now)) }
+        ensures faults { IfErr result JudgesScript }
+    {
+        let (packet, from) = self.packet_from()?;
+        Ok(PacketDraft::Ack { packet, from })
+    }
+
+    pub fn timeout(&self) -> Result<PacketDraft, Fault>
+        ensures among { IfOk result (IsPacketAmong (length self.now.names.now)) }
+        ensures faults { IfErr result JudgesScript }
+    {
+        let (packet, from) = self.packet_from()?;
+        Ok(PacketDraft::Timeout { packet, from })
+    }
+
+    pub fn timeout_on_close(&self) -> Result<PacketDraft, Fault>
+        ensures among { IfOk result (IsPacketAmong (length self.now.names.now)) }
+        ensures faults { IfErr result JudgesScript }
+    {
+        let (packet, from) = self.packet_from()?;
+        Ok(PacketDraft::TimeoutOnClose { packet, from })
+    }
+}
