@@ -1,9 +1,10 @@
 //! Sends forged messages of a handshake before each honest one, and prints how often each refusal was the answer.
 #![tactic(auto)]
 
+use ibc_forgeries::{Counts, forgeries};
 use ibc_forging::{
-    Claims, ConnectionMessage, Counts, begin, create_client, end_block, forgeries, send, send_with,
-    true_claims, two_chains, update,
+    Claims, ConnectionMessage, begin, create_client, end_block, send, send_with, true_claims,
+    two_chains, update,
 };
 use ibc_ids::{Bytes, Refusal, Root, nth_connection};
 use ibc_machine::Reply;

@@ -1,7 +1,8 @@
 //! The ways in which a message of a channel is forged.
 
 use crate::channel_message::{ChannelMessage, Claim, HONEST_NAMES, Names, send_named, true_claim};
-use ibc_forging::{Counts, forgeries, proof_of};
+use ibc_forgeries::{Counts, forgeries};
+use ibc_forging::proof_of;
 use ibc_ids::{Key, Name, Refusal, nth_channel, nth_connection};
 use ibc_machine::Reply;
 use ibc_script_worlds::Ledgers;

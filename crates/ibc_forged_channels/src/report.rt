@@ -2,7 +2,7 @@
 
 use crate::channel_message::ChannelMessage;
 use crate::forgery::Forgery;
-use ibc_forging::Counts;
+use ibc_forgeries::Counts;
 use ibc_ids::{Refusal, Root};
 use ibc_machine::{Effect, Reply};
 use std::alloc::Global;

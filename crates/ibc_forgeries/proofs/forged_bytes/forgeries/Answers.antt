@@ -1,7 +1,7 @@
 use Rattle.std.proofs.Common.{rules, arith}
 use Rattle.std.proofs.lemmas.List.FromFn.{map-range_with_len_more}
-use Rattle.ibc_forging.specs.Forgeries.{with_changed}
-use Rattle.ibc_forging.proofs.forged_bytes.forgeries.Goals as goal
+use Rattle.ibc_forgeries.specs.Forgeries.{with_changed}
+use Rattle.ibc_forgeries.proofs.forged_bytes.forgeries.Goals as goal
 
 -- one byte more is changed
 pub loop-at-preserved : goal.loop-at-preserved

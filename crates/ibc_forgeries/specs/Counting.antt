@@ -4,7 +4,7 @@ use Rattle.ibc_ids.specs.Refusals.{number_of}
 use Rattle.ibc_ids.specs.declared.refusal.Refusal.{Refusal}
 use Rattle.ibc_machine.specs.declared.reply.Reply.{Reply}
 use Rattle.ibc_machine.specs.declared.reply.Reply.TheVariants as reply
-use Rattle.ibc_forging.specs.declared.counts.Counts.{Counts}
+use Rattle.ibc_forgeries.specs.declared.counts.Counts.{Counts}
 
 -- no reply yet
 abbrev pub no_counts : Counts

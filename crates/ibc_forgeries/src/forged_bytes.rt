@@ -2,7 +2,7 @@
 
 ghost use Rattle.std.specs.Prelude.{◌≡◌, ◌++◌, ◌∷◌, ◌<◌, [], length, IfOk, IfErr};
 ghost use Rattle.ibc_ids.specs.declared.refusal.Refusal.TheVariants.{NoMemory};
-ghost use Rattle.ibc_forging.specs.Forgeries.{forgeries_of, with_changed};
+ghost use Rattle.ibc_forgeries.specs.Forgeries.{forgeries_of, with_changed};
 
 use ibc_ids::{Bytes, Refusal};
 use std::alloc::Global;

@@ -2,7 +2,7 @@
 
 ghost use Rattle.std.specs.Prelude.{◌≡◌, slice_index_or};
 ghost use Rattle.ibc_ids.specs.Refusals.{number_of};
-ghost use Rattle.ibc_forging.specs.Counting.{no_counts, with_refusal, with_reply};
+ghost use Rattle.ibc_forgeries.specs.Counting.{no_counts, with_refusal, with_reply};
 
 use ibc_ids::Refusal;
 use ibc_machine::Reply;
