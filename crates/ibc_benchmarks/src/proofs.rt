@@ -1,0 +1,94 @@
+//! Calls that judge proofs.
+
+ghost use Rattle.std.specs.Prelude.{◌<◌, length, IfOk, OnOk};
+
+use crate::counting::count_right;
+use ibc_codec::{decode, encode};
+use ibc_ics23_proof::verify_present;
+use ibc_ids::{Bytes, Key, Refusal, Root, nth_connection};
+use ibc_merkle::Proof;
+use ibc_path_store::Store;
+use sha2::{Digest, Sha256};
+use std::alloc::Global;
+
+/// How many leaves the tree has.
+const LEAVES: u64 = 10_000;
+
+/// The value of each leaf.
+const VALUE: [u8; 32] = [7; 32];
+
+/// What a chain has committed of a key, with its proof.
+#[derive(Drop)]
+struct Proved {
+    root: Root,
+    path: String,
+    proof: Proof,
+}
+
+fn key_of(alloc: Global, number: u64) -> Result<Key, Refusal> {
+    Ok(Key::Connection(nth_connection(alloc, number)?))
+}
+
+#[tactic(auto, using(ibc_merkle::proofs::Edits::with_some))]
+fn set_leaf(alloc: Global, store: &mut Store, number: u64) -> Result<(), Refusal>
+    ensures { OnOk result (0 < length store.new.pairs) }
+{
+    let path = key_of(alloc, number)?.path(alloc)?;
+    store.set(path, Bytes::copy_of(alloc, VALUE.as_slice())?)
+}
+
+// The store of a chain with a value for each of so many connections.
+fn fill_store(alloc: Global) -> Result<Store, Refusal>
+    ensures { IfOk result (λ store. 0 < length store.pairs) }
+{
+    let mut store = Store::new(alloc, 1, 0);
+    set_leaf(alloc, &mut store, 0)?;
+    for number in 1..LEAVES {
+        set_leaf(alloc, &mut store, number)?;
+    }
+    Ok(store)
+}
+
+// The leaf in the middle, committed, with its proof of 14 operations.
+fn prove_one(alloc: Global) -> Result<Proved, Refusal> {
+    let mut store = fill_store(alloc)?;
+    let root = store.commit(0)?;
+    let key = key_of(alloc, LEAVES / 2)?;
+    Ok(Proved {
+        root,
+        path: key.path(alloc)?,
+        proof: store.prove(1, &key)?,
+    })
+}
+
+/// Verifies one proof of presence with 14 operations over and over, and says how often it was accepted. Refused: `NoMemory`.
+pub fn verify_proofs(alloc: Global, count: u64) -> Result<u64, Refusal> {
+    let known = prove_one(alloc)?;
+    let path = known.path.as_bytes();
+    Ok(count_right(
+        count,
+        || verify_present(&known.proof, &known.root, path, VALUE.as_slice()),
+    ))
+}
+
+/// Decodes the bytes of that proof over and over, and says how often they were the proof of a presence. Refused: `NoMemory`.
+pub fn decode_proofs(alloc: Global, count: u64) -> Result<u64, Refusal> {
+    let known = prove_one(alloc)?;
+    let bytes = encode(alloc, &known.proof)?;
+    Ok(count_right(count, || is_presence(alloc, bytes.as_slice())))
+}
+
+fn is_presence(alloc: Global, bytes: &[u8]) -> bool {
+    let proof: Result<Proof, Refusal> = decode(alloc, bytes);
+    matches!(proof, Ok(Proof::Present(_)))
+}
+
+/// Hashes a text of one compression over and over, each the digest of the one before, and says how often that was another.
+pub fn hash_texts(count: u64) -> u64 {
+    let mut digest = [0u8; 32];
+    count_right(count, || {
+        let before = digest;
+        digest = Sha256::digest(&before);
+        digest != before
+    })
+}
