@@ -14,8 +14,8 @@ use Rattle.ibc_machine.specs.Genesis.{Holding, starting_balances}
 use Rattle.ibc_machine.specs.Transfers.{transfer_port, burnt, each_token, receive_token, refund_token, receive_transfer, receive_data, acknowledged_with, refund_transfer, refund_data, acknowledge_transfer}
 use Rattle.ibc_machine.specs.Notes.{receive_note}
 use Rattle.ibc_machine.specs.Applications.{with_balances, on_recv, on_ack, on_timeout}
-use Rattle.ibc_laws.proofs.PassedChecks.{bind_passed, expect_passed, ok_same}
-use Rattle.ibc_laws.proofs.Measures.{IsSorted, sorted-with_balance}
+use Rattle.ibc_machine.proofs.PassedRows.{bind_passed, expect_passed, ok_same}
+use Rattle.ibc_machine.proofs.Measures.{IsSorted, sorted-with_balance}
 
 -- ---- a packet is received
 

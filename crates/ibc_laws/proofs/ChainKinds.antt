@@ -23,7 +23,7 @@ use Rattle.ibc_laws.proofs.CoreSteps.{CoreStep, creates_client, updates_client, 
 use Rattle.ibc_laws.proofs.AppSteps.{AppsOf, AppsOfEnd}
 use Rattle.ibc_laws.proofs.EndSteps.{end_grows}
 use Rattle.ibc_laws.proofs.CoreShape.{CoreShaped}
-use Rattle.ibc_laws.proofs.Measures.{Test, IsSorted}
+use Rattle.ibc_machine.proofs.Measures.{Test, IsSorted}
 use Rattle.ibc_laws.proofs.TokenMoves.{sent_tokens, refunded_tokens, received_tokens}
 use Rattle.ibc_laws.proofs.BalanceSteps.{Taking, takes, refuses, Refunding, no_data, refunds, Acknowledging, succeeds, fails, ByPort, received_balances, acknowledged_balances, timed_out_balances, starting_sorted}
 use Rattle.ibc_laws.proofs.Worlds.{ChainStep, acts, ends}

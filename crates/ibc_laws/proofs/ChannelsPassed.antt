@@ -19,7 +19,7 @@ use Rattle.ibc_machine.specs.Evidence.{Host}
 use Rattle.ibc_machine.specs.Channels.{chan_open_init, chan_open_try, chan_open_ack, chan_open_confirm, chan_close_init, chan_close_confirm, is_in_state, client_of, peer_channel_of, channel_end}
 use Rattle.ibc_machine.specs.Applications.{require_application, on_open, on_close}
 use Rattle.ibc_machine.specs.Machine.{World}
-use Rattle.ibc_laws.proofs.PassedChecks.{require_passed, bind_passed, then_passed, expect_passed, ok_same}
+use Rattle.ibc_machine.proofs.PassedRows.{require_passed, bind_passed, then_passed, expect_passed, ok_same}
 use Rattle.ibc_laws.proofs.PassedTests.{either, same_connection_state_is, same_channel_state_is}
 use Rattle.ibc_laws.proofs.Seen.{seeing, shown_channel}
 use Rattle.ibc_laws.proofs.CoreSteps.{Did, rank, their_end, opens_channel, changes_channel, answers, follows, closes}

@@ -19,7 +19,7 @@ use Rattle.ibc_machine.specs.Evidence.{Host}
 use Rattle.ibc_machine.specs.Clients.{create_client, update_client}
 use Rattle.ibc_machine.specs.Connections.{conn_open_init, conn_open_try, conn_open_ack, conn_open_confirm, names_host, connection_end}
 use Rattle.ibc_machine.specs.Machine.{World}
-use Rattle.ibc_laws.proofs.PassedChecks.{require_passed, bind_passed, then_passed, expect_passed, ok_same}
+use Rattle.ibc_machine.proofs.PassedRows.{require_passed, bind_passed, then_passed, expect_passed, ok_same}
 use Rattle.ibc_laws.proofs.PassedTests.{both, same_connection_state_is, no_longer}
 use Rattle.ibc_laws.proofs.Seen.{Sees-map, Sees-both, seeing, shown_client, shown_connection}
 use Rattle.ibc_laws.proofs.CoreSteps.{Did, HadClient, creates_client, updates_client, starts_connection, answers_connection, confirms_connection}

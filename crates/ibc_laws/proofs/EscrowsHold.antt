@@ -16,7 +16,7 @@ use Rattle.ibc_machine.specs.Machine.{World}
 use Rattle.ibc_machine.specs.Histories.{Happened, End}
 use Rattle.ibc_laws.proofs.PassedTests.{same_text-self}
 use Rattle.ibc_laws.proofs.Peers.{Peers}
-use Rattle.ibc_laws.proofs.Measures.{Test, IsSorted}
+use Rattle.ibc_machine.proofs.Measures.{Test, IsSorted}
 use Rattle.ibc_laws.proofs.TokenMoves.{refunded_tokens}
 use Rattle.ibc_laws.proofs.FlightSums.{under_way-settled}
 use Rattle.ibc_laws.proofs.HeldAndIssued.{if_of, kept_of}

@@ -12,7 +12,7 @@ use Rattle.ibc_machine.specs.TokenData.{amount_of, tokens_of, success}
 use Rattle.ibc_machine.specs.Totals.{amount_under_way}
 use Rattle.ibc_machine.proofs.FiniteMaps.{TellsApart, is_equal, by_number, at-with_split, at-with_same}
 use Rattle.ibc_machine.proofs.SortedMaps.{Below, Sorted}
-use Rattle.ibc_laws.proofs.Measures.{sum-with, sum-without}
+use Rattle.ibc_machine.proofs.Measures.{sum-with, sum-without}
 
 -- ---- two sums over one map, whose terms differ at one key alone
 

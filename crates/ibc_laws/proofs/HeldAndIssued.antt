@@ -14,7 +14,7 @@ use Rattle.ibc_machine.specs.Bank.{Balances, balance, escrow}
 use Rattle.ibc_machine.specs.Transfers.{transfer_port, came_over}
 use Rattle.ibc_laws.proofs.PassedTests.{both, and_true, same_text_is, same_text-self}
 use Rattle.ibc_machine.proofs.FiniteMaps.{by_pair}
-use Rattle.ibc_laws.proofs.Measures.{Test, IsSorted, amount_in, measure, weigh}
+use Rattle.ibc_machine.proofs.Measures.{Test, IsSorted, amount_in, measure, weigh}
 use Rattle.ibc_laws.proofs.TokenMoves.{unless_burnt}
 use Rattle.ibc_laws.proofs.FlightSums.{sums-differ}
 use Rattle.ibc_laws.proofs.Hops.{HasNoSlash, same_hop, came_over_is, came_over_by, came_over_one, escrow_is_no_user, escrow_same}

@@ -19,7 +19,7 @@ use Rattle.ibc_laws.proofs.AppSteps.{AppsOf, AppsOfEnd, GoodOf, GoodOfEnd}
 use Rattle.ibc_laws.proofs.Worlds.{ChainStep, acts, ends, GoodStep}
 use Rattle.ibc_laws.proofs.CoreShape.{CoreShaped, HasChannel}
 use Rattle.ibc_laws.proofs.Numbered.{none_yet}
-use Rattle.ibc_laws.proofs.Measures.{IsSorted}
+use Rattle.ibc_machine.proofs.Measures.{IsSorted}
 use Rattle.ibc_laws.proofs.Hops.{HasNoSlash}
 use Rattle.ibc_laws.proofs.ChannelNames.{channel_has_no_slash}
 use Rattle.ibc_laws.proofs.TokenShifts.{Unshifted, unshifted}

@@ -1,10 +1,8 @@
-pub mod PassedChecks
 pub mod PassedTests
 pub mod Seen
 pub mod Told
 pub mod CoreSteps
 pub mod AppSteps
-pub mod GoodData
 pub mod Growth
 pub mod ConnectionsPassed
 pub mod ChannelsPassed
@@ -39,7 +37,6 @@ pub mod SentInOrder
 pub mod ReceivedInOrder
 pub mod ThirdLaw
 pub mod Hops
-pub mod Measures
 pub mod TokenMoves
 pub mod BalanceSteps
 pub mod ChainKinds

@@ -8,7 +8,7 @@ use Rattle.ibc_machine.specs.Checks.{Checked}
 use Rattle.ibc_machine.specs.Evidence.{Host}
 use Rattle.ibc_machine.specs.Handlers.{handle, core_step, both_step}
 use Rattle.ibc_machine.specs.Machine.{World}
-use Rattle.ibc_laws.proofs.PassedChecks.{bind_passed, ok_same}
+use Rattle.ibc_machine.proofs.PassedRows.{bind_passed, ok_same}
 use Rattle.ibc_laws.proofs.Seen.{seeing}
 use Rattle.ibc_laws.proofs.Told.{Quiet, told_by}
 use Rattle.ibc_laws.proofs.CoreSteps.{Did}

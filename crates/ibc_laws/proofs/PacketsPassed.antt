@@ -23,7 +23,7 @@ use Rattle.ibc_machine.specs.Packets.{recv_checked, recv_packet, ack_checked, ac
 use Rattle.ibc_machine.specs.Applications.{on_recv, on_ack, on_timeout}
 use Rattle.ibc_machine.specs.Machine.{World, block_at}
 use Rattle.ibc_laws.proofs.Places.{some_is}
-use Rattle.ibc_laws.proofs.PassedChecks.{require_passed, bind_passed, expect_passed, ok_same}
+use Rattle.ibc_machine.proofs.PassedRows.{require_passed, bind_passed, expect_passed, ok_same}
 use Rattle.ibc_laws.proofs.PassedTests.{either, same_channel_state_is, same_commitment_is, no_longer}
 use Rattle.ibc_laws.proofs.Seen.{Sees, Sees-map, Sees-both, seeing, shown_channel, shown_next_recv, shown_commitment, shown_ack, shown_no_receipt}
 use Rattle.ibc_laws.proofs.CoreSteps.{rank, their_end, HadNotReceived, Receives, Acks, TimesOut, changes_channel, receives, acknowledges, times_out}

@@ -11,7 +11,7 @@ use Rattle.ibc_machine.specs.Transfers.{transfer_port, opens_for_transfers}
 use Rattle.ibc_machine.specs.Notes.{note_port, opens_for_notes}
 use Rattle.ibc_machine.specs.Machine.{World}
 use Rattle.ibc_machine.specs.Histories.{End}
-use Rattle.ibc_laws.proofs.PassedChecks.{require_passed}
+use Rattle.ibc_machine.proofs.PassedRows.{require_passed}
 use Rattle.ibc_laws.proofs.PassedTests.{same_text_is, same_order_is}
 use Rattle.ibc_laws.proofs.CoreSteps.{IsTaken}
 use Rattle.ibc_laws.proofs.ChainKinds.{Kinds}

@@ -22,13 +22,13 @@ use Rattle.ibc_machine.specs.Transfers.{transfer_port, transfer, transfer_many, 
 use Rattle.ibc_machine.specs.Notes.{note_port, note_commitment, send_note}
 use Rattle.ibc_machine.specs.Applications.{with_balances}
 use Rattle.ibc_machine.specs.Machine.{World}
-use Rattle.ibc_laws.proofs.PassedChecks.{require_passed, bind_passed, then_passed, expect_passed, ok_same}
+use Rattle.ibc_machine.proofs.PassedRows.{require_passed, bind_passed, then_passed, expect_passed, ok_same}
 use Rattle.ibc_laws.proofs.PassedTests.{both, same_channel_state_is, same_text_is}
 use Rattle.ibc_laws.proofs.Seen.{seeing}
 use Rattle.ibc_laws.proofs.Told.{Sent, told_by}
 use Rattle.ibc_laws.proofs.CoreSteps.{CoreStep, changes_channel, sends}
 use Rattle.ibc_laws.proofs.AppSteps.{AppsOf, GoodOf, DidBoth}
-use Rattle.ibc_laws.proofs.GoodData.{transfer_good, transfer_many_good}
+use Rattle.ibc_machine.proofs.GoodData.{transfer_good, transfer_many_good}
 
 -- the end that sends is there, and OPEN
 sending : (core : Core) (port id : Text) (mine : Channel) → sending_end core port id ≡ Ok mine

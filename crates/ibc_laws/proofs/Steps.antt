@@ -16,7 +16,7 @@ use Rattle.ibc_machine.specs.Handlers.{handle, host_of, after_message, message_a
 use Rattle.ibc_machine.specs.Machine.{World, looks, true_marks, answer, at_chain, Step}
 use Rattle.ibc_machine.specs.Ledgers.{chain_of, is_typed}
 use Rattle.ibc_machine.specs.Histories.{Happened}
-use Rattle.ibc_laws.proofs.PassedChecks.{require_passed}
+use Rattle.ibc_machine.proofs.PassedRows.{require_passed}
 use Rattle.ibc_laws.proofs.Places.{set-same}
 use Rattle.ibc_laws.proofs.Seen.{seeing}
 use Rattle.ibc_laws.proofs.Told.{Quiet, told_of}

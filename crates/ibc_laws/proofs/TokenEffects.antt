@@ -20,7 +20,7 @@ use Rattle.ibc_laws.proofs.Told.{Told}
 use Rattle.ibc_laws.proofs.CoreSteps.{ChannelStep, answers, follows, closes, sends, receives, acknowledges, times_out, Receives, Acks, TimesOut}
 use Rattle.ibc_laws.proofs.AppSteps.{AppsOfEnd, GoodOfEnd}
 use Rattle.ibc_laws.proofs.EndSteps.{taken, acked, over}
-use Rattle.ibc_laws.proofs.Measures.{IsSorted}
+use Rattle.ibc_machine.proofs.Measures.{IsSorted}
 use Rattle.ibc_laws.proofs.BalanceSteps.{Taking, takes, refuses, error_is_no_success, Refunding, no_data, refunds, Acknowledging, succeeds, fails, ByPort, received_balances, acknowledged_balances, timed_out_balances}
 use Rattle.ibc_laws.proofs.Hops.{HasNoSlash}
 use Rattle.ibc_laws.proofs.HeldAndIssued.{kept_of}

@@ -9,7 +9,7 @@ use Rattle.ibc_wire.specs.declared.token.Token.{Token}
 use Rattle.ibc_machine.specs.Bank.{Balances, supply, escrow, give, pay, into_escrow, out_of_escrow, mint, is_bounded}
 use Rattle.ibc_machine.specs.Transfers.{transfer_port, came_over, each_token, send_token, refund_token, receive_token, without_hop, with_hop}
 use Rattle.ibc_laws.proofs.Places.{some_is}
-use Rattle.ibc_laws.proofs.Measures.{Test, weigh, IsSorted, Moved, given, paid, moved_between, moved_each}
+use Rattle.ibc_machine.proofs.Measures.{Test, weigh, IsSorted, Moved, given, paid, moved_between, moved_each}
 
 -- the amount, unless the denomination came over the channel and was burnt there
 abbrev pub unless_burnt : Text → Text → Token → ℕ → ℕ

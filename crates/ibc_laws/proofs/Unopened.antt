@@ -24,7 +24,7 @@ use Rattle.ibc_laws.proofs.Invariant.{Inv}
 use Rattle.ibc_laws.proofs.ChainKinds.{Kinds}
 use Rattle.ibc_laws.proofs.Steps.{Stepped, rests, moves}
 use Rattle.ibc_laws.proofs.Hops.{HasNoSlash, base_has_no_slash, escrow_is_no_user}
-use Rattle.ibc_laws.proofs.Measures.{Test, IsSorted, measure, measure-with_balance, sorted-with_balance}
+use Rattle.ibc_machine.proofs.Measures.{Test, IsSorted, measure, measure-with_balance, sorted-with_balance}
 use Rattle.ibc_laws.proofs.BalanceSteps.{starting_sorted}
 use Rattle.ibc_laws.proofs.HeldAndIssued.{differ, balance_is, of_denom, escrowed_as}
 use Rattle.ibc_laws.proofs.ChannelNames.{channel_has_no_slash}

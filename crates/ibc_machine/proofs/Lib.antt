@@ -8,6 +8,7 @@ pub mod Members
 pub mod Identifiers
 pub mod FiniteMaps
 pub mod SortedMaps
+pub mod Measures
 pub mod Images
 pub mod ImageChanges
 pub mod CoreChanges
@@ -40,4 +41,6 @@ mod RelayedPackets
 mod ALedger
 pub mod QuotedTexts
 pub mod DataRead
+pub mod GoodData
+pub mod PassedRows
 pub mod PassedChecks

@@ -63,3 +63,15 @@ pub unused : {A B : Type 0} (o : Option A) (refusal : Refusal) (rest : Checked B
 unfolding go_on and_then
 unused (Some a) refusal rest = refl
 unused None refusal rest = refl
+
+-- ---- what goes on after a row goes on behind each of its checks
+
+pub then_bind : {A B : Type 0} (x : Checked ⊤) (y : Checked A) (rest : A → Checked B) → ((x >> y) >>= rest) ≡ (x >> (y >>= rest))
+unfolding go_on and_then
+then_bind (Ok t) y rest = refl
+then_bind (Err r) y rest = refl
+
+pub bind_bind : {A B C : Type 0} (x : Checked A) (y : A → Checked B) (rest : B → Checked C) → ((x >>= y) >>= rest) ≡ (x >>= λ a. y a >>= rest)
+unfolding go_on
+bind_bind (Ok a) y rest = refl
+bind_bind (Err r) y rest = refl

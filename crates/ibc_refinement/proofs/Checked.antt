@@ -1,36 +1,15 @@
--- What an accepted row of checks has passed, when two rows give the same, and what a row gives.
-use Rattle.std.proofs.Common.{◌≡◌, Bool, true, false, refl, ap, ◌∙◌, subst, Some, None, Option, Ok, Err}
+-- What a check that was passed says, when two rows of checks give the same, and what a row gives.
+use Rattle.std.proofs.Common.{◌≡◌, Bool, true, false, refl, ap, ◌∙◌, subst, Ok, Err}
 use Rattle.std.specs.Prelude.{⊤}
 use Rattle.ibc_ids.specs.declared.refusal.Refusal.{Refusal}
-use Rattle.ibc_machine.specs.Checks.{Checked, require, expect, go_on, and_then, ◌>>=◌, ◌>>◌}
-
-pub ok_same : {A : Type 0} {x y : A} → ◌≡◌ {A = Checked A} (Ok x) (Ok y) → x ≡ y
-ok_same e = cc
+use Rattle.ibc_machine.specs.Checks.{Checked, require, go_on, and_then, ◌>>=◌, ◌>>◌}
+use Rattle.ibc_machine.proofs.PassedRows.{ok_same}
 
 -- ---- what was passed
 
 pub require_true : (b : Bool) (r : Refusal) → require b r ≡ Ok tt → b ≡ true
 require_true true r e = refl
 require_true false r e = absurd (cc)
-
-pub require_passed : {B : Type 0} (b : Bool) (r : Refusal) (rest : Checked B) {y : B} → (require b r >> rest) ≡ Ok y → (b ≡ true) × (rest ≡ Ok y)
-unfolding and_then
-require_passed true r rest e = (refl, e)
-require_passed false r rest e = absurd (cc e)
-
-pub bind_passed : {A B : Type 0} (x : Checked A) (f : A → Checked B) {y : B} → (x >>= f) ≡ Ok y → (a : A) × (x ≡ Ok a) × (f a ≡ Ok y)
-unfolding go_on
-bind_passed (Ok a) f e = (a, refl, e)
-bind_passed (Err r) f e = absurd (cc e)
-
-pub then_passed : {B : Type 0} (x : Checked ⊤) (rest : Checked B) {y : B} → (x >> rest) ≡ Ok y → (x ≡ Ok tt) × (rest ≡ Ok y)
-unfolding and_then
-then_passed (Ok tt) rest e = (refl, e)
-then_passed (Err r) rest e = absurd (cc e)
-
-pub expect_passed : {A : Type 0} (o : Option A) (r : Refusal) {a : A} → expect o r ≡ Ok a → o ≡ Some a
-expect_passed (Some x) r e = ap Some (ok_same e)
-expect_passed None r e = absurd (cc e)
 
 -- ---- two rows of checks that agree where they are reached
 

@@ -23,7 +23,8 @@ use Rattle.ibc_machine.specs.Records.{Core, Channel, channel_at, with_channel}
 use Rattle.ibc_machine.specs.Checks.{Checked}
 use Rattle.ibc_machine.specs.Evidence.{Evidence}
 use Rattle.ibc_machine.specs.Channels.{is_in_state, in_state, new_channel, with_new_channel, channel_end, chan_open_init, chan_open_try, chan_open_ack, chan_open_confirm, chan_close_init, chan_close_confirm}
-use Rattle.ibc_refinement.proofs.Checked.{Gives, gives_ok, gives_then, gives_bind, expect_passed, require_true}
+use Rattle.ibc_machine.proofs.PassedRows.{expect_passed}
+use Rattle.ibc_refinement.proofs.Checked.{Gives, gives_ok, gives_then, gives_bind, require_true}
 use Rattle.ibc_refinement.proofs.Fitting.{nth_channel_is}
 use Rattle.ibc_refinement.proofs.Typed.{IsNamedPeer, IsTypedEnd, IsTypedChannel, IsTyped}
 use Rattle.ibc_refinement.proofs.TypedLook.{channel_typed}

@@ -18,7 +18,8 @@ use Rattle.ibc_machine.specs.Records.{Core, Client, client_at, connection_at, wi
 use Rattle.ibc_machine.specs.Evidence.{Host, Evidence}
 use Rattle.ibc_machine.specs.Clients.{create_client, update_client, new_client, updated}
 use Rattle.ibc_machine.specs.Connections.{connection_end, with_new_connection, conn_open_init, conn_open_try, conn_open_ack, conn_open_confirm}
-use Rattle.ibc_refinement.proofs.Checked.{Gives, gives_ok, gives_then, gives_bind, expect_passed}
+use Rattle.ibc_machine.proofs.PassedRows.{expect_passed}
+use Rattle.ibc_refinement.proofs.Checked.{Gives, gives_ok, gives_then, gives_bind}
 use Rattle.ibc_refinement.proofs.Fitting.{nth_client_is, nth_connection_is}
 use Rattle.ibc_refinement.proofs.Typed.{IsNamedPeer, IsTypedConnection, IsTyped}
 use Rattle.ibc_refinement.proofs.TypedLook.{client_typed, connection_typed}

@@ -18,7 +18,8 @@ use Rattle.ibc_machine.specs.Checks.{Checked}
 use Rattle.ibc_machine.specs.Evidence.{Host, Evidence}
 use Rattle.ibc_machine.specs.Channels.{is_in_state, is_established}
 use Rattle.ibc_machine.specs.Packets.{has_form, has_size, is_ordered, after_send, with_sent, after_receive, recv_checked, recv_packet, without_commitment, after_ack, ack_checked, ack_packet, after_timeout, timeout_checked, timeout, timeout_on_close_checked, timeout_on_close}
-use Rattle.ibc_refinement.proofs.Checked.{Gives, gives_ok, gives_then, gives_bind, expect_passed, require_true}
+use Rattle.ibc_machine.proofs.PassedRows.{expect_passed}
+use Rattle.ibc_refinement.proofs.Checked.{Gives, gives_ok, gives_then, gives_bind, require_true}
 use Rattle.ibc_refinement.proofs.Entries.{all_with, all_without, all_added}
 use Rattle.ibc_refinement.proofs.Typed.{IsTypedCommitment, IsSequence, HasSequence, IsTypedChannel, IsTyped}
 use Rattle.ibc_refinement.proofs.TypedLook.{channel_typed}

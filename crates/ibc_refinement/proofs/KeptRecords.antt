@@ -18,7 +18,8 @@ use Rattle.ibc_machine.specs.Packets.{sending_end}
 use Rattle.ibc_machine.specs.Transfers.{transfer_port, transfer, transfer_many, send_tokens}
 use Rattle.ibc_machine.specs.Notes.{note_port, note_commitment, send_note}
 use Rattle.ibc_machine.specs.Handlers.{core_step, both_step, handle}
-use Rattle.ibc_refinement.proofs.Checked.{Gives, gives_ok, gives_then, gives_bind, expect_passed}
+use Rattle.ibc_machine.proofs.PassedRows.{expect_passed}
+use Rattle.ibc_refinement.proofs.Checked.{Gives, gives_ok, gives_then, gives_bind}
 use Rattle.ibc_refinement.proofs.Typed.{IsTyped}
 use Rattle.ibc_refinement.proofs.TypedLook.{channel_typed}
 use Rattle.ibc_refinement.proofs.TypedMessages.{IsTypedMessage}

@@ -27,7 +27,8 @@ use Rattle.ibc_machine.specs.Machine.{World, block_at, row_if}
 use Rattle.ibc_machine.specs.Replay.{Consensus, LedgerState, consensus_cmp, is_published_as, row_read, proves, with_consensus, after_answer, ledger_answer}
 use Rattle.ibc_machine.specs.Ledgers.{published_as}
 use Rattle.ibc_ids.proofs.Texts.{text_same}
-use Rattle.ibc_refinement.proofs.Checked.{Gives, gives_ok, gives_then, gives_bind, expect_passed, require_true}
+use Rattle.ibc_machine.proofs.PassedRows.{expect_passed}
+use Rattle.ibc_refinement.proofs.Checked.{Gives, gives_ok, gives_then, gives_bind, require_true}
 use Rattle.ibc_refinement.proofs.Steps.{Knows, KnowsBlocks, consensus_of, SeesForMessage}
 use Rattle.ibc_refinement.proofs.Typed.{IsTyped}
 use Rattle.ibc_refinement.proofs.TypedMessages.{IsTypedMessage}

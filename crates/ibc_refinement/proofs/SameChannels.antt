@@ -14,7 +14,8 @@ use Rattle.ibc_machine.specs.Records.{Core, Channel, channel_at}
 use Rattle.ibc_machine.specs.Checks.{Checked}
 use Rattle.ibc_machine.specs.Evidence.{Evidence}
 use Rattle.ibc_machine.specs.Channels.{is_in_state, client_of, counterpart, has_channel, peer_channel_of, channel_end, chan_open_try, chan_open_ack, chan_open_confirm, chan_close_confirm}
-use Rattle.ibc_refinement.proofs.Checked.{then_same, bind_same, expect_passed, require_true}
+use Rattle.ibc_machine.proofs.PassedRows.{expect_passed}
+use Rattle.ibc_refinement.proofs.Checked.{then_same, bind_same, require_true}
 use Rattle.ibc_refinement.proofs.Agreeing.{Asked, Agree, proof_same, shows_same}
 
 module _ (asked : Asked) (one other : Evidence) (core : Core) (agree : Agree asked one other core) where

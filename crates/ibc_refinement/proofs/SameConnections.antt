@@ -13,7 +13,8 @@ use Rattle.ibc_machine.specs.Checks.{require}
 use Rattle.ibc_machine.specs.Evidence.{Host, Evidence, require_row}
 use Rattle.ibc_machine.specs.Clients.{update_client, is_of_client}
 use Rattle.ibc_machine.specs.Connections.{connection_end, has_connection, has_client, conn_open_try, conn_open_ack, conn_open_confirm}
-use Rattle.ibc_refinement.proofs.Checked.{then_same, bind_same, expect_passed, require_true}
+use Rattle.ibc_machine.proofs.PassedRows.{expect_passed}
+use Rattle.ibc_refinement.proofs.Checked.{then_same, bind_same, require_true}
 use Rattle.ibc_refinement.proofs.Agreeing.{Asked, Agree, AgreeOn, proof_same, proofs_same, shows_same}
 
 pub update_client_same : (one other : Evidence) (core : Core) (m : UpdateClient)

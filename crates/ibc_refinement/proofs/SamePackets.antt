@@ -20,7 +20,8 @@ use Rattle.ibc_machine.specs.TokenData.{Data}
 use Rattle.ibc_machine.specs.Packets.{has_form, has_size, is_timed_out, is_reached, has_passed, require_timeouts, recv_checked, recv_packet, ack_checked, ack_packet, timeout_checked, timeout, timeout_on_close_checked, timeout_on_close, was_sent, was_acknowledged, not_received}
 use Rattle.ibc_machine.specs.Transfers.{transfer, transfer_many, send_tokens}
 use Rattle.ibc_machine.specs.Notes.{send_note, note_commitment}
-use Rattle.ibc_refinement.proofs.Checked.{then_same, bind_same, bind_front_same, expect_passed, require_true}
+use Rattle.ibc_machine.proofs.PassedRows.{expect_passed}
+use Rattle.ibc_refinement.proofs.Checked.{then_same, bind_same, bind_front_same, require_true}
 use Rattle.ibc_refinement.proofs.Agreeing.{Asked, Agree, shows_same}
 
 module _ (asked : Asked) (one other : Evidence) (core : Core) (agree : Agree asked one other core) where

@@ -13,7 +13,7 @@ use Rattle.ibc_wire.specs.declared.messages.Transfer.{Transfer}
 use Rattle.ibc_wire.specs.declared.messages.TransferMany.{TransferMany}
 use Rattle.ibc_machine.specs.TokenData.{one_token, several_tokens, is_token, is_data}
 use Rattle.ibc_machine.specs.Transfers.{transfer_data, transfer_many_data, is_zero}
-use Rattle.ibc_laws.proofs.PassedTests.{both, and_true}
+use Rattle.ibc_machine.proofs.QuotedTexts.{both, and_true}
 
 not_zero : (n : ℕ) → not (n == 0) ≡ true → nat_le 1 n ≡ true
 not_zero n e = le-leb 1 n (go (n == 0) refl e)

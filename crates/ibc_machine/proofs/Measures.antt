@@ -5,17 +5,18 @@ use Rattle.std.specs.List.{sum_by}
 use Rattle.std.specs.Option.{option_map_or, option_and_then}
 use Rattle.std.specs.Ordering.{match_ordering}
 use Rattle.std.specs.BTreeMap.{is_at}
-use Rattle.std.specs.Cmp.{IsTotalOrder, then_total, on_total}
-use Rattle.std.specs.Cmp.Lexicographic.{nat_list_cmp_total}
+use Rattle.std.specs.Cmp.{IsTotalOrder}
 use Rattle.std.proofs.lemmas.List.Sums.{sum_by-cons}
 use Rattle.ibc_ids.specs.Texts.{Text, pair_cmp}
 use Rattle.ibc_ids.specs.Maps.{Map, at, with, without}
 use Rattle.ibc_wire.specs.declared.token.Token.{Token}
 use Rattle.ibc_machine.specs.Bank.{Balances, balance, with_balance, give, pay}
 use Rattle.ibc_machine.specs.Transfers.{each_token}
-use Rattle.ibc_laws.proofs.Places.{some_is}
-use Rattle.ibc_machine.proofs.FiniteMaps.{TellsApart, is_equal, by_pair}
+use Rattle.ibc_machine.proofs.FiniteMaps.{TellsApart, is_equal, by_pair, pair_cmp_total}
 use Rattle.ibc_machine.proofs.SortedMaps.{Below-less, Sorted, at-below, Sorted-with, Sorted-without}
+
+some_is : {A : Type 0} {x y : A} {o : Option A} → o ≡ Some x → o ≡ Some y → x ≡ y
+some_is e f = cc (e, f)
 
 -- ---- a sum over a map, where one entry changes
 
@@ -68,9 +69,6 @@ module _ {K V : Type 0} {order : K → K → Ordering} (total : IsTotalOrder ord
 
 -- ---- measures of balances
 
-pub pair_total : IsTotalOrder pair_cmp
-pair_total = then_total (on_total (λ (p : Text × Text). p.0) nat_list_cmp_total) (on_total (λ (p : Text × Text). p.1) nat_list_cmp_total)
-
 abbrev pub IsSorted : Balances → Type 0
 IsSorted b = Sorted pair_cmp b
 
@@ -112,7 +110,7 @@ module _ (test : Test) (holder denom : Text) where
           → measure test (if z then without pair_cmp (holder, denom) b else with pair_cmp (holder, denom) n b) + share (test (holder, denom)) (balance b holder denom)
           ≡ measure test b + share (test (holder, denom)) n
       go true is =
-          let less = sum-without pair_total by_pair (amount_in test) (holder, denom) b in
+          let less = sum-without pair_cmp_total by_pair (amount_in test) (holder, denom) b in
           let part = share_of_balance b in
           let zero_ : n ≡ 0 = eqb-true n 0 is in
           let none : share (test (holder, denom)) n ≡ 0 = ap (λ k. share (test (holder, denom)) k) zero_ ∙ nothing (test (holder, denom)) in
@@ -122,7 +120,7 @@ module _ (test : Test) (holder denom : Text) where
           nothing true = refl
           nothing false = refl
       go false is =
-          let more = sum-with pair_total by_pair (amount_in test) (holder, denom) n b sorted in
+          let more = sum-with pair_cmp_total by_pair (amount_in test) (holder, denom) n b sorted in
           let part = share_of_balance b in
           omega arith
 
@@ -130,8 +128,8 @@ pub sorted-with_balance : (holder denom : Text) (n : ℕ) (b : Balances) → IsS
 sorted-with_balance holder denom n b sorted = go (n == 0)
   where
     go : (z : Bool) → IsSorted (if z then without pair_cmp (holder, denom) b else with pair_cmp (holder, denom) n b)
-    go true = Sorted-without pair_total by_pair (holder, denom) b sorted
-    go false = Sorted-with pair_total by_pair (holder, denom) n b sorted
+    go true = Sorted-without pair_cmp_total by_pair (holder, denom) b sorted
+    go false = Sorted-with pair_cmp_total by_pair (holder, denom) n b sorted
 
 -- ---- tokens that move: balances stay sorted, and a measure loses and gains so much
 

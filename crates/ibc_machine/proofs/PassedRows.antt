@@ -1,4 +1,4 @@
--- What a sequence of checks has passed where it ends well.
+-- What a row of checks has passed where it ends well.
 use Rattle.std.proofs.Common.{◌≡◌, Bool, true, false, refl, ap, Option, Some, None, Ok, Err}
 use Rattle.std.specs.Prelude.{⊤}
 use Rattle.ibc_ids.specs.declared.refusal.Refusal.{Refusal}
@@ -19,13 +19,8 @@ unfolding and_then
 then_passed (Ok tt) rest e = (refl, e)
 then_passed (Err r) rest e = absurd (cc e)
 
-or_else : {A : Type 0} → A → Checked A → A
-or_else x (Ok y) = y
-or_else x (Err r) = x
-
 pub ok_same : {A : Type 0} {x y : A} → ◌≡◌ {A = Checked A} (Ok x) (Ok y) → x ≡ y
-unfolding or_else
-ok_same {A} {x} {y} e = ap (λ r. or_else x r) e
+ok_same e = cc
 
 pub expect_passed : {A : Type 0} (o : Option A) (r : Refusal) {a : A} → expect o r ≡ Ok a → o ≡ Some a
 expect_passed (Some x) r e = ap Some (ok_same e)
