@@ -1,0 +1,7 @@
+mod Parties
+pub mod Writes
+mod Tallies
+mod Carried
+mod Starts
+mod Changed
+mod Steps

@@ -1,0 +1,79 @@
+-- What a bank holds, and how tokens move in it (ICS 20, "sendFungibleTokens", "onRecvPacket" and "refundTokens").
+use Rattle.std.specs.Prelude.{ℕ, ◌+◌, ◌-◌, nat_lt, List, [], ◌∷◌, Option, Some, None, Ok, if◌then◌else◌}
+use Rattle.std.specs.Option.{option_map}
+use Rattle.ibc_ids.specs.Texts.{Text, text_cmp}
+use Rattle.ibc_ids.specs.Maps.{Map}
+use Rattle.ibc_ids.specs.declared.refusal.Refusal.TheVariants.{Poor, TooLarge}
+use Rattle.ibc_wire.specs.declared.token.Token.{Token}
+use Rattle.ibc_machine.specs.Bank.{Balances, give, pay, into_escrow, out_of_escrow, mint}
+use Rattle.ibc_machine.specs.Checks.{Checked, expect, ◌>>=◌}
+use Rattle.ibc_bank.specs.Amounts.{amount_at, with_amount}
+use Rattle.ibc_bank.specs.declared.moves.Move.{Move}
+use Rattle.ibc_bank.specs.declared.moves.Move.TheVariants as move
+use Rattle.ibc_bank.specs.declared.moves.Source.{Source}
+use Rattle.ibc_bank.specs.declared.moves.Source.TheVariants as source
+
+-- the balances, and by denomination what was burnt in flight and may still be refunded
+pub record BankState : Type 0 where
+  pub balances : Balances
+  pub burnt : Map Text ℕ
+
+abbrev pub token_of : Text → ℕ → Token
+token_of denom amount = record { denom = denom; amount = amount }
+
+-- what was burnt of a denomination
+abbrev pub burnt_of : BankState → Text → ℕ
+burnt_of bank denom = amount_at text_cmp denom bank.burnt
+
+-- where so much of the denomination was burnt
+abbrev pub with_burnt : Text → ℕ → BankState → BankState
+with_burnt denom amount bank = record bank { burnt = with_amount text_cmp denom amount bank.burnt }
+
+abbrev pub with_balances : BankState → Balances → BankState
+with_balances bank balances = record bank { balances = balances }
+
+-- ---- the six moves: None where one is refused
+
+-- from a user to the escrow of a channel
+abbrev pub escrowed : Text → Text → Token → BankState → Option BankState
+escrowed user channel token bank = option_map (with_balances bank) (into_escrow channel user token bank.balances)
+
+-- from the escrow of a channel to a user
+abbrev pub released : Text → Text → Token → BankState → Option BankState
+released channel user token bank = option_map (with_balances bank) (out_of_escrow channel user token bank.balances)
+
+-- a user's tokens are burnt, and may still be refunded
+abbrev pub burned : Text → Token → BankState → Option BankState
+burned user token bank =
+    option_map (λ balances. with_burnt token.denom (burnt_of bank token.denom + token.amount) (with_balances bank balances)) (pay user token bank.balances)
+
+-- new tokens for a user
+abbrev pub minted : Text → Token → BankState → Option BankState
+minted user token bank =
+    option_map (with_balances bank) (mint (burnt_of bank token.denom) user token bank.balances)
+
+-- back to a user out of the escrow, or minted again where they were burnt
+abbrev pub refunded : Text → Source → Token → BankState → Option BankState
+refunded user (source.Escrow channel) token bank = released channel user token bank
+refunded user source.Burnt token bank =
+    if nat_lt (burnt_of bank token.denom) token.amount then None
+    else Some (with_burnt token.denom (burnt_of bank token.denom - token.amount) (with_balances bank (give user token bank.balances)))
+
+-- what was burnt isn't refunded any more: the amount, or all where it is less
+abbrev pub settled : Token → BankState → BankState
+settled token bank = with_burnt token.denom (burnt_of bank token.denom - token.amount) bank
+
+-- ---- moves
+
+abbrev pub moved : Move → BankState → Checked BankState
+moved (move.Escrow user channel denom amount) bank = expect (escrowed user channel (token_of denom amount) bank) Poor
+moved (move.Release channel user denom amount) bank = expect (released channel user (token_of denom amount) bank) Poor
+moved (move.Burn user denom amount) bank = expect (burned user (token_of denom amount) bank) Poor
+moved (move.Mint user denom amount) bank = expect (minted user (token_of denom amount) bank) TooLarge
+moved (move.Refund user source denom amount) bank = expect (refunded user source (token_of denom amount) bank) Poor
+moved (move.Settle denom amount) bank = Ok (settled (token_of denom amount) bank)
+
+-- one move after another, or the refusal of the first that fails
+abbrev pub moved_all : List Move → BankState → Checked BankState
+moved_all [] bank = Ok bank
+moved_all (m ∷ moves) bank = moved m bank >>= moved_all moves

@@ -1,0 +1,240 @@
+//! The bank of a chain.
+
+ghost use Rattle.std.specs.Prelude.{◌≡◌, ◌⊎◌, ◌↔◌, [], Some, None, Ok, Err, map, IsTrue, IsOk, IsSome, IfOk, IfErr, OnOk, OnErr, IsErrOf, IsOkUnless};
+ghost use Rattle.std.specs.List.{list_all};
+ghost use Rattle.ibc_ids.specs.Texts.{pair_cmp};
+ghost use Rattle.ibc_ids.specs.Paths.{account_text};
+ghost use Rattle.ibc_machine.specs.Bank.{balance, supply, is_bounded};
+ghost use Rattle.ibc_machine.specs.Genesis.{starting_balances, is_fair};
+ghost use Rattle.ibc_bank.specs.Amounts.{AreKept};
+ghost use Rattle.ibc_bank.specs.Books.{IsBalanced, nothing, state_of};
+ghost use Rattle.ibc_bank.specs.Moves.{BankState, token_of, burnt_of, escrowed, released, burned, minted, refunded, settled, moved_all};
+ghost use Rattle.ibc_bank.specs.Places.{carried};
+ghost use Rattle.ibc_bank.specs.Listed.{plain_holding};
+ghost use Rattle.ibc_ids.specs.declared.refusal.Refusal.{Refusal};
+ghost use Rattle.ibc_ids.specs.declared.refusal.Refusal.TheVariants.{NoMemory};
+
+use crate::amounts::Amounts;
+use crate::books::Books;
+use crate::changes::Changes;
+use crate::holder::Party;
+use crate::moves::{Move, Source};
+use crate::place::Place;
+use ibc_ids::{Account, ChannelId, Denom, Refusal, UserName};
+use ibc_machine::ChainStart;
+use std::alloc::{AllocError, Global};
+use std::marker::Model;
+
+/// What users and the escrow accounts of channels hold of each denomination, and what was burnt of it in flight and may
+/// still be refunded (ICS 20). All that is held of a denomination and what was burnt of it are below 2^128 together, so
+/// a refund is never too large. A refused move changes nothing.
+#[derive(Drop, Debug)]
+pub struct Bank {
+    books: Books,
+    alloc: Global,
+}
+
+impl Model for Bank {
+    ghost Value = { BankState };
+
+    ghost view = { λ bank. state_of bank.books };
+
+    ghost invariant = { λ bank. IsBalanced nothing (state_of bank.books) bank.books.totals.pairs };
+}
+
+impl Bank {
+    /// A bank in which no one holds anything.
+    pub fn new(alloc: Global) -> Bank
+        ensures balances { result.balances ≡ [] }
+        ensures burnt { result.burnt ≡ [] }
+    {
+        Bank {
+            books: Books {
+                held: Amounts::new(alloc),
+                burnt: Amounts::new(alloc),
+                totals: Amounts::new(alloc),
+            },
+            alloc,
+        }
+    }
+
+    /// The bank of a chain in the beginning, whose holdings are fair: each names a user and a base denomination once,
+    /// and all amounts of a denomination fit 128 bits together.
+    pub fn from_start(alloc: Global, start: &ChainStart) -> Result<Bank, AllocError>
+        requires { IsTrue (list_all (is_fair start.now.balances.items) start.now.balances.items) }
+        ensures balances { IfOk result (λ bank. bank.balances ≡ starting_balances start.now.balances.items) }
+        ensures burnt { IfOk result (λ bank. bank.burnt ≡ []) }
+    {
+        let mut books = Books {
+            held: Amounts::new(alloc),
+            burnt: Amounts::new(alloc),
+            totals: Amounts::new(alloc),
+        };
+        for (user, denom, amount) in &start.balances {
+            books.hold(user, denom, *amount)?;
+        }
+        Ok(Bank { books, alloc })
+    }
+
+    /// What an account holds of a denomination.
+    pub fn balance(&self, account: &Account, denom: &Denom) -> u128
+        ensures { result ≡ balance self.now.balances (account_text account.now) denom.now }
+    {
+        match account {
+            Account::User(name) => self.books.held_by(Party::User(name), denom),
+            Account::Escrow(channel) => self.books.held_by(Party::Escrow(channel), denom),
+        }
+    }
+
+    /// All that accounts hold of a denomination; it fits 128 bits together with what was burnt.
+    pub fn supply(&self, denom: &Denom) -> u128
+        ensures value { result ≡ supply self.now.balances denom.now }
+        ensures bounded { IsTrue (is_bounded (supply self.now.balances denom.now) (burnt_of self.now denom.now)) }
+    {
+        self.books.totals.get(denom) - self.burnt(denom)
+    }
+
+    /// What was burnt of a denomination in flight, and may still be refunded.
+    pub fn burnt(&self, denom: &Denom) -> u128
+        ensures { result ≡ burnt_of self.now denom.now }
+    {
+        self.books.burnt.get(denom)
+    }
+
+    /// Moves tokens from a user to the escrow of a channel. Refused: `Poor` exactly where the user holds less;
+    /// `NoMemory`.
+    pub fn escrow(
+        &mut self,
+        user: &UserName,
+        channel: &ChannelId,
+        denom: &Denom,
+        amount: u128,
+    ) -> Result<(), Refusal>
+        ensures ok { OnOk result (escrowed user.now channel.now (token_of denom.now amount) self.old ≡ Some self.new) }
+        ensures poor { IsErrOf result Refusal.Poor ↔ (escrowed user.now channel.now (token_of denom.now amount) self.old ≡ None) }
+        ensures memory { IsSome (escrowed user.now channel.now (token_of denom.now amount) self.old) → IsOkUnless result Refusal.NoMemory }
+        ensures err { OnErr result (self.new ≡ self.old) }
+    {
+        self.carry(Place::user(user), Place::escrow(channel), denom, amount)
+    }
+
+    /// Moves tokens from the escrow of a channel to a user. Refused: `Poor` exactly where the escrow holds less;
+    /// `NoMemory`.
+    pub fn release(
+        &mut self,
+        channel: &ChannelId,
+        user: &UserName,
+        denom: &Denom,
+        amount: u128,
+    ) -> Result<(), Refusal>
+        ensures ok { OnOk result (released channel.now user.now (token_of denom.now amount) self.old ≡ Some self.new) }
+        ensures poor { IsErrOf result Refusal.Poor ↔ (released channel.now user.now (token_of denom.now amount) self.old ≡ None) }
+        ensures memory { IsSome (released channel.now user.now (token_of denom.now amount) self.old) → IsOkUnless result Refusal.NoMemory }
+        ensures err { OnErr result (self.new ≡ self.old) }
+    {
+        self.carry(Place::escrow(channel), Place::user(user), denom, amount)
+    }
+
+    /// Burns a user's tokens, which may still be refunded. Refused: `Poor` exactly where the user holds less;
+    /// `NoMemory`.
+    pub fn burn(&mut self, user: &UserName, denom: &Denom, amount: u128) -> Result<(), Refusal>
+        ensures ok { OnOk result (burned user.now (token_of denom.now amount) self.old ≡ Some self.new) }
+        ensures poor { IsErrOf result Refusal.Poor ↔ (burned user.now (token_of denom.now amount) self.old ≡ None) }
+        ensures memory { IsSome (burned user.now (token_of denom.now amount) self.old) → IsOkUnless result Refusal.NoMemory }
+        ensures err { OnErr result (self.new ≡ self.old) }
+    {
+        self.carry(Place::user(user), Place::Burnt, denom, amount)
+    }
+
+    /// Mints tokens for a user. Refused: `TooLarge` exactly where they wouldn't fit 128 bits together with all that is
+    /// held of the denomination and what was burnt of it; `NoMemory`.
+    pub fn mint(&mut self, user: &UserName, denom: &Denom, amount: u128) -> Result<(), Refusal>
+        ensures ok { OnOk result (minted user.now (token_of denom.now amount) self.old ≡ Some self.new) }
+        ensures too_large { IsErrOf result Refusal.TooLarge ↔ (minted user.now (token_of denom.now amount) self.old ≡ None) }
+        ensures memory { IsSome (minted user.now (token_of denom.now amount) self.old) → IsOkUnless result Refusal.NoMemory }
+        ensures err { OnErr result (self.new ≡ self.old) }
+    {
+        self.carry(Place::Outside, Place::user(user), denom, amount)
+    }
+
+    /// Gives tokens back to a user: out of the escrow of a channel, or minted again where they were burnt. Refused:
+    /// `Poor` exactly where the source holds less; `NoMemory`.
+    pub fn refund(
+        &mut self,
+        user: &UserName,
+        source: &Source,
+        denom: &Denom,
+        amount: u128,
+    ) -> Result<(), Refusal>
+        ensures ok { OnOk result (refunded user.now source.now (token_of denom.now amount) self.old ≡ Some self.new) }
+        ensures poor { IsErrOf result Refusal.Poor ↔ (refunded user.now source.now (token_of denom.now amount) self.old ≡ None) }
+        ensures memory { IsSome (refunded user.now source.now (token_of denom.now amount) self.old) → IsOkUnless result Refusal.NoMemory }
+        ensures err { OnErr result (self.new ≡ self.old) }
+    {
+        match source {
+            Source::Escrow(channel) => self.release(channel, user, denom, amount),
+            Source::Burnt => self.carry(Place::Burnt, Place::user(user), denom, amount),
+        }
+    }
+
+    /// What was burnt of a denomination falls by the amount, to 0 where it is less: no refund comes of it any more.
+    pub fn settle(&mut self, denom: &Denom, amount: u128)
+        ensures { self.new ≡ settled (token_of denom.now amount) self.old }
+    {
+        let settled = amount.min(self.burnt(denom));
+        self.books.burnt.lower(denom, settled);
+        self.books.totals.lower(denom, settled);
+    }
+
+    /// Makes all the moves, one after another, or none. Refused as the first that is refused; `NoMemory`.
+    pub fn apply_all(&mut self, moves: &[Move]) -> Result<(), Refusal>
+        ensures ok { OnOk result (moved_all moves.now self.old ≡ Ok self.new) }
+        ensures refused { IfErr result (λ e. (e ≡ NoMemory) ⊎ (moved_all moves.now self.old ≡ Err e)) }
+        ensures err { OnErr result (self.new ≡ self.old) }
+    {
+        let changes = Changes::of_moves(self.alloc, &self.books, moves)?;
+        Ok(self.books.commit(changes)?)
+    }
+
+    /// Whether all the moves can be made, one after another; it changes nothing. Refused as the first that is refused;
+    /// `NoMemory`.
+    pub fn check(&self, moves: &[Move]) -> Result<(), Refusal>
+        ensures ok { OnOk result (IsOk (moved_all moves.now self.now)) }
+        ensures refused { IfErr result (λ e. (e ≡ NoMemory) ⊎ (moved_all moves.now self.now ≡ Err e)) }
+    {
+        Changes::of_moves(self.alloc, &self.books, moves)?;
+        Ok(())
+    }
+
+    /// Who holds how much of what: the amounts above 0, in the byte order of the accounts' texts and then of the
+    /// denominations.
+    pub fn list(&self, alloc: Global) -> Result<Vec<(Account, Denom, u128)>, AllocError>
+        ensures balances { IfOk result (λ list. map plain_holding list.items ≡ self.now.balances) }
+        ensures kept { AreKept pair_cmp self.now.balances }
+    {
+        let entries = self.books.held.entries();
+        let mut list = Vec::with_capacity(alloc, entries.len())?;
+        for ((holder, denom), amount) in entries {
+            list.push((holder.account()?, denom.clone()?, *amount))?;
+        }
+        Ok(list)
+    }
+
+    // Carries tokens from one place to another.
+    fn carry(
+        &mut self,
+        from: Place<'_>,
+        to: Place<'_>,
+        denom: &Denom,
+        amount: u128,
+    ) -> Result<(), Refusal>
+        ensures ok { OnOk result (carried from.entry to.entry (token_of denom.now amount) self.old ≡ Ok self.new) }
+        ensures memory { IfErr result (λ e. (e ≡ NoMemory) ⊎ (carried from.entry to.entry (token_of denom.now amount) self.old ≡ Err e)) }
+        ensures refused { (e : Refusal) → carried from.entry to.entry (token_of denom.now amount) self.old ≡ Err e → IsErrOf result e }
+        ensures err { OnErr result (self.new ≡ self.old) }
+    {
+        let mut changes = Changes::new(self.alloc);
+        changes.carry(&self.books, from, to, denom, amount)?;
+        Ok(self.books.commit(changes)?)
+    }
+}

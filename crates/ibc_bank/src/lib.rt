@@ -1,0 +1,13 @@
+//! The bank of a chain: what users and the escrow accounts of channels hold, and what is burnt in flight (ICS 20).
+#![tactic(auto)]
+
+mod amounts;
+mod bank;
+mod books;
+mod changes;
+mod holder;
+mod moves;
+mod place;
+
+pub use bank::Bank;
+pub use moves::{Move, Source};
