@@ -1,0 +1,6 @@
+pub mod Amounts
+pub mod PlainTexts
+pub mod AsciiTexts
+pub mod Spelled
+pub mod Read
+pub mod Found

@@ -1,0 +1,32 @@
+//! Why no data is read.
+
+ghost use Rattle.std.specs.Prelude.{◌≡◌};
+ghost use Rattle.ibc_token_data.specs.declared.fault.Fault.TheVariants.{NoMemory};
+
+use ibc_ids::Refusal;
+use std::alloc::{AllocError, AllocFailed};
+
+/// Why no data is read from bytes.
+#[derive(Clone, Copy, Debug, PartialEq, Eq)]
+pub(crate) enum Fault {
+    /// The bytes aren't the one spelling of data.
+    NotData,
+    /// A growth was refused.
+    NoMemory,
+}
+
+impl From<AllocError> for Fault {
+    ghost from_gives = { λ _ fault. fault ≡ NoMemory };
+
+    fn from(_error: AllocError) -> Fault {
+        Fault::NoMemory
+    }
+}
+
+impl<T: Drop> From<AllocFailed<T>> for Fault {
+    ghost from_gives = { λ _ fault. fault ≡ NoMemory };
+
+    fn from(_error: AllocFailed<T>) -> Fault {
+        Fault::NoMemory
+    }
+}

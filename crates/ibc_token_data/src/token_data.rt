@@ -1,0 +1,132 @@
+//! The data of a packet of tokens.
+
+ghost use Rattle.std.specs.Prelude.{◌≡◌, ◌↔◌, Some, None, IsTrue, IfOk, IfErr, IsErrOf, MatchResult, option_map};
+ghost use Rattle.ibc_ids.specs.declared.refusal.Refusal.TheVariants.{NoMemory};
+ghost use Rattle.ibc_machine.specs.TokenData.{Data, data_of, data_text};
+ghost use Rattle.ibc_machine.specs.Transfers.{transfer_data, transfer_many_data};
+ghost use Rattle.ibc_token_data.specs.declared.fault.Fault.TheVariants as fault;
+ghost use Rattle.ibc_token_data.specs.Plain.{plain_data};
+
+use crate::fault::Fault;
+use crate::forms::{has_several, is_data, is_typed};
+use crate::members::parsed;
+use crate::reading::data_in;
+use crate::writing::data_json;
+use ibc_ids::{Bytes, Memo, Receiver, Refusal, UserName, Version};
+use ibc_wire::{Token, Transfer, TransferMany};
+use std::alloc::{AllocError, Global};
+
+/// What a packet of tokens says (ICS 20, "FungibleTokenPacketData"): the tokens, a memo, who receives them and who sends
+/// them.
+#[derive(Drop, Debug)]
+pub struct TokenData {
+    pub tokens: Vec<Token>,
+    pub memo: Memo,
+    pub receiver: Receiver,
+    pub sender: UserName,
+}
+
+impl TokenData {
+    /// What a transfer of one token says. Refused where a growth is.
+    pub fn of_transfer(alloc: Global, message: &Transfer) -> Result<TokenData, AllocError>
+        ensures { IfOk result (λ told. plain_data told ≡ transfer_data message.now) }
+    {
+        let mut tokens = Vec::new(alloc);
+        tokens.push(Token {
+            denom: message.denom.clone()?,
+            amount: message.amount,
+        })?;
+        Ok(TokenData {
+            tokens,
+            memo: message.memo.clone()?,
+            receiver: message.receiver.clone()?,
+            sender: message.user.clone()?,
+        })
+    }
+
+    /// What a transfer of several tokens says. Refused where a growth is.
+    pub fn of_transfer_many(alloc: Global, message: &TransferMany) -> Result<TokenData, AllocError>
+        ensures { IfOk result (λ told. plain_data told ≡ transfer_many_data message.now) }
+    {
+        Ok(TokenData {
+            tokens: message.tokens.as_slice().to_vec(alloc)?,
+            memo: message.memo.clone()?,
+            receiver: message.receiver.clone()?,
+            sender: message.user.clone()?,
+        })
+    }
+
+    /// The data that the bytes spell over a channel of the version, or `None` where they aren't the one spelling of data
+    /// that such a packet may have. Refused: `NoMemory`.
+    pub fn read(
+        alloc: Global,
+        version: &Version,
+        payload: &[u8],
+    ) -> Result<Option<TokenData>, Refusal>
+        ensures ok { IfOk result (λ told. option_map plain_data told ≡ data_of version.now payload.now) }
+        ensures err { IfErr result (λ refusal. refusal ≡ NoMemory) }
+    {
+        match spelled_data(alloc, version, payload) {
+            Ok(told) => Ok(Some(told)),
+            Err(Fault::NotData) => Ok(None),
+            Err(Fault::NoMemory) => Err(Refusal::NoMemory),
+        }
+    }
+
+    /// The one spelling of the data over a channel of the version. Refused: `NoMemory`.
+    pub fn write(&self, alloc: Global, version: &Version) -> Result<Bytes, Refusal>
+        ensures ok { IfOk result (λ text. text ≡ data_text version.now (plain_data self.now)) }
+        ensures err { IfErr result (λ refusal. refusal ≡ NoMemory) }
+    {
+        Ok(Bytes::from_vec(spelling(alloc, version, self)?))
+    }
+}
+
+fn spelling(alloc: Global, version: &Version, told: &TokenData) -> Result<Vec<u8>, AllocError>
+    ensures { IfOk result (λ text. text.items ≡ data_text version.now (plain_data told.now)) }
+{
+    is_typed(told);
+    data_json(alloc, has_several(version), told)?.to_vec(alloc)
+}
+
+// The data that the bytes may spell: if they spell any, it is this.
+fn told_by(alloc: Global, version: &Version, payload: &[u8]) -> Result<TokenData, Fault>
+    ensures { (d : Data) → data_of version.now payload.now ≡ Some d → MatchResult result (λ told. plain_data told ≡ d) (λ e. e ≡ fault.NoMemory) }
+{
+    let value = parsed(alloc, payload)?;
+    data_in(alloc, version, &value)
+}
+
+fn is_same(left: &[u8], right: &[u8]) -> bool
+    ensures { IsTrue result ↔ (left.now ≡ right.now) }
+{
+    left == right
+}
+
+// Whether the bytes are the one spelling of the data, and a packet may have it.
+fn is_spelled_by(
+    alloc: Global,
+    version: &Version,
+    told: &TokenData,
+    payload: &[u8],
+) -> Result<bool, AllocError>
+    ensures { IfOk result (λ spelled. IsTrue spelled ↔ (data_of version.now payload.now ≡ Some (plain_data told.now))) }
+{
+    if !is_data(version, told) {
+        return Ok(false);
+    }
+    let text = spelling(alloc, version, told)?;
+    Ok(is_same(text.as_slice(), payload))
+}
+
+fn spelled_data(alloc: Global, version: &Version, payload: &[u8]) -> Result<TokenData, Fault>
+    ensures ok { IfOk result (λ told. data_of version.now payload.now ≡ Some (plain_data told)) }
+    ensures bad { IsErrOf result Fault.NotData → data_of version.now payload.now ≡ None }
+{
+    let told = told_by(alloc, version, payload)?;
+    if is_spelled_by(alloc, version, &told, payload)? {
+        Ok(told)
+    } else {
+        Err(Fault::NotData)
+    }
+}
