@@ -1,0 +1,7 @@
+pub mod BurntSteps
+pub mod UnchangedChannels
+pub mod ChannelSteps
+pub mod SendSteps
+mod EndsKept
+pub mod UnsettledPackets
+pub mod PacketSteps

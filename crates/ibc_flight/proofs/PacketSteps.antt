@@ -1,0 +1,177 @@
+-- Packets that are received, acknowledged or timed out. To receive one changes nothing that is burnt in flight. Of one that
+-- is settled the tokens that go back aren't in flight any more.
+use Rattle.std.proofs.Common.{◌≡◌, ◌+◌, true, false, sym, ap, ◌∙◌, Some, Ok, arith, nat_cmp}
+use Rattle.ibc_ids.specs.declared.refusal.Refusal.TheVariants as refusal
+use Rattle.ibc_ids.specs.Texts.{Text, same_text, pair_cmp}
+use Rattle.ibc_ids.specs.Maps.{with, without}
+use Rattle.ibc_wire.specs.declared.packet.Packet.{Packet}
+use Rattle.ibc_wire.specs.declared.messages.RecvPacket.{RecvPacket}
+use Rattle.ibc_wire.specs.declared.messages.AckPacket.{AckPacket}
+use Rattle.ibc_wire.specs.declared.messages.Timeout.{Timeout}
+use Rattle.ibc_wire.specs.declared.messages.TimeoutOnClose.{TimeoutOnClose}
+use Rattle.ibc_machine.specs.declared.reply.Effect.{Effect}
+use Rattle.ibc_machine.specs.Records.{Core, Channel, channel_at, commitment_of}
+use Rattle.ibc_machine.specs.Checks.{Checked, ◌>>=◌}
+use Rattle.ibc_machine.specs.Evidence.{Host, Evidence}
+use Rattle.ibc_machine.specs.Packets.{recv_checked, recv_packet, ack_checked, ack_packet, timeout_checked, timeout, timeout_on_close_checked, timeout_on_close, after_receive, after_ack, after_timeout, with_timed_out}
+use Rattle.ibc_machine.specs.TokenData.{tokens_of}
+use Rattle.ibc_machine.specs.Transfers.{transfer_port, burnt}
+use Rattle.ibc_flight.specs.Orderly.{IsOrderly}
+use Rattle.ibc_flight.specs.Returned.{SameBurnt, returned}
+use Rattle.ibc_machine.proofs.PassedRows.{require_passed, bind_passed, expect_passed, ok_same}
+use Rattle.ibc_flight.proofs.BurntSteps.{burnt_by, burnt_by-other, burnt_by-transfer, same_commitments, one_settled}
+use Rattle.ibc_flight.proofs.EndsKept.{Keeps, after_receive_keeps, after_ack_keeps, after_timeout_keeps}
+use Rattle.ibc_flight.proofs.UnsettledPackets.{IsUnsettled, ack_unsettled, timeout_unsettled, timeout_on_close_unsettled}
+
+-- ---- receiving
+
+receiving_end : (evidence : Evidence) (host : Host) (core : Core) (m : RecvPacket) (mine : Channel) → recv_checked evidence host core m ≡ Ok mine
+    → channel_at core m.packet.destination_port m.packet.destination_channel ≡ Some mine
+unfolding recv_checked
+receiving_end evidence host core m mine e =
+    let p : Packet = m.packet in
+    let form = require_passed _ _ _ e in
+    let there = bind_passed _ _ form.1 in
+    let state = require_passed _ _ _ there.2 in
+    let peer = require_passed _ _ _ state.1 in
+    let in_time = require_passed _ _ _ peer.1 in
+    let fresh = require_passed _ _ _ in_time.1 in
+    let in_order = require_passed _ _ _ fresh.1 in
+    let known = require_passed _ _ _ in_order.1 in
+    let proof = require_passed _ _ _ known.1 in
+    expect_passed (channel_at core p.destination_port p.destination_channel) refusal.UnknownChannel there.1 ∙ ap Some (ok_same proof.1)
+
+pub recv_packet_burnt : {A : Type 0} (on_recv : Text → Packet → Text × A) (evidence : Evidence) (host : Host) (core : Core) (m : RecvPacket)
+    {effect : Effect} {after : Core} {app : A}
+    → IsOrderly core → recv_packet on_recv evidence host core m ≡ Ok (effect, after, app) → SameBurnt core after
+unfolding recv_packet
+recv_packet_burnt {A} on_recv evidence host core m {effect} {after} {app} orderly e =
+    let p : Packet = m.packet in
+    let checked = bind_passed (recv_checked evidence host core m) _ e in
+    let mine : Channel = checked.0 in
+    let told : Text × A = on_recv mine.end.version p in
+    let now : Channel = after_receive p.sequence told.0 mine in
+    let keeps : Keeps mine now mine.commitments = after_receive_keeps p.sequence told.0 mine in
+    same_commitments core after p.destination_port p.destination_channel now orderly
+    (ap (λ (y : Effect × Core × A). y.1.channels) (sym (ok_same checked.2)))
+    mine (receiving_end evidence host core m mine checked.1) keeps.version keeps.commitments
+
+-- ---- settling: of any port's packet, what it had burnt isn't in flight any more
+
+-- the packet of the end is settled between the cores, and its application gave this
+record Settled {A : Type 0} (core after : Core) (p : Packet) (answer : Text → Checked A) (app : A) : Type 0 where
+  mine : Channel
+  there : channel_at core p.source_port p.source_channel ≡ Some mine
+  answered : answer mine.end.version ≡ Ok app
+  less : (denom : Text) → burnt after denom + burnt_by p.source_port p.source_channel (tokens_of mine.end.version (commitment_of p)) denom ≡ burnt core denom
+
+settled : {A : Type 0} (core after : Core) (p : Packet) (answer : Text → Checked A) (app : A) (mine now : Channel) → IsOrderly core → IsUnsettled core p mine
+    → answer mine.end.version ≡ Ok app → Keeps mine now (without nat_cmp p.sequence mine.commitments)
+    → after.channels ≡ with pair_cmp (p.source_port, p.source_channel) now core.channels → Settled core after p answer app
+settled core after p answer app mine now orderly stands answered keeps is = record {
+  mine = mine;
+  there = stands.there;
+  answered = answered;
+  less = one_settled core after p.source_port p.source_channel now orderly is mine stands.there keeps.version p.sequence (commitment_of p)
+      stands.committed keeps.commitments;
+}
+
+-- of another port's packet nothing was burnt
+settled_elsewhere : {A : Type 0} (core after : Core) (p : Packet) (answer : Text → Checked A) (app : A) → same_text p.source_port transfer_port ≡ false
+    → Settled core after p answer app → SameBurnt core after
+settled_elsewhere core after p answer app other s denom =
+    let less = s.less denom in
+    let none = burnt_by-other p.source_port p.source_channel (tokens_of s.mine.end.version (commitment_of p)) denom other in
+    omega arith
+
+-- the end that sent tokens, what the application gave, and how much less is burnt in flight
+abbrev pub Settles : {A : Type 0} → Core → Core → Packet → (Text → Checked A) → A → Type 0
+Settles core after p answer app =
+    (mine : Channel) × (channel_at core p.source_port p.source_channel ≡ Some mine) × (answer mine.end.version ≡ Ok app)
+    × ((denom : Text) → burnt after denom + returned p.source_channel (tokens_of mine.end.version (commitment_of p)) denom ≡ burnt core denom)
+
+settled_here : {A : Type 0} (core after : Core) (p : Packet) (answer : Text → Checked A) (app : A) → same_text p.source_port transfer_port ≡ true
+    → Settled core after p answer app → Settles core after p answer app
+settled_here core after p answer app ours s = (
+  s.mine,
+  s.there,
+  s.answered,
+  λ denom.
+      let less = s.less denom in
+      let same = burnt_by-transfer p.source_port p.source_channel (tokens_of s.mine.end.version (commitment_of p)) denom ours in
+      omega arith,
+)
+
+-- ---- acknowledgements
+
+module _ {A : Type 0} (on_ack : Text → Packet → Text → Checked A) (evidence : Evidence) (core : Core) (m : AckPacket)
+    {effect : Effect} {after : Core} {app : A} (orderly : IsOrderly core) where
+  ack_packet_any_port : ack_packet on_ack evidence core m ≡ Ok (effect, after, app)
+      → Settled core after m.packet (λ version. on_ack version m.packet m.ack) app
+  unfolding ack_packet
+  ack_packet_any_port e =
+      let p : Packet = m.packet in
+      let checked = bind_passed (ack_checked evidence core m) _ e in
+      let mine : Channel = checked.0 in
+      let given = bind_passed (on_ack mine.end.version p m.ack) _ checked.2 in
+      settled core after p (λ version. on_ack version p m.ack) app mine (after_ack p.sequence mine) orderly (ack_unsettled evidence core m mine checked.1)
+      (given.1 ∙ ap (λ (y : Effect × Core × A). Ok y.2) (ok_same given.2)) (after_ack_keeps p.sequence mine)
+      (ap (λ (y : Effect × Core × A). y.1.channels) (sym (ok_same given.2)))
+
+  -- on another port
+  pub ack_packet_burnt : same_text m.packet.source_port transfer_port ≡ false → ack_packet on_ack evidence core m ≡ Ok (effect, after, app)
+      → SameBurnt core after
+  ack_packet_burnt other e = settled_elsewhere core after m.packet (λ version. on_ack version m.packet m.ack) app other (ack_packet_any_port e)
+
+  -- on port `transfer`
+  pub ack_packet_settles : same_text m.packet.source_port transfer_port ≡ true → ack_packet on_ack evidence core m ≡ Ok (effect, after, app)
+      → Settles core after m.packet (λ version. on_ack version m.packet m.ack) app
+  ack_packet_settles ours e = settled_here core after m.packet (λ version. on_ack version m.packet m.ack) app ours (ack_packet_any_port e)
+
+-- ---- timeouts
+
+module _ {A : Type 0} (on_timeout : Text → Packet → Checked A) (evidence : Evidence) (core : Core) {effect : Effect} {after : Core} {app : A} where
+  -- what both messages do once their checks are passed
+  timed_out : (p : Packet) (mine : Channel) → IsOrderly core → IsUnsettled core p mine
+      → (on_timeout mine.end.version p >>= λ app. Ok (with_timed_out p mine core app)) ≡ Ok (effect, after, app)
+      → Settled core after p (λ version. on_timeout version p) app
+  timed_out p mine orderly stands e =
+      let given = bind_passed (on_timeout mine.end.version p) _ e in
+      settled core after p (λ version. on_timeout version p) app mine (after_timeout p.sequence mine) orderly stands
+      (given.1 ∙ ap (λ (y : Effect × Core × A). Ok y.2) (ok_same given.2)) (after_timeout_keeps p.sequence mine)
+      (ap (λ (y : Effect × Core × A). y.1.channels) (sym (ok_same given.2)))
+
+  timeout_any_port : (m : Timeout) → IsOrderly core → timeout on_timeout evidence core m ≡ Ok (effect, after, app)
+      → Settled core after m.packet (λ version. on_timeout version m.packet) app
+  unfolding timeout
+  timeout_any_port m orderly e =
+      let checked = bind_passed (timeout_checked evidence core m) _ e in
+      timed_out m.packet checked.0 orderly (timeout_unsettled evidence core m checked.0 checked.1) checked.2
+
+  timeout_on_close_any_port : (m : TimeoutOnClose) → IsOrderly core → timeout_on_close on_timeout evidence core m ≡ Ok (effect, after, app)
+      → Settled core after m.packet (λ version. on_timeout version m.packet) app
+  unfolding timeout_on_close
+  timeout_on_close_any_port m orderly e =
+      let checked = bind_passed (timeout_on_close_checked evidence core m) _ e in
+      timed_out m.packet checked.0 orderly (timeout_on_close_unsettled evidence core m checked.0 checked.1) checked.2
+
+  -- on another port
+  pub timeout_burnt : (m : Timeout) → IsOrderly core → same_text m.packet.source_port transfer_port ≡ false
+      → timeout on_timeout evidence core m ≡ Ok (effect, after, app) → SameBurnt core after
+  timeout_burnt m orderly other e = settled_elsewhere core after m.packet (λ version. on_timeout version m.packet) app other (timeout_any_port m orderly e)
+
+  pub timeout_on_close_burnt : (m : TimeoutOnClose) → IsOrderly core → same_text m.packet.source_port transfer_port ≡ false
+      → timeout_on_close on_timeout evidence core m ≡ Ok (effect, after, app) → SameBurnt core after
+  timeout_on_close_burnt m orderly other e =
+      settled_elsewhere core after m.packet (λ version. on_timeout version m.packet) app other (timeout_on_close_any_port m orderly e)
+
+  -- on port `transfer`
+  pub timeout_settles : (m : Timeout) → IsOrderly core → same_text m.packet.source_port transfer_port ≡ true
+      → timeout on_timeout evidence core m ≡ Ok (effect, after, app) → Settles core after m.packet (λ version. on_timeout version m.packet) app
+  timeout_settles m orderly ours e = settled_here core after m.packet (λ version. on_timeout version m.packet) app ours (timeout_any_port m orderly e)
+
+  pub timeout_on_close_settles : (m : TimeoutOnClose) → IsOrderly core → same_text m.packet.source_port transfer_port ≡ true
+      → timeout_on_close on_timeout evidence core m ≡ Ok (effect, after, app)
+      → Settles core after m.packet (λ version. on_timeout version m.packet) app
+  timeout_on_close_settles m orderly ours e =
+      settled_here core after m.packet (λ version. on_timeout version m.packet) app ours (timeout_on_close_any_port m orderly e)

@@ -1,0 +1,72 @@
+-- A packet that is sent: the tokens that go back over its channel are burnt, and in flight from then on.
+use Rattle.std.proofs.Common.{◌≡◌, ℕ, ◌+◌, refl, sym, ap, ◌∙◌, [], Some, Ok, arith, true}
+use Rattle.std.specs.Prelude.{IsTrue}
+use Rattle.std.specs.Option.{option_map_or}
+use Rattle.ibc_ids.specs.Texts.{Text, same_text}
+use Rattle.ibc_ids.specs.declared.refusal.Refusal.TheVariants as refusal
+use Rattle.ibc_ids.proofs.Texts.{text_same}
+use Rattle.ibc_wire.specs.declared.messages.SendNote.{SendNote}
+use Rattle.ibc_machine.specs.declared.reply.Effect.{Effect}
+use Rattle.ibc_machine.specs.Records.{Core, Channel, Commitment, channel_at}
+use Rattle.ibc_machine.specs.Evidence.{Evidence, require_number}
+use Rattle.ibc_machine.specs.Packets.{sending_end, require_timeouts, after_send, with_sent}
+use Rattle.ibc_machine.specs.TokenData.{Data, is_data, tokens_of}
+use Rattle.ibc_machine.specs.Transfers.{transfer_port, burnt, transfer_commitment}
+use Rattle.ibc_machine.specs.Notes.{note_port, note_commitment, send_note}
+use Rattle.ibc_machine.proofs.DataRead.{data_read}
+use Rattle.ibc_flight.specs.Orderly.{IsOrderly}
+use Rattle.ibc_flight.specs.Returned.{SameBurnt, returned}
+use Rattle.ibc_machine.proofs.PassedRows.{require_passed, then_passed, bind_passed, expect_passed, ok_same}
+use Rattle.ibc_flight.proofs.BurntSteps.{burnt_by, burnt_by-other, burnt_by-transfer, one_sent}
+
+module _ (core : Core) (channel : Text) (mine : Channel) (c : Commitment) {effect : Effect} {after : Core} where
+  -- on any port
+  sent_over : (port : Text) → IsOrderly core → channel_at core port channel ≡ Some mine → with_sent port channel mine c core ≡ (effect, after)
+      → (denom : Text) → burnt after denom ≡ burnt core denom + burnt_by port channel (tokens_of mine.end.version c) denom
+  sent_over port orderly there e =
+      one_sent core after port channel (after_send c mine) orderly (ap (λ (y : Effect × Core). y.1.channels) (sym e)) mine there refl c refl
+
+  -- on port `transfer`
+  pub with_sent_burnt : IsOrderly core → channel_at core transfer_port channel ≡ Some mine → with_sent transfer_port channel mine c core ≡ (effect, after)
+      → (denom : Text) → burnt after denom ≡ burnt core denom + returned channel (tokens_of mine.end.version c) denom
+  with_sent_burnt orderly there e denom = sent_over transfer_port orderly there e denom
+      ∙ ap (λ n. burnt core denom + n) (burnt_by-transfer transfer_port channel (tokens_of mine.end.version c) denom refl)
+
+-- the tokens of a packet are those of its data
+pub tokens_of-commitment : (version : Text) (d : Data) (height time : ℕ) → IsTrue (is_data version d)
+    → tokens_of version (transfer_commitment version d height time) ≡ d.tokens
+tokens_of-commitment version d height time good = ap (λ o. option_map_or (λ (d : Data). d.tokens) o []) (data_read version d good)
+
+-- the end that sends is there
+pub sending_end_there : (core : Core) (port channel : Text) (mine : Channel) → sending_end core port channel ≡ Ok mine
+    → channel_at core port channel ≡ Some mine
+unfolding sending_end
+sending_end_there core port channel mine e =
+    let there = bind_passed _ _ e in
+    let state = require_passed _ _ _ there.2 in
+    expect_passed (channel_at core port channel) refusal.UnknownChannel there.1 ∙ ap Some (ok_same state.1)
+
+-- the tokens of a message that go back over its channel
+pub tokens_sent_burnt : (core : Core) (channel version : Text) (mine : Channel) (d : Data) (height time : ℕ) {effect : Effect} {after : Core}
+    → IsOrderly core → sending_end core transfer_port channel ≡ Ok mine → same_text mine.end.version version ≡ true → IsTrue (is_data version d)
+    → with_sent transfer_port channel mine (transfer_commitment version d height time) core ≡ (effect, after)
+    → (denom : Text) → burnt after denom ≡ burnt core denom + returned channel d.tokens denom
+tokens_sent_burnt core channel version mine d height time orderly there same good e denom =
+    let c : Commitment = transfer_commitment version d height time in
+    with_sent_burnt core channel mine c orderly (sending_end_there core transfer_port channel mine there) e denom
+    ∙ ap (λ v. burnt core denom + returned channel (tokens_of v c) denom) (text_same mine.end.version version same)
+    ∙ ap (λ tokens. burnt core denom + returned channel tokens denom) (tokens_of-commitment version d height time good)
+
+-- a note is no token: its port isn't the tokens'
+pub send_note_burnt : (evidence : Evidence) (core : Core) (m : SendNote) {effect : Effect} {after : Core}
+    → IsOrderly core → send_note evidence core m ≡ Ok (effect, after) → SameBurnt core after
+unfolding send_note
+send_note_burnt evidence core m orderly e denom =
+    let there = bind_passed (sending_end core note_port m.channel) _ e in
+    let mine : Channel = there.0 in
+    let size = require_passed _ _ _ there.2 in
+    let timeouts = (then_passed (require_timeouts evidence core mine (note_commitment m)) _ size.1).1 in
+    let number = (then_passed (require_number mine.next_send) _ timeouts).1 in
+    let sent = sent_over core m.channel mine (note_commitment m) note_port orderly (sending_end_there core note_port m.channel mine there.1) (ok_same number) denom in
+    let none = burnt_by-other note_port m.channel (tokens_of mine.end.version (note_commitment m)) denom refl in
+    omega arith

@@ -1,0 +1,2 @@
+//! What of tokens is burnt in flight, message by message (ICS 20).
+#![tactic(auto)]
