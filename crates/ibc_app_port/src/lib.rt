@@ -1,9 +1,8 @@
-//! What channels and packets ask of the application of a port.
+//! What channels and packets ask of the application of a port, and who pays for what is sent over it.
 #![tactic(auto)]
 
 mod application;
+mod payment;
 
 pub use application::App;
-
-#[cfg(test)]
-mod tests;
+pub use payment::{Nobody, Pays};

@@ -1,5 +1,5 @@
 -- A channel is added, or its end is set: the store is again the image.
-use Rattle.std.proofs.Common.{◌≡◌, ℕ, ◌+◌, ◌-◌, ◌^◌, ◌<◌, arith, ◌&&◌, true, is_some, List, [], ◌∷◌, Option, Some, None, refl, sym, ap, subst, ◌∙◌, inl, inr}
+use Rattle.std.proofs.Common.{◌≡◌, ◌+◌, ◌-◌, ◌^◌, ◌<◌, arith, ◌&&◌, true, is_some, [], ◌∷◌, Option, Some, None, refl, sym, ap, subst, ◌∙◌}
 use Rattle.std.specs.Prelude.{IsTrue, IfSome, IsNone}
 use Rattle.ibc_ids.specs.Texts.{Text, pair_cmp}
 use Rattle.ibc_ids.specs.Maps.{at, with}
@@ -11,47 +11,13 @@ use Rattle.ibc_wire.specs.declared.records.ChannelEnd.{ChannelEnd}
 use Rattle.ibc_machine.specs.Records.{Core, Channel, with_channel}
 use Rattle.ibc_machine.specs.Channels.{new_channel, with_new_channel}
 use Rattle.ibc_machine.specs.Values.{ChannelIs, NumberIs, value_bytes}
-use Rattle.ibc_machine.proofs.FiniteMaps.{by_pair, found_in_with}
-use Rattle.ibc_machine.proofs.Identifiers.{nth_channel_same}
 use Rattle.ibc_machine.proofs.CoreChanges.{changes-next_channel, keyed-next_channel}
 use Rattle.ibc_machine.proofs.ChannelChanges.{HasNoPackets, new_channel_at, changes-with_new_channel, keyed-with_new_channel, changes-with_channel_end, keyed-with_channel_end}
 use Rattle.ibc_path_store.specs.Held.{HeldStore}
-use Rattle.ibc_records.specs.Held.{HeldRecords, IsHeld, AreNumbered, AddsChannel, SetsChannelEnd, core_of}
+use Rattle.ibc_records.specs.Held.{HeldRecords, IsHeld, AddsChannel, SetsChannelEnd, core_of}
+use Rattle.ibc_records.proofs.Orderly.{Channels, orderly_new, orderly_alike, still_orderly, still_there, counted, is_free}
 use Rattle.ibc_records.proofs.Stores.{Sets, SetsAll, becomes_roomy, becomes_set, becomes_set_all}
 use Rattle.ibc_records.proofs.Images.{image_in, image_set, image_changed, is_held, is_stored}
-
-abbrev pub Channels : Type 0
-Channels = List ((Text × Text) × Channel)
-
-still_numbered : (next : ℕ) (channels : Channels) (name : Text × Text) (channel : Channel) → AreNumbered next channels
-    → (n : ℕ) × (n < next) × (name.1 ≡ nth_channel n) → AreNumbered next (with pair_cmp name channel channels)
-still_numbered next channels name channel numbered new port id c found = elim (found_in_with by_pair name (port, id) channel c channels found) [
-  | inl h ↦ (new.0, new.1, ap (λ (x : Text × Text). x.1) h.0 ∙ new.2)
-  | inr h ↦ numbered port id c h
-]
-
--- a channel that is there again
-pub still_there : (old : HeldRecords) (port id : Text) (mine channel : Channel) → IsHeld old → at pair_cmp (port, id) old.channels ≡ Some mine
-    → AreNumbered old.next_channel (with pair_cmp (port, id) channel old.channels)
-still_there old port id mine channel held stood =
-    still_numbered old.next_channel old.channels (port, id) channel held.numbered (held.numbered port id mine stood)
-
--- one number more
-counted : (next : ℕ) (channels : Channels) → AreNumbered next channels → AreNumbered (next + 1) channels
-counted next channels numbered port id c found =
-    let was = numbered port id c found in
-    let less : was.0 < next + 1 = omega (arith, was.1) in
-    (was.0, less, was.2)
-
--- the next name is free
-is_free : (next : ℕ) (channels : Channels) → AreNumbered next channels → next < 2 ^ 64 - 1 → (port id : Text) → id ≡ nth_channel next → (c : Channel)
-    → at pair_cmp (port, id) channels ≡ Some c → ⊥
-is_free next channels numbered fits port id is c found =
-    let was = numbered port id c found in
-    let next_fits : next < 2 ^ 64 = omega (arith, fits) in
-    let was_fits : was.0 < 2 ^ 64 = omega (arith, fits, was.1) in
-    let same : next ≡ was.0 = nth_channel_same next was.0 next_fits was_fits (sym is ∙ was.2) in
-    omega (arith, same, was.1)
 
 -- the paths of a new channel with what stands there
 abbrev pub new_entries : Text → Text → ChannelEnd → Pairs
@@ -69,7 +35,8 @@ module _ (old : HeldRecords) (port id : Text) (end : ChannelEnd) (channels : Cha
   adds s1 s2 s3 {entries} {q} {w} fits next is ee eq ew e f g =
       let becomes = becomes_set old.store _ s2 s3 (becomes_set_all old.store _ s1 s2 (becomes_roomy old.store s1 e) f ee) g eq ew in
       let with_it : Core = with_channel port id (new_channel end) (core_of old) in
-      let quiet : (c : Channel) → at pair_cmp (port, id) old.channels ≡ Some c → HasNoPackets c = λ c found. absurd (is_free old.next_channel old.channels held.numbered fits port id next c found) in
+      let next_fits : old.next_channel < 2 ^ 64 = omega (arith, fits) in
+      let quiet : (c : Channel) → at pair_cmp (port, id) old.channels ≡ Some c → HasNoPackets c = λ c found. absurd (is_free old.next_channel old.channels held.orderly next_fits port id next c found) in
       let image_with = image_changed (core_of old) with_it (new_channel_at port id end) old.store.pairs (image_in old held)
       (keyed-with_new_channel (core_of old) port id end quiet held.keyed named) (changes-with_new_channel (core_of old) port id end quiet named) in
       let core = with_new_channel port id end (core_of old) in
@@ -77,7 +44,7 @@ module _ (old : HeldRecords) (port id : Text) (end : ChannelEnd) (channels : Cha
       (keyed-next_channel with_it (old.next_channel + 1) image_with.keyed) (changes-next_channel with_it (old.next_channel + 1)) in
       let after : HeldRecords = record old { channels = with pair_cmp (port, id) (new_channel end) old.channels; next_channel = old.next_channel + 1; store = s3 } in
       let above : old.next_channel < old.next_channel + 1 = omega arith in
-      let still = still_numbered (old.next_channel + 1) old.channels (port, id) (new_channel end) (counted old.next_channel old.channels held.numbered) (old.next_channel, above, next) in
+      let still = still_orderly (old.next_channel + 1) old.channels (port, id) (new_channel end) (counted old.next_channel old.channels held.orderly) (old.next_channel, above, next) (orderly_new end) in
       subst (λ cs. IsHeld (record old { channels = cs; next_channel = old.next_channel + 1; store = s3 }) × AddsChannel old port id end (record old { channels = cs; next_channel = old.next_channel + 1; store = s3 })) (sym is)
       (is_held old after core _ is_image becomes refl still, record { records = refl; stored = is_stored old after core _ is_image becomes refl; core = refl })
 
@@ -92,7 +59,7 @@ module _ (old : HeldRecords) (port id : Text) (end : ChannelEnd) (channels : Cha
       let is_image = image_set (core_of old) core (key.ChannelEnd port id) (ChannelIs end) old.store.pairs (image_in old held)
       (keyed-with_channel_end (core_of old) port id channel end there held.keyed named) (changes-with_channel_end (core_of old) port id channel end there) in
       let after : HeldRecords = record old { channels = with pair_cmp (port, id) (record channel { end = end }) old.channels; store = s2 } in
-      let still = still_there old port id channel (record channel { end = end }) held there in
+      let still = still_there old port id channel (record channel { end = end }) held there (orderly_alike channel (record channel { end = end }) refl refl (held.orderly.ends port id channel there)) in
       subst (λ cs. IsHeld (record old { channels = cs; store = s2 }) × SetsChannelEnd old port id end (record old { channels = cs; store = s2 })) (sym is) (
         is_held old after core _ is_image becomes refl still,
         record {
@@ -123,7 +90,7 @@ pub roomy : (old : HeldRecords) (channels : Channels) (s1 : HeldStore) → IsHel
     → IsHeld (record old { channels = channels; store = s1 })
 roomy old channels s1 held same e =
     subst (λ cs. IsHeld (record old { channels = cs; store = s1 })) (sym same)
-    (record { keyed = held.keyed; stored = ap (λ (s : HeldStore). s.pairs) e ∙ held.stored; numbered = held.numbered })
+    (record { keyed = held.keyed; stored = ap (λ (s : HeldStore). s.pairs) e ∙ held.stored; orderly = held.orderly })
 
 -- a channel that is there in the view of records isn't missing
 pub is_not_missing : (view value : HeldRecords) (name : Text × Text) → is_some (at pair_cmp name view.channels) ≡ true → view ≡ value

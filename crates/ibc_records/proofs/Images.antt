@@ -9,7 +9,7 @@ use Rattle.ibc_machine.specs.Records.{Core}
 use Rattle.ibc_machine.specs.Values.{Value, value_bytes}
 use Rattle.ibc_machine.specs.Image.{image}
 use Rattle.ibc_machine.proofs.ImageChanges.{IsKeyed, Change, ChangesAt, ChangesIn, with_changes, image_changes_in, one_change}
-use Rattle.ibc_records.specs.Held.{HeldRecords, IsHeld, AreNumbered, IsStored, core_of}
+use Rattle.ibc_records.specs.Held.{HeldRecords, IsHeld, AreOrderly, IsStored, core_of}
 use Rattle.ibc_records.proofs.Stores.{Becomes}
 
 -- the pairs are the image of the core, every key of which has names for its names
@@ -39,8 +39,8 @@ module _ (old new : HeldRecords) (core : Core) (pairs : Pairs) (is_image : IsIma
   image_of : new.store.pairs ≡ image (core_of new)
   image_of = becomes.pairs_are ∙ is_image.pairs_are ∙ ap image (sym core_is)
 
-  pub is_held : AreNumbered new.next_channel new.channels → IsHeld new
-  is_held numbered = record { keyed = subst IsKeyed (sym core_is) is_image.keyed; stored = image_of; numbered = numbered }
+  pub is_held : AreOrderly new.next_channel new.channels → IsHeld new
+  is_held orderly = record { keyed = subst IsKeyed (sym core_is) is_image.keyed; stored = image_of; orderly = orderly }
 
   pub is_stored : IsStored old new
   is_stored = record { store = becomes.rewrites; image_of = image_of }

@@ -5,6 +5,7 @@ pub mod NewRecords
 pub mod Learning
 pub mod UpdatedClients
 pub mod Connections
+pub mod Orderly
 pub mod Channels
 pub mod Written
 pub mod Knowing

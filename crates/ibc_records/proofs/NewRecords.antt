@@ -53,7 +53,7 @@ new_held_records maps window time next s0 s1 s2 s3 s4 {p} {q} {r} {u} {v} {w} no
     let held : HeldRecords = new_records next s4 in
     subst (λ (z : Maps). IsHeld (with_maps z held) × IsCountingFrom window time next (with_maps z held))
     (λ i. (sym no_client i, sym no_connection i, sym no_channel i)) (
-      record { keyed = keyed-counters next; stored = pairs; numbered = λ port id channel found. absurd (cc) },
+      record { keyed = keyed-counters next; stored = pairs; orderly = record { sorted = refl; numbered = λ port id channel found. absurd (cc); ends = λ port id mine found. absurd (cc) } },
       record {
         clients = refl;
         connections = refl;

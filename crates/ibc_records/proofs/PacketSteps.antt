@@ -3,7 +3,6 @@ use Rattle.std.proofs.Common.{◌≡◌, ℕ, true, false, is_some, ◌+◌, ◌
 use Rattle.std.specs.Prelude.{IsTrue, IsSome, IfSome}
 use Rattle.std.specs.Option.{IsSomeAnd}
 use Rattle.std.specs.Ordering.{nat_cmp}
-use Rattle.std.specs.FinMap.{is_sorted}
 use Rattle.ibc_ids.specs.Texts.{Text, pair_cmp}
 use Rattle.ibc_ids.specs.Maps.{at, with}
 use Rattle.ibc_ids.specs.Names.{is_port, is_channel}
@@ -16,18 +15,19 @@ use Rattle.ibc_machine.specs.Checks.{Checked}
 use Rattle.ibc_machine.specs.Records.{Core, Channel, Commitment, channel_at, with_channel}
 use Rattle.ibc_machine.specs.Packets.{after_send, after_receive, after_ack, after_timeout}
 use Rattle.ibc_machine.specs.Values.{Value, CommitmentIs, NumberIs, AckIs, value_bytes}
-use Rattle.ibc_machine.proofs.SortedMaps.{Sorted-from}
+use Rattle.ibc_machine.proofs.SortedMaps.{Sorted, Sorted-from}
 use Rattle.ibc_machine.proofs.ImageChanges.{with_changes}
 use Rattle.ibc_machine.proofs.PacketChanges.{Part, Edit, EditsOf, change_of, entry_of, edits_of_send, edits_of_receive, edits_of_settling, received, acknowledged, timed_out, changes-with_edits, keyed-with_edits, edits-after_send, edits-after_receive, edits-after_ack, edits-after_timeout}
 use Rattle.ibc_path_store.specs.Held.{HeldStore}
-use Rattle.ibc_records.specs.Held.{HeldRecords, IsHeld, AreNumbered, core_of}
+use Rattle.ibc_flight.specs.Orderly.{IsOrderlyEnd}
+use Rattle.ibc_records.specs.Held.{HeldRecords, IsHeld, AreOrderly, core_of}
 use Rattle.ibc_records.specs.Taking.{IsWritten}
-use Rattle.ibc_records.proofs.Channels.{Channels, still_there}
+use Rattle.ibc_records.proofs.Orderly.{Channels, still_there, orderly_sent, orderly_received, orderly_acknowledged, orderly_timed_out}
 use Rattle.ibc_records.proofs.Images.{IsImageOf, image_in, image_changed, is_held, is_stored}
 use Rattle.ibc_records.proofs.Stores.{Becomes, Sets, Settles, becomes_roomy, becomes_set, becomes_settled}
 use Rattle.ibc_records.proofs.Written.{same_clients}
 
-module _ (old : HeldRecords) (port id : Text) (mine after : Channel) (edits : List Edit) (channels : Channels) (store : HeldStore) (held : IsHeld old) (stood : at pair_cmp (port, id) old.channels ≡ Some mine) (is : EditsOf port id mine after edits) (entries : channels ≡ with pair_cmp (port, id) after old.channels) (becomes : Becomes old.store (with_changes (map (change_of port id) edits) old.store.pairs) store) where
+module _ (old : HeldRecords) (port id : Text) (mine after : Channel) (edits : List Edit) (channels : Channels) (store : HeldStore) (held : IsHeld old) (stood : at pair_cmp (port, id) old.channels ≡ Some mine) (is : EditsOf port id mine after edits) (orderly : IsOrderlyEnd after) (entries : channels ≡ with pair_cmp (port, id) after old.channels) (becomes : Becomes old.store (with_changes (map (change_of port id) edits) old.store.pairs) store) where
   abbrev new : HeldRecords
   new = record old { channels = channels; store = store }
 
@@ -45,7 +45,7 @@ module _ (old : HeldRecords) (port id : Text) (mine after : Channel) (edits : Li
   pub edited_held : IsHeld new
   edited_held =
       is_held old new core _ image_is becomes core_is
-      (subst (λ cs. AreNumbered old.next_channel cs) (sym entries) (still_there old port id mine after held stood))
+      (subst (λ cs. AreOrderly old.next_channel cs) (sym entries) (still_there old port id mine after held stood orderly))
 
   pub edited_written : IsWritten core old new
   edited_written = record { core_is = core_is; stored = is_stored old new core _ image_is becomes core_is; knows = same_clients old new refl }
@@ -53,6 +53,9 @@ module _ (old : HeldRecords) (port id : Text) (mine after : Channel) (edits : Li
 -- ---- the four steps, from what the calls on the map and the store say
 
 module _ (old : HeldRecords) (port id : Text) (mine : Channel) (channels : Channels) (held : IsHeld old) (named : IsTrue (is_port port && is_channel id)) (stood : at pair_cmp (port, id) old.channels ≡ Some mine) where
+  was_orderly : IsOrderlyEnd mine
+  was_orderly = held.orderly.ends port id mine stood
+
   abbrev pub with_both : HeldStore → HeldRecords
   with_both store = record old { channels = channels; store = store }
 
@@ -64,7 +67,8 @@ module _ (old : HeldRecords) (port id : Text) (mine : Channel) (channels : Chann
   sends c s1 s2 s3 fits entries ep ev eq ew e f g =
       let becomes = becomes_set old.store _ s2 s3 (becomes_set old.store _ s1 s2 (becomes_roomy old.store s1 e) f ep ev) g eq ew in
       let edits = edits-after_send port id mine named c fits in
-      (edited_held old port id mine (after_send c mine) (edits_of_send c mine) channels s3 held stood edits entries becomes, edited_written old port id mine (after_send c mine) (edits_of_send c mine) channels s3 held stood edits entries becomes)
+      let orderly = orderly_sent mine was_orderly c in
+      (edited_held old port id mine (after_send c mine) (edits_of_send c mine) channels s3 held stood edits orderly entries becomes, edited_written old port id mine (after_send c mine) (edits_of_send c mine) channels s3 held stood edits orderly entries becomes)
 
   pub receives : (n : ℕ) (ack : Text) (s1 s2 s3 : HeldStore) {p v q w : Text} → n < 2 ^ 64 → channels ≡ with pair_cmp (port, id) (after_receive n ack mine) old.channels
       → p ≡ path (key.Acknowledgement port id n) → v ≡ value_bytes (AckIs ack) → (q, w) ≡ entry_of port id (received n mine)
@@ -73,30 +77,32 @@ module _ (old : HeldRecords) (port id : Text) (mine : Channel) (channels : Chann
   receives n ack s1 s2 s3 fits entries ep ev other e f g =
       let becomes = becomes_set old.store _ s2 s3 (becomes_set old.store _ s1 s2 (becomes_roomy old.store s1 e) f ep ev) g (ap (λ (x : Text × Text). x.0) other) (ap (λ (x : Text × Text). x.1) other) in
       let edits = edits-after_receive port id mine named n ack fits in
-      (edited_held old port id mine (after_receive n ack mine) (edits_of_receive n ack mine) channels s3 held stood edits entries becomes, edited_written old port id mine (after_receive n ack mine) (edits_of_receive n ack mine) channels s3 held stood edits entries becomes)
+      let orderly = orderly_received mine was_orderly n ack in
+      (edited_held old port id mine (after_receive n ack mine) (edits_of_receive n ack mine) channels s3 held stood edits orderly entries becomes, edited_written old port id mine (after_receive n ack mine) (edits_of_receive n ack mine) channels s3 held stood edits orderly entries becomes)
 
   -- a packet is settled
   module _ (n : ℕ) (s1 s2 : HeldStore) {p : Text} (fits : n < 2 ^ 64) (ep : p ≡ path (key.Commitment port id n)) (e : s1 ≡ record old.store { room = s1.room }) where
-    settled : (after : Channel) (more : Option (Part × Value)) {other : Option (Text × Text)} → EditsOf port id mine after (edits_of_settling n more)
+    settled : (after : Channel) (more : Option (Part × Value)) {other : Option (Text × Text)} → EditsOf port id mine after (edits_of_settling n more) → IsOrderlyEnd after
         → channels ≡ with pair_cmp (port, id) after old.channels
         → other ≡ option_map (entry_of port id) more → Settles s1 p other s2
         → IsHeld (with_both s2) × IsWritten (with_channel port id after (core_of old)) old (with_both s2)
-    settled after None edits entries same f =
+    settled after None edits orderly entries same f =
         let becomes = becomes_settled old.store _ s1 s2 (becomes_roomy old.store s1 e) f ep same in
-        (edited_held old port id mine after (edits_of_settling n None) channels s2 held stood edits entries becomes, edited_written old port id mine after (edits_of_settling n None) channels s2 held stood edits entries becomes)
-    settled after (Some entry) edits entries same f =
+        (edited_held old port id mine after (edits_of_settling n None) channels s2 held stood edits orderly entries becomes, edited_written old port id mine after (edits_of_settling n None) channels s2 held stood edits orderly entries becomes)
+    settled after (Some entry) edits orderly entries same f =
         let becomes = becomes_settled old.store _ s1 s2 (becomes_roomy old.store s1 e) f ep same in
-        (edited_held old port id mine after (edits_of_settling n (Some entry)) channels s2 held stood edits entries becomes, edited_written old port id mine after (edits_of_settling n (Some entry)) channels s2 held stood edits entries becomes)
+        (edited_held old port id mine after (edits_of_settling n (Some entry)) channels s2 held stood edits orderly entries becomes, edited_written old port id mine after (edits_of_settling n (Some entry)) channels s2 held stood edits orderly entries becomes)
 
-    pub acknowledges : {other : Option (Text × Text)} → IsTrue (is_sorted nat_cmp mine.commitments)
-        → channels ≡ with pair_cmp (port, id) (after_ack n mine) old.channels → other ≡ option_map (entry_of port id) (acknowledged mine) → Settles s1 p other s2
+    in_order : Sorted nat_cmp mine.commitments
+    in_order = Sorted-from nat_cmp mine.commitments was_orderly.sorted
+
+    pub acknowledges : {other : Option (Text × Text)} → channels ≡ with pair_cmp (port, id) (after_ack n mine) old.channels → other ≡ option_map (entry_of port id) (acknowledged mine) → Settles s1 p other s2
         → IsHeld (with_both s2) × IsWritten (with_channel port id (after_ack n mine) (core_of old)) old (with_both s2)
-    acknowledges sorted = settled (after_ack n mine) (acknowledged mine) (edits-after_ack port id mine named n fits (Sorted-from nat_cmp mine.commitments sorted))
+    acknowledges = settled (after_ack n mine) (acknowledged mine) (edits-after_ack port id mine named n fits in_order) (orderly_acknowledged mine was_orderly n)
 
-    pub times_out : {other : Option (Text × Text)} → IsTrue (is_sorted nat_cmp mine.commitments)
-        → channels ≡ with pair_cmp (port, id) (after_timeout n mine) old.channels → other ≡ option_map (entry_of port id) (timed_out mine) → Settles s1 p other s2
+    pub times_out : {other : Option (Text × Text)} → channels ≡ with pair_cmp (port, id) (after_timeout n mine) old.channels → other ≡ option_map (entry_of port id) (timed_out mine) → Settles s1 p other s2
         → IsHeld (with_both s2) × IsWritten (with_channel port id (after_timeout n mine) (core_of old)) old (with_both s2)
-    times_out sorted = settled (after_timeout n mine) (timed_out mine) (edits-after_timeout port id mine named n fits (Sorted-from nat_cmp mine.commitments sorted))
+    times_out = settled (after_timeout n mine) (timed_out mine) (edits-after_timeout port id mine named n fits in_order) (orderly_timed_out mine was_orderly n)
 
 -- ---- a channel that the caller knows of, in the value of the records and under its name
 

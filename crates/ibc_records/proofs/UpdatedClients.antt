@@ -42,7 +42,7 @@ module _ (old : HeldRecords) (id : Text) (height : ℕ) (known : ConsensusState)
       let told = updated height (plain_client client) in
       let is_image = image_set (core_of old) (with_client id told (core_of old)) (key.ClientState id) (ClientIs told.state) old.store.pairs (image_in old held)
       (keyed-with_client (core_of old) id told held.keyed named) (changes-with_client (core_of old) id told) in (
-        is_held old after _ _ is_image becomes core-after held.numbered,
+        is_held old after _ _ is_image becomes core-after held.orderly,
         record {
           client = client;
           stood = there;

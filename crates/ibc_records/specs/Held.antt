@@ -1,5 +1,6 @@
 -- The records of a chain as a ledger holds them: in plain, and as a store of paths.
-use Rattle.std.specs.Prelude.{◌≡◌, ◌+◌, ◌<◌, ℕ, [], map, Option, Some}
+use Rattle.std.specs.Prelude.{◌≡◌, ◌+◌, ◌<◌, ℕ, [], map, IsTrue, Option, Some}
+use Rattle.std.specs.FinMap.{is_sorted}
 use Rattle.std.specs.Option.{option_and_then}
 use Rattle.std.specs.Ordering.{nat_cmp}
 use Rattle.ibc_ids.specs.Texts.{Text, text_cmp, pair_cmp}
@@ -15,6 +16,7 @@ use Rattle.ibc_machine.specs.Image.{image}
 use Rattle.ibc_machine.specs.Clients.{new_client, updated}
 use Rattle.ibc_machine.proofs.ImageChanges.{IsKeyed}
 use Rattle.ibc_path_store.specs.Held.{HeldStore}
+use Rattle.ibc_flight.specs.Orderly.{IsOrderlyEnd}
 use Rattle.ibc_records.specs.declared.client.ConsensusState.{ConsensusState}
 use Rattle.ibc_records.specs.declared.records.NextNumbers.{NextNumbers}
 use Rattle.ibc_records.specs.HeldClients.{HeldClient, plain_client, new_held, with_height}
@@ -52,11 +54,17 @@ abbrev pub AreNumbered : ℕ → Map (Text × Text) Channel → Type 0
 AreNumbered next channels =
     (port id : Text) (channel : Channel) → at pair_cmp (port, id) channels ≡ Some channel → (n : ℕ) × (n < next) × (id ≡ nth_channel n)
 
--- the store is the image of the core, every key of which has names for its names, and the next channel's name is free
+-- channels in the order of their names, none of which is given yet from this number on, and each end in order
+pub record AreOrderly (next : ℕ) (channels : Map (Text × Text) Channel) : Type 0 where
+  pub sorted : IsTrue (is_sorted pair_cmp channels)
+  pub numbered : AreNumbered next channels
+  pub ends : (port id : Text) (mine : Channel) → at pair_cmp (port, id) channels ≡ Some mine → IsOrderlyEnd mine
+
+-- the store is the image of the core, every key of which has names for its names, and the channels are in order
 pub record IsHeld (held : HeldRecords) : Type 0 where
   pub keyed : IsKeyed (core_of held)
   pub stored : held.store.pairs ≡ image (core_of held)
-  pub numbered : AreNumbered held.next_channel held.channels
+  pub orderly : AreOrderly held.next_channel held.channels
 
 -- the core of a chain in the beginning, but that the next ones have these numbers
 abbrev pub core_from : NextNumbers → Core

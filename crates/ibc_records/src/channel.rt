@@ -1,7 +1,6 @@
 //! An end of a channel with its counters and its packets.
 
-ghost use Rattle.std.specs.Prelude.{◌≡◌, ◌-◌, ◌^◌, ◌<◌, ◌≤◌, true, IsTrue, IfOk, IfErr, OnOk, OnErr, option_copied};
-ghost use Rattle.std.specs.FinMap.{is_sorted};
+ghost use Rattle.std.specs.Prelude.{◌≡◌, ◌⊎◌, ◌-◌, ◌^◌, ◌<◌, ◌≤◌, true, Ok, Err, IfOk, IfErr, OnOk, OnErr, option_copied};
 ghost use Rattle.std.specs.Ordering.{nat_cmp};
 ghost use Rattle.ibc_ids.specs.Maps.{at};
 ghost use Rattle.ibc_ids.specs.declared.refusal.Refusal.TheVariants.{NoMemory};
@@ -12,7 +11,7 @@ ghost use Rattle.ibc_machine.specs.Values.{value_bytes, AckIs};
 
 use crate::acknowledgement::{AckCopies, AckRoom};
 use crate::commitment::Commitment;
-use ibc_app_port::App;
+use ibc_app_port::{App, Pays};
 use ibc_ids::{Bytes, Refusal};
 use ibc_sorted_map::SortedMap;
 use ibc_wire::{ChannelEnd, ChannelState, Order, Packet};
@@ -131,15 +130,23 @@ impl Channel {
         self.end = end;
     }
 
-    /// Commits to a packet under the next sequence, and counts on (ICS 4, "sendPacket"). `NoMemory` where a growth is
-    /// refused; the channel is then as before.
-    pub(crate) fn send(&mut self, commitment: Commitment) -> Result<(), Refusal>
+    /// Lets the payer pay, commits to a packet under the next sequence, and counts on (ICS 4, "sendPacket"). What the
+    /// payer refuses; `NoMemory` where a growth is refused. The channel and the payer are then as before.
+    pub(crate) fn send<Bill, P: Pays<Bill>>(
+        &mut self,
+        payer: &mut P,
+        bill: &Bill,
+        commitment: Commitment,
+    ) -> Result<(), Refusal>
         requires { self.old.next_send < 2 ^ 64 - 1 }
         ensures ok { OnOk result (self.new ≡ after_send commitment self.old) }
-        ensures err { IfErr result (λ refusal. refusal ≡ NoMemory) }
-        ensures unchanged { OnErr result (self.new ≡ self.old) }
+        ensures paid { OnOk result (P.pays payer.old bill.now ≡ Ok payer.new) }
+        ensures err { IfErr result (λ refusal. (refusal ≡ NoMemory) ⊎ (P.pays payer.old bill.now ≡ Err refusal)) }
+        ensures unchanged { OnErr result ((self.new ≡ self.old) × (payer.new ≡ payer.old)) }
     {
-        self.commitments.set(self.next_send, commitment)?;
+        self.commitments.reserve(1)?;
+        payer.pay(bill)?;
+        let _ = self.commitments.set(self.next_send, commitment);
         self.next_send += 1;
         Ok(())
     }
@@ -180,8 +187,7 @@ impl Channel {
     /// "acknowledgePacket").
     pub(crate) fn acknowledge(&mut self, sequence: u64)
         requires { is_ordered self.old ≡ true → self.old.next_ack < 2 ^ 64 - 1 }
-        ensures sorted { IsTrue (is_sorted nat_cmp self.old.commitments) }
-        ensures after { self.new ≡ after_ack sequence self.old }
+        ensures { self.new ≡ after_ack sequence self.old }
     {
         self.remove_commitment(sequence);
         if self.end.order == Order::Ordered {
@@ -192,8 +198,7 @@ impl Channel {
     /// Removes the commitment of a packet that won't be received any more; an ordered channel is closed (ICS 4,
     /// "timeoutPacket").
     pub(crate) fn time_out(&mut self, sequence: u64)
-        ensures sorted { IsTrue (is_sorted nat_cmp self.old.commitments) }
-        ensures after { self.new ≡ after_timeout sequence self.old }
+        ensures { self.new ≡ after_timeout sequence self.old }
     {
         self.remove_commitment(sequence);
         if self.end.order == Order::Ordered {
@@ -203,10 +208,8 @@ impl Channel {
 
     // Removes the commitment of a packet.
     fn remove_commitment(&mut self, sequence: u64)
-        ensures sorted { IsTrue (is_sorted nat_cmp self.old.commitments) }
-        ensures removed { self.new ≡ without_commitment sequence self.old }
+        ensures { self.new ≡ without_commitment sequence self.old }
     {
-        let _in_order = self.commitments.entries();
         self.commitments.remove(&sequence);
     }
 }

@@ -17,6 +17,3 @@ pub use commitment::Commitment;
 pub use packet_values::{ack_value, commitment_value, packet_path};
 pub use records::{NextNumbers, Records};
 pub use values::{channel_value, client_value, connection_value};
-
-#[cfg(test)]
-mod tests;

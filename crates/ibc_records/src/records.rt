@@ -10,6 +10,7 @@ ghost use Rattle.ibc_merkle.specs.Written.{written};
 ghost use Rattle.ibc_records.specs.Held.{core_of, IsNew, IsCountingFrom, AddsClient, UpdatesClient, IsUnchanged};
 ghost use Rattle.ibc_machine.specs.Image.{image, core_root};
 ghost use Rattle.ibc_machine.proofs.ImageChanges.{IsKeyed};
+ghost use Rattle.ibc_flight.specs.Orderly.{IsOrderly};
 ghost use Rattle.ibc_records.specs.HeldClients.{with_height};
 ghost use Rattle.ibc_path_store.specs.Held.{committed, height_of, kept_at};
 
@@ -126,6 +127,14 @@ impl Records {
         ensures { IsKeyed (core_of self.now) }
     {
         let _number = self.next_client;
+    }
+
+    /// The channels are in the order of their names, and nothing stands under a name or a sequence that wasn't given yet
+    /// (ICS 24, "Identifiers"; ICS 4, "Channel paths").
+    pub fn is_orderly(&self)
+        ensures { IsOrderly (core_of self.now) }
+    {
+        let _number = self.next_channel;
     }
 
     /// A client by its identifier, or none.

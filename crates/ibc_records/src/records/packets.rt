@@ -1,9 +1,7 @@
 //! The packets of a chain's channels.
 
-ghost use Rattle.std.specs.Prelude.{◌≡◌, ◌⊎◌, ◌-◌, ◌^◌, ◌<◌, ◌≤◌, true, Err, IsTrue, IsSome, IfSome, IfOk, IfErr, OnOk, OnErr};
-ghost use Rattle.std.specs.FinMap.{is_sorted};
+ghost use Rattle.std.specs.Prelude.{◌≡◌, ◌⊎◌, ◌-◌, ◌^◌, ◌<◌, ◌≤◌, true, Ok, Err, IsSome, IfSome, IfOk, IfErr, OnOk, OnErr};
 ghost use Rattle.std.specs.Option.{IsSomeAnd};
-ghost use Rattle.std.specs.Ordering.{nat_cmp};
 ghost use Rattle.ibc_ids.specs.Texts.{pair_cmp};
 ghost use Rattle.ibc_ids.specs.Maps.{at, with};
 ghost use Rattle.ibc_ids.specs.declared.refusal.Refusal.TheVariants.{NoMemory};
@@ -20,7 +18,7 @@ use crate::commitment::Commitment;
 use crate::packet_entries::{acknowledged_entry, closed_entry, received_entry, settle};
 use crate::packet_values::{channel_counter, commitment_value, packet_path};
 use crate::values::set_reserved;
-use ibc_app_port::App;
+use ibc_app_port::{App, Nobody, Pays};
 use ibc_ids::{Bytes, ChannelId, PortId, Refusal};
 use ibc_wire::Packet;
 use std::collections::BTreeMap;
@@ -39,6 +37,25 @@ impl Records {
         ensures err { IfErr result (λ refusal. refusal ≡ NoMemory) }
         ensures unchanged { OnErr result (IsUnchanged self.old self.new) }
     {
+        self.send_paid(&mut Nobody, &(), port, id, commitment)
+    }
+
+    /// As `send`, where a payer pays once nothing else can be refused (ICS 20, "sendFungibleTokens"). What the payer
+    /// refuses; `NoMemory` where a growth is refused. The records and the payer are then as before.
+    pub fn send_paid<Bill, P: Pays<Bill>>(
+        &mut self,
+        payer: &mut P,
+        bill: &Bill,
+        port: &PortId,
+        id: &ChannelId,
+        commitment: Commitment,
+    ) -> Result<u64, Refusal>
+        requires { IsSomeAnd (channel_at (core_of self.old) port.now id.now) (λ mine. mine.next_send < 2 ^ 64 - 1) }
+        ensures ok { IfOk result (λ n. SendsPacket self.old port.now id.now commitment n self.new) }
+        ensures paid { OnOk result (P.pays payer.old bill.now ≡ Ok payer.new) }
+        ensures err { IfErr result (λ refusal. (refusal ≡ NoMemory) ⊎ (P.pays payer.old bill.now ≡ Err refusal)) }
+        ensures unchanged { OnErr result (IsUnchanged self.old self.new × (payer.new ≡ payer.old)) }
+    {
         let name = name_of(port, id)?;
         let sequence = match self.channels.get(&name) {
             Some(channel) => channel.next_send(),
@@ -55,7 +72,7 @@ impl Records {
             next,
         )?;
         self.store.reserve(2)?;
-        send_on(&mut self.channels, &name, commitment)?;
+        send_on(&mut self.channels, &name, payer, bill, commitment)?;
         set_reserved(&mut self.store, path, value);
         set_reserved(&mut self.store, next_path, next);
         Ok(sequence)
@@ -153,19 +170,22 @@ fn name_of(port: &PortId, id: &ChannelId) -> Result<(PortId, ChannelId), Refusal
     Ok((port.clone()?, id.clone()?))
 }
 
-// A channel that is there commits to a packet.
-fn send_on(
+// A channel that is there commits to a packet that is paid for.
+fn send_on<Bill, P: Pays<Bill>>(
     channels: &mut BTreeMap<(PortId, ChannelId), Channel>,
     name: &(PortId, ChannelId),
+    payer: &mut P,
+    bill: &Bill,
     commitment: Commitment,
 ) -> Result<(), Refusal>
     requires { IsSomeAnd (at pair_cmp name.now channels.old.entries) (λ mine. mine.next_send < 2 ^ 64 - 1) }
     ensures ok { OnOk result (IfSome (at pair_cmp name.now channels.old.entries) (λ mine. channels.new.entries ≡ with pair_cmp name.now (after_send commitment mine) channels.old.entries)) }
-    ensures err { IfErr result (λ refusal. refusal ≡ NoMemory) }
-    ensures unchanged { OnErr result (channels.new.entries ≡ channels.old.entries) }
+    ensures paid { OnOk result (P.pays payer.old bill.now ≡ Ok payer.new) }
+    ensures err { IfErr result (λ refusal. (refusal ≡ NoMemory) ⊎ (P.pays payer.old bill.now ≡ Err refusal)) }
+    ensures unchanged { OnErr result ((channels.new.entries ≡ channels.old.entries) × (payer.new ≡ payer.old)) }
 {
     match channels.get_mut(name) {
-        Some(channel) => channel.send(commitment),
+        Some(channel) => channel.send(payer, bill, commitment),
         None => Err(Refusal::UnknownChannel),
     }
 }
@@ -200,8 +220,7 @@ fn acknowledge_on(
     sequence: u64,
 )
     requires { IfSome (at pair_cmp name.now channels.old.entries) (λ mine. is_ordered mine ≡ true → mine.next_ack < 2 ^ 64 - 1) }
-    ensures sorted { IfSome (at pair_cmp name.now channels.old.entries) (λ mine. IsTrue (is_sorted nat_cmp mine.commitments)) }
-    ensures ok { IfSome (at pair_cmp name.now channels.old.entries) (λ mine. channels.new.entries ≡ with pair_cmp name.now (after_ack sequence mine) channels.old.entries) }
+    ensures { IfSome (at pair_cmp name.now channels.old.entries) (λ mine. channels.new.entries ≡ with pair_cmp name.now (after_ack sequence mine) channels.old.entries) }
 {
     if let Some(channel) = channels.get_mut(name) {
         channel.acknowledge(sequence);
@@ -214,8 +233,7 @@ fn time_out_on(
     name: &(PortId, ChannelId),
     sequence: u64,
 )
-    ensures sorted { IfSome (at pair_cmp name.now channels.old.entries) (λ mine. IsTrue (is_sorted nat_cmp mine.commitments)) }
-    ensures ok { IfSome (at pair_cmp name.now channels.old.entries) (λ mine. channels.new.entries ≡ with pair_cmp name.now (after_timeout sequence mine) channels.old.entries) }
+    ensures { IfSome (at pair_cmp name.now channels.old.entries) (λ mine. channels.new.entries ≡ with pair_cmp name.now (after_timeout sequence mine) channels.old.entries) }
 {
     if let Some(channel) = channels.get_mut(name) {
         channel.time_out(sequence);

@@ -1,7 +1,5 @@
 -- The store is again the image of the core, in which the packet is settled.
 use Rattle.std.proofs.Common.{◌≡◌, sym, ap, ◌∙◌, Some, nat_cmp}
-use Rattle.std.specs.Prelude.{IsTrue}
-use Rattle.std.specs.FinMap.{is_sorted}
 use Rattle.std.proofs.lemmas.Result.{err_from_is_err_and}
 use Rattle.ibc_ids.specs.Texts.{pair_cmp}
 use Rattle.ibc_ids.specs.Maps.{at, with}
@@ -29,20 +27,18 @@ invariant_of-self-2 g c =
     let old : HeldRecords = record { clients = c.self.inside.clients.entries; connections = c.self.inside.connections.entries; channels = c.self.inside.channels.entries; next_client = c.self.inside.next_client; next_connection = c.self.inside.next_connection; next_channel = c.self.inside.next_channel; store = c.self.inside.store } in
     let mine : Channel = c.in-Some.channel.now in
     let there : at pair_cmp c.in_ok-name.name old.channels ≡ Some mine = sym c.in-Some.ensures.value in
-    let sorted = where_found (at pair_cmp c.in_ok-name.name old.channels) (λ (x : Channel). IsTrue (is_sorted nat_cmp x.commitments)) mine there c.time_out_on.ensures.sorted in
-    let entries = where_found (at pair_cmp c.in_ok-name.name old.channels) (λ (x : Channel). c.time_out_on.new.channels.entries ≡ with pair_cmp c.in_ok-name.name (after_timeout c.args.packet.now.sequence x) old.channels) mine there c.time_out_on.ensures.ok in
+    let entries = where_found (at pair_cmp c.in_ok-name.name old.channels) (λ (x : Channel). c.time_out_on.new.channels.entries ≡ with pair_cmp c.in_ok-name.name (after_timeout c.args.packet.now.sequence x) old.channels) mine there c.time_out_on.ensures in
     (times_out old c.in_ok-name.name.0 c.in_ok-name.name.1 mine c.time_out_on.new.channels.entries c.self.invariant c.packet_path.ensures.named there c.args.packet.now.sequence c.reserve.new.self c.settle.new.store
-    c.packet_path.ensures.fits (c.as_str.ensures.value ∙ c.in_ok-path.ensures.ok) c.in_ok-reserve.ensures.same sorted entries c.in_ok-closed.ensures.ok c.settle.ensures).0
+    c.packet_path.ensures.fits (c.as_str.ensures.value ∙ c.in_ok-path.ensures.ok) c.in_ok-reserve.ensures.same entries c.in_ok-closed.ensures.ok c.settle.ensures).0
 
 pub returns-clause-ok : goal.returns-clause-ok
 returns-clause-ok g c =
     let old : HeldRecords = record { clients = c.self.inside.clients.entries; connections = c.self.inside.connections.entries; channels = c.self.inside.channels.entries; next_client = c.self.inside.next_client; next_connection = c.self.inside.next_connection; next_channel = c.self.inside.next_channel; store = c.self.inside.store } in
     let mine : Channel = c.in-Some.channel.now in
     let there : at pair_cmp c.in_ok-name.name old.channels ≡ Some mine = sym c.in-Some.ensures.value in
-    let sorted = where_found (at pair_cmp c.in_ok-name.name old.channels) (λ (x : Channel). IsTrue (is_sorted nat_cmp x.commitments)) mine there c.time_out_on.ensures.sorted in
-    let entries = where_found (at pair_cmp c.in_ok-name.name old.channels) (λ (x : Channel). c.time_out_on.new.channels.entries ≡ with pair_cmp c.in_ok-name.name (after_timeout c.args.packet.now.sequence x) old.channels) mine there c.time_out_on.ensures.ok in
+    let entries = where_found (at pair_cmp c.in_ok-name.name old.channels) (λ (x : Channel). c.time_out_on.new.channels.entries ≡ with pair_cmp c.in_ok-name.name (after_timeout c.args.packet.now.sequence x) old.channels) mine there c.time_out_on.ensures in
     let written = (times_out old c.in_ok-name.name.0 c.in_ok-name.name.1 mine c.time_out_on.new.channels.entries c.self.invariant c.packet_path.ensures.named there c.args.packet.now.sequence c.reserve.new.self c.settle.new.store
-    c.packet_path.ensures.fits (c.as_str.ensures.value ∙ c.in_ok-path.ensures.ok) c.in_ok-reserve.ensures.same sorted entries c.in_ok-closed.ensures.ok c.settle.ensures).1 in
+    c.packet_path.ensures.fits (c.as_str.ensures.value ∙ c.in_ok-path.ensures.ok) c.in_ok-reserve.ensures.same entries c.in_ok-closed.ensures.ok c.settle.ensures).1 in
     record {
       mine = mine;
       stood = found old c.args.self.now c.in_ok-name.name c.args.packet.now.source_port c.args.packet.now.source_channel c.self.view_is c.in_ok-name.ensures.ok mine there;

@@ -3,15 +3,15 @@ use Rattle.std.proofs.Common.{sym}
 use Rattle.ibc_ids.specs.Texts.{pair_cmp}
 use Rattle.ibc_machine.specs.Packets.{after_send}
 use Rattle.ibc_machine.proofs.FiniteMaps.{pair_cmp_total}
-use Rattle.ibc_records.proofs.Learning.{replaced_if, unchanged_if}
+use Rattle.ibc_records.proofs.Learning.{replaced_if, both_unchanged_if}
 use Rattle.ibc_records.proofs.records.packets.send_on.Goals as goal
 
 pub returns-in-Some-clause-ok : goal.returns-in-Some-clause-ok
-returns-in-Some-clause-ok c =
+returns-in-Some-clause-ok g c =
     replaced_if pair_cmp c.args.channels.now.entries (c.get_mut.follows.lender c.send.new.self).entries c.args.name.now c.in-Some.channel.now c.send.new.self (sym c.in-Some.ensures.value)
     (c.get_mut.follows.holds c.send.new.self).0 pair_cmp_total c.in-Some.ensures.ordered c.send.result (λ done. after_send c.args.commitment) c.send.ensures.ok
 
 pub returns-in-Some-clause-unchanged : goal.returns-in-Some-clause-unchanged
-returns-in-Some-clause-unchanged c =
-    unchanged_if pair_cmp c.args.channels.now.entries (c.get_mut.follows.lender c.send.new.self).entries c.args.name.now c.in-Some.channel.now c.send.new.self (sym c.in-Some.ensures.value)
-    (c.get_mut.follows.holds c.send.new.self).0 c.send.result c.send.ensures.unchanged
+returns-in-Some-clause-unchanged g c =
+    both_unchanged_if pair_cmp c.args.channels.now.entries (c.get_mut.follows.lender c.send.new.self).entries c.args.name.now c.in-Some.channel.now c.send.new.self (sym c.in-Some.ensures.value)
+    (c.get_mut.follows.holds c.send.new.self).0 _ c.send.result c.send.ensures.unchanged

@@ -6,7 +6,7 @@ use Rattle.ibc_machine.proofs.FiniteMaps.{pair_cmp_total}
 use Rattle.ibc_records.proofs.Learning.{replaced}
 use Rattle.ibc_records.proofs.records.packets.time_out_on.Goals as goal
 
-pub returns-in-Some-clause-ok : goal.returns-in-Some-clause-ok
-returns-in-Some-clause-ok c =
+pub returns-in-Some : goal.returns-in-Some
+returns-in-Some c =
     replaced pair_cmp pair_cmp_total c.args.channels.now.entries (c.get_mut.follows.lender c.time_out.new.self).entries c.args.name.now c.in-Some.channel.now c.time_out.new.self (sym c.in-Some.ensures.value)
-    (c.get_mut.follows.holds c.time_out.new.self).0 c.in-Some.ensures.ordered (after_timeout c.args.sequence) c.time_out.ensures.after
+    (c.get_mut.follows.holds c.time_out.new.self).0 c.in-Some.ensures.ordered (after_timeout c.args.sequence) c.time_out.ensures

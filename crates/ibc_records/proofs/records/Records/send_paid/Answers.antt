@@ -10,26 +10,26 @@ use Rattle.ibc_machine.specs.Values.{value_bytes, NumberIs}
 use Rattle.ibc_records.specs.Held.{HeldRecords}
 use Rattle.ibc_records.proofs.Channels.{roomy}
 use Rattle.ibc_records.proofs.PacketSteps.{sends, where_found, found, asked, not_missing, written_at}
-use Rattle.ibc_records.proofs.records.Records.send.Goals as goal
+use Rattle.ibc_records.proofs.records.Records.send_paid.Goals as goal
 
 pub returns-in-None-clause-err : goal.returns-in-None-clause-err
-returns-in-None-clause-err c =
+returns-in-None-clause-err g c =
     let old : HeldRecords = record { clients = c.self.inside.clients.entries; connections = c.self.inside.connections.entries; channels = c.self.inside.channels.entries; next_client = c.self.inside.next_client; next_connection = c.self.inside.next_connection; next_channel = c.self.inside.next_channel; store = c.self.inside.store } in
     absurd (not_missing old c.args.self.now c.in_ok-name.name c.args.port.now c.args.id.now c.self.view_is c.in_ok-name.ensures.ok (λ (mine : Channel). mine.next_send < 2 ^ 64 - 1) c.requires (sym c.in-None.ensures.value))
 
 pub overflow_add-next : goal.overflow_add-next
-overflow_add-next c =
+overflow_add-next g c =
     let old : HeldRecords = record { clients = c.self.inside.clients.entries; connections = c.self.inside.connections.entries; channels = c.self.inside.channels.entries; next_client = c.self.inside.next_client; next_connection = c.self.inside.next_connection; next_channel = c.self.inside.next_channel; store = c.self.inside.store } in
     let below = asked old c.args.self.now c.in_ok-name.name c.args.port.now c.args.id.now c.self.view_is c.in_ok-name.ensures.ok (λ (mine : Channel). mine.next_send < 2 ^ 64 - 1) c.in-Some.channel.now c.requires (sym c.in-Some.ensures.value) in
     omega (arith, below, c.next_send-sequence.ensures)
 
 pub invariant_of-self-in_err-send_on : goal.invariant_of-self-in_err-send_on
-invariant_of-self-in_err-send_on c =
+invariant_of-self-in_err-send_on g c =
     let old : HeldRecords = record { clients = c.self.inside.clients.entries; connections = c.self.inside.connections.entries; channels = c.self.inside.channels.entries; next_client = c.self.inside.next_client; next_connection = c.self.inside.next_connection; next_channel = c.self.inside.next_channel; store = c.self.inside.store } in
-    roomy old c.send_on.new.channels.entries c.reserve.new.self c.self.invariant c.in_err-send_on.ensures.unchanged c.in_ok-reserve.ensures.same
+    roomy old c.send_on.new.channels.entries c.reserve.new.self c.self.invariant c.in_err-send_on.ensures.unchanged.0 c.in_ok-reserve.ensures.same
 
 pub invariant_of-self-2 : goal.invariant_of-self-2
-invariant_of-self-2 c =
+invariant_of-self-2 g c =
     let old : HeldRecords = record { clients = c.self.inside.clients.entries; connections = c.self.inside.connections.entries; channels = c.self.inside.channels.entries; next_client = c.self.inside.next_client; next_connection = c.self.inside.next_connection; next_channel = c.self.inside.next_channel; store = c.self.inside.store } in
     let mine : Channel = c.in-Some.channel.now in
     let there : at pair_cmp c.in_ok-name.name old.channels ≡ Some mine = sym c.in-Some.ensures.value in
@@ -42,7 +42,7 @@ invariant_of-self-2 c =
     c.in_ok-reserve.ensures.same c.set_reserved.ensures.set c.set_reserved-2.ensures.set).0
 
 pub returns-clause-ok : goal.returns-clause-ok
-returns-clause-ok c =
+returns-clause-ok g c =
     let old : HeldRecords = record { clients = c.self.inside.clients.entries; connections = c.self.inside.connections.entries; channels = c.self.inside.channels.entries; next_client = c.self.inside.next_client; next_connection = c.self.inside.next_connection; next_channel = c.self.inside.next_channel; store = c.self.inside.store } in
     let mine : Channel = c.in-Some.channel.now in
     let there : at pair_cmp c.in_ok-name.name old.channels ≡ Some mine = sym c.in-Some.ensures.value in
