@@ -1,0 +1,23 @@
+-- What becomes of the parcel is what becomes of the message.
+use Rattle.std.proofs.Common.{None, sym, ap, subst, ◌∙◌}
+use Rattle.ibc_machine.specs.declared.reply.Effect.{Effect}
+use Rattle.ibc_machine.specs.declared.reply.Effect.TheVariants as effect
+use Rattle.ibc_machine.specs.Checks.{Checked}
+use Rattle.ibc_machine.specs.Records.{Core}
+use Rattle.ibc_machine.specs.Replay.{proves}
+use Rattle.ibc_bank.specs.Moves.{BankState}
+use Rattle.ibc_records.specs.Held.{core_of}
+use Rattle.ibc_records.specs.Taking.{IsTakenWith}
+use Rattle.ibc_transfer.specs.Sending.{sends}
+use Rattle.ibc_transfer.proofs.Sends.{one_sent}
+use Rattle.ibc_transfer.proofs.sending.send_transfer.Goals as goal
+
+pub returns : goal.returns
+returns c =
+    let old = c.args.records.now in
+    let bank = c.args.transfers.now in
+    let m = c.args.message.now in
+    λ chain chains seen state knowledge.
+    subst (λ (checked : Checked (Effect × Core × BankState)). IsTakenWith effect.Sent checked old bank c.send_parcel.result c.send_parcel.new.records c.send_parcel.new.transfers)
+    (ap (sends (proves seen None state) (core_of old) bank m.channel) c.in_ok-parcel.ensures.ok ∙ sym (one_sent (proves seen None state) (core_of old) bank m))
+    (c.send_parcel.ensures chain chains seen state knowledge)

@@ -1,0 +1,74 @@
+-- What the two messages of port `transfer` send, and what they check from their channel on.
+use Rattle.std.specs.Prelude.{◌==◌, ◌&&◌, not, Bool, List, Ok}
+use Rattle.std.specs.List.{list_any}
+use Rattle.ibc_ids.specs.Texts.{Text, same_text}
+use Rattle.ibc_ids.specs.declared.refusal.Refusal.TheVariants.{WrongVersion, TooLarge}
+use Rattle.ibc_wire.specs.declared.messages.Transfer.{Transfer}
+use Rattle.ibc_wire.specs.declared.messages.TransferMany.{TransferMany}
+use Rattle.ibc_machine.specs.declared.reply.Effect.{Effect}
+use Rattle.ibc_machine.specs.Records.{Core, Channel, Commitment}
+use Rattle.ibc_machine.specs.Checks.{Checked, require, ◌>>=◌, ◌>>◌}
+use Rattle.ibc_machine.specs.Evidence.{Evidence, require_number}
+use Rattle.ibc_machine.specs.Packets.{has_size, sending_end, require_timeouts}
+use Rattle.ibc_machine.specs.TokenData.{one_token, several_tokens}
+use Rattle.ibc_machine.specs.Transfers.{transfer_port, transfer_commitment, transfer_data, transfer_many_data, is_zero}
+use Rattle.ibc_bank.specs.Moves.{BankState, moved_all}
+use Rattle.ibc_bank.specs.declared.moves.Move.{Move}
+use Rattle.ibc_transfer.specs.Sent.{send_moves, with_bank_sent}
+use Rattle.ibc_transfer.specs.declared.parcels.Parcel.{Parcel}
+
+-- what a message sends: the version that its channel has to have, whether its amounts and its payload fit, its moves and
+-- what is committed of its packet
+pub record PlainParcel : Type 0 where
+  pub version : Text
+  pub fits : Bool
+  pub moves : List Move
+  pub commitment : Commitment
+
+abbrev pub plain_parcel : Parcel → PlainParcel
+plain_parcel parcel = record {
+  version = parcel.version;
+  fits = parcel.fits;
+  moves = parcel.moves.items;
+  commitment = parcel.commitment;
+}
+
+abbrev pub one_parcel : Transfer → PlainParcel
+one_parcel m = record {
+  version = one_token;
+  fits = not (m.amount == 0);
+  moves = send_moves m.channel (transfer_data m);
+  commitment = transfer_commitment one_token (transfer_data m) m.timeout_height m.timeout_time;
+}
+
+abbrev pub many_parcel : TransferMany → PlainParcel
+many_parcel m =
+    let c = transfer_commitment several_tokens (transfer_many_data m) m.timeout_height m.timeout_time in
+    record {
+      version = several_tokens;
+      fits = not (list_any is_zero m.tokens) && has_size c.payload;
+      moves = send_moves m.channel (transfer_many_data m);
+      commitment = c;
+    }
+
+-- the checks from the channel on, and the end that sends
+abbrev pub may_send : Evidence → Core → BankState → Text → PlainParcel → Checked Channel
+may_send evidence core bank channel parcel = do
+  mine ← sending_end core transfer_port channel
+  require (same_text mine.end.version parcel.version) WrongVersion
+  require parcel.fits TooLarge
+  require_timeouts evidence core mine parcel.commitment
+  after ← moved_all parcel.moves bank
+  require_number mine.next_send
+  Ok mine
+
+-- the same checks, and the effect
+abbrev pub sends : Evidence → Core → BankState → Text → PlainParcel → Checked (Effect × Core × BankState)
+sends evidence core bank channel parcel = do
+  mine ← sending_end core transfer_port channel
+  require (same_text mine.end.version parcel.version) WrongVersion
+  require parcel.fits TooLarge
+  require_timeouts evidence core mine parcel.commitment
+  after ← moved_all parcel.moves bank
+  require_number mine.next_send
+  Ok (with_bank_sent channel mine parcel.commitment core after)

@@ -1,0 +1,15 @@
+//! The application of port `transfer`: tokens that go from chain to chain, and their messages (ICS 20).
+#![tactic(auto)]
+
+mod acks;
+mod arriving;
+mod leaving;
+mod names;
+mod parcels;
+mod returning;
+mod sending;
+mod transfers;
+
+pub use names::is_transfer_port;
+pub use sending::{send_transfer, send_transfer_many};
+pub use transfers::Transfers;

@@ -1,0 +1,64 @@
+//! The port of transfers and its versions.
+
+ghost use Rattle.std.specs.Prelude.{◌≡◌, [], ◌∷◌, IfOk, IfErr};
+ghost use Rattle.std.specs.List.{list_any};
+ghost use Rattle.ibc_ids.specs.Texts.{same_text};
+ghost use Rattle.ibc_ids.specs.declared.refusal.Refusal.TheVariants.{NoMemory};
+ghost use Rattle.ibc_machine.specs.TokenData as plain;
+ghost use Rattle.ibc_machine.specs.Transfers as transfers;
+
+use ibc_ids::{ChannelId, Denom, PortId, Refusal, Version};
+use std::alloc::Global;
+
+const PORT: &str = "transfer";
+
+const ONE_TOKEN: &str = "ics20-1";
+
+const SEVERAL_TOKENS: &str = "ics20-own-2";
+
+/// Whether a port is this application's, `transfer`.
+pub fn is_transfer_port(port: &PortId) -> bool
+    ensures { result ≡ same_text port.now transfers.transfer_port }
+{
+    port.as_str() == PORT
+}
+
+/// Whether a channel's version is one of the two of transfers.
+pub(crate) fn is_transfer_version(version: &Version) -> bool
+    ensures { result ≡ list_any (same_text version.now) (plain.one_token ∷ plain.several_tokens ∷ []) }
+{
+    version.as_str() == ONE_TOKEN || version.as_str() == SEVERAL_TOKENS
+}
+
+/// The port of transfers.
+pub(crate) fn transfer_port(alloc: Global) -> Result<PortId, Refusal>
+    ensures ok { IfOk result (λ port. port ≡ transfers.transfer_port) }
+    ensures err { IfErr result (λ refusal. refusal ≡ NoMemory) }
+{
+    PortId::parse(alloc, PORT)
+}
+
+/// The version of one token a packet.
+pub(crate) fn one_token(alloc: Global) -> Result<Version, Refusal>
+    ensures ok { IfOk result (λ version. version ≡ plain.one_token) }
+    ensures err { IfErr result (λ refusal. refusal ≡ NoMemory) }
+{
+    Version::parse(alloc, ONE_TOKEN)
+}
+
+/// The version of several tokens a packet.
+pub(crate) fn several_tokens(alloc: Global) -> Result<Version, Refusal>
+    ensures ok { IfOk result (λ version. version ≡ plain.several_tokens) }
+    ensures err { IfErr result (λ refusal. refusal ≡ NoMemory) }
+{
+    Version::parse(alloc, SEVERAL_TOKENS)
+}
+
+/// Whether a denomination came over a channel, and so goes back over it.
+pub(crate) fn came_over(alloc: Global, channel: &ChannelId, denom: &Denom) -> Result<bool, Refusal>
+    ensures ok { IfOk result (λ came. came ≡ transfers.came_over transfers.transfer_port channel.now denom.now) }
+    ensures err { IfErr result (λ refusal. refusal ≡ NoMemory) }
+{
+    let port = transfer_port(alloc)?;
+    Ok(denom.strip(alloc, &port, channel)?.is_some())
+}

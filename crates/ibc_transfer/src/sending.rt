@@ -1,0 +1,119 @@
+//! Sending tokens.
+
+ghost use Rattle.std.specs.Prelude.{◌≡◌, ◌-◌, ◌^◌, ◌<◌, ℕ, Some, IfOk};
+ghost use Rattle.ibc_ids.specs.Texts.{same_text};
+ghost use Rattle.ibc_machine.specs.declared.reply.Effect.TheVariants as effect;
+ghost use Rattle.ibc_machine.specs.Records.{channel_at};
+ghost use Rattle.ibc_machine.specs.Transfers as transfer;
+ghost use Rattle.ibc_records.specs.Held.{core_of};
+ghost use Rattle.ibc_records.specs.Taking.{IsHandledWith};
+ghost use Rattle.ibc_client.specs.Judging.{IsJudged};
+ghost use Rattle.ibc_transfer.specs.Sent.{bank_transfer, bank_transfer_many};
+ghost use Rattle.ibc_transfer.specs.Sending.{plain_parcel, may_send, sends};
+
+use crate::names::transfer_port;
+use crate::parcels::Parcel;
+use crate::transfers::Transfers;
+use ibc_bank::Bank;
+use ibc_client::check_number;
+use ibc_ids::{ChannelId, PortId, Refusal, Version};
+use ibc_packet::{check_timeouts, sending_end};
+use ibc_records::{Channel, Records};
+use ibc_token_data::are_few_and_rising;
+use ibc_wire::{Transfer, TransferMany};
+use std::alloc::Global;
+
+/// Sends one token over a channel of port `transfer`, and answers the sequence of its packet (ICS 20,
+/// "sendFungibleTokens"). Refused, by the first check that fails: `UnknownChannel`; `WrongState` where the end isn't in
+/// `Open`; `WrongVersion` where its version isn't that of one token; `TooLarge` where the amount is 0; `NoTimeout` where
+/// the message has neither timeout; `TimeoutPassed` where one is reached at the latest height that the end's client knows
+/// of the peer; `Poor` where the user holds less; `NumberFull` where the next sequence is 2^64 - 1. `NoMemory` where a
+/// growth is refused. A refusal leaves the records and the tokens.
+pub fn send_transfer(
+    alloc: Global,
+    records: &mut Records,
+    transfers: &mut Transfers,
+    message: &Transfer,
+) -> Result<u64, Refusal>
+    ensures { (chain chains : ℕ) → IsHandledWith effect.Sent (λ evidence host core. bank_transfer evidence core transfers.old message.now) chain chains records.old transfers.old result records.new transfers.new }
+{
+    let parcel = Parcel::of_transfer(alloc, message)?;
+    send_parcel(alloc, records, transfers, &message.channel, parcel)
+}
+
+/// Sends several tokens in one packet over a channel of port `transfer`, and answers its sequence (ICS 20,
+/// "sendFungibleTokens"). Refused, by the first check that fails: `BadMessage` where there aren't 1 to 8 tokens, or their
+/// denominations don't rise; `UnknownChannel`; `WrongState` where the end isn't in `Open`; `WrongVersion` where its version
+/// isn't that of several tokens; `TooLarge` where an amount is 0, or the packet's payload has more than 1,024 bytes;
+/// `NoTimeout` where the message has neither timeout; `TimeoutPassed` where one is reached at the latest height that the
+/// end's client knows of the peer; `Poor` where the user holds less of a token; `NumberFull` where the next sequence is
+/// 2^64 - 1. `NoMemory` where a growth is refused. A refusal leaves the records and the tokens.
+pub fn send_transfer_many(
+    alloc: Global,
+    records: &mut Records,
+    transfers: &mut Transfers,
+    message: &TransferMany,
+) -> Result<u64, Refusal>
+    ensures { (chain chains : ℕ) → IsHandledWith effect.Sent (λ evidence host core. bank_transfer_many evidence core transfers.old message.now) chain chains records.old transfers.old result records.new transfers.new }
+{
+    if !are_few_and_rising(message.tokens.as_slice()) {
+        return Err(Refusal::BadMessage);
+    }
+    let parcel = Parcel::of_transfer_many(alloc, message)?;
+    send_parcel(alloc, records, transfers, &message.channel, parcel)
+}
+
+// The checks from the channel on; then the tokens leave, and the packet is committed to.
+fn send_parcel(
+    alloc: Global,
+    records: &mut Records,
+    transfers: &mut Transfers,
+    channel: &ChannelId,
+    parcel: Parcel,
+) -> Result<u64, Refusal>
+    ensures { (chain chains : ℕ) → IsHandledWith effect.Sent (λ evidence host core. sends evidence core transfers.old channel.now (plain_parcel parcel)) chain chains records.old transfers.old result records.new transfers.new }
+{
+    let port = transfer_port(alloc)?;
+    judge_parcel(records, transfers.bank(), &port, channel, &parcel)?;
+    let commitment = parcel.commitment;
+    records.send_paid(transfers, &parcel.moves, &port, channel, commitment)
+}
+
+// The checks from the channel on, in their order, and the end that sends.
+fn judge_parcel<'a>(
+    records: &'a Records,
+    bank: &Bank,
+    port: &PortId,
+    channel: &ChannelId,
+    parcel: &Parcel,
+) -> Result<&'a Channel, Refusal>
+    requires { port.now ≡ transfer.transfer_port }
+    ensures judged { (chain chains : ℕ) → IsJudged (λ evidence host core. may_send evidence core bank.now channel.now (plain_parcel parcel.now)) chain chains records.now (λ mine. mine.now) result }
+    ensures there { IfOk result (λ mine. channel_at (core_of records.now) port.now channel.now ≡ Some mine.now) }
+    ensures free { IfOk result (λ mine. mine.now.next_send < 2 ^ 64 - 1) }
+{
+    let mine = sending_end(records, port, channel)?;
+    if !has_version(mine, &parcel.version) {
+        return Err(Refusal::WrongVersion);
+    }
+    if !parcel.fits {
+        return Err(Refusal::TooLarge);
+    }
+    let commitment = &parcel.commitment;
+    check_timeouts(
+        records,
+        mine,
+        commitment.timeout_height,
+        commitment.timeout_time,
+    )?;
+    bank.check(parcel.moves.as_slice())?;
+    check_number(mine.next_send())?;
+    Ok(mine)
+}
+
+// Whether an end has a version.
+fn has_version(mine: &Channel, version: &Version) -> bool
+    ensures { result ≡ same_text mine.now.end.version version.now }
+{
+    mine.end().version == *version
+}
