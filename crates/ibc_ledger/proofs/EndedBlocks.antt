@@ -31,7 +31,8 @@ use Rattle.ibc_records.specs.Held.{HeldRecords, consensus_in, IsNew}
 use Rattle.ibc_ledger.specs.Growing.{with_entry}
 use Rattle.ibc_ledger.specs.Entries.{entry_of, working_block}
 use Rattle.ibc_ledger.specs.Proving.{passed, kept_of}
-use Rattle.ibc_ledger.specs.Standing.{starting_apps, IsStateOf, Stands}
+use Rattle.ibc_ledger.specs.Standing.{IsStateOf, Stands}
+use Rattle.ibc_ledger.specs.Apps.{plain_apps, starting_apps}
 use Rattle.ibc_ledger.proofs.Keeping.{drop_none}
 use Rattle.ibc_ledger.proofs.Growing.{ledgers_go_on}
 use Rattle.ibc_ledger.proofs.Entries.{refused_block_next, ended_block_next, block_answer-by}
@@ -101,7 +102,7 @@ module _ (genesis : GenesisState) (k : ℕ) (start : ChainState) (there : slice_
   first_state : state_of new_ledger ≡ record { chain = starting_chain start; consensus = [] }
   first_state = ap (λ o. record { chain = unwrap_or o empty_chain; consensus = [] }) (slice_get-map starting_chain genesis.chains k ∙ ap (option_map starting_chain) there)
 
-  pub stands_new : (held : HeldRecords) → IsNew genesis.window start.time held → Stands new_ledger held (starting_apps start.balances)
+  pub stands_new : (held : HeldRecords) → IsNew genesis.window start.time held → Stands new_ledger held (plain_apps (starting_apps start.balances))
   stands_new held new = record {
     is = record {
       number = inside;
@@ -110,7 +111,7 @@ module _ (genesis : GenesisState) (k : ℕ) (start : ChainState) (there : slice_
       stamps = tt;
       small = subst (λ (s : LedgerState). AllByRecursion (λ (block : Block). length (image block.records.core) < 2 ^ 64) s.chain.committed) (sym first_state) tt;
     };
-    holds = subst (λ (s : LedgerState). IsStateOf genesis.window s held (starting_apps start.balances)) (sym first_state) (record {
+    holds = subst (λ (s : LedgerState). IsStateOf genesis.window s held (plain_apps (starting_apps start.balances))) (sym first_state) (record {
       core = new.core;
       time = ap (λ (s : HeldStore). s.time) new.store;
       height = ap (λ (s : HeldStore). height_of s) new.store;

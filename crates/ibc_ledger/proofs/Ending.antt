@@ -18,11 +18,12 @@ use Rattle.ibc_machine.specs.Image.{image, core_root}
 use Rattle.ibc_machine.specs.Ledgers.{published_as, state_of}
 use Rattle.ibc_root_table.specs.Passes.{Sight, SamePass, Publishes, own_chain}
 use Rattle.ibc_path_store.specs.Held.{height_of}
-use Rattle.ibc_records.specs.Held.{HeldRecords}
+use Rattle.ibc_records.specs.Held.{HeldRecords, core_of}
 use Rattle.ibc_ledger.specs.declared.ledger.Ledger.TheInside.{Inside}
 use Rattle.ibc_ledger.specs.Growing.{with_entry}
 use Rattle.ibc_ledger.specs.Entries.{entry_of, working_block}
 use Rattle.ibc_ledger.specs.Standing.{Stands}
+use Rattle.ibc_ledger.specs.Apps.{plain_apps}
 use Rattle.ibc_ledger.specs.Inside.{genesis_of, ledger_of, IsHeld}
 use Rattle.ibc_ledger.specs.Ending.{IsCommitted, IsWhy, publication_of}
 use Rattle.ibc_ledger.proofs.EndedBlocks.{stands_ended, stands_not_ended, may_commit-back, may_commit-full, may_commit-room, published_height as own_height}
@@ -67,17 +68,17 @@ module _ (l : Inside) (held : IsHeld l) (next_time : ℕ) (fits : next_time < 2 
         let height : given.0 ≡ working_height chain_now = omega (arith, committed.height) in
         λ i. effect.Block (height i) ((committed.root ∙ ap core_root held.stands.holds.core) i)
 
-    pub ended_stands : Stands (with_entry (ledger_of l) (entry_of (event.Block l.chain next_time) (reply.Ok (effect.Block given.0 given.1)) None (Some (length (l.pass.seen ++ prefix.0)))) prefix.0) new l.applications
+    pub ended_stands : Stands (with_entry (ledger_of l) (entry_of (event.Block l.chain next_time) (reply.Ok (effect.Block given.0 given.1)) None (Some (length (l.pass.seen ++ prefix.0)))) prefix.0) new (plain_apps l.applications)
     ended_stands =
-        subst (λ e. Stands (with_entry (ledger_of l) (entry_of (event.Block l.chain next_time) (reply.Ok e) None (Some (length (l.pass.seen ++ prefix.0)))) prefix.0) new l.applications) (sym same_effect)
-        (stands_ended (ledger_of l) l.records l.applications held.stands prefix.0 next_time fits
+        subst (λ e. Stands (with_entry (ledger_of l) (entry_of (event.Block l.chain next_time) (reply.Ok e) None (Some (length (l.pass.seen ++ prefix.0)))) prefix.0) new (plain_apps l.applications)) (sym same_effect)
+        (stands_ended (ledger_of l) l.records (plain_apps l.applications) held.stands prefix.0 next_time fits
         (subst (λ core. length (image core) < 2 ^ 64) held.stands.holds.core committed.small) new may publishes own_last (some_window (genesis_of l) held.allowed)
         (let s = small_capacity (genesis_of l) held.allowed in let c = held.capacity in let r = committed.room in omega arith) committed.records)
 
   pub not_ended_stands : (r : Refusal) → (r ≡ NoMemory → ⊥) → IsWhy l.capacity next_time l.records r
-      → Stands (with_entry (ledger_of l) (entry_of (event.Block l.chain next_time) (reply.No r) None None) []) l.records l.applications
+      → Stands (with_entry (ledger_of l) (entry_of (event.Block l.chain next_time) (reply.No r) None None) []) l.records (plain_apps l.applications)
   not_ended_stands r plenty why =
-      stands_not_ended (ledger_of l) l.records l.applications held.stands [] next_time fits r may_not (ap (published_by l.chain) (append-nil l.pass.seen))
+      stands_not_ended (ledger_of l) l.records (plain_apps l.applications) held.stands [] next_time fits r may_not (ap (published_by l.chain) (append-nil l.pass.seen))
     where
       may_not : may_commit (genesis_of l).capacity chain_now next_time ≡ Err r
       may_not = ⊎_elim
@@ -95,10 +96,11 @@ pub record IsBlockEntry (l : Inside) (next_time : ℕ) (given : Reply) (e : Stam
   pub prefix : IsPrefix l.pass.seen pass.seen
   pub stamp : Option ℕ
   pub is : entry_of (event.Block l.chain next_time) given None stamp ≡ e
-  pub stands : Stands (with_entry (ledger_of l) (entry_of (event.Block l.chain next_time) given None stamp) prefix.0) new l.applications
+  pub stands : Stands (with_entry (ledger_of l) (entry_of (event.Block l.chain next_time) given None stamp) prefix.0) new (plain_apps l.applications)
   pub same : SamePass l.pass pass
   pub plenty : given ≡ reply.No NoMemory → ⊥
   pub late : IfSome stamp (λ n. length l.pass.seen ≤ n)
+  pub core_is : core_of new ≡ core_of l.records
 
 module _ (l : Inside) (held : IsHeld l) (next_time : ℕ) (fits : next_time < 2 ^ 64) where
   pub committed_entry : (given : ℕ × Text) (new : HeldRecords) (pass seen : Sight) → seen ≡ pass → IsCommitted l.capacity next_time l.records l.pass given new pass
@@ -115,6 +117,7 @@ module _ (l : Inside) (held : IsHeld l) (next_time : ℕ) (fits : next_time < 2 
         same = committed.same;
         plenty = λ is. absurd cc;
         late = let e = length-append l.pass.seen prefix.0 in omega arith;
+        core_is = ap core_of committed.records;
       }
 
   refusal_in : (r : Refusal) → reply.No r ≡ reply.No NoMemory → r ≡ NoMemory
@@ -131,4 +134,5 @@ module _ (l : Inside) (held : IsHeld l) (next_time : ℕ) (fits : next_time < 2 
         same = (refl, refl);
         plenty = λ is. plenty (refusal_in r is);
         late = tt;
+        core_is = refl;
       })

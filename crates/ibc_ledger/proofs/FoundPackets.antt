@@ -5,25 +5,29 @@ use Rattle.std.proofs.lemmas.Option.{slice_get-map, slice_get_within}
 use Rattle.ibc_ids.specs.Texts.{Text, pair_cmp}
 use Rattle.ibc_ids.specs.Maps.{at}
 use Rattle.ibc_wire.specs.declared.packet.Packet.{Packet}
-use Rattle.ibc_machine.specs.Records.{Core, Channel, channel_at}
+use Rattle.ibc_machine.specs.Records.{Core, Channel, Commitment, channel_at}
 use Rattle.ibc_machine.specs.Histories.{Happened, End, sent_by, packet_sent}
-use Rattle.ibc_wire.specs.declared.messages.SendNote.{SendNote}
 use Rattle.std.specs.Option.{unwrap_or}
-use Rattle.ibc_machine.specs.Replay.{StampedEntry}
-use Rattle.ibc_machine.specs.Ledgers.{chain_of}
+use Rattle.std.proofs.lemmas.Bool.{and_parts}
+use Rattle.ibc_machine.specs.Replay.{LedgerState, StampedEntry, entry_answer, met_states, starting_state}
+use Rattle.ibc_machine.specs.Ledgers.{Ledger, IsOwnEntry, chain_of, is_typed}
 use Rattle.ibc_ledger.specs.declared.entry.StampedEntry.{StampedEntry as KeptEntry}
 use Rattle.ibc_ledger.specs.declared.ledger.Ledger.TheInside.{Inside}
 use Rattle.ibc_ledger.specs.Held.{plain_entry}
 use Rattle.ibc_ledger.specs.Inside.{ledger_of, IsHeld}
-use Rattle.ibc_ledger.specs.Happened.{happened_of, happened_on, packet_on, is_handled, IsHandledEntry}
-use Rattle.ibc_ledger.specs.SentPackets.{note_in, note_packet, SentName, sent_cmp, is_named}
-use Rattle.ibc_ledger.proofs.SentPackets.{sent_at, stands_at, named_note, names_a_note}
+use Rattle.ibc_ledger.specs.Happened.{happened_of, happened_on, packet_on}
+use Rattle.ibc_ledger.specs.SentPackets.{commitment_in, packet_to, SentName, sent_cmp, is_named}
+use Rattle.ibc_ledger.proofs.SentPackets.{sent_at, stands_at, named_packet, names_a_packet}
 use Rattle.std.specs.List.{AllByRecursion}
 
-all_happened : (chain : ℕ) (history : List StampedEntry) → AllByRecursion (IsHandledEntry chain) history
-    → AllByRecursion (λ (h : Happened). ((chain_of h.0 == chain) ≡ true) × (is_handled h.0 ≡ true)) (map happened_of history)
-all_happened chain [] all = tt
-all_happened chain (e ∷ history) all = (all.0, all_happened chain history all.1)
+-- the events of a ledger are of its chain
+own_events : (ledger : Ledger) (state : LedgerState) (history : List StampedEntry) → AllByRecursion (IsOwnEntry ledger) (met_states ledger.genesis ledger.chain ledger.seen state history)
+    → AllByRecursion (λ (h : Happened). (chain_of h.0 == ledger.chain) ≡ true) (map happened_of history)
+own_events ledger state [] own = tt
+own_events ledger state (e ∷ history) own = (
+  (and_parts (chain_of e.entry.event == ledger.chain) (is_typed e.entry.event) own.0.event).0,
+  own_events ledger (entry_answer ledger.genesis ledger.chain ledger.seen state e).1 history own.1,
+)
 
 module _ (l : Inside) (held : IsHeld l) (port channel : Text) (n : ℕ) where
   abbrev from : End
@@ -56,7 +60,7 @@ module _ (l : Inside) (held : IsHeld l) (port channel : Text) (n : ℕ) where
     no_peer none = says ∙ ap Says is ∙ ap AtPeer none
 
     sent_there : packet_sent from mine happened n ≡ option_and_then (λ i. option_and_then (sent_by from mine) (slice_get happened i)) (at sent_cmp name l.sent.pairs)
-    sent_there = sent_at from mine n happened (all_happened l.chain (ledger_of l).history held.handled) l.sent.pairs held.sent
+    sent_there = sent_at from mine n happened (own_events (ledger_of l) (starting_state (ledger_of l).genesis l.chain) (ledger_of l).history held.stands.is.entries) l.sent.pairs held.sent
 
     at_peer : (peer : Text) → mine.end.peer_channel ≡ Some peer → packet_on (ledger_of l) port channel n
         ≡ option_and_then (λ i. option_and_then (sent_by from mine) (slice_get happened i)) (at sent_cmp name l.sent.pairs)
@@ -92,12 +96,12 @@ module _ (l : Inside) (held : IsHeld l) (port channel : Text) (n : ℕ) where
           let same : w.0 ≡ happened_of (plain_entry e) = (let s = sym w.1 ∙ is_there in cc) in
           subst (λ h. is_named name h ≡ true) same w.2
 
-      pub no_other : note_in e.entry.event ≡ None → ⊥
-      no_other = names_a_note name (happened_of (plain_entry e)) is_named_so
+      pub no_other : commitment_in e.entry.event ≡ None → ⊥
+      no_other = names_a_packet name (happened_of (plain_entry e)) is_named_so
 
-      pub was_sent : (mine : Channel) → its_end ≡ Some mine → (peer : Text) → mine.end.peer_channel ≡ Some peer → (m : SendNote) → note_in e.entry.event ≡ Some m
-          → packet_on (ledger_of l) port channel n ≡ Some (note_packet port channel n mine.end peer m)
-      was_sent mine is peer knows m sends =
+      pub was_sent : (mine : Channel) → its_end ≡ Some mine → (peer : Text) → mine.end.peer_channel ≡ Some peer → (c : Commitment) → commitment_in e.entry.event ≡ Some c
+          → packet_on (ledger_of l) port channel n ≡ Some (packet_to port channel n mine.end peer c)
+      was_sent mine is peer knows c sends =
           at_peer mine is peer knows ∙ ap (option_and_then (λ i. option_and_then (sent_by from mine) (slice_get happened i))) found
-          ∙ ap (option_and_then (sent_by from mine)) is_there ∙ named_note from mine n (happened_of (plain_entry e)) m sends is_named_so
-          ∙ ap (λ o. Some (note_packet port channel n mine.end (unwrap_or o []) m)) knows
+          ∙ ap (option_and_then (sent_by from mine)) is_there ∙ named_packet from mine n (happened_of (plain_entry e)) c sends is_named_so
+          ∙ ap (λ o. Some (packet_to port channel n mine.end (unwrap_or o []) c)) knows

@@ -7,20 +7,21 @@ use Rattle.ibc_ids.specs.declared.publication.Publication.{Publication}
 use Rattle.ibc_machine.specs.Replay.{StampedEntry}
 use Rattle.ibc_machine.specs.Ledgers.{Ledger}
 use Rattle.ibc_root_table.specs.Passes.{SamePass, KeepsOwn}
-use Rattle.ibc_records.specs.Held.{IsUnchanged}
+use Rattle.ibc_records.specs.Held.{core_of, IsUnchanged}
+use Rattle.ibc_transfer.specs.InFlight.{IsInFlight}
+use Rattle.ibc_ledger.specs.Apps.{HeldApps, plain_apps}
 use Rattle.ibc_ledger.specs.declared.entry.StampedEntry.{StampedEntry as KeptEntry}
 use Rattle.ibc_ledger.specs.declared.ledger.Ledger.TheInside.{Inside}
 use Rattle.ibc_ledger.specs.Growing.{with_entry}
 use Rattle.ibc_ledger.specs.Standing.{Stands}
 use Rattle.ibc_ledger.specs.Held.{plain_entry}
-use Rattle.ibc_ledger.specs.Happened.{happened_of, happened_on, IsHandledEntry}
+use Rattle.ibc_ledger.specs.Happened.{happened_of, happened_on}
 use Rattle.ibc_ledger.specs.SentPackets.{Places, AreFirst, sent_name, with_first}
 use Rattle.ibc_ledger.proofs.SentPackets.{first_more}
 use Rattle.ibc_machine.specs.Histories.{Happened}
-use Rattle.std.specs.List.{AllByRecursion}
 use Rattle.ibc_ledger.specs.Inside.{genesis_of, ledger_of, IsHeld}
-use Rattle.ibc_ledger.proofs.Entries.{all_last}
 use Rattle.ibc_ledger.proofs.AnsweredMessages.{stands_unchanged}
+use Rattle.ibc_ledger.proofs.BankedMessages.{still_in_flight}
 
 -- a step changes the records, the applications, the pass, the history and the places in it, and nothing else
 abbrev pub IsStepped : Inside → Inside → Type 0
@@ -35,16 +36,16 @@ module _ (l : Inside) (held : IsHeld l) (new : Inside) (stepped : IsStepped l ne
   keeps_own keeps = keeps l.chain held.own
 
   pub held_by : (history : List StampedEntry) (seen : List Publication) → history ≡ map plain_entry new.history.items → seen ≡ new.pass.seen
-      → Stands (with_parts l history seen) new.records new.applications → AllByRecursion (IsHandledEntry l.chain) history → AreFirst new.sent.pairs (map happened_of history) → IsHeld new
-  held_by history seen is sees stands handled sent = subst IsHeld (sym stepped) (record {
-    stands = subst (λ (w : List StampedEntry × List Publication). Stands (with_parts l w.0 w.1) new.records new.applications) (λ i. (is i, sees i)) stands;
+      → Stands (with_parts l history seen) new.records (plain_apps new.applications) → IsInFlight new.applications.bank (core_of new.records) → AreFirst new.sent.pairs (map happened_of history) → IsHeld new
+  held_by history seen is sees stands flight sent = subst IsHeld (sym stepped) (record {
+    stands = subst (λ (w : List StampedEntry × List Publication). Stands (with_parts l w.0 w.1) new.records (plain_apps new.applications)) (λ i. (is i, sees i)) stands;
+    flight = flight;
     allowed = held.allowed;
     table = same.0 ∙ held.table;
     own = same.1 ∙ held.own;
     shape = held.shape;
     chains = held.chains;
     capacity = held.capacity;
-    handled = subst (AllByRecursion (IsHandledEntry l.chain)) is handled;
     sent = subst (λ (w : List StampedEntry). AreFirst new.sent.pairs (map happened_of w)) is sent;
   })
 
@@ -52,8 +53,8 @@ module _ (l : Inside) (held : IsHeld l) (new : Inside) (stepped : IsStepped l ne
   pub still_held : IsPrefix l.pass.seen new.pass.seen → KeepsOwn l.pass new.pass → IsUnchanged l.records new.records → new.applications ≡ l.applications → new.history.items ≡ l.history.items → new.sent.pairs ≡ l.sent.pairs → IsHeld new
   still_held prefix keeps unchanged kept items sent =
       held_by (map plain_entry l.history.items) (l.pass.seen ++ prefix.0) (ap (map plain_entry) (sym items)) prefix.1
-      (stands_unchanged (ledger_of l) l.records l.applications held.stands prefix.0 (ap (published_by l.chain) prefix.1 ∙ keeps_own keeps) new.records new.applications unchanged kept)
-      held.handled (subst (λ places. AreFirst places (map happened_of (map plain_entry l.history.items))) (sym sent) held.sent)
+      (stands_unchanged (ledger_of l) l.records (plain_apps l.applications) held.stands prefix.0 (ap (published_by l.chain) prefix.1 ∙ keeps_own keeps) new.records (plain_apps new.applications) unchanged (ap plain_apps kept))
+      (still_in_flight l.records new.records l.applications.bank new.applications.bank held.flight unchanged (ap (λ (a : HeldApps). a.bank) kept)) (subst (λ places. AreFirst places (map happened_of (map plain_entry l.history.items))) (sym sent) held.sent)
 
   -- there is one entry more
   pub longer_history : (kept : KeptEntry) → new.history.items ≡ l.history.items ++ kept ∷ [] → map plain_entry l.history.items ++ plain_entry kept ∷ [] ≡ map plain_entry new.history.items
@@ -67,8 +68,8 @@ module _ (l : Inside) (held : IsHeld l) (new : Inside) (stepped : IsStepped l ne
       (first_more l.sent.pairs (happened_on (ledger_of l)) held.sent (happened_of e))
 
   pub held_with : (kept : KeptEntry) (e : StampedEntry) (prefix : IsPrefix l.pass.seen new.pass.seen) → new.history.items ≡ l.history.items ++ kept ∷ [] → e ≡ plain_entry kept
-      → Stands (with_entry (ledger_of l) e prefix.0) new.records new.applications → IsHandledEntry l.chain e
+      → Stands (with_entry (ledger_of l) e prefix.0) new.records (plain_apps new.applications) → IsInFlight new.applications.bank (core_of new.records)
       → new.sent.pairs ≡ with_first (sent_name (happened_of e)) (length l.history.items) l.sent.pairs → IsHeld new
-  held_with kept e prefix items is stands handled sent =
+  held_with kept e prefix items is stands flight sent =
       held_by (map plain_entry l.history.items ++ e ∷ []) (l.pass.seen ++ prefix.0) (ap (λ x. map plain_entry l.history.items ++ x ∷ []) is ∙ longer_history kept items) prefix.1 stands
-      (all_last (IsHandledEntry l.chain) (map plain_entry l.history.items) e held.handled handled) (longer_sent e sent)
+      flight (longer_sent e sent)

@@ -6,18 +6,19 @@ use Rattle.std.proofs.lemmas.Option.{slice_get-map}
 use Rattle.ibc_ids.specs.declared.publication.Publication.{Publication}
 use Rattle.ibc_machine.specs.declared.genesis.Genesis.{Genesis}
 use Rattle.ibc_machine.specs.declared.genesis.ChainStart.{ChainStart}
-use Rattle.ibc_machine.specs.Records.{Apps}
+use Rattle.ibc_machine.specs.Records.{Core}
 use Rattle.ibc_machine.specs.Genesis.{genesis_state, chain_state, is_allowed}
 use Rattle.ibc_machine.specs.Replay.{StampedEntry}
 use Rattle.ibc_root_table.specs.Passes.{Sight, unused_pass}
-use Rattle.ibc_records.specs.Held.{IsNew}
+use Rattle.ibc_transfer.specs.InFlight.{IsInFlight}
+use Rattle.ibc_records.specs.Held.{core_of, IsNew}
 use Rattle.ibc_ledger.specs.declared.ledger.Ledger.TheInside.{Inside}
-use Rattle.ibc_ledger.specs.Standing.{starting_apps, Stands}
+use Rattle.ibc_ledger.specs.Standing.{Stands}
+use Rattle.ibc_ledger.specs.Apps.{HeldApps, plain_apps, starting_apps}
 use Rattle.ibc_ledger.specs.Held.{plain_entry, shape_of}
 use Rattle.ibc_ledger.specs.declared.entry.StampedEntry.{StampedEntry as KeptEntry}
-use Rattle.ibc_ledger.specs.Happened.{happened_of, IsHandledEntry}
+use Rattle.ibc_ledger.specs.Happened.{happened_of}
 use Rattle.ibc_ledger.specs.SentPackets.{Places, AreFirst}
-use Rattle.std.specs.List.{AllByRecursion}
 use Rattle.ibc_ledger.specs.Inside.{genesis_of, ledger_of, IsHeld}
 use Rattle.ibc_ledger.proofs.EndedBlocks.{stands_new}
 
@@ -40,24 +41,30 @@ module _ (l : Inside) (fresh : IsFresh l l.genesis.value) where
   as_many : length (genesis_of l).chains ≡ length l.genesis.value.chains.items
   as_many = length-map l.genesis.value.chains.items chain_state
 
-  stands : Stands (ledger_of l) l.records l.applications
+  stands : Stands (ledger_of l) l.records (plain_apps l.applications)
   stands =
       let history : [] ≡ map plain_entry l.history.items = ap (map plain_entry) (sym fresh.history) in
       let seen : [] ≡ l.pass.seen = ap (λ (s : Sight). s.seen) (sym fresh.pass) in
       let there = slice_get-map chain_state l.genesis.value.chains.items l.chain ∙ ap (option_map chain_state) fresh.there in
-      subst (λ (w : (List StampedEntry × List Publication) × Apps). Stands (record { genesis = genesis_of l; chain = l.chain; history = w.0.0; seen = w.0.1 }) l.records w.1)
+      subst (λ (w : (List StampedEntry × List Publication) × HeldApps). Stands (record { genesis = genesis_of l; chain = l.chain; history = w.0.0; seen = w.0.1 }) l.records (plain_apps w.1))
       (λ i. ((history i, seen i), (sym fresh.applications) i))
       (stands_new (genesis_of l) l.chain (chain_state fresh.start) there (subst (λ n. l.chain < n) (sym as_many) fresh.inside) l.records fresh.records)
+
+  -- nothing is burnt yet, and there is no channel
+  flight : IsInFlight l.applications.bank (core_of l.records)
+  flight =
+      subst (λ (w : HeldApps × Core). IsInFlight w.0.bank w.1) (λ i. (sym fresh.applications i, sym fresh.records.core i))
+      (record { sorted = refl; counted = λ denom. refl })
 
   pub fresh_held : IsHeld l
   fresh_held = record {
     stands = stands;
+    flight = flight;
     allowed = fresh.allowed;
     table = ap (λ (s : Sight). s.table) fresh.pass;
     own = ap (λ (s : Sight). s.own) fresh.pass;
     shape = fresh.shape;
     chains = fresh.chains ∙ sym as_many;
     capacity = fresh.capacity;
-    handled = subst (λ (xs : List KeptEntry). AllByRecursion (IsHandledEntry l.chain) (map plain_entry xs)) (sym fresh.history) tt;
     sent = subst (λ (w : Places × List KeptEntry). AreFirst w.0 (map happened_of (map plain_entry w.1))) (λ i. (sym fresh.sent i, sym fresh.history i)) (λ name. refl);
   }

@@ -11,17 +11,17 @@ use Rattle.ibc_ids.specs.Maps.{at, with}
 use Rattle.ibc_ids.proofs.Texts.{text_same, same_text_from}
 use Rattle.ibc_wire.specs.declared.packet.Packet.{Packet}
 use Rattle.ibc_wire.specs.declared.messages.Message.TheVariants as message
-use Rattle.ibc_wire.specs.declared.messages.SendNote.{SendNote}
 use Rattle.ibc_machine.specs.declared.event.Event.TheVariants as event
 use Rattle.ibc_machine.specs.declared.reply.Effect.TheVariants as effect
 use Rattle.ibc_machine.specs.declared.reply.Reply.TheVariants as reply
-use Rattle.ibc_machine.specs.Records.{Channel}
+use Rattle.ibc_machine.specs.Records.{Channel, Commitment}
+use Rattle.ibc_machine.specs.TokenData.{one_token, several_tokens}
+use Rattle.ibc_machine.specs.Transfers.{transfer_port, transfer_commitment, transfer_data, transfer_many_data}
 use Rattle.ibc_machine.specs.Notes.{note_port, note_commitment}
 use Rattle.ibc_machine.specs.Histories.{Happened, End, is_end, packet_if, packet_from, sent_by, packet_sent, history_of}
 use Rattle.ibc_machine.specs.Ledgers.{chain_of}
 use Rattle.ibc_machine.proofs.FiniteMaps.{TellsApart, by_number, by_pair, at-with, same_key}
-use Rattle.ibc_ledger.specs.Happened.{is_handled}
-use Rattle.ibc_ledger.specs.SentPackets.{note_in, SentName, sent_cmp, sent_name, is_named, Places, AreFirst, with_first}
+use Rattle.ibc_ledger.specs.SentPackets.{commitment_in, SentName, sent_cmp, sent_name, is_named, Places, AreFirst, with_first}
 
 by_sent_name : TellsApart sent_cmp
 by_sent_name = record {
@@ -146,36 +146,49 @@ module _ (e : End) (mine : Channel) (n : ℕ) where
   by_end true p = refl
   by_end false p = refl
 
-  tells : (h : Happened) → is_handled h.0 ≡ true → option_map_or passes (sent_by e mine h) false ≡ is_named name h
-  tells (event.Message k (message.SendNote m), reply.Ok (effect.Sent s)) handled =
-      by_end (is_end e note_port m.channel) (packet_from e mine s (note_commitment m)) ∙ same_name note_port m.channel s
-  tells (event.Message k (message.SendNote m), reply.Ok _) handled = refl
-  tells (event.Message k (message.SendNote m), reply.No r) handled = refl
-  tells (event.Message k (message.Transfer m), given) handled = absurd (false≢true handled)
-  tells (event.Message k (message.TransferMany m), given) handled = absurd (false≢true handled)
-  tells (event.Message k m, given) handled = refl
-  tells (event.Block k next_time, given) handled = refl
+  -- what a message sent from an end of the port
+  sent_from : (port channel : Text) (s : ℕ) (c : Commitment)
+      → option_map_or passes (packet_if (is_end e port channel) (packet_from e mine s c)) false ≡ is_eq (sent_cmp name ((port, channel), s))
+  sent_from port channel s c = by_end (is_end e port channel) (packet_from e mine s c) ∙ same_name port channel s
 
-  -- an event of the chain for which there is a handler
+  tells : (h : Happened) → option_map_or passes (sent_by e mine h) false ≡ is_named name h
+  tells (event.Message k (message.SendNote m), reply.Ok (effect.Sent s)) = sent_from note_port m.channel s (note_commitment m)
+  tells (event.Message k (message.SendNote m), reply.Ok _) = refl
+  tells (event.Message k (message.SendNote m), reply.No r) = refl
+  tells (event.Message k (message.Transfer m), reply.Ok (effect.Sent s)) =
+      sent_from transfer_port m.channel s (transfer_commitment one_token (transfer_data m) m.timeout_height m.timeout_time)
+  tells (event.Message k (message.Transfer m), reply.Ok _) = refl
+  tells (event.Message k (message.Transfer m), reply.No r) = refl
+  tells (event.Message k (message.TransferMany m), reply.Ok (effect.Sent s)) =
+      sent_from transfer_port m.channel s (transfer_commitment several_tokens (transfer_many_data m) m.timeout_height m.timeout_time)
+  tells (event.Message k (message.TransferMany m), reply.Ok _) = refl
+  tells (event.Message k (message.TransferMany m), reply.No r) = refl
+  tells (event.Message k m, given) = refl
+  tells (event.Block k next_time, given) = refl
+
+  -- an event of the chain
   abbrev IsOwn : Happened → Type 0
-  IsOwn h = ((chain_of h.0 == e.chain) ≡ true) × (is_handled h.0 ≡ true)
+  IsOwn h = (chain_of h.0 == e.chain) ≡ true
 
   all_own : (happened : List Happened) → AllByRecursion IsOwn happened → history_of e.chain happened ≡ happened
   all_own [] own = refl
   all_own (h ∷ happened) own =
-      ap (λ b. cond b (h ∷ history_of e.chain happened) (history_of e.chain happened)) own.0.0 ∙ ap (λ xs. h ∷ xs) (all_own happened own.1)
+      ap (λ b. cond b (h ∷ history_of e.chain happened) (history_of e.chain happened)) own.0 ∙ ap (λ xs. h ∷ xs) (all_own happened own.1)
 
-  all_tell : (happened : List Happened) → AllByRecursion IsOwn happened → AllByRecursion (λ h. option_map_or passes (sent_by e mine h) false ≡ is_named name h) happened
-  all_tell [] own = tt
-  all_tell (h ∷ happened) own = (tells h own.0.1, all_tell happened own.1)
+  all_tell : (happened : List Happened) → AllByRecursion (λ h. option_map_or passes (sent_by e mine h) false ≡ is_named name h) happened
+  all_tell [] = tt
+  all_tell (h ∷ happened) = (tells h, all_tell happened)
 
   module _ (happened : List Happened) (own : AllByRecursion IsOwn happened) (places : Places) (first : AreFirst places happened) where
     -- the packet is sent by what stands at its place
     pub sent_at : packet_sent e mine happened n ≡ option_and_then (λ i. option_and_then (sent_by e mine) (slice_get happened i)) (at sent_cmp name places)
     sent_at =
         ap (λ xs. find passes (filter_map (sent_by e mine) xs)) (all_own happened own)
-        ∙ found_there (sent_by e mine) passes (is_named name) (slice_get happened) 0 happened (λ j. ap (slice_get happened) (let e : 0 + j ≡ j = omega arith in e)) (all_tell happened own)
+        ∙ found_there (sent_by e mine) passes (is_named name) (slice_get happened) 0 happened (λ j. ap (slice_get happened) (let e : 0 + j ≡ j = omega arith in e)) (all_tell happened)
         ∙ ap (option_and_then (λ i. option_and_then (sent_by e mine) (slice_get happened i))) (sym (first name))
+
+some_same : {A : Type 0} {x y : A} → Some x ≡ Some y → x ≡ y
+some_same is = cc
 
 -- the place that is found has an item that passes the test
 module _ {A : Type 0} (test : A → Bool) where
@@ -200,22 +213,36 @@ pub stands_at : (places : Places) (happened : List Happened) → AreFirst places
 stands_at places happened first name i found =
     there (is_named name) (slice_get happened) 0 happened (λ j. ap (slice_get happened) (let e : 0 + j ≡ j = omega arith in e)) i (sym (first name) ∙ found)
 
--- a note that has the name was sent under it
-pub named_note : (e : End) (mine : Channel) (n : ℕ) (h : Happened) (m : SendNote) → note_in h.0 ≡ Some m → is_named ((e.port, e.channel), n) h ≡ true
-    → sent_by e mine h ≡ Some (packet_from e mine n (note_commitment m))
-named_note e mine n (event.Message k (message.SendNote note), reply.Ok (effect.Sent s)) m is named =
-    let both = and_parts (is_end e note_port note.channel) (eqb s n) (same_name e mine n note_port note.channel s ∙ named) in
+-- a packet that was sent under the name by an end of the port
+sent_under : (e : End) (mine : Channel) (n : ℕ) (port channel : Text) (s : ℕ) (c d : Commitment) → c ≡ d → is_eq (sent_cmp ((e.port, e.channel), n) ((port, channel), s)) ≡ true
+    → packet_if (is_end e port channel) (packet_from e mine s c) ≡ Some (packet_from e mine n d)
+sent_under e mine n port channel s c d same named =
+    let both = and_parts (is_end e port channel) (eqb s n) (same_name e mine n port channel s ∙ named) in
     let sequence : s ≡ n = grind (arith, both.1) in
-    let same : note ≡ m = cc in
-    ap (λ b. packet_if b (packet_from e mine s (note_commitment note))) both.0
-    ∙ (λ i. Some (packet_from e mine (sequence i) (note_commitment (same i))))
-named_note e mine n (event.Message k (message.SendNote note), reply.Ok _) m is named = absurd (false≢true named)
-named_note e mine n (event.Message k (message.SendNote note), reply.No r) m is named = absurd (false≢true named)
-named_note e mine n (event.Message k _, given) m is named = absurd (false≢true named)
-named_note e mine n (event.Block k next_time, given) m is named = absurd (false≢true named)
+    ap (λ b. packet_if b (packet_from e mine s c)) both.0 ∙ (λ i. Some (packet_from e mine (sequence i) (same i)))
 
--- what has a name is a note
-pub names_a_note : (q : SentName) (h : Happened) → is_named q h ≡ true → note_in h.0 ≡ None → ⊥
-names_a_note q (event.Message k (message.SendNote m), given) named none = absurd (cc none)
-names_a_note q (event.Message k _, given) named none = absurd (false≢true named)
-names_a_note q (event.Block k next_time, given) named none = absurd (false≢true named)
+-- what has the name was sent under it
+pub named_packet : (e : End) (mine : Channel) (n : ℕ) (h : Happened) (c : Commitment) → commitment_in h.0 ≡ Some c → is_named ((e.port, e.channel), n) h ≡ true
+    → sent_by e mine h ≡ Some (packet_from e mine n c)
+named_packet e mine n (event.Message k (message.SendNote m), reply.Ok (effect.Sent s)) c is named =
+    sent_under e mine n note_port m.channel s (note_commitment m) c (some_same is) named
+named_packet e mine n (event.Message k (message.SendNote m), reply.Ok _) c is named = absurd (false≢true named)
+named_packet e mine n (event.Message k (message.SendNote m), reply.No r) c is named = absurd (false≢true named)
+named_packet e mine n (event.Message k (message.Transfer m), reply.Ok (effect.Sent s)) c is named =
+    sent_under e mine n transfer_port m.channel s (transfer_commitment one_token (transfer_data m) m.timeout_height m.timeout_time) c (some_same is) named
+named_packet e mine n (event.Message k (message.Transfer m), reply.Ok _) c is named = absurd (false≢true named)
+named_packet e mine n (event.Message k (message.Transfer m), reply.No r) c is named = absurd (false≢true named)
+named_packet e mine n (event.Message k (message.TransferMany m), reply.Ok (effect.Sent s)) c is named =
+    sent_under e mine n transfer_port m.channel s (transfer_commitment several_tokens (transfer_many_data m) m.timeout_height m.timeout_time) c (some_same is) named
+named_packet e mine n (event.Message k (message.TransferMany m), reply.Ok _) c is named = absurd (false≢true named)
+named_packet e mine n (event.Message k (message.TransferMany m), reply.No r) c is named = absurd (false≢true named)
+named_packet e mine n (event.Message k _, given) c is named = absurd (false≢true named)
+named_packet e mine n (event.Block k next_time, given) c is named = absurd (false≢true named)
+
+-- what has a name sent a packet
+pub names_a_packet : (q : SentName) (h : Happened) → is_named q h ≡ true → commitment_in h.0 ≡ None → ⊥
+names_a_packet q (event.Message k (message.SendNote m), given) named none = absurd (cc none)
+names_a_packet q (event.Message k (message.Transfer m), given) named none = absurd (cc none)
+names_a_packet q (event.Message k (message.TransferMany m), given) named none = absurd (cc none)
+names_a_packet q (event.Message k _, given) named none = absurd (false≢true named)
+names_a_packet q (event.Block k next_time, given) named none = absurd (false≢true named)

@@ -1,9 +1,10 @@
 -- The amounts of a denomination in a genesis, how often a holding stands there, and which genesis is allowed.
-use Rattle.std.proofs.Common.{◌≡◌, ℕ, Bool, ◌+◌, ◌<◌, ◌≤◌, ◌&&◌, true, false, cond, ltb, leb, List, length, get_or, take, sym, ap, ◌∙◌, subst, arith}
+use Rattle.std.proofs.Common.{◌≡◌, ℕ, Bool, ◌+◌, ◌<◌, ◌≤◌, ◌&&◌, true, false, cond, ltb, leb, List, length, get_or, take, refl, sym, ap, ◌∙◌, subst, arith}
 use Rattle.std.specs.Str.{bytes_eq}
 use Rattle.std.specs.List.{list_all}
 use Rattle.std.proofs.lemmas.List.Sums.{sum_by_more, sum_by_more_le}
-use Rattle.std.proofs.lemmas.Bool.{le-ltb, lt-ltb, le-leb}
+use Rattle.std.specs.Prelude.{IsTrue}
+use Rattle.std.proofs.lemmas.Bool.{le-ltb, lt-ltb, le-leb, and_parts, false≢true}
 use Rattle.std.proofs.lemmas.List.{take_all}
 use Rattle.ibc_ids.specs.Texts.{Text, same_text}
 use Rattle.ibc_client.proofs.FoundRows.{bytes_eq-same}
@@ -11,7 +12,7 @@ use Rattle.ibc_machine.specs.Genesis.{Holding, ChainState, is_same_holding, is_f
 use Rattle.ibc_machine.specs.declared.genesis.Genesis.{Genesis}
 use Rattle.ibc_machine.specs.declared.genesis.ChainStart.{ChainStart}
 use Rattle.std.proofs.lemmas.List.{length-map}
-use Rattle.std.proofs.lemmas.List.Folds.{list_all-map}
+use Rattle.std.proofs.lemmas.List.Folds.{list_all-map, list_all_at}
 
 pub same_holding : (a b : Holding) → (bytes_eq a.0 b.0 && bytes_eq a.1 b.1) ≡ is_same_holding a b
 same_holding a b = ap (λ x. x && bytes_eq a.1 b.1) (bytes_eq-same a.0 b.0) ∙ ap (λ x. same_text a.0 b.0 && x) (bytes_eq-same a.1 b.1)
@@ -50,6 +51,20 @@ allowed genesis fair two eight limits is =
     let e8 : leb (length state.chains) 8 ≡ true = le-leb (length state.chains) 8 (omega (arith, count)) in
     let e = list_all-map (λ (chain : ChainState). list_all (is_fair chain.balances) chain.balances) chain_state chains in
     rw e2 (rw e8 (rw limits (is ∙ sym e)))
+
+-- the holdings of each chain of an allowed genesis are fair
+pub fair_start : (genesis : Genesis) → IsTrue (is_allowed (genesis_state genesis)) → (i : ℕ) (start : ChainStart) → i < length genesis.chains.items → start ≡ get_or genesis.chains.items i start → is_fair_start start ≡ true
+unfolding is_allowed
+fair_start genesis is i start inside here =
+    let state = genesis_state genesis in
+    let n = length state.chains in
+    let fair = (and_parts (leb 2 n && leb n 8 && has_limits state) (list_all (λ (chain : ChainState). list_all (is_fair chain.balances) chain.balances) state.chains) is).1 in
+    let all = sym (list_all-map (λ (chain : ChainState). list_all (is_fair chain.balances) chain.balances) chain_state genesis.chains.items) ∙ fair in
+    ap is_fair_start here ∙ passes (is_fair_start (get_or genesis.chains.items i start)) refl all
+  where
+    passes : (b : Bool) → is_fair_start (get_or genesis.chains.items i start) ≡ b → list_all is_fair_start genesis.chains.items ≡ true → b ≡ true
+    passes true fair all = refl
+    passes false unfair all = absurd (false≢true (sym (list_all_at is_fair_start genesis.chains.items i start inside unfair) ∙ all))
 
 pub total_all : (denom : Text) (holdings : List Holding) (i total top : ℕ) → length holdings ≤ i → total ≡ total_of denom (take i holdings) → total < top → true ≡ ltb (total_of denom holdings) top
 total_all denom holdings i total top done is small =

@@ -7,23 +7,18 @@ use Rattle.ibc_ids.specs.declared.refusal.Refusal.TheVariants.{NoMemory}
 use Rattle.ibc_wire.specs.declared.messages.Message.{Message}
 use Rattle.ibc_wire.specs.declared.messages.Message.TheVariants as message
 use Rattle.ibc_wire.specs.declared.messages.UpdateClient.{UpdateClient}
-use Rattle.ibc_wire.specs.declared.messages.RecvPacket.{RecvPacket}
-use Rattle.ibc_wire.specs.declared.messages.AckPacket.{AckPacket}
-use Rattle.ibc_wire.specs.declared.messages.Timeout.{Timeout}
-use Rattle.ibc_wire.specs.declared.messages.TimeoutOnClose.{TimeoutOnClose}
 use Rattle.ibc_machine.specs.declared.reply.Effect.{Effect}
 use Rattle.ibc_machine.specs.declared.reply.Effect.TheVariants as effect
 use Rattle.ibc_machine.specs.declared.reply.Reply.{Reply}
 use Rattle.ibc_machine.specs.declared.reply.Reply.TheVariants as reply
 use Rattle.ibc_machine.specs.declared.entry.Reading.{Reading}
-use Rattle.ibc_machine.specs.Records.{Core, Apps}
+use Rattle.ibc_machine.specs.Records.{Core}
 use Rattle.ibc_machine.specs.Checks.{Checked}
 use Rattle.ibc_machine.specs.Clients.{create_client, update_client}
 use Rattle.ibc_machine.specs.Connections.{conn_open_init, conn_open_try, conn_open_ack, conn_open_confirm}
 use Rattle.ibc_machine.specs.Channels.{chan_open_init, chan_open_try, chan_open_ack, chan_open_confirm, chan_close_init, chan_close_confirm}
-use Rattle.ibc_machine.specs.Packets.{recv_packet, ack_packet, timeout, timeout_on_close}
 use Rattle.ibc_machine.specs.Notes.{send_note}
-use Rattle.ibc_machine.specs.Applications.{require_application, on_open, on_close, on_recv, on_ack, on_timeout}
+use Rattle.ibc_machine.specs.Applications.{require_application, on_open, on_close}
 use Rattle.ibc_machine.specs.Ledgers.{is_block_reply, reading_fits}
 use Rattle.ibc_machine.specs.Replay.{LedgerState, proves}
 use Rattle.ibc_records.specs.Held.{HeldRecords, core_of, IsUnchanged}
@@ -33,6 +28,7 @@ use Rattle.ibc_records.specs.Taking.{HandlerWith}
 use Rattle.ibc_root_table.specs.Passes.{TableName, Sight}
 use Rattle.ibc_client.specs.Answers.{IsUpdated}
 use Rattle.ibc_client.specs.Looks.{looks_up}
+use Rattle.ibc_ledger.specs.Apps.{HeldApps, recv_with, ack_with, timeout_with, timeout_on_close_with, transfer_with, transfer_many_with}
 
 -- a reply, and what was read for it
 abbrev pub Answered : Type 0
@@ -60,13 +56,13 @@ pub record IsTakenAs (handler : Handler) (chain chains : ℕ) (old : HeldRecords
 
 -- ---- messages that read nothing, where applications take part
 
--- all checks passed and the records and the applications are written, or a check failed and both stay
-abbrev pub IsBothTakenBy : Checked (Effect × Core × Apps) → HeldRecords → Apps → Reply → HeldRecords → Apps → Type 0
+-- all checks passed and the records and what the applications keep are written, or a check failed and both stay
+abbrev pub IsBothTakenBy : {A : Type 0} → Checked (Effect × Core × A) → HeldRecords → A → Reply → HeldRecords → A → Type 0
 IsBothTakenBy checked old apps (reply.Ok effect) new left = (core : Core) × (checked ≡ Ok (effect, core, left)) × IsWritten core old new
 IsBothTakenBy checked old apps (reply.No refusal) new left =
     (refusal ≡ NoMemory → ⊥) × (checked ≡ Err refusal) × IsUnchanged old new × (left ≡ apps)
 
-pub record IsBothTakenAs (handler : HandlerWith Apps) (chain chains : ℕ) (old : HeldRecords) (apps : Apps) (given : Answered) (new : HeldRecords) (left : Apps) : Type 0 where
+pub record IsBothTakenAs {A : Type 0} (handler : HandlerWith A) (chain chains : ℕ) (old : HeldRecords) (apps : A) (given : Answered) (new : HeldRecords) (left : A) : Type 0 where
   pub taken : (state : LedgerState) (seen : List Publication) → Knows old state
       → IsBothTakenBy (handler (proves seen None state) (host_with chain chains old) (core_of old)) old apps given.0 new left
   pub no_block : is_block_reply given.0 ≡ false
@@ -85,22 +81,6 @@ pub record IsUpdateAnswer (table : TableName) (m : UpdateClient) (old : HeldReco
   pub looks : is_some given.1 ≡ looks_up (core_of old) m
   pub fits : IfSome given.1 (λ r. reading_fits table.shape.window (published_height m.header.chain pass.seen) m.header.height r ≡ true)
 
--- ---- the handlers of packets
-
--- what a message that brings a packet does, where the applications keep this
-abbrev pub recv_with : Apps → RecvPacket → HandlerWith Apps
-recv_with apps m evidence host core =
-    recv_packet (on_recv (record { core = core; apps = apps }) m.packet.destination_port) evidence host core m
-
-abbrev pub ack_with : Apps → AckPacket → HandlerWith Apps
-ack_with apps m evidence host core = ack_packet (on_ack apps m.packet.source_port) evidence core m
-
-abbrev pub timeout_with : Apps → Timeout → HandlerWith Apps
-timeout_with apps m evidence host core = timeout (on_timeout apps m.packet.source_port) evidence core m
-
-abbrev pub timeout_on_close_with : Apps → TimeoutOnClose → HandlerWith Apps
-timeout_on_close_with apps m evidence host core = timeout_on_close (on_timeout apps m.packet.source_port) evidence core m
-
 -- ---- all messages
 
 -- what a ledger has at a message: its number among so many chains, its records, what its applications keep, and its pass
@@ -110,13 +90,13 @@ pub record Before : Type 0 where
   pub chains : ℕ
   pub table : TableName
   pub records : HeldRecords
-  pub apps : Apps
+  pub apps : HeldApps
   pub pass : Sight
 
 -- what it has after the message
 pub record After : Type 0 where
   pub records : HeldRecords
-  pub apps : Apps
+  pub apps : HeldApps
   pub pass : Sight
 
 -- the answer is the handler's, which leaves what the applications keep, and the pass has seen no more
@@ -125,11 +105,11 @@ IsTakenUnseen handler old given new =
     IsTakenAs handler old.chain old.chains old.records given new.records × (new.apps ≡ old.apps) × (new.pass ≡ old.pass)
 
 -- the answer is the handler's, and the pass has seen no more
-abbrev IsBothTakenUnseen : HandlerWith Apps → Before → Answered → After → Type 0
+abbrev IsBothTakenUnseen : HandlerWith HeldApps → Before → Answered → After → Type 0
 IsBothTakenUnseen handler old given new =
     IsBothTakenAs handler old.chain old.chains old.records old.apps given new.records new.apps × (new.pass ≡ old.pass)
 
--- the answer to a message that a ledger takes, with what it has after it
+-- the answer to a message, with what a ledger has after it
 abbrev pub IsAnswerTo : Message → Before → Answered → After → Type 0
 IsAnswerTo (message.CreateClient m) old given new =
     IsTakenUnseen (λ evidence host core. create_client host core m) old given new
@@ -161,4 +141,5 @@ IsAnswerTo (message.RecvPacket m) old given new = IsBothTakenUnseen (recv_with o
 IsAnswerTo (message.AckPacket m) old given new = IsBothTakenUnseen (ack_with old.apps m) old given new
 IsAnswerTo (message.Timeout m) old given new = IsBothTakenUnseen (timeout_with old.apps m) old given new
 IsAnswerTo (message.TimeoutOnClose m) old given new = IsBothTakenUnseen (timeout_on_close_with old.apps m) old given new
-IsAnswerTo _ old given new = ⊥
+IsAnswerTo (message.Transfer m) old given new = IsBothTakenUnseen (transfer_with old.apps m) old given new
+IsAnswerTo (message.TransferMany m) old given new = IsBothTakenUnseen (transfer_many_with old.apps m) old given new

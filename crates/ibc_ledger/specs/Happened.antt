@@ -1,17 +1,14 @@
 -- What happened on a ledger, and the packets that it sent (ICS 4, "Packet flow & handling").
-use Rattle.std.specs.Prelude.{◌≡◌, ◌==◌, ℕ, Bool, true, List, map, Option}
+use Rattle.std.specs.Prelude.{ℕ, List, map, Option}
 use Rattle.std.specs.Option.{option_and_then}
 use Rattle.std.specs.Ordering.{nat_cmp}
 use Rattle.ibc_ids.specs.Texts.{Text}
 use Rattle.ibc_ids.specs.Maps.{at}
 use Rattle.ibc_wire.specs.declared.packet.Packet.{Packet}
-use Rattle.ibc_machine.specs.declared.event.Event.{Event}
-use Rattle.ibc_machine.specs.declared.event.Event.TheVariants as event
 use Rattle.ibc_machine.specs.Records.{Channel, channel_at}
 use Rattle.ibc_machine.specs.Histories.{Happened, End, packet_sent}
 use Rattle.ibc_machine.specs.Replay.{StampedEntry}
-use Rattle.ibc_machine.specs.Ledgers.{Ledger, state_of, chain_of}
-use Rattle.ibc_ledger.specs.Held.{has_handler}
+use Rattle.ibc_machine.specs.Ledgers.{Ledger, state_of}
 
 abbrev pub happened_of : StampedEntry → Happened
 happened_of e = (e.entry.event, e.entry.reply)
@@ -35,12 +32,3 @@ packet_on ledger port channel n =
 abbrev pub ack_on : Ledger → Text → Text → ℕ → Option Text
 ack_on ledger port channel n =
     option_and_then (λ (mine : Channel). at nat_cmp n mine.acks) (end_at ledger port channel)
-
--- there is a handler for what is asked
-abbrev pub is_handled : Event → Bool
-is_handled (event.Message k m) = has_handler m
-is_handled (event.Block k next_time) = true
-
--- an entry of the chain, for which there is a handler
-abbrev pub IsHandledEntry : ℕ → StampedEntry → Type 0
-IsHandledEntry chain e = ((chain_of e.entry.event == chain) ≡ true) × (is_handled e.entry.event ≡ true)

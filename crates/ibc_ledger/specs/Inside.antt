@@ -3,10 +3,12 @@ use Rattle.std.specs.Prelude.{◌≡◌, map, length, Some}
 use Rattle.ibc_machine.specs.Genesis.{GenesisState, genesis_state, is_allowed}
 use Rattle.ibc_machine.specs.Ledgers.{Ledger}
 use Rattle.std.specs.Prelude.{IsTrue}
-use Rattle.std.specs.List.{AllByRecursion}
+use Rattle.ibc_records.specs.Held.{core_of}
+use Rattle.ibc_transfer.specs.InFlight.{IsInFlight}
+use Rattle.ibc_ledger.specs.Apps.{plain_apps}
 use Rattle.ibc_ledger.specs.Standing.{Stands}
 use Rattle.ibc_ledger.specs.Held.{HeldLedger, plain_entry, shape_of}
-use Rattle.ibc_ledger.specs.Happened.{happened_on, IsHandledEntry}
+use Rattle.ibc_ledger.specs.Happened.{happened_on}
 use Rattle.ibc_ledger.specs.SentPackets.{AreFirst}
 use Rattle.ibc_ledger.specs.declared.ledger.Ledger.TheInside.{Inside}
 
@@ -19,15 +21,15 @@ ledger_of l = record { genesis = genesis_of l; chain = l.chain; history = map pl
 abbrev pub held_of : Inside → HeldLedger
 held_of l = record { ledger = ledger_of l; table = l.table.value }
 
--- what is held is the state that the history leaves, and the pass is the chain's own of the table of the genesis; the
--- history is of the chain, and where in it packets were sent is known
+-- what is held is the state that the history leaves, and the bank knows what is burnt in flight; the pass is the chain's
+-- own of the table of the genesis; and where in the history packets were sent is known
 pub record IsHeld (l : Inside) : Type 0 where
-  pub stands : Stands (ledger_of l) l.records l.applications
+  pub stands : Stands (ledger_of l) l.records (plain_apps l.applications)
+  pub flight : IsInFlight l.applications.bank (core_of l.records)
   pub allowed : IsTrue (is_allowed (genesis_of l))
   pub table : l.pass.table ≡ l.table.value
   pub own : l.pass.own ≡ Some l.chain
   pub shape : l.table.value.shape ≡ shape_of (genesis_of l)
   pub chains : l.chains ≡ length (genesis_of l).chains
   pub capacity : l.capacity ≡ (genesis_of l).capacity
-  pub handled : AllByRecursion (IsHandledEntry l.chain) (ledger_of l).history
   pub sent : AreFirst l.sent.pairs (happened_on (ledger_of l))

@@ -1,6 +1,9 @@
 pub mod Growing
 pub mod Entries
 pub mod Proving
+pub mod Parts
+pub mod Apps
+pub mod Settling
 pub mod Standing
 pub mod Held
 pub mod Happened

@@ -10,13 +10,15 @@ use Rattle.ibc_wire.specs.declared.packet.Packet.{Packet}
 use Rattle.ibc_wire.specs.declared.records.ChannelEnd.{ChannelEnd}
 use Rattle.ibc_wire.specs.declared.messages.Message.{Message}
 use Rattle.ibc_wire.specs.declared.messages.Message.TheVariants as message
-use Rattle.ibc_wire.specs.declared.messages.SendNote.{SendNote}
 use Rattle.ibc_machine.specs.declared.event.Event.{Event}
 use Rattle.ibc_machine.specs.declared.event.Event.TheVariants as event
 use Rattle.ibc_machine.specs.declared.reply.Effect.TheVariants as effect
 use Rattle.ibc_machine.specs.declared.reply.Reply.{Reply}
 use Rattle.ibc_machine.specs.declared.reply.Reply.TheVariants as reply
-use Rattle.ibc_machine.specs.Notes.{note_port}
+use Rattle.ibc_machine.specs.Records.{Commitment}
+use Rattle.ibc_machine.specs.TokenData.{one_token, several_tokens}
+use Rattle.ibc_machine.specs.Transfers.{transfer_port, transfer_commitment, transfer_data, transfer_many_data}
+use Rattle.ibc_machine.specs.Notes.{note_port, note_commitment}
 use Rattle.ibc_machine.specs.Histories.{Happened}
 
 -- what names a packet where it was sent: the port and the name of its end, and its sequence
@@ -26,27 +28,37 @@ SentName = (Text × Text) × ℕ
 abbrev pub sent_cmp : SentName → SentName → Ordering
 sent_cmp a b = ordering_then (pair_cmp a.0 b.0) (nat_cmp a.1 b.1)
 
--- the note that an event sends
-abbrev pub note_in : Event → Option SendNote
-note_in (event.Message k (message.SendNote m)) = Some m
-note_in _ = None
+-- what is committed of the packet that a message sends
+abbrev pub commitment_by : Message → Option Commitment
+commitment_by (message.SendNote m) = Some (note_commitment m)
+commitment_by (message.Transfer m) =
+    Some (transfer_commitment one_token (transfer_data m) m.timeout_height m.timeout_time)
+commitment_by (message.TransferMany m) =
+    Some (transfer_commitment several_tokens (transfer_many_data m) m.timeout_height m.timeout_time)
+commitment_by _ = None
 
--- the packet as which a note is sent from an end, to the peer of this name
-abbrev pub note_packet : Text → Text → ℕ → ChannelEnd → Text → SendNote → Packet
-note_packet port channel n end peer m = record {
+abbrev pub commitment_in : Event → Option Commitment
+commitment_in (event.Message k m) = commitment_by m
+commitment_in (event.Block k next_time) = None
+
+-- the packet that is committed to so, from an end to the peer of this name
+abbrev pub packet_to : Text → Text → ℕ → ChannelEnd → Text → Commitment → Packet
+packet_to port channel n end peer c = record {
   sequence = n;
-  timeout_height = m.timeout_height;
-  timeout_time = m.timeout_time;
+  timeout_height = c.timeout_height;
+  timeout_time = c.timeout_time;
   source_port = port;
   source_channel = channel;
   destination_port = end.peer_port;
   destination_channel = peer;
-  payload = m.payload;
+  payload = c.payload;
 }
 
 -- the end from which a message sends
 abbrev pub sender_of : Message → Option (Text × Text)
 sender_of (message.SendNote m) = Some (note_port, m.channel)
+sender_of (message.Transfer m) = Some (transfer_port, m.channel)
+sender_of (message.TransferMany m) = Some (transfer_port, m.channel)
 sender_of _ = None
 
 -- the packet that is sent from the end, where there is one, by this reply

@@ -1,17 +1,12 @@
 -- The records that a ledger holds, and the ledger that its history says it is.
-use Rattle.std.specs.Prelude.{◌≡◌, ℕ, List, [], length}
+use Rattle.std.specs.Prelude.{◌≡◌, ℕ, length}
 use Rattle.ibc_machine.specs.Records.{Apps}
-use Rattle.ibc_machine.specs.Genesis.{Holding, starting_balances}
 use Rattle.ibc_machine.specs.Replay.{LedgerState}
 use Rattle.ibc_machine.specs.Ledgers.{Ledger, IsLedger, state_of}
 use Rattle.ibc_path_store.specs.Held.{height_of}
 use Rattle.ibc_records.specs.Held.{HeldRecords, core_of}
 use Rattle.ibc_records.specs.Knowledge.{Knows}
 use Rattle.ibc_ledger.specs.Proving.{KeepsBlocks}
-
--- what the applications keep in the beginning
-abbrev pub starting_apps : List Holding → Apps
-starting_apps holdings = record { balances = starting_balances holdings; notes = [] }
 
 -- what is held is the state that the history leaves
 pub record IsStateOf (window : ℕ) (state : LedgerState) (held : HeldRecords) (apps : Apps) : Type 0 where

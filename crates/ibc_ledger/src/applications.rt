@@ -1,45 +1,49 @@
 //! What the applications of a chain keep.
 
-ghost use Rattle.std.specs.Prelude.{◌≡◌, IfOk, is_some};
+ghost use Rattle.std.specs.Prelude.{◌≡◌, IfOk, IsTrue, is_some};
+ghost use Rattle.std.specs.List.{list_all};
 ghost use Rattle.ibc_ids.specs.Texts.{same_text};
+ghost use Rattle.ibc_machine.specs.Genesis.{is_fair};
 ghost use Rattle.ibc_machine.specs.Notes.{note_port};
-ghost use Rattle.ibc_ledger.specs.Standing.{starting_apps};
+ghost use Rattle.ibc_ledger.specs.Apps.{starting_apps};
 
-use crate::balances::Balances;
 use ibc_ids::PortId;
 use ibc_machine::ChainStart;
 use ibc_note::{Notes, is_note_port};
+use ibc_transfer::Transfers;
 use std::alloc::{AllocError, Global};
 use std::marker::Model;
 
 /// What the applications of a chain keep (ICS 24, "Private store").
 #[derive(Drop, Debug)]
 pub struct Applications {
-    pub balances: Balances,
+    pub transfers: Transfers,
     pub notes: Notes,
 }
 
 impl Model for Applications {
-    ghost use Rattle.ibc_machine.specs.Records.{Apps};
+    ghost use Rattle.ibc_ledger.specs.Apps.{HeldApps};
 
-    ghost Value = { Apps };
+    ghost Value = { HeldApps };
 
-    ghost view = { λ applications. record { balances = applications.balances; notes = applications.notes } };
+    ghost view = { λ applications. record { bank = applications.transfers; notes = applications.notes } };
 }
 
 impl Applications {
-    /// What the applications keep in the beginning.
+    /// What the applications keep in the beginning of a chain, whose holdings are fair: each names a user and a base
+    /// denomination once, and all amounts of a denomination fit 128 bits together.
     pub fn new(alloc: Global, start: &ChainStart) -> Result<Applications, AllocError>
+        requires { IsTrue (list_all (is_fair start.now.balances.items) start.now.balances.items) }
         ensures { IfOk result (λ applications. applications ≡ starting_apps start.now.balances.items) }
     {
         Ok(Applications {
-            balances: Balances::new(alloc, start)?,
+            transfers: Transfers::from_start(alloc, start)?,
             notes: Notes::new(alloc),
         })
     }
 
-    /// The application of a port, or none.
-    pub fn on_port(&self, port: &PortId) -> Option<&Notes>
+    /// The notes, where the port is theirs.
+    pub fn notes_on(&self, port: &PortId) -> Option<&Notes>
         ensures { is_some result ≡ same_text port.now note_port }
     {
         if is_note_port(port) {

@@ -14,14 +14,15 @@ ghost use Rattle.ibc_machine.specs.Image.{image};
 ghost use Rattle.ibc_machine.specs.Ledgers.{IsLedger, SeesMore, state_of};
 ghost use Rattle.ibc_root_table.specs.Passes.{unused_pass};
 ghost use Rattle.ibc_note.specs.Plain.{plain_notes};
-ghost use Rattle.ibc_ledger.specs.Held.{plain_entry, plain_holding, shape_of};
+ghost use Rattle.ibc_bank.specs.Listed.{plain_holding};
+ghost use Rattle.ibc_ledger.specs.Held.{plain_entry, shape_of};
 ghost use Rattle.ibc_ledger.specs.Happened.{ack_on, packet_on};
 ghost use Rattle.ibc_ledger.specs.Proving.{provable};
 
 use crate::StampedEntry;
 use crate::applications::Applications;
-use crate::packets::{note_in, note_packet};
 use crate::places::{Places, place_of};
+use crate::sent::{commitment_in, packet_to};
 use ibc_ids::{Account, Bytes, ChannelId, Denom, Key, PortId, Refusal};
 use ibc_machine::Genesis;
 use ibc_merkle::Proof;
@@ -147,7 +148,7 @@ impl Ledger {
         ensures ok { IfOk result (λ list. map plain_holding list.items ≡ (state_of self.now.ledger).chain.records.apps.balances) }
         ensures err { IfErr result (λ refusal. refusal ≡ NoMemory) }
     {
-        Ok(self.applications.balances.list(self.alloc)?)
+        Ok(self.applications.transfers.bank().list(self.alloc)?)
     }
 
     /// The notes that came over each channel of port `note`, in the order in which they came; the channels in the byte order
@@ -181,10 +182,11 @@ impl Ledger {
         let Some(place) = place_of(&self.sent, port, channel, sequence)? else {
             return Ok(None);
         };
-        let Some(note) = note_in(&self.history[place].entry.event) else {
+        let Some(commitment) = commitment_in(self.alloc, &self.history[place].entry.event)? else {
             unreachable!();
         };
-        Ok(Some(note_packet(port, channel, sequence, end, peer, note)?))
+        let packet = packet_to(port, channel, sequence, end, peer, commitment)?;
+        Ok(Some(packet))
     }
 
     /// The acknowledgement that was written at an end of a channel for a sequence (ICS 4, "writeAcknowledgement"). None where

@@ -2,13 +2,11 @@
 #![tactic(auto)]
 
 mod applications;
-mod balances;
 mod blocks;
 mod channels;
 mod connections;
 mod entry;
 mod genesis;
-mod handlers;
 mod laws;
 mod ledger;
 mod messages;
@@ -16,10 +14,11 @@ mod outcome;
 mod packets;
 mod places;
 mod refusals;
+mod sent;
+mod settlement;
 mod typed;
 
 pub use entry::StampedEntry;
 pub use genesis::is_allowed;
-pub use handlers::has_handler;
 pub use laws::{a_ledger_goes_on, a_ledger_sees_more};
 pub use ledger::Ledger;

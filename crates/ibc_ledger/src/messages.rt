@@ -1,6 +1,6 @@
 //! What a ledger does with messages.
 
-ghost use Rattle.std.specs.Prelude.{◌≡◌, length, option_map, None, IfOk, OnErr, IsTrue};
+ghost use Rattle.std.specs.Prelude.{◌≡◌, length, option_map, None, IfOk, OnErr};
 ghost use mathlib.Core.List.{IsPrefix};
 ghost use Rattle.ibc_machine.specs.declared.event.Event.TheVariants as event;
 ghost use Rattle.ibc_machine.specs.Clients.{create_client};
@@ -9,11 +9,11 @@ ghost use Rattle.ibc_root_table.specs.Passes.{SamePass, KeepsOwn};
 ghost use Rattle.ibc_ledger.specs.Adding.{AddsOrNot};
 ghost use Rattle.ibc_ledger.specs.Answering.{IsAnswerTo, IsTakenAs, IsUpdateAnswer};
 ghost use Rattle.ibc_ledger.specs.Entries.{stamp_if};
-ghost use Rattle.ibc_ledger.specs.Held.{has_handler};
 
 use crate::applications::Applications;
 use crate::outcome::Outcome;
 use crate::places::{keep_first, make_room};
+use crate::settlement::Settlement;
 use crate::typed::is_typed;
 use crate::{Ledger, StampedEntry, channels, connections, packets};
 use ibc_client::{create, update};
@@ -29,7 +29,6 @@ impl Ledger {
     /// Applies a message to the working block. The history then has one entry more, with the message and the reply; where
     /// the reply is `NoMemory`, nothing has changed but what the pass has seen.
     pub fn apply(&mut self, message: Message) -> Reply
-        requires { IsTrue (has_handler message) }
         ensures table { self.new.table ≡ self.old.table }
         ensures adds { AddsOrNot self.old.ledger (event.Message self.old.ledger.chain message) result self.new.ledger }
     {
@@ -42,6 +41,7 @@ impl Ledger {
             return Reply::No(Refusal::NoMemory);
         };
         is_typed(&message);
+        self.records.is_orderly();
         let chain = self.chain;
         let Ok(outcome) = answer(
             self.alloc,
@@ -84,7 +84,6 @@ fn answer(
     chains: u8,
     message: &Message,
 ) -> Result<Outcome, AllocError>
-    requires handled { IsTrue (has_handler message.now) }
     requires table { pass.old.table ≡ table.now }
     ensures kept { IfOk result (λ outcome. outcome.kept ≡ outcome.reply) }
     ensures answer { IfOk result (λ outcome. IsAnswerTo message.now (record { chain = chain; chains = chains; table = table.now; records = records.old; apps = applications.old; pass = pass.old }) (outcome.reply, outcome.reading) (record { records = records.new; apps = applications.new; pass = pass.new })) }
@@ -104,14 +103,26 @@ fn answer(
         Message::ChanOpenConfirm(message) => channels::confirm_in(alloc, records, message),
         Message::ChanCloseInit(message) => channels::close_in(records, applications, message),
         Message::ChanCloseConfirm(message) => channels::close_confirm_in(alloc, records, message),
+        Message::Transfer(message) => {
+            packets::transfer_in(alloc, records, applications, message)
+        }
+        Message::TransferMany(message) => {
+            packets::transfer_many_in(alloc, records, applications, message)
+        }
         Message::SendNote(message) => packets::send_in(alloc, records, message),
         Message::RecvPacket(message) => packets::recv_in(alloc, records, applications, message),
-        Message::AckPacket(message) => packets::ack_in(alloc, records, applications, message),
-        Message::Timeout(message) => packets::timeout_in(alloc, records, applications, message),
-        Message::TimeoutOnClose(message) => {
-            packets::timeout_on_close_in(alloc, records, applications, message)
+        Message::AckPacket(message) => {
+            let settlement = Settlement::Acknowledged(message);
+            packets::settle_in(alloc, records, applications, settlement)
         }
-        Message::Transfer(_) | Message::TransferMany(_) => unreachable!(),
+        Message::Timeout(message) => {
+            let settlement = Settlement::TimedOut(message);
+            packets::settle_in(alloc, records, applications, settlement)
+        }
+        Message::TimeoutOnClose(message) => {
+            let settlement = Settlement::TimedOutOnClose(message);
+            packets::settle_in(alloc, records, applications, settlement)
+        }
     }
 }
 

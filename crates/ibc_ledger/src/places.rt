@@ -3,6 +3,7 @@
 ghost use Rattle.std.specs.Prelude.{◌≡◌, ◌<◌, IfOk, OnOk};
 ghost use Rattle.ibc_ids.specs.Maps.{at};
 ghost use Rattle.ibc_machine.specs.Notes.{note_port};
+ghost use Rattle.ibc_machine.specs.Transfers.{transfer_port};
 ghost use Rattle.ibc_ledger.specs.SentPackets.{sender_of, sent_as, sent_cmp, with_first};
 
 use ibc_ids::{ChannelId, PortId};
@@ -52,9 +53,12 @@ fn sender_of(alloc: Global, message: &Message) -> Result<Option<Sender>, AllocEr
     ensures { IfOk result (λ sender. sender ≡ sender_of message.now) }
 {
     match message {
-        Message::SendNote(message) => {
-            let channel = message.channel.clone()?;
-            Ok(Some((note_port(alloc)?, channel)))
+        Message::SendNote(message) => Ok(Some((note_port(alloc)?, message.channel.clone()?))),
+        Message::Transfer(message) => {
+            Ok(Some((transfer_port(alloc)?, message.channel.clone()?)))
+        }
+        Message::TransferMany(message) => {
+            Ok(Some((transfer_port(alloc)?, message.channel.clone()?)))
         }
         _ => Ok(None),
     }
@@ -84,6 +88,15 @@ fn note_port(alloc: Global) -> Result<PortId, AllocError>
     ensures { IfOk result (λ port. port ≡ note_port) }
 {
     match PortId::parse(alloc, "note") {
+        Ok(port) => Ok(port),
+        Err(_) => Err(AllocError),
+    }
+}
+
+fn transfer_port(alloc: Global) -> Result<PortId, AllocError>
+    ensures { IfOk result (λ port. port ≡ transfer_port) }
+{
+    match PortId::parse(alloc, "transfer") {
         Ok(port) => Ok(port),
         Err(_) => Err(AllocError),
     }

@@ -1,24 +1,26 @@
 //! Messages are what their types promise: names have their form, and numbers their range.
 
 ghost use Rattle.std.specs.Prelude.{nat_lt, IsTrue};
-ghost use Rattle.std.specs.List.{list_all};
-ghost use Rattle.ibc_ids.specs.Names.{is_client, is_connection, is_channel, is_port, is_version};
-ghost use Rattle.ibc_wire.specs.Fields.{are_typed, n8, root32, str, u8};
+ghost use Rattle.std.specs.List.{flat_map, list_all};
+ghost use Rattle.ibc_ids.specs.Names.{is_client, is_connection, is_channel, is_denom, is_memo, is_port, is_receiver, is_user, is_version};
+ghost use Rattle.ibc_wire.specs.Fields.{are_typed, n8, n16, root32, str, u8};
 ghost use Rattle.ibc_wire.specs.Messages.{message_fields};
-ghost use Rattle.ibc_wire.specs.Spelling.{order_number, packet_fields};
+ghost use Rattle.ibc_wire.specs.Spelling.{order_number, packet_fields, token_fields};
 ghost use Rattle.ibc_wire.specs.declared.messages.Message.TheVariants as message_of;
-ghost use Rattle.ibc_ledger.specs.Held.{has_handler};
 
-use ibc_ids::{Bytes, ChannelId, ClientId, ConnectionId, PortId, Root, Version};
+use ibc_ids::{
+    Bytes, ChannelId, ClientId, ConnectionId, Denom, Memo, PortId, Receiver, Root, UserName,
+    Version,
+};
 use ibc_wire::{
     AckPacket, ChanCloseConfirm, ChanCloseInit, ChanOpenAck, ChanOpenConfirm, ChanOpenInit,
     ChanOpenTry, ConnOpenAck, ConnOpenConfirm, ConnOpenInit, ConnOpenTry, CreateClient, Message,
-    Order, Packet, RecvPacket, SendNote, Timeout, TimeoutOnClose, UpdateClient,
+    Order, Packet, RecvPacket, SendNote, Timeout, TimeoutOnClose, Token, Transfer, TransferMany,
+    UpdateClient,
 };
 
 /// A message is what its type promises.
 pub fn is_typed(message: &Message)
-    requires { IsTrue (has_handler message.now) }
     ensures { IsTrue (are_typed (message_fields message.now)) }
 {
     match message {
@@ -34,12 +36,13 @@ pub fn is_typed(message: &Message)
         Message::ChanOpenConfirm(message) => is_typed_chan_confirm(message),
         Message::ChanCloseInit(message) => is_typed_close_init(message),
         Message::ChanCloseConfirm(message) => is_typed_close_confirm(message),
+        Message::Transfer(message) => is_typed_transfer(message),
+        Message::TransferMany(message) => is_typed_transfer_many(message),
         Message::SendNote(message) => is_typed_send(message),
         Message::RecvPacket(message) => is_typed_recv(message),
         Message::AckPacket(message) => is_typed_ack_packet(message),
         Message::Timeout(message) => is_typed_timeout(message),
         Message::TimeoutOnClose(message) => is_typed_timeout_on_close(message),
-        Message::Transfer(_) | Message::TransferMany(_) => unreachable!(),
     }
 }
 
@@ -157,6 +160,40 @@ fn is_typed_close_confirm(message: &ChanCloseConfirm)
     is_text(&message.proof);
 }
 
+fn is_typed_transfer(message: &Transfer)
+    ensures { IsTrue (are_typed (message_fields (message_of.Transfer message.now))) }
+{
+    is_channel(&message.channel);
+    is_user(&message.user);
+    is_denom(&message.denom);
+    is_u128(message.amount);
+    is_receiver(&message.receiver);
+    is_memo(&message.memo);
+    is_u64(message.timeout_height);
+    is_u64(message.timeout_time);
+}
+
+fn is_typed_transfer_many(message: &TransferMany)
+    ensures { IsTrue (are_typed (message_fields (message_of.TransferMany message.now))) }
+{
+    is_channel(&message.channel);
+    is_user(&message.user);
+    are_typed_tokens(message.tokens.as_slice());
+    is_receiver(&message.receiver);
+    is_memo(&message.memo);
+    is_u64(message.timeout_height);
+    is_u64(message.timeout_time);
+}
+
+fn are_typed_tokens(tokens: &[Token])
+    ensures { IsTrue (are_typed (flat_map token_fields tokens.now)) }
+{
+    for token in tokens {
+        is_denom(&token.denom);
+        is_u128(token.amount);
+    }
+}
+
 fn is_typed_send(message: &SendNote)
     ensures { IsTrue (are_typed (message_fields (message_of.SendNote message.now))) }
 {
@@ -245,6 +282,30 @@ fn is_version(version: &Version)
     let _text = version.as_str();
 }
 
+fn is_user(name: &UserName)
+    ensures { IsTrue (is_user name.now) }
+{
+    let _text = name.as_str();
+}
+
+fn is_denom(denom: &Denom)
+    ensures { IsTrue (is_denom denom.now) }
+{
+    let _text = denom.as_str();
+}
+
+fn is_receiver(receiver: &Receiver)
+    ensures { IsTrue (is_receiver receiver.now) }
+{
+    let _text = receiver.as_str();
+}
+
+fn is_memo(memo: &Memo)
+    ensures { IsTrue (is_memo memo.now) }
+{
+    let _text = memo.as_str();
+}
+
 fn is_order(order: Order)
     ensures { IsTrue (u8 (order_number order)).in_type }
 {
@@ -262,6 +323,12 @@ fn is_u8(number: u8)
 
 fn is_u64(number: u64)
     ensures { IsTrue (n8 number).in_type }
+{
+    let _number = number;
+}
+
+fn is_u128(number: u128)
+    ensures { IsTrue (n16 number).in_type }
 {
     let _number = number;
 }

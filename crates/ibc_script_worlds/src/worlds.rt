@@ -1,16 +1,11 @@
 //! Worlds, as the steps of a script see them.
 
-ghost use Rattle.std.specs.Prelude.{◌≡◌};
-ghost use Rattle.ibc_world_core.specs.Inside.{is_built};
-ghost use Rattle.ibc_script_worlds.specs.Unbuilt.{unbuilt_refusal};
-
 use ibc_codec::decode;
 use ibc_ids::{Account, Bytes, ChannelId, ClientId, ConnectionId, Denom, Key, PortId, Refusal};
-use ibc_ledger::has_handler;
 use ibc_machine::{Event, Genesis, Reply};
 use ibc_merkle::Proof;
 use ibc_script_cli::{Chains, Worlds};
-use ibc_wire::{ChannelEnd, ClientState, ConnectionEnd, Message, Packet};
+use ibc_wire::{ChannelEnd, ClientState, ConnectionEnd, Packet};
 use ibc_world_core::World;
 use std::alloc::Global;
 
@@ -47,11 +42,6 @@ impl Worlds for NewWorlds {
 
 impl Chains for Ledgers {
     fn ask(&mut self, event: Event) -> Result<Reply, Refusal> {
-        if !is_built(&event) {
-            let refusal = unbuilt_refusal(&event);
-            drop(event);
-            return Ok(Reply::No(refusal));
-        }
         let Ok(mut events) = Vec::with_capacity(self.alloc, 1) else {
             drop(event);
             return Err(Refusal::NoMemory);
@@ -149,34 +139,5 @@ impl Chains for Ledgers {
             Some(ledger) => ledger.all_notes(),
             None => Ok(Vec::new(self.alloc)),
         }
-    }
-}
-
-// Whether the ledgers have a handler for the event.
-fn is_built(event: &Event) -> bool
-    ensures { result ≡ is_built event.now }
-{
-    match event {
-        Event::Message { message, .. } => has_handler(message),
-        Event::Block { .. } => true,
-    }
-}
-
-// The answer to an event that the ledgers have no handler for: the application that it asks isn't there, and so no
-// channel has its port.
-fn unbuilt_refusal(event: &Event) -> Refusal
-    ensures { result ≡ unbuilt_refusal event.now }
-{
-    match event {
-        Event::Message { message, .. } => match message {
-            Message::ChanOpenInit(_) | Message::ChanOpenTry(_) => Refusal::UnknownPort,
-            Message::ChanCloseInit(_)
-            | Message::RecvPacket(_)
-            | Message::AckPacket(_)
-            | Message::Timeout(_)
-            | Message::TimeoutOnClose(_) => Refusal::UnknownChannel,
-            _ => Refusal::BadMessage,
-        },
-        Event::Block { .. } => Refusal::BadMessage,
     }
 }

@@ -1,9 +1,7 @@
 -- What a world keeps, and the world that it is.
-use Rattle.std.specs.Prelude.{◌≡◌, Bool, true, Some, slice_get}
-use Rattle.ibc_machine.specs.declared.event.Event.{Event}
-use Rattle.ibc_machine.specs.declared.event.Event.TheVariants as event
+use Rattle.std.specs.Prelude.{◌≡◌, Some, slice_get}
 use Rattle.ibc_machine.specs.Genesis.{genesis_state}
-use Rattle.ibc_ledger.specs.Held.{HeldLedger, has_handler}
+use Rattle.ibc_ledger.specs.Held.{HeldLedger}
 use Rattle.ibc_world_steps.specs.World.{WorldState, IsWorld}
 use Rattle.ibc_world_core.specs.declared.world.World.TheInside.{Inside}
 use Rattle.ibc_world_core.specs.Held.{plain, AllAt}
@@ -15,8 +13,3 @@ state_of w = record { genesis = genesis_state w.genesis.value; ledgers = plain w
 pub record IsHeld (w : Inside) : Type 0 where
   pub world : IsWorld (state_of w)
   pub tables : (h : HeldLedger) → slice_get w.ledgers.items 0 ≡ Some h → AllAt h.table w.ledgers.items
-
--- the end of a block, or a message that ledgers have a handler for
-abbrev pub is_built : Event → Bool
-is_built (event.Message k m) = has_handler m
-is_built (event.Block k next_time) = true

@@ -1,6 +1,6 @@
 //! A world: one ledger for each chain of a genesis.
 
-ghost use Rattle.std.specs.Prelude.{◌≡◌, ◌⊎◌, ◌↔◌, ◌<◌, ◌++◌, ◌∷◌, ℕ, [], true, false, length, map, option_map, All, Some, slice_get, IfOk, IfErr, OnErr, IsTrue};
+ghost use Rattle.std.specs.Prelude.{◌≡◌, ◌⊎◌, ◌↔◌, ◌<◌, ◌++◌, ◌∷◌, ℕ, [], true, false, length, map, option_map, Some, slice_get, IfOk, IfErr, OnErr, IsTrue};
 ghost use Rattle.ibc_ids.specs.declared.refusal.Refusal.TheVariants.{NoMemory, BadMessage};
 ghost use Rattle.ibc_machine.specs.declared.reply.Reply.TheVariants as reply_of;
 ghost use Rattle.ibc_machine.specs.Genesis.{genesis_state, is_allowed};
@@ -11,7 +11,6 @@ ghost use Rattle.ibc_ledger.specs.Adding.{AddsOrNot};
 ghost use Rattle.ibc_world_steps.specs.World.{AreNew, HasItsPast, new_ledger};
 ghost use Rattle.ibc_world_steps.specs.Steps.{IsStep, GoesOnBy};
 ghost use Rattle.ibc_world_core.specs.Held.{AreBegun, AreNumbered, IsPutTo, SameTables};
-ghost use Rattle.ibc_world_core.specs.Inside.{is_built};
 
 use crate::meeting::meet_all;
 use ibc_ids::Refusal;
@@ -70,7 +69,6 @@ impl World {
     /// growth was refused, and `UnknownChain` where there is no chain of the event's number: then nothing has changed.
     /// Where `run` itself answers `NoMemory`, nothing was done.
     pub fn run(&mut self, events: Vec<Event>) -> Result<Vec<Reply>, Refusal>
-        requires { All (λ event. IsTrue (is_built event)) events.items }
         ensures runs { IfOk result (λ replies. GoesOnBy self.old events.items replies.items self.new) }
         ensures past { HasItsPast self.new }
         ensures err { IfErr result (λ refusal. refusal ≡ NoMemory) }
@@ -92,7 +90,6 @@ impl World {
 
     // Asks the chain of an event for it, and lets the ledgers meet.
     fn step(&mut self, event: Event) -> Reply
-        requires { IsTrue (is_built event) }
         ensures { IsStep self.old event result self.new }
     {
         let reply = put(self.ledgers.as_mut_slice(), &mut self.order, event);
@@ -103,8 +100,7 @@ impl World {
 
 // Puts an event to the ledger of its chain, where there is one, and keeps the order.
 fn put(ledgers: &mut [Ledger], order: &mut Vec<u8>, event: Event) -> Reply
-    requires numbers { AreNumbered ledgers.old }
-    requires built { IsTrue (is_built event) }
+    requires { AreNumbered ledgers.old }
     ensures put { IsPutTo ledgers.old order.old.items event result ledgers.new order.new.items }
     ensures tables { SameTables ledgers.old ledgers.new }
 {
@@ -146,8 +142,7 @@ fn chain_of(event: &Event) -> u8
 
 // Asks a ledger for an event of its chain.
 fn ask(ledger: &mut Ledger, event: Event) -> Reply
-    requires chain { chain_of event ≡ ledger.old.ledger.chain }
-    requires built { IsTrue (is_built event) }
+    requires { chain_of event ≡ ledger.old.ledger.chain }
     ensures table { ledger.new.table ≡ ledger.old.table }
     ensures adds { AddsOrNot ledger.old.ledger event result ledger.new.ledger }
 {

@@ -1,4 +1,4 @@
--- A message of connections, channels or packets is answered as its handler says, and the pass has seen no more.
+-- A message is answered as its handler says, and the pass has seen no more.
 use Rattle.std.proofs.Common.{refl, sym, subst}
 use Rattle.std.specs.Prelude.{IfOk}
 use Rattle.std.proofs.lemmas.Result.{IfOk-weaker}
@@ -80,17 +80,29 @@ returns-in-RecvPacket-clause-answer c =
 pub returns-in-AckPacket-clause-answer : goal.returns-in-AckPacket-clause-answer
 returns-in-AckPacket-clause-answer c =
     let before : Before = record { chain = c.args.chain; chains = c.args.chains; table = c.args.table.now; records = c.args.records.now; apps = c.args.applications.now; pass = c.args.pass.now } in
-    subst (λ m. IfOk c.ack_in-in-AckPacket.result (λ outcome. IsAnswerTo m before (outcome.reply, outcome.reading) (record { records = c.ack_in-in-AckPacket.new.records; apps = c.ack_in-in-AckPacket.new.applications; pass = c.args.pass.now }))) (sym c.in-AckPacket.is)
-    (IfOk-weaker c.ack_in-in-AckPacket.result _ _ (λ outcome taken. (taken, refl)) (c.ack_in-in-AckPacket.ensures.answer c.args.chain c.args.chains))
+    subst (λ m. IfOk c.settle_in.result (λ outcome. IsAnswerTo m before (outcome.reply, outcome.reading) (record { records = c.settle_in.new.records; apps = c.settle_in.new.applications; pass = c.args.pass.now }))) (sym c.in-AckPacket.is)
+    (IfOk-weaker c.settle_in.result _ _ (λ outcome taken. (taken, refl)) (c.settle_in.ensures.answer c.args.chain c.args.chains))
 
 pub returns-in-Timeout-clause-answer : goal.returns-in-Timeout-clause-answer
 returns-in-Timeout-clause-answer c =
     let before : Before = record { chain = c.args.chain; chains = c.args.chains; table = c.args.table.now; records = c.args.records.now; apps = c.args.applications.now; pass = c.args.pass.now } in
-    subst (λ m. IfOk c.timeout_in.result (λ outcome. IsAnswerTo m before (outcome.reply, outcome.reading) (record { records = c.timeout_in.new.records; apps = c.timeout_in.new.applications; pass = c.args.pass.now }))) (sym c.in-Timeout.is)
-    (IfOk-weaker c.timeout_in.result _ _ (λ outcome taken. (taken, refl)) (c.timeout_in.ensures.answer c.args.chain c.args.chains))
+    subst (λ m. IfOk c.settle_in-in-Timeout.result (λ outcome. IsAnswerTo m before (outcome.reply, outcome.reading) (record { records = c.settle_in-in-Timeout.new.records; apps = c.settle_in-in-Timeout.new.applications; pass = c.args.pass.now }))) (sym c.in-Timeout.is)
+    (IfOk-weaker c.settle_in-in-Timeout.result _ _ (λ outcome taken. (taken, refl)) (c.settle_in-in-Timeout.ensures.answer c.args.chain c.args.chains))
 
 pub returns-in-TimeoutOnClose-clause-answer : goal.returns-in-TimeoutOnClose-clause-answer
 returns-in-TimeoutOnClose-clause-answer c =
     let before : Before = record { chain = c.args.chain; chains = c.args.chains; table = c.args.table.now; records = c.args.records.now; apps = c.args.applications.now; pass = c.args.pass.now } in
-    subst (λ m. IfOk c.timeout_on_close_in.result (λ outcome. IsAnswerTo m before (outcome.reply, outcome.reading) (record { records = c.timeout_on_close_in.new.records; apps = c.timeout_on_close_in.new.applications; pass = c.args.pass.now }))) (sym c.in-TimeoutOnClose.is)
-    (IfOk-weaker c.timeout_on_close_in.result _ _ (λ outcome taken. (taken, refl)) (c.timeout_on_close_in.ensures.answer c.args.chain c.args.chains))
+    subst (λ m. IfOk c.settle_in-in-TimeoutOnClose.result (λ outcome. IsAnswerTo m before (outcome.reply, outcome.reading) (record { records = c.settle_in-in-TimeoutOnClose.new.records; apps = c.settle_in-in-TimeoutOnClose.new.applications; pass = c.args.pass.now }))) (sym c.in-TimeoutOnClose.is)
+    (IfOk-weaker c.settle_in-in-TimeoutOnClose.result _ _ (λ outcome taken. (taken, refl)) (c.settle_in-in-TimeoutOnClose.ensures.answer c.args.chain c.args.chains))
+
+pub returns-in-Transfer-clause-answer : goal.returns-in-Transfer-clause-answer
+returns-in-Transfer-clause-answer c =
+    let before : Before = record { chain = c.args.chain; chains = c.args.chains; table = c.args.table.now; records = c.args.records.now; apps = c.args.applications.now; pass = c.args.pass.now } in
+    subst (λ m. IfOk c.transfer_in.result (λ outcome. IsAnswerTo m before (outcome.reply, outcome.reading) (record { records = c.transfer_in.new.records; apps = c.transfer_in.new.applications; pass = c.args.pass.now }))) (sym c.in-Transfer.is)
+    (IfOk-weaker c.transfer_in.result _ _ (λ outcome taken. (taken, refl)) (c.transfer_in.ensures.answer c.args.chain c.args.chains))
+
+pub returns-in-TransferMany-clause-answer : goal.returns-in-TransferMany-clause-answer
+returns-in-TransferMany-clause-answer c =
+    let before : Before = record { chain = c.args.chain; chains = c.args.chains; table = c.args.table.now; records = c.args.records.now; apps = c.args.applications.now; pass = c.args.pass.now } in
+    subst (λ m. IfOk c.transfer_many_in.result (λ outcome. IsAnswerTo m before (outcome.reply, outcome.reading) (record { records = c.transfer_many_in.new.records; apps = c.transfer_many_in.new.applications; pass = c.args.pass.now }))) (sym c.in-TransferMany.is)
+    (IfOk-weaker c.transfer_many_in.result _ _ (λ outcome taken. (taken, refl)) (c.transfer_many_in.ensures.answer c.args.chain c.args.chains))

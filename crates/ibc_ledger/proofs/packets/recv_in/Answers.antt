@@ -1,33 +1,15 @@
--- The application that takes part is the one of the port.
-use Rattle.std.proofs.Common.{◌≡◌, ℕ, refl, subst}
-use Rattle.std.specs.Prelude.{IfOk, OnErr}
+use Rattle.std.proofs.Common.{refl}
 use Rattle.ibc_machine.specs.declared.reply.Effect.TheVariants as effect
-use Rattle.ibc_machine.specs.Records.{Apps}
-use Rattle.ibc_records.specs.Held.{IsUnchanged}
-use Rattle.ibc_ledger.specs.Answering.{IsBothTakenAs, recv_with}
-use Rattle.ibc_ledger.proofs.Ports.{with_notes, recv_on_port}
+use Rattle.ibc_ledger.specs.Apps.{recv_with}
 use Rattle.ibc_ledger.proofs.PacketReplies.{outcome_both_taken, outcome_both_untaken}
 use Rattle.ibc_ledger.proofs.packets.recv_in.Goals as goal
 
--- what the applications keep before the message, and after it
-abbrev before : goal.After-of_ack → Apps
-before c = record { balances = c.applications.inside.balances; notes = c.applications.inside.notes }
-
-abbrev after : goal.After-of_ack → Apps
-after c = with_notes (before c) c.recv.new.app
-
 pub returns-clause-answer : goal.returns-clause-answer
-returns-clause-answer c =
-    subst (λ (apps : Apps). (chain chains : ℕ) → IfOk c.of_ack.result (λ outcome. IsBothTakenAs (recv_with apps c.args.message.now) chain chains c.args.records.now apps (outcome.reply, outcome.reading) c.recv.new.records (after c)))
-    c.applications.view_is
-    (λ chain chains.
-    outcome_both_taken (with_notes (before c)) (λ acks. effect.Ack acks.0) _ _ (recv_on_port (before c) c.args.message.now c.requires) chain chains c.args.records.now c.recv.new.records
-    c.applications.inside.notes c.recv.new.app c.recv.result (c.recv.ensures.answer chain chains)
-    c.of_ack.result (λ x. refl) c.of_ack.ensures.reply c.of_ack.ensures.unread)
+returns-clause-answer c = λ chain chains.
+    outcome_both_taken (λ acks. effect.Ack acks.0) (recv_with c.args.applications.now c.args.message.now) chain chains c.args.records.now c.recv_on_port.new.records c.args.applications.now c.recv_on_port.new.applications
+    c.recv_on_port.result (c.recv_on_port.ensures.answer chain chains) c.of_ack.result (λ x. refl) c.of_ack.ensures.reply c.of_ack.ensures.unread
 
 pub returns-clause-err : goal.returns-clause-err
 returns-clause-err c =
-    subst (λ (apps : Apps). OnErr c.of_ack.result (IsUnchanged c.args.records.now c.recv.new.records × (after c ≡ apps))) c.applications.view_is
-    (outcome_both_untaken (with_notes (before c)) (λ acks. effect.Ack acks.0) _ _ (recv_on_port (before c) c.args.message.now c.requires) 0 0 c.args.records.now c.recv.new.records
-    c.applications.inside.notes c.recv.new.app c.recv.result (c.recv.ensures.answer 0 0)
-    c.of_ack.result c.of_ack.ensures.err)
+    outcome_both_untaken (λ acks. effect.Ack acks.0) (recv_with c.args.applications.now c.args.message.now) 0 0 c.args.records.now c.recv_on_port.new.records c.args.applications.now c.recv_on_port.new.applications
+    c.recv_on_port.result (c.recv_on_port.ensures.answer 0 0) c.of_ack.result c.of_ack.ensures.err

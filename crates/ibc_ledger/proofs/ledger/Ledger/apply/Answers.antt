@@ -1,4 +1,4 @@
-use Rattle.std.proofs.Common.{List, ◌≡◌, is_some, length, ◌∷◌, [], ◌++◌, refl, sym, ap, ◌∙◌, subst, eq-eqb, arith}
+use Rattle.std.proofs.Common.{List, ◌≡◌, is_some, length, ◌∷◌, [], ◌++◌, refl, sym, ap, ◌∙◌, subst, arith}
 use Rattle.std.specs.Prelude.{option_map}
 use Rattle.ibc_machine.specs.declared.event.Event.TheVariants as event
 use Rattle.ibc_root_table.specs.Passes.{TableName}
@@ -9,7 +9,7 @@ use Rattle.ibc_ledger.specs.Held.{plain_entry}
 use Rattle.ibc_ledger.specs.SentPackets.{sender_of, sent_as, with_first}
 use Rattle.ibc_ledger.specs.Answering.{Answered, After, IsAnswerTo}
 use Rattle.ibc_ledger.proofs.HeldLedgers.{keeps_own, still_held, held_with}
-use Rattle.ibc_ledger.proofs.Applying.{before_in, adds, answered_stands, answer_has_memory, late_stamp}
+use Rattle.ibc_ledger.proofs.Applying.{before_in, adds, answered_stands, answered_flight, answer_has_memory, late_stamp}
 use Rattle.ibc_ledger.proofs.ledger.Ledger.apply.Goals as goal
 
 pub invariant_of-self-in_default-answer : goal.invariant_of-self-in_default-answer
@@ -56,9 +56,10 @@ pub invariant_of-self-2 : goal.invariant_of-self-2
 invariant_of-self-2 c =
     let passes = c.answer.ensures.pass in
     held_with c.self.inside c.self.invariant (new_inside c) refl passes.0 (kept c) _ passes.1 (items c) (is_kept c)
-    (answered_stands c.self.inside c.self.invariant (after c) passes.1
+    (answered_stands c.self.inside c.self.invariant c.is_orderly.ensures (after c) passes.1
     (keeps_own c.self.inside c.self.invariant (new_inside c) refl passes.0 passes.2) c.args.message (given c) (answer c) c.is_typed.ensures)
-    (eq-eqb c.self.inside.chain c.self.inside.chain refl, c.requires) (sent c)
+    (answered_flight c.self.inside c.self.invariant c.is_orderly.ensures (after c) passes.1
+    (keeps_own c.self.inside c.self.invariant (new_inside c) refl passes.0 passes.2) c.args.message (given c) (answer c) c.is_typed.ensures) (sent c)
 
 pub returns-clause-adds : goal.returns-clause-adds
 returns-clause-adds c =
@@ -66,6 +67,6 @@ returns-clause-adds c =
     adds c.self.inside c.self.invariant (new_inside c) refl passes.0 passes.1 (kept c) (items c)
     (λ k. event.Message k c.args.message) (given c).0 (given c).1
     (stamp_if (is_some (given c).1) (c.self.inside.pass.seen ++ passes.1.0)) (is_kept c)
-    (answer_has_memory c.self.inside c.self.invariant (after c) passes.1
-    (keeps_own c.self.inside c.self.invariant (new_inside c) refl passes.0 passes.2) c.args.message (given c) (answer c))
+    (answer_has_memory c.self.inside c.self.invariant c.is_orderly.ensures (after c) passes.1
+    (keeps_own c.self.inside c.self.invariant (new_inside c) refl passes.0 passes.2) c.args.message (given c) (answer c) c.is_typed.ensures)
     (late_stamp (is_some (given c).1) c.self.inside.pass.seen passes.1.0) c.args.self.now c.self.view_is

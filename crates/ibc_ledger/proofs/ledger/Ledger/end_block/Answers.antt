@@ -1,8 +1,9 @@
-use Rattle.std.proofs.Common.{List, Option, None, ◌≡◌, ◌∷◌, [], ◌++◌, refl, sym, ap, ◌∙◌, subst, arith, eq-eqb}
+use Rattle.std.proofs.Common.{List, Option, None, ◌≡◌, ◌∷◌, [], ◌++◌, refl, sym, ap, ◌∙◌, subst, arith}
 use Rattle.std.specs.declared.snapshot.Snapshot.{Snapshot}
 use Rattle.ibc_machine.specs.declared.event.Event.TheVariants as event
 use Rattle.ibc_machine.specs.declared.reply.Reply.{Reply}
 use Rattle.ibc_root_table.specs.declared.table.Pass.{Pass}
+use Rattle.ibc_transfer.specs.InFlight.{IsInFlight}
 use Rattle.ibc_ledger.specs.declared.entry.StampedEntry.{StampedEntry as KeptEntry}
 use Rattle.ibc_ledger.specs.declared.ledger.Ledger.TheInside.{Inside}
 use Rattle.ibc_ledger.specs.Held.{plain_entry}
@@ -42,7 +43,7 @@ items c = c.push_reserved.ensures.items ∙ ap (λ (xs : List KeptEntry). xs ++ 
 pub invariant_of-self-2 : goal.invariant_of-self-2
 invariant_of-self-2 c =
     let e = entry c in
-    held_with c.self.inside c.self.invariant (new_inside c) refl e.same (kept_as c c.match-commit_block.reply) _ e.prefix (items c) e.is e.stands (eq-eqb c.self.inside.chain c.self.inside.chain refl, refl) refl
+    held_with c.self.inside c.self.invariant (new_inside c) refl e.same (kept_as c c.match-commit_block.reply) _ e.prefix (items c) e.is e.stands (subst (IsInFlight c.self.inside.applications.bank) (sym e.core_is) c.self.invariant.flight) refl
 
 pub returns-clause-adds : goal.returns-clause-adds
 returns-clause-adds c =

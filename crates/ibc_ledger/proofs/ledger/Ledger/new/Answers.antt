@@ -5,6 +5,7 @@ use Rattle.std.proofs.lemmas.Option.{slice_get-get_or}
 use Rattle.ibc_machine.specs.Genesis.{genesis_state, chain_state}
 use Rattle.ibc_ledger.specs.declared.ledger.Ledger.TheInside.{Inside}
 use Rattle.ibc_ledger.proofs.Windows.{few_chains}
+use Rattle.ibc_ledger.proofs.Totals.{fair_start}
 use Rattle.ibc_ledger.proofs.NewLedgers.{IsFresh, fresh_held}
 use Rattle.ibc_ledger.proofs.ledger.Ledger.new.Goals as goal
 
@@ -13,6 +14,11 @@ overflow_cast-result c =
     let few = few_chains (genesis_state c.args.genesis.now) c.requires.allowed in
     let long = length-map c.args.genesis.now.chains.items chain_state in
     omega (arith, few, long, c.len.ensures)
+
+pub new-requires-2 : goal.new-requires-2
+new-requires-2 c =
+    let items = c.args.genesis.now.chains.items in
+    fair_start c.args.genesis.now c.requires.allowed c.from.result c.index-start.result.now (subst (λ n. n < length items) (sym c.from.ensures) c.requires.chain) c.index-start.ensures
 
 pub invariant_of-result : goal.invariant_of-result
 invariant_of-result c =

@@ -3,7 +3,7 @@ use Rattle.std.proofs.lemmas.Option.{slice_get-get_or}
 use Rattle.ibc_wire.specs.declared.records.ChannelEnd.{ChannelEnd}
 use Rattle.ibc_ledger.specs.Held.{HeldLedger}
 use Rattle.ibc_ledger.specs.Happened.{packet_on}
-use Rattle.ibc_ledger.specs.SentPackets.{note_packet}
+use Rattle.ibc_ledger.specs.SentPackets.{packet_to}
 use Rattle.ibc_ledger.proofs.FoundPackets.{not_sent, within, no_other, was_sent}
 use Rattle.ibc_ledger.proofs.ledger.Ledger.packet.Goals as goal
 
@@ -26,7 +26,7 @@ unreachable-requires c =
     let here : slice_get c.self.inside.history.items c.in-Some-2.place ≡ Some c.index.result.now =
     slice_get-get_or c.self.inside.history.items c.in-Some-2.place c.index.result.now low ∙ ap Some (sym c.index.ensures) in
     no_other c.self.inside c.self.invariant c.args.port.now c.args.channel.now c.args.sequence c.in-Some-2.place found c.index.result.now here
-    (sym c.note_in.ensures ∙ ap option_copied c.in_default-note_in.is)
+    (sym c.in_ok-commitment.ensures.ok ∙ c.in_default-3.is)
 
 pub returns-clause-ok : goal.returns-clause-ok
 returns-clause-ok c =
@@ -36,8 +36,8 @@ returns-clause-ok c =
     let low = within c.self.inside c.self.invariant c.args.port.now c.args.channel.now c.args.sequence c.in-Some-2.place found in
     let here : slice_get c.self.inside.history.items c.in-Some-2.place ≡ Some c.index.result.now =
     slice_get-get_or c.self.inside.history.items c.in-Some-2.place c.index.result.now low ∙ ap Some (sym c.index.ensures) in
-    let sends = sym c.note_in.ensures ∙ ap option_copied c.in-Some-note_in.is in
-    ap Some c.in_ok-note_packet.ensures
-    ∙ ap (λ (e : ChannelEnd). Some (note_packet c.args.port.now c.args.channel.now c.args.sequence e c.in-Some-peer_channel.peer c.in-Some-note_in.note.now)) c.end-end.ensures
+    let sends = sym c.in_ok-commitment.ensures.ok ∙ c.in-Some-3.is in
+    ap Some c.in_ok-packet.ensures
+    ∙ ap (λ (e : ChannelEnd). Some (packet_to c.args.port.now c.args.channel.now c.args.sequence e c.in-Some-peer_channel.peer c.in-Some-3.commitment)) c.end-end.ensures
     ∙ sym (ap (λ (h : HeldLedger). packet_on h.ledger c.args.port.now c.args.channel.now c.args.sequence) (sym c.self.view_is)
-    ∙ was_sent c.self.inside c.self.invariant c.args.port.now c.args.channel.now c.args.sequence c.in-Some-2.place found c.index.result.now here c.in-Some.mine.now there c.in-Some-peer_channel.peer knows c.in-Some-note_in.note.now sends)
+    ∙ was_sent c.self.inside c.self.invariant c.args.port.now c.args.channel.now c.args.sequence c.in-Some-2.place found c.index.result.now here c.in-Some.mine.now there c.in-Some-peer_channel.peer knows c.in-Some-3.commitment sends)

@@ -14,8 +14,8 @@ use Rattle.ibc_world_core.specs.Held.{plain, AllAt, AreNumbered, SameTables, IsP
 use Rattle.ibc_world_core.proofs.Stepping.{numbered, as_many, some_ledger, at_one_table, of_all_chains, stepped, still_held}
 use Rattle.ibc_world_core.proofs.world.World.step.Goals as goal
 
-pub put-reply-requires-clause-numbers : goal.put-reply-requires-clause-numbers
-put-reply-requires-clause-numbers c = subst AreNumbered (sym c.as_mut_slice.ensures.value) (numbered c.self.inside c.self.invariant)
+pub put-reply-requires : goal.put-reply-requires
+put-reply-requires c = subst AreNumbered (sym c.as_mut_slice.ensures.value) (numbered c.self.inside c.self.invariant)
 
 module _ (c : goal.After-as_mut_slice-2) where
   put : IsPutTo c.self.inside.ledgers.items c.self.inside.order.items c.args.event c.put-reply.result c.put-reply.new.ledgers c.put-reply.new.order.items

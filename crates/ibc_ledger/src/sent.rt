@@ -1,0 +1,110 @@
+//! The packets that messages sent.
+
+ghost use Rattle.std.specs.Prelude.{◌≡◌, IfOk, IfErr};
+ghost use Rattle.ibc_ids.specs.declared.refusal.Refusal.TheVariants.{NoMemory};
+ghost use Rattle.ibc_machine.specs.TokenData as plain;
+ghost use Rattle.ibc_machine.specs.Transfers.{transfer_commitment};
+ghost use Rattle.ibc_token_data.specs.Plain.{plain_data};
+ghost use Rattle.ibc_ledger.specs.SentPackets.{commitment_by, commitment_in, packet_to};
+
+use ibc_ids::{ChannelId, PortId, Refusal, Version};
+use ibc_machine::Event;
+use ibc_records::Commitment;
+use ibc_token_data::TokenData;
+use ibc_wire::{ChannelEnd, Message, Packet};
+use std::alloc::{AllocError, Global};
+
+/// What was committed of the packet that an event sent, or none where it sends none. `NoMemory` where a growth is refused.
+pub fn commitment_in(alloc: Global, event: &Event) -> Result<Option<Commitment>, Refusal>
+    ensures ok { IfOk result (λ commitment. commitment ≡ commitment_in event.now) }
+    ensures err { IfErr result (λ refusal. refusal ≡ NoMemory) }
+{
+    match event {
+        Event::Message { message, .. } => commitment_by(alloc, message),
+        Event::Block { .. } => Ok(None),
+    }
+}
+
+// What is committed of the packet that a message sends, or none.
+fn commitment_by(alloc: Global, message: &Message) -> Result<Option<Commitment>, Refusal>
+    ensures ok { IfOk result (λ commitment. commitment ≡ commitment_by message.now) }
+    ensures err { IfErr result (λ refusal. refusal ≡ NoMemory) }
+{
+    match message {
+        Message::SendNote(note) => Ok(Some(Commitment {
+            payload: note.payload.clone()?,
+            timeout_height: note.timeout_height,
+            timeout_time: note.timeout_time,
+        })),
+        Message::Transfer(sent) => {
+            let told = TokenData::of_transfer(alloc, sent)?;
+            let version = one_token(alloc)?;
+            let height = sent.timeout_height;
+            Ok(Some(token_commitment(alloc, &version, &told, height, sent.timeout_time)?))
+        }
+        Message::TransferMany(sent) => {
+            let told = TokenData::of_transfer_many(alloc, sent)?;
+            let version = several_tokens(alloc)?;
+            let height = sent.timeout_height;
+            Ok(Some(token_commitment(alloc, &version, &told, height, sent.timeout_time)?))
+        }
+        _ => Ok(None),
+    }
+}
+
+// What is committed of a packet of tokens over a channel of the version.
+fn token_commitment(
+    alloc: Global,
+    version: &Version,
+    told: &TokenData,
+    timeout_height: u64,
+    timeout_time: u64,
+) -> Result<Commitment, Refusal>
+    ensures ok { IfOk result (λ commitment. commitment ≡ transfer_commitment version.now (plain_data told.now) timeout_height timeout_time) }
+    ensures err { IfErr result (λ refusal. refusal ≡ NoMemory) }
+{
+    Ok(Commitment {
+        payload: told.write(alloc, version)?,
+        timeout_height,
+        timeout_time,
+    })
+}
+
+/// The packet that was committed to so, from an end under a sequence to the peer of this name. Error: memory ran out.
+pub fn packet_to(
+    port: &PortId,
+    channel: &ChannelId,
+    sequence: u64,
+    end: &ChannelEnd,
+    peer: &ChannelId,
+    commitment: Commitment,
+) -> Result<Packet, AllocError>
+    ensures { IfOk result (λ packet. packet ≡ packet_to port.now channel.now sequence end.now peer.now commitment) }
+{
+    Ok(Packet {
+        sequence,
+        timeout_height: commitment.timeout_height,
+        timeout_time: commitment.timeout_time,
+        source_port: port.clone()?,
+        source_channel: channel.clone()?,
+        destination_port: end.peer_port.clone()?,
+        destination_channel: peer.clone()?,
+        payload: commitment.payload,
+    })
+}
+
+// The version of channels that carry one token a packet.
+fn one_token(alloc: Global) -> Result<Version, Refusal>
+    ensures ok { IfOk result (λ version. version ≡ plain.one_token) }
+    ensures err { IfErr result (λ refusal. refusal ≡ NoMemory) }
+{
+    Version::parse(alloc, "ics20-1")
+}
+
+// The version of channels that carry several.
+fn several_tokens(alloc: Global) -> Result<Version, Refusal>
+    ensures ok { IfOk result (λ version. version ≡ plain.several_tokens) }
+    ensures err { IfErr result (λ refusal. refusal ≡ NoMemory) }
+{
+    Version::parse(alloc, "ics20-own-2")
+}
