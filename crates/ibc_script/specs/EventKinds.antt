@@ -57,6 +57,8 @@ channel_draft_kind (channel.CloseInit m) = kind.ChanCloseInit
 channel_draft_kind (channel.CloseConfirm port id from) = kind.ChanCloseConfirm
 
 abbrev pub packet_draft_kind : PacketDraft → EventKind
+packet_draft_kind (packet.Transfer m) = kind.Transfer
+packet_draft_kind (packet.TransferMany t) = kind.TransferMany
 packet_draft_kind (packet.SendNote m) = kind.SendNote
 packet_draft_kind (packet.Recv sent height) = kind.RecvPacket
 packet_draft_kind (packet.Ack sent from) = kind.AckPacket

@@ -38,6 +38,8 @@ IsChannelAmong chains (channel.CloseInit m) = ⊤
 IsChannelAmong chains (channel.CloseConfirm port id from) = from.chain < chains
 
 abbrev pub IsPacketAmong : ℕ → PacketDraft → Type 0
+IsPacketAmong chains (packet.Transfer m) = ⊤
+IsPacketAmong chains (packet.TransferMany t) = ⊤
 IsPacketAmong chains (packet.SendNote m) = ⊤
 IsPacketAmong chains (packet.Recv sent height) = sent.chain < chains
 IsPacketAmong chains (packet.Ack sent from) = (sent.chain < chains) × (from.chain < chains)
@@ -77,6 +79,8 @@ IsProp-IsChannelAmong chains (channel.CloseInit m) = hlevel props
 IsProp-IsChannelAmong chains (channel.CloseConfirm port id from) = hlevel props
 
 pub IsProp-IsPacketAmong : (chains : ℕ) (d : PacketDraft) → IsProp (IsPacketAmong chains d)
+IsProp-IsPacketAmong chains (packet.Transfer m) = hlevel props
+IsProp-IsPacketAmong chains (packet.TransferMany t) = hlevel props
 IsProp-IsPacketAmong chains (packet.SendNote m) = hlevel props
 IsProp-IsPacketAmong chains (packet.Recv sent height) = hlevel props
 IsProp-IsPacketAmong chains (packet.Ack sent from) = hlevel props

@@ -13,6 +13,10 @@ use std::alloc::Global;
 pub enum Application {
     /// Notes.
     Note,
+    /// Tokens of one denomination in a packet (ICS 20).
+    Transfer,
+    /// Tokens of several denominations in a packet, in this project's own version of ICS 20.
+    TransferMany,
 }
 
 impl Application {
@@ -23,6 +27,9 @@ impl Application {
     {
         match self {
             Application::Note => Name::parse(alloc, "note").map_err(Fault::of_refusal),
+            Application::Transfer | Application::TransferMany => {
+                Name::parse(alloc, "transfer").map_err(Fault::of_refusal)
+            }
         }
     }
 
@@ -32,6 +39,7 @@ impl Application {
     {
         match self {
             Application::Note => Order::Ordered,
+            Application::Transfer | Application::TransferMany => Order::Unordered,
         }
     }
 
@@ -42,6 +50,10 @@ impl Application {
     {
         match self {
             Application::Note => Name::parse(alloc, "note-1").map_err(Fault::of_refusal),
+            Application::Transfer => Name::parse(alloc, "ics20-1").map_err(Fault::of_refusal),
+            Application::TransferMany => {
+                Name::parse(alloc, "ics20-own-2").map_err(Fault::of_refusal)
+            }
         }
     }
 }

@@ -3,9 +3,9 @@
 ghost use Rattle.std.specs.Prelude.{◌≡◌};
 ghost use Rattle.ibc_script.specs.EventKinds.{client_draft_kind, connection_draft_kind, channel_draft_kind, packet_draft_kind, draft_kind};
 
-use crate::EventKind;
+use crate::{EventKind, ListedTransfer};
 use ibc_ids::{ChannelId, ClientId, ConnectionId, PortId, Version};
-use ibc_wire::{ChanCloseInit, ChanOpenInit, Order, SendNote};
+use ibc_wire::{ChanCloseInit, ChanOpenInit, Order, SendNote, Transfer};
 
 /// The height of a chain from which the proofs of a message are taken.
 #[derive(Clone, Copy, Debug, PartialEq, Eq, Drop)]
@@ -106,6 +106,10 @@ pub struct SentPacket {
 /// A message for packets (ICS 4, "Packet flow & handling").
 #[derive(Drop, Debug)]
 pub enum PacketDraft {
+    /// Tokens of one denomination are sent (ICS 20).
+    Transfer(Transfer),
+    /// Tokens of several denominations are sent in one packet (ICS 20).
+    TransferMany(ListedTransfer),
     /// A note is sent.
     SendNote(SendNote),
     /// A packet is received. Its proof is of this height of the chain that sent it.
@@ -171,6 +175,8 @@ impl PacketDraft {
         ensures { result ≡ packet_draft_kind self.now }
     {
         match self {
+            PacketDraft::Transfer(_) => EventKind::Transfer,
+            PacketDraft::TransferMany(_) => EventKind::TransferMany,
             PacketDraft::SendNote(_) => EventKind::SendNote,
             PacketDraft::Recv { .. } => EventKind::RecvPacket,
             PacketDraft::Ack { .. } => EventKind::AckPacket,

@@ -54,6 +54,16 @@ pub fn text<'v>(object: &'v Value, name: &str) -> Result<&'v str, Fault>
         .ok_or(Fault::BadScript)
 }
 
+/// The member of this name, a text; the empty one where there is none. Fault: `BadScript`.
+pub fn text_or_empty<'v>(object: &'v Value, name: &str) -> Result<&'v str, Fault>
+    ensures { IfErr result JudgesScript }
+{
+    if object.get(name).is_none() {
+        return Ok("");
+    }
+    text(object, name)
+}
+
 /// The items of the member of this name, a list. Fault: `BadScript`.
 pub fn list<'v>(object: &'v Value, name: &str) -> Result<&'v [Value], Fault>
     ensures { IfErr result JudgesScript }

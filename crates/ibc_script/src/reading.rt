@@ -10,7 +10,9 @@ mod connections;
 mod packets;
 mod step_reader;
 mod steps;
+mod transfers;
 
+use crate::amount::amount_of;
 use crate::members::{has_only, list, number, optional_number};
 use crate::{Fault, MOST_BYTES, Script};
 use chains::read_chains;
@@ -31,6 +33,13 @@ fn parsed(alloc: Global, bytes: &[u8]) -> Result<Value, Fault>
         Err(error) if error.is_memory() => Err(Fault::NoMemory),
         Err(_) => Err(Fault::BadScript),
     }
+}
+
+// The amount that a text writes.
+fn read_amount(alloc: Global, text: &str) -> Result<u128, Fault>
+    ensures { IfErr result JudgesScript }
+{
+    amount_of(alloc, text)?.ok_or(Fault::BadScript)
 }
 
 fn parse_name<K: Kind>(alloc: Global, text: &str) -> Result<Name<K>, Fault>

@@ -366,6 +366,10 @@ MakesOf says sent makes made =
 -- the message that a step becomes, none where something that it needs isn't there; a packet is received with a proof
 -- of the chain that sent it
 abbrev pub MakesPacketMessage : SaysOfChannels → SaysOfPackets → SaysOfAcks → Proves → ℕ → PacketDraft → Option Message → Type 0
+MakesPacketMessage of_channels of_packets of_acks proves on (packet.Transfer m) made =
+    made ≡ Some (message.Transfer m)
+MakesPacketMessage of_channels of_packets of_acks proves on (packet.TransferMany t) made =
+    made ≡ Some (message.TransferMany t.message)
 MakesPacketMessage of_channels of_packets of_acks proves on (packet.SendNote m) made =
     made ≡ Some (message.SendNote m)
 MakesPacketMessage of_channels of_packets of_acks proves on (packet.Recv sent height) made =

@@ -3,8 +3,7 @@
 ghost use Rattle.std.specs.Prelude.{◌≡◌, ◌≤◌, length, IfOk, IfErr};
 ghost use Rattle.ibc_script.specs.Faults.{JudgesScript};
 
-use super::parse_name;
-use crate::amount::amount_of;
+use super::{parse_name, read_amount};
 use crate::members::{has_only, list, number, text};
 use crate::script::MOST_CHAINS;
 use crate::{ChainName, Fault};
@@ -23,8 +22,7 @@ fn read_balance(alloc: Global, value: &Value) -> Result<(UserName, Denom, u128),
     };
     let user = user.as_str().ok_or(Fault::BadScript)?;
     let denom = denom.as_str().ok_or(Fault::BadScript)?;
-    let amount = amount.as_str().ok_or(Fault::BadScript)?;
-    let amount = amount_of(alloc, amount)?.ok_or(Fault::BadScript)?;
+    let amount = read_amount(alloc, amount.as_str().ok_or(Fault::BadScript)?)?;
     Ok((parse_name(alloc, user)?, parse_name(alloc, denom)?, amount))
 }
 

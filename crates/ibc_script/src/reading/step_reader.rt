@@ -100,6 +100,8 @@ impl StepReader<'_> {
     {
         match text(self.object, member)? {
             "note" => Ok(Application::Note),
+            "transfer" => Ok(Application::Transfer),
+            "transfer2" => Ok(Application::TransferMany),
             _ => Err(Fault::BadScript),
         }
     }

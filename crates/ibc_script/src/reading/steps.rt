@@ -77,6 +77,8 @@ impl StepReader<'_> {
             "ChanOpenConfirm" => Draft::Channel(self.chan_open_confirm()?),
             "ChanCloseInit" => Draft::Channel(self.chan_close_init()?),
             "ChanCloseConfirm" => Draft::Channel(self.chan_close_confirm()?),
+            "Transfer" => Draft::Packet(self.transfer()?),
+            "TransferMany" => Draft::Packet(self.transfer_many()?),
             "SendNote" => Draft::Packet(self.send_note()?),
             "RecvPacket" => Draft::Packet(self.recv_packet()?),
             "AckPacket" => Draft::Packet(self.ack_packet()?),

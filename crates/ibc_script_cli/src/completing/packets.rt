@@ -294,6 +294,10 @@ impl<C: Chains + Drop> Completer<'_, C> {
         ensures err { IfErr result (λ fault. fault ≡ Fault.NoMemory) }
     {
         match draft {
+            PacketDraft::Transfer(message) => Ok(Some(Message::Transfer(message.clone()?))),
+            PacketDraft::TransferMany(transfer) => {
+                Ok(Some(Message::TransferMany(transfer.message.clone()?)))
+            }
             PacketDraft::SendNote(message) => Ok(Some(Message::SendNote(message.clone()?))),
             PacketDraft::Recv { packet, height } => self.recv_packet(packet, *height),
             PacketDraft::Ack { packet, from } => self.ack_packet(packet, *from),

@@ -1,0 +1,115 @@
+//! The steps that send tokens.
+
+ghost use Rattle.std.specs.Prelude.{◌≡◌, length, IfOk, IfErr, IsTrue};
+ghost use Rattle.ibc_script.specs.Faults.{JudgesScript};
+ghost use Rattle.ibc_script.specs.Scripts.{IsPacketAmong};
+ghost use Rattle.ibc_script.specs.TokenLists.{is_listed};
+
+use super::step_reader::StepReader;
+use super::{parse_name, read_amount};
+use crate::Fault;
+use crate::draft::PacketDraft;
+use crate::listed_transfer::{ListedTransfer, is_listed};
+use crate::members::{has_only, list, text, text_or_empty};
+use ibc_ids::Memo;
+use ibc_wire::{Token, Tokens, Transfer, TransferMany};
+use serde_json::Value;
+use std::alloc::Global;
+
+/// One token: `[denomination, amount]`, both texts.
+fn read_token(alloc: Global, value: &Value) -> Result<Token, Fault>
+    ensures { IfErr result JudgesScript }
+{
+    let items = value.as_array().ok_or(Fault::BadScript)?;
+    let [denom, amount] = items.as_slice() else {
+        return Err(Fault::BadScript);
+    };
+    let amount = read_amount(alloc, amount.as_str().ok_or(Fault::BadScript)?)?;
+    let denom = parse_name(alloc, denom.as_str().ok_or(Fault::BadScript)?)?;
+    Ok(Token { denom, amount })
+}
+
+fn read_tokens(alloc: Global, values: &[Value]) -> Result<Tokens, Fault>
+    ensures listed { IfOk result (λ tokens. IsTrue (is_listed tokens)) }
+    ensures faults { IfErr result JudgesScript }
+{
+    let mut tokens = Vec::with_capacity(alloc, values.len())?;
+    for value in values {
+        tokens.push(read_token(alloc, value)?)?;
+    }
+    if is_listed(tokens.as_slice()) {
+        Ok(Tokens::from_vec(tokens))
+    } else {
+        Err(Fault::BadScript)
+    }
+}
+
+impl StepReader<'_> {
+    /// The memo of a transfer, the empty one where the step has none.
+    fn memo(&self) -> Result<Memo, Fault>
+        ensures { IfErr result JudgesScript }
+    {
+        parse_name(self.alloc, text_or_empty(self.object, "memo")?)
+    }
+
+    pub fn transfer(&self) -> Result<PacketDraft, Fault>
+        ensures among { IfOk result (IsPacketAmong (length self.now.names.now)) }
+        ensures faults { IfErr result JudgesScript }
+    {
+        has_only(
+            self.object,
+            &[
+                "do",
+                "on",
+                "channel",
+                "user",
+                "denom",
+                "amount",
+                "receiver",
+                "memo",
+                "timeout_height",
+                "timeout_time",
+            ],
+        )?;
+        Ok(PacketDraft::Transfer(Transfer {
+            timeout_height: self.number("timeout_height")?,
+            timeout_time: self.number("timeout_time")?,
+            amount: read_amount(self.alloc, text(self.object, "amount")?)?,
+            channel: self.name("channel")?,
+            user: self.name("user")?,
+            denom: self.name("denom")?,
+            receiver: self.name("receiver")?,
+            memo: self.memo()?,
+        }))
+    }
+
+    pub fn transfer_many(&self) -> Result<PacketDraft, Fault>
+        ensures among { IfOk result (IsPacketAmong (length self.now.names.now)) }
+        ensures faults { IfErr result JudgesScript }
+    {
+        has_only(
+            self.object,
+            &[
+                "do",
+                "on",
+                "channel",
+                "user",
+                "tokens",
+                "receiver",
+                "memo",
+                "timeout_height",
+                "timeout_time",
+            ],
+        )?;
+        let message = TransferMany {
+            timeout_height: self.number("timeout_height")?,
+            timeout_time: self.number("timeout_time")?,
+            tokens: read_tokens(self.alloc, list(self.object, "tokens")?)?,
+            channel: self.name("channel")?,
+            user: self.name("user")?,
+            receiver: self.name("receiver")?,
+            memo: self.memo()?,
+        };
+        Ok(PacketDraft::TransferMany(ListedTransfer { message }))
+    }
+}
