@@ -1,8 +1,7 @@
 //! The ways in which a message of a channel is forged.
 
-use crate::channel_message::{ChannelMessage, Claim, HONEST_NAMES, Names, send_named, true_claim};
 use ibc_forgeries::{Counts, forgeries};
-use ibc_forging::proof_of;
+use ibc_forging::{ChannelMessage, Claim, NOTE_NAMES, Names, proof_of, send_named, true_claim};
 use ibc_ids::{Key, Name, Refusal, nth_channel, nth_connection};
 use ibc_machine::Reply;
 use ibc_script_worlds::Ledgers;
@@ -38,27 +37,27 @@ pub const ALL_FORGERIES: [Forgery; 5] = [
 const TRY_NAMES: [Names; 6] = [
     Names {
         port: "elsewhere",
-        ..HONEST_NAMES
+        ..NOTE_NAMES
     },
     Names {
         connection: 7,
-        ..HONEST_NAMES
+        ..NOTE_NAMES
     },
     Names {
         order: Order::Unordered,
-        ..HONEST_NAMES
+        ..NOTE_NAMES
     },
     Names {
         version: "note-2",
-        ..HONEST_NAMES
+        ..NOTE_NAMES
     },
     Names {
         peer_port: "elsewhere",
-        ..HONEST_NAMES
+        ..NOTE_NAMES
     },
     Names {
         peer_channel: 7,
-        ..HONEST_NAMES
+        ..NOTE_NAMES
     },
 ];
 
@@ -66,15 +65,15 @@ const TRY_NAMES: [Names; 6] = [
 const ACK_NAMES: [Names; 3] = [
     Names {
         port: "elsewhere",
-        ..HONEST_NAMES
+        ..NOTE_NAMES
     },
     Names {
         channel: 7,
-        ..HONEST_NAMES
+        ..NOTE_NAMES
     },
     Names {
         peer_channel: 1,
-        ..HONEST_NAMES
+        ..NOTE_NAMES
     },
 ];
 
@@ -83,15 +82,15 @@ const ACK_NAMES: [Names; 3] = [
 const CONFIRM_NAMES: [Names; 3] = [
     Names {
         port: "elsewhere",
-        ..HONEST_NAMES
+        ..NOTE_NAMES
     },
     Names {
         channel: 7,
-        ..HONEST_NAMES
+        ..NOTE_NAMES
     },
     Names {
         channel: 1,
-        ..HONEST_NAMES
+        ..NOTE_NAMES
     },
 ];
 
@@ -141,13 +140,13 @@ fn send_changed(
     sent: ChannelMessage,
 ) -> Result<Counts, Refusal> {
     let height = sent.height();
-    let honest = true_claim(alloc, chains, sent, height)?;
+    let honest = true_claim(alloc, chains, sent, NOTE_NAMES, height)?;
     let changed = forgeries(alloc, honest.proof.as_slice());
     drop(honest);
     let mut counts = Counts::new();
     for proof in changed? {
         let claim = Claim { height, proof };
-        counts.add(send_named(alloc, chains, sent, HONEST_NAMES, claim)?);
+        counts.add(send_named(alloc, chains, sent, NOTE_NAMES, claim)?);
     }
     Ok(counts)
 }
@@ -161,9 +160,9 @@ fn send_at_heights(
 ) -> Result<Counts, Refusal> {
     let mut counts = Counts::new();
     for (proved, claimed) in heights {
-        let mut claim = true_claim(alloc, chains, sent, *proved)?;
+        let mut claim = true_claim(alloc, chains, sent, NOTE_NAMES, *proved)?;
         claim.height = *claimed;
-        counts.add(send_named(alloc, chains, sent, HONEST_NAMES, claim)?);
+        counts.add(send_named(alloc, chains, sent, NOTE_NAMES, claim)?);
     }
     Ok(counts)
 }
@@ -175,7 +174,7 @@ fn send_other_keys(
     sent: ChannelMessage,
 ) -> Result<Counts, Refusal> {
     let mut counts = Counts::new();
-    let connection = nth_connection(alloc, HONEST_NAMES.connection)?;
+    let connection = nth_connection(alloc, NOTE_NAMES.connection)?;
     counts.add(send_with_key(alloc, chains, sent, Key::Connection(connection))?);
     let sequence = next_send(alloc)?;
     counts.add(send_with_key(alloc, chains, sent, sequence)?);
@@ -185,8 +184,8 @@ fn send_other_keys(
 
 // The key of the sequence that the peer's end sends next.
 fn next_send(alloc: Global) -> Result<Key, Refusal> {
-    let port = Name::parse(alloc, HONEST_NAMES.peer_port)?;
-    let channel = nth_channel(alloc, HONEST_NAMES.peer_channel)?;
+    let port = Name::parse(alloc, NOTE_NAMES.peer_port)?;
+    let channel = nth_channel(alloc, NOTE_NAMES.peer_channel)?;
     Ok(Key::NextSequenceSend(port, channel))
 }
 
@@ -204,7 +203,7 @@ fn send_with_key(
         height,
         proof: proof?,
     };
-    send_named(alloc, chains, sent, HONEST_NAMES, claim)
+    send_named(alloc, chains, sent, NOTE_NAMES, claim)
 }
 
 // Sends a message with its true claim, beside one name that is another.
@@ -231,7 +230,7 @@ fn send_each_named(
 ) -> Result<Counts, Refusal> {
     let mut counts = Counts::new();
     for names in wrong {
-        let claim = true_claim(alloc, chains, sent, sent.height())?;
+        let claim = true_claim(alloc, chains, sent, NOTE_NAMES, sent.height())?;
         counts.add(send_named(alloc, chains, sent, *names, claim)?);
     }
     Ok(counts)

@@ -2,17 +2,13 @@
 //! each refusal was the answer, and whether the blocks are those of a world that is sent the honest messages alone.
 #![tactic(auto)]
 
-mod channel_message;
 mod forgery;
 mod report;
 
-use crate::channel_message::{
-    ChannelMessage, HONEST_NAMES, begin_channel, close_channel, send_named, true_claim,
-};
 use crate::forgery::{ALL_FORGERIES, Forgery};
 use crate::report::{Answered, Report};
 use ibc_forging::{
-    ConnectionMessage, begin, create_client, end_block, send_with, tell, true_claims, two_chains,
+    ChannelMessage, NOTE_NAMES, close_channel, connect, end_block, send_honest, tell, two_chains,
 };
 use ibc_ids::{Refusal, Root};
 use ibc_machine::Reply;
@@ -20,40 +16,6 @@ use ibc_script_worlds::Ledgers;
 use std::alloc::Global;
 use std::io;
 use std::io::{BufWriter, Write};
-
-// Ends a block of the chain that a message of a connection proves something of, tells the other chain of it, and sends
-// the message.
-fn take_turn(
-    alloc: Global,
-    chains: &mut Ledgers,
-    sent: ConnectionMessage,
-) -> Result<Root, Refusal> {
-    let root = tell(alloc, chains, sent.of(), sent.to())?;
-    let claims = true_claims(alloc, chains, sent, sent.height())?;
-    drop(send_with(alloc, chains, sent, claims)?);
-    Ok(root)
-}
-
-// Opens a connection. The channel is begun before its last message, so that one block shows both.
-fn connect(alloc: Global, chains: &mut Ledgers) -> Result<Root, Refusal> {
-    drop(create_client(chains, 0, 1)?);
-    drop(create_client(chains, 1, 0)?);
-    drop(begin(alloc, chains)?);
-    let _first = take_turn(alloc, chains, ConnectionMessage::Try)?;
-    let _second = take_turn(alloc, chains, ConnectionMessage::Ack)?;
-    drop(begin_channel(alloc, chains)?);
-    take_turn(alloc, chains, ConnectionMessage::Confirm)
-}
-
-// Sends a message of a channel as it truly is.
-fn send_honest(
-    alloc: Global,
-    chains: &mut Ledgers,
-    sent: ChannelMessage,
-) -> Result<Reply, Refusal> {
-    let claim = true_claim(alloc, chains, sent, sent.height())?;
-    send_named(alloc, chains, sent, HONEST_NAMES, claim)
-}
 
 // Sends the forgeries of a message, and then twice the message.
 fn send_all(
@@ -82,7 +44,7 @@ fn send_and_note(
     sent: ChannelMessage,
     report: &mut Report,
 ) -> Result<(), Refusal> {
-    let reply = send_honest(alloc, chains, sent)?;
+    let reply = send_honest(alloc, chains, sent, NOTE_NAMES)?;
     Ok(report.answers.push(Answered::Honest { sent, reply })?)
 }
 
@@ -94,7 +56,7 @@ fn run(
     forgeries: &[Forgery],
     report: &mut Report,
 ) -> Result<(), Refusal> {
-    let root = connect(alloc, chains)?;
+    let root = connect(alloc, chains, NOTE_NAMES)?;
     report.roots.push(root)?;
     send_all(alloc, chains, ChannelMessage::OpenTry, forgeries, report)?;
     report.roots.push(tell(alloc, chains, 1, 0)?)?;
@@ -108,7 +70,7 @@ fn run(
         report,
     )?;
     report.roots.push(tell(alloc, chains, 1, 0)?)?;
-    drop(close_channel(alloc, chains)?);
+    drop(close_channel(alloc, chains, NOTE_NAMES)?);
     report.roots.push(tell(alloc, chains, 0, 1)?)?;
     send_all(
         alloc,

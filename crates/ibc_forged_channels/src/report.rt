@@ -1,8 +1,8 @@
 //! What worlds answered.
 
-use crate::channel_message::ChannelMessage;
 use crate::forgery::Forgery;
 use ibc_forgeries::Counts;
+use ibc_forging::ChannelMessage;
 use ibc_ids::{Refusal, Root};
 use ibc_machine::{Effect, Reply};
 use std::alloc::Global;

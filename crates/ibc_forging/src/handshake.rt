@@ -1,8 +1,8 @@
 //! The messages of a connection's handshake between chains 0 and 1, whose clients and connections are the first on both
 //! (ICS 3, "Opening Handshake").
 
-use crate::{proof_of, send};
-use ibc_ids::{Bytes, Key, Refusal, nth_client, nth_connection};
+use crate::{proof_of, send, tell};
+use ibc_ids::{Bytes, Key, Refusal, Root, nth_client, nth_connection};
 use ibc_machine::Reply;
 use ibc_script_worlds::Ledgers;
 use ibc_wire::{ClientState, ConnOpenAck, ConnOpenConfirm, ConnOpenInit, ConnOpenTry, Message};
@@ -93,6 +93,19 @@ pub fn send_with(
 ) -> Result<Reply, Refusal> {
     let message = message_with(alloc, sent, claims)?;
     send(chains, sent.to(), message)
+}
+
+/// Ends a block of the chain that a message proves something of, tells the other chain of it, sends the message, and gives
+/// the block's root. Refused: `NoMemory`.
+pub fn take_turn(
+    alloc: Global,
+    chains: &mut Ledgers,
+    sent: ConnectionMessage,
+) -> Result<Root, Refusal> {
+    let root = tell(alloc, chains, sent.of(), sent.to())?;
+    let claims = true_claims(alloc, chains, sent, sent.height())?;
+    drop(send_with(alloc, chains, sent, claims)?);
+    Ok(root)
 }
 
 // The message with these claims.

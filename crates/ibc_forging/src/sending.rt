@@ -1,7 +1,7 @@
 //! Chains 0 and 1, their blocks and clients, and what they prove.
 
 use ibc_codec::encode;
-use ibc_ids::{Bytes, Key, Refusal, Root, nth_client};
+use ibc_ids::{Bytes, Denom, Key, Refusal, Root, UserName, nth_client};
 use ibc_machine::{ChainStart, Effect, Event, Genesis, Reply};
 use ibc_script_cli::{Chains, Worlds};
 use ibc_script_worlds::{Ledgers, NewWorlds};
@@ -10,11 +10,20 @@ use std::alloc::Global;
 
 /// Two chains at time 100 that nobody holds anything on; each may commit 16 heights. Refused: `NoMemory`.
 pub fn two_chains(alloc: Global) -> Result<Ledgers, Refusal> {
+    two_chains_with(alloc, Vec::new(alloc))
+}
+
+/// Two chains at time 100, of which chain 0 begins with these holdings; each may commit 16 heights. Refused: `BadMessage`
+/// where no chain begins so, and `NoMemory`.
+pub fn two_chains_with(
+    alloc: Global,
+    holdings: Vec<(UserName, Denom, u128)>,
+) -> Result<Ledgers, Refusal> {
     let mut chains = Vec::with_capacity(alloc, 2)?;
-    for _ in 0..2 {
+    for balances in [holdings, Vec::new(alloc)] {
         chains.push(ChainStart {
             time: 100,
-            balances: Vec::new(alloc),
+            balances,
         })?;
     }
     let genesis = Genesis {

@@ -1,8 +1,8 @@
 //! The messages of a channel between chains 0 and 1, whose clients, connections and channels are the first on both
 //! (ICS 4, "Opening handshake" and "Closing handshake").
 
-use ibc_forging::{proof_of, send};
-use ibc_ids::{Bytes, Key, Name, Refusal, nth_channel, nth_connection};
+use crate::{ConnectionMessage, begin, create_client, proof_of, send, take_turn, tell};
+use ibc_ids::{Bytes, Key, Name, Refusal, Root, nth_channel, nth_connection};
 use ibc_machine::Reply;
 use ibc_script_worlds::Ledgers;
 use ibc_wire::{
@@ -69,8 +69,8 @@ pub struct Names {
     pub version: &'static str,
 }
 
-/// What the honest messages name.
-pub const HONEST_NAMES: Names = Names {
+/// What the messages of a channel of notes name.
+pub const NOTE_NAMES: Names = Names {
     port: "note",
     order: Order::Ordered,
     connection: 0,
@@ -78,6 +78,17 @@ pub const HONEST_NAMES: Names = Names {
     peer_port: "note",
     peer_channel: 0,
     version: "note-1",
+};
+
+/// What the messages of a channel of tokens name.
+pub const TRANSFER_NAMES: Names = Names {
+    port: "transfer",
+    order: Order::Unordered,
+    connection: 0,
+    channel: 0,
+    peer_port: "transfer",
+    peer_channel: 0,
+    version: "ics20-1",
 };
 
 /// What a message claims: that the peer's end is shown by this proof at this height.
@@ -92,35 +103,71 @@ pub fn true_claim(
     alloc: Global,
     chains: &Ledgers,
     sent: ChannelMessage,
+    names: Names,
     height: u64,
 ) -> Result<Claim, Refusal> {
-    let port = Name::parse(alloc, HONEST_NAMES.peer_port)?;
-    let key = Key::ChannelEnd(port, nth_channel(alloc, HONEST_NAMES.peer_channel)?);
+    let port = Name::parse(alloc, names.peer_port)?;
+    let key = Key::ChannelEnd(port, nth_channel(alloc, names.peer_channel)?);
     let proof = proof_of(alloc, chains, sent.of(), height, &key)?;
     Ok(Claim { height, proof })
 }
 
 /// Begins the channel on chain 0. Refused: `NoMemory`.
-pub fn begin_channel(alloc: Global, chains: &mut Ledgers) -> Result<Reply, Refusal> {
+pub fn begin_channel(alloc: Global, chains: &mut Ledgers, names: Names) -> Result<Reply, Refusal> {
     let message = ChanOpenInit {
-        port: Name::parse(alloc, HONEST_NAMES.port)?,
-        order: HONEST_NAMES.order,
-        connection: nth_connection(alloc, HONEST_NAMES.connection)?,
-        peer_port: Name::parse(alloc, HONEST_NAMES.peer_port)?,
-        version: Name::parse(alloc, HONEST_NAMES.version)?,
+        port: Name::parse(alloc, names.port)?,
+        order: names.order,
+        connection: nth_connection(alloc, names.connection)?,
+        peer_port: Name::parse(alloc, names.peer_port)?,
+        version: Name::parse(alloc, names.version)?,
     };
     send(chains, 0, Message::ChanOpenInit(message))
 }
 
 /// Closes the channel on chain 0. Refused: `NoMemory`.
-pub fn close_channel(alloc: Global, chains: &mut Ledgers) -> Result<Reply, Refusal> {
-    let port = Name::parse(alloc, HONEST_NAMES.port)?;
-    let channel = nth_channel(alloc, HONEST_NAMES.channel)?;
+pub fn close_channel(alloc: Global, chains: &mut Ledgers, names: Names) -> Result<Reply, Refusal> {
+    let port = Name::parse(alloc, names.port)?;
+    let channel = nth_channel(alloc, names.channel)?;
     send(
         chains,
         0,
         Message::ChanCloseInit(ChanCloseInit { port, channel }),
     )
+}
+
+/// Makes a client of the other chain on both, and opens a connection over them. The channel is begun before the last
+/// message of the connection, so that one block shows both: its root. Refused: `NoMemory`.
+pub fn connect(alloc: Global, chains: &mut Ledgers, names: Names) -> Result<Root, Refusal> {
+    drop(create_client(chains, 0, 1)?);
+    drop(create_client(chains, 1, 0)?);
+    drop(begin(alloc, chains)?);
+    let _first = take_turn(alloc, chains, ConnectionMessage::Try)?;
+    let _second = take_turn(alloc, chains, ConnectionMessage::Ack)?;
+    drop(begin_channel(alloc, chains, names)?);
+    take_turn(alloc, chains, ConnectionMessage::Confirm)
+}
+
+/// Sends a message of a channel as it truly is. Refused: `NoMemory`.
+pub fn send_honest(
+    alloc: Global,
+    chains: &mut Ledgers,
+    sent: ChannelMessage,
+    names: Names,
+) -> Result<Reply, Refusal> {
+    let claim = true_claim(alloc, chains, sent, names, sent.height())?;
+    send_named(alloc, chains, sent, names, claim)
+}
+
+/// Opens a channel over a new connection of new clients. Chain 0 has committed 3 heights then and chain 1 has committed 2,
+/// and the client of each knows the last one of the other. Refused: `NoMemory`.
+pub fn open_channel(alloc: Global, chains: &mut Ledgers, names: Names) -> Result<(), Refusal> {
+    let _connected = connect(alloc, chains, names)?;
+    drop(send_honest(alloc, chains, ChannelMessage::OpenTry, names)?);
+    let _tried = tell(alloc, chains, 1, 0)?;
+    drop(send_honest(alloc, chains, ChannelMessage::OpenAck, names)?);
+    let _acknowledged = tell(alloc, chains, 0, 1)?;
+    drop(send_honest(alloc, chains, ChannelMessage::OpenConfirm, names)?);
+    Ok(())
 }
 
 /// Sends a message with these names and this claim. Refused: `NoMemory`.
