@@ -13,6 +13,3 @@ pub use evidence::{check_client, check_known, check_number, known_connection, re
 pub use peers::{Claim, check_claim, claim_peer, name_or_none};
 pub use proof_check::{check_absent, check_path, check_present, known_time, knows};
 pub use update_client::{Updated, update};
-
-#[cfg(test)]
-mod tests;

@@ -12,6 +12,3 @@ pub use opening_ack::open_ack;
 pub use opening_confirm::open_confirm;
 pub use opening_init::open_init;
 pub use opening_try::open_try;
-
-#[cfg(test)]
-mod tests;

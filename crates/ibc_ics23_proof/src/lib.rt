@@ -6,6 +6,3 @@ mod texts;
 mod verify;
 
 pub use verify::{verify_absent, verify_present};
-
-#[cfg(test)]
-mod tests;

@@ -7,6 +7,3 @@ mod sending;
 
 pub use notes::{Notes, is_note_port};
 pub use sending::send_note;
-
-#[cfg(test)]
-mod tests;

@@ -17,6 +17,3 @@ pub use receiving::recv;
 pub use sending::{check_timeouts, sending_end};
 pub use timing_out::timeout;
 pub use timing_out_on_close::timeout_on_close;
-
-#[cfg(test)]
-mod tests;

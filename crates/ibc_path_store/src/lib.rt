@@ -6,6 +6,3 @@ mod snapshot;
 mod store;
 
 pub use store::Store;
-
-#[cfg(test)]
-mod tests;

@@ -4,6 +4,3 @@
 mod sorted_map;
 
 pub use sorted_map::SortedMap;
-
-#[cfg(test)]
-mod tests;

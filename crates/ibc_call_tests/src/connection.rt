@@ -1,4 +1,6 @@
-use crate::{open_confirm, open_init};
+//! Connections that can't begin or go on.
+
+use ibc_connection::{open_confirm, open_init};
 use ibc_ids::{Bytes, ClientId, ConnectionId, Refusal};
 use ibc_records::{NextNumbers, Records};
 use ibc_wire::{ConnOpenConfirm, ConnOpenInit};

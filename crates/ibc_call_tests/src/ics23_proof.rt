@@ -4,7 +4,7 @@ ghost use Rattle.std.specs.Prelude.{◌≡◌, IfOk, IsTrue};
 ghost use Rattle.std.specs.FinMap.{is_sorted};
 ghost use Rattle.ibc_ids.specs.Texts.{text_cmp};
 
-use crate::{verify_absent, verify_present};
+use ibc_ics23_proof::{verify_absent, verify_present};
 use ibc_ids::{Bytes, Refusal};
 use ibc_merkle::{Absence, Entry, Presence, Proof, prove, root};
 use std::alloc::{AllocError, Global};

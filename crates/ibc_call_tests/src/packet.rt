@@ -1,68 +1,17 @@
 //! A packet that is received, and what is refused.
 
-ghost use Rattle.std.specs.Prelude.{codes, refl, Ok};
-ghost use Rattle.std.proofs.Common.{rules};
-
-use crate::{check_timeouts, has_size, recv, sending_end};
-use ibc_app_port::App;
+use crate::counter::Counter;
 use ibc_client::check_number;
 use ibc_codec::encode;
-use ibc_ids::{Bytes, ClientId, Name, Refusal, Version, nth_channel};
+use ibc_ids::{Bytes, ClientId, Name, Refusal, nth_channel};
 use ibc_merkle::{Entry, Proof, prove, root};
+use ibc_packet::{check_timeouts, has_size, recv, sending_end};
 use ibc_records::{Commitment, ConsensusState, Records, commitment_value};
 use ibc_wire::{
     ChannelEnd, ChannelState, ConnectionEnd, ConnectionState, Order, Packet, RecvPacket,
 };
 use std::alloc::Global;
 use std::test::Fail;
-
-// Takes packets over any channel, which is acknowledged by the digit 1, and keeps nothing.
-#[derive(Drop)]
-struct Listener {
-    alloc: Global,
-}
-
-impl App for Listener {
-    ghost opens = { λ order version. Ok tt };
-
-    ghost closes = { Ok tt };
-
-    ghost receives = { λ app version packet. (codes "1", app) };
-
-    ghost is_acknowledged = { λ app version packet ack. Ok app };
-
-    ghost times_out = { λ app version packet. Ok app };
-
-    fn on_open(&self, _order: Order, _version: &Version) -> Result<(), Refusal> {
-        Ok(())
-    }
-
-    fn on_close(&self) -> Result<(), Refusal> {
-        Ok(())
-    }
-
-    fn on_recv(&mut self, _version: &Version, _packet: &Packet) -> Result<Bytes, Refusal> {
-        Ok(Bytes::copy_of(self.alloc, b"1")?)
-    }
-
-    fn on_ack(&mut self, _version: &Version, _packet: &Packet, _ack: &[u8]) -> Result<(), Refusal> {
-        Ok(())
-    }
-
-    fn on_timeout(&mut self, _version: &Version, _packet: &Packet) -> Result<(), Refusal> {
-        Ok(())
-    }
-
-    ghost opens_or_refuses = { λ order version. Prim.search rules };
-
-    ghost closes_or_refuses = { Prim.search rules };
-
-    ghost writes_sized_acks = { λ app version packet. refl };
-
-    ghost is_acknowledged_or_poor = { λ app version packet ack. Prim.search rules };
-
-    ghost times_out_or_poor = { λ app version packet. Prim.search rules };
-}
 
 // A packet to `channel-0` of port `listen`, which is late at height 2.
 fn packet(alloc: Global) -> Result<Packet, Refusal> {
@@ -146,7 +95,7 @@ fn told(answer: Result<(Bytes, Bytes), Refusal>) -> Result<bool, Refusal> {
 // What is answered to the packet, and then to it again.
 fn received(alloc: Global) -> Result<[Result<bool, Refusal>; 2], Refusal> {
     let (mut records, proof) = opened(alloc, ChannelState::Open)?;
-    let mut app = Listener { alloc };
+    let mut app = Counter::new(alloc);
     let message = RecvPacket {
         packet: packet(alloc)?,
         height: 3,
@@ -170,7 +119,7 @@ fn packets_are_received_once(rt: HostRuntime) -> Result<(), Fail> {
 fn received_late(alloc: Global) -> Result<Result<bool, Refusal>, Refusal> {
     let (mut records, proof) = opened(alloc, ChannelState::Open)?;
     records.commit(101)?;
-    let mut app = Listener { alloc };
+    let mut app = Counter::new(alloc);
     let message = RecvPacket {
         packet: packet(alloc)?,
         height: 3,

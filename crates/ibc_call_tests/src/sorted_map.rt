@@ -5,8 +5,8 @@ ghost use Rattle.std.specs.Ordering.{nat_cmp};
 ghost use Rattle.ibc_ids.specs.Texts.{pair_cmp};
 ghost use Rattle.ibc_ids.specs.Maps.{at, with};
 
-use crate::SortedMap;
 use ibc_ids::{Denom, UserName};
+use ibc_sorted_map::SortedMap;
 use std::alloc::AllocError;
 use std::test::Fail;
 

@@ -1,8 +1,8 @@
 //! Each callback once.
 
-use crate::{Notes, is_note_port};
 use ibc_app_port::App;
 use ibc_ids::{Bytes, ChannelId, Name, PortId, Refusal, Version};
+use ibc_note::{Notes, is_note_port};
 use ibc_wire::{Order, Packet};
 use std::alloc::Global;
 use std::test::Fail;

@@ -2,8 +2,8 @@
 
 ghost use Rattle.std.specs.Prelude.{◌<◌, length, IfOk};
 
-use crate::Store;
 use ibc_ids::{Bytes, Key, Refusal};
+use ibc_path_store::Store;
 use std::alloc::Global;
 use std::test::Fail;
 

@@ -1,6 +1,8 @@
+//! Clients that are made, told of heights and asked for proofs.
+
 ghost use Rattle.std.specs.Prelude.{◌≡◌, Some};
 
-use crate::{check_absent, check_present, create, knows, update};
+use ibc_client::{check_absent, check_present, create, knows, update};
 use ibc_ids::{Bytes, ClientId, Key, Refusal, Root};
 use ibc_machine::Reading;
 use ibc_merkle::{Entry, Proof, prove, root};

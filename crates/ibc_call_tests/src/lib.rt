@@ -1,0 +1,29 @@
+//! Public calls of libraries, with ample memory: each answer is compared. Tests alone.
+#![tactic(auto)]
+
+#[cfg(test)]
+mod bank;
+#[cfg(test)]
+mod channel;
+#[cfg(test)]
+mod client;
+#[cfg(test)]
+mod connection;
+#[cfg(test)]
+mod counter;
+#[cfg(test)]
+mod ics23_proof;
+#[cfg(test)]
+mod note;
+#[cfg(test)]
+mod packet;
+#[cfg(test)]
+mod path_store;
+#[cfg(test)]
+mod records;
+#[cfg(test)]
+mod sorted_map;
+#[cfg(test)]
+mod token_data;
+#[cfg(test)]
+mod transfer;
