@@ -1,6 +1,5 @@
 -- The moves of tokens that came do what the application says.
 use Rattle.std.proofs.Common.{codes, ◌≡◌, ◌+◌, ◌<◌, ℕ, Bool, true, false, cond, refl, ap, sym, subst, ◌∙◌, List, [], ◌∷◌, ◌++◌, length, drop, get_or, Option, Some, None, Ok, Err, option_map, append_assoc}
-use Rattle.std.specs.Prelude.{Result}
 use Rattle.std.specs.Option.{option_and_then}
 use Rattle.std.proofs.Math.Seq.{drop-append_seam}
 use Rattle.std.proofs.lemmas.Bool.Decides.{Decides-eqb}

@@ -1,13 +1,12 @@
 -- The moves of a packet's tokens once it is settled do what the application says.
-use Rattle.std.proofs.Common.{◌≡◌, Bool, true, false, cond, refl, ap, ◌∙◌, List, [], ◌∷◌, Option, Some, None, Ok}
+use Rattle.std.proofs.Common.{◌≡◌, Bool, true, false, cond, refl, List, [], ◌∷◌, Option, Some, None, Ok}
 use Rattle.ibc_ids.specs.Texts.{Text, same_text}
 use Rattle.ibc_wire.specs.declared.packet.Packet.{Packet}
 use Rattle.ibc_wire.specs.declared.token.Token.{Token}
-use Rattle.ibc_machine.specs.Checks.{Checked, go_on}
+use Rattle.ibc_machine.specs.Checks.{go_on}
 use Rattle.ibc_machine.specs.TokenData.{Data, data_of, success}
 use Rattle.ibc_machine.specs.Transfers.{transfer_port, came_over}
 use Rattle.ibc_bank.specs.Moves.{BankState, settled, moved_all}
-use Rattle.ibc_bank.specs.declared.moves.Move.{Move}
 use Rattle.ibc_bank.specs.declared.moves.Move.TheVariants as move
 use Rattle.ibc_transfer.specs.Banked.{settle_tokens, bank_settles, bank_refunds, bank_times_out, bank_acknowledged}
 use Rattle.ibc_transfer.specs.Returning.{refunds_of, refunds, settle_moves, settlements_of, settlements, acknowledged}

@@ -1,7 +1,5 @@
 -- What is behind the hop comes home.
-use Rattle.std.proofs.Common.{sym, ap, ◌∙◌, Some}
-use Rattle.ibc_ids.specs.Texts.{Text}
-use Rattle.ibc_bank.specs.declared.moves.Move.TheVariants as move
+use Rattle.std.proofs.Common.{sym}
 use Rattle.ibc_transfer.proofs.Receiving.{comes_home}
 use Rattle.ibc_transfer.proofs.arriving.receive_move.Goals as goal
 

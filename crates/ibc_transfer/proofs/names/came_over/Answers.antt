@@ -1,5 +1,5 @@
 -- What is behind a hop came over its channel.
-use Rattle.std.proofs.Common.{◌≡◌, ap, sym, ◌∙◌, Bool, true, false, Option, Some, None, is_some, refl, ◌++◌}
+use Rattle.std.proofs.Common.{◌≡◌, ap, sym, ◌∙◌, false, Option, Some, None, is_some, ◌++◌}
 use Rattle.std.specs.Prelude.{MatchOption}
 use Rattle.ibc_ids.specs.Texts.{Text}
 use Rattle.ibc_ids.specs.Names.{hop, came_over}
