@@ -3,6 +3,7 @@ pub mod Same
 pub mod Varints
 pub mod Digests
 pub mod Trees
+pub mod Kept
 pub mod Sorted
 pub mod Edits
 pub mod Places

@@ -4,6 +4,7 @@
 mod entry;
 mod hashing;
 mod laws;
+mod merkle_tree;
 mod proof;
 mod search;
 mod tree;
@@ -12,6 +13,7 @@ mod writing;
 pub use entry::Entry;
 pub use hashing::{hash_inner, hash_leaf, hash_value};
 pub use laws::{accepted_is_written, written_is_accepted};
+pub use merkle_tree::MerkleTree;
 pub use proof::{Absence, Operation, Operations, Presence, Proof};
 pub use search::place;
 pub use tree::root;

@@ -1,12 +1,14 @@
-//! The tree over pairs, and its root (RFC 6962, section 2.1).
+//! The tree over pairs, its root and its digests (RFC 6962, section 2.1).
 
-ghost use Rattle.std.specs.Prelude.{◌≡◌, ◌<◌, length};
+ghost use Rattle.std.specs.Prelude.{◌≡◌, ◌<◌, ◌∷◌, ◌++◌, [], length, IfOk, OnOk};
 ghost use Rattle.ibc_merkle.specs.Hash.{hash, leaf_text, leaf_mark};
 ghost use Rattle.ibc_merkle.specs.Tree.{largest_power_below, tree_root};
+ghost use Rattle.ibc_merkle.specs.Kept.{digests_of};
 
 use crate::entry::Entry;
 use crate::hashing::{hash_inner, hash_leaf, hash_value};
 use ibc_ids::Root;
+use std::alloc::{AllocError, Global};
 
 /// The root of the tree over pairs, of which there is one at least (ICS 23, "CommitmentRoot"). It is meant for pairs
 /// whose keys strictly rise in byte order, since only these have proofs. It takes no memory.
@@ -48,4 +50,40 @@ pub(crate) fn tree_root_of(entries: &[Entry]) -> [u8; 32]
     }
     let (left, right) = entries.split_at(split_of(entries.len()));
     hash_inner(&tree_root_of(left), &tree_root_of(right))
+}
+
+// The digests of the tree over the pairs.
+pub(crate) fn digests_of(alloc: Global, entries: &[Entry]) -> Result<Vec<[u8; 32]>, AllocError>
+    ensures { IfOk result (λ digests. digests.items ≡ digests_of entries.now) }
+{
+    if entries.is_empty() {
+        return Ok(Vec::new(alloc));
+    }
+    let mut digests = Vec::with_capacity(alloc, entries.len().saturating_mul(2))?;
+    add_digests(&mut digests, entries)?;
+    Ok(digests)
+}
+
+// Adds the digests of the tree over the pairs. The last of them, which is the root, is answered.
+fn add_digests(digests: &mut Vec<[u8; 32]>, entries: &[Entry]) -> Result<[u8; 32], AllocError>
+    requires { 0 < length entries.now }
+    ensures root { IfOk result (λ digest. digest ≡ tree_root entries.now) }
+    ensures added { OnOk result (digests.new.items ≡ digests.old.items ++ digests_of entries.now) }
+{
+    if entries.len() == 1 {
+        return add_digest(digests, leaf_hash(&entries[0]));
+    }
+    let (left, right) = entries.split_at(split_of(entries.len()));
+    let left = add_digests(digests, left)?;
+    let right = add_digests(digests, right)?;
+    add_digest(digests, hash_inner(&left, &right))
+}
+
+// Adds a digest, and answers it.
+fn add_digest(digests: &mut Vec<[u8; 32]>, digest: [u8; 32]) -> Result<[u8; 32], AllocError>
+    ensures same { IfOk result (λ added. added ≡ digest) }
+    ensures added { OnOk result (digests.new.items ≡ digests.old.items ++ digest ∷ []) }
+{
+    digests.push(digest)?;
+    Ok(digest)
 }

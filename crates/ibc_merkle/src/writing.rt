@@ -7,26 +7,43 @@ ghost use Rattle.ibc_ids.specs.Texts.{text_cmp};
 ghost use Rattle.ibc_ids.specs.Maps.{at};
 ghost use Rattle.ibc_ids.specs.declared.refusal.Refusal.TheVariants.{NoMemory};
 ghost use Rattle.ibc_merkle.specs.Tree.{tree};
+ghost use Rattle.ibc_merkle.specs.Kept.{digests_of};
 ghost use Rattle.ibc_merkle.specs.Written.{operations_to, left_child, right_child, presence_of, written};
 ghost use Rattle.ibc_merkle.specs.Places.{key_at, pair_before};
 
 use crate::entry::Entry;
 use crate::proof::{Absence, Operation, Operations, Presence, Proof};
 use crate::search::place;
-use crate::tree::{split_of, tree_root_of};
+use crate::tree::{digests_of, split_of};
 use ibc_ids::{Bytes, Refusal};
 use std::alloc::{AllocError, Global};
 
 /// The proof of what pairs have at a key: of its presence where it is among them, and of its absence where not. The
-/// keys strictly rise in byte order. `NoMemory` where a growth is refused.
+/// keys strictly rise in byte order. `NoMemory` where a growth is refused. All pairs are hashed: whoever asks for more
+/// than one proof keeps a `MerkleTree`.
 pub fn prove(alloc: Global, entries: &[Entry], key: &[u8]) -> Result<Proof, Refusal>
     requires { IsTrue (is_sorted text_cmp entries.now) }
     ensures ok { IfOk result (λ proof. proof ≡ written entries.now key.now) }
     ensures err { IfErr result (λ refusal. refusal ≡ NoMemory) }
 {
+    let digests = digests_of(alloc, entries)?;
+    Ok(prove_by(alloc, entries, digests.as_slice(), key)?)
+}
+
+// The proof of what pairs have at a key, by the digests of their tree.
+pub(crate) fn prove_by(
+    alloc: Global,
+    entries: &[Entry],
+    digests: &[[u8; 32]],
+    key: &[u8],
+) -> Result<Proof, AllocError>
+    requires sorted { IsTrue (is_sorted text_cmp entries.now) }
+    requires digests { digests.now ≡ digests_of entries.now }
+    ensures { IfOk result (λ proof. proof ≡ written entries.now key.now) }
+{
     match place(entries, key) {
-        Ok(index) => Ok(Proof::Present(presence_at(alloc, entries, index)?)),
-        Err(index) => Ok(Proof::Absent(absence_at(alloc, entries, index, key)?)),
+        Ok(index) => Ok(Proof::Present(presence_at(alloc, entries, digests, index)?)),
+        Err(index) => Ok(Proof::Absent(absence_at(alloc, entries, digests, index, key)?)),
     }
 }
 
@@ -53,14 +70,20 @@ pub fn prove_absent(alloc: Global, entries: &[Entry], key: &[u8]) -> Result<Proo
 }
 
 // The proof that the key at the index has its value.
-fn presence_at(alloc: Global, entries: &[Entry], index: usize) -> Result<Presence, AllocError>
+fn presence_at(
+    alloc: Global,
+    entries: &[Entry],
+    digests: &[[u8; 32]],
+    index: usize,
+) -> Result<Presence, AllocError>
     requires sorted { IsTrue (is_sorted text_cmp entries.now) }
+    requires digests { digests.now ≡ digests_of entries.now }
     requires there { index < length entries.now }
     ensures { IfOk result (λ presence. presence_of entries.now (slice_get entries.now index) ≡ Some presence) }
 {
     let entry = &entries[index];
     let mut operations = Vec::new(alloc);
-    add_operations(alloc, &mut operations, entries, index)?;
+    add_operations(alloc, &mut operations, entries, digests, index)?;
     Ok(Presence {
         key: Bytes::copy_of(alloc, entry.key())?,
         value: Bytes::copy_of(alloc, entry.value())?,
@@ -74,9 +97,11 @@ fn add_operations(
     alloc: Global,
     operations: &mut Vec<Operation>,
     entries: &[Entry],
+    digests: &[[u8; 32]],
     index: usize,
 ) -> Result<(), AllocError>
     requires sorted { IsTrue (is_sorted text_cmp entries.now) }
+    requires digests { digests.now ≡ digests_of entries.now }
     requires there { index < length entries.now }
     ensures { IfOk result (λ _. IsSomeAnd (operations_to (key_at entries.now index) (tree entries.now)) (λ added. operations.new.items ≡ operations.old.items ++ added)) }
 {
@@ -85,12 +110,14 @@ fn add_operations(
     }
     let split = split_of(entries.len());
     let (left, right) = entries.split_at(split);
+    let (left_digests, rest) = digests.split_at(2 * split - 1);
+    let right_digests = &rest[..rest.len() - 1];
     if index < split {
-        add_operations(alloc, operations, left, index)?;
-        operations.push(on_left_child(alloc, &tree_root_of(right))?)?;
+        add_operations(alloc, operations, left, left_digests, index)?;
+        operations.push(on_left_child(alloc, &right_digests[right_digests.len() - 1])?)?;
     } else {
-        add_operations(alloc, operations, right, index - split)?;
-        operations.push(on_right_child(alloc, &tree_root_of(left))?)?;
+        add_operations(alloc, operations, right, right_digests, index - split)?;
+        operations.push(on_right_child(alloc, &left_digests[left_digests.len() - 1])?)?;
     }
     Ok(())
 }
@@ -122,10 +149,12 @@ fn on_right_child(alloc: Global, sibling: &[u8; 32]) -> Result<Operation, AllocE
 fn absence_at(
     alloc: Global,
     entries: &[Entry],
+    digests: &[[u8; 32]],
     index: usize,
     key: &[u8],
 ) -> Result<Absence, AllocError>
     requires sorted { IsTrue (is_sorted text_cmp entries.now) }
+    requires digests { digests.now ≡ digests_of entries.now }
     requires within { index ≤ length entries.now }
     ensures key { IfOk result (λ absence. absence.key ≡ key.now) }
     ensures left { IfOk result (λ absence. absence.left ≡ presence_of entries.now (pair_before entries.now index)) }
@@ -133,8 +162,8 @@ fn absence_at(
 {
     Ok(Absence {
         key: Bytes::copy_of(alloc, key)?,
-        left: left_neighbour(alloc, entries, index)?,
-        right: right_neighbour(alloc, entries, index)?,
+        left: left_neighbour(alloc, entries, digests, index)?,
+        right: right_neighbour(alloc, entries, digests, index)?,
     })
 }
 
@@ -142,14 +171,16 @@ fn absence_at(
 fn left_neighbour(
     alloc: Global,
     entries: &[Entry],
+    digests: &[[u8; 32]],
     index: usize,
 ) -> Result<Option<Presence>, AllocError>
     requires sorted { IsTrue (is_sorted text_cmp entries.now) }
+    requires digests { digests.now ≡ digests_of entries.now }
     requires within { index ≤ length entries.now }
     ensures { IfOk result (λ presence. presence ≡ presence_of entries.now (pair_before entries.now index)) }
 {
     match index.checked_sub(1) {
-        Some(before) => Ok(Some(presence_at(alloc, entries, before)?)),
+        Some(before) => Ok(Some(presence_at(alloc, entries, digests, before)?)),
         None => Ok(None),
     }
 }
@@ -158,13 +189,15 @@ fn left_neighbour(
 fn right_neighbour(
     alloc: Global,
     entries: &[Entry],
+    digests: &[[u8; 32]],
     index: usize,
 ) -> Result<Option<Presence>, AllocError>
-    requires { IsTrue (is_sorted text_cmp entries.now) }
+    requires sorted { IsTrue (is_sorted text_cmp entries.now) }
+    requires digests { digests.now ≡ digests_of entries.now }
     ensures { IfOk result (λ presence. presence ≡ presence_of entries.now (slice_get entries.now index)) }
 {
     if index < entries.len() {
-        Ok(Some(presence_at(alloc, entries, index)?))
+        Ok(Some(presence_at(alloc, entries, digests, index)?))
     } else {
         Ok(None)
     }

@@ -9,7 +9,7 @@ ghost use Rattle.ibc_ids.specs.Texts.{text_cmp};
 ghost use Rattle.ibc_ids.specs.Maps.{at, with, without};
 
 use ibc_ids::Bytes;
-use ibc_merkle::{Entry, place};
+use ibc_merkle::{Entry, MerkleTree, place};
 use std::alloc::{AllocError, Global};
 use std::marker::Model;
 
@@ -51,14 +51,6 @@ impl PathMap {
         self.entries.reserve(paths)
     }
 
-    /// The pairs, in the order of their paths.
-    pub fn entries(&self) -> &[Entry]
-        ensures pairs { result.now ≡ self.now.pairs }
-        ensures sorted { IsTrue (is_sorted text_cmp self.now.pairs) }
-    {
-        self.entries.as_slice()
-    }
-
     /// Sets the value of a path. With room it is not refused, and a refusal leaves the pairs.
     pub fn set(&mut self, path: String, value: Bytes) -> Result<(), AllocError>
         ensures ok { OnOk result (self.new.pairs ≡ with text_cmp (string_bytes path) value self.old.pairs) }
@@ -96,13 +88,11 @@ impl PathMap {
         }
     }
 
-    /// A copy of the pairs.
-    pub fn copy(&self) -> Result<PathMap, AllocError>
-        ensures { IfOk result (λ copy. copy.pairs ≡ self.now.pairs) }
+    /// The tree over a copy of the pairs.
+    pub fn tree(&self) -> Result<MerkleTree, AllocError>
+        ensures { IfOk result (λ tree. tree ≡ self.now.pairs) }
     {
-        Ok(PathMap {
-            entries: self.entries.clone()?,
-        })
+        MerkleTree::of(*self.entries.allocator(), self.entries.clone()?)
     }
 
     // Where a path stands, or where it would stand.
@@ -112,6 +102,6 @@ impl PathMap {
         ensures within { IfErr result (λ index. index ≤ length self.now.pairs) }
         ensures gap { IfErr result (IsPartitionPoint (λ entry. text_cmp entry.0 path.now ≡ Less) (λ entry. text_cmp entry.0 path.now ≡ Greater) self.now.pairs) }
     {
-        place(self.entries(), path)
+        place(self.entries.as_slice(), path)
     }
 }

@@ -1,17 +1,14 @@
 //! What a store keeps of a committed height.
 
-ghost use Rattle.std.specs.Prelude.{◌≡◌, IsTrue};
-ghost use Rattle.std.specs.FinMap.{is_sorted};
-ghost use Rattle.ibc_ids.specs.Texts.{text_cmp};
+ghost use Rattle.std.specs.Prelude.{◌≡◌};
 
-use crate::path_map::PathMap;
-use ibc_merkle::Entry;
+use ibc_merkle::MerkleTree;
 use std::marker::Model;
 
-/// The map and the time of a committed height.
+/// The tree and the time of a committed height.
 #[derive(Drop, Debug)]
 pub struct Snapshot {
-    map: PathMap,
+    tree: MerkleTree,
     time: u64,
 }
 
@@ -21,22 +18,21 @@ impl Model for Snapshot {
 
     ghost Value = { Pairs × ℕ };
 
-    ghost view = { λ snapshot. (snapshot.map.pairs, snapshot.time) };
+    ghost view = { λ snapshot. (snapshot.tree, snapshot.time) };
 }
 
 impl Snapshot {
-    /// What is kept of a height with this map and this time.
-    pub fn new(map: PathMap, time: u64) -> Snapshot
-        ensures { result ≡ (map.pairs, time) }
+    /// What is kept of a height with this tree and this time.
+    pub fn new(tree: MerkleTree, time: u64) -> Snapshot
+        ensures { result ≡ (tree, time) }
     {
-        Snapshot { map, time }
+        Snapshot { tree, time }
     }
 
-    /// The pairs of the map, in the order of their paths.
-    pub fn entries(&self) -> &[Entry]
-        ensures pairs { result.now ≡ self.now.0 }
-        ensures sorted { IsTrue (is_sorted text_cmp self.now.0) }
+    /// The tree over the pairs of the height.
+    pub fn tree(&self) -> &MerkleTree
+        ensures { result.now ≡ self.now.0 }
     {
-        self.map.entries()
+        &self.tree
     }
 }

@@ -13,7 +13,7 @@ ghost use Rattle.ibc_path_store.specs.Held.{committed, height_of, kept_at};
 use crate::path_map::PathMap;
 use crate::snapshot::Snapshot;
 use ibc_ids::{Bytes, Key, Refusal, Root};
-use ibc_merkle::{Proof, prove, root};
+use ibc_merkle::Proof;
 use std::alloc::Global;
 use std::collections::VecDeque;
 use std::marker::Model;
@@ -133,10 +133,10 @@ impl Store {
         if next_time < self.time {
             return Err(Refusal::TimeBack);
         }
-        let snapshot = Snapshot::new(self.map.copy()?, self.time);
+        let tree = self.map.tree()?;
         self.kept.reserve(1)?;
-        let root = root(self.map.entries());
-        self.kept.push_back_reserved(snapshot);
+        let root = tree.root();
+        self.kept.push_back_reserved(Snapshot::new(tree, self.time));
         self.time = next_time;
         if self.kept.len() as u64 > self.window {
             self.kept.pop_front();
@@ -157,7 +157,7 @@ impl Store {
             Some(snapshot) => {
                 let alloc = *self.kept.allocator();
                 let path = key.path(alloc)?;
-                prove(alloc, snapshot.entries(), path.as_bytes())
+                snapshot.tree().prove(alloc, path.as_bytes())
             }
             None => Err(Refusal::NoConsensus),
         }

@@ -1,13 +1,14 @@
 //! The hashes of a tree, and the tree over the counters of a new chain.
 
-ghost use Rattle.std.specs.Prelude.{◌≡◌, codes, IfOk, IsNone, IsSome, IsTrue};
+ghost use Rattle.std.specs.Prelude.{◌≡◌, ◌<◌, codes, length, IfOk, IsNone, IsSome, IsTrue};
 ghost use Rattle.std.specs.FinMap.{is_sorted};
 ghost use Rattle.ibc_ids.specs.Maps.{at};
 ghost use Rattle.ibc_ids.specs.Texts.{text_cmp};
 
 use ibc_ids::{Bytes, Refusal};
 use ibc_merkle::{
-    Entry, Proof, hash_inner, hash_leaf, hash_value, place, prove_absent, prove_present, root,
+    Entry, MerkleTree, Proof, hash_inner, hash_leaf, hash_value, place, prove_absent,
+    prove_present, root,
 };
 use std::alloc::{AllocError, Global};
 
@@ -122,4 +123,31 @@ fn absence(alloc: Global) -> Result<Proof, Refusal> {
 fn proofs_of_both_kinds(rt: HostRuntime) {
     assert!(rt; matches!(presence(rt.alloc()), Ok(Proof::Present(_))));
     assert!(rt; matches!(absence(rt.alloc()), Ok(Proof::Absent(_))));
+}
+
+// The tree of a new chain, with its digests.
+fn new_tree(alloc: Global) -> Result<MerkleTree, AllocError>
+    ensures { IfOk result (λ tree. 0 < length tree) }
+{
+    let channels = counter(alloc, "nextChannelSequence")?;
+    let clients = counter(alloc, "nextClientSequence")?;
+    let connections = counter(alloc, "nextConnectionSequence")?;
+    MerkleTree::of(alloc, vec![in alloc; channels, clients, connections]?)
+}
+
+// Whether that tree proves of a key what is proved from the pairs.
+fn proves(alloc: Global, key: &[u8], proof: Result<Proof, Refusal>) -> Result<bool, Refusal> {
+    Ok(new_tree(alloc)?.prove(alloc, key)? == proof?)
+}
+
+#[test]
+fn a_tree_that_keeps_its_digests(rt: HostRuntime) {
+    let alloc = rt.alloc();
+    assert!(rt;
+        matches!(new_tree(alloc), Ok(tree) if is_hex(alloc, tree.root().bytes().as_slice(), GENESIS_ROOT))
+    );
+    let clients = b"nextClientSequence".as_slice();
+    assert!(rt; matches!(proves(alloc, clients, presence(alloc)), Ok(true)));
+    let client = b"nextClient".as_slice();
+    assert!(rt; matches!(proves(alloc, client, absence(alloc)), Ok(true)));
 }
