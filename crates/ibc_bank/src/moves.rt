@@ -11,7 +11,7 @@ pub enum Source {
 }
 
 /// One move of tokens in a bank (ICS 20).
-#[derive(Clone, Drop, Debug, PartialEq, Eq)]
+#[derive(Drop, Debug, PartialEq, Eq)]
 pub enum Move {
     /// From a user to the escrow of a channel.
     Escrow {

@@ -5,27 +5,27 @@ use ibc_ids::{
 };
 
 /// Makes a client of another chain, by its number (ICS 2, "createClient").
-#[derive(Clone, Drop, Debug, PartialEq, Eq)]
+#[derive(Drop, Debug, PartialEq, Eq)]
 pub struct CreateClient {
     pub chain: u8,
 }
 
 /// Tells a client of a height of the chain that it tracks (ICS 2, "updateClient").
-#[derive(Clone, Drop, Debug, PartialEq, Eq)]
+#[derive(Drop, Debug, PartialEq, Eq)]
 pub struct UpdateClient {
     pub client: ClientId,
     pub header: Header,
 }
 
 /// Begins a connection (ICS 3, "ConnOpenInit").
-#[derive(Clone, Drop, Debug, PartialEq, Eq)]
+#[derive(Drop, Debug, PartialEq, Eq)]
 pub struct ConnOpenInit {
     pub client: ClientId,
     pub peer_client: ClientId,
 }
 
 /// Answers a connection that the peer began (ICS 3, "ConnOpenTry"). The claim is the state of the peer's client.
-#[derive(Clone, Drop, Debug, PartialEq, Eq)]
+#[derive(Drop, Debug, PartialEq, Eq)]
 pub struct ConnOpenTry {
     pub client: ClientId,
     pub peer_client: ClientId,
@@ -37,7 +37,7 @@ pub struct ConnOpenTry {
 }
 
 /// Opens a connection that the peer answered (ICS 3, "ConnOpenAck").
-#[derive(Clone, Drop, Debug, PartialEq, Eq)]
+#[derive(Drop, Debug, PartialEq, Eq)]
 pub struct ConnOpenAck {
     pub connection: ConnectionId,
     pub peer_connection: ConnectionId,
@@ -48,7 +48,7 @@ pub struct ConnOpenAck {
 }
 
 /// Opens a connection that the peer opened (ICS 3, "ConnOpenConfirm").
-#[derive(Clone, Drop, Debug, PartialEq, Eq)]
+#[derive(Drop, Debug, PartialEq, Eq)]
 pub struct ConnOpenConfirm {
     pub connection: ConnectionId,
     pub height: u64,
@@ -66,7 +66,7 @@ pub struct ChanOpenInit {
 }
 
 /// Answers a channel that the peer began (ICS 4, "chanOpenTry").
-#[derive(Clone, Drop, Debug, PartialEq, Eq)]
+#[derive(Drop, Debug, PartialEq, Eq)]
 pub struct ChanOpenTry {
     pub port: PortId,
     pub order: Order,
@@ -79,7 +79,7 @@ pub struct ChanOpenTry {
 }
 
 /// Opens a channel that the peer answered (ICS 4, "chanOpenAck").
-#[derive(Clone, Drop, Debug, PartialEq, Eq)]
+#[derive(Drop, Debug, PartialEq, Eq)]
 pub struct ChanOpenAck {
     pub port: PortId,
     pub channel: ChannelId,
@@ -89,7 +89,7 @@ pub struct ChanOpenAck {
 }
 
 /// Opens a channel that the peer opened (ICS 4, "chanOpenConfirm").
-#[derive(Clone, Drop, Debug, PartialEq, Eq)]
+#[derive(Drop, Debug, PartialEq, Eq)]
 pub struct ChanOpenConfirm {
     pub port: PortId,
     pub channel: ChannelId,
@@ -105,7 +105,7 @@ pub struct ChanCloseInit {
 }
 
 /// Closes a channel that the peer closed (ICS 4, "chanCloseConfirm").
-#[derive(Clone, Drop, Debug, PartialEq, Eq)]
+#[derive(Drop, Debug, PartialEq, Eq)]
 pub struct ChanCloseConfirm {
     pub port: PortId,
     pub channel: ChannelId,
@@ -148,7 +148,7 @@ pub struct SendNote {
 }
 
 /// Receives a packet that the peer sent (ICS 4, "recvPacket").
-#[derive(Clone, Drop, Debug, PartialEq, Eq)]
+#[derive(Drop, Debug, PartialEq, Eq)]
 pub struct RecvPacket {
     pub packet: Packet,
     pub height: u64,
@@ -156,7 +156,7 @@ pub struct RecvPacket {
 }
 
 /// Tells the sender how the peer acknowledged its packet (ICS 4, "acknowledgePacket").
-#[derive(Clone, Drop, Debug, PartialEq, Eq)]
+#[derive(Drop, Debug, PartialEq, Eq)]
 pub struct AckPacket {
     pub packet: Packet,
     pub ack: Bytes,
@@ -166,7 +166,7 @@ pub struct AckPacket {
 
 /// Tells the sender that the peer hasn't received its packet in time (ICS 4, "timeoutPacket"). On an ordered
 /// channel `next_recv` is the sequence that the peer receives next; on an unordered one it is ignored.
-#[derive(Clone, Drop, Debug, PartialEq, Eq)]
+#[derive(Drop, Debug, PartialEq, Eq)]
 pub struct Timeout {
     pub packet: Packet,
     pub next_recv: u64,
@@ -176,7 +176,7 @@ pub struct Timeout {
 
 /// Tells the sender that the peer hasn't received its packet, and that the peer's end is closed (ICS 4,
 /// "timeoutOnClose").
-#[derive(Clone, Drop, Debug, PartialEq, Eq)]
+#[derive(Drop, Debug, PartialEq, Eq)]
 pub struct TimeoutOnClose {
     pub packet: Packet,
     pub next_recv: u64,
@@ -186,7 +186,7 @@ pub struct TimeoutOnClose {
 }
 
 /// A message. Each of its refusals has a number and leaves the state as before.
-#[derive(Clone, Drop, Debug, PartialEq, Eq)]
+#[derive(Drop, Debug, PartialEq, Eq)]
 pub enum Message {
     CreateClient(CreateClient),
     UpdateClient(UpdateClient),
