@@ -1,12 +1,11 @@
-//! Opens a channel and closes it, and sends forged messages before each honest one, which is sent twice: prints how often
-//! each refusal was the answer, and whether the blocks are those of a world that is sent the honest messages alone.
-#![tactic(auto)]
+//! A channel that is opened and closed, with forged messages before each honest one, which is sent twice: how often each
+//! refusal was the answer, and whether the blocks are those of a world that is sent the honest messages alone.
 
 mod forgery;
 mod report;
 
-use crate::forgery::{ALL_FORGERIES, Forgery};
-use crate::report::{Answered, Report};
+use crate::channels::forgery::{ALL_FORGERIES, Forgery};
+use crate::channels::report::{Answered, Report};
 use ibc_forging::{
     ChannelMessage, NOTE_NAMES, close_channel, connect, end_block, send_honest, tell, two_chains,
 };
@@ -15,7 +14,7 @@ use ibc_machine::Reply;
 use ibc_script_worlds::Ledgers;
 use std::alloc::Global;
 use std::io;
-use std::io::{BufWriter, Write};
+use std::io::Write;
 
 // Sends the forgeries of a message, and then twice the message.
 fn send_all(
@@ -94,7 +93,7 @@ fn report_of(alloc: Global, forgeries: &[Forgery]) -> Result<Report, Refusal> {
 }
 
 // Prints what a world answered that was sent forged messages, and how its roots are beside those of another world.
-fn print<W: Write>(output: &mut W, attacked: &Report, spared: &Report) -> io::Result<()> {
+fn print_both<W: Write>(output: &mut W, attacked: &Report, spared: &Report) -> io::Result<()> {
     attacked.print(output)?;
     let word = if attacked.roots == spared.roots {
         "the same"
@@ -115,12 +114,10 @@ fn both_reports(alloc: Global) -> Result<(Report, Report), Refusal> {
     Ok((attacked, spared))
 }
 
-fn main(rt: HostRuntime) -> io::Result<()> {
-    let alloc = rt.alloc();
-    let mut output = BufWriter::new(alloc, io::writer(&rt))?;
+/// Prints what is answered to the messages of a channel, forged ones and honest ones.
+pub fn print<W: Write>(alloc: Global, output: &mut W) -> io::Result<()> {
     match both_reports(alloc) {
-        Ok((attacked, spared)) => print(&mut output, &attacked, &spared)?,
-        Err(refusal) => writeln!(&mut output, "{refusal}")?,
+        Ok((attacked, spared)) => print_both(output, &attacked, &spared),
+        Err(refusal) => writeln!(output, "{refusal}"),
     }
-    output.flush()
 }

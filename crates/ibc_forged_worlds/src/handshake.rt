@@ -1,5 +1,4 @@
-//! Sends forged messages of a handshake before each honest one, and prints how often each refusal was the answer.
-#![tactic(auto)]
+//! Forged messages of a handshake before each honest one: how often each refusal was the answer.
 
 use ibc_forgeries::{Counts, forgeries};
 use ibc_forging::{
@@ -12,7 +11,7 @@ use ibc_script_worlds::Ledgers;
 use ibc_wire::{ConnOpenConfirm, Header, Message};
 use std::alloc::Global;
 use std::io;
-use std::io::{BufWriter, Write};
+use std::io::Write;
 
 // The refusals that are counted apart.
 const COLUMNS: [Refusal; 5] = [
@@ -218,7 +217,11 @@ fn print_counts<W: Write>(
 }
 
 // Prints what was answered to a message and to its forgeries.
-fn print<W: Write>(output: &mut W, sent: ConnectionMessage, answers: &Answers) -> io::Result<()> {
+fn print_answers<W: Write>(
+    output: &mut W,
+    sent: ConnectionMessage,
+    answers: &Answers,
+) -> io::Result<()> {
     let name = sent.name();
     let headers = "another time, another root, true";
     let moved = "proofs of another key or height, or another connection";
@@ -229,20 +232,18 @@ fn print<W: Write>(output: &mut W, sent: ConnectionMessage, answers: &Answers) -
     print_counts(output, name, "honest", &answers.honest)
 }
 
-fn main(rt: HostRuntime) -> io::Result<()> {
-    let alloc = rt.alloc();
-    let mut output = BufWriter::new(alloc, io::writer(&rt))?;
+/// Prints what is answered to the messages of a handshake, forged ones and true ones.
+pub fn print<W: Write>(alloc: Global, output: &mut W) -> io::Result<()> {
     let answers = match two_chains(alloc) {
         Ok(mut chains) => run(alloc, &mut chains),
         Err(refusal) => Err(refusal),
     };
     match answers {
         Ok([tried, acknowledged, confirmed]) => {
-            print(&mut output, ConnectionMessage::Try, &tried)?;
-            print(&mut output, ConnectionMessage::Ack, &acknowledged)?;
-            print(&mut output, ConnectionMessage::Confirm, &confirmed)?;
+            print_answers(output, ConnectionMessage::Try, &tried)?;
+            print_answers(output, ConnectionMessage::Ack, &acknowledged)?;
+            print_answers(output, ConnectionMessage::Confirm, &confirmed)
         }
-        Err(refusal) => writeln!(&mut output, "{refusal}")?,
+        Err(refusal) => writeln!(output, "{refusal}"),
     }
-    output.flush()
 }

@@ -1,6 +1,6 @@
 //! What is forged in messages of packets.
 
-use crate::packets::{RECEIVED_AT, SENT_AT, acknowledged_proof, sent_proof};
+use crate::tokens::packets::{RECEIVED_AT, SENT_AT, acknowledged_proof, sent_proof};
 use ibc_ids::{Bytes, Refusal};
 use ibc_script_worlds::Ledgers;
 use ibc_wire::{AckPacket, RecvPacket};

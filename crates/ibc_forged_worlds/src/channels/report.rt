@@ -1,6 +1,6 @@
 //! What worlds answered.
 
-use crate::forgery::Forgery;
+use crate::channels::forgery::Forgery;
 use ibc_forgeries::Counts;
 use ibc_forging::ChannelMessage;
 use ibc_ids::{Refusal, Root};

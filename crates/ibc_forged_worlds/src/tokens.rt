@@ -1,15 +1,13 @@
-//! Opens a channel of tokens, sends three packets of them, and sends forged messages beside each honest one: prints every
-//! answer and what everyone has in the end, and whether the blocks and the balances are those of a world that is sent the
-//! honest messages alone.
-#![tactic(auto)]
+//! A channel of tokens and three packets of them, with forged messages beside each honest one: every answer, what everyone
+//! has in the end, and whether the blocks and the balances are those of a world that is sent the honest messages alone.
 
 mod forgery;
 mod packets;
 mod report;
 
-use crate::forgery::{AckForgery, RecvForgery};
-use crate::packets::{acknowledgement_of, delivery_of, transfer};
-use crate::report::Report;
+use crate::tokens::forgery::{AckForgery, RecvForgery};
+use crate::tokens::packets::{acknowledgement_of, delivery_of, transfer};
+use crate::tokens::report::Report;
 use ibc_forging::{TRANSFER_NAMES, end_block, open_channel, send, tell, two_chains_with};
 use ibc_ids::{Denom, Name, Refusal, UserName};
 use ibc_script_cli::Chains;
@@ -17,7 +15,7 @@ use ibc_script_worlds::Ledgers;
 use ibc_wire::Message;
 use std::alloc::Global;
 use std::io;
-use std::io::{BufWriter, Write};
+use std::io::Write;
 
 /// Whether forged messages are sent.
 #[derive(Clone, Copy, Debug, PartialEq, Eq, Drop)]
@@ -141,12 +139,10 @@ fn both_reports(alloc: Global) -> Result<(Report, Report), Refusal> {
     Ok((attacked, spared))
 }
 
-fn main(rt: HostRuntime) -> io::Result<()> {
-    let alloc = rt.alloc();
-    let mut output = BufWriter::new(alloc, io::writer(&rt))?;
+/// Prints what is answered to packets of tokens, forged ones and honest ones.
+pub fn print<W: Write>(alloc: Global, output: &mut W) -> io::Result<()> {
     match both_reports(alloc) {
-        Ok((attacked, spared)) => attacked.print(&spared, &mut output)?,
-        Err(refusal) => writeln!(&mut output, "{refusal}")?,
+        Ok((attacked, spared)) => attacked.print(&spared, output),
+        Err(refusal) => writeln!(output, "{refusal}"),
     }
-    output.flush()
 }
