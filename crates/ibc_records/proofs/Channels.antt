@@ -1,5 +1,5 @@
 -- A channel is added, or its end is set: the store is again the image.
-use Rattle.std.proofs.Common.{◌≡◌, ◌+◌, ◌-◌, ◌^◌, ◌<◌, arith, ◌&&◌, true, is_some, [], ◌∷◌, Option, Some, None, refl, sym, ap, subst, ◌∙◌}
+use Rattle.std.proofs.Common.{◌≡◌, ◌+◌, ◌-◌, ◌^◌, ◌<◌, arith, ◌&&◌, true, is_some, Option, Some, None, refl, sym, ap, subst, ◌∙◌}
 use Rattle.std.specs.Prelude.{IsTrue, IfSome, IsNone}
 use Rattle.ibc_ids.specs.Texts.{Text, pair_cmp}
 use Rattle.ibc_ids.specs.Maps.{at, with}
@@ -14,26 +14,20 @@ use Rattle.ibc_machine.specs.Values.{ChannelIs, NumberIs, value_bytes}
 use Rattle.ibc_machine.proofs.CoreChanges.{changes-next_channel, keyed-next_channel}
 use Rattle.ibc_machine.proofs.ChannelChanges.{HasNoPackets, new_channel_at, changes-with_new_channel, keyed-with_new_channel, changes-with_channel_end, keyed-with_channel_end}
 use Rattle.ibc_path_store.specs.Held.{HeldStore}
+use Rattle.ibc_records.specs.Entries.{new_entries}
 use Rattle.ibc_records.specs.Held.{HeldRecords, IsHeld, AddsChannel, SetsChannelEnd, core_of}
 use Rattle.ibc_records.proofs.Orderly.{Channels, orderly_new, orderly_alike, still_orderly, still_there, counted, is_free}
 use Rattle.ibc_records.proofs.Stores.{Sets, SetsAll, becomes_roomy, becomes_set, becomes_set_all}
 use Rattle.ibc_records.proofs.Images.{image_in, image_set, image_changed, is_held, is_stored}
 
--- the paths of a new channel with what stands there
-abbrev pub new_entries : Text → Text → ChannelEnd → Pairs
-new_entries port id end =
-    (path (key.ChannelEnd port id), value_bytes (ChannelIs end)) ∷ (path (key.NextSequenceSend port id), value_bytes (NumberIs 1))
-    ∷ (path (key.NextSequenceRecv port id), value_bytes (NumberIs 1)) ∷ (path (key.NextSequenceAck port id), value_bytes (NumberIs 1)) ∷ []
-
 module _ (old : HeldRecords) (port id : Text) (end : ChannelEnd) (channels : Channels) (held : IsHeld old) (named : IsTrue (is_port port && is_channel id)) where
   -- from what the calls on the map and the store say
-  pub adds : (s1 s2 s3 : HeldStore) {entries : Pairs} {q w : Text} → old.next_channel < 2 ^ 64 - 1 → id ≡ nth_channel old.next_channel → channels ≡ with pair_cmp (port, id) (new_channel end) old.channels
-      → entries ≡ new_entries port id end → q ≡ path key.NextChannelSequence → w ≡ value_bytes (NumberIs (old.next_channel + 1))
-      → s1 ≡ record old.store { room = s1.room } → SetsAll s1 entries s2 → Sets s2 q w s3
+  pub adds : (s1 s3 : HeldStore) {entries : Pairs} → old.next_channel < 2 ^ 64 - 1 → id ≡ nth_channel old.next_channel → channels ≡ with pair_cmp (port, id) (new_channel end) old.channels
+      → entries ≡ new_entries port id end (old.next_channel + 1) → s1 ≡ record old.store { room = s1.room } → SetsAll s1 entries s3
       → IsHeld (record old { channels = channels; next_channel = old.next_channel + 1; store = s3 })
       × AddsChannel old port id end (record old { channels = channels; next_channel = old.next_channel + 1; store = s3 })
-  adds s1 s2 s3 {entries} {q} {w} fits next is ee eq ew e f g =
-      let becomes = becomes_set old.store _ s2 s3 (becomes_set_all old.store _ s1 s2 (becomes_roomy old.store s1 e) f ee) g eq ew in
+  adds s1 s3 {entries} fits next is ee e f =
+      let becomes = becomes_set_all old.store _ s1 s3 (becomes_roomy old.store s1 e) f ee in
       let with_it : Core = with_channel port id (new_channel end) (core_of old) in
       let next_fits : old.next_channel < 2 ^ 64 = omega (arith, fits) in
       let quiet : (c : Channel) → at pair_cmp (port, id) old.channels ≡ Some c → HasNoPackets c = λ c found. absurd (is_free old.next_channel old.channels held.orderly next_fits port id next c found) in

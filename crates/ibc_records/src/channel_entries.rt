@@ -1,28 +1,27 @@
 //! What stands at the paths of a new channel.
 
-ghost use Rattle.std.specs.Prelude.{◌≡◌, ◌+◌, ◌++◌, ◌&&◌, ◌≤◌, ◌∷◌, [], IsTrue, IfOk, IfErr, string_bytes};
+ghost use Rattle.std.specs.Prelude.{◌≡◌, ◌+◌, ◌++◌, ◌&&◌, ◌≤◌, ◌∷◌, [], IsTrue, IfOk, IfErr, OnOk, string_bytes};
 ghost use Rattle.ibc_ids.specs.Names.{is_port, is_channel};
-ghost use Rattle.ibc_ids.specs.Paths.{path};
-ghost use Rattle.ibc_ids.specs.declared.key.Key.TheVariants as key;
 ghost use Rattle.ibc_ids.specs.declared.refusal.Refusal.TheVariants.{NoMemory};
-ghost use Rattle.ibc_machine.specs.Values.{value_bytes, NumberIs, ChannelIs};
-ghost use Rattle.ibc_records.specs.Entries.{with_all};
+ghost use Rattle.ibc_records.specs.Entries.{with_all, new_entries};
 
 use crate::packet_values::channel_counter;
-use crate::values::{channel_path, channel_value, set_reserved};
-use ibc_ids::{Bytes, ChannelId, PortId, Refusal};
+use crate::values::{channel_path, channel_value, counter, set_reserved};
+use ibc_ids::{Bytes, ChannelId, Key, PortId, Refusal};
 use ibc_path_store::Store;
 use ibc_wire::ChannelEnd;
 use std::alloc::Global;
 use std::marker::Model;
 
-/// The end of a new channel and its three counters, each a path with the bytes that stand there.
+/// The end of a new channel, its three counters, and the number of the next channel, each a path with the bytes that stand
+/// there.
 #[derive(Drop, Debug)]
 pub struct ChannelEntries {
     end: (String, Bytes),
     next_send: (String, Bytes),
     next_recv: (String, Bytes),
     next_ack: (String, Bytes),
+    next_channel: (String, Bytes),
 }
 
 impl Model for ChannelEntries {
@@ -36,23 +35,20 @@ impl Model for ChannelEntries {
         ∷ (string_bytes entries.next_send.0, entries.next_send.1)
         ∷ (string_bytes entries.next_recv.0, entries.next_recv.1)
         ∷ (string_bytes entries.next_ack.0, entries.next_ack.1)
+        ∷ (string_bytes entries.next_channel.0, entries.next_channel.1)
         ∷ [] };
 }
 
 impl ChannelEntries {
-    /// The entries of a channel with this end, whose counters are 1. Refused: `NoMemory`.
+    /// The entries of a channel with this end, whose counters are 1; the next one has the given number. Refused: `NoMemory`.
     pub fn new(
         alloc: Global,
         port: &PortId,
         id: &ChannelId,
         end: &ChannelEnd,
+        next: u64,
     ) -> Result<ChannelEntries, Refusal>
-        ensures ok { IfOk result (λ entries. entries ≡
-            (path (key.ChannelEnd port.now id.now), value_bytes (ChannelIs end.now))
-            ∷ (path (key.NextSequenceSend port.now id.now), value_bytes (NumberIs 1))
-            ∷ (path (key.NextSequenceRecv port.now id.now), value_bytes (NumberIs 1))
-            ∷ (path (key.NextSequenceAck port.now id.now), value_bytes (NumberIs 1))
-            ∷ []) }
+        ensures ok { IfOk result (λ entries. entries ≡ new_entries port.now id.now end.now next) }
         ensures named { IsTrue (is_port port.now && is_channel id.now) }
         ensures err { IfErr result (λ refusal. refusal ≡ NoMemory) }
     {
@@ -62,24 +58,46 @@ impl ChannelEntries {
             next_send: channel_counter(alloc, "nextSequenceSend", port, id, 1)?,
             next_recv: channel_counter(alloc, "nextSequenceRecv", port, id, 1)?,
             next_ack: channel_counter(alloc, "nextSequenceAck", port, id, 1)?,
+            next_channel: counter(alloc, &Key::NextChannelSequence, next)?,
         })
     }
 }
 
+/// Makes room for a new channel, and the entries that are set then. Refused: `NoMemory`.
+pub fn reserve_entries(
+    alloc: Global,
+    store: &mut Store,
+    port: &PortId,
+    id: &ChannelId,
+    end: &ChannelEnd,
+    next: u64,
+) -> Result<ChannelEntries, Refusal>
+    ensures ok { IfOk result (λ entries. entries ≡ new_entries port.now id.now end.now next) }
+    ensures room { OnOk result (5 ≤ store.new.room) }
+    ensures same { store.new ≡ record store.old { room = store.new.room } }
+    ensures named { OnOk result (IsTrue (is_port port.now && is_channel id.now)) }
+    ensures err { IfErr result (λ refusal. refusal ≡ NoMemory) }
+{
+    store.reserve(5)?;
+    ChannelEntries::new(alloc, port, id, end, next)
+}
+
 /// Sets the paths of a new channel, for which there is room.
 pub fn set_entries(store: &mut Store, entries: ChannelEntries)
-    requires { 4 ≤ store.old.room }
+    requires { 5 ≤ store.old.room }
     ensures set { store.new ≡ record store.old { pairs = with_all entries store.old.pairs; room = store.new.room } }
-    ensures room { store.old.room ≤ store.new.room + 4 }
+    ensures room { store.old.room ≤ store.new.room + 5 }
 {
     let ChannelEntries {
         end,
         next_send,
         next_recv,
         next_ack,
+        next_channel,
     } = entries;
     set_reserved(store, end.0, end.1);
     set_reserved(store, next_send.0, next_send.1);
     set_reserved(store, next_recv.0, next_recv.1);
     set_reserved(store, next_ack.0, next_ack.1);
+    set_reserved(store, next_channel.0, next_channel.1);
 }

@@ -1,18 +1,23 @@
 //! The channels of a chain.
 
-ghost use Rattle.std.specs.Prelude.{◌≡◌, ◌-◌, ◌^◌, ◌<◌, IfSome, IsNone, IsSome, IfOk, IfErr, OnOk, OnErr, option_copied};
+ghost use Rattle.std.specs.Prelude.{◌≡◌, ◌&&◌, IsTrue, string_bytes, ◌-◌, ◌^◌, ◌<◌, IfSome, IsNone, IsSome, IfOk, IfErr, OnOk, OnErr, option_copied};
 ghost use Rattle.ibc_ids.specs.Texts.{pair_cmp};
 ghost use Rattle.ibc_ids.specs.Maps.{at, with};
-ghost use Rattle.ibc_ids.specs.Paths.{nth_channel};
+ghost use Rattle.ibc_ids.specs.Names.{is_port, is_channel};
+ghost use Rattle.ibc_ids.specs.Paths.{path, nth_channel};
+ghost use Rattle.ibc_ids.specs.declared.key.Key.TheVariants as key;
 ghost use Rattle.ibc_ids.specs.declared.refusal.Refusal.TheVariants.{NoMemory, UnknownChannel};
+ghost use Rattle.ibc_machine.specs.Values.{value_bytes, ChannelIs};
 ghost use Rattle.ibc_records.specs.Held.{AddsChannel, SetsChannelEnd, IsUnchanged};
 
 use crate::Records;
 use crate::channel::Channel;
-use crate::channel_entries::{ChannelEntries, set_entries};
-use crate::values::{channel_path, channel_value, counter, set_reserved};
-use ibc_ids::{ChannelId, Key, PortId, Refusal};
+use crate::channel_entries::{reserve_entries, set_entries};
+use crate::values::{channel_path, channel_value, set_reserved};
+use ibc_ids::{Bytes, ChannelId, PortId, Refusal};
+use ibc_path_store::Store;
 use ibc_wire::ChannelEnd;
+use std::alloc::Global;
 use std::collections::BTreeMap;
 
 impl Records {
@@ -47,15 +52,18 @@ impl Records {
         ensures err { IfErr result (λ refusal. refusal ≡ NoMemory) }
         ensures unchanged { OnErr result (IsUnchanged self.old self.new) }
     {
-        let entries = ChannelEntries::new(self.alloc, &port, &id, &end)?;
         let next = self.next_channel + 1;
-        let (number_path, number) = counter(self.alloc, &Key::NextChannelSequence, next)?;
-        self.store.reserve(5)?;
+        let entries = match reserve_entries(self.alloc, &mut self.store, &port, &id, &end, next) {
+            Ok(entries) => entries,
+            Err(refusal) => {
+                drop(end);
+                return Err(refusal);
+            }
+        };
         self.channels
             .insert((port, id), Channel::new(self.alloc, end))?;
         self.next_channel = next;
         set_entries(&mut self.store, entries);
-        set_reserved(&mut self.store, number_path, number);
         Ok(())
     }
 
@@ -75,15 +83,40 @@ impl Records {
     {
         let name = (port, id);
         if !self.channels.contains_key(&name) {
+            drop(end);
             return Err(Refusal::UnknownChannel);
         }
-        let path = channel_path(self.alloc, "channelEnds", &name.0, &name.1)?;
-        let value = channel_value(self.alloc, &end)?;
-        self.store.reserve(1)?;
+        let (path, value) = match reserve_end(self.alloc, &mut self.store, &name, &end) {
+            Ok(entry) => entry,
+            Err(refusal) => {
+                drop(end);
+                return Err(refusal);
+            }
+        };
         set_end(&mut self.channels, &name, end);
         set_reserved(&mut self.store, path, value);
         Ok(())
     }
+}
+
+// Makes room for another end of a channel, and the path and the bytes that are set then.
+fn reserve_end(
+    alloc: Global,
+    store: &mut Store,
+    name: &(PortId, ChannelId),
+    end: &ChannelEnd,
+) -> Result<(String, Bytes), Refusal>
+    ensures path { IfOk result (λ entry. string_bytes entry.0 ≡ path (key.ChannelEnd name.now.0 name.now.1)) }
+    ensures value { IfOk result (λ entry. entry.1 ≡ value_bytes (ChannelIs end.now)) }
+    ensures named { OnOk result (IsTrue (is_port name.now.0 && is_channel name.now.1)) }
+    ensures room { OnOk result (0 < store.new.room) }
+    ensures same { store.new ≡ record store.old { room = store.new.room } }
+    ensures err { IfErr result (λ refusal. refusal ≡ NoMemory) }
+{
+    let path = channel_path(alloc, "channelEnds", &name.0, &name.1)?;
+    let value = channel_value(alloc, end)?;
+    store.reserve(1)?;
+    Ok((path, value))
 }
 
 // A channel that is there has this end.

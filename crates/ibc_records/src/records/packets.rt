@@ -1,13 +1,17 @@
 //! The packets of a chain's channels.
 
-ghost use Rattle.std.specs.Prelude.{◌≡◌, ◌⊎◌, ◌-◌, ◌^◌, ◌<◌, ◌≤◌, true, Ok, Err, IsSome, IfSome, IfOk, IfErr, OnOk, OnErr};
+ghost use Rattle.std.specs.Prelude.{◌≡◌, ◌⊎◌, ◌&&◌, ◌+◌, ◌-◌, ◌^◌, ◌<◌, ◌≤◌, true, Ok, Err, IsSome, IfSome, IfOk, IfErr, OnOk, OnErr, IsTrue, option_map, string_bytes};
 ghost use Rattle.std.specs.Option.{IsSomeAnd};
 ghost use Rattle.ibc_ids.specs.Texts.{pair_cmp};
 ghost use Rattle.ibc_ids.specs.Maps.{at, with};
+ghost use Rattle.ibc_ids.specs.Names.{is_port, is_channel};
+ghost use Rattle.ibc_ids.specs.Paths.{path};
+ghost use Rattle.ibc_ids.specs.declared.key.Key.TheVariants as key;
 ghost use Rattle.ibc_ids.specs.declared.refusal.Refusal.TheVariants.{NoMemory};
 ghost use Rattle.ibc_machine.specs.Records.{channel_at};
 ghost use Rattle.ibc_machine.specs.Packets.{is_ordered, after_send, after_receive, after_ack, after_timeout};
-ghost use Rattle.ibc_machine.specs.Values.{value_bytes, AckIs};
+ghost use Rattle.ibc_machine.specs.Values.{value_bytes, AckIs, CommitmentIs, NumberIs};
+ghost use Rattle.ibc_machine.proofs.PacketChanges.{received, acknowledged, timed_out, entry_of};
 ghost use Rattle.ibc_records.specs.Held.{core_of, IsUnchanged};
 ghost use Rattle.ibc_records.specs.Packets.{SendsPacket, ReceivesPacket, AcknowledgesPacket, TimesOutPacket};
 
@@ -20,7 +24,9 @@ use crate::packet_values::{channel_counter, commitment_value, packet_path};
 use crate::values::set_reserved;
 use ibc_app_port::{App, Nobody, Pays};
 use ibc_ids::{Bytes, ChannelId, PortId, Refusal};
+use ibc_path_store::Store;
 use ibc_wire::Packet;
+use std::alloc::Global;
 use std::collections::BTreeMap;
 
 impl Records {
@@ -61,17 +67,13 @@ impl Records {
             Some(channel) => channel.next_send(),
             None => return Err(Refusal::UnknownChannel),
         };
-        let path = packet_path(self.alloc, "commitments", &name.0, &name.1, sequence)?;
-        let value = commitment_value(self.alloc, &commitment)?;
-        let next = sequence + 1;
-        let (next_path, next) = channel_counter(
+        let ((path, value), (next_path, next)) = reserve_send(
             self.alloc,
-            "nextSequenceSend",
-            &name.0,
-            &name.1,
-            next,
+            &mut self.store,
+            &name,
+            sequence,
+            &commitment,
         )?;
-        self.store.reserve(2)?;
         send_on(&mut self.channels, &name, payer, bill, commitment)?;
         set_reserved(&mut self.store, path, value);
         set_reserved(&mut self.store, next_path, next);
@@ -96,16 +98,13 @@ impl Records {
         let Some(channel) = self.channels.get(&name) else {
             return Err(Refusal::UnknownChannel);
         };
-        let (other_path, other) = received_entry(
+        let (path, (other_path, other), room) = reserve_receive(
             self.alloc,
-            &name.0,
-            &name.1,
+            &mut self.store,
+            &name,
             channel,
             packet.sequence,
         )?;
-        let path = packet_path(self.alloc, "acks", &name.0, &name.1, packet.sequence)?;
-        let room = AckRoom::new(self.alloc)?;
-        self.store.reserve(2)?;
         let acks = receive_on(&mut self.channels, &name, app, packet, room)?;
         set_reserved(&mut self.store, path, acks.value);
         set_reserved(&mut self.store, other_path, other);
@@ -130,9 +129,13 @@ impl Records {
         let Some(channel) = self.channels.get(&name) else {
             return Err(Refusal::UnknownChannel);
         };
-        let path = packet_path(self.alloc, "commitments", &name.0, &name.1, packet.sequence)?;
-        let counter = acknowledged_entry(self.alloc, &name.0, &name.1, channel)?;
-        self.store.reserve(1)?;
+        let (path, counter) = reserve_acknowledged(
+            self.alloc,
+            &mut self.store,
+            &name,
+            channel,
+            packet.sequence,
+        )?;
         app.on_ack(&channel.end().version, packet, ack)?;
         acknowledge_on(&mut self.channels, &name, packet.sequence);
         settle(&mut self.store, path.as_str(), counter);
@@ -152,9 +155,13 @@ impl Records {
         let Some(channel) = self.channels.get(&name) else {
             return Err(Refusal::UnknownChannel);
         };
-        let path = packet_path(self.alloc, "commitments", &name.0, &name.1, packet.sequence)?;
-        let closed = closed_entry(self.alloc, &name.0, &name.1, channel)?;
-        self.store.reserve(1)?;
+        let (path, closed) = reserve_timed_out(
+            self.alloc,
+            &mut self.store,
+            &name,
+            channel,
+            packet.sequence,
+        )?;
         app.on_timeout(&channel.end().version, packet)?;
         time_out_on(&mut self.channels, &name, packet.sequence);
         settle(&mut self.store, path.as_str(), closed);
@@ -168,6 +175,32 @@ fn name_of(port: &PortId, id: &ChannelId) -> Result<(PortId, ChannelId), Refusal
     ensures err { IfErr result (λ refusal. refusal ≡ NoMemory) }
 {
     Ok((port.clone()?, id.clone()?))
+}
+
+// Makes room for a packet that is sent, and what is set then: its commitment, and the sequence behind it.
+fn reserve_send(
+    alloc: Global,
+    store: &mut Store,
+    name: &(PortId, ChannelId),
+    sequence: u64,
+    commitment: &Commitment,
+) -> Result<((String, Bytes), (String, Bytes)), Refusal>
+    requires { sequence < 2 ^ 64 - 1 }
+    ensures path { IfOk result (λ entries. string_bytes entries.0.0 ≡ path (key.Commitment name.now.0 name.now.1 sequence)) }
+    ensures value { IfOk result (λ entries. entries.0.1 ≡ value_bytes (CommitmentIs commitment.now)) }
+    ensures next_path { IfOk result (λ entries. string_bytes entries.1.0 ≡ path (key.NextSequenceSend name.now.0 name.now.1)) }
+    ensures next { IfOk result (λ entries. entries.1.1 ≡ value_bytes (NumberIs (sequence + 1))) }
+    ensures named { OnOk result (IsTrue (is_port name.now.0 && is_channel name.now.1)) }
+    ensures room { OnOk result (2 ≤ store.new.room) }
+    ensures same { store.new ≡ record store.old { room = store.new.room } }
+    ensures err { IfErr result (λ refusal. refusal ≡ NoMemory) }
+{
+    store.reserve(2)?;
+    let path = packet_path(alloc, "commitments", &name.0, &name.1, sequence)?;
+    let value = commitment_value(alloc, commitment)?;
+    let next = sequence + 1;
+    let counter = channel_counter(alloc, "nextSequenceSend", &name.0, &name.1, next)?;
+    Ok(((path, value), counter))
 }
 
 // A channel that is there commits to a packet that is paid for.
@@ -188,6 +221,31 @@ fn send_on<Bill, P: Pays<Bill>>(
         Some(channel) => channel.send(payer, bill, commitment),
         None => Err(Refusal::UnknownChannel),
     }
+}
+
+// Makes room for a packet that is received, the path of its acknowledgement, what is set beside it, and room for the
+// acknowledgement.
+fn reserve_receive(
+    alloc: Global,
+    store: &mut Store,
+    name: &(PortId, ChannelId),
+    channel: &Channel,
+    sequence: u64,
+) -> Result<(String, (String, Bytes), AckRoom), Refusal>
+    requires { is_ordered channel.now ≡ true → channel.now.next_recv < 2 ^ 64 - 1 }
+    ensures path { IfOk result (λ made. string_bytes made.0 ≡ path (key.Acknowledgement name.now.0 name.now.1 sequence)) }
+    ensures other { IfOk result (λ made. (string_bytes made.1.0, made.1.1) ≡ entry_of name.now.0 name.now.1 (received sequence channel.now)) }
+    ensures longest { IfOk result (λ made. 1024 ≤ made.2) }
+    ensures named { OnOk result (IsTrue (is_port name.now.0 && is_channel name.now.1)) }
+    ensures fits { sequence < 2 ^ 64 }
+    ensures room { OnOk result (2 ≤ store.new.room) }
+    ensures same { store.new ≡ record store.old { room = store.new.room } }
+    ensures err { IfErr result (λ refusal. refusal ≡ NoMemory) }
+{
+    store.reserve(2)?;
+    let path = packet_path(alloc, "acks", &name.0, &name.1, sequence)?;
+    let other = received_entry(alloc, &name.0, &name.1, channel, sequence)?;
+    Ok((path, other, AckRoom::new(alloc)?))
 }
 
 // A channel that is there receives a packet.
@@ -213,6 +271,28 @@ fn receive_on<A: App>(
     }
 }
 
+// Makes room for a packet that is acknowledged, the path of its commitment, and what is set beside it.
+fn reserve_acknowledged(
+    alloc: Global,
+    store: &mut Store,
+    name: &(PortId, ChannelId),
+    channel: &Channel,
+    sequence: u64,
+) -> Result<(String, Option<(String, Bytes)>), Refusal>
+    requires { is_ordered channel.now ≡ true → channel.now.next_ack < 2 ^ 64 - 1 }
+    ensures path { IfOk result (λ made. string_bytes made.0 ≡ path (key.Commitment name.now.0 name.now.1 sequence)) }
+    ensures other { IfOk result (λ made. option_map (λ entry. (string_bytes entry.0, entry.1)) made.1 ≡ option_map (entry_of name.now.0 name.now.1) (acknowledged channel.now)) }
+    ensures named { OnOk result (IsTrue (is_port name.now.0 && is_channel name.now.1)) }
+    ensures fits { sequence < 2 ^ 64 }
+    ensures room { OnOk result (0 < store.new.room) }
+    ensures same { store.new ≡ record store.old { room = store.new.room } }
+    ensures err { IfErr result (λ refusal. refusal ≡ NoMemory) }
+{
+    store.reserve(1)?;
+    let path = packet_path(alloc, "commitments", &name.0, &name.1, sequence)?;
+    Ok((path, acknowledged_entry(alloc, &name.0, &name.1, channel)?))
+}
+
 // A packet of a channel that is there was acknowledged.
 fn acknowledge_on(
     channels: &mut BTreeMap<(PortId, ChannelId), Channel>,
@@ -225,6 +305,27 @@ fn acknowledge_on(
     if let Some(channel) = channels.get_mut(name) {
         channel.acknowledge(sequence);
     }
+}
+
+// Makes room for a packet that won't be received any more, the path of its commitment, and what is set beside it.
+fn reserve_timed_out(
+    alloc: Global,
+    store: &mut Store,
+    name: &(PortId, ChannelId),
+    channel: &Channel,
+    sequence: u64,
+) -> Result<(String, Option<(String, Bytes)>), Refusal>
+    ensures path { IfOk result (λ made. string_bytes made.0 ≡ path (key.Commitment name.now.0 name.now.1 sequence)) }
+    ensures other { IfOk result (λ made. option_map (λ entry. (string_bytes entry.0, entry.1)) made.1 ≡ option_map (entry_of name.now.0 name.now.1) (timed_out channel.now)) }
+    ensures named { OnOk result (IsTrue (is_port name.now.0 && is_channel name.now.1)) }
+    ensures fits { sequence < 2 ^ 64 }
+    ensures room { OnOk result (0 < store.new.room) }
+    ensures same { store.new ≡ record store.old { room = store.new.room } }
+    ensures err { IfErr result (λ refusal. refusal ≡ NoMemory) }
+{
+    store.reserve(1)?;
+    let path = packet_path(alloc, "commitments", &name.0, &name.1, sequence)?;
+    Ok((path, closed_entry(alloc, &name.0, &name.1, channel)?))
 }
 
 // A packet of a channel that is there won't be received any more.

@@ -1,5 +1,5 @@
 -- The store is again the image of the core, in which the packet is settled.
-use Rattle.std.proofs.Common.{◌≡◌, ◌-◌, ◌^◌, ◌<◌, true, sym, ap, ◌∙◌, Some, nat_cmp}
+use Rattle.std.proofs.Common.{◌≡◌, ◌-◌, ◌^◌, ◌<◌, true, sym, ap, ◌∙◌, Some}
 use Rattle.std.proofs.lemmas.Result.{err_from_is_err_and}
 use Rattle.ibc_ids.specs.Texts.{pair_cmp}
 use Rattle.ibc_ids.specs.Maps.{at, with}
@@ -15,8 +15,8 @@ returns-in_default-clause-err g c =
     let old : HeldRecords = record { clients = c.self.inside.clients.entries; connections = c.self.inside.connections.entries; channels = c.self.inside.channels.entries; next_client = c.self.inside.next_client; next_connection = c.self.inside.next_connection; next_channel = c.self.inside.next_channel; store = c.self.inside.store } in
     absurd (not_missing old c.args.self.now c.in_ok-name.name c.args.packet.now.source_port c.args.packet.now.source_channel c.self.view_is c.in_ok-name.ensures.ok (λ (mine : Channel). is_ordered mine ≡ true → mine.next_ack < 2 ^ 64 - 1) c.requires (sym c.in_default.ensures.value))
 
-pub acknowledged_entry-requires : goal.acknowledged_entry-requires
-acknowledged_entry-requires g c =
+pub reserve_acknowledged-requires : goal.reserve_acknowledged-requires
+reserve_acknowledged-requires g c =
     let old : HeldRecords = record { clients = c.self.inside.clients.entries; connections = c.self.inside.connections.entries; channels = c.self.inside.channels.entries; next_client = c.self.inside.next_client; next_connection = c.self.inside.next_connection; next_channel = c.self.inside.next_channel; store = c.self.inside.store } in
     asked old c.args.self.now c.in_ok-name.name c.args.packet.now.source_port c.args.packet.now.source_channel c.self.view_is c.in_ok-name.ensures.ok (λ (mine : Channel). is_ordered mine ≡ true → mine.next_ack < 2 ^ 64 - 1) c.in-Some.channel.now c.requires (sym c.in-Some.ensures.value)
 
@@ -33,8 +33,8 @@ invariant_of-self-2 g c =
     let mine : Channel = c.in-Some.channel.now in
     let there : at pair_cmp c.in_ok-name.name old.channels ≡ Some mine = sym c.in-Some.ensures.value in
     let entries = where_found (at pair_cmp c.in_ok-name.name old.channels) (λ (x : Channel). c.acknowledge_on.new.channels.entries ≡ with pair_cmp c.in_ok-name.name (after_ack c.args.packet.now.sequence x) old.channels) mine there c.acknowledge_on.ensures in
-    (acknowledges old c.in_ok-name.name.0 c.in_ok-name.name.1 mine c.acknowledge_on.new.channels.entries c.self.invariant c.packet_path.ensures.named there c.args.packet.now.sequence c.reserve.new.self c.settle.new.store
-    c.packet_path.ensures.fits (c.as_str.ensures.value ∙ c.in_ok-path.ensures.ok) c.in_ok-reserve.ensures.same entries c.in_ok-counter.ensures.ok c.settle.ensures).0
+    (acknowledges old c.in_ok-name.name.0 c.in_ok-name.name.1 mine c.acknowledge_on.new.channels.entries c.self.invariant c.in_ok-path.ensures.named there c.args.packet.now.sequence c.reserve_acknowledged.new.store c.settle.new.store
+    c.reserve_acknowledged.ensures.fits (c.as_str.ensures.value ∙ c.in_ok-path.ensures.path) c.reserve_acknowledged.ensures.same entries c.in_ok-path.ensures.other c.settle.ensures).0
 
 pub returns-clause-ok : goal.returns-clause-ok
 returns-clause-ok g c =
@@ -42,8 +42,8 @@ returns-clause-ok g c =
     let mine : Channel = c.in-Some.channel.now in
     let there : at pair_cmp c.in_ok-name.name old.channels ≡ Some mine = sym c.in-Some.ensures.value in
     let entries = where_found (at pair_cmp c.in_ok-name.name old.channels) (λ (x : Channel). c.acknowledge_on.new.channels.entries ≡ with pair_cmp c.in_ok-name.name (after_ack c.args.packet.now.sequence x) old.channels) mine there c.acknowledge_on.ensures in
-    let written = (acknowledges old c.in_ok-name.name.0 c.in_ok-name.name.1 mine c.acknowledge_on.new.channels.entries c.self.invariant c.packet_path.ensures.named there c.args.packet.now.sequence c.reserve.new.self c.settle.new.store
-    c.packet_path.ensures.fits (c.as_str.ensures.value ∙ c.in_ok-path.ensures.ok) c.in_ok-reserve.ensures.same entries c.in_ok-counter.ensures.ok c.settle.ensures).1 in
+    let written = (acknowledges old c.in_ok-name.name.0 c.in_ok-name.name.1 mine c.acknowledge_on.new.channels.entries c.self.invariant c.in_ok-path.ensures.named there c.args.packet.now.sequence c.reserve_acknowledged.new.store c.settle.new.store
+    c.reserve_acknowledged.ensures.fits (c.as_str.ensures.value ∙ c.in_ok-path.ensures.path) c.reserve_acknowledged.ensures.same entries c.in_ok-path.ensures.other c.settle.ensures).1 in
     record {
       mine = mine;
       stood = found old c.args.self.now c.in_ok-name.name c.args.packet.now.source_port c.args.packet.now.source_channel c.self.view_is c.in_ok-name.ensures.ok mine there;

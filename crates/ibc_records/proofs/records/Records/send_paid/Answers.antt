@@ -17,8 +17,8 @@ returns-in-None-clause-err g c =
     let old : HeldRecords = record { clients = c.self.inside.clients.entries; connections = c.self.inside.connections.entries; channels = c.self.inside.channels.entries; next_client = c.self.inside.next_client; next_connection = c.self.inside.next_connection; next_channel = c.self.inside.next_channel; store = c.self.inside.store } in
     absurd (not_missing old c.args.self.now c.in_ok-name.name c.args.port.now c.args.id.now c.self.view_is c.in_ok-name.ensures.ok (λ (mine : Channel). mine.next_send < 2 ^ 64 - 1) c.requires (sym c.in-None.ensures.value))
 
-pub overflow_add-next : goal.overflow_add-next
-overflow_add-next g c =
+pub reserve_send-requires : goal.reserve_send-requires
+reserve_send-requires g c =
     let old : HeldRecords = record { clients = c.self.inside.clients.entries; connections = c.self.inside.connections.entries; channels = c.self.inside.channels.entries; next_client = c.self.inside.next_client; next_connection = c.self.inside.next_connection; next_channel = c.self.inside.next_channel; store = c.self.inside.store } in
     let below = asked old c.args.self.now c.in_ok-name.name c.args.port.now c.args.id.now c.self.view_is c.in_ok-name.ensures.ok (λ (mine : Channel). mine.next_send < 2 ^ 64 - 1) c.in-Some.channel.now c.requires (sym c.in-Some.ensures.value) in
     omega (arith, below, c.next_send-sequence.ensures)
@@ -26,7 +26,7 @@ overflow_add-next g c =
 pub invariant_of-self-in_err-send_on : goal.invariant_of-self-in_err-send_on
 invariant_of-self-in_err-send_on g c =
     let old : HeldRecords = record { clients = c.self.inside.clients.entries; connections = c.self.inside.connections.entries; channels = c.self.inside.channels.entries; next_client = c.self.inside.next_client; next_connection = c.self.inside.next_connection; next_channel = c.self.inside.next_channel; store = c.self.inside.store } in
-    roomy old c.send_on.new.channels.entries c.reserve.new.self c.self.invariant c.in_err-send_on.ensures.unchanged.0 c.in_ok-reserve.ensures.same
+    roomy old c.send_on.new.channels.entries c.reserve_send.new.store c.self.invariant c.in_err-send_on.ensures.unchanged.0 c.reserve_send.ensures.same
 
 pub invariant_of-self-2 : goal.invariant_of-self-2
 invariant_of-self-2 g c =
@@ -36,10 +36,10 @@ invariant_of-self-2 g c =
     let below = asked old c.args.self.now c.in_ok-name.name c.args.port.now c.args.id.now c.self.view_is c.in_ok-name.ensures.ok (λ (mine : Channel). mine.next_send < 2 ^ 64 - 1) mine c.requires there in
     let fits : mine.next_send < 2 ^ 64 = omega (arith, below) in
     let entries = where_found (at pair_cmp c.in_ok-name.name old.channels) (λ (x : Channel). c.send_on.new.channels.entries ≡ with pair_cmp c.in_ok-name.name (after_send c.args.commitment x) old.channels) mine there c.in_ok-send_on.ensures.ok in
-    (sends old c.in_ok-name.name.0 c.in_ok-name.name.1 mine c.send_on.new.channels.entries c.self.invariant c.packet_path.ensures.named there c.args.commitment c.reserve.new.self c.set_reserved.new.store c.set_reserved-2.new.store
-    fits entries (c.in_ok-path.ensures.ok ∙ ap (λ n. path (key.Commitment c.in_ok-name.name.0 c.in_ok-name.name.1 n)) c.next_send-sequence.ensures) c.in_ok-value.ensures.ok
-    c.in_ok-next_path.ensures.path (c.in_ok-next_path.ensures.number ∙ ap (λ n. value_bytes (NumberIs (n + 1))) c.next_send-sequence.ensures)
-    c.in_ok-reserve.ensures.same c.set_reserved.ensures.set c.set_reserved-2.ensures.set).0
+    (sends old c.in_ok-name.name.0 c.in_ok-name.name.1 mine c.send_on.new.channels.entries c.self.invariant c.in_ok-path.ensures.named there c.args.commitment c.reserve_send.new.store c.set_reserved.new.store c.set_reserved-2.new.store
+    fits entries (c.in_ok-path.ensures.path ∙ ap (λ n. path (key.Commitment c.in_ok-name.name.0 c.in_ok-name.name.1 n)) c.next_send-sequence.ensures) c.in_ok-path.ensures.value
+    c.in_ok-path.ensures.next_path (c.in_ok-path.ensures.next ∙ ap (λ n. value_bytes (NumberIs (n + 1))) c.next_send-sequence.ensures)
+    c.reserve_send.ensures.same c.set_reserved.ensures.set c.set_reserved-2.ensures.set).0
 
 pub returns-clause-ok : goal.returns-clause-ok
 returns-clause-ok g c =
@@ -49,10 +49,10 @@ returns-clause-ok g c =
     let below = asked old c.args.self.now c.in_ok-name.name c.args.port.now c.args.id.now c.self.view_is c.in_ok-name.ensures.ok (λ (mine : Channel). mine.next_send < 2 ^ 64 - 1) mine c.requires there in
     let fits : mine.next_send < 2 ^ 64 = omega (arith, below) in
     let entries = where_found (at pair_cmp c.in_ok-name.name old.channels) (λ (x : Channel). c.send_on.new.channels.entries ≡ with pair_cmp c.in_ok-name.name (after_send c.args.commitment x) old.channels) mine there c.in_ok-send_on.ensures.ok in
-    let written = (sends old c.in_ok-name.name.0 c.in_ok-name.name.1 mine c.send_on.new.channels.entries c.self.invariant c.packet_path.ensures.named there c.args.commitment c.reserve.new.self c.set_reserved.new.store c.set_reserved-2.new.store
-    fits entries (c.in_ok-path.ensures.ok ∙ ap (λ n. path (key.Commitment c.in_ok-name.name.0 c.in_ok-name.name.1 n)) c.next_send-sequence.ensures) c.in_ok-value.ensures.ok
-    c.in_ok-next_path.ensures.path (c.in_ok-next_path.ensures.number ∙ ap (λ n. value_bytes (NumberIs (n + 1))) c.next_send-sequence.ensures)
-    c.in_ok-reserve.ensures.same c.set_reserved.ensures.set c.set_reserved-2.ensures.set).1 in
+    let written = (sends old c.in_ok-name.name.0 c.in_ok-name.name.1 mine c.send_on.new.channels.entries c.self.invariant c.in_ok-path.ensures.named there c.args.commitment c.reserve_send.new.store c.set_reserved.new.store c.set_reserved-2.new.store
+    fits entries (c.in_ok-path.ensures.path ∙ ap (λ n. path (key.Commitment c.in_ok-name.name.0 c.in_ok-name.name.1 n)) c.next_send-sequence.ensures) c.in_ok-path.ensures.value
+    c.in_ok-path.ensures.next_path (c.in_ok-path.ensures.next ∙ ap (λ n. value_bytes (NumberIs (n + 1))) c.next_send-sequence.ensures)
+    c.reserve_send.ensures.same c.set_reserved.ensures.set c.set_reserved-2.ensures.set).1 in
     record {
       mine = mine;
       stood = found old c.args.self.now c.in_ok-name.name c.args.port.now c.args.id.now c.self.view_is c.in_ok-name.ensures.ok mine there;

@@ -4,27 +4,19 @@ use Rattle.ibc_records.specs.Held.{HeldRecords, SetsChannelEnd}
 use Rattle.ibc_records.proofs.Channels.{sets_there, is_not_missing}
 use Rattle.ibc_records.proofs.records.Records.set_channel_end.Goals as goal
 
-pub returns-in_err-path-clause-unknown : goal.returns-in_err-path-clause-unknown
-returns-in_err-path-clause-unknown c =
-    λ none. absurd (is_not_missing _ c.args.self.now (c.args.port, c.args.id) (sym c.contains_key.ensures ∙ c.if-not-contains_key.false) c.self.view_is none)
-
-pub returns-in_err-value-clause-unknown : goal.returns-in_err-value-clause-unknown
-returns-in_err-value-clause-unknown c =
-    λ none. absurd (is_not_missing _ c.args.self.now (c.args.port, c.args.id) (sym c.contains_key.ensures ∙ c.if-not-contains_key.false) c.self.view_is none)
-
-pub returns-in_err-reserve-clause-unknown : goal.returns-in_err-reserve-clause-unknown
-returns-in_err-reserve-clause-unknown c =
+pub returns-in-Err-clause-unknown : goal.returns-in-Err-clause-unknown
+returns-in-Err-clause-unknown c =
     λ none. absurd (is_not_missing _ c.args.self.now (c.args.port, c.args.id) (sym c.contains_key.ensures ∙ c.if-not-contains_key.false) c.self.view_is none)
 
 pub invariant_of-self-2 : goal.invariant_of-self-2
 invariant_of-self-2 c =
     let old : HeldRecords = record { clients = c.self.inside.clients.entries; connections = c.self.inside.connections.entries; channels = c.self.inside.channels.entries; next_client = c.self.inside.next_client; next_connection = c.self.inside.next_connection; next_channel = c.self.inside.next_channel; store = c.self.inside.store } in
-    (sets_there old c.args.port c.args.id c.args.end c.set_end.new.channels.entries c.self.invariant c.channel_path.ensures.named
-    c.reserve.new.self c.set_reserved.new.store (sym c.contains_key.ensures ∙ c.if-not-contains_key.false) c.set_end.ensures c.in_ok-path.ensures.ok c.in_ok-value.ensures.ok c.in_ok-reserve.ensures.same c.set_reserved.ensures.set).0
+    (sets_there old c.args.port c.args.id c.args.end c.set_end.new.channels.entries c.self.invariant c.in-Ok.ensures.named
+    c.reserve_end.new.store c.set_reserved.new.store (sym c.contains_key.ensures ∙ c.if-not-contains_key.false) c.set_end.ensures c.in-Ok.ensures.path c.in-Ok.ensures.value c.reserve_end.ensures.same c.set_reserved.ensures.set).0
 
 pub returns-clause-ok : goal.returns-clause-ok
 returns-clause-ok c =
     let old : HeldRecords = record { clients = c.self.inside.clients.entries; connections = c.self.inside.connections.entries; channels = c.self.inside.channels.entries; next_client = c.self.inside.next_client; next_connection = c.self.inside.next_connection; next_channel = c.self.inside.next_channel; store = c.self.inside.store } in
     subst (λ (before : HeldRecords). SetsChannelEnd before c.args.port c.args.id c.args.end (record old { channels = c.set_end.new.channels.entries; store = c.set_reserved.new.store })) c.self.view_is
-    (sets_there old c.args.port c.args.id c.args.end c.set_end.new.channels.entries c.self.invariant c.channel_path.ensures.named
-    c.reserve.new.self c.set_reserved.new.store (sym c.contains_key.ensures ∙ c.if-not-contains_key.false) c.set_end.ensures c.in_ok-path.ensures.ok c.in_ok-value.ensures.ok c.in_ok-reserve.ensures.same c.set_reserved.ensures.set).1
+    (sets_there old c.args.port c.args.id c.args.end c.set_end.new.channels.entries c.self.invariant c.in-Ok.ensures.named
+    c.reserve_end.new.store c.set_reserved.new.store (sym c.contains_key.ensures ∙ c.if-not-contains_key.false) c.set_end.ensures c.in-Ok.ensures.path c.in-Ok.ensures.value c.reserve_end.ensures.same c.set_reserved.ensures.set).1

@@ -1,5 +1,5 @@
 -- The store is again the image of the core, in which the packet is settled.
-use Rattle.std.proofs.Common.{◌≡◌, sym, ap, ◌∙◌, Some, nat_cmp}
+use Rattle.std.proofs.Common.{◌≡◌, sym, ap, ◌∙◌, Some}
 use Rattle.std.proofs.lemmas.Result.{err_from_is_err_and}
 use Rattle.ibc_ids.specs.Texts.{pair_cmp}
 use Rattle.ibc_ids.specs.Maps.{at, with}
@@ -28,8 +28,8 @@ invariant_of-self-2 g c =
     let mine : Channel = c.in-Some.channel.now in
     let there : at pair_cmp c.in_ok-name.name old.channels ≡ Some mine = sym c.in-Some.ensures.value in
     let entries = where_found (at pair_cmp c.in_ok-name.name old.channels) (λ (x : Channel). c.time_out_on.new.channels.entries ≡ with pair_cmp c.in_ok-name.name (after_timeout c.args.packet.now.sequence x) old.channels) mine there c.time_out_on.ensures in
-    (times_out old c.in_ok-name.name.0 c.in_ok-name.name.1 mine c.time_out_on.new.channels.entries c.self.invariant c.packet_path.ensures.named there c.args.packet.now.sequence c.reserve.new.self c.settle.new.store
-    c.packet_path.ensures.fits (c.as_str.ensures.value ∙ c.in_ok-path.ensures.ok) c.in_ok-reserve.ensures.same entries c.in_ok-closed.ensures.ok c.settle.ensures).0
+    (times_out old c.in_ok-name.name.0 c.in_ok-name.name.1 mine c.time_out_on.new.channels.entries c.self.invariant c.in_ok-path.ensures.named there c.args.packet.now.sequence c.reserve_timed_out.new.store c.settle.new.store
+    c.reserve_timed_out.ensures.fits (c.as_str.ensures.value ∙ c.in_ok-path.ensures.path) c.reserve_timed_out.ensures.same entries c.in_ok-path.ensures.other c.settle.ensures).0
 
 pub returns-clause-ok : goal.returns-clause-ok
 returns-clause-ok g c =
@@ -37,8 +37,8 @@ returns-clause-ok g c =
     let mine : Channel = c.in-Some.channel.now in
     let there : at pair_cmp c.in_ok-name.name old.channels ≡ Some mine = sym c.in-Some.ensures.value in
     let entries = where_found (at pair_cmp c.in_ok-name.name old.channels) (λ (x : Channel). c.time_out_on.new.channels.entries ≡ with pair_cmp c.in_ok-name.name (after_timeout c.args.packet.now.sequence x) old.channels) mine there c.time_out_on.ensures in
-    let written = (times_out old c.in_ok-name.name.0 c.in_ok-name.name.1 mine c.time_out_on.new.channels.entries c.self.invariant c.packet_path.ensures.named there c.args.packet.now.sequence c.reserve.new.self c.settle.new.store
-    c.packet_path.ensures.fits (c.as_str.ensures.value ∙ c.in_ok-path.ensures.ok) c.in_ok-reserve.ensures.same entries c.in_ok-closed.ensures.ok c.settle.ensures).1 in
+    let written = (times_out old c.in_ok-name.name.0 c.in_ok-name.name.1 mine c.time_out_on.new.channels.entries c.self.invariant c.in_ok-path.ensures.named there c.args.packet.now.sequence c.reserve_timed_out.new.store c.settle.new.store
+    c.reserve_timed_out.ensures.fits (c.as_str.ensures.value ∙ c.in_ok-path.ensures.path) c.reserve_timed_out.ensures.same entries c.in_ok-path.ensures.other c.settle.ensures).1 in
     record {
       mine = mine;
       stood = found old c.args.self.now c.in_ok-name.name c.args.packet.now.source_port c.args.packet.now.source_channel c.self.view_is c.in_ok-name.ensures.ok mine there;
