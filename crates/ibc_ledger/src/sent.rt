@@ -1,7 +1,8 @@
 //! The packets that messages sent.
 
-ghost use Rattle.std.specs.Prelude.{◌≡◌, IfOk, IfErr};
+ghost use Rattle.std.specs.Prelude.{◌≡◌, Some, IfOk, IfErr};
 ghost use Rattle.ibc_ids.specs.declared.refusal.Refusal.TheVariants.{NoMemory};
+ghost use Rattle.ibc_wire.specs.declared.messages.Message.TheVariants as message;
 ghost use Rattle.ibc_machine.specs.TokenData as plain;
 ghost use Rattle.ibc_machine.specs.Transfers.{transfer_commitment};
 ghost use Rattle.ibc_token_data.specs.Plain.{plain_data};
@@ -11,7 +12,7 @@ use ibc_ids::{ChannelId, PortId, Refusal, Version};
 use ibc_machine::Event;
 use ibc_records::Commitment;
 use ibc_token_data::TokenData;
-use ibc_wire::{ChannelEnd, Message, Packet};
+use ibc_wire::{ChannelEnd, Message, Packet, Transfer, TransferMany};
 use std::alloc::{AllocError, Global};
 
 /// What was committed of the packet that an event sent, or none where it sends none. `NoMemory` where a growth is refused.
@@ -36,20 +37,42 @@ fn commitment_by(alloc: Global, message: &Message) -> Result<Option<Commitment>,
             timeout_height: note.timeout_height,
             timeout_time: note.timeout_time,
         })),
-        Message::Transfer(sent) => {
-            let told = TokenData::of_transfer(alloc, sent)?;
-            let version = one_token(alloc)?;
-            let height = sent.timeout_height;
-            Ok(Some(token_commitment(alloc, &version, &told, height, sent.timeout_time)?))
-        }
-        Message::TransferMany(sent) => {
-            let told = TokenData::of_transfer_many(alloc, sent)?;
-            let version = several_tokens(alloc)?;
-            let height = sent.timeout_height;
-            Ok(Some(token_commitment(alloc, &version, &told, height, sent.timeout_time)?))
-        }
+        Message::Transfer(sent) => Ok(Some(transfer_by(alloc, sent)?)),
+        Message::TransferMany(sent) => Ok(Some(transfer_many_by(alloc, sent)?)),
         _ => Ok(None),
     }
+}
+
+// What is committed of the packet of a transfer of one token.
+fn transfer_by(alloc: Global, sent: &Transfer) -> Result<Commitment, Refusal>
+    ensures ok { IfOk result (λ commitment. Some commitment ≡ commitment_by (message.Transfer sent.now)) }
+    ensures err { IfErr result (λ refusal. refusal ≡ NoMemory) }
+{
+    let version = one_token(alloc)?;
+    let told = TokenData::of_transfer(alloc, sent)?;
+    token_commitment(
+        alloc,
+        &version,
+        &told,
+        sent.timeout_height,
+        sent.timeout_time,
+    )
+}
+
+// What is committed of the packet of a transfer of several tokens.
+fn transfer_many_by(alloc: Global, sent: &TransferMany) -> Result<Commitment, Refusal>
+    ensures ok { IfOk result (λ commitment. Some commitment ≡ commitment_by (message.TransferMany sent.now)) }
+    ensures err { IfErr result (λ refusal. refusal ≡ NoMemory) }
+{
+    let version = several_tokens(alloc)?;
+    let told = TokenData::of_transfer_many(alloc, sent)?;
+    token_commitment(
+        alloc,
+        &version,
+        &told,
+        sent.timeout_height,
+        sent.timeout_time,
+    )
 }
 
 // What is committed of a packet of tokens over a channel of the version.
