@@ -1,6 +1,6 @@
 //! Worlds, as the steps of a script see them.
 
-use ibc_codec::decode;
+use ibc_codec::{Wire, decode};
 use ibc_ids::{Account, Bytes, ChannelId, ClientId, ConnectionId, Denom, Key, PortId, Refusal};
 use ibc_machine::{Event, Genesis, Reply};
 use ibc_merkle::Proof;
@@ -29,6 +29,26 @@ pub struct Ledgers {
     world: World,
 }
 
+impl Ledgers {
+    // What a chain has at a key as it stands, none where there is nothing. Refused: `NoMemory`.
+    fn record<T: Wire + Drop>(&self, chain: u8, key: Key) -> Result<Option<T>, Refusal> {
+        let value = self.value(chain, &key);
+        drop(key);
+        match value? {
+            Some(bytes) => Ok(Some(decode(self.alloc, bytes.as_slice())?)),
+            None => Ok(None),
+        }
+    }
+
+    // The bytes that a chain has at a key.
+    fn value(&self, chain: u8, key: &Key) -> Result<Option<Bytes>, Refusal> {
+        match self.world.ledger(chain) {
+            Some(ledger) => ledger.query(key),
+            None => Ok(None),
+        }
+    }
+}
+
 impl Worlds for NewWorlds {
     type Chains = Ledgers;
 
@@ -52,13 +72,7 @@ impl Chains for Ledgers {
     }
 
     fn client_state(&self, chain: u8, client: &ClientId) -> Result<Option<ClientState>, Refusal> {
-        let Some(ledger) = self.world.ledger(chain) else {
-            return Ok(None);
-        };
-        match ledger.query(&Key::ClientState(client.clone()?))? {
-            Some(bytes) => Ok(Some(decode(self.alloc, bytes.as_slice())?)),
-            None => Ok(None),
-        }
+        self.record(chain, Key::ClientState(client.clone()?))
     }
 
     fn connection(
@@ -66,13 +80,7 @@ impl Chains for Ledgers {
         chain: u8,
         connection: &ConnectionId,
     ) -> Result<Option<ConnectionEnd>, Refusal> {
-        let Some(ledger) = self.world.ledger(chain) else {
-            return Ok(None);
-        };
-        match ledger.query(&Key::Connection(connection.clone()?))? {
-            Some(bytes) => Ok(Some(decode(self.alloc, bytes.as_slice())?)),
-            None => Ok(None),
-        }
+        self.record(chain, Key::Connection(connection.clone()?))
     }
 
     fn channel(
@@ -81,13 +89,8 @@ impl Chains for Ledgers {
         port: &PortId,
         channel: &ChannelId,
     ) -> Result<Option<ChannelEnd>, Refusal> {
-        let Some(ledger) = self.world.ledger(chain) else {
-            return Ok(None);
-        };
-        match ledger.query(&Key::ChannelEnd(port.clone()?, channel.clone()?))? {
-            Some(bytes) => Ok(Some(decode(self.alloc, bytes.as_slice())?)),
-            None => Ok(None),
-        }
+        let port = port.clone()?;
+        self.record(chain, Key::ChannelEnd(port, channel.clone()?))
     }
 
     fn packet(
