@@ -1,11 +1,18 @@
 //! How the messages of channels are spelled behind their tag.
 
+ghost use Rattle.std.specs.Prelude.{◌∷◌, []};
+ghost use Rattle.ibc_ids.specs.Names.{is_connection, is_port};
+ghost use Rattle.ibc_wire.specs.Fields.{u8, name};
+ghost use Rattle.ibc_wire.specs.Spelling.{order_number};
+ghost use Rattle.ibc_wire.specs.Fronts.{Writes};
 ghost use Rattle.ibc_message_codec.specs.PayloadFronts.{chan_open_init_fields, chan_open_try_fields, chan_open_ack_fields, chan_open_confirm_fields, chan_close_init_fields, chan_close_confirm_fields, chan_open_init_at_front, chan_open_try_at_front, chan_open_ack_at_front, chan_open_confirm_at_front, chan_close_init_at_front, chan_close_confirm_at_front};
 
+use crate::behind::{n8_behind, name_behind, str_behind, value_behind};
+use crate::parts::write_proof;
 use crate::payload::Payload;
 use ibc_codec::Wire;
-use ibc_codec::fields::{read_n8, read_name, read_str, write_n8, write_name, write_str};
-use ibc_ids::Refusal;
+use ibc_codec::fields::{read_name, write_name};
+use ibc_ids::{ConnectionId, PortId, Refusal};
 use ibc_wire::{
     ChanCloseConfirm, ChanCloseInit, ChanOpenAck, ChanOpenConfirm, ChanOpenInit, ChanOpenTry, Order,
 };
@@ -18,11 +25,12 @@ impl Payload for ChanOpenInit {
 
     #[tactic(auto, unfolding(crate::specs::PayloadFronts::chan_open_init_at_front))]
     fn read(alloc: Global, bytes: &[u8]) -> Result<(ChanOpenInit, &[u8]), Refusal> {
-        let (port, rest) = read_name(alloc, bytes)?;
-        let (order, rest) = Order::read(alloc, rest)?;
-        let (connection, rest) = read_name(alloc, rest)?;
-        let (peer_port, rest) = read_name(alloc, rest)?;
-        let (version, rest) = read_name(alloc, rest)?;
+        let (fields, rest) = read_name(alloc, bytes)?;
+        let (fields, rest) = value_behind(alloc, fields, rest)?;
+        let (fields, rest) = name_behind(alloc, fields, rest)?;
+        let (fields, rest) = name_behind(alloc, fields, rest)?;
+        let (fields, rest) = name_behind(alloc, fields, rest)?;
+        let ((((port, order), connection), peer_port), version) = fields;
         Ok((
             ChanOpenInit {
                 port,
@@ -36,10 +44,13 @@ impl Payload for ChanOpenInit {
     }
 
     fn write(&self, out: &mut Vec<u8>) -> Result<(), Refusal> {
-        write_name(out, &self.port)?;
-        self.order.write(out)?;
-        write_name(out, &self.connection)?;
-        write_name(out, &self.peer_port)?;
+        write_opening(
+            out,
+            &self.port,
+            &self.order,
+            &self.connection,
+            &self.peer_port,
+        )?;
         write_name(out, &self.version)
     }
 }
@@ -51,14 +62,16 @@ impl Payload for ChanOpenTry {
 
     #[tactic(auto, unfolding(crate::specs::PayloadFronts::chan_open_try_at_front))]
     fn read(alloc: Global, bytes: &[u8]) -> Result<(ChanOpenTry, &[u8]), Refusal> {
-        let (port, rest) = read_name(alloc, bytes)?;
-        let (order, rest) = Order::read(alloc, rest)?;
-        let (connection, rest) = read_name(alloc, rest)?;
-        let (peer_port, rest) = read_name(alloc, rest)?;
-        let (peer_channel, rest) = read_name(alloc, rest)?;
-        let (version, rest) = read_name(alloc, rest)?;
-        let (height, rest) = read_n8(rest)?;
-        let (proof, rest) = read_str(alloc, rest, u16::MAX)?;
+        let (fields, rest) = read_name(alloc, bytes)?;
+        let (fields, rest) = value_behind(alloc, fields, rest)?;
+        let (fields, rest) = name_behind(alloc, fields, rest)?;
+        let (fields, rest) = name_behind(alloc, fields, rest)?;
+        let (fields, rest) = name_behind(alloc, fields, rest)?;
+        let (fields, rest) = name_behind(alloc, fields, rest)?;
+        let (fields, rest) = n8_behind(fields, rest)?;
+        let (fields, rest) = str_behind(alloc, fields, rest)?;
+        let (((((((port, order), connection), peer_port), peer_channel), version), height), proof) =
+            fields;
         Ok((
             ChanOpenTry {
                 port,
@@ -75,14 +88,16 @@ impl Payload for ChanOpenTry {
     }
 
     fn write(&self, out: &mut Vec<u8>) -> Result<(), Refusal> {
-        write_name(out, &self.port)?;
-        self.order.write(out)?;
-        write_name(out, &self.connection)?;
-        write_name(out, &self.peer_port)?;
+        write_opening(
+            out,
+            &self.port,
+            &self.order,
+            &self.connection,
+            &self.peer_port,
+        )?;
         write_name(out, &self.peer_channel)?;
         write_name(out, &self.version)?;
-        write_n8(out, self.height)?;
-        write_str(out, &self.proof, u16::MAX)
+        write_proof(out, self.height, &self.proof)
     }
 }
 
@@ -93,11 +108,12 @@ impl Payload for ChanOpenAck {
 
     #[tactic(auto, unfolding(crate::specs::PayloadFronts::chan_open_ack_at_front))]
     fn read(alloc: Global, bytes: &[u8]) -> Result<(ChanOpenAck, &[u8]), Refusal> {
-        let (port, rest) = read_name(alloc, bytes)?;
-        let (channel, rest) = read_name(alloc, rest)?;
-        let (peer_channel, rest) = read_name(alloc, rest)?;
-        let (height, rest) = read_n8(rest)?;
-        let (proof, rest) = read_str(alloc, rest, u16::MAX)?;
+        let (fields, rest) = read_name(alloc, bytes)?;
+        let (fields, rest) = name_behind(alloc, fields, rest)?;
+        let (fields, rest) = name_behind(alloc, fields, rest)?;
+        let (fields, rest) = n8_behind(fields, rest)?;
+        let (fields, rest) = str_behind(alloc, fields, rest)?;
+        let ((((port, channel), peer_channel), height), proof) = fields;
         Ok((
             ChanOpenAck {
                 port,
@@ -114,8 +130,7 @@ impl Payload for ChanOpenAck {
         write_name(out, &self.port)?;
         write_name(out, &self.channel)?;
         write_name(out, &self.peer_channel)?;
-        write_n8(out, self.height)?;
-        write_str(out, &self.proof, u16::MAX)
+        write_proof(out, self.height, &self.proof)
     }
 }
 
@@ -126,10 +141,11 @@ impl Payload for ChanOpenConfirm {
 
     #[tactic(auto, unfolding(crate::specs::PayloadFronts::chan_open_confirm_at_front))]
     fn read(alloc: Global, bytes: &[u8]) -> Result<(ChanOpenConfirm, &[u8]), Refusal> {
-        let (port, rest) = read_name(alloc, bytes)?;
-        let (channel, rest) = read_name(alloc, rest)?;
-        let (height, rest) = read_n8(rest)?;
-        let (proof, rest) = read_str(alloc, rest, u16::MAX)?;
+        let (fields, rest) = read_name(alloc, bytes)?;
+        let (fields, rest) = name_behind(alloc, fields, rest)?;
+        let (fields, rest) = n8_behind(fields, rest)?;
+        let (fields, rest) = str_behind(alloc, fields, rest)?;
+        let (((port, channel), height), proof) = fields;
         Ok((
             ChanOpenConfirm {
                 port,
@@ -144,8 +160,7 @@ impl Payload for ChanOpenConfirm {
     fn write(&self, out: &mut Vec<u8>) -> Result<(), Refusal> {
         write_name(out, &self.port)?;
         write_name(out, &self.channel)?;
-        write_n8(out, self.height)?;
-        write_str(out, &self.proof, u16::MAX)
+        write_proof(out, self.height, &self.proof)
     }
 }
 
@@ -156,8 +171,9 @@ impl Payload for ChanCloseInit {
 
     #[tactic(auto, unfolding(crate::specs::PayloadFronts::chan_close_init_at_front))]
     fn read(alloc: Global, bytes: &[u8]) -> Result<(ChanCloseInit, &[u8]), Refusal> {
-        let (port, rest) = read_name(alloc, bytes)?;
-        let (channel, rest) = read_name(alloc, rest)?;
+        let (fields, rest) = read_name(alloc, bytes)?;
+        let (fields, rest) = name_behind(alloc, fields, rest)?;
+        let (port, channel) = fields;
         Ok((ChanCloseInit { port, channel }, rest))
     }
 
@@ -174,10 +190,11 @@ impl Payload for ChanCloseConfirm {
 
     #[tactic(auto, unfolding(crate::specs::PayloadFronts::chan_close_confirm_at_front))]
     fn read(alloc: Global, bytes: &[u8]) -> Result<(ChanCloseConfirm, &[u8]), Refusal> {
-        let (port, rest) = read_name(alloc, bytes)?;
-        let (channel, rest) = read_name(alloc, rest)?;
-        let (height, rest) = read_n8(rest)?;
-        let (proof, rest) = read_str(alloc, rest, u16::MAX)?;
+        let (fields, rest) = read_name(alloc, bytes)?;
+        let (fields, rest) = name_behind(alloc, fields, rest)?;
+        let (fields, rest) = n8_behind(fields, rest)?;
+        let (fields, rest) = str_behind(alloc, fields, rest)?;
+        let (((port, channel), height), proof) = fields;
         Ok((
             ChanCloseConfirm {
                 port,
@@ -192,7 +209,22 @@ impl Payload for ChanCloseConfirm {
     fn write(&self, out: &mut Vec<u8>) -> Result<(), Refusal> {
         write_name(out, &self.port)?;
         write_name(out, &self.channel)?;
-        write_n8(out, self.height)?;
-        write_str(out, &self.proof, u16::MAX)
+        write_proof(out, self.height, &self.proof)
     }
+}
+
+// Writes the port of a channel, its order, its connection, and the peer's port.
+fn write_opening(
+    out: &mut Vec<u8>,
+    port: &PortId,
+    order: &Order,
+    connection: &ConnectionId,
+    peer_port: &PortId,
+) -> Result<(), Refusal>
+    ensures { Writes (name is_port port.now ∷ u8 (order_number order.now) ∷ name is_connection connection.now ∷ name is_port peer_port.now ∷ []) out.old.items result out.new.items }
+{
+    write_name(out, port)?;
+    order.write(out)?;
+    write_name(out, connection)?;
+    write_name(out, peer_port)
 }

@@ -2,9 +2,11 @@
 
 ghost use Rattle.ibc_message_codec.specs.PayloadFronts.{conn_open_init_fields, conn_open_try_fields, conn_open_ack_fields, conn_open_confirm_fields, conn_open_init_at_front, conn_open_try_at_front, conn_open_ack_at_front, conn_open_confirm_at_front};
 
+use crate::behind::{n8_behind, name_behind, str_behind, value_behind};
+use crate::parts::{write_proof, write_proofs};
 use crate::payload::Payload;
 use ibc_codec::Wire;
-use ibc_codec::fields::{read_n8, read_name, read_str, write_n8, write_name, write_str};
+use ibc_codec::fields::{read_name, write_name};
 use ibc_ids::Refusal;
 use ibc_wire::{ClientState, ConnOpenAck, ConnOpenConfirm, ConnOpenInit, ConnOpenTry};
 use std::alloc::Global;
@@ -16,8 +18,9 @@ impl Payload for ConnOpenInit {
 
     #[tactic(auto, unfolding(crate::specs::PayloadFronts::conn_open_init_at_front))]
     fn read(alloc: Global, bytes: &[u8]) -> Result<(ConnOpenInit, &[u8]), Refusal> {
-        let (client, rest) = read_name(alloc, bytes)?;
-        let (peer_client, rest) = read_name(alloc, rest)?;
+        let (fields, rest) = read_name(alloc, bytes)?;
+        let (fields, rest) = name_behind(alloc, fields, rest)?;
+        let (client, peer_client) = fields;
         Ok((
             ConnOpenInit {
                 client,
@@ -40,13 +43,17 @@ impl Payload for ConnOpenTry {
 
     #[tactic(auto, unfolding(crate::specs::PayloadFronts::conn_open_try_at_front))]
     fn read(alloc: Global, bytes: &[u8]) -> Result<(ConnOpenTry, &[u8]), Refusal> {
-        let (client, rest) = read_name(alloc, bytes)?;
-        let (peer_client, rest) = read_name(alloc, rest)?;
-        let (peer_connection, rest) = read_name(alloc, rest)?;
-        let (claim, rest) = ClientState::read(alloc, rest)?;
-        let (height, rest) = read_n8(rest)?;
-        let (proof_end, rest) = read_str(alloc, rest, u16::MAX)?;
-        let (proof_client, rest) = read_str(alloc, rest, u16::MAX)?;
+        let (fields, rest) = read_name(alloc, bytes)?;
+        let (fields, rest) = name_behind(alloc, fields, rest)?;
+        let (fields, rest) = name_behind(alloc, fields, rest)?;
+        let (fields, rest) = value_behind(alloc, fields, rest)?;
+        let (fields, rest) = n8_behind(fields, rest)?;
+        let (fields, rest) = str_behind(alloc, fields, rest)?;
+        let (fields, rest) = str_behind(alloc, fields, rest)?;
+        let (
+            (((((client, peer_client), peer_connection), claim), height), proof_end),
+            proof_client,
+        ) = fields;
         Ok((
             ConnOpenTry {
                 client,
@@ -66,9 +73,7 @@ impl Payload for ConnOpenTry {
         write_name(out, &self.peer_client)?;
         write_name(out, &self.peer_connection)?;
         self.claim.write(out)?;
-        write_n8(out, self.height)?;
-        write_str(out, &self.proof_end, u16::MAX)?;
-        write_str(out, &self.proof_client, u16::MAX)
+        write_proofs(out, self.height, &self.proof_end, &self.proof_client)
     }
 }
 
@@ -79,12 +84,13 @@ impl Payload for ConnOpenAck {
 
     #[tactic(auto, unfolding(crate::specs::PayloadFronts::conn_open_ack_at_front))]
     fn read(alloc: Global, bytes: &[u8]) -> Result<(ConnOpenAck, &[u8]), Refusal> {
-        let (connection, rest) = read_name(alloc, bytes)?;
-        let (peer_connection, rest) = read_name(alloc, rest)?;
-        let (claim, rest) = ClientState::read(alloc, rest)?;
-        let (height, rest) = read_n8(rest)?;
-        let (proof_end, rest) = read_str(alloc, rest, u16::MAX)?;
-        let (proof_client, rest) = read_str(alloc, rest, u16::MAX)?;
+        let (fields, rest) = read_name(alloc, bytes)?;
+        let (fields, rest) = name_behind(alloc, fields, rest)?;
+        let (fields, rest) = value_behind(alloc, fields, rest)?;
+        let (fields, rest) = n8_behind(fields, rest)?;
+        let (fields, rest) = str_behind(alloc, fields, rest)?;
+        let (fields, rest) = str_behind(alloc, fields, rest)?;
+        let (((((connection, peer_connection), claim), height), proof_end), proof_client) = fields;
         Ok((
             ConnOpenAck {
                 connection,
@@ -102,9 +108,7 @@ impl Payload for ConnOpenAck {
         write_name(out, &self.connection)?;
         write_name(out, &self.peer_connection)?;
         self.claim.write(out)?;
-        write_n8(out, self.height)?;
-        write_str(out, &self.proof_end, u16::MAX)?;
-        write_str(out, &self.proof_client, u16::MAX)
+        write_proofs(out, self.height, &self.proof_end, &self.proof_client)
     }
 }
 
@@ -115,9 +119,10 @@ impl Payload for ConnOpenConfirm {
 
     #[tactic(auto, unfolding(crate::specs::PayloadFronts::conn_open_confirm_at_front))]
     fn read(alloc: Global, bytes: &[u8]) -> Result<(ConnOpenConfirm, &[u8]), Refusal> {
-        let (connection, rest) = read_name(alloc, bytes)?;
-        let (height, rest) = read_n8(rest)?;
-        let (proof, rest) = read_str(alloc, rest, u16::MAX)?;
+        let (fields, rest) = read_name(alloc, bytes)?;
+        let (fields, rest) = n8_behind(fields, rest)?;
+        let (fields, rest) = str_behind(alloc, fields, rest)?;
+        let ((connection, height), proof) = fields;
         Ok((
             ConnOpenConfirm {
                 connection,
@@ -130,7 +135,6 @@ impl Payload for ConnOpenConfirm {
 
     fn write(&self, out: &mut Vec<u8>) -> Result<(), Refusal> {
         write_name(out, &self.connection)?;
-        write_n8(out, self.height)?;
-        write_str(out, &self.proof, u16::MAX)
+        write_proof(out, self.height, &self.proof)
     }
 }

@@ -1,11 +1,13 @@
 //! How messages are written to bytes and read back.
 #![tactic(auto)]
 
+mod behind;
 mod channels;
 mod clients;
 mod connections;
 mod message;
 mod packets;
+mod parts;
 mod payload;
 mod transfers;
 

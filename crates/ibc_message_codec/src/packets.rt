@@ -1,11 +1,16 @@
 //! How the messages of packets, their acknowledgements and timeouts are spelled behind their tag.
 
+ghost use Rattle.std.specs.Prelude.{◌∷◌, []};
+ghost use Rattle.ibc_wire.specs.Fields.{n8, str};
+ghost use Rattle.ibc_wire.specs.Fronts.{Writes};
 ghost use Rattle.ibc_message_codec.specs.PayloadFronts.{recv_packet_fields, ack_packet_fields, timeout_fields, timeout_on_close_fields, recv_packet_at_front, ack_packet_at_front, timeout_at_front, timeout_on_close_at_front};
 
+use crate::behind::{n8_behind, str_behind};
+use crate::parts::{write_proof, write_proofs};
 use crate::payload::Payload;
 use ibc_codec::Wire;
-use ibc_codec::fields::{read_n8, read_str, write_n8, write_str};
-use ibc_ids::Refusal;
+use ibc_codec::fields::{write_n8, write_str};
+use ibc_ids::{Bytes, Refusal};
 use ibc_wire::{AckPacket, Packet, RecvPacket, Timeout, TimeoutOnClose};
 use std::alloc::Global;
 
@@ -16,9 +21,10 @@ impl Payload for RecvPacket {
 
     #[tactic(auto, unfolding(crate::specs::PayloadFronts::recv_packet_at_front))]
     fn read(alloc: Global, bytes: &[u8]) -> Result<(RecvPacket, &[u8]), Refusal> {
-        let (packet, rest) = Packet::read(alloc, bytes)?;
-        let (height, rest) = read_n8(rest)?;
-        let (proof, rest) = read_str(alloc, rest, u16::MAX)?;
+        let (fields, rest) = Packet::read(alloc, bytes)?;
+        let (fields, rest) = n8_behind(fields, rest)?;
+        let (fields, rest) = str_behind(alloc, fields, rest)?;
+        let ((packet, height), proof) = fields;
         Ok((
             RecvPacket {
                 packet,
@@ -31,8 +37,7 @@ impl Payload for RecvPacket {
 
     fn write(&self, out: &mut Vec<u8>) -> Result<(), Refusal> {
         self.packet.write(out)?;
-        write_n8(out, self.height)?;
-        write_str(out, &self.proof, u16::MAX)
+        write_proof(out, self.height, &self.proof)
     }
 }
 
@@ -43,10 +48,11 @@ impl Payload for AckPacket {
 
     #[tactic(auto, unfolding(crate::specs::PayloadFronts::ack_packet_at_front))]
     fn read(alloc: Global, bytes: &[u8]) -> Result<(AckPacket, &[u8]), Refusal> {
-        let (packet, rest) = Packet::read(alloc, bytes)?;
-        let (ack, rest) = read_str(alloc, rest, u16::MAX)?;
-        let (height, rest) = read_n8(rest)?;
-        let (proof, rest) = read_str(alloc, rest, u16::MAX)?;
+        let (fields, rest) = Packet::read(alloc, bytes)?;
+        let (fields, rest) = str_behind(alloc, fields, rest)?;
+        let (fields, rest) = n8_behind(fields, rest)?;
+        let (fields, rest) = str_behind(alloc, fields, rest)?;
+        let (((packet, ack), height), proof) = fields;
         Ok((
             AckPacket {
                 packet,
@@ -60,9 +66,7 @@ impl Payload for AckPacket {
 
     fn write(&self, out: &mut Vec<u8>) -> Result<(), Refusal> {
         self.packet.write(out)?;
-        write_str(out, &self.ack, u16::MAX)?;
-        write_n8(out, self.height)?;
-        write_str(out, &self.proof, u16::MAX)
+        write_proven_ack(out, &self.ack, self.height, &self.proof)
     }
 }
 
@@ -73,10 +77,11 @@ impl Payload for Timeout {
 
     #[tactic(auto, unfolding(crate::specs::PayloadFronts::timeout_at_front))]
     fn read(alloc: Global, bytes: &[u8]) -> Result<(Timeout, &[u8]), Refusal> {
-        let (packet, rest) = Packet::read(alloc, bytes)?;
-        let (next_recv, rest) = read_n8(rest)?;
-        let (height, rest) = read_n8(rest)?;
-        let (proof, rest) = read_str(alloc, rest, u16::MAX)?;
+        let (fields, rest) = Packet::read(alloc, bytes)?;
+        let (fields, rest) = n8_behind(fields, rest)?;
+        let (fields, rest) = n8_behind(fields, rest)?;
+        let (fields, rest) = str_behind(alloc, fields, rest)?;
+        let (((packet, next_recv), height), proof) = fields;
         Ok((
             Timeout {
                 packet,
@@ -90,9 +95,7 @@ impl Payload for Timeout {
 
     fn write(&self, out: &mut Vec<u8>) -> Result<(), Refusal> {
         self.packet.write(out)?;
-        write_n8(out, self.next_recv)?;
-        write_n8(out, self.height)?;
-        write_str(out, &self.proof, u16::MAX)
+        write_proven_absence(out, self.next_recv, self.height, &self.proof)
     }
 }
 
@@ -103,11 +106,12 @@ impl Payload for TimeoutOnClose {
 
     #[tactic(auto, unfolding(crate::specs::PayloadFronts::timeout_on_close_at_front))]
     fn read(alloc: Global, bytes: &[u8]) -> Result<(TimeoutOnClose, &[u8]), Refusal> {
-        let (packet, rest) = Packet::read(alloc, bytes)?;
-        let (next_recv, rest) = read_n8(rest)?;
-        let (height, rest) = read_n8(rest)?;
-        let (proof, rest) = read_str(alloc, rest, u16::MAX)?;
-        let (proof_close, rest) = read_str(alloc, rest, u16::MAX)?;
+        let (fields, rest) = Packet::read(alloc, bytes)?;
+        let (fields, rest) = n8_behind(fields, rest)?;
+        let (fields, rest) = n8_behind(fields, rest)?;
+        let (fields, rest) = str_behind(alloc, fields, rest)?;
+        let (fields, rest) = str_behind(alloc, fields, rest)?;
+        let ((((packet, next_recv), height), proof), proof_close) = fields;
         Ok((
             TimeoutOnClose {
                 packet,
@@ -122,9 +126,52 @@ impl Payload for TimeoutOnClose {
 
     fn write(&self, out: &mut Vec<u8>) -> Result<(), Refusal> {
         self.packet.write(out)?;
-        write_n8(out, self.next_recv)?;
-        write_n8(out, self.height)?;
-        write_str(out, &self.proof, u16::MAX)?;
-        write_str(out, &self.proof_close, u16::MAX)
+        write_proven_close(
+            out,
+            self.next_recv,
+            self.height,
+            &self.proof,
+            &self.proof_close,
+        )
     }
+}
+
+// Writes an acknowledgement, and what proves it.
+fn write_proven_ack(
+    out: &mut Vec<u8>,
+    ack: &Bytes,
+    height: u64,
+    proof: &Bytes,
+) -> Result<(), Refusal>
+    ensures { Writes (str ack.now ∷ n8 height ∷ str proof.now ∷ []) out.old.items result out.new.items }
+{
+    write_str(out, ack, u16::MAX)?;
+    write_proof(out, height, proof)
+}
+
+// Writes the sequence that the peer receives next, and what proves that it hasn't received a packet.
+fn write_proven_absence(
+    out: &mut Vec<u8>,
+    next_recv: u64,
+    height: u64,
+    proof: &Bytes,
+) -> Result<(), Refusal>
+    ensures { Writes (n8 next_recv ∷ n8 height ∷ str proof.now ∷ []) out.old.items result out.new.items }
+{
+    write_n8(out, next_recv)?;
+    write_proof(out, height, proof)
+}
+
+// Writes the sequence that the peer receives next, and what proves that it hasn't received a packet and is closed.
+fn write_proven_close(
+    out: &mut Vec<u8>,
+    next_recv: u64,
+    height: u64,
+    proof: &Bytes,
+    proof_close: &Bytes,
+) -> Result<(), Refusal>
+    ensures { Writes (n8 next_recv ∷ n8 height ∷ str proof.now ∷ str proof_close.now ∷ []) out.old.items result out.new.items }
+{
+    write_n8(out, next_recv)?;
+    write_proofs(out, height, proof, proof_close)
 }

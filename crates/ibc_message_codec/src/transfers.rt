@@ -2,11 +2,11 @@
 
 ghost use Rattle.ibc_message_codec.specs.PayloadFronts.{transfer_fields, send_note_fields, transfer_many_fields, transfer_at_front, send_note_at_front, transfer_many_at_front};
 
+use crate::behind::{n8_behind, n16_behind, name_behind, str_behind, value_behind};
+use crate::parts::write_delivery;
 use crate::payload::Payload;
 use ibc_codec::Wire;
-use ibc_codec::fields::{
-    read_n8, read_n16, read_name, read_str, write_n8, write_n16, write_name, write_str,
-};
+use ibc_codec::fields::{read_name, write_n8, write_n16, write_name, write_str};
 use ibc_ids::Refusal;
 use ibc_wire::{SendNote, Tokens, Transfer, TransferMany};
 use std::alloc::Global;
@@ -18,14 +18,18 @@ impl Payload for Transfer {
 
     #[tactic(auto, unfolding(crate::specs::PayloadFronts::transfer_at_front))]
     fn read(alloc: Global, bytes: &[u8]) -> Result<(Transfer, &[u8]), Refusal> {
-        let (channel, rest) = read_name(alloc, bytes)?;
-        let (user, rest) = read_name(alloc, rest)?;
-        let (denom, rest) = read_name(alloc, rest)?;
-        let (amount, rest) = read_n16(rest)?;
-        let (receiver, rest) = read_name(alloc, rest)?;
-        let (memo, rest) = read_name(alloc, rest)?;
-        let (timeout_height, rest) = read_n8(rest)?;
-        let (timeout_time, rest) = read_n8(rest)?;
+        let (fields, rest) = read_name(alloc, bytes)?;
+        let (fields, rest) = name_behind(alloc, fields, rest)?;
+        let (fields, rest) = name_behind(alloc, fields, rest)?;
+        let (fields, rest) = n16_behind(fields, rest)?;
+        let (fields, rest) = name_behind(alloc, fields, rest)?;
+        let (fields, rest) = name_behind(alloc, fields, rest)?;
+        let (fields, rest) = n8_behind(fields, rest)?;
+        let (fields, rest) = n8_behind(fields, rest)?;
+        let (
+            ((((((channel, user), denom), amount), receiver), memo), timeout_height),
+            timeout_time,
+        ) = fields;
         Ok((
             Transfer {
                 channel,
@@ -46,10 +50,13 @@ impl Payload for Transfer {
         write_name(out, &self.user)?;
         write_name(out, &self.denom)?;
         write_n16(out, self.amount)?;
-        write_name(out, &self.receiver)?;
-        write_name(out, &self.memo)?;
-        write_n8(out, self.timeout_height)?;
-        write_n8(out, self.timeout_time)
+        write_delivery(
+            out,
+            &self.receiver,
+            &self.memo,
+            self.timeout_height,
+            self.timeout_time,
+        )
     }
 }
 
@@ -60,10 +67,11 @@ impl Payload for SendNote {
 
     #[tactic(auto, unfolding(crate::specs::PayloadFronts::send_note_at_front))]
     fn read(alloc: Global, bytes: &[u8]) -> Result<(SendNote, &[u8]), Refusal> {
-        let (channel, rest) = read_name(alloc, bytes)?;
-        let (payload, rest) = read_str(alloc, rest, u16::MAX)?;
-        let (timeout_height, rest) = read_n8(rest)?;
-        let (timeout_time, rest) = read_n8(rest)?;
+        let (fields, rest) = read_name(alloc, bytes)?;
+        let (fields, rest) = str_behind(alloc, fields, rest)?;
+        let (fields, rest) = n8_behind(fields, rest)?;
+        let (fields, rest) = n8_behind(fields, rest)?;
+        let (((channel, payload), timeout_height), timeout_time) = fields;
         Ok((
             SendNote {
                 channel,
@@ -90,13 +98,15 @@ impl Payload for TransferMany {
 
     #[tactic(auto, unfolding(crate::specs::PayloadFronts::transfer_many_at_front))]
     fn read(alloc: Global, bytes: &[u8]) -> Result<(TransferMany, &[u8]), Refusal> {
-        let (channel, rest) = read_name(alloc, bytes)?;
-        let (user, rest) = read_name(alloc, rest)?;
-        let (tokens, rest) = Tokens::read(alloc, rest)?;
-        let (receiver, rest) = read_name(alloc, rest)?;
-        let (memo, rest) = read_name(alloc, rest)?;
-        let (timeout_height, rest) = read_n8(rest)?;
-        let (timeout_time, rest) = read_n8(rest)?;
+        let (fields, rest) = read_name(alloc, bytes)?;
+        let (fields, rest) = name_behind(alloc, fields, rest)?;
+        let (fields, rest) = value_behind(alloc, fields, rest)?;
+        let (fields, rest) = name_behind(alloc, fields, rest)?;
+        let (fields, rest) = name_behind(alloc, fields, rest)?;
+        let (fields, rest) = n8_behind(fields, rest)?;
+        let (fields, rest) = n8_behind(fields, rest)?;
+        let ((((((channel, user), tokens), receiver), memo), timeout_height), timeout_time) =
+            fields;
         Ok((
             TransferMany {
                 channel,
@@ -115,9 +125,12 @@ impl Payload for TransferMany {
         write_name(out, &self.channel)?;
         write_name(out, &self.user)?;
         self.tokens.write(out)?;
-        write_name(out, &self.receiver)?;
-        write_name(out, &self.memo)?;
-        write_n8(out, self.timeout_height)?;
-        write_n8(out, self.timeout_time)
+        write_delivery(
+            out,
+            &self.receiver,
+            &self.memo,
+            self.timeout_height,
+            self.timeout_time,
+        )
     }
 }

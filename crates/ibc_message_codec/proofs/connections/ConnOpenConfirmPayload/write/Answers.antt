@@ -7,6 +7,5 @@ use Rattle.ibc_message_codec.proofs.connections.ConnOpenConfirmPayload.write.Goa
 pub returns : goal.returns
 returns c =
     let m = c.args.self.now in
-    behind (name is_connection m.connection ∷ []) (n8 m.height ∷ str m.proof ∷ []) c.args.out.now.items c.write_name.new.out.items c.write_str.new.out.items c.write_str.result c.in_ok-write_name.ensures (
-    behind (n8 m.height ∷ []) (str m.proof ∷ []) c.write_name.new.out.items c.write_n8.new.out.items c.write_str.new.out.items c.write_str.result c.in_ok-write_n8.ensures (
-    c.write_str.ensures))
+    behind (name is_connection m.connection ∷ []) (n8 m.height ∷ str m.proof ∷ []) c.args.out.now.items c.write_name.new.out.items c.write_proof.new.out.items c.write_proof.result c.in_ok-write_name.ensures (
+    c.write_proof.ensures)

@@ -7,7 +7,4 @@ use Rattle.ibc_message_codec.proofs.packets.AckPacketPayload.write.Goals as goal
 pub returns : goal.returns
 returns c =
     let m = c.args.self.now in
-    behind (packet_fields m.packet) (str m.ack ∷ n8 m.height ∷ str m.proof ∷ []) c.args.out.now.items c.write.new.out.items c.write_str-2.new.out.items c.write_str-2.result c.in_ok-write.ensures (
-    behind (str m.ack ∷ []) (n8 m.height ∷ str m.proof ∷ []) c.write.new.out.items c.write_str.new.out.items c.write_str-2.new.out.items c.write_str-2.result c.in_ok-write_str.ensures (
-    behind (n8 m.height ∷ []) (str m.proof ∷ []) c.write_str.new.out.items c.write_n8.new.out.items c.write_str-2.new.out.items c.write_str-2.result c.in_ok-write_n8.ensures (
-    c.write_str-2.ensures)))
+    behind (packet_fields m.packet) (str m.ack ∷ n8 m.height ∷ str m.proof ∷ []) c.args.out.now.items c.write.new.out.items c.write_proven_ack.new.out.items c.write_proven_ack.result c.in_ok-write.ensures c.write_proven_ack.ensures

@@ -7,6 +7,4 @@ use Rattle.ibc_message_codec.proofs.packets.RecvPacketPayload.write.Goals as goa
 pub returns : goal.returns
 returns c =
     let m = c.args.self.now in
-    behind (packet_fields m.packet) (n8 m.height ∷ str m.proof ∷ []) c.args.out.now.items c.write.new.out.items c.write_str.new.out.items c.write_str.result c.in_ok-write.ensures (
-    behind (n8 m.height ∷ []) (str m.proof ∷ []) c.write.new.out.items c.write_n8.new.out.items c.write_str.new.out.items c.write_str.result c.in_ok-write_n8.ensures (
-    c.write_str.ensures))
+    behind (packet_fields m.packet) (n8 m.height ∷ str m.proof ∷ []) c.args.out.now.items c.write.new.out.items c.write_proof.new.out.items c.write_proof.result c.in_ok-write.ensures c.write_proof.ensures

@@ -7,8 +7,4 @@ use Rattle.ibc_message_codec.proofs.packets.TimeoutOnClosePayload.write.Goals as
 pub returns : goal.returns
 returns c =
     let m = c.args.self.now in
-    behind (packet_fields m.packet) (n8 m.next_recv ∷ n8 m.height ∷ str m.proof ∷ str m.proof_close ∷ []) c.args.out.now.items c.write.new.out.items c.write_str-2.new.out.items c.write_str-2.result c.in_ok-write.ensures (
-    behind (n8 m.next_recv ∷ []) (n8 m.height ∷ str m.proof ∷ str m.proof_close ∷ []) c.write.new.out.items c.write_n8.new.out.items c.write_str-2.new.out.items c.write_str-2.result c.in_ok-write_n8.ensures (
-    behind (n8 m.height ∷ []) (str m.proof ∷ str m.proof_close ∷ []) c.write_n8.new.out.items c.write_n8-2.new.out.items c.write_str-2.new.out.items c.write_str-2.result c.in_ok-write_n8-2.ensures (
-    behind (str m.proof ∷ []) (str m.proof_close ∷ []) c.write_n8-2.new.out.items c.write_str.new.out.items c.write_str-2.new.out.items c.write_str-2.result c.in_ok-write_str.ensures (
-    c.write_str-2.ensures))))
+    behind (packet_fields m.packet) (n8 m.next_recv ∷ n8 m.height ∷ str m.proof ∷ str m.proof_close ∷ []) c.args.out.now.items c.write.new.out.items c.write_proven_close.new.out.items c.write_proven_close.result c.in_ok-write.ensures c.write_proven_close.ensures

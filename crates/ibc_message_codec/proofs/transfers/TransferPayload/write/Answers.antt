@@ -7,11 +7,8 @@ use Rattle.ibc_message_codec.proofs.transfers.TransferPayload.write.Goals as goa
 pub returns : goal.returns
 returns c =
     let m = c.args.self.now in
-    behind (name is_channel m.channel ∷ []) (name is_user m.user ∷ name is_denom m.denom ∷ n16 m.amount ∷ name is_receiver m.receiver ∷ name is_memo m.memo ∷ n8 m.timeout_height ∷ n8 m.timeout_time ∷ []) c.args.out.now.items c.write_name.new.out.items c.write_n8-2.new.out.items c.write_n8-2.result c.in_ok-write_name.ensures (
-    behind (name is_user m.user ∷ []) (name is_denom m.denom ∷ n16 m.amount ∷ name is_receiver m.receiver ∷ name is_memo m.memo ∷ n8 m.timeout_height ∷ n8 m.timeout_time ∷ []) c.write_name.new.out.items c.write_name-2.new.out.items c.write_n8-2.new.out.items c.write_n8-2.result c.in_ok-write_name-2.ensures (
-    behind (name is_denom m.denom ∷ []) (n16 m.amount ∷ name is_receiver m.receiver ∷ name is_memo m.memo ∷ n8 m.timeout_height ∷ n8 m.timeout_time ∷ []) c.write_name-2.new.out.items c.write_name-3.new.out.items c.write_n8-2.new.out.items c.write_n8-2.result c.in_ok-write_name-3.ensures (
-    behind (n16 m.amount ∷ []) (name is_receiver m.receiver ∷ name is_memo m.memo ∷ n8 m.timeout_height ∷ n8 m.timeout_time ∷ []) c.write_name-3.new.out.items c.write_n16.new.out.items c.write_n8-2.new.out.items c.write_n8-2.result c.in_ok-write_n16.ensures (
-    behind (name is_receiver m.receiver ∷ []) (name is_memo m.memo ∷ n8 m.timeout_height ∷ n8 m.timeout_time ∷ []) c.write_n16.new.out.items c.write_name-4.new.out.items c.write_n8-2.new.out.items c.write_n8-2.result c.in_ok-write_name-4.ensures (
-    behind (name is_memo m.memo ∷ []) (n8 m.timeout_height ∷ n8 m.timeout_time ∷ []) c.write_name-4.new.out.items c.write_name-5.new.out.items c.write_n8-2.new.out.items c.write_n8-2.result c.in_ok-write_name-5.ensures (
-    behind (n8 m.timeout_height ∷ []) (n8 m.timeout_time ∷ []) c.write_name-5.new.out.items c.write_n8.new.out.items c.write_n8-2.new.out.items c.write_n8-2.result c.in_ok-write_n8.ensures (
-    c.write_n8-2.ensures)))))))
+    behind (name is_channel m.channel ∷ []) (name is_user m.user ∷ name is_denom m.denom ∷ n16 m.amount ∷ name is_receiver m.receiver ∷ name is_memo m.memo ∷ n8 m.timeout_height ∷ n8 m.timeout_time ∷ []) c.args.out.now.items c.write_name.new.out.items c.write_delivery.new.out.items c.write_delivery.result c.in_ok-write_name.ensures (
+    behind (name is_user m.user ∷ []) (name is_denom m.denom ∷ n16 m.amount ∷ name is_receiver m.receiver ∷ name is_memo m.memo ∷ n8 m.timeout_height ∷ n8 m.timeout_time ∷ []) c.write_name.new.out.items c.write_name-2.new.out.items c.write_delivery.new.out.items c.write_delivery.result c.in_ok-write_name-2.ensures (
+    behind (name is_denom m.denom ∷ []) (n16 m.amount ∷ name is_receiver m.receiver ∷ name is_memo m.memo ∷ n8 m.timeout_height ∷ n8 m.timeout_time ∷ []) c.write_name-2.new.out.items c.write_name-3.new.out.items c.write_delivery.new.out.items c.write_delivery.result c.in_ok-write_name-3.ensures (
+    behind (n16 m.amount ∷ []) (name is_receiver m.receiver ∷ name is_memo m.memo ∷ n8 m.timeout_height ∷ n8 m.timeout_time ∷ []) c.write_name-3.new.out.items c.write_n16.new.out.items c.write_delivery.new.out.items c.write_delivery.result c.in_ok-write_n16.ensures (
+    c.write_delivery.ensures))))

@@ -1,0 +1,47 @@
+//! Parts that messages have in common, or that stand behind a packet: each is written in one call, with one place
+//! where writing the message may end early.
+
+ghost use Rattle.std.specs.Prelude.{◌∷◌, []};
+ghost use Rattle.ibc_ids.specs.Names.{is_memo, is_receiver};
+ghost use Rattle.ibc_wire.specs.Fields.{n8, str, name as a_name};
+ghost use Rattle.ibc_wire.specs.Fronts.{Writes};
+
+use ibc_codec::fields::{write_n8, write_name, write_str};
+use ibc_ids::{Bytes, Memo, Receiver, Refusal};
+
+/// Writes a height of the peer, and what proves a record of it.
+pub fn write_proof(out: &mut Vec<u8>, height: u64, proof: &Bytes) -> Result<(), Refusal>
+    ensures { Writes (n8 height ∷ str proof.now ∷ []) out.old.items result out.new.items }
+{
+    write_n8(out, height)?;
+    write_str(out, proof, u16::MAX)
+}
+
+/// Writes a height of the peer, and what proves two records of it.
+pub fn write_proofs(
+    out: &mut Vec<u8>,
+    height: u64,
+    first: &Bytes,
+    second: &Bytes,
+) -> Result<(), Refusal>
+    ensures { Writes (n8 height ∷ str first.now ∷ str second.now ∷ []) out.old.items result out.new.items }
+{
+    write_proof(out, height, first)?;
+    write_str(out, second, u16::MAX)
+}
+
+/// Writes for whom tokens are, and when they are late.
+pub fn write_delivery(
+    out: &mut Vec<u8>,
+    receiver: &Receiver,
+    memo: &Memo,
+    timeout_height: u64,
+    timeout_time: u64,
+) -> Result<(), Refusal>
+    ensures { Writes (a_name is_receiver receiver.now ∷ a_name is_memo memo.now ∷ n8 timeout_height ∷ n8 timeout_time ∷ []) out.old.items result out.new.items }
+{
+    write_name(out, receiver)?;
+    write_name(out, memo)?;
+    write_n8(out, timeout_height)?;
+    write_n8(out, timeout_time)
+}
