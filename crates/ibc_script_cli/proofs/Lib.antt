@@ -1,3 +1,2 @@
 pub mod AskedWords
-pub mod Openings
 mod PrintedLines

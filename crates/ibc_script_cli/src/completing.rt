@@ -60,15 +60,27 @@ impl<C: Chains + Drop> Completer<'_, C> {
         }
     }
 
+    // What a chain proves of a key at a height, `None` where there is nothing.
+    fn found(&self, from: Origin, key: Key) -> Result<Option<Proof>, Fault>
+        ensures found { IfOk result (C.has_proof self.now.chains.now from.chain from.height key) }
+        ensures err { IfErr result (λ fault. fault ≡ Fault.NoMemory) }
+    {
+        let found = self.chains.proof(from.chain, from.height, &key);
+        drop(key);
+        found.map_err(Fault::no_memory)
+    }
+
     /// The encoding of the proof of a key at a height, `None` where there is none.
     pub fn proof(&self, from: Origin, key: Key) -> Result<Option<Bytes>, Fault>
         ensures is { IfOk result (IsProofAt (C.has_proof self.now.chains.now) from key) }
         ensures err { IfErr result (λ fault. fault ≡ Fault.NoMemory) }
     {
-        let found = self.chains.proof(from.chain, from.height, &key);
-        drop(key);
-        match found.map_err(Fault::no_memory)? {
-            Some(proof) => encoding_of(self.alloc, &proof),
+        match self.found(from, key)? {
+            Some(proof) => {
+                let encoded = encoding_of(self.alloc, &proof);
+                drop(proof);
+                encoded
+            }
             None => Ok(None),
         }
     }
@@ -78,11 +90,12 @@ impl<C: Chains + Drop> Completer<'_, C> {
         ensures is { IfOk result (IsClaimAt (C.has_proof self.now.chains.now) from client.now) }
         ensures err { IfErr result (λ fault. fault ≡ Fault.NoMemory) }
     {
-        let key = Key::ClientState(client.clone()?);
-        let found = self.chains.proof(from.chain, from.height, &key);
-        drop(key);
-        match found.map_err(Fault::no_memory)? {
-            Some(proof) => claim_of(self.alloc, &proof),
+        match self.found(from, Key::ClientState(client.clone()?))? {
+            Some(proof) => {
+                let claim = claim_of(self.alloc, &proof);
+                drop(proof);
+                claim
+            }
             None => Ok(None),
         }
     }

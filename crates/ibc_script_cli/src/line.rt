@@ -1,6 +1,6 @@
 //! The lines that the program prints.
 
-ghost use Rattle.std.specs.Prelude.{◌≡◌, IfOk, IsOkUnless, string_bytes, map, option_map, codes, ◌∷◌, [], decimal};
+ghost use Rattle.std.specs.Prelude.{◌≡◌, ◌++◌, IfOk, OnOk, IsOkUnless, string_bytes, map, option_map, codes, ◌∷◌, [], decimal};
 ghost use Rattle.base64.specs.Engines.{standard};
 ghost use Rattle.base64.specs.GeneralPurpose.{encode_of};
 ghost use Rattle.ibc_ids.specs.Paths.{account_text};
@@ -65,13 +65,20 @@ fn shown(byte: u8) -> u8
     }
 }
 
+// Adds a byte as it is printed.
+fn push_shown(text: &mut String, byte: u8) -> Result<(), AllocError>
+    ensures { OnOk result (string_bytes text.new ≡ string_bytes text.old ++ shown byte ∷ []) }
+{
+    text.push(char::from(shown(byte)))
+}
+
 // The bytes of an acknowledgement, each that isn't printable as `?`.
 fn acknowledgement_text(alloc: Global, bytes: &[u8]) -> Result<String, AllocError>
     ensures { IfOk result (λ text. string_bytes text ≡ map shown bytes.now) }
 {
     let mut text = String::new(alloc);
     for byte in bytes {
-        text.push(char::from(shown(*byte)))?;
+        push_shown(&mut text, *byte)?;
     }
     Ok(text)
 }
@@ -88,6 +95,7 @@ fn account_text(alloc: Global, account: &Account) -> Result<String, AllocError>
     }
 }
 
+// The line of an accepted event, with what it gives.
 fn accepted_line(
     alloc: Global,
     chain: &str,
@@ -97,19 +105,44 @@ fn accepted_line(
     ensures { IfOk result (λ text. string_bytes text ≡ spaced (chain.now ∷ kind.now ∷ codes "ok" ∷ effect_words effect.now)) }
 {
     match effect {
-        Effect::None => format!(in alloc; "{chain} {kind} ok"),
+        Effect::None => ok_line(alloc, chain, kind),
         Effect::Client(id) => given_line(alloc, chain, kind, id.as_str()),
         Effect::Connection(id) => given_line(alloc, chain, kind, id.as_str()),
         Effect::Channel(id) => given_line(alloc, chain, kind, id.as_str()),
-        Effect::Sent(sequence) => format!(in alloc; "{chain} {kind} ok {sequence}"),
-        Effect::Ack(bytes) => {
-            let shown = acknowledgement_text(alloc, bytes.as_slice())?;
-            given_line(alloc, chain, kind, shown.as_str())
-        }
-        Effect::Block(height, _) => format!(in alloc; "{chain} {kind} ok {height}"),
+        Effect::Sent(sequence) => counted_line(alloc, chain, kind, *sequence),
+        Effect::Ack(bytes) => acknowledged_line(alloc, chain, kind, bytes.as_slice()),
+        Effect::Block(height, _) => counted_line(alloc, chain, kind, *height),
     }
 }
 
+// The line of an accepted event that gives nothing.
+fn ok_line(alloc: Global, chain: &str, kind: &str) -> Result<String, AllocError>
+    ensures { IfOk result (λ text. string_bytes text ≡ spaced (chain.now ∷ kind.now ∷ codes "ok" ∷ [])) }
+{
+    format!(in alloc; "{chain} {kind} ok")
+}
+
+// The line of an accepted event that gives a number.
+fn counted_line(alloc: Global, chain: &str, kind: &str, number: u64) -> Result<String, AllocError>
+    ensures { IfOk result (λ text. string_bytes text ≡ spaced (chain.now ∷ kind.now ∷ codes "ok" ∷ decimal number ∷ [])) }
+{
+    format!(in alloc; "{chain} {kind} ok {number}")
+}
+
+// The line of an accepted event that gives an acknowledgement.
+fn acknowledged_line(
+    alloc: Global,
+    chain: &str,
+    kind: &str,
+    bytes: &[u8],
+) -> Result<String, AllocError>
+    ensures { IfOk result (λ text. string_bytes text ≡ spaced (chain.now ∷ kind.now ∷ codes "ok" ∷ map shown bytes.now ∷ [])) }
+{
+    let shown = acknowledgement_text(alloc, bytes)?;
+    given_line(alloc, chain, kind, shown.as_str())
+}
+
+// The line of an accepted event that gives a text.
 fn given_line(alloc: Global, chain: &str, kind: &str, given: &str) -> Result<String, AllocError>
     ensures { IfOk result (λ text. string_bytes text ≡ spaced (chain.now ∷ kind.now ∷ codes "ok" ∷ given.now ∷ [])) }
 {
@@ -137,6 +170,26 @@ fn reply_line(alloc: Global, chain: &str, kind: &str, reply: &Reply) -> Result<S
     }
 }
 
+// The line of a message that needs something that isn't there.
+fn missing_line(alloc: Global, chain: &str, kind: &str) -> Result<String, AllocError>
+    ensures { IfOk result (λ text. string_bytes text ≡ spaced (chain.now ∷ kind.now ∷ codes "none" ∷ [])) }
+{
+    format!(in alloc; "{chain} {kind} none")
+}
+
+// The line of an amount, by the account's text.
+fn amount_line(
+    alloc: Global,
+    chain: &str,
+    account: &str,
+    denom: &str,
+    amount: u128,
+) -> Result<String, AllocError>
+    ensures { IfOk result (λ text. string_bytes text ≡ spaced (codes "balance" ∷ chain.now ∷ account.now ∷ denom.now ∷ decimal amount ∷ [])) }
+{
+    format!(in alloc; "balance {chain} {account} {denom} {amount}")
+}
+
 fn balance_line(
     alloc: Global,
     chain: &str,
@@ -147,7 +200,20 @@ fn balance_line(
     ensures { IfOk result (λ text. string_bytes text ≡ spaced (codes "balance" ∷ chain.now ∷ account_text account.now ∷ denom.now ∷ decimal amount ∷ [])) }
 {
     let account = account_text(alloc, account)?;
-    format!(in alloc; "balance {chain} {account} {denom} {amount}")
+    amount_line(alloc, chain, account.as_str(), denom, amount)
+}
+
+// The line of a note that is encoded.
+fn encoded_note_line(
+    alloc: Global,
+    chain: &str,
+    channel: &str,
+    index: u64,
+    encoded: &str,
+) -> Result<String, AllocError>
+    ensures { IfOk result (λ text. string_bytes text ≡ spaced (codes "note" ∷ chain.now ∷ channel.now ∷ decimal index ∷ encoded.now ∷ [])) }
+{
+    format!(in alloc; "note {chain} {channel} {index} {encoded}")
 }
 
 fn note_line(
@@ -159,8 +225,21 @@ fn note_line(
 ) -> Result<String, AllocError>
     ensures { IfOk result (λ text. string_bytes text ≡ spaced (codes "note" ∷ chain.now ∷ channel.now ∷ decimal index ∷ encode_of standard bytes.now ∷ [])) }
 {
-    let bytes = STANDARD.encode(alloc, bytes)?;
-    format!(in alloc; "note {chain} {channel} {index} {bytes}")
+    let encoded = STANDARD.encode(alloc, bytes)?;
+    encoded_note_line(alloc, chain, channel, index, encoded.as_str())
+}
+
+// The line of what a height has, by its digits.
+fn digits_line(
+    alloc: Global,
+    chain: &str,
+    what: &str,
+    height: u64,
+    digits: &str,
+) -> Result<String, AllocError>
+    ensures { IfOk result (λ text. string_bytes text ≡ spaced (chain.now ∷ what.now ∷ decimal height ∷ digits.now ∷ [])) }
+{
+    format!(in alloc; "{chain} {what} {height} {digits}")
 }
 
 // The line of what a height has, in lower-case hexadecimal, or `none`.
@@ -176,9 +255,9 @@ fn height_line(
     match bytes {
         Some(bytes) => {
             let digits = hex::encode(alloc, bytes)?;
-            format!(in alloc; "{chain} {what} {height} {digits}")
+            digits_line(alloc, chain, what, height, digits.as_str())
         }
-        None => format!(in alloc; "{chain} {what} {height} none"),
+        None => digits_line(alloc, chain, what, height, "none"),
     }
 }
 
@@ -189,10 +268,7 @@ fn text_of(alloc: Global, printed: &Line) -> Result<String, AllocError>
         Line::Reply { chain, kind, reply } => {
             reply_line(alloc, chain.as_str(), kind.name(), reply)
         }
-        Line::Missing { chain, kind } => {
-            let (chain, kind) = (chain.as_str(), kind.name());
-            format!(in alloc; "{chain} {kind} none")
-        }
+        Line::Missing { chain, kind } => missing_line(alloc, chain.as_str(), kind.name()),
         Line::Balance {
             chain,
             account,

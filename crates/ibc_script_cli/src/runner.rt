@@ -4,16 +4,17 @@ ghost use Rattle.std.specs.Prelude.{◌≡◌, ◌<◌, ◌≤◌, length, All, 
 ghost use Rattle.ibc_script.specs.Faults.{StopsRun};
 ghost use Rattle.ibc_script.specs.Scripts.{IsAmong};
 ghost use Rattle.ibc_script_cli.specs.Opening.{own_of, given_by};
+ghost use Rattle.ibc_script_cli.specs.declared.line.Line.TheVariants as printed;
 
 use crate::completing::Completer;
 use crate::heights::Heights;
 use crate::opening::{Opening, PLAN, Side};
 use crate::{Chains, Line, line_text, write_line};
-use ibc_ids::{Bytes, ChannelId, Key};
+use ibc_ids::{Account, Bytes, ChannelId, Denom, Key};
 use ibc_machine::{Effect, Event, Reply};
 use ibc_script::{ChainName, Draft, EventKind, Fault, Origin, Step};
 use ibc_wire::Message;
-use std::alloc::Global;
+use std::alloc::{AllocError, Global};
 use std::io::Write;
 
 /// A run of a script: the names of its chains, what they have committed, and the chains.
@@ -37,11 +38,64 @@ fn given_by(reply: Reply) -> Option<Effect>
     }
 }
 
-fn print<W: Write>(alloc: Global, output: &mut W, line: &Line) -> Result<(), Fault>
+// Prints a line, and lets it go.
+fn print<W: Write>(alloc: Global, output: &mut W, line: Line) -> Result<(), Fault>
     ensures { IfErr result StopsRun }
 {
-    let text = line_text(alloc, line).map_err(Fault::no_memory)?;
+    let text = line_text(alloc, &line);
+    drop(line);
+    let text = text.map_err(Fault::no_memory)?;
     write_line(output, text.as_str())
+}
+
+// The line of a reply of a chain.
+fn line_of_reply(name: &ChainName, kind: EventKind, reply: &Reply) -> Result<Line, AllocError>
+    ensures { IfOk result (λ line. line ≡ printed.Reply name.now kind reply.now) }
+{
+    let chain = name.clone()?;
+    let reply = reply.clone()?;
+    Ok(Line::Reply { chain, kind, reply })
+}
+
+// The line of what an account has.
+fn line_of_balance(name: &ChainName, balance: (Account, Denom, u128)) -> Result<Line, AllocError>
+    ensures { IfOk result (λ line. line ≡ printed.Balance name.now balance.0 balance.1 balance.2) }
+{
+    match name.clone() {
+        Ok(chain) => {
+            let (account, denom, amount) = balance;
+            Ok(Line::Balance {
+                chain,
+                account,
+                denom,
+                amount,
+            })
+        }
+        Err(e) => {
+            drop(balance);
+            Err(e)
+        }
+    }
+}
+
+// The line of a note, by its number on its channel.
+fn line_of_note(
+    name: &ChainName,
+    channel: &ChannelId,
+    index: u64,
+    bytes: &Bytes,
+) -> Result<Line, AllocError>
+    ensures { IfOk result (λ line. line ≡ printed.Note name.now channel.now index bytes.now) }
+{
+    let chain = name.clone()?;
+    let channel = channel.clone()?;
+    let bytes = bytes.clone()?;
+    Ok(Line::Note {
+        chain,
+        channel,
+        index,
+        bytes,
+    })
 }
 
 impl<'s, C: Chains + Drop> Runner<'s, C> {
@@ -64,6 +118,21 @@ impl<'s, C: Chains + Drop> Runner<'s, C> {
         }
     }
 
+    // Prints the line of a reply of a chain.
+    fn print_line_of_reply<W: Write>(
+        &self,
+        on: u8,
+        kind: EventKind,
+        reply: &Reply,
+        output: &mut W,
+    ) -> Result<(), Fault>
+        requires { on < length self.now.names.now }
+        ensures { IfErr result StopsRun }
+    {
+        let line = line_of_reply(&self.names[on as usize], kind, reply)?;
+        print(self.alloc, output, line)
+    }
+
     /// Prints a reply of a chain, and gives what the accepted event gives.
     fn print_reply<W: Write>(
         &self,
@@ -76,13 +145,13 @@ impl<'s, C: Chains + Drop> Runner<'s, C> {
         ensures given { IfOk result (λ given. given ≡ given_by reply) }
         ensures faults { IfErr result StopsRun }
     {
-        let line = Line::Reply {
-            chain: self.names[on as usize].clone()?,
-            kind,
-            reply: reply.clone()?,
-        };
-        print(self.alloc, output, &line)?;
-        Ok(given_by(reply))
+        match self.print_line_of_reply(on, kind, &reply, output) {
+            Ok(()) => Ok(given_by(reply)),
+            Err(fault) => {
+                drop(reply);
+                Err(fault)
+            }
+        }
     }
 
     /// Sends a message to a chain, and prints the reply. The result is what the accepted event gives.
@@ -108,7 +177,7 @@ impl<'s, C: Chains + Drop> Runner<'s, C> {
         ensures { IfErr result StopsRun }
     {
         let chain = self.names[on as usize].clone()?;
-        print(self.alloc, output, &Line::Missing { chain, kind })
+        print(self.alloc, output, Line::Missing { chain, kind })
     }
 
     /// What completes the messages of steps as the chains stand.
@@ -134,7 +203,8 @@ impl<'s, C: Chains + Drop> Runner<'s, C> {
         ensures same { self.new.names.now ≡ self.old.names.now }
         ensures faults { IfErr result StopsRun }
     {
-        match self.completer().complete(on, draft)? {
+        let made = self.completer().complete(on, draft)?;
+        match made {
             Some(message) => self.send(on, message, output),
             None => {
                 self.print_missing(on, draft.kind(), output)?;
@@ -185,9 +255,52 @@ impl<'s, C: Chains + Drop> Runner<'s, C> {
             return self.end_block(on, None, output);
         }
         match opening.draft(self.alloc, side, kind)? {
-            Some(draft) => self.submit(on, &draft, output),
+            Some(draft) => {
+                let given = self.submit(on, &draft, output);
+                drop(draft);
+                given
+            }
             None => Ok(None),
         }
+    }
+
+    // Takes one turn of an `open`, which learns what it gives. The result is whether the next turn is to be taken.
+    fn take_and_learn<W: Write>(
+        &mut self,
+        opening: &mut Opening,
+        side: Side,
+        kind: EventKind,
+        output: &mut W,
+    ) -> Result<bool, Fault>
+        requires first { opening.old.first.chain < length self.old.names.now }
+        requires second { opening.old.second.chain < length self.old.names.now }
+        ensures same { self.new.names.now ≡ self.old.names.now }
+        ensures first { opening.new.first.chain ≡ opening.old.first.chain }
+        ensures second { opening.new.second.chain ≡ opening.old.second.chain }
+        ensures faults { IfErr result StopsRun }
+    {
+        match self.take(opening, side, kind, output)? {
+            Some(effect) => {
+                opening.learn(side, effect);
+                Ok(true)
+            }
+            None => Ok(false),
+        }
+    }
+
+    // Takes the turns of an `open`, up to the first that gives nothing.
+    fn take_each<W: Write>(&mut self, opening: &mut Opening, output: &mut W) -> Result<(), Fault>
+        requires first { opening.old.first.chain < length self.old.names.now }
+        requires second { opening.old.second.chain < length self.old.names.now }
+        ensures same { self.new.names.now ≡ self.old.names.now }
+        ensures faults { IfErr result StopsRun }
+    {
+        for (side, kind) in PLAN {
+            if !self.take_and_learn(opening, side, kind, output)? {
+                return Ok(());
+            }
+        }
+        Ok(())
     }
 
     /// Opens a channel of an application between two chains, on a new connection between new clients. After a refusal,
@@ -198,13 +311,9 @@ impl<'s, C: Chains + Drop> Runner<'s, C> {
         ensures same { self.new.names.now ≡ self.old.names.now }
         ensures faults { IfErr result StopsRun }
     {
-        for (side, kind) in PLAN {
-            let Some(effect) = self.take(&opening, side, kind, output)? else {
-                return Ok(());
-            };
-            opening.learn(side, effect);
-        }
-        Ok(())
+        let opened = self.take_each(&mut opening, output);
+        drop(opening);
+        opened
     }
 
     /// Prints the root of a height of a chain.
@@ -221,7 +330,7 @@ impl<'s, C: Chains + Drop> Runner<'s, C> {
             height,
             root,
         };
-        print(self.alloc, output, &line)
+        print(self.alloc, output, line)
     }
 
     /// Prints the proof of what a height of a chain has at a key.
@@ -243,7 +352,7 @@ impl<'s, C: Chains + Drop> Runner<'s, C> {
             height,
             proof,
         };
-        print(self.alloc, output, &line)
+        print(self.alloc, output, line)
     }
 
     fn run<W: Write>(&mut self, step: &Step, output: &mut W) -> Result<(), Fault>
@@ -275,6 +384,19 @@ impl<'s, C: Chains + Drop> Runner<'s, C> {
         Ok(())
     }
 
+    // Prints what an account of a chain has.
+    fn print_balance<W: Write>(
+        &self,
+        name: &ChainName,
+        balance: (Account, Denom, u128),
+        output: &mut W,
+    ) -> Result<(), Fault>
+        ensures { IfErr result StopsRun }
+    {
+        let line = line_of_balance(name, balance)?;
+        print(self.alloc, output, line)
+    }
+
     /// Prints the balances of a chain.
     fn print_balances_of<W: Write>(
         &self,
@@ -284,14 +406,9 @@ impl<'s, C: Chains + Drop> Runner<'s, C> {
     ) -> Result<(), Fault>
         ensures { IfErr result StopsRun }
     {
-        for (account, denom, amount) in self.chains.balances(number).map_err(Fault::no_memory)? {
-            let line = Line::Balance {
-                chain: name.clone()?,
-                account,
-                denom,
-                amount,
-            };
-            print(self.alloc, output, &line)?;
+        let balances = self.chains.balances(number).map_err(Fault::no_memory)?;
+        for balance in balances {
+            self.print_balance(name, balance, output)?;
         }
         Ok(())
     }
@@ -317,13 +434,8 @@ impl<'s, C: Chains + Drop> Runner<'s, C> {
         ensures { IfErr result StopsRun }
     {
         for (index, bytes) in notes.iter().enumerate() {
-            let line = Line::Note {
-                chain: name.clone()?,
-                channel: channel.clone()?,
-                index: index as u64 + 1,
-                bytes: bytes.clone()?,
-            };
-            print(self.alloc, output, &line)?;
+            let line = line_of_note(name, channel, index as u64 + 1, bytes)?;
+            print(self.alloc, output, line)?;
         }
         Ok(())
     }

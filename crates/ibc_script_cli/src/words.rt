@@ -35,9 +35,8 @@ fn parser<'a>(alloc: Global) -> Result<Parser<'a>, Fault>
     let run = Parser::new(alloc, "run");
     let parser = Parser::new(alloc, "ibcworld")
         .subcommand_required(true)
-        .no_binary_name(true)
-        .subcommand(run)?;
-    Ok(parser)
+        .no_binary_name(true);
+    Ok(parser.subcommand(run)?)
 }
 
 /// What the words after the program's name ask for. Faults: `BadArguments` exactly where they ask for nothing that the
@@ -49,7 +48,10 @@ pub fn read_words<'a>(alloc: Global, words: &'a [&'a str]) -> Result<Command, Fa
 {
     let parser = parser(alloc)?;
     match parser.try_get_matches_from(words) {
-        Ok(_) => Ok(Command::Run),
+        Ok(found) => {
+            drop(found);
+            Ok(Command::Run)
+        }
         Err(error) => Err(fault_of(error)),
     }
 }

@@ -1,16 +1,87 @@
 //! Messages for connections.
 
 ghost use Rattle.std.specs.Prelude.{◌≡◌, IfOk, IfErr};
-ghost use Rattle.ibc_script_cli.specs.Completing.{MakesAckOf, MakesConnectionMessage};
+ghost use Rattle.ibc_script_cli.specs.Completing.{try_message, ack_message, IsProofAt, IsClaimAt, MakesAckOf, MakesConnectionMessage};
+ghost use Rattle.ibc_ids.specs.declared.key.Key.TheVariants as key;
 ghost use Rattle.ibc_script.specs.declared.draft.ConnectionDraft.TheVariants as connection_draft;
 
-use super::Completer;
+use super::{Claim, Completer};
 use crate::Chains;
-use ibc_ids::{ClientId, ConnectionId, Key};
+use ibc_ids::{Bytes, ClientId, ConnectionId, Key};
 use ibc_script::{ConnectionDraft, Fault, Origin};
 use ibc_wire::{ConnOpenAck, ConnOpenConfirm, ConnOpenInit, ConnOpenTry, Message};
+use std::alloc::AllocError;
+
+// The answer to a connection, `None` where one of its proofs isn't there.
+fn try_message(
+    client: &ClientId,
+    peer_client: &ClientId,
+    peer_connection: &ConnectionId,
+    height: u64,
+    end: Option<Bytes>,
+    claim: Option<Claim>,
+) -> Result<Option<Message>, AllocError>
+    ensures { IfOk result (λ made. made ≡ try_message client.now peer_client.now peer_connection.now height end claim) }
+{
+    match end.zip(claim) {
+        Some((proof_end, claim)) => Ok(Some(Message::ConnOpenTry(ConnOpenTry {
+            client: client.clone()?,
+            peer_client: peer_client.clone()?,
+            peer_connection: peer_connection.clone()?,
+            claim: claim.state,
+            height,
+            proof_end,
+            proof_client: claim.proof,
+        }))),
+        None => Ok(None),
+    }
+}
+
+// The message that opens a connection which the peer answered, `None` where one of its proofs isn't there.
+fn ack_message(
+    connection: &ConnectionId,
+    peer_connection: &ConnectionId,
+    height: u64,
+    end: Option<Bytes>,
+    claim: Option<Claim>,
+) -> Result<Option<Message>, AllocError>
+    ensures { IfOk result (λ made. made ≡ ack_message connection.now peer_connection.now height end claim) }
+{
+    match end.zip(claim) {
+        Some((proof_end, claim)) => Ok(Some(Message::ConnOpenAck(ConnOpenAck {
+            connection: connection.clone()?,
+            peer_connection: peer_connection.clone()?,
+            claim: claim.state,
+            height,
+            proof_end,
+            proof_client: claim.proof,
+        }))),
+        None => Ok(None),
+    }
+}
 
 impl<C: Chains + Drop> Completer<'_, C> {
+    // The proof of the peer's end of a connection, and what is claimed of its client.
+    fn peer_proofs(
+        &self,
+        peer_connection: &ConnectionId,
+        peer_client: &ClientId,
+        from: Origin,
+    ) -> Result<(Option<Bytes>, Option<Claim>), Fault>
+        ensures end { IfOk result (λ shown. IsProofAt (C.has_proof self.now.chains.now) from (key.Connection peer_connection.now) shown.0) }
+        ensures claim { IfOk result (λ shown. IsClaimAt (C.has_proof self.now.chains.now) from peer_client.now shown.1) }
+        ensures err { IfErr result (λ fault. fault ≡ Fault.NoMemory) }
+    {
+        let end = self.proof(from, Key::Connection(peer_connection.clone()?))?;
+        match self.claim(from, peer_client) {
+            Ok(claim) => Ok((end, claim)),
+            Err(fault) => {
+                drop(end);
+                Err(fault)
+            }
+        }
+    }
+
     fn conn_open_try(
         &self,
         client: &ClientId,
@@ -21,20 +92,15 @@ impl<C: Chains + Drop> Completer<'_, C> {
         ensures made { IfOk result (MakesConnectionMessage (C.has_connection self.now.chains.now) (C.has_proof self.now.chains.now) 0 (connection_draft.OpenTry client.now peer_client.now peer_connection.now from)) }
         ensures err { IfErr result (λ fault. fault ≡ Fault.NoMemory) }
     {
-        let proof_end = self.proof(from, Key::Connection(peer_connection.clone()?))?;
-        let claim = self.claim(from, peer_client)?;
-        let (Some(proof_end), Some(claim)) = (proof_end, claim) else {
-            return Ok(None);
-        };
-        Ok(Some(Message::ConnOpenTry(ConnOpenTry {
-            client: client.clone()?,
-            peer_client: peer_client.clone()?,
-            peer_connection: peer_connection.clone()?,
-            claim: claim.state,
-            height: from.height,
-            proof_end,
-            proof_client: claim.proof,
-        })))
+        let (end, claim) = self.peer_proofs(peer_connection, peer_client, from)?;
+        Ok(try_message(
+            client,
+            peer_client,
+            peer_connection,
+            from.height,
+            end,
+            claim,
+        )?)
     }
 
     fn conn_open_ack_of(
@@ -47,19 +113,8 @@ impl<C: Chains + Drop> Completer<'_, C> {
         ensures made { IfOk result (MakesAckOf (C.has_proof self.now.chains.now) connection.now peer_connection.now from peer_client.now) }
         ensures err { IfErr result (λ fault. fault ≡ Fault.NoMemory) }
     {
-        let proof_end = self.proof(from, Key::Connection(peer_connection.clone()?))?;
-        let claim = self.claim(from, peer_client)?;
-        let (Some(proof_end), Some(claim)) = (proof_end, claim) else {
-            return Ok(None);
-        };
-        Ok(Some(Message::ConnOpenAck(ConnOpenAck {
-            connection: connection.clone()?,
-            peer_connection: peer_connection.clone()?,
-            claim: claim.state,
-            height: from.height,
-            proof_end,
-            proof_client: claim.proof,
-        })))
+        let (end, claim) = self.peer_proofs(peer_connection, peer_client, from)?;
+        Ok(ack_message(connection, peer_connection, from.height, end, claim)?)
     }
 
     fn conn_open_ack(
@@ -77,7 +132,16 @@ impl<C: Chains + Drop> Completer<'_, C> {
             .connection(on, connection)
             .map_err(Fault::no_memory)?
         {
-            Some(own) => self.conn_open_ack_of(connection, peer_connection, &own.peer_client, from),
+            Some(own) => {
+                let made = self.conn_open_ack_of(
+                    connection,
+                    peer_connection,
+                    &own.peer_client,
+                    from,
+                );
+                drop(own);
+                made
+            }
             None => Ok(None),
         }
     }

@@ -2,7 +2,7 @@
 
 ghost use Rattle.std.specs.Prelude.{◌≡◌, Some, IfOk, IfErr};
 ghost use Rattle.ibc_wire.specs.declared.records.Order.TheVariants.{Unordered, Ordered};
-ghost use Rattle.ibc_script_cli.specs.Completing.{commitment_key, ack_key, receipt_key, next_recv_key, destination_key, number_in, IsNextRecv, IsUnreceived, IsUnreceivedAt, MakesRecv, MakesAckPacket, MakesTimeout, MakesTimeoutOnClose, MakesPacketMessage};
+ghost use Rattle.ibc_script_cli.specs.Completing.{commitment_key, ack_key, receipt_key, next_recv_key, destination_key, number_in, ack_packet_message, timeout_on_close_message, IsProofAt, IsNextRecv, IsUnreceived, IsUnreceivedAt, MakesRecv, MakesAckPacket, MakesTimeout, MakesTimeoutOnClose, MakesPacketMessage};
 ghost use Rattle.ibc_script.specs.declared.draft.PacketDraft.TheVariants as packet_draft;
 
 use super::{Completer, encoding_of};
@@ -96,6 +96,47 @@ fn next_recv_of(alloc: Global, proof: &Proof) -> Result<Option<Unreceived>, Faul
     }
 }
 
+// The message of an acknowledgement and its proof, `None` where one of them isn't there.
+fn ack_message(
+    packet: &Packet,
+    height: u64,
+    ack: Option<Bytes>,
+    proof: Option<Bytes>,
+) -> Result<Option<Message>, AllocError>
+    ensures { IfOk result (λ made. made ≡ ack_packet_message packet.now height ack proof) }
+{
+    match ack.zip(proof) {
+        Some((ack, proof)) => Ok(Some(Message::AckPacket(AckPacket {
+            packet: packet.clone()?,
+            ack,
+            height,
+            proof,
+        }))),
+        None => Ok(None),
+    }
+}
+
+// The message of a timeout on a closed channel, `None` where one of its proofs isn't there.
+fn timeout_on_close_message(
+    packet: &Packet,
+    height: u64,
+    shown: Option<Unreceived>,
+    proof_close: Option<Bytes>,
+) -> Result<Option<Message>, AllocError>
+    ensures { IfOk result (λ made. made ≡ timeout_on_close_message packet.now height shown proof_close) }
+{
+    match shown.zip(proof_close) {
+        Some((shown, proof_close)) => Ok(Some(Message::TimeoutOnClose(TimeoutOnClose {
+            packet: packet.clone()?,
+            next_recv: shown.next_recv,
+            height,
+            proof: shown.proof,
+            proof_close,
+        }))),
+        None => Ok(None),
+    }
+}
+
 impl<C: Chains + Drop> Completer<'_, C> {
     /// The packet that a step names, `None` where it wasn't sent.
     fn sent_packet(&self, sent: &SentPacket) -> Result<Option<Packet>, Fault>
@@ -127,11 +168,12 @@ impl<C: Chains + Drop> Completer<'_, C> {
         ensures is { IfOk result (IsUnreceived (C.has_proof self.now.chains.now) from packet.now Ordered) }
         ensures err { IfErr result (λ fault. fault ≡ Fault.NoMemory) }
     {
-        let key = next_recv_key(packet)?;
-        let found = self.chains.proof(from.chain, from.height, &key);
-        drop(key);
-        match found.map_err(Fault::no_memory)? {
-            Some(proof) => next_recv_of(self.alloc, &proof),
+        match self.found(from, next_recv_key(packet)?)? {
+            Some(proof) => {
+                let shown = next_recv_of(self.alloc, &proof);
+                drop(proof);
+                shown
+            }
             None => Ok(None),
         }
     }
@@ -183,21 +225,26 @@ impl<C: Chains + Drop> Completer<'_, C> {
         })))
     }
 
+    // The proof of what a packet's destination has of its acknowledgement.
+    fn ack_proof(&self, packet: &Packet, from: Origin) -> Result<Option<Bytes>, Fault>
+        ensures is { IfOk result (IsProofAt (C.has_proof self.now.chains.now) from (ack_key packet.now)) }
+        ensures err { IfErr result (λ fault. fault ≡ Fault.NoMemory) }
+    {
+        self.proof(from, ack_key(packet)?)
+    }
+
     fn ack_of(&self, packet: &Packet, from: Origin) -> Result<Option<Message>, Fault>
         ensures made { IfOk result (MakesAckPacket (C.has_ack self.now.chains.now) (C.has_proof self.now.chains.now) from packet.now) }
         ensures err { IfErr result (λ fault. fault ≡ Fault.NoMemory) }
     {
         let ack = self.written_ack(from.chain, packet)?;
-        let proof = self.proof(from, ack_key(packet)?)?;
-        let (Some(ack), Some(proof)) = (ack, proof) else {
-            return Ok(None);
-        };
-        Ok(Some(Message::AckPacket(AckPacket {
-            packet: packet.clone()?,
-            ack,
-            height: from.height,
-            proof,
-        })))
+        match self.ack_proof(packet, from) {
+            Ok(proof) => Ok(ack_message(packet, from.height, ack, proof)?),
+            Err(fault) => {
+                drop(ack);
+                Err(fault)
+            }
+        }
     }
 
     fn timeout_of(&self, on: u8, packet: &Packet, from: Origin) -> Result<Option<Message>, Fault>
@@ -215,6 +262,14 @@ impl<C: Chains + Drop> Completer<'_, C> {
         })))
     }
 
+    // The proof of the end of a packet's destination.
+    fn close_proof(&self, packet: &Packet, from: Origin) -> Result<Option<Bytes>, Fault>
+        ensures is { IfOk result (IsProofAt (C.has_proof self.now.chains.now) from (destination_key packet.now)) }
+        ensures err { IfErr result (λ fault. fault ≡ Fault.NoMemory) }
+    {
+        self.proof(from, destination_key(packet)?)
+    }
+
     fn timeout_on_close_of(
         &self,
         on: u8,
@@ -225,17 +280,13 @@ impl<C: Chains + Drop> Completer<'_, C> {
         ensures err { IfErr result (λ fault. fault ≡ Fault.NoMemory) }
     {
         let shown = self.unreceived(on, packet, from)?;
-        let proof_close = self.proof(from, destination_key(packet)?)?;
-        let (Some(shown), Some(proof_close)) = (shown, proof_close) else {
-            return Ok(None);
-        };
-        Ok(Some(Message::TimeoutOnClose(TimeoutOnClose {
-            packet: packet.clone()?,
-            next_recv: shown.next_recv,
-            height: from.height,
-            proof: shown.proof,
-            proof_close,
-        })))
+        match self.close_proof(packet, from) {
+            Ok(close) => Ok(timeout_on_close_message(packet, from.height, shown, close)?),
+            Err(fault) => {
+                drop(shown);
+                Err(fault)
+            }
+        }
     }
 
     fn recv_packet(&self, sent: &SentPacket, height: u64) -> Result<Option<Message>, Fault>
@@ -247,7 +298,11 @@ impl<C: Chains + Drop> Completer<'_, C> {
             height,
         };
         match self.sent_packet(sent)? {
-            Some(packet) => self.recv_of(&packet, from),
+            Some(packet) => {
+                let made = self.recv_of(&packet, from);
+                drop(packet);
+                made
+            }
             None => Ok(None),
         }
     }
@@ -257,7 +312,11 @@ impl<C: Chains + Drop> Completer<'_, C> {
         ensures err { IfErr result (λ fault. fault ≡ Fault.NoMemory) }
     {
         match self.sent_packet(sent)? {
-            Some(packet) => self.ack_of(&packet, from),
+            Some(packet) => {
+                let made = self.ack_of(&packet, from);
+                drop(packet);
+                made
+            }
             None => Ok(None),
         }
     }
@@ -267,7 +326,11 @@ impl<C: Chains + Drop> Completer<'_, C> {
         ensures err { IfErr result (λ fault. fault ≡ Fault.NoMemory) }
     {
         match self.sent_packet(sent)? {
-            Some(packet) => self.timeout_of(on, &packet, from),
+            Some(packet) => {
+                let made = self.timeout_of(on, &packet, from);
+                drop(packet);
+                made
+            }
             None => Ok(None),
         }
     }
@@ -282,7 +345,11 @@ impl<C: Chains + Drop> Completer<'_, C> {
         ensures err { IfErr result (λ fault. fault ≡ Fault.NoMemory) }
     {
         match self.sent_packet(sent)? {
-            Some(packet) => self.timeout_on_close_of(on, &packet, from),
+            Some(packet) => {
+                let made = self.timeout_on_close_of(on, &packet, from);
+                drop(packet);
+                made
+            }
             None => Ok(None),
         }
     }

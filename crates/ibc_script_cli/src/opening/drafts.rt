@@ -1,9 +1,12 @@
 //! The messages of the turns of an `open`.
 
-ghost use Rattle.std.specs.Prelude.{◌≡◌, IfOk, IfErr};
-ghost use Rattle.ibc_script_cli.specs.Opening.{update_draft, init_draft, try_draft, ack_draft, confirm_draft, channel_init_draft, channel_try_draft, channel_ack_draft, channel_confirm_draft, draft_of};
+ghost use Rattle.std.specs.Prelude.{◌≡◌, Some, IfOk, IfErr};
+ghost use Rattle.ibc_script.specs.declared.draft.ChannelDraft.TheVariants as channel;
+ghost use Rattle.ibc_script.specs.declared.draft.Draft.TheVariants as draft;
+ghost use Rattle.ibc_script_cli.specs.Opening.{update_draft, init_draft, try_draft, ack_draft, confirm_draft, channel_init_draft, channel_try_draft, channel_ack_draft, channel_confirm_draft, channel_try_of, channel_ack_of, origin_of, draft_of};
 
 use super::Party;
+use ibc_ids::{ChannelId, ConnectionId};
 use ibc_script::{
     Application, ChannelDraft, ChannelTry, ClientDraft, ConnectionDraft, Draft, EventKind, Fault,
 };
@@ -111,6 +114,26 @@ impl Drafting<'_> {
         Ok(Some(Draft::Channel(ChannelDraft::OpenInit(message))))
     }
 
+    // The answer to the peer's end of a channel, on a connection.
+    fn channel_try(
+        &self,
+        connection: &ConnectionId,
+        peer_channel: &ChannelId,
+    ) -> Result<ChannelTry, Fault>
+        ensures made { IfOk result (λ made. Some (draft.Channel (channel.OpenTry made)) ≡ channel_try_of self.now.application (origin_of self.now.peer.now) (Some connection.now) (Some peer_channel.now)) }
+        ensures memory { IfErr result (λ fault. fault ≡ Fault.NoMemory) }
+    {
+        Ok(ChannelTry {
+            port: self.application.port(self.alloc)?,
+            order: self.application.order(),
+            connection: connection.clone()?,
+            peer_port: self.application.port(self.alloc)?,
+            peer_channel: peer_channel.clone()?,
+            version: self.application.version(self.alloc)?,
+            from: self.peer.origin(),
+        })
+    }
+
     fn chan_open_try(&self) -> Result<Option<Draft>, Fault>
         ensures made { IfOk result (λ made. made ≡ channel_try_draft self.now.application self.now.own.now self.now.peer.now) }
         ensures memory { IfErr result (λ fault. fault ≡ Fault.NoMemory) }
@@ -119,16 +142,25 @@ impl Drafting<'_> {
         else {
             return Ok(None);
         };
-        let draft = ChannelTry {
-            port: self.application.port(self.alloc)?,
-            order: self.application.order(),
-            connection: connection.clone()?,
-            peer_port: self.application.port(self.alloc)?,
-            peer_channel: peer_channel.clone()?,
-            version: self.application.version(self.alloc)?,
-            from: self.peer.origin(),
-        };
+        let draft = self.channel_try(connection, peer_channel)?;
         Ok(Some(Draft::Channel(ChannelDraft::OpenTry(draft))))
+    }
+
+    // The opening of a channel whose peer's end is known.
+    fn channel_ack(
+        &self,
+        channel: &ChannelId,
+        peer_channel: &ChannelId,
+    ) -> Result<ChannelDraft, Fault>
+        ensures made { IfOk result (λ made. Some (draft.Channel made) ≡ channel_ack_of self.now.application (origin_of self.now.peer.now) (Some channel.now) (Some peer_channel.now)) }
+        ensures memory { IfErr result (λ fault. fault ≡ Fault.NoMemory) }
+    {
+        Ok(ChannelDraft::OpenAck {
+            port: self.application.port(self.alloc)?,
+            channel: channel.clone()?,
+            peer_channel: peer_channel.clone()?,
+            from: self.peer.origin(),
+        })
     }
 
     fn chan_open_ack(&self) -> Result<Option<Draft>, Fault>
@@ -138,12 +170,7 @@ impl Drafting<'_> {
         let (Some(channel), Some(peer_channel)) = (&self.own.channel, &self.peer.channel) else {
             return Ok(None);
         };
-        Ok(Some(Draft::Channel(ChannelDraft::OpenAck {
-            port: self.application.port(self.alloc)?,
-            channel: channel.clone()?,
-            peer_channel: peer_channel.clone()?,
-            from: self.peer.origin(),
-        })))
+        Ok(Some(Draft::Channel(self.channel_ack(channel, peer_channel)?)))
     }
 
     fn chan_open_confirm(&self) -> Result<Option<Draft>, Fault>

@@ -1,5 +1,5 @@
 use Rattle.std.proofs.Common.{◌≡◌, ◌<◌, length}
-use Rattle.ibc_script_cli.proofs.runner.Runner.open.Given as goal
+use Rattle.ibc_script_cli.proofs.runner.Runner.take_each.Given as goal
 
 abbrev pub invariant-loop-side : goal.invariant-loop-side
 invariant-loop-side g l = record {
