@@ -38,7 +38,8 @@ impl Model for MerkleTree {
 }
 
 impl MerkleTree {
-    /// The tree over pairs, which are moved in. Their keys strictly rise in byte order. Each pair is hashed once.
+    /// The tree over pairs, which are moved in. Their keys strictly rise in byte order. Each pair is hashed once. Error:
+    /// memory ran out.
     pub fn of(alloc: Global, entries: Vec<Entry>) -> Result<MerkleTree, AllocError>
         requires { IsTrue (is_sorted text_cmp entries.items) }
         ensures { IfOk result (λ tree. tree ≡ entries.items) }
