@@ -1,7 +1,6 @@
 -- Packets that are received, acknowledged or timed out. To receive one changes nothing that is burnt in flight. Of one that
 -- is settled the tokens that go back aren't in flight any more.
 use Rattle.std.proofs.Common.{◌≡◌, ◌+◌, true, false, sym, ap, ◌∙◌, Some, Ok, arith, nat_cmp}
-use Rattle.ibc_ids.specs.declared.refusal.Refusal.TheVariants as refusal
 use Rattle.ibc_ids.specs.Texts.{Text, same_text, pair_cmp}
 use Rattle.ibc_ids.specs.Maps.{with, without}
 use Rattle.ibc_wire.specs.declared.packet.Packet.{Packet}
@@ -18,28 +17,12 @@ use Rattle.ibc_machine.specs.TokenData.{tokens_of}
 use Rattle.ibc_machine.specs.Transfers.{transfer_port, burnt}
 use Rattle.ibc_flight.specs.Orderly.{IsOrderly}
 use Rattle.ibc_flight.specs.Returned.{SameBurnt, returned}
-use Rattle.ibc_machine.proofs.PassedRows.{require_passed, bind_passed, expect_passed, ok_same}
+use Rattle.ibc_machine.proofs.PacketChecks.{IsUnsettled, recv_passed, ack_passed, timeout_passed, timeout_on_close_passed}
+use Rattle.ibc_machine.proofs.PassedRows.{bind_passed, ok_same}
 use Rattle.ibc_flight.proofs.BurntSteps.{burnt_by, burnt_by-other, burnt_by-transfer, same_commitments, one_settled}
 use Rattle.ibc_flight.proofs.EndsKept.{Keeps, after_receive_keeps, after_ack_keeps, after_timeout_keeps}
-use Rattle.ibc_flight.proofs.UnsettledPackets.{IsUnsettled, ack_unsettled, timeout_unsettled, timeout_on_close_unsettled}
 
 -- ---- receiving
-
-receiving_end : (evidence : Evidence) (host : Host) (core : Core) (m : RecvPacket) (mine : Channel) → recv_checked evidence host core m ≡ Ok mine
-    → channel_at core m.packet.destination_port m.packet.destination_channel ≡ Some mine
-unfolding recv_checked
-receiving_end evidence host core m mine e =
-    let p : Packet = m.packet in
-    let form = require_passed _ _ _ e in
-    let there = bind_passed _ _ form.1 in
-    let state = require_passed _ _ _ there.2 in
-    let peer = require_passed _ _ _ state.1 in
-    let in_time = require_passed _ _ _ peer.1 in
-    let fresh = require_passed _ _ _ in_time.1 in
-    let in_order = require_passed _ _ _ fresh.1 in
-    let known = require_passed _ _ _ in_order.1 in
-    let proof = require_passed _ _ _ known.1 in
-    expect_passed (channel_at core p.destination_port p.destination_channel) refusal.UnknownChannel there.1 ∙ ap Some (ok_same proof.1)
 
 pub recv_packet_burnt : {A : Type 0} (on_recv : Text → Packet → Text × A) (evidence : Evidence) (host : Host) (core : Core) (m : RecvPacket)
     {effect : Effect} {after : Core} {app : A}
@@ -54,7 +37,7 @@ recv_packet_burnt {A} on_recv evidence host core m {effect} {after} {app} orderl
     let keeps : Keeps mine now mine.commitments = after_receive_keeps p.sequence told.0 mine in
     same_commitments core after p.destination_port p.destination_channel now orderly
     (ap (λ (y : Effect × Core × A). y.1.channels) (sym (ok_same checked.2)))
-    mine (receiving_end evidence host core m mine checked.1) keeps.version keeps.commitments
+    mine (recv_passed evidence host core m mine checked.1).there keeps.version keeps.commitments
 
 -- ---- settling: of any port's packet, what it had burnt isn't in flight any more
 
@@ -114,7 +97,7 @@ module _ {A : Type 0} (on_ack : Text → Packet → Text → Checked A) (evidenc
       let checked = bind_passed (ack_checked evidence core m) _ e in
       let mine : Channel = checked.0 in
       let given = bind_passed (on_ack mine.end.version p m.ack) _ checked.2 in
-      settled core after p (λ version. on_ack version p m.ack) app mine (after_ack p.sequence mine) orderly (ack_unsettled evidence core m mine checked.1)
+      settled core after p (λ version. on_ack version p m.ack) app mine (after_ack p.sequence mine) orderly (ack_passed evidence core m mine checked.1).unsettled
       (given.1 ∙ ap (λ (y : Effect × Core × A). Ok y.2) (ok_same given.2)) (after_ack_keeps p.sequence mine)
       (ap (λ (y : Effect × Core × A). y.1.channels) (sym (ok_same given.2)))
 
@@ -146,14 +129,14 @@ module _ {A : Type 0} (on_timeout : Text → Packet → Checked A) (evidence : E
   unfolding timeout
   timeout_any_port m orderly e =
       let checked = bind_passed (timeout_checked evidence core m) _ e in
-      timed_out m.packet checked.0 orderly (timeout_unsettled evidence core m checked.0 checked.1) checked.2
+      timed_out m.packet checked.0 orderly (timeout_passed evidence core m checked.0 checked.1).unsettled checked.2
 
   timeout_on_close_any_port : (m : TimeoutOnClose) → IsOrderly core → timeout_on_close on_timeout evidence core m ≡ Ok (effect, after, app)
       → Settled core after m.packet (λ version. on_timeout version m.packet) app
   unfolding timeout_on_close
   timeout_on_close_any_port m orderly e =
       let checked = bind_passed (timeout_on_close_checked evidence core m) _ e in
-      timed_out m.packet checked.0 orderly (timeout_on_close_unsettled evidence core m checked.0 checked.1) checked.2
+      timed_out m.packet checked.0 orderly (timeout_on_close_passed evidence core m checked.0 checked.1).unsettled checked.2
 
   -- on another port
   pub timeout_burnt : (m : Timeout) → IsOrderly core → same_text m.packet.source_port transfer_port ≡ false

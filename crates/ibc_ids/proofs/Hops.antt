@@ -1,9 +1,11 @@
 -- A hop before a denomination, and a denomination without its first hop, are denominations.
-use Rattle.std.proofs.Common.{◌≡◌, ◌≤◌, ◌+◌, true, false, ◌&&◌, nat_le, eqb, None, subst, codes, List, [], ◌∷◌, ◌++◌, length, ap, sym, ◌∙◌, arith, le-leb, leb-true, length-append, append_assoc}
+use Rattle.std.proofs.Common.{◌≡◌, ◌≤◌, ◌+◌, true, false, ◌&&◌, nat_le, eqb, None, refl, subst, codes, List, [], ◌∷◌, ◌++◌, length, drop, ap, sym, ◌∙◌, arith, le-leb, leb-true, length-append, append_assoc}
 use Rattle.std.specs.Prelude.{IsTrue}
 use Rattle.std.specs.List.{slice_split, starts_with}
 use Rattle.std.specs.Str.Pattern.{FindsTextPrefix, StripsPrefix}
 use Rattle.std.proofs.lemmas.Bool.{and_parts, and_from}
+use Rattle.std.proofs.lemmas.Bool.Decides.{Decides-eqb}
+use Rattle.std.proofs.lemmas.Slice.Eq.{starts_is}
 use Rattle.std.proofs.lemmas.Str.Pattern.{starts_text}
 use Rattle.ibc_ids.specs.Texts.{Text}
 use Rattle.ibc_ids.specs.Names.{is_port, is_channel, is_slash, are_hops_and_base, is_denom, hop, came_over}
@@ -43,6 +45,15 @@ rest_is_one port channel rest p c d =
     let long = hop_length port channel rest in
     let inner = and_parts (is_port port && is_channel channel) (are_hops_and_base (slice_split is_slash rest)) (sym (ap are_hops_and_base (hop_split port channel rest p c)) ∙ parts.1) in
     and_from (nat_le (length rest) 256) (are_hops_and_base (slice_split is_slash rest)) (le-leb (length rest) 256 (omega arith)) inner.1
+
+-- ---- what came over a channel has its hop in front, and nothing else has
+
+pub came_over_is : (port channel denom : Text) → came_over port channel denom ≡ true → denom ≡ hop port channel ++ drop (length (hop port channel)) denom
+came_over_is port channel denom e = (starts_is Decides-eqb denom (hop port channel) (came_over port channel denom) refl).0 e
+
+pub came_over_by : (port channel rest : Text) → came_over port channel (hop port channel ++ rest) ≡ true
+came_over_by port channel rest =
+    (starts_is Decides-eqb (hop port channel ++ rest) (hop port channel) (came_over port channel (hop port channel ++ rest)) refl).1 rest refl
 
 -- ---- what `strip_prefix` says
 

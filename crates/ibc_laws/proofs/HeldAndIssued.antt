@@ -17,7 +17,8 @@ use Rattle.ibc_machine.proofs.FiniteMaps.{by_pair}
 use Rattle.ibc_machine.proofs.Measures.{Test, IsSorted, amount_in, measure, weigh}
 use Rattle.ibc_laws.proofs.TokenMoves.{unless_burnt}
 use Rattle.ibc_laws.proofs.FlightSums.{sums-differ}
-use Rattle.ibc_laws.proofs.Hops.{HasNoSlash, same_hop, came_over_is, came_over_by, came_over_one, escrow_is_no_user, escrow_same}
+use Rattle.ibc_ids.proofs.Hops.{came_over_is, came_over_by}
+use Rattle.ibc_laws.proofs.Hops.{HasNoSlash, same_hop, came_over_one, escrow_is_no_user, escrow_same}
 
 pub differ : (a b : Text) → (a ≡ b → ⊥) → same_text a b ≡ false
 differ a b other = go (same_text a b) refl

@@ -1,11 +1,10 @@
 -- What stands before a denomination that came over a channel ends at its second slash, so that one hop at most
 -- stands there; and an escrow is no user, nor another channel's.
-use Rattle.std.proofs.Common.{◌≡◌, ℕ, Bool, true, false, refl, sym, ◌∙◌, subst, codes, [], ◌∷◌, ◌++◌, length, drop, not, ◌==◌, append_assoc, eqb-true}
+use Rattle.std.proofs.Common.{◌≡◌, ℕ, Bool, true, false, refl, sym, ◌∙◌, subst, [], ◌∷◌, ◌++◌, not, ◌==◌, eqb-true}
 use Rattle.std.specs.List.{list_all}
-use Rattle.std.proofs.lemmas.Bool.Decides.{Decides-eqb}
-use Rattle.std.proofs.lemmas.Slice.Eq.{starts_is}
 use Rattle.ibc_ids.specs.Texts.{Text}
 use Rattle.ibc_ids.specs.Names.{is_letter_or_digit, is_user, is_base_denom, hop}
+use Rattle.ibc_ids.proofs.Hops.{hop_parts, came_over_is}
 use Rattle.ibc_machine.specs.Bank.{escrow}
 use Rattle.ibc_machine.specs.Transfers.{came_over}
 use Rattle.ibc_laws.proofs.PassedTests.{both, and_true}
@@ -32,12 +31,6 @@ cut_same (c ∷ cs) (d ∷ ds) x y ha hb e =
     (cc (same, h.0), h.1)
 
 -- two hops before one text are the same
-hop_parts : (port channel rest : Text) → hop port channel ++ rest ≡ port ++ 47 ∷ (channel ++ 47 ∷ rest)
-hop_parts port channel rest =
-    append_assoc (port ++ codes "/" ++ channel) (codes "/") rest
-    ∙ append_assoc (port ++ codes "/") channel (47 ∷ rest)
-    ∙ append_assoc port (codes "/") (channel ++ 47 ∷ rest)
-
 pub same_hop : (p q c d x y : Text) → HasNoSlash p → HasNoSlash q → HasNoSlash c → HasNoSlash d → hop p c ++ x ≡ hop q d ++ y
     → (p ≡ q) × (c ≡ d) × (x ≡ y)
 same_hop p q c d x y hp hq hc hd e =
@@ -73,14 +66,6 @@ pub escrow_same : (c d : Text) → escrow c ≡ escrow d → c ≡ d
 escrow_same c d e = cc e
 
 -- ---- which channel a denomination came over
-
-pub came_over_is : (port channel denom : Text) → came_over port channel denom ≡ true
-    → denom ≡ hop port channel ++ drop (length (hop port channel)) denom
-came_over_is port channel denom e = (starts_is Decides-eqb denom (hop port channel) (came_over port channel denom) refl).0 e
-
-pub came_over_by : (port channel rest : Text) → came_over port channel (hop port channel ++ rest) ≡ true
-came_over_by port channel rest =
-    (starts_is Decides-eqb (hop port channel ++ rest) (hop port channel) (came_over port channel (hop port channel ++ rest)) refl).1 rest refl
 
 -- over one channel at most
 pub came_over_one : (p q c d denom : Text) → HasNoSlash p → HasNoSlash q → HasNoSlash c → HasNoSlash d

@@ -26,7 +26,7 @@ use Rattle.ibc_laws.proofs.Steps.{stepped as did_step}
 use Rattle.ibc_laws.proofs.AtEnds.{EndStep, untouched, opened, stepped, at_end}
 use Rattle.ibc_laws.proofs.Peers.{Stands, Peers, stands, stands_same}
 use Rattle.ibc_laws.proofs.FirstLaw.{peer_of, peers_of}
-use Rattle.ibc_laws.proofs.Hops.{came_over_is}
+use Rattle.ibc_ids.proofs.Hops.{came_over_is}
 use Rattle.ibc_laws.proofs.Ports.{transfer_peer}
 use Rattle.ibc_laws.proofs.TokenEffects.{tokens_read}
 use Rattle.ibc_laws.proofs.PeerFacts.{still_committed, not_yet, from_port, from_channel}

@@ -1,10 +1,8 @@
 -- What an accepted message on a packet of a peer, or on an own one that was sent, did.
-use Rattle.std.proofs.Common.{◌≡◌, ℕ, ◌≤◌, Bool, true, false, refl, ap, sym, ◌∙◌, subst, Option, Some, None, Ok, nat_cmp, ◌&&◌, not, nat_lt, inl, inr, arith, if◌then◌else◌}
+use Rattle.std.proofs.Common.{◌≡◌, ℕ, ◌≤◌, Bool, true, false, refl, ap, sym, ◌∙◌, subst, Option, Some, Ok, ◌&&◌, not, nat_lt, inl, inr, arith, if◌then◌else◌}
 use Rattle.std.specs.Option.{option_map_or, option_and_then}
-use Rattle.ibc_ids.specs.declared.refusal.Refusal.TheVariants as refusal
 use Rattle.ibc_ids.specs.declared.key.Key.TheVariants as key
 use Rattle.ibc_ids.specs.Texts.{Text}
-use Rattle.ibc_ids.specs.Maps.{at}
 use Rattle.ibc_wire.specs.declared.packet.Packet.{Packet}
 use Rattle.ibc_wire.specs.declared.records.ChannelState.TheVariants as chan
 use Rattle.ibc_wire.specs.declared.records.ChannelState.{ChannelState}
@@ -15,30 +13,19 @@ use Rattle.ibc_wire.specs.declared.messages.Timeout.{Timeout}
 use Rattle.ibc_wire.specs.declared.messages.TimeoutOnClose.{TimeoutOnClose}
 use Rattle.ibc_machine.specs.declared.reply.Effect.{Effect}
 use Rattle.ibc_machine.specs.Records.{Core, Apps, Records, Block, Client, Channel, Commitment, channel_at, is_one_of, commitment_of}
-use Rattle.ibc_machine.specs.Values.{NumberIs, has, lacks, same_commitment}
-use Rattle.ibc_machine.specs.Checks.{expect}
+use Rattle.ibc_machine.specs.Values.{NumberIs, has, lacks}
 use Rattle.ibc_machine.specs.Evidence.{Host}
 use Rattle.ibc_machine.specs.Channels.{is_in_state, is_established, client_of}
-use Rattle.ibc_machine.specs.Packets.{recv_checked, recv_packet, ack_checked, ack_packet, timeout_checked, timeout, timeout_on_close_checked, timeout_on_close, is_ordered, is_timed_out, is_committed, not_received, waits_for}
+use Rattle.ibc_machine.specs.Packets.{recv_checked, recv_packet, ack_checked, ack_packet, timeout_checked, timeout, timeout_on_close_checked, timeout_on_close, is_ordered, is_timed_out, not_received, waits_for}
 use Rattle.ibc_machine.specs.Applications.{on_recv, on_ack, on_timeout}
 use Rattle.ibc_machine.specs.Machine.{World, block_at}
 use Rattle.ibc_laws.proofs.Places.{some_is}
-use Rattle.ibc_machine.proofs.PassedRows.{require_passed, bind_passed, expect_passed, ok_same}
-use Rattle.ibc_laws.proofs.PassedTests.{either, same_channel_state_is, same_commitment_is, no_longer}
+use Rattle.ibc_machine.proofs.PacketChecks.{IsUnsettled, recv_passed, ack_passed, timeout_passed, timeout_on_close_passed}
+use Rattle.ibc_machine.proofs.PassedRows.{bind_passed, ok_same}
+use Rattle.ibc_laws.proofs.PassedTests.{either, same_channel_state_is, no_longer}
 use Rattle.ibc_laws.proofs.Seen.{Sees, Sees-map, Sees-both, seeing, shown_channel, shown_next_recv, shown_commitment, shown_ack, shown_no_receipt}
-use Rattle.ibc_laws.proofs.CoreSteps.{rank, their_end, HadNotReceived, Receives, Acks, TimesOut, changes_channel, receives, acknowledges, times_out}
+use Rattle.ibc_laws.proofs.CoreSteps.{rank, their_end, HadNotReceived, Receives, Settles, Acks, TimesOut, changes_channel, receives, acknowledges, times_out}
 use Rattle.ibc_laws.proofs.AppSteps.{DidBoth}
-
--- the packet's own commitment stands
-committed_is : (mine : Channel) (p : Packet) → is_committed mine p ≡ true
-    → at nat_cmp p.sequence mine.commitments ≡ Some (commitment_of p)
-committed_is mine p e = go (at nat_cmp p.sequence mine.commitments) refl e
-  where
-    go : (o : Option Commitment) → at nat_cmp p.sequence mine.commitments ≡ o
-        → option_map_or (λ c. same_commitment c (commitment_of p)) o false ≡ true
-        → at nat_cmp p.sequence mine.commitments ≡ Some (commitment_of p)
-    go (Some c) is e = is ∙ ap Some (same_commitment_is c (commitment_of p) e)
-    go None is e = absurd (cc e)
 
 open_rank : (s : ChannelState) → s ≡ chan.Open → 1 ≤ rank s
 open_rank s e = let z : rank s ≡ 1 = ap rank e in omega arith
@@ -92,68 +79,49 @@ module _ (window : ℕ) (oldest : Bool) (w : World) (core : Core) (client : Text
 
 -- ---- what the checks have passed
 
+-- a packet that the end sent and that isn't settled yet
+settles : (core : Core) (p : Packet) (mine : Channel) → IsUnsettled core p mine → 1 ≤ rank mine.end.state → Settles p.source_port p.source_channel mine p
+settles core p mine stands opened = record {
+  from_port = refl;
+  from_channel = refl;
+  settled = opened;
+  peer = stands.peer;
+  committed = stands.committed;
+}
+
 module _ (window : ℕ) (oldest : Bool) (w : World) (host : Host) (core : Core) where
   receiving : (m : RecvPacket) (mine : Channel) → recv_checked (seeing window oldest w core) host core m ≡ Ok mine
       → (channel_at core m.packet.destination_port m.packet.destination_channel ≡ Some mine)
       × Receives w host core m.packet.destination_port m.packet.destination_channel mine m.packet
-  unfolding recv_checked
   receiving m mine e =
       let p : Packet = m.packet in
-      let form = require_passed _ _ _ e in
-      let there = bind_passed (expect (channel_at core p.destination_port p.destination_channel) refusal.UnknownChannel) _ form.1 in
-      let found : Channel = there.0 in
-      let state = require_passed _ _ _ there.2 in
-      let peer = require_passed _ _ _ state.1 in
-      let in_time = require_passed _ _ _ peer.1 in
-      let fresh = require_passed _ _ _ in_time.1 in
-      let in_order = require_passed _ _ _ fresh.1 in
-      let known = require_passed _ _ _ in_order.1 in
-      let proof = require_passed _ _ _ known.1 in
-      subst (λ (c : Channel). (channel_at core p.destination_port p.destination_channel ≡ Some c) × Receives w host core p.destination_port p.destination_channel c p)
-      (ok_same proof.1) (
-        expect_passed (channel_at core p.destination_port p.destination_channel) _ there.1,
+      let passed = recv_passed (seeing window oldest w core) host core m mine e in (
+        passed.there,
         record {
           to_port = refl;
           to_channel = refl;
-          state = same_channel_state_is found.end.state chan.Open state.0;
-          peer = peer.0;
-          in_time = no_longer _ in_time.0;
-          fresh = no_longer _ fresh.0;
-          in_order = no_longer _ in_order.0;
+          state = same_channel_state_is mine.end.state chan.Open passed.state;
+          peer = passed.peer;
+          in_time = no_longer _ passed.in_time;
+          fresh = no_longer _ passed.fresh;
+          in_order = no_longer _ passed.in_order;
           height = m.height;
-          sees = shown_commitment window oldest w core (client_of core found.end.connection) m.height p.source_port p.source_channel p.sequence (commitment_of p) m.proof proof.0;
+          sees = shown_commitment window oldest w core (client_of core mine.end.connection) m.height p.source_port p.source_channel p.sequence (commitment_of p) m.proof passed.sent;
         },
       )
 
   pub acking : (m : AckPacket) (mine : Channel) → ack_checked (seeing window oldest w core) core m ≡ Ok mine
       → (channel_at core m.packet.source_port m.packet.source_channel ≡ Some mine)
       × (s : Acks w core m.packet.source_port m.packet.source_channel mine m.packet) × (s.ack ≡ m.ack)
-  unfolding ack_checked
   acking m mine e =
       let p : Packet = m.packet in
-      let form = require_passed _ _ _ e in
-      let there = bind_passed (expect (channel_at core p.source_port p.source_channel) refusal.UnknownChannel) _ form.1 in
-      let found : Channel = there.0 in
-      let state = require_passed _ _ _ there.2 in
-      let peer = require_passed _ _ _ state.1 in
-      let committed = require_passed _ _ _ peer.1 in
-      let in_order = require_passed _ _ _ committed.1 in
-      let known = require_passed _ _ _ in_order.1 in
-      let proof = require_passed _ _ _ known.1 in
-      subst (λ (c : Channel). (channel_at core p.source_port p.source_channel ≡ Some c) × (s : Acks w core p.source_port p.source_channel c p) × (s.ack ≡ m.ack))
-      (ok_same proof.1) (
-        expect_passed (channel_at core p.source_port p.source_channel) _ there.1,
+      let passed = ack_passed (seeing window oldest w core) core m mine e in (
+        passed.unsettled.there,
         record {
-          settles = record {
-            from_port = refl;
-            from_channel = refl;
-            settled = open_rank found.end.state (same_channel_state_is found.end.state chan.Open state.0);
-            peer = peer.0;
-            committed = committed_is found p committed.0;
-          };
+          settles = settles core p mine passed.unsettled (open_rank mine.end.state (same_channel_state_is mine.end.state chan.Open passed.state));
           ack = m.ack;
           height = m.height;
-          sees = shown_ack window oldest w core (client_of core found.end.connection) m.height p.destination_port p.destination_channel p.sequence m.ack m.proof proof.0;
+          sees = shown_ack window oldest w core (client_of core mine.end.connection) m.height p.destination_port p.destination_channel p.sequence m.ack m.proof passed.acknowledged;
         },
         refl,
       )
@@ -161,34 +129,16 @@ module _ (window : ℕ) (oldest : Bool) (w : World) (host : Host) (core : Core) 
   pub timing_out : (m : Timeout) (mine : Channel) → timeout_checked (seeing window oldest w core) core m ≡ Ok mine
       → (channel_at core m.packet.source_port m.packet.source_channel ≡ Some mine)
       × TimesOut w core m.packet.source_port m.packet.source_channel mine m.packet
-  unfolding timeout_checked
   timing_out m mine e =
       let p : Packet = m.packet in
-      let form = require_passed _ _ _ e in
-      let there = bind_passed (expect (channel_at core p.source_port p.source_channel) refusal.UnknownChannel) _ form.1 in
-      let found : Channel = there.0 in
-      let client : Text = client_of core found.end.connection in
-      let state = require_passed _ _ _ there.2 in
-      let peer = require_passed _ _ _ state.1 in
-      let committed = require_passed _ _ _ peer.1 in
-      let known = require_passed _ _ _ committed.1 in
-      let over = require_passed _ _ _ known.1 in
-      let waits = require_passed _ _ _ over.1 in
-      let proof = require_passed _ _ _ waits.1 in
-      subst (λ (c : Channel). (channel_at core p.source_port p.source_channel ≡ Some c) × TimesOut w core p.source_port p.source_channel c p)
-      (ok_same proof.1) (
-        expect_passed (channel_at core p.source_port p.source_channel) _ there.1,
+      let client : Text = client_of core mine.end.connection in
+      let passed = timeout_passed (seeing window oldest w core) core m mine e in (
+        passed.unsettled.there,
         record {
-          settles = record {
-            from_port = refl;
-            from_channel = refl;
-            settled = established_rank found state.0;
-            peer = peer.0;
-            committed = committed_is found p committed.0;
-          };
+          settles = settles core p mine passed.unsettled (established_rank mine passed.state);
           height = m.height;
           sees = Sees-map (λ b had. (had.0, inl had.1)) (with_time window oldest w core client m.height (commitment_of p)
-              (not_received_shown window oldest w core client m.height found p m.next_recv m.proof waits.0 proof.0) over.0);
+              (not_received_shown window oldest w core client m.height mine p m.next_recv m.proof passed.waits passed.missing) passed.over);
         },
       )
 
@@ -196,36 +146,18 @@ module _ (window : ℕ) (oldest : Bool) (w : World) (host : Host) (core : Core) 
       → timeout_on_close_checked (seeing window oldest w core) core m ≡ Ok mine
       → (channel_at core m.packet.source_port m.packet.source_channel ≡ Some mine)
       × TimesOut w core m.packet.source_port m.packet.source_channel mine m.packet
-  unfolding timeout_on_close_checked
   timing_out_on_close m mine e =
       let p : Packet = m.packet in
-      let form = require_passed _ _ _ e in
-      let there = bind_passed (expect (channel_at core p.source_port p.source_channel) refusal.UnknownChannel) _ form.1 in
-      let found : Channel = there.0 in
-      let client : Text = client_of core found.end.connection in
-      let state = require_passed _ _ _ there.2 in
-      let peer = require_passed _ _ _ state.1 in
-      let committed = require_passed _ _ _ peer.1 in
-      let known = require_passed _ _ _ committed.1 in
-      let waits = require_passed _ _ _ known.1 in
-      let proof = require_passed _ _ _ waits.1 in
-      let close = require_passed _ _ _ proof.1 in
-      subst (λ (c : Channel). (channel_at core p.source_port p.source_channel ≡ Some c) × TimesOut w core p.source_port p.source_channel c p)
-      (ok_same close.1) (
-        expect_passed (channel_at core p.source_port p.source_channel) _ there.1,
+      let client : Text = client_of core mine.end.connection in
+      let passed = timeout_on_close_passed (seeing window oldest w core) core m mine e in (
+        passed.unsettled.there,
         record {
-          settles = record {
-            from_port = refl;
-            from_channel = refl;
-            settled = established_rank found state.0;
-            peer = peer.0;
-            committed = committed_is found p committed.0;
-          };
+          settles = settles core p mine passed.unsettled (established_rank mine passed.state);
           height = m.height;
           sees = Sees-both
-              (not_received_shown window oldest w core client m.height found p m.next_recv m.proof waits.0 proof.0)
-              (Sees-map (λ b had. inr had) (shown_channel window oldest w core client m.height found.end.peer_port p.destination_channel
-              (their_end core found p.source_port p.source_channel chan.Closed) m.proof_close close.0));
+              (not_received_shown window oldest w core client m.height mine p m.next_recv m.proof passed.waits passed.missing)
+              (Sees-map (λ b had. inr had) (shown_channel window oldest w core client m.height mine.end.peer_port p.destination_channel
+              (their_end core mine p.source_port p.source_channel chan.Closed) m.proof_close passed.closed));
         },
       )
 

@@ -11,8 +11,7 @@ use Rattle.ibc_wire.specs.declared.records.Order.TheVariants.{Unordered, Ordered
 use Rattle.ibc_wire.specs.declared.records.ConnectionEnd.{ConnectionEnd}
 use Rattle.ibc_wire.specs.declared.records.ChannelEnd.{ChannelEnd}
 use Rattle.ibc_wire.specs.declared.records.ClientState.{ClientState}
-use Rattle.ibc_machine.specs.Records.{Commitment}
-use Rattle.ibc_machine.specs.Values.{same_optional, same_connection, same_channel, same_client, same_commitment}
+use Rattle.ibc_machine.specs.Values.{same_optional, same_connection, same_channel, same_client}
 
 pub both : (a b : Bool) → (a && b) ≡ true → (a ≡ true) × (b ≡ true)
 both true b e = (refl, e)
@@ -108,12 +107,3 @@ same_client_is a b e =
     let c = eqb-true a.chain b.chain one.0 in
     let l = eqb-true a.latest b.latest one.1 in
     λ i. record { chain = c i; latest = l i }
-
-pub same_commitment_is : (a b : Commitment) → same_commitment a b ≡ true → a ≡ b
-same_commitment_is a b e =
-    let one = both _ (a.timeout_time == b.timeout_time) e in
-    let two = both (same_text a.payload b.payload) (a.timeout_height == b.timeout_height) one.0 in
-    let p = same_text_is a.payload b.payload two.0 in
-    let h = eqb-true a.timeout_height b.timeout_height two.1 in
-    let t = eqb-true a.timeout_time b.timeout_time one.1 in
-    λ i. record { payload = p i; timeout_height = h i; timeout_time = t i }

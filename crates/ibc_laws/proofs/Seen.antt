@@ -11,7 +11,8 @@ use Rattle.ibc_machine.specs.Records.{Core, Block, Client, Channel, Commitment, 
 use Rattle.ibc_machine.specs.Values.{ClientIs, ConnectionIs, ChannelIs, NumberIs, CommitmentIs, AckIs, Claim, look, has, lacks, same_value, receipt_if}
 use Rattle.ibc_machine.specs.Evidence.{Evidence}
 use Rattle.ibc_machine.specs.Machine.{World, true_marks, looks, block_at, shows_in}
-use Rattle.ibc_laws.proofs.PassedTests.{both, same_connection_is, same_channel_is, same_client_is, same_commitment_is, same_text_is}
+use Rattle.ibc_machine.proofs.PacketChecks.{same_commitment_is}
+use Rattle.ibc_laws.proofs.PassedTests.{both, same_connection_is, same_channel_is, same_client_is, same_text_is}
 use Rattle.std.proofs.Common.{eqb-true}
 
 -- the client tracks a chain, which has committed the height, and its block there is so

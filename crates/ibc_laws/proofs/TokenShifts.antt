@@ -11,7 +11,8 @@ use Rattle.ibc_machine.specs.Bank.{Balances, balance, supply, escrow}
 use Rattle.ibc_machine.specs.Transfers.{transfer_port, came_over, each_token, send_token, refund_token, receive_token, without_hop}
 use Rattle.ibc_machine.proofs.Measures.{IsSorted, Moved, weigh}
 use Rattle.ibc_laws.proofs.TokenMoves.{unless_burnt, hopped_token, receive_out, receive_gain, sent_tokens, refunded_tokens, received_tokens}
-use Rattle.ibc_laws.proofs.Hops.{HasNoSlash, came_over_by}
+use Rattle.ibc_ids.proofs.Hops.{came_over_by}
+use Rattle.ibc_laws.proofs.Hops.{HasNoSlash}
 use Rattle.ibc_laws.proofs.HeldAndIssued.{sum-same, sum-zero, sum-plus, balance_is, if_of, of_denom, escrowed_as, weigh_escrow, weigh_user, weigh_other, kept_of, unburnt_sum, not_over, home_is, hopped_here, hopped_elsewhere}
 
 -- the escrow of the channel loses and gains so much of each denomination; so much is burnt and issued of the

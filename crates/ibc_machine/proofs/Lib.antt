@@ -44,3 +44,4 @@ pub mod DataRead
 pub mod GoodData
 pub mod PassedRows
 pub mod PassedChecks
+pub mod PacketChecks

@@ -1,5 +1,5 @@
 -- Checks in a row: where the first passes the rest decides, and where it fails its refusal is the answer.
-use Rattle.std.proofs.Common.{◌≡◌, refl, sym, ap, ◌∙◌, Option, Some, None, Ok, Err}
+use Rattle.std.proofs.Common.{◌≡◌, refl, ap, ◌∙◌, Option, Some, None, Ok, Err}
 use Rattle.std.specs.Prelude.{⊤}
 use Rattle.ibc_ids.specs.declared.refusal.Refusal.{Refusal}
 use Rattle.ibc_machine.specs.Checks.{Checked, expect, go_on, and_then, ◌>>=◌, ◌>>◌}

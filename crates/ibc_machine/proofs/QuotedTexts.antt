@@ -1,16 +1,13 @@
 -- Texts between quotes: a text without a quote stands whole between two of them.
-use Rattle.std.proofs.Common.{◌≡◌, ℕ, ◌+◌, ◌*◌, ◌-◌, ◌<◌, ◌^◌, Bool, true, false, refl, ap, sym, ◌∙◌, subst, codes, List, [], ◌∷◌, ◌++◌, length, map, Option, Some, None, arith, not, ◌==◌, ◌&&◌, cond, if◌then◌else◌, append_assoc, append-nil, decimal, eqb-true, nat_lt, nat_le, ltb-true, option_map, ltb-false}
+use Rattle.std.proofs.Common.{◌≡◌, ℕ, ◌+◌, ◌*◌, ◌-◌, ◌<◌, ◌^◌, Bool, true, false, refl, ap, sym, ◌∙◌, subst, codes, List, [], ◌∷◌, ◌++◌, length, arith, not, ◌==◌, ◌&&◌, cond, append_assoc, append-nil, decimal, eqb-true, nat_lt, nat_le, ltb-true, ltb-false}
 use Rattle.std.specs.List.{join_with_byte, list_all, fold, onto_first, slice_split}
-use Rattle.std.specs.Option.{option_and_then}
 use Rattle.std.specs.Char.{digit_value}
 use Rattle.std.specs.Str.Parse.{digits_value_after, AllDigits}
 use Rattle.std.proofs.lemmas.List.Splits.{join_with_byte-slice_split}
 use Rattle.std.proofs.lemmas.Fmt.{decimal_is_IsNumeral_wide}
-use Rattle.ibc_ids.specs.Texts.{Text, same_text}
-use Rattle.ibc_ids.specs.Names.{is_port, is_channel, is_denom, are_hops_and_base, is_made_of, is_memo, is_receiver, is_user}
-use Rattle.ibc_wire.specs.Tokens.{is_short, is_rising}
-use Rattle.ibc_wire.specs.declared.token.Token.{Token}
-use Rattle.ibc_machine.specs.TokenData.{Data, quoted, member, object, token_members, memo_member, party_members, members_of_first, tokens_member, data_text, is_amount, is_token, is_list_for, is_data, between_quotes, number_of, tokens_in, parties_in, one_token_in, tokens_behind, data_in, data_if, data_of, has_several, ReadsData}
+use Rattle.ibc_ids.specs.Texts.{Text}
+use Rattle.ibc_ids.specs.Names.{is_port, is_channel, is_denom, are_hops_and_base, is_made_of}
+use Rattle.ibc_machine.specs.TokenData.{quoted, member, object, is_amount, between_quotes, number_of}
 
 pub both : (a b : Bool) → (a && b) ≡ true → (a ≡ true) × (b ≡ true)
 both true b e = (refl, e)
