@@ -13,7 +13,7 @@ use Rattle.ibc_machine.specs.Values.{ClientIs}
 use Rattle.ibc_machine.specs.Checks.{Checked, require, expect, go_on, ◌>>=◌}
 use Rattle.ibc_machine.specs.Evidence.{require_known}
 use Rattle.ibc_machine.specs.Channels.{client_of}
-use Rattle.ibc_machine.proofs.ImageChanges.{IsKeyed}
+use Rattle.ibc_machine.specs.Image.{IsKeyed}
 use Rattle.ibc_records.specs.Held.{HeldRecords, core_of, SetsChannelEnd}
 use Rattle.ibc_records.specs.Taking.{IsWritten}
 use Rattle.ibc_records.proofs.Written.{sets_channel_end_written}

@@ -12,7 +12,7 @@ use Rattle.ibc_machine.specs.Values.{ClientIs}
 use Rattle.ibc_machine.specs.Checks.{require}
 use Rattle.ibc_machine.specs.Evidence.{require_known}
 use Rattle.ibc_machine.specs.Channels.{client_of}
-use Rattle.ibc_machine.proofs.ImageChanges.{IsKeyed}
+use Rattle.ibc_machine.specs.Image.{IsKeyed}
 
 module _ (core : Core) (id : Text) where
   -- the client under a connection that is there is asked

@@ -13,7 +13,8 @@ use Rattle.ibc_machine.specs.Records.{Core, Channel, channel_at, with_channel, i
 use Rattle.ibc_machine.specs.Channels.{new_channel}
 use Rattle.ibc_machine.specs.Values.{Value, ChannelIs, NumberIs, CommitmentIs, AckIs, look, receipt_if}
 use Rattle.ibc_machine.proofs.FiniteMaps.{by_pair, at-with_same, at-with_other, named-with, told-with}
-use Rattle.ibc_machine.proofs.ImageChanges.{IsKeyed, Change, ChangesAt, ChangesIn, IsApart}
+use Rattle.ibc_machine.specs.Image.{IsKeyed}
+use Rattle.ibc_machine.proofs.ImageChanges.{Change, ChangesAt, ChangesIn, IsApart}
 
 -- what a channel tells, by the kind of the key
 abbrev pub end_of : Option Channel → Option Value

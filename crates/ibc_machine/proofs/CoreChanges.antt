@@ -10,7 +10,8 @@ use Rattle.ibc_wire.specs.declared.records.ConnectionEnd.{ConnectionEnd}
 use Rattle.ibc_machine.specs.Records.{Core, Client, with_client, with_connection}
 use Rattle.ibc_machine.specs.Values.{Value, ClientIs, ConnectionIs, NumberIs, look}
 use Rattle.ibc_machine.proofs.FiniteMaps.{by_text, at-with_same, at-with_other, named-with}
-use Rattle.ibc_machine.proofs.ImageChanges.{IsKeyed, ChangesAt}
+use Rattle.ibc_machine.specs.Image.{IsKeyed}
+use Rattle.ibc_machine.proofs.ImageChanges.{ChangesAt}
 
 -- ---- a client
 

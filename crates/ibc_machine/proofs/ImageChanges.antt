@@ -14,14 +14,10 @@ use Rattle.ibc_ids.proofs.Paths.{different_paths}
 use Rattle.ibc_merkle.specs.Tree.{Pairs}
 use Rattle.ibc_machine.specs.Records.{Core}
 use Rattle.ibc_machine.specs.Values.{Value, look, value_bytes}
-use Rattle.ibc_machine.specs.Image.{image}
+use Rattle.ibc_machine.specs.Image.{image, IsKeyed}
 use Rattle.ibc_machine.proofs.FiniteMaps.{by_text, same_key, at-with, at-with_same}
 use Rattle.ibc_machine.proofs.SortedMaps.{Sorted-from, Sorted-to, Sorted-without, at-without_same, at-without_other}
 use Rattle.ibc_machine.proofs.Images.{image_sorted, image_at, image_from, sorted-with, at_is_find}
-
--- every key that has a value has names for its names
-pub record IsKeyed (core : Core) : Type 0 where
-  pub keyed : (k : Key) (v : Value) → look core k ≡ Some v → IsTrue (is_key k)
 
 -- the core has the value at the key, and at every other path what it had
 pub record ChangesAt (old new : Core) (k : Key) (v : Value) : Type 0 where

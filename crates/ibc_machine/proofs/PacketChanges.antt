@@ -17,7 +17,8 @@ use Rattle.ibc_machine.specs.Packets.{is_ordered, after_send, after_receive, wit
 use Rattle.ibc_machine.specs.Values.{Value, ChannelIs, NumberIs, CommitmentIs, ReceiptIs, AckIs, look, receipt_if, value_bytes}
 use Rattle.ibc_machine.proofs.FiniteMaps.{by_number, by_pair, at-with_same, at-with_split, named-with}
 use Rattle.ibc_machine.proofs.SortedMaps.{Sorted, at-without_same, at-without_other, is_one_of-added, added_there}
-use Rattle.ibc_machine.proofs.ImageChanges.{IsKeyed, Change, ChangesIn, IsApart}
+use Rattle.ibc_machine.specs.Image.{IsKeyed}
+use Rattle.ibc_machine.proofs.ImageChanges.{Change, ChangesIn, IsApart}
 use Rattle.ibc_machine.proofs.ChannelChanges.{end_of, send_of, recv_of, ack_of, commitment_at, receipt_at, acknowledgement_at}
 
 -- what a channel proves: its end, its counters, and by sequence what stands of its packets

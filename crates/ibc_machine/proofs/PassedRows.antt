@@ -9,6 +9,11 @@ unfolding and_then
 require_passed true r rest e = (refl, e)
 require_passed false r rest e = absurd (cc e)
 
+-- the last check of a row
+pub require_holds : (b : Bool) (r : Refusal) {y : ⊤} → require b r ≡ Ok y → b ≡ true
+require_holds true r e = refl
+require_holds false r e = absurd (cc e)
+
 pub bind_passed : {A B : Type 0} (x : Checked A) (f : A → Checked B) {y : B} → (x >>= f) ≡ Ok y → (a : A) × (x ≡ Ok a) × (f a ≡ Ok y)
 unfolding go_on
 bind_passed (Ok a) f e = (a, refl, e)

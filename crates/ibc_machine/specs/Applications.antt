@@ -1,13 +1,12 @@
 -- What the applications answer to their channels and packets, by port (ICS 20 for port `transfer`; port
 -- `note` is this project's profile).
-use Rattle.std.specs.Prelude.{◌||◌, Ok, ⊤, IsTrue, if◌then◌else◌}
+use Rattle.std.specs.Prelude.{◌||◌, Ok, ⊤, if◌then◌else◌}
 use Rattle.ibc_ids.specs.Texts.{Text, same_text}
 use Rattle.ibc_ids.specs.declared.refusal.Refusal.TheVariants.{UnknownPort}
 use Rattle.ibc_wire.specs.declared.records.Order.{Order}
 use Rattle.ibc_wire.specs.declared.packet.Packet.{Packet}
-use Rattle.ibc_machine.specs.Records.{Records, Apps}
+use Rattle.ibc_machine.specs.Records.{Core, Apps}
 use Rattle.ibc_machine.specs.Checks.{Checked, require, ◌>>=◌}
-use Rattle.ibc_machine.specs.Packets.{has_size}
 use Rattle.ibc_machine.specs.Bank.{Balances}
 use Rattle.ibc_machine.specs.Transfers.{transfer_port, opens_for_transfers, closes_for_transfers, burnt, receive_transfer, refund_transfer, acknowledge_transfer}
 use Rattle.ibc_machine.specs.Notes.{note_port, opens_for_notes, closes_for_notes, receive_note}
@@ -27,28 +26,23 @@ abbrev pub with_balances : Apps → Balances → Apps
 with_balances apps balances = record apps { balances = balances }
 
 -- the acknowledgement of a packet that was received on the port over a channel of the version
-abbrev pub on_recv : Records → Text → Text → Packet → Text × Apps
-on_recv records port version p =
+abbrev pub on_recv : Core → Text → Apps → Text → Packet → Text × Apps
+on_recv core port apps version p =
     if same_text port transfer_port
-    then (let (ack, balances) = receive_transfer (burnt records.core) records.apps.balances version p in
-    (ack, with_balances records.apps balances))
-    else (let (ack, notes) = receive_note records.apps.notes p in (ack, record records.apps { notes = notes }))
+    then (let (ack, balances) = receive_transfer (burnt core) apps.balances version p in
+    (ack, with_balances apps balances))
+    else (let (ack, notes) = receive_note apps.notes p in (ack, record apps { notes = notes }))
 
 -- the peer acknowledged a packet that was sent from the port
-abbrev pub on_ack : Apps → Text → Text → Packet → Text → Checked Apps
-on_ack apps port version p ack =
+abbrev pub on_ack : Text → Apps → Text → Packet → Text → Checked Apps
+on_ack port apps version p ack =
     if same_text port transfer_port
     then (acknowledge_transfer apps.balances version p ack >>= λ balances. Ok (with_balances apps balances))
     else Ok apps
 
 -- the peer will not receive a packet that was sent from the port
-abbrev pub on_timeout : Apps → Text → Text → Packet → Checked Apps
-on_timeout apps port version p =
+abbrev pub on_timeout : Text → Apps → Text → Packet → Checked Apps
+on_timeout port apps version p =
     if same_text port transfer_port
     then (refund_transfer apps.balances version p >>= λ balances. Ok (with_balances apps balances))
     else Ok apps
-
--- every acknowledgement has 1 to 1,024 bytes
-abbrev pub WritesSizedAcks : Type 0
-WritesSizedAcks = (records : Records) (port version : Text) (p : Packet)
-    → IsTrue (has_size (on_recv records port version p).0)

@@ -18,12 +18,11 @@ use Rattle.ibc_wire.specs.declared.messages.ChanOpenAck.{ChanOpenAck}
 use Rattle.ibc_wire.specs.declared.messages.ChanOpenConfirm.{ChanOpenConfirm}
 use Rattle.ibc_wire.specs.declared.messages.ChanCloseInit.{ChanCloseInit}
 use Rattle.ibc_wire.specs.declared.messages.ChanCloseConfirm.{ChanCloseConfirm}
-use Rattle.ibc_machine.specs.declared.reply.Effect.{Effect}
 use Rattle.ibc_machine.specs.declared.reply.Effect.TheVariants as effect
 use Rattle.ibc_machine.specs.Records.{Core, Channel, connection_at, channel_at, with_channel}
 use Rattle.ibc_machine.specs.Values.{ChannelIs, Claim, has, same_connection_state, same_channel_state}
 use Rattle.ibc_machine.specs.Checks.{Checked, require, expect, ◌>>=◌, ◌>>◌}
-use Rattle.ibc_machine.specs.Evidence.{Evidence, require_number, require_known, require_proof}
+use Rattle.ibc_machine.specs.Evidence.{CoreHandler, require_number, require_known, require_proof}
 
 -- ---- words
 
@@ -85,8 +84,8 @@ in_state state mine = record mine { end = record mine.end { state = state } }
 -- ---- opening
 
 -- ICS 4, "chanOpenInit"; the connection may be in any state
-unfoldable pub chan_open_init : Checked ⊤ → (Order → Text → Checked ⊤) → Core → ChanOpenInit → Checked (Effect × Core)
-chan_open_init has_port opens core m = do
+unfoldable pub chan_open_init : Checked ⊤ → (Order → Text → Checked ⊤) → ChanOpenInit → CoreHandler
+chan_open_init has_port opens m evidence host core = do
   let id = nth_channel core.next_channel
   has_port
   connection ← expect (connection_at core m.connection) UnknownConnection
@@ -96,8 +95,8 @@ chan_open_init has_port opens core m = do
   Ok (effect.Channel id, with_new_channel m.port id mine core)
 
 -- ICS 4, "chanOpenTry"
-unfoldable pub chan_open_try : Checked ⊤ → (Order → Text → Checked ⊤) → Evidence → Core → ChanOpenTry → Checked (Effect × Core)
-chan_open_try has_port opens evidence core m = do
+unfoldable pub chan_open_try : Checked ⊤ → (Order → Text → Checked ⊤) → ChanOpenTry → CoreHandler
+chan_open_try has_port opens m evidence host core = do
   let id = nth_channel core.next_channel
   let mine = channel_end TryOpen m.order m.peer_port (Some m.peer_channel) m.connection m.version
   let theirs = counterpart core mine m.port None Init
@@ -112,8 +111,8 @@ chan_open_try has_port opens evidence core m = do
   Ok (effect.Channel id, with_new_channel m.port id mine core)
 
 -- ICS 4, "chanOpenAck"
-unfoldable pub chan_open_ack : Evidence → Core → ChanOpenAck → Checked (Effect × Core)
-chan_open_ack evidence core m = do
+unfoldable pub chan_open_ack : ChanOpenAck → CoreHandler
+chan_open_ack m evidence host core = do
   require (evidence.is_proof m.proof) BadMessage
   mine ← expect (channel_at core m.port m.channel) UnknownChannel
   let client = client_of core mine.end.connection
@@ -126,8 +125,8 @@ chan_open_ack evidence core m = do
   Ok (effect.None, with_channel m.port m.channel (record mine { end = after }) core)
 
 -- ICS 4, "chanOpenConfirm"
-unfoldable pub chan_open_confirm : Evidence → Core → ChanOpenConfirm → Checked (Effect × Core)
-chan_open_confirm evidence core m = do
+unfoldable pub chan_open_confirm : ChanOpenConfirm → CoreHandler
+chan_open_confirm m evidence host core = do
   require (evidence.is_proof m.proof) BadMessage
   mine ← expect (channel_at core m.port m.channel) UnknownChannel
   let client = client_of core mine.end.connection
@@ -140,16 +139,16 @@ chan_open_confirm evidence core m = do
 -- ---- closing
 
 -- ICS 4, "chanCloseInit"
-unfoldable pub chan_close_init : Checked ⊤ → Core → ChanCloseInit → Checked (Effect × Core)
-chan_close_init closes core m = do
+unfoldable pub chan_close_init : Checked ⊤ → ChanCloseInit → CoreHandler
+chan_close_init closes m evidence host core = do
   mine ← expect (channel_at core m.port m.channel) UnknownChannel
   require (is_in_state Open mine) WrongState
   closes
   Ok (effect.None, with_channel m.port m.channel (in_state Closed mine) core)
 
 -- ICS 4, "chanCloseConfirm"
-unfoldable pub chan_close_confirm : Evidence → Core → ChanCloseConfirm → Checked (Effect × Core)
-chan_close_confirm evidence core m = do
+unfoldable pub chan_close_confirm : ChanCloseConfirm → CoreHandler
+chan_close_confirm m evidence host core = do
   require (evidence.is_proof m.proof) BadMessage
   mine ← expect (channel_at core m.port m.channel) UnknownChannel
   let client = client_of core mine.end.connection

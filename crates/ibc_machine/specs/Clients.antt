@@ -5,19 +5,18 @@ use Rattle.ibc_ids.specs.declared.refusal.Refusal.TheVariants.{UnknownChain, Own
 use Rattle.ibc_wire.specs.declared.messages.CreateClient.{CreateClient}
 use Rattle.ibc_wire.specs.declared.header.Header.{Header}
 use Rattle.ibc_wire.specs.declared.messages.UpdateClient.{UpdateClient}
-use Rattle.ibc_machine.specs.declared.reply.Effect.{Effect}
 use Rattle.ibc_machine.specs.declared.reply.Effect.TheVariants as effect
-use Rattle.ibc_machine.specs.Records.{Core, Client, client_at, with_client, added}
-use Rattle.ibc_machine.specs.Checks.{Checked, require, expect, ◌>>=◌, ◌>>◌}
-use Rattle.ibc_machine.specs.Evidence.{Host, Evidence, require_number, require_row}
+use Rattle.ibc_machine.specs.Records.{Client, client_at, with_client, added}
+use Rattle.ibc_machine.specs.Checks.{require, expect, ◌>>=◌, ◌>>◌}
+use Rattle.ibc_machine.specs.Evidence.{CoreHandler, require_number, require_row}
 
 -- a client of a chain, which knows no height yet
 abbrev pub new_client : ℕ → Client
 new_client chain = record { state = record { chain = chain; latest = 0 }; known = [] }
 
 -- ICS 2, "createClient"
-unfoldable pub create_client : Host → Core → CreateClient → Checked (Effect × Core)
-create_client host core m = do
+unfoldable pub create_client : CreateClient → CoreHandler
+create_client m evidence host core = do
   let id = nth_client core.next_client
   require (nat_lt m.chain host.chains) UnknownChain
   require (not (m.chain == host.chain)) OwnChain
@@ -37,8 +36,8 @@ abbrev pub is_of_client : Client → Header → Bool
 is_of_client client header = (header.chain == client.state.chain) && not (header.height == 0)
 
 -- ICS 2, "updateClient"
-unfoldable pub update_client : Evidence → Core → UpdateClient → Checked (Effect × Core)
-update_client evidence core m = do
+unfoldable pub update_client : UpdateClient → CoreHandler
+update_client m evidence host core = do
   client ← expect (client_at core m.client) UnknownClient
   require (is_of_client client m.header) WrongHeader
   require (nat_le m.header.height (evidence.published m.header.chain)) NotPublished

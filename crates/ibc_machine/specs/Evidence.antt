@@ -1,12 +1,13 @@
--- What a handler knows of its own chain, and how it judges what a message says of another (ICS 24, "Host
--- environment"; ICS 2, "Client state verification functions").
+-- What a handler is: what it knows of its own chain, how it judges what a message says of another, and what it
+-- answers (ICS 24, "Host environment"; ICS 2, "Client state verification functions").
 use Rattle.std.specs.Prelude.{ℕ, Bool, not, ◌^◌, ◌-◌, ◌==◌, Ok, Err, ⊤}
 use Rattle.ibc_ids.specs.Texts.{Text}
 use Rattle.ibc_ids.specs.declared.refusal.Refusal.TheVariants.{WrongHeader, NoConsensus, BadProof, NumberFull, Pruned}
 use Rattle.ibc_wire.specs.declared.header.Header.{Header}
+use Rattle.ibc_machine.specs.declared.reply.Effect.{Effect}
 use Rattle.ibc_machine.specs.Records.{Core, knows}
 use Rattle.ibc_machine.specs.Values.{Claim}
-use Rattle.ibc_machine.specs.Checks.{Checked, require}
+use Rattle.ibc_machine.specs.Checks.{Checked, require, ◌>>=◌}
 
 -- the chain's number among so many chains, and its working height and time
 pub record Host : Type 0 where
@@ -33,6 +34,24 @@ pub record Evidence : Type 0 where
   pub is_proof : Text → Bool
   -- the proof shows the claim of the client's chain, at a height that the client knows
   pub shows : Text → ℕ → Claim → Text → Bool
+
+-- ---- handlers
+
+-- What a chain does with a message, by this evidence and as this host: the effect, with the core and what an
+-- application keeps after it, or the refusal of the first check that failed
+abbrev pub Handler : Type 0 → Type 0
+Handler A = Evidence → Host → Core → A → Checked (Effect × Core × A)
+
+-- the same of a message in which no application takes part
+abbrev pub CoreHandler : Type 0
+CoreHandler = Evidence → Host → Core → Checked (Effect × Core)
+
+-- it leaves what applications keep
+abbrev pub on_core : {A : Type 0} → CoreHandler → Handler A
+on_core handler evidence host core app =
+    handler evidence host core >>= λ ((effect, after) : Effect × Core). Ok (effect, after, app)
+
+-- ---- checks
 
 -- the header is the published one
 abbrev pub require_row : Row → Checked ⊤

@@ -7,62 +7,49 @@ use Rattle.ibc_machine.specs.declared.reply.Effect.{Effect}
 use Rattle.ibc_machine.specs.declared.reply.Effect.TheVariants as effect
 use Rattle.ibc_machine.specs.declared.reply.Reply.{Reply}
 use Rattle.ibc_machine.specs.declared.reply.Reply.TheVariants as reply
-use Rattle.ibc_machine.specs.Records.{Core, Apps, Records, Chain}
+use Rattle.ibc_machine.specs.Records.{Core, Apps, Chain}
 use Rattle.ibc_machine.specs.Image.{core_root}
 use Rattle.ibc_machine.specs.Checks.{Checked, require, ◌>>=◌, ◌>>◌}
-use Rattle.ibc_machine.specs.Evidence.{Host, Evidence}
+use Rattle.ibc_machine.specs.Evidence.{Host, Evidence, Handler, on_core}
 use Rattle.ibc_machine.specs.Clients.{create_client, update_client}
 use Rattle.ibc_machine.specs.Connections.{conn_open_init, conn_open_try, conn_open_ack, conn_open_confirm}
 use Rattle.ibc_machine.specs.Channels.{chan_open_init, chan_open_try, chan_open_ack, chan_open_confirm, chan_close_init, chan_close_confirm}
 use Rattle.ibc_machine.specs.Packets.{recv_packet, ack_packet, timeout, timeout_on_close}
 use Rattle.ibc_machine.specs.Transfers.{transfer, transfer_many}
 use Rattle.ibc_machine.specs.Notes.{send_note}
-use Rattle.ibc_machine.specs.Applications.{require_application, on_open, on_close, on_recv, on_ack, on_timeout}
+use Rattle.ibc_machine.specs.Bank.{Balances}
+use Rattle.ibc_machine.specs.Applications.{require_application, on_open, on_close, with_balances, on_recv, on_ack, on_timeout}
 
 -- ---- messages
 
--- a step of the core leaves the applications' part, and a step of both may change both
-abbrev pub core_step : Records → Checked (Effect × Core) → Checked (Effect × Records)
-core_step records checked =
-    checked >>= λ ((effect, core) : Effect × Core). Ok (effect, record records { core = core })
+-- a handler of balances leaves what else applications keep
+abbrev pub on_balances : Handler Balances → Handler Apps
+on_balances handler evidence host core apps =
+    handler evidence host core apps.balances
+    >>= λ ((effect, after, balances) : Effect × Core × Balances). Ok (effect, after, with_balances apps balances)
 
-abbrev pub both_step : Checked (Effect × Core × Apps) → Checked (Effect × Records)
-both_step checked =
-    checked >>= λ ((effect, core, apps) : Effect × Core × Apps). Ok (effect, record { core = core; apps = apps })
-
--- the effect of a message and the records after it, or the first refusal
-unfoldable pub handle : Evidence → Host → Records → Message → Checked (Effect × Records)
-handle evidence host records (message.CreateClient m) = core_step records (create_client host records.core m)
-handle evidence host records (message.UpdateClient m) = core_step records (update_client evidence records.core m)
-handle evidence host records (message.ConnOpenInit m) = core_step records (conn_open_init records.core m)
-handle evidence host records (message.ConnOpenTry m) =
-    core_step records (conn_open_try evidence host records.core m)
-handle evidence host records (message.ConnOpenAck m) =
-    core_step records (conn_open_ack evidence host records.core m)
-handle evidence host records (message.ConnOpenConfirm m) =
-    core_step records (conn_open_confirm evidence records.core m)
-handle evidence host records (message.ChanOpenInit m) =
-    core_step records (chan_open_init (require_application m.port) (on_open m.port) records.core m)
-handle evidence host records (message.ChanOpenTry m) =
-    core_step records (chan_open_try (require_application m.port) (on_open m.port) evidence records.core m)
-handle evidence host records (message.ChanOpenAck m) = core_step records (chan_open_ack evidence records.core m)
-handle evidence host records (message.ChanOpenConfirm m) =
-    core_step records (chan_open_confirm evidence records.core m)
-handle evidence host records (message.ChanCloseInit m) =
-    core_step records (chan_close_init (on_close m.port) records.core m)
-handle evidence host records (message.ChanCloseConfirm m) =
-    core_step records (chan_close_confirm evidence records.core m)
-handle evidence host records (message.Transfer m) = transfer evidence records m
-handle evidence host records (message.TransferMany m) = transfer_many evidence records m
-handle evidence host records (message.SendNote m) = core_step records (send_note evidence records.core m)
-handle evidence host records (message.RecvPacket m) =
-    both_step (recv_packet (on_recv records m.packet.destination_port) evidence host records.core m)
-handle evidence host records (message.AckPacket m) =
-    both_step (ack_packet (on_ack records.apps m.packet.source_port) evidence records.core m)
-handle evidence host records (message.Timeout m) =
-    both_step (timeout (on_timeout records.apps m.packet.source_port) evidence records.core m)
-handle evidence host records (message.TimeoutOnClose m) =
-    both_step (timeout_on_close (on_timeout records.apps m.packet.source_port) evidence records.core m)
+-- the effect of a message with the records after it, or the first refusal
+unfoldable pub handle : Message → Handler Apps
+handle (message.CreateClient m) = on_core (create_client m)
+handle (message.UpdateClient m) = on_core (update_client m)
+handle (message.ConnOpenInit m) = on_core (conn_open_init m)
+handle (message.ConnOpenTry m) = on_core (conn_open_try m)
+handle (message.ConnOpenAck m) = on_core (conn_open_ack m)
+handle (message.ConnOpenConfirm m) = on_core (conn_open_confirm m)
+handle (message.ChanOpenInit m) = on_core (chan_open_init (require_application m.port) (on_open m.port) m)
+handle (message.ChanOpenTry m) = on_core (chan_open_try (require_application m.port) (on_open m.port) m)
+handle (message.ChanOpenAck m) = on_core (chan_open_ack m)
+handle (message.ChanOpenConfirm m) = on_core (chan_open_confirm m)
+handle (message.ChanCloseInit m) = on_core (chan_close_init (on_close m.port) m)
+handle (message.ChanCloseConfirm m) = on_core (chan_close_confirm m)
+handle (message.Transfer m) = on_balances (transfer m)
+handle (message.TransferMany m) = on_balances (transfer_many m)
+handle (message.SendNote m) = on_core (send_note m)
+handle (message.RecvPacket m) = λ evidence host core.
+    recv_packet (on_recv core m.packet.destination_port) m evidence host core
+handle (message.AckPacket m) = ack_packet (on_ack m.packet.source_port) m
+handle (message.Timeout m) = timeout (on_timeout m.packet.source_port) m
+handle (message.TimeoutOnClose m) = timeout_on_close (on_timeout m.packet.source_port) m
 
 -- the height of the working block
 abbrev pub working_height : Chain → ℕ
@@ -74,14 +61,15 @@ host_of chains k chain =
     record { chain = k; chains = chains; height = working_height chain; time = chain.time }
 
 -- the reply, and the chain after it: a refusal leaves all as it was
-abbrev pub after_message : Chain → Checked (Effect × Records) → Reply × Chain
-after_message chain (Ok (effect, records)) = (reply.Ok effect, record chain { records = records })
+abbrev pub after_message : Chain → Checked (Effect × Core × Apps) → Reply × Chain
+after_message chain (Ok (effect, core, apps)) =
+    (reply.Ok effect, record chain { records = record { core = core; apps = apps } })
 after_message chain (Err refusal) = (reply.No refusal, chain)
 
 -- chain number k of so many is sent a message
 abbrev pub message_answer : Evidence → ℕ → ℕ → Chain → Message → Reply × Chain
 message_answer evidence chains k chain m =
-    after_message chain (handle evidence (host_of chains k chain) chain.records m)
+    after_message chain (handle m evidence (host_of chains k chain) chain.records.core chain.records.apps)
 
 -- ---- blocks
 

@@ -1,16 +1,16 @@
 -- The provable store of a chain: path texts with value texts (ICS 24, "Provable store").
-use Rattle.std.specs.Prelude.{map, List, [], ◌∷◌, ◌++◌, Option}
+use Rattle.std.specs.Prelude.{◌≡◌, map, List, [], ◌∷◌, ◌++◌, Option, Some, IsTrue}
 use Rattle.std.specs.List.{flat_map, filter_map, fold}
 use Rattle.std.specs.Option.{option_map}
 use Rattle.std.specs.Map.{keys_of}
 use Rattle.ibc_ids.specs.Texts.{Text, text_cmp}
 use Rattle.ibc_ids.specs.Maps.{with}
-use Rattle.ibc_ids.specs.Paths.{path}
+use Rattle.ibc_ids.specs.Paths.{path, is_key}
 use Rattle.ibc_ids.specs.declared.key.Key.{Key}
 use Rattle.ibc_ids.specs.declared.key.Key.TheVariants as key
 use Rattle.ibc_merkle.specs.Tree.{Pairs, tree_root}
 use Rattle.ibc_machine.specs.Records.{Core, Channel}
-use Rattle.ibc_machine.specs.Values.{look, value_bytes}
+use Rattle.ibc_machine.specs.Values.{Value, look, value_bytes}
 
 -- the keys of a channel: its end, its counters, and those of its packets
 abbrev pub channel_keys : (Text × Text) × Channel → List Key
@@ -43,3 +43,7 @@ image core =
 -- the root of what the chain proves (ICS 23, "CommitmentRoot")
 abbrev pub core_root : Core → Text
 core_root core = tree_root (image core)
+
+-- every key that has a value has names for its names
+pub record IsKeyed (core : Core) : Type 0 where
+  pub keyed : (k : Key) (v : Value) → look core k ≡ Some v → IsTrue (is_key k)

@@ -2,7 +2,8 @@
 use Rattle.std.specs.Prelude.{◌≡◌, ◌⊎◌, ◌++◌, ◌||◌, ℕ, suc, ◌+◌, ◌^◌, nat_lt, nat_le, ◌<◌, ◌≤◌, ◌==◌, ◌&&◌, Bool, true, false, List, [], ◌∷◌, length, map, is_some, Option, Some, None, IfSome, ⊤}
 use Rattle.std.specs.List.{slice_get, AllByRecursion}
 use Rattle.std.specs.Option.{option_map_or, unwrap_or}
-use Rattle.ibc_ids.specs.Publications.{published_by, height_among}
+use mathlib.Core.List.{IsPrefix}
+use Rattle.ibc_ids.specs.Publications.{published_by, height_of, height_among}
 use Rattle.ibc_ids.specs.declared.publication.Publication.{Publication}
 use Rattle.ibc_ids.specs.declared.refusal.Refusal.TheVariants.{NoMemory}
 use Rattle.ibc_wire.specs.Fields.{are_typed}
@@ -150,6 +151,25 @@ pub record IsLedger (ledger : Ledger) : Type 0 where
 -- the pass has seen at least what it had seen, and nothing else changed
 abbrev pub SeesMore : Ledger → Ledger → Type 0
 SeesMore old new = (more : List Publication) × (new ≡ record old { seen = old.seen ++ more })
+
+-- what was read is how many heights the chain had published at some time of the call: after what the pass had seen
+-- before it, and before what the pass has seen after it
+abbrev pub IsReadBetween : List Publication → List Publication → ℕ → ℕ → Type 0
+IsReadBetween before after chain read =
+    (mid : List Publication) × IsPrefix before mid × IsPrefix mid after × (read ≡ height_of chain mid)
+
+-- what an entry read was so while it was made
+abbrev pub ReadsThen : List Publication → List Publication → Entry → Type 0
+ReadsThen before after entry = IfSome entry.reading (λ r. IfSome (header_in entry.event)
+    (λ header. IsReadBetween before after header.chain r.published))
+
+-- the history has one entry more, with this event and this reply; its stamp counts all that was seen before, and what
+-- it read was so while it was made
+abbrev pub AddsNext : Ledger → Event → Reply → Ledger → Type 0
+AddsNext old event given new =
+    (e : StampedEntry) × (more : List Publication) × (e.entry.event ≡ event) × (e.entry.reply ≡ given)
+    × (new ≡ record old { history = old.history ++ e ∷ []; seen = old.seen ++ more })
+    × IfSome e.stamp (λ n. length old.seen ≤ n) × ReadsThen old.seen (old.seen ++ more) e.entry
 
 -- the history has one entry more, with this event and this reply
 abbrev pub AddsEntry : Ledger → Event → Reply → Ledger → Type 0

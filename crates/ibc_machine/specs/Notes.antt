@@ -8,11 +8,10 @@ use Rattle.ibc_wire.specs.declared.records.Order.{Order}
 use Rattle.ibc_wire.specs.declared.records.Order.TheVariants.{Ordered}
 use Rattle.ibc_wire.specs.declared.packet.Packet.{Packet}
 use Rattle.ibc_wire.specs.declared.messages.SendNote.{SendNote}
-use Rattle.ibc_machine.specs.declared.reply.Effect.{Effect}
-use Rattle.ibc_machine.specs.Records.{Core, Commitment}
+use Rattle.ibc_machine.specs.Records.{Commitment}
 use Rattle.ibc_machine.specs.Values.{same_order}
 use Rattle.ibc_machine.specs.Checks.{Checked, require, ◌>>=◌, ◌>>◌}
-use Rattle.ibc_machine.specs.Evidence.{Evidence, require_number}
+use Rattle.ibc_machine.specs.Evidence.{CoreHandler, require_number}
 use Rattle.ibc_machine.specs.Packets.{has_size, sending_end, require_timeouts, with_sent}
 use Rattle.ibc_machine.specs.TokenData.{success}
 
@@ -39,8 +38,8 @@ abbrev pub note_commitment : SendNote → Commitment
 note_commitment m =
     record { payload = m.payload; timeout_height = m.timeout_height; timeout_time = m.timeout_time }
 
-unfoldable pub send_note : Evidence → Core → SendNote → Checked (Effect × Core)
-send_note evidence core m = do
+unfoldable pub send_note : SendNote → CoreHandler
+send_note m evidence host core = do
   mine ← sending_end core note_port m.channel
   require (has_size m.payload) TooLarge
   require_timeouts evidence core mine (note_commitment m)

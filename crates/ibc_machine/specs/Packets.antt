@@ -1,5 +1,5 @@
 -- Packets (ICS 4, "Packet flow & handling"). What the application does with a packet is an argument, which is
--- given the channel's version; A is what the application keeps.
+-- given what it keeps and the channel's version; A is what the application keeps.
 use Rattle.std.specs.Prelude.{ℕ, Bool, false, ◌&&◌, ◌||◌, not, ◌+◌, ◌-◌, ◌^◌, nat_lt, nat_le, ◌==◌, length, Some, Ok, ⊤, if◌then◌else◌}
 use Rattle.std.specs.Option.{option_map_or}
 use Rattle.std.specs.Ordering.{nat_cmp}
@@ -19,7 +19,7 @@ use Rattle.ibc_machine.specs.declared.reply.Effect.TheVariants as effect
 use Rattle.ibc_machine.specs.Records.{Core, Client, Channel, Commitment, client_at, channel_at, with_channel, knows, is_one_of, added, commitment_of}
 use Rattle.ibc_machine.specs.Values.{Claim, CommitmentIs, NumberIs, AckIs, has, lacks, same_optional, same_commitment, same_order}
 use Rattle.ibc_machine.specs.Checks.{Checked, require, expect, ◌>>=◌, ◌>>◌}
-use Rattle.ibc_machine.specs.Evidence.{Host, Evidence, require_known, require_proof}
+use Rattle.ibc_machine.specs.Evidence.{Host, Evidence, Handler, require_known, require_proof}
 use Rattle.ibc_machine.specs.Channels.{is_in_state, is_established, client_of, counterpart, has_channel, in_state}
 
 -- ---- words
@@ -52,6 +52,10 @@ is_timed_out c height time = is_reached c.timeout_height height || is_reached c.
 abbrev pub is_committed : Channel → Packet → Bool
 is_committed mine p =
     option_map_or (λ c. same_commitment c (commitment_of p)) (at nat_cmp p.sequence mine.commitments) false
+
+-- a repeat: a receipt stands, or an ordered end has gone past the sequence
+abbrev pub is_repeat : Channel → ℕ → Bool
+is_repeat mine n = is_one_of mine.receipts n || (is_ordered mine && nat_lt n mine.next_recv)
 
 -- the end has received the sequence, or won't take it any more
 abbrev pub has_received : Channel → ℕ → Bool
@@ -101,18 +105,23 @@ after_receive n ack mine =
 abbrev pub was_sent : Packet → Claim
 was_sent p = has (key.Commitment p.source_port p.source_channel p.sequence) (CommitmentIs (commitment_of p))
 
+-- the end may receive the packet in the working block
+abbrev pub may_receive : Host → Channel → Packet → Checked ⊤
+may_receive host mine p = do
+  require (is_in_state Open mine) WrongState
+  require (has_peer mine p.source_port p.source_channel) WrongPeer
+  require (not (is_timed_out (commitment_of p) host.height host.time)) TimeoutPassed
+  require (not (is_repeat mine p.sequence)) AlreadyReceived
+  require (not (is_ordered mine && nat_lt mine.next_recv p.sequence)) OutOfOrder
+
 -- the end that may receive the packet: all checks, before the application is asked
-unfoldable pub recv_checked : Evidence → Host → Core → RecvPacket → Checked Channel
-recv_checked evidence host core m = do
+unfoldable pub recv_checked : RecvPacket → Evidence → Host → Core → Checked Channel
+recv_checked m evidence host core = do
   let p = m.packet
   require (has_form p && evidence.is_proof m.proof) BadMessage
   mine ← expect (channel_at core p.destination_port p.destination_channel) UnknownChannel
   let client = client_of core mine.end.connection
-  require (is_in_state Open mine) WrongState
-  require (has_peer mine p.source_port p.source_channel) WrongPeer
-  require (not (is_timed_out (commitment_of p) host.height host.time)) TimeoutPassed
-  require (not (has_received mine p.sequence)) AlreadyReceived
-  require (not (is_ordered mine && nat_lt mine.next_recv p.sequence)) OutOfOrder
+  may_receive host mine p
   require_known core client m.height
   require_proof evidence client m.height (was_sent p) m.proof
   Ok mine
@@ -125,10 +134,10 @@ with_received p mine core (ack, app) = (
   app,
 )
 
-unfoldable pub recv_packet : {A : Type 0} → (Text → Packet → Text × A) → Evidence → Host → Core → RecvPacket → Checked (Effect × Core × A)
-recv_packet on_recv evidence host core m = do
-  mine ← recv_checked evidence host core m
-  Ok (with_received m.packet mine core (on_recv mine.end.version m.packet))
+unfoldable pub recv_packet : {A : Type 0} → (A → Text → Packet → Text × A) → RecvPacket → Handler A
+recv_packet on_recv m evidence host core app = do
+  mine ← recv_checked m evidence host core
+  Ok (with_received m.packet mine core (on_recv app mine.end.version m.packet))
 
 -- ---- acknowledgements (ICS 4, "acknowledgePacket")
 
@@ -144,26 +153,31 @@ after_ack n mine =
 abbrev pub was_acknowledged : Packet → Text → Claim
 was_acknowledged p ack = has (key.Acknowledgement p.destination_port p.destination_channel p.sequence) (AckIs ack)
 
-unfoldable pub ack_checked : Evidence → Core → AckPacket → Checked Channel
-ack_checked evidence core m = do
-  let p = m.packet
-  require (has_form p && has_size m.ack && evidence.is_proof m.proof) BadMessage
-  mine ← expect (channel_at core p.source_port p.source_channel) UnknownChannel
-  let client = client_of core mine.end.connection
+-- the end may take the packet's acknowledgement
+abbrev pub may_acknowledge : Channel → Packet → Checked ⊤
+may_acknowledge mine p = do
   require (is_in_state Open mine) WrongState
   require (has_peer mine p.destination_port p.destination_channel) WrongPeer
   require (is_committed mine p) NoCommitment
   require (not (is_ordered mine && not (p.sequence == mine.next_ack))) OutOfOrder
+
+unfoldable pub ack_checked : AckPacket → Evidence → Host → Core → Checked Channel
+ack_checked m evidence host core = do
+  let p = m.packet
+  require (has_form p && has_size m.ack && evidence.is_proof m.proof) BadMessage
+  mine ← expect (channel_at core p.source_port p.source_channel) UnknownChannel
+  let client = client_of core mine.end.connection
+  may_acknowledge mine p
   require_known core client m.height
   require_proof evidence client m.height (was_acknowledged p m.ack) m.proof
   Ok mine
 
-unfoldable pub ack_packet : {A : Type 0} → (Text → Packet → Text → Checked A) → Evidence → Core → AckPacket → Checked (Effect × Core × A)
-ack_packet on_ack evidence core m = do
+unfoldable pub ack_packet : {A : Type 0} → (A → Text → Packet → Text → Checked A) → AckPacket → Handler A
+ack_packet on_ack m evidence host core app = do
   let p = m.packet
-  mine ← ack_checked evidence core m
-  app ← on_ack mine.end.version p m.ack
-  Ok (effect.None, with_channel p.source_port p.source_channel (after_ack p.sequence mine) core, app)
+  mine ← ack_checked m evidence host core
+  left ← on_ack app mine.end.version p m.ack
+  Ok (effect.None, with_channel p.source_port p.source_channel (after_ack p.sequence mine) core, left)
 
 -- ---- timeouts (ICS 4, "timeoutPacket" and "timeoutOnClose")
 
@@ -184,15 +198,20 @@ after_timeout n mine =
     let settled : Channel = without_commitment n mine in
     if is_ordered mine then in_state Closed settled else settled
 
-unfoldable pub timeout_checked : Evidence → Core → Timeout → Checked Channel
-timeout_checked evidence core m = do
+-- the end sent the packet, and it isn't settled
+abbrev pub is_pending : Channel → Packet → Checked ⊤
+is_pending mine p = do
+  require (is_established mine) WrongState
+  require (has_peer mine p.destination_port p.destination_channel) WrongPeer
+  require (is_committed mine p) NoCommitment
+
+unfoldable pub timeout_checked : Timeout → Evidence → Host → Core → Checked Channel
+timeout_checked m evidence host core = do
   let p = m.packet
   require (has_form p && evidence.is_proof m.proof) BadMessage
   mine ← expect (channel_at core p.source_port p.source_channel) UnknownChannel
   let client = client_of core mine.end.connection
-  require (is_established mine) WrongState
-  require (has_peer mine p.destination_port p.destination_channel) WrongPeer
-  require (is_committed mine p) NoCommitment
+  is_pending mine p
   require_known core client m.height
   require (is_timed_out (commitment_of p) m.height (evidence.time_at client m.height)) NotTimedOut
   require (waits_for mine m.next_recv p.sequence) NotTimedOut
@@ -204,30 +223,28 @@ abbrev pub with_timed_out : {A : Type 0} → Packet → Channel → Core → A �
 with_timed_out p mine core app =
     (effect.None, with_channel p.source_port p.source_channel (after_timeout p.sequence mine) core, app)
 
-unfoldable pub timeout : {A : Type 0} → (Text → Packet → Checked A) → Evidence → Core → Timeout → Checked (Effect × Core × A)
-timeout on_timeout evidence core m = do
-  mine ← timeout_checked evidence core m
-  app ← on_timeout mine.end.version m.packet
-  Ok (with_timed_out m.packet mine core app)
+unfoldable pub timeout : {A : Type 0} → (A → Text → Packet → Checked A) → Timeout → Handler A
+timeout on_timeout m evidence host core app = do
+  mine ← timeout_checked m evidence host core
+  left ← on_timeout app mine.end.version m.packet
+  Ok (with_timed_out m.packet mine core left)
 
-unfoldable pub timeout_on_close_checked : Evidence → Core → TimeoutOnClose → Checked Channel
-timeout_on_close_checked evidence core m = do
+unfoldable pub timeout_on_close_checked : TimeoutOnClose → Evidence → Host → Core → Checked Channel
+timeout_on_close_checked m evidence host core = do
   let p = m.packet
   require (has_form p && evidence.is_proof m.proof && evidence.is_proof m.proof_close) BadMessage
   mine ← expect (channel_at core p.source_port p.source_channel) UnknownChannel
   let client = client_of core mine.end.connection
   let theirs = counterpart core mine.end p.source_port (Some p.source_channel) Closed
-  require (is_established mine) WrongState
-  require (has_peer mine p.destination_port p.destination_channel) WrongPeer
-  require (is_committed mine p) NoCommitment
+  is_pending mine p
   require_known core client m.height
   require (waits_for mine m.next_recv p.sequence) NotTimedOut
   require_proof evidence client m.height (not_received mine p m.next_recv) m.proof
   require_proof evidence client m.height (has_channel mine.end p.destination_channel theirs) m.proof_close
   Ok mine
 
-unfoldable pub timeout_on_close : {A : Type 0} → (Text → Packet → Checked A) → Evidence → Core → TimeoutOnClose → Checked (Effect × Core × A)
-timeout_on_close on_timeout evidence core m = do
-  mine ← timeout_on_close_checked evidence core m
-  app ← on_timeout mine.end.version m.packet
-  Ok (with_timed_out m.packet mine core app)
+unfoldable pub timeout_on_close : {A : Type 0} → (A → Text → Packet → Checked A) → TimeoutOnClose → Handler A
+timeout_on_close on_timeout m evidence host core app = do
+  mine ← timeout_on_close_checked m evidence host core
+  left ← on_timeout app mine.end.version m.packet
+  Ok (with_timed_out m.packet mine core left)

@@ -17,7 +17,7 @@ use Rattle.ibc_wire.specs.declared.messages.Message.TheVariants as message
 use Rattle.ibc_machine.specs.Records.{Core, Block, Chain, Client, Channel, Commitment, client_at, channel_at, is_one_of}
 use Rattle.ibc_machine.specs.Image.{image, core_root}
 use Rattle.ibc_machine.specs.Channels.{is_in_state, client_of, peer_channel_of}
-use Rattle.ibc_machine.specs.Packets.{is_ordered, is_timed_out, has_received}
+use Rattle.ibc_machine.specs.Packets.{is_ordered, is_timed_out, has_received, has_peer}
 use Rattle.ibc_machine.specs.Genesis.{empty_core}
 use Rattle.ibc_machine.specs.Histories.{End, packet_from}
 
@@ -106,13 +106,17 @@ end_pending a b place mine theirs =
     when open_ (to_receive b place mine theirs) ++ when open_ (to_acknowledge place mine theirs)
     ++ when (open_ || is_in_state Closed mine) (to_time_out a place mine theirs)
 
--- the end on a that an end of b names
-abbrev pub theirs_of : View → Channel → Option Channel
-theirs_of a mine = channel_at a.core mine.end.peer_port (peer_channel_of mine.end)
+-- the end on a that an end of b names, where it names that end back
+abbrev pub if_names : (Text × Text) → Channel → Option Channel
+if_names place theirs = if has_peer theirs place.0 place.1 then Some theirs else None
+
+abbrev pub theirs_of : View → (Text × Text) → Channel → Option Channel
+theirs_of a place mine =
+    option_and_then (if_names place) (channel_at a.core mine.end.peer_port (peer_channel_of mine.end))
 
 abbrev pub pending_at : View → View → (Text × Text) × Channel → List Pending
 pending_at a b entry =
-    when (tracks a b entry.1) (option_map_or (end_pending a b entry.0 entry.1) (theirs_of a entry.1) [])
+    when (tracks a b entry.1) (option_map_or (end_pending a b entry.0 entry.1) (theirs_of a entry.0 entry.1) [])
 
 -- by port and channel, in an end by the three items, in an item by sequence; at height 0 nothing is pending
 unfoldable pub pending : View → View → List Pending
@@ -202,7 +206,7 @@ message_for a b pend mine theirs =
 
 abbrev pub pending_message : View → View → Pending → Option Message
 pending_message a b pend =
-    option_and_then (λ mine. option_and_then (message_for a b pend mine) (theirs_of a mine))
+    option_and_then (λ mine. option_and_then (message_for a b pend mine) (theirs_of a (pend.port, pend.channel) mine))
     (channel_at b.core pend.port pend.channel)
 
 -- the client under a pending message's end

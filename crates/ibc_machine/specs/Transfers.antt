@@ -14,10 +14,10 @@ use Rattle.ibc_wire.specs.declared.token.Token.{Token}
 use Rattle.ibc_wire.specs.declared.messages.Transfer.{Transfer}
 use Rattle.ibc_wire.specs.declared.messages.TransferMany.{TransferMany}
 use Rattle.ibc_machine.specs.declared.reply.Effect.{Effect}
-use Rattle.ibc_machine.specs.Records.{Core, Records, Channel, Commitment}
+use Rattle.ibc_machine.specs.Records.{Core, Channel, Commitment}
 use Rattle.ibc_machine.specs.Values.{same_order}
 use Rattle.ibc_machine.specs.Checks.{Checked, require, expect, ◌>>=◌, ◌>>◌}
-use Rattle.ibc_machine.specs.Evidence.{Evidence, require_number}
+use Rattle.ibc_machine.specs.Evidence.{Handler, require_number}
 use Rattle.ibc_machine.specs.Packets.{has_size, sending_end, require_timeouts, with_sent}
 use Rattle.ibc_machine.specs.TokenData.{Data, one_token, several_tokens, data_text, data_of, tokens_of, amount_of, success, error}
 use Rattle.ibc_machine.specs.Bank.{Balances, give, into_escrow, out_of_escrow, pay, mint}
@@ -124,18 +124,17 @@ transfer_commitment version d height time =
     record { payload = data_text version d; timeout_height = height; timeout_time = time }
 
 -- the tokens leave the sender, and the packet is committed to
-abbrev pub with_tokens_sent : Text → Channel → Commitment → Records → Balances → Effect × Records
-with_tokens_sent channel mine c records balances =
-    let (effect, core) = with_sent transfer_port channel mine c records.core in
-    (effect, record { core = core; apps = record records.apps { balances = balances } })
+abbrev pub with_tokens_sent : Text → Channel → Commitment → Core → Balances → Effect × Core × Balances
+with_tokens_sent channel mine c core balances =
+    let (effect, after) = with_sent transfer_port channel mine c core in (effect, after, balances)
 
 -- the checks that both messages end with, and the effect
-unfoldable pub send_tokens : Evidence → Records → Text → Channel → Data → Commitment → Checked (Effect × Records)
-send_tokens evidence records channel mine d c = do
-  require_timeouts evidence records.core mine c
-  balances ← expect (each_token (send_token channel d.sender) d.tokens records.apps.balances) Poor
+unfoldable pub send_tokens : Text → Channel → Data → Commitment → Handler Balances
+send_tokens channel mine d c evidence host core balances = do
+  require_timeouts evidence core mine c
+  left ← expect (each_token (send_token channel d.sender) d.tokens balances) Poor
   require_number mine.next_send
-  Ok (with_tokens_sent channel mine c records balances)
+  Ok (with_tokens_sent channel mine c core left)
 
 -- what the messages say
 abbrev pub transfer_data : Transfer → Data
@@ -147,24 +146,24 @@ abbrev pub transfer_many_data : TransferMany → Data
 transfer_many_data m =
     record { tokens = m.tokens; memo = m.memo; receiver = m.receiver; sender = m.user }
 
-unfoldable pub transfer : Evidence → Records → Transfer → Checked (Effect × Records)
-transfer evidence records m = do
+unfoldable pub transfer : Transfer → Handler Balances
+transfer m evidence host core balances = do
   let d = transfer_data m
   let c = transfer_commitment one_token d m.timeout_height m.timeout_time
-  mine ← sending_end records.core transfer_port m.channel
+  mine ← sending_end core transfer_port m.channel
   require (same_text mine.end.version one_token) WrongVersion
   require (not (m.amount == 0)) TooLarge
-  send_tokens evidence records m.channel mine d c
+  send_tokens m.channel mine d c evidence host core balances
 
 abbrev pub is_zero : Token → Bool
 is_zero token = token.amount == 0
 
-unfoldable pub transfer_many : Evidence → Records → TransferMany → Checked (Effect × Records)
-transfer_many evidence records m = do
+unfoldable pub transfer_many : TransferMany → Handler Balances
+transfer_many m evidence host core balances = do
   let d = transfer_many_data m
   let c = transfer_commitment several_tokens d m.timeout_height m.timeout_time
   require (is_short m.tokens && is_rising m.tokens) BadMessage
-  mine ← sending_end records.core transfer_port m.channel
+  mine ← sending_end core transfer_port m.channel
   require (same_text mine.end.version several_tokens) WrongVersion
   require (not (list_any is_zero m.tokens) && has_size c.payload) TooLarge
-  send_tokens evidence records m.channel mine d c
+  send_tokens m.channel mine d c evidence host core balances

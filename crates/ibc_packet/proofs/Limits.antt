@@ -11,7 +11,7 @@ use Rattle.ibc_machine.specs.Evidence.{Evidence}
 use Rattle.ibc_machine.specs.Records.{Core, Client, Channel, Commitment, client_at, connection_at, knows}
 use Rattle.ibc_machine.specs.Replay.{LedgerState, proves}
 use Rattle.ibc_machine.specs.Packets.{is_reached, has_passed, require_timeouts}
-use Rattle.ibc_machine.proofs.ImageChanges.{IsKeyed}
+use Rattle.ibc_machine.specs.Image.{IsKeyed}
 use Rattle.ibc_records.specs.declared.client.ConsensusState.{ConsensusState}
 use Rattle.ibc_records.specs.HeldClients.{HeldClient, plain_client}
 use Rattle.ibc_records.specs.Held.{HeldRecords, core_of, consensus_in}

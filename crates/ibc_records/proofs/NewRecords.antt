@@ -9,8 +9,7 @@ use Rattle.ibc_ids.specs.declared.key.Key.TheVariants as key
 use Rattle.ibc_wire.specs.declared.records.ConnectionEnd.{ConnectionEnd}
 use Rattle.ibc_machine.specs.Records.{Channel}
 use Rattle.ibc_machine.specs.Values.{Value, NumberIs, look, value_bytes}
-use Rattle.ibc_machine.specs.Image.{image}
-use Rattle.ibc_machine.proofs.ImageChanges.{IsKeyed}
+use Rattle.ibc_machine.specs.Image.{image, IsKeyed}
 use Rattle.ibc_path_store.specs.Held.{HeldStore}
 use Rattle.ibc_records.specs.HeldClients.{HeldClient}
 use Rattle.ibc_records.specs.declared.records.NextNumbers.{NextNumbers}

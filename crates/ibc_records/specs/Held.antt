@@ -12,9 +12,8 @@ use Rattle.ibc_machine.specs.Records.{Core, Client, Channel, with_client, with_c
 use Rattle.ibc_machine.specs.Connections.{with_new_connection}
 use Rattle.ibc_machine.specs.Channels.{new_channel, with_new_channel}
 use Rattle.ibc_machine.specs.Genesis.{empty_core}
-use Rattle.ibc_machine.specs.Image.{image}
+use Rattle.ibc_machine.specs.Image.{image, IsKeyed}
 use Rattle.ibc_machine.specs.Clients.{new_client, updated}
-use Rattle.ibc_machine.proofs.ImageChanges.{IsKeyed}
 use Rattle.ibc_path_store.specs.Held.{HeldStore}
 use Rattle.ibc_flight.specs.Orderly.{IsOrderlyEnd}
 use Rattle.ibc_records.specs.declared.client.ConsensusState.{ConsensusState}

@@ -6,7 +6,7 @@ use Rattle.ibc_ids.specs.declared.refusal.Refusal.TheVariants.{NoMemory}
 use Rattle.ibc_machine.specs.declared.reply.Effect.{Effect}
 use Rattle.ibc_machine.specs.Records.{Core}
 use Rattle.ibc_machine.specs.Checks.{Checked}
-use Rattle.ibc_machine.specs.Evidence.{Host, Evidence}
+use Rattle.ibc_machine.specs.Evidence.{Host, CoreHandler, Handler}
 use Rattle.ibc_machine.specs.Replay.{LedgerState, proves}
 use Rattle.ibc_path_store.specs.Held.{height_of}
 use Rattle.ibc_records.specs.Held.{HeldRecords, core_of, IsStored, IsUnchanged}
@@ -24,10 +24,6 @@ abbrev pub IsTaken : {A : Type 0} → (A → Effect) → Checked (Effect × Core
 IsTaken effect_of checked old (Ok x) new = (core : Core) × (checked ≡ Ok (effect_of x, core)) × IsWritten core old new
 IsTaken effect_of checked old (Err refusal) new = ((checked ≡ Err refusal) ⊎ (refusal ≡ NoMemory)) × IsUnchanged old new
 
--- a handler of the core alone
-abbrev pub Handler : Type 0
-Handler = Evidence → Host → Core → Checked (Effect × Core)
-
 -- the chain that the records are of, numbered so among so many
 abbrev pub host_with : ℕ → ℕ → HeldRecords → Host
 host_with chain chains held =
@@ -35,14 +31,10 @@ host_with chain chains held =
 
 -- A handler's answer by roots and proofs, where a ledger's state says of heights what the clients of the records know. A
 -- message that tells no client of a height reads no table.
-abbrev pub IsHandled : {A : Type 0} → (A → Effect) → Handler → ℕ → ℕ → HeldRecords → Result A Refusal → HeldRecords → Type 0
+abbrev pub IsHandled : {A : Type 0} → (A → Effect) → CoreHandler → ℕ → ℕ → HeldRecords → Result A Refusal → HeldRecords → Type 0
 IsHandled effect_of handler chain chains old result new =
     (seen : List Publication) (state : LedgerState) → Knows old state
     → IsTaken effect_of (handler (proves seen None state) (host_with chain chains old) (core_of old)) old result new
-
--- a handler of the core and of what an application keeps
-abbrev pub HandlerWith : Type 0 → Type 0
-HandlerWith App = Evidence → Host → Core → Checked (Effect × Core × App)
 
 -- The message was taken with this effect, as its checks and the application say, or it was refused, by them or for want
 -- of memory. A refusal leaves the records but for room, and the application.
@@ -51,7 +43,7 @@ IsTakenWith effect_of checked old app (Ok x) new after = (core : Core) × (check
 IsTakenWith effect_of checked old app (Err refusal) new after = ((checked ≡ Err refusal) ⊎ (refusal ≡ NoMemory)) × IsUnchanged old new × (after ≡ app)
 
 -- a handler's answer by roots and proofs, as above, where an application takes part
-abbrev pub IsHandledWith : {A App : Type 0} → (A → Effect) → HandlerWith App → ℕ → ℕ → HeldRecords → App → Result A Refusal → HeldRecords → App → Type 0
+abbrev pub IsHandledWith : {A App : Type 0} → (A → Effect) → Handler App → ℕ → ℕ → HeldRecords → App → Result A Refusal → HeldRecords → App → Type 0
 IsHandledWith effect_of handler chain chains old app result new after =
     (seen : List Publication) (state : LedgerState) → Knows old state
-    → IsTakenWith effect_of (handler (proves seen None state) (host_with chain chains old) (core_of old)) old app result new after
+    → IsTakenWith effect_of (handler (proves seen None state) (host_with chain chains old) (core_of old) app) old app result new after
