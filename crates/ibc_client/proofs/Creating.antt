@@ -8,7 +8,7 @@ use Rattle.ibc_wire.specs.declared.messages.CreateClient.{CreateClient}
 use Rattle.ibc_machine.specs.declared.reply.Effect.TheVariants as effect
 use Rattle.ibc_machine.specs.Records.{Core, with_client}
 use Rattle.ibc_machine.specs.Checks.{and_then}
-use Rattle.ibc_machine.specs.Evidence.{Host}
+use Rattle.ibc_machine.specs.Evidence.{Host, Evidence}
 use Rattle.ibc_machine.specs.Clients.{create_client, new_client}
 use Rattle.ibc_records.specs.Held.{HeldRecords, core_of, AddsClient, IsUnchanged}
 use Rattle.ibc_client.specs.Answers.{IsCreated}
@@ -16,19 +16,19 @@ use Rattle.ibc_client.specs.Answers.{IsCreated}
 abbrev pub LAST : ℕ
 LAST = 2 ^ 64 - 1
 
-module _ (host : Host) (core : Core) (m : CreateClient) where
-  create-unknown : host.chains ≤ m.chain → create_client host core m ≡ Err UnknownChain
+module _ (evidence : Evidence) (host : Host) (core : Core) (m : CreateClient) where
+  create-unknown : host.chains ≤ m.chain → create_client m evidence host core ≡ Err UnknownChain
   unfolding create_client and_then
   create-unknown past = let e : ltb m.chain host.chains ≡ false = le-ltb m.chain host.chains past in rw e
 
-  create-own : m.chain < host.chains → m.chain ≡ host.chain → create_client host core m ≡ Err OwnChain
+  create-own : m.chain < host.chains → m.chain ≡ host.chain → create_client m evidence host core ≡ Err OwnChain
   unfolding create_client and_then
   create-own there own =
       let e : ltb m.chain host.chains ≡ true = lt-ltb m.chain host.chains there in
       let f : eqb m.chain host.chain ≡ true = eq-eqb m.chain host.chain own in
       rw (e, f)
 
-  create-full : m.chain < host.chains → (m.chain ≡ host.chain → ⊥) → core.next_client ≡ LAST → create_client host core m ≡ Err NumberFull
+  create-full : m.chain < host.chains → (m.chain ≡ host.chain → ⊥) → core.next_client ≡ LAST → create_client m evidence host core ≡ Err NumberFull
   unfolding create_client and_then
   create-full there apart full =
       let e : ltb m.chain host.chains ≡ true = lt-ltb m.chain host.chains there in
@@ -37,7 +37,7 @@ module _ (host : Host) (core : Core) (m : CreateClient) where
       rw (e, f, g)
 
   create-made : m.chain < host.chains → (m.chain ≡ host.chain → ⊥) → (core.next_client ≡ LAST → ⊥)
-      → create_client host core m ≡ Ok (effect.Client (nth_client core.next_client), record (with_client (nth_client core.next_client) (new_client m.chain) core) { next_client = core.next_client + 1 })
+      → create_client m evidence host core ≡ Ok (effect.Client (nth_client core.next_client), record (with_client (nth_client core.next_client) (new_client m.chain) core) { next_client = core.next_client + 1 })
   unfolding create_client and_then
   create-made there apart free =
       let e : ltb m.chain host.chains ≡ true = lt-ltb m.chain host.chains there in
@@ -45,27 +45,27 @@ module _ (host : Host) (core : Core) (m : CreateClient) where
       let g : eqb core.next_client LAST ≡ false = ne_eqb core.next_client LAST free in
       rw (e, f, g)
 
-module _ (host : Host) (old : HeldRecords) (m : CreateClient) where
-  pub refused_unknown : host.chains ≤ m.chain → IsCreated (create_client host (core_of old) m) m old (Err UnknownChain) old
-  refused_unknown past = (inl (create-unknown host (core_of old) m past), refl)
+module _ (evidence : Evidence) (host : Host) (old : HeldRecords) (m : CreateClient) where
+  pub refused_unknown : host.chains ≤ m.chain → IsCreated (create_client m evidence host (core_of old)) m old (Err UnknownChain) old
+  refused_unknown past = (inl (create-unknown evidence host (core_of old) m past), refl)
 
-  pub refused_own : m.chain < host.chains → m.chain ≡ host.chain → IsCreated (create_client host (core_of old) m) m old (Err OwnChain) old
-  refused_own there own = (inl (create-own host (core_of old) m there own), refl)
+  pub refused_own : m.chain < host.chains → m.chain ≡ host.chain → IsCreated (create_client m evidence host (core_of old)) m old (Err OwnChain) old
+  refused_own there own = (inl (create-own evidence host (core_of old) m there own), refl)
 
-  pub refused_full : m.chain < host.chains → (m.chain ≡ host.chain → ⊥) → old.next_client ≡ LAST → IsCreated (create_client host (core_of old) m) m old (Err NumberFull) old
-  refused_full there apart full = (inl (create-full host (core_of old) m there apart full), refl)
+  pub refused_full : m.chain < host.chains → (m.chain ≡ host.chain → ⊥) → old.next_client ≡ LAST → IsCreated (create_client m evidence host (core_of old)) m old (Err NumberFull) old
+  refused_full there apart full = (inl (create-full evidence host (core_of old) m there apart full), refl)
 
   pub no_memory : (new : HeldRecords) (result : Result Text Refusal) {refusal : Refusal} → result ≡ Err refusal → refusal ≡ NoMemory
       → m.chain < host.chains → (m.chain ≡ host.chain → ⊥) → (old.next_client ≡ LAST → ⊥) → IsUnchanged old new
-      → IsCreated (create_client host (core_of old) m) m old result new
+      → IsCreated (create_client m evidence host (core_of old)) m old result new
   no_memory new result is memory there apart free same =
-      subst (λ (r : Result Text Refusal). IsCreated (create_client host (core_of old) m) m old r new) (sym is)
-      (inr (memory, ap is_ok (create-made host (core_of old) m there apart free)), same)
+      subst (λ (r : Result Text Refusal). IsCreated (create_client m evidence host (core_of old)) m old r new) (sym is)
+      (inr (memory, ap is_ok (create-made evidence host (core_of old) m there apart free)), same)
 
   pub made : (new : HeldRecords) (id : Text) → m.chain < host.chains → (m.chain ≡ host.chain → ⊥) → (old.next_client ≡ LAST → ⊥) → id ≡ nth_client old.next_client
-      → AddsClient old id m.chain new → IsCreated (create_client host (core_of old) m) m old (Ok id) new
+      → AddsClient old id m.chain new → IsCreated (create_client m evidence host (core_of old)) m old (Ok id) new
   made new id there apart free named adds = (
-    create-made host (core_of old) m there apart free
+    create-made evidence host (core_of old) m there apart free
         ∙ ap (λ name. Ok (effect.Client name, record (with_client name (new_client m.chain) (core_of old)) { next_client = old.next_client + 1 })) (sym named)
         ∙ ap (λ core. Ok (effect.Client id, core)) (sym adds.core),
     adds,

@@ -14,7 +14,7 @@ use Rattle.ibc_machine.specs.declared.entry.Reading.{Reading}
 use Rattle.ibc_machine.specs.declared.reply.Effect.TheVariants as effect
 use Rattle.ibc_machine.specs.Records.{Core, Client, client_at, with_client}
 use Rattle.ibc_machine.specs.Checks.{Checked, require, expect, go_on, and_then, ◌>>=◌, ◌>>◌}
-use Rattle.ibc_machine.specs.Evidence.{Evidence, require_row}
+use Rattle.ibc_machine.specs.Evidence.{Host, Evidence, require_row}
 use Rattle.ibc_machine.proofs.PassedChecks.{grouped}
 use Rattle.ibc_machine.specs.Clients.{update_client, updated, is_of_client}
 use Rattle.ibc_machine.specs.Replay.{LedgerState, proves, row_read}
@@ -78,16 +78,16 @@ looks_up-tracked core m x e = tests (client_at core m.client) (λ c. is_of_clien
 
 module _ (core : Core) (m : UpdateClient) where
   -- a client that isn't tracked is refused, whatever is published
-  update-untracked : (evidence : Evidence) (r : Refusal) → require_tracked core m ≡ Err r → update_client evidence core m ≡ Err r
+  update-untracked : (evidence : Evidence) (host : Host) (r : Refusal) → require_tracked core m ≡ Err r → update_client m evidence host core ≡ Err r
   unfolding update_client
-  update-untracked evidence r e = untracked (client_at core m.client) (λ c. is_of_client c m.header) _ r e
+  update-untracked evidence host r e = untracked (client_at core m.client) (λ c. is_of_client c m.header) _ r e
 
   -- the client is tracked: what was read decides
-  update-tracked : (seen : List Publication) (reading : Reading) (state : LedgerState) (t : ⊤) → require_tracked core m ≡ Ok t
+  update-tracked : (host : Host) (seen : List Publication) (reading : Reading) (state : LedgerState) (t : ⊤) → require_tracked core m ≡ Ok t
       → (c : Client) × (client_at core m.client ≡ Some c)
-      × (update_client (proves seen (Some reading) state) core m ≡ (require_published seen reading m.header >> Ok (effect.None, with_client m.client (updated m.header.height c) core)))
+      × (update_client m (proves seen (Some reading) state) host core ≡ (require_published seen reading m.header >> Ok (effect.None, with_client m.client (updated m.header.height c) core)))
   unfolding update_client
-  update-tracked seen reading state t e =
+  update-tracked host seen reading state t e =
       let w = tracked (client_at core m.client) (λ c. is_of_client c m.header)
       (λ c. require (nat_le m.header.height reading.published) NotPublished >> (require_row (row_read seen reading.row_was_there m.header) >> Ok (effect.None, with_client m.client (updated m.header.height c) core))) t e
       in
@@ -115,9 +115,9 @@ module _ (held : HeldRecords) (m : UpdateClient) where
     pub at_none : m.header.height ≡ 0 → Err WrongHeader ≡ require_tracked (core_of held) m
     at_none low = tracked-some false (and_right (eqb m.header.chain client.state.chain) (not (eqb m.header.height 0)) (ap not (eq-eqb m.header.height 0 low)))
 
-  pub refused_untracked : (seen : List Publication) (state : LedgerState) (r : Refusal) → require_tracked (core_of held) m ≡ Err r
-      → IsUpdated (update_client (proves seen None state) (core_of held) m) m held (Err r) held
-  refused_untracked seen state r e = (inl (update-untracked (core_of held) m (proves seen None state) r e), refl)
+  pub refused_untracked : (host : Host) (seen : List Publication) (state : LedgerState) (r : Refusal) → require_tracked (core_of held) m ≡ Err r
+      → IsUpdated (update_client m (proves seen None state) host (core_of held)) m held (Err r) held
+  refused_untracked host seen state r e = (inl (update-untracked (core_of held) m (proves seen None state) host r e), refl)
 
   module _ (t : ⊤) (tracks : require_tracked (core_of held) m ≡ Ok t) where
     -- a client that is tracked is held, and the header's height isn't 0
@@ -138,17 +138,17 @@ module _ (held : HeldRecords) (m : UpdateClient) where
         omega arith
 
     -- what was learned once the header was checked is what the message gives
-    pub learned : (seen : List Publication) (reading : Reading) (state : LedgerState) (checked : Checked ⊤) (result : Checked ⊤) (new : HeldRecords) → checked ≡ require_published seen reading m.header
-        → IsLearned checked m held result new → IsUpdated (update_client (proves seen (Some reading) state) (core_of held) m) m held result new
-    learned seen reading state (Err r) result new is (given, same) =
-        let w = update-tracked (core_of held) m seen reading state t tracks in
-        subst (λ (p : Checked ⊤ × HeldRecords). IsUpdated (update_client (proves seen (Some reading) state) (core_of held) m) m held p.0 p.1) (λ i. (sym given i, sym same i))
+    pub learned : (host : Host) (seen : List Publication) (reading : Reading) (state : LedgerState) (checked : Checked ⊤) (result : Checked ⊤) (new : HeldRecords) → checked ≡ require_published seen reading m.header
+        → IsLearned checked m held result new → IsUpdated (update_client m (proves seen (Some reading) state) host (core_of held)) m held result new
+    learned host seen reading state (Err r) result new is (given, same) =
+        let w = update-tracked (core_of held) m host seen reading state t tracks in
+        subst (λ (p : Checked ⊤ × HeldRecords). IsUpdated (update_client m (proves seen (Some reading) state) host (core_of held)) m held p.0 p.1) (λ i. (sym given i, sym same i))
         (inl (w.2 ∙ refused_first (require_published seen reading m.header) _ r (sym is)), refl)
-    learned seen reading state (Ok u) (Err r) new is (memory, same) =
-        let w = update-tracked (core_of held) m seen reading state t tracks in
+    learned host seen reading state (Ok u) (Err r) new is (memory, same) =
+        let w = update-tracked (core_of held) m host seen reading state t tracks in
         (inr (memory, ap is_ok (w.2 ∙ passed_first (require_published seen reading m.header) _ (sym is))), same)
-    learned seen reading state (Ok u) (Ok v) new is updates =
-        let w = update-tracked (core_of held) m seen reading state t tracks in
+    learned host seen reading state (Ok u) (Ok v) new is updates =
+        let w = update-tracked (core_of held) m host seen reading state t tracks in
         let found : Some w.0 ≡ Some (plain_client updates.client) = sym w.1 ∙ client_at-held held m.client ∙ ap (λ o. option_map plain_client o) updates.stood in
         let same : w.0 ≡ plain_client updates.client = cc (found) in (
           w.2 ∙ passed_first (require_published seen reading m.header) _ (sym is)

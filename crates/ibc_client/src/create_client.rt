@@ -3,6 +3,7 @@
 ghost use Rattle.std.specs.Prelude.{◌≡◌, ℕ, ◌<◌, IfOk};
 ghost use Rattle.ibc_ids.specs.Paths.{nth_client};
 ghost use Rattle.ibc_machine.specs.Clients.{create_client};
+ghost use Rattle.ibc_machine.specs.Evidence.{Evidence};
 ghost use Rattle.ibc_records.specs.Held.{core_of};
 ghost use Rattle.ibc_client.specs.Answers.{IsCreated};
 
@@ -21,7 +22,7 @@ pub fn create(
     chains: u8,
     message: &CreateClient,
 ) -> Result<ClientId, Refusal>
-    ensures answer { (height time : ℕ) → IsCreated (create_client (record { chain = chain; chains = chains; height = height; time = time }) (core_of records.old) message.now) message.now records.old result records.new }
+    ensures answer { (evidence : Evidence) (height time : ℕ) → IsCreated (create_client message.now evidence (record { chain = chain; chains = chains; height = height; time = time }) (core_of records.old)) message.now records.old result records.new }
     ensures named { IfOk result (λ id. id ≡ nth_client records.old.next_client) }
 {
     if message.chain >= chains {

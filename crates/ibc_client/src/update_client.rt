@@ -6,7 +6,8 @@ ghost use Rattle.ibc_ids.specs.Texts.{text_cmp};
 ghost use Rattle.ibc_ids.specs.Maps.{at};
 ghost use Rattle.ibc_ids.specs.Publications.{height_of};
 ghost use Rattle.ibc_machine.specs.Clients.{update_client};
-ghost use Rattle.ibc_machine.specs.Ledgers.{reading_fits};
+ghost use Rattle.ibc_machine.specs.Evidence.{Host};
+ghost use Rattle.ibc_machine.specs.Ledgers.{IsReadBetween, reading_fits};
 ghost use Rattle.ibc_machine.specs.Replay.{LedgerState, proves};
 ghost use Rattle.ibc_root_table.specs.Passes.{SamePass, KeepsOwn};
 ghost use Rattle.ibc_records.specs.Held.{core_of};
@@ -31,7 +32,8 @@ pub struct Updated {
 /// fails: `UnknownClient`; `WrongHeader` where the client tracks another chain than the header's, or the height is 0;
 /// `NotPublished`; `Pruned` where the height's row is gone; `WrongHeader` where it has another time or root; and then
 /// `NoMemory`. A refusal leaves the records, but the pass may have seen more. An update that passes the first two
-/// checks reads the table, and another one doesn't.
+/// checks reads the table, and another one doesn't; what it keeps as read is how many heights the header's chain had
+/// published at some time of the call.
 pub fn update(
     records: &mut Records,
     table: &RootTable,
@@ -39,9 +41,10 @@ pub fn update(
     message: &UpdateClient,
 ) -> Updated
     requires table { pass.old.table ≡ table.now }
-    ensures answer { (state : LedgerState) → IsUpdated (update_client (proves pass.new.seen result.reading state) (core_of records.old) message.now) message.now records.old result.result records.new }
+    ensures answer { (host : Host) (state : LedgerState) → IsUpdated (update_client message.now (proves pass.new.seen result.reading state) host (core_of records.old)) message.now records.old result.result records.new }
     ensures looks { is_some result.reading ≡ looks_up (core_of records.old) message.now }
     ensures fits { IfSome result.reading (λ reading. reading_fits table.now.shape.window (height_of message.now.header.chain pass.new.seen) message.now.header.height reading ≡ true) }
+    ensures read { IfSome result.reading (λ reading. IsReadBetween pass.old.seen pass.new.seen message.now.header.chain reading.published) }
     ensures pass { SamePass pass.old pass.new × IsPrefix pass.old.seen pass.new.seen × KeepsOwn pass.old pass.new }
     ensures unread { IsNone result.reading → pass.new ≡ pass.old }
 {

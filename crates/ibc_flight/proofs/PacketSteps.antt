@@ -12,7 +12,7 @@ use Rattle.ibc_machine.specs.declared.reply.Effect.{Effect}
 use Rattle.ibc_machine.specs.Records.{Core, Channel, channel_at, commitment_of}
 use Rattle.ibc_machine.specs.Checks.{Checked, ◌>>=◌}
 use Rattle.ibc_machine.specs.Evidence.{Host, Evidence}
-use Rattle.ibc_machine.specs.Packets.{recv_checked, recv_packet, ack_checked, ack_packet, timeout_checked, timeout, timeout_on_close_checked, timeout_on_close, after_receive, after_ack, after_timeout, with_timed_out}
+use Rattle.ibc_machine.specs.Packets.{recv_packet, ack_packet, timeout, timeout_on_close, after_receive, after_ack, after_timeout, with_timed_out}
 use Rattle.ibc_machine.specs.TokenData.{tokens_of}
 use Rattle.ibc_machine.specs.Transfers.{transfer_port, burnt}
 use Rattle.ibc_flight.specs.Orderly.{IsOrderly}
@@ -24,15 +24,15 @@ use Rattle.ibc_flight.proofs.EndsKept.{Keeps, after_receive_keeps, after_ack_kee
 
 -- ---- receiving
 
-pub recv_packet_burnt : {A : Type 0} (on_recv : Text → Packet → Text × A) (evidence : Evidence) (host : Host) (core : Core) (m : RecvPacket)
-    {effect : Effect} {after : Core} {app : A}
-    → IsOrderly core → recv_packet on_recv evidence host core m ≡ Ok (effect, after, app) → SameBurnt core after
+pub recv_packet_burnt : {A : Type 0} (on_recv : A → Text → Packet → Text × A) (evidence : Evidence) (host : Host) (core : Core) (m : RecvPacket) (app : A)
+    {effect : Effect} {after : Core} {left : A}
+    → IsOrderly core → recv_packet on_recv m evidence host core app ≡ Ok (effect, after, left) → SameBurnt core after
 unfolding recv_packet
-recv_packet_burnt {A} on_recv evidence host core m {effect} {after} {app} orderly e =
+recv_packet_burnt {A} on_recv evidence host core m app {effect} {after} {left} orderly e =
     let p : Packet = m.packet in
-    let checked = bind_passed (recv_checked evidence host core m) _ e in
+    let checked = bind_passed _ _ e in
     let mine : Channel = checked.0 in
-    let told : Text × A = on_recv mine.end.version p in
+    let told : Text × A = on_recv app mine.end.version p in
     let now : Channel = after_receive p.sequence told.0 mine in
     let keeps : Keeps mine now mine.commitments = after_receive_keeps p.sequence told.0 mine in
     same_commitments core after p.destination_port p.destination_channel now orderly
@@ -87,74 +87,76 @@ settled_here core after p answer app ours s = (
 
 -- ---- acknowledgements
 
-module _ {A : Type 0} (on_ack : Text → Packet → Text → Checked A) (evidence : Evidence) (core : Core) (m : AckPacket)
-    {effect : Effect} {after : Core} {app : A} (orderly : IsOrderly core) where
-  ack_packet_any_port : ack_packet on_ack evidence core m ≡ Ok (effect, after, app)
-      → Settled core after m.packet (λ version. on_ack version m.packet m.ack) app
+module _ {A : Type 0} (on_ack : A → Text → Packet → Text → Checked A) (evidence : Evidence) (host : Host) (core : Core) (m : AckPacket) (app : A)
+    {effect : Effect} {after : Core} {left : A} (orderly : IsOrderly core) where
+  ack_packet_any_port : ack_packet on_ack m evidence host core app ≡ Ok (effect, after, left)
+      → Settled core after m.packet (λ version. on_ack app version m.packet m.ack) left
   unfolding ack_packet
   ack_packet_any_port e =
       let p : Packet = m.packet in
-      let checked = bind_passed (ack_checked evidence core m) _ e in
+      let checked = bind_passed _ _ e in
       let mine : Channel = checked.0 in
-      let given = bind_passed (on_ack mine.end.version p m.ack) _ checked.2 in
-      settled core after p (λ version. on_ack version p m.ack) app mine (after_ack p.sequence mine) orderly (ack_passed evidence core m mine checked.1).unsettled
+      let given = bind_passed (on_ack app mine.end.version p m.ack) _ checked.2 in
+      settled core after p (λ version. on_ack app version p m.ack) left mine (after_ack p.sequence mine) orderly
+      (ack_passed evidence host core m mine checked.1).unsettled
       (given.1 ∙ ap (λ (y : Effect × Core × A). Ok y.2) (ok_same given.2)) (after_ack_keeps p.sequence mine)
       (ap (λ (y : Effect × Core × A). y.1.channels) (sym (ok_same given.2)))
 
   -- on another port
-  pub ack_packet_burnt : same_text m.packet.source_port transfer_port ≡ false → ack_packet on_ack evidence core m ≡ Ok (effect, after, app)
+  pub ack_packet_burnt : same_text m.packet.source_port transfer_port ≡ false → ack_packet on_ack m evidence host core app ≡ Ok (effect, after, left)
       → SameBurnt core after
-  ack_packet_burnt other e = settled_elsewhere core after m.packet (λ version. on_ack version m.packet m.ack) app other (ack_packet_any_port e)
+  ack_packet_burnt other e = settled_elsewhere core after m.packet (λ version. on_ack app version m.packet m.ack) left other (ack_packet_any_port e)
 
   -- on port `transfer`
-  pub ack_packet_settles : same_text m.packet.source_port transfer_port ≡ true → ack_packet on_ack evidence core m ≡ Ok (effect, after, app)
-      → Settles core after m.packet (λ version. on_ack version m.packet m.ack) app
-  ack_packet_settles ours e = settled_here core after m.packet (λ version. on_ack version m.packet m.ack) app ours (ack_packet_any_port e)
+  pub ack_packet_settles : same_text m.packet.source_port transfer_port ≡ true → ack_packet on_ack m evidence host core app ≡ Ok (effect, after, left)
+      → Settles core after m.packet (λ version. on_ack app version m.packet m.ack) left
+  ack_packet_settles ours e = settled_here core after m.packet (λ version. on_ack app version m.packet m.ack) left ours (ack_packet_any_port e)
 
 -- ---- timeouts
 
-module _ {A : Type 0} (on_timeout : Text → Packet → Checked A) (evidence : Evidence) (core : Core) {effect : Effect} {after : Core} {app : A} where
+-- what the application answers to a packet that wasn't received, by the channel's version
+abbrev answers : {A : Type 0} → (A → Text → Packet → Checked A) → A → Packet → Text → Checked A
+answers on_timeout app p version = on_timeout app version p
+
+module _ {A : Type 0} (on_timeout : A → Text → Packet → Checked A) (evidence : Evidence) (host : Host) (core : Core) (app : A)
+    {effect : Effect} {after : Core} {left : A} (orderly : IsOrderly core) where
   -- what both messages do once their checks are passed
-  timed_out : (p : Packet) (mine : Channel) → IsOrderly core → IsUnsettled core p mine
-      → (on_timeout mine.end.version p >>= λ app. Ok (with_timed_out p mine core app)) ≡ Ok (effect, after, app)
-      → Settled core after p (λ version. on_timeout version p) app
-  timed_out p mine orderly stands e =
-      let given = bind_passed (on_timeout mine.end.version p) _ e in
-      settled core after p (λ version. on_timeout version p) app mine (after_timeout p.sequence mine) orderly stands
+  timed_out : (p : Packet) (mine : Channel) → IsUnsettled core p mine
+      → (answers on_timeout app p mine.end.version >>= λ app. Ok (with_timed_out p mine core app)) ≡ Ok (effect, after, left) → Settled core after p (answers on_timeout app p) left
+  timed_out p mine stands e =
+      let given = bind_passed (answers on_timeout app p mine.end.version) _ e in
+      settled core after p (answers on_timeout app p) left mine (after_timeout p.sequence mine) orderly stands
       (given.1 ∙ ap (λ (y : Effect × Core × A). Ok y.2) (ok_same given.2)) (after_timeout_keeps p.sequence mine)
       (ap (λ (y : Effect × Core × A). y.1.channels) (sym (ok_same given.2)))
 
-  timeout_any_port : (m : Timeout) → IsOrderly core → timeout on_timeout evidence core m ≡ Ok (effect, after, app)
-      → Settled core after m.packet (λ version. on_timeout version m.packet) app
+  timeout_any_port : (m : Timeout) → timeout on_timeout m evidence host core app ≡ Ok (effect, after, left) → Settled core after m.packet (answers on_timeout app m.packet) left
   unfolding timeout
-  timeout_any_port m orderly e =
-      let checked = bind_passed (timeout_checked evidence core m) _ e in
-      timed_out m.packet checked.0 orderly (timeout_passed evidence core m checked.0 checked.1).unsettled checked.2
+  timeout_any_port m e =
+      let checked = bind_passed _ _ e in
+      timed_out m.packet checked.0 (timeout_passed evidence host core m checked.0 checked.1).unsettled checked.2
 
-  timeout_on_close_any_port : (m : TimeoutOnClose) → IsOrderly core → timeout_on_close on_timeout evidence core m ≡ Ok (effect, after, app)
-      → Settled core after m.packet (λ version. on_timeout version m.packet) app
+  timeout_on_close_any_port : (m : TimeoutOnClose) → timeout_on_close on_timeout m evidence host core app ≡ Ok (effect, after, left)
+      → Settled core after m.packet (answers on_timeout app m.packet) left
   unfolding timeout_on_close
-  timeout_on_close_any_port m orderly e =
-      let checked = bind_passed (timeout_on_close_checked evidence core m) _ e in
-      timed_out m.packet checked.0 orderly (timeout_on_close_passed evidence core m checked.0 checked.1).unsettled checked.2
+  timeout_on_close_any_port m e =
+      let checked = bind_passed _ _ e in
+      timed_out m.packet checked.0 (timeout_on_close_passed evidence host core m checked.0 checked.1).unsettled checked.2
 
   -- on another port
-  pub timeout_burnt : (m : Timeout) → IsOrderly core → same_text m.packet.source_port transfer_port ≡ false
-      → timeout on_timeout evidence core m ≡ Ok (effect, after, app) → SameBurnt core after
-  timeout_burnt m orderly other e = settled_elsewhere core after m.packet (λ version. on_timeout version m.packet) app other (timeout_any_port m orderly e)
+  pub timeout_burnt : (m : Timeout) → same_text m.packet.source_port transfer_port ≡ false
+      → timeout on_timeout m evidence host core app ≡ Ok (effect, after, left) → SameBurnt core after
+  timeout_burnt m other e = settled_elsewhere core after m.packet (answers on_timeout app m.packet) left other (timeout_any_port m e)
 
-  pub timeout_on_close_burnt : (m : TimeoutOnClose) → IsOrderly core → same_text m.packet.source_port transfer_port ≡ false
-      → timeout_on_close on_timeout evidence core m ≡ Ok (effect, after, app) → SameBurnt core after
-  timeout_on_close_burnt m orderly other e =
-      settled_elsewhere core after m.packet (λ version. on_timeout version m.packet) app other (timeout_on_close_any_port m orderly e)
+  pub timeout_on_close_burnt : (m : TimeoutOnClose) → same_text m.packet.source_port transfer_port ≡ false
+      → timeout_on_close on_timeout m evidence host core app ≡ Ok (effect, after, left) → SameBurnt core after
+  timeout_on_close_burnt m other e = settled_elsewhere core after m.packet (answers on_timeout app m.packet) left other (timeout_on_close_any_port m e)
 
   -- on port `transfer`
-  pub timeout_settles : (m : Timeout) → IsOrderly core → same_text m.packet.source_port transfer_port ≡ true
-      → timeout on_timeout evidence core m ≡ Ok (effect, after, app) → Settles core after m.packet (λ version. on_timeout version m.packet) app
-  timeout_settles m orderly ours e = settled_here core after m.packet (λ version. on_timeout version m.packet) app ours (timeout_any_port m orderly e)
+  pub timeout_settles : (m : Timeout) → same_text m.packet.source_port transfer_port ≡ true
+      → timeout on_timeout m evidence host core app ≡ Ok (effect, after, left) → Settles core after m.packet (λ version. on_timeout app version m.packet) left
+  timeout_settles m ours e = settled_here core after m.packet (answers on_timeout app m.packet) left ours (timeout_any_port m e)
 
-  pub timeout_on_close_settles : (m : TimeoutOnClose) → IsOrderly core → same_text m.packet.source_port transfer_port ≡ true
-      → timeout_on_close on_timeout evidence core m ≡ Ok (effect, after, app)
-      → Settles core after m.packet (λ version. on_timeout version m.packet) app
-  timeout_on_close_settles m orderly ours e =
-      settled_here core after m.packet (λ version. on_timeout version m.packet) app ours (timeout_on_close_any_port m orderly e)
+  pub timeout_on_close_settles : (m : TimeoutOnClose) → same_text m.packet.source_port transfer_port ≡ true
+      → timeout_on_close on_timeout m evidence host core app ≡ Ok (effect, after, left)
+      → Settles core after m.packet (λ version. on_timeout app version m.packet) left
+  timeout_on_close_settles m ours e = settled_here core after m.packet (answers on_timeout app m.packet) left ours (timeout_on_close_any_port m e)

@@ -8,16 +8,17 @@ use Rattle.ibc_ids.proofs.Texts.{text_same}
 use Rattle.ibc_wire.specs.declared.messages.SendNote.{SendNote}
 use Rattle.ibc_machine.specs.declared.reply.Effect.{Effect}
 use Rattle.ibc_machine.specs.Records.{Core, Channel, Commitment, channel_at}
-use Rattle.ibc_machine.specs.Evidence.{Evidence, require_number}
-use Rattle.ibc_machine.specs.Packets.{sending_end, require_timeouts, after_send, with_sent}
+use Rattle.ibc_machine.specs.Evidence.{Host, Evidence}
+use Rattle.ibc_machine.specs.Packets.{sending_end, after_send, with_sent}
 use Rattle.ibc_machine.specs.TokenData.{Data, is_data, tokens_of}
 use Rattle.ibc_machine.specs.Transfers.{transfer_port, burnt, transfer_commitment}
 use Rattle.ibc_machine.specs.Notes.{note_port, note_commitment, send_note}
 use Rattle.ibc_machine.proofs.DataRead.{data_read}
 use Rattle.ibc_flight.specs.Orderly.{IsOrderly}
-use Rattle.ibc_flight.specs.Returned.{SameBurnt, returned}
-use Rattle.ibc_machine.proofs.PassedRows.{require_passed, then_passed, bind_passed, expect_passed, ok_same}
+use Rattle.ibc_flight.specs.Returned.{returned}
+use Rattle.ibc_machine.proofs.PassedRows.{require_passed, bind_passed, expect_passed, ok_same, Gives, gives_ok, gives_then, gives_bind}
 use Rattle.ibc_flight.proofs.BurntSteps.{burnt_by, burnt_by-other, burnt_by-transfer, one_sent}
+use Rattle.ibc_flight.proofs.UnchangedChannels.{LeavesBurnt}
 
 module _ (core : Core) (channel : Text) (mine : Channel) (c : Commitment) {effect : Effect} {after : Core} where
   -- on any port
@@ -58,15 +59,10 @@ tokens_sent_burnt core channel version mine d height time orderly there same goo
     ∙ ap (λ tokens. burnt core denom + returned channel tokens denom) (tokens_of-commitment version d height time good)
 
 -- a note is no token: its port isn't the tokens'
-pub send_note_burnt : (evidence : Evidence) (core : Core) (m : SendNote) {effect : Effect} {after : Core}
-    → IsOrderly core → send_note evidence core m ≡ Ok (effect, after) → SameBurnt core after
+pub send_note_burnt : (evidence : Evidence) (host : Host) (core : Core) → IsOrderly core → (m : SendNote) → Gives (LeavesBurnt core) (send_note m evidence host core)
 unfolding send_note
-send_note_burnt evidence core m orderly e denom =
-    let there = bind_passed (sending_end core note_port m.channel) _ e in
-    let mine : Channel = there.0 in
-    let size = require_passed _ _ _ there.2 in
-    let timeouts = (then_passed (require_timeouts evidence core mine (note_commitment m)) _ size.1).1 in
-    let number = (then_passed (require_number mine.next_send) _ timeouts).1 in
-    let sent = sent_over core m.channel mine (note_commitment m) note_port orderly (sending_end_there core note_port m.channel mine there.1) (ok_same number) denom in
+send_note_burnt evidence host core orderly m =
+    gives_bind _ _ λ (mine : Channel) is. gives_then _ _ λ _. gives_then _ _ λ _. gives_then _ _ λ _. gives_ok (LeavesBurnt core) _ (λ denom.
+    let sent = sent_over core m.channel mine (note_commitment m) note_port orderly (sending_end_there core note_port m.channel mine is) refl denom in
     let none = burnt_by-other note_port m.channel (tokens_of mine.end.version (note_commitment m)) denom refl in
-    omega arith
+    omega arith)

@@ -6,7 +6,7 @@ use Rattle.ibc_wire.specs.declared.messages.AckPacket.{AckPacket}
 use Rattle.ibc_wire.specs.declared.messages.Timeout.{Timeout}
 use Rattle.ibc_wire.specs.declared.messages.TimeoutOnClose.{TimeoutOnClose}
 use Rattle.ibc_machine.specs.Records.{Core, Channel, commitment_of}
-use Rattle.ibc_machine.specs.Evidence.{Evidence}
+use Rattle.ibc_machine.specs.Evidence.{Host, Evidence}
 use Rattle.ibc_machine.specs.Packets.{ack_checked, timeout_checked, timeout_on_close_checked}
 use Rattle.ibc_machine.specs.TokenData.{tokens_of}
 use Rattle.ibc_machine.specs.Transfers.{transfer_port, burnt}
@@ -21,18 +21,18 @@ covered core p mine stands ours denom =
     let same = burnt_by-transfer p.source_port p.source_channel (tokens_of mine.end.version (commitment_of p)) denom ours in
     omega arith
 
-module _ (evidence : Evidence) (core : Core) where
+module _ (evidence : Evidence) (host : Host) (core : Core) where
   pub ack_covered : (m : AckPacket) (mine : Channel) → same_text m.packet.source_port transfer_port ≡ true
-      → ack_checked evidence core m ≡ Ok mine
+      → ack_checked m evidence host core ≡ Ok mine
       → (denom : Text) → returned m.packet.source_channel (tokens_of mine.end.version (commitment_of m.packet)) denom ≤ burnt core denom
-  ack_covered m mine ours e = covered core m.packet mine (ack_passed evidence core m mine e).unsettled ours
+  ack_covered m mine ours e = covered core m.packet mine (ack_passed evidence host core m mine e).unsettled ours
 
   pub timeout_covered : (m : Timeout) (mine : Channel) → same_text m.packet.source_port transfer_port ≡ true
-      → timeout_checked evidence core m ≡ Ok mine
+      → timeout_checked m evidence host core ≡ Ok mine
       → (denom : Text) → returned m.packet.source_channel (tokens_of mine.end.version (commitment_of m.packet)) denom ≤ burnt core denom
-  timeout_covered m mine ours e = covered core m.packet mine (timeout_passed evidence core m mine e).unsettled ours
+  timeout_covered m mine ours e = covered core m.packet mine (timeout_passed evidence host core m mine e).unsettled ours
 
   pub timeout_on_close_covered : (m : TimeoutOnClose) (mine : Channel) → same_text m.packet.source_port transfer_port ≡ true
-      → timeout_on_close_checked evidence core m ≡ Ok mine
+      → timeout_on_close_checked m evidence host core ≡ Ok mine
       → (denom : Text) → returned m.packet.source_channel (tokens_of mine.end.version (commitment_of m.packet)) denom ≤ burnt core denom
-  timeout_on_close_covered m mine ours e = covered core m.packet mine (timeout_on_close_passed evidence core m mine e).unsettled ours
+  timeout_on_close_covered m mine ours e = covered core m.packet mine (timeout_on_close_passed evidence host core m mine e).unsettled ours

@@ -43,5 +43,7 @@ pub mod QuotedTexts
 pub mod DataRead
 pub mod GoodData
 pub mod PassedRows
+pub mod PassedHandlers
 pub mod PassedChecks
+pub mod ConnectionChecks
 pub mod PacketChecks

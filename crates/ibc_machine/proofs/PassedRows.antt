@@ -1,5 +1,5 @@
 -- What a row of checks has passed where it ends well.
-use Rattle.std.proofs.Common.{◌≡◌, Bool, true, false, refl, ap, Option, Some, None, Ok, Err}
+use Rattle.std.proofs.Common.{◌≡◌, Bool, true, false, refl, ap, subst, Option, Some, None, Ok, Err}
 use Rattle.std.specs.Prelude.{⊤}
 use Rattle.ibc_ids.specs.declared.refusal.Refusal.{Refusal}
 use Rattle.ibc_machine.specs.Checks.{Checked, require, expect, go_on, and_then, ◌>>=◌, ◌>>◌}
@@ -30,3 +30,31 @@ ok_same e = cc
 pub expect_passed : {A : Type 0} (o : Option A) (r : Refusal) {a : A} → expect o r ≡ Ok a → o ≡ Some a
 expect_passed (Some x) r e = ap Some (ok_same e)
 expect_passed None r e = absurd (cc e)
+
+-- ---- if it isn't refused, this holds of what it gives
+
+pub record Gives {A : Type 0} (P : A → Type 0) (x : Checked A) : Type 0 where
+  pub gives : (a : A) → x ≡ Ok a → P a
+
+pub gives_ok : {A : Type 0} (P : A → Type 0) (a : A) → P a → Gives P (Ok a)
+gives_ok P a h = record { gives = λ b e. subst P (ok_same e) h }
+
+pub gives_err : {A : Type 0} (P : A → Type 0) (r : Refusal) → Gives P (Err r)
+gives_err P r = record { gives = λ b e. absurd (cc) }
+
+-- a check that was passed is known behind it
+pub gives_then : {B : Type 0} {P : B → Type 0} (x : Checked ⊤) (rest : Checked B) → (x ≡ Ok tt → Gives P rest) → Gives P (x >> rest)
+unfolding and_then
+gives_then (Ok tt) rest h = h refl
+gives_then {P = P} (Err r) rest h = gives_err P r
+
+pub gives_require : {B : Type 0} {P : B → Type 0} (b : Bool) (r : Refusal) (rest : Checked B) → (b ≡ true → Gives P rest) → Gives P (require b r >> rest)
+gives_require b r rest h = gives_then (require b r) rest λ e. h (require_holds b r e)
+
+pub gives_bind : {A B : Type 0} {P : B → Type 0} (x : Checked A) (f : A → Checked B) → ((a : A) → x ≡ Ok a → Gives P (f a)) → Gives P (x >>= f)
+unfolding go_on
+gives_bind (Ok a) f g = g a refl
+gives_bind {P = P} (Err r) f g = gives_err P r
+
+pub gives_expect : {A B : Type 0} {P : B → Type 0} (o : Option A) (r : Refusal) (f : A → Checked B) → ((a : A) → o ≡ Some a → Gives P (f a)) → Gives P (expect o r >>= f)
+gives_expect o r f g = gives_bind (expect o r) f λ a e. g a (expect_passed o r e)

@@ -5,7 +5,7 @@ use Rattle.ibc_client.proofs.Updating.{refused_untracked, held_client, tracked_h
 use Rattle.ibc_client.proofs.update_client.update.Goals as goal
 
 pub returns-in-Err-clause-answer : goal.returns-in-Err-clause-answer
-returns-in-Err-clause-answer c = λ state. refused_untracked c.args.records.now c.args.message.now c.args.pass.now.seen state c.in-Err.refusal (sym c.in-Err.ensures)
+returns-in-Err-clause-answer c = λ host state. refused_untracked c.args.records.now c.args.message.now host c.args.pass.now.seen state c.in-Err.refusal (sym c.in-Err.ensures)
 
 pub returns-in-Err-clause-looks : goal.returns-in-Err-clause-looks
 returns-in-Err-clause-looks c = sym (looks_up-tracked (core_of c.args.records.now) c.args.message.now _ (sym c.in-Err.ensures))
@@ -18,7 +18,7 @@ learn-requires c = held_client c.args.records.now c.args.message.now c.in_defaul
 
 pub returns-clause-answer : goal.returns-clause-answer
 returns-clause-answer c =
-    λ state. learned c.args.records.now c.args.message.now c.in_default.field-0 (sym c.in_default.ensures) c.look-checked.new.pass.seen c.look-checked.result.0 state c.look-checked.result.1
+    λ host state. learned c.args.records.now c.args.message.now c.in_default.field-0 (sym c.in_default.ensures) host c.look-checked.new.pass.seen c.look-checked.result.0 state c.look-checked.result.1
     c.learn.result c.learn.new.records c.look-checked.ensures.checked c.learn.ensures
 
 pub returns-clause-looks : goal.returns-clause-looks
