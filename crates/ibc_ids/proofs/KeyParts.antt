@@ -1,19 +1,19 @@
 -- The parts of a key's path between its slashes are those that the definition names, and a path has no other.
-use Rattle.std.proofs.Common.{◌≡◌, ◌⊎◌, inl, inr, ℕ, ◌<◌, ◌^◌, true, false, codes, List, [], ◌∷◌, ◌++◌, Result, Ok, Err, refl, sym, ap, ◌∙◌, arith, append_assoc, subst}
+use Rattle.std.proofs.Common.{◌≡◌, ◌≢◌, ◌↔◌, ◌⊎◌, inl, inr, ℕ, ◌<◌, ◌^◌, Bool, true, false, ◌&&◌, nat_lt, codes, List, [], ◌∷◌, ◌++◌, Result, Ok, Err, refl, sym, ap, ◌∙◌, arith, append_assoc, subst, lt-ltb}
 use Rattle.std.specs.Prelude.{not, IsTrue, IfOk, IfErr, IsErrOf, IsOkUnless, bytes_eq}
 use Rattle.std.specs.List.{list_all, slice_split, join_with_byte, onto_first}
 use Rattle.std.specs.Fmt.{decimal}
-use Rattle.std.proofs.lemmas.Bool.{and_parts}
+use Rattle.std.proofs.lemmas.Bool.{and_parts, false≢true}
 use Rattle.std.proofs.lemmas.Bool.Decides.{nat_tests, not_from_Decides}
 use Rattle.std.proofs.lemmas.Slice.Eq.{bytes_eq-Decides}
 use Rattle.std.proofs.lemmas.List.Splits.{slice_split-cons_no, join_with_byte-slice_split}
 use Rattle.ibc_ids.specs.Texts.{Text}
-use Rattle.ibc_ids.specs.Names.{is_identifier_byte, is_slash}
-use Rattle.ibc_ids.specs.Paths.{channel_path, sequence_path, path, is_key, channel_parts, sequence_parts, parts, HasParts}
+use Rattle.ibc_ids.specs.Names.{is_identifier_byte, is_slash, is_client, is_connection, is_channel, is_port}
+use Rattle.ibc_ids.specs.Paths.{channel_path, sequence_path, path, is_key, channel_parts, sequence_parts, parts, HasParts, IsNameRefusal, IsKeyOf}
 use Rattle.ibc_ids.specs.declared.key.Key.{Key}
 use Rattle.ibc_ids.specs.declared.key.Key.TheVariants as key
 use Rattle.ibc_ids.specs.declared.refusal.Refusal.{Refusal}
-use Rattle.ibc_ids.specs.declared.refusal.Refusal.TheVariants.{BadMessage, NoMemory}
+use Rattle.ibc_ids.specs.declared.refusal.Refusal.TheVariants.{BadName, NoMemory}
 use Rattle.ibc_ids.proofs.Paths.{HasNoSlash, made_of, client_clear, two_names, a_number, ports_then}
 use Rattle.ibc_ids.proofs.Numbered.{digits}
 use Rattle.ibc_ids.proofs.Splits.{some_part, only_part}
@@ -81,19 +81,92 @@ same_parts key.NextChannelSequence h = refl
 pub path_from : (k : Key) (text : Text) → HasParts (slice_split is_slash text) k → path k ≡ text
 path_from k text h = sym (join_with_byte-slice_split 47 (path k)) ∙ ap (join_with_byte 47) (same_parts k h.1 ∙ h.0) ∙ join_with_byte-slice_split 47 text
 
-pub key_at : {E : Type 0} (r : Result Key E) (text : Text) (ps : List Text) → slice_split is_slash text ≡ ps → IfOk r (HasParts ps) → IfOk r (λ (k : Key). (path k ≡ text) × IsTrue (is_key k))
-key_at (Ok k) text ps e h = (path_from k text (h.0 ∙ sym e, h.1), h.1)
-key_at (Err x) text ps e h = h
-
 pub no_key_at : (text : Text) (ps : List Text) → slice_split is_slash text ≡ ps → ((k : Key) → ¬ HasParts ps k) → (k : Key) → IsTrue (is_key k) → ¬ (path k ≡ text)
 no_key_at text ps e none k h is = none k (sym (same_parts k h) ∙ ap (slice_split is_slash) is ∙ e, h)
 
--- what is refused of a key's path is refused for memory
-pub only_memory : (r : Result Key Refusal) (text : Text) → IfErr r (λ e. (e ≡ BadMessage) ⊎ (e ≡ NoMemory)) → (IsErrOf r BadMessage → (k : Key) → IsTrue (is_key k) → ¬ (path k ≡ text))
-    → (k : Key) → IsTrue (is_key k) → path k ≡ text → IsOkUnless r NoMemory
-only_memory (Ok x) text errors bad k h is = tt
-only_memory (Err x) text (inl e) bad k h is = absurd (bad (ap Err e) k h is)
-only_memory (Err x) text (inr e) bad k h is = e
+-- what is answered for a text, by what is answered for its parts
+pub record Parses (text : Text) (r : Result Key Refusal) : Type 0 where
+  pub ok : IfOk r (λ k. (path k ≡ text) × IsTrue (is_key k))
+  pub bad : IsErrOf r BadName ↔ ((k : Key) → IsTrue (is_key k) → path k ≢ text)
+  pub memory : (k : Key) → IsTrue (is_key k) → path k ≡ text → IsOkUnless r NoMemory
+  pub errors : IfErr r (λ e. (e ≡ BadName) ⊎ (e ≡ NoMemory))
+
+pub parsed : (text : Text) (ps : List Text) (r : Result Key Refusal) → slice_split is_slash text ≡ ps → IsKeyOf ps r → Parses text r
+parsed text ps (Ok k) e h =
+    let is = path_from k text (h.0 ∙ sym e, h.1) in
+    record { ok = (is, h.1); bad = (λ other. absurd (cc), λ none. absurd (none k h.1 is)); memory = λ l valid same. tt; errors = tt }
+parsed text ps (Err BadName) e h =
+    let none = no_key_at text ps e h in
+    record { ok = tt; bad = (λ same. none, λ no. refl); memory = λ l valid same. absurd (none l valid same); errors = inl refl }
+parsed text ps (Err NoMemory) e h =
+    let is = path_from h.0 text (h.1.0 ∙ sym e, h.1.1) in
+    record { ok = tt; bad = (λ other. absurd (cc), λ none. absurd (none h.0 h.1.1 is)); memory = λ l valid same. refl; errors = inr refl }
+parsed text ps (Err _) e h = absurd h
+
+-- ---- names in a path
+
+and_true : (b : Bool) → (b && true) ≡ b
+and_true true = refl
+and_true false = refl
+
+pub name_refusal : (form : Bool) (e : Refusal) → (IsErrOf {T = Text} (Err e) BadName ↔ ¬ IsTrue form) → (IsTrue form → IsOkUnless {T = Text} (Err e) NoMemory) → IsNameRefusal form e
+name_refusal true e bad memory = subst (IsNameRefusal true) (sym (memory refl)) refl
+name_refusal false e bad memory =
+    let is = bad.1 false≢true in
+    let same : e ≡ BadName = cc in
+    subst (IsNameRefusal false) (sym same) refl
+
+client_in : (k : Key) (kind id field : Text) → HasParts (kind ∷ id ∷ field ∷ []) k → is_client id ≡ true
+client_in (key.ClientState a) kind id field h = let e = h.0 in let same : a ≡ id = cc in ap is_client (sym same) ∙ h.1
+client_in k kind id field h = let e = h.0 in absurd (cc)
+
+connection_in : (k : Key) (kind id : Text) → HasParts (kind ∷ id ∷ []) k → is_connection id ≡ true
+connection_in (key.Connection a) kind id h = let e = h.0 in let same : a ≡ id = cc in ap is_connection (sym same) ∙ h.1
+connection_in k kind id h = let e = h.0 in absurd (cc)
+
+both_same : (p c port channel : Text) → p ≡ port → c ≡ channel → (is_port p && is_channel c) ≡ true → (is_port port && is_channel channel) ≡ true
+both_same p c port channel a b h = (λ i. is_port (sym a i) && is_channel (sym b i)) ∙ h
+
+names_in : (k : Key) (kind port channel : Text) (ts : List Text) → HasParts (kind ∷ channel_parts port channel ts) k → (is_port port && is_channel channel) ≡ true
+names_in (key.ClientState a) kind port channel ts h = let e = h.0 in absurd (cc)
+names_in (key.Connection a) kind port channel ts h = let e = h.0 in absurd (cc)
+names_in (key.ChannelEnd p c) kind port channel ts h = let e = h.0 in both_same p c port channel (cc) (cc) h.1
+names_in (key.NextSequenceSend p c) kind port channel ts h = let e = h.0 in both_same p c port channel (cc) (cc) h.1
+names_in (key.NextSequenceRecv p c) kind port channel ts h = let e = h.0 in both_same p c port channel (cc) (cc) h.1
+names_in (key.NextSequenceAck p c) kind port channel ts h = let e = h.0 in both_same p c port channel (cc) (cc) h.1
+names_in (key.Commitment p c n) kind port channel ts h = let e = h.0 in both_same p c port channel (cc) (cc) (and_parts (is_port p && is_channel c) (nat_lt n (2 ^ 64)) h.1).0
+names_in (key.Receipt p c n) kind port channel ts h = let e = h.0 in both_same p c port channel (cc) (cc) (and_parts (is_port p && is_channel c) (nat_lt n (2 ^ 64)) h.1).0
+names_in (key.Acknowledgement p c n) kind port channel ts h = let e = h.0 in both_same p c port channel (cc) (cc) (and_parts (is_port p && is_channel c) (nat_lt n (2 ^ 64)) h.1).0
+names_in k kind port channel ts h = let e = h.0 in absurd (cc)
+
+-- a name of the parts was refused, where a key that has the parts would have the name
+pub refused : (ps : List Text) (form : Bool) (e : Refusal) (k : Key) → IsNameRefusal form e → parts k ≡ ps → is_key k ≡ form → ((l : Key) → HasParts ps l → form ≡ true) → IsKeyOf ps (Err e)
+refused ps form BadName k h is valid all = λ l has. false≢true (sym h ∙ all l has)
+refused ps form NoMemory k h is valid all = (k, (is, valid ∙ h))
+refused ps form _ k h is valid all = absurd h
+
+pub refused_client : (kind id field : Text) (e : Refusal) → kind ≡ codes "clients" → field ≡ codes "clientState" → IsNameRefusal (is_client id) e → IsKeyOf (kind ∷ id ∷ field ∷ []) (Err e)
+refused_client kind id field e a b h =
+    refused (kind ∷ id ∷ field ∷ []) (is_client id) e (key.ClientState id) h (λ i. sym a i ∷ id ∷ sym b i ∷ []) refl (λ l. client_in l kind id field)
+
+pub refused_connection : (kind id : Text) (e : Refusal) → kind ≡ codes "connections" → IsNameRefusal (is_connection id) e → IsKeyOf (kind ∷ id ∷ []) (Err e)
+refused_connection kind id e a h =
+    refused (kind ∷ id ∷ []) (is_connection id) e (key.Connection id) h (λ i. sym a i ∷ id ∷ []) refl (λ l. connection_in l kind id)
+
+pub refused_record : (kind port channel : Text) (e : Refusal) (k : Key) → IsNameRefusal (is_port port && is_channel channel) e → parts k ≡ kind ∷ channel_parts port channel [] → is_key k ≡ (is_port port && is_channel channel)
+    → IsKeyOf (kind ∷ channel_parts port channel []) (Err e)
+refused_record kind port channel e k h is valid =
+    refused (kind ∷ channel_parts port channel []) (is_port port && is_channel channel) e k h is valid (λ l. names_in l kind port channel [])
+
+pub refused_sequence : (kind port channel sequence : Text) (n : ℕ) (e : Refusal) (k : Key) → IsNameRefusal (is_port port && is_channel channel) e → n < 2 ^ 64 → sequence ≡ decimal n
+    → parts k ≡ kind ∷ sequence_parts port channel n → is_key k ≡ (is_port port && is_channel channel && nat_lt n (2 ^ 64))
+    → IsKeyOf (kind ∷ channel_parts port channel (codes "sequences" ∷ sequence ∷ [])) (Err e)
+refused_sequence kind port channel sequence n e k h small same is valid =
+    let ps = kind ∷ channel_parts port channel (codes "sequences" ∷ sequence ∷ []) in
+    refused ps (is_port port && is_channel channel) e k h
+    (is ∙ ap (λ (t : Text). kind ∷ channel_parts port channel (codes "sequences" ∷ t ∷ [])) (sym same))
+    (valid ∙ ap (λ b. is_port port && is_channel channel && b) (lt-ltb n (2 ^ 64) small) ∙ and_true (is_port port && is_channel channel))
+    (λ l. names_in l kind port channel (codes "sequences" ∷ sequence ∷ []))
 
 -- ---- keys of many parts
 
@@ -120,20 +193,26 @@ seven_parts k a b p m c q t h =
     let last = seventh k a b p m c q (slice_split is_slash t) h in
     sym last.2 ∙ ap (λ (u : Text). u ∷ []) (sym (only_part (decimal last.0) t (sym last.2)))
 
-pub sequence_at : {E : Type 0} (r : Result Key E) (kind port channel sequence : Text) (tail : List Text) → tail ≡ codes "channels" ∷ channel ∷ codes "sequences" ∷ slice_split is_slash sequence
-    → IfOk r (HasParts (kind ∷ channel_parts port channel (codes "sequences" ∷ sequence ∷ []))) → IfOk r (HasParts (kind ∷ codes "ports" ∷ port ∷ tail))
-sequence_at (Ok k) kind port channel sequence tail e h =
+short_parts : (k : Key) (kind port channel sequence : Text) (tail : List Text) → tail ≡ codes "channels" ∷ channel ∷ codes "sequences" ∷ slice_split is_slash sequence
+    → HasParts (kind ∷ channel_parts port channel (codes "sequences" ∷ sequence ∷ [])) k → HasParts (kind ∷ codes "ports" ∷ port ∷ tail) k
+short_parts k kind port channel sequence tail e h =
     let one = last_of_seven k kind (codes "ports") port (codes "channels") channel (codes "sequences") sequence h in
     let back = sym e in
     (h.0 ∙ ap (λ (u : List Text). kind ∷ channel_parts port channel (codes "sequences" ∷ u)) (sym one) ∙ ap (λ (u : List Text). kind ∷ codes "ports" ∷ port ∷ u) back, h.1)
-sequence_at (Err x) kind port channel sequence tail e h = h
 
-pub no_sequence_at : (kind port channel sequence : Text) (tail : List Text) → tail ≡ codes "channels" ∷ channel ∷ codes "sequences" ∷ slice_split is_slash sequence
-    → ((k : Key) → ¬ HasParts (kind ∷ channel_parts port channel (codes "sequences" ∷ sequence ∷ [])) k) → (k : Key) → ¬ HasParts (kind ∷ codes "ports" ∷ port ∷ tail) k
-no_sequence_at kind port channel sequence tail e none k h =
+long_parts : (k : Key) (kind port channel sequence : Text) (tail : List Text) → tail ≡ codes "channels" ∷ channel ∷ codes "sequences" ∷ slice_split is_slash sequence
+    → HasParts (kind ∷ codes "ports" ∷ port ∷ tail) k → HasParts (kind ∷ channel_parts port channel (codes "sequences" ∷ sequence ∷ [])) k
+long_parts k kind port channel sequence tail e h =
     let flat = h.0 ∙ ap (λ (u : List Text). kind ∷ codes "ports" ∷ port ∷ u) e in
     let one = seven_parts k kind (codes "ports") port (codes "channels") channel (codes "sequences") sequence (flat, h.1) in
-    none k (flat ∙ ap (λ (u : List Text). kind ∷ channel_parts port channel (codes "sequences" ∷ u)) one, h.1)
+    (flat ∙ ap (λ (u : List Text). kind ∷ channel_parts port channel (codes "sequences" ∷ u)) one, h.1)
+
+pub sequence_at : (r : Result Key Refusal) (kind port channel sequence : Text) (tail : List Text) → tail ≡ codes "channels" ∷ channel ∷ codes "sequences" ∷ slice_split is_slash sequence
+    → IsKeyOf (kind ∷ channel_parts port channel (codes "sequences" ∷ sequence ∷ [])) r → IsKeyOf (kind ∷ codes "ports" ∷ port ∷ tail) r
+sequence_at (Ok k) kind port channel sequence tail e h = short_parts k kind port channel sequence tail e h
+sequence_at (Err BadName) kind port channel sequence tail e h = λ k has. h k (long_parts k kind port channel sequence tail e has)
+sequence_at (Err NoMemory) kind port channel sequence tail e h = (h.0, short_parts h.0 kind port channel sequence tail e h.1)
+sequence_at (Err _) kind port channel sequence tail e h = absurd h
 
 -- ---- texts that were compared
 

@@ -1,10 +1,12 @@
 -- The path of a key (ICS 24, "Path-space"), and the identifiers that a chain gives.
-use Rattle.std.specs.Prelude.{◌≡◌, ℕ, codes, List, [], ◌∷◌, ◌++◌, ◌^◌, ◌&&◌, Bool, true, nat_lt, IsTrue}
+use Rattle.std.specs.Prelude.{◌≡◌, ℕ, codes, List, [], ◌∷◌, ◌++◌, ◌^◌, ◌&&◌, Bool, true, false, nat_lt, IsTrue, Result, Ok, Err}
 use Rattle.ibc_ids.specs.Names.{is_client, is_connection, is_channel, is_port}
 use Rattle.std.specs.Fmt.{decimal}
 use Rattle.ibc_ids.specs.Texts.{Text}
 use Rattle.ibc_ids.specs.declared.key.Key.{Key}
 use Rattle.ibc_ids.specs.declared.key.Key.TheVariants as key
+use Rattle.ibc_ids.specs.declared.refusal.Refusal.{Refusal}
+use Rattle.ibc_ids.specs.declared.refusal.Refusal.TheVariants.{BadName, NoMemory}
 use Rattle.ibc_ids.specs.declared.account.Account.{Account}
 use Rattle.ibc_ids.specs.declared.account.Account.TheVariants.{User, Escrow}
 
@@ -88,3 +90,17 @@ parts key.NextChannelSequence = codes "nextChannelSequence" ∷ []
 -- the key is one, and its path has these parts
 abbrev pub HasParts : List Text → Key → Type 0
 HasParts texts k = (parts k ≡ texts) × IsTrue (is_key k)
+
+-- names are refused as `BadName` exactly where one hasn't its form, and otherwise for want of memory
+abbrev pub IsNameRefusal : Bool → Refusal → Type 0
+IsNameRefusal form BadName = form ≡ false
+IsNameRefusal form NoMemory = form ≡ true
+IsNameRefusal form _ = ⊥
+
+-- what is answered for a path in parts: its key, or `BadName` where no key has these parts, or, where one has them,
+-- `NoMemory`
+abbrev pub IsKeyOf : List Text → Result Key Refusal → Type 0
+IsKeyOf texts (Ok k) = HasParts texts k
+IsKeyOf texts (Err BadName) = (k : Key) → ¬ HasParts texts k
+IsKeyOf texts (Err NoMemory) = (k : Key) × HasParts texts k
+IsKeyOf texts (Err _) = ⊥

@@ -61,6 +61,13 @@ impl<K: Kind> Name<K> {
     {
         self.text.as_str()
     }
+
+    /// A name has the form of its kind.
+    pub fn has_its_form(&self)
+        ensures { IsTrue (K.form self.now) }
+    {
+        let _text = self.as_str();
+    }
 }
 
 impl<K: Kind> Clone for Name<K> {

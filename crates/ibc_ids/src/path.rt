@@ -1,23 +1,23 @@
 //! Which key has a path (ICS 24, "Path-space").
 
-ghost use Rattle.std.specs.Prelude.{◌≡◌, ◌≢◌, ◌⊎◌, ◌<◌, ◌^◌, ◌&&◌, ◌==◌, ℕ, nat_lt, codes, [], ◌∷◌, length, slice_index, IsTrue, IfOk, IfErr, IsErrOf, IsOkUnless, MatchOption};
+ghost use Rattle.std.specs.Prelude.{◌≡◌, ◌≢◌, ◌↔◌, ◌⊎◌, ◌<◌, ◌^◌, ◌&&◌, ◌==◌, ℕ, nat_lt, codes, [], ◌∷◌, length, slice_index, IsTrue, IfOk, IfErr, IsErrOf, IsOkUnless, MatchOption};
 ghost use Rattle.std.specs.List.{slice_split};
 ghost use Rattle.std.specs.Fmt.{decimal};
 ghost use Rattle.ibc_ids.specs.Names.{is_slash, is_port, is_channel};
-ghost use Rattle.ibc_ids.specs.Paths.{path, is_key, channel_parts, HasParts};
+ghost use Rattle.ibc_ids.specs.Paths.{path, is_key, channel_parts, IsNameRefusal, IsKeyOf};
 ghost use Rattle.ibc_ids.specs.declared.key.Key.{Key};
-ghost use Rattle.ibc_ids.specs.declared.refusal.Refusal.TheVariants.{BadMessage, NoMemory};
+ghost use Rattle.ibc_ids.specs.declared.refusal.Refusal.TheVariants.{BadName, NoMemory};
 
-use crate::{ChannelId, Key, Kind, Name, PortId, Refusal};
+use crate::{ChannelId, ChannelKind, Key, Kind, Name, PortId, Refusal};
 use std::alloc::Global;
 
 impl Key {
-    /// The key that has this path (ICS 24, "Path-space"). Refused: `BadMessage` exactly where no key has it; `NoMemory`.
+    /// The key that has this path (ICS 24, "Path-space"). Refused: `BadName` exactly where no key has it; `NoMemory`.
     pub fn parse(alloc: Global, text: &str) -> Result<Key, Refusal>
         ensures ok { IfOk result (λ key. (path key ≡ text.now) × IsTrue (is_key key)) }
-        ensures bad { IsErrOf result BadMessage → (key : Key) → IsTrue (is_key key) → ¬ (path key ≡ text.now) }
+        ensures bad { IsErrOf result BadName ↔ ((key : Key) → IsTrue (is_key key) → path key ≢ text.now) }
         ensures memory { (key : Key) → IsTrue (is_key key) → path key ≡ text.now → IsOkUnless result NoMemory }
-        ensures errors { IfErr result (λ e. (e ≡ BadMessage) ⊎ (e ≡ NoMemory)) }
+        ensures errors { IfErr result (λ e. (e ≡ BadName) ⊎ (e ≡ NoMemory)) }
     {
         let Some((kind, rest)) = split_at_slash(text) else {
             return counter(text);
@@ -29,7 +29,7 @@ impl Key {
             return client_state(alloc, kind, second, rest);
         };
         if second != "ports" {
-            return Err(Refusal::BadMessage);
+            return Err(Refusal::BadName);
         }
         channel_record(alloc, kind, third, rest)
     }
@@ -44,74 +44,74 @@ fn split_at_slash(text: &str) -> Option<(&str, &str)>
 
 /// The key of a number that counts up.
 fn counter(name: &str) -> Result<Key, Refusal>
-    ensures ok { IfOk result (HasParts (name.now ∷ [])) }
-    ensures bad { IsErrOf result BadMessage → (key : Key) → ¬ HasParts (name.now ∷ []) key }
-    ensures errors { IfErr result (λ e. (e ≡ BadMessage) ⊎ (e ≡ NoMemory)) }
+    ensures { IsKeyOf (name.now ∷ []) result }
 {
     match name {
         "nextClientSequence" => Ok(Key::NextClientSequence),
         "nextConnectionSequence" => Ok(Key::NextConnectionSequence),
         "nextChannelSequence" => Ok(Key::NextChannelSequence),
-        _ => Err(Refusal::BadMessage),
+        _ => Err(Refusal::BadName),
     }
 }
 
 /// The key of a connection, from the parts of its path.
 fn connection(alloc: Global, kind: &str, id: &str) -> Result<Key, Refusal>
-    ensures ok { IfOk result (HasParts (kind.now ∷ id.now ∷ [])) }
-    ensures bad { IsErrOf result BadMessage → (key : Key) → ¬ HasParts (kind.now ∷ id.now ∷ []) key }
-    ensures errors { IfErr result (λ e. (e ≡ BadMessage) ⊎ (e ≡ NoMemory)) }
+    ensures { IsKeyOf (kind.now ∷ id.now ∷ []) result }
 {
     if kind != "connections" {
-        return Err(Refusal::BadMessage);
+        return Err(Refusal::BadName);
     }
-    Ok(Key::Connection(name_in_path(alloc, id)?))
+    Ok(Key::Connection(Name::parse(alloc, id)?))
 }
 
 /// The key of a client's state, from the parts of its path.
 fn client_state(alloc: Global, kind: &str, id: &str, field: &str) -> Result<Key, Refusal>
-    ensures ok { IfOk result (HasParts (kind.now ∷ id.now ∷ field.now ∷ [])) }
-    ensures bad { IsErrOf result BadMessage → (key : Key) → ¬ HasParts (kind.now ∷ id.now ∷ field.now ∷ []) key }
-    ensures errors { IfErr result (λ e. (e ≡ BadMessage) ⊎ (e ≡ NoMemory)) }
+    ensures { IsKeyOf (kind.now ∷ id.now ∷ field.now ∷ []) result }
 {
     if kind != "clients" || field != "clientState" {
-        return Err(Refusal::BadMessage);
+        return Err(Refusal::BadName);
     }
-    Ok(Key::ClientState(name_in_path(alloc, id)?))
+    Ok(Key::ClientState(Name::parse(alloc, id)?))
 }
 
 /// The key of a channel's record, from the kind, the port and what stands behind the port.
 fn channel_record(alloc: Global, kind: &str, port: &str, rest: &str) -> Result<Key, Refusal>
-    ensures ok { IfOk result (HasParts (kind.now ∷ codes "ports" ∷ port.now ∷ slice_split is_slash rest.now)) }
-    ensures bad { IsErrOf result BadMessage → (key : Key) → ¬ HasParts (kind.now ∷ codes "ports" ∷ port.now ∷ slice_split is_slash rest.now) key }
-    ensures errors { IfErr result (λ e. (e ≡ BadMessage) ⊎ (e ≡ NoMemory)) }
+    ensures { IsKeyOf (kind.now ∷ codes "ports" ∷ port.now ∷ slice_split is_slash rest.now) result }
 {
     let Some(("channels", rest)) = split_at_slash(rest) else {
-        return Err(Refusal::BadMessage);
+        return Err(Refusal::BadName);
     };
     let Some((channel, rest)) = split_at_slash(rest) else {
         return record_of_channel(alloc, kind, port, rest);
     };
     let Some(("sequences", sequence)) = split_at_slash(rest) else {
-        return Err(Refusal::BadMessage);
+        return Err(Refusal::BadName);
     };
     record_at_sequence(alloc, kind, port, channel, sequence)
 }
 
 /// The key of a channel's one record of a kind.
 fn record_of_channel(alloc: Global, kind: &str, port: &str, channel: &str) -> Result<Key, Refusal>
-    ensures ok { IfOk result (HasParts (kind.now ∷ channel_parts port.now channel.now [])) }
-    ensures bad { IsErrOf result BadMessage → (key : Key) → ¬ HasParts (kind.now ∷ channel_parts port.now channel.now []) key }
-    ensures errors { IfErr result (λ e. (e ≡ BadMessage) ⊎ (e ≡ NoMemory)) }
+    ensures { IsKeyOf (kind.now ∷ channel_parts port.now channel.now []) result }
 {
-    let port = name_in_path(alloc, port)?;
-    let channel = name_in_path(alloc, channel)?;
     match kind {
-        "channelEnds" => Ok(Key::ChannelEnd(port, channel)),
-        "nextSequenceSend" => Ok(Key::NextSequenceSend(port, channel)),
-        "nextSequenceRecv" => Ok(Key::NextSequenceRecv(port, channel)),
-        "nextSequenceAck" => Ok(Key::NextSequenceAck(port, channel)),
-        _ => Err(Refusal::BadMessage),
+        "channelEnds" => {
+            let (port, channel) = names_in_path(alloc, port, channel)?;
+            Ok(Key::ChannelEnd(port, channel))
+        }
+        "nextSequenceSend" => {
+            let (port, channel) = names_in_path(alloc, port, channel)?;
+            Ok(Key::NextSequenceSend(port, channel))
+        }
+        "nextSequenceRecv" => {
+            let (port, channel) = names_in_path(alloc, port, channel)?;
+            Ok(Key::NextSequenceRecv(port, channel))
+        }
+        "nextSequenceAck" => {
+            let (port, channel) = names_in_path(alloc, port, channel)?;
+            Ok(Key::NextSequenceAck(port, channel))
+        }
+        _ => Err(Refusal::BadName),
     }
 }
 
@@ -123,31 +123,40 @@ fn record_at_sequence(
     channel: &str,
     sequence: &str,
 ) -> Result<Key, Refusal>
-    ensures ok { IfOk result (HasParts (kind.now ∷ channel_parts port.now channel.now (codes "sequences" ∷ sequence.now ∷ []))) }
-    ensures bad { IsErrOf result BadMessage → (key : Key) → ¬ HasParts (kind.now ∷ channel_parts port.now channel.now (codes "sequences" ∷ sequence.now ∷ [])) key }
-    ensures errors { IfErr result (λ e. (e ≡ BadMessage) ⊎ (e ≡ NoMemory)) }
+    ensures { IsKeyOf (kind.now ∷ channel_parts port.now channel.now (codes "sequences" ∷ sequence.now ∷ [])) result }
 {
-    let sequence = sequence_of(sequence).ok_or(Refusal::BadMessage)?;
-    let port = name_in_path(alloc, port)?;
-    let channel = name_in_path(alloc, channel)?;
+    let Some(sequence) = sequence_of(sequence) else {
+        return Err(Refusal::BadName);
+    };
     match kind {
-        "commitments" => Ok(Key::Commitment(port, channel, sequence)),
-        "receipts" => Ok(Key::Receipt(port, channel, sequence)),
-        "acks" => Ok(Key::Acknowledgement(port, channel, sequence)),
-        _ => Err(Refusal::BadMessage),
+        "commitments" => {
+            let (port, channel) = names_in_path(alloc, port, channel)?;
+            Ok(Key::Commitment(port, channel, sequence))
+        }
+        "receipts" => {
+            let (port, channel) = names_in_path(alloc, port, channel)?;
+            Ok(Key::Receipt(port, channel, sequence))
+        }
+        "acks" => {
+            let (port, channel) = names_in_path(alloc, port, channel)?;
+            Ok(Key::Acknowledgement(port, channel, sequence))
+        }
+        _ => Err(Refusal::BadName),
     }
 }
 
-/// The name of its kind that is a part of a path. Refused: `BadMessage` exactly where the text hasn't the form of the kind; `NoMemory`.
-fn name_in_path<K: Kind>(alloc: Global, text: &str) -> Result<Name<K>, Refusal>
-    ensures ok { IfOk result (λ name. (name ≡ text.now) × IsTrue (K.form text.now)) }
-    ensures bad { IsErrOf result BadMessage → ¬ IsTrue (K.form text.now) }
-    ensures errors { IfErr result (λ e. (e ≡ BadMessage) ⊎ (e ≡ NoMemory)) }
+/// The port and the channel of a path. Both texts are tested before memory is taken, so `NoMemory` never stands for a
+/// bad one. Refused: `BadName` exactly where one hasn't its form; `NoMemory`.
+fn names_in_path(alloc: Global, port: &str, channel: &str) -> Result<(PortId, ChannelId), Refusal>
+    ensures ok { IfOk result (λ names. (names.0 ≡ port.now) × (names.1 ≡ channel.now) × IsTrue (is_port port.now && is_channel channel.now)) }
+    ensures refused { IfErr result (IsNameRefusal (is_port port.now && is_channel channel.now)) }
 {
-    if !K::has_form(text.as_bytes()) {
-        return Err(Refusal::BadMessage);
+    if !ChannelKind::has_form(channel.as_bytes()) {
+        return Err(Refusal::BadName);
     }
-    Name::parse(alloc, text)
+    let port = Name::parse(alloc, port)?;
+    let channel = Name::parse(alloc, channel)?;
+    Ok((port, channel))
 }
 
 /// The sequence that the text writes in decimal digits without leading zeros.
