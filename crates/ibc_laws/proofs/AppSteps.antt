@@ -36,9 +36,9 @@ module _ (w : World) (host : Host) (records : Records) (apps : Apps) where
   AppsOfEnd port id m told n (follows state s) = apps ≡ records.apps
   AppsOfEnd port id m told n (closes s may) = apps ≡ records.apps
   AppsOfEnd port id m told n (sends c s) = SendsNote records port apps ⊎ SendsTokens records port id m c apps
-  AppsOfEnd port id m told n (receives p ack s) = on_recv records port m.end.version p ≡ (ack, apps)
-  AppsOfEnd port id m told n (acknowledges p s) = on_ack records.apps port m.end.version p s.ack ≡ Ok apps
-  AppsOfEnd port id m told n (times_out p s) = on_timeout records.apps port m.end.version p ≡ Ok apps
+  AppsOfEnd port id m told n (receives p ack s) = on_recv records.core port records.apps m.end.version p ≡ (ack, apps)
+  AppsOfEnd port id m told n (acknowledges p s) = on_ack port records.apps m.end.version p s.ack ≡ Ok apps
+  AppsOfEnd port id m told n (times_out p s) = on_timeout port records.apps m.end.version p ≡ Ok apps
 
   abbrev pub AppsOf : (told : Told) (after : Core) → CoreStep w host records.core told after → Type 0
   AppsOf told after (creates_client chain other free) = apps ≡ records.apps

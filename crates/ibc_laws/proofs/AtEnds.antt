@@ -4,6 +4,7 @@ use Rattle.std.proofs.Common.{◌≡◌, ℕ, Bool, true, false, refl, ap, sym, 
 use Rattle.ibc_ids.specs.Texts.{Text, pair_cmp, same_text}
 use Rattle.ibc_ids.specs.Maps.{at, with}
 use Rattle.ibc_ids.specs.Paths.{nth_channel}
+use Rattle.ibc_ids.proofs.Texts.{text_same}
 use Rattle.ibc_wire.specs.declared.packet.Packet.{Packet}
 use Rattle.ibc_wire.specs.declared.records.ChannelEnd.{ChannelEnd}
 use Rattle.ibc_machine.specs.Records.{Core, Chain, Channel, channel_at}
@@ -13,7 +14,7 @@ use Rattle.ibc_machine.specs.Channels.{new_channel}
 use Rattle.ibc_machine.specs.Ledgers.{chain_of, is_typed}
 use Rattle.ibc_machine.specs.Machine.{World}
 use Rattle.ibc_machine.specs.Histories.{Happened, End, is_end, packet_if}
-use Rattle.ibc_laws.proofs.PassedTests.{both, same_text_is}
+use Rattle.ibc_laws.proofs.PassedTests.{both}
 use Rattle.ibc_machine.proofs.FiniteMaps.{by_pair, at-with_split}
 use Rattle.ibc_laws.proofs.Places.{some_is, same_or_not, get-set_same, get-set_other}
 use Rattle.ibc_laws.proofs.Told.{Told, Quiet, told_of, sent_in, received_in, acknowledged_in, timed_out_in}
@@ -60,8 +61,8 @@ not_at e port id p q other is_port is_id packet = go (is_end e p q) refl
     go : (b : Bool) → is_end e p q ≡ b → packet_if b packet ≡ None
     go true is =
         let parts = both (same_text p e.port) (same_text q e.channel) is in
-        let a : e.port ≡ port = sym (same_text_is p e.port parts.0) ∙ is_port in
-        let b : e.channel ≡ id = sym (same_text_is q e.channel parts.1) ∙ is_id in
+        let a : e.port ≡ port = sym (text_same p e.port parts.0) ∙ is_port in
+        let b : e.channel ≡ id = sym (text_same q e.channel parts.1) ∙ is_id in
         absurd (other (λ i. (a i, b i)))
     go false is = refl
 

@@ -7,7 +7,7 @@ use Rattle.ibc_ids.specs.Names.{is_user}
 use Rattle.ibc_ids.specs.declared.refusal.Refusal.TheVariants as refusal
 use Rattle.ibc_wire.specs.declared.packet.Packet.{Packet}
 use Rattle.ibc_machine.specs.Records.{Apps, Records}
-use Rattle.ibc_machine.specs.Checks.{◌>>=◌}
+use Rattle.ibc_machine.specs.Checks.{Checked, ◌>>=◌}
 use Rattle.ibc_machine.specs.TokenData.{Data, data_of, success, error}
 use Rattle.ibc_machine.specs.Bank.{Balances, with_balance}
 use Rattle.ibc_machine.specs.Genesis.{Holding, starting_balances}
@@ -98,33 +98,31 @@ acknowledging balances version p ack after e = go (same_text ack success) refl e
 abbrev pub ByPort : Text → Balances → Balances → (Balances → Type 0) → Type 0
 ByPort port before after P = ((same_text port transfer_port ≡ true) × P after) ⊎ ((same_text port transfer_port ≡ false) × (after ≡ before))
 
-pub timed_out_balances : (apps : Apps) (port version : Text) (p : Packet) (after : Apps) → on_timeout apps port version p ≡ Ok after
+-- what an application of balances gives on its port, and nothing on another
+by_port : (apps : Apps) (port : Text) (after : Apps) (given : Checked Balances) (P : Balances → Type 0) → ((left : Balances) → given ≡ Ok left → P left)
+    → (if same_text port transfer_port then (given >>= λ balances. Ok (with_balances apps balances)) else Ok apps) ≡ Ok after
+    → ByPort port apps.balances after.balances P
+by_port apps port after given P says e = go (same_text port transfer_port) refl e
+  where
+    go : (b : Bool) → same_text port transfer_port ≡ b → (if b then (given >>= λ balances. Ok (with_balances apps balances)) else Ok apps) ≡ Ok after
+        → ByPort port apps.balances after.balances P
+    go true is e =
+        let step = bind_passed given _ e in
+        let same : with_balances apps step.0 ≡ after = ok_same step.2 in
+        inl (is, subst (λ (a : Apps). P a.balances) same (says step.0 step.1))
+    go false is e = inr (is, ap (λ (a : Apps). a.balances) (sym (ok_same e)))
+
+pub timed_out_balances : (apps : Apps) (port version : Text) (p : Packet) (after : Apps) → on_timeout port apps version p ≡ Ok after
     → ByPort port apps.balances after.balances (Refunding apps.balances version p)
-timed_out_balances apps port version p after e = go (same_text port transfer_port) refl e
-  where
-    go : (b : Bool) → same_text port transfer_port ≡ b
-        → (if b then (refund_transfer apps.balances version p >>= λ balances. Ok (with_balances apps balances)) else Ok apps) ≡ Ok after
-        → ByPort port apps.balances after.balances (Refunding apps.balances version p)
-    go true is e =
-        let step = bind_passed (refund_transfer apps.balances version p) _ e in
-        let same : with_balances apps step.0 ≡ after = ok_same step.2 in
-        inl (is, subst (λ (a : Apps). Refunding apps.balances version p a.balances) same (refunding apps.balances version p step.0 step.1))
-    go false is e = inr (is, ap (λ (a : Apps). a.balances) (sym (ok_same e)))
+timed_out_balances apps port version p after e =
+    by_port apps port after (refund_transfer apps.balances version p) (Refunding apps.balances version p) (refunding apps.balances version p) e
 
-pub acknowledged_balances : (apps : Apps) (port version : Text) (p : Packet) (ack : Text) (after : Apps) → on_ack apps port version p ack ≡ Ok after
+pub acknowledged_balances : (apps : Apps) (port version : Text) (p : Packet) (ack : Text) (after : Apps) → on_ack port apps version p ack ≡ Ok after
     → ByPort port apps.balances after.balances (Acknowledging apps.balances version p ack)
-acknowledged_balances apps port version p ack after e = go (same_text port transfer_port) refl e
-  where
-    go : (b : Bool) → same_text port transfer_port ≡ b
-        → (if b then (acknowledge_transfer apps.balances version p ack >>= λ balances. Ok (with_balances apps balances)) else Ok apps) ≡ Ok after
-        → ByPort port apps.balances after.balances (Acknowledging apps.balances version p ack)
-    go true is e =
-        let step = bind_passed (acknowledge_transfer apps.balances version p ack) _ e in
-        let same : with_balances apps step.0 ≡ after = ok_same step.2 in
-        inl (is, subst (λ (a : Apps). Acknowledging apps.balances version p ack a.balances) same (acknowledging apps.balances version p ack step.0 step.1))
-    go false is e = inr (is, ap (λ (a : Apps). a.balances) (sym (ok_same e)))
+acknowledged_balances apps port version p ack after e =
+    by_port apps port after (acknowledge_transfer apps.balances version p ack) (Acknowledging apps.balances version p ack) (acknowledging apps.balances version p ack) e
 
-pub received_balances : (records : Records) (port version : Text) (p : Packet) (ack : Text) (after : Apps) → on_recv records port version p ≡ (ack, after)
+pub received_balances : (records : Records) (port version : Text) (p : Packet) (ack : Text) (after : Apps) → on_recv records.core port records.apps version p ≡ (ack, after)
     → ByPort port records.apps.balances after.balances (Taking records.apps.balances (burnt records.core) version p ack)
 received_balances records port version p ack after e = go (same_text port transfer_port) refl e
   where

@@ -6,6 +6,7 @@ use Rattle.std.proofs.lemmas.List.Sums.{sum_by-cons}
 use Rattle.ibc_ids.specs.Texts.{Text, same_text}
 use Rattle.ibc_ids.specs.Maps.{at}
 use Rattle.ibc_ids.specs.Names.{is_user, hop}
+use Rattle.ibc_ids.proofs.Texts.{same_text_itself}
 use Rattle.ibc_wire.specs.declared.token.Token.{Token}
 use Rattle.ibc_machine.specs.Records.{Commitment}
 use Rattle.ibc_machine.specs.TokenData.{amount_of, tokens_of}
@@ -14,7 +15,6 @@ use Rattle.ibc_machine.specs.Transfers.{transfer_port, came_over, each_token, re
 use Rattle.ibc_machine.specs.Totals.{succeeded}
 use Rattle.ibc_machine.specs.Machine.{World}
 use Rattle.ibc_machine.specs.Histories.{Happened, End}
-use Rattle.ibc_laws.proofs.PassedTests.{same_text-self}
 use Rattle.ibc_laws.proofs.Peers.{Peers}
 use Rattle.ibc_machine.proofs.Measures.{Test, IsSorted}
 use Rattle.ibc_laws.proofs.TokenMoves.{refunded_tokens}
@@ -53,7 +53,7 @@ one_amount [] token denom is h = let lt = h.1 in absurd (omega arith)
 one_amount (x ∷ xs) token denom is (zero, lt, e) =
     let first = sum_by-cons (if_of denom) x xs in
     let same = ap (λ (t : Token). if_of denom t) e in
-    let whole = ap (λ b. if b then token.amount else 0) (subst (λ d. same_text token.denom d ≡ true) is (same_text-self token.denom)) in
+    let whole = ap (λ b. if b then token.amount else 0) (subst (λ d. same_text token.denom d ≡ true) is (same_text_itself token.denom)) in
     omega arith
 one_amount (x ∷ xs) token denom is (suc k, lt, e) =
     let first = sum_by-cons (if_of denom) x xs in

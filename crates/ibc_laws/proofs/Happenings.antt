@@ -2,6 +2,7 @@
 use Rattle.std.proofs.Common.{◌≡◌, ℕ, Bool, true, false, refl, ap, ◌∙◌, subst, List, [], ◌∷◌, ◌++◌, Option, Some, None, ◌==◌, cond, filter_map, append-nil, eqb-true}
 use Rattle.std.specs.List.{cons_option}
 use Rattle.ibc_ids.specs.Texts.{Text, same_text}
+use Rattle.ibc_ids.proofs.Texts.{same_text_itself}
 use Rattle.ibc_wire.specs.declared.packet.Packet.{Packet}
 use Rattle.ibc_wire.specs.declared.records.ChannelEnd.{ChannelEnd}
 use Rattle.ibc_machine.specs.Records.{Channel, Commitment}
@@ -11,7 +12,7 @@ use Rattle.ibc_machine.specs.Packets.{is_ordered, after_send, after_receive, aft
 use Rattle.ibc_machine.specs.Machine.{World}
 use Rattle.ibc_machine.specs.Ledgers.{chain_of}
 use Rattle.ibc_machine.specs.Histories.{Happened, End, is_end, packet_if, packet_from, sent_by, received_by, acknowledged_by, timed_out_by, sent, received, acknowledged, timed_out, history_of, sequences}
-use Rattle.ibc_laws.proofs.PassedTests.{and_true, same_text-self, number-self}
+use Rattle.ibc_laws.proofs.PassedTests.{and_true, number-self}
 use Rattle.ibc_laws.proofs.Lists.{filter-append, filter_map-append}
 use Rattle.ibc_laws.proofs.Told.{Told, Sent, Received, TimedOut, told_of, is_told, sent_in, received_in, acknowledged_in, timed_out_in}
 use Rattle.ibc_laws.proofs.CoreSteps.{ChannelStep, answers, follows, closes, sends, receives, acknowledges, times_out, Receives, Acks, TimesOut}
@@ -55,8 +56,8 @@ sequences-push ps p = sequences-append ps (p ∷ [])
 at_itself : (e : End) (port channel : Text) (p : Packet) → port ≡ e.port → channel ≡ e.channel
     → packet_if (is_end e port channel) p ≡ Some p
 at_itself e port channel p is_port is_channel = ap (λ b. packet_if b p) (and_true
-    (subst (λ x. same_text port x ≡ true) is_port (same_text-self port))
-    (subst (λ x. same_text channel x ≡ true) is_channel (same_text-self channel)))
+    (subst (λ x. same_text port x ≡ true) is_port (same_text_itself port))
+    (subst (λ x. same_text channel x ≡ true) is_channel (same_text_itself channel)))
 
 module _ (chains : ℕ) (w : World) (hs : List Happened) (h : Happened) (v : World) (e : End) where
   -- the packets that the end has sent

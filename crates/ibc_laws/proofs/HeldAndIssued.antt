@@ -12,19 +12,20 @@ use Rattle.ibc_wire.specs.declared.token.Token.{Token}
 use Rattle.ibc_machine.specs.TokenData.{amount_of}
 use Rattle.ibc_machine.specs.Bank.{Balances, balance, escrow}
 use Rattle.ibc_machine.specs.Transfers.{transfer_port, came_over}
-use Rattle.ibc_laws.proofs.PassedTests.{both, and_true, same_text_is, same_text-self}
+use Rattle.ibc_laws.proofs.PassedTests.{both, and_true}
 use Rattle.ibc_machine.proofs.FiniteMaps.{by_pair}
 use Rattle.ibc_machine.proofs.Measures.{Test, IsSorted, amount_in, measure, weigh}
 use Rattle.ibc_laws.proofs.TokenMoves.{unless_burnt}
 use Rattle.ibc_laws.proofs.FlightSums.{sums-differ}
 use Rattle.ibc_ids.proofs.Hops.{came_over_is, came_over_by}
+use Rattle.ibc_ids.proofs.Texts.{text_same, same_text_itself}
 use Rattle.ibc_laws.proofs.Hops.{HasNoSlash, same_hop, came_over_one, escrow_is_no_user, escrow_same}
 
 pub differ : (a b : Text) → (a ≡ b → ⊥) → same_text a b ≡ false
 differ a b other = go (same_text a b) refl
   where
     go : (t : Bool) → same_text a b ≡ t → same_text a b ≡ false
-    go true is = absurd (other (same_text_is a b is))
+    go true is = absurd (other (text_same a b is))
     go false is = is
 
 -- ---- sums
@@ -58,13 +59,13 @@ abbrev pub at_key : Text → Text → Test
 at_key holder denom key = same_text key.0 holder && same_text key.1 denom
 
 at_key-self : (holder denom : Text) → at_key holder denom (holder, denom) ≡ true
-at_key-self holder denom = and_true (same_text-self holder) (same_text-self denom)
+at_key-self holder denom = and_true (same_text_itself holder) (same_text_itself denom)
 
 at_key-is : (holder denom : Text) (key : Text × Text) → at_key holder denom key ≡ true → key ≡ (holder, denom)
 at_key-is holder denom key e =
     let parts = both (same_text key.0 holder) (same_text key.1 denom) e in
-    let h = same_text_is key.0 holder parts.0 in
-    let d = same_text_is key.1 denom parts.1 in
+    let h = text_same key.0 holder parts.0 in
+    let d = text_same key.1 denom parts.1 in
     λ i. (h i, d i)
 
 abbrev no_amount : (Text × Text) × ℕ → ℕ
@@ -107,7 +108,7 @@ escrowed_as channel denom = at_key (escrow channel) denom
 
 -- in its own escrow
 pub weigh_escrow : (channel denom : Text) (token : Token) → weigh (escrowed_as channel denom) (escrow channel) token ≡ if_of denom token
-weigh_escrow channel denom token = ap (λ t. if t && same_text token.denom denom then token.amount else 0) (same_text-self (escrow channel))
+weigh_escrow channel denom token = ap (λ t. if t && same_text token.denom denom then token.amount else 0) (same_text_itself (escrow channel))
 
 -- anywhere else it weighs nothing there
 weigh_apart : (channel denom holder : Text) (token : Token) → (holder ≡ escrow channel → ⊥) → weigh (escrowed_as channel denom) holder token ≡ 0
@@ -142,7 +143,7 @@ unburnt_sum port channel denom tokens = go (came_over port channel denom) refl
 
         by : (t : Bool) → same_text token.denom denom ≡ t
             → (if came_over port channel token.denom then 0 else (if t then token.amount else 0)) ≡ (if p then 0 else (if t then token.amount else 0))
-        by true same = ap (λ q. if q then 0 else token.amount) (ap (λ d. came_over port channel d) (same_text_is token.denom denom same) ∙ is)
+        by true same = ap (λ q. if q then 0 else token.amount) (ap (λ d. came_over port channel d) (text_same token.denom denom same) ∙ is)
         by false other = nothing (came_over port channel token.denom) p
 
     go : (p : Bool) → came_over port channel denom ≡ p
@@ -183,15 +184,15 @@ home_is port channel denom token = go (came_over port channel token.denom) refl
     longer came true true is was = refl
     longer came true false is was =
         let same : token.denom ≡ whole = came_over_is port channel token.denom came
-        ∙ ap (λ x. hop port channel ++ x) (same_text_is (drop (length (hop port channel)) token.denom) denom is) in
-        absurd (cc (was, subst (λ x. same_text token.denom x ≡ true) same (same_text-self token.denom)))
+        ∙ ap (λ x. hop port channel ++ x) (text_same (drop (length (hop port channel)) token.denom) denom is) in
+        absurd (cc (was, subst (λ x. same_text token.denom x ≡ true) same (same_text_itself token.denom)))
     longer came false true is was =
         let same : drop (length (hop port channel)) token.denom ≡ denom =
-        ap (λ x. drop (length (hop port channel)) x) (same_text_is token.denom whole was) ∙ drop-append_seam (hop port channel) denom in
+        ap (λ x. drop (length (hop port channel)) x) (text_same token.denom whole was) ∙ drop-append_seam (hop port channel) denom in
         absurd (cc (
           is,
           subst (λ x. same_text (drop (length (hop port channel)) token.denom) x ≡ true) same
-              (same_text-self (drop (length (hop port channel)) token.denom)),
+              (same_text_itself (drop (length (hop port channel)) token.denom)),
         ))
     longer came false false is was = refl
 
@@ -201,7 +202,7 @@ home_is port channel denom token = go (came_over port channel token.denom) refl
     go false came = by (same_text token.denom whole) refl
       where
         by : (u : Bool) → same_text token.denom whole ≡ u → ◌≡◌ {A = ℕ} 0 (if u then token.amount else 0)
-        by true was = absurd (cc (came, subst (λ x. came_over port channel x ≡ true) (sym (same_text_is token.denom whole was)) (came_over_by port channel denom)))
+        by true was = absurd (cc (came, subst (λ x. came_over port channel x ≡ true) (sym (text_same token.denom whole was)) (came_over_by port channel denom)))
         by false was = refl
 
 -- a token that gets a hop of one channel is of a denomination with the hop of another only where they are the same
@@ -214,14 +215,14 @@ hopped_here channel denom token clear = go (same_text (hop transfer_port channel
     go true true is was = refl
     go false false is was = refl
     go true false is was =
-        let same = (hop_same channel channel token.denom denom clear clear (same_text_is (hop transfer_port channel ++ token.denom) _ is)).1 in
-        absurd (cc (was, subst (λ x. same_text token.denom x ≡ true) same (same_text-self token.denom)))
+        let same = (hop_same channel channel token.denom denom clear clear (text_same (hop transfer_port channel ++ token.denom) _ is)).1 in
+        absurd (cc (was, subst (λ x. same_text token.denom x ≡ true) same (same_text_itself token.denom)))
     go false true is was =
-        let same = same_text_is token.denom denom was in
+        let same = text_same token.denom denom was in
         absurd (cc (
           is,
           subst (λ x. same_text (hop transfer_port channel ++ token.denom) (hop transfer_port channel ++ x) ≡ true) same
-              (same_text-self (hop transfer_port channel ++ token.denom)),
+              (same_text_itself (hop transfer_port channel ++ token.denom)),
         ))
 
 pub hopped_elsewhere : (channel other denom : Text) (token : Token) → HasNoSlash channel → HasNoSlash other → (channel ≡ other → ⊥)

@@ -15,10 +15,10 @@ use Rattle.ibc_machine.specs.declared.event.Event.TheVariants as event
 use Rattle.ibc_machine.specs.declared.reply.Effect.{Effect}
 use Rattle.ibc_machine.specs.declared.reply.Reply.{Reply}
 use Rattle.ibc_machine.specs.declared.reply.Reply.TheVariants as reply
-use Rattle.ibc_machine.specs.Records.{Core, Apps, Records, Chain, Channel, channel_at, commitment_of}
+use Rattle.ibc_machine.specs.Records.{Core, Apps, Chain, Channel, channel_at, commitment_of}
 use Rattle.ibc_machine.specs.Checks.{Checked}
 use Rattle.ibc_machine.specs.Evidence.{Host, Evidence}
-use Rattle.ibc_machine.specs.Handlers.{handle, both_step, host_of, after_message, message_answer}
+use Rattle.ibc_machine.specs.Handlers.{handle, host_of, after_message, message_answer}
 use Rattle.ibc_machine.specs.Packets.{ack_checked, ack_packet, timeout_checked, timeout, timeout_on_close_checked, timeout_on_close}
 use Rattle.ibc_machine.specs.TokenData.{success}
 use Rattle.ibc_machine.specs.Transfers.{transfer_port, each_token, refund_token}
@@ -43,12 +43,6 @@ use Rattle.ibc_laws.proofs.PairSteps.{balances_at}
 use Rattle.ibc_laws.proofs.FourthLaw.{Conserving, conserving_start, conserving_step}
 use Rattle.ibc_laws.proofs.EscrowsHold.{refund_is_held, refunds_all}
 use Rattle.ibc_laws.proofs.RefusedAsPoor.{bind_poor, bind_other, ack_checked_other, timeout_checked_other, timeout_on_close_checked_other, LacksRefund, timeout_lacks, ack_lacks}
-
-both_poor : (checked : Checked (Effect × Core × Apps)) → both_step checked ≡ Err refusal.Poor → checked ≡ Err refusal.Poor
-both_poor checked e = elim (bind_poor checked _ e) [
-  | inl poor ↦ poor
-  | inr h ↦ absurd (cc (h.2))
-]
 
 -- ---- a packet under way is refunded
 
@@ -85,15 +79,15 @@ module _ (hs : List Happened) (w : World) (all : Conserving hs w) (chains : ℕ)
   abbrev standing : (q : Packet) (mine : Channel) → channel_at c.records.core q.source_port q.source_channel ≡ Some mine → Stands w (source q) mine
   standing q mine found = record { chain = c; there = there; is = found }
 
-  ack_refunds : (m : AckPacket) → ack_packet (on_ack c.records.apps m.packet.source_port) evidence c.records.core m ≡ Err refusal.Poor → ⊥
+  ack_refunds : (m : AckPacket) → ack_packet (on_ack m.packet.source_port) m evidence host c.records.core c.records.apps ≡ Err refusal.Poor → ⊥
   unfolding ack_packet
   ack_refunds m e =
       let q : Packet = m.packet in
-      let checked = bind_other (ack_checked evidence c.records.core m) _ (ack_checked_other evidence c.records.core m) e in
+      let checked = bind_other (ack_checked m evidence host c.records.core) _ (ack_checked_other evidence host c.records.core m) e in
       let mine : Channel = checked.0 in
       let passed = acking window oldest w host c.records.core m mine checked.1 in
       let was = standing q mine passed.0 in
-      elim (bind_poor (on_ack c.records.apps q.source_port mine.end.version q m.ack) _ checked.2) [
+      elim (bind_poor (on_ack q.source_port c.records.apps mine.end.version q m.ack) _ checked.2) [
         | inl poor ↦ (
             let lacks = ack_lacks c.records.apps q.source_port mine.end.version q m.ack poor in
             let found = peer hs w all chains (source q) mine was lacks.0 q refl passed.1.settles in
@@ -106,7 +100,7 @@ module _ (hs : List Happened) (w : World) (all : Conserving hs w) (chains : ℕ)
 
   -- a timeout's checks have passed, and the application refuses
   over_refunds : (q : Packet) (mine : Channel) → channel_at c.records.core q.source_port q.source_channel ≡ Some mine
-      → TimesOut w c.records.core q.source_port q.source_channel mine q → on_timeout c.records.apps q.source_port mine.end.version q ≡ Err refusal.Poor → ⊥
+      → TimesOut w c.records.core q.source_port q.source_channel mine q → on_timeout q.source_port c.records.apps mine.end.version q ≡ Err refusal.Poor → ⊥
   over_refunds q mine found s poor =
       let was = standing q mine found in
       let lacks = timeout_lacks c.records.apps q.source_port mine.end.version q poor in
@@ -114,38 +108,38 @@ module _ (hs : List Happened) (w : World) (all : Conserving hs w) (chains : ℕ)
       can_refund hs w all chains (source q) mine was lacks.0 q refl s.settles
       (not_acknowledged hs w all.known chains (source q) other.other (peers_of w (source q) mine was other) q s) lacks.1
 
-  timeout_refunds : (m : Timeout) → timeout (on_timeout c.records.apps m.packet.source_port) evidence c.records.core m ≡ Err refusal.Poor → ⊥
+  timeout_refunds : (m : Timeout) → timeout (on_timeout m.packet.source_port) m evidence host c.records.core c.records.apps ≡ Err refusal.Poor → ⊥
   unfolding timeout
   timeout_refunds m e =
-      let checked = bind_other (timeout_checked evidence c.records.core m) _ (timeout_checked_other evidence c.records.core m) e in
+      let checked = bind_other (timeout_checked m evidence host c.records.core) _ (timeout_checked_other evidence host c.records.core m) e in
       let passed = timing_out window oldest w host c.records.core m checked.0 checked.1 in
-      elim (bind_poor (on_timeout c.records.apps m.packet.source_port checked.0.end.version m.packet) _ checked.2) [
+      elim (bind_poor (on_timeout m.packet.source_port c.records.apps checked.0.end.version m.packet) _ checked.2) [
         | inl poor ↦ over_refunds m.packet checked.0 passed.0 passed.1 poor
         | inr h ↦ absurd (cc (h.2))
       ]
 
-  timeout_on_close_refunds : (m : TimeoutOnClose) → timeout_on_close (on_timeout c.records.apps m.packet.source_port) evidence c.records.core m ≡ Err refusal.Poor → ⊥
+  timeout_on_close_refunds : (m : TimeoutOnClose) → timeout_on_close (on_timeout m.packet.source_port) m evidence host c.records.core c.records.apps ≡ Err refusal.Poor → ⊥
   unfolding timeout_on_close
   timeout_on_close_refunds m e =
-      let checked = bind_other (timeout_on_close_checked evidence c.records.core m) _ (timeout_on_close_checked_other evidence c.records.core m) e in
+      let checked = bind_other (timeout_on_close_checked m evidence host c.records.core) _ (timeout_on_close_checked_other evidence host c.records.core m) e in
       let passed = timing_out_on_close window oldest w host c.records.core m checked.0 checked.1 in
-      elim (bind_poor (on_timeout c.records.apps m.packet.source_port checked.0.end.version m.packet) _ checked.2) [
+      elim (bind_poor (on_timeout m.packet.source_port c.records.apps checked.0.end.version m.packet) _ checked.2) [
         | inl poor ↦ over_refunds m.packet checked.0 passed.0 passed.1 poor
         | inr h ↦ absurd (cc (h.2))
       ]
 
-  handled : (m : Message) → settles (event.Message k m) ≡ true → handle evidence host c.records m ≡ Err refusal.Poor → ⊥
+  handled : (m : Message) → settles (event.Message k m) ≡ true → handle m evidence host c.records.core c.records.apps ≡ Err refusal.Poor → ⊥
   unfolding handle
-  handled (message.AckPacket m) is e = ack_refunds m (both_poor _ e)
-  handled (message.Timeout m) is e = timeout_refunds m (both_poor _ e)
-  handled (message.TimeoutOnClose m) is e = timeout_on_close_refunds m (both_poor _ e)
+  handled (message.AckPacket m) is e = ack_refunds m e
+  handled (message.Timeout m) is e = timeout_refunds m e
+  handled (message.TimeoutOnClose m) is e = timeout_on_close_refunds m e
   handled _ is e = absurd (cc is)
 
 -- ---- every step, and every run
 
 module _ (genesis : GenesisState) (hs : List Happened) (w : World) (all : Conserving hs w) where
-  refused : (m : Message) (k : ℕ) → settles (event.Message k m) ≡ true → (oldest : Bool) (c : Chain) → slice_get w k ≡ Some c → (o : Checked (Effect × Records))
-      → handle (seeing genesis.window oldest w c.records.core) (host_of (length genesis.chains) k c) c.records m ≡ o
+  refused : (m : Message) (k : ℕ) → settles (event.Message k m) ≡ true → (oldest : Bool) (c : Chain) → slice_get w k ≡ Some c → (o : Checked (Effect × Core × Apps))
+      → handle m (seeing genesis.window oldest w c.records.core) (host_of (length genesis.chains) k c) c.records.core c.records.apps ≡ o
       → (after_message c o).0 ≡ reply.No refusal.Poor → ⊥
   refused m k is oldest c there (Ok y) handled_so e = absurd (cc e)
   refused m k is oldest c there (Err why) handled_so e =
@@ -158,7 +152,7 @@ module _ (genesis : GenesisState) (hs : List Happened) (w : World) (all : Conser
     where
       go : (o : Option Chain) → slice_get w k ≡ o
           → at_chain w k (λ (chain : Chain). message_answer (looks true_marks genesis.window oldest w chain.records.core) (length genesis.chains) k chain m) o ≡ (reply.No refusal.Poor, v) → ⊥
-      go (Some c) there e = refused m k is oldest c there (handle (seeing genesis.window oldest w c.records.core) (host_of (length genesis.chains) k c) c.records m) refl
+      go (Some c) there e = refused m k is oldest c there (handle m (seeing genesis.window oldest w c.records.core) (host_of (length genesis.chains) k c) c.records.core c.records.apps) refl
           (ap (λ (x : Reply × World). x.0) e)
       go None there e = absurd (cc (ap (λ (x : Reply × World). x.0) e))
   answered (event.Block k t) is oldest v e = absurd (cc is)

@@ -18,7 +18,7 @@ use Rattle.ibc_machine.specs.Machine.{World}
 use Rattle.ibc_machine.specs.Ledgers.{chain_of}
 use Rattle.ibc_machine.specs.Histories.{Happened, End, packet_if, is_destination}
 use Rattle.ibc_machine.specs.Laws.{NeverShort}
-use Rattle.ibc_laws.proofs.PassedTests.{and_true, same_text-self}
+use Rattle.ibc_laws.proofs.PassedTests.{and_true}
 use Rattle.ibc_laws.proofs.Told.{Told, Received, told_of, received_in}
 use Rattle.ibc_laws.proofs.CoreSteps.{rank, ChannelStep, answers, follows, closes, sends, receives, acknowledges, times_out, Receives}
 use Rattle.ibc_laws.proofs.EndSteps.{open_rank}
@@ -27,6 +27,7 @@ use Rattle.ibc_laws.proofs.AtEnds.{EndStep, untouched, opened, stepped, at_end}
 use Rattle.ibc_laws.proofs.Peers.{Stands, Peers, stands, stands_same}
 use Rattle.ibc_laws.proofs.FirstLaw.{peer_of, peers_of}
 use Rattle.ibc_ids.proofs.Hops.{came_over_is}
+use Rattle.ibc_ids.proofs.Texts.{same_text_itself}
 use Rattle.ibc_laws.proofs.Ports.{transfer_peer}
 use Rattle.ibc_laws.proofs.TokenEffects.{tokens_read}
 use Rattle.ibc_laws.proofs.PeerFacts.{still_committed, not_yet, from_port, from_channel}
@@ -90,7 +91,7 @@ never_short genesis happened world after chain m given mine d token past typed s
     let all = conserving_of_past genesis happened world past in
     let chains : ℕ = length genesis.chains in
     let e : End = record { chain = chain; port = transfer_port; channel = m.packet.destination_channel } in
-    let here = and_true (subst (λ q. same_text m.packet.destination_port q ≡ true) port (same_text-self m.packet.destination_port)) (same_text-self m.packet.destination_channel) in
+    let here = and_true (subst (λ q. same_text m.packet.destination_port q ≡ true) port (same_text_itself m.packet.destination_port)) (same_text_itself m.packet.destination_channel) in
     let did = did_step genesis world (event.Message chain (message.RecvPacket m), reply.Ok given) after step in
     let r = receiver chains world (event.Message chain (message.RecvPacket m), reply.Ok given) after e m.packet refl refl here (at_end chains world _ after all.known.once.inv did e) in
     let same : mine ≡ r.mine = stands_same e mine r.mine (stands world e mine is) r.was in

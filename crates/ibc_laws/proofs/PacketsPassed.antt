@@ -11,18 +11,18 @@ use Rattle.ibc_wire.specs.declared.messages.RecvPacket.{RecvPacket}
 use Rattle.ibc_wire.specs.declared.messages.AckPacket.{AckPacket}
 use Rattle.ibc_wire.specs.declared.messages.Timeout.{Timeout}
 use Rattle.ibc_wire.specs.declared.messages.TimeoutOnClose.{TimeoutOnClose}
-use Rattle.ibc_machine.specs.declared.reply.Effect.{Effect}
 use Rattle.ibc_machine.specs.Records.{Core, Apps, Records, Block, Client, Channel, Commitment, channel_at, is_one_of, commitment_of}
 use Rattle.ibc_machine.specs.Values.{NumberIs, has, lacks}
-use Rattle.ibc_machine.specs.Evidence.{Host}
+use Rattle.ibc_machine.specs.Evidence.{Host, Evidence}
 use Rattle.ibc_machine.specs.Channels.{is_in_state, is_established, client_of}
 use Rattle.ibc_machine.specs.Packets.{recv_checked, recv_packet, ack_checked, ack_packet, timeout_checked, timeout, timeout_on_close_checked, timeout_on_close, is_ordered, is_timed_out, not_received, waits_for}
 use Rattle.ibc_machine.specs.Applications.{on_recv, on_ack, on_timeout}
 use Rattle.ibc_machine.specs.Machine.{World, block_at}
 use Rattle.ibc_laws.proofs.Places.{some_is}
 use Rattle.ibc_machine.proofs.PacketChecks.{IsUnsettled, recv_passed, ack_passed, timeout_passed, timeout_on_close_passed}
-use Rattle.ibc_machine.proofs.PassedRows.{bind_passed, ok_same}
-use Rattle.ibc_laws.proofs.PassedTests.{either, same_channel_state_is, no_longer}
+use Rattle.ibc_machine.proofs.PassedRows.{Gives, gives_ok, gives_bind}
+use Rattle.ibc_machine.proofs.SameValues.{same_channel_state_is}
+use Rattle.ibc_laws.proofs.PassedTests.{either, no_longer}
 use Rattle.ibc_laws.proofs.Seen.{Sees, Sees-map, Sees-both, seeing, shown_channel, shown_next_recv, shown_commitment, shown_ack, shown_no_receipt}
 use Rattle.ibc_laws.proofs.CoreSteps.{rank, their_end, HadNotReceived, Receives, Settles, Acks, TimesOut, changes_channel, receives, acknowledges, times_out}
 use Rattle.ibc_laws.proofs.AppSteps.{DidBoth}
@@ -90,7 +90,7 @@ settles core p mine stands opened = record {
 }
 
 module _ (window : ℕ) (oldest : Bool) (w : World) (host : Host) (core : Core) where
-  receiving : (m : RecvPacket) (mine : Channel) → recv_checked (seeing window oldest w core) host core m ≡ Ok mine
+  receiving : (m : RecvPacket) (mine : Channel) → recv_checked m (seeing window oldest w core) host core ≡ Ok mine
       → (channel_at core m.packet.destination_port m.packet.destination_channel ≡ Some mine)
       × Receives w host core m.packet.destination_port m.packet.destination_channel mine m.packet
   receiving m mine e =
@@ -100,22 +100,22 @@ module _ (window : ℕ) (oldest : Bool) (w : World) (host : Host) (core : Core) 
         record {
           to_port = refl;
           to_channel = refl;
-          state = same_channel_state_is mine.end.state chan.Open passed.state;
-          peer = passed.peer;
-          in_time = no_longer _ passed.in_time;
-          fresh = no_longer _ passed.fresh;
-          in_order = no_longer _ passed.in_order;
+          state = same_channel_state_is mine.end.state chan.Open passed.may.state;
+          peer = passed.may.peer;
+          in_time = no_longer _ passed.may.in_time;
+          fresh = no_longer _ passed.may.fresh;
+          in_order = no_longer _ passed.may.in_order;
           height = m.height;
           sees = shown_commitment window oldest w core (client_of core mine.end.connection) m.height p.source_port p.source_channel p.sequence (commitment_of p) m.proof passed.sent;
         },
       )
 
-  pub acking : (m : AckPacket) (mine : Channel) → ack_checked (seeing window oldest w core) core m ≡ Ok mine
+  pub acking : (m : AckPacket) (mine : Channel) → ack_checked m (seeing window oldest w core) host core ≡ Ok mine
       → (channel_at core m.packet.source_port m.packet.source_channel ≡ Some mine)
       × (s : Acks w core m.packet.source_port m.packet.source_channel mine m.packet) × (s.ack ≡ m.ack)
   acking m mine e =
       let p : Packet = m.packet in
-      let passed = ack_passed (seeing window oldest w core) core m mine e in (
+      let passed = ack_passed (seeing window oldest w core) host core m mine e in (
         passed.unsettled.there,
         record {
           settles = settles core p mine passed.unsettled (open_rank mine.end.state (same_channel_state_is mine.end.state chan.Open passed.state));
@@ -126,13 +126,13 @@ module _ (window : ℕ) (oldest : Bool) (w : World) (host : Host) (core : Core) 
         refl,
       )
 
-  pub timing_out : (m : Timeout) (mine : Channel) → timeout_checked (seeing window oldest w core) core m ≡ Ok mine
+  pub timing_out : (m : Timeout) (mine : Channel) → timeout_checked m (seeing window oldest w core) host core ≡ Ok mine
       → (channel_at core m.packet.source_port m.packet.source_channel ≡ Some mine)
       × TimesOut w core m.packet.source_port m.packet.source_channel mine m.packet
   timing_out m mine e =
       let p : Packet = m.packet in
       let client : Text = client_of core mine.end.connection in
-      let passed = timeout_passed (seeing window oldest w core) core m mine e in (
+      let passed = timeout_passed (seeing window oldest w core) host core m mine e in (
         passed.unsettled.there,
         record {
           settles = settles core p mine passed.unsettled (established_rank mine passed.state);
@@ -143,13 +143,13 @@ module _ (window : ℕ) (oldest : Bool) (w : World) (host : Host) (core : Core) 
       )
 
   pub timing_out_on_close : (m : TimeoutOnClose) (mine : Channel)
-      → timeout_on_close_checked (seeing window oldest w core) core m ≡ Ok mine
+      → timeout_on_close_checked m (seeing window oldest w core) host core ≡ Ok mine
       → (channel_at core m.packet.source_port m.packet.source_channel ≡ Some mine)
       × TimesOut w core m.packet.source_port m.packet.source_channel mine m.packet
   timing_out_on_close m mine e =
       let p : Packet = m.packet in
       let client : Text = client_of core mine.end.connection in
-      let passed = timeout_on_close_passed (seeing window oldest w core) core m mine e in (
+      let passed = timeout_on_close_passed (seeing window oldest w core) host core m mine e in (
         passed.unsettled.there,
         record {
           settles = settles core p mine passed.unsettled (established_rank mine passed.state);
@@ -164,57 +164,50 @@ module _ (window : ℕ) (oldest : Bool) (w : World) (host : Host) (core : Core) 
 -- ---- the four messages
 
 module _ (window : ℕ) (oldest : Bool) (w : World) (host : Host) (records : Records) where
-  pub recv_packet_did : (m : RecvPacket) (y : Effect × Core × Apps)
-      → recv_packet (on_recv records m.packet.destination_port) (seeing window oldest w records.core) host records.core m ≡ Ok y
-      → DidBoth w host records (message.RecvPacket m) y
+  -- what its clients see of other chains
+  abbrev evidence : Evidence
+  evidence = seeing window oldest w records.core
+
+  pub recv_packet_did : (m : RecvPacket) → Gives (DidBoth w host records (message.RecvPacket m))
+      (recv_packet (on_recv records.core m.packet.destination_port) m evidence host records.core records.apps)
   unfolding recv_packet
-  recv_packet_did m y e =
+  recv_packet_did m =
+      gives_bind _ _ λ (mine : Channel) checked.
       let p : Packet = m.packet in
-      let checked = bind_passed (recv_checked (seeing window oldest w records.core) host records.core m) _ e in
-      let mine : Channel = checked.0 in
-      let passed = receiving window oldest w host records.core m mine checked.1 in
-      let did : Text × Apps = on_recv records p.destination_port mine.end.version p in
-      subst (DidBoth w host records (message.RecvPacket m)) (ok_same checked.2)
+      let passed = receiving window oldest w host records.core m mine checked in
+      let did : Text × Apps = on_recv records.core p.destination_port records.apps mine.end.version p in
+      gives_ok (DidBoth w host records (message.RecvPacket m)) _
       (changes_channel _ p.destination_port p.destination_channel mine _ passed.0 (receives p did.0 passed.1), refl, λ typed. tt)
 
-  pub ack_packet_did : (m : AckPacket) (y : Effect × Core × Apps)
-      → ack_packet (on_ack records.apps m.packet.source_port) (seeing window oldest w records.core) records.core m ≡ Ok y
-      → DidBoth w host records (message.AckPacket m) y
+  pub ack_packet_did : (m : AckPacket) → Gives (DidBoth w host records (message.AckPacket m))
+      (ack_packet (on_ack m.packet.source_port) m evidence host records.core records.apps)
   unfolding ack_packet
-  ack_packet_did m y e =
+  ack_packet_did m =
+      gives_bind _ _ λ (mine : Channel) checked. gives_bind _ _ λ (left : Apps) answered.
       let p : Packet = m.packet in
-      let checked = bind_passed (ack_checked (seeing window oldest w records.core) records.core m) _ e in
-      let mine : Channel = checked.0 in
-      let app = bind_passed (on_ack records.apps p.source_port mine.end.version p m.ack) _ checked.2 in
-      let passed = acking window oldest w host records.core m mine checked.1 in
-      subst (DidBoth w host records (message.AckPacket m)) (ok_same app.2) (
+      let passed = acking window oldest w host records.core m mine checked in
+      gives_ok (DidBoth w host records (message.AckPacket m)) _ (
         changes_channel _ p.source_port p.source_channel mine _ passed.0 (acknowledges p passed.1),
-        subst (λ ack. on_ack records.apps p.source_port mine.end.version p ack ≡ Ok app.0) (sym passed.2) app.1,
+        subst (λ ack. on_ack p.source_port records.apps mine.end.version p ack ≡ Ok left) (sym passed.2) answered,
         λ typed. tt,
       )
 
-  pub timeout_did : (m : Timeout) (y : Effect × Core × Apps)
-      → timeout (on_timeout records.apps m.packet.source_port) (seeing window oldest w records.core) records.core m ≡ Ok y
-      → DidBoth w host records (message.Timeout m) y
+  pub timeout_did : (m : Timeout) → Gives (DidBoth w host records (message.Timeout m))
+      (timeout (on_timeout m.packet.source_port) m evidence host records.core records.apps)
   unfolding timeout
-  timeout_did m y e =
+  timeout_did m =
+      gives_bind _ _ λ (mine : Channel) checked. gives_bind _ _ λ (left : Apps) answered.
       let p : Packet = m.packet in
-      let checked = bind_passed (timeout_checked (seeing window oldest w records.core) records.core m) _ e in
-      let mine : Channel = checked.0 in
-      let app = bind_passed (on_timeout records.apps p.source_port mine.end.version p) _ checked.2 in
-      let passed = timing_out window oldest w host records.core m mine checked.1 in
-      subst (DidBoth w host records (message.Timeout m)) (ok_same app.2)
-      (changes_channel _ p.source_port p.source_channel mine _ passed.0 (times_out p passed.1), app.1, λ typed. tt)
+      let passed = timing_out window oldest w host records.core m mine checked in
+      gives_ok (DidBoth w host records (message.Timeout m)) _
+      (changes_channel _ p.source_port p.source_channel mine _ passed.0 (times_out p passed.1), answered, λ typed. tt)
 
-  pub timeout_on_close_did : (m : TimeoutOnClose) (y : Effect × Core × Apps)
-      → timeout_on_close (on_timeout records.apps m.packet.source_port) (seeing window oldest w records.core) records.core m ≡ Ok y
-      → DidBoth w host records (message.TimeoutOnClose m) y
+  pub timeout_on_close_did : (m : TimeoutOnClose) → Gives (DidBoth w host records (message.TimeoutOnClose m))
+      (timeout_on_close (on_timeout m.packet.source_port) m evidence host records.core records.apps)
   unfolding timeout_on_close
-  timeout_on_close_did m y e =
+  timeout_on_close_did m =
+      gives_bind _ _ λ (mine : Channel) checked. gives_bind _ _ λ (left : Apps) answered.
       let p : Packet = m.packet in
-      let checked = bind_passed (timeout_on_close_checked (seeing window oldest w records.core) records.core m) _ e in
-      let mine : Channel = checked.0 in
-      let app = bind_passed (on_timeout records.apps p.source_port mine.end.version p) _ checked.2 in
-      let passed = timing_out_on_close window oldest w host records.core m mine checked.1 in
-      subst (DidBoth w host records (message.TimeoutOnClose m)) (ok_same app.2)
-      (changes_channel _ p.source_port p.source_channel mine _ passed.0 (times_out p passed.1), app.1, λ typed. tt)
+      let passed = timing_out_on_close window oldest w host records.core m mine checked in
+      gives_ok (DidBoth w host records (message.TimeoutOnClose m)) _
+      (changes_channel _ p.source_port p.source_channel mine _ passed.0 (times_out p passed.1), answered, λ typed. tt)

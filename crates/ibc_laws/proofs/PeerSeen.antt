@@ -3,6 +3,7 @@
 use Rattle.std.proofs.Common.{◌≡◌, ℕ, ◌≤◌, ◌<◌, true, ap, sym, ◌∙◌, subst, Option, Some, [], slice_get}
 use Rattle.std.specs.Option.{option_map_or}
 use Rattle.ibc_ids.specs.Texts.{Text, same_text}
+use Rattle.ibc_ids.proofs.Texts.{text_same}
 use Rattle.ibc_wire.specs.declared.records.ConnectionEnd.{ConnectionEnd}
 use Rattle.ibc_machine.specs.Records.{Core, Block, Chain, Client, Channel, client_at, channel_at}
 use Rattle.ibc_machine.specs.Values.{same_optional}
@@ -11,7 +12,8 @@ use Rattle.ibc_machine.specs.Channels.{client_of}
 use Rattle.ibc_machine.specs.Packets.{has_peer}
 use Rattle.ibc_machine.specs.Machine.{World, block_of}
 use Rattle.ibc_machine.specs.Histories.{End}
-use Rattle.ibc_laws.proofs.PassedTests.{both, same_text_is, same_optional_is}
+use Rattle.ibc_machine.proofs.SameValues.{same_optional_is}
+use Rattle.ibc_laws.proofs.PassedTests.{both}
 use Rattle.ibc_laws.proofs.Places.{some_is}
 use Rattle.ibc_laws.proofs.CoreSteps.{rank, SeesPeer}
 use Rattle.ibc_laws.proofs.Growth.{ChannelGrows, Grows}
@@ -40,7 +42,7 @@ peer_seen w inv e mine here ranks port channel named height P sees =
     let peer = peer_of w inv e mine here ranks in
     let names = peer.names_them in
     let tests = both (same_text port mine.end.peer_port) (same_optional mine.end.peer_channel (Some channel)) named in
-    let port_is : port ≡ peer.other.port = same_text_is port mine.end.peer_port tests.0 ∙ sym names.port in
+    let port_is : port ≡ peer.other.port = text_same port mine.end.peer_port tests.0 ∙ sym names.port in
     let channel_is : channel ≡ peer.other.channel =
     some_is (same_optional_is mine.end.peer_channel (Some channel) tests.1) names.channel in
     let client : client_of core mine.end.connection ≡ names.connection.client =

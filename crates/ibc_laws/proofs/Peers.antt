@@ -3,6 +3,7 @@
 use Rattle.std.proofs.Common.{◌≡◌, ◌≤◌, Bool, true, false, refl, ap, sym, ◌∙◌, subst, Option, Some, None, inl, inr, arith, slice_get, ◌&&◌, ◌||◌, ◌==◌, option_map, eqb-true}
 use Rattle.std.specs.Option.{option_map_or, option_and_then}
 use Rattle.ibc_ids.specs.Texts.{Text, same_text}
+use Rattle.ibc_ids.proofs.Texts.{text_same, same_text_itself}
 use Rattle.ibc_wire.specs.declared.records.ConnectionEnd.{ConnectionEnd}
 use Rattle.ibc_wire.specs.declared.records.ChannelState.TheVariants as chan
 use Rattle.ibc_wire.specs.declared.records.ChannelState.{ChannelState}
@@ -13,7 +14,8 @@ use Rattle.ibc_machine.specs.Packets.{has_peer}
 use Rattle.ibc_machine.specs.Machine.{World}
 use Rattle.ibc_machine.specs.Histories.{End}
 use Rattle.ibc_machine.specs.Peers.{end_at, found_at, is_connected_to, names, are_paired_if, are_peers}
-use Rattle.ibc_laws.proofs.PassedTests.{or_left, or_right, both, either, and_true, same_text_is, same_text-self, same_optional_is, number-self}
+use Rattle.ibc_machine.proofs.SameValues.{same_optional_is}
+use Rattle.ibc_laws.proofs.PassedTests.{or_left, or_right, both, either, and_true, number-self}
 use Rattle.ibc_laws.proofs.Places.{some_is}
 use Rattle.ibc_laws.proofs.CoreSteps.{rank}
 use Rattle.ibc_laws.proofs.Growth.{ChannelGrows, Grows}
@@ -70,18 +72,18 @@ pub record Names (core : Core) (m : Channel) (f : End) (n : Channel) : Type 0 wh
 
 names_true : (core : Core) (m : Channel) (f : End) (n : Channel) → Names core m f n → names core m f n ≡ true
 names_true core m f n h =
-    and_true (and_true (subst (λ x. same_text f.port x ≡ true) h.port (same_text-self f.port))
-    (subst (λ (o : Option Text). same_optional o (Some f.channel) ≡ true) (sym h.channel) (same_text-self f.channel)))
+    and_true (and_true (subst (λ x. same_text f.port x ≡ true) h.port (same_text_itself f.port))
+    (subst (λ (o : Option Text). same_optional o (Some f.channel) ≡ true) (sym h.channel) (same_text_itself f.channel)))
     (subst (λ (o : Option ConnectionEnd). option_map_or (λ c. is_connected_to core c f.chain n.end.connection) o false ≡ true) (sym h.there)
     (and_true (subst (λ (o : Option Client). option_map_or (λ (c : Client). c.state.chain == f.chain) o false ≡ true) (sym h.client_there)
     (subst (λ k. (h.client.state.chain == k) ≡ true) h.tracks (number-self h.client.state.chain)))
-    (subst (λ (o : Option Text). same_optional o (Some n.end.connection) ≡ true) (sym h.over) (same_text-self n.end.connection))))
+    (subst (λ (o : Option Text). same_optional o (Some n.end.connection) ≡ true) (sym h.over) (same_text_itself n.end.connection))))
 
 pub true_names : (core : Core) (m : Channel) (f : End) (n : Channel) → names core m f n ≡ true → Names core m f n
 true_names core m f n e =
     let one = both (has_peer m f.port f.channel) _ e in
     let peer = both (same_text f.port m.end.peer_port) (same_optional m.end.peer_channel (Some f.channel)) one.0 in
-    over (connection_at core m.end.connection) refl one.1 (same_text_is f.port m.end.peer_port peer.0) (same_optional_is m.end.peer_channel (Some f.channel) peer.1)
+    over (connection_at core m.end.connection) refl one.1 (text_same f.port m.end.peer_port peer.0) (same_optional_is m.end.peer_channel (Some f.channel) peer.1)
   where
     tracked : (c : ConnectionEnd) → connection_at core m.end.connection ≡ Some c → same_optional c.peer_connection (Some n.end.connection) ≡ true
         → (o : Option Client) → client_at core c.client ≡ o → option_map_or (λ (k : Client). k.state.chain == f.chain) o false ≡ true

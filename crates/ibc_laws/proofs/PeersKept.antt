@@ -12,7 +12,7 @@ use Rattle.ibc_machine.specs.Records.{Core, Client, Channel, client_at, connecti
 use Rattle.ibc_machine.specs.Evidence.{Host}
 use Rattle.ibc_machine.specs.Channels.{is_open, client_of, peer_connection_of, peer_channel_of, new_channel}
 use Rattle.ibc_machine.specs.Machine.{World}
-use Rattle.ibc_laws.proofs.PassedTests.{same_connection_state_is}
+use Rattle.ibc_machine.proofs.SameValues.{same_connection_state_is}
 use Rattle.ibc_machine.proofs.FiniteMaps.{by_text, by_pair, found_in_with}
 use Rattle.ibc_laws.proofs.Places.{some_is}
 use Rattle.ibc_laws.proofs.Told.{Told}

@@ -2,6 +2,7 @@
 use Rattle.std.proofs.Common.{◌≡◌, Bool, true, false, refl, Ok, ◌⊎◌, inl, inr, ◌||◌, if◌then◌else◌}
 use Rattle.ibc_ids.specs.Texts.{Text, same_text}
 use Rattle.ibc_ids.specs.declared.refusal.Refusal.{Refusal}
+use Rattle.ibc_ids.proofs.Texts.{text_same}
 use Rattle.ibc_wire.specs.declared.records.Order.{Order}
 use Rattle.ibc_wire.specs.declared.records.Order.TheVariants.{Unordered, Ordered}
 use Rattle.ibc_wire.specs.declared.records.ChannelEnd.{ChannelEnd}
@@ -12,7 +13,7 @@ use Rattle.ibc_machine.specs.Notes.{note_port, opens_for_notes}
 use Rattle.ibc_machine.specs.Machine.{World}
 use Rattle.ibc_machine.specs.Histories.{End}
 use Rattle.ibc_machine.proofs.PassedRows.{require_passed}
-use Rattle.ibc_laws.proofs.PassedTests.{same_text_is, same_order_is}
+use Rattle.ibc_machine.proofs.SameValues.{same_order_is}
 use Rattle.ibc_laws.proofs.CoreSteps.{IsTaken}
 use Rattle.ibc_laws.proofs.ChainKinds.{Kinds}
 use Rattle.ibc_laws.proofs.Invariant.{Inv}
@@ -42,8 +43,8 @@ of_port port end taken = go (same_text port transfer_port) refl (require_is _ _ 
     go : (b : Bool) → same_text port transfer_port ≡ b → (b || same_text port note_port) ≡ true
         → (if b then opens_for_transfers end.order end.version else opens_for_notes end.order end.version) ≡ Ok tt
         → IsTransferEnd port end ⊎ IsNoteEnd port end
-    go true is port_is opens = inl (same_text_is port transfer_port is, transfers_order end.order end.version opens)
-    go false is port_is opens = inr (same_text_is port note_port port_is, notes_order end.order end.version opens)
+    go true is port_is opens = inl (text_same port transfer_port is, transfers_order end.order end.version opens)
+    go false is port_is opens = inr (text_same port note_port port_is, notes_order end.order end.version opens)
 
 pub transfer_peer : (w : World) → Inv w → Kinds w → (e f : End) → Peers w e f → e.port ≡ transfer_port → f.port ≡ transfer_port
 transfer_peer w inv kinds e f p is =

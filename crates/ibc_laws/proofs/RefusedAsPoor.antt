@@ -1,29 +1,29 @@
 -- What is known where an acknowledgement or a timeout is refused because an escrow holds too little: all checks have
 -- passed, and a token of the packet's data can't be refunded.
 use Rattle.std.proofs.Common.{◌≡◌, Bool, true, false, refl, ap, Option, Some, None, Ok, Err, ◌⊎◌, inl, inr, if◌then◌else◌}
+use Rattle.std.specs.Prelude.{⊤}
 use Rattle.ibc_ids.specs.Texts.{Text, same_text}
 use Rattle.ibc_ids.specs.declared.refusal.Refusal.{Refusal}
 use Rattle.ibc_ids.specs.declared.refusal.Refusal.TheVariants as refusal
+use Rattle.ibc_ids.proofs.Texts.{text_same}
 use Rattle.ibc_wire.specs.declared.packet.Packet.{Packet}
 use Rattle.ibc_wire.specs.declared.messages.AckPacket.{AckPacket}
 use Rattle.ibc_wire.specs.declared.messages.Timeout.{Timeout}
 use Rattle.ibc_wire.specs.declared.messages.TimeoutOnClose.{TimeoutOnClose}
-use Rattle.ibc_machine.specs.Records.{Core, Apps, channel_at}
+use Rattle.ibc_machine.specs.Records.{Core, Apps, Channel}
 use Rattle.ibc_machine.specs.Checks.{Checked, require, expect, go_on, and_then, ◌>>=◌, ◌>>◌}
-use Rattle.ibc_machine.specs.Evidence.{Evidence}
-use Rattle.ibc_machine.specs.Packets.{ack_checked, timeout_checked, timeout_on_close_checked}
+use Rattle.ibc_machine.specs.Evidence.{Host, Evidence}
+use Rattle.ibc_machine.specs.Packets.{may_acknowledge, is_pending, ack_checked, timeout_checked, timeout_on_close_checked}
 use Rattle.ibc_machine.specs.TokenData.{Data, data_of, success}
 use Rattle.ibc_machine.specs.Bank.{Balances}
 use Rattle.ibc_machine.specs.Transfers.{transfer_port, each_token, refund_token, refund_data, refund_transfer, acknowledge_transfer}
 use Rattle.ibc_machine.specs.Applications.{on_ack, on_timeout, with_balances}
-use Rattle.ibc_laws.proofs.PassedTests.{same_text_is}
 
 -- ---- checks that refuse otherwise
 
-pub require_poor : {B : Type 0} (b : Bool) (r : Refusal) (rest : Checked B) → (r ≡ refusal.Poor → ⊥) → (require b r >> rest) ≡ Err refusal.Poor → rest ≡ Err refusal.Poor
-unfolding and_then
-require_poor true r rest other e = e
-require_poor false r rest other e = absurd (other (cc e))
+-- whatever it refuses, it isn't because an escrow holds too little
+pub record RefusesOtherwise {A : Type 0} (x : Checked A) : Type 0 where
+  pub other : x ≡ Err refusal.Poor → ⊥
 
 pub bind_poor : {A B : Type 0} (x : Checked A) (f : A → Checked B) → (x >>= f) ≡ Err refusal.Poor
     → (x ≡ Err refusal.Poor) ⊎ ((a : A) × (x ≡ Ok a) × (f a ≡ Err refusal.Poor))
@@ -31,55 +31,59 @@ unfolding go_on
 bind_poor (Ok a) f e = inr (a, refl, e)
 bind_poor (Err r) f e = let same : r ≡ refusal.Poor = cc e in inl (ap Err same)
 
-pub bind_other : {A B : Type 0} (x : Checked A) (f : A → Checked B) → (x ≡ Err refusal.Poor → ⊥) → (x >>= f) ≡ Err refusal.Poor
+pub bind_other : {A B : Type 0} (x : Checked A) (f : A → Checked B) → RefusesOtherwise x → (x >>= f) ≡ Err refusal.Poor
     → (a : A) × (x ≡ Ok a) × (f a ≡ Err refusal.Poor)
-bind_other x f other e = elim (bind_poor x f e) [ inl poor ↦ absurd (other poor) | inr h ↦ h ]
+bind_other x f h e = elim (bind_poor x f e) [ inl poor ↦ absurd (h.other poor) | inr found ↦ found ]
 
-expect_other : {A : Type 0} (o : Option A) (r : Refusal) → (r ≡ refusal.Poor → ⊥) → expect o r ≡ Err refusal.Poor → ⊥
-expect_other (Some x) r other e = absurd (cc e)
-expect_other None r other e = other (cc e)
+passes : {A : Type 0} (a : A) → RefusesOtherwise (Ok a)
+passes a = record { other = λ e. cc e }
 
-module _ (evidence : Evidence) (core : Core) where
-  pub ack_checked_other : (m : AckPacket) → ack_checked evidence core m ≡ Err refusal.Poor → ⊥
+requires : (b : Bool) (r : Refusal) → (r ≡ refusal.Poor → ⊥) → RefusesOtherwise (require b r)
+requires true r other = passes tt
+requires false r other = record { other = λ e. other (cc e) }
+
+then_goes : {B : Type 0} (x : Checked ⊤) (rest : Checked B) → RefusesOtherwise x → RefusesOtherwise rest → RefusesOtherwise (x >> rest)
+unfolding and_then
+then_goes (Ok tt) rest h g = g
+then_goes (Err r) rest h g = record { other = λ e. h.other (let same : r ≡ refusal.Poor = cc e in ap Err same) }
+
+then_requires : {B : Type 0} (b : Bool) (r : Refusal) (rest : Checked B) → (r ≡ refusal.Poor → ⊥) → RefusesOtherwise rest → RefusesOtherwise (require b r >> rest)
+then_requires b r rest other h = then_goes (require b r) rest (requires b r other) h
+
+then_expects : {A B : Type 0} (o : Option A) (r : Refusal) (f : A → Checked B) → (r ≡ refusal.Poor → ⊥) → ((a : A) → RefusesOtherwise (f a))
+    → RefusesOtherwise (expect o r >>= f)
+unfolding go_on
+then_expects (Some x) r f other h = h x
+then_expects None r f other h = record { other = λ e. other (cc e) }
+
+may_acknowledge_other : (mine : Channel) (p : Packet) → RefusesOtherwise (may_acknowledge mine p)
+may_acknowledge_other mine p =
+    then_requires _ _ _ (λ x. cc x) (then_requires _ _ _ (λ x. cc x) (then_requires _ _ _ (λ x. cc x) (requires _ _ (λ x. cc x))))
+
+is_pending_other : (mine : Channel) (p : Packet) → RefusesOtherwise (is_pending mine p)
+is_pending_other mine p = then_requires _ _ _ (λ x. cc x) (then_requires _ _ _ (λ x. cc x) (requires _ _ (λ x. cc x)))
+
+module _ (evidence : Evidence) (host : Host) (core : Core) where
+  pub ack_checked_other : (m : AckPacket) → RefusesOtherwise (ack_checked m evidence host core)
   unfolding ack_checked
-  ack_checked_other m e =
-      let form = require_poor _ _ _ (λ x. cc x) e in
-      let there = bind_other (expect (channel_at core m.packet.source_port m.packet.source_channel) refusal.UnknownChannel) _ (expect_other _ _ (λ x. cc x)) form in
-      let state = require_poor _ _ _ (λ x. cc x) there.2 in
-      let peer = require_poor _ _ _ (λ x. cc x) state in
-      let committed = require_poor _ _ _ (λ x. cc x) peer in
-      let in_order = require_poor _ _ _ (λ x. cc x) committed in
-      let known = require_poor _ _ _ (λ x. cc x) in_order in
-      let proof = require_poor _ _ _ (λ x. cc x) known in
-      absurd (cc proof)
+  ack_checked_other m =
+      then_requires _ _ _ (λ x. cc x) (then_expects _ _ _ (λ x. cc x) λ (mine : Channel).
+      then_goes _ _ (may_acknowledge_other mine m.packet)
+      (then_requires _ _ _ (λ x. cc x) (then_requires _ _ _ (λ x. cc x) (passes mine))))
 
-  pub timeout_checked_other : (m : Timeout) → timeout_checked evidence core m ≡ Err refusal.Poor → ⊥
+  pub timeout_checked_other : (m : Timeout) → RefusesOtherwise (timeout_checked m evidence host core)
   unfolding timeout_checked
-  timeout_checked_other m e =
-      let form = require_poor _ _ _ (λ x. cc x) e in
-      let there = bind_other (expect (channel_at core m.packet.source_port m.packet.source_channel) refusal.UnknownChannel) _ (expect_other _ _ (λ x. cc x)) form in
-      let state = require_poor _ _ _ (λ x. cc x) there.2 in
-      let peer = require_poor _ _ _ (λ x. cc x) state in
-      let committed = require_poor _ _ _ (λ x. cc x) peer in
-      let known = require_poor _ _ _ (λ x. cc x) committed in
-      let over = require_poor _ _ _ (λ x. cc x) known in
-      let waits = require_poor _ _ _ (λ x. cc x) over in
-      let proof = require_poor _ _ _ (λ x. cc x) waits in
-      absurd (cc proof)
+  timeout_checked_other m =
+      then_requires _ _ _ (λ x. cc x) (then_expects _ _ _ (λ x. cc x) λ (mine : Channel).
+      then_goes _ _ (is_pending_other mine m.packet)
+      (then_requires _ _ _ (λ x. cc x) (then_requires _ _ _ (λ x. cc x) (then_requires _ _ _ (λ x. cc x) (then_requires _ _ _ (λ x. cc x) (passes mine))))))
 
-  pub timeout_on_close_checked_other : (m : TimeoutOnClose) → timeout_on_close_checked evidence core m ≡ Err refusal.Poor → ⊥
+  pub timeout_on_close_checked_other : (m : TimeoutOnClose) → RefusesOtherwise (timeout_on_close_checked m evidence host core)
   unfolding timeout_on_close_checked
-  timeout_on_close_checked_other m e =
-      let form = require_poor _ _ _ (λ x. cc x) e in
-      let there = bind_other (expect (channel_at core m.packet.source_port m.packet.source_channel) refusal.UnknownChannel) _ (expect_other _ _ (λ x. cc x)) form in
-      let state = require_poor _ _ _ (λ x. cc x) there.2 in
-      let peer = require_poor _ _ _ (λ x. cc x) state in
-      let committed = require_poor _ _ _ (λ x. cc x) peer in
-      let known = require_poor _ _ _ (λ x. cc x) committed in
-      let waits = require_poor _ _ _ (λ x. cc x) known in
-      let proof = require_poor _ _ _ (λ x. cc x) waits in
-      let close = require_poor _ _ _ (λ x. cc x) proof in
-      absurd (cc close)
+  timeout_on_close_checked_other m =
+      then_requires _ _ _ (λ x. cc x) (then_expects _ _ _ (λ x. cc x) λ (mine : Channel).
+      then_goes _ _ (is_pending_other mine m.packet)
+      (then_requires _ _ _ (λ x. cc x) (then_requires _ _ _ (λ x. cc x) (then_requires _ _ _ (λ x. cc x) (then_requires _ _ _ (λ x. cc x) (passes mine))))))
 
 -- ---- the application refuses
 
@@ -100,34 +104,35 @@ refund_lacks balances version p e = go (data_of version p.payload) refl e
     go (Some d) is e = (d, is, none (each_token (refund_token p.source_channel d.sender) d.tokens balances) e)
     go None is e = absurd (cc e)
 
-pub timeout_lacks : (apps : Apps) (port version : Text) (p : Packet) → on_timeout apps port version p ≡ Err refusal.Poor
-    → (port ≡ transfer_port) × LacksRefund apps.balances version p
-timeout_lacks apps port version p e = go (same_text port transfer_port) refl e
+-- only the application of port `transfer` refuses so
+by_port_poor : (apps : Apps) (port : Text) (given : Checked Balances)
+    → (if same_text port transfer_port then (given >>= λ balances. Ok (with_balances apps balances)) else Ok apps) ≡ Err refusal.Poor
+    → (port ≡ transfer_port) × (given ≡ Err refusal.Poor)
+by_port_poor apps port given e = go (same_text port transfer_port) refl e
   where
-    go : (b : Bool) → same_text port transfer_port ≡ b
-        → (if b then (refund_transfer apps.balances version p >>= λ balances. Ok (with_balances apps balances)) else Ok apps) ≡ Err refusal.Poor
-        → (port ≡ transfer_port) × LacksRefund apps.balances version p
-    go true is e = elim (bind_poor (refund_transfer apps.balances version p) (λ balances. Ok (with_balances apps balances)) e) [
-      | inl poor ↦ (same_text_is port transfer_port is, refund_lacks apps.balances version p poor)
+    go : (b : Bool) → same_text port transfer_port ≡ b → (if b then (given >>= λ balances. Ok (with_balances apps balances)) else Ok apps) ≡ Err refusal.Poor
+        → (port ≡ transfer_port) × (given ≡ Err refusal.Poor)
+    go true is e = elim (bind_poor given (λ balances. Ok (with_balances apps balances)) e) [
+      | inl poor ↦ (text_same port transfer_port is, poor)
       | inr h ↦ absurd (cc (h.2))
     ]
     go false is e = absurd (cc e)
 
-pub ack_lacks : (apps : Apps) (port version : Text) (p : Packet) (ack : Text) → on_ack apps port version p ack ≡ Err refusal.Poor
+pub timeout_lacks : (apps : Apps) (port version : Text) (p : Packet) → on_timeout port apps version p ≡ Err refusal.Poor
+    → (port ≡ transfer_port) × LacksRefund apps.balances version p
+timeout_lacks apps port version p e =
+    let poor = by_port_poor apps port (refund_transfer apps.balances version p) e in
+    (poor.0, refund_lacks apps.balances version p poor.1)
+
+pub ack_lacks : (apps : Apps) (port version : Text) (p : Packet) (ack : Text) → on_ack port apps version p ack ≡ Err refusal.Poor
     → (port ≡ transfer_port) × (same_text ack success ≡ false) × LacksRefund apps.balances version p
 unfolding acknowledge_transfer
-ack_lacks apps port version p ack e = go (same_text port transfer_port) refl e
+ack_lacks apps port version p ack e =
+    let poor = by_port_poor apps port (acknowledge_transfer apps.balances version p ack) e in
+    let lacks = refunds (same_text ack success) refl poor.1 in
+    (poor.0, lacks.0, lacks.1)
   where
-    inner : (b : Bool) → same_text ack success ≡ b → (if b then Ok apps.balances else refund_transfer apps.balances version p) ≡ Err refusal.Poor
+    refunds : (b : Bool) → same_text ack success ≡ b → (if b then Ok apps.balances else refund_transfer apps.balances version p) ≡ Err refusal.Poor
         → (same_text ack success ≡ false) × LacksRefund apps.balances version p
-    inner true is e = absurd (cc e)
-    inner false is e = (is, refund_lacks apps.balances version p e)
-
-    go : (b : Bool) → same_text port transfer_port ≡ b
-        → (if b then (acknowledge_transfer apps.balances version p ack >>= λ balances. Ok (with_balances apps balances)) else Ok apps) ≡ Err refusal.Poor
-        → (port ≡ transfer_port) × (same_text ack success ≡ false) × LacksRefund apps.balances version p
-    go true is e = elim (bind_poor (acknowledge_transfer apps.balances version p ack) (λ balances. Ok (with_balances apps balances)) e) [
-      | inl poor ↦ (let h = inner (same_text ack success) refl poor in (same_text_is port transfer_port is, h.0, h.1))
-      | inr h ↦ absurd (cc (h.2))
-    ]
-    go false is e = absurd (cc e)
+    refunds true is e = absurd (cc e)
+    refunds false is e = (is, refund_lacks apps.balances version p e)

@@ -4,6 +4,7 @@ use Rattle.std.specs.Option.{option_map_or, option_and_then}
 use Rattle.ibc_ids.specs.Texts.{Text}
 use Rattle.ibc_ids.specs.Maps.{at}
 use Rattle.ibc_ids.specs.declared.key.Key.TheVariants as key
+use Rattle.ibc_ids.proofs.Texts.{text_same}
 use Rattle.ibc_wire.specs.declared.records.ClientState.{ClientState}
 use Rattle.ibc_wire.specs.declared.records.ConnectionEnd.{ConnectionEnd}
 use Rattle.ibc_wire.specs.declared.records.ChannelEnd.{ChannelEnd}
@@ -11,8 +12,8 @@ use Rattle.ibc_machine.specs.Records.{Core, Block, Client, Channel, Commitment, 
 use Rattle.ibc_machine.specs.Values.{ClientIs, ConnectionIs, ChannelIs, NumberIs, CommitmentIs, AckIs, Claim, look, has, lacks, same_value, receipt_if}
 use Rattle.ibc_machine.specs.Evidence.{Evidence}
 use Rattle.ibc_machine.specs.Machine.{World, true_marks, looks, block_at, shows_in}
-use Rattle.ibc_machine.proofs.PacketChecks.{same_commitment_is}
-use Rattle.ibc_laws.proofs.PassedTests.{both, same_connection_is, same_channel_is, same_client_is, same_text_is}
+use Rattle.ibc_machine.proofs.SameValues.{same_connection_is, same_channel_is, same_client_is, same_commitment_is}
+use Rattle.ibc_laws.proofs.PassedTests.{both}
 use Rattle.std.proofs.Common.{eqb-true}
 
 -- the client tracks a chain, which has committed the height, and its block there is so
@@ -126,7 +127,7 @@ ack_is core port id n x e = go (channel_at core port id) refl e
     found : (c : Channel) → channel_at core port id ≡ Some c → (o : Option Text) → at nat_cmp n c.acks ≡ o
         → same_value (option_map AckIs o) (Some (AckIs x)) ≡ true
         → (c : Channel) × (channel_at core port id ≡ Some c) × (at nat_cmp n c.acks ≡ Some x)
-    found c there (Some y) is e = (c, there, is ∙ ap Some (same_text_is y x e))
+    found c there (Some y) is e = (c, there, is ∙ ap Some (text_same y x e))
     found c there None is e = absurd (cc e)
 
     go : (o : Option Channel) → channel_at core port id ≡ o

@@ -9,7 +9,7 @@ use Rattle.ibc_machine.specs.declared.event.Event.TheVariants as event
 use Rattle.ibc_machine.specs.declared.reply.Effect.{Effect}
 use Rattle.ibc_machine.specs.declared.reply.Reply.{Reply}
 use Rattle.ibc_machine.specs.declared.reply.Reply.TheVariants as reply
-use Rattle.ibc_machine.specs.Records.{Records, Chain}
+use Rattle.ibc_machine.specs.Records.{Core, Apps, Records, Chain}
 use Rattle.ibc_machine.specs.Checks.{Checked}
 use Rattle.ibc_machine.specs.Genesis.{GenesisState}
 use Rattle.ibc_machine.specs.Handlers.{handle, host_of, after_message, message_answer, may_commit, after_block, block_answer}
@@ -67,12 +67,13 @@ module _ (genesis : GenesisState) (oldest : Bool) (w : World) where
       }))
 
   of_message : (k : ℕ) (c : Chain) → slice_get w k ≡ Some c → (m : Message) (r : Reply) (v : World)
-      → (o : Checked (Effect × Records))
-      → handle (seeing genesis.window oldest w c.records.core) (host_of (length genesis.chains) k c) c.records m ≡ o
+      → (o : Checked (Effect × Core × Apps))
+      → handle m (seeing genesis.window oldest w c.records.core) (host_of (length genesis.chains) k c) c.records.core c.records.apps ≡ o
       → at_chain w k (λ (chain : Chain). after_message c o) (Some c) ≡ (r, v) → Stepped (length genesis.chains) w (event.Message k m, r) v
   of_message k c there m r v (Ok y) is e =
-      let did = message_did genesis.window oldest w (host_of (length genesis.chains) k c) c.records m y is in
-      accepting (event.Message k m, reply.Ok y.0) k c (record c { records = y.1 }) r v there refl (acts _ y.1 did.0 did.1) did.2 e
+      let did = (message_did genesis.window oldest w (host_of (length genesis.chains) k c) c.records m).gives y is in
+      let after : Records = record { core = y.1; apps = y.2 } in
+      accepting (event.Message k m, reply.Ok y.0) k c (record c { records = after }) r v there refl (acts _ after did.0 did.1) did.2 e
   of_message k c there m r v (Err why) is e =
       refusing (event.Message k m) why r v (ap (λ x. (reply.No why, x)) (sym (set-same w k c there)) ∙ e)
 
@@ -93,7 +94,7 @@ module _ (genesis : GenesisState) (oldest : Bool) (w : World) where
       go : (o : Option Chain) → slice_get w k ≡ o
           → at_chain w k (λ (chain : Chain). message_answer (looks true_marks genesis.window oldest w chain.records.core) (length genesis.chains) k chain m) o ≡ (r, v)
           → Stepped (length genesis.chains) w (event.Message k m, r) v
-      go (Some c) is e = of_message k c is m r v (handle (seeing genesis.window oldest w c.records.core) (host_of (length genesis.chains) k c) c.records m) refl e
+      go (Some c) is e = of_message k c is m r v (handle m (seeing genesis.window oldest w c.records.core) (host_of (length genesis.chains) k c) c.records.core c.records.apps) refl e
       go None is e = refusing (event.Message k m) refusal.UnknownChain r v e
   answered (event.Block k t) r v e = go (slice_get w k) refl e
     where

@@ -4,6 +4,7 @@ use Rattle.std.specs.Option.{option_map_or}
 use Rattle.ibc_ids.specs.Texts.{Text, same_text}
 use Rattle.ibc_ids.specs.Maps.{with, without}
 use Rattle.ibc_ids.specs.Names.{is_user, hop}
+use Rattle.ibc_ids.proofs.Texts.{text_same}
 use Rattle.ibc_wire.specs.declared.packet.Packet.{Packet}
 use Rattle.ibc_wire.specs.declared.token.Token.{Token}
 use Rattle.ibc_wire.specs.declared.records.ChannelState.TheVariants as chan
@@ -15,7 +16,7 @@ use Rattle.ibc_machine.specs.Bank.{Balances, balance, escrow}
 use Rattle.ibc_machine.specs.Transfers.{transfer_port, came_over, burnt}
 use Rattle.ibc_machine.specs.Machine.{World}
 use Rattle.ibc_machine.proofs.DataRead.{data_read, data_spelled}
-use Rattle.ibc_laws.proofs.PassedTests.{both, same_text_is}
+use Rattle.ibc_laws.proofs.PassedTests.{both}
 use Rattle.ibc_laws.proofs.Told.{Told}
 use Rattle.ibc_laws.proofs.CoreSteps.{ChannelStep, answers, follows, closes, sends, receives, acknowledges, times_out, Receives, Acks, TimesOut}
 use Rattle.ibc_laws.proofs.AppSteps.{AppsOfEnd, GoodOfEnd}
@@ -64,7 +65,7 @@ module _ (w : World) (host : Host) (records : Records) (apps : Apps) (sorted : I
 
   by_port_apart : (after : Balances) (P : Balances → Type 0) → (port ≡ transfer_port → P after → Unshifted records.apps.balances after other)
       → ByPort port records.apps.balances after P → Unshifted records.apps.balances after other
-  by_port_apart after P moved (inl h) = moved (same_text_is port transfer_port h.0) h.1
+  by_port_apart after P moved (inl h) = moved (text_same port transfer_port h.0) h.1
   by_port_apart after P moved (inr h) = same_balances records.apps.balances after other h.1
 
   pub elsewhere : (m : Channel) (told : Told) (n : Channel) (s : ChannelStep w host records.core port id m told n)
