@@ -1,16 +1,12 @@
 -- A message of the core, in which applications keep what they have, burns nothing that goes back.
-use Rattle.std.proofs.Common.{◌≡◌, refl}
+use Rattle.std.proofs.Common.{◌≡◌, refl, Ok}
 use Rattle.std.specs.Prelude.{⊤}
 use Rattle.ibc_wire.specs.declared.messages.Message.{Message}
 use Rattle.ibc_wire.specs.declared.messages.Message.TheVariants as message
 use Rattle.ibc_machine.specs.declared.reply.Effect.{Effect}
 use Rattle.ibc_machine.specs.Records.{Core, Apps}
-use Rattle.ibc_machine.specs.Evidence.{Host, Evidence, CoreHandler, on_core}
-use Rattle.ibc_machine.specs.Applications.{require_application, on_open, on_close}
-use Rattle.ibc_machine.specs.Clients.{create_client, update_client}
-use Rattle.ibc_machine.specs.Connections.{conn_open_init, conn_open_try, conn_open_ack, conn_open_confirm}
-use Rattle.ibc_machine.specs.Channels.{chan_open_init, chan_open_try, chan_open_ack, chan_open_confirm, chan_close_init, chan_close_confirm}
-use Rattle.ibc_machine.specs.Notes.{send_note}
+use Rattle.ibc_machine.specs.Checks.{Checked, ◌>>=◌}
+use Rattle.ibc_machine.specs.Evidence.{Host, Evidence}
 use Rattle.ibc_machine.specs.Handlers.{handle}
 use Rattle.ibc_flight.specs.Orderly.{IsOrderly}
 use Rattle.ibc_flight.specs.Returned.{SameBurnt}
@@ -35,26 +31,24 @@ module _ (evidence : Evidence) (host : Host) (core : Core) (orderly : IsOrderly 
   abbrev pub BurnsNothing : Effect × Core × Apps → Type 0
   BurnsNothing w = SameBurnt core w.1 × (w.2 ≡ apps)
 
-  of_core : (handler : CoreHandler) → Gives (LeavesBurnt core) (handler evidence host core) → Gives BurnsNothing (on_core handler evidence host core apps)
-  of_core handler h = gives_on_core evidence host core BurnsNothing handler apps (record { gives = λ w is. (h.gives w is, refl) })
+  of_core : {given : Checked (Effect × Core)} → Gives (LeavesBurnt core) given → Gives BurnsNothing (given >>= λ ((effect, after) : Effect × Core). Ok (effect, after, apps))
+  of_core {given} h = gives_on_core BurnsNothing given apps (record { gives = λ w is. (h.gives w is, refl) })
 
   pub core_message_burns_nothing : (m : Message) → IsOfCore m → Gives BurnsNothing (handle m evidence host core apps)
   unfolding handle
-  core_message_burns_nothing (message.CreateClient m) _ = of_core (create_client m) (create_client_burnt evidence host core m)
-  core_message_burns_nothing (message.UpdateClient m) _ = of_core (update_client m) (update_client_burnt evidence host core m)
-  core_message_burns_nothing (message.ConnOpenInit m) _ = of_core (conn_open_init m) (conn_open_init_burnt evidence host core m)
-  core_message_burns_nothing (message.ConnOpenTry m) _ = of_core (conn_open_try m) (conn_open_try_burnt evidence host core m)
-  core_message_burns_nothing (message.ConnOpenAck m) _ = of_core (conn_open_ack m) (conn_open_ack_burnt evidence host core m)
-  core_message_burns_nothing (message.ConnOpenConfirm m) _ = of_core (conn_open_confirm m) (conn_open_confirm_burnt evidence host core m)
-  core_message_burns_nothing (message.ChanOpenInit m) _ =
-      of_core (chan_open_init (require_application m.port) (on_open m.port) m) (chan_open_init_burnt evidence host core orderly (require_application m.port) (on_open m.port) m)
-  core_message_burns_nothing (message.ChanOpenTry m) _ =
-      of_core (chan_open_try (require_application m.port) (on_open m.port) m) (chan_open_try_burnt evidence host core orderly (require_application m.port) (on_open m.port) m)
-  core_message_burns_nothing (message.ChanOpenAck m) _ = of_core (chan_open_ack m) (chan_open_ack_burnt evidence host core orderly m)
-  core_message_burns_nothing (message.ChanOpenConfirm m) _ = of_core (chan_open_confirm m) (chan_open_confirm_burnt evidence host core orderly m)
-  core_message_burns_nothing (message.ChanCloseInit m) _ = of_core (chan_close_init (on_close m.port) m) (chan_close_init_burnt evidence host core orderly (on_close m.port) m)
-  core_message_burns_nothing (message.ChanCloseConfirm m) _ = of_core (chan_close_confirm m) (chan_close_confirm_burnt evidence host core orderly m)
-  core_message_burns_nothing (message.SendNote m) _ = of_core (send_note m) (send_note_burnt evidence host core orderly m)
+  core_message_burns_nothing (message.CreateClient m) _ = of_core (create_client_burnt evidence host core m)
+  core_message_burns_nothing (message.UpdateClient m) _ = of_core (update_client_burnt evidence host core m)
+  core_message_burns_nothing (message.ConnOpenInit m) _ = of_core (conn_open_init_burnt evidence host core m)
+  core_message_burns_nothing (message.ConnOpenTry m) _ = of_core (conn_open_try_burnt evidence host core m)
+  core_message_burns_nothing (message.ConnOpenAck m) _ = of_core (conn_open_ack_burnt evidence host core m)
+  core_message_burns_nothing (message.ConnOpenConfirm m) _ = of_core (conn_open_confirm_burnt evidence host core m)
+  core_message_burns_nothing (message.ChanOpenInit m) _ = of_core (chan_open_init_burnt evidence host core orderly _ _ m)
+  core_message_burns_nothing (message.ChanOpenTry m) _ = of_core (chan_open_try_burnt evidence host core orderly _ _ m)
+  core_message_burns_nothing (message.ChanOpenAck m) _ = of_core (chan_open_ack_burnt evidence host core orderly m)
+  core_message_burns_nothing (message.ChanOpenConfirm m) _ = of_core (chan_open_confirm_burnt evidence host core orderly m)
+  core_message_burns_nothing (message.ChanCloseInit m) _ = of_core (chan_close_init_burnt evidence host core orderly _ m)
+  core_message_burns_nothing (message.ChanCloseConfirm m) _ = of_core (chan_close_confirm_burnt evidence host core orderly m)
+  core_message_burns_nothing (message.SendNote m) _ = of_core (send_note_burnt evidence host core orderly m)
   core_message_burns_nothing (message.Transfer m) other = absurd other
   core_message_burns_nothing (message.TransferMany m) other = absurd other
   core_message_burns_nothing (message.RecvPacket m) other = absurd other

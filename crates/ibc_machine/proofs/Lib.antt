@@ -45,5 +45,6 @@ pub mod GoodData
 pub mod PassedRows
 pub mod PassedHandlers
 pub mod PassedChecks
+pub mod SameValues
 pub mod ConnectionChecks
 pub mod PacketChecks

@@ -18,17 +18,9 @@ use Rattle.ibc_machine.specs.Values.{Claim, same_commitment}
 use Rattle.ibc_machine.specs.Evidence.{Host, Evidence}
 use Rattle.ibc_machine.specs.Channels.{is_in_state, is_established, client_of, counterpart, has_channel}
 use Rattle.ibc_machine.specs.Checks.{expect}
-use Rattle.ibc_machine.specs.Packets.{has_peer, is_ordered, is_timed_out, is_committed, has_received, was_sent, was_acknowledged, not_received, waits_for, may_receive, is_pending, recv_checked, ack_checked, timeout_checked, timeout_on_close_checked}
+use Rattle.ibc_machine.specs.Packets.{has_size, has_form, has_peer, is_ordered, is_timed_out, is_committed, has_received, was_sent, was_acknowledged, not_received, waits_for, may_receive, is_pending, recv_checked, ack_checked, timeout_checked, timeout_on_close_checked}
+use Rattle.ibc_machine.proofs.SameValues.{same_commitment_is}
 use Rattle.ibc_machine.proofs.PassedRows.{require_passed, require_holds, bind_passed, then_passed, expect_passed, ok_same}
-
-pub same_commitment_is : (a b : Commitment) → same_commitment a b ≡ true → a ≡ b
-same_commitment_is a b e =
-    let one = and_parts (same_text a.payload b.payload && (a.timeout_height == b.timeout_height)) (a.timeout_time == b.timeout_time) e in
-    let two = and_parts (same_text a.payload b.payload) (a.timeout_height == b.timeout_height) one.0 in
-    let p = text_same a.payload b.payload two.0 in
-    let h = eqb-true a.timeout_height b.timeout_height two.1 in
-    let t = eqb-true a.timeout_time b.timeout_time one.1 in
-    λ i. record { payload = p i; timeout_height = h i; timeout_time = t i }
 
 committed_is : (mine : Channel) (p : Packet) → is_committed mine p ≡ true
     → at nat_cmp p.sequence mine.commitments ≡ Some (commitment_of p)
@@ -75,6 +67,7 @@ receivable host mine p e =
     }
 
 pub record PassedRecv (evidence : Evidence) (host : Host) (core : Core) (m : RecvPacket) (mine : Channel) : Type 0 where
+  pub form : has_form m.packet ≡ true
   pub there : channel_at core m.packet.destination_port m.packet.destination_channel ≡ Some mine
   pub may : MayReceive host mine m.packet
   pub sent : IsShown evidence core mine m.height (was_sent m.packet) m.proof
@@ -90,6 +83,7 @@ module _ (evidence : Evidence) (host : Host) (core : Core) where
       let known = require_passed _ _ _ may.1 in
       let proof = require_passed _ _ _ known.1 in
       subst (PassedRecv evidence host core m) (ok_same proof.1) (record {
+        form = (and_parts (has_form p) (evidence.is_proof m.proof) form.0).0;
         there = expect_passed (channel_at core p.destination_port p.destination_channel) refusal.UnknownChannel there.1;
         may = receivable host there.0 p may.0;
         sent = proof.0;
@@ -111,8 +105,10 @@ unsettled core p mine there peer committed = record {
 }
 
 pub record PassedAck (evidence : Evidence) (core : Core) (m : AckPacket) (mine : Channel) : Type 0 where
+  pub form : has_form m.packet ≡ true
   pub unsettled : IsUnsettled core m.packet mine
   pub state : is_in_state Open mine ≡ true
+  pub in_order : not (is_ordered mine && not (m.packet.sequence == mine.next_ack)) ≡ true
   pub acknowledged : IsShown evidence core mine m.height (was_acknowledged m.packet m.ack) m.proof
 
 -- the end sent the packet, and the client knows the height
@@ -156,8 +152,10 @@ module _ (evidence : Evidence) (host : Host) (core : Core) where
       let known = require_passed _ _ _ may.1 in
       let proof = require_passed _ _ _ known.1 in
       subst (PassedAck evidence core m) (ok_same proof.1) (record {
+        form = (and_parts (has_form m.packet) (has_size m.ack) (and_parts (has_form m.packet && has_size m.ack) (evidence.is_proof m.proof) form.0).0).0;
         unsettled = unsettled core m.packet there.0 there.1 peer.0 committed.0;
         state = state.0;
+        in_order = require_holds _ _ committed.1;
         acknowledged = proof.0;
       })
 

@@ -1,5 +1,5 @@
 -- Two ways to judge what a message says of another chain, which agree on what is asked of them.
-use Rattle.std.proofs.Common.{◌≡◌, ℕ, true, ◌&&◌, nat_le, ap, ap₂, Ok}
+use Rattle.std.proofs.Common.{◌≡◌, ℕ, true, ◌&&◌, nat_le, ap, ap₂}
 use Rattle.ibc_ids.specs.Texts.{Text}
 use Rattle.ibc_ids.specs.declared.refusal.Refusal.TheVariants as refusal
 use Rattle.ibc_wire.specs.declared.header.Header.{Header}
@@ -7,7 +7,6 @@ use Rattle.ibc_machine.specs.Values.{Claim}
 use Rattle.ibc_machine.specs.Records.{Core, knows}
 use Rattle.ibc_machine.specs.Checks.{require}
 use Rattle.ibc_machine.specs.Evidence.{Evidence}
-use Rattle.ibc_refinement.proofs.Checked.{require_true}
 
 -- a claim that a message makes, with the bytes of its proof
 abbrev pub Asked : Type 1
@@ -32,6 +31,6 @@ module _ (asked : Asked) (one other : Evidence) (core : Core) (agree : Agree ask
   pub proofs_same : (a b : Text) → require (one.is_proof a && one.is_proof b) refusal.BadMessage ≡ require (other.is_proof a && other.is_proof b) refusal.BadMessage
   proofs_same a b = ap₂ (λ x y. require (x && y) refusal.BadMessage) (agree.is_proof a) (agree.is_proof b)
 
-  pub shows_same : (client : Text) (height : ℕ) (claim : Claim) (proof : Text) → require (knows core client height) refusal.NoConsensus ≡ Ok tt → asked claim proof
+  pub shows_same : (client : Text) (height : ℕ) (claim : Claim) (proof : Text) → knows core client height ≡ true → asked claim proof
       → require (one.shows client height claim proof) refusal.BadProof ≡ require (other.shows client height claim proof) refusal.BadProof
-  shows_same client height claim proof known a = ap (λ b. require b refusal.BadProof) (agree.shows client height claim proof (require_true _ _ known) a)
+  shows_same client height claim proof known a = ap (λ b. require b refusal.BadProof) (agree.shows client height claim proof known a)

@@ -12,7 +12,7 @@ use Rattle.ibc_machine.specs.declared.reply.Effect.TheVariants as effect
 use Rattle.ibc_machine.specs.declared.reply.Reply.{Reply}
 use Rattle.ibc_machine.specs.declared.reply.Reply.TheVariants as reply
 use Rattle.ibc_machine.specs.declared.entry.Reading.{Reading}
-use Rattle.ibc_machine.specs.Records.{Records, Chain}
+use Rattle.ibc_machine.specs.Records.{Core, Apps, Chain}
 use Rattle.ibc_machine.specs.Image.{core_root}
 use Rattle.ibc_machine.specs.Checks.{Checked}
 use Rattle.ibc_machine.specs.Genesis.{GenesisState}
@@ -20,10 +20,11 @@ use Rattle.ibc_machine.specs.Handlers.{working_height, host_of, after_message, m
 use Rattle.ibc_machine.specs.Replay.{LedgerState, StampedEntry, proves, after_answer, with_chain, ledger_answer, entry_answer, replay, met_states}
 use Rattle.ibc_machine.specs.Ledgers.{Ledger, IsOwnEntry, is_typed, chain_of, is_block_reply}
 use Rattle.ibc_machine.specs.Merge.{published_next}
-use Rattle.ibc_refinement.proofs.Checked.{Gives}
+use Rattle.ibc_machine.proofs.PassedRows.{Gives}
 use Rattle.ibc_refinement.proofs.Typed.{IsTyped}
 use Rattle.ibc_refinement.proofs.TypedMessages.{message_typed}
-use Rattle.ibc_refinement.proofs.KeptRecords.{RecordsSound, handle_sound}
+use Rattle.ibc_refinement.proofs.Kept.{SoundBeside}
+use Rattle.ibc_refinement.proofs.KeptRecords.{handle_sound}
 use Rattle.ibc_refinement.proofs.EntrySteps.{working, answer_commits, own_typed}
 use Rattle.ibc_refinement.proofs.Placed.{blocks}
 
@@ -39,7 +40,7 @@ pub record EndsBlock (e : Event) (given : Reply) (old new : Chain) : Type 0 wher
   pub time : new.time ≡ next_time
   pub committed : new.committed ≡ old.committed ++ working old ∷ []
 
-message_goes_on : (m : Message) (state : LedgerState) (x : Checked (Effect × Records)) → Gives RecordsSound x
+message_goes_on : (m : Message) (state : LedgerState) (x : Checked (Effect × Core × Apps)) → Gives SoundBeside x
     → GoesOn (after_answer m state (after_message state.chain x)).0 state.chain (after_answer m state (after_message state.chain x)).1.chain
 message_goes_on m state (Err r) sound = (refl, refl, refl)
 message_goes_on m state (Ok w) sound = ((sound.gives w refl).effect, refl, refl)
@@ -55,7 +56,7 @@ pub answer_ends : (genesis : GenesisState) (k : ℕ) (seen : List Publication) (
     ⊎ EndsBlock e (ledger_answer genesis k seen reading state e).0 state.chain (ledger_answer genesis k seen reading state e).1.chain
 unfolding ledger_answer
 answer_ends genesis k seen reading state (event.Message chain m) typed t =
-    inl (message_goes_on m state _ (handle_sound (proves seen reading state) (host_of (length genesis.chains) k state.chain) state.chain.records m typed (message_typed m t)))
+    inl (message_goes_on m state _ (handle_sound (proves seen reading state) (host_of (length genesis.chains) k state.chain) state.chain.records.core typed state.chain.records.apps m (message_typed m t)))
 answer_ends genesis k seen reading state (event.Block chain next_time) typed t = block_ends chain next_time state (may_commit genesis.capacity state.chain next_time)
 
 -- ---- what stands in a list for it

@@ -11,16 +11,17 @@ use Rattle.ibc_machine.specs.declared.event.Event.TheVariants as event
 use Rattle.ibc_machine.specs.declared.reply.Effect.{Effect}
 use Rattle.ibc_machine.specs.declared.reply.Reply.{Reply}
 use Rattle.ibc_machine.specs.declared.entry.Reading.{Reading}
-use Rattle.ibc_machine.specs.Records.{Records, Chain, Block}
+use Rattle.ibc_machine.specs.Records.{Core, Apps, Chain, Block}
 use Rattle.ibc_machine.specs.Checks.{Checked}
 use Rattle.ibc_machine.specs.Genesis.{GenesisState}
 use Rattle.ibc_machine.specs.Handlers.{host_of, after_message, may_commit, after_block}
 use Rattle.ibc_machine.specs.Replay.{LedgerState, StampedEntry, proves, after_answer, with_chain, ledger_answer, entry_answer, replay, met_states}
 use Rattle.ibc_machine.specs.Ledgers.{Ledger, IsOwnEntry, is_typed, chain_of, is_block_reply}
-use Rattle.ibc_refinement.proofs.Checked.{Gives}
+use Rattle.ibc_machine.proofs.PassedRows.{Gives}
 use Rattle.ibc_refinement.proofs.Typed.{IsTyped}
 use Rattle.ibc_refinement.proofs.TypedMessages.{message_typed}
-use Rattle.ibc_refinement.proofs.KeptRecords.{RecordsSound, handle_sound}
+use Rattle.ibc_refinement.proofs.Kept.{SoundBeside}
+use Rattle.ibc_refinement.proofs.KeptRecords.{handle_sound}
 
 -- the working block of a chain, as it is committed
 abbrev pub working : Chain → Block
@@ -31,7 +32,7 @@ pub record Commits (given : Reply) (old new : Chain) : Type 0 where
   pub blocks : ((is_block_reply given ≡ false) × (new.committed ≡ old.committed))
       ⊎ ((is_block_reply given ≡ true) × (new.committed ≡ old.committed ++ working old ∷ []))
 
-message_commits : (m : Message) (state : LedgerState) (x : Checked (Effect × Records)) → IsTyped state.chain.records.core → Gives RecordsSound x
+message_commits : (m : Message) (state : LedgerState) (x : Checked (Effect × Core × Apps)) → IsTyped state.chain.records.core → Gives SoundBeside x
     → Commits (after_answer m state (after_message state.chain x)).0 state.chain (after_answer m state (after_message state.chain x)).1.chain
 message_commits m state (Err r) typed sound = record { typed = typed; blocks = inl (refl, refl) }
 message_commits m state (Ok w) typed sound = let s = sound.gives w refl in record { typed = s.typed; blocks = inl (s.effect, refl) }
@@ -45,7 +46,7 @@ pub answer_commits : (genesis : GenesisState) (k : ℕ) (seen : List Publication
     → Commits (ledger_answer genesis k seen reading state e).0 state.chain (ledger_answer genesis k seen reading state e).1.chain
 unfolding ledger_answer
 answer_commits genesis k seen reading state (event.Message _ m) typed t =
-    message_commits m state _ typed (handle_sound (proves seen reading state) (host_of (length genesis.chains) k state.chain) state.chain.records m typed (message_typed m t))
+    message_commits m state _ typed (handle_sound (proves seen reading state) (host_of (length genesis.chains) k state.chain) state.chain.records.core typed state.chain.records.apps m (message_typed m t))
 answer_commits genesis k seen reading state (event.Block _ next_time) typed t = block_commits state next_time (may_commit genesis.capacity state.chain next_time) typed
 
 -- a ledger of this genesis and number

@@ -1,16 +1,14 @@
 -- What an accepted message keeps: the records are typed, and clients change by their own messages alone.
-use Rattle.std.proofs.Common.{◌≡◌, ℕ, ◌+◌, ◌-◌, ◌<◌, ◌^◌, true, false, not, eqb, sym, ap, ◌∙◌, arith, Ok, eq-eqb, inl, inr}
+use Rattle.std.proofs.Common.{◌≡◌, ℕ, ◌+◌, ◌-◌, ◌<◌, ◌^◌, true, false, not, eqb, sym, ap, ◌∙◌, arith, eq-eqb, inl, inr}
 use Rattle.std.proofs.lemmas.Bool.{false≢true, cases_lt}
 use Rattle.ibc_ids.specs.Texts.{Text, text_cmp, pair_cmp}
 use Rattle.ibc_wire.specs.declared.records.ConnectionEnd.{ConnectionEnd}
 use Rattle.ibc_machine.specs.declared.reply.Effect.{Effect}
 use Rattle.ibc_machine.specs.declared.reply.Reply.TheVariants as reply
 use Rattle.ibc_machine.specs.Records.{Core, Client, Channel, with_client, with_connection, with_channel}
-use Rattle.ibc_machine.specs.Evidence.{require_number}
 use Rattle.ibc_machine.specs.Ledgers.{is_block_reply}
 use Rattle.ibc_ids.proofs.Texts.{text_tied}
 use Rattle.ibc_machine.proofs.Images.{pair_tied}
-use Rattle.ibc_refinement.proofs.Checked.{require_true}
 use Rattle.ibc_refinement.proofs.Entries.{all_with}
 use Rattle.ibc_refinement.proofs.Typed.{IsTypedClient, IsTypedConnectionAt, IsTypedChannelAt, IsTyped}
 
@@ -23,6 +21,19 @@ pub record Sound (given : Effect) (core : Core) : Type 0 where
 pub record Kept (old : Core) (given : Effect) (core : Core) : Type 0 where
   pub sound : Sound given core
   pub clients : core.clients ≡ old.clients
+
+-- the same of what a handler gives, with what applications keep beside it
+abbrev pub GivesKept : Core → Effect × Core → Type 0
+GivesKept old w = Kept old w.0 w.1
+
+abbrev pub GivesSound : Effect × Core → Type 0
+GivesSound w = Sound w.0 w.1
+
+abbrev pub KeptBeside : {A : Type 0} → Core → Effect × Core × A → Type 0
+KeptBeside old w = Kept old w.0 w.1
+
+abbrev pub SoundBeside : {A : Type 0} → Effect × Core × A → Type 0
+SoundBeside w = Sound w.0 w.1
 
 -- ---- records with one more
 
@@ -94,6 +105,3 @@ below_next n small other =
       | inl below ↦ below
       | inr above ↦ absurd (false≢true (sym (ap not (eq-eqb n (2 ^ 64 - 1) (omega arith))) ∙ other))
     ]
-
-pub next_fits : (n : ℕ) → n < 2 ^ 64 → require_number n ≡ Ok tt → n + 1 < 2 ^ 64
-next_fits n small passed = below_next n small (require_true _ _ passed)

@@ -1,9 +1,8 @@
 -- Packets: an accepted message keeps the records typed, and the clients.
-use Rattle.std.proofs.Common.{◌≡◌, ℕ, ◌+◌, ◌-◌, ◌<◌, ◌≤◌, ◌^◌, Bool, true, false, cond, ◌&&◌, not, eqb, nat_lt, refl, sym, ap, ◌∙◌, Some, inl, inr, arith, nat_cmp, eqb-true, lt-ltb}
+use Rattle.std.proofs.Common.{◌≡◌, ℕ, ◌+◌, ◌-◌, ◌<◌, ◌≤◌, ◌^◌, Bool, true, false, cond, ◌&&◌, not, eqb, ◌==◌, nat_lt, refl, sym, ap, ◌∙◌, Some, inl, inr, arith, nat_cmp, eqb-true, lt-ltb}
 use Rattle.std.specs.FinMap.{nat_cmp-IsAntisymmetric}
 use Rattle.std.proofs.lemmas.Bool.{and_parts, or_cases, false≢true, cases_lt}
 use Rattle.ibc_ids.specs.Texts.{Text}
-use Rattle.ibc_ids.specs.declared.refusal.Refusal.TheVariants as refusal
 use Rattle.ibc_wire.specs.Spelling.{channel_state_number}
 use Rattle.ibc_wire.specs.declared.messages.RecvPacket.{RecvPacket}
 use Rattle.ibc_wire.specs.declared.messages.AckPacket.{AckPacket}
@@ -11,22 +10,21 @@ use Rattle.ibc_wire.specs.declared.messages.Timeout.{Timeout}
 use Rattle.ibc_wire.specs.declared.messages.TimeoutOnClose.{TimeoutOnClose}
 use Rattle.ibc_wire.specs.declared.packet.Packet.{Packet}
 use Rattle.ibc_wire.specs.declared.records.ChannelState.TheVariants.{Open, Closed}
-use Rattle.ibc_machine.specs.declared.reply.Effect.{Effect}
 use Rattle.ibc_machine.specs.declared.reply.Effect.TheVariants as effect
 use Rattle.ibc_machine.specs.Records.{Core, Channel, Commitment, channel_at, with_channel, is_one_of}
 use Rattle.ibc_machine.specs.Checks.{Checked}
 use Rattle.ibc_machine.specs.Evidence.{Host, Evidence}
 use Rattle.ibc_machine.specs.Channels.{is_in_state, is_established}
-use Rattle.ibc_machine.specs.Packets.{has_form, has_size, is_ordered, after_send, with_sent, after_receive, recv_checked, recv_packet, without_commitment, after_ack, ack_checked, ack_packet, after_timeout, timeout_checked, timeout, timeout_on_close_checked, timeout_on_close}
-use Rattle.ibc_machine.proofs.PassedRows.{expect_passed}
-use Rattle.ibc_refinement.proofs.Checked.{Gives, gives_ok, gives_then, gives_bind, require_true}
+use Rattle.ibc_machine.specs.Packets.{has_form, has_size, is_ordered, after_send, with_sent, after_receive, recv_packet, without_commitment, after_ack, ack_packet, after_timeout, timeout, timeout_on_close}
+use Rattle.ibc_machine.proofs.PassedRows.{Gives, gives_ok, gives_bind}
+use Rattle.ibc_machine.proofs.PacketChecks.{IsUnsettled, PassedRecv, recv_passed, PassedAck, ack_passed, timeout_passed, timeout_on_close_passed}
 use Rattle.ibc_refinement.proofs.Entries.{all_with, all_without, all_added}
 use Rattle.ibc_refinement.proofs.Typed.{IsTypedCommitment, IsSequence, HasSequence, IsTypedChannel, IsTyped}
 use Rattle.ibc_refinement.proofs.TypedLook.{channel_typed}
 use Rattle.ibc_refinement.proofs.TypedMessages.{IsTypedPacket}
 use Rattle.ibc_refinement.proofs.FitClaims.{not_init}
-use Rattle.ibc_refinement.proofs.Kept.{Sound, Kept, typed_with_channel, below_next}
-use Rattle.ibc_refinement.proofs.KeptChannels.{typed_in_state}
+use Rattle.ibc_refinement.proofs.Kept.{Kept, KeptBeside, below_next}
+use Rattle.ibc_refinement.proofs.KeptChannels.{typed_in_state, changed_typed}
 
 -- ---- what an end becomes
 
@@ -110,55 +108,55 @@ not_below a b h = elim (cases_lt a b) [ inl low ↦ absurd (false≢true (sym (a
 not_other : (a b : ℕ) → not (not (eqb a b)) ≡ true → a ≡ b
 not_other a b h = elim (eqb a b) as (λ e. eqb a b ≡ e → not (not e) ≡ true → a ≡ b) [ true ↦ λ is _. eqb-true a b is | false ↦ λ _ h. absurd (false≢true h) ] refl h
 
-form_below : (p : Packet) (rest : Bool) → p.sequence < 2 ^ 64 → (has_form p && rest) ≡ true → p.sequence + 1 < 2 ^ 64
-form_below p rest small h =
-    let form = (and_parts (has_form p) rest h).0 in
+form_below : (p : Packet) → p.sequence < 2 ^ 64 → has_form p ≡ true → p.sequence + 1 < 2 ^ 64
+form_below p small form =
     let numbers = (and_parts (not (eqb p.sequence 0) && not (eqb p.sequence (2 ^ 64 - 1))) (has_size p.payload) form).0 in
     below_next p.sequence small (and_parts (not (eqb p.sequence 0)) (not (eqb p.sequence (2 ^ 64 - 1))) numbers).1
 
 module _ (core : Core) (typed : IsTyped core) where
-  changed : (port name : Text) (mine after : Channel) → channel_at core port name ≡ Some mine → (IsTypedChannel mine → IsTypedChannel after) → IsTyped (with_channel port name after core)
-  changed port name mine after there h =
-      let c = channel_typed core port name mine typed there in
-      typed_with_channel port name after core typed (record { port = c.port; channel = c.channel; value = h c.value })
-
   -- an end that may send, with what it sent
-  pub sent_sound : (port name : Text) (mine : Channel) (c : Commitment) → channel_at core port name ≡ Some mine → c.timeout_height < 2 ^ 64 → c.timeout_time < 2 ^ 64 → mine.next_send + 1 < 2 ^ 64
-      → Sound (with_sent port name mine c core).0 (with_sent port name mine c core).1
-  sent_sound port name mine c there height time next = record {
-    typed = changed port name mine (after_send c mine) there (λ t. send_typed c mine t height time next);
-    effect = refl;
+  pub sent_kept : (port name : Text) (mine : Channel) (c : Commitment) → channel_at core port name ≡ Some mine → c.timeout_height < 2 ^ 64 → c.timeout_time < 2 ^ 64
+      → not (mine.next_send == 2 ^ 64 - 1) ≡ true → Kept core (with_sent port name mine c core).0 (with_sent port name mine c core).1
+  sent_kept port name mine c there height time number =
+      let next = below_next mine.next_send (channel_typed core port name mine typed there).value.next_send number in
+      record {
+        sound = record { typed = changed_typed core typed port name mine (after_send c mine) there (λ t. send_typed c mine t height time next); effect = refl };
+        clients = refl;
+      }
+
+  timed_out_kept : (p : Packet) (mine : Channel) → IsUnsettled core p mine → is_established mine ≡ true
+      → Kept core effect.None (with_channel p.source_port p.source_channel (after_timeout p.sequence mine) core)
+  timed_out_kept p mine stands established = record {
+    sound = record {
+      typed = changed_typed core typed p.source_port p.source_channel mine (after_timeout p.sequence mine) stands.there (λ c. timeout_typed p.sequence mine c established);
+      effect = refl;
+    };
+    clients = refl;
   }
 
+module _ {A : Type 0} (evidence : Evidence) (host : Host) (core : Core) (typed : IsTyped core) (app : A) where
   -- ---- receiving
 
-  abbrev Receives : Packet → Channel → Type 0
-  Receives p mine = (channel_at core p.destination_port p.destination_channel ≡ Some mine) × (is_ordered mine ≡ true → mine.next_recv + 1 < 2 ^ 64)
+  -- an ordered end waits for the very packet
+  waits_for_it : (m : RecvPacket) (mine : Channel) → PassedRecv evidence host core m mine → m.packet.sequence < 2 ^ 64 → is_ordered mine ≡ true → mine.next_recv + 1 < 2 ^ 64
+  waits_for_it m mine passed small ordered =
+      let n = m.packet.sequence in
+      let below = form_below m.packet small passed.form in
+      let least = not_below n mine.next_recv (ap (λ b. not (cond b (nat_lt n mine.next_recv) (is_one_of mine.receipts n))) (sym ordered) ∙ passed.may.fresh) in
+      let most = not_below mine.next_recv n (ap (λ b. not (b && nat_lt mine.next_recv n)) (sym ordered) ∙ passed.may.in_order) in
+      omega arith
 
-  recv_receives : (evidence : Evidence) (host : Host) (m : RecvPacket) → IsTypedPacket m.packet → Gives (Receives m.packet) (recv_checked evidence host core m)
-  unfolding recv_checked
-  recv_receives evidence host m t =
-      let p = m.packet in
-      gives_then _ _ λ form. gives_bind _ _ λ (mine : Channel) is. gives_then _ _ λ _. gives_then _ _ λ _. gives_then _ _ λ _. gives_then _ _ λ fresh. gives_then _ _ λ next. gives_then _ _ λ _. gives_then _ _ λ _.
-      gives_ok (Receives p) mine (
-        expect_passed (channel_at core p.destination_port p.destination_channel) refusal.UnknownChannel is,
-        λ ordered.
-            let below = form_below p (evidence.is_proof m.proof) t.sequence (require_true _ _ form) in
-            let least = not_below p.sequence mine.next_recv (ap (λ b. not (cond b (nat_lt p.sequence mine.next_recv) (is_one_of mine.receipts p.sequence))) (sym ordered) ∙ require_true _ _ fresh) in
-            let most = not_below mine.next_recv p.sequence (ap (λ b. not (b && nat_lt mine.next_recv p.sequence)) (sym ordered) ∙ require_true _ _ next) in
-            omega arith,
-      )
-
-  pub recv_packet_kept : {A : Type 0} (on_recv : Text → Packet → Text × A) (evidence : Evidence) (host : Host) (m : RecvPacket) → IsTypedPacket m.packet
-      → Gives (λ (w : Effect × Core × A). Kept core w.0 w.1) (recv_packet on_recv evidence host core m)
+  pub recv_packet_kept : (on_recv : A → Text → Packet → Text × A) (m : RecvPacket) → IsTypedPacket m.packet → Gives (KeptBeside core) (recv_packet on_recv m evidence host core app)
   unfolding recv_packet
-  recv_packet_kept {A} on_recv evidence host m t =
+  recv_packet_kept on_recv m t =
       gives_bind _ _ λ (mine : Channel) is.
-      let r = (recv_receives evidence host m t).gives mine is in
-      gives_ok (λ (w : Effect × Core × A). Kept core w.0 w.1) _ (record {
+      let p = m.packet in
+      let passed = recv_passed evidence host core m mine is in
+      let ack = (on_recv app mine.end.version p).0 in
+      gives_ok (KeptBeside core) _ (record {
         sound = record {
-          typed = changed m.packet.destination_port m.packet.destination_channel mine (after_receive m.packet.sequence (on_recv mine.end.version m.packet).0 mine) r.0
-              (λ c. receive_typed m.packet.sequence (on_recv mine.end.version m.packet).0 mine c t.sequence r.1);
+          typed = changed_typed core typed p.destination_port p.destination_channel mine (after_receive p.sequence ack mine) passed.there
+              (λ c. receive_typed p.sequence ack mine c t.sequence (waits_for_it m mine passed t.sequence));
           effect = refl;
         };
         clients = refl;
@@ -166,32 +164,24 @@ module _ (core : Core) (typed : IsTyped core) where
 
   -- ---- acknowledgements
 
-  abbrev Acknowledges : Packet → Channel → Type 0
-  Acknowledges p mine = (channel_at core p.source_port p.source_channel ≡ Some mine) × (is_ordered mine ≡ true → mine.next_ack + 1 < 2 ^ 64)
+  -- an ordered end waits for the very acknowledgement
+  is_next : (m : AckPacket) (mine : Channel) → PassedAck evidence core m mine → m.packet.sequence < 2 ^ 64 → is_ordered mine ≡ true → mine.next_ack + 1 < 2 ^ 64
+  is_next m mine passed small ordered =
+      let n = m.packet.sequence in
+      let below = form_below m.packet small passed.form in
+      let same = not_other n mine.next_ack (ap (λ b. not (b && not (eqb n mine.next_ack))) (sym ordered) ∙ passed.in_order) in
+      omega arith
 
-  ack_acknowledges : (evidence : Evidence) (m : AckPacket) → IsTypedPacket m.packet → Gives (Acknowledges m.packet) (ack_checked evidence core m)
-  unfolding ack_checked
-  ack_acknowledges evidence m t =
-      let p = m.packet in
-      gives_then _ _ λ form. gives_bind _ _ λ (mine : Channel) is. gives_then _ _ λ _. gives_then _ _ λ _. gives_then _ _ λ _. gives_then _ _ λ next. gives_then _ _ λ _. gives_then _ _ λ _.
-      gives_ok (Acknowledges p) mine (
-        expect_passed (channel_at core p.source_port p.source_channel) refusal.UnknownChannel is,
-        λ ordered.
-            let front = (and_parts (has_form p && has_size m.ack) (evidence.is_proof m.proof) (require_true _ _ form)).0 in
-            let below = form_below p (has_size m.ack) t.sequence front in
-            let same = not_other p.sequence mine.next_ack (ap (λ b. not (b && not (eqb p.sequence mine.next_ack))) (sym ordered) ∙ require_true _ _ next) in
-            omega arith,
-      )
-
-  pub ack_packet_kept : {A : Type 0} (on_ack : Text → Packet → Text → Checked A) (evidence : Evidence) (m : AckPacket) → IsTypedPacket m.packet
-      → Gives (λ (w : Effect × Core × A). Kept core w.0 w.1) (ack_packet on_ack evidence core m)
+  pub ack_packet_kept : (on_ack : A → Text → Packet → Text → Checked A) (m : AckPacket) → IsTypedPacket m.packet → Gives (KeptBeside core) (ack_packet on_ack m evidence host core app)
   unfolding ack_packet
-  ack_packet_kept {A} on_ack evidence m t =
-      gives_bind _ _ λ (mine : Channel) is. gives_bind _ _ λ (app : A) _.
-      let r = (ack_acknowledges evidence m t).gives mine is in
-      gives_ok (λ (w : Effect × Core × A). Kept core w.0 w.1) _ (record {
+  ack_packet_kept on_ack m t =
+      gives_bind _ _ λ (mine : Channel) is. gives_bind _ _ λ (left : A) _.
+      let p = m.packet in
+      let passed = ack_passed evidence host core m mine is in
+      gives_ok (KeptBeside core) _ (record {
         sound = record {
-          typed = changed m.packet.source_port m.packet.source_channel mine (after_ack m.packet.sequence mine) r.0 (λ c. ack_typed m.packet.sequence mine c r.1);
+          typed = changed_typed core typed p.source_port p.source_channel mine (after_ack p.sequence mine) passed.unsettled.there
+              (λ c. ack_typed p.sequence mine c (is_next m mine passed t.sequence));
           effect = refl;
         };
         clients = refl;
@@ -199,39 +189,17 @@ module _ (core : Core) (typed : IsTyped core) where
 
   -- ---- timeouts
 
-  abbrev TimesOut : Packet → Channel → Type 0
-  TimesOut p mine = (channel_at core p.source_port p.source_channel ≡ Some mine) × (is_established mine ≡ true)
+  module _ (on_timeout : A → Text → Packet → Checked A) where
+    pub timeout_kept : (m : Timeout) → Gives (KeptBeside core) (timeout on_timeout m evidence host core app)
+    unfolding timeout
+    timeout_kept m =
+        gives_bind _ _ λ (mine : Channel) is. gives_bind _ _ λ (left : A) _.
+        let passed = timeout_passed evidence host core m mine is in
+        gives_ok (KeptBeside core) _ (timed_out_kept core typed m.packet mine passed.unsettled passed.state)
 
-  timeout_times_out : (evidence : Evidence) (m : Timeout) → Gives (TimesOut m.packet) (timeout_checked evidence core m)
-  unfolding timeout_checked
-  timeout_times_out evidence m =
-      gives_then _ _ λ _. gives_bind _ _ λ (mine : Channel) is. gives_then _ _ λ state. gives_then _ _ λ _. gives_then _ _ λ _. gives_then _ _ λ _. gives_then _ _ λ _. gives_then _ _ λ _. gives_then _ _ λ _.
-      gives_ok (TimesOut m.packet) mine (expect_passed (channel_at core m.packet.source_port m.packet.source_channel) refusal.UnknownChannel is, require_true _ _ state)
-
-  on_close_times_out : (evidence : Evidence) (m : TimeoutOnClose) → Gives (TimesOut m.packet) (timeout_on_close_checked evidence core m)
-  unfolding timeout_on_close_checked
-  on_close_times_out evidence m =
-      gives_then _ _ λ _. gives_bind _ _ λ (mine : Channel) is. gives_then _ _ λ state. gives_then _ _ λ _. gives_then _ _ λ _. gives_then _ _ λ _. gives_then _ _ λ _. gives_then _ _ λ _. gives_then _ _ λ _.
-      gives_ok (TimesOut m.packet) mine (expect_passed (channel_at core m.packet.source_port m.packet.source_channel) refusal.UnknownChannel is, require_true _ _ state)
-
-  timed_out_kept : (p : Packet) (mine : Channel) → TimesOut p mine → Kept core effect.None (with_channel p.source_port p.source_channel (after_timeout p.sequence mine) core)
-  timed_out_kept p mine r = record {
-    sound = record {
-      typed = changed p.source_port p.source_channel mine (after_timeout p.sequence mine) r.0 (λ c. timeout_typed p.sequence mine c r.1);
-      effect = refl;
-    };
-    clients = refl;
-  }
-
-  pub timeout_kept : {A : Type 0} (on_timeout : Text → Packet → Checked A) (evidence : Evidence) (m : Timeout) → Gives (λ (w : Effect × Core × A). Kept core w.0 w.1) (timeout on_timeout evidence core m)
-  unfolding timeout
-  timeout_kept {A} on_timeout evidence m =
-      gives_bind _ _ λ (mine : Channel) is. gives_bind _ _ λ (app : A) _.
-      gives_ok (λ (w : Effect × Core × A). Kept core w.0 w.1) _ (timed_out_kept m.packet mine ((timeout_times_out evidence m).gives mine is))
-
-  pub timeout_on_close_kept : {A : Type 0} (on_timeout : Text → Packet → Checked A) (evidence : Evidence) (m : TimeoutOnClose)
-      → Gives (λ (w : Effect × Core × A). Kept core w.0 w.1) (timeout_on_close on_timeout evidence core m)
-  unfolding timeout_on_close
-  timeout_on_close_kept {A} on_timeout evidence m =
-      gives_bind _ _ λ (mine : Channel) is. gives_bind _ _ λ (app : A) _.
-      gives_ok (λ (w : Effect × Core × A). Kept core w.0 w.1) _ (timed_out_kept m.packet mine ((on_close_times_out evidence m).gives mine is))
+    pub timeout_on_close_kept : (m : TimeoutOnClose) → Gives (KeptBeside core) (timeout_on_close on_timeout m evidence host core app)
+    unfolding timeout_on_close
+    timeout_on_close_kept m =
+        gives_bind _ _ λ (mine : Channel) is. gives_bind _ _ λ (left : A) _.
+        let passed = timeout_on_close_passed evidence host core m mine is in
+        gives_ok (KeptBeside core) _ (timed_out_kept core typed m.packet mine passed.unsettled passed.state)

@@ -6,7 +6,6 @@ use Rattle.ibc_ids.specs.Texts.{Text, text_cmp, same_text}
 use Rattle.ibc_ids.specs.Maps.{Map, with}
 use Rattle.ibc_ids.specs.Paths.{nth_client}
 use Rattle.ibc_ids.specs.Publications.{row_at}
-use Rattle.ibc_ids.specs.declared.refusal.Refusal.TheVariants as refusal
 use Rattle.ibc_ids.specs.declared.publication.Publication.{Publication}
 use Rattle.ibc_wire.specs.declared.header.Header.{Header}
 use Rattle.ibc_wire.specs.declared.messages.CreateClient.{CreateClient}
@@ -16,27 +15,28 @@ use Rattle.ibc_wire.specs.declared.messages.Message.TheVariants as message
 use Rattle.ibc_machine.specs.declared.event.Event.TheVariants as event
 use Rattle.ibc_machine.specs.declared.entry.Reading.{Reading}
 use Rattle.ibc_machine.specs.declared.reply.Effect.{Effect}
-use Rattle.ibc_machine.specs.Records.{Core, Records, Client, Block, client_at, with_client}
+use Rattle.ibc_machine.specs.Records.{Core, Apps, Client, Block, client_at, with_client}
 use Rattle.ibc_machine.specs.Image.{core_root}
-use Rattle.ibc_machine.specs.Checks.{Checked, go_on}
+use Rattle.ibc_machine.specs.Checks.{Checked}
 use Rattle.ibc_machine.specs.Evidence.{Host, Evidence, require_row}
 use Rattle.ibc_machine.specs.Clients.{create_client, update_client, new_client, updated, is_of_client}
 use Rattle.ibc_machine.specs.Genesis.{GenesisState}
-use Rattle.ibc_machine.specs.Handlers.{core_step, handle, after_message, host_of}
+use Rattle.ibc_machine.specs.Handlers.{handle, after_message, host_of}
 use Rattle.ibc_machine.specs.Machine.{World, block_at, row_if}
 use Rattle.ibc_machine.specs.Replay.{Consensus, LedgerState, consensus_cmp, is_published_as, row_read, proves, with_consensus, after_answer, ledger_answer}
 use Rattle.ibc_machine.specs.Ledgers.{published_as}
 use Rattle.ibc_ids.proofs.Texts.{text_same}
-use Rattle.ibc_machine.proofs.PassedRows.{expect_passed}
-use Rattle.ibc_refinement.proofs.Checked.{Gives, gives_ok, gives_then, gives_bind, require_true}
+use Rattle.ibc_machine.proofs.PassedRows.{Gives, gives_ok, gives_then, gives_require, gives_expect}
+use Rattle.ibc_machine.proofs.PassedHandlers.{gives_on_core}
 use Rattle.ibc_refinement.proofs.Steps.{Knows, KnowsBlocks, consensus_of, SeesForMessage}
 use Rattle.ibc_refinement.proofs.Typed.{IsTyped}
 use Rattle.ibc_refinement.proofs.TypedMessages.{IsTypedMessage}
-use Rattle.ibc_refinement.proofs.KeptRecords.{IsOtherMessage, RecordsKept, handle_kept}
+use Rattle.ibc_refinement.proofs.Kept.{KeptBeside}
+use Rattle.ibc_refinement.proofs.KeptRecords.{IsOtherMessage, handle_kept}
 use Rattle.ibc_refinement.proofs.Knowing.{update_knows, same_clients_know, created_knows}
 
 -- what clients know after a message was answered so
-abbrev KnowsAfter : World → LedgerState → Message → Checked (Effect × Records) → Type 0
+abbrev KnowsAfter : World → LedgerState → Message → Checked (Effect × Core × Apps) → Type 0
 KnowsAfter world state m x = KnowsBlocks world (after_answer m state (after_message state.chain x)).1
 
 -- ---- messages for others than clients
@@ -46,24 +46,23 @@ other_consensus (message.CreateClient m) apart known = absurd apart
 other_consensus (message.UpdateClient m) apart known = absurd apart
 other_consensus m apart known = refl
 
-other_knows : (world : World) (state : LedgerState) (m : Message) (x : Checked (Effect × Records)) → IsOtherMessage m → Gives (RecordsKept state.chain.records) x → KnowsBlocks world state → KnowsAfter world state m x
+other_knows : (world : World) (state : LedgerState) (m : Message) (x : Checked (Effect × Core × Apps)) → IsOtherMessage m → Gives (KeptBeside state.chain.records.core) x → KnowsBlocks world state → KnowsAfter world state m x
 other_knows world state m (Err r) apart keeps known = known
 other_knows world state m (Ok w) apart keeps known =
-    subst (Knows world w.1.core) (sym (other_consensus m apart state.consensus))
-    (same_clients_know world state.chain.records.core w.1.core state.consensus (keeps.gives w refl).clients known)
+    subst (Knows world w.1) (sym (other_consensus m apart state.consensus))
+    (same_clients_know world state.chain.records.core w.1 state.consensus (keeps.gives w refl).clients known)
 
 -- ---- a new client
 
-abbrev Creates : Core → CreateClient → Effect × Core → Type 0
-Creates old m w = w.1.clients ≡ with text_cmp (nth_client old.next_client) (new_client m.chain) old.clients
+abbrev Creates : Core → CreateClient → Core → Type 0
+Creates old m after = after.clients ≡ with text_cmp (nth_client old.next_client) (new_client m.chain) old.clients
 
-create_gives : (host : Host) (core : Core) (m : CreateClient) → Gives (Creates core m) (create_client host core m)
+create_gives : (evidence : Evidence) (host : Host) (core : Core) (m : CreateClient) → Gives (λ (w : Effect × Core). Creates core m w.1) (create_client m evidence host core)
 unfolding create_client
-create_gives host core m = gives_then _ _ λ _. gives_then _ _ λ _. gives_then _ _ λ _. gives_ok (Creates core m) _ refl
+create_gives evidence host core m = gives_then _ _ λ _. gives_then _ _ λ _. gives_then _ _ λ _. gives_ok (λ (w : Effect × Core). Creates core m w.1) _ refl
 
-create_knows : (world : World) (state : LedgerState) (m : CreateClient) (x : Checked (Effect × Core)) → Gives (Creates state.chain.records.core m) x → KnowsBlocks world state
-    → KnowsAfter world state (message.CreateClient m) (core_step state.chain.records x)
-unfolding go_on
+create_knows : (world : World) (state : LedgerState) (m : CreateClient) (x : Checked (Effect × Core × Apps)) → Gives (λ (w : Effect × Core × Apps). Creates state.chain.records.core m w.1) x
+    → KnowsBlocks world state → KnowsAfter world state (message.CreateClient m) x
 create_knows world state m (Err r) gives known = known
 create_knows world state m (Ok w) gives known =
     created_knows world state.chain.records.core w.1 state.consensus (nth_client state.chain.records.core.next_client) m.chain (gives.gives w refl) known
@@ -71,25 +70,20 @@ create_knows world state m (Ok w) gives known =
 -- ---- an update
 
 -- what an accepted update has passed, and what it did
-pub record Updates (evidence : Evidence) (core : Core) (m : UpdateClient) (w : Effect × Core) : Type 0 where
+pub record Updates (evidence : Evidence) (core : Core) (m : UpdateClient) (after : Core) : Type 0 where
   pub client : Client
   pub there : client_at core m.client ≡ Some client
   pub ours : is_of_client client m.header ≡ true
   pub published : nat_le m.header.height (evidence.published m.header.chain) ≡ true
   pub row : require_row (evidence.row m.header) ≡ Ok tt
-  pub core_is : with_client m.client (updated m.header.height client) core ≡ w.1
+  pub core_is : with_client m.client (updated m.header.height client) core ≡ after
 
-update_gives : (evidence : Evidence) (core : Core) (m : UpdateClient) → Gives (Updates evidence core m) (update_client evidence core m)
+update_gives : (evidence : Evidence) (host : Host) (core : Core) (m : UpdateClient) → Gives (λ (w : Effect × Core). Updates evidence core m w.1) (update_client m evidence host core)
 unfolding update_client
-update_gives evidence core m =
-    gives_bind _ _ λ (client : Client) is. gives_then _ _ λ ours. gives_then _ _ λ published. gives_then _ _ λ row. gives_ok (Updates evidence core m) _ (record {
-      client = client;
-      there = expect_passed (client_at core m.client) refusal.UnknownClient is;
-      ours = require_true _ _ ours;
-      published = require_true _ _ published;
-      row = row;
-      core_is = refl;
-    })
+update_gives evidence host core m =
+    gives_expect _ _ _ λ (client : Client) there. gives_require _ _ _ λ ours. gives_require _ _ _ λ published. gives_then _ _ λ row.
+    gives_ok (λ (w : Effect × Core). Updates evidence core m w.1) _
+    (record { client = client; there = there; ours = ours; published = published; row = row; core_is = refl })
 
 row_same : (b : Bool) → require_row (row_if b) ≡ Ok tt → b ≡ true
 row_same true e = refl
@@ -111,10 +105,9 @@ block_from header (Some block) e =
     let root = sym (text_same header.root (core_root block.records.core) parts.1) in
     (block, refl, λ i. record { root = root i; time = time i })
 
-update_message_knows : (window : ℕ) (world : World) (seen : List Publication) (reading : Option Reading) (state : LedgerState) (m : UpdateClient) (x : Checked (Effect × Core))
-    → Gives (Updates (proves seen reading state) state.chain.records.core m) x → SeesForMessage window world seen reading state (message.UpdateClient m) → KnowsBlocks world state
-    → KnowsAfter world state (message.UpdateClient m) (core_step state.chain.records x)
-unfolding go_on
+update_message_knows : (window : ℕ) (world : World) (seen : List Publication) (reading : Option Reading) (state : LedgerState) (m : UpdateClient) (x : Checked (Effect × Core × Apps))
+    → Gives (λ (w : Effect × Core × Apps). Updates (proves seen reading state) state.chain.records.core m w.1) x
+    → SeesForMessage window world seen reading state (message.UpdateClient m) → KnowsBlocks world state → KnowsAfter world state (message.UpdateClient m) x
 update_message_knows window world seen reading state m (Err r) gives sees known = known
 update_message_knows window world seen reading state m (Ok w) gives sees known =
     let g = gives.gives w refl in
@@ -137,8 +130,13 @@ pub message_knows : (genesis : GenesisState) (k chain : ℕ) (world : World) (se
     → KnowsBlocks world (ledger_answer genesis k seen reading state (event.Message chain m)).1
 unfolding ledger_answer handle
 message_knows genesis k chain world seen reading state (message.CreateClient m) typed t sees known =
-    create_knows world state m _ (create_gives (host_of (length genesis.chains) k state.chain) state.chain.records.core m) known
+    let core = state.chain.records.core in
+    create_knows world state m _ (gives_on_core (λ (w : Effect × Core × Apps). Creates core m w.1) _ state.chain.records.apps
+    (create_gives (proves seen reading state) (host_of (length genesis.chains) k state.chain) core m)) known
 message_knows genesis k chain world seen reading state (message.UpdateClient m) typed t sees known =
-    update_message_knows genesis.window world seen reading state m _ (update_gives (proves seen reading state) state.chain.records.core m) sees known
+    let core = state.chain.records.core in
+    update_message_knows genesis.window world seen reading state m _ (gives_on_core (λ (w : Effect × Core × Apps). Updates (proves seen reading state) core m w.1) _ state.chain.records.apps
+    (update_gives (proves seen reading state) (host_of (length genesis.chains) k state.chain) core m)) sees known
 message_knows genesis k chain world seen reading state m typed t sees known =
-    other_knows world state m _ tt (handle_kept (proves seen reading state) (host_of (length genesis.chains) k state.chain) state.chain.records m tt typed t) known
+    other_knows world state m _ tt
+    (handle_kept (proves seen reading state) (host_of (length genesis.chains) k state.chain) state.chain.records.core typed state.chain.records.apps m tt t) known

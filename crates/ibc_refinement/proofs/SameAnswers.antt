@@ -1,5 +1,5 @@
 -- A chain answers each message alike under two ways to judge that agree on what the message asks.
-use Rattle.std.proofs.Common.{◌≡◌, true, ◌||◌, refl, ap, Some, None}
+use Rattle.std.proofs.Common.{◌≡◌, true, ◌||◌, refl, Some, None}
 use Rattle.std.specs.Prelude.{⊤}
 use Rattle.ibc_ids.specs.Texts.{Text}
 use Rattle.ibc_wire.specs.declared.messages.Message.{Message}
@@ -7,13 +7,14 @@ use Rattle.ibc_wire.specs.declared.messages.Message.TheVariants as message
 use Rattle.ibc_wire.specs.declared.records.ConnectionEnd.{ConnectionEnd}
 use Rattle.ibc_wire.specs.declared.records.ConnectionState.TheVariants as conn
 use Rattle.ibc_wire.specs.declared.records.ChannelState.TheVariants.{Init, TryOpen, Open, Closed}
-use Rattle.ibc_machine.specs.Records.{Core, Records, Client, Channel, client_at, connection_at, channel_at}
+use Rattle.ibc_machine.specs.Records.{Core, Apps, Client, Channel, client_at, connection_at, channel_at}
 use Rattle.ibc_machine.specs.Evidence.{Host, Evidence}
-use Rattle.ibc_machine.specs.Clients.{is_of_client}
-use Rattle.ibc_machine.specs.Connections.{connection_end, has_connection, has_client}
-use Rattle.ibc_machine.specs.Channels.{is_in_state, counterpart, has_channel, peer_channel_of, channel_end}
+use Rattle.ibc_machine.specs.Clients.{create_client, is_of_client}
+use Rattle.ibc_machine.specs.Connections.{conn_open_init, connection_end, has_connection, has_client}
+use Rattle.ibc_machine.specs.Channels.{chan_open_init, chan_close_init, is_in_state, counterpart, has_channel, peer_channel_of, channel_end}
 use Rattle.ibc_machine.specs.Packets.{was_sent, was_acknowledged, not_received}
-use Rattle.ibc_machine.specs.Handlers.{handle, core_step, both_step}
+use Rattle.ibc_machine.specs.Handlers.{handle}
+use Rattle.ibc_refinement.proofs.Checked.{bind_front_same}
 use Rattle.ibc_refinement.proofs.Agreeing.{Asked, Agree, AgreeOn}
 use Rattle.ibc_refinement.proofs.SameConnections.{update_client_same, conn_open_try_same, conn_open_ack_same, conn_open_confirm_same}
 use Rattle.ibc_refinement.proofs.SameChannels.{chan_open_try_same, chan_open_ack_same, chan_open_confirm_same, chan_close_confirm_same}
@@ -59,26 +60,25 @@ AgreeOnHeader one other core (message.UpdateClient m) =
     (client : Client) → client_at core m.client ≡ Some client → is_of_client client m.header ≡ true → AgreeOn one other m.header
 AgreeOnHeader one other core m = ⊤
 
-pub handle_same : (asked : Asked) (one other : Evidence) (host : Host) (records : Records) (m : Message)
-    → Agree asked one other records.core → AgreeOnHeader one other records.core m → AllAsked asked records.core m
-    → handle one host records m ≡ handle other host records m
-unfolding handle
-handle_same asked one other host records (message.CreateClient m) agree header a = refl
-handle_same asked one other host records (message.UpdateClient m) agree header a = ap (core_step records) (update_client_same one other records.core m header)
-handle_same asked one other host records (message.ConnOpenInit m) agree header a = refl
-handle_same asked one other host records (message.ConnOpenTry m) agree header a = ap (core_step records) (conn_open_try_same asked one other host records.core agree m a.0 a.1)
-handle_same asked one other host records (message.ConnOpenAck m) agree header a = ap (core_step records) (conn_open_ack_same asked one other host records.core agree m a)
-handle_same asked one other host records (message.ConnOpenConfirm m) agree header a = ap (core_step records) (conn_open_confirm_same asked one other host records.core agree m a)
-handle_same asked one other host records (message.ChanOpenInit m) agree header a = refl
-handle_same asked one other host records (message.ChanOpenTry m) agree header a = ap (core_step records) (chan_open_try_same asked one other records.core agree _ _ m a)
-handle_same asked one other host records (message.ChanOpenAck m) agree header a = ap (core_step records) (chan_open_ack_same asked one other records.core agree m a)
-handle_same asked one other host records (message.ChanOpenConfirm m) agree header a = ap (core_step records) (chan_open_confirm_same asked one other records.core agree m a)
-handle_same asked one other host records (message.ChanCloseInit m) agree header a = refl
-handle_same asked one other host records (message.ChanCloseConfirm m) agree header a = ap (core_step records) (chan_close_confirm_same asked one other records.core agree m a)
-handle_same asked one other host records (message.Transfer m) agree header a = transfer_same asked one other records agree m
-handle_same asked one other host records (message.TransferMany m) agree header a = transfer_many_same asked one other records agree m
-handle_same asked one other host records (message.SendNote m) agree header a = ap (core_step records) (send_note_same asked one other records.core agree m)
-handle_same asked one other host records (message.RecvPacket m) agree header a = ap both_step (recv_packet_same asked one other records.core agree _ host m a)
-handle_same asked one other host records (message.AckPacket m) agree header a = ap both_step (ack_packet_same asked one other records.core agree _ m a)
-handle_same asked one other host records (message.Timeout m) agree header a = ap both_step (timeout_same asked one other records.core agree _ m a)
-handle_same asked one other host records (message.TimeoutOnClose m) agree header a = ap both_step (timeout_on_close_same asked one other records.core agree _ m a)
+module _ (asked : Asked) (one other : Evidence) (host : Host) (core : Core) (apps : Apps) (agree : Agree asked one other core) where
+  pub handle_same : (m : Message) → AgreeOnHeader one other core m → AllAsked asked core m → handle m one host core apps ≡ handle m other host core apps
+  unfolding handle create_client conn_open_init chan_open_init chan_close_init
+  handle_same (message.CreateClient m) header a = refl
+  handle_same (message.UpdateClient m) header a = bind_front_same _ _ _ (update_client_same one other host core m header)
+  handle_same (message.ConnOpenInit m) header a = refl
+  handle_same (message.ConnOpenTry m) header a = bind_front_same _ _ _ (conn_open_try_same asked one other host core agree m a.0 a.1)
+  handle_same (message.ConnOpenAck m) header a = bind_front_same _ _ _ (conn_open_ack_same asked one other host core agree m a)
+  handle_same (message.ConnOpenConfirm m) header a = bind_front_same _ _ _ (conn_open_confirm_same asked one other host core agree m a)
+  handle_same (message.ChanOpenInit m) header a = refl
+  handle_same (message.ChanOpenTry m) header a = bind_front_same _ _ _ (chan_open_try_same asked one other host core agree _ _ m a)
+  handle_same (message.ChanOpenAck m) header a = bind_front_same _ _ _ (chan_open_ack_same asked one other host core agree m a)
+  handle_same (message.ChanOpenConfirm m) header a = bind_front_same _ _ _ (chan_open_confirm_same asked one other host core agree m a)
+  handle_same (message.ChanCloseInit m) header a = refl
+  handle_same (message.ChanCloseConfirm m) header a = bind_front_same _ _ _ (chan_close_confirm_same asked one other host core agree m a)
+  handle_same (message.Transfer m) header a = bind_front_same _ _ _ (transfer_same asked one other host core agree m apps.balances)
+  handle_same (message.TransferMany m) header a = bind_front_same _ _ _ (transfer_many_same asked one other host core agree m apps.balances)
+  handle_same (message.SendNote m) header a = bind_front_same _ _ _ (send_note_same asked one other host core agree m)
+  handle_same (message.RecvPacket m) header a = recv_packet_same asked one other host core agree _ m apps a
+  handle_same (message.AckPacket m) header a = ack_packet_same asked one other host core agree _ m apps a
+  handle_same (message.Timeout m) header a = timeout_same asked one other host core agree _ m apps a
+  handle_same (message.TimeoutOnClose m) header a = timeout_on_close_same asked one other host core agree _ m apps a

@@ -12,19 +12,20 @@ use Rattle.ibc_wire.specs.declared.messages.Timeout.{Timeout}
 use Rattle.ibc_wire.specs.declared.messages.TimeoutOnClose.{TimeoutOnClose}
 use Rattle.ibc_wire.specs.declared.packet.Packet.{Packet}
 use Rattle.ibc_wire.specs.declared.records.ChannelState.TheVariants.{Closed}
-use Rattle.ibc_machine.specs.Records.{Core, Records, Client, Channel, Commitment, client_at, channel_at, knows, commitment_of}
+use Rattle.ibc_machine.specs.Records.{Core, Client, Channel, Commitment, client_at, channel_at, knows, commitment_of}
 use Rattle.ibc_machine.specs.Checks.{Checked, require}
 use Rattle.ibc_machine.specs.Evidence.{Host, Evidence}
 use Rattle.ibc_machine.specs.Channels.{client_of, counterpart, has_channel}
 use Rattle.ibc_machine.specs.TokenData.{Data}
 use Rattle.ibc_machine.specs.Packets.{has_form, has_size, is_timed_out, is_reached, has_passed, require_timeouts, recv_checked, recv_packet, ack_checked, ack_packet, timeout_checked, timeout, timeout_on_close_checked, timeout_on_close, was_sent, was_acknowledged, not_received}
+use Rattle.ibc_machine.specs.Bank.{Balances}
 use Rattle.ibc_machine.specs.Transfers.{transfer, transfer_many, send_tokens}
 use Rattle.ibc_machine.specs.Notes.{send_note, note_commitment}
-use Rattle.ibc_machine.proofs.PassedRows.{expect_passed}
-use Rattle.ibc_refinement.proofs.Checked.{then_same, bind_same, bind_front_same, require_true}
+use Rattle.ibc_machine.proofs.PassedRows.{require_holds, expect_passed}
+use Rattle.ibc_refinement.proofs.Checked.{then_same, bind_same, bind_front_same}
 use Rattle.ibc_refinement.proofs.Agreeing.{Asked, Agree, shows_same}
 
-module _ (asked : Asked) (one other : Evidence) (core : Core) (agree : Agree asked one other core) where
+module _ (asked : Asked) (one other : Evidence) (host : Host) (core : Core) (agree : Agree asked one other core) where
   -- ---- sending
 
   passed_same : (id : Text) (c : Commitment) (client : Client) → has_passed one core id c client ≡ has_passed other core id c client
@@ -46,79 +47,77 @@ module _ (asked : Asked) (one other : Evidence) (core : Core) (agree : Agree ask
       let id = client_of core mine.end.connection in
       then_same _ _ _ _ refl λ _. then_same _ _ _ _ (ap (λ b. require (not b) refusal.TimeoutPassed) (all_passed_same id c (client_at core id))) λ _. refl
 
-  pub send_note_same : (m : SendNote) → send_note one core m ≡ send_note other core m
+  pub send_note_same : (m : SendNote) → send_note m one host core ≡ send_note m other host core
   unfolding send_note
   send_note_same m =
       bind_same _ _ _ λ (mine : Channel) _. then_same _ _ _ _ refl λ _. then_same _ _ _ _ (timeouts_same mine (note_commitment m)) λ _. refl
 
   -- ---- packets
 
-  pub recv_packet_same : {A : Type 0} (on_recv : Text → Packet → Text × A) (host : Host) (m : RecvPacket) → asked (was_sent m.packet) m.proof
-      → recv_packet on_recv one host core m ≡ recv_packet on_recv other host core m
+  pub recv_packet_same : {A : Type 0} (on_recv : A → Text → Packet → Text × A) (m : RecvPacket) (app : A) → asked (was_sent m.packet) m.proof
+      → recv_packet on_recv m one host core app ≡ recv_packet on_recv m other host core app
   unfolding recv_packet recv_checked
-  recv_packet_same on_recv host m a = bind_front_same _ _ _ checked
+  recv_packet_same on_recv m app a = bind_front_same _ _ _ checked
     where
-      checked : recv_checked one host core m ≡ recv_checked other host core m
+      checked : recv_checked m one host core ≡ recv_checked m other host core
       checked =
-          then_same _ _ _ _ (ap (λ b. require (has_form m.packet && b) refusal.BadMessage) (agree.is_proof m.proof)) λ _. bind_same _ _ _ λ (mine : Channel) _. then_same _ _ _ _ refl λ _. then_same _ _ _ _ refl λ _.
-          then_same _ _ _ _ refl λ _. then_same _ _ _ _ refl λ _. then_same _ _ _ _ refl λ _. then_same _ _ _ _ refl λ known.
-          then_same _ _ _ _ (shows_same asked one other core agree (client_of core mine.end.connection) m.height _ m.proof known a) λ _. refl
+          then_same _ _ _ _ (ap (λ b. require (has_form m.packet && b) refusal.BadMessage) (agree.is_proof m.proof)) λ _. bind_same _ _ _ λ (mine : Channel) _. then_same _ _ _ _ refl λ _. then_same _ _ _ _ refl λ known.
+          then_same _ _ _ _ (shows_same asked one other core agree (client_of core mine.end.connection) m.height _ m.proof (require_holds _ _ known) a) λ _. refl
 
-  pub ack_packet_same : {A : Type 0} (on_ack : Text → Packet → Text → Checked A) (m : AckPacket) → asked (was_acknowledged m.packet m.ack) m.proof
-      → ack_packet on_ack one core m ≡ ack_packet on_ack other core m
+  pub ack_packet_same : {A : Type 0} (on_ack : A → Text → Packet → Text → Checked A) (m : AckPacket) (app : A) → asked (was_acknowledged m.packet m.ack) m.proof
+      → ack_packet on_ack m one host core app ≡ ack_packet on_ack m other host core app
   unfolding ack_packet ack_checked
-  ack_packet_same on_ack m a = bind_front_same _ _ _ checked
+  ack_packet_same on_ack m app a = bind_front_same _ _ _ checked
     where
-      checked : ack_checked one core m ≡ ack_checked other core m
+      checked : ack_checked m one host core ≡ ack_checked m other host core
       checked =
-          then_same _ _ _ _ (ap (λ b. require (has_form m.packet && has_size m.ack && b) refusal.BadMessage) (agree.is_proof m.proof)) λ _. bind_same _ _ _ λ (mine : Channel) _. then_same _ _ _ _ refl λ _. then_same _ _ _ _ refl λ _.
-          then_same _ _ _ _ refl λ _. then_same _ _ _ _ refl λ _. then_same _ _ _ _ refl λ known.
-          then_same _ _ _ _ (shows_same asked one other core agree (client_of core mine.end.connection) m.height _ m.proof known a) λ _. refl
+          then_same _ _ _ _ (ap (λ b. require (has_form m.packet && has_size m.ack && b) refusal.BadMessage) (agree.is_proof m.proof)) λ _. bind_same _ _ _ λ (mine : Channel) _. then_same _ _ _ _ refl λ _. then_same _ _ _ _ refl λ known.
+          then_same _ _ _ _ (shows_same asked one other core agree (client_of core mine.end.connection) m.height _ m.proof (require_holds _ _ known) a) λ _. refl
 
-  pub timeout_same : {A : Type 0} (on_timeout : Text → Packet → Checked A) (m : Timeout)
+  pub timeout_same : {A : Type 0} (on_timeout : A → Text → Packet → Checked A) (m : Timeout) (app : A)
       → ((mine : Channel) → channel_at core m.packet.source_port m.packet.source_channel ≡ Some mine → asked (not_received mine m.packet m.next_recv) m.proof)
-      → timeout on_timeout one core m ≡ timeout on_timeout other core m
+      → timeout on_timeout m one host core app ≡ timeout on_timeout m other host core app
   unfolding timeout timeout_checked
-  timeout_same on_timeout m a = bind_front_same _ _ _ checked
+  timeout_same on_timeout m app a = bind_front_same _ _ _ checked
     where
-      checked : timeout_checked one core m ≡ timeout_checked other core m
+      checked : timeout_checked m one host core ≡ timeout_checked m other host core
       checked =
-          then_same _ _ _ _ (ap (λ b. require (has_form m.packet && b) refusal.BadMessage) (agree.is_proof m.proof)) λ _. bind_same _ _ _ λ (mine : Channel) is. then_same _ _ _ _ refl λ _. then_same _ _ _ _ refl λ _.
+          then_same _ _ _ _ (ap (λ b. require (has_form m.packet && b) refusal.BadMessage) (agree.is_proof m.proof)) λ _. bind_same _ _ _ λ (mine : Channel) is. then_same _ _ _ _ refl λ _.
           let client = client_of core mine.end.connection in
           let there = expect_passed (channel_at core m.packet.source_port m.packet.source_channel) refusal.UnknownChannel is in
-          then_same _ _ _ _ refl λ _. then_same _ _ _ _ refl λ known.
-          then_same _ _ _ _ (ap (λ t. require (is_timed_out (commitment_of m.packet) m.height t) refusal.NotTimedOut) (agree.time_at client m.height (require_true _ _ known))) λ _. then_same _ _ _ _ refl λ _.
-          then_same _ _ _ _ (shows_same asked one other core agree client m.height _ m.proof known (a mine there)) λ _. refl
+          then_same _ _ _ _ refl λ known.
+          then_same _ _ _ _ (ap (λ t. require (is_timed_out (commitment_of m.packet) m.height t) refusal.NotTimedOut) (agree.time_at client m.height (require_holds _ _ known))) λ _. then_same _ _ _ _ refl λ _.
+          then_same _ _ _ _ (shows_same asked one other core agree client m.height _ m.proof (require_holds _ _ known) (a mine there)) λ _. refl
 
-  pub timeout_on_close_same : {A : Type 0} (on_timeout : Text → Packet → Checked A) (m : TimeoutOnClose)
+  pub timeout_on_close_same : {A : Type 0} (on_timeout : A → Text → Packet → Checked A) (m : TimeoutOnClose) (app : A)
       → ((mine : Channel) → channel_at core m.packet.source_port m.packet.source_channel ≡ Some mine
       → asked (not_received mine m.packet m.next_recv) m.proof
       × asked (has_channel mine.end m.packet.destination_channel (counterpart core mine.end m.packet.source_port (Some m.packet.source_channel) Closed)) m.proof_close)
-      → timeout_on_close on_timeout one core m ≡ timeout_on_close on_timeout other core m
+      → timeout_on_close on_timeout m one host core app ≡ timeout_on_close on_timeout m other host core app
   unfolding timeout_on_close timeout_on_close_checked
-  timeout_on_close_same on_timeout m a = bind_front_same _ _ _ checked
+  timeout_on_close_same on_timeout m app a = bind_front_same _ _ _ checked
     where
-      checked : timeout_on_close_checked one core m ≡ timeout_on_close_checked other core m
+      checked : timeout_on_close_checked m one host core ≡ timeout_on_close_checked m other host core
       checked =
-          then_same _ _ _ _ (ap₂ (λ x y. require (has_form m.packet && x && y) refusal.BadMessage) (agree.is_proof m.proof) (agree.is_proof m.proof_close)) λ _. bind_same _ _ _ λ (mine : Channel) is. then_same _ _ _ _ refl λ _. then_same _ _ _ _ refl λ _.
+          then_same _ _ _ _ (ap₂ (λ x y. require (has_form m.packet && x && y) refusal.BadMessage) (agree.is_proof m.proof) (agree.is_proof m.proof_close)) λ _. bind_same _ _ _ λ (mine : Channel) is. then_same _ _ _ _ refl λ _.
           let client = client_of core mine.end.connection in
           let there = expect_passed (channel_at core m.packet.source_port m.packet.source_channel) refusal.UnknownChannel is in
-          then_same _ _ _ _ refl λ _. then_same _ _ _ _ refl λ known. then_same _ _ _ _ refl λ _.
-          then_same _ _ _ _ (shows_same asked one other core agree client m.height _ m.proof known (a mine there).0) λ _.
-          then_same _ _ _ _ (shows_same asked one other core agree client m.height _ m.proof_close known (a mine there).1) λ _. refl
+          then_same _ _ _ _ refl λ known. then_same _ _ _ _ refl λ _.
+          then_same _ _ _ _ (shows_same asked one other core agree client m.height _ m.proof (require_holds _ _ known) (a mine there).0) λ _.
+          then_same _ _ _ _ (shows_same asked one other core agree client m.height _ m.proof_close (require_holds _ _ known) (a mine there).1) λ _. refl
 
--- ---- transfers
+  -- ---- transfers
 
-module _ (asked : Asked) (one other : Evidence) (records : Records) (agree : Agree asked one other records.core) where
-  send_tokens_same : (channel : Text) (mine : Channel) (d : Data) (c : Commitment) → send_tokens one records channel mine d c ≡ send_tokens other records channel mine d c
+  send_tokens_same : (channel : Text) (mine : Channel) (d : Data) (c : Commitment) (balances : Balances)
+      → send_tokens channel mine d c one host core balances ≡ send_tokens channel mine d c other host core balances
   unfolding send_tokens
-  send_tokens_same channel mine d c = then_same _ _ _ _ (timeouts_same asked one other records.core agree mine c) λ _. refl
+  send_tokens_same channel mine d c balances = then_same _ _ _ _ (timeouts_same mine c) λ _. refl
 
-  pub transfer_same : (m : Transfer) → transfer one records m ≡ transfer other records m
+  pub transfer_same : (m : Transfer) (balances : Balances) → transfer m one host core balances ≡ transfer m other host core balances
   unfolding transfer
-  transfer_same m = bind_same _ _ _ λ (mine : Channel) _. then_same _ _ _ _ refl λ _. then_same _ _ _ _ refl λ _. send_tokens_same m.channel mine _ _
+  transfer_same m balances = bind_same _ _ _ λ (mine : Channel) _. then_same _ _ _ _ refl λ _. then_same _ _ _ _ refl λ _. send_tokens_same m.channel mine _ _ balances
 
-  pub transfer_many_same : (m : TransferMany) → transfer_many one records m ≡ transfer_many other records m
+  pub transfer_many_same : (m : TransferMany) (balances : Balances) → transfer_many m one host core balances ≡ transfer_many m other host core balances
   unfolding transfer_many
-  transfer_many_same m =
-      then_same _ _ _ _ refl λ _. bind_same _ _ _ λ (mine : Channel) _. then_same _ _ _ _ refl λ _. then_same _ _ _ _ refl λ _. send_tokens_same m.channel mine _ _
+  transfer_many_same m balances =
+      then_same _ _ _ _ refl λ _. bind_same _ _ _ λ (mine : Channel) _. then_same _ _ _ _ refl λ _. then_same _ _ _ _ refl λ _. send_tokens_same m.channel mine _ _ balances

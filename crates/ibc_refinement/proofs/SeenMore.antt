@@ -89,8 +89,8 @@ answer_stays : (genesis : GenesisState) (k : ℕ) (seen more : List Publication)
 unfolding ledger_answer
 answer_stays genesis k seen more reading state chain m reads =
     ap (λ checked. after_answer m state (after_message state.chain checked))
-    (handle_same NothingAsked (proves (seen ++ more) reading state) (proves seen reading state) (host_of (length genesis.chains) k state.chain) state.chain.records m
-    (proves_stay seen more reading state) (header_stays seen more reading state m reads) (nothing_asked state.chain.records.core m))
+    (handle_same NothingAsked (proves (seen ++ more) reading state) (proves seen reading state) (host_of (length genesis.chains) k state.chain)
+    state.chain.records.core state.chain.records.apps (proves_stay seen more reading state) m (header_stays seen more reading state m reads) (nothing_asked state.chain.records.core m))
 
 block_stays : (genesis : GenesisState) (k : ℕ) (seen more : List Publication) (reading : Option Reading) (state : LedgerState) (chain next_time : ℕ)
     → ledger_answer genesis k (seen ++ more) reading state (event.Block chain next_time) ≡ ledger_answer genesis k seen reading state (event.Block chain next_time)

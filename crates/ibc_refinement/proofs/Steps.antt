@@ -186,8 +186,8 @@ pub message_step : (genesis : GenesisState) (world : World) (k : ℕ) (seen : Li
 unfolding ledger_answer
 message_step genesis world k seen reading state m there known sees asked =
     let same = handle_same (ClearIn world) (proves seen reading state) (looks true_marks genesis.window (oldest_of reading) world state.chain.records.core)
-    (host_of (length genesis.chains) k state.chain) state.chain.records m
-    (proves_looks genesis.window (oldest_of reading) world seen reading state known) (header_of_message genesis.window world seen reading state m sees) asked
+    (host_of (length genesis.chains) k state.chain) state.chain.records.core state.chain.records.apps
+    (proves_looks genesis.window (oldest_of reading) world seen reading state known) m (header_of_message genesis.window world seen reading state m sees) asked
     in
     let mine : Reply × Chain = message_answer (proves seen reading state) (length genesis.chains) k state.chain m in
     let keeps = after_answer-keeps m state mine in

@@ -1,4 +1,4 @@
-use Rattle.ibc_laws.proofs.NeverShort.{never_short}
+use Rattle.ibc_laws.proofs.tokens.NeverShort.{never_short}
 use Rattle.ibc_laws.proofs.no_escrow_is_short.Goals as goal
 
 pub returns : goal.returns

@@ -1,4 +1,4 @@
-use Rattle.ibc_laws.proofs.NeverPoor.{never_poor}
+use Rattle.ibc_laws.proofs.tokens.NeverPoor.{never_poor}
 use Rattle.ibc_laws.proofs.no_refund_is_refused.Goals as goal
 
 pub returns : goal.returns

@@ -1,0 +1,28 @@
+-- What tests say where they are passed.
+use Rattle.std.proofs.Common.{◌≡◌, ℕ, Bool, true, false, refl, ◌⊎◌, inl, inr, ◌&&◌, ◌||◌, not, ◌==◌, arith}
+
+pub both : (a b : Bool) → (a && b) ≡ true → (a ≡ true) × (b ≡ true)
+both true b e = (refl, e)
+both false b e = absurd (cc e)
+
+pub either : (a b : Bool) → (a || b) ≡ true → (a ≡ true) ⊎ (b ≡ true)
+either true b e = inl refl
+either false b e = inr e
+
+pub or_left : (a b : Bool) → a ≡ true → (a || b) ≡ true
+or_left true b e = refl
+or_left false b e = absurd (cc e)
+
+pub or_right : (a b : Bool) → b ≡ true → (a || b) ≡ true
+or_right true b e = refl
+or_right false b e = e
+
+pub and_true : {a b : Bool} → a ≡ true → b ≡ true → (a && b) ≡ true
+and_true {a} {b} e f = rw e f
+
+pub no_longer : (a : Bool) → not a ≡ true → a ≡ false
+no_longer true e = absurd (cc e)
+no_longer false e = refl
+
+pub number-self : (n : ℕ) → (n == n) ≡ true
+number-self n = grind arith

@@ -1,0 +1,19 @@
+-- What a step of a run does, by labels.
+pub mod Told
+pub mod Seen
+pub mod CoreSteps
+pub mod AppSteps
+pub mod Growth
+pub mod ConnectionsPassed
+pub mod ChannelsPassed
+pub mod SendsPassed
+pub mod PacketsPassed
+pub mod MessagesPassed
+pub mod EndSteps
+pub mod EndKeeps
+pub mod CoreShape
+pub mod Worlds
+pub mod Steps
+pub mod Induction
+pub mod AtEnds
+pub mod Happenings

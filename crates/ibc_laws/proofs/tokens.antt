@@ -1,0 +1,22 @@
+-- The fourth law and those on it: escrows equal what they stand for.
+pub mod Hops
+pub mod TokenMoves
+pub mod BalanceSteps
+pub mod ChainKinds
+pub mod FlightSums
+pub mod Ports
+pub mod GoneSettled
+pub mod HeldAndIssued
+pub mod TokenShifts
+pub mod TokenEffects
+pub mod BalancedPair
+pub mod PeerFacts
+pub mod ChannelNames
+pub mod KeyEffects
+pub mod Unopened
+pub mod PairSteps
+pub mod FourthLaw
+pub mod EscrowsHold
+pub mod NeverShort
+pub mod RefusedAsPoor
+pub mod NeverPoor
