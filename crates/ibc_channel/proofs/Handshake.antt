@@ -1,46 +1,51 @@
 -- The checks of the handshakes in a row, as the code makes them.
-use Rattle.std.proofs.Common.{◌≡◌, ◌||◌, Option, Some, None, Ok, refl, sym, ap}
+use Rattle.std.proofs.Common.{◌≡◌, ℕ, List, Option, Some, None, Ok, is_some, refl, sym, ap}
 use Rattle.std.specs.Prelude.{⊤, [], false}
 use Rattle.std.specs.Option.{option_map, option_map_or}
 use Rattle.ibc_ids.specs.Texts.{Text}
+use Rattle.ibc_ids.specs.declared.publication.Publication.{Publication}
 use Rattle.ibc_ids.specs.declared.refusal.Refusal.TheVariants.{UnknownConnection, UnknownChannel, WrongState, BadMessage}
+use Rattle.ibc_merkle.specs.declared.proof.Proof.{Proof}
+use Rattle.ibc_wire.specs.Reading.{proof_of}
 use Rattle.ibc_wire.specs.declared.records.ConnectionState.TheVariants as conn
 use Rattle.ibc_wire.specs.declared.records.ConnectionEnd.{ConnectionEnd}
-use Rattle.ibc_wire.specs.declared.records.ChannelState.TheVariants.{Init, TryOpen, Open, Closed}
+use Rattle.ibc_wire.specs.declared.records.ChannelState.{ChannelState}
+use Rattle.ibc_wire.specs.declared.records.ChannelState.TheVariants.{Init, Open, Closed}
 use Rattle.ibc_wire.specs.declared.records.ChannelEnd.{ChannelEnd}
 use Rattle.ibc_wire.specs.declared.records.Order.{Order}
 use Rattle.ibc_wire.specs.declared.messages.ChanOpenInit.{ChanOpenInit}
 use Rattle.ibc_wire.specs.declared.messages.ChanOpenTry.{ChanOpenTry}
 use Rattle.ibc_wire.specs.declared.messages.ChanOpenAck.{ChanOpenAck}
-use Rattle.ibc_wire.specs.declared.messages.ChanOpenConfirm.{ChanOpenConfirm}
 use Rattle.ibc_wire.specs.declared.messages.ChanCloseInit.{ChanCloseInit}
-use Rattle.ibc_wire.specs.declared.messages.ChanCloseConfirm.{ChanCloseConfirm}
 use Rattle.ibc_machine.specs.declared.reply.Effect.{Effect}
 use Rattle.ibc_machine.specs.declared.reply.Effect.TheVariants as effect
 use Rattle.ibc_machine.specs.Records.{Core, Channel, connection_at, channel_at, with_channel}
+use Rattle.ibc_machine.specs.Replay.{LedgerState, proves}
 use Rattle.ibc_machine.specs.Values.{same_connection_state, same_channel_state}
 use Rattle.ibc_machine.specs.Checks.{Checked, require, expect, go_on, and_then, ◌>>=◌, ◌>>◌}
-use Rattle.ibc_machine.specs.Evidence.{Evidence, require_number, require_known, require_proof}
-use Rattle.ibc_machine.specs.Channels.{client_of, peer_channel_of, has_channel, chan_open_init, chan_open_try, chan_open_ack, chan_open_confirm, chan_close_init, chan_close_confirm}
-use Rattle.ibc_machine.proofs.PassedChecks.{unused}
-use Rattle.ibc_channel.specs.Ends.{end_at, with_end, begun, inited, tried, acknowledged, moved, require_connection, require_open, begun_there, answered_there, opened_there, closed_there}
+use Rattle.ibc_machine.specs.Evidence.{Host, Evidence, require_number, require_known, require_proof}
+use Rattle.ibc_machine.specs.Channels.{client_of, peer_channel_of, counterpart, has_channel, chan_open_init, chan_open_try, chan_open_ack, chan_close_init}
+use Rattle.ibc_machine.proofs.PassedChecks.{pass, find, unused}
+use Rattle.ibc_channel.specs.Ends.{end_at, with_end, begun, inited, tried, acknowledged, moved, require_connection, require_open, begun_there, answered_there}
+use Rattle.ibc_channel.specs.Follows.{require_follows, follow_peer}
 
 -- ---- a new channel
 
-module _ (has_port : Checked ⊤) (opens : Order → Text → Checked ⊤) (core : Core) where
-  pub init_checks : (m : ChanOpenInit)
-      → chan_open_init has_port opens core m
-      ≡ (has_port
-      >> (require_connection core m.connection
+module _ (evidence : Evidence) (host : Host) (core : Core) (has_port : Checked ⊤) (opens : Order → Text → Checked ⊤) where
+  abbrev pub init_after : ChanOpenInit → Checked (Effect × Core)
+  init_after m =
+      require_connection core m.connection
       >> (opens m.order m.version
       >> (require_number core.next_channel
-      >> Ok (begun m.port (inited m) core)))))
+      >> Ok (begun m.port (inited m) core)))
+
+  pub init_checks : (m : ChanOpenInit) → chan_open_init has_port opens m evidence host core ≡ (has_port >> init_after m)
   unfolding chan_open_init
   init_checks m = ap (λ rest. has_port >> rest) (unused (connection_at core m.connection) UnknownConnection _)
 
   -- what stands behind the checks of the connection, whose client is this one
-  abbrev try_over : Evidence → ChanOpenTry → Text → Checked (Effect × Core)
-  try_over evidence m client =
+  abbrev try_over : ChanOpenTry → Text → Checked (Effect × Core)
+  try_over m client =
       opens m.order m.version
       >> (require_number core.next_channel
       >> (require_known core client m.height
@@ -57,17 +62,15 @@ module _ (has_port : Checked ⊤) (opens : Order → Text → Checked ⊤) (core
   over_connection None rest = refl
   over_connection (Some c) rest = refl
 
-  pub try_checks : (evidence : Evidence) (m : ChanOpenTry)
-      → chan_open_try has_port opens evidence core m
-      ≡ (require (evidence.is_proof m.proof) BadMessage
-      >> (has_port
-      >> (require_connection core m.connection
-      >> (require_open core m.connection
-      >> try_over evidence m (client_of core m.connection)))))
+  abbrev pub try_after : ChanOpenTry → Checked (Effect × Core)
+  try_after m = require_connection core m.connection >> (require_open core m.connection >> try_over m (client_of core m.connection))
+
+  pub try_checks : (m : ChanOpenTry)
+      → chan_open_try has_port opens m evidence host core ≡ (require (evidence.is_proof m.proof) BadMessage >> (has_port >> try_after m))
   unfolding chan_open_try
-  try_checks evidence m =
+  try_checks m =
       ap (λ rest. require (evidence.is_proof m.proof) BadMessage >> (has_port >> rest))
-      (over_connection (connection_at core m.connection) (try_over evidence m))
+      (over_connection (connection_at core m.connection) (try_over m))
 
 -- ---- a channel that is there
 
@@ -86,7 +89,7 @@ module _ (core : Core) (port channel : Text) where
       go (Some found) is =
           ap (checks found.end) (sym (ap (λ o. option_map_or (λ (c : Channel). with_channel port channel (record c { end = after found.end }) core) o core) is))
 
-module _ (evidence : Evidence) (core : Core) where
+module _ (evidence : Evidence) (host : Host) (core : Core) where
   abbrev ack_sets : ChanOpenAck → ChannelEnd → Core → Checked (Effect × Core)
   ack_sets m mine set =
       require (same_channel_state mine.state Init) WrongState
@@ -99,54 +102,62 @@ module _ (evidence : Evidence) (core : Core) where
   ack_after m mine = ack_sets m mine (with_end m.port m.channel (acknowledged m mine) core)
 
   pub ack_checks : (m : ChanOpenAck)
-      → chan_open_ack evidence core m
+      → chan_open_ack m evidence host core
       ≡ (require (evidence.is_proof m.proof) BadMessage >> (expect (end_at core m.port m.channel) UnknownChannel >>= ack_after m))
   unfolding chan_open_ack
   ack_checks m =
       ap (λ rest. require (evidence.is_proof m.proof) BadMessage >> rest) (of_end core m.port m.channel (ack_sets m) (acknowledged m))
 
-  abbrev confirm_sets : ChanOpenConfirm → ChannelEnd → Core → Checked (Effect × Core)
-  confirm_sets m mine set =
-      require (same_channel_state mine.state TryOpen) WrongState
-      >> (require_known core (client_of core mine.connection) m.height
-      >> (require_proof evidence (client_of core mine.connection) m.height (has_channel mine (peer_channel_of mine) (opened_there core m mine)) m.proof
-      >> Ok (effect.None, set)))
+  module _ (to : ChannelState) (port channel : Text) (height : ℕ) (proof : Text) where
+    abbrev follow_sets : ChannelEnd → Core → Checked (Effect × Core)
+    follow_sets mine set =
+        require_follows to mine
+        >> (require_known core (client_of core mine.connection) height
+        >> (require_proof evidence (client_of core mine.connection) height (has_channel mine (peer_channel_of mine) (counterpart core mine port (Some channel) to)) proof
+        >> Ok (effect.None, set)))
 
-  abbrev pub confirm_after : ChanOpenConfirm → ChannelEnd → Checked (Effect × Core)
-  confirm_after m mine = confirm_sets m mine (with_end m.port m.channel (moved Open mine) core)
+    abbrev pub follow_after : ChannelEnd → Checked (Effect × Core)
+    follow_after mine = follow_sets mine (with_end port channel (moved to mine) core)
 
-  pub confirm_checks : (m : ChanOpenConfirm)
-      → chan_open_confirm evidence core m
-      ≡ (require (evidence.is_proof m.proof) BadMessage >> (expect (end_at core m.port m.channel) UnknownChannel >>= confirm_after m))
-  unfolding chan_open_confirm
-  confirm_checks m =
-      ap (λ rest. require (evidence.is_proof m.proof) BadMessage >> rest) (of_end core m.port m.channel (confirm_sets m) (moved Open))
+    pub follow_checks : follow_peer to port channel height proof evidence host core
+        ≡ (require (evidence.is_proof proof) BadMessage >> (expect (end_at core port channel) UnknownChannel >>= follow_after))
+    unfolding follow_peer
+    follow_checks = ap (λ rest. require (evidence.is_proof proof) BadMessage >> rest) (of_end core port channel follow_sets (moved to))
 
-  abbrev close_sets : ChanCloseConfirm → ChannelEnd → Core → Checked (Effect × Core)
-  close_sets m mine set =
-      require (same_channel_state mine.state TryOpen || same_channel_state mine.state Open) WrongState
-      >> (require_known core (client_of core mine.connection) m.height
-      >> (require_proof evidence (client_of core mine.connection) m.height (has_channel mine (peer_channel_of mine) (closed_there core m mine)) m.proof
-      >> Ok (effect.None, set)))
+  module _ (closes : Checked ⊤) (m : ChanCloseInit) where
+    abbrev close_init_sets : ChannelEnd → Core → Checked (Effect × Core)
+    close_init_sets mine set =
+        require (same_channel_state mine.state Open) WrongState >> (closes >> Ok (effect.None, set))
 
-  abbrev pub close_after : ChanCloseConfirm → ChannelEnd → Checked (Effect × Core)
-  close_after m mine = close_sets m mine (with_end m.port m.channel (moved Closed mine) core)
+    abbrev pub close_init_after : ChannelEnd → Checked (Effect × Core)
+    close_init_after mine = close_init_sets mine (with_end m.port m.channel (moved Closed mine) core)
 
-  pub close_confirm_checks : (m : ChanCloseConfirm)
-      → chan_close_confirm evidence core m
-      ≡ (require (evidence.is_proof m.proof) BadMessage >> (expect (end_at core m.port m.channel) UnknownChannel >>= close_after m))
-  unfolding chan_close_confirm
-  close_confirm_checks m =
-      ap (λ rest. require (evidence.is_proof m.proof) BadMessage >> rest) (of_end core m.port m.channel (close_sets m) (moved Closed))
+    pub close_init_checks : chan_close_init closes m evidence host core ≡ (expect (end_at core m.port m.channel) UnknownChannel >>= close_init_after)
+    unfolding chan_close_init
+    close_init_checks = of_end core m.port m.channel close_init_sets (moved Closed)
 
-module _ (closes : Checked ⊤) (core : Core) (m : ChanCloseInit) where
-  abbrev close_init_sets : ChannelEnd → Core → Checked (Effect × Core)
-  close_init_sets mine set =
-      require (same_channel_state mine.state Open) WrongState >> (closes >> Ok (effect.None, set))
+-- ---- behind the proof that was read, and behind the end that is there
 
-  abbrev pub close_init_after : ChannelEnd → Checked (Effect × Core)
-  close_init_after mine = close_init_sets mine (with_end m.port m.channel (moved Closed mine) core)
+module _ (seen : List Publication) (state : LedgerState) (host : Host) (core : Core) where
+  abbrev roots : Evidence
+  roots = proves seen None state
 
-  pub close_init_checks : chan_close_init closes core m ≡ (expect (end_at core m.port m.channel) UnknownChannel >>= close_init_after)
-  unfolding chan_close_init
-  close_init_checks = of_end core m.port m.channel close_init_sets (moved Closed)
+  module _ (has_port : Checked ⊤) (opens : Order → Text → Checked ⊤) (m : ChanOpenTry) (proof : Proof) (read : proof_of m.proof ≡ Some proof) where
+    pub try_begun : chan_open_try has_port opens m roots host core ≡ (has_port >> try_after roots host core has_port opens m)
+    try_begun = pass (λ i. require (is_some (read i)) BadMessage) (try_checks roots host core has_port opens m)
+
+  module _ (m : ChanOpenAck) (proof : Proof) (read : proof_of m.proof ≡ Some proof) where
+    pub ack_begun : chan_open_ack m roots host core ≡ (expect (end_at core m.port m.channel) UnknownChannel >>= ack_after roots host core m)
+    ack_begun = pass (λ i. require (is_some (read i)) BadMessage) (ack_checks roots host core m)
+
+    pub ack_found : (mine : ChannelEnd) → end_at core m.port m.channel ≡ Some mine → chan_open_ack m roots host core ≡ ack_after roots host core m mine
+    ack_found mine there = find (ack_after roots host core m) (ap (λ o. expect o UnknownChannel) there) ack_begun
+
+  module _ (to : ChannelState) (port channel : Text) (height : ℕ) (bytes : Text) (proof : Proof) (read : proof_of bytes ≡ Some proof) where
+    pub follow_begun : follow_peer to port channel height bytes roots host core
+        ≡ (expect (end_at core port channel) UnknownChannel >>= follow_after roots host core to port channel height bytes)
+    follow_begun = pass (λ i. require (is_some (read i)) BadMessage) (follow_checks roots host core to port channel height bytes)
+
+    pub follow_found : (mine : ChannelEnd) → end_at core port channel ≡ Some mine
+        → follow_peer to port channel height bytes roots host core ≡ follow_after roots host core to port channel height bytes mine
+    follow_found mine there = find (follow_after roots host core to port channel height bytes) (ap (λ o. expect o UnknownChannel) there) follow_begun

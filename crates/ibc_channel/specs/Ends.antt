@@ -15,8 +15,6 @@ use Rattle.ibc_wire.specs.declared.records.Order.{Order}
 use Rattle.ibc_wire.specs.declared.messages.ChanOpenInit.{ChanOpenInit}
 use Rattle.ibc_wire.specs.declared.messages.ChanOpenTry.{ChanOpenTry}
 use Rattle.ibc_wire.specs.declared.messages.ChanOpenAck.{ChanOpenAck}
-use Rattle.ibc_wire.specs.declared.messages.ChanOpenConfirm.{ChanOpenConfirm}
-use Rattle.ibc_wire.specs.declared.messages.ChanCloseConfirm.{ChanCloseConfirm}
 use Rattle.ibc_merkle.specs.declared.proof.Proof.{Proof}
 use Rattle.ibc_machine.specs.declared.reply.Effect.{Effect}
 use Rattle.ibc_machine.specs.declared.reply.Effect.TheVariants as effect
@@ -75,9 +73,3 @@ begun_there core m mine = counterpart core mine m.port None Init
 
 abbrev pub answered_there : Core → ChanOpenAck → ChannelEnd → ChannelEnd
 answered_there core m mine = counterpart core mine m.port (Some m.channel) TryOpen
-
-abbrev pub opened_there : Core → ChanOpenConfirm → ChannelEnd → ChannelEnd
-opened_there core m mine = counterpart core mine m.port (Some m.channel) Open
-
-abbrev pub closed_there : Core → ChanCloseConfirm → ChannelEnd → ChannelEnd
-closed_there core m mine = counterpart core mine m.port (Some m.channel) Closed

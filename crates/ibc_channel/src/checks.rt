@@ -1,6 +1,6 @@
 //! Checks that several of the messages make.
 
-ghost use Rattle.std.specs.Prelude.{◌≡◌, ◌||◌, ◌-◌, ◌^◌, ◌<◌, IfOk};
+ghost use Rattle.std.specs.Prelude.{◌≡◌, ◌-◌, ◌^◌, ◌<◌, IfOk};
 ghost use Rattle.ibc_ids.specs.declared.refusal.Refusal.TheVariants.{WrongState};
 ghost use Rattle.ibc_machine.specs.Checks.{require};
 ghost use Rattle.ibc_machine.specs.Evidence.{require_number};
@@ -48,15 +48,5 @@ pub fn check_state(end: &ChannelEnd, state: ChannelState) -> Result<(), Refusal>
         Ok(())
     } else {
         Err(Refusal::WrongState)
-    }
-}
-
-/// The end is in `TryOpen` or `Open`, or else `WrongState`.
-pub fn check_answered_or_open(end: &ChannelEnd) -> Result<(), Refusal>
-    ensures { result ≡ require (same_channel_state end.now.state ChannelState.TryOpen || same_channel_state end.now.state ChannelState.Open) WrongState }
-{
-    match end.state {
-        ChannelState::TryOpen | ChannelState::Open => Ok(()),
-        ChannelState::Init | ChannelState::Closed => Err(Refusal::WrongState),
     }
 }

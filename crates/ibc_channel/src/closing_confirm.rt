@@ -1,23 +1,14 @@
 //! Closing a channel that the peer closed.
 
-ghost use Rattle.std.specs.Prelude.{◌≡◌, ℕ, true, Some, IsSome, IfOk};
-ghost use Rattle.ibc_wire.specs.Reading.{proof_of};
+ghost use Rattle.std.specs.Prelude.{ℕ};
 ghost use Rattle.ibc_machine.specs.declared.reply.Effect.TheVariants as effect;
-ghost use Rattle.ibc_machine.specs.Channels.{chan_close_confirm, peer_channel_of};
-ghost use Rattle.ibc_machine.specs.Records.{connection_at, knows};
-ghost use Rattle.ibc_records.specs.Held.{core_of};
+ghost use Rattle.ibc_machine.specs.Channels.{chan_close_confirm};
 ghost use Rattle.ibc_records.specs.Taking.{IsHandled};
-ghost use Rattle.ibc_client.specs.Judging.{IsJudged};
-ghost use Rattle.ibc_client.specs.Peers.{IsPeerShown};
-ghost use Rattle.ibc_channel.specs.Ends.{closed_there, end_at, settled};
 
-use crate::checks::check_answered_or_open;
-use crate::ends::{find_end, move_end, set_end};
-use ibc_client::{check_claim, claim_peer, known_connection, name_or_none, read_proof};
+use crate::following::follow_peer;
 use ibc_ids::Refusal;
-use ibc_merkle::Proof;
 use ibc_records::Records;
-use ibc_wire::{ChanCloseConfirm, ChannelEnd, ChannelState, ConnectionEnd};
+use ibc_wire::{ChanCloseConfirm, ChannelState};
 use std::alloc::Global;
 
 /// Closes a channel that the peer closed (ICS 4, "chanCloseConfirm"). Refused, by the first check that fails:
@@ -29,49 +20,15 @@ pub fn close_confirm(
     records: &mut Records,
     message: &ChanCloseConfirm,
 ) -> Result<(), Refusal>
-    ensures { (chain chains : ℕ) → IsHandled (λ _. effect.None) (λ evidence host core. chan_close_confirm evidence core message.now) chain chains records.old result records.new }
+    ensures { (chain chains : ℕ) → IsHandled (λ _. effect.None) (chan_close_confirm message.now) chain chains records.old result records.new }
 {
-    let proof = read_proof(alloc, message.proof.as_slice())?;
-    let judged = judge_close(alloc, records, message, &proof);
-    drop(proof);
-    set_end(records, &message.port, &message.channel, judged?)
-}
-
-// The checks, in their order, and the end as it will stand.
-fn judge_close(
-    alloc: Global,
-    records: &Records,
-    message: &ChanCloseConfirm,
-    proof: &Proof,
-) -> Result<ChannelEnd, Refusal>
-    requires { proof_of message.now.proof ≡ Some proof.now }
-    ensures judged { (chain chains : ℕ) → IsJudged (λ evidence host core. chan_close_confirm evidence core message.now) chain chains records.now (settled message.now.port message.now.channel (core_of records.now)) result }
-    ensures there { IfOk result (λ _. IsSome (end_at (core_of records.now) message.now.port message.now.channel)) }
-{
-    let mine = find_end(records, &message.port, &message.channel)?;
-    check_answered_or_open(mine)?;
-    let connection = known_connection(records, &mine.connection, message.height)?;
-    check_closed(alloc, records, message, mine, connection, proof)?;
-    move_end(mine, ChannelState::Closed)
-}
-
-// The peer closed the channel, or else `BadProof`; `NoMemory`.
-fn check_closed(
-    alloc: Global,
-    records: &Records,
-    message: &ChanCloseConfirm,
-    mine: &ChannelEnd,
-    connection: &ConnectionEnd,
-    proof: &Proof,
-) -> Result<(), Refusal>
-    requires there { connection_at (core_of records.now) mine.now.connection ≡ Some connection.now }
-    requires known { knows (core_of records.now) connection.now.client message.now.height ≡ true }
-    ensures { IsPeerShown records.now mine.now message.now.height (peer_channel_of mine.now) (closed_there (core_of records.now) message.now mine.now) proof.now result }
-{
-    let peer = name_or_none(&mine.peer_channel);
-    let port = &message.port;
-    let channel = message.channel.as_str();
-    let state = ChannelState::Closed;
-    let claim = claim_peer(alloc, mine, connection, peer, port, channel, state)?;
-    check_claim(records, &connection.client, message.height, &claim, proof)
+    follow_peer(
+        alloc,
+        records,
+        ChannelState::Closed,
+        &message.port,
+        &message.channel,
+        message.height,
+        &message.proof,
+    )
 }

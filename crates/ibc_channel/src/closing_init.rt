@@ -23,7 +23,7 @@ pub fn close_init<A: App>(
     app: &A,
     message: &ChanCloseInit,
 ) -> Result<(), Refusal>
-    ensures { (chain chains : ℕ) → IsHandled (λ _. effect.None) (λ evidence host core. chan_close_init A.closes core message.now) chain chains records.old result records.new }
+    ensures { (chain chains : ℕ) → IsHandled (λ _. effect.None) (chan_close_init A.closes message.now) chain chains records.old result records.new }
 {
     let end = judge_close(records, app, message)?;
     set_end(records, &message.port, &message.channel, end)
@@ -35,7 +35,7 @@ fn judge_close<A: App>(
     app: &A,
     message: &ChanCloseInit,
 ) -> Result<ChannelEnd, Refusal>
-    ensures judged { (chain chains : ℕ) → IsJudged (λ evidence host core. chan_close_init A.closes core message.now) chain chains records.now (settled message.now.port message.now.channel (core_of records.now)) result }
+    ensures judged { (chain chains : ℕ) → IsJudged (chan_close_init A.closes message.now) chain chains records.now (settled message.now.port message.now.channel (core_of records.now)) result }
     ensures there { IfOk result (λ _. IsSome (end_at (core_of records.now) message.now.port message.now.channel)) }
 {
     let mine = find_end(records, &message.port, &message.channel)?;

@@ -5,6 +5,7 @@ mod checks;
 mod closing_confirm;
 mod closing_init;
 mod ends;
+mod following;
 mod opening_ack;
 mod opening_confirm;
 mod opening_init;

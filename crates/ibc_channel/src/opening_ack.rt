@@ -25,7 +25,7 @@ use std::alloc::Global;
 /// open; `NoConsensus` where the connection's client doesn't know the height; `BadProof` where the proof doesn't show the
 /// peer's end. `NoMemory` where a growth is refused. A refusal leaves the records.
 pub fn open_ack(alloc: Global, records: &mut Records, message: &ChanOpenAck) -> Result<(), Refusal>
-    ensures { (chain chains : ℕ) → IsHandled (λ _. effect.None) (λ evidence host core. chan_open_ack evidence core message.now) chain chains records.old result records.new }
+    ensures { (chain chains : ℕ) → IsHandled (λ _. effect.None) (chan_open_ack message.now) chain chains records.old result records.new }
 {
     let proof = read_proof(alloc, message.proof.as_slice())?;
     let judged = judge_ack(alloc, records, message, &proof);
@@ -41,7 +41,7 @@ fn judge_ack(
     proof: &Proof,
 ) -> Result<ChannelEnd, Refusal>
     requires { proof_of message.now.proof ≡ Some proof.now }
-    ensures judged { (chain chains : ℕ) → IsJudged (λ evidence host core. chan_open_ack evidence core message.now) chain chains records.now (settled message.now.port message.now.channel (core_of records.now)) result }
+    ensures judged { (chain chains : ℕ) → IsJudged (chan_open_ack message.now) chain chains records.now (settled message.now.port message.now.channel (core_of records.now)) result }
     ensures there { IfOk result (λ _. IsSome (end_at (core_of records.now) message.now.port message.now.channel)) }
 {
     let mine = find_end(records, &message.port, &message.channel)?;

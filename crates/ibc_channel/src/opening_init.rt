@@ -29,7 +29,7 @@ pub fn open_init<A: App>(
     app: Option<&A>,
     message: &ChanOpenInit,
 ) -> Result<ChannelId, Refusal>
-    ensures answer { (chain chains : ℕ) → IsHandled effect.Channel (λ evidence host core. chan_open_init (require (is_some app.entry) UnknownPort) A.opens core message.now) chain chains records.old result records.new }
+    ensures answer { (chain chains : ℕ) → IsHandled effect.Channel (chan_open_init (require (is_some app.entry) UnknownPort) A.opens message.now) chain chains records.old result records.new }
     ensures named { IfOk result (λ id. id ≡ nth_channel records.old.next_channel) }
 {
     check_init(records, app, message)?;
@@ -50,7 +50,7 @@ fn check_init<A: App>(
     app: Option<&A>,
     message: &ChanOpenInit,
 ) -> Result<(), Refusal>
-    ensures judged { (chain chains : ℕ) → IsJudged (λ evidence host core. chan_open_init (require (is_some app.entry) UnknownPort) A.opens core message.now) chain chains records.now (λ _. begun message.now.port (inited message.now) (core_of records.now)) result }
+    ensures judged { (chain chains : ℕ) → IsJudged (chan_open_init (require (is_some app.entry) UnknownPort) A.opens message.now) chain chains records.now (λ _. begun message.now.port (inited message.now) (core_of records.now)) result }
     ensures free { IfOk result (λ _. records.now.next_channel < 2 ^ 64 - 1) }
 {
     let Some(app) = app else {

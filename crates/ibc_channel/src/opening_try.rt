@@ -36,7 +36,7 @@ pub fn open_try<A: App>(
     app: Option<&A>,
     message: &ChanOpenTry,
 ) -> Result<ChannelId, Refusal>
-    ensures answer { (chain chains : ℕ) → IsHandled effect.Channel (λ evidence host core. chan_open_try (require (is_some app.entry) UnknownPort) A.opens evidence core message.now) chain chains records.old result records.new }
+    ensures answer { (chain chains : ℕ) → IsHandled effect.Channel (chan_open_try (require (is_some app.entry) UnknownPort) A.opens message.now) chain chains records.old result records.new }
     ensures named { IfOk result (λ id. id ≡ nth_channel records.old.next_channel) }
 {
     let proof = read_proof(alloc, message.proof.as_slice())?;
@@ -54,7 +54,7 @@ fn judge_try<A: App>(
     proof: &Proof,
 ) -> Result<ChannelEnd, Refusal>
     requires { proof_of message.now.proof ≡ Some proof.now }
-    ensures judged { (chain chains : ℕ) → IsJudged (λ evidence host core. chan_open_try (require (is_some app.entry) UnknownPort) A.opens evidence core message.now) chain chains records.now (λ end. begun message.now.port end (core_of records.now)) result }
+    ensures judged { (chain chains : ℕ) → IsJudged (chan_open_try (require (is_some app.entry) UnknownPort) A.opens message.now) chain chains records.now (λ end. begun message.now.port end (core_of records.now)) result }
     ensures free { IfOk result (λ _. records.now.next_channel < 2 ^ 64 - 1) }
 {
     let Some(app) = app else {

@@ -1,8 +1,13 @@
 -- The checks of the handshake in a row, as the code makes them.
-use Rattle.std.proofs.Common.{◌≡◌, ◌&&◌, Ok, refl, ap}
+use Rattle.std.proofs.Common.{◌≡◌, ◌&&◌, List, is_some, Some, None, Ok, Err, refl, ap, sym, ◌∙◌}
+use Rattle.std.specs.Prelude.{⊤}
 use Rattle.ibc_ids.specs.Texts.{Text}
-use Rattle.ibc_ids.specs.declared.refusal.Refusal.TheVariants.{UnknownClient, UnknownConnection, WrongState, WrongSelfClient, BadMessage}
-use Rattle.ibc_wire.specs.declared.records.ConnectionState.TheVariants.{Init, TryOpen}
+use Rattle.ibc_ids.specs.declared.publication.Publication.{Publication}
+use Rattle.ibc_ids.specs.declared.refusal.Refusal.{Refusal}
+use Rattle.ibc_ids.specs.declared.refusal.Refusal.TheVariants.{UnknownClient, UnknownConnection, WrongState, BadMessage}
+use Rattle.ibc_merkle.specs.declared.proof.Proof.{Proof}
+use Rattle.ibc_wire.specs.Reading.{proof_of}
+use Rattle.ibc_wire.specs.declared.records.ConnectionState.TheVariants.{TryOpen}
 use Rattle.ibc_wire.specs.declared.records.ConnectionEnd.{ConnectionEnd}
 use Rattle.ibc_wire.specs.declared.messages.ConnOpenInit.{ConnOpenInit}
 use Rattle.ibc_wire.specs.declared.messages.ConnOpenTry.{ConnOpenTry}
@@ -10,65 +15,96 @@ use Rattle.ibc_wire.specs.declared.messages.ConnOpenAck.{ConnOpenAck}
 use Rattle.ibc_wire.specs.declared.messages.ConnOpenConfirm.{ConnOpenConfirm}
 use Rattle.ibc_machine.specs.declared.reply.Effect.{Effect}
 use Rattle.ibc_machine.specs.declared.reply.Effect.TheVariants as effect
-use Rattle.ibc_machine.specs.Records.{Core, client_at, connection_at, with_connection}
+use Rattle.ibc_machine.specs.Records.{Core, Client, client_at, connection_at, with_connection}
+use Rattle.ibc_machine.specs.Replay.{LedgerState, proves}
 use Rattle.ibc_machine.specs.Values.{same_connection_state}
 use Rattle.ibc_machine.specs.Checks.{Checked, require, expect, ◌>>=◌, ◌>>◌}
 use Rattle.ibc_machine.specs.Evidence.{Host, Evidence, require_number, require_known, require_proof}
-use Rattle.ibc_machine.specs.Connections.{names_host, has_connection, has_client, conn_open_init, conn_open_try, conn_open_ack, conn_open_confirm}
-use Rattle.ibc_machine.proofs.PassedChecks.{unused}
+use Rattle.ibc_machine.specs.Connections.{has_connection, has_client, may_conn_try, may_conn_ack, conn_open_init, conn_open_try, conn_open_ack, conn_open_confirm}
+use Rattle.ibc_machine.proofs.PassedChecks.{pass, fail, find, unused}
 use Rattle.ibc_client.specs.Judging.{require_client}
-use Rattle.ibc_connection.specs.Ends.{begun, inited, tried, acknowledged, confirmed, begun_there, answered_there, opened_there}
+use Rattle.ibc_connection.specs.declared.claims.Proofs.{Proofs}
+use Rattle.ibc_connection.specs.Ends.{AreProofs, begun, inited, tried, acknowledged, confirmed, begun_there, answered_there, opened_there}
 
-pub init_checks : (core : Core) (m : ConnOpenInit)
-    → conn_open_init core m ≡ (require_client core m.client >> (require_number core.next_connection >> Ok (begun (inited m) core)))
-unfolding conn_open_init
-init_checks core m = unused (client_at core m.client) UnknownClient _
+-- ---- the client is there, and no more is asked of it
+
+module _ (core : Core) (client : Text) where
+  pub no_client : {r : Refusal} (rest : Checked ⊤) → Err r ≡ require_client core client → Err r ≡ (expect (client_at core client) UnknownClient >>= λ (found : Client). rest)
+  no_client rest gone = sym (fail rest (sym gone) (unused (client_at core client) UnknownClient rest))
+
+  pub behind_client : {x : Checked ⊤} (rest : Checked ⊤) → Ok tt ≡ require_client core client → x ≡ rest → x ≡ (expect (client_at core client) UnknownClient >>= λ (found : Client). rest)
+  behind_client rest there is = is ∙ sym (pass (sym there) (unused (client_at core client) UnknownClient rest))
+
+-- ---- the rows
 
 module _ (evidence : Evidence) (host : Host) (core : Core) where
-  pub try_checks : (m : ConnOpenTry)
-      → conn_open_try evidence host core m
-      ≡ (require (evidence.is_proof m.proof_end && evidence.is_proof m.proof_client) BadMessage
-      >> (require_client core m.client
-      >> (require (names_host host m.claim) WrongSelfClient
-      >> (require_number core.next_connection
-      >> (require_known core m.client m.height
+  pub init_checks : (m : ConnOpenInit)
+      → conn_open_init m evidence host core ≡ (require_client core m.client >> (require_number core.next_connection >> Ok (begun (inited m) core)))
+  unfolding conn_open_init
+  init_checks m = unused (client_at core m.client) UnknownClient _
+
+  abbrev pub try_after : ConnOpenTry → Checked (Effect × Core)
+  try_after m =
+      may_conn_try host core m
       >> (require_proof evidence m.client m.height (has_connection m.peer_connection (begun_there m)) m.proof_end
       >> (require_proof evidence m.client m.height (has_client m.peer_client m.claim) m.proof_client
-      >> Ok (begun (tried m) core))))))))
+      >> Ok (begun (tried m) core)))
+
+  pub try_checks : (m : ConnOpenTry)
+      → conn_open_try m evidence host core ≡ (require (evidence.is_proof m.proof_end && evidence.is_proof m.proof_client) BadMessage >> try_after m)
   unfolding conn_open_try
-  try_checks m =
-      ap (λ rest. require (evidence.is_proof m.proof_end && evidence.is_proof m.proof_client) BadMessage >> rest)
-      (unused (client_at core m.client) UnknownClient _)
+  try_checks m = refl
 
   abbrev pub ack_after : ConnOpenAck → ConnectionEnd → Checked (Effect × Core)
   ack_after m mine =
-      require (same_connection_state mine.state Init) WrongState
-      >> (require (names_host host m.claim) WrongSelfClient
-      >> (require_known core mine.client m.height
+      may_conn_ack host core m mine
       >> (require_proof evidence mine.client m.height (has_connection m.peer_connection (answered_there m mine)) m.proof_end
       >> (require_proof evidence mine.client m.height (has_client mine.peer_client m.claim) m.proof_client
-      >> Ok (effect.None, with_connection m.connection (acknowledged m mine) core)))))
+      >> Ok (effect.None, with_connection m.connection (acknowledged m mine) core)))
 
   pub ack_checks : (m : ConnOpenAck)
-      → conn_open_ack evidence host core m
+      → conn_open_ack m evidence host core
       ≡ (require (evidence.is_proof m.proof_end && evidence.is_proof m.proof_client) BadMessage
       >> (expect (connection_at core m.connection) UnknownConnection >>= ack_after m))
   unfolding conn_open_ack
   ack_checks m = refl
 
-module _ (evidence : Evidence) (core : Core) (m : ConnOpenConfirm) where
-  abbrev pub confirm_after : ConnectionEnd → Text → Checked (Effect × Core)
-  confirm_after mine peer =
+  abbrev pub confirm_after : ConnOpenConfirm → ConnectionEnd → Text → Checked (Effect × Core)
+  confirm_after m mine peer =
       require_known core mine.client m.height
       >> (require_proof evidence mine.client m.height (has_connection peer (opened_there m mine)) m.proof
       >> Ok (effect.None, with_connection m.connection (confirmed mine) core))
 
-  abbrev pub confirm_found : ConnectionEnd → Checked (Effect × Core)
-  confirm_found mine =
+  abbrev pub confirm_rest : ConnOpenConfirm → ConnectionEnd → Checked (Effect × Core)
+  confirm_rest m mine =
       require (same_connection_state mine.state TryOpen) WrongState
-      >> (expect mine.peer_connection WrongState >>= confirm_after mine)
+      >> (expect mine.peer_connection WrongState >>= confirm_after m mine)
 
-  pub confirm_checks : conn_open_confirm evidence core m
-      ≡ (require (evidence.is_proof m.proof) BadMessage >> (expect (connection_at core m.connection) UnknownConnection >>= confirm_found))
+  pub confirm_checks : (m : ConnOpenConfirm)
+      → conn_open_confirm m evidence host core
+      ≡ (require (evidence.is_proof m.proof) BadMessage >> (expect (connection_at core m.connection) UnknownConnection >>= confirm_rest m))
   unfolding conn_open_confirm
-  confirm_checks = refl
+  confirm_checks m = refl
+
+-- ---- behind the proofs, and behind the connection that is there
+
+module _ (seen : List Publication) (state : LedgerState) (host : Host) (core : Core) where
+  abbrev roots : Evidence
+  roots = proves seen None state
+
+  pub try_begun : (m : ConnOpenTry) (proofs : Proofs) → AreProofs m.proof_end m.proof_client proofs → conn_open_try m roots host core ≡ try_after roots host core m
+  try_begun m proofs read = pass (λ i. require (is_some (read.0 i) && is_some (read.1 i)) BadMessage) (try_checks roots host core m)
+
+  module _ (m : ConnOpenAck) (proofs : Proofs) (read : AreProofs m.proof_end m.proof_client proofs) where
+    pub ack_begun : conn_open_ack m roots host core ≡ (expect (connection_at core m.connection) UnknownConnection >>= ack_after roots host core m)
+    ack_begun = pass (λ i. require (is_some (read.0 i) && is_some (read.1 i)) BadMessage) (ack_checks roots host core m)
+
+    pub ack_found : (mine : ConnectionEnd) → connection_at core m.connection ≡ Some mine → conn_open_ack m roots host core ≡ ack_after roots host core m mine
+    ack_found mine there = find (ack_after roots host core m) (ap (λ o. expect o UnknownConnection) there) ack_begun
+
+  module _ (m : ConnOpenConfirm) (proof : Proof) (read : proof_of m.proof ≡ Some proof) where
+    pub confirm_begun : conn_open_confirm m roots host core ≡ (expect (connection_at core m.connection) UnknownConnection >>= confirm_rest roots host core m)
+    confirm_begun = pass (λ i. require (is_some (read i)) BadMessage) (confirm_checks roots host core m)
+
+    pub confirm_found : (mine : ConnectionEnd) → connection_at core m.connection ≡ Some mine → conn_open_confirm m roots host core ≡ confirm_rest roots host core m mine
+    confirm_found mine there = find (confirm_rest roots host core m) (ap (λ o. expect o UnknownConnection) there) confirm_begun

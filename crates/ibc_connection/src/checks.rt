@@ -1,32 +1,27 @@
 //! Checks that several of the messages make, and the connection that a new one adds.
 
-ghost use Rattle.std.specs.Prelude.{◌≡◌, ◌+◌, ◌-◌, ◌^◌, ◌<◌, ℕ, IfOk, IfErr, OnErr, ok_or};
+ghost use Rattle.std.specs.Prelude.{◌≡◌, ◌==◌, ◌&&◌, ◌+◌, ◌-◌, ◌^◌, ◌<◌, nat_lt, IfOk, IfErr, OnErr};
 ghost use Rattle.ibc_ids.specs.Paths.{nth_connection};
-ghost use Rattle.ibc_ids.specs.declared.refusal.Refusal.TheVariants.{NoMemory, UnknownClient, UnknownConnection, WrongSelfClient, WrongState};
-ghost use Rattle.ibc_machine.specs.Checks.{require, expect};
-ghost use Rattle.ibc_machine.specs.Connections.{names_host, with_new_connection};
-ghost use Rattle.ibc_machine.specs.Evidence.{require_number, require_known};
-ghost use Rattle.ibc_machine.specs.Records.{connection_at};
+ghost use Rattle.ibc_ids.specs.declared.refusal.Refusal.TheVariants.{NoMemory, WrongState};
+ghost use Rattle.ibc_machine.specs.Checks.{require};
+ghost use Rattle.ibc_machine.specs.Connections.{with_new_connection};
+ghost use Rattle.ibc_machine.specs.Evidence.{require_number};
 ghost use Rattle.ibc_machine.specs.Values.{same_connection_state};
+ghost use Rattle.ibc_path_store.specs.Held.{height_of};
 ghost use Rattle.ibc_records.specs.Held.{core_of, IsUnchanged};
-ghost use Rattle.ibc_records.specs.Taking.{IsWritten, host_with};
-ghost use Rattle.ibc_client.specs.Judging.{IsUnlessMemory};
+ghost use Rattle.ibc_records.specs.Taking.{IsWritten};
 
 use ibc_ids::{ClientId, ConnectionId, Refusal, nth_connection};
 use ibc_records::Records;
 use ibc_wire::{ClientState, ConnectionEnd, ConnectionState};
 use std::alloc::Global;
 
-/// A claimed client of the peer tracks this chain, and knows no height that isn't committed here, or else
-/// `WrongSelfClient` (ICS 3, "validateSelfClient").
-pub fn check_self_client(records: &Records, chain: u8, claim: ClientState) -> Result<(), Refusal>
-    ensures { (chains : ℕ) → result ≡ require (names_host (host_with chain chains records.now) claim) WrongSelfClient }
+/// Whether a claimed client of the peer tracks this chain, and knows no height that isn't committed here (ICS 3,
+/// "validateSelfClient").
+pub fn names_host(records: &Records, chain: u8, claim: ClientState) -> bool
+    ensures { result ≡ ((claim.chain == chain) && nat_lt claim.latest (height_of records.now.store + 1)) }
 {
-    if claim.chain == chain && claim.latest <= records.height() {
-        Ok(())
-    } else {
-        Err(Refusal::WrongSelfClient)
-    }
+    claim.chain == chain && claim.latest <= records.height()
 }
 
 /// The number of the next connection isn't the last, or else `NumberFull`.
@@ -37,11 +32,18 @@ pub fn check_number(records: &Records) -> Result<(), Refusal>
     ibc_client::check_number(records.next_connection())
 }
 
+/// Whether the connection is in this state.
+pub fn is_in_state(end: &ConnectionEnd, state: ConnectionState) -> bool
+    ensures { result ≡ same_connection_state end.now.state state }
+{
+    end.state == state
+}
+
 /// The connection is in this state, or else `WrongState`.
 pub fn check_state(end: &ConnectionEnd, state: ConnectionState) -> Result<(), Refusal>
     ensures { result ≡ require (same_connection_state end.now.state state) WrongState }
 {
-    if end.state == state {
+    if is_in_state(end, state) {
         Ok(())
     } else {
         Err(Refusal::WrongState)

@@ -1,17 +1,18 @@
 //! Opening a connection that the peer answered.
 
-ghost use Rattle.std.specs.Prelude.{◌≡◌, ℕ, Some, true};
+ghost use Rattle.std.specs.Prelude.{◌≡◌, ℕ, Some, true, IfOk};
 ghost use Rattle.ibc_machine.specs.declared.reply.Effect.TheVariants as effect;
-ghost use Rattle.ibc_machine.specs.Connections.{conn_open_ack, has_connection};
-ghost use Rattle.ibc_machine.specs.Records.{connection_at, knows, with_connection};
+ghost use Rattle.ibc_machine.specs.Connections.{conn_open_ack, has_connection, may_conn_ack};
+ghost use Rattle.ibc_machine.specs.Records as plain;
+ghost use Rattle.ibc_machine.specs.Records.{connection_at, with_connection};
 ghost use Rattle.ibc_records.specs.Held.{core_of};
-ghost use Rattle.ibc_records.specs.Taking.{IsHandled};
+ghost use Rattle.ibc_records.specs.Taking.{IsHandled, host_with};
 ghost use Rattle.ibc_client.specs.Judging.{IsJudged, IsShown};
 ghost use Rattle.ibc_connection.specs.Ends.{AreProofs, acknowledged, answered_there};
 
-use crate::checks::{check_self_client, check_state};
+use crate::checks::{is_in_state, names_host};
 use crate::claims::{Proofs, check_client_state, check_connection, read_proofs};
-use ibc_client::check_known;
+use ibc_client::knows;
 use ibc_ids::Refusal;
 use ibc_merkle::Proof;
 use ibc_records::Records;
@@ -29,7 +30,7 @@ pub fn open_ack(
     chain: u8,
     message: &ConnOpenAck,
 ) -> Result<(), Refusal>
-    ensures { (chains : ℕ) → IsHandled (λ _. effect.None) (λ evidence host core. conn_open_ack evidence host core message.now) chain chains records.old result records.new }
+    ensures { (chains : ℕ) → IsHandled (λ _. effect.None) (conn_open_ack message.now) chain chains records.old result records.new }
 {
     let proofs = read_proofs(alloc, &message.proof_end, &message.proof_client)?;
     let judged = judge_ack(alloc, records, chain, message, &proofs);
@@ -46,7 +47,7 @@ fn judge_ack(
     proofs: &Proofs,
 ) -> Result<ConnectionEnd, Refusal>
     requires { AreProofs message.now.proof_end message.now.proof_client proofs.now }
-    ensures { (chains : ℕ) → IsJudged (λ evidence host core. conn_open_ack evidence host core message.now) chain chains records.now (λ end. (effect.None, with_connection message.now.connection end (core_of records.now))) result }
+    ensures { (chains : ℕ) → IsJudged (conn_open_ack message.now) chain chains records.now (λ end. (effect.None, with_connection message.now.connection end (core_of records.now))) result }
 {
     let Some(mine) = records.connection(&message.connection) else {
         return Err(Refusal::UnknownConnection);
@@ -71,23 +72,42 @@ fn check_ack(
 ) -> Result<(), Refusal>
     requires read { AreProofs message.now.proof_end message.now.proof_client proofs.now }
     requires found { connection_at (core_of records.now) message.now.connection ≡ Some mine.now }
-    ensures { (chains : ℕ) → IsJudged (λ evidence host core. conn_open_ack evidence host core message.now) chain chains records.now (λ _. (effect.None, with_connection message.now.connection (acknowledged message.now mine.now) (core_of records.now))) result }
+    ensures { (chains : ℕ) → IsJudged (conn_open_ack message.now) chain chains records.now (λ _. (effect.None, with_connection message.now.connection (acknowledged message.now mine.now) (core_of records.now))) result }
 {
-    let client = &mine.client;
-    let height = message.height;
-    check_state(mine, ConnectionState::Init)?;
-    check_self_client(records, chain, message.claim)?;
-    check_known(records, client, height)?;
+    may_ack(records, chain, message, mine)?;
     check_answered(alloc, records, message, mine, &proofs.end)?;
     check_client_state(
         alloc,
         records,
-        client,
-        height,
+        &mine.client,
+        message.height,
         &mine.peer_client,
         message.claim,
         &proofs.client,
     )
+}
+
+// The checks that need no proof, in their order.
+#[tactic(auto, unfolding(ibc_machine::specs::Checks::and_then))]
+fn may_ack(
+    records: &Records,
+    chain: u8,
+    message: &ConnOpenAck,
+    mine: &ConnectionEnd,
+) -> Result<(), Refusal>
+    ensures checked { (chains : ℕ) → result ≡ may_conn_ack (host_with chain chains records.now) (core_of records.now) message.now mine.now }
+    ensures known { IfOk result (λ _. plain.knows (core_of records.now) mine.now.client message.now.height ≡ true) }
+{
+    if !is_in_state(mine, ConnectionState::Init) {
+        return Err(Refusal::WrongState);
+    }
+    if !names_host(records, chain, message.claim) {
+        return Err(Refusal::WrongSelfClient);
+    }
+    if !knows(records, &mine.client, message.height) {
+        return Err(Refusal::NoConsensus);
+    }
+    Ok(())
 }
 
 // The peer answered the connection, or else `BadProof`; `NoMemory`.
@@ -98,7 +118,7 @@ fn check_answered(
     mine: &ConnectionEnd,
     proof: &Proof,
 ) -> Result<(), Refusal>
-    requires { knows (core_of records.now) mine.now.client message.now.height ≡ true }
+    requires { plain.knows (core_of records.now) mine.now.client message.now.height ≡ true }
     ensures { IsShown records.now mine.now.client message.now.height (has_connection message.now.peer_connection (answered_there message.now mine.now)) proof.now result }
 {
     let theirs = ConnectionEnd {

@@ -28,7 +28,7 @@ pub fn open_confirm(
     records: &mut Records,
     message: &ConnOpenConfirm,
 ) -> Result<(), Refusal>
-    ensures { (chain chains : ℕ) → IsHandled (λ _. effect.None) (λ evidence host core. conn_open_confirm evidence core message.now) chain chains records.old result records.new }
+    ensures { (chain chains : ℕ) → IsHandled (λ _. effect.None) (conn_open_confirm message.now) chain chains records.old result records.new }
 {
     let proof = read_proof(alloc, message.proof.as_slice())?;
     let judged = judge_confirm(alloc, records, message, &proof);
@@ -44,7 +44,7 @@ fn judge_confirm(
     proof: &Proof,
 ) -> Result<ConnectionEnd, Refusal>
     requires { proof_of message.now.proof ≡ Some proof.now }
-    ensures { (chain chains : ℕ) → IsJudged (λ evidence host core. conn_open_confirm evidence core message.now) chain chains records.now (λ end. (effect.None, with_connection message.now.connection end (core_of records.now))) result }
+    ensures { (chain chains : ℕ) → IsJudged (conn_open_confirm message.now) chain chains records.now (λ end. (effect.None, with_connection message.now.connection end (core_of records.now))) result }
 {
     let Some(mine) = records.connection(&message.connection) else {
         return Err(Refusal::UnknownConnection);

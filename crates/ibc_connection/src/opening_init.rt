@@ -20,7 +20,7 @@ pub fn open_init(
     records: &mut Records,
     message: &ConnOpenInit,
 ) -> Result<ConnectionId, Refusal>
-    ensures answer { (chain chains : ℕ) → IsHandled effect.Connection (λ evidence host core. conn_open_init core message.now) chain chains records.old result records.new }
+    ensures answer { (chain chains : ℕ) → IsHandled effect.Connection (conn_open_init message.now) chain chains records.old result records.new }
     ensures named { IfOk result (λ id. id ≡ nth_connection records.old.next_connection) }
 {
     check_client(records, &message.client)?;

@@ -3,14 +3,14 @@
 ghost use Rattle.std.specs.Prelude.{◌≡◌, ◌-◌, ◌^◌, ◌<◌, ℕ, true, IfOk};
 ghost use Rattle.ibc_ids.specs.Paths.{nth_connection};
 ghost use Rattle.ibc_machine.specs.declared.reply.Effect.TheVariants as effect;
-ghost use Rattle.ibc_machine.specs.Connections.{conn_open_try, has_connection};
+ghost use Rattle.ibc_machine.specs.Connections.{conn_open_try, has_connection, may_conn_try};
 ghost use Rattle.ibc_machine.specs.Records.{knows};
 ghost use Rattle.ibc_records.specs.Held.{core_of};
-ghost use Rattle.ibc_records.specs.Taking.{IsHandled};
+ghost use Rattle.ibc_records.specs.Taking.{IsHandled, host_with};
 ghost use Rattle.ibc_client.specs.Judging.{IsJudged, IsShown};
 ghost use Rattle.ibc_connection.specs.Ends.{AreProofs, begun, begun_there, tried};
 
-use crate::checks::{add_connection, check_number, check_self_client};
+use crate::checks::{add_connection, check_number, names_host};
 use crate::claims::{Proofs, check_client_state, check_connection, read_proofs};
 use ibc_client::{check_client, check_known};
 use ibc_ids::{ConnectionId, Refusal};
@@ -30,7 +30,7 @@ pub fn open_try(
     chain: u8,
     message: &ConnOpenTry,
 ) -> Result<ConnectionId, Refusal>
-    ensures answer { (chains : ℕ) → IsHandled effect.Connection (λ evidence host core. conn_open_try evidence host core message.now) chain chains records.old result records.new }
+    ensures answer { (chains : ℕ) → IsHandled effect.Connection (conn_open_try message.now) chain chains records.old result records.new }
     ensures named { IfOk result (λ id. id ≡ nth_connection records.old.next_connection) }
 {
     let proofs = read_proofs(alloc, &message.proof_end, &message.proof_client)?;
@@ -55,25 +55,35 @@ fn check_try(
     proofs: &Proofs,
 ) -> Result<(), Refusal>
     requires { AreProofs message.now.proof_end message.now.proof_client proofs.now }
-    ensures judged { (chains : ℕ) → IsJudged (λ evidence host core. conn_open_try evidence host core message.now) chain chains records.now (λ _. begun (tried message.now) (core_of records.now)) result }
+    ensures judged { (chains : ℕ) → IsJudged (conn_open_try message.now) chain chains records.now (λ _. begun (tried message.now) (core_of records.now)) result }
     ensures free { IfOk result (λ _. records.now.next_connection < 2 ^ 64 - 1) }
 {
-    let client = &message.client;
-    let height = message.height;
-    check_client(records, client)?;
-    check_self_client(records, chain, message.claim)?;
-    check_number(records)?;
-    check_known(records, client, height)?;
+    may_try(records, chain, message)?;
     check_begun(alloc, records, message, &proofs.end)?;
     check_client_state(
         alloc,
         records,
-        client,
-        height,
+        &message.client,
+        message.height,
         &message.peer_client,
         message.claim,
         &proofs.client,
     )
+}
+
+// The checks that need no proof, in their order.
+fn may_try(records: &Records, chain: u8, message: &ConnOpenTry) -> Result<(), Refusal>
+    ensures checked { (chains : ℕ) → result ≡ may_conn_try (host_with chain chains records.now) (core_of records.now) message.now }
+    ensures free { IfOk result (λ _. records.now.next_connection < 2 ^ 64 - 1) }
+    ensures known { IfOk result (λ _. knows (core_of records.now) message.now.client message.now.height ≡ true) }
+{
+    check_client(records, &message.client)?;
+    if !names_host(records, chain, message.claim) {
+        return Err(Refusal::WrongSelfClient);
+    }
+    check_number(records)?;
+    check_known(records, &message.client, message.height)?;
+    Ok(())
 }
 
 // The peer began the connection, or else `BadProof`; `NoMemory`.

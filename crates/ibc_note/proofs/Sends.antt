@@ -9,7 +9,7 @@ use Rattle.ibc_machine.specs.declared.reply.Effect.{Effect}
 use Rattle.ibc_machine.specs.declared.reply.Effect.TheVariants as effect
 use Rattle.ibc_machine.specs.Records.{Core, Channel, Commitment, channel_at, with_channel}
 use Rattle.ibc_machine.specs.Checks.{Checked, require, ◌>>=◌, ◌>>◌}
-use Rattle.ibc_machine.specs.Evidence.{Evidence, require_number}
+use Rattle.ibc_machine.specs.Evidence.{Host, Evidence, require_number}
 use Rattle.ibc_machine.specs.Packets.{has_size, sending_end, require_timeouts, after_send, with_sent}
 use Rattle.ibc_machine.specs.Notes.{note_port, note_commitment, send_note}
 use Rattle.ibc_machine.proofs.PassedChecks.{find}
@@ -17,7 +17,7 @@ use Rattle.ibc_records.specs.Held.{HeldRecords, core_of, IsUnchanged}
 use Rattle.ibc_records.specs.Taking.{IsTaken}
 use Rattle.ibc_records.specs.Packets.{SendsPacket}
 
-module _ (evidence : Evidence) (core : Core) (m : SendNote) (port : Text) (named : port ≡ note_port) where
+module _ (evidence : Evidence) (host : Host) (core : Core) (m : SendNote) (port : Text) (named : port ≡ note_port) where
   -- the checks behind those of the end
   abbrev pub note_rest : Channel → Checked (Effect × Core)
   note_rest mine =
@@ -25,14 +25,14 @@ module _ (evidence : Evidence) (core : Core) (m : SendNote) (port : Text) (named
       >> (require_timeouts evidence core mine (note_commitment m)
       >> (require_number mine.next_send >> Ok (with_sent port m.channel mine (note_commitment m) core)))
 
-  pub note_row : send_note evidence core m ≡ (sending_end core port m.channel >>= note_rest)
+  pub note_row : send_note m evidence host core ≡ (sending_end core port m.channel >>= note_rest)
   unfolding send_note
   note_row = λ i. sending_end core (sym named i) m.channel >>= λ (mine : Channel).
       require (has_size m.payload) TooLarge
       >> (require_timeouts evidence core mine (note_commitment m)
       >> (require_number mine.next_send >> Ok (with_sent (sym named i) m.channel mine (note_commitment m) core)))
 
-  pub note_found : (mine : Channel) → sending_end core port m.channel ≡ Ok mine → send_note evidence core m ≡ note_rest mine
+  pub note_found : (mine : Channel) → sending_end core port m.channel ≡ Ok mine → send_note m evidence host core ≡ note_rest mine
   note_found mine is = find note_rest is note_row
 
 module _ (checked : Checked (Effect × Core)) (old : HeldRecords) (m : SendNote) (port : Text) (c : Commitment) (committed : c ≡ note_commitment m) (mine : Channel) where

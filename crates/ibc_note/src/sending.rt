@@ -24,7 +24,7 @@ use std::alloc::Global;
 /// height that the end's client knows of the peer; `NumberFull` where the next sequence is 2^64 - 1. `NoMemory` where a
 /// growth is refused. A refusal leaves the records.
 pub fn send_note(alloc: Global, records: &mut Records, message: &SendNote) -> Result<u64, Refusal>
-    ensures { (chain chains : ℕ) → IsHandled effect.Sent (λ evidence host core. notes.send_note evidence core message.now) chain chains records.old result records.new }
+    ensures { (chain chains : ℕ) → IsHandled effect.Sent (notes.send_note message.now) chain chains records.old result records.new }
 {
     let port = note_port(alloc)?;
     judge_note(records, &port, message)?;
@@ -51,7 +51,7 @@ fn judge_note<'a>(
     message: &SendNote,
 ) -> Result<&'a Channel, Refusal>
     requires { port.now ≡ notes.note_port }
-    ensures judged { (chain chains : ℕ) → IsJudged (λ evidence host core. notes.send_note evidence core message.now) chain chains records.now (λ mine. with_sent port.now message.now.channel mine.now (note_commitment message.now) (core_of records.now)) result }
+    ensures judged { (chain chains : ℕ) → IsJudged (notes.send_note message.now) chain chains records.now (λ mine. with_sent port.now message.now.channel mine.now (note_commitment message.now) (core_of records.now)) result }
     ensures there { IfOk result (λ mine. channel_at (core_of records.now) port.now message.now.channel ≡ Some mine.now) }
     ensures free { IfOk result (λ mine. mine.now.next_send < 2 ^ 64 - 1) }
 {

@@ -1,5 +1,5 @@
 -- What the code finds of the own end, beside the definitions' words for it.
-use Rattle.std.proofs.Common.{◌≡◌, ◌&&◌, ℕ, true, false, eqb, Some, sym, ap, ◌∙◌, if◌then◌else◌}
+use Rattle.std.proofs.Common.{◌≡◌, ◌&&◌, ◌||◌, ◌≤◌, ℕ, Bool, true, false, nat_lt, eqb, ltb-false, Some, sym, ap, ◌∙◌, if◌then◌else◌}
 use Rattle.std.specs.Str.{bytes_eq}
 use Rattle.ibc_ids.specs.Texts.{Text, same_text}
 use Rattle.ibc_ids.specs.declared.key.Key.TheVariants as key
@@ -19,6 +19,12 @@ peer_named mine port channel end peer same named =
 
 pub same_payload : (a b : Commitment) → (bytes_eq a.payload b.payload && eqb a.timeout_height b.timeout_height && eqb a.timeout_time b.timeout_time) ≡ same_commitment a b
 same_payload a b = ap (λ t. t && eqb a.timeout_height b.timeout_height && eqb a.timeout_time b.timeout_time) (bytes_eq-same a.payload b.payload)
+
+-- an ordered end hasn't gone past a sequence that is no repeat
+pub not_gone_past : (receipt ordered : Bool) (n next : ℕ) → false ≡ (receipt || (ordered && nat_lt n next)) → ordered ≡ true → next ≤ n
+not_gone_past true ordered n next fresh is = absurd (cc fresh)
+not_gone_past false false n next fresh is = absurd (cc is)
+not_gone_past false true n next fresh is = ltb-false n next (sym fresh)
 
 -- what the peer must show, by the order of the end
 module _ (mine : Channel) (p : Packet) (next_recv : ℕ) where

@@ -1,8 +1,9 @@
 -- What became of a packet is what its checks and the application say.
-use Rattle.std.proofs.Common.{◌≡◌, ◌⊎◌, ◌&&◌, ℕ, Bool, true, false, is_some, Option, Some, Ok, Err, inl, inr, refl, sym, ap, subst, ◌∙◌}
+use Rattle.std.proofs.Common.{◌≡◌, ◌⊎◌, ◌&&◌, ℕ, Bool, true, false, is_some, Option, Some, None, List, Ok, Err, inl, inr, refl, sym, ap, subst, ◌∙◌}
 use Rattle.std.specs.Prelude.{⊤, [], Result, IfOk, IfErr, OnOk, OnErr, IfSome}
 use Rattle.std.specs.Option.{option_map_or}
 use Rattle.ibc_ids.specs.Texts.{Text}
+use Rattle.ibc_ids.specs.declared.publication.Publication.{Publication}
 use Rattle.ibc_ids.specs.declared.refusal.Refusal.{Refusal}
 use Rattle.ibc_ids.specs.declared.refusal.Refusal.TheVariants.{NoMemory, BadMessage}
 use Rattle.ibc_merkle.specs.declared.proof.Proof.{Proof}
@@ -18,15 +19,17 @@ use Rattle.ibc_machine.specs.declared.reply.Effect.TheVariants as effect
 use Rattle.ibc_machine.specs.Records.{Core, Channel, connection_at, channel_at, with_channel}
 use Rattle.ibc_machine.specs.Values.{Claim}
 use Rattle.ibc_machine.specs.Checks.{Checked, require, ◌>>=◌}
-use Rattle.ibc_machine.specs.Evidence.{Host, Evidence}
+use Rattle.ibc_machine.specs.Evidence.{Host, Evidence, require_proof}
 use Rattle.ibc_machine.specs.Channels.{client_of}
 use Rattle.ibc_machine.specs.Packets.{with_received, after_receive, after_ack, after_timeout, with_timed_out, recv_checked, recv_packet, ack_checked, ack_packet, timeout_checked, timeout, timeout_on_close_checked, timeout_on_close}
+use Rattle.ibc_machine.specs.Replay.{LedgerState, proves}
 use Rattle.ibc_machine.proofs.PassedChecks.{find, miss}
 use Rattle.ibc_records.specs.Held.{HeldRecords, core_of, IsUnchanged}
+use Rattle.ibc_records.specs.Knowledge.{Knows}
 use Rattle.ibc_records.specs.Taking.{IsTakenWith}
 use Rattle.ibc_records.specs.Packets.{ReceivesPacket, AcknowledgesPacket, TimesOutPacket}
-use Rattle.ibc_client.specs.Judging.{IsShown, IsEvident}
-use Rattle.ibc_client.proofs.Judging.{IsRefusedBy, stops_at}
+use Rattle.ibc_client.specs.Judging.{IsUnlessMemory, IsShown, IsEvident}
+use Rattle.ibc_client.proofs.Judging.{IsRefusedBy, failed, passed, stops_at}
 
 -- ---- the client under a connection that is there
 
@@ -34,12 +37,24 @@ module _ (held : HeldRecords) (id : Text) (connection : ConnectionEnd) (there : 
   client_is : connection.client ≡ client_of (core_of held) id
   client_is = sym (ap (λ (o : Option ConnectionEnd). option_map_or (λ (c : ConnectionEnd). c.client) o []) there)
 
-  pub shown_over : (height : ℕ) (claim : Claim) (proof : Proof) (result : Result ⊤ Refusal) → IsShown held connection.client height claim proof result
-      → IsShown held (client_of (core_of held) id) height claim proof result
-  shown_over height claim proof result shown = subst (λ client. IsShown held client height claim proof result) client_is shown
+  module _ (seen : List Publication) (state : LedgerState) (knowledge : Knows held state) (height : ℕ) where
+    module _ (claim : Claim) (bytes : Text) (proof : Proof) (reads : proof_of bytes ≡ Some proof) where
+      shown_over : (result : Result ⊤ Refusal) → IsShown held connection.client height claim proof result
+          → IsUnlessMemory (require_proof (proves seen None state) (client_of (core_of held) id) height claim bytes) result
+      shown_over result shown = subst (λ client. IsShown held client height claim proof result) client_is shown seen state bytes knowledge reads
 
-  pub evident_over : {A : Type 0} (says : Text → Evidence → A) (result : A) → IsEvident held (says connection.client) result → IsEvident held (says (client_of (core_of held) id)) result
-  evident_over says result evident = subst (λ client. IsEvident held (says client) result) client_is evident
+      pub not_shown : {r : Refusal} → IsShown held connection.client height claim proof (Err r)
+          → IsRefusedBy (require_proof (proves seen None state) (client_of (core_of held) id) height claim bytes) r
+      not_shown {r} shown = failed (shown_over (Err r) shown)
+
+      pub was_shown : IsShown held connection.client height claim proof (Ok tt)
+          → require_proof (proves seen None state) (client_of (core_of held) id) height claim bytes ≡ Ok tt
+      was_shown shown = passed (shown_over (Ok tt) shown)
+
+    -- what the evidence says of the connection's client
+    pub evident_over : {A : Type 0} (says : Text → Evidence → A) (result : A) → IsEvident held (says connection.client) result
+        → says (client_of (core_of held) id) (proves seen None state) ≡ result
+    evident_over says result evident = sym (subst (λ client. IsEvident held (says client) result) client_is evident seen state knowledge)
 
 -- ---- refusals
 
@@ -67,17 +82,17 @@ untaken_with effect_of checked old app result new after is same why unchanged ke
 
 module _ {A : Type 0} (receives : A → Text → Packet → Text × A) (old : HeldRecords) (app : A) (evidence : Evidence) (host : Host) (m : RecvPacket) where
   abbrev received : Checked (Effect × Core × A)
-  received = recv_packet (receives app) evidence host (core_of old) m
+  received = recv_packet receives m evidence host (core_of old) app
 
-  pub recv_refused : {r : Refusal} → IsRefusedBy (recv_checked evidence host (core_of old) m) r → IsRefusedBy received r
+  pub recv_refused : {r : Refusal} → IsRefusedBy (recv_checked m evidence host (core_of old)) r → IsRefusedBy received r
   unfolding recv_packet
   recv_refused why = stops_at _ why refl
 
-  recv_given : (mine : Channel) → recv_checked evidence host (core_of old) m ≡ Ok mine → received ≡ Ok (with_received m.packet mine (core_of old) (receives app mine.end.version m.packet))
+  recv_given : (mine : Channel) → recv_checked m evidence host (core_of old) ≡ Ok mine → received ≡ Ok (with_received m.packet mine (core_of old) (receives app mine.end.version m.packet))
   unfolding recv_packet
   recv_given mine is = find _ is refl
 
-  pub recv_taken : (mine : Channel) → recv_checked evidence host (core_of old) m ≡ Ok mine
+  pub recv_taken : (mine : Channel) → recv_checked m evidence host (core_of old) ≡ Ok mine
       → channel_at (core_of old) m.packet.destination_port m.packet.destination_channel ≡ Some mine
       → (result : Result (Text × Text) Refusal) (new : HeldRecords) (after : A)
       → IfOk result (λ acks. ReceivesPacket receives old app m.packet acks.0 new after)
@@ -103,22 +118,22 @@ module _ {A : Type 0} (checked : Checked (Effect × Core × A)) (told : Channel 
   told_taken is refusal (inl memory) = inr memory
   told_taken is refusal (inr refused) = inl (miss _ (subst (λ o. IfSome o (λ c. told c ≡ Err refusal)) there refused) is)
 
-module _ {A : Type 0} (told : A → Text → Packet → Text → Checked A) (old : HeldRecords) (app : A) (evidence : Evidence) (m : AckPacket) where
+module _ {A : Type 0} (told : A → Text → Packet → Text → Checked A) (old : HeldRecords) (app : A) (evidence : Evidence) (host : Host) (m : AckPacket) where
   abbrev acknowledged : Checked (Effect × Core × A)
-  acknowledged = ack_packet (told app) evidence (core_of old) m
+  acknowledged = ack_packet told m evidence host (core_of old) app
 
   abbrev acknowledged_on : Channel → A → Effect × Core × A
   acknowledged_on mine after = (effect.None, with_channel m.packet.source_port m.packet.source_channel (after_ack m.packet.sequence mine) (core_of old), after)
 
-  pub ack_refused : {r : Refusal} → IsRefusedBy (ack_checked evidence (core_of old) m) r → IsRefusedBy acknowledged r
+  pub ack_refused : {r : Refusal} → IsRefusedBy (ack_checked m evidence host (core_of old)) r → IsRefusedBy acknowledged r
   unfolding ack_packet
   ack_refused why = stops_at _ why refl
 
-  ack_given : (mine : Channel) → ack_checked evidence (core_of old) m ≡ Ok mine → acknowledged ≡ (told app mine.end.version m.packet m.ack >>= λ (after : A). Ok (acknowledged_on mine after))
+  ack_given : (mine : Channel) → ack_checked m evidence host (core_of old) ≡ Ok mine → acknowledged ≡ (told app mine.end.version m.packet m.ack >>= λ (after : A). Ok (acknowledged_on mine after))
   unfolding ack_packet
   ack_given mine is = find _ is refl
 
-  pub ack_taken : (mine : Channel) → ack_checked evidence (core_of old) m ≡ Ok mine
+  pub ack_taken : (mine : Channel) → ack_checked m evidence host (core_of old) ≡ Ok mine
       → channel_at (core_of old) m.packet.source_port m.packet.source_channel ≡ Some mine
       → (result : Result ⊤ Refusal) (new : HeldRecords) (after : A)
       → OnOk result (AcknowledgesPacket told old app m.packet m.ack new after)
@@ -155,21 +170,21 @@ module _ {A : Type 0} (told : A → Text → Packet → Checked A) (old : HeldRe
   time_out_taken is there (Err refusal) new after settled err unchanged =
       (told_taken checked (λ c. told app c.end.version p) (λ c. with_timed_out p c (core_of old)) mine _ there is refusal err, unchanged.0, unchanged.1)
 
-module _ {A : Type 0} (told : Text → Packet → Checked A) (evidence : Evidence) (core : Core) where
-  pub timeout_refused : (m : Timeout) {r : Refusal} → IsRefusedBy (timeout_checked evidence core m) r → IsRefusedBy (timeout told evidence core m) r
+module _ {A : Type 0} (told : A → Text → Packet → Checked A) (evidence : Evidence) (host : Host) (core : Core) (app : A) where
+  pub timeout_refused : (m : Timeout) {r : Refusal} → IsRefusedBy (timeout_checked m evidence host core) r → IsRefusedBy (timeout told m evidence host core app) r
   unfolding timeout
   timeout_refused m why = stops_at _ why refl
 
-  pub timeout_given : (m : Timeout) (mine : Channel) → timeout_checked evidence core m ≡ Ok mine
-      → timeout told evidence core m ≡ (told mine.end.version m.packet >>= λ (after : A). Ok (with_timed_out m.packet mine core after))
+  pub timeout_given : (m : Timeout) (mine : Channel) → timeout_checked m evidence host core ≡ Ok mine
+      → timeout told m evidence host core app ≡ (told app mine.end.version m.packet >>= λ (after : A). Ok (with_timed_out m.packet mine core after))
   unfolding timeout
   timeout_given m mine is = find _ is refl
 
-  pub close_refused : (m : TimeoutOnClose) {r : Refusal} → IsRefusedBy (timeout_on_close_checked evidence core m) r → IsRefusedBy (timeout_on_close told evidence core m) r
+  pub close_refused : (m : TimeoutOnClose) {r : Refusal} → IsRefusedBy (timeout_on_close_checked m evidence host core) r → IsRefusedBy (timeout_on_close told m evidence host core app) r
   unfolding timeout_on_close
   close_refused m why = stops_at _ why refl
 
-  pub close_given : (m : TimeoutOnClose) (mine : Channel) → timeout_on_close_checked evidence core m ≡ Ok mine
-      → timeout_on_close told evidence core m ≡ (told mine.end.version m.packet >>= λ (after : A). Ok (with_timed_out m.packet mine core after))
+  pub close_given : (m : TimeoutOnClose) (mine : Channel) → timeout_on_close_checked m evidence host core ≡ Ok mine
+      → timeout_on_close told m evidence host core app ≡ (told app mine.end.version m.packet >>= λ (after : A). Ok (with_timed_out m.packet mine core after))
   unfolding timeout_on_close
   close_given m mine is = find _ is refl

@@ -4,18 +4,16 @@ ghost use Rattle.std.specs.Prelude.{◌≡◌, ◌&&◌, ◌-◌, ◌^◌, ◌<�
 ghost use Rattle.ibc_wire.specs.Reading.{proof_of};
 ghost use Rattle.ibc_machine.specs.declared.reply.Effect.TheVariants as effect;
 ghost use Rattle.ibc_machine.specs.Packets as plain;
-ghost use Rattle.ibc_machine.specs.Packets.{is_ordered, ack_checked, ack_packet};
+ghost use Rattle.ibc_machine.specs.Packets.{is_ordered, may_acknowledge, ack_checked, ack_packet};
 ghost use Rattle.ibc_machine.specs.Records.{channel_at};
 ghost use Rattle.ibc_records.specs.Held.{core_of};
 ghost use Rattle.ibc_records.specs.Taking.{IsHandledWith};
 ghost use Rattle.ibc_client.specs.Judging.{IsJudged};
-ghost use Rattle.ibc_packet.specs.Allowed.{may_acknowledge};
 
 use crate::claims::check_acknowledged;
-use crate::ends::{find_channel, has_peer, is_committed, is_open};
+use crate::ends::{find_channel, has_peer, is_committed, is_open, known_over};
 use crate::forms::{has_form, has_size, proof_in_form};
 use ibc_app_port::App;
-use ibc_client::known_connection;
 use ibc_ids::Refusal;
 use ibc_merkle::Proof;
 use ibc_records::{Channel, Records};
@@ -35,7 +33,7 @@ pub fn acknowledge<A: App>(
     app: &mut A,
     message: &AckPacket,
 ) -> Result<(), Refusal>
-    ensures { (chain chains : ℕ) → IsHandledWith (λ _. effect.None) (λ evidence host core. ack_packet (A.is_acknowledged app.old) evidence core message.now) chain chains records.old app.old result records.new app.new }
+    ensures { (chain chains : ℕ) → IsHandledWith (λ _. effect.None) (ack_packet A.is_acknowledged message.now) chain chains records.old app.old result records.new app.new }
 {
     let form = is_in_form(message);
     let proof = proof_in_form(alloc, form, message.proof.as_slice())?;
@@ -62,14 +60,14 @@ fn judge_ack<'a>(
 ) -> Result<&'a Channel, Refusal>
     requires form { (plain.has_form message.now.packet && plain.has_size message.now.ack) ≡ true }
     requires reads { proof_of message.now.proof ≡ Some proof.now }
-    ensures judged { (chain chains : ℕ) → IsJudged (λ evidence host core. ack_checked evidence core message.now) chain chains records.now (λ mine. mine.now) result }
+    ensures judged { (chain chains : ℕ) → IsJudged (ack_checked message.now) chain chains records.now (λ mine. mine.now) result }
     ensures there { IfOk result (λ mine. channel_at (core_of records.now) message.now.packet.source_port message.now.packet.source_channel ≡ Some mine.now) }
     ensures next { IfOk result (λ mine. is_ordered mine.now ≡ true → mine.now.next_ack ≡ message.now.packet.sequence) }
 {
     let packet = &message.packet;
     let mine = find_channel(records, &packet.source_port, &packet.source_channel)?;
     check_acknowledgeable(mine, packet)?;
-    let connection = known_connection(records, &mine.end().connection, message.height)?;
+    let connection = known_over(records, mine, message.height)?;
     check_acknowledged(alloc, records, &connection.client, message, proof)?;
     Ok(mine)
 }

@@ -1,18 +1,19 @@
 //! The own end of a packet's channel.
 
-ghost use Rattle.std.specs.Prelude.{◌≡◌, ◌⊎◌, ◌&&◌, ◌==◌, nat_lt, Some, Err, IfOk, IfErr};
+ghost use Rattle.std.specs.Prelude.{◌≡◌, ◌⊎◌, ◌&&◌, ◌==◌, nat_lt, true, Some, Ok, Err, IfOk, IfErr};
 ghost use Rattle.ibc_ids.specs.declared.refusal.Refusal.TheVariants.{NoMemory, UnknownChannel};
 ghost use Rattle.ibc_machine.specs.Channels as channels;
 ghost use Rattle.ibc_machine.specs.Checks.{expect};
+ghost use Rattle.ibc_machine.specs.Evidence.{require_known};
 ghost use Rattle.ibc_machine.specs.Packets as plain;
-ghost use Rattle.ibc_machine.specs.Records.{channel_at, commitment_of};
+ghost use Rattle.ibc_machine.specs.Records.{channel_at, commitment_of, connection_at, knows};
 ghost use Rattle.ibc_machine.specs.Values.{same_commitment};
 ghost use Rattle.ibc_records.specs.Held.{core_of};
-ghost use Rattle.ibc_packet.specs.Allowed.{is_pending};
 
+use ibc_client::known_connection;
 use ibc_ids::{ChannelId, PortId, Refusal};
 use ibc_records::{Channel, Commitment, Records};
-use ibc_wire::{ChannelState, Packet};
+use ibc_wire::{ChannelState, ConnectionEnd, Packet};
 
 /// A channel, or else `UnknownChannel`; `NoMemory`.
 pub fn find_channel<'a>(
@@ -29,6 +30,20 @@ pub fn find_channel<'a>(
     }
 }
 
+/// The connection of an end, whose client knows the height, or else `NoConsensus`.
+pub fn known_over<'a>(
+    records: &'a Records,
+    mine: &Channel,
+    height: u64,
+) -> Result<&'a ConnectionEnd, Refusal>
+    ensures there { IfOk result (λ connection. connection_at (core_of records.now) mine.now.end.connection ≡ Some connection.now) }
+    ensures known { IfOk result (λ connection. knows (core_of records.now) connection.now.client height ≡ true) }
+    ensures passed { IfOk result (λ _. require_known (core_of records.now) (channels.client_of (core_of records.now) mine.now.end.connection) height ≡ Ok tt) }
+    ensures failed { IfErr result (λ refusal. require_known (core_of records.now) (channels.client_of (core_of records.now) mine.now.end.connection) height ≡ Err refusal) }
+{
+    known_connection(records, &mine.end().connection, height)
+}
+
 /// Whether the end's peer has this port and name.
 pub fn has_peer(mine: &Channel, port: &PortId, channel: &ChannelId) -> bool
     ensures { result ≡ plain.has_peer mine.now port.now channel.now }
@@ -40,15 +55,11 @@ pub fn has_peer(mine: &Channel, port: &PortId, channel: &ChannelId) -> bool
     *port == end.peer_port && *peer == *channel
 }
 
-/// Whether the end has received a sequence, or won't take it any more.
-pub fn has_received(mine: &Channel, sequence: u64) -> bool
-    ensures { result ≡ plain.has_received mine.now sequence }
+/// Whether a sequence is a repeat: a receipt stands, or an ordered end has gone past it.
+pub fn is_repeat(mine: &Channel, sequence: u64) -> bool
+    ensures { result ≡ plain.is_repeat mine.now sequence }
 {
-    if mine.is_ordered() {
-        sequence < mine.next_recv()
-    } else {
-        mine.has_receipt(sequence)
-    }
+    mine.has_receipt(sequence) || (mine.is_ordered() && sequence < mine.next_recv())
 }
 
 /// Whether the end is ordered, and receives another sequence before this one.
@@ -87,7 +98,7 @@ fn has_timeouts(found: &Commitment, packet: &Packet) -> bool
 /// packet's own commitment doesn't stand.
 #[tactic(auto, unfolding(ibc_machine::specs::Checks::and_then))]
 pub fn check_pending(mine: &Channel, packet: &Packet) -> Result<(), Refusal>
-    ensures { result ≡ is_pending mine.now packet.now }
+    ensures { result ≡ plain.is_pending mine.now packet.now }
 {
     if !is_established(mine) {
         return Err(Refusal::WrongState);

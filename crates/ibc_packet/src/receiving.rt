@@ -4,19 +4,17 @@ ghost use Rattle.std.specs.Prelude.{◌≡◌, ◌≤◌, ℕ, true, Some, IfOk}
 ghost use Rattle.ibc_wire.specs.Reading.{proof_of};
 ghost use Rattle.ibc_machine.specs.declared.reply.Effect.TheVariants as effect;
 ghost use Rattle.ibc_machine.specs.Packets as plain;
-ghost use Rattle.ibc_machine.specs.Packets.{is_ordered, recv_checked, recv_packet};
+ghost use Rattle.ibc_machine.specs.Packets.{is_ordered, may_receive, recv_checked, recv_packet};
 ghost use Rattle.ibc_machine.specs.Records.{channel_at};
 ghost use Rattle.ibc_records.specs.Held.{core_of};
 ghost use Rattle.ibc_records.specs.Taking.{host_with, IsHandledWith};
 ghost use Rattle.ibc_client.specs.Judging.{IsJudged};
-ghost use Rattle.ibc_packet.specs.Allowed.{may_receive};
 
 use crate::claims::check_sent;
-use crate::ends::{find_channel, has_peer, has_received, is_open, waits_before};
+use crate::ends::{find_channel, has_peer, is_open, is_repeat, known_over, waits_before};
 use crate::forms::{has_form, proof_in_form};
 use crate::times::is_late;
 use ibc_app_port::App;
-use ibc_client::known_connection;
 use ibc_ids::{Bytes, Refusal};
 use ibc_merkle::Proof;
 use ibc_records::{Channel, Records};
@@ -27,7 +25,7 @@ use std::alloc::Global;
 /// answers twice (ICS 4, "recvPacket"). Refused, by the first check that fails: `BadMessage` where the packet hasn't the
 /// form of packets, or the proof can't be read; `UnknownChannel`; `WrongState` where the end isn't in `Open`; `WrongPeer`
 /// where its peer isn't the packet's source; `TimeoutPassed` where a timeout is reached in the working block;
-/// `AlreadyReceived`; `OutOfOrder` where an ordered end receives another sequence next; `NoConsensus` where the
+/// `AlreadyReceived` where a receipt stands, or an ordered end has gone past the sequence; `OutOfOrder` where an ordered end receives another sequence next; `NoConsensus` where the
 /// connection's client doesn't know the height; `BadProof` where the proof doesn't show the packet's commitment. `NoMemory`
 /// where a growth is refused. A refusal leaves the records and the application.
 pub fn recv<A: App>(
@@ -36,7 +34,7 @@ pub fn recv<A: App>(
     app: &mut A,
     message: &RecvPacket,
 ) -> Result<(Bytes, Bytes), Refusal>
-    ensures answer { (chain chains : ℕ) → IsHandledWith (λ acks. effect.Ack acks.0) (λ evidence host core. recv_packet (A.receives app.old) evidence host core message.now) chain chains records.old app.old result records.new app.new }
+    ensures answer { (chain chains : ℕ) → IsHandledWith (λ acks. effect.Ack acks.0) (recv_packet A.receives message.now) chain chains records.old app.old result records.new app.new }
     ensures copy { IfOk result (λ acks. acks.1 ≡ acks.0) }
 {
     let form = has_form(&message.packet);
@@ -56,7 +54,7 @@ fn judge_recv<'a>(
 ) -> Result<&'a Channel, Refusal>
     requires form { plain.has_form message.now.packet ≡ true }
     requires reads { proof_of message.now.proof ≡ Some proof.now }
-    ensures judged { (chain chains : ℕ) → IsJudged (λ evidence host core. recv_checked evidence host core message.now) chain chains records.now (λ mine. mine.now) result }
+    ensures judged { (chain chains : ℕ) → IsJudged (recv_checked message.now) chain chains records.now (λ mine. mine.now) result }
     ensures there { IfOk result (λ mine. channel_at (core_of records.now) message.now.packet.destination_port message.now.packet.destination_channel ≡ Some mine.now) }
     ensures next { IfOk result (λ mine. is_ordered mine.now ≡ true → mine.now.next_recv ≤ message.now.packet.sequence) }
 {
@@ -67,7 +65,7 @@ fn judge_recv<'a>(
         &packet.destination_channel,
     )?;
     check_receivable(records, mine, packet)?;
-    let connection = known_connection(records, &mine.end().connection, message.height)?;
+    let connection = known_over(records, mine, message.height)?;
     check_sent(alloc, records, &connection.client, message, proof)?;
     Ok(mine)
 }
@@ -87,7 +85,7 @@ fn check_receivable(records: &Records, mine: &Channel, packet: &Packet) -> Resul
     if is_late(records, packet) {
         return Err(Refusal::TimeoutPassed);
     }
-    if has_received(mine, packet.sequence) {
+    if is_repeat(mine, packet.sequence) {
         return Err(Refusal::AlreadyReceived);
     }
     if waits_before(mine, packet.sequence) {

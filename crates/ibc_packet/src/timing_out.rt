@@ -14,11 +14,11 @@ ghost use Rattle.ibc_client.specs.Judging.{IsEvident, IsJudged};
 ghost use Rattle.ibc_packet.specs.Passing.{require_timed_out};
 
 use crate::claims::check_not_received;
-use crate::ends::{check_pending, find_channel};
+use crate::ends::{check_pending, find_channel, known_over};
 use crate::forms::{has_form, proof_in_form};
 use crate::times::is_timed_out;
 use ibc_app_port::App;
-use ibc_client::{known_connection, known_time};
+use ibc_client::known_time;
 use ibc_ids::{ClientId, Refusal};
 use ibc_merkle::Proof;
 use ibc_records::{Channel, Records};
@@ -39,7 +39,7 @@ pub fn timeout<A: App>(
     app: &mut A,
     message: &Timeout,
 ) -> Result<(), Refusal>
-    ensures { (chain chains : ℕ) → IsHandledWith (λ _. effect.None) (λ evidence host core. plain.timeout (A.times_out app.old) evidence core message.now) chain chains records.old app.old result records.new app.new }
+    ensures { (chain chains : ℕ) → IsHandledWith (λ _. effect.None) (plain.timeout A.times_out message.now) chain chains records.old app.old result records.new app.new }
 {
     let form = has_form(&message.packet);
     let proof = proof_in_form(alloc, form, message.proof.as_slice())?;
@@ -58,7 +58,7 @@ fn judge_timeout<'a>(
 ) -> Result<&'a Channel, Refusal>
     requires form { plain.has_form message.now.packet ≡ true }
     requires reads { proof_of message.now.proof ≡ Some proof.now }
-    ensures judged { (chain chains : ℕ) → IsJudged (λ evidence host core. timeout_checked evidence core message.now) chain chains records.now (λ mine. mine.now) result }
+    ensures judged { (chain chains : ℕ) → IsJudged (timeout_checked message.now) chain chains records.now (λ mine. mine.now) result }
     ensures there { IfOk result (λ mine. channel_at (core_of records.now) message.now.packet.source_port message.now.packet.source_channel ≡ Some mine.now) }
 {
     let packet = &message.packet;
@@ -66,7 +66,7 @@ fn judge_timeout<'a>(
     let next_recv = message.next_recv;
     let mine = find_channel(records, &packet.source_port, &packet.source_channel)?;
     check_pending(mine, packet)?;
-    let connection = known_connection(records, &mine.end().connection, height)?;
+    let connection = known_over(records, mine, height)?;
     let client = &connection.client;
     check_timed_out(records, client, height, packet)?;
     check_waiting(mine, next_recv, packet.sequence)?;

@@ -11,11 +11,11 @@ ghost use Rattle.ibc_records.specs.Taking.{IsHandledWith};
 ghost use Rattle.ibc_client.specs.Judging.{IsJudged};
 
 use crate::claims::{check_closed, check_not_received};
-use crate::ends::{check_pending, find_channel};
+use crate::ends::{check_pending, find_channel, known_over};
 use crate::forms::{has_form, proof_in_form};
 use crate::timing_out::check_waiting;
 use ibc_app_port::App;
-use ibc_client::{known_connection, read_proof};
+use ibc_client::read_proof;
 use ibc_ids::Refusal;
 use ibc_merkle::Proof;
 use ibc_records::{Channel, Records};
@@ -36,7 +36,7 @@ pub fn timeout_on_close<A: App>(
     app: &mut A,
     message: &TimeoutOnClose,
 ) -> Result<(), Refusal>
-    ensures { (chain chains : ℕ) → IsHandledWith (λ _. effect.None) (λ evidence host core. plain.timeout_on_close (A.times_out app.old) evidence core message.now) chain chains records.old app.old result records.new app.new }
+    ensures { (chain chains : ℕ) → IsHandledWith (λ _. effect.None) (plain.timeout_on_close A.times_out message.now) chain chains records.old app.old result records.new app.new }
 {
     judge(alloc, records, message)?;
     records.time_out(app, &message.packet)
@@ -48,7 +48,7 @@ fn judge<'a>(
     records: &'a Records,
     message: &TimeoutOnClose,
 ) -> Result<&'a Channel, Refusal>
-    ensures judged { (chain chains : ℕ) → IsJudged (λ evidence host core. timeout_on_close_checked evidence core message.now) chain chains records.now (λ mine. mine.now) result }
+    ensures judged { (chain chains : ℕ) → IsJudged (timeout_on_close_checked message.now) chain chains records.now (λ mine. mine.now) result }
     ensures there { IfOk result (λ mine. channel_at (core_of records.now) message.now.packet.source_port message.now.packet.source_channel ≡ Some mine.now) }
 {
     let form = has_form(&message.packet);
@@ -77,7 +77,7 @@ fn judge_closed<'a>(
     requires form { plain.has_form message.now.packet ≡ true }
     requires reads { proof_of message.now.proof ≡ Some proof.now }
     requires reads_close { proof_of message.now.proof_close ≡ Some proof_close.now }
-    ensures judged { (chain chains : ℕ) → IsJudged (λ evidence host core. timeout_on_close_checked evidence core message.now) chain chains records.now (λ mine. mine.now) result }
+    ensures judged { (chain chains : ℕ) → IsJudged (timeout_on_close_checked message.now) chain chains records.now (λ mine. mine.now) result }
     ensures there { IfOk result (λ mine. channel_at (core_of records.now) message.now.packet.source_port message.now.packet.source_channel ≡ Some mine.now) }
 {
     let packet = &message.packet;
@@ -85,7 +85,7 @@ fn judge_closed<'a>(
     let next_recv = message.next_recv;
     let mine = find_channel(records, &packet.source_port, &packet.source_channel)?;
     check_pending(mine, packet)?;
-    let connection = known_connection(records, &mine.end().connection, height)?;
+    let connection = known_over(records, mine, height)?;
     let client = &connection.client;
     check_waiting(mine, next_recv, packet.sequence)?;
     check_not_received(

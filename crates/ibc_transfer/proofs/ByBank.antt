@@ -1,13 +1,13 @@
 -- The application's answers by a bank are the definitions' answers by its balances (ICS 20, "sendFungibleTokens",
 -- "onAcknowledgePacket" and "refundTokens"), and the bank counts what was burnt.
-use Rattle.std.proofs.Common.{◌≡◌, Bool, true, false, not, ◌==◌, ◌&&◌, refl, ap, sym, ◌∙◌, subst, List, [], Option, Some, None, Ok, if◌then◌else◌}
-use Rattle.std.specs.Prelude.{IsTrue, ⊤}
+use Rattle.std.proofs.Common.{◌≡◌, Bool, true, false, not, ◌==◌, ◌&&◌, refl, ap, sym, ◌∙◌, subst, List, [], Option, Some, None, Ok, Err, inl, inr, ℕ, if◌then◌else◌}
+use Rattle.std.specs.Prelude.{IsTrue, Result, ⊤}
 use Rattle.std.proofs.lemmas.Bool.{and_parts}
 use Rattle.std.specs.FinMap.{is_sorted}
 use Rattle.std.specs.List.{list_any}
 use Rattle.std.specs.Option.{option_map_or}
 use Rattle.ibc_ids.specs.Texts.{Text, same_text, text_cmp}
-use Rattle.ibc_ids.specs.Maps.{Map}
+use Rattle.ibc_ids.specs.declared.refusal.Refusal.{Refusal}
 use Rattle.ibc_ids.specs.declared.refusal.Refusal.TheVariants.{BadMessage, WrongVersion, TooLarge, Poor}
 use Rattle.ibc_wire.specs.Tokens.{is_rising, is_short}
 use Rattle.ibc_wire.specs.declared.token.Token.{Token}
@@ -15,15 +15,18 @@ use Rattle.ibc_wire.specs.declared.packet.Packet.{Packet}
 use Rattle.ibc_wire.specs.declared.messages.Transfer.{Transfer}
 use Rattle.ibc_wire.specs.declared.messages.TransferMany.{TransferMany}
 use Rattle.ibc_machine.specs.declared.reply.Effect.{Effect}
-use Rattle.ibc_machine.specs.Records.{Core, Records, Channel, Commitment, commitment_of}
+use Rattle.ibc_machine.specs.declared.reply.Effect.TheVariants as effect
+use Rattle.ibc_machine.specs.Records.{Core, Channel, Commitment, commitment_of}
 use Rattle.ibc_machine.specs.Bank.{Balances}
 use Rattle.ibc_machine.specs.Checks.{Checked, require, expect, go_on, ◌>>=◌, ◌>>◌}
-use Rattle.ibc_machine.specs.Evidence.{Evidence, require_number}
+use Rattle.ibc_machine.specs.Evidence.{Host, Evidence, require_number}
 use Rattle.ibc_machine.specs.Packets.{has_size, sending_end, require_timeouts, with_sent}
 use Rattle.ibc_machine.specs.TokenData.{Data, one_token, several_tokens, data_of, tokens_of, success}
 use Rattle.ibc_machine.specs.Transfers.{transfer_port, transfer_commitment, transfer_data, transfer_many_data, is_zero, refund_data, refund_transfer, acknowledge_transfer, with_tokens_sent, send_tokens, transfer, transfer_many}
-use Rattle.ibc_machine.proofs.PassedChecks.{bind_bind, then_bind}
+use Rattle.ibc_machine.proofs.PassedChecks.{fail, bind_bind, then_bind}
 use Rattle.ibc_machine.proofs.PassedRows.{require_passed, then_passed, bind_passed, ok_same}
+use Rattle.ibc_records.specs.Held.{HeldRecords}
+use Rattle.ibc_records.specs.Taking.{IsTakenWith}
 use Rattle.ibc_bank.specs.Moves.{BankState, moved_all}
 use Rattle.ibc_transfer.specs.Banked.{bank_refunds, bank_times_out, bank_settles, bank_receives, bank_acknowledged}
 use Rattle.ibc_transfer.specs.Sent.{send_moves, with_bank_sent, bank_sends, bank_transfer, bank_transfer_many}
@@ -31,20 +34,16 @@ use Rattle.ibc_transfer.proofs.Moves.{IsCovered, AreBurntIn, balances_after, sen
 
 -- ---- sending
 
--- the records that a core and a bank make, with these notes
-abbrev pub whole : Core → BankState → Map Text (List Text) → Records
-whole core bank notes = record { core = core; apps = record { balances = bank.balances; notes = notes } }
+-- an answer by a bank, as one by its balances
+abbrev pub in_balances : Checked (Effect × Core × BankState) → Checked (Effect × Core × Balances)
+in_balances answer = answer >>= λ ((effect, after, left) : Effect × Core × BankState). Ok (effect, after, left.balances)
 
--- an answer by a bank, as one of whole records
-abbrev pub in_whole : Map Text (List Text) → Checked (Effect × Core × BankState) → Checked (Effect × Records)
-in_whole notes answer = answer >>= λ ((effect, after, left) : Effect × Core × BankState). Ok (effect, whole after left notes)
-
-module _ (evidence : Evidence) (core : Core) (bank : BankState) (notes : Map Text (List Text)) where
-  abbrev lifted : Effect × Core × BankState → Checked (Effect × Records)
-  lifted (effect, after, left) = Ok (effect, whole after left notes)
+module _ (evidence : Evidence) (host : Host) (core : Core) (bank : BankState) where
+  abbrev lifted : Effect × Core × BankState → Checked (Effect × Core × Balances)
+  lifted (effect, after, left) = Ok (effect, after, left.balances)
 
   sends_by_bank : (channel : Text) (mine : Channel) (d : Data) (c : Commitment)
-      → send_tokens evidence (whole core bank notes) channel mine d c ≡ in_whole notes (bank_sends evidence core bank channel mine d c)
+      → send_tokens channel mine d c evidence host core bank.balances ≡ in_balances (bank_sends channel mine d c evidence host core bank)
   unfolding send_tokens bank_sends go_on
   sends_by_bank channel mine d c =
       ap (λ rest. timeouts >> rest)
@@ -66,35 +65,35 @@ module _ (evidence : Evidence) (core : Core) (bank : BankState) (notes : Map Tex
       sent : BankState → Checked (Effect × Core × BankState)
       sent left = number >> Ok (with_bank_sent channel mine c core left)
 
-      told : Balances → Checked (Effect × Records)
-      told balances = number >> Ok (with_tokens_sent channel mine c (whole core bank notes) balances)
+      told : Balances → Checked (Effect × Core × Balances)
+      told balances = number >> Ok (with_tokens_sent channel mine c core balances)
 
   -- behind two checks of the end that sends
   checked_by_bank : (first second : Channel → Checked ⊤) (channel : Text) (d : Data) (c : Commitment)
-      → (sending_end core transfer_port channel >>= λ mine. first mine >> (second mine >> send_tokens evidence (whole core bank notes) channel mine d c))
-      ≡ in_whole notes (sending_end core transfer_port channel >>= λ mine. first mine >> (second mine >> bank_sends evidence core bank channel mine d c))
+      → (sending_end core transfer_port channel >>= λ mine. first mine >> (second mine >> send_tokens channel mine d c evidence host core bank.balances))
+      ≡ in_balances (sending_end core transfer_port channel >>= λ mine. first mine >> (second mine >> bank_sends channel mine d c evidence host core bank))
   checked_by_bank first second channel d c =
       (λ i. sending_end core transfer_port channel >>= λ mine. sides mine i)
-      ∙ sym (bind_bind (sending_end core transfer_port channel) (λ mine. first mine >> (second mine >> bank_sends evidence core bank channel mine d c)) lifted)
+      ∙ sym (bind_bind (sending_end core transfer_port channel) (λ mine. first mine >> (second mine >> bank_sends channel mine d c evidence host core bank)) lifted)
     where
-      sides : (mine : Channel) → (first mine >> (second mine >> send_tokens evidence (whole core bank notes) channel mine d c))
-          ≡ in_whole notes (first mine >> (second mine >> bank_sends evidence core bank channel mine d c))
+      sides : (mine : Channel) → (first mine >> (second mine >> send_tokens channel mine d c evidence host core bank.balances))
+          ≡ in_balances (first mine >> (second mine >> bank_sends channel mine d c evidence host core bank))
       sides mine =
           ap (λ rest. first mine >> (second mine >> rest)) (sends_by_bank channel mine d c)
-          ∙ ap (λ rest. first mine >> rest) (sym (then_bind (second mine) (bank_sends evidence core bank channel mine d c) lifted))
-          ∙ sym (then_bind (first mine) (second mine >> bank_sends evidence core bank channel mine d c) lifted)
+          ∙ ap (λ rest. first mine >> rest) (sym (then_bind (second mine) (bank_sends channel mine d c evidence host core bank) lifted))
+          ∙ sym (then_bind (first mine) (second mine >> bank_sends channel mine d c evidence host core bank) lifted)
 
-  pub transfer_by_bank : (m : Transfer) → transfer evidence (whole core bank notes) m ≡ in_whole notes (bank_transfer evidence core bank m)
+  pub transfer_by_bank : (m : Transfer) → transfer m evidence host core bank.balances ≡ in_balances (bank_transfer m evidence host core bank)
   unfolding transfer bank_transfer
   transfer_by_bank m =
       checked_by_bank (λ mine. require (same_text mine.end.version one_token) WrongVersion) (λ mine. require (not (m.amount == 0)) TooLarge) m.channel
       (transfer_data m) (transfer_commitment one_token (transfer_data m) m.timeout_height m.timeout_time)
 
-  pub transfer_many_by_bank : (m : TransferMany) → transfer_many evidence (whole core bank notes) m ≡ in_whole notes (bank_transfer_many evidence core bank m)
+  pub transfer_many_by_bank : (m : TransferMany) → transfer_many m evidence host core bank.balances ≡ in_balances (bank_transfer_many m evidence host core bank)
   unfolding transfer_many bank_transfer_many
   transfer_many_by_bank m =
       ap (λ rest. form >> rest) (checked_by_bank version amounts m.channel (transfer_many_data m) c)
-      ∙ sym (then_bind form (sending_end core transfer_port m.channel >>= λ mine. version mine >> (amounts mine >> bank_sends evidence core bank m.channel mine (transfer_many_data m) c)) lifted)
+      ∙ sym (then_bind form (sending_end core transfer_port m.channel >>= λ mine. version mine >> (amounts mine >> bank_sends m.channel mine (transfer_many_data m) c evidence host core bank)) lifted)
     where
       form : Checked ⊤
       form = require (is_short m.tokens && is_rising m.tokens) BadMessage
@@ -108,6 +107,22 @@ module _ (evidence : Evidence) (core : Core) (bank : BankState) (notes : Map Tex
       amounts : Channel → Checked ⊤
       amounts mine = require (not (list_any is_zero m.tokens) && has_size c.payload) TooLarge
 
+  -- several tokens in another form are refused
+  pub many_refused : (m : TransferMany) → require (is_short m.tokens && is_rising m.tokens) BadMessage ≡ Err BadMessage → transfer_many m evidence host core bank.balances ≡ Err BadMessage
+  unfolding transfer_many
+  many_refused m e = fail _ e refl
+
+-- what becomes of a message by a bank becomes of it by the bank's balances
+pub taken_by_balances : (checked : Checked (Effect × Core × BankState)) (told : Checked (Effect × Core × Balances)) → told ≡ in_balances checked
+    → (old : HeldRecords) (bank : BankState) (result : Result ℕ Refusal) (new : HeldRecords) (left : BankState)
+    → IsTakenWith effect.Sent checked old bank result new left → IsTakenWith effect.Sent told old bank.balances result new left.balances
+unfolding go_on
+taken_by_balances checked told same old bank (Ok n) new left taken = (taken.0, same ∙ ap in_balances taken.1, taken.2)
+taken_by_balances checked told same old bank (Err refusal) new left (inl failed, unchanged, kept) =
+    (inl (same ∙ ap in_balances failed), unchanged, ap (λ (b : BankState). b.balances) kept)
+taken_by_balances checked told same old bank (Err refusal) new left (inr memory, unchanged, kept) =
+    (inr memory, unchanged, ap (λ (b : BankState). b.balances) kept)
+
 -- what an accepted sending did: the end that sent was there, what goes back is burnt, and the packet is committed to
 pub record Sends (core : Core) (bank : BankState) (channel version : Text) (d : Data) (c : Commitment) (effect : Effect) (after : Core) (left : BankState) : Type 0 where
   pub mine : Channel
@@ -116,9 +131,9 @@ pub record Sends (core : Core) (bank : BankState) (channel version : Text) (d : 
   pub committed : with_sent transfer_port channel mine c core ≡ (effect, after)
   pub burnt : AreBurntIn channel d.tokens left bank
 
-module _ (evidence : Evidence) (core : Core) (bank : BankState) (sorted : IsTrue (is_sorted text_cmp bank.burnt)) {effect : Effect} {after : Core} {left : BankState} where
+module _ (evidence : Evidence) (host : Host) (core : Core) (bank : BankState) (sorted : IsTrue (is_sorted text_cmp bank.burnt)) {effect : Effect} {after : Core} {left : BankState} where
   sends_did : (channel version : Text) (mine : Channel) (d : Data) (c : Commitment) → sending_end core transfer_port channel ≡ Ok mine
-      → same_text mine.end.version version ≡ true → bank_sends evidence core bank channel mine d c ≡ Ok (effect, after, left)
+      → same_text mine.end.version version ≡ true → bank_sends channel mine d c evidence host core bank ≡ Ok (effect, after, left)
       → Sends core bank channel version d c effect after left
   unfolding bank_sends
   sends_did channel version mine d c there same e =
@@ -135,7 +150,7 @@ module _ (evidence : Evidence) (core : Core) (bank : BankState) (sorted : IsTrue
             (sends_burn channel d.sender d.tokens bank paid.0 sorted paid.1);
       }
 
-  pub transfer_did : (m : Transfer) → bank_transfer evidence core bank m ≡ Ok (effect, after, left)
+  pub transfer_did : (m : Transfer) → bank_transfer m evidence host core bank ≡ Ok (effect, after, left)
       → Sends core bank m.channel one_token (transfer_data m) (transfer_commitment one_token (transfer_data m) m.timeout_height m.timeout_time) effect after left
       × (not (m.amount == 0) ≡ true)
   unfolding bank_transfer
@@ -145,7 +160,7 @@ module _ (evidence : Evidence) (core : Core) (bank : BankState) (sorted : IsTrue
       let amount = require_passed _ _ _ version.1 in
       (sends_did m.channel one_token there.0 (transfer_data m) _ there.1 version.0 amount.1, amount.0)
 
-  pub transfer_many_did : (m : TransferMany) → bank_transfer_many evidence core bank m ≡ Ok (effect, after, left)
+  pub transfer_many_did : (m : TransferMany) → bank_transfer_many m evidence host core bank ≡ Ok (effect, after, left)
       → Sends core bank m.channel several_tokens (transfer_many_data m) (transfer_commitment several_tokens (transfer_many_data m) m.timeout_height m.timeout_time) effect after left
       × ((is_short m.tokens && is_rising m.tokens) ≡ true) × (not (list_any is_zero m.tokens) ≡ true)
   unfolding bank_transfer_many

@@ -15,7 +15,7 @@ use Rattle.ibc_wire.specs.declared.messages.Timeout.{Timeout}
 use Rattle.ibc_wire.specs.declared.messages.TimeoutOnClose.{TimeoutOnClose}
 use Rattle.ibc_machine.specs.declared.reply.Effect.{Effect}
 use Rattle.ibc_machine.specs.Records.{Core, commitment_of}
-use Rattle.ibc_machine.specs.Evidence.{Evidence}
+use Rattle.ibc_machine.specs.Evidence.{Host, Evidence}
 use Rattle.ibc_machine.specs.Packets.{ack_packet, timeout, timeout_on_close}
 use Rattle.ibc_machine.specs.TokenData.{Data, one_token, several_tokens, is_data, tokens_of}
 use Rattle.ibc_machine.specs.Transfers.{transfer_port, burnt, transfer_commitment, transfer_data, transfer_many_data}
@@ -54,19 +54,19 @@ sends_keep_flight core bank channel version d height time effect after left orde
           omega arith;
     }
 
-module _ (evidence : Evidence) (core : Core) (bank : BankState) (orderly : IsOrderly core) (flight : IsInFlight bank core)
+module _ (evidence : Evidence) (host : Host) (core : Core) (bank : BankState) (orderly : IsOrderly core) (flight : IsInFlight bank core)
     {effect : Effect} {after : Core} {left : BankState} where
   pub transfer_keeps_flight : (m : Transfer) → are_typed (message_fields (message.Transfer m)) ≡ true
-      → bank_transfer evidence core bank m ≡ Ok (effect, after, left) → IsInFlight left after
+      → bank_transfer m evidence host core bank ≡ Ok (effect, after, left) → IsInFlight left after
   transfer_keeps_flight m typed e =
-      let did = transfer_did evidence core bank flight.sorted m e in
+      let did = transfer_did evidence host core bank flight.sorted m e in
       sends_keep_flight core bank m.channel one_token (transfer_data m) m.timeout_height m.timeout_time effect after left orderly flight
       (transfer_good m did.1 typed) did.0
 
   pub transfer_many_keeps_flight : (m : TransferMany) → are_typed (message_fields (message.TransferMany m)) ≡ true
-      → bank_transfer_many evidence core bank m ≡ Ok (effect, after, left) → IsInFlight left after
+      → bank_transfer_many m evidence host core bank ≡ Ok (effect, after, left) → IsInFlight left after
   transfer_many_keeps_flight m typed e =
-      let did = transfer_many_did evidence core bank flight.sorted m e in
+      let did = transfer_many_did evidence host core bank flight.sorted m e in
       sends_keep_flight core bank m.channel several_tokens (transfer_many_data m) m.timeout_height m.timeout_time effect after left orderly flight
       (transfer_many_good m did.1 did.2 typed) did.0
 
@@ -99,12 +99,12 @@ timed_out_keeps_flight core after bank left p flight s =
     settled_keeps_flight core after bank left p.source_channel (tokens_of s.0.end.version (commitment_of p)) flight s.3
     (timed_out_in_flight bank s.0.end.version p flight.sorted left s.2)
 
-module _ (evidence : Evidence) (core : Core) (bank : BankState) (orderly : IsOrderly core) (flight : IsInFlight bank core)
+module _ (evidence : Evidence) (host : Host) (core : Core) (bank : BankState) (orderly : IsOrderly core) (flight : IsInFlight bank core)
     {effect : Effect} {after : Core} {left : BankState} where
   pub ack_keeps_flight : (m : AckPacket) → same_text m.packet.source_port transfer_port ≡ true
-      → ack_packet (bank_acknowledged bank) evidence core m ≡ Ok (effect, after, left) → IsInFlight left after
+      → ack_packet bank_acknowledged m evidence host core bank ≡ Ok (effect, after, left) → IsInFlight left after
   ack_keeps_flight m ours e =
-      let s = ack_packet_settles (bank_acknowledged bank) evidence core m orderly ours e in
+      let s = ack_packet_settles bank_acknowledged evidence host core m bank orderly ours e in
       let p : Packet = m.packet in
       let tokens : List Token = tokens_of s.0.end.version (commitment_of p) in
       let covers = settled_covers core after bank p.source_channel tokens flight s.3 in
@@ -112,9 +112,9 @@ module _ (evidence : Evidence) (core : Core) (bank : BankState) (orderly : IsOrd
       (acknowledged_in_flight bank s.0.end.version p m.ack flight.sorted covers left s.2)
 
   pub timeout_keeps_flight : (m : Timeout) → same_text m.packet.source_port transfer_port ≡ true
-      → timeout (bank_times_out bank) evidence core m ≡ Ok (effect, after, left) → IsInFlight left after
-  timeout_keeps_flight m ours e = timed_out_keeps_flight core after bank left m.packet flight (timeout_settles (bank_times_out bank) evidence core m orderly ours e)
+      → timeout bank_times_out m evidence host core bank ≡ Ok (effect, after, left) → IsInFlight left after
+  timeout_keeps_flight m ours e = timed_out_keeps_flight core after bank left m.packet flight (timeout_settles bank_times_out evidence host core bank orderly m ours e)
 
   pub timeout_on_close_keeps_flight : (m : TimeoutOnClose) → same_text m.packet.source_port transfer_port ≡ true
-      → timeout_on_close (bank_times_out bank) evidence core m ≡ Ok (effect, after, left) → IsInFlight left after
-  timeout_on_close_keeps_flight m ours e = timed_out_keeps_flight core after bank left m.packet flight (timeout_on_close_settles (bank_times_out bank) evidence core m orderly ours e)
+      → timeout_on_close bank_times_out m evidence host core bank ≡ Ok (effect, after, left) → IsInFlight left after
+  timeout_on_close_keeps_flight m ours e = timed_out_keeps_flight core after bank left m.packet flight (timeout_on_close_settles bank_times_out evidence host core bank orderly m ours e)

@@ -5,10 +5,9 @@ use Rattle.ibc_ids.specs.Texts.{Text, same_text}
 use Rattle.ibc_ids.specs.declared.refusal.Refusal.TheVariants.{WrongVersion, TooLarge}
 use Rattle.ibc_wire.specs.declared.messages.Transfer.{Transfer}
 use Rattle.ibc_wire.specs.declared.messages.TransferMany.{TransferMany}
-use Rattle.ibc_machine.specs.declared.reply.Effect.{Effect}
 use Rattle.ibc_machine.specs.Records.{Core, Channel, Commitment}
 use Rattle.ibc_machine.specs.Checks.{Checked, require, ◌>>=◌, ◌>>◌}
-use Rattle.ibc_machine.specs.Evidence.{Evidence, require_number}
+use Rattle.ibc_machine.specs.Evidence.{Host, Evidence, Handler, require_number}
 use Rattle.ibc_machine.specs.Packets.{has_size, sending_end, require_timeouts}
 use Rattle.ibc_machine.specs.TokenData.{one_token, several_tokens}
 use Rattle.ibc_machine.specs.Transfers.{transfer_port, transfer_commitment, transfer_data, transfer_many_data, is_zero}
@@ -52,8 +51,8 @@ many_parcel m =
     }
 
 -- the checks from the channel on, and the end that sends
-abbrev pub may_send : Evidence → Core → BankState → Text → PlainParcel → Checked Channel
-may_send evidence core bank channel parcel = do
+abbrev pub may_send : BankState → Text → PlainParcel → Evidence → Host → Core → Checked Channel
+may_send bank channel parcel evidence host core = do
   mine ← sending_end core transfer_port channel
   require (same_text mine.end.version parcel.version) WrongVersion
   require parcel.fits TooLarge
@@ -63,8 +62,8 @@ may_send evidence core bank channel parcel = do
   Ok mine
 
 -- the same checks, and the effect
-abbrev pub sends : Evidence → Core → BankState → Text → PlainParcel → Checked (Effect × Core × BankState)
-sends evidence core bank channel parcel = do
+abbrev pub sends : Text → PlainParcel → Handler BankState
+sends channel parcel evidence host core bank = do
   mine ← sending_end core transfer_port channel
   require (same_text mine.end.version parcel.version) WrongVersion
   require parcel.fits TooLarge

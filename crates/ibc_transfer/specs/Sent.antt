@@ -9,8 +9,8 @@ use Rattle.ibc_wire.specs.declared.messages.Transfer.{Transfer}
 use Rattle.ibc_wire.specs.declared.messages.TransferMany.{TransferMany}
 use Rattle.ibc_machine.specs.declared.reply.Effect.{Effect}
 use Rattle.ibc_machine.specs.Records.{Core, Channel, Commitment}
-use Rattle.ibc_machine.specs.Checks.{Checked, require, ◌>>=◌, ◌>>◌}
-use Rattle.ibc_machine.specs.Evidence.{Evidence, require_number}
+use Rattle.ibc_machine.specs.Checks.{require, ◌>>=◌, ◌>>◌}
+use Rattle.ibc_machine.specs.Evidence.{Handler, require_number}
 use Rattle.ibc_machine.specs.Packets.{has_size, sending_end, require_timeouts, with_sent}
 use Rattle.ibc_machine.specs.TokenData.{Data, one_token, several_tokens}
 use Rattle.ibc_machine.specs.Transfers.{transfer_port, came_over, transfer_commitment, transfer_data, transfer_many_data, is_zero}
@@ -34,28 +34,28 @@ with_bank_sent channel mine c core bank =
     (effect, next, bank)
 
 -- the checks that both messages end with, and the effect
-unfoldable pub bank_sends : Evidence → Core → BankState → Text → Channel → Data → Commitment → Checked (Effect × Core × BankState)
-bank_sends evidence core bank channel mine d c = do
+unfoldable pub bank_sends : Text → Channel → Data → Commitment → Handler BankState
+bank_sends channel mine d c evidence host core bank = do
   require_timeouts evidence core mine c
   after ← moved_all (send_moves channel d) bank
   require_number mine.next_send
   Ok (with_bank_sent channel mine c core after)
 
-unfoldable pub bank_transfer : Evidence → Core → BankState → Transfer → Checked (Effect × Core × BankState)
-bank_transfer evidence core bank m = do
+unfoldable pub bank_transfer : Transfer → Handler BankState
+bank_transfer m evidence host core bank = do
   let d = transfer_data m
   let c = transfer_commitment one_token d m.timeout_height m.timeout_time
   mine ← sending_end core transfer_port m.channel
   require (same_text mine.end.version one_token) WrongVersion
   require (not (m.amount == 0)) TooLarge
-  bank_sends evidence core bank m.channel mine d c
+  bank_sends m.channel mine d c evidence host core bank
 
-unfoldable pub bank_transfer_many : Evidence → Core → BankState → TransferMany → Checked (Effect × Core × BankState)
-bank_transfer_many evidence core bank m = do
+unfoldable pub bank_transfer_many : TransferMany → Handler BankState
+bank_transfer_many m evidence host core bank = do
   let d = transfer_many_data m
   let c = transfer_commitment several_tokens d m.timeout_height m.timeout_time
   require (is_short m.tokens && is_rising m.tokens) BadMessage
   mine ← sending_end core transfer_port m.channel
   require (same_text mine.end.version several_tokens) WrongVersion
   require (not (list_any is_zero m.tokens) && has_size c.payload) TooLarge
-  bank_sends evidence core bank m.channel mine d c
+  bank_sends m.channel mine d c evidence host core bank

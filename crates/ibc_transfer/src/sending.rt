@@ -28,14 +28,16 @@ use std::alloc::Global;
 /// `Open`; `WrongVersion` where its version isn't that of one token; `TooLarge` where the amount is 0; `NoTimeout` where
 /// the message has neither timeout; `TimeoutPassed` where one is reached at the latest height that the end's client knows
 /// of the peer; `Poor` where the user holds less; `NumberFull` where the next sequence is 2^64 - 1. `NoMemory` where a
-/// growth is refused. A refusal leaves the records and the tokens.
+/// growth is refused. A refusal leaves the records and the tokens. Balances change as the definition says, and what is
+/// burnt in flight with them.
 pub fn send_transfer(
     alloc: Global,
     records: &mut Records,
     transfers: &mut Transfers,
     message: &Transfer,
 ) -> Result<u64, Refusal>
-    ensures { (chain chains : ℕ) → IsHandledWith effect.Sent (λ evidence host core. bank_transfer evidence core transfers.old message.now) chain chains records.old transfers.old result records.new transfers.new }
+    ensures answer { (chain chains : ℕ) → IsHandledWith effect.Sent (transfer.transfer message.now) chain chains records.old transfers.old.balances result records.new transfers.new.balances }
+    ensures counted { (chain chains : ℕ) → IsHandledWith effect.Sent (bank_transfer message.now) chain chains records.old transfers.old result records.new transfers.new }
 {
     let parcel = Parcel::of_transfer(alloc, message)?;
     send_parcel(alloc, records, transfers, &message.channel, parcel)
@@ -47,14 +49,16 @@ pub fn send_transfer(
 /// isn't that of several tokens; `TooLarge` where an amount is 0, or the packet's payload has more than 1,024 bytes;
 /// `NoTimeout` where the message has neither timeout; `TimeoutPassed` where one is reached at the latest height that the
 /// end's client knows of the peer; `Poor` where the user holds less of a token; `NumberFull` where the next sequence is
-/// 2^64 - 1. `NoMemory` where a growth is refused. A refusal leaves the records and the tokens.
+/// 2^64 - 1. `NoMemory` where a growth is refused. A refusal leaves the records and the tokens. Balances change as the
+/// definition says, and what is burnt in flight with them.
 pub fn send_transfer_many(
     alloc: Global,
     records: &mut Records,
     transfers: &mut Transfers,
     message: &TransferMany,
 ) -> Result<u64, Refusal>
-    ensures { (chain chains : ℕ) → IsHandledWith effect.Sent (λ evidence host core. bank_transfer_many evidence core transfers.old message.now) chain chains records.old transfers.old result records.new transfers.new }
+    ensures answer { (chain chains : ℕ) → IsHandledWith effect.Sent (transfer.transfer_many message.now) chain chains records.old transfers.old.balances result records.new transfers.new.balances }
+    ensures counted { (chain chains : ℕ) → IsHandledWith effect.Sent (bank_transfer_many message.now) chain chains records.old transfers.old result records.new transfers.new }
 {
     if !are_few_and_rising(message.tokens.as_slice()) {
         return Err(Refusal::BadMessage);
@@ -71,7 +75,7 @@ fn send_parcel(
     channel: &ChannelId,
     parcel: Parcel,
 ) -> Result<u64, Refusal>
-    ensures { (chain chains : ℕ) → IsHandledWith effect.Sent (λ evidence host core. sends evidence core transfers.old channel.now (plain_parcel parcel)) chain chains records.old transfers.old result records.new transfers.new }
+    ensures { (chain chains : ℕ) → IsHandledWith effect.Sent (sends channel.now (plain_parcel parcel)) chain chains records.old transfers.old result records.new transfers.new }
 {
     let port = transfer_port(alloc)?;
     judge_parcel(records, transfers.bank(), &port, channel, &parcel)?;
@@ -88,7 +92,7 @@ fn judge_parcel<'a>(
     parcel: &Parcel,
 ) -> Result<&'a Channel, Refusal>
     requires { port.now ≡ transfer.transfer_port }
-    ensures judged { (chain chains : ℕ) → IsJudged (λ evidence host core. may_send evidence core bank.now channel.now (plain_parcel parcel.now)) chain chains records.now (λ mine. mine.now) result }
+    ensures judged { (chain chains : ℕ) → IsJudged (may_send bank.now channel.now (plain_parcel parcel.now)) chain chains records.now (λ mine. mine.now) result }
     ensures there { IfOk result (λ mine. channel_at (core_of records.now) port.now channel.now ≡ Some mine.now) }
     ensures free { IfOk result (λ mine. mine.now.next_send < 2 ^ 64 - 1) }
 {

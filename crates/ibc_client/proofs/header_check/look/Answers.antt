@@ -1,9 +1,8 @@
 -- What was found is what the definition says of the publications that were seen, and what was read is how many the chain
 -- had published when the pass counted them.
-use Rattle.std.proofs.Common.{Some, ap, ◌∙◌, sym}
+use Rattle.std.proofs.Common.{arith}
 use base.Growing.{prefix_refl}
-use Rattle.ibc_client.specs.Looks.{require_published}
-use Rattle.ibc_client.proofs.FoundRows.{unpublished, found}
+use Rattle.ibc_client.proofs.FoundRows.{unpublished, row_checked}
 use Rattle.ibc_client.proofs.header_check.look.Goals as goal
 
 pub returns-then-header-published-clause-read : goal.returns-then-header-published-clause-read
@@ -19,6 +18,4 @@ returns-clause-read c =
 
 pub returns-clause-checked : goal.returns-clause-checked
 returns-clause-checked c =
-    c.check_row.ensures
-    ∙ found c.row-row.new.pass.seen c.args.header.now c.published-published.result c.row-row.result c.if-header-published.false c.row-row.ensures.row
-    ∙ ap (λ b. require_published c.row-row.new.pass.seen (record { published = c.published-published.result; row_was_there = Some b }) c.args.header.now) (sym c.is_some.ensures)
+    row_checked c.row-row.new.pass.seen c.args.header.now c.row-row.result c.check_row.result c.check_row.ensures c.is_some.ensures c.row-row.ensures.row (omega arith)

@@ -21,7 +21,7 @@ use Rattle.ibc_connection.proofs.opening_try.open_try.Goals as goal
 
 -- the definition
 abbrev says : HeldRecords → ConnOpenTry → ℕ → ℕ → List Publication → LedgerState → Checked (Effect × Core)
-says held m chain chains seen state = conn_open_try (proves seen None state) (host_with chain chains held) (core_of held) m
+says held m chain chains seen state = conn_open_try m (proves seen None state) (host_with chain chains held) (core_of held)
 
 pub returns-in_err-proofs-clause-answer : goal.returns-in_err-proofs-clause-answer
 returns-in_err-proofs-clause-answer c =

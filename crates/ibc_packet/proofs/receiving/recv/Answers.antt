@@ -14,14 +14,14 @@ pub returns-in_err-proof-clause-answer : goal.returns-in_err-proof-clause-answer
 returns-in_err-proof-clause-answer g c =
     let p = err_from_is_err_and c.from_residual.result c.from_residual.ensures.1 in
     λ chain chains seen state knowledge.
-    untaken_with _ (recv_packet (g.A.App.receives c.args.app.now) (proves seen None state) (host_with chain chains c.args.records.now) (core_of c.args.records.now) c.args.message.now) c.args.records.now c.args.app.now c.from_residual.result c.args.records.now c.args.app.now p.1 p.2
-    (recv_refused g.A.App.receives c.args.records.now c.args.app.now (proves seen None state) (host_with chain chains c.args.records.now) c.args.message.now (stops _ (unread_in_form c.has_form-form.ensures.form c.as_slice.ensures c.in_err-proof.ensures.err) (recv_row (proves seen None state) (core_of c.args.records.now) (host_with chain chains c.args.records.now) c.args.message.now))) refl refl
+    untaken_with _ (recv_packet g.A.App.receives c.args.message.now (proves seen None state) (host_with chain chains c.args.records.now) (core_of c.args.records.now) c.args.app.now) c.args.records.now c.args.app.now c.from_residual.result c.args.records.now c.args.app.now p.1 p.2
+    (recv_refused g.A.App.receives c.args.records.now c.args.app.now (proves seen None state) (host_with chain chains c.args.records.now) c.args.message.now (stops _ (unread_in_form c.has_form-form.ensures.form c.as_slice.ensures c.in_err-proof.ensures.err) (recv_row (proves seen None state) (host_with chain chains c.args.records.now) (core_of c.args.records.now) c.args.message.now))) refl refl
 
 pub returns-in_err-judged-clause-answer : goal.returns-in_err-judged-clause-answer
 returns-in_err-judged-clause-answer g c =
     let p = err_from_is_err_and c.from_residual-in_err-judged.result c.from_residual-in_err-judged.ensures.1 in
     λ chain chains seen state knowledge.
-    untaken_with _ (recv_packet (g.A.App.receives c.args.app.now) (proves seen None state) (host_with chain chains c.args.records.now) (core_of c.args.records.now) c.args.message.now) c.args.records.now c.args.app.now c.from_residual-in_err-judged.result c.args.records.now c.args.app.now p.1 p.2
+    untaken_with _ (recv_packet g.A.App.receives c.args.message.now (proves seen None state) (host_with chain chains c.args.records.now) (core_of c.args.records.now) c.args.app.now) c.args.records.now c.args.app.now c.from_residual-in_err-judged.result c.args.records.now c.args.app.now p.1 p.2
     (recv_refused g.A.App.receives c.args.records.now c.args.app.now (proves seen None state) (host_with chain chains c.args.records.now) c.args.message.now (c.in_err-judged.ensures.judged chain chains seen state knowledge)) refl refl
 
 pub returns-clause-answer : goal.returns-clause-answer

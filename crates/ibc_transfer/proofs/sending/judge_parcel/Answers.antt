@@ -10,6 +10,7 @@ use Rattle.ibc_machine.specs.Replay.{proves}
 use Rattle.ibc_machine.proofs.PassedChecks.{pass, fail}
 use Rattle.ibc_bank.specs.Moves.{BankState}
 use Rattle.ibc_records.specs.Held.{core_of}
+use Rattle.ibc_records.specs.Taking.{host_with}
 use Rattle.ibc_client.proofs.Judging.{stops_at, refuses}
 use Rattle.ibc_transfer.specs.Sending.{plain_parcel, may_send}
 use Rattle.ibc_transfer.proofs.Sends.{send_rest, send_row, send_found, moves_is, unmoved, moved_on}
@@ -20,18 +21,19 @@ returns-in_err-mine-clause-judged c =
     let p = err_from_is_err_and c.from_residual.result c.from_residual.ensures.1 in
     λ chain chains seen state knowledge.
     let core = core_of c.args.records.now in
+    let host = host_with chain chains c.args.records.now in
     let parcel = plain_parcel c.args.parcel.now in
-    refuses (may_send (proves seen None state) core c.args.bank.now c.args.channel.now parcel) _ c.from_residual.result p.1 p.2
-    (stops_at (send_rest (proves seen None state) core c.args.bank.now c.args.channel.now parcel) c.in_err-mine.ensures.passed
-    (send_row (proves seen None state) core c.args.bank.now c.args.channel.now parcel c.args.port.now c.requires))
+    refuses (may_send c.args.bank.now c.args.channel.now parcel (proves seen None state) host core) _ c.from_residual.result p.1 p.2
+    (stops_at (send_rest (proves seen None state) host core c.args.bank.now c.args.channel.now parcel) c.in_err-mine.ensures.passed
+    (send_row (proves seen None state) host core c.args.bank.now c.args.channel.now parcel c.args.port.now c.requires))
 
 pub returns-then-not-has_version-clause-judged : goal.returns-then-not-has_version-clause-judged
 returns-then-not-has_version-clause-judged c = λ chain chains seen state knowledge.
-    inl (fail _ (ap (λ b. require b WrongVersion) (sym c.if-not-has_version.ensures)) (send_found (proves seen None state) (core_of c.args.records.now) c.args.bank.now c.args.channel.now (plain_parcel c.args.parcel.now) c.args.port.now c.requires c.in_ok-mine.mine.now c.in_ok-mine.ensures.passed))
+    inl (fail _ (ap (λ b. require b WrongVersion) (sym c.if-not-has_version.ensures)) (send_found (proves seen None state) (host_with chain chains c.args.records.now) (core_of c.args.records.now) c.args.bank.now c.args.channel.now (plain_parcel c.args.parcel.now) c.args.port.now c.requires c.in_ok-mine.mine.now c.in_ok-mine.ensures.passed))
 
 pub returns-then-not-parcel-clause-judged : goal.returns-then-not-parcel-clause-judged
 returns-then-not-parcel-clause-judged c = λ chain chains seen state knowledge.
-    inl (fail _ (ap (λ b. require b TooLarge) c.if-not-parcel.true) (pass (ap (λ b. require b WrongVersion) (sym c.if-not-has_version.ensures)) (send_found (proves seen None state) (core_of c.args.records.now) c.args.bank.now c.args.channel.now (plain_parcel c.args.parcel.now) c.args.port.now c.requires c.in_ok-mine.mine.now c.in_ok-mine.ensures.passed)))
+    inl (fail _ (ap (λ b. require b TooLarge) c.if-not-parcel.true) (pass (ap (λ b. require b WrongVersion) (sym c.if-not-has_version.ensures)) (send_found (proves seen None state) (host_with chain chains c.args.records.now) (core_of c.args.records.now) c.args.bank.now c.args.channel.now (plain_parcel c.args.parcel.now) c.args.port.now c.requires c.in_ok-mine.mine.now c.in_ok-mine.ensures.passed)))
 
 pub returns-in_err-check_timeouts-clause-judged : goal.returns-in_err-check_timeouts-clause-judged
 returns-in_err-check_timeouts-clause-judged c =
@@ -39,11 +41,12 @@ returns-in_err-check_timeouts-clause-judged c =
     λ chain chains seen state knowledge.
     let evidence = proves seen None state in
     let core = core_of c.args.records.now in
+    let host = host_with chain chains c.args.records.now in
     let mine = c.in_ok-mine.mine.now in
     let parcel = plain_parcel c.args.parcel.now in
-    let found = send_found evidence core c.args.bank.now c.args.channel.now parcel c.args.port.now c.requires mine c.in_ok-mine.ensures.passed in
+    let found = send_found evidence host core c.args.bank.now c.args.channel.now parcel c.args.port.now c.requires mine c.in_ok-mine.ensures.passed in
     let timeouts = ap (λ (k : Commitment). require_timeouts evidence core mine k) (sym c.commitment.view_is) ∙ sym (c.in_err-check_timeouts.ensures c.commitment.inside.payload seen state knowledge) in
-    refuses (may_send evidence core c.args.bank.now c.args.channel.now parcel) _ c.from_residual-in_err-check_timeouts.result p.1 p.2
+    refuses (may_send c.args.bank.now c.args.channel.now parcel evidence host core) _ c.from_residual-in_err-check_timeouts.result p.1 p.2
     (inl (fail _ timeouts (pass (ap (λ b. require b TooLarge) c.if-not-parcel.false) (pass (ap (λ b. require b WrongVersion) (sym c.if-not-has_version.ensures)) found))))
 
 pub returns-in_err-check-clause-judged : goal.returns-in_err-check-clause-judged
@@ -52,12 +55,13 @@ returns-in_err-check-clause-judged c =
     λ chain chains seen state knowledge.
     let evidence = proves seen None state in
     let core = core_of c.args.records.now in
+    let host = host_with chain chains c.args.records.now in
     let mine = c.in_ok-mine.mine.now in
     let parcel = plain_parcel c.args.parcel.now in
-    let found = send_found evidence core c.args.bank.now c.args.channel.now parcel c.args.port.now c.requires mine c.in_ok-mine.ensures.passed in
+    let found = send_found evidence host core c.args.bank.now c.args.channel.now parcel c.args.port.now c.requires mine c.in_ok-mine.ensures.passed in
     let timeouts = ap (λ (k : Commitment). require_timeouts evidence core mine k) (sym c.commitment.view_is) ∙ sym (c.in_ok-check_timeouts.ensures c.commitment.inside.payload seen state knowledge) in
     let row = pass timeouts (pass (ap (λ b. require b TooLarge) c.if-not-parcel.false) (pass (ap (λ b. require b WrongVersion) (sym c.if-not-has_version.ensures)) found)) in
-    refuses (may_send evidence core c.args.bank.now c.args.channel.now parcel) _ c.from_residual-in_err-check.result p.1 p.2
+    refuses (may_send c.args.bank.now c.args.channel.now parcel evidence host core) _ c.from_residual-in_err-check.result p.1 p.2
     (unmoved (moves_is c.args.bank.now c.as_slice.ensures.value) (λ (after : BankState). require_number mine.next_send >> Ok mine) c.in_err-check.ensures.refused row)
 
 pub returns-in_err-check_number-clause-judged : goal.returns-in_err-check_number-clause-judged
@@ -66,12 +70,13 @@ returns-in_err-check_number-clause-judged c =
     λ chain chains seen state knowledge.
     let evidence = proves seen None state in
     let core = core_of c.args.records.now in
+    let host = host_with chain chains c.args.records.now in
     let mine = c.in_ok-mine.mine.now in
     let parcel = plain_parcel c.args.parcel.now in
-    let found = send_found evidence core c.args.bank.now c.args.channel.now parcel c.args.port.now c.requires mine c.in_ok-mine.ensures.passed in
+    let found = send_found evidence host core c.args.bank.now c.args.channel.now parcel c.args.port.now c.requires mine c.in_ok-mine.ensures.passed in
     let timeouts = ap (λ (k : Commitment). require_timeouts evidence core mine k) (sym c.commitment.view_is) ∙ sym (c.in_ok-check_timeouts.ensures c.commitment.inside.payload seen state knowledge) in
     let row = pass timeouts (pass (ap (λ b. require b TooLarge) c.if-not-parcel.false) (pass (ap (λ b. require b WrongVersion) (sym c.if-not-has_version.ensures)) found)) in
-    refuses (may_send evidence core c.args.bank.now c.args.channel.now parcel) _ c.from_residual-in_err-check_number.result p.1 p.2
+    refuses (may_send c.args.bank.now c.args.channel.now parcel evidence host core) _ c.from_residual-in_err-check_number.result p.1 p.2
     (inl (fail _ (sym (c.in_err-check_number.ensures.checked ∙ ap require_number c.next_send.ensures))
     (moved_on (moves_is c.args.bank.now c.as_slice.ensures.value) (λ (after : BankState). require_number mine.next_send >> Ok mine) c.in_ok-check.ensures.ok (λ after. refl) row)))
 
@@ -79,9 +84,10 @@ pub returns-clause-judged : goal.returns-clause-judged
 returns-clause-judged c = λ chain chains seen state knowledge.
     let evidence = proves seen None state in
     let core = core_of c.args.records.now in
+    let host = host_with chain chains c.args.records.now in
     let mine = c.in_ok-mine.mine.now in
     let parcel = plain_parcel c.args.parcel.now in
-    let found = send_found evidence core c.args.bank.now c.args.channel.now parcel c.args.port.now c.requires mine c.in_ok-mine.ensures.passed in
+    let found = send_found evidence host core c.args.bank.now c.args.channel.now parcel c.args.port.now c.requires mine c.in_ok-mine.ensures.passed in
     let timeouts = ap (λ (k : Commitment). require_timeouts evidence core mine k) (sym c.commitment.view_is) ∙ sym (c.in_ok-check_timeouts.ensures c.commitment.inside.payload seen state knowledge) in
     let row = pass timeouts (pass (ap (λ b. require b TooLarge) c.if-not-parcel.false) (pass (ap (λ b. require b WrongVersion) (sym c.if-not-has_version.ensures)) found)) in
     pass (sym (c.in_ok-check_number.ensures.checked ∙ ap require_number c.next_send.ensures))

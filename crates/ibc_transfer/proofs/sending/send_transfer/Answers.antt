@@ -7,17 +7,32 @@ use Rattle.ibc_machine.specs.Records.{Core}
 use Rattle.ibc_machine.specs.Replay.{proves}
 use Rattle.ibc_bank.specs.Moves.{BankState}
 use Rattle.ibc_records.specs.Held.{core_of}
-use Rattle.ibc_records.specs.Taking.{IsTakenWith}
-use Rattle.ibc_transfer.specs.Sending.{sends}
+use Rattle.ibc_records.specs.Taking.{IsTakenWith, host_with}
+use Rattle.ibc_transfer.specs.Sent.{bank_transfer}
+use Rattle.ibc_transfer.specs.Sending.{PlainParcel, sends}
+use Rattle.ibc_transfer.proofs.ByBank.{taken_by_balances, transfer_by_bank}
 use Rattle.ibc_transfer.proofs.Sends.{one_sent}
 use Rattle.ibc_transfer.proofs.sending.send_transfer.Goals as goal
 
-pub returns : goal.returns
-returns c =
+pub returns-clause-counted : goal.returns-clause-counted
+returns-clause-counted c =
     let old = c.args.records.now in
     let bank = c.args.transfers.now in
     let m = c.args.message.now in
     λ chain chains seen state knowledge.
+    let host = host_with chain chains old in
     subst (λ (checked : Checked (Effect × Core × BankState)). IsTakenWith effect.Sent checked old bank c.send_parcel.result c.send_parcel.new.records c.send_parcel.new.transfers)
-    (ap (sends (proves seen None state) (core_of old) bank m.channel) c.in_ok-parcel.ensures.ok ∙ sym (one_sent (proves seen None state) (core_of old) bank m))
+    (ap (λ (parcel : PlainParcel). sends m.channel parcel (proves seen None state) host (core_of old) bank) c.in_ok-parcel.ensures.ok ∙ sym (one_sent (proves seen None state) host (core_of old) bank m))
     (c.send_parcel.ensures chain chains seen state knowledge)
+
+pub returns-clause-answer : goal.returns-clause-answer
+returns-clause-answer c =
+    let old = c.args.records.now in
+    let bank = c.args.transfers.now in
+    let m = c.args.message.now in
+    λ chain chains seen state knowledge.
+    let host = host_with chain chains old in
+    taken_by_balances (bank_transfer m (proves seen None state) host (core_of old) bank) _ (transfer_by_bank (proves seen None state) host (core_of old) bank m) old bank c.send_parcel.result c.send_parcel.new.records c.send_parcel.new.transfers
+    (subst (λ (checked : Checked (Effect × Core × BankState)). IsTakenWith effect.Sent checked old bank c.send_parcel.result c.send_parcel.new.records c.send_parcel.new.transfers)
+    (ap (λ (parcel : PlainParcel). sends m.channel parcel (proves seen None state) host (core_of old) bank) c.in_ok-parcel.ensures.ok ∙ sym (one_sent (proves seen None state) host (core_of old) bank m))
+    (c.send_parcel.ensures chain chains seen state knowledge))

@@ -9,24 +9,46 @@ use Rattle.ibc_machine.specs.Replay.{proves}
 use Rattle.ibc_machine.proofs.PassedChecks.{pass, fail}
 use Rattle.ibc_bank.specs.Moves.{BankState}
 use Rattle.ibc_records.specs.Held.{core_of}
-use Rattle.ibc_records.specs.Taking.{IsTakenWith}
-use Rattle.ibc_transfer.specs.Sending.{sends}
+use Rattle.ibc_records.specs.Taking.{IsTakenWith, host_with}
+use Rattle.ibc_transfer.specs.Sent.{bank_transfer_many}
+use Rattle.ibc_transfer.specs.Sending.{PlainParcel, sends}
+use Rattle.ibc_transfer.proofs.ByBank.{many_refused, taken_by_balances, transfer_many_by_bank}
 use Rattle.ibc_transfer.proofs.Sends.{has_form, many_sent}
 use Rattle.ibc_transfer.proofs.sending.send_transfer_many.Goals as goal
 
-pub returns-then-not-are_few_and_rising : goal.returns-then-not-are_few_and_rising
-returns-then-not-are_few_and_rising c =
+pub returns-then-not-are_few_and_rising-clause-answer : goal.returns-then-not-are_few_and_rising-clause-answer
+returns-then-not-are_few_and_rising-clause-answer c =
     let form = ap (λ b. require b BadMessage) (sym (c.if-not-are_few_and_rising.ensures ∙ ap has_form c.as_slice.ensures)) in
     λ chain chains seen state knowledge.
-    (inl (fail _ form (many_sent (proves seen None state) (core_of c.args.records.now) c.args.transfers.now c.args.message.now)), refl, refl)
+    (inl (many_refused (proves seen None state) (host_with chain chains c.args.records.now) (core_of c.args.records.now) c.args.transfers.now c.args.message.now form), refl, refl)
 
-pub returns : goal.returns
-returns c =
+pub returns-then-not-are_few_and_rising-clause-counted : goal.returns-then-not-are_few_and_rising-clause-counted
+returns-then-not-are_few_and_rising-clause-counted c =
+    let form = ap (λ b. require b BadMessage) (sym (c.if-not-are_few_and_rising.ensures ∙ ap has_form c.as_slice.ensures)) in
+    λ chain chains seen state knowledge.
+    (inl (fail _ form (many_sent (proves seen None state) (host_with chain chains c.args.records.now) (core_of c.args.records.now) c.args.transfers.now c.args.message.now)), refl, refl)
+
+pub returns-clause-counted : goal.returns-clause-counted
+returns-clause-counted c =
     let old = c.args.records.now in
     let bank = c.args.transfers.now in
     let m = c.args.message.now in
     let form = ap (λ b. require b BadMessage) (sym (c.if-not-are_few_and_rising.ensures ∙ ap has_form c.as_slice.ensures)) in
     λ chain chains seen state knowledge.
+    let host = host_with chain chains old in
     subst (λ (checked : Checked (Effect × Core × BankState)). IsTakenWith effect.Sent checked old bank c.send_parcel.result c.send_parcel.new.records c.send_parcel.new.transfers)
-    (ap (sends (proves seen None state) (core_of old) bank m.channel) c.in_ok-parcel.ensures.ok ∙ sym (pass form (many_sent (proves seen None state) (core_of old) bank m)))
+    (ap (λ (parcel : PlainParcel). sends m.channel parcel (proves seen None state) host (core_of old) bank) c.in_ok-parcel.ensures.ok ∙ sym (pass form (many_sent (proves seen None state) host (core_of old) bank m)))
     (c.send_parcel.ensures chain chains seen state knowledge)
+
+pub returns-clause-answer : goal.returns-clause-answer
+returns-clause-answer c =
+    let old = c.args.records.now in
+    let bank = c.args.transfers.now in
+    let m = c.args.message.now in
+    let form = ap (λ b. require b BadMessage) (sym (c.if-not-are_few_and_rising.ensures ∙ ap has_form c.as_slice.ensures)) in
+    λ chain chains seen state knowledge.
+    let host = host_with chain chains old in
+    taken_by_balances (bank_transfer_many m (proves seen None state) host (core_of old) bank) _ (transfer_many_by_bank (proves seen None state) host (core_of old) bank m) old bank c.send_parcel.result c.send_parcel.new.records c.send_parcel.new.transfers
+    (subst (λ (checked : Checked (Effect × Core × BankState)). IsTakenWith effect.Sent checked old bank c.send_parcel.result c.send_parcel.new.records c.send_parcel.new.transfers)
+    (ap (λ (parcel : PlainParcel). sends m.channel parcel (proves seen None state) host (core_of old) bank) c.in_ok-parcel.ensures.ok ∙ sym (pass form (many_sent (proves seen None state) host (core_of old) bank m)))
+    (c.send_parcel.ensures chain chains seen state knowledge))

@@ -1,0 +1,92 @@
+//! Following the peer: an end goes where a proof shows its peer.
+
+ghost use Rattle.std.specs.Prelude.{◌≡◌, ℕ, false, Some, IsSome, IfOk};
+ghost use Rattle.ibc_ids.specs.Texts.{Text};
+ghost use Rattle.ibc_wire.specs.Reading.{proof_of};
+ghost use Rattle.ibc_machine.specs.declared.reply.Effect.TheVariants as effect;
+ghost use Rattle.ibc_machine.specs.Values.{same_channel_state};
+ghost use Rattle.ibc_records.specs.Held.{core_of};
+ghost use Rattle.ibc_records.specs.Taking.{IsHandled};
+ghost use Rattle.ibc_client.specs.Judging.{IsJudged};
+ghost use Rattle.ibc_channel.specs.Ends.{end_at, settled};
+ghost use Rattle.ibc_channel.specs.Follows as plain;
+ghost use Rattle.ibc_channel.specs.Follows.{require_follows};
+
+use crate::ends::{find_end, move_end, set_end};
+use ibc_client::{check_claim, claim_peer, known_connection, name_or_none, read_proof};
+use ibc_ids::{Bytes, ChannelId, PortId, Refusal};
+use ibc_merkle::Proof;
+use ibc_records::Records;
+use ibc_wire::{ChannelEnd, ChannelState};
+use std::alloc::Global;
+
+/// The end of a channel goes into the state `to`, which isn't `Init`, and in which the proof shows its peer at a height.
+/// Refused, by the first check that fails: `BadMessage` where the proof can't be read; `UnknownChannel`; `WrongState` where
+/// the end may not follow its peer into that state; `NoConsensus` where the connection's client doesn't know the height;
+/// `BadProof` where the proof doesn't show the peer's end. `NoMemory` where a growth is refused. A refusal leaves the
+/// records.
+pub fn follow_peer(
+    alloc: Global,
+    records: &mut Records,
+    to: ChannelState,
+    port: &PortId,
+    channel: &ChannelId,
+    height: u64,
+    proof: &Bytes,
+) -> Result<(), Refusal>
+    requires { same_channel_state to ChannelState.Init ≡ false }
+    ensures { (chain chains : ℕ) → IsHandled (λ _. effect.None) (plain.follow_peer to port.now channel.now height proof.now) chain chains records.old result records.new }
+{
+    let read = read_proof(alloc, proof.as_slice())?;
+    let judged = judge_following(alloc, records, to, port, channel, height, &read);
+    drop(read);
+    set_end(records, port, channel, judged?)
+}
+
+// The checks, in their order, and the end as it will stand.
+fn judge_following(
+    alloc: Global,
+    records: &Records,
+    to: ChannelState,
+    port: &PortId,
+    channel: &ChannelId,
+    height: u64,
+    proof: &Proof,
+) -> Result<ChannelEnd, Refusal>
+    requires { same_channel_state to ChannelState.Init ≡ false }
+    ensures judged { (chain chains : ℕ) (bytes : Text) → proof_of bytes ≡ Some proof.now → IsJudged (plain.follow_peer to port.now channel.now height bytes) chain chains records.now (settled port.now channel.now (core_of records.now)) result }
+    ensures there { IfOk result (λ _. IsSome (end_at (core_of records.now) port.now channel.now)) }
+{
+    let mine = find_end(records, port, channel)?;
+    check_follows(mine, to)?;
+    let connection = known_connection(records, &mine.connection, height)?;
+    let peer = name_or_none(&mine.peer_channel);
+    let claim = claim_peer(alloc, mine, connection, peer, port, channel.as_str(), to)?;
+    let shown = check_claim(records, &connection.client, height, &claim, proof);
+    drop(claim);
+    shown?;
+    move_end(mine, to)
+}
+
+// The end may follow its peer into a state, or else `WrongState`.
+fn check_follows(mine: &ChannelEnd, to: ChannelState) -> Result<(), Refusal>
+    ensures { result ≡ require_follows to mine.now }
+{
+    if may_follow(mine.state, to) {
+        Ok(())
+    } else {
+        Err(Refusal::WrongState)
+    }
+}
+
+// From `TryOpen` an end follows its peer, and from `Open` where the peer is closed.
+fn may_follow(from: ChannelState, to: ChannelState) -> bool
+    ensures { result ≡ plain.may_follow to from }
+{
+    match to {
+        ChannelState::Closed => from == ChannelState::TryOpen || from == ChannelState::Open,
+        ChannelState::Init | ChannelState::TryOpen | ChannelState::Open => {
+            from == ChannelState::TryOpen
+        }
+    }
+}
