@@ -1,5 +1,5 @@
 -- What a world and an audit promise: what ledgers do over roots and proofs is a run of the machine, which looks.
-use Rattle.std.specs.Prelude.{◌≡◌, ◌≤◌, ◌==◌, take, ℕ, Bool, true, false, List, [], ◌∷◌, map, length, Option, Some, None, slice_get, slice_set, IsTrue}
+use Rattle.std.specs.Prelude.{◌≡◌, ◌≤◌, ◌==◌, take, ℕ, Bool, true, false, List, [], ◌∷◌, ◌++◌, map, length, Option, Some, None, slice_get, slice_set, IfSome, IsTrue}
 use Rattle.std.specs.List.{filter, flat_map, list_all, list_any, range_with_len}
 use Rattle.ibc_ids.specs.Texts.{Text}
 use Rattle.ibc_ids.specs.Maps.{Map}
@@ -29,6 +29,13 @@ use Rattle.ibc_machine.specs.Merge.{Merges}
 abbrev pub Refines : GenesisState → List Ledger → List Event → List Reply → List Ledger → Type 0
 Refines genesis old events replies new =
     HasNoClash new → IsRun genesis (machine_of old) events replies (machine_of new)
+
+-- the history has one entry more, with this event and this reply, whose stamp counts all that was seen before it
+abbrev pub AddsNext : Ledger → Event → Reply → Ledger → Type 0
+AddsNext old event given new =
+    (e : StampedEntry) × (more : List Publication) × (e.entry.event ≡ event) × (e.entry.reply ≡ given)
+    × (new ≡ record old { history = old.history ++ e ∷ []; seen = old.seen ++ more })
+    × IfSome e.stamp (λ n. length old.seen ≤ n)
 
 -- the ledger of the event's chain has one entry more, or memory ran out; the others have at most seen more
 abbrev pub AppliesIf : Bool → Event → Reply → Ledger → Ledger → Type 0
@@ -115,16 +122,21 @@ abbrev pub is_complete : GenesisState → List Ledger → Bool
 is_complete genesis ledgers =
     list_all (λ k. length (of_chain k ledgers) == 1) (range_with_len 0 (length genesis.chains))
 
--- The histories merge, along the publications that all passes saw, into one list that is a run from genesis
--- with the replies in the histories; the balances and notes are those of its end.
+-- The histories merge, along the publications that all passes saw, into one list. From an allowed genesis, and where
+-- no texts clash, that list is a run with the replies in the histories; the balances and notes are those of its end.
 pub record IsAudited (genesis : GenesisState) (ledgers : List Ledger) (publications : List Publication)
     (balances : List Balances) (notes : List (Map Text (List Text))) : Type 0 where
   pub list : List Entry
-  pub history : IsWorldHistory genesis (by_number genesis ledgers) publications list
+  pub merges : Merges genesis.window (map (λ (c : Chain). c.time) (start genesis))
+      (map entries (by_number genesis ledgers)) publications list
+  pub past : IsTrue (is_allowed genesis) → HasNoClash ledgers
+      → IsPast genesis (happened_by list) (machine_of (by_number genesis ledgers))
   pub balances_are : balances ≡ map (λ (c : Chain). c.records.apps.balances) (machine_of (by_number genesis ledgers))
   pub notes_are : notes ≡ map (λ (c : Chain). c.records.apps.notes) (machine_of (by_number genesis ledgers))
 
+-- there is one list of publications of which every pass saw a beginning, with all of its own chain's, and the
+-- histories are audited along it
 abbrev pub Audited : GenesisState → List Ledger → List Balances → List (Map Text (List Text)) → Type 0
 Audited genesis ledgers balances notes =
-    IsTrue (is_allowed genesis) → HasNoClash ledgers → (publications : List Publication)
-    × AreOfOneTable publications ledgers × IsAudited genesis ledgers publications balances notes
+    (publications : List Publication) × AreOfOneTable publications ledgers
+    × IsAudited genesis ledgers publications balances notes

@@ -13,7 +13,7 @@ use Rattle.ibc_refinement.specs.Stamps.{merged_by_stamps}
 use Rattle.ibc_refinement.specs.Audits.{AreOfGenesis, AuditIsRun}
 use Rattle.ibc_refinement.proofs.Places.{get_there}
 use Rattle.ibc_refinement.proofs.PlacedLedgers.{any_there}
-use Rattle.ibc_refinement.proofs.StampsMerged.{stamped_is_run}
+use Rattle.ibc_refinement.proofs.StampsMerged.{stamps_merge, stamped_is_run}
 
 in_get : {A : Type 0} (x : A) (xs : List A) → Is_in x xs → (j : ℕ) × (slice_get xs j ≡ Some x)
 in_get x [] i = absurd i
@@ -118,10 +118,13 @@ module _ (genesis : GenesisState) (ledgers : List Ledger) (publications : List P
           contains_in x (flat_map ledger_texts ledgers) (in_flat_map ledger_texts w.0 x ledgers (order.each place.0 w.0 place.1).1 w.2)
 
 pub audit_is_run : AuditIsRun
-audit_is_run genesis ledgers publications of complete table allowed clash = record {
-  list = merged_by_stamps publications (by_number genesis ledgers);
-  history = stamped_is_run genesis (by_number genesis ledgers) publications (of_number genesis ledgers publications of complete table) (table_by_number genesis ledgers publications of complete table) allowed
-      (clash_by_number genesis ledgers publications of complete table clash);
-  balances_are = refl;
-  notes_are = refl;
-}
+audit_is_run genesis ledgers publications of complete table =
+    let placed = of_number genesis ledgers publications of complete table in
+    let along = table_by_number genesis ledgers publications of complete table in
+    record {
+      list = merged_by_stamps publications (by_number genesis ledgers);
+      merges = stamps_merge genesis (by_number genesis ledgers) publications placed along;
+      past = λ allowed clash. (stamped_is_run genesis (by_number genesis ledgers) publications placed along allowed (clash_by_number genesis ledgers publications of complete table clash)).past;
+      balances_are = refl;
+      notes_are = refl;
+    }

@@ -62,13 +62,7 @@ impl Worlds for NewWorlds {
 
 impl Chains for Ledgers {
     fn ask(&mut self, event: Event) -> Result<Reply, Refusal> {
-        let Ok(mut events) = Vec::with_capacity(self.alloc, 1) else {
-            drop(event);
-            return Err(Refusal::NoMemory);
-        };
-        events.push_reserved(event);
-        let mut replies = self.world.run(events)?;
-        replies.pop().ok_or(Refusal::NoMemory)
+        Ok(self.world.step(event))
     }
 
     fn client_state(&self, chain: u8, client: &ClientId) -> Result<Option<ClientState>, Refusal> {

@@ -9,7 +9,8 @@ use Rattle.ibc_machine.specs.Genesis.{GenesisState}
 use Rattle.ibc_machine.specs.Ledgers.{Ledger, SeesMore, chain_of}
 use Rattle.ibc_ledger.specs.Held.{HeldLedger}
 use Rattle.ibc_refinement.proofs.Places.{get_within, get_set, get_set_other, length_set}
-use Rattle.ibc_world_steps.specs.Steps.{AddsNext, AddsIf, AllSeeMore}
+use Rattle.ibc_machine.specs.Worlds.{AddsNext}
+use Rattle.ibc_world_steps.specs.Steps.{AddsIf, AllSeeMore, is_answered}
 use Rattle.ibc_world_steps.specs.Meetings.{IsPut}
 use Rattle.ibc_world_steps.proofs.Meetings.{same_one, sees_itself, all_see_themselves, all_see_with}
 use Rattle.ibc_world_core.specs.Held.{plain, SameTables}
@@ -52,13 +53,14 @@ module _ (genesis : GenesisState) (ledgers : List HeldLedger) (order : List ℕ)
             subst (SeesMore x) one (sees_itself x)
       ] refl
 
-  pub put_one : AddsNext before.ledger event given after.ledger
+  pub put_one : is_answered given ≡ true → AddsNext before.ledger event given after.ledger
       → IsPut (record { genesis = genesis; ledgers = plain ledgers; order = order }) event given (record { genesis = genesis; ledgers = plain (slice_set ledgers (chain_of event) after); order = order ++ chain_of event ∷ [] })
-  put_one adds = record {
+  put_one answered adds = record {
     genesis = refl;
     as_many = as_many;
     adds = inr (record {
       known = inside;
+      answered = answered;
       order = refl;
       each = λ k x y was now. one_adds adds k x y was (ap (λ l. slice_get l k) (sym (plain_set ledgers (chain_of event) after)) ∙ now);
     });
@@ -87,6 +89,10 @@ same_tables ledgers k before after there same j g h was now =
 
 -- ---- where the place and the order are given otherwise
 
+is_answered_by : (given : Reply) → (given ≡ reply.No NoMemory → ⊥) → is_answered given ≡ true
+is_answered_by (reply.No NoMemory) not = absurd (not refl)
+is_answered_by _ not = refl
+
 module _ (genesis : GenesisState) (ledgers : List HeldLedger) (order order' : List ℕ) (event : Event) (given : Reply) (before after : HeldLedger) (place : ℕ) (is : place ≡ chain_of event)
     (there : slice_get ledgers place ≡ Some before) where
   at_chain : slice_get ledgers (chain_of event) ≡ Some before
@@ -98,8 +104,8 @@ module _ (genesis : GenesisState) (ledgers : List HeldLedger) (order order' : Li
       subst (λ (z : ℕ × List ℕ). IsPut (record { genesis = genesis; ledgers = plain ledgers; order = order }) event given (record { genesis = genesis; ledgers = plain (slice_set ledgers z.0 after); order = z.1 }))
       (λ i. (sym is i, sym same i)) (put_nothing genesis ledgers order event given before after at_chain no_memory sees)
 
-  pub one_at : order' ≡ order ++ chain_of event ∷ [] → AddsNext before.ledger event given after.ledger
+  pub one_at : order' ≡ order ++ chain_of event ∷ [] → (given ≡ reply.No NoMemory → ⊥) → AddsNext before.ledger event given after.ledger
       → IsPut (record { genesis = genesis; ledgers = plain ledgers; order = order }) event given (record { genesis = genesis; ledgers = plain (slice_set ledgers place after); order = order' })
-  one_at same adds =
+  one_at same not adds =
       subst (λ (z : ℕ × List ℕ). IsPut (record { genesis = genesis; ledgers = plain ledgers; order = order }) event given (record { genesis = genesis; ledgers = plain (slice_set ledgers z.0 after); order = z.1 }))
-      (λ i. (sym is i, sym same i)) (put_one genesis ledgers order event given before after at_chain adds)
+      (λ i. (sym is i, sym same i)) (put_one genesis ledgers order event given before after at_chain (is_answered_by given not) adds)

@@ -4,4 +4,4 @@
 mod meeting;
 mod world;
 
-pub use world::World;
+pub use world::{NotRun, World};

@@ -22,6 +22,13 @@ use std::marker::Model;
 use std::snapshot::Snapshot;
 use std::sync::Arc;
 
+/// The events of a run that was refused, and why.
+#[derive(Drop)]
+pub struct NotRun {
+    pub refusal: Refusal,
+    pub events: Vec<Event>,
+}
+
 /// The ledgers of a genesis, in the order of their numbers, and the order of their entries as the numbers of the chains.
 #[derive(Drop)]
 pub struct World {
@@ -65,20 +72,45 @@ impl World {
         }
     }
 
-    /// Asks the chains for the events, one after another, and answers with a reply for each. A reply is `NoMemory` where a
-    /// growth was refused, and `UnknownChain` where there is no chain of the event's number: then nothing has changed.
-    /// Where `run` itself answers `NoMemory`, nothing was done.
-    pub fn run(&mut self, events: Vec<Event>) -> Result<Vec<Reply>, Refusal>
+    /// Asks the chain of an event for it, and answers with its reply. Where a growth was refused the reply is `NoMemory`, and
+    /// where there is no chain of the event's number it is `UnknownChain`: then no entry was added. Else the event with its
+    /// reply is the last of the entries that the world keeps, and all before it stand as they stood.
+    pub fn step(&mut self, event: Event) -> Reply
+        ensures step { IsStep self.old event result self.new }
+        ensures runs { GoesOnBy self.old (event ∷ []) (result ∷ []) self.new }
+        ensures past { HasItsPast self.new }
+    {
+        let reply = put(self.ledgers.as_mut_slice(), &mut self.order, event);
+        meet_all(self.ledgers.as_mut_slice());
+        reply
+    }
+
+    /// Asks the chains for the events, one after another as `step` does, and answers with a reply for each. Refused: `NoMemory`,
+    /// where there is no room for the replies. Then nothing was done, and the events are handed back.
+    pub fn run(&mut self, events: Vec<Event>) -> Result<Vec<Reply>, NotRun>
         ensures runs { IfOk result (λ replies. GoesOnBy self.old events.items replies.items self.new) }
         ensures past { HasItsPast self.new }
-        ensures err { IfErr result (λ refusal. refusal ≡ NoMemory) }
+        ensures err { IfErr result (λ not_run. not_run.refusal ≡ NoMemory) }
+        ensures handed_back { IfErr result (λ not_run. not_run.events.items ≡ events.items) }
         ensures unchanged { OnErr result (self.new ≡ self.old) }
     {
-        let mut replies = Vec::with_capacity(self.alloc, events.len())?;
+        let Ok(mut replies) = Vec::with_capacity(self.alloc, events.len()) else {
+            return Err(NotRun {
+                refusal: Refusal::NoMemory,
+                events,
+            });
+        };
         for event in events {
             replies.push_reserved(self.step(event));
         }
         Ok(replies)
+    }
+
+    /// A world has its past: the entries that it keeps are a run since genesis to the states of its ledgers.
+    pub fn has_its_past(&self)
+        ensures { HasItsPast self.now }
+    {
+        let _ = &self.ledgers;
     }
 
     /// The ledger of a chain, or none.
@@ -86,15 +118,6 @@ impl World {
         ensures { option_map (λ ledger. ledger.now.ledger) result ≡ slice_get self.now.ledgers chain }
     {
         self.ledgers.get(usize::from(chain))
-    }
-
-    // Asks the chain of an event for it, and lets the ledgers meet.
-    fn step(&mut self, event: Event) -> Reply
-        ensures { IsStep self.old event result self.new }
-    {
-        let reply = put(self.ledgers.as_mut_slice(), &mut self.order, event);
-        meet_all(self.ledgers.as_mut_slice());
-        reply
     }
 }
 

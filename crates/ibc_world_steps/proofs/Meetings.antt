@@ -6,7 +6,8 @@ use Rattle.ibc_machine.specs.declared.reply.Reply.{Reply}
 use Rattle.ibc_machine.specs.Ledgers.{Ledger, SeesMore, chain_of}
 use Rattle.ibc_refinement.proofs.Places.{get_there, get_within, get_set, get_set_other}
 use Rattle.ibc_world_steps.specs.World.{WorldState}
-use Rattle.ibc_world_steps.specs.Steps.{AddsNext, AddsIf, AllSeeMore, AddsNothing, AddsOne, IsStep}
+use Rattle.ibc_machine.specs.Worlds.{AddsNext}
+use Rattle.ibc_world_steps.specs.Steps.{AddsIf, AllSeeMore, AddsNothing, AddsOne, IsStep}
 use Rattle.ibc_world_steps.specs.Meetings.{HaveMet, IsPut, MeetingEndsStep, NothingDoneIsStep, StepsGoOn}
 
 -- ---- seeing more
@@ -78,6 +79,7 @@ module _ (old mid new : WorldState) (event : Event) (given : Reply) (put : IsPut
   met_one : AddsOne old event given mid → AddsOne old event given new
   met_one adds = record {
     known = adds.known;
+    answered = adds.answered;
     order = same_order ∙ adds.order;
     each = λ k before after was now.
         let at = get_there mid.ledgers k (omega (arith, get_within old.ledgers k before was, put.as_many)) in

@@ -15,7 +15,8 @@ use Rattle.ibc_machine.specs.Replay.{StampedEntry}
 use Rattle.ibc_machine.specs.Ledgers.{Ledger, IsLedger, SeesMore, chain_of, header_in, is_accepted_block, reading_fits}
 use Rattle.ibc_machine.specs.Merge.{blocks_of, ReadsWhatIsBefore}
 use Rattle.ibc_world_steps.specs.World.{WorldState, kept_entries, AreOfFirst, IsWorld}
-use Rattle.ibc_world_steps.specs.Steps.{AddsNext, AddsIf, IsStep, AddsOne}
+use Rattle.ibc_machine.specs.Worlds.{AddsNext}
+use Rattle.ibc_world_steps.specs.Steps.{AddsIf, IsStep, AddsOne}
 use Rattle.ibc_world_steps.proofs.Publications.{published_behind, nothing_behind, none_more, one_more}
 use Rattle.ibc_world_steps.proofs.Grown.{IsPlain, IsEnded, own_reading, publishes, with_next}
 use Rattle.ibc_world_steps.proofs.Turns.{as_many_blocks}

@@ -1,6 +1,11 @@
 -- Steps of a world, one after another, refine the machine.
-use Rattle.std.proofs.Common.{◌≡◌, ℕ, Bool, true, false, eqb, List, [], ◌∷◌, ◌++◌, length, map, refl, sym, ap, ◌∙◌, subst, Some, slice_get, arith, eqb-true, append-nil, append_assoc, inl, inr}
-use Rattle.std.proofs.lemmas.Bool.{cases_lt}
+use Rattle.std.proofs.Common.{◌≡◌, ℕ, Bool, true, false, cond, eqb, List, [], ◌∷◌, ◌++◌, length, map, filter, refl, sym, ap, ◌∙◌, subst, Some, slice_get, arith, eqb-true, append-nil, append_assoc, inl, inr}
+use Rattle.std.specs.Prelude.{nat_lt, ◌&&◌}
+use Rattle.std.specs.List.{zip}
+use Rattle.std.proofs.Math.Bool.{and-false}
+use Rattle.std.proofs.lemmas.Bool.{cases_lt, le-ltb, lt-ltb}
+use Rattle.std.proofs.lemmas.List.{map-append}
+use Rattle.std.proofs.lemmas.List.Elements.{filter-append}
 use Rattle.ibc_machine.specs.declared.event.Event.{Event}
 use Rattle.ibc_machine.specs.declared.reply.Reply.{Reply}
 use Rattle.ibc_machine.specs.declared.entry.Entry.{Entry}
@@ -8,12 +13,12 @@ use Rattle.ibc_machine.specs.Records.{Chain}
 use Rattle.ibc_machine.specs.Genesis.{GenesisState, start}
 use Rattle.ibc_machine.specs.Ledgers.{Ledger, SeesMore, chain_of}
 use Rattle.ibc_machine.specs.Merge.{Merges}
-use Rattle.ibc_machine.specs.Worlds.{AreLedgersOf, AppliesIf, Applies, AppliesEach, entries}
+use Rattle.ibc_machine.specs.Worlds.{AreLedgersOf, AppliesIf, Applies, AppliesEach, entries, happened_by}
 use Rattle.ibc_refinement.specs.Refinement.{GivesNothing, AreAnswered, GoesOn}
 use Rattle.ibc_refinement.proofs.Places.{get_there, get_within}
 use Rattle.ibc_refinement.proofs.RunOn.{going_on_is_run}
 use Rattle.ibc_world_steps.specs.World.{WorldState, kept_entries, IsWorld}
-use Rattle.ibc_world_steps.specs.Steps.{AddsIf, AddsNothing, AddsOne, IsStep, StepIsKept, AreSteps, StepsRefine}
+use Rattle.ibc_world_steps.specs.Steps.{AddsIf, AddsNothing, AddsOne, IsStep, StepIsKept, AreSteps, is_answered, has_entry, StepsRefine}
 use Rattle.ibc_world_steps.proofs.Together.{one_table}
 use Rattle.ibc_world_steps.proofs.Nothing.{history_at, nothing_is_world, nothing_kept}
 use Rattle.ibc_world_steps.proofs.One.{next}
@@ -44,6 +49,7 @@ pub record Went (old : WorldState) (event : Event) (given : Reply) (new : WorldS
   pub is : IsWorld new
   pub more : List Entry
   pub kept : kept_entries new ≡ kept_entries old ++ more
+  pub happened : happened_by more ≡ filter (has_entry (length old.ledgers)) ((event, given) ∷ [])
   pub answered : (events : List Event) (replies : List Reply) (rest : List Entry) → AreAnswered (length old.ledgers) events replies rest
       → AreAnswered (length old.ledgers) (event ∷ events) (given ∷ replies) (more ++ rest)
   pub each : AllGoOn old.ledgers new.ledgers
@@ -62,6 +68,7 @@ module _ (old new : WorldState) (event : Event) (given : Reply) (is : IsWorld ol
     is = nothing_is_world old new event given is step adds;
     more = [];
     kept = nothing_kept old new event given is step adds ∙ sym (append-nil (kept_entries old));
+    happened = ap (λ b. cond b ((event, given) ∷ []) []) (sym none);
     answered = λ events replies rest answered. inl (nothing, answered);
     each = λ k before after was now. sees_goes_on before after (adds.each k before after was now);
     applies = record {
@@ -71,6 +78,12 @@ module _ (old new : WorldState) (event : Event) (given : Reply) (is : IsWorld ol
     };
   }
     where
+      none : has_entry (length old.ledgers) (event, given) ≡ false
+      none = elim (cases_lt (chain_of event) (length old.ledgers)) [
+        | inl low ↦ ap (λ r. nat_lt (chain_of event) (length old.ledgers) && is_answered r) (adds.no_memory low) ∙ and-false (nat_lt (chain_of event) (length old.ledgers))
+        | inr past ↦ ap (λ b. b && is_answered given) (le-ltb (chain_of event) (length old.ledgers) past)
+      ]
+
       nothing : GivesNothing (length old.ledgers) event given
       nothing = elim (cases_lt (chain_of event) (length old.ledgers)) [ inl low ↦ inl (adds.no_memory low) | inr past ↦ inr (adds.unknown past, past) ]
 
@@ -85,6 +98,7 @@ module _ (old new : WorldState) (event : Event) (given : Reply) (is : IsWorld ol
         is = one_is_world old new event given is step adds;
         more = w.0.entry ∷ [];
         kept = one_kept old new event given is step adds;
+        happened = (λ i. (w.2 i, w.3 i) ∷ []) ∙ ap (λ b. cond b ((event, given) ∷ []) []) (sym one);
         answered = λ events replies rest answered. inr (w.0.entry, rest, refl, w.2, w.3, answered);
         each = λ k before after was now. adds_goes_on event given (eqb (chain_of event) k) before after (adds.each k before after was now);
         applies = record {
@@ -93,6 +107,9 @@ module _ (old new : WorldState) (event : Event) (given : Reply) (is : IsWorld ol
           unknown = λ past. let low = adds.known in absurd (omega arith);
         };
       }
+    where
+      one : has_entry (length old.ledgers) (event, given) ≡ true
+      one = (λ i. lt-ltb (chain_of event) (length old.ledgers) adds.known i && adds.answered i)
 
   pub went : Went old event given new
   went = elim (step.adds) [ inl adds ↦ went_nothing adds | inr adds ↦ went_one adds ]
@@ -108,6 +125,7 @@ pub record AllWent (old : WorldState) (events : List Event) (replies : List Repl
   pub is : IsWorld new
   pub more : List Entry
   pub kept : kept_entries new ≡ kept_entries old ++ more
+  pub happened : happened_by more ≡ filter (has_entry (length old.ledgers)) (zip events replies)
   pub answered : AreAnswered (length old.ledgers) events replies more
   pub each : AllGoOn old.ledgers new.ledgers
   pub applies : AppliesEach old.ledgers events replies new.ledgers
@@ -119,6 +137,7 @@ all_went [] [] old new is same = record {
   is = subst IsWorld (sym same) is;
   more = [];
   kept = ap kept_entries same ∙ sym (append-nil (kept_entries old));
+  happened = refl;
   answered = refl;
   each = λ k before after was now.
       let both : Some before ≡ Some after = sym was ∙ sym (ap (λ (w : WorldState). slice_get w.ledgers k) same) ∙ now in
@@ -138,6 +157,11 @@ all_went (event ∷ events) (given ∷ replies) old new is (mid, step, later) =
       is = rest.is;
       more = one.more ++ rest.more;
       kept = rest.kept ∙ ap (λ xs. xs ++ rest.more) one.kept ∙ append_assoc (kept_entries old) one.more rest.more;
+      happened =
+          map-append (λ (e : Entry). (e.event, e.reply)) one.more rest.more
+          ∙ ap (λ xs. xs ++ happened_by rest.more) one.happened
+          ∙ ap (λ xs. filter (has_entry (length old.ledgers)) ((event, given) ∷ []) ++ xs) (rest.happened ∙ ap (λ n. filter (has_entry n) (zip events replies)) step.as_many)
+          ∙ sym (filter-append (has_entry (length old.ledgers)) ((event, given) ∷ []) (zip events replies));
       answered = one.answered events replies rest.more (subst (λ n. AreAnswered n events replies rest.more) step.as_many rest.answered);
       each = λ k before after was now.
           let at = get_there mid.ledgers k (omega (arith, get_within old.ledgers k before was, step.as_many)) in
@@ -154,6 +178,9 @@ steps_refine old events replies new is steps =
       genesis = w.genesis;
       is = w.is;
       applies = w.applies;
+      more = w.more;
+      kept = w.kept;
+      answered = w.happened;
       refines =
           going_on_is_run old.genesis old.ledgers new.ledgers now.publications (kept_entries old) w.more events replies is.of of
           (one_table old.genesis new.ledgers of now.publications now.seen now.within) w.each

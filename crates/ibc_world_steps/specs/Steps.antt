@@ -1,21 +1,16 @@
 -- How a world goes on by an event, and by events one after another.
-use Rattle.std.specs.Prelude.{◌≡◌, ◌⊎◌, ◌≤◌, ◌<◌, ◌==◌, ℕ, Bool, true, false, List, [], ◌∷◌, ◌++◌, length, Some, slice_get, IfSome}
+use Rattle.std.specs.Prelude.{◌≡◌, ◌⊎◌, ◌≤◌, ◌<◌, ◌==◌, ◌&&◌, ℕ, nat_lt, Bool, true, false, List, [], ◌∷◌, ◌++◌, length, Some, slice_get}
+use Rattle.std.specs.List.{filter, zip}
 use Rattle.ibc_ids.specs.declared.publication.Publication.{Publication}
 use Rattle.ibc_ids.specs.declared.refusal.Refusal.TheVariants.{NoMemory, UnknownChain}
 use Rattle.ibc_machine.specs.declared.event.Event.{Event}
 use Rattle.ibc_machine.specs.declared.reply.Reply.{Reply}
 use Rattle.ibc_machine.specs.declared.reply.Reply.TheVariants as reply
-use Rattle.ibc_machine.specs.Replay.{StampedEntry}
+use Rattle.ibc_machine.specs.declared.entry.Entry.{Entry}
 use Rattle.ibc_machine.specs.Ledgers.{Ledger, IsLedger, SeesMore, chain_of}
-use Rattle.ibc_machine.specs.Worlds.{AppliesEach, Refines}
-use Rattle.ibc_world_steps.specs.World.{WorldState, AllSee, AreOfFirst, IsWorld}
-
--- the history has one entry more, whose stamp counts all that was seen before it
-abbrev pub AddsNext : Ledger → Event → Reply → Ledger → Type 0
-AddsNext old event given new =
-    (e : StampedEntry) × (more : List Publication) × (e.entry.event ≡ event) × (e.entry.reply ≡ given)
-    × (new ≡ record old { history = old.history ++ e ∷ []; seen = old.seen ++ more })
-    × IfSome e.stamp (λ n. length old.seen ≤ n)
+use Rattle.ibc_machine.specs.Histories.{Happened}
+use Rattle.ibc_machine.specs.Worlds.{AddsNext, AppliesEach, Refines, happened_by}
+use Rattle.ibc_world_steps.specs.World.{WorldState, kept_entries, AllSee, AreOfFirst, IsWorld}
 
 -- the event was this ledger's, or another's
 abbrev pub AddsIf : Bool → Event → Reply → Ledger → Ledger → Type 0
@@ -34,9 +29,15 @@ pub record AddsNothing (old : WorldState) (event : Event) (given : Reply) (new :
   pub order : new.order ≡ old.order
   pub each : AllSeeMore old.ledgers new.ledgers
 
+-- memory didn't run out
+abbrev pub is_answered : Reply → Bool
+is_answered (reply.No NoMemory) = false
+is_answered _ = true
+
 -- the ledger of the event's chain has one entry more
 pub record AddsOne (old : WorldState) (event : Event) (given : Reply) (new : WorldState) : Type 0 where
   pub known : chain_of event < length old.ledgers
+  pub answered : is_answered given ≡ true
   pub order : new.order ≡ old.order ++ chain_of event ∷ []
   pub each : (k : ℕ) (before after : Ledger) → slice_get old.ledgers k ≡ Some before
       → slice_get new.ledgers k ≡ Some after → AddsIf (chain_of event == k) event given before after
@@ -63,11 +64,19 @@ AreSteps old (event ∷ events) (given ∷ replies) new =
 AreSteps old [] (given ∷ replies) new = ⊥
 AreSteps old (event ∷ events) [] new = ⊥
 
--- what steps leave: a world, which went on in the machine by the events that were applied
+-- an event has an entry just where there is its chain and memory didn't run out
+abbrev pub has_entry : ℕ → Happened → Bool
+has_entry chains h = nat_lt (chain_of h.0) chains && is_answered h.1
+
+-- What steps leave: a world, which went on in the machine by the events that were applied. All entries that it
+-- had kept stand as they stood, and behind them one for each event that has an entry, in their order.
 pub record GoesOnBy (old : WorldState) (events : List Event) (replies : List Reply) (new : WorldState) : Type 0 where
   pub genesis : new.genesis ≡ old.genesis
   pub is : IsWorld new
   pub applies : AppliesEach old.ledgers events replies new.ledgers
+  pub more : List Entry
+  pub kept : kept_entries new ≡ kept_entries old ++ more
+  pub answered : happened_by more ≡ filter (has_entry (length old.ledgers)) (zip events replies)
   pub refines : Refines old.genesis old.ledgers events replies new.ledgers
 
 abbrev pub StepsRefine : Type 0

@@ -6,16 +6,16 @@ use Rattle.ibc_world_steps.proofs.Together.{order_is_run}
 use Rattle.ibc_world_core.proofs.Turns.{none_has_run, one_more_has_run, all_have_run}
 use Rattle.ibc_world_core.proofs.world.World.run.Goals as goal
 
-pub returns-in_err-replies-clause-past : goal.returns-in_err-replies-clause-past
-returns-in_err-replies-clause-past c = order_is_run c.args.self.now (subst IsWorld c.self.view_is c.self.invariant.world)
+pub returns-in_default-clause-past : goal.returns-in_default-clause-past
+returns-in_default-clause-past c = order_is_run c.args.self.now (subst IsWorld c.self.view_is c.self.invariant.world)
 
 pub loop-event-init : goal.loop-event-init
 loop-event-init c =
     let gives = c.into_iter-event-iterator.ensures.into_iter_gives in
-    let replies = c.in_ok-replies.ensures in
+    let replies = c.in-Ok.ensures in
     let left = gives.1 ∙ c.args.events.ok.0 ∙ ap length (sym gives.0) in
     record {
-      so_far = none_has_run c.args.self.now c.args.events.items (into_iter_items c.into_iter-event-iterator.result) c.in_ok-replies.replies.items gives.0 replies.items;
+      so_far = none_has_run c.args.self.now c.args.events.items (into_iter_items c.into_iter-event-iterator.result) c.in-Ok.replies.items gives.0 replies.items;
       left = left;
       room = omega (arith, replies.len, replies.exact, c.len.ensures, gives.1, left);
     }
@@ -37,7 +37,7 @@ loop-event-preserved c =
     record {
       so_far =
           one_more_has_run c.args.self.now c.args.events.items at.yielded (into_iter_items at.event-iterator) (into_iter_items c.next.new.self) c.in-Some.event at.replies.items c.push_reserved.new.self.items c.step.result at.self c.step.new.self
-          at.invariant.so_far steps.0 pushed.items c.step.ensures;
+          at.invariant.so_far steps.0 pushed.items c.step.ensures.step;
       left = omega (arith, long, was, gone);
       room = omega (arith, at.invariant.room, long, pushed.len, pushed.capacity);
     }

@@ -1,4 +1,4 @@
-use Rattle.std.proofs.Common.{◌≡◌, ◌<◌, ℕ, List, length, Some, refl, sym, ◌∙◌, subst, arith}
+use Rattle.std.proofs.Common.{◌≡◌, ◌<◌, ℕ, List, [], ◌∷◌, length, Some, refl, sym, ◌∙◌, subst, arith}
 use Rattle.std.specs.Prelude.{slice_get}
 use Rattle.std.specs.Vec.{with_items}
 use Rattle.std.proofs.lemmas.List.{with_items_is}
@@ -7,10 +7,12 @@ use Rattle.ibc_world_core.proofs.Rounds.{plain_length}
 use Rattle.ibc_machine.specs.Genesis.{genesis_state}
 use Rattle.ibc_world_core.specs.Inside.{state_of}
 use Rattle.ibc_ledger.specs.Held.{HeldLedger}
-use Rattle.ibc_world_steps.specs.World.{WorldState}
+use Rattle.ibc_world_steps.specs.World.{WorldState, IsWorld}
 use Rattle.ibc_world_steps.specs.Steps.{IsStep}
 use Rattle.ibc_world_steps.specs.Meetings.{HaveMet}
 use Rattle.ibc_world_core.specs.Held.{plain, AllAt, AreNumbered, SameTables, IsPutTo}
+use Rattle.ibc_world_steps.proofs.Together.{order_is_run}
+use Rattle.ibc_world_steps.proofs.Runs.{steps_refine}
 use Rattle.ibc_world_core.proofs.Stepping.{numbered, as_many, some_ledger, at_one_table, of_all_chains, stepped, still_held}
 use Rattle.ibc_world_core.proofs.world.World.step.Goals as goal
 
@@ -76,8 +78,20 @@ invariant_of-self c =
     still_held c.self.inside c.self.invariant c.args.event c.put-reply.result c.put-reply.new.ledgers c.put-reply.new.order.items (put (put_before c)) (tables (put_before c)) c.meet_all.new.ledgers (met c)
     (after c) refl (items c) refl (met_tables c)
 
-pub returns : goal.returns
-returns c =
-    subst (λ (s : WorldState). IsStep s c.args.event c.put-reply.result (state_of (after c))) c.self.view_is
-    (subst (λ (l : List HeldLedger). IsStep (state_of c.self.inside) c.args.event c.put-reply.result (record { genesis = genesis_state c.self.inside.genesis.value; ledgers = plain l; order = c.put-reply.new.order.items })) (sym (items c))
-    (stepped c.self.inside c.self.invariant c.args.event c.put-reply.result c.put-reply.new.ledgers c.put-reply.new.order.items (put (put_before c)) (tables (put_before c)) c.meet_all.new.ledgers (met c)))
+module _ (c : goal.After-self-2-1) where
+  step_here : IsStep c.args.self.now c.args.event c.put-reply.result (state_of (after c))
+  step_here =
+      subst (λ (s : WorldState). IsStep s c.args.event c.put-reply.result (state_of (after c))) c.self.view_is
+      (subst (λ (l : List HeldLedger). IsStep (state_of c.self.inside) c.args.event c.put-reply.result (record { genesis = genesis_state c.self.inside.genesis.value; ledgers = plain l; order = c.put-reply.new.order.items })) (sym (items c))
+      (stepped c.self.inside c.self.invariant c.args.event c.put-reply.result c.put-reply.new.ledgers c.put-reply.new.order.items (put (put_before c)) (tables (put_before c)) c.meet_all.new.ledgers (met c)))
+
+pub returns-clause-step : goal.returns-clause-step
+returns-clause-step c = step_here c
+
+pub returns-clause-runs : goal.returns-clause-runs
+returns-clause-runs c =
+    let is = subst IsWorld c.self.view_is c.self.invariant.world in
+    steps_refine c.args.self.now (c.args.event ∷ []) (c.put-reply.result ∷ []) (state_of (after c)) is (state_of (after c), step_here c, refl)
+
+pub returns-clause-past : goal.returns-clause-past
+returns-clause-past c = order_is_run (state_of (after c)) (invariant_of-self c).world

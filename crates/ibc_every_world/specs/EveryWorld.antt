@@ -1,0 +1,61 @@
+-- What every world keeps. Its chains see one another through published roots and proofs alone, and were asked any list
+-- of messages and blocks, in any order, with any message missing, repeated or forged.
+use Rattle.std.specs.Prelude.{◌≡◌, ℕ, ◌+◌, false, List, filter, Some, slice_get, IsTrue}
+use Rattle.std.specs.List.{Contains}
+use Rattle.ibc_ids.specs.Texts.{Text}
+use Rattle.ibc_ids.specs.declared.refusal.Refusal.TheVariants.{Poor}
+use Rattle.ibc_machine.specs.declared.event.Event.{Event}
+use Rattle.ibc_machine.specs.declared.reply.Reply.TheVariants as reply
+use Rattle.ibc_machine.specs.Records.{Channel}
+use Rattle.ibc_machine.specs.Packets.{is_ordered}
+use Rattle.ibc_machine.specs.Transfers.{transfer_port, came_over}
+use Rattle.ibc_machine.specs.Machine.{World}
+use Rattle.ibc_machine.specs.Ledgers.{Ledger, machine_of}
+use Rattle.ibc_machine.specs.HashedTexts.{HasNoClash}
+use Rattle.ibc_machine.specs.Histories.{Happened, End, sent, received}
+use Rattle.ibc_machine.specs.Peers.{end_at, are_peers}
+use Rattle.ibc_machine.specs.Totals.{flight, vouchers, escrowed, hopped}
+use Rattle.ibc_machine.specs.Laws.{IsPast, HasOnePeer, IsExactlyOnce, IsBeginning, settles}
+use Rattle.ibc_machine.specs.Merge.{is_of}
+use Rattle.ibc_machine.specs.Worlds.{entries, happened_by}
+use Rattle.ibc_world_steps.specs.World.{WorldState, kept_entries}
+
+-- all that happened since genesis: each event with its reply, in the order in which the world kept them
+abbrev pub happened_in : WorldState → List Happened
+happened_in world = happened_by (kept_entries world)
+
+-- the states of all chains
+abbrev pub states_of : WorldState → World
+states_of world = machine_of world.ledgers
+
+abbrev pub ArePeers : WorldState → End → End → Type 0
+ArePeers world e f = IsTrue (are_peers (states_of world) e f)
+
+pub record IsLawful (world : WorldState) : Type 0 where
+  -- The replies and the states of all chains are a run, since an allowed genesis, of the machine in which each end
+  -- looks straight at what the other had committed at the height named.
+  pub run : IsPast world.genesis (happened_in world) (states_of world)
+  -- The run has all that each chain's own history tells, in that history's order.
+  pub whole : (k : ℕ) (ledger : Ledger) → slice_get world.ledgers k ≡ Some ledger
+      → filter (is_of k) (kept_entries world) ≡ entries ledger
+  -- An end of a channel that is OPEN or CLOSED has exactly one peer, and no end has two (ICS 4, channel exclusivity).
+  pub one_peer : HasOnePeer (states_of world)
+  -- Between peers no packet is both received and timed out. Each is received at most once, and acknowledged or timed
+  -- out at most once in all; one that was acknowledged was received (ICS 4, exactly-once delivery).
+  pub exactly_once : (e f : End) → ArePeers world e f → IsExactlyOnce (happened_in world) e f
+  -- What an end of an ordered channel received is a beginning of what its peer sent, equal in every field (ICS 4,
+  -- ordering).
+  pub in_order : (e f : End) (mine : Channel) → ArePeers world e f → end_at (states_of world) e ≡ Some mine
+      → IsTrue (is_ordered mine) → IsBeginning (received f (happened_in world)) (sent e mine (happened_in world))
+  -- The escrow of a channel equals its vouchers at the peer and what is under way there and back, of each denomination
+  -- that doesn't begin with the channel's own hop (ICS 20, fungibility and total supply).
+  pub conserved : (e f : End) (denom : Text) → ArePeers world e f → e.port ≡ transfer_port
+      → came_over e.port e.channel denom ≡ false
+      → escrowed (states_of world) e denom ≡ vouchers (states_of world) f denom + flight (states_of world) e f denom
+      + flight (states_of world) f e (hopped f denom)
+  -- No acknowledgement and no timeout was refused because an escrow holds too little for the refund.
+  pub never_poor : (event : Event) → IsTrue (settles event) → ¬ (Contains (happened_in world) (event, reply.No Poor))
+
+-- All of it stands where no two different texts that the chains hashed share a digest.
+abbrev pub IsLawfulUnlessClash : WorldState → Type 0
+IsLawfulUnlessClash world = HasNoClash world.ledgers → IsLawful world

@@ -1,0 +1,33 @@
+//! What every world keeps, on one page: `specs/EveryWorld`. A world begins with no entries (`World::new`), and each event
+//! that has an entry is the next of those that it keeps (`World::step`, `World::run`). The page speaks of these entries.
+#![tactic(auto)]
+
+ghost use Rattle.ibc_machine.specs.Laws.{Laws};
+ghost use Rattle.ibc_every_world.specs.EveryWorld.{IsLawfulUnlessClash};
+
+use ibc_laws::{
+    each_end_has_one_peer, each_ordered_channel_delivers_in_order, each_packet_is_handled_once,
+    escrow_equals_vouchers_and_flight, no_escrow_is_short, no_refund_is_refused,
+};
+use ibc_world_core::World;
+
+/// Whatever a world was asked, its replies and states are a run of the machine since genesis, of which the laws hold. The
+/// function does nothing: to call it is to cite what it says.
+pub fn what_every_world_keeps(world: &World)
+    ensures { IsLawfulUnlessClash world.now }
+{
+    world.has_its_past();
+    the_laws_hold();
+}
+
+/// The laws of every run of the machine, all together.
+pub fn the_laws_hold()
+    ensures { Laws }
+{
+    each_end_has_one_peer();
+    each_packet_is_handled_once();
+    each_ordered_channel_delivers_in_order();
+    escrow_equals_vouchers_and_flight();
+    no_refund_is_refused();
+    no_escrow_is_short();
+}
