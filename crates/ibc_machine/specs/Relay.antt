@@ -7,7 +7,6 @@ use Rattle.ibc_ids.specs.Texts.{Text, same_text}
 use Rattle.ibc_ids.specs.Maps.{at}
 use Rattle.ibc_ids.specs.Paths.{path}
 use Rattle.ibc_ids.specs.declared.key.Key.{Key}
-use Rattle.ibc_ids.specs.declared.key.Key.TheVariants as key
 use Rattle.ibc_merkle.specs.Written.{written}
 use Rattle.ibc_wire.specs.Spelling.{proof_bytes}
 use Rattle.ibc_wire.specs.declared.records.ChannelState.TheVariants.{Open, Closed}
@@ -17,9 +16,10 @@ use Rattle.ibc_wire.specs.declared.messages.Message.TheVariants as message
 use Rattle.ibc_machine.specs.Records.{Core, Block, Chain, Client, Channel, Commitment, client_at, channel_at, is_one_of}
 use Rattle.ibc_machine.specs.Image.{image, core_root}
 use Rattle.ibc_machine.specs.Channels.{is_in_state, client_of, peer_channel_of}
-use Rattle.ibc_machine.specs.Packets.{is_ordered, is_timed_out, has_received}
+use Rattle.ibc_machine.specs.Packets.{is_ordered, is_timed_out, has_received, has_peer}
 use Rattle.ibc_machine.specs.Genesis.{empty_core}
 use Rattle.ibc_machine.specs.Histories.{End, packet_from}
+use Rattle.ibc_machine.specs.Proving.{commitment_key, ack_key, receipt_key, next_recv_key, destination_key, recv_message, ack_message, timeout_message, timeout_on_close_message}
 
 -- what a chain proves as it stands at its last committed height (0 if there is none), with the time of that height and
 -- that of the working block
@@ -106,13 +106,17 @@ end_pending a b place mine theirs =
     when open_ (to_receive b place mine theirs) ++ when open_ (to_acknowledge place mine theirs)
     ++ when (open_ || is_in_state Closed mine) (to_time_out a place mine theirs)
 
--- the end on a that an end of b names
-abbrev pub theirs_of : View → Channel → Option Channel
-theirs_of a mine = channel_at a.core mine.end.peer_port (peer_channel_of mine.end)
+-- the end on a that an end of b names, where it names that end back
+abbrev pub if_names : (Text × Text) → Channel → Option Channel
+if_names place theirs = if has_peer theirs place.0 place.1 then Some theirs else None
+
+abbrev pub theirs_of : View → (Text × Text) → Channel → Option Channel
+theirs_of a place mine =
+    option_and_then (if_names place) (channel_at a.core mine.end.peer_port (peer_channel_of mine.end))
 
 abbrev pub pending_at : View → View → (Text × Text) × Channel → List Pending
 pending_at a b entry =
-    when (tracks a b entry.1) (option_map_or (end_pending a b entry.0 entry.1) (theirs_of a entry.1) [])
+    when (tracks a b entry.1) (option_map_or (end_pending a b entry.0 entry.1) (theirs_of a entry.0 entry.1) [])
 
 -- by port and channel, in an end by the three items, in an item by sequence; at height 0 nothing is pending
 unfoldable pub pending : View → View → List Pending
@@ -130,57 +134,19 @@ end_of view port channel = record { chain = view.chain; port = port; channel = c
 abbrev pub next_recv : Channel → Channel → ℕ
 next_recv mine theirs = if is_ordered mine then theirs.next_recv else 0
 
-abbrev pub receipt_key : Channel → Packet → Key
-receipt_key mine p =
-    if is_ordered mine then key.NextSequenceRecv p.destination_port p.destination_channel
-    else key.Receipt p.destination_port p.destination_channel p.sequence
-
--- the proof of a packet's key at its source, or at its destination
-abbrev pub proof_at_source : View → (Text → Text → ℕ → Key) → Packet → Text
-proof_at_source a key_of p = proof_at a (key_of p.source_port p.source_channel p.sequence)
-
-abbrev pub proof_at_destination : View → (Text → Text → ℕ → Key) → Packet → Text
-proof_at_destination a key_of p = proof_at a (key_of p.destination_port p.destination_channel p.sequence)
-
--- the proof that the peer's end is as it is
-abbrev pub proof_of_end : View → Packet → Text
-proof_of_end a p = proof_at a (key.ChannelEnd p.destination_port p.destination_channel)
-
-abbrev pub recv_message : View → Packet → Message
-recv_message a p =
-    message.RecvPacket (record { packet = p; height = a.height; proof = proof_at_source a key.Commitment p })
-
-abbrev pub ack_message : View → Packet → Text → Message
-ack_message a p ack =
-    message.AckPacket (record {
-      packet = p;
-      ack = ack;
-      height = a.height;
-      proof = proof_at_destination a key.Acknowledgement p;
-    })
-
--- for the sender, with the sequence that the peer waits for
-abbrev pub timeout_message : View → Packet → ℕ → Key → Message
-timeout_message a p next receipt =
-    message.Timeout (record { packet = p; next_recv = next; height = a.height; proof = proof_at a receipt })
-
-abbrev pub timeout_on_close_message : View → Packet → ℕ → Key → Message
-timeout_on_close_message a p next receipt =
-    message.TimeoutOnClose (record {
-      packet = p;
-      next_recv = next;
-      height = a.height;
-      proof = proof_at a receipt;
-      proof_close = proof_of_end a p;
-    })
+-- the key that shows whether the peer has received a packet of an end
+abbrev pub unreceived_key : Channel → Packet → Key
+unreceived_key mine p = if is_ordered mine then next_recv_key p else receipt_key p
 
 -- the message of a kind on the packet p, which mine sent and theirs is to receive
 abbrev pub message_of : View → Channel → Channel → Kind → Packet → Text → Message
-message_of a mine theirs Receive p ack = recv_message a p
-message_of a mine theirs Acknowledge p ack = ack_message a p ack
-message_of a mine theirs TimeOut p ack = timeout_message a p (next_recv mine theirs) (receipt_key mine p)
+message_of a mine theirs Receive p ack = recv_message p a.height (proof_at a (commitment_key p))
+message_of a mine theirs Acknowledge p ack = ack_message p a.height ack (proof_at a (ack_key p))
+message_of a mine theirs TimeOut p ack =
+    timeout_message p a.height (next_recv mine theirs) (proof_at a (unreceived_key mine p))
 message_of a mine theirs TimeOutClosed p ack =
-    timeout_on_close_message a p (next_recv mine theirs) (receipt_key mine p)
+    timeout_on_close_message p a.height (next_recv mine theirs) (proof_at a (unreceived_key mine p))
+    (proof_at a (destination_key p))
 
 -- the packet under a sequence that stands at an end
 abbrev pub packet_at : End → Channel → ℕ → Option Packet
@@ -202,7 +168,7 @@ message_for a b pend mine theirs =
 
 abbrev pub pending_message : View → View → Pending → Option Message
 pending_message a b pend =
-    option_and_then (λ mine. option_and_then (message_for a b pend mine) (theirs_of a mine))
+    option_and_then (λ mine. option_and_then (message_for a b pend mine) (theirs_of a (pend.port, pend.channel) mine))
     (channel_at b.core pend.port pend.channel)
 
 -- the client under a pending message's end
