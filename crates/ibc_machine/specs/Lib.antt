@@ -24,4 +24,5 @@ pub mod Totals
 pub mod Laws
 pub mod Merge
 pub mod Worlds
+pub mod Proving
 pub mod Relay

@@ -7,7 +7,6 @@ use Rattle.ibc_ids.specs.Texts.{Text, same_text}
 use Rattle.ibc_ids.specs.Maps.{at}
 use Rattle.ibc_ids.specs.Paths.{path}
 use Rattle.ibc_ids.specs.declared.key.Key.{Key}
-use Rattle.ibc_ids.specs.declared.key.Key.TheVariants as key
 use Rattle.ibc_merkle.specs.Written.{written}
 use Rattle.ibc_wire.specs.Spelling.{proof_bytes}
 use Rattle.ibc_wire.specs.declared.records.ChannelState.TheVariants.{Open, Closed}
@@ -20,6 +19,7 @@ use Rattle.ibc_machine.specs.Channels.{is_in_state, client_of, peer_channel_of}
 use Rattle.ibc_machine.specs.Packets.{is_ordered, is_timed_out, has_received, has_peer}
 use Rattle.ibc_machine.specs.Genesis.{empty_core}
 use Rattle.ibc_machine.specs.Histories.{End, packet_from}
+use Rattle.ibc_machine.specs.Proving.{commitment_key, ack_key, receipt_key, next_recv_key, destination_key, recv_message, ack_message, timeout_message, timeout_on_close_message}
 
 -- what a chain proves as it stands at its last committed height (0 if there is none), with the time of that height and
 -- that of the working block
@@ -134,57 +134,19 @@ end_of view port channel = record { chain = view.chain; port = port; channel = c
 abbrev pub next_recv : Channel → Channel → ℕ
 next_recv mine theirs = if is_ordered mine then theirs.next_recv else 0
 
-abbrev pub receipt_key : Channel → Packet → Key
-receipt_key mine p =
-    if is_ordered mine then key.NextSequenceRecv p.destination_port p.destination_channel
-    else key.Receipt p.destination_port p.destination_channel p.sequence
-
--- the proof of a packet's key at its source, or at its destination
-abbrev pub proof_at_source : View → (Text → Text → ℕ → Key) → Packet → Text
-proof_at_source a key_of p = proof_at a (key_of p.source_port p.source_channel p.sequence)
-
-abbrev pub proof_at_destination : View → (Text → Text → ℕ → Key) → Packet → Text
-proof_at_destination a key_of p = proof_at a (key_of p.destination_port p.destination_channel p.sequence)
-
--- the proof that the peer's end is as it is
-abbrev pub proof_of_end : View → Packet → Text
-proof_of_end a p = proof_at a (key.ChannelEnd p.destination_port p.destination_channel)
-
-abbrev pub recv_message : View → Packet → Message
-recv_message a p =
-    message.RecvPacket (record { packet = p; height = a.height; proof = proof_at_source a key.Commitment p })
-
-abbrev pub ack_message : View → Packet → Text → Message
-ack_message a p ack =
-    message.AckPacket (record {
-      packet = p;
-      ack = ack;
-      height = a.height;
-      proof = proof_at_destination a key.Acknowledgement p;
-    })
-
--- for the sender, with the sequence that the peer waits for
-abbrev pub timeout_message : View → Packet → ℕ → Key → Message
-timeout_message a p next receipt =
-    message.Timeout (record { packet = p; next_recv = next; height = a.height; proof = proof_at a receipt })
-
-abbrev pub timeout_on_close_message : View → Packet → ℕ → Key → Message
-timeout_on_close_message a p next receipt =
-    message.TimeoutOnClose (record {
-      packet = p;
-      next_recv = next;
-      height = a.height;
-      proof = proof_at a receipt;
-      proof_close = proof_of_end a p;
-    })
+-- the key that shows whether the peer has received a packet of an end
+abbrev pub unreceived_key : Channel → Packet → Key
+unreceived_key mine p = if is_ordered mine then next_recv_key p else receipt_key p
 
 -- the message of a kind on the packet p, which mine sent and theirs is to receive
 abbrev pub message_of : View → Channel → Channel → Kind → Packet → Text → Message
-message_of a mine theirs Receive p ack = recv_message a p
-message_of a mine theirs Acknowledge p ack = ack_message a p ack
-message_of a mine theirs TimeOut p ack = timeout_message a p (next_recv mine theirs) (receipt_key mine p)
+message_of a mine theirs Receive p ack = recv_message p a.height (proof_at a (commitment_key p))
+message_of a mine theirs Acknowledge p ack = ack_message p a.height ack (proof_at a (ack_key p))
+message_of a mine theirs TimeOut p ack =
+    timeout_message p a.height (next_recv mine theirs) (proof_at a (unreceived_key mine p))
 message_of a mine theirs TimeOutClosed p ack =
-    timeout_on_close_message a p (next_recv mine theirs) (receipt_key mine p)
+    timeout_on_close_message p a.height (next_recv mine theirs) (proof_at a (unreceived_key mine p))
+    (proof_at a (destination_key p))
 
 -- the packet under a sequence that stands at an end
 abbrev pub packet_at : End → Channel → ℕ → Option Packet
