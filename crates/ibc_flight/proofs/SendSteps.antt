@@ -3,7 +3,6 @@ use Rattle.std.proofs.Common.{◌≡◌, ℕ, ◌+◌, refl, sym, ap, ◌∙◌,
 use Rattle.std.specs.Prelude.{IsTrue}
 use Rattle.std.specs.Option.{option_map_or}
 use Rattle.ibc_ids.specs.Texts.{Text, same_text}
-use Rattle.ibc_ids.specs.declared.refusal.Refusal.TheVariants as refusal
 use Rattle.ibc_ids.proofs.Texts.{text_same}
 use Rattle.ibc_wire.specs.declared.messages.SendNote.{SendNote}
 use Rattle.ibc_machine.specs.declared.reply.Effect.{Effect}
@@ -16,7 +15,8 @@ use Rattle.ibc_machine.specs.Notes.{note_port, note_commitment, send_note}
 use Rattle.ibc_machine.proofs.DataRead.{data_read}
 use Rattle.ibc_flight.specs.Orderly.{IsOrderly}
 use Rattle.ibc_flight.specs.Returned.{returned}
-use Rattle.ibc_machine.proofs.PassedRows.{require_passed, bind_passed, expect_passed, ok_same, Gives, gives_ok, gives_then, gives_bind}
+use Rattle.ibc_machine.proofs.PassedRows.{Gives, gives_ok, gives_then, gives_bind}
+use Rattle.ibc_machine.proofs.PacketChecks.{sending_passed}
 use Rattle.ibc_flight.proofs.BurntSteps.{burnt_by, burnt_by-other, burnt_by-transfer, one_sent}
 use Rattle.ibc_flight.proofs.UnchangedChannels.{LeavesBurnt}
 
@@ -38,15 +38,6 @@ pub tokens_of-commitment : (version : Text) (d : Data) (height time : ℕ) → I
     → tokens_of version (transfer_commitment version d height time) ≡ d.tokens
 tokens_of-commitment version d height time good = ap (λ o. option_map_or (λ (d : Data). d.tokens) o []) (data_read version d good)
 
--- the end that sends is there
-pub sending_end_there : (core : Core) (port channel : Text) (mine : Channel) → sending_end core port channel ≡ Ok mine
-    → channel_at core port channel ≡ Some mine
-unfolding sending_end
-sending_end_there core port channel mine e =
-    let there = bind_passed _ _ e in
-    let state = require_passed _ _ _ there.2 in
-    expect_passed (channel_at core port channel) refusal.UnknownChannel there.1 ∙ ap Some (ok_same state.1)
-
 -- the tokens of a message that go back over its channel
 pub tokens_sent_burnt : (core : Core) (channel version : Text) (mine : Channel) (d : Data) (height time : ℕ) {effect : Effect} {after : Core}
     → IsOrderly core → sending_end core transfer_port channel ≡ Ok mine → same_text mine.end.version version ≡ true → IsTrue (is_data version d)
@@ -54,7 +45,7 @@ pub tokens_sent_burnt : (core : Core) (channel version : Text) (mine : Channel) 
     → (denom : Text) → burnt after denom ≡ burnt core denom + returned channel d.tokens denom
 tokens_sent_burnt core channel version mine d height time orderly there same good e denom =
     let c : Commitment = transfer_commitment version d height time in
-    with_sent_burnt core channel mine c orderly (sending_end_there core transfer_port channel mine there) e denom
+    with_sent_burnt core channel mine c orderly (sending_passed core transfer_port channel mine there).there e denom
     ∙ ap (λ v. burnt core denom + returned channel (tokens_of v c) denom) (text_same mine.end.version version same)
     ∙ ap (λ tokens. burnt core denom + returned channel tokens denom) (tokens_of-commitment version d height time good)
 
@@ -63,6 +54,6 @@ pub send_note_burnt : (evidence : Evidence) (host : Host) (core : Core) → IsOr
 unfolding send_note
 send_note_burnt evidence host core orderly m =
     gives_bind _ _ λ (mine : Channel) is. gives_then _ _ λ _. gives_then _ _ λ _. gives_then _ _ λ _. gives_ok (LeavesBurnt core) _ (λ denom.
-    let sent = sent_over core m.channel mine (note_commitment m) note_port orderly (sending_end_there core note_port m.channel mine is) refl denom in
+    let sent = sent_over core m.channel mine (note_commitment m) note_port orderly (sending_passed core note_port m.channel mine is).there refl denom in
     let none = burnt_by-other note_port m.channel (tokens_of mine.end.version (note_commitment m)) denom refl in
     omega arith)

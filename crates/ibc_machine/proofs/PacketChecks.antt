@@ -18,7 +18,7 @@ use Rattle.ibc_machine.specs.Values.{Claim, same_commitment}
 use Rattle.ibc_machine.specs.Evidence.{Host, Evidence}
 use Rattle.ibc_machine.specs.Channels.{is_in_state, is_established, client_of, counterpart, has_channel}
 use Rattle.ibc_machine.specs.Checks.{expect}
-use Rattle.ibc_machine.specs.Packets.{has_size, has_form, has_peer, is_ordered, is_timed_out, is_committed, has_received, was_sent, was_acknowledged, not_received, waits_for, may_receive, is_pending, recv_checked, ack_checked, timeout_checked, timeout_on_close_checked}
+use Rattle.ibc_machine.specs.Packets.{has_size, has_form, has_peer, is_ordered, is_timed_out, is_committed, has_received, was_sent, was_acknowledged, not_received, waits_for, sending_end, may_receive, is_pending, recv_checked, ack_checked, timeout_checked, timeout_on_close_checked}
 use Rattle.ibc_machine.proofs.SameValues.{same_commitment_is}
 use Rattle.ibc_machine.proofs.PassedRows.{require_passed, require_holds, bind_passed, then_passed, expect_passed, ok_same}
 
@@ -34,6 +34,20 @@ committed_is mine p e = go (at nat_cmp p.sequence mine.commitments) e
 abbrev pub IsShown : Evidence → Core → Channel → ℕ → Claim → Text → Type 0
 IsShown evidence core mine height claim proof =
     evidence.shows (client_of core mine.end.connection) height claim proof ≡ true
+
+-- ---- sending
+
+pub record MaySend (core : Core) (port id : Text) (mine : Channel) : Type 0 where
+  pub there : channel_at core port id ≡ Some mine
+  pub state : is_in_state Open mine ≡ true
+
+pub sending_passed : (core : Core) (port id : Text) (mine : Channel) → sending_end core port id ≡ Ok mine → MaySend core port id mine
+unfolding sending_end
+sending_passed core port id mine e =
+    let there = bind_passed _ _ e in
+    let state = require_passed _ _ _ there.2 in
+    subst (MaySend core port id) (ok_same state.1)
+    (record { there = expect_passed (channel_at core port id) refusal.UnknownChannel there.1; state = state.0 })
 
 -- ---- receiving
 

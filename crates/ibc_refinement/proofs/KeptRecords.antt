@@ -18,6 +18,7 @@ use Rattle.ibc_machine.specs.Transfers.{transfer_port, transfer, transfer_many, 
 use Rattle.ibc_machine.specs.Notes.{note_port, note_commitment, send_note}
 use Rattle.ibc_machine.specs.Handlers.{handle}
 use Rattle.ibc_machine.proofs.PassedRows.{Gives, gives_ok, gives_then, gives_require, gives_bind, gives_expect}
+use Rattle.ibc_machine.proofs.PacketChecks.{sending_passed}
 use Rattle.ibc_machine.proofs.PassedHandlers.{gives_on_core, gives_on_balances}
 use Rattle.ibc_refinement.proofs.Typed.{IsTyped}
 use Rattle.ibc_refinement.proofs.TypedMessages.{IsTypedMessage}
@@ -28,16 +29,12 @@ use Rattle.ibc_refinement.proofs.KeptPackets.{sent_kept, recv_packet_kept, ack_p
 
 -- ---- sending
 
-sending_is : (core : Core) (port name : Text) → Gives (λ mine. channel_at core port name ≡ Some mine) (sending_end core port name)
-unfolding sending_end
-sending_is core port name = gives_expect _ _ _ λ (mine : Channel) there. gives_then _ _ λ _. gives_ok (λ mine. channel_at core port name ≡ Some mine) mine there
-
 module _ (evidence : Evidence) (host : Host) (core : Core) (typed : IsTyped core) where
   send_note_kept : (m : SendNote) → IsTypedMessage (message.SendNote m) → Gives (GivesKept core) (send_note m evidence host core)
   unfolding send_note
   send_note_kept m t =
       gives_bind _ _ λ (mine : Channel) is. gives_then _ _ λ _. gives_then _ _ λ _. gives_require _ _ _ λ number.
-      gives_ok (GivesKept core) _ (sent_kept core typed note_port m.channel mine (note_commitment m) ((sending_is core note_port m.channel).gives mine is) t.0 t.1 number)
+      gives_ok (GivesKept core) _ (sent_kept core typed note_port m.channel mine (note_commitment m) (sending_passed core note_port m.channel mine is).there t.0 t.1 number)
 
   module _ (balances : Balances) where
     send_tokens_kept : (name : Text) (mine : Channel) (d : Data) (c : Commitment) → sending_end core transfer_port name ≡ Ok mine → c.timeout_height < 2 ^ 64 → c.timeout_time < 2 ^ 64
@@ -45,7 +42,7 @@ module _ (evidence : Evidence) (host : Host) (core : Core) (typed : IsTyped core
     unfolding send_tokens
     send_tokens_kept name mine d c is height time =
         gives_then _ _ λ _. gives_bind _ _ λ (left : Balances) _. gives_require _ _ _ λ number.
-        gives_ok (KeptBeside core) _ (sent_kept core typed transfer_port name mine c ((sending_is core transfer_port name).gives mine is) height time number)
+        gives_ok (KeptBeside core) _ (sent_kept core typed transfer_port name mine c (sending_passed core transfer_port name mine is).there height time number)
 
     transfer_kept : (m : Transfer) → IsTypedMessage (message.Transfer m) → Gives (KeptBeside core) (transfer m evidence host core balances)
     unfolding transfer

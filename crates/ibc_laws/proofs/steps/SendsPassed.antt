@@ -23,7 +23,8 @@ use Rattle.ibc_machine.specs.Transfers.{transfer_port, transfer, transfer_many, 
 use Rattle.ibc_machine.specs.Notes.{note_port, note_commitment, send_note}
 use Rattle.ibc_machine.specs.Applications.{with_balances}
 use Rattle.ibc_machine.specs.Machine.{World}
-use Rattle.ibc_machine.proofs.PassedRows.{require_passed, bind_passed, expect_passed, ok_same, Gives, gives_ok, gives_then, gives_require, gives_bind, gives_expect}
+use Rattle.ibc_machine.proofs.PassedRows.{Gives, gives_ok, gives_then, gives_require, gives_bind, gives_expect}
+use Rattle.ibc_machine.proofs.PacketChecks.{sending_passed}
 use Rattle.ibc_machine.proofs.SameValues.{same_channel_state_is}
 use Rattle.ibc_laws.proofs.basics.PassedTests.{both}
 use Rattle.ibc_laws.proofs.steps.Seen.{seeing}
@@ -31,18 +32,6 @@ use Rattle.ibc_laws.proofs.steps.Told.{Sent, told_by}
 use Rattle.ibc_laws.proofs.steps.CoreSteps.{CoreStep, changes_channel, sends}
 use Rattle.ibc_laws.proofs.steps.AppSteps.{AppsOf, GoodOf, DidBoth}
 use Rattle.ibc_machine.proofs.GoodData.{transfer_good, transfer_many_good}
-
--- the end that sends is there, and OPEN
-sending : (core : Core) (port id : Text) (mine : Channel) → sending_end core port id ≡ Ok mine
-    → (channel_at core port id ≡ Some mine) × (mine.end.state ≡ chan.Open)
-unfolding sending_end
-sending core port id mine e =
-    let there = bind_passed (expect (channel_at core port id) refusal.UnknownChannel) _ e in
-    let state = require_passed _ _ _ there.2 in
-    let same : there.0 ≡ mine = ok_same state.1 in (
-      subst (λ (c : Channel). channel_at core port id ≡ Some c) same (expect_passed (channel_at core port id) _ there.1),
-      subst (λ (c : Channel). c.end.state ≡ chan.Open) same (same_channel_state_is there.0.end.state chan.Open state.0),
-    )
 
 module _ (window : ℕ) (oldest : Bool) (w : World) (host : Host) (records : Records) where
   -- what its clients see of other chains
@@ -62,14 +51,14 @@ module _ (window : ℕ) (oldest : Bool) (w : World) (host : Host) (records : Rec
   unfolding send_tokens
   tokens_did m channel version mine d c there same spelled told good =
       gives_then _ _ λ _. gives_expect _ _ _ λ (balances : Balances) paid. gives_then _ _ λ _.
-      let end = sending records.core transfer_port channel mine there in
+      let end = sending_passed records.core transfer_port channel mine there in
       let version_is : mine.end.version ≡ version = text_same mine.end.version version same in
       gives_ok (DidTokens m) _
       (subst (λ t. (did : CoreStep w host records.core t (with_channel transfer_port channel (after_send c mine) records.core))
       × (apps : AppsOf w host records (with_balances records.apps balances) t (with_channel transfer_port channel (after_send c mine) records.core) did)
       × (are_typed (message_fields m) ≡ true
       → GoodOf w host records (with_balances records.apps balances) t (with_channel transfer_port channel (after_send c mine) records.core) did apps)) (sym told) (
-        changes_channel _ transfer_port channel mine _ end.0 (sends c end.1),
+        changes_channel _ transfer_port channel mine _ end.there (sends c (same_channel_state_is mine.end.state chan.Open end.state)),
         inr (record {
           port_is = refl;
           data_sent = d;
@@ -105,5 +94,5 @@ module _ (window : ℕ) (oldest : Bool) (w : World) (host : Host) (records : Rec
   unfolding send_note
   send_note_did m =
       gives_bind _ _ λ (mine : Channel) there. gives_then _ _ λ _. gives_then _ _ λ _. gives_then _ _ λ _.
-      let end = sending records.core note_port m.channel mine there in
-      gives_ok (DidNote m) _ (changes_channel _ note_port m.channel mine _ end.0 (sends (note_commitment m) end.1), inl (refl, refl), λ typed. tt)
+      let end = sending_passed records.core note_port m.channel mine there in
+      gives_ok (DidNote m) _ (changes_channel _ note_port m.channel mine _ end.there (sends (note_commitment m) (same_channel_state_is mine.end.state chan.Open end.state)), inl (refl, refl), λ typed. tt)
