@@ -1,0 +1,129 @@
+//! The fields of messages in the order in which they are spelled, behind the message's tag.
+
+use ibc_script::EventKind;
+
+/// How a field is spelled.
+#[derive(Clone, Copy, Debug, PartialEq, Eq, Drop)]
+pub enum Form {
+    /// A number, of so many bytes.
+    Number(usize),
+    /// So many bytes.
+    Bytes(usize),
+    /// A text behind its length, in two bytes.
+    Text,
+}
+
+/// A field: its name, and how it is spelled.
+pub type Field = (&'static str, Form);
+
+const PACKET: &[Field] = &[
+    ("sequence", Form::Number(8)),
+    ("timeout_height", Form::Number(8)),
+    ("timeout_time", Form::Number(8)),
+    ("source_port", Form::Text),
+    ("source_channel", Form::Text),
+    ("destination_port", Form::Text),
+    ("destination_channel", Form::Text),
+    ("data", Form::Text),
+];
+
+const UPDATE_CLIENT: &[Field] = &[
+    ("client", Form::Text),
+    ("chain", Form::Number(1)),
+    ("height", Form::Number(8)),
+    ("time", Form::Number(8)),
+    ("root", Form::Bytes(32)),
+];
+
+const CONN_OPEN_TRY: &[Field] = &[
+    ("client", Form::Text),
+    ("peer_client", Form::Text),
+    ("peer_connection", Form::Text),
+    ("claimed_chain", Form::Number(1)),
+    ("claimed_height", Form::Number(8)),
+    ("height", Form::Number(8)),
+    ("proof_end", Form::Text),
+    ("proof_client", Form::Text),
+];
+
+const CONN_OPEN_ACK: &[Field] = &[
+    ("connection", Form::Text),
+    ("peer_connection", Form::Text),
+    ("claimed_chain", Form::Number(1)),
+    ("claimed_height", Form::Number(8)),
+    ("height", Form::Number(8)),
+    ("proof_end", Form::Text),
+    ("proof_client", Form::Text),
+];
+
+const CONN_OPEN_CONFIRM: &[Field] = &[
+    ("connection", Form::Text),
+    ("height", Form::Number(8)),
+    ("proof", Form::Text),
+];
+
+const CHAN_OPEN_TRY: &[Field] = &[
+    ("port", Form::Text),
+    ("order", Form::Number(1)),
+    ("connection", Form::Text),
+    ("peer_port", Form::Text),
+    ("peer_channel", Form::Text),
+    ("version", Form::Text),
+    ("height", Form::Number(8)),
+    ("proof", Form::Text),
+];
+
+const CHAN_OPEN_ACK: &[Field] = &[
+    ("port", Form::Text),
+    ("channel", Form::Text),
+    ("peer_channel", Form::Text),
+    ("height", Form::Number(8)),
+    ("proof", Form::Text),
+];
+
+const CHAN_CONFIRM: &[Field] = &[
+    ("port", Form::Text),
+    ("channel", Form::Text),
+    ("height", Form::Number(8)),
+    ("proof", Form::Text),
+];
+
+const RECV_PACKET: &[Field] = &[("height", Form::Number(8)), ("proof", Form::Text)];
+
+const ACK_PACKET: &[Field] = &[
+    ("ack", Form::Text),
+    ("height", Form::Number(8)),
+    ("proof", Form::Text),
+];
+
+const TIMEOUT: &[Field] = &[
+    ("next_recv", Form::Number(8)),
+    ("height", Form::Number(8)),
+    ("proof", Form::Text),
+];
+
+const TIMEOUT_ON_CLOSE: &[Field] = &[
+    ("next_recv", Form::Number(8)),
+    ("height", Form::Number(8)),
+    ("proof", Form::Text),
+    ("proof_close", Form::Text),
+];
+
+/// The fields of a message of a packet are those of the packet, and these behind them; those of another message are these
+/// alone. There are none of messages without proofs, but of an `UpdateClient`.
+pub fn fields_of(kind: EventKind) -> (&'static [Field], &'static [Field]) {
+    match kind {
+        EventKind::UpdateClient => (&[], UPDATE_CLIENT),
+        EventKind::ConnOpenTry => (&[], CONN_OPEN_TRY),
+        EventKind::ConnOpenAck => (&[], CONN_OPEN_ACK),
+        EventKind::ConnOpenConfirm => (&[], CONN_OPEN_CONFIRM),
+        EventKind::ChanOpenTry => (&[], CHAN_OPEN_TRY),
+        EventKind::ChanOpenAck => (&[], CHAN_OPEN_ACK),
+        EventKind::ChanOpenConfirm | EventKind::ChanCloseConfirm => (&[], CHAN_CONFIRM),
+        EventKind::RecvPacket => (PACKET, RECV_PACKET),
+        EventKind::AckPacket => (PACKET, ACK_PACKET),
+        EventKind::Timeout => (PACKET, TIMEOUT),
+        EventKind::TimeoutOnClose => (PACKET, TIMEOUT_ON_CLOSE),
+        _ => (&[], &[]),
+    }
+}

@@ -1,0 +1,252 @@
+//! Worlds that are sent forged messages before honest ones.
+
+use crate::counts::Counts;
+use crate::forgery::{Group, forged, with_byte};
+use crate::log::Log;
+use crate::spelled::Spelled;
+use ibc_ids::{Account, Bytes, ChannelId, ClientId, ConnectionId, Denom, Key, PortId, Refusal};
+use ibc_machine::{Effect, Event, Genesis, Reply};
+use ibc_merkle::Proof;
+use ibc_script::EventKind;
+use ibc_script_cli::{Chains, Worlds};
+use ibc_script_worlds::{Ledgers, NewWorlds};
+use ibc_wire::{ChannelEnd, ClientState, ConnectionEnd, Message, Packet};
+use std::alloc::Global;
+
+/// Makes the world of a genesis, and has it sent these groups of forgeries, which stand in the order of the messages that they
+/// forge.
+#[derive(Drop)]
+pub struct ForgedWorlds<'l> {
+    pub alloc: Global,
+    pub groups: &'l [Group<'l>],
+    pub log: &'l Log,
+}
+
+/// A world that is sent forged messages: the kinds of the honest messages that it was sent, and the world.
+#[derive(Drop)]
+pub struct ForgedChains<'l> {
+    alloc: Global,
+    groups: &'l [Group<'l>],
+    log: &'l Log,
+    seen: Vec<EventKind>,
+    ledgers: Ledgers,
+}
+
+impl<'l> Worlds for ForgedWorlds<'l> {
+    type Chains = ForgedChains<'l>;
+
+    fn begin(&self, genesis: &Genesis) -> Result<ForgedChains<'l>, Refusal> {
+        Ok(ForgedChains {
+            alloc: self.alloc,
+            groups: self.groups,
+            log: self.log,
+            seen: Vec::new(self.alloc),
+            ledgers: NewWorlds::new(self.alloc).begin(genesis)?,
+        })
+    }
+}
+
+impl<'l> ForgedChains<'l> {
+    // Sends a message if it could be made, and counts the reply.
+    fn send(
+        &mut self,
+        chain: u8,
+        made: Option<Spelled>,
+        counts: &mut Counts,
+    ) -> Result<(), Refusal> {
+        let message = match made {
+            Some(spelled) => spelled.message(self.alloc),
+            None => Err(Refusal::BadMessage),
+        };
+        match message {
+            Ok(message) => {
+                let reply = self.ledgers.ask(Event::Message { chain, message })?;
+                counts.add(&reply);
+                Ok(())
+            }
+            Err(Refusal::NoMemory) => Err(Refusal::NoMemory),
+            Err(_) => {
+                counts.add_unmade();
+                Ok(())
+            }
+        }
+    }
+
+    // Sends a message with the byte of a field at a place changed.
+    fn send_with_byte(
+        &mut self,
+        chain: u8,
+        honest: &Spelled,
+        field: &str,
+        place: usize,
+        counts: &mut Counts,
+    ) -> Result<(), Refusal> {
+        let old = honest.content(field).unwrap_or(&[]);
+        match with_byte(self.alloc, old, place)? {
+            Some(content) => {
+                let made = honest.with(self.alloc, field, content.as_slice());
+                drop(content);
+                self.send(chain, made?, counts)
+            }
+            None => self.send(chain, None, counts),
+        }
+    }
+
+    // Sends a message with each byte of a field changed in turn.
+    fn send_with_each_byte(
+        &mut self,
+        chain: u8,
+        honest: &Spelled,
+        field: &str,
+        counts: &mut Counts,
+    ) -> Result<(), Refusal> {
+        let size = honest.content(field).unwrap_or(&[]).len();
+        for place in 0..size {
+            self.send_with_byte(chain, honest, field, place, counts)?;
+        }
+        Ok(())
+    }
+
+    // Sends what a line forges.
+    fn send_line(
+        &mut self,
+        chain: u8,
+        honest: &Spelled,
+        line: &str,
+        counts: &mut Counts,
+    ) -> Result<(), Refusal> {
+        match line.strip_suffix(" each byte") {
+            Some(field) => self.send_with_each_byte(chain, honest, field, counts),
+            None => {
+                let made = forged(self.alloc, &self.ledgers, honest, line)?;
+                self.send(chain, made, counts)
+            }
+        }
+    }
+
+    // Sends what each line of a group forges, but for empty lines, and keeps the answers.
+    fn send_group(
+        &mut self,
+        chain: u8,
+        honest: &Spelled,
+        group: &Group<'l>,
+    ) -> Result<(), Refusal> {
+        let mut counts = Counts::new();
+        for line in group.lines {
+            let text = str::from_utf8(line).unwrap_or("?");
+            if !text.is_empty() {
+                self.send_line(chain, honest, text, &mut counts)?;
+            }
+        }
+        self.log.note_forged(group.title, &counts)
+    }
+
+    // Sends the group of forgeries that is next, which forges this message.
+    fn send_next(
+        &mut self,
+        chain: u8,
+        message: &Message,
+        group: &Group<'l>,
+    ) -> Result<(), Refusal> {
+        let honest = Spelled::of(self.alloc, message)?;
+        let sent = self.send_group(chain, &honest, group);
+        drop(honest);
+        sent
+    }
+
+    // Sends the forgeries of a message that is about to be sent.
+    fn forge(&mut self, chain: u8, message: &Message) -> Result<(), Refusal> {
+        let kind = EventKind::of_message(message);
+        self.seen.push(kind)?;
+        let number = self.seen.iter().filter(|seen| **seen == kind).count();
+        for group in self.groups.iter().skip(self.log.sent()) {
+            if !group.is_of(kind, number) {
+                return Ok(());
+            }
+            self.send_next(chain, message, group)?;
+        }
+        Ok(())
+    }
+
+    // Sends a message, and its forgeries before it.
+    fn ask_message(&mut self, chain: u8, message: Message) -> Result<Reply, Refusal> {
+        match self.forge(chain, &message) {
+            Ok(()) => self.ledgers.ask(Event::Message { chain, message }),
+            Err(refusal) => {
+                drop(message);
+                Err(refusal)
+            }
+        }
+    }
+
+    // Ends a block, and keeps its root.
+    fn ask_block(&mut self, chain: u8, next_time: u64) -> Result<Reply, Refusal> {
+        let reply = self.ledgers.ask(Event::Block { chain, next_time })?;
+        if let Reply::Ok(Effect::Block(_, root)) = &reply {
+            self.log.note_root(*root)?;
+        }
+        Ok(reply)
+    }
+}
+
+impl Chains for ForgedChains<'_> {
+    fn ask(&mut self, event: Event) -> Result<Reply, Refusal> {
+        match event {
+            Event::Message { chain, message } => self.ask_message(chain, message),
+            Event::Block { chain, next_time } => self.ask_block(chain, next_time),
+        }
+    }
+
+    fn client_state(&self, chain: u8, client: &ClientId) -> Result<Option<ClientState>, Refusal> {
+        self.ledgers.client_state(chain, client)
+    }
+
+    fn connection(
+        &self,
+        chain: u8,
+        connection: &ConnectionId,
+    ) -> Result<Option<ConnectionEnd>, Refusal> {
+        self.ledgers.connection(chain, connection)
+    }
+
+    fn channel(
+        &self,
+        chain: u8,
+        port: &PortId,
+        channel: &ChannelId,
+    ) -> Result<Option<ChannelEnd>, Refusal> {
+        self.ledgers.channel(chain, port, channel)
+    }
+
+    fn packet(
+        &self,
+        chain: u8,
+        port: &PortId,
+        channel: &ChannelId,
+        sequence: u64,
+    ) -> Result<Option<Packet>, Refusal> {
+        self.ledgers.packet(chain, port, channel, sequence)
+    }
+
+    fn ack(
+        &self,
+        chain: u8,
+        port: &PortId,
+        channel: &ChannelId,
+        sequence: u64,
+    ) -> Result<Option<Bytes>, Refusal> {
+        self.ledgers.ack(chain, port, channel, sequence)
+    }
+
+    fn proof(&self, chain: u8, height: u64, key: &Key) -> Result<Option<Proof>, Refusal> {
+        self.ledgers.proof(chain, height, key)
+    }
+
+    fn balances(&self, chain: u8) -> Result<Vec<(Account, Denom, u128)>, Refusal> {
+        self.ledgers.balances(chain)
+    }
+
+    fn notes(&self, chain: u8) -> Result<Vec<(ChannelId, Vec<Bytes>)>, Refusal> {
+        self.ledgers.notes(chain)
+    }
+}

@@ -1,0 +1,130 @@
+//! What comes of a run, kept beside it.
+
+use crate::counts::Counts;
+use ibc_ids::{Refusal, Root};
+use std::alloc::{AllocError, Global};
+use std::cell::RefCell;
+use std::io;
+use std::io::Write;
+
+/// What came of a run so far: all lines, those of the script alone, the roots of the blocks, and how many groups of forgeries
+/// were sent.
+#[derive(Drop)]
+struct Kept {
+    lines: Vec<u8>,
+    own: Vec<u8>,
+    roots: Vec<Root>,
+    sent: usize,
+}
+
+/// What came of a run so far, for all who add to it.
+#[derive(Drop)]
+pub struct Log {
+    alloc: Global,
+    kept: RefCell<Kept>,
+}
+
+/// Writes the lines of a script into a log.
+#[derive(Clone, Copy, Drop)]
+pub struct LogWriter<'l> {
+    pub log: &'l Log,
+}
+
+impl Kept {
+    // Adds bytes that the script wrote.
+    fn write(&mut self, bytes: &[u8]) -> Result<(), AllocError> {
+        self.lines.extend_from_slice(bytes)?;
+        self.own.extend_from_slice(bytes)
+    }
+}
+
+impl Log {
+    /// Nothing has come yet.
+    pub fn new(alloc: Global) -> Log {
+        let kept = Kept {
+            lines: Vec::new(alloc),
+            own: Vec::new(alloc),
+            roots: Vec::new(alloc),
+            sent: 0,
+        };
+        Log {
+            alloc,
+            kept: RefCell::new(kept),
+        }
+    }
+
+    /// How many groups of forgeries were sent.
+    pub fn sent(&self) -> usize {
+        match self.kept.try_borrow() {
+            Ok(kept) => kept.sent,
+            Err(_) => 0,
+        }
+    }
+
+    /// Keeps what was answered to a group of forgeries. Refused: `NoMemory`.
+    pub fn note_forged(&self, title: &str, counts: &Counts) -> Result<(), Refusal> {
+        let line = format!(in self.alloc; "  {title}{counts}\n")?;
+        if let Ok(mut kept) = self.kept.try_borrow_mut() {
+            kept.lines.extend_from_slice(line.as_bytes())?;
+            kept.sent = kept.sent.saturating_add(1);
+        }
+        Ok(())
+    }
+
+    /// Keeps the root of a block. Refused: `NoMemory`.
+    pub fn note_root(&self, root: Root) -> Result<(), Refusal> {
+        if let Ok(mut kept) = self.kept.try_borrow_mut() {
+            kept.roots.push(root)?;
+        }
+        Ok(())
+    }
+
+    /// Prints all lines.
+    pub fn print<W: Write>(&self, output: &mut W) -> io::Result<()> {
+        match self.kept.try_borrow() {
+            Ok(kept) => output.write_all(kept.lines.as_slice()),
+            Err(_) => Err(io::Error::from(io::ErrorKind::Other)),
+        }
+    }
+
+    /// Prints how many of so many groups were sent, and how the lines of the script and the roots are beside those of a run
+    /// without forgeries.
+    pub fn print_beside<W: Write>(
+        &self,
+        spared: &Log,
+        groups: usize,
+        output: &mut W,
+    ) -> io::Result<()> {
+        let (Ok(kept), Ok(spared)) = (self.kept.try_borrow(), spared.kept.try_borrow()) else {
+            return Err(io::Error::from(io::ErrorKind::Other));
+        };
+        let sent = kept.sent;
+        let count = kept.roots.len();
+        let lines = compared(kept.own == spared.own);
+        let roots = compared(kept.roots == spared.roots);
+        writeln!(
+            output,
+            "  {sent} of {groups} forgeries; without them {lines} lines, and {roots} roots of {count} blocks"
+        )
+    }
+}
+
+fn compared(is_same: bool) -> &'static str {
+    if is_same { "the same" } else { "other" }
+}
+
+impl Write for LogWriter<'_> {
+    fn write(&mut self, buf: &[u8]) -> io::Result<usize> {
+        match self.log.kept.try_borrow_mut() {
+            Ok(mut kept) => {
+                kept.write(buf)?;
+                Ok(buf.len())
+            }
+            Err(_) => Err(io::Error::from(io::ErrorKind::Other)),
+        }
+    }
+
+    fn flush(&mut self) -> io::Result<()> {
+        Ok(())
+    }
+}

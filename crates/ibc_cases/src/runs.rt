@@ -1,0 +1,79 @@
+//! Runs of the program.
+
+use crate::forged_worlds::ForgedWorlds;
+use crate::forgery::Group;
+use crate::log::{Log, LogWriter};
+use crate::streams::{SlowReader, SlowWriter};
+use ibc_script::Fault;
+use ibc_script_cli::drive;
+use ibc_script_worlds::NewWorlds;
+use std::alloc::Global;
+use std::io;
+use std::io::Write;
+
+// Prints why a run has stopped, if it has.
+fn print_end<W: Write>(driven: Result<(), Fault>, output: &mut W) -> io::Result<()> {
+    match driven {
+        Ok(()) => Ok(()),
+        Err(fault) => writeln!(output, "{fault}, status {}", fault.status()),
+    }
+}
+
+// Runs a script with groups of forgeries, and keeps in the log what comes.
+fn keep_run(alloc: Global, script: &[u8], groups: &[Group<'_>], log: &Log) -> io::Result<()> {
+    let worlds = ForgedWorlds { alloc, groups, log };
+    let mut output = LogWriter { log };
+    let driven = drive(alloc, &worlds, &["run"], script, &mut output);
+    print_end(driven, &mut output)
+}
+
+// What comes of a script with groups of forgeries.
+fn log_of(alloc: Global, script: &[u8], groups: &[Group<'_>]) -> io::Result<Log> {
+    let log = Log::new(alloc);
+    keep_run(alloc, script, groups, &log)?;
+    Ok(log)
+}
+
+/// Runs a script, with groups of forgeries or none, and prints what comes; where there are some, also how that is beside a run
+/// without them.
+pub fn print_script<W: Write>(
+    alloc: Global,
+    script: &[u8],
+    groups: &[Group<'_>],
+    output: &mut W,
+) -> io::Result<()> {
+    let log = log_of(alloc, script, groups)?;
+    log.print(output)?;
+    if groups.is_empty() {
+        return Ok(());
+    }
+    let spared = log_of(alloc, script, &[])?;
+    log.print_beside(&spared, groups.len(), output)
+}
+
+/// A run of the program: its word, its input, and how many reads and writes don't fail.
+#[derive(Clone, Copy, Drop)]
+pub struct Run<'t> {
+    pub word: &'t str,
+    pub script: &'t [u8],
+    pub reads: u64,
+    pub writes: u64,
+}
+
+impl Run<'_> {
+    /// Runs the program, and prints what it wrote, and why it has stopped if it has.
+    pub fn print<W: Write>(&self, alloc: Global, output: &mut W) -> io::Result<()> {
+        let reader = SlowReader {
+            text: self.script,
+            calls: self.reads,
+        };
+        let mut writer = SlowWriter {
+            taken: Vec::new(alloc),
+            calls: self.writes,
+        };
+        let worlds = NewWorlds::new(alloc);
+        let driven = drive(alloc, &worlds, &[self.word], reader, &mut writer);
+        output.write_all(writer.taken.as_slice())?;
+        print_end(driven, output)
+    }
+}

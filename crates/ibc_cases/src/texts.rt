@@ -1,0 +1,79 @@
+//! Which texts are scripts.
+
+use ibc_script::{Fault, read_script};
+use std::alloc::{AllocError, Global};
+use std::io;
+use std::io::Write;
+
+/// How many texts are scripts, and how many are none.
+#[derive(Clone, Copy, Drop)]
+pub struct Judged {
+    scripts: u32,
+    others: u32,
+}
+
+impl Judged {
+    /// No text was judged yet.
+    pub fn new() -> Judged {
+        Judged {
+            scripts: 0,
+            others: 0,
+        }
+    }
+
+    /// Judges a text. Error: no memory.
+    pub fn judge(&mut self, alloc: Global, text: &[u8]) -> Result<(), AllocError> {
+        match read_script(alloc, text) {
+            Ok(_) => self.scripts = self.scripts.saturating_add(1),
+            Err(Fault::NoMemory) => return Err(AllocError),
+            Err(_) => self.others = self.others.saturating_add(1),
+        }
+        Ok(())
+    }
+
+    /// Prints how many texts are scripts, and how many are none.
+    pub fn print<W: Write>(&self, output: &mut W) -> io::Result<()> {
+        writeln!(output, "scripts: {}, others: {}", self.scripts, self.others)
+    }
+}
+
+// A text between two others.
+fn between(alloc: Global, front: &[u8], text: &[u8], back: &[u8]) -> Result<Vec<u8>, AllocError> {
+    let mut whole = front.to_vec(alloc)?;
+    whole.extend_from_slice(text)?;
+    whole.extend_from_slice(back)?;
+    Ok(whole)
+}
+
+/// Judges each line between two texts, but for empty lines. Error: no memory.
+pub fn judged_lines(
+    alloc: Global,
+    front: &[u8],
+    lines: &[&[u8]],
+    back: &[u8],
+) -> Result<Judged, AllocError> {
+    let mut judged = Judged::new();
+    for line in lines {
+        if !line.is_empty() {
+            let text = between(alloc, front, line, back)?;
+            judged.judge(alloc, text.as_slice())?;
+        }
+    }
+    Ok(judged)
+}
+
+/// A script of so many steps, with blanks up to so many bytes. Error: no memory.
+pub fn long_script(alloc: Global, steps: usize, bytes: usize) -> Result<Vec<u8>, AllocError> {
+    let mut script = Vec::new(alloc);
+    script.extend_from_slice(
+        b"{\"capacity\":4,\"chains\":[{\"name\":\"a\",\"time\":7,\"balances\":[]}],\"steps\":[",
+    )?;
+    for _ in 1..steps {
+        script.extend_from_slice(b"{\"do\":\"Block\",\"on\":\"a\"},")?;
+    }
+    script.extend_from_slice(b"{\"do\":\"Block\",\"on\":\"a\"}]}")?;
+    for _ in script.len()..bytes {
+        script.push(b' ')?;
+    }
+    Ok(script)
+}
