@@ -1,11 +1,10 @@
 -- What the code finds in the records, beside the definitions' words for it.
-use Rattle.std.proofs.Common.{◌≡◌, ℕ, false, Option, Some, None, Ok, Err, refl, sym, ap, ◌∙◌}
-use Rattle.std.specs.Prelude.{⊤, [], ◌∷◌, IsTrue, IsSome}
+use Rattle.std.proofs.Common.{◌≡◌, false, Option, Some, None, Ok, Err, refl, sym, ap, ◌∙◌}
+use Rattle.std.specs.Prelude.{⊤, [], ◌∷◌, IsSome}
 use Rattle.std.specs.Option.{option_map, option_map_or}
 use Rattle.ibc_ids.specs.Texts.{Text}
-use Rattle.ibc_ids.specs.Names.{is_client, is_port, is_channel, is_connection, is_version}
-use Rattle.ibc_ids.specs.declared.key.Key.TheVariants as key
-use Rattle.ibc_ids.specs.declared.refusal.Refusal.TheVariants.{UnknownConnection, NoConsensus}
+use Rattle.ibc_ids.specs.Names.{is_port, is_channel, is_connection, is_version}
+use Rattle.ibc_ids.specs.declared.refusal.Refusal.TheVariants.{UnknownConnection}
 use Rattle.ibc_wire.specs.Fields.{u8, name, bytes_of}
 use Rattle.ibc_wire.specs.Spelling.{channel_state_number, order_number, peer, channel_end_bytes}
 use Rattle.ibc_wire.specs.declared.records.ConnectionEnd.{ConnectionEnd}
@@ -13,12 +12,10 @@ use Rattle.ibc_wire.specs.declared.records.ChannelState.{ChannelState}
 use Rattle.ibc_wire.specs.declared.records.ChannelState.TheVariants.{Init}
 use Rattle.ibc_wire.specs.declared.records.Order.{Order}
 use Rattle.ibc_wire.specs.declared.records.ChannelEnd.{ChannelEnd}
-use Rattle.ibc_machine.specs.Records.{Core, Client, Channel, client_at, connection_at, channel_at, with_channel, is_one_of, knows}
-use Rattle.ibc_machine.specs.Values.{ClientIs, same_channel_state}
-use Rattle.ibc_machine.specs.Checks.{Checked, require, expect, go_on, ◌>>=◌}
-use Rattle.ibc_machine.specs.Evidence.{require_known}
-use Rattle.ibc_machine.specs.Channels.{client_of, channel_end}
-use Rattle.ibc_machine.specs.Image.{IsKeyed}
+use Rattle.ibc_machine.specs.Records.{Core, Channel, connection_at, channel_at, with_channel}
+use Rattle.ibc_machine.specs.Values.{same_channel_state}
+use Rattle.ibc_machine.specs.Checks.{Checked, expect, go_on, ◌>>=◌}
+use Rattle.ibc_machine.specs.Channels.{channel_end}
 use Rattle.ibc_records.specs.Held.{HeldRecords, core_of, SetsChannelEnd}
 use Rattle.ibc_records.specs.Taking.{IsWritten}
 use Rattle.ibc_records.proofs.Written.{sets_channel_end_written}

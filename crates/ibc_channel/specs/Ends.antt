@@ -1,28 +1,21 @@
 -- The ends that the handshakes leave, and the parts of their checks (ICS 4, "Opening handshake" and "Closing handshake").
-use Rattle.std.specs.Prelude.{ℕ, ⊤, [], ◌∷◌, Option, Some, None, Result, Ok}
-use Rattle.std.specs.Option.{option_map, option_map_or, unwrap_or}
+use Rattle.std.specs.Prelude.{⊤, Option, Some, None, Ok}
+use Rattle.std.specs.Option.{option_map, option_map_or}
 use Rattle.ibc_ids.specs.Texts.{Text}
 use Rattle.ibc_ids.specs.Paths.{nth_channel}
-use Rattle.ibc_ids.specs.declared.refusal.Refusal.{Refusal}
 use Rattle.ibc_ids.specs.declared.refusal.Refusal.TheVariants.{UnknownConnection, WrongState}
-use Rattle.ibc_wire.specs.Fields.{u8, str, bytes_of}
-use Rattle.ibc_wire.specs.Spelling.{channel_state_number, order_number}
 use Rattle.ibc_wire.specs.declared.records.ConnectionEnd.{ConnectionEnd}
 use Rattle.ibc_wire.specs.declared.records.ChannelState.{ChannelState}
-use Rattle.ibc_wire.specs.declared.records.ChannelState.TheVariants.{Init, TryOpen, Open, Closed}
+use Rattle.ibc_wire.specs.declared.records.ChannelState.TheVariants.{Init, TryOpen, Open}
 use Rattle.ibc_wire.specs.declared.records.ChannelEnd.{ChannelEnd}
-use Rattle.ibc_wire.specs.declared.records.Order.{Order}
 use Rattle.ibc_wire.specs.declared.messages.ChanOpenInit.{ChanOpenInit}
 use Rattle.ibc_wire.specs.declared.messages.ChanOpenTry.{ChanOpenTry}
 use Rattle.ibc_wire.specs.declared.messages.ChanOpenAck.{ChanOpenAck}
-use Rattle.ibc_merkle.specs.declared.proof.Proof.{Proof}
 use Rattle.ibc_machine.specs.declared.reply.Effect.{Effect}
 use Rattle.ibc_machine.specs.declared.reply.Effect.TheVariants as effect
 use Rattle.ibc_machine.specs.Records.{Core, Channel, connection_at, channel_at, with_channel}
 use Rattle.ibc_machine.specs.Checks.{Checked, require, expect, ◌>>=◌}
-use Rattle.ibc_machine.specs.Channels.{is_open, client_of, channel_end, counterpart, has_channel, with_new_channel}
-use Rattle.ibc_records.specs.Held.{HeldRecords, core_of}
-use Rattle.ibc_client.specs.Judging.{IsShown}
+use Rattle.ibc_machine.specs.Channels.{is_open, channel_end, counterpart, with_new_channel}
 
 -- ---- ends of this chain
 

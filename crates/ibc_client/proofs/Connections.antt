@@ -7,7 +7,7 @@ use Rattle.ibc_ids.specs.Names.{is_client}
 use Rattle.ibc_ids.specs.declared.key.Key.TheVariants as key
 use Rattle.ibc_ids.specs.declared.refusal.Refusal.TheVariants.{NoConsensus}
 use Rattle.ibc_wire.specs.declared.records.ConnectionEnd.{ConnectionEnd}
-use Rattle.ibc_machine.specs.Records.{Core, Client, client_at, connection_at, is_one_of, knows}
+use Rattle.ibc_machine.specs.Records.{Core, Client, client_at, connection_at, is_one_of}
 use Rattle.ibc_machine.specs.Values.{ClientIs}
 use Rattle.ibc_machine.specs.Checks.{require}
 use Rattle.ibc_machine.specs.Evidence.{require_known}
