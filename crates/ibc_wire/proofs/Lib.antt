@@ -6,3 +6,5 @@ pub mod Readers
 pub mod RecordReaders
 pub mod TokenReaders
 pub mod ProofReaders
+pub mod TypedTokens
+pub mod Tags

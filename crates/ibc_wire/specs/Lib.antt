@@ -1,6 +1,7 @@
 pub mod Fields
 pub mod Tokens
 pub mod Spelling
+pub mod Kinds
 pub mod Messages
 pub mod Reading
 pub mod Fronts

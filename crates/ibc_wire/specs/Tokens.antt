@@ -13,3 +13,7 @@ is_rising (token ∷ next ∷ tokens) = is_lt (text_cmp token.denom next.denom) 
 -- 1 to 8 tokens
 abbrev pub is_short : List Token → Bool
 is_short tokens = nat_le 1 (length tokens) && nat_le (length tokens) 8
+
+-- a list that one message or packet may have
+abbrev pub is_listed : List Token → Bool
+is_listed tokens = is_short tokens && is_rising tokens

@@ -1,4 +1,10 @@
 //! The messages that a chain is sent. A proof field holds the encoding of a proof, or any other bytes.
+
+ghost use Rattle.std.specs.Prelude.{◌≡◌, IsTrue};
+ghost use Rattle.ibc_wire.specs.Fields.{are_typed};
+ghost use Rattle.ibc_wire.specs.Messages.{message_fields};
+ghost use Rattle.ibc_wire.specs.Kinds.{kind_of, kind_of_tag, name_of, tag_of};
+
 use crate::{ClientState, Header, Order, Packet, Tokens};
 use ibc_ids::{
     Bytes, ChannelId, ClientId, ConnectionId, Denom, Memo, PortId, Receiver, UserName, Version,
@@ -207,4 +213,148 @@ pub enum Message {
     Timeout(Timeout),
     TimeoutOnClose(TimeoutOnClose),
     TransferMany(TransferMany),
+}
+
+/// The kinds of messages, by their tags.
+#[derive(Clone, Copy, Debug, PartialEq, Eq)]
+pub enum MessageKind {
+    CreateClient = 1,
+    UpdateClient = 2,
+    ConnOpenInit = 3,
+    ConnOpenTry = 4,
+    ConnOpenAck = 5,
+    ConnOpenConfirm = 6,
+    ChanOpenInit = 7,
+    ChanOpenTry = 8,
+    ChanOpenAck = 9,
+    ChanOpenConfirm = 10,
+    ChanCloseInit = 11,
+    ChanCloseConfirm = 12,
+    Transfer = 13,
+    SendNote = 14,
+    RecvPacket = 15,
+    AckPacket = 16,
+    Timeout = 17,
+    TimeoutOnClose = 18,
+    TransferMany = 19,
+}
+
+impl MessageKind {
+    /// The tag with which a message of the kind is spelled, 1 to 19.
+    pub fn tag(self) -> u8
+        ensures { result ≡ tag_of self }
+    {
+        self as u8
+    }
+
+    /// The kind of a tag, or none where the tag isn't one of 1 to 19.
+    pub fn of_tag(tag: u8) -> Option<MessageKind>
+        ensures { result ≡ kind_of_tag tag }
+    {
+        match tag {
+            1 => Some(MessageKind::CreateClient),
+            2 => Some(MessageKind::UpdateClient),
+            3 => Some(MessageKind::ConnOpenInit),
+            4 => Some(MessageKind::ConnOpenTry),
+            5 => Some(MessageKind::ConnOpenAck),
+            6 => Some(MessageKind::ConnOpenConfirm),
+            7 => Some(MessageKind::ChanOpenInit),
+            8 => Some(MessageKind::ChanOpenTry),
+            9 => Some(MessageKind::ChanOpenAck),
+            10 => Some(MessageKind::ChanOpenConfirm),
+            11 => Some(MessageKind::ChanCloseInit),
+            12 => Some(MessageKind::ChanCloseConfirm),
+            13 => Some(MessageKind::Transfer),
+            14 => Some(MessageKind::SendNote),
+            15 => Some(MessageKind::RecvPacket),
+            16 => Some(MessageKind::AckPacket),
+            17 => Some(MessageKind::Timeout),
+            18 => Some(MessageKind::TimeoutOnClose),
+            19 => Some(MessageKind::TransferMany),
+            _ => None,
+        }
+    }
+
+    /// The name by which a printed line calls the kind, as `UpdateClient`.
+    pub fn name(self) -> &'static str
+        ensures { result.now ≡ name_of self }
+    {
+        match self {
+            MessageKind::CreateClient => "CreateClient",
+            MessageKind::UpdateClient => "UpdateClient",
+            MessageKind::ConnOpenInit => "ConnOpenInit",
+            MessageKind::ConnOpenTry => "ConnOpenTry",
+            MessageKind::ConnOpenAck => "ConnOpenAck",
+            MessageKind::ConnOpenConfirm => "ConnOpenConfirm",
+            MessageKind::ChanOpenInit => "ChanOpenInit",
+            MessageKind::ChanOpenTry => "ChanOpenTry",
+            MessageKind::ChanOpenAck => "ChanOpenAck",
+            MessageKind::ChanOpenConfirm => "ChanOpenConfirm",
+            MessageKind::ChanCloseInit => "ChanCloseInit",
+            MessageKind::ChanCloseConfirm => "ChanCloseConfirm",
+            MessageKind::Transfer => "Transfer",
+            MessageKind::SendNote => "SendNote",
+            MessageKind::RecvPacket => "RecvPacket",
+            MessageKind::AckPacket => "AckPacket",
+            MessageKind::Timeout => "Timeout",
+            MessageKind::TimeoutOnClose => "TimeoutOnClose",
+            MessageKind::TransferMany => "TransferMany",
+        }
+    }
+}
+
+impl Message {
+    /// The kind of the message.
+    pub fn kind(&self) -> MessageKind
+        ensures { result ≡ kind_of self.now }
+    {
+        match self {
+            Message::CreateClient(_) => MessageKind::CreateClient,
+            Message::UpdateClient(_) => MessageKind::UpdateClient,
+            Message::ConnOpenInit(_) => MessageKind::ConnOpenInit,
+            Message::ConnOpenTry(_) => MessageKind::ConnOpenTry,
+            Message::ConnOpenAck(_) => MessageKind::ConnOpenAck,
+            Message::ConnOpenConfirm(_) => MessageKind::ConnOpenConfirm,
+            Message::ChanOpenInit(_) => MessageKind::ChanOpenInit,
+            Message::ChanOpenTry(_) => MessageKind::ChanOpenTry,
+            Message::ChanOpenAck(_) => MessageKind::ChanOpenAck,
+            Message::ChanOpenConfirm(_) => MessageKind::ChanOpenConfirm,
+            Message::ChanCloseInit(_) => MessageKind::ChanCloseInit,
+            Message::ChanCloseConfirm(_) => MessageKind::ChanCloseConfirm,
+            Message::Transfer(_) => MessageKind::Transfer,
+            Message::SendNote(_) => MessageKind::SendNote,
+            Message::RecvPacket(_) => MessageKind::RecvPacket,
+            Message::AckPacket(_) => MessageKind::AckPacket,
+            Message::Timeout(_) => MessageKind::Timeout,
+            Message::TimeoutOnClose(_) => MessageKind::TimeoutOnClose,
+            Message::TransferMany(_) => MessageKind::TransferMany,
+        }
+    }
+
+    /// The message is what its type promises: names have their form, numbers their range, and texts are of bytes.
+    pub fn is_typed(&self)
+        ensures { IsTrue (are_typed (message_fields self.now)) }
+    {
+        match self {
+            Message::CreateClient(message) => message.is_typed(),
+            Message::UpdateClient(message) => message.is_typed(),
+            Message::ConnOpenInit(message) => message.is_typed(),
+            Message::ConnOpenTry(message) => message.is_typed(),
+            Message::ConnOpenAck(message) => message.is_typed(),
+            Message::ConnOpenConfirm(message) => message.is_typed(),
+            Message::ChanOpenInit(message) => message.is_typed(),
+            Message::ChanOpenTry(message) => message.is_typed(),
+            Message::ChanOpenAck(message) => message.is_typed(),
+            Message::ChanOpenConfirm(message) => message.is_typed(),
+            Message::ChanCloseInit(message) => message.is_typed(),
+            Message::ChanCloseConfirm(message) => message.is_typed(),
+            Message::Transfer(message) => message.is_typed(),
+            Message::SendNote(message) => message.is_typed(),
+            Message::RecvPacket(message) => message.is_typed(),
+            Message::AckPacket(message) => message.is_typed(),
+            Message::Timeout(message) => message.is_typed(),
+            Message::TimeoutOnClose(message) => message.is_typed(),
+            Message::TransferMany(message) => message.is_typed(),
+        }
+    }
 }

@@ -4,6 +4,7 @@ ghost use Rattle.std.specs.Prelude.{◌≡◌, bytes_eq, nat_eq};
 ghost use Rattle.std.specs.Cmp.{on_equiv, on_per, and_equiv, nat_eq_equiv, partial_equiv_from_equiv};
 ghost use Rattle.std.specs.Cmp.Lexicographic.{pointwise, lists_equiv, nat_list_eq_equiv};
 ghost use Rattle.std.specs.Ordering.{on, eq_of_both};
+ghost use Rattle.ibc_wire.specs.Tokens.{is_rising, is_listed};
 
 use ibc_ids::Denom;
 use std::alloc::AllocError;
@@ -14,6 +15,29 @@ use std::marker::Model;
 pub struct Token {
     pub denom: Denom,
     pub amount: u128,
+}
+
+/// The most tokens of one message or packet.
+const MOST_TOKENS: usize = 8;
+
+/// Whether the denominations rise strictly in byte order.
+pub fn is_rising(tokens: &[Token]) -> bool
+    ensures { result ≡ is_rising tokens.now }
+{
+    match tokens {
+        [] => true,
+        [token, rest @ ..] => match rest {
+            [] => true,
+            [next, ..] => token.denom.cmp(&next.denom).is_lt() && is_rising(rest),
+        },
+    }
+}
+
+/// Whether one message or packet may have these tokens: 1 to 8, whose denominations rise strictly in byte order.
+pub fn is_listed(tokens: &[Token]) -> bool
+    ensures { result ≡ is_listed tokens.now }
+{
+    1 <= tokens.len() && tokens.len() <= MOST_TOKENS && is_rising(tokens)
 }
 
 /// The tokens of a transfer of several.
