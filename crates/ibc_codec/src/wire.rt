@@ -41,6 +41,7 @@ pub fn encode<T: Wire>(alloc: Global, value: &T) -> Result<Vec<u8>, Refusal>
     ensures ok { IfOk result (λ bytes. Spells (T.fields value.now) bytes.items) }
     ensures bad { IsErrOf result Refusal.BadMessage → ¬ IsTrue (have_form (T.fields value.now)) }
     ensures memory { IsTrue (have_form (T.fields value.now)) → IsOkUnless result Refusal.NoMemory }
+    ensures errors { IfErr result (λ e. (e ≡ Refusal.BadMessage) ⊎ (e ≡ Refusal.NoMemory)) }
 {
     let mut bytes = Vec::new(alloc);
     value.write(&mut bytes)?;

@@ -1,95 +1,19 @@
 -- The reader of messages.
-use Rattle.std.proofs.Common.{◌≡◌, ◌⊎◌, inl, inr, ℕ, zero, suc, ◌<◌, ◌≤◌, [], ◌∷◌, slice_get, Some, None, refl, ap, ◌∙◌, subst, arith}
-use Rattle.std.proofs.lemmas.Bool.{cases_lt}
+use Rattle.std.proofs.Common.{◌≡◌, ℕ, [], ◌∷◌, Some, refl, ap, ◌∙◌, subst}
 use Rattle.ibc_ids.specs.Texts.{Text}
 use Rattle.ibc_wire.specs.Messages.{message_fields}
+use Rattle.ibc_wire.specs.Kinds.{kind_of_tag, tag_of}
 use Rattle.ibc_wire.specs.Reading.{◌>>=◌, Front, byte_at_front}
-use Rattle.ibc_message_codec.specs.MessageFront.{kinds, kind_of, message_behind, message_at_front}
+use Rattle.ibc_message_codec.specs.MessageFront.{message_behind, message_at_front}
 use Rattle.ibc_wire.specs.Lawful.{AreBytes, Begins, IsReader}
 use Rattle.ibc_wire.specs.declared.messages.Message.{Message}
 use Rattle.ibc_wire.specs.declared.messages.Message.TheVariants as message
-use Rattle.ibc_message_codec.specs.declared.message.MessageKind.{MessageKind}
-use Rattle.ibc_message_codec.specs.declared.message.MessageKind.TheVariants as kind
-use Rattle.ibc_wire.proofs.Fronts.{bind_some, some_same, none_some, bytes_parts, byte_read}
+use Rattle.ibc_wire.specs.declared.messages.MessageKind.{MessageKind}
+use Rattle.ibc_wire.specs.declared.messages.MessageKind.TheVariants as kind
+use Rattle.ibc_wire.proofs.Fronts.{bind_some, bytes_parts, byte_read}
+use Rattle.ibc_wire.proofs.Tags.{tags}
 use Rattle.ibc_wire.proofs.Steps.{tagged_read, tagged_front}
 use Rattle.ibc_message_codec.proofs.PayloadReaders.{create_client_reader, update_client_reader, conn_open_init_reader, conn_open_try_reader, conn_open_ack_reader, conn_open_confirm_reader, chan_open_init_reader, chan_open_try_reader, chan_open_ack_reader, chan_open_confirm_reader, chan_close_init_reader, chan_close_confirm_reader, transfer_reader, send_note_reader, recv_packet_reader, ack_packet_reader, timeout_reader, timeout_on_close_reader, transfer_many_reader}
-
-abbrev tag_of : MessageKind → ℕ
-tag_of kind.CreateClient = 1
-tag_of kind.UpdateClient = 2
-tag_of kind.ConnOpenInit = 3
-tag_of kind.ConnOpenTry = 4
-tag_of kind.ConnOpenAck = 5
-tag_of kind.ConnOpenConfirm = 6
-tag_of kind.ChanOpenInit = 7
-tag_of kind.ChanOpenTry = 8
-tag_of kind.ChanOpenAck = 9
-tag_of kind.ChanOpenConfirm = 10
-tag_of kind.ChanCloseInit = 11
-tag_of kind.ChanCloseConfirm = 12
-tag_of kind.Transfer = 13
-tag_of kind.SendNote = 14
-tag_of kind.RecvPacket = 15
-tag_of kind.AckPacket = 16
-tag_of kind.Timeout = 17
-tag_of kind.TimeoutOnClose = 18
-tag_of kind.TransferMany = 19
-
-numbers : (n : ℕ) (k : MessageKind) → slice_get kinds n ≡ Some k → suc n ≡ tag_of k
-numbers zero k e = ap tag_of (some_same e)
-numbers (suc zero) k e = ap tag_of (some_same e)
-numbers (suc (suc zero)) k e = ap tag_of (some_same e)
-numbers (suc (suc (suc zero))) k e = ap tag_of (some_same e)
-numbers (suc (suc (suc (suc zero)))) k e = ap tag_of (some_same e)
-numbers (suc (suc (suc (suc (suc zero))))) k e = ap tag_of (some_same e)
-numbers (suc (suc (suc (suc (suc (suc zero)))))) k e = ap tag_of (some_same e)
-numbers (suc (suc (suc (suc (suc (suc (suc zero))))))) k e = ap tag_of (some_same e)
-numbers (suc (suc (suc (suc (suc (suc (suc (suc zero)))))))) k e = ap tag_of (some_same e)
-numbers (suc (suc (suc (suc (suc (suc (suc (suc (suc zero))))))))) k e = ap tag_of (some_same e)
-numbers (suc (suc (suc (suc (suc (suc (suc (suc (suc (suc zero)))))))))) k e = ap tag_of (some_same e)
-numbers (suc (suc (suc (suc (suc (suc (suc (suc (suc (suc (suc zero))))))))))) k e = ap tag_of (some_same e)
-numbers (suc (suc (suc (suc (suc (suc (suc (suc (suc (suc (suc (suc zero)))))))))))) k e = ap tag_of (some_same e)
-numbers (suc (suc (suc (suc (suc (suc (suc (suc (suc (suc (suc (suc (suc zero))))))))))))) k e = ap tag_of (some_same e)
-numbers (suc (suc (suc (suc (suc (suc (suc (suc (suc (suc (suc (suc (suc (suc zero)))))))))))))) k e = ap tag_of (some_same e)
-numbers (suc (suc (suc (suc (suc (suc (suc (suc (suc (suc (suc (suc (suc (suc (suc zero))))))))))))))) k e = ap tag_of (some_same e)
-numbers (suc (suc (suc (suc (suc (suc (suc (suc (suc (suc (suc (suc (suc (suc (suc (suc zero)))))))))))))))) k e = ap tag_of (some_same e)
-numbers (suc (suc (suc (suc (suc (suc (suc (suc (suc (suc (suc (suc (suc (suc (suc (suc (suc zero))))))))))))))))) k e = ap tag_of (some_same e)
-numbers (suc (suc (suc (suc (suc (suc (suc (suc (suc (suc (suc (suc (suc (suc (suc (suc (suc (suc zero)))))))))))))))))) k e = ap tag_of (some_same e)
-numbers (suc (suc (suc (suc (suc (suc (suc (suc (suc (suc (suc (suc (suc (suc (suc (suc (suc (suc (suc n))))))))))))))))))) k e = none_some e
-
-tags : (n : ℕ) (k : MessageKind) → kind_of n ≡ Some k → n ≡ tag_of k
-tags zero k e = none_some e
-tags (suc n) k e = numbers n k e
-
-no_kind_behind : (n : ℕ) → 19 ≤ n → slice_get kinds n ≡ None
-no_kind_behind zero h = absurd (omega arith)
-no_kind_behind (suc zero) h = absurd (omega arith)
-no_kind_behind (suc (suc zero)) h = absurd (omega arith)
-no_kind_behind (suc (suc (suc zero))) h = absurd (omega arith)
-no_kind_behind (suc (suc (suc (suc zero)))) h = absurd (omega arith)
-no_kind_behind (suc (suc (suc (suc (suc zero))))) h = absurd (omega arith)
-no_kind_behind (suc (suc (suc (suc (suc (suc zero)))))) h = absurd (omega arith)
-no_kind_behind (suc (suc (suc (suc (suc (suc (suc zero))))))) h = absurd (omega arith)
-no_kind_behind (suc (suc (suc (suc (suc (suc (suc (suc zero)))))))) h = absurd (omega arith)
-no_kind_behind (suc (suc (suc (suc (suc (suc (suc (suc (suc zero))))))))) h = absurd (omega arith)
-no_kind_behind (suc (suc (suc (suc (suc (suc (suc (suc (suc (suc zero)))))))))) h = absurd (omega arith)
-no_kind_behind (suc (suc (suc (suc (suc (suc (suc (suc (suc (suc (suc zero))))))))))) h = absurd (omega arith)
-no_kind_behind (suc (suc (suc (suc (suc (suc (suc (suc (suc (suc (suc (suc zero)))))))))))) h = absurd (omega arith)
-no_kind_behind (suc (suc (suc (suc (suc (suc (suc (suc (suc (suc (suc (suc (suc zero))))))))))))) h = absurd (omega arith)
-no_kind_behind (suc (suc (suc (suc (suc (suc (suc (suc (suc (suc (suc (suc (suc (suc zero)))))))))))))) h = absurd (omega arith)
-no_kind_behind (suc (suc (suc (suc (suc (suc (suc (suc (suc (suc (suc (suc (suc (suc (suc zero))))))))))))))) h = absurd (omega arith)
-no_kind_behind (suc (suc (suc (suc (suc (suc (suc (suc (suc (suc (suc (suc (suc (suc (suc (suc zero)))))))))))))))) h = absurd (omega arith)
-no_kind_behind (suc (suc (suc (suc (suc (suc (suc (suc (suc (suc (suc (suc (suc (suc (suc (suc (suc zero))))))))))))))))) h = absurd (omega arith)
-no_kind_behind (suc (suc (suc (suc (suc (suc (suc (suc (suc (suc (suc (suc (suc (suc (suc (suc (suc (suc zero)))))))))))))))))) h = absurd (omega arith)
-no_kind_behind (suc (suc (suc (suc (suc (suc (suc (suc (suc (suc (suc (suc (suc (suc (suc (suc (suc (suc (suc n))))))))))))))))))) h = refl
-
-pub no_kind : (n : ℕ) → (1 ≤ n → n ≤ 19 → ⊥) → kind_of n ≡ None
-no_kind zero h = refl
-no_kind (suc n) h = far (cases_lt n 19)
-  where
-    far : (n < 19) ⊎ (19 ≤ n) → slice_get kinds n ≡ None
-    far (inl near) = absurd (h (omega arith) (omega arith))
-    far (inr le) = no_kind_behind n le
 
 message_spelled : (k : MessageKind) (text behind : Text) (m : Message) (rest : Text) → AreBytes behind → text ≡ tag_of k ∷ behind → message_behind k behind ≡ Some (m, rest) → Begins (message_fields m) text rest
 message_spelled kind.CreateClient text behind m rest bytes is e = tagged_read create_client_reader 1 refl message.CreateClient message_fields (λ q. refl) text behind m rest bytes is e
@@ -113,7 +37,7 @@ message_spelled kind.TimeoutOnClose text behind m rest bytes is e = tagged_read 
 message_spelled kind.TransferMany text behind m rest bytes is e = tagged_read transfer_many_reader 19 refl message.TransferMany message_fields (λ q. refl) text behind m rest bytes is e
 
 abbrev next : ℕ × Text → Front Message
-next tag = kind_of tag.0 >>= λ kind. message_behind kind tag.1
+next tag = kind_of_tag tag.0 >>= λ kind. message_behind kind tag.1
 
 message_read : (m : Message) (text rest : Text) → Begins (message_fields m) text rest → (byte_at_front text >>= next) ≡ Some (m, rest)
 message_read (message.CreateClient q) text rest h = let w = tagged_front create_client_reader 1 message.CreateClient q text rest h in ap (λ o. o >>= next) w.1 ∙ w.2
@@ -141,7 +65,7 @@ unfolding message_at_front
 message_reader = record {
   spelled = λ text m rest bytes e.
       let tag = bind_some (byte_at_front text) _ e in
-      let found = bind_some (kind_of tag.0.0) _ tag.2 in
+      let found = bind_some (kind_of_tag tag.0.0) _ tag.2 in
       let is = byte_read text tag.0.0 tag.0.1 tag.1 in
       let behind = (bytes_parts (tag.0.0 ∷ []) tag.0.1 (subst AreBytes is bytes)).1 in
       let n = tags tag.0.0 found.0 found.1 in

@@ -1,20 +1,13 @@
 -- How messages are read: the tag tells the kind, and the fields stand behind it.
-use Rattle.std.specs.Prelude.{ℕ, zero, suc, List, [], ◌∷◌, slice_get, Option, Some, None}
+use Rattle.std.specs.Prelude.{Some}
 use Rattle.ibc_ids.specs.Texts.{Text}
+use Rattle.ibc_wire.specs.Kinds.{kind_of_tag}
 use Rattle.ibc_wire.specs.Reading.{◌>>=◌, Front, byte_at_front}
 use Rattle.ibc_message_codec.specs.PayloadFronts.{create_client_at_front, update_client_at_front, conn_open_init_at_front, conn_open_try_at_front, conn_open_ack_at_front, conn_open_confirm_at_front, chan_open_init_at_front, chan_open_try_at_front, chan_open_ack_at_front, chan_open_confirm_at_front, chan_close_init_at_front, chan_close_confirm_at_front, transfer_at_front, send_note_at_front, recv_packet_at_front, ack_packet_at_front, timeout_at_front, timeout_on_close_at_front, transfer_many_at_front}
 use Rattle.ibc_wire.specs.declared.messages.Message.{Message}
 use Rattle.ibc_wire.specs.declared.messages.Message.TheVariants as message
-use Rattle.ibc_message_codec.specs.declared.message.MessageKind.{MessageKind}
-use Rattle.ibc_message_codec.specs.declared.message.MessageKind.TheVariants as kind
-
--- the kinds by their tags, from 1
-abbrev pub kinds : List MessageKind
-kinds = kind.CreateClient ∷ kind.UpdateClient ∷ kind.ConnOpenInit ∷ kind.ConnOpenTry ∷ kind.ConnOpenAck ∷ kind.ConnOpenConfirm ∷ kind.ChanOpenInit ∷ kind.ChanOpenTry ∷ kind.ChanOpenAck ∷ kind.ChanOpenConfirm ∷ kind.ChanCloseInit ∷ kind.ChanCloseConfirm ∷ kind.Transfer ∷ kind.SendNote ∷ kind.RecvPacket ∷ kind.AckPacket ∷ kind.Timeout ∷ kind.TimeoutOnClose ∷ kind.TransferMany ∷ []
-
-abbrev pub kind_of : ℕ → Option MessageKind
-kind_of zero = None
-kind_of (suc n) = slice_get kinds n
+use Rattle.ibc_wire.specs.declared.messages.MessageKind.{MessageKind}
+use Rattle.ibc_wire.specs.declared.messages.MessageKind.TheVariants as kind
 
 abbrev pub message_behind : MessageKind → Text → Front Message
 message_behind kind.CreateClient text = do
@@ -78,5 +71,5 @@ message_behind kind.TransferMany text = do
 unfoldable pub message_at_front : Text → Front Message
 message_at_front text = do
   tag ← byte_at_front text
-  kind ← kind_of tag.0
+  kind ← kind_of_tag tag.0
   message_behind kind tag.1

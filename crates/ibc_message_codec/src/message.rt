@@ -1,10 +1,10 @@
 //! How messages are spelled: a tag, and the fields behind it.
 
-ghost use Rattle.std.specs.Prelude.{◌≡◌, ◌⊎◌, Option, IsTrue, IfOk, IfErr, IsErrOf, IsOkUnless};
+ghost use Rattle.std.specs.Prelude.{◌≡◌, ◌⊎◌, IsTrue, IfOk, IfErr, IsErrOf, IsOkUnless};
 ghost use Rattle.ibc_wire.specs.Fields.{Spells, HasOneValue, have_form};
 ghost use Rattle.ibc_wire.specs.Messages.{message_fields};
 ghost use Rattle.ibc_wire.specs.Fronts.{Gives, Writes, only};
-ghost use Rattle.ibc_message_codec.specs.MessageFront.{kind_of, message_behind, message_at_front};
+ghost use Rattle.ibc_message_codec.specs.MessageFront.{message_behind, message_at_front};
 
 use crate::payload::{Payload, write_tagged};
 use ibc_codec::fields::read_u8;
@@ -12,61 +12,10 @@ use ibc_ids::Refusal;
 use ibc_wire::{
     AckPacket, ChanCloseConfirm, ChanCloseInit, ChanOpenAck, ChanOpenConfirm, ChanOpenInit,
     ChanOpenTry, ConnOpenAck, ConnOpenConfirm, ConnOpenInit, ConnOpenTry, CreateClient, Message,
-    RecvPacket, SendNote, Timeout, TimeoutOnClose, Transfer, TransferMany, UpdateClient,
+    MessageKind, RecvPacket, SendNote, Timeout, TimeoutOnClose, Transfer, TransferMany,
+    UpdateClient,
 };
 use std::alloc::Global;
-
-/// The kinds of messages, in the order of their tags.
-#[derive(Clone, Copy)]
-enum MessageKind {
-    CreateClient,
-    UpdateClient,
-    ConnOpenInit,
-    ConnOpenTry,
-    ConnOpenAck,
-    ConnOpenConfirm,
-    ChanOpenInit,
-    ChanOpenTry,
-    ChanOpenAck,
-    ChanOpenConfirm,
-    ChanCloseInit,
-    ChanCloseConfirm,
-    Transfer,
-    SendNote,
-    RecvPacket,
-    AckPacket,
-    Timeout,
-    TimeoutOnClose,
-    TransferMany,
-}
-
-/// The kind of a tag. Tags count from 1.
-fn kind_of(tag: u8) -> Option<MessageKind>
-    ensures { result ≡ kind_of tag }
-{
-    match tag {
-        1 => Some(MessageKind::CreateClient),
-        2 => Some(MessageKind::UpdateClient),
-        3 => Some(MessageKind::ConnOpenInit),
-        4 => Some(MessageKind::ConnOpenTry),
-        5 => Some(MessageKind::ConnOpenAck),
-        6 => Some(MessageKind::ConnOpenConfirm),
-        7 => Some(MessageKind::ChanOpenInit),
-        8 => Some(MessageKind::ChanOpenTry),
-        9 => Some(MessageKind::ChanOpenAck),
-        10 => Some(MessageKind::ChanOpenConfirm),
-        11 => Some(MessageKind::ChanCloseInit),
-        12 => Some(MessageKind::ChanCloseConfirm),
-        13 => Some(MessageKind::Transfer),
-        14 => Some(MessageKind::SendNote),
-        15 => Some(MessageKind::RecvPacket),
-        16 => Some(MessageKind::AckPacket),
-        17 => Some(MessageKind::Timeout),
-        18 => Some(MessageKind::TimeoutOnClose),
-        19 => Some(MessageKind::TransferMany),
-        _ => None,
-    }
-}
 
 /// The message of the kind whose fields stand at the front, and what stands behind them.
 fn read_behind(alloc: Global, kind: MessageKind, bytes: &[u8]) -> Result<(Message, &[u8]), Refusal>
@@ -109,7 +58,7 @@ fn read_message(alloc: Global, bytes: &[u8]) -> Result<(Message, &[u8]), Refusal
     ensures { Gives (λ x. (x.0, x.1.now)) result (message_at_front bytes.now) }
 {
     let (tag, rest) = read_u8(bytes)?;
-    match kind_of(tag) {
+    match MessageKind::of_tag(tag) {
         Some(kind) => read_behind(alloc, kind, rest),
         None => Err(Refusal::BadMessage),
     }
@@ -161,6 +110,7 @@ pub fn encode(alloc: Global, message: &Message) -> Result<Vec<u8>, Refusal>
     ensures ok { IfOk result (λ bytes. Spells (message_fields message.now) bytes.items) }
     ensures bad { IsErrOf result Refusal.BadMessage → ¬ IsTrue (have_form (message_fields message.now)) }
     ensures memory { IsTrue (have_form (message_fields message.now)) → IsOkUnless result Refusal.NoMemory }
+    ensures errors { IfErr result (λ e. (e ≡ Refusal.BadMessage) ⊎ (e ≡ Refusal.NoMemory)) }
 {
     let mut bytes = Vec::new(alloc);
     write_message(&mut bytes, message)?;

@@ -1,15 +1,13 @@
 //! How tokens are spelled.
 
-ghost use Rattle.std.specs.Prelude.{◌≡◌};
 ghost use Rattle.ibc_wire.specs.Spelling.{token_fields, tokens_fields};
-ghost use Rattle.ibc_wire.specs.Tokens.{is_rising};
 ghost use Rattle.ibc_wire.specs.RecordFronts.{token_at_front, tokens_at_front};
 
 use super::many::{read_many, write_many};
 use crate::Wire;
 use crate::fields::{read_n16, read_name, read_u8, write_count, write_n16, write_name};
 use ibc_ids::Refusal;
-use ibc_wire::{Token, Tokens};
+use ibc_wire::{Token, Tokens, is_rising};
 use std::alloc::Global;
 
 /// The most tokens of a message.
@@ -34,19 +32,6 @@ impl Wire for Token {
 
     #[tactic(auto, using(ibc_wire::proofs::TokenReaders::token_reader))]
     fn reads_what_is_spelled() {}
-}
-
-/// Whether the denominations rise strictly in byte order.
-fn is_rising(tokens: &[Token]) -> bool
-    ensures { result ≡ is_rising tokens.now }
-{
-    match tokens {
-        [] => true,
-        [token, rest @ ..] => match rest {
-            [] => true,
-            [next, ..] => token.denom.cmp(&next.denom).is_lt() && is_rising(rest),
-        },
-    }
 }
 
 impl Wire for Tokens {
