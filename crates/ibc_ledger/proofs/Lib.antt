@@ -15,7 +15,6 @@ pub mod EndedBlocks
 pub mod HeldLedgers
 pub mod Replies
 pub mod Totals
-pub mod TypedTokens
 pub mod Applying
 pub mod Windows
 pub mod Ports

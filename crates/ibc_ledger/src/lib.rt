@@ -16,7 +16,6 @@ mod places;
 mod refusals;
 mod sent;
 mod settlement;
-mod typed;
 
 pub use entry::StampedEntry;
 pub use genesis::is_allowed;

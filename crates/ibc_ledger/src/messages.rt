@@ -14,7 +14,6 @@ use crate::applications::Applications;
 use crate::outcome::Outcome;
 use crate::places::{keep_first, make_room};
 use crate::settlement::Settlement;
-use crate::typed::is_typed;
 use crate::{Ledger, StampedEntry, channels, connections, packets};
 use ibc_client::{create, update};
 use ibc_ids::{Refusal, nth_client};
@@ -40,7 +39,7 @@ impl Ledger {
             drop(message);
             return Reply::No(Refusal::NoMemory);
         };
-        is_typed(&message);
+        message.is_typed();
         self.records.is_orderly();
         let chain = self.chain;
         let Ok(outcome) = answer(

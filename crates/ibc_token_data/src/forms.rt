@@ -9,11 +9,7 @@ ghost use Rattle.ibc_token_data.specs.Json.{is_typed};
 
 use crate::TokenData;
 use ibc_ids::Version;
-use ibc_wire::Token;
-use std::cmp::Ord;
-
-/// The most tokens of a packet.
-const MOST_TOKENS: usize = 8;
+use ibc_wire::{Token, is_listed};
 
 /// Whether packets of the version have several tokens.
 pub(crate) fn has_several(version: &Version) -> bool
@@ -22,23 +18,11 @@ pub(crate) fn has_several(version: &Version) -> bool
     version.as_str() == "ics20-own-2"
 }
 
-fn is_rising(tokens: &[Token]) -> bool
-    ensures { result ≡ is_rising tokens.now }
-{
-    match tokens {
-        [] => true,
-        [token, rest @ ..] => match rest {
-            [] => true,
-            [next, ..] => token.denom.cmp(&next.denom).is_lt() && is_rising(rest),
-        },
-    }
-}
-
 /// Whether there are 1 to 8 tokens, whose denominations rise strictly in byte order.
 pub fn are_few_and_rising(tokens: &[Token]) -> bool
     ensures { result ≡ (is_short tokens.now && is_rising tokens.now) }
 {
-    1 <= tokens.len() && tokens.len() <= MOST_TOKENS && is_rising(tokens)
+    is_listed(tokens)
 }
 
 fn is_list_for(version: &Version, tokens: &[Token]) -> bool

@@ -220,7 +220,7 @@ fn texts_that_are_no_paths(rt: HostRuntime) {
         "acks/ports/note/channels/channel-0/sequences/1/",
         "acks/ports/note/channels/channel-0/sequences/18446744073709551616",
     ] {
-        assert!(rt; matches!(Key::parse(rt.alloc(), text), Err(Refusal::BadMessage)));
+        assert!(rt; matches!(Key::parse(rt.alloc(), text), Err(Refusal::BadName)));
     }
 }
 
