@@ -1,16 +1,17 @@
 -- What every world keeps. Its chains see one another through published roots and proofs alone, and were asked any list
 -- of messages and blocks, in any order, with any message missing, repeated or forged.
-use Rattle.std.specs.Prelude.{◌≡◌, ℕ, ◌+◌, false, List, filter, Some, slice_get, IsTrue}
-use Rattle.std.specs.List.{Contains}
+use Rattle.std.specs.Prelude.{◌≡◌, ℕ, ◌+◌, true, false, nat_lt, List, filter, length, Some, slice_get, IsTrue}
+use Rattle.std.specs.List.{Contains, list_all}
 use Rattle.ibc_ids.specs.Texts.{Text}
 use Rattle.ibc_ids.specs.declared.refusal.Refusal.TheVariants.{Poor}
 use Rattle.ibc_machine.specs.declared.event.Event.{Event}
 use Rattle.ibc_machine.specs.declared.reply.Reply.TheVariants as reply
+use Rattle.ibc_machine.specs.declared.entry.Entry.{Entry}
 use Rattle.ibc_machine.specs.Records.{Channel}
 use Rattle.ibc_machine.specs.Packets.{is_ordered}
 use Rattle.ibc_machine.specs.Transfers.{transfer_port, came_over}
 use Rattle.ibc_machine.specs.Machine.{World}
-use Rattle.ibc_machine.specs.Ledgers.{Ledger, machine_of}
+use Rattle.ibc_machine.specs.Ledgers.{Ledger, chain_of, machine_of}
 use Rattle.ibc_machine.specs.HashedTexts.{HasNoClash}
 use Rattle.ibc_machine.specs.Histories.{Happened, End, sent, received}
 use Rattle.ibc_machine.specs.Peers.{end_at, are_peers}
@@ -35,9 +36,11 @@ pub record IsLawful (world : WorldState) : Type 0 where
   -- The replies and the states of all chains are a run, since an allowed genesis, of the machine in which each end
   -- looks straight at what the other had committed at the height named.
   pub run : IsPast world.genesis (happened_in world) (states_of world)
-  -- The run has all that each chain's own history tells, in that history's order.
+  -- The run has all that each chain's own history tells, in that history's order, and nothing of other chains.
   pub whole : (k : ℕ) (ledger : Ledger) → slice_get world.ledgers k ≡ Some ledger
       → filter (is_of k) (kept_entries world) ≡ entries ledger
+  pub no_others : list_all (λ (entry : Entry). nat_lt (chain_of entry.event) (length world.ledgers)) (kept_entries world)
+      ≡ true
   -- An end of a channel that is OPEN or CLOSED has exactly one peer, and no end has two (ICS 4, channel exclusivity).
   pub one_peer : HasOnePeer (states_of world)
   -- Between peers no packet is both received and timed out. Each is received at most once, and acknowledged or timed

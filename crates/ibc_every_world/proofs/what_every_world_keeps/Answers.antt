@@ -1,5 +1,12 @@
 -- The laws speak of every past, and so of this one.
+use Rattle.std.proofs.Common.{◌∙◌, sym, ap}
+use Rattle.std.specs.Prelude.{nat_lt}
+use Rattle.std.specs.List.{list_all}
+use Rattle.std.proofs.lemmas.List.{length-map}
+use Rattle.ibc_machine.specs.declared.entry.Entry.{Entry}
+use Rattle.ibc_machine.specs.Ledgers.{chain_of}
 use Rattle.ibc_machine.specs.Worlds.{entries}
+use Rattle.ibc_world_steps.specs.World.{kept_entries}
 use Rattle.ibc_world_steps.proofs.Nothing.{history_at}
 use Rattle.ibc_every_world.specs.EveryWorld.{happened_in, states_of}
 use Rattle.ibc_every_world.proofs.what_every_world_keeps.Goals as goal
@@ -14,6 +21,7 @@ returns c = λ clash.
     record {
       run = history.past;
       whole = λ k ledger there. history.merges.each k (entries ledger) (history_at world.ledgers k ledger there);
+      no_others = ap (λ n. list_all (λ (entry : Entry). nat_lt (chain_of entry.event) n) (kept_entries world)) (sym (length-map world.ledgers entries)) ∙ history.merges.no_others;
       one_peer = laws.one_peer world.genesis happened states history.past;
       exactly_once = λ e f peers. laws.exactly_once world.genesis happened states e f history.past peers;
       in_order = λ e f mine peers. laws.in_order world.genesis happened states e f history.past peers mine;
