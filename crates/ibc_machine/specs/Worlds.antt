@@ -30,13 +30,6 @@ abbrev pub Refines : GenesisState → List Ledger → List Event → List Reply 
 Refines genesis old events replies new =
     HasNoClash new → IsRun genesis (machine_of old) events replies (machine_of new)
 
--- the history has one entry more, with this event and this reply, whose stamp counts all that was seen before it
-abbrev pub AddsNext : Ledger → Event → Reply → Ledger → Type 0
-AddsNext old event given new =
-    (e : StampedEntry) × (more : List Publication) × (e.entry.event ≡ event) × (e.entry.reply ≡ given)
-    × (new ≡ record old { history = old.history ++ e ∷ []; seen = old.seen ++ more })
-    × IfSome e.stamp (λ n. length old.seen ≤ n)
-
 -- the ledger of the event's chain has one entry more, or memory ran out; the others have at most seen more
 abbrev pub AppliesIf : Bool → Event → Reply → Ledger → Ledger → Type 0
 AppliesIf true event given before after = Adds before event given after

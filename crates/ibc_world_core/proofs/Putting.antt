@@ -6,10 +6,9 @@ use Rattle.ibc_machine.specs.declared.event.Event.{Event}
 use Rattle.ibc_machine.specs.declared.reply.Reply.{Reply}
 use Rattle.ibc_machine.specs.declared.reply.Reply.TheVariants as reply
 use Rattle.ibc_machine.specs.Genesis.{GenesisState}
-use Rattle.ibc_machine.specs.Ledgers.{Ledger, SeesMore, chain_of}
+use Rattle.ibc_machine.specs.Ledgers.{Ledger, SeesMore, chain_of, AddsNext}
 use Rattle.ibc_ledger.specs.Held.{HeldLedger}
 use Rattle.ibc_refinement.proofs.Places.{get_within, get_set, get_set_other, length_set}
-use Rattle.ibc_machine.specs.Worlds.{AddsNext}
 use Rattle.ibc_world_steps.specs.Steps.{AddsIf, AllSeeMore, is_answered}
 use Rattle.ibc_world_steps.specs.Meetings.{IsPut}
 use Rattle.ibc_world_steps.proofs.Meetings.{same_one, sees_itself, all_see_themselves, all_see_with}

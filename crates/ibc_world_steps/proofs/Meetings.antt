@@ -1,12 +1,15 @@
 -- Meetings after an event, and steps one after another.
-use Rattle.std.proofs.Common.{◌≡◌, ℕ, Bool, true, false, eqb, List, [], ◌∷◌, ◌++◌, length, refl, sym, ap, ◌∙◌, subst, Some, slice_get, slice_set, arith, eqb-true, eq-eqb, append-nil, append_assoc, inl, inr}
+use Rattle.std.proofs.Common.{◌≡◌, ℕ, Bool, true, false, eqb, List, [], ◌∷◌, ◌++◌, length, refl, sym, ap, ◌∙◌, subst, Option, Some, None, slice_get, slice_set, arith, eqb-true, eq-eqb, append-nil, append_assoc, inl, inr}
+use Rattle.std.specs.Prelude.{IfSome}
 use Rattle.std.proofs.lemmas.Bool.{false≢true}
+use Rattle.ibc_ids.specs.declared.publication.Publication.{Publication}
+use Rattle.ibc_wire.specs.declared.header.Header.{Header}
 use Rattle.ibc_machine.specs.declared.event.Event.{Event}
 use Rattle.ibc_machine.specs.declared.reply.Reply.{Reply}
-use Rattle.ibc_machine.specs.Ledgers.{Ledger, SeesMore, chain_of}
+use Rattle.ibc_machine.specs.declared.entry.Reading.{Reading}
+use Rattle.ibc_machine.specs.Ledgers.{Ledger, SeesMore, chain_of, header_in, IsReadBetween, ReadsThen, AddsNext}
 use Rattle.ibc_refinement.proofs.Places.{get_there, get_within, get_set, get_set_other}
 use Rattle.ibc_world_steps.specs.World.{WorldState}
-use Rattle.ibc_machine.specs.Worlds.{AddsNext}
 use Rattle.ibc_world_steps.specs.Steps.{AddsIf, AllSeeMore, AddsNothing, AddsOne, IsStep}
 use Rattle.ibc_world_steps.specs.Meetings.{HaveMet, IsPut, MeetingEndsStep, NothingDoneIsStep, StepsGoOn}
 
@@ -20,6 +23,15 @@ sees_both a b c g h =
     let seens = append_assoc a.seen g.0 h.0 in
     (g.0 ++ h.0, h.1 ∙ ap (λ (l : Ledger). record l { seen = l.seen ++ h.0 }) g.1 ∙ (λ i. record a { seen = seens i }))
 
+-- what was read at some time of a call was read at some time of a longer one
+reads_longer : (before after more : List Publication) (reading : Option Reading) (header : Option Header)
+    → IfSome reading (λ r. IfSome header (λ h. IsReadBetween before after h.chain r.published))
+    → IfSome reading (λ r. IfSome header (λ h. IsReadBetween before (after ++ more) h.chain r.published))
+reads_longer before after more None header read = tt
+reads_longer before after more (Some r) None read = tt
+reads_longer before after more (Some r) (Some h) (mid, early, late, is) =
+    (mid, early, (late.0 ++ more, sym (append_assoc mid late.0 more) ∙ ap (λ s. s ++ more) late.1), is)
+
 pub adds_then_sees : (event : Event) (given : Reply) (a b c : Ledger) → AddsNext a event given b → SeesMore b c → AddsNext a event given c
 adds_then_sees event given a b c g h =
     let seens = append_assoc a.seen g.1 h.0 in (
@@ -29,6 +41,7 @@ adds_then_sees event given a b c g h =
       g.3,
       h.1 ∙ ap (λ (l : Ledger). record l { seen = l.seen ++ h.0 }) g.4 ∙ (λ i. record a { history = a.history ++ g.0 ∷ []; seen = seens i }),
       g.5,
+      subst (λ s. ReadsThen a.seen s g.0.entry) seens (reads_longer a.seen (a.seen ++ g.1) h.0 g.0.entry.reading (header_in g.0.entry.event) g.6),
     )
 
 adds_if_then_sees : (own : Bool) (event : Event) (given : Reply) (a b c : Ledger) → AddsIf own event given a b → SeesMore b c → AddsIf own event given a c

@@ -12,10 +12,9 @@ use Rattle.ibc_machine.specs.declared.event.Event.{Event}
 use Rattle.ibc_machine.specs.declared.reply.Reply.{Reply}
 use Rattle.ibc_machine.specs.Genesis.{GenesisState}
 use Rattle.ibc_machine.specs.Replay.{StampedEntry}
-use Rattle.ibc_machine.specs.Ledgers.{Ledger, IsLedger, SeesMore, chain_of, header_in, is_accepted_block, reading_fits}
+use Rattle.ibc_machine.specs.Ledgers.{Ledger, IsLedger, SeesMore, chain_of, header_in, is_accepted_block, reading_fits, AddsNext}
 use Rattle.ibc_machine.specs.Merge.{blocks_of, ReadsWhatIsBefore}
 use Rattle.ibc_world_steps.specs.World.{WorldState, kept_entries, AreOfFirst, IsWorld}
-use Rattle.ibc_machine.specs.Worlds.{AddsNext}
 use Rattle.ibc_world_steps.specs.Steps.{AddsIf, IsStep, AddsOne}
 use Rattle.ibc_world_steps.proofs.Publications.{published_behind, nothing_behind, none_more, one_more}
 use Rattle.ibc_world_steps.proofs.Grown.{IsPlain, IsEnded, own_reading, publishes, with_next}

@@ -7,9 +7,9 @@ use Rattle.ibc_machine.specs.declared.event.Event.{Event}
 use Rattle.ibc_machine.specs.declared.reply.Reply.{Reply}
 use Rattle.ibc_machine.specs.declared.reply.Reply.TheVariants as reply
 use Rattle.ibc_machine.specs.declared.entry.Entry.{Entry}
-use Rattle.ibc_machine.specs.Ledgers.{Ledger, IsLedger, SeesMore, chain_of}
+use Rattle.ibc_machine.specs.Ledgers.{Ledger, IsLedger, SeesMore, chain_of, AddsNext}
 use Rattle.ibc_machine.specs.Histories.{Happened}
-use Rattle.ibc_machine.specs.Worlds.{AddsNext, AppliesEach, Refines, happened_by}
+use Rattle.ibc_machine.specs.Worlds.{AppliesEach, Refines, happened_by}
 use Rattle.ibc_world_steps.specs.World.{WorldState, kept_entries, AllSee, AreOfFirst, IsWorld}
 
 -- the event was this ledger's, or another's
