@@ -1,9 +1,9 @@
 //! Messages beside their spellings.
 
 use crate::records::{NINE, tokens_of};
-use ibc_ids::{Bytes, ChannelId, Memo, Name, Receiver, Refusal, UserName};
+use ibc_ids::{ChannelId, Memo, Name, Receiver, Refusal, UserName};
 use ibc_message_codec::{decode, encode};
-use ibc_wire::{Message, SendNote, Token, Tokens, Transfer, TransferMany};
+use ibc_wire::{Message, Token, Tokens, Transfer, TransferMany};
 use std::alloc::Global;
 
 // What a message of each kind is spelled as, by its tag.
@@ -82,39 +82,24 @@ fn no_byte_may_miss(rt: HostRuntime) {
     }
 }
 
-// So many bytes.
-fn bytes_of(alloc: Global, size: usize) -> Result<Bytes, Refusal> {
-    let mut bytes = Vec::new(alloc);
-    for _ in 0..size {
+// What a note of the greatest size is spelled as.
+fn greatest_note(alloc: Global) -> Result<Vec<u8>, Refusal> {
+    let mut bytes = b"\x0e\0\x0achannel-12\xff\xff".to_vec(alloc)?;
+    for _ in 0..65_535 {
         bytes.push(b'n')?;
     }
-    Ok(Bytes::from_vec(bytes))
+    bytes.extend_from_slice(b"\0\0\0\0\0\0\0\x05\0\0\0\0\0\0\0\0")?;
+    Ok(bytes)
 }
 
-// The bytes of a message, which is let go.
-fn bytes_spelled(alloc: Global, message: Message) -> Result<Vec<u8>, Refusal> {
-    let spelled = encode(alloc, &message);
-    drop(message);
-    spelled
-}
-
-// The number of the bytes of a note of so many bytes.
-fn size_of_note(alloc: Global, size: usize) -> Result<usize, Refusal> {
-    let channel = ChannelId::parse(alloc, "channel-12")?;
-    let payload = bytes_of(alloc, size)?;
-    let note = SendNote {
-        channel,
-        payload,
-        timeout_height: 5,
-        timeout_time: 0,
-    };
-    Ok(bytes_spelled(alloc, Message::SendNote(note))?.len())
+// Whether these bytes are a message's one spelling.
+fn are_spelled_so(alloc: Global, bytes: Result<Vec<u8>, Refusal>) -> Result<bool, Refusal> {
+    is_spelled_so(alloc, bytes?.as_slice())
 }
 
 #[test]
 fn the_longest_note(rt: HostRuntime) {
-    assert!(rt; size_of_note(rt.alloc(), 65_535) == Ok(65_566));
-    assert!(rt; size_of_note(rt.alloc(), 65_536) == Err(Refusal::BadMessage));
+    assert!(rt; are_spelled_so(rt.alloc(), greatest_note(rt.alloc())) == Ok(true));
 }
 
 // Whether the names in the transfer are those of the vector.
@@ -219,7 +204,9 @@ fn is_worked(alloc: Global, amounts: &[(&str, u128)], bytes: &[u8]) -> Result<bo
     let receiver = Name::parse(alloc, "bob")?;
     let sender = sender(alloc)?;
     let message = worked_message(tokens_of(alloc, amounts)?, sender, receiver, memo);
-    Ok(bytes_spelled(alloc, message)?.as_slice() == bytes)
+    let spelled = encode(alloc, &message);
+    drop(message);
+    Ok(spelled?.as_slice() == bytes)
 }
 
 const GOLD_BEFORE_ATOM: &[u8] =
