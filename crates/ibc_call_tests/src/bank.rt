@@ -2,106 +2,118 @@
 
 use ibc_bank::{Bank, Move, Source};
 use ibc_ids::{Account, ChannelId, Denom, Refusal, UserName};
-use std::alloc::AllocError;
-use std::test::Fail;
+use std::alloc::Global;
 
-type Answer = Result<(), Refusal>;
-
-// What is burnt has its room until it is settled.
-fn burn_and_mint(
+// Of 10 tokens 4 go into an escrow, and 1 comes out of it.
+fn lock(
     bank: &mut Bank,
     alice: &UserName,
-    bob: &UserName,
-    atom: &Denom,
-) -> ([Answer; 7], Answer) {
-    let unsettled = [
-        bank.mint(alice, atom, u128::MAX),
-        bank.mint(bob, atom, 1),
-        bank.burn(alice, atom, 1),
-        bank.mint(bob, atom, 1),
-        bank.refund(alice, &Source::Burnt, atom, 1),
-        bank.mint(bob, atom, 1),
-        bank.burn(alice, atom, 1),
-    ];
-    bank.settle(atom, 1);
-    (unsettled, bank.mint(bob, atom, 1))
-}
-
-#[test]
-fn what_is_burnt_has_its_room(rt: HostRuntime) -> Result<(), Fail> {
-    let alice = UserName::parse(rt.alloc(), "alice")?;
-    let bob = UserName::parse(rt.alloc(), "bob")?;
-    let atom = Denom::parse(rt.alloc(), "atom")?;
-    let mut bank = Bank::new(rt.alloc());
-    let (unsettled, settled) = burn_and_mint(&mut bank, &alice, &bob, &atom);
-    let full = Err(Refusal::TooLarge);
-    assert_eq!(rt;
-        unsettled,
-        [Ok(()), full, Ok(()), full, Ok(()), full, Ok(())]
-    );
-    assert_eq!(rt; settled, Ok(()));
-    assert_eq!(rt; bank.supply(&atom), u128::MAX);
-    assert_eq!(rt; bank.burnt(&atom), 0);
-    Ok(())
-}
-
-// Tokens go into an escrow, and some come out of it.
-fn escrow_and_release(
-    bank: &mut Bank,
-    zoe: &UserName,
-    bob: &UserName,
     channel: &ChannelId,
     atom: &Denom,
-) -> [Answer; 4] {
-    [
-        bank.mint(zoe, atom, 10),
-        bank.escrow(zoe, channel, atom, 4),
-        bank.escrow(zoe, channel, atom, 7),
-        bank.release(channel, bob, atom, 1),
-    ]
+) -> Result<(), Refusal> {
+    bank.mint(alice, atom, 10)?;
+    bank.escrow(alice, channel, atom, 4)?;
+    bank.release(channel, alice, atom, 1)
 }
 
-#[test]
-fn accounts_are_listed_by_their_texts(rt: HostRuntime) -> Result<(), Fail> {
-    let zoe = UserName::parse(rt.alloc(), "zoe")?;
-    let bob = UserName::parse(rt.alloc(), "bob")?;
-    let channel = ChannelId::parse(rt.alloc(), "channel-0")?;
-    let atom = Denom::parse(rt.alloc(), "atom")?;
-    let mut bank = Bank::new(rt.alloc());
-    let answers = escrow_and_release(&mut bank, &zoe, &bob, &channel, &atom);
-    assert_eq!(rt; answers, [Ok(()), Ok(()), Err(Refusal::Poor), Ok(())]);
-    let list = bank.list(rt.alloc())?;
-    assert_eq!(rt; list.len(), 3);
-    assert_eq!(rt; [list[0].2, list[1].2, list[2].2], [1, 3, 6]);
+// Of 3 tokens that are burnt in flight 1 is refunded, and 1 is settled.
+fn send(bank: &mut Bank, alice: &UserName, atom: &Denom) -> Result<(), Refusal> {
+    bank.burn(alice, atom, 3)?;
+    bank.refund(alice, &Source::Burnt, atom, 1)?;
+    bank.settle(atom, 1);
     Ok(())
 }
 
-// The second can't follow the first.
-fn two_moves(alice: &UserName, atom: &Denom) -> Result<[Move; 2], AllocError> {
-    let mint = Move::Mint {
-        user: alice.clone()?,
-        denom: atom.clone()?,
-        amount: 10,
-    };
-    let burn = Move::Burn {
-        user: alice.clone()?,
-        denom: atom.clone()?,
-        amount: 11,
-    };
-    Ok([mint, burn])
+// The supply of a denomination, and what of it is burnt in flight.
+fn counts(bank: &Bank, atom: &Denom) -> [u128; 2] {
+    [bank.supply(atom), bank.burnt(atom)]
+}
+
+// The amount at a place of a list of balances, 0 where there is none.
+fn amount_at(list: &[(Account, Denom, u128)], place: usize) -> u128 {
+    match list.get(place) {
+        Some(holding) => holding.2,
+        None => 0,
+    }
+}
+
+// The amounts of the list of balances, of which there are two.
+fn listed(alloc: Global, bank: &Bank) -> Result<[u128; 2], Refusal> {
+    let list = bank.list(alloc)?;
+    Ok([amount_at(list.as_slice(), 0), amount_at(list.as_slice(), 1)])
+}
+
+// The balances that are listed and what is counted, once tokens were locked and sent.
+type Moved = ([u128; 2], [u128; 2]);
+
+fn lock_and_send(
+    alloc: Global,
+    bank: &mut Bank,
+    alice: &UserName,
+    channel: &ChannelId,
+    atom: &Denom,
+) -> Result<Moved, Refusal> {
+    lock(bank, alice, channel, atom)?;
+    send(bank, alice, atom)?;
+    Ok((listed(alloc, bank)?, counts(bank, atom)))
+}
+
+// The same in a new bank.
+fn moved(alloc: Global) -> Result<Moved, Refusal> {
+    let alice = UserName::parse(alloc, "alice")?;
+    let channel = ChannelId::parse(alloc, "channel-0")?;
+    let atom = Denom::parse(alloc, "atom")?;
+    let mut bank = Bank::new(alloc);
+    let moved = lock_and_send(alloc, &mut bank, &alice, &channel, &atom);
+    drop(bank);
+    moved
 }
 
 #[test]
-fn all_moves_or_none(rt: HostRuntime) -> Result<(), Fail> {
-    let alice = UserName::parse(rt.alloc(), "alice")?;
-    let atom = Denom::parse(rt.alloc(), "atom")?;
-    let moves = two_moves(&alice, &atom)?;
-    let mut bank = Bank::new(rt.alloc());
-    assert_eq!(rt; bank.check(&moves), Err(Refusal::Poor));
-    assert_eq!(rt; bank.apply_all(&moves), Err(Refusal::Poor));
-    assert_eq!(rt; bank.check(&moves[..1]), Ok(()));
-    assert_eq!(rt; bank.supply(&atom), 0);
-    assert_eq!(rt; bank.apply_all(&moves[..1]), Ok(()));
-    assert_eq!(rt; bank.balance(&Account::User(alice), &atom), 10);
-    Ok(())
+fn each_move_once(rt: HostRuntime) {
+    assert!(rt; moved(rt.alloc()) == Ok(([5, 3], [8, 1])));
+}
+
+// What a check and then a list of moves answer, and the supply then.
+type Answered = ([Result<(), Refusal>; 2], u128);
+
+// So much is burnt of 10 tokens, by a list of moves.
+fn burn_by_list(
+    bank: &mut Bank,
+    alice: &UserName,
+    atom: &Denom,
+    amount: u128,
+) -> Result<Answered, Refusal> {
+    bank.mint(alice, atom, 10)?;
+    let moves = [burning(alice, atom, amount)?];
+    let answers = [bank.check(&moves), bank.apply_all(&moves)];
+    Ok((answers, bank.supply(atom)))
+}
+
+// The move that burns so much.
+fn burning(alice: &UserName, atom: &Denom, amount: u128) -> Result<Move, Refusal> {
+    let user = alice.clone()?;
+    let denom = atom.clone()?;
+    Ok(Move::Burn {
+        user,
+        denom,
+        amount,
+    })
+}
+
+// The same in a new bank.
+fn burnt(alloc: Global, amount: u128) -> Result<Answered, Refusal> {
+    let alice = UserName::parse(alloc, "alice")?;
+    let atom = Denom::parse(alloc, "atom")?;
+    let mut bank = Bank::new(alloc);
+    let burnt = burn_by_list(&mut bank, &alice, &atom, amount);
+    drop(bank);
+    burnt
+}
+
+#[test]
+fn all_moves_or_none(rt: HostRuntime) {
+    assert!(rt; burnt(rt.alloc(), 9) == Ok(([Ok(()), Ok(())], 1)));
+    let poor = Err(Refusal::Poor);
+    assert!(rt; burnt(rt.alloc(), 11) == Ok(([poor, poor], 10)));
 }

@@ -4,19 +4,11 @@
 #[cfg(test)]
 mod bank;
 #[cfg(test)]
-mod channel;
-#[cfg(test)]
 mod client;
 #[cfg(test)]
 mod connection;
 #[cfg(test)]
-mod counter;
-#[cfg(test)]
-mod ics23_proof;
-#[cfg(test)]
-mod note;
-#[cfg(test)]
-mod packet;
+mod genesis;
 #[cfg(test)]
 mod path_store;
 #[cfg(test)]
@@ -27,3 +19,5 @@ mod sorted_map;
 mod token_data;
 #[cfg(test)]
 mod transfer;
+#[cfg(test)]
+mod world;

@@ -1,75 +1,98 @@
 //! The store of a new chain, and of a chain that goes on.
 
-ghost use Rattle.std.specs.Prelude.{◌<◌, length, IfOk};
+ghost use Rattle.std.specs.Prelude.{◌≡◌, ◌<◌, length, IfOk};
 
+use crate::genesis::GENESIS_ROOT;
 use ibc_ids::{Bytes, Key, Refusal};
 use ibc_path_store::Store;
 use std::alloc::Global;
-use std::test::Fail;
 
-// Sets a counter of 8 bytes.
+// Sets a counter to 0.
 #[tactic(auto, using(ibc_merkle::proofs::Edits::with_some))]
-fn set_counter(alloc: Global, store: &mut Store, path: &str, value: [u8; 8]) -> Result<(), Refusal>
+fn set_counter(alloc: Global, store: &mut Store, path: &str) -> Result<(), Refusal>
     ensures { IfOk result (λ _. 0 < length store.new.pairs) }
 {
-    let value = Bytes::copy_of(alloc, value.as_slice())?;
+    let value = Bytes::copy_of(alloc, [0; 8].as_slice())?;
     store.set(String::from_str(alloc, path)?, value)
 }
 
-// The three counters of a new chain.
-fn new_chain(alloc: Global, window: u64) -> Result<Store, Refusal>
-    ensures { IfOk result (λ store. 0 < length store.pairs) }
+// Sets the three counters of a new chain.
+fn set_counters(alloc: Global, store: &mut Store) -> Result<(), Refusal>
+    ensures { IfOk result (λ _. 0 < length store.new.pairs) }
 {
-    let mut store = Store::new(alloc, window, 100);
     store.reserve(3)?;
-    set_counter(alloc, &mut store, "nextClientSequence", [0; 8])?;
-    set_counter(alloc, &mut store, "nextConnectionSequence", [0; 8])?;
-    set_counter(alloc, &mut store, "nextChannelSequence", [0; 8])?;
-    Ok(store)
+    set_counter(alloc, store, "nextClientSequence")?;
+    set_counter(alloc, store, "nextConnectionSequence")?;
+    set_counter(alloc, store, "nextChannelSequence")
 }
 
-#[test]
-fn root_of_a_new_chain(rt: HostRuntime) -> Result<(), Fail> {
-    let mut store = new_chain(rt.alloc(), 4096)?;
+// Commits two heights, of which the first has the root of a new chain: whether it has.
+fn commit_twice(store: &mut Store) -> Result<bool, Refusal>
+    requires { 0 < length store.old.pairs }
+{
     let root = store.commit(100)?;
-    let expected: [u8; 32] = [
-        0x74, 0x3e, 0x73, 0x34, 0x1e, 0x76, 0x49, 0xed, 0x2a, 0xa2, 0x72, 0x3b, 0xb1, 0x6e, 0x6c,
-        0x43, 0xe4, 0xfd, 0x62, 0xa1, 0x60, 0x61, 0xf8, 0x0e, 0xa2, 0xa3, 0x79, 0x72, 0x78, 0x77,
-        0x68, 0xdd,
-    ];
-    assert_eq!(rt; root.bytes().as_slice(), expected.as_slice());
-    assert_eq!(rt; store.height(), 1);
-    Ok(())
+    store.commit(101)?;
+    Ok(root.bytes() == &GENESIS_ROOT)
 }
 
-// Whether the counter of clients is proved at a height.
-fn is_proved(store: &Store, height: u64) -> bool {
-    store.prove(height, &Key::NextClientSequence).is_ok()
+// Why the counter of clients isn't proved at a height, or none.
+fn refusal_at(store: &Store, height: u64) -> Option<Refusal> {
+    store.prove(height, &Key::NextClientSequence).err()
+}
+
+// Why it isn't proved at the heights 0 to 3.
+fn refusals(store: &Store) -> [Option<Refusal>; 4] {
+    [
+        refusal_at(store, 0),
+        refusal_at(store, 1),
+        refusal_at(store, 2),
+        refusal_at(store, 3),
+    ]
+}
+
+// What came of two heights in a window of one, and the clock then.
+fn committed(alloc: Global) -> Result<(bool, [Option<Refusal>; 4], [u64; 2]), Refusal> {
+    let mut store = Store::new(alloc, 1, 100);
+    set_counters(alloc, &mut store)?;
+    let is_genesis_root = commit_twice(&mut store)?;
+    let clock = [store.height(), store.time()];
+    Ok((is_genesis_root, refusals(&store), clock))
 }
 
 #[test]
-fn heights_in_a_window(rt: HostRuntime) -> Result<(), Fail> {
-    let mut store = new_chain(rt.alloc(), 2)?;
-    store.commit(100)?;
-    store.commit(101)?;
-    store.commit(101)?;
-    assert_eq!(rt; store.height(), 3);
-    assert_eq!(rt; store.time(), 101);
-    assert!(rt; !is_proved(&store, 0));
-    assert!(rt; !is_proved(&store, 1));
-    assert!(rt; is_proved(&store, 2));
-    assert!(rt; is_proved(&store, 3));
-    assert!(rt; !is_proved(&store, 4));
-    Ok(())
+fn heights_in_a_window(rt: HostRuntime) {
+    let gone = Some(Refusal::NoConsensus);
+    assert!(rt; committed(rt.alloc()) == Ok((true, [gone, gone, None, gone], [2, 101])));
 }
 
-#[test]
-fn sets_gets_and_removes(rt: HostRuntime) -> Result<(), Fail> {
-    let mut store = new_chain(rt.alloc(), 2)?;
-    assert!(rt; store.commit(99).is_err());
-    assert!(rt; store.get("nextClientSequence").is_some());
-    assert!(rt; store.get("nextClient").is_none());
+// Whether the value at a path is a counter's, or none.
+fn is_zero(store: &Store, path: &str) -> Option<bool> {
+    store.get(path).map(|value| value == [0; 8].as_slice())
+}
+
+// Whether counters are there, before one is removed and afterwards.
+fn removed(alloc: Global) -> Result<[Option<bool>; 3], Refusal> {
+    let mut store = Store::new(alloc, 1, 100);
+    set_counters(alloc, &mut store)?;
+    let there = is_zero(&store, "nextClientSequence");
+    let beginning = is_zero(&store, "nextClient");
     store.remove("nextClientSequence");
-    assert!(rt; store.get("nextClientSequence").is_none());
-    Ok(())
+    Ok([there, beginning, is_zero(&store, "nextClientSequence")])
+}
+
+#[test]
+fn sets_gets_and_removes(rt: HostRuntime) {
+    assert!(rt; removed(rt.alloc()) == Ok([Some(true), None, None]));
+}
+
+// What is answered to a block whose time lies before the working time.
+fn set_back(alloc: Global) -> Result<Option<Refusal>, Refusal> {
+    let mut store = Store::new(alloc, 1, 100);
+    set_counters(alloc, &mut store)?;
+    Ok(store.commit(99).err())
+}
+
+#[test]
+fn time_goes_forward(rt: HostRuntime) {
+    assert!(rt; set_back(rt.alloc()) == Ok(Some(Refusal::TimeBack)));
 }

@@ -1,4 +1,4 @@
-//! Each public function with ample memory, and what then stands at the paths.
+//! What stands in plain and at the paths of records after each change.
 
 use ibc_records::Records;
 

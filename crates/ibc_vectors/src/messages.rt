@@ -1,8 +1,9 @@
 //! Messages beside their spellings.
 
-use ibc_ids::{Bytes, ChannelId, Refusal};
+use crate::records::{NINE, tokens_of};
+use ibc_ids::{ChannelId, Memo, Name, Receiver, Refusal, UserName};
 use ibc_message_codec::{decode, encode};
-use ibc_wire::{Message, SendNote, Transfer};
+use ibc_wire::{Message, Token, Tokens, Transfer, TransferMany};
 use std::alloc::Global;
 
 // What a message of each kind is spelled as, by its tag.
@@ -50,114 +51,55 @@ fn is_spelled_so(alloc: Global, bytes: &[u8]) -> Result<bool, Refusal> {
     Ok(spelled?.as_slice() == bytes)
 }
 
-// Whether nothing was read.
-fn is_refused<T: Drop>(read: Result<T, Refusal>) -> bool {
-    matches!(read, Err(Refusal::BadMessage))
-}
-
-// Whether nothing was read, or another value.
-fn is_another<T: PartialEq + Drop>(read: Result<T, Refusal>, value: &T) -> bool {
-    match read {
-        Ok(other) => other != *value,
-        Err(refusal) => refusal == Refusal::BadMessage,
-    }
-}
-
-fn is_no_message(alloc: Global, bytes: &[u8]) -> bool {
-    is_refused(decode(alloc, bytes))
-}
-
-// Whether the bytes with one more behind them are no message.
-fn is_complete(alloc: Global, bytes: &[u8]) -> Result<bool, Refusal> {
-    let mut longer = bytes.to_vec(alloc)?;
-    longer.push(0)?;
-    Ok(is_no_message(alloc, longer.as_slice()))
-}
-
-// The bytes with one of them changed.
-fn changed(alloc: Global, bytes: &[u8], at: usize) -> Result<Vec<u8>, Refusal> {
-    let mut changed = bytes.to_vec(alloc)?;
-    if let Some(byte) = changed.get_mut(at) {
-        *byte ^= 1;
-    }
-    Ok(changed)
-}
-
-// Whether the bytes with one of them changed are no message, or spell another one.
-fn tells(alloc: Global, bytes: &[u8], at: usize) -> Result<bool, Refusal> {
-    let changed = changed(alloc, bytes, at)?;
-    let message = decode(alloc, bytes)?;
-    let tells = is_another(decode(alloc, changed.as_slice()), &message);
-    drop(message);
-    Ok(tells)
-}
-
-// Whether no beginning of the bytes is a message.
-fn is_needed_whole(alloc: Global, bytes: &[u8]) -> bool {
-    (0..bytes.len()).all(|count| is_no_message(alloc, &bytes[..count]))
-}
-
-// Whether each byte tells.
-fn tells_by_each(alloc: Global, bytes: &[u8]) -> bool {
-    (0..bytes.len()).all(|at| matches!(tells(alloc, bytes, at), Ok(true)))
-}
-
 #[test]
 fn a_message_of_each_kind(rt: HostRuntime) {
     for tag in 1..20 {
-        assert!(rt; matches!(is_spelled_so(rt.alloc(), spelled(tag)), Ok(true)));
+        assert!(rt;
+            is_spelled_so(rt.alloc(), spelled(tag)) == Ok(true),
+            "at {tag}"
+        );
     }
+}
+
+// How many of the bytes are the first message that they begin with, or none.
+fn first_size(alloc: Global, bytes: &[u8]) -> Option<usize> {
+    for count in 0..=bytes.len() {
+        if is_spelled_so(alloc, &bytes[..count]) != Err(Refusal::BadMessage) {
+            return Some(count);
+        }
+    }
+    None
 }
 
 #[test]
 fn no_byte_may_miss(rt: HostRuntime) {
     for tag in 1..20 {
-        assert!(rt; is_needed_whole(rt.alloc(), spelled(tag)));
+        let bytes = spelled(tag);
+        assert!(rt;
+            first_size(rt.alloc(), bytes) == Some(bytes.len()),
+            "at {tag}"
+        );
     }
 }
 
-#[test]
-fn no_byte_may_be_left(rt: HostRuntime) {
-    for tag in 1..20 {
-        assert!(rt; matches!(is_complete(rt.alloc(), spelled(tag)), Ok(true)));
-    }
-}
-
-#[test]
-fn each_byte_tells(rt: HostRuntime) {
-    for tag in 1..20 {
-        assert!(rt; tells_by_each(rt.alloc(), spelled(tag)));
-    }
-}
-
-// So many bytes.
-fn bytes_of(alloc: Global, size: usize) -> Result<Bytes, Refusal> {
-    let mut bytes = Vec::new(alloc);
-    for _ in 0..size {
+// What a note of the greatest size is spelled as.
+fn greatest_note(alloc: Global) -> Result<Vec<u8>, Refusal> {
+    let mut bytes = b"\x0e\0\x0achannel-12\xff\xff".to_vec(alloc)?;
+    for _ in 0..65_535 {
         bytes.push(b'n')?;
     }
-    Ok(Bytes::from_vec(bytes))
+    bytes.extend_from_slice(b"\0\0\0\0\0\0\0\x05\0\0\0\0\0\0\0\0")?;
+    Ok(bytes)
 }
 
-// The bytes of a note of so many bytes.
-fn a_note(alloc: Global, size: usize) -> Result<Vec<u8>, Refusal> {
-    let channel = ChannelId::parse(alloc, "channel-12")?;
-    let payload = bytes_of(alloc, size)?;
-    let note = Message::SendNote(SendNote {
-        channel,
-        payload,
-        timeout_height: 5,
-        timeout_time: 0,
-    });
-    let spelled = encode(alloc, &note);
-    drop(note);
-    spelled
+// Whether these bytes are a message's one spelling.
+fn are_spelled_so(alloc: Global, bytes: Result<Vec<u8>, Refusal>) -> Result<bool, Refusal> {
+    is_spelled_so(alloc, bytes?.as_slice())
 }
 
 #[test]
 fn the_longest_note(rt: HostRuntime) {
-    assert!(rt; matches!(a_note(rt.alloc(), 65_535), Ok(bytes) if bytes.len() == 65_566));
-    assert!(rt; matches!(a_note(rt.alloc(), 65_536), Err(Refusal::BadMessage)));
+    assert!(rt; are_spelled_so(rt.alloc(), greatest_note(rt.alloc())) == Ok(true));
 }
 
 // Whether the names in the transfer are those of the vector.
@@ -174,23 +116,126 @@ fn are_its_numbers(transfer: &Transfer) -> bool {
     transfer.amount == 100 && transfer.timeout_height == 0 && transfer.timeout_time == 200
 }
 
-// Whether the message is the transfer of the vector.
-fn is_its_transfer(message: &Message) -> bool {
+// The worked message of several tokens: 100 atom and 7 gold go from alice to bob.
+const WORKED: &[u8] =
+    b"\x13\0\x09channel-0\0\x05alice\x02\0\x04atom\0\0\0\0\0\0\0\0\0\0\0\0\0\0\0d\0\x04gold\0\0\0\0\0\0\0\0\0\0\0\0\0\0\0\x07\0\x03bob\0\0\0\0\0\0\0\0\x03\xe8\0\0\0\0\0\0\0\0";
+
+// Whether the names in the message of several tokens are those of the worked one.
+fn are_worked_names(transfer: &TransferMany) -> bool {
+    transfer.channel.as_str() == "channel-0"
+        && transfer.user.as_str() == "alice"
+        && transfer.receiver.as_str() == "bob"
+        && transfer.memo.as_str() == ""
+}
+
+// Whether the numbers in the message of several tokens are those of the worked one.
+fn are_worked_numbers(transfer: &TransferMany) -> bool {
+    transfer.tokens.as_slice().len() == 2
+        && transfer.timeout_height == 1_000
+        && transfer.timeout_time == 0
+}
+
+// Whether the place has so much of the denomination.
+fn holds(tokens: &[Token], place: usize, denom: &str, amount: u128) -> bool {
+    match tokens.get(place) {
+        Some(token) => token.denom.as_str() == denom && token.amount == amount,
+        None => false,
+    }
+}
+
+// Whether the tokens are those of the worked message.
+fn are_worked_tokens(tokens: &[Token]) -> bool {
+    holds(tokens, 0, "atom", 100) && holds(tokens, 1, "gold", 7)
+}
+
+// Whether the message has the fields of the vector or of the worked message.
+fn has_its_fields(message: &Message) -> bool {
     match message {
         Message::Transfer(transfer) => are_its_names(transfer) && are_its_numbers(transfer),
+        Message::TransferMany(transfer) => are_worked_names(transfer)
+            && are_worked_numbers(transfer)
+            && are_worked_tokens(transfer.tokens.as_slice()),
         _ => false,
     }
 }
 
-// Whether the bytes spell that transfer.
-fn are_of_transfer(alloc: Global, bytes: &[u8]) -> Result<bool, Refusal> {
+// Whether the bytes spell a message with these fields.
+fn spell_its_fields(alloc: Global, bytes: &[u8]) -> Result<bool, Refusal> {
     let message = decode(alloc, bytes)?;
-    let is_it = is_its_transfer(&message);
+    let has_its_fields = has_its_fields(&message);
     drop(message);
-    Ok(is_it)
+    Ok(has_its_fields)
 }
 
 #[test]
-fn fields_of_a_transfer(rt: HostRuntime) {
-    assert!(rt; matches!(are_of_transfer(rt.alloc(), spelled(13)), Ok(true)));
+fn fields_of_transfers(rt: HostRuntime) {
+    assert!(rt; spell_its_fields(rt.alloc(), spelled(13)) == Ok(true));
+    assert!(rt; spell_its_fields(rt.alloc(), WORKED) == Ok(true));
+}
+
+// The message of several tokens by which alice sends these to bob.
+fn worked_message(
+    tokens: Tokens,
+    sender: (ChannelId, UserName),
+    receiver: Receiver,
+    memo: Memo,
+) -> Message {
+    let (channel, user) = sender;
+    Message::TransferMany(TransferMany {
+        channel,
+        user,
+        tokens,
+        receiver,
+        memo,
+        timeout_height: 1_000,
+        timeout_time: 0,
+    })
+}
+
+// The channel and the user that send it.
+fn sender(alloc: Global) -> Result<(ChannelId, UserName), Refusal> {
+    let channel = Name::parse(alloc, "channel-0")?;
+    Ok((channel, Name::parse(alloc, "alice")?))
+}
+
+// Whether the worked message with these tokens is spelled so.
+fn is_worked(alloc: Global, amounts: &[(&str, u128)], bytes: &[u8]) -> Result<bool, Refusal> {
+    let memo = Name::parse(alloc, "")?;
+    let receiver = Name::parse(alloc, "bob")?;
+    let sender = sender(alloc)?;
+    let message = worked_message(tokens_of(alloc, amounts)?, sender, receiver, memo);
+    let spelled = encode(alloc, &message);
+    drop(message);
+    Ok(spelled?.as_slice() == bytes)
+}
+
+const GOLD_BEFORE_ATOM: &[u8] =
+    b"\x13\0\x09channel-0\0\x05alice\x02\0\x04gold\0\0\0\0\0\0\0\0\0\0\0\0\0\0\0\x07\0\x04atom\0\0\0\0\0\0\0\0\0\0\0\0\0\0\0d\0\x03bob\0\0\0\0\0\0\0\0\x03\xe8\0\0\0\0\0\0\0\0";
+
+// One of each of nine denominations.
+const NINE_TOKENS: &[u8] =
+    b"\x13\0\x09channel-0\0\x05alice\x09\0\x01a\0\0\0\0\0\0\0\0\0\0\0\0\0\0\0\x01\0\x01b\0\0\0\0\0\0\0\0\0\0\0\0\0\0\0\x01\0\x01c\0\0\0\0\0\0\0\0\0\0\0\0\0\0\0\x01\0\x01d\0\0\0\0\0\0\0\0\0\0\0\0\0\0\0\x01\0\x01e\0\0\0\0\0\0\0\0\0\0\0\0\0\0\0\x01\0\x01f\0\0\0\0\0\0\0\0\0\0\0\0\0\0\0\x01\0\x01g\0\0\0\0\0\0\0\0\0\0\0\0\0\0\0\x01\0\x01h\0\0\0\0\0\0\0\0\0\0\0\0\0\0\0\x01\0\x01i\0\0\0\0\0\0\0\0\0\0\0\0\0\0\0\x01\0\x03bob\0\0\0\0\0\0\0\0\x03\xe8\0\0\0\0\0\0\0\0";
+
+const IN_ORDER: [(&str, u128); 2] = [("atom", 100), ("gold", 7)];
+
+const OUT_OF_ORDER: [(&str, u128); 2] = [("gold", 7), ("atom", 100)];
+
+#[test]
+fn several_tokens_in_a_message(rt: HostRuntime) {
+    assert!(rt; is_worked(rt.alloc(), &IN_ORDER, WORKED) == Ok(true));
+}
+
+// What a message with these tokens answers to its writing, and the bytes of one to their reading.
+fn answers(alloc: Global, amounts: &[(&str, u128)], bytes: &[u8]) -> [Result<bool, Refusal>; 2] {
+    [
+        is_worked(alloc, amounts, bytes),
+        is_spelled_so(alloc, bytes),
+    ]
+}
+
+#[test]
+fn tokens_out_of_order_or_too_many(rt: HostRuntime) {
+    let bad = [Err(Refusal::BadMessage); 2];
+    assert!(rt; answers(rt.alloc(), &OUT_OF_ORDER, GOLD_BEFORE_ATOM) == bad);
+    assert!(rt; answers(rt.alloc(), &NINE, NINE_TOKENS) == bad);
 }

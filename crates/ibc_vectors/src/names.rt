@@ -1,18 +1,20 @@
 //! Names, identifiers, keys and refusals.
 
 use ibc_ids::{
-    Bytes, ChannelId, ChannelKind, ClientId, ClientKind, ConnectionId, ConnectionKind, Denom,
-    DenomKind, Key, Kind, MemoKind, Name, PortId, PortKind, ReceiverKind, Refusal, Root, UserKind,
-    VersionKind, nth_channel, nth_client, nth_connection,
+    ChannelId, ChannelKind, ClientId, ClientKind, ConnectionId, ConnectionKind, Denom, DenomKind,
+    Key, Kind, MemoKind, Name, PortId, PortKind, ReceiverKind, Refusal, UserKind, VersionKind,
+    nth_channel, nth_client, nth_connection,
 };
 use std::alloc::Global;
 
-// Whether the text is a name of the kind, with this text.
+// Whether this is a name with this text.
+fn has_text<K: Kind>(name: &Result<Name<K>, Refusal>, text: &str) -> bool {
+    matches!(name, Ok(name) if name.as_str() == text)
+}
+
+// Whether the text is a name of the kind.
 fn is_name<K: Kind>(alloc: Global, text: &str) -> bool {
-    match Name::<K>::from_bytes(alloc, text.as_bytes()) {
-        Ok(name) => name.as_str() == text,
-        Err(_) => false,
-    }
+    has_text(&Name::<K>::from_bytes(alloc, text.as_bytes()), text)
 }
 
 #[test]
@@ -39,69 +41,57 @@ fn texts_that_are_no_denominations(rt: HostRuntime) {
         "transfer/channel/atom",
         "transfer/channel-0/",
     ] {
-        assert!(rt; !is_name::<DenomKind>(rt.alloc(), text));
+        assert!(rt; !is_name::<DenomKind>(rt.alloc(), text), "at {text}");
     }
 }
 
-// Whether one name is before another, and equal to its copy.
+// Whether one name is before another.
 fn is_before(alloc: Global, one: &str, other: &str) -> Result<bool, Refusal> {
     let one = ChannelId::parse(alloc, one)?;
     let other = ChannelId::parse(alloc, other)?;
-    Ok(one < other && one.clone()? == one)
+    Ok(one < other)
 }
 
 #[test]
 fn names_are_compared_as_texts(rt: HostRuntime) {
-    assert!(rt; matches!(is_before(rt.alloc(), "channel-10", "channel-9"), Ok(true)));
-}
-
-fn is_client(id: &Result<ClientId, Refusal>, text: &str) -> bool {
-    matches!(id, Ok(id) if id.as_str() == text)
-}
-
-fn is_connection(id: &Result<ConnectionId, Refusal>, text: &str) -> bool {
-    matches!(id, Ok(id) if id.as_str() == text)
-}
-
-fn is_channel(id: &Result<ChannelId, Refusal>, text: &str) -> bool {
-    matches!(id, Ok(id) if id.as_str() == text)
+    assert!(rt; is_before(rt.alloc(), "channel-10", "channel-9") == Ok(true));
 }
 
 #[test]
 fn the_identifiers_that_a_chain_gives(rt: HostRuntime) {
     let alloc = rt.alloc();
-    assert!(rt; is_client(&nth_client(alloc, 0), "inprocess-0"));
-    assert!(rt;
-        is_connection(
-            &nth_connection(alloc, u64::MAX),
-            "connection-18446744073709551615"
-        )
-    );
-    assert!(rt; is_channel(&nth_channel(alloc, 12), "channel-12"));
+    assert!(rt; has_text(&nth_client(alloc, 0), "inprocess-0"));
+    let last = "connection-18446744073709551615";
+    assert!(rt; has_text(&nth_connection(alloc, u64::MAX), last));
+    assert!(rt; has_text(&nth_channel(alloc, 12), "channel-12"));
 }
 
-// Whether the key has this path, and the path this key.
+// Whether the key has this path.
 fn has_path(alloc: Global, key: &Key, path: &str) -> bool {
-    let is_its_path = matches!(key.path(alloc), Ok(text) if text.as_str() == path);
-    is_its_path && matches!(Key::parse(alloc, path), Ok(other) if other == *key)
+    matches!(key.path(alloc), Ok(text) if text.as_str() == path)
 }
 
-// Whether the keys of a client and of a connection have these paths.
-fn have_names(alloc: Global, client: &str, connection: &str) -> Result<bool, Refusal> {
-    let of_client = Key::ClientState(ClientId::parse(alloc, "inprocess-0")?);
-    let of_connection = Key::Connection(ConnectionId::parse(alloc, "connection-0")?);
-    Ok(has_path(alloc, &of_client, client) && has_path(alloc, &of_connection, connection))
+// Whether a key of a client has this path.
+fn is_of_client(alloc: Global, path: &str) -> Result<bool, Refusal> {
+    let key = Key::ClientState(ClientId::parse(alloc, "inprocess-0")?);
+    let has_path = has_path(alloc, &key, path);
+    drop(key);
+    Ok(has_path)
+}
+
+// Whether a key of a connection has this path.
+fn is_of_connection(alloc: Global, path: &str) -> Result<bool, Refusal> {
+    let key = Key::Connection(ConnectionId::parse(alloc, "connection-0")?);
+    let has_path = has_path(alloc, &key, path);
+    drop(key);
+    Ok(has_path)
 }
 
 #[test]
 fn paths_of_clients_and_connections(rt: HostRuntime) {
     let alloc = rt.alloc();
-    let have = have_names(
-        alloc,
-        "clients/inprocess-0/clientState",
-        "connections/connection-0",
-    );
-    assert!(rt; matches!(have, Ok(true)));
+    assert!(rt; is_of_client(alloc, "clients/inprocess-0/clientState") == Ok(true));
+    assert!(rt; is_of_connection(alloc, "connections/connection-0") == Ok(true));
     assert!(rt; has_path(alloc, &Key::NextClientSequence, "nextClientSequence"));
     assert!(rt;
         has_path(
@@ -142,7 +132,10 @@ fn key_of(record: Record, port: PortId, channel: ChannelId) -> Key {
 fn is_at(alloc: Global, record: Record, path: &str) -> Result<bool, Refusal> {
     let port = PortId::parse(alloc, "transfer")?;
     let channel = ChannelId::parse(alloc, "channel-0")?;
-    Ok(has_path(alloc, &key_of(record, port, channel), path))
+    let key = key_of(record, port, channel);
+    let has_path = has_path(alloc, &key, path);
+    drop(key);
+    Ok(has_path)
 }
 
 #[test]
@@ -174,32 +167,30 @@ fn paths_of_channels(rt: HostRuntime) {
             "acks/ports/transfer/channels/channel-0/sequences/1",
         ),
     ] {
-        assert!(rt; matches!(is_at(rt.alloc(), record, path), Ok(true)));
+        assert!(rt; is_at(rt.alloc(), record, path) == Ok(true), "at {path}");
     }
 }
 
-// Whether the text is the path of a key at a sequence.
-fn is_at_sequence(alloc: Global, text: &str, sequence: u64) -> bool {
-    matches!(Key::parse(alloc, text), Ok(Key::Receipt(_, _, n)) if n == sequence)
+// Whether the key that is read from the path has it.
+fn is_read(alloc: Global, path: &str) -> Result<bool, Refusal> {
+    let key = Key::parse(alloc, path)?;
+    let has_path = has_path(alloc, &key, path);
+    drop(key);
+    Ok(has_path)
 }
 
 #[test]
-fn sequences_in_paths(rt: HostRuntime) {
-    let alloc = rt.alloc();
-    assert!(rt;
-        is_at_sequence(
-            alloc,
-            "receipts/ports/note/channels/channel-0/sequences/0",
-            0
-        )
-    );
-    assert!(rt;
-        is_at_sequence(
-            alloc,
-            "receipts/ports/note/channels/channel-0/sequences/18446744073709551615",
-            u64::MAX
-        )
-    );
+fn paths_that_are_read(rt: HostRuntime) {
+    for path in [
+        "nextChannelSequence",
+        "clients/inprocess-0/clientState",
+        "connections/connection-0",
+        "channelEnds/ports/transfer/channels/channel-0",
+        "receipts/ports/note/channels/channel-0/sequences/0",
+        "receipts/ports/note/channels/channel-0/sequences/18446744073709551615",
+    ] {
+        assert!(rt; is_read(rt.alloc(), path) == Ok(true), "at {path}");
+    }
 }
 
 #[test]
@@ -220,65 +211,29 @@ fn texts_that_are_no_paths(rt: HostRuntime) {
         "acks/ports/note/channels/channel-0/sequences/1/",
         "acks/ports/note/channels/channel-0/sequences/18446744073709551616",
     ] {
-        assert!(rt; matches!(Key::parse(rt.alloc(), text), Err(Refusal::BadName)));
+        assert!(rt;
+            is_read(rt.alloc(), text) == Err(Refusal::BadName),
+            "at {text}"
+        );
     }
 }
 
-// The denomination with so many hops over one channel before it.
-fn hopped(alloc: Global, base: &str, hops: u64) -> Result<Denom, Refusal> {
+// The size of the denomination with one more hop over a channel.
+fn hopped_size(alloc: Global, denom: &str) -> Result<usize, Refusal> {
     let port = PortId::parse(alloc, "transfer")?;
     let channel = ChannelId::parse(alloc, "channel-0")?;
-    let mut denom = Denom::parse(alloc, base)?;
-    for _ in 0..hops {
-        denom = denom.hop(alloc, &port, &channel)?;
-    }
-    Ok(denom)
+    let denom = Denom::parse(alloc, denom)?;
+    Ok(denom.hop(alloc, &port, &channel)?.as_str().len())
 }
 
-fn is_denom(denom: &Result<Denom, Refusal>, text: &str) -> bool {
-    matches!(denom, Ok(denom) if denom.as_str() == text)
-}
+// A denomination that came over thirteen channels. It has 251 bytes.
+const THIRTEEN: &str =
+    "transfer/channel-0/transfer/channel-0/transfer/channel-0/transfer/channel-0/transfer/channel-0/transfer/channel-0/transfer/channel-0/transfer/channel-0/transfer/channel-0/transfer/channel-0/transfer/channel-0/transfer/channel-0/transfer/channel-0/atom";
 
 #[test]
 fn denominations_with_hops(rt: HostRuntime) {
-    let alloc = rt.alloc();
-    assert!(rt; is_denom(&hopped(alloc, "atom", 1), "transfer/channel-0/atom"));
-    assert!(rt; matches!(hopped(alloc, "atom", 13), Ok(denom) if denom.as_str().len() == 251));
-    assert!(rt; matches!(hopped(alloc, "atom", 14), Err(Refusal::TooLarge)));
-}
-
-// What the denomination is without its hop over the channel, empty where it didn't come over it.
-fn stripped(alloc: Global, denom: &str, channel: &str) -> Result<String, Refusal> {
-    let port = PortId::parse(alloc, "transfer")?;
-    let channel = ChannelId::parse(alloc, channel)?;
-    match Denom::parse(alloc, denom)?.strip(alloc, &port, &channel)? {
-        Some(rest) => Ok(String::from_str(alloc, rest.as_str())?),
-        None => Ok(String::new(alloc)),
-    }
-}
-
-// Whether the denomination is this one without its hop over the channel.
-fn is_stripped(alloc: Global, denom: &str, channel: &str, rest: &str) -> bool {
-    matches!(stripped(alloc, denom, channel), Ok(text) if text.as_str() == rest)
-}
-
-#[test]
-fn denominations_without_a_hop(rt: HostRuntime) {
-    let alloc = rt.alloc();
-    assert!(rt; is_stripped(alloc, "transfer/channel-0/atom", "channel-0", "atom"));
-    assert!(rt; is_stripped(alloc, "transfer/channel-0/atom", "channel-1", ""));
-}
-
-// Whether a copy of the bytes has them.
-fn is_copied(alloc: Global, bytes: &[u8]) -> Result<bool, Refusal> {
-    let copy = Bytes::copy_of(alloc, bytes)?;
-    Ok(copy.as_slice() == bytes && copy.clone()? == copy)
-}
-
-#[test]
-fn plain_bytes_and_roots(rt: HostRuntime) {
-    assert!(rt; matches!(is_copied(rt.alloc(), b"n1".as_slice()), Ok(true)));
-    assert!(rt; Root::from_bytes([7; 32]).bytes()[31] == 7);
+    assert!(rt; hopped_size(rt.alloc(), &THIRTEEN[19..]) == Ok(251));
+    assert!(rt; hopped_size(rt.alloc(), THIRTEEN) == Err(Refusal::TooLarge));
 }
 
 #[test]

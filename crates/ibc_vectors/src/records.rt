@@ -22,12 +22,7 @@ const CLIENT: [u8; 10] = [1, 0, 0, 0, 0, 0, 0, 0, 5, 0];
 fn a_client_of_chain_1_that_knows_height_5(rt: HostRuntime) {
     let read: Result<ClientState, Refusal> = decode(rt.alloc(), &CLIENT[..9]);
     assert!(rt; matches!(read, Ok(client) if client.chain == 1 && client.latest == 5));
-    assert!(rt;
-        matches!(
-            is_spelled_so::<ClientState>(rt.alloc(), &CLIENT[..9]),
-            Ok(true)
-        )
-    );
+    assert!(rt; is_spelled_so::<ClientState>(rt.alloc(), &CLIENT[..9]) == Ok(true));
 }
 
 #[test]
@@ -40,21 +35,18 @@ fn a_client_with_a_byte_more_or_missing(rt: HostRuntime) {
 // A connection that was begun.
 const CONNECTION: &[u8] = b"\x01\0\x0binprocess-0\0\x0binprocess-0\0\0\0\x011";
 
+// Whether the bytes are a connection of this client that knows no peer.
+fn is_begun(alloc: Global, bytes: &[u8], client: &str) -> Result<bool, Refusal> {
+    let end: ConnectionEnd = decode(alloc, bytes)?;
+    let is_begun = end.client.as_str() == client && end.peer_connection.is_none();
+    drop(end);
+    Ok(is_begun)
+}
+
 #[test]
 fn a_connection_that_was_begun(rt: HostRuntime) {
-    let read: Result<ConnectionEnd, Refusal> = decode(rt.alloc(), CONNECTION);
-    assert!(rt;
-        matches!(
-            &read,
-            Ok(end) if end.client.as_str() == "inprocess-0" && end.peer_connection.is_none()
-        )
-    );
-    assert!(rt;
-        matches!(
-            is_spelled_so::<ConnectionEnd>(rt.alloc(), CONNECTION),
-            Ok(true)
-        )
-    );
+    assert!(rt; is_begun(rt.alloc(), CONNECTION, "inprocess-0") == Ok(true));
+    assert!(rt; is_spelled_so::<ConnectionEnd>(rt.alloc(), CONNECTION) == Ok(true));
 }
 
 // Whether the connection in another state is no connection.
@@ -70,55 +62,68 @@ fn is_no_state(alloc: Global, state: u8) -> Result<bool, Refusal> {
 #[test]
 fn states_without_a_peer(rt: HostRuntime) {
     for state in [0, 2, 3, 4] {
-        assert!(rt; matches!(is_no_state(rt.alloc(), state), Ok(true)));
+        assert!(rt; is_no_state(rt.alloc(), state) == Ok(true));
     }
 }
 
 #[test]
 fn ends_of_channels(rt: HostRuntime) {
     let begun = b"\x01\x01\0\x08transfer\0\0\0\x0cconnection-0\0\x07ics20-1".as_slice();
-    assert!(rt; matches!(is_spelled_so::<ChannelEnd>(rt.alloc(), begun), Ok(true)));
+    assert!(rt; is_spelled_so::<ChannelEnd>(rt.alloc(), begun) == Ok(true));
     let closed = b"\x04\x02\0\x04note\0\x09channel-3\0\x0cconnection-0\0\x06note-1".as_slice();
-    assert!(rt; matches!(is_spelled_so::<ChannelEnd>(rt.alloc(), closed), Ok(true)));
+    assert!(rt; is_spelled_so::<ChannelEnd>(rt.alloc(), closed) == Ok(true));
 }
 
 #[test]
 fn a_header_and_a_packet(rt: HostRuntime) {
     let header =
         b"\x01\0\0\0\0\0\0\0\x05\0\0\0\0\0\0\0dABCDEFGHIJKLMNOPQRSTUVWXYZ[\\]^_`".as_slice();
-    assert!(rt; matches!(is_spelled_so::<Header>(rt.alloc(), header), Ok(true)));
+    assert!(rt; is_spelled_so::<Header>(rt.alloc(), header) == Ok(true));
     let packet =
         b"\0\0\0\0\0\0\0\x03\0\0\0\0\0\0\x03\xe8\0\0\0\0\0\0\0\0\0\x08transfer\0\x0achannel-12\0\x04note\0\x09channel-3\0\x02n1".as_slice();
-    assert!(rt; matches!(is_spelled_so::<Packet>(rt.alloc(), packet), Ok(true)));
+    assert!(rt; is_spelled_so::<Packet>(rt.alloc(), packet) == Ok(true));
 }
 
-// One unit of a denomination.
-fn one_of(alloc: Global, denom: &str) -> Result<Token, Refusal> {
-    let denom = Denom::parse(alloc, denom)?;
-    Ok(Token { denom, amount: 1 })
-}
+// One token of each of nine denominations, in their order.
+pub const NINE: [(&str, u128); 9] = [
+    ("a", 1),
+    ("b", 1),
+    ("c", 1),
+    ("d", 1),
+    ("e", 1),
+    ("f", 1),
+    ("g", 1),
+    ("h", 1),
+    ("i", 1),
+];
 
-// One unit of each of these denominations, whose names have one letter.
-fn tokens_of(alloc: Global, letters: &str) -> Result<Tokens, Refusal> {
+// One denomination twice.
+const TWICE: [(&str, u128); 2] = [("a", 1), ("a", 1)];
+
+// These amounts of these denominations.
+pub fn tokens_of(alloc: Global, amounts: &[(&str, u128)]) -> Result<Tokens, Refusal> {
     let mut tokens = Vec::new(alloc);
-    for at in 0..letters.len() {
-        let letter = letters.get(at..at + 1).unwrap_or("");
-        tokens.push(one_of(alloc, letter)?)?;
+    for (denom, amount) in amounts {
+        let denom = Denom::parse(alloc, denom)?;
+        tokens.push(Token {
+            denom,
+            amount: *amount,
+        })?;
     }
     Ok(Tokens::from_vec(tokens))
 }
 
 // How many bytes spell these tokens.
-fn size_of(alloc: Global, letters: &str) -> Result<usize, Refusal> {
-    let tokens = tokens_of(alloc, letters)?;
+fn size_of(alloc: Global, amounts: &[(&str, u128)]) -> Result<usize, Refusal> {
+    let tokens = tokens_of(alloc, amounts)?;
     Ok(encode(alloc, &tokens)?.len())
 }
 
 #[test]
 fn one_to_eight_tokens_in_rising_order(rt: HostRuntime) {
-    assert!(rt; size_of(rt.alloc(), "a") == Ok(20));
-    assert!(rt; size_of(rt.alloc(), "abcdefgh") == Ok(153));
-    for letters in ["", "ba", "aa", "abcdefghi"] {
-        assert!(rt; size_of(rt.alloc(), letters) == Err(Refusal::BadMessage));
-    }
+    let alloc = rt.alloc();
+    assert!(rt; size_of(alloc, &NINE[..1]) == Ok(20));
+    assert!(rt; size_of(alloc, &NINE[..8]) == Ok(153));
+    assert!(rt; size_of(alloc, &NINE[..0]) == Err(Refusal::BadMessage));
+    assert!(rt; size_of(alloc, &TWICE) == Err(Refusal::BadMessage));
 }

@@ -1,13 +1,14 @@
-//! The hashes of a tree, and the tree over the counters of a new chain.
+//! The hashes of a tree, and the tree over the counters of a new chain, with its proofs.
 
 ghost use Rattle.std.specs.Prelude.{◌≡◌, ◌<◌, codes, length, IfOk, IsNone, IsSome, IsTrue};
 ghost use Rattle.std.specs.FinMap.{is_sorted};
 ghost use Rattle.ibc_ids.specs.Maps.{at};
 ghost use Rattle.ibc_ids.specs.Texts.{text_cmp};
 
+use ibc_ics23_proof::verify_absent;
 use ibc_ids::{Bytes, Refusal};
 use ibc_merkle::{
-    Entry, MerkleTree, Proof, hash_inner, hash_leaf, hash_value, place, prove_absent,
+    Entry, MerkleTree, Presence, Proof, hash_inner, hash_leaf, hash_value, place, prove_absent,
     prove_present, root,
 };
 use std::alloc::{AllocError, Global};
@@ -73,81 +74,114 @@ fn counter(alloc: Global, key: &str) -> Result<Entry, AllocError>
 }
 
 // The three counters of a new chain.
-fn new_chain(alloc: Global) -> Result<[Entry; 3], AllocError>
-    ensures sorted { IfOk result (λ entries. IsTrue (is_sorted text_cmp entries)) }
-    ensures there { IfOk result (λ entries. IsSome (at text_cmp (codes "nextClientSequence") entries)) }
-    ensures missing { IfOk result (λ entries. IsNone (at text_cmp (codes "nextClient") entries)) }
+fn new_chain(alloc: Global) -> Result<Vec<Entry>, AllocError>
+    ensures sorted { IfOk result (λ entries. IsTrue (is_sorted text_cmp entries.items)) }
+    ensures some { IfOk result (λ entries. 0 < length entries.items) }
+    ensures there { IfOk result (λ entries. IsSome (at text_cmp (codes "nextClientSequence") entries.items)) }
+    ensures missing { IfOk result (λ entries. IsNone (at text_cmp (codes "nextClient") entries.items)) }
 {
     let channels = counter(alloc, "nextChannelSequence")?;
     let clients = counter(alloc, "nextClientSequence")?;
     let connections = counter(alloc, "nextConnectionSequence")?;
-    Ok([channels, clients, connections])
-}
-
-// Whether a new chain has this root.
-fn is_genesis_root(alloc: Global, text: &str) -> Result<bool, AllocError> {
-    let entries = new_chain(alloc)?;
-    Ok(is_hex(alloc, root(entries.as_slice()).bytes().as_slice(), text))
-}
-
-#[test]
-fn the_root_of_a_new_chain(rt: HostRuntime) {
-    assert!(rt; matches!(is_genesis_root(rt.alloc(), GENESIS_ROOT), Ok(true)));
+    Ok(vec![in alloc; channels, clients, connections]?)
 }
 
 // Where a key stands among the counters of a new chain.
-fn place_of(alloc: Global, key: &str) -> Result<Result<usize, usize>, AllocError> {
+fn place_of(alloc: Global, key: &str) -> Result<Result<usize, usize>, Refusal> {
     let entries = new_chain(alloc)?;
     Ok(place(entries.as_slice(), key.as_bytes()))
 }
 
 #[test]
 fn places_of_keys(rt: HostRuntime) {
-    assert!(rt; matches!(place_of(rt.alloc(), "nextClientSequence"), Ok(Ok(1))));
-    assert!(rt; matches!(place_of(rt.alloc(), "nextClient"), Ok(Err(1))));
+    assert!(rt; place_of(rt.alloc(), "nextClientSequence") == Ok(Ok(1)));
+    assert!(rt; place_of(rt.alloc(), "nextClient") == Ok(Err(1)));
 }
 
-// The proof that a new chain counts its clients.
-fn presence(alloc: Global) -> Result<Proof, Refusal> {
+// Whether a new chain has this root, by its pairs alone.
+fn is_genesis_root(alloc: Global) -> Result<bool, Refusal> {
     let entries = new_chain(alloc)?;
-    prove_present(alloc, entries.as_slice(), b"nextClientSequence".as_slice())
+    Ok(is_hex(
+        alloc,
+        root(entries.as_slice()).bytes().as_slice(),
+        GENESIS_ROOT,
+    ))
 }
 
-// The proof that nothing stands at the beginning of that key.
-fn absence(alloc: Global) -> Result<Proof, Refusal> {
+#[test]
+fn the_root_of_a_new_chain(rt: HostRuntime) {
+    assert!(rt; is_genesis_root(rt.alloc()) == Ok(true));
+}
+
+// Whether a new chain proves from its pairs alone that it counts clients.
+fn proves_a_value(alloc: Global) -> Result<bool, Refusal> {
     let entries = new_chain(alloc)?;
-    prove_absent(alloc, entries.as_slice(), b"nextClient".as_slice())
+    Ok(prove_present(alloc, entries.as_slice(), b"nextClientSequence".as_slice()).is_ok())
+}
+
+// Whether it proves from them that nothing stands at the beginning of that key.
+fn proves_an_absence(alloc: Global) -> Result<bool, Refusal> {
+    let entries = new_chain(alloc)?;
+    Ok(prove_absent(alloc, entries.as_slice(), b"nextClient".as_slice()).is_ok())
 }
 
 #[test]
 fn proofs_of_both_kinds(rt: HostRuntime) {
-    assert!(rt; matches!(presence(rt.alloc()), Ok(Proof::Present(_))));
-    assert!(rt; matches!(absence(rt.alloc()), Ok(Proof::Absent(_))));
+    assert!(rt; proves_a_value(rt.alloc()) == Ok(true));
+    assert!(rt; proves_an_absence(rt.alloc()) == Ok(true));
 }
 
 // The tree of a new chain, with its digests.
 fn new_tree(alloc: Global) -> Result<MerkleTree, AllocError>
     ensures { IfOk result (λ tree. 0 < length tree) }
 {
-    let channels = counter(alloc, "nextChannelSequence")?;
-    let clients = counter(alloc, "nextClientSequence")?;
-    let connections = counter(alloc, "nextConnectionSequence")?;
-    MerkleTree::of(alloc, vec![in alloc; channels, clients, connections]?)
+    MerkleTree::of(alloc, new_chain(alloc)?)
 }
 
-// Whether that tree proves of a key what is proved from the pairs.
-fn proves(alloc: Global, key: &[u8], proof: Result<Proof, Refusal>) -> Result<bool, Refusal> {
-    Ok(new_tree(alloc)?.prove(alloc, key)? == proof?)
+// The key of a neighbour, empty where there is none.
+fn key_of(neighbour: &Option<Presence>) -> &[u8] {
+    match neighbour {
+        Some(presence) => presence.key.as_slice(),
+        None => &[],
+    }
+}
+
+// Whether the proof shows an absence between these neighbours, of which an empty one is missing.
+fn has_neighbours(proof: &Proof, left: &str, right: &str) -> bool {
+    match proof {
+        Proof::Absent(absence) => key_of(&absence.left) == left.as_bytes()
+            && key_of(&absence.right) == right.as_bytes(),
+        Proof::Present(_) => false,
+    }
+}
+
+// Whether a key is proved to be absent from a new chain by these neighbours, and the proof is accepted.
+fn stands_between(alloc: Global, left: &str, key: &str, right: &str) -> Result<bool, Refusal> {
+    let tree = new_tree(alloc)?;
+    let proof = tree.prove(alloc, key.as_bytes())?;
+    let is_accepted = verify_absent(&proof, &tree.root(), key.as_bytes());
+    let stands_between = is_accepted && has_neighbours(&proof, left, right);
+    drop(proof);
+    Ok(stands_between)
 }
 
 #[test]
-fn a_tree_that_keeps_its_digests(rt: HostRuntime) {
-    let alloc = rt.alloc();
-    assert!(rt;
-        matches!(new_tree(alloc), Ok(tree) if is_hex(alloc, tree.root().bytes().as_slice(), GENESIS_ROOT))
-    );
-    let clients = b"nextClientSequence".as_slice();
-    assert!(rt; matches!(proves(alloc, clients, presence(alloc)), Ok(true)));
-    let client = b"nextClient".as_slice();
-    assert!(rt; matches!(proves(alloc, client, absence(alloc)), Ok(true)));
+fn neighbours_of_absent_keys(rt: HostRuntime) {
+    let first = "nextChannelSequence";
+    let second = "nextClientSequence";
+    let third = "nextConnectionSequence";
+    for (left, key, right) in [
+        ("", "acks/ports/note/channels/channel-0/sequences/1", first),
+        (first, "nextClient", second),
+        (
+            third,
+            "receipts/ports/transfer/channels/channel-0/sequences/1",
+            "",
+        ),
+    ] {
+        assert!(rt;
+            stands_between(rt.alloc(), left, key, right) == Ok(true),
+            "at {key}"
+        );
+    }
 }

@@ -1,19 +1,29 @@
 //! Packets of a channel that leads to itself, and what stands at their paths.
 
-ghost use Rattle.std.specs.Prelude.{◌≡◌, ◌-◌, ◌^◌, ◌<◌, codes, nat_le, if◌then◌else◌, refl, Ok, Err, OnOk};
+ghost use Rattle.std.specs.Prelude.{◌-◌, ◌^◌, ◌<◌, OnOk};
 ghost use Rattle.std.specs.Option.{IsSomeAnd};
-ghost use Rattle.ibc_ids.specs.declared.refusal.Refusal.TheVariants.{Poor};
 ghost use Rattle.ibc_machine.specs.Records.{channel_at};
 ghost use Rattle.ibc_records.specs.Held.{core_of};
 
-use super::channels::add_channel;
+use super::channels::{END, add_channel};
 use super::has;
-use ibc_app_port::{App, Pays};
-use ibc_ids::{Bytes, ChannelId, Name, PortId, Refusal, Version};
+use ibc_client::check_number;
+use ibc_codec::decode;
+use ibc_ids::{Bytes, ChannelId, PortId, Refusal};
+use ibc_note::Notes;
 use ibc_records::{Commitment, Records};
-use ibc_wire::{ChannelState, Order, Packet};
+use ibc_wire::Packet;
 use std::alloc::Global;
-use std::test::Fail;
+
+// The channel with `hello` in packet 1 to itself, which is late at height 12, as they are spelled.
+const ORDERED: &[u8] = b"\x03\x02\0\x04note\0\x09channel-0\0\x0cconnection-0\0\x06note-1";
+
+const CLOSED: &[u8] = b"\x04\x02\0\x04note\0\x09channel-0\0\x0cconnection-0\0\x06note-1";
+
+const UNORDERED: &[u8] = b"\x03\x01\0\x04note\0\x09channel-0\0\x0cconnection-0\0\x06note-1";
+
+const PACKET: &[u8] =
+    b"\0\0\0\0\0\0\0\x01\0\0\0\0\0\0\0\x0c\0\0\0\0\0\0\0\0\0\x04note\0\x09channel-0\0\x04note\0\x09channel-0\0\x05hello";
 
 // The hash of 24 bytes and the SHA-256 of the payload, worked out apart from this code.
 const COMMITMENT: [u8; 32] = [
@@ -21,77 +31,11 @@ const COMMITMENT: [u8; 32] = [
     0xe3, 0xf2, 0xaa, 0x7b, 0xee, 0x34, 0x2f, 0xab, 0x3d, 0x3f, 0x9a, 0xf1, 0x76, 0x48, 0xa5, 0x0d,
 ];
 
-// The SHA-256 of the digit 1.
+// The SHA-256 of `{"result":"AQ=="}`.
 const ACK: [u8; 32] = [
-    0x6b, 0x86, 0xb2, 0x73, 0xff, 0x34, 0xfc, 0xe1, 0x9d, 0x6b, 0x80, 0x4e, 0xff, 0x5a, 0x3f, 0x57,
-    0x47, 0xad, 0xa4, 0xea, 0xa2, 0x2f, 0x1d, 0x49, 0xc0, 0x1e, 0x52, 0xdd, 0xb7, 0x87, 0x5b, 0x4b,
+    0x08, 0xf7, 0x55, 0x7e, 0xd5, 0x18, 0x26, 0xfe, 0x18, 0xd8, 0x45, 0x12, 0xbf, 0x24, 0xec, 0x75,
+    0x00, 0x1e, 0xdb, 0xaf, 0x21, 0x23, 0xa4, 0x77, 0xdf, 0x72, 0xa0, 0xa9, 0xf3, 0x64, 0x0a, 0x7c,
 ];
-
-// Acknowledges each packet by the digit 1, and keeps nothing.
-#[derive(Drop)]
-struct Taker {
-    alloc: Global,
-}
-
-impl App for Taker {
-    ghost opens = { λ order version. Ok tt };
-
-    ghost closes = { Ok tt };
-
-    ghost receives = { λ app version packet. (codes "1", app) };
-
-    ghost is_acknowledged = { λ app version packet ack. Ok app };
-
-    ghost times_out = { λ app version packet. Ok app };
-
-    fn on_open(&self, _order: Order, _version: &Version) -> Result<(), Refusal> {
-        Ok(())
-    }
-
-    fn on_close(&self) -> Result<(), Refusal> {
-        Ok(())
-    }
-
-    fn on_recv(&mut self, _version: &Version, _packet: &Packet) -> Result<Bytes, Refusal> {
-        Ok(Bytes::copy_of(self.alloc, b"1")?)
-    }
-
-    fn on_ack(&mut self, _version: &Version, _packet: &Packet, _ack: &[u8]) -> Result<(), Refusal> {
-        Ok(())
-    }
-
-    fn on_timeout(&mut self, _version: &Version, _packet: &Packet) -> Result<(), Refusal> {
-        Ok(())
-    }
-
-    ghost opens_or_refuses = { λ order version. tt };
-
-    ghost closes_or_refuses = { tt };
-
-    ghost writes_sized_acks = { λ app version packet. refl };
-
-    ghost is_acknowledged_or_poor = { λ app version packet ack. tt };
-
-    ghost times_out_or_poor = { λ app version packet. tt };
-}
-
-// Pays bills of coins, while it has any.
-#[derive(Drop)]
-struct Purse {
-    coins: u64,
-}
-
-impl Pays<u64> for Purse {
-    ghost pays = { λ purse bill. if nat_le bill purse.coins then Ok (record { coins = purse.coins - bill }) else Err Poor };
-
-    fn pay(&mut self, bill: &u64) -> Result<(), Refusal> {
-        if *bill > self.coins {
-            return Err(Refusal::Poor);
-        }
-        self.coins -= *bill;
-        Ok(())
-    }
-}
 
 // The channel is there, and its counters may be counted on.
 fn check_counters(records: &Records, port: &PortId, id: &ChannelId) -> Result<(), Refusal>
@@ -102,88 +46,51 @@ fn check_counters(records: &Records, port: &PortId, id: &ChannelId) -> Result<()
     let Some(mine) = records.channel(port, id)? else {
         return Err(Refusal::UnknownChannel);
     };
-    if mine.next_send() == u64::MAX || mine.next_recv() == u64::MAX || mine.next_ack() == u64::MAX {
-        return Err(Refusal::NumberFull);
-    }
-    Ok(())
+    check_number(mine.next_send())?;
+    check_number(mine.next_recv())?;
+    check_number(mine.next_ack())
 }
 
-// A packet of the channel to itself.
-fn packet(alloc: Global, sequence: u64) -> Result<Packet, Refusal> {
-    Ok(Packet {
-        sequence,
-        timeout_height: 12,
-        timeout_time: 0,
-        source_port: Name::parse(alloc, "note")?,
-        source_channel: Name::parse(alloc, "channel-0")?,
-        destination_port: Name::parse(alloc, "note")?,
-        destination_channel: Name::parse(alloc, "channel-0")?,
-        payload: Bytes::copy_of(alloc, b"hello")?,
-    })
-}
-
-// What is committed of the packet.
-fn commitment(alloc: Global) -> Result<Commitment, Refusal> {
-    Ok(Commitment {
+// The channel sends the packet.
+fn send(alloc: Global, records: &mut Records, packet: &Packet) -> Result<u64, Refusal> {
+    let commitment = Commitment {
         payload: Bytes::copy_of(alloc, b"hello")?,
         timeout_height: 12,
         timeout_time: 0,
-    })
+    };
+    check_counters(records, &packet.source_port, &packet.source_channel)?;
+    records.send(&packet.source_port, &packet.source_channel, commitment)
 }
 
-// The channel sends a packet: its sequence.
-fn send(alloc: Global, records: &mut Records) -> Result<u64, Refusal> {
-    let port = PortId::parse(alloc, "note")?;
-    let id = ChannelId::parse(alloc, "channel-0")?;
-    check_counters(records, &port, &id)?;
-    records.send(&port, &id, commitment(alloc)?)
-}
-
-// The same, where a purse pays a bill of 3 coins.
-fn send_paid(alloc: Global, records: &mut Records, purse: &mut Purse) -> Result<u64, Refusal> {
-    let port = PortId::parse(alloc, "note")?;
-    let id = ChannelId::parse(alloc, "channel-0")?;
-    check_counters(records, &port, &id)?;
-    records.send_paid(purse, &3, &port, &id, commitment(alloc)?)
-}
-
-// The channel receives a packet: whether both copies of its acknowledgement are the digit 1.
-fn receive(alloc: Global, records: &mut Records, packet: &Packet) -> Result<bool, Refusal> {
-    let mut app = Taker { alloc };
+// The channel receives the packet.
+fn receive(alloc: Global, records: &mut Records, packet: &Packet) -> Result<(), Refusal> {
+    let mut notes = Notes::new(alloc);
     check_counters(
         records,
         &packet.destination_port,
         &packet.destination_channel,
     )?;
-    let (reply, copy) = records.receive(&mut app, packet)?;
-    Ok(reply.as_slice() == b"1".as_slice() && copy == reply)
+    let acks = records.receive(&mut notes, packet)?;
+    drop(acks);
+    Ok(())
 }
 
-// A packet that the channel sent is acknowledged.
+// The packet is acknowledged.
 fn acknowledge(alloc: Global, records: &mut Records, packet: &Packet) -> Result<(), Refusal> {
-    let mut app = Taker { alloc };
+    let mut notes = Notes::new(alloc);
     check_counters(records, &packet.source_port, &packet.source_channel)?;
-    records.acknowledge(&mut app, packet, b"1")
+    records.acknowledge(&mut notes, packet, br#"{"result":"AQ=="}"#)
 }
 
-// A packet that the channel sent is too late.
+// The packet is too late.
 fn time_out(alloc: Global, records: &mut Records, packet: &Packet) -> Result<(), Refusal> {
-    let mut app = Taker { alloc };
+    let mut notes = Notes::new(alloc);
     check_counters(records, &packet.source_port, &packet.source_channel)?;
-    records.time_out(&mut app, packet)
+    records.time_out(&mut notes, packet)
 }
 
-// Records with a channel of this order, which is open to itself.
-fn with_channel(alloc: Global, order: Order) -> Result<Records, Refusal> {
-    let mut records = Records::new(alloc, 2, 100)?;
-    add_channel(alloc, &mut records, ChannelState::Open, order)?;
-    Ok(records)
-}
-
-// What stands of packet 1 and of the channel's counters: the commitment, the acknowledgement, the receipt, and whether
-// the sequences of sending, receiving and acknowledging are 2.
-fn stands(records: &Records) -> [bool; 6] {
-    let two = [0, 0, 0, 0, 0, 0, 0, 2];
+// What stands of packet 1: its commitment, its acknowledgement and its receipt.
+fn values(records: &Records) -> [bool; 3] {
     [
         has(
             records,
@@ -200,6 +107,13 @@ fn stands(records: &Records) -> [bool; 6] {
             "receipts/ports/note/channels/channel-0/sequences/1",
             &[1],
         ),
+    ]
+}
+
+// Whether the sequences of sending, receiving and acknowledging are 2.
+fn counters(records: &Records) -> [bool; 3] {
+    let two = [0, 0, 0, 0, 0, 0, 0, 2];
+    [
         has(
             records,
             "nextSequenceSend/ports/note/channels/channel-0",
@@ -218,83 +132,80 @@ fn stands(records: &Records) -> [bool; 6] {
     ]
 }
 
-// What stands after packet 1 was sent, then received, and then acknowledged, where both copies of the acknowledgement
-// are right.
-fn relayed(alloc: Global, order: Order) -> Result<([[bool; 6]; 3], bool), Refusal> {
-    let packet = packet(alloc, 1)?;
-    let mut records = with_channel(alloc, order)?;
-    let sent = send(alloc, &mut records);
-    let after_send = stands(&records);
-    let received = receive(alloc, &mut records, &packet);
-    let after_receive = stands(&records);
-    let acknowledged = acknowledge(alloc, &mut records, &packet);
-    let after_ack = stands(&records);
-    drop(records);
+// What stands of the packet once it is sent, received and acknowledged, and of the counters then.
+type Relayed = ([[bool; 3]; 3], [bool; 3]);
+
+fn relay(alloc: Global, records: &mut Records, packet: &Packet) -> Result<Relayed, Refusal> {
+    send(alloc, records, packet)?;
+    let sent = values(records);
+    receive(alloc, records, packet)?;
+    let received = values(records);
+    acknowledge(alloc, records, packet)?;
+    Ok(([sent, received, values(records)], counters(records)))
+}
+
+// The same of the packet of a channel that comes with this end.
+fn relay_over(alloc: Global, records: &mut Records, end: &[u8]) -> Result<Relayed, Refusal> {
+    add_channel(alloc, records, end)?;
+    let packet = decode(alloc, PACKET)?;
+    let relayed = relay(alloc, records, &packet);
     drop(packet);
-    sent?;
-    let is_right = received?;
-    acknowledged?;
-    Ok(([after_send, after_receive, after_ack], is_right))
+    relayed
 }
 
-#[test]
-fn packets_in_order(rt: HostRuntime) -> Result<(), Fail> {
-    let ([sent, received, acknowledged], is_right) = relayed(rt.alloc(), Order::Ordered)?;
-    assert!(rt; is_right);
-    assert_eq!(rt; sent, [true, false, false, true, false, false]);
-    assert_eq!(rt; received, [true, true, false, true, true, false]);
-    assert_eq!(rt; acknowledged, [false, true, false, true, true, true]);
-    Ok(())
-}
-
-#[test]
-fn packets_in_any_order(rt: HostRuntime) -> Result<(), Fail> {
-    let ([_, received, acknowledged], is_right) = relayed(rt.alloc(), Order::Unordered)?;
-    assert!(rt; is_right);
-    assert_eq!(rt; received, [true, true, true, true, false, false]);
-    assert_eq!(rt; acknowledged, [false, true, true, true, false, false]);
-    Ok(())
-}
-
-// Whether the commitment of packet 1 stands once it is late, and whether the channel is then open at its path.
-fn late(alloc: Global, order: Order, end: &[u8]) -> Result<[bool; 2], Refusal> {
-    let packet = packet(alloc, 1)?;
-    let mut records = with_channel(alloc, order)?;
-    let sent = send(alloc, &mut records);
-    let timed_out = time_out(alloc, &mut records, &packet);
-    let committed = stands(&records)[0];
-    let has_end = has(&records, "channelEnds/ports/note/channels/channel-0", end);
+// The same in new records.
+fn relayed(alloc: Global, end: &[u8]) -> Result<Relayed, Refusal> {
+    let mut records = Records::new(alloc, 2, 100)?;
+    let relayed = relay_over(alloc, &mut records, end);
     drop(records);
+    relayed
+}
+
+#[test]
+fn packets_in_order(rt: HostRuntime) {
+    let sent = [true, false, false];
+    let received = [true, true, false];
+    let acknowledged = [false, true, false];
+    let due = ([sent, received, acknowledged], [true, true, true]);
+    assert!(rt; relayed(rt.alloc(), ORDERED) == Ok(due));
+}
+
+#[test]
+fn packets_in_any_order(rt: HostRuntime) {
+    let sent = [true, false, false];
+    let received = [true, true, true];
+    let acknowledged = [false, true, true];
+    let due = ([sent, received, acknowledged], [true, false, false]);
+    assert!(rt; relayed(rt.alloc(), UNORDERED) == Ok(due));
+}
+
+// The packet is sent, and is too late.
+fn send_late(alloc: Global, records: &mut Records, packet: &Packet) -> Result<(), Refusal> {
+    send(alloc, records, packet)?;
+    time_out(alloc, records, packet)
+}
+
+// Whether the commitment of the packet of a channel that comes with this end stands once it is late.
+fn is_pending_late(alloc: Global, records: &mut Records, end: &[u8]) -> Result<bool, Refusal> {
+    add_channel(alloc, records, end)?;
+    let packet = decode(alloc, PACKET)?;
+    let late = send_late(alloc, records, &packet);
     drop(packet);
-    sent?;
-    timed_out?;
-    Ok([committed, has_end])
+    late?;
+    Ok(values(records)[0])
+}
+
+// The same in new records, and whether the channel's end is then the second one.
+fn timed_out(alloc: Global, before: &[u8], after: &[u8]) -> Result<[bool; 2], Refusal> {
+    let mut records = Records::new(alloc, 2, 100)?;
+    let is_pending = is_pending_late(alloc, &mut records, before);
+    let has_end = has(&records, END, after);
+    drop(records);
+    Ok([is_pending?, has_end])
 }
 
 #[test]
-fn a_late_packet_closes_what_is_ordered(rt: HostRuntime) -> Result<(), Fail> {
-    let closed = b"\x04\x02\x00\x04note\x00\x09channel-0\x00\x0cconnection-0\x00\x06note-1";
-    assert_eq!(rt; late(rt.alloc(), Order::Ordered, closed)?, [false, true]);
-    let open = b"\x03\x01\x00\x04note\x00\x09channel-0\x00\x0cconnection-0\x00\x06note-1";
-    assert_eq!(rt; late(rt.alloc(), Order::Unordered, open)?, [false, true]);
-    Ok(())
-}
-
-// What is answered to two packets that a purse of 5 coins pays 3 for, each, what it has left, and what then stands.
-fn paid(alloc: Global) -> Result<([Result<u64, Refusal>; 2], u64, [bool; 6]), Refusal> {
-    let mut records = with_channel(alloc, Order::Ordered)?;
-    let mut purse = Purse { coins: 5 };
-    let first = send_paid(alloc, &mut records, &mut purse);
-    let second = send_paid(alloc, &mut records, &mut purse);
-    let stands = stands(&records);
-    Ok(([first, second], purse.coins, stands))
-}
-
-#[test]
-fn packets_are_paid_for(rt: HostRuntime) -> Result<(), Fail> {
-    let (answers, coins, stands) = paid(rt.alloc())?;
-    assert_eq!(rt; answers, [Ok(1), Err(Refusal::Poor)]);
-    assert_eq!(rt; coins, 2);
-    assert_eq!(rt; stands, [true, false, false, true, false, false]);
-    Ok(())
+fn a_late_packet_closes_what_is_ordered(rt: HostRuntime) {
+    assert!(rt; timed_out(rt.alloc(), ORDERED, CLOSED) == Ok([false, true]));
+    assert!(rt; timed_out(rt.alloc(), UNORDERED, UNORDERED) == Ok([false, true]));
 }
