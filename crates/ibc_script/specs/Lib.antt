@@ -3,4 +3,3 @@ pub mod ChainNames
 pub mod EventKinds
 pub mod Faults
 pub mod Scripts
-pub mod TokenLists

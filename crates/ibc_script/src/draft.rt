@@ -3,9 +3,9 @@
 ghost use Rattle.std.specs.Prelude.{◌≡◌};
 ghost use Rattle.ibc_script.specs.EventKinds.{client_draft_kind, connection_draft_kind, channel_draft_kind, packet_draft_kind, draft_kind};
 
-use crate::{EventKind, ListedTransfer};
+use crate::ListedTransfer;
 use ibc_ids::{ChannelId, ClientId, ConnectionId, PortId, Version};
-use ibc_wire::{ChanCloseInit, ChanOpenInit, Order, SendNote, Transfer};
+use ibc_wire::{ChanCloseInit, ChanOpenInit, MessageKind, Order, SendNote, Transfer};
 
 /// The height of a chain from which the proofs of a message are taken.
 #[derive(Clone, Copy, Debug, PartialEq, Eq, Drop)]
@@ -132,63 +132,63 @@ pub enum Draft {
 }
 
 impl ClientDraft {
-    fn kind(&self) -> EventKind
+    fn kind(&self) -> MessageKind
         ensures { result ≡ client_draft_kind self.now }
     {
         match self {
-            ClientDraft::Create { .. } => EventKind::CreateClient,
-            ClientDraft::Update { .. } => EventKind::UpdateClient,
+            ClientDraft::Create { .. } => MessageKind::CreateClient,
+            ClientDraft::Update { .. } => MessageKind::UpdateClient,
         }
     }
 }
 
 impl ConnectionDraft {
-    fn kind(&self) -> EventKind
+    fn kind(&self) -> MessageKind
         ensures { result ≡ connection_draft_kind self.now }
     {
         match self {
-            ConnectionDraft::OpenInit { .. } => EventKind::ConnOpenInit,
-            ConnectionDraft::OpenTry { .. } => EventKind::ConnOpenTry,
-            ConnectionDraft::OpenAck { .. } => EventKind::ConnOpenAck,
-            ConnectionDraft::OpenConfirm { .. } => EventKind::ConnOpenConfirm,
+            ConnectionDraft::OpenInit { .. } => MessageKind::ConnOpenInit,
+            ConnectionDraft::OpenTry { .. } => MessageKind::ConnOpenTry,
+            ConnectionDraft::OpenAck { .. } => MessageKind::ConnOpenAck,
+            ConnectionDraft::OpenConfirm { .. } => MessageKind::ConnOpenConfirm,
         }
     }
 }
 
 impl ChannelDraft {
-    fn kind(&self) -> EventKind
+    fn kind(&self) -> MessageKind
         ensures { result ≡ channel_draft_kind self.now }
     {
         match self {
-            ChannelDraft::OpenInit(_) => EventKind::ChanOpenInit,
-            ChannelDraft::OpenTry(_) => EventKind::ChanOpenTry,
-            ChannelDraft::OpenAck { .. } => EventKind::ChanOpenAck,
-            ChannelDraft::OpenConfirm { .. } => EventKind::ChanOpenConfirm,
-            ChannelDraft::CloseInit(_) => EventKind::ChanCloseInit,
-            ChannelDraft::CloseConfirm { .. } => EventKind::ChanCloseConfirm,
+            ChannelDraft::OpenInit(_) => MessageKind::ChanOpenInit,
+            ChannelDraft::OpenTry(_) => MessageKind::ChanOpenTry,
+            ChannelDraft::OpenAck { .. } => MessageKind::ChanOpenAck,
+            ChannelDraft::OpenConfirm { .. } => MessageKind::ChanOpenConfirm,
+            ChannelDraft::CloseInit(_) => MessageKind::ChanCloseInit,
+            ChannelDraft::CloseConfirm { .. } => MessageKind::ChanCloseConfirm,
         }
     }
 }
 
 impl PacketDraft {
-    fn kind(&self) -> EventKind
+    fn kind(&self) -> MessageKind
         ensures { result ≡ packet_draft_kind self.now }
     {
         match self {
-            PacketDraft::Transfer(_) => EventKind::Transfer,
-            PacketDraft::TransferMany(_) => EventKind::TransferMany,
-            PacketDraft::SendNote(_) => EventKind::SendNote,
-            PacketDraft::Recv { .. } => EventKind::RecvPacket,
-            PacketDraft::Ack { .. } => EventKind::AckPacket,
-            PacketDraft::Timeout { .. } => EventKind::Timeout,
-            PacketDraft::TimeoutOnClose { .. } => EventKind::TimeoutOnClose,
+            PacketDraft::Transfer(_) => MessageKind::Transfer,
+            PacketDraft::TransferMany(_) => MessageKind::TransferMany,
+            PacketDraft::SendNote(_) => MessageKind::SendNote,
+            PacketDraft::Recv { .. } => MessageKind::RecvPacket,
+            PacketDraft::Ack { .. } => MessageKind::AckPacket,
+            PacketDraft::Timeout { .. } => MessageKind::Timeout,
+            PacketDraft::TimeoutOnClose { .. } => MessageKind::TimeoutOnClose,
         }
     }
 }
 
 impl Draft {
     /// The kind of the message.
-    pub fn kind(&self) -> EventKind
+    pub fn kind(&self) -> MessageKind
         ensures { result ≡ draft_kind self.now }
     {
         match self {

@@ -8,37 +8,38 @@ use Rattle.ibc_ids.specs.declared.refusal.Refusal.TheVariants as refusal
 use Rattle.ibc_machine.specs.declared.reply.Effect.TheVariants as effect
 use Rattle.ibc_machine.specs.declared.reply.Reply.TheVariants as reply
 use Rattle.ibc_script_cli.specs.Lines.{line}
-use Rattle.ibc_script.specs.declared.event_kind.EventKind.TheVariants as kind
+use Rattle.ibc_script.specs.declared.event_kind.EventKind.TheVariants as event
+use Rattle.ibc_wire.specs.declared.messages.MessageKind.TheVariants as kind
 use Rattle.ibc_script_cli.specs.declared.line.Line.TheVariants as printed
 
-a_client : line (printed.Reply (codes "a") kind.CreateClient (reply.Ok (effect.Client (codes "inprocess-0")))) ≡ codes "a CreateClient ok inprocess-0"
+a_client : line (printed.Reply (codes "a") (event.Message kind.CreateClient) (reply.Ok (effect.Client (codes "inprocess-0")))) ≡ codes "a CreateClient ok inprocess-0"
 a_client = refl
 
-a_channel : line (printed.Reply (codes "a") kind.ChanOpenInit (reply.Ok (effect.Channel (codes "channel-0")))) ≡ codes "a ChanOpenInit ok channel-0"
+a_channel : line (printed.Reply (codes "a") (event.Message kind.ChanOpenInit) (reply.Ok (effect.Channel (codes "channel-0")))) ≡ codes "a ChanOpenInit ok channel-0"
 a_channel = refl
 
-an_update : line (printed.Reply (codes "a") kind.UpdateClient (reply.Ok effect.None)) ≡ codes "a UpdateClient ok"
+an_update : line (printed.Reply (codes "a") (event.Message kind.UpdateClient) (reply.Ok effect.None)) ≡ codes "a UpdateClient ok"
 an_update = refl
 
-a_refusal : line (printed.Reply (codes "a") kind.UpdateClient (reply.No refusal.NotPublished)) ≡ codes "a UpdateClient no 6"
+a_refusal : line (printed.Reply (codes "a") (event.Message kind.UpdateClient) (reply.No refusal.NotPublished)) ≡ codes "a UpdateClient no 6"
 unfolding digits
 a_refusal = refl
 
-a_block : line (printed.Reply (codes "b") kind.Block (reply.Ok (effect.Block 12 (7 ∷ [])))) ≡ codes "b Block ok 12"
+a_block : line (printed.Reply (codes "b") event.Block (reply.Ok (effect.Block 12 (7 ∷ [])))) ≡ codes "b Block ok 12"
 unfolding digits
 a_block = refl
 
-a_sequence : line (printed.Reply (codes "a") kind.Transfer (reply.Ok (effect.Sent 18446744073709551614))) ≡ codes "a Transfer ok 18446744073709551614"
+a_sequence : line (printed.Reply (codes "a") (event.Message kind.Transfer) (reply.Ok (effect.Sent 18446744073709551614))) ≡ codes "a Transfer ok 18446744073709551614"
 unfolding digits
 a_sequence = refl
 
-an_acknowledgement : line (printed.Reply (codes "a") kind.RecvPacket (reply.Ok (effect.Ack (codes "{\"result\":\"AQ==\"}")))) ≡ codes "a RecvPacket ok {\"result\":\"AQ==\"}"
+an_acknowledgement : line (printed.Reply (codes "a") (event.Message kind.RecvPacket) (reply.Ok (effect.Ack (codes "{\"result\":\"AQ==\"}")))) ≡ codes "a RecvPacket ok {\"result\":\"AQ==\"}"
 an_acknowledgement = refl
 
-unprintable_bytes : line (printed.Reply (codes "a") kind.RecvPacket (reply.Ok (effect.Ack (31 ∷ 32 ∷ 126 ∷ 127 ∷ 255 ∷ 10 ∷ [])))) ≡ codes "a RecvPacket ok ? ~???"
+unprintable_bytes : line (printed.Reply (codes "a") (event.Message kind.RecvPacket) (reply.Ok (effect.Ack (31 ∷ 32 ∷ 126 ∷ 127 ∷ 255 ∷ 10 ∷ [])))) ≡ codes "a RecvPacket ok ? ~???"
 unprintable_bytes = refl
 
-nothing_asked : line (printed.Missing (codes "b") kind.ConnOpenConfirm) ≡ codes "b ConnOpenConfirm none"
+nothing_asked : line (printed.Missing (codes "b") (event.Message kind.ConnOpenConfirm)) ≡ codes "b ConnOpenConfirm none"
 nothing_asked = refl
 
 a_balance : line (printed.Balance (codes "b") (account.User (codes "alice")) (codes "transfer/channel-0/atom") 340282366920938463463374607431768211455)

@@ -13,8 +13,8 @@ use Rattle.ibc_script.specs.declared.draft.ConnectionDraft.TheVariants as connec
 use Rattle.ibc_script.specs.declared.draft.Draft.{Draft}
 use Rattle.ibc_script.specs.declared.draft.Draft.TheVariants as draft
 use Rattle.ibc_script.specs.declared.draft.Origin.{Origin}
-use Rattle.ibc_script.specs.declared.event_kind.EventKind.{EventKind}
-use Rattle.ibc_script.specs.declared.event_kind.EventKind.TheVariants as kind
+use Rattle.ibc_wire.specs.declared.messages.MessageKind.{MessageKind}
+use Rattle.ibc_wire.specs.declared.messages.MessageKind.TheVariants as kind
 use Rattle.ibc_script_cli.specs.declared.opening.Opening.{Opening}
 use Rattle.ibc_script_cli.specs.declared.opening.Party.{Party}
 use Rattle.ibc_script_cli.specs.declared.opening.Side.{Side}
@@ -115,7 +115,7 @@ channel_confirm_draft app own peer =
     option_map (λ id. draft.Channel (channel.OpenConfirm (port_of app) id (origin_of peer))) own.channel
 
 -- the message of a kind
-abbrev pub draft_of : Application → EventKind → Party → Party → Option Draft
+abbrev pub draft_of : Application → MessageKind → Party → Party → Option Draft
 draft_of app kind.CreateClient own peer = Some (draft.Client (client.Create peer.chain))
 draft_of app kind.UpdateClient own peer = update_draft own peer
 draft_of app kind.ConnOpenInit own peer = init_draft own peer
@@ -138,7 +138,7 @@ abbrev pub peer_of : Side → Opening → Party
 peer_of First o = o.second
 peer_of Second o = o.first
 
-abbrev pub turn_draft : Side → EventKind → Opening → Option Draft
+abbrev pub turn_draft : Side → MessageKind → Opening → Option Draft
 turn_draft side k o = draft_of o.application k (own_of side o) (peer_of side o)
 
 abbrev pub with_learnt : Side → Effect → Opening → Opening

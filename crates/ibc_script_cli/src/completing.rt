@@ -1,7 +1,8 @@
 //! The messages of steps are completed from what the chains answer.
 
 ghost use Rattle.std.specs.Prelude.{◌≡◌, Some, IfOk, IfErr, IfSome};
-ghost use Rattle.ibc_script.specs.EventKinds.{kind_of, draft_kind};
+ghost use Rattle.ibc_wire.specs.Kinds.{kind_of};
+ghost use Rattle.ibc_script.specs.EventKinds.{draft_kind};
 ghost use Rattle.ibc_script_cli.specs.Completing.{IsEncoding, IsClaim, IsProofAt, IsClaimAt, MakesMessage};
 
 mod channels;

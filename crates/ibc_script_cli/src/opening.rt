@@ -9,6 +9,7 @@ use drafts::Drafting;
 use ibc_ids::{ChannelId, ClientId, ConnectionId};
 use ibc_machine::Effect;
 use ibc_script::{Application, Draft, EventKind, Fault, Origin};
+use ibc_wire::MessageKind;
 use std::alloc::Global;
 
 /// One of the two chains.
@@ -24,26 +25,32 @@ pub enum Side {
 /// Handshake"), then a channel over it (ICS 4, "Opening handshake"). The peer is told of each height whose records a
 /// message proves.
 pub const PLAN: [(Side, EventKind); 20] = [
-    (Side::First, EventKind::CreateClient),
-    (Side::Second, EventKind::CreateClient),
-    (Side::First, EventKind::ConnOpenInit),
+    (Side::First, EventKind::Message(MessageKind::CreateClient)),
+    (Side::Second, EventKind::Message(MessageKind::CreateClient)),
+    (Side::First, EventKind::Message(MessageKind::ConnOpenInit)),
     (Side::First, EventKind::Block),
-    (Side::Second, EventKind::UpdateClient),
-    (Side::Second, EventKind::ConnOpenTry),
+    (Side::Second, EventKind::Message(MessageKind::UpdateClient)),
+    (Side::Second, EventKind::Message(MessageKind::ConnOpenTry)),
     (Side::Second, EventKind::Block),
-    (Side::First, EventKind::UpdateClient),
-    (Side::First, EventKind::ConnOpenAck),
-    (Side::First, EventKind::ChanOpenInit),
+    (Side::First, EventKind::Message(MessageKind::UpdateClient)),
+    (Side::First, EventKind::Message(MessageKind::ConnOpenAck)),
+    (Side::First, EventKind::Message(MessageKind::ChanOpenInit)),
     (Side::First, EventKind::Block),
-    (Side::Second, EventKind::UpdateClient),
-    (Side::Second, EventKind::ConnOpenConfirm),
-    (Side::Second, EventKind::ChanOpenTry),
+    (Side::Second, EventKind::Message(MessageKind::UpdateClient)),
+    (
+        Side::Second,
+        EventKind::Message(MessageKind::ConnOpenConfirm),
+    ),
+    (Side::Second, EventKind::Message(MessageKind::ChanOpenTry)),
     (Side::Second, EventKind::Block),
-    (Side::First, EventKind::UpdateClient),
-    (Side::First, EventKind::ChanOpenAck),
+    (Side::First, EventKind::Message(MessageKind::UpdateClient)),
+    (Side::First, EventKind::Message(MessageKind::ChanOpenAck)),
     (Side::First, EventKind::Block),
-    (Side::Second, EventKind::UpdateClient),
-    (Side::Second, EventKind::ChanOpenConfirm),
+    (Side::Second, EventKind::Message(MessageKind::UpdateClient)),
+    (
+        Side::Second,
+        EventKind::Message(MessageKind::ChanOpenConfirm),
+    ),
 ];
 
 /// A chain of an `open`, with the names that it has given, and the height that it has committed last, 0 before the
@@ -125,7 +132,12 @@ impl Opening {
 
     /// The message of a turn, `None` where the turn sends none, or names something that no chain has given.
     /// Fault: `NoMemory`.
-    pub fn draft(&self, alloc: Global, side: Side, kind: EventKind) -> Result<Option<Draft>, Fault>
+    pub fn draft(
+        &self,
+        alloc: Global,
+        side: Side,
+        kind: MessageKind,
+    ) -> Result<Option<Draft>, Fault>
         ensures made { IfOk result (λ made. made ≡ turn_draft side kind self.now) }
         ensures memory { IfErr result (λ fault. fault ≡ Fault.NoMemory) }
     {

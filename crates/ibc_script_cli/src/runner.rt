@@ -165,7 +165,7 @@ impl<'s, C: Chains + Drop> Runner<'s, C> {
         ensures same { self.new.names.now ≡ self.old.names.now }
         ensures faults { IfErr result StopsRun }
     {
-        let kind = EventKind::of_message(&message);
+        let kind = EventKind::Message(message.kind());
         let event = Event::Message { chain: on, message };
         let reply = self.chains.ask(event).map_err(Fault::no_memory)?;
         self.print_reply(on, kind, reply, output)
@@ -207,7 +207,7 @@ impl<'s, C: Chains + Drop> Runner<'s, C> {
         match made {
             Some(message) => self.send(on, message, output),
             None => {
-                self.print_missing(on, draft.kind(), output)?;
+                self.print_missing(on, EventKind::Message(draft.kind()), output)?;
                 Ok(None)
             }
         }
@@ -251,9 +251,9 @@ impl<'s, C: Chains + Drop> Runner<'s, C> {
         ensures faults { IfErr result StopsRun }
     {
         let on = opening.chain(side);
-        if kind == EventKind::Block {
+        let EventKind::Message(kind) = kind else {
             return self.end_block(on, None, output);
-        }
+        };
         match opening.draft(self.alloc, side, kind)? {
             Some(draft) => {
                 let given = self.submit(on, &draft, output);

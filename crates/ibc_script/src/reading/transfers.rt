@@ -1,18 +1,18 @@
 //! The steps that send tokens.
 
 ghost use Rattle.std.specs.Prelude.{◌≡◌, length, IfOk, IfErr, IsTrue};
+ghost use Rattle.ibc_wire.specs.Tokens.{is_listed};
 ghost use Rattle.ibc_script.specs.Faults.{JudgesScript};
 ghost use Rattle.ibc_script.specs.Scripts.{IsPacketAmong};
-ghost use Rattle.ibc_script.specs.TokenLists.{is_listed};
 
 use super::step_reader::StepReader;
 use super::{parse_name, read_amount};
 use crate::Fault;
 use crate::draft::PacketDraft;
-use crate::listed_transfer::{ListedTransfer, is_listed};
+use crate::listed_transfer::ListedTransfer;
 use crate::members::{has_only, list, text, text_or_empty};
 use ibc_ids::Memo;
-use ibc_wire::{Token, Tokens, Transfer, TransferMany};
+use ibc_wire::{Token, Tokens, Transfer, TransferMany, is_listed};
 use serde_json::Value;
 use std::alloc::Global;
 

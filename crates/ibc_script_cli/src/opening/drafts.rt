@@ -8,9 +8,9 @@ ghost use Rattle.ibc_script_cli.specs.Opening.{update_draft, init_draft, try_dra
 use super::Party;
 use ibc_ids::{ChannelId, ConnectionId};
 use ibc_script::{
-    Application, ChannelDraft, ChannelTry, ClientDraft, ConnectionDraft, Draft, EventKind, Fault,
+    Application, ChannelDraft, ChannelTry, ClientDraft, ConnectionDraft, Draft, Fault,
 };
-use ibc_wire::ChanOpenInit;
+use ibc_wire::{ChanOpenInit, MessageKind};
 use std::alloc::Global;
 
 /// What a message of an `open` is made of: the application, the chain that it is sent to, and the other one.
@@ -189,23 +189,23 @@ impl Drafting<'_> {
 
     /// The message of a kind, `None` where `open` sends none of it, or it names something that no chain has given.
     /// Fault: `NoMemory`.
-    pub fn draft(&self, kind: EventKind) -> Result<Option<Draft>, Fault>
+    pub fn draft(&self, kind: MessageKind) -> Result<Option<Draft>, Fault>
         ensures made { IfOk result (λ made. made ≡ draft_of self.now.application kind self.now.own.now self.now.peer.now) }
         ensures memory { IfErr result (λ fault. fault ≡ Fault.NoMemory) }
     {
         match kind {
-            EventKind::CreateClient => Ok(Some(Draft::Client(ClientDraft::Create {
+            MessageKind::CreateClient => Ok(Some(Draft::Client(ClientDraft::Create {
                 of: self.peer.chain,
             }))),
-            EventKind::UpdateClient => self.update_client(),
-            EventKind::ConnOpenInit => self.conn_open_init(),
-            EventKind::ConnOpenTry => self.conn_open_try(),
-            EventKind::ConnOpenAck => self.conn_open_ack(),
-            EventKind::ConnOpenConfirm => self.conn_open_confirm(),
-            EventKind::ChanOpenInit => self.chan_open_init(),
-            EventKind::ChanOpenTry => self.chan_open_try(),
-            EventKind::ChanOpenAck => self.chan_open_ack(),
-            EventKind::ChanOpenConfirm => self.chan_open_confirm(),
+            MessageKind::UpdateClient => self.update_client(),
+            MessageKind::ConnOpenInit => self.conn_open_init(),
+            MessageKind::ConnOpenTry => self.conn_open_try(),
+            MessageKind::ConnOpenAck => self.conn_open_ack(),
+            MessageKind::ConnOpenConfirm => self.conn_open_confirm(),
+            MessageKind::ChanOpenInit => self.chan_open_init(),
+            MessageKind::ChanOpenTry => self.chan_open_try(),
+            MessageKind::ChanOpenAck => self.chan_open_ack(),
+            MessageKind::ChanOpenConfirm => self.chan_open_confirm(),
             _ => Ok(None),
         }
     }
