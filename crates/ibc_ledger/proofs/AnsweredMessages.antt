@@ -17,14 +17,13 @@ use Rattle.ibc_machine.specs.declared.reply.Reply.{Reply}
 use Rattle.ibc_machine.specs.declared.entry.Reading.{Reading}
 use Rattle.ibc_machine.specs.Records.{Core, Apps}
 use Rattle.ibc_machine.specs.Checks.{Checked, go_on, ◌>>=◌}
-use Rattle.ibc_machine.specs.Evidence.{Host}
 use Rattle.ibc_machine.specs.Clients.{update_client}
-use Rattle.ibc_machine.specs.Handlers.{handle, host_of}
+use Rattle.ibc_machine.specs.Handlers.{handle}
 use Rattle.ibc_machine.specs.Replay.{LedgerState, Consensus, proves, ledger_answer, with_consensus}
 use Rattle.ibc_machine.specs.Ledgers.{Ledger, state_of, is_typed, is_looking, is_block_reply}
 use Rattle.ibc_records.specs.Held.{HeldRecords, core_of, IsUnchanged}
 use Rattle.ibc_records.specs.Taking.{IsHandledWith, IsTakenWith, host_with}
-use Rattle.ibc_client.specs.Answers.{IsUpdated, IsRefused}
+use Rattle.ibc_client.specs.Answers.{IsUpdated}
 use Rattle.ibc_ledger.specs.declared.outcome.Effects.{Effects}
 use Rattle.ibc_ledger.specs.Effects.{told_by, told_reply}
 use Rattle.ibc_ledger.specs.Growing.{seeing_more, with_entry}

@@ -1,5 +1,5 @@
 -- What becomes of a packet is the same where what the application keeps is a part of something more.
-use Rattle.std.proofs.Common.{◌≡◌, ℕ, refl, ap, ◌∙◌, sym, Ok, Err, Result, inl, inr, ⊎_elim}
+use Rattle.std.proofs.Common.{◌≡◌, refl, ap, ◌∙◌, Ok, Err, Result, inl, inr, ⊎_elim}
 use Rattle.ibc_ids.specs.Texts.{Text}
 use Rattle.ibc_ids.specs.declared.refusal.Refusal.{Refusal}
 use Rattle.ibc_wire.specs.declared.packet.Packet.{Packet}

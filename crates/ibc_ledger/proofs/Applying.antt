@@ -41,7 +41,7 @@ use Rattle.ibc_ledger.specs.Standing.{Stands}
 use Rattle.ibc_ledger.specs.Held.{HeldLedger, plain_entry}
 use Rattle.ibc_ledger.specs.Inside.{genesis_of, ledger_of, held_of, IsHeld}
 use Rattle.ibc_ledger.specs.Adding.{AddsOrNot}
-use Rattle.ibc_ledger.specs.Answering.{IsReady, IsAnswered, IsUpdateAnswer, IsAnswer}
+use Rattle.ibc_ledger.specs.Answering.{IsAnswered, IsUpdateAnswer, IsAnswer}
 use Rattle.ibc_ledger.proofs.AnsweredMessages.{TellsNothing, Followed, Leaves, stands_left, unread_leaves, update_leaves}
 use Rattle.ibc_ledger.proofs.HeldLedgers.{IsStepped, longer_history}
 

@@ -14,7 +14,6 @@ use Rattle.ibc_wire.specs.declared.messages.TimeoutOnClose.{TimeoutOnClose}
 use Rattle.ibc_machine.specs.declared.reply.Effect.{Effect}
 use Rattle.ibc_machine.specs.Records.{Core, Channel, Apps, commitment_of}
 use Rattle.ibc_machine.specs.Checks.{Checked, go_on, ◌>>=◌}
-use Rattle.ibc_machine.specs.Evidence.{Host, Evidence}
 use Rattle.ibc_machine.specs.Bank.{Balances}
 use Rattle.ibc_machine.specs.TokenData.{tokens_of}
 use Rattle.ibc_machine.specs.Transfers.{transfer_port, burnt, receive_transfer, acknowledge_transfer, refund_transfer}
@@ -36,7 +35,7 @@ use Rattle.ibc_ledger.specs.declared.applications.Applications.{Applications}
 use Rattle.ibc_ledger.specs.declared.node.Node.{Node}
 use Rattle.ibc_ledger.specs.Apps.{plain_apps}
 use Rattle.ibc_ledger.specs.Answering.{IsReady}
-use Rattle.ibc_ledger.proofs.AppParts.{put_in, put_beside, put_last, recv_put, ack_put, timeout_put, timeout_on_close_put}
+use Rattle.ibc_ledger.proofs.AppParts.{put_in, put_last, recv_put, ack_put, timeout_put, timeout_on_close_put}
 use Rattle.ibc_ledger.proofs.Answered.{IsPart}
 
 abbrev pub with_bank : Node → BankState → Applications

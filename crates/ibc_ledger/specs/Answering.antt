@@ -1,5 +1,5 @@
 -- What a chain answers to a message, and what that does to what it keeps.
-use Rattle.std.specs.Prelude.{◌≡◌, true, false, is_some, Result, Ok, None, ⊤, IfOk, IfSome}
+use Rattle.std.specs.Prelude.{◌≡◌, true, false, is_some, Result, None, ⊤, IfOk, IfSome}
 use Rattle.ibc_ids.specs.Publications.{height_of as published_height}
 use Rattle.ibc_ids.specs.declared.refusal.Refusal.{Refusal}
 use Rattle.ibc_wire.specs.Fields.{are_typed}

@@ -1,18 +1,17 @@
-use Rattle.std.proofs.Common.{List, ◌≡◌, is_some, length, ◌∷◌, [], ◌++◌, refl, sym, ap, ◌∙◌, subst, Err, arith}
+use Rattle.std.proofs.Common.{List, ◌≡◌, is_some, length, ◌∷◌, [], ◌++◌, refl, sym, ap, ◌∙◌, subst, arith}
 use Rattle.std.specs.Prelude.{option_map}
 use Rattle.ibc_ids.specs.Publications.{published_by}
 use Rattle.ibc_machine.specs.declared.event.Event.TheVariants as event
 use Rattle.ibc_machine.specs.declared.reply.Reply.{Reply}
 use Rattle.ibc_ledger.specs.declared.entry.StampedEntry.{StampedEntry as KeptEntry}
 use Rattle.ibc_ledger.specs.declared.ledger.Ledger.TheInside.{Inside}
-use Rattle.ibc_ledger.specs.declared.outcome.Outcome.{Outcome}
 use Rattle.ibc_ledger.specs.Adding.{AddsOrNot}
 use Rattle.ibc_ledger.specs.Effects.{told_reply}
 use Rattle.ibc_ledger.specs.Entries.{entry_of, stamp_if}
 use Rattle.ibc_ledger.specs.Held.{plain_entry}
 use Rattle.ibc_ledger.specs.Inside.{ledger_of}
 use Rattle.ibc_ledger.specs.SentPackets.{sender_of, sent_as, with_first}
-use Rattle.ibc_ledger.proofs.HeldLedgers.{keeps_own, still_held, held_with}
+use Rattle.ibc_ledger.proofs.HeldLedgers.{still_held, held_with}
 use Rattle.ibc_ledger.proofs.Applying.{IsApplied, adds, not_added, applied, others_publish, stands_applied, unchanged_applied, has_memory, late_stamp}
 use Rattle.ibc_ledger.proofs.ledger.Ledger.apply.Goals as goal
 

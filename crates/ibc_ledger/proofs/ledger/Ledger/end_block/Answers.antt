@@ -12,7 +12,7 @@ use Rattle.ibc_ledger.specs.Entries.{entry_of, stamp_if}
 use Rattle.ibc_ledger.specs.Held.{plain_entry}
 use Rattle.ibc_ledger.specs.Inside.{ledger_of}
 use Rattle.ibc_ledger.proofs.HeldLedgers.{held_with}
-use Rattle.ibc_ledger.proofs.Applying.{adds, has_memory}
+use Rattle.ibc_ledger.proofs.Applying.{adds}
 use Rattle.ibc_ledger.proofs.Ending.{IsBlockEntry, block_of, ended_entry, block_told}
 use Rattle.ibc_ledger.proofs.ledger.Ledger.end_block.Goals as goal
 

@@ -6,7 +6,6 @@ use Rattle.ibc_machine.specs.declared.reply.Effect.TheVariants as effect
 use Rattle.ibc_machine.specs.Channels.{chan_open_init}
 use Rattle.ibc_machine.specs.Applications.{require_application, on_open}
 use Rattle.ibc_machine.specs.Handlers.{handle}
-use Rattle.ibc_ledger.specs.declared.outcome.Effects.{Effects}
 use Rattle.ibc_ledger.proofs.Answered.{core_answered, no_memory}
 use Rattle.ibc_ledger.proofs.node.Node.chan_open_init.Goals as goal
 

@@ -5,7 +5,6 @@ use Rattle.ibc_wire.specs.declared.messages.Message.TheVariants as message
 use Rattle.ibc_machine.specs.declared.reply.Effect.TheVariants as effect
 use Rattle.ibc_machine.specs.Connections.{conn_open_try}
 use Rattle.ibc_machine.specs.Handlers.{handle}
-use Rattle.ibc_ledger.specs.declared.outcome.Effects.{Effects}
 use Rattle.ibc_ledger.proofs.Answered.{core_answered, no_memory}
 use Rattle.ibc_ledger.proofs.node.Node.conn_open_try.Goals as goal
 

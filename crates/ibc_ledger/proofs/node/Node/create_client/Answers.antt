@@ -9,7 +9,6 @@ use Rattle.ibc_records.specs.Held.{core_of}
 use Rattle.ibc_records.specs.Taking.{host_with}
 use Rattle.ibc_client.proofs.Taking.{created_taken}
 use Rattle.ibc_machine.specs.Handlers.{handle}
-use Rattle.ibc_ledger.specs.declared.outcome.Effects.{Effects}
 use Rattle.ibc_ledger.proofs.Answered.{core_answered, no_memory}
 use Rattle.ibc_ledger.proofs.node.Node.create_client.Goals as goal
 
