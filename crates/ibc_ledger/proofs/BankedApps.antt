@@ -1,8 +1,10 @@
 -- What the applications answer by the bank is what the definitions say, where the bank knows what is burnt in flight.
-use Rattle.std.proofs.Common.{◌≡◌, ◌≤◌, Bool, true, false, refl, sym, ap, ◌∙◌, subst, Ok, Err}
-use Rattle.std.specs.Prelude.{if◌then◌else◌}
+use Rattle.std.proofs.Common.{◌≡◌, ℕ, ◌≤◌, Bool, true, false, refl, sym, ap, ◌∙◌, subst, Ok, Err}
+use Rattle.std.specs.Prelude.{List, if◌then◌else◌}
 use Rattle.ibc_ids.specs.Texts.{Text, same_text}
+use Rattle.ibc_ids.specs.Maps.{Map}
 use Rattle.ibc_wire.specs.declared.packet.Packet.{Packet}
+use Rattle.ibc_wire.specs.declared.messages.Message.TheVariants as message
 use Rattle.ibc_wire.specs.declared.messages.Transfer.{Transfer}
 use Rattle.ibc_wire.specs.declared.messages.TransferMany.{TransferMany}
 use Rattle.ibc_wire.specs.declared.messages.RecvPacket.{RecvPacket}
@@ -10,124 +12,215 @@ use Rattle.ibc_wire.specs.declared.messages.AckPacket.{AckPacket}
 use Rattle.ibc_wire.specs.declared.messages.Timeout.{Timeout}
 use Rattle.ibc_wire.specs.declared.messages.TimeoutOnClose.{TimeoutOnClose}
 use Rattle.ibc_machine.specs.declared.reply.Effect.{Effect}
-use Rattle.ibc_machine.specs.Records.{Core, Apps, Records, commitment_of}
+use Rattle.ibc_machine.specs.Records.{Core, Channel, Apps, commitment_of}
 use Rattle.ibc_machine.specs.Checks.{Checked, go_on, ◌>>=◌}
-use Rattle.ibc_machine.specs.Evidence.{Host, Evidence}
 use Rattle.ibc_machine.specs.Bank.{Balances}
 use Rattle.ibc_machine.specs.TokenData.{tokens_of}
-use Rattle.ibc_machine.specs.Transfers.{transfer_port, transfer, transfer_many, burnt, receive_transfer, acknowledge_transfer, refund_transfer}
+use Rattle.ibc_machine.specs.Transfers.{transfer_port, burnt, receive_transfer, acknowledge_transfer, refund_transfer}
 use Rattle.ibc_machine.specs.Notes.{receive_note}
-use Rattle.ibc_machine.specs.Packets.{recv_packet, ack_packet, timeout, timeout_on_close}
+use Rattle.ibc_machine.specs.Packets.{recv_packet, recv_checked, with_received, ack_packet, timeout, timeout_on_close}
 use Rattle.ibc_machine.specs.Applications.{on_recv, on_ack, on_timeout, with_balances}
-use Rattle.ibc_machine.specs.Handlers.{both_step}
+use Rattle.ibc_machine.specs.Handlers.{handle}
 use Rattle.ibc_bank.specs.Moves.{BankState, burnt_of}
 use Rattle.ibc_flight.specs.Returned.{returned}
+use Rattle.ibc_flight.proofs.PacketSteps.{recv_packet_burnt, ack_packet_burnt, timeout_burnt, timeout_on_close_burnt}
+use Rattle.ibc_flight.proofs.UnsettledPackets.{ack_covered, timeout_covered, timeout_on_close_covered}
+use Rattle.ibc_records.specs.Held.{core_of}
+use Rattle.ibc_transfer.specs.InFlight.{IsInFlight}
 use Rattle.ibc_transfer.specs.Banked.{bank_receives, bank_acknowledged, bank_times_out}
 use Rattle.ibc_transfer.specs.Sent.{bank_transfer, bank_transfer_many}
-use Rattle.ibc_transfer.specs.InFlight.{IsInFlight}
-use Rattle.ibc_transfer.proofs.ByBank.{whole, transfer_by_bank, transfer_many_by_bank, acknowledged_by_bank, timed_out_by_bank}
-use Rattle.ibc_flight.proofs.UnsettledPackets.{ack_covered, timeout_covered, timeout_on_close_covered}
-use Rattle.ibc_ledger.specs.Parts.{put_in, put_beside, put_last}
-use Rattle.ibc_ledger.specs.Apps.{HeldApps, plain_apps, with_bank, with_notes, receives_on, acknowledged_on, timed_out_on, recv_with, ack_with, timeout_with, timeout_on_close_with, transfer_with, transfer_many_with}
-use Rattle.ibc_ledger.proofs.AppParts.{recv_put, ack_put, timeout_put, timeout_on_close_put}
+use Rattle.ibc_transfer.proofs.ByBank.{transfer_by_bank, transfer_many_by_bank, acknowledged_by_bank, timed_out_by_bank}
+use Rattle.ibc_transfer.proofs.Flight.{transfer_keeps_flight, transfer_many_keeps_flight, ack_keeps_flight, timeout_keeps_flight, timeout_on_close_keeps_flight, same_flight}
+use Rattle.ibc_ledger.specs.declared.applications.Applications.{Applications}
+use Rattle.ibc_ledger.specs.declared.node.Node.{Node}
+use Rattle.ibc_ledger.specs.Apps.{plain_apps}
+use Rattle.ibc_ledger.specs.Answering.{IsReady}
+use Rattle.ibc_ledger.proofs.AppParts.{put_in, put_last, recv_put, ack_put, timeout_put, timeout_on_close_put}
+use Rattle.ibc_ledger.proofs.Answered.{IsPart}
 
--- ---- sending
+abbrev pub with_bank : Node → BankState → Applications
+with_bank old bank = record old.applications { transfers = bank }
 
--- the core and what the applications keep, one beside the other
-abbrev pub apart : Checked (Effect × Records) → Checked (Effect × Core × Apps)
-apart checked = checked >>= λ ((effect, records) : Effect × Records). Ok (effect, records.core, records.apps)
+abbrev pub with_notes : Node → Map Text (List Text) → Applications
+with_notes old notes = record old.applications { notes = notes }
 
-pub both_apart : (checked : Checked (Effect × Records)) → checked ≡ both_step (apart checked)
+-- what a packet's receipt leaves of what the application keeps
+left_by : {A : Type 0} (p : Packet) (core : Core) (answer : Text → Text × A) (checked : Checked Channel) (effect : Effect) (after : Core) (left : A)
+    → (checked >>= λ mine. Ok (with_received p mine core (answer mine.end.version))) ≡ Ok (effect, after, left) → (version : Text) × ((answer version).1 ≡ left)
 unfolding go_on
-both_apart (Ok (effect, records)) = refl
-both_apart (Err refusal) = refl
+left_by {A = A} p core answer (Ok mine) effect after left is =
+    let same : with_received p mine core (answer mine.end.version) ≡ (effect, after, left) = cc in
+    (mine.end.version, ap (λ (w : Effect × Core × A). w.2) same)
+left_by p core answer (Err refusal) effect after left is = absurd (cc is)
 
-module _ (evidence : Evidence) (core : Core) (apps : HeldApps) where
-  abbrev joined : Effect × Core × BankState → Checked (Effect × Records)
-  joined (effect, after, left) = Ok (effect, whole after left apps.notes)
+module _ (old : Node) where
+  abbrev core : Core
+  core = core_of old.records
 
-  sends_apart : (checked : Checked (Effect × Core × BankState)) → put_last plain_apps (put_last (with_bank apps) checked) ≡ apart (checked >>= joined)
+  abbrev bank : BankState
+  bank = old.applications.transfers
+
+  abbrev notes : Map Text (List Text)
+  notes = old.applications.notes
+
+  abbrev put_bank : BankState → Apps
+  put_bank b = plain_apps (with_bank old b)
+
+  abbrev put_notes : Map Text (List Text) → Apps
+  put_notes n = plain_apps (with_notes old n)
+
+  -- ---- sending
+
+  sends : (checked : Checked (Effect × Core × BankState))
+      → ((checked >>= λ ((effect, after, left) : Effect × Core × BankState). Ok (effect, after, left.balances)) >>= λ ((effect, after, balances) : Effect × Core × Balances). Ok (effect, after, with_balances (put_bank bank) balances))
+      ≡ put_last put_bank checked
   unfolding go_on
-  sends_apart (Ok (effect, after, left)) = refl
-  sends_apart (Err refusal) = refl
+  sends (Ok (effect, after, left)) = refl
+  sends (Err refusal) = refl
 
-  pub transfer_is_plain : (host : Host) (m : Transfer) → put_last plain_apps (transfer_with apps m evidence host core) ≡ apart (transfer evidence (record { core = core; apps = plain_apps apps }) m)
-  transfer_is_plain host m = sends_apart (bank_transfer evidence core apps.bank m) ∙ ap apart (sym (transfer_by_bank evidence core apps.bank apps.notes m))
+  abbrev in_place : Checked (Effect × Core × Balances) → Checked (Effect × Core × Apps)
+  in_place checked = checked >>= λ ((effect, after, balances) : Effect × Core × Balances). Ok (effect, after, with_balances (put_bank bank) balances)
 
-  pub transfer_many_is_plain : (host : Host) (m : TransferMany) → put_last plain_apps (transfer_many_with apps m evidence host core) ≡ apart (transfer_many evidence (record { core = core; apps = plain_apps apps }) m)
-  transfer_many_is_plain host m = sends_apart (bank_transfer_many evidence core apps.bank m) ∙ ap apart (sym (transfer_many_by_bank evidence core apps.bank apps.notes m))
+  pub transfer_part : (m : Transfer) → IsReady (message.Transfer m) old → IsPart (message.Transfer m) old (with_bank old) (bank_transfer m) bank
+  unfolding handle
+  transfer_part m ready = record {
+    here = refl;
+    part = λ evidence host. ap in_place (transfer_by_bank evidence host core bank m) ∙ sends (bank_transfer m evidence host core bank);
+    flight = λ evidence host effect after left e. transfer_keeps_flight evidence host core bank ready.orderly ready.flight m ready.typed e;
+  }
 
--- ---- packets
+  pub transfer_many_part : (m : TransferMany) → IsReady (message.TransferMany m) old → IsPart (message.TransferMany m) old (with_bank old) (bank_transfer_many m) bank
+  unfolding handle
+  transfer_many_part m ready = record {
+    here = refl;
+    part = λ evidence host. ap in_place (transfer_many_by_bank evidence host core bank m) ∙ sends (bank_transfer_many m evidence host core bank);
+    flight = λ evidence host effect after left e. transfer_many_keeps_flight evidence host core bank ready.orderly ready.flight m ready.typed e;
+  }
 
-module _ (core : Core) (apps : HeldApps) (flight : IsInFlight apps.bank core) where
-  -- as much of each denomination is burnt in flight, by the bank and by the core
-  as_burnt : burnt_of apps.bank ≡ burnt core
-  as_burnt i denom = flight.counted denom i
+  -- ---- receiving
 
-  abbrev ByPort : Bool → Text → Packet → Text × Apps
-  ByPort on_transfers version p =
-      if on_transfers then (let (ack, balances) = receive_transfer (burnt core) apps.bank.balances version p in (ack, with_balances (plain_apps apps) balances))
-      else (let (ack, notes) = receive_note apps.notes p in (ack, record (plain_apps apps) { notes = notes }))
+  module _ (m : RecvPacket) (ready : IsReady (message.RecvPacket m) old) where
+    -- as much of each denomination is burnt in flight, by the bank and by the core
+    as_burnt : burnt core ≡ burnt_of bank
+    as_burnt i denom = sym (ready.flight.counted denom) i
 
-  abbrev ByBank : Bool → Text → Packet → Text × HeldApps
-  ByBank on_transfers version p =
-      if on_transfers then put_beside (with_bank apps) (bank_receives apps.bank version p) else put_beside (with_notes apps) (receive_note apps.notes p)
+    abbrev on_port : Bool → (Text → ℕ) → Apps → Text → Text × Apps
+    on_port on_transfers in_flight apps version =
+        if on_transfers then (let (ack, balances) = receive_transfer in_flight apps.balances version m.packet in (ack, with_balances apps balances))
+        else (let (ack, left) = receive_note apps.notes m.packet in (ack, record apps { notes = left }))
 
-  receives_plain : (on_transfers : Bool) (version : Text) (p : Packet) → put_beside plain_apps (ByBank on_transfers version p) ≡ ByPort on_transfers version p
-  receives_plain true version p =
-      ap (λ in_flight. let (ack, balances) = receive_transfer in_flight apps.bank.balances version p in (ack, with_balances (plain_apps apps) balances)) as_burnt
-  receives_plain false version p = refl
+    pub recv_by_bank : same_text m.packet.destination_port transfer_port ≡ true → IsPart (message.RecvPacket m) old (with_bank old) (recv_packet bank_receives m) bank
+    unfolding handle recv_packet
+    recv_by_bank port = record {
+      here = refl;
+      part = λ evidence host. recv_put put_bank evidence host core bank bank_receives (on_recv core m.packet.destination_port) m
+          (λ version. ap (λ b. on_port b (burnt core) (put_bank bank) version) port ∙ ap (λ in_flight. on_port true in_flight (put_bank bank) version) as_burnt);
+      flight = λ evidence host effect after left e.
+          let w = left_by m.packet core (λ version. bank_receives bank version m.packet) (recv_checked m evidence host core) effect after left e in
+          same_flight bank left core after ready.flight (ap (λ (b : BankState). b.burnt) (sym w.1)) (recv_packet_burnt bank_receives evidence host core m bank ready.orderly e);
+    }
 
-  pub recv_is_plain : (evidence : Evidence) (host : Host) (m : RecvPacket)
-      → put_last plain_apps (recv_with apps m evidence host core) ≡ recv_packet (on_recv (record { core = core; apps = plain_apps apps }) m.packet.destination_port) evidence host core m
-  recv_is_plain evidence host m =
-      sym (recv_put plain_apps evidence core (receives_on m.packet.destination_port apps) host m)
-      ∙ (λ i. recv_packet (λ version p. receives_plain (same_text m.packet.destination_port transfer_port) version p i) evidence host core m)
+    pub recv_by_notes : same_text m.packet.destination_port transfer_port ≡ false
+        → IsPart (message.RecvPacket m) old (with_notes old) (recv_packet (λ notes version p. receive_note notes p) m) notes
+    unfolding handle
+    recv_by_notes port = record {
+      here = refl;
+      part = λ evidence host. recv_put put_notes evidence host core notes (λ notes version p. receive_note notes p) (on_recv core m.packet.destination_port) m
+          (λ version. ap (λ b. on_port b (burnt core) (put_notes notes) version) port);
+      flight = λ evidence host effect after left e.
+          same_flight bank bank core after ready.flight refl (recv_packet_burnt (λ notes version p. receive_note notes p) evidence host core m notes ready.orderly e);
+    }
+
+  -- ---- settling
+
+  settles : (checked : Checked BankState) → ((checked >>= λ left. Ok left.balances) >>= λ balances. Ok (with_balances (put_bank bank) balances)) ≡ put_in put_bank checked
+  unfolding go_on
+  settles (Ok left) = refl
+  settles (Err refusal) = refl
 
   -- what goes back over the channel was burnt
-  abbrev IsCovered : Text → Packet → Type 0
-  IsCovered version p = (denom : Text) → returned p.source_channel (tokens_of version (commitment_of p)) denom ≤ burnt core denom
+  abbrev IsCovered : (Text → ℕ) → Text → Packet → Type 0
+  IsCovered in_flight version p = (denom : Text) → returned p.source_channel (tokens_of version (commitment_of p)) denom ≤ in_flight denom
 
-  covers : (version : Text) (p : Packet) → IsCovered version p → (denom : Text) → returned p.source_channel (tokens_of version (commitment_of p)) denom ≤ burnt_of apps.bank denom
-  covers version p covered denom = subst (λ n. returned p.source_channel (tokens_of version (commitment_of p)) denom ≤ n) (sym (flight.counted denom)) (covered denom)
+  module _ (flight : IsInFlight bank core) (version : Text) (p : Packet) where
+    covers : IsCovered (burnt core) version p → IsCovered (burnt_of bank) version p
+    covers covered denom = subst (λ n. returned p.source_channel (tokens_of version (commitment_of p)) denom ≤ n) (sym (flight.counted denom)) (covered denom)
 
-  settles_plain : (checked : Checked BankState) → ((checked >>= λ left. Ok left.balances) >>= λ balances. Ok (with_balances (plain_apps apps) balances)) ≡ put_in plain_apps (put_in (with_bank apps) checked)
+    acknowledged_plain : (port ack : Text) → same_text port transfer_port ≡ true → IsCovered (burnt core) version p
+        → on_ack port (put_bank bank) version p ack ≡ put_in put_bank (bank_acknowledged bank version p ack)
+    acknowledged_plain port ack is covered =
+        ap (λ b. if b then (acknowledge_transfer bank.balances version p ack >>= λ balances. Ok (with_balances (put_bank bank) balances)) else Ok (put_bank bank)) is
+        ∙ ap (λ (x : Checked Balances). x >>= λ balances. Ok (with_balances (put_bank bank) balances)) (acknowledged_by_bank bank version p ack flight.sorted (covers covered))
+        ∙ settles (bank_acknowledged bank version p ack)
+
+    timed_out_plain : (port : Text) → same_text port transfer_port ≡ true → IsCovered (burnt core) version p
+        → on_timeout port (put_bank bank) version p ≡ put_in put_bank (bank_times_out bank version p)
+    timed_out_plain port is covered =
+        ap (λ b. if b then (refund_transfer bank.balances version p >>= λ balances. Ok (with_balances (put_bank bank) balances)) else Ok (put_bank bank)) is
+        ∙ ap (λ (x : Checked Balances). x >>= λ balances. Ok (with_balances (put_bank bank) balances)) (timed_out_by_bank bank version p flight.sorted (covers covered))
+        ∙ settles (bank_times_out bank version p)
+
+  -- the notes stay
+  notes_stay : (answer : Checked Apps) (on_transfers : Bool) → on_transfers ≡ false → (if on_transfers then answer else Ok (put_notes notes)) ≡ put_in put_notes (Ok notes)
   unfolding go_on
-  settles_plain (Ok left) = refl
-  settles_plain (Err refusal) = refl
+  notes_stay answer on_transfers is = ap (λ b. if b then answer else Ok (put_notes notes)) is
 
-  acknowledged_plain : (on_transfers : Bool) (version : Text) (p : Packet) (ack : Text) → (on_transfers ≡ true → IsCovered version p)
-      → (if on_transfers then (acknowledge_transfer apps.bank.balances version p ack >>= λ balances. Ok (with_balances (plain_apps apps) balances)) else Ok (plain_apps apps))
-      ≡ put_in plain_apps (if on_transfers then put_in (with_bank apps) (bank_acknowledged apps.bank version p ack) else Ok apps)
-  unfolding go_on
-  acknowledged_plain true version p ack covered =
-      ap (λ (x : Checked Balances). x >>= λ balances. Ok (with_balances (plain_apps apps) balances)) (acknowledged_by_bank apps.bank version p ack flight.sorted (covers version p (covered refl)))
-      ∙ settles_plain (bank_acknowledged apps.bank version p ack)
-  acknowledged_plain false version p ack covered = refl
+  module _ (m : AckPacket) (ready : IsReady (message.AckPacket m) old) where
+    pub ack_by_bank : same_text m.packet.source_port transfer_port ≡ true → IsPart (message.AckPacket m) old (with_bank old) (ack_packet bank_acknowledged m) bank
+    unfolding handle
+    ack_by_bank port = record {
+      here = refl;
+      part = λ evidence host. ack_put put_bank evidence host core bank bank_acknowledged (on_ack m.packet.source_port) m
+          (λ mine passed. acknowledged_plain ready.flight mine.end.version m.packet m.packet.source_port m.ack port (ack_covered evidence host core m mine port passed));
+      flight = λ evidence host effect after left e. ack_keeps_flight evidence host core bank ready.orderly ready.flight m port e;
+    }
 
-  timed_out_plain : (on_transfers : Bool) (version : Text) (p : Packet) → (on_transfers ≡ true → IsCovered version p)
-      → (if on_transfers then (refund_transfer apps.bank.balances version p >>= λ balances. Ok (with_balances (plain_apps apps) balances)) else Ok (plain_apps apps))
-      ≡ put_in plain_apps (if on_transfers then put_in (with_bank apps) (bank_times_out apps.bank version p) else Ok apps)
-  unfolding go_on
-  timed_out_plain true version p covered =
-      ap (λ (x : Checked Balances). x >>= λ balances. Ok (with_balances (plain_apps apps) balances)) (timed_out_by_bank apps.bank version p flight.sorted (covers version p (covered refl)))
-      ∙ settles_plain (bank_times_out apps.bank version p)
-  timed_out_plain false version p covered = refl
+    pub ack_by_notes : same_text m.packet.source_port transfer_port ≡ false → IsPart (message.AckPacket m) old (with_notes old) (ack_packet (λ notes version p ack. Ok notes) m) notes
+    unfolding handle
+    ack_by_notes port = record {
+      here = refl;
+      part = λ evidence host. ack_put put_notes evidence host core notes (λ notes version p ack. Ok notes) (on_ack m.packet.source_port) m
+          (λ mine passed. notes_stay _ (same_text m.packet.source_port transfer_port) port);
+      flight = λ evidence host effect after left e.
+          same_flight bank bank core after ready.flight refl (ack_packet_burnt (λ notes version p ack. Ok notes) evidence host core m notes ready.orderly port e);
+    }
 
-  pub ack_is_plain : (evidence : Evidence) (host : Host) (m : AckPacket)
-      → put_last plain_apps (ack_with apps m evidence host core) ≡ ack_packet (on_ack (plain_apps apps) m.packet.source_port) evidence core m
-  ack_is_plain evidence host m =
-      sym (ack_put plain_apps evidence core (acknowledged_on m.packet.source_port apps) (on_ack (plain_apps apps) m.packet.source_port) m
-      (λ mine passed. acknowledged_plain (same_text m.packet.source_port transfer_port) mine.end.version m.packet m.ack (λ is. ack_covered evidence core m mine is passed)))
+  module _ (m : Timeout) (ready : IsReady (message.Timeout m) old) where
+    pub timeout_by_bank : same_text m.packet.source_port transfer_port ≡ true → IsPart (message.Timeout m) old (with_bank old) (timeout bank_times_out m) bank
+    unfolding handle
+    timeout_by_bank port = record {
+      here = refl;
+      part = λ evidence host. timeout_put put_bank evidence host core bank bank_times_out (on_timeout m.packet.source_port) m
+          (λ mine passed. timed_out_plain ready.flight mine.end.version m.packet m.packet.source_port port (timeout_covered evidence host core m mine port passed));
+      flight = λ evidence host effect after left e. timeout_keeps_flight evidence host core bank ready.orderly ready.flight m port e;
+    }
 
-  pub timeout_is_plain : (evidence : Evidence) (host : Host) (m : Timeout)
-      → put_last plain_apps (timeout_with apps m evidence host core) ≡ timeout (on_timeout (plain_apps apps) m.packet.source_port) evidence core m
-  timeout_is_plain evidence host m =
-      sym (timeout_put plain_apps evidence core (timed_out_on m.packet.source_port apps) (on_timeout (plain_apps apps) m.packet.source_port) m
-      (λ mine passed. timed_out_plain (same_text m.packet.source_port transfer_port) mine.end.version m.packet (λ is. timeout_covered evidence core m mine is passed)))
+    pub timeout_by_notes : same_text m.packet.source_port transfer_port ≡ false → IsPart (message.Timeout m) old (with_notes old) (timeout (λ notes version p. Ok notes) m) notes
+    unfolding handle
+    timeout_by_notes port = record {
+      here = refl;
+      part = λ evidence host. timeout_put put_notes evidence host core notes (λ notes version p. Ok notes) (on_timeout m.packet.source_port) m
+          (λ mine passed. notes_stay _ (same_text m.packet.source_port transfer_port) port);
+      flight = λ evidence host effect after left e.
+          same_flight bank bank core after ready.flight refl (timeout_burnt (λ notes version p. Ok notes) evidence host core notes ready.orderly m port e);
+    }
 
-  pub timeout_on_close_is_plain : (evidence : Evidence) (host : Host) (m : TimeoutOnClose)
-      → put_last plain_apps (timeout_on_close_with apps m evidence host core) ≡ timeout_on_close (on_timeout (plain_apps apps) m.packet.source_port) evidence core m
-  timeout_on_close_is_plain evidence host m =
-      sym (timeout_on_close_put plain_apps evidence core (timed_out_on m.packet.source_port apps) (on_timeout (plain_apps apps) m.packet.source_port) m
-      (λ mine passed. timed_out_plain (same_text m.packet.source_port transfer_port) mine.end.version m.packet (λ is. timeout_on_close_covered evidence core m mine is passed)))
+  module _ (m : TimeoutOnClose) (ready : IsReady (message.TimeoutOnClose m) old) where
+    pub timeout_on_close_by_bank : same_text m.packet.source_port transfer_port ≡ true → IsPart (message.TimeoutOnClose m) old (with_bank old) (timeout_on_close bank_times_out m) bank
+    unfolding handle
+    timeout_on_close_by_bank port = record {
+      here = refl;
+      part = λ evidence host. timeout_on_close_put put_bank evidence host core bank bank_times_out (on_timeout m.packet.source_port) m
+          (λ mine passed. timed_out_plain ready.flight mine.end.version m.packet m.packet.source_port port (timeout_on_close_covered evidence host core m mine port passed));
+      flight = λ evidence host effect after left e. timeout_on_close_keeps_flight evidence host core bank ready.orderly ready.flight m port e;
+    }
+
+    pub timeout_on_close_by_notes : same_text m.packet.source_port transfer_port ≡ false → IsPart (message.TimeoutOnClose m) old (with_notes old) (timeout_on_close (λ notes version p. Ok notes) m) notes
+    unfolding handle
+    timeout_on_close_by_notes port = record {
+      here = refl;
+      part = λ evidence host. timeout_on_close_put put_notes evidence host core notes (λ notes version p. Ok notes) (on_timeout m.packet.source_port) m
+          (λ mine passed. notes_stay _ (same_text m.packet.source_port transfer_port) port);
+      flight = λ evidence host effect after left e.
+          same_flight bank bank core after ready.flight refl (timeout_on_close_burnt (λ notes version p. Ok notes) evidence host core notes ready.orderly m port e);
+    }

@@ -96,22 +96,23 @@ module _ (ledger : Ledger) (old : HeldRecords) (apps : Apps) (stands : Stands le
 -- ---- the beginning
 
 module _ (genesis : GenesisState) (k : ℕ) (start : ChainState) (there : slice_get genesis.chains k ≡ Some start) (inside : k < length genesis.chains) where
-  abbrev pub new_ledger : Ledger
-  new_ledger = record { genesis = genesis; chain = k; history = []; seen = [] }
+  abbrev pub new_ledger : List Publication → Ledger
+  new_ledger seen = record { genesis = genesis; chain = k; history = []; seen = seen }
 
-  first_state : state_of new_ledger ≡ record { chain = starting_chain start; consensus = [] }
-  first_state = ap (λ o. record { chain = unwrap_or o empty_chain; consensus = [] }) (slice_get-map starting_chain genesis.chains k ∙ ap (option_map starting_chain) there)
+  first_state : (seen : List Publication) → state_of (new_ledger seen) ≡ record { chain = starting_chain start; consensus = [] }
+  first_state seen = ap (λ o. record { chain = unwrap_or o empty_chain; consensus = [] }) (slice_get-map starting_chain genesis.chains k ∙ ap (option_map starting_chain) there)
 
-  pub stands_new : (held : HeldRecords) → IsNew genesis.window start.time held → Stands new_ledger held (plain_apps (starting_apps start.balances))
-  stands_new held new = record {
+  pub stands_new : (seen : List Publication) → published_by k seen ≡ [] → (held : HeldRecords) → IsNew genesis.window start.time held
+      → Stands (new_ledger seen) held (plain_apps (starting_apps start.balances))
+  stands_new seen unpublished held new = record {
     is = record {
       number = inside;
       entries = tt;
-      published = ap (λ (s : LedgerState). map (published_as k) s.chain.committed) (sym first_state);
+      published = unpublished ∙ ap (λ (s : LedgerState). map (published_as k) s.chain.committed) (sym (first_state seen));
       stamps = tt;
-      small = subst (λ (s : LedgerState). AllByRecursion (λ (block : Block). length (image block.records.core) < 2 ^ 64) s.chain.committed) (sym first_state) tt;
+      small = subst (λ (s : LedgerState). AllByRecursion (λ (block : Block). length (image block.records.core) < 2 ^ 64) s.chain.committed) (sym (first_state seen)) tt;
     };
-    holds = subst (λ (s : LedgerState). IsStateOf genesis.window s held (plain_apps (starting_apps start.balances))) (sym first_state) (record {
+    holds = subst (λ (s : LedgerState). IsStateOf genesis.window s held (plain_apps (starting_apps start.balances))) (sym (first_state seen)) (record {
       core = new.core;
       time = ap (λ (s : HeldStore). s.time) new.store;
       height = ap (λ (s : HeldStore). height_of s) new.store;

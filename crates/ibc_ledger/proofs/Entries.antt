@@ -15,7 +15,7 @@ use Rattle.ibc_machine.specs.declared.reply.Effect.TheVariants as effect
 use Rattle.ibc_machine.specs.declared.reply.Reply.{Reply}
 use Rattle.ibc_machine.specs.declared.reply.Reply.TheVariants as reply
 use Rattle.ibc_machine.specs.declared.entry.Reading.{Reading}
-use Rattle.ibc_machine.specs.Records.{Records, Block}
+use Rattle.ibc_machine.specs.Records.{Core, Apps, Block}
 use Rattle.ibc_machine.specs.Checks.{Checked}
 use Rattle.ibc_machine.specs.Genesis.{GenesisState}
 use Rattle.ibc_machine.specs.Handlers.{handle, host_of, after_message, may_commit, after_block, working_height}
@@ -37,14 +37,14 @@ all_last P (x ∷ xs) last all is = (all.0, all_last P xs last all.1 is)
 
 -- ---- messages
 
-of_message : (m : Message) (state : LedgerState) (x : Checked (Effect × Records)) → (after_answer m state (after_message state.chain x)).1.chain.committed ≡ state.chain.committed
+of_message : (m : Message) (state : LedgerState) (x : Checked (Effect × Core × Apps)) → (after_answer m state (after_message state.chain x)).1.chain.committed ≡ state.chain.committed
 of_message m state (Ok w) = refl
 of_message m state (Err r) = refl
 
 message_commits : (genesis : GenesisState) (k : ℕ) (seen : List Publication) (reading : Option Reading) (state : LedgerState) (c : ℕ) (m : Message)
     → (ledger_answer genesis k seen reading state (event.Message c m)).1.chain.committed ≡ state.chain.committed
 unfolding ledger_answer
-message_commits genesis k seen reading state c m = of_message m state (handle (proves seen reading state) (host_of (length genesis.chains) k state.chain) state.chain.records m)
+message_commits genesis k seen reading state c m = of_message m state (handle m (proves seen reading state) (host_of (length genesis.chains) k state.chain) state.chain.records.core state.chain.records.apps)
 
 -- what was read, with the stamp of all that is seen
 is_reading : (window : ℕ) (seen : List Publication) (ev : Event) (given : Reply) (reading : Option Reading) → Reads window seen ev reading → IsReading window seen (entry_of ev given reading (stamp_if (is_some reading) seen))

@@ -31,7 +31,7 @@ own_events ledger state (e ∷ history) own = (
 
 module _ (l : Inside) (held : IsHeld l) (port channel : Text) (n : ℕ) where
   abbrev from : End
-  from = record { chain = l.chain; port = port; channel = channel }
+  from = record { chain = l.node.number; port = port; channel = channel }
 
   abbrev name : SentName
   name = ((port, channel), n)
@@ -41,7 +41,7 @@ module _ (l : Inside) (held : IsHeld l) (port channel : Text) (n : ℕ) where
 
   -- the end, as the records have it
   abbrev its_end : Option Channel
-  its_end = at pair_cmp (port, channel) l.records.channels
+  its_end = at pair_cmp (port, channel) l.node.records.channels
 
   abbrev Says : Option Channel → Option Packet
   Says o = option_and_then (λ (mine : Channel). option_and_then (λ peer. packet_sent from mine happened n) mine.end.peer_channel) o
@@ -60,7 +60,7 @@ module _ (l : Inside) (held : IsHeld l) (port channel : Text) (n : ℕ) where
     no_peer none = says ∙ ap Says is ∙ ap AtPeer none
 
     sent_there : packet_sent from mine happened n ≡ option_and_then (λ i. option_and_then (sent_by from mine) (slice_get happened i)) (at sent_cmp name l.sent.pairs)
-    sent_there = sent_at from mine n happened (own_events (ledger_of l) (starting_state (ledger_of l).genesis l.chain) (ledger_of l).history held.stands.is.entries) l.sent.pairs held.sent
+    sent_there = sent_at from mine n happened (own_events (ledger_of l) (starting_state (ledger_of l).genesis l.node.number) (ledger_of l).history held.stands.is.entries) l.sent.pairs held.sent
 
     at_peer : (peer : Text) → mine.end.peer_channel ≡ Some peer → packet_on (ledger_of l) port channel n
         ≡ option_and_then (λ i. option_and_then (sent_by from mine) (slice_get happened i)) (at sent_cmp name l.sent.pairs)

@@ -9,7 +9,7 @@ use Rattle.ibc_machine.specs.Ledgers.{Ledger}
 use Rattle.ibc_root_table.specs.Passes.{SamePass, KeepsOwn}
 use Rattle.ibc_records.specs.Held.{core_of, IsUnchanged}
 use Rattle.ibc_transfer.specs.InFlight.{IsInFlight}
-use Rattle.ibc_ledger.specs.Apps.{HeldApps, plain_apps}
+use Rattle.ibc_ledger.specs.Apps.{plain_apps}
 use Rattle.ibc_ledger.specs.declared.entry.StampedEntry.{StampedEntry as KeptEntry}
 use Rattle.ibc_ledger.specs.declared.ledger.Ledger.TheInside.{Inside}
 use Rattle.ibc_ledger.specs.Growing.{with_entry}
@@ -21,24 +21,29 @@ use Rattle.ibc_ledger.proofs.SentPackets.{first_more}
 use Rattle.ibc_machine.specs.Histories.{Happened}
 use Rattle.ibc_ledger.specs.Inside.{genesis_of, ledger_of, IsHeld}
 use Rattle.ibc_ledger.proofs.AnsweredMessages.{stands_unchanged}
-use Rattle.ibc_ledger.proofs.BankedMessages.{still_in_flight}
 
 -- a step changes the records, the applications, the pass, the history and the places in it, and nothing else
 abbrev pub IsStepped : Inside → Inside → Type 0
-IsStepped l new = new ≡ record l { records = new.records; applications = new.applications; pass = new.pass; history = new.history; sent = new.sent }
+IsStepped l new =
+    new ≡ record l {
+      node = record l.node { records = new.node.records; applications = new.node.applications };
+      pass = new.pass;
+      history = new.history;
+      sent = new.sent;
+    }
 
 -- the ledger of these entries and publications
 abbrev with_parts : Inside → List StampedEntry → List Publication → Ledger
-with_parts l history seen = record { genesis = genesis_of l; chain = l.chain; history = history; seen = seen }
+with_parts l history seen = record { genesis = genesis_of l; chain = l.node.number; history = history; seen = seen }
 
 module _ (l : Inside) (held : IsHeld l) (new : Inside) (stepped : IsStepped l new) (same : SamePass l.pass new.pass) where
-  pub keeps_own : KeepsOwn l.pass new.pass → published_by l.chain new.pass.seen ≡ published_by l.chain l.pass.seen
-  keeps_own keeps = keeps l.chain held.own
+  pub keeps_own : KeepsOwn l.pass new.pass → published_by l.node.number new.pass.seen ≡ published_by l.node.number l.pass.seen
+  keeps_own keeps = keeps l.node.number held.own
 
   pub held_by : (history : List StampedEntry) (seen : List Publication) → history ≡ map plain_entry new.history.items → seen ≡ new.pass.seen
-      → Stands (with_parts l history seen) new.records (plain_apps new.applications) → IsInFlight new.applications.bank (core_of new.records) → AreFirst new.sent.pairs (map happened_of history) → IsHeld new
+      → Stands (with_parts l history seen) new.node.records (plain_apps new.node.applications) → IsInFlight new.node.applications.transfers (core_of new.node.records) → AreFirst new.sent.pairs (map happened_of history) → IsHeld new
   held_by history seen is sees stands flight sent = subst IsHeld (sym stepped) (record {
-    stands = subst (λ (w : List StampedEntry × List Publication). Stands (with_parts l w.0 w.1) new.records (plain_apps new.applications)) (λ i. (is i, sees i)) stands;
+    stands = subst (λ (w : List StampedEntry × List Publication). Stands (with_parts l w.0 w.1) new.node.records (plain_apps new.node.applications)) (λ i. (is i, sees i)) stands;
     flight = flight;
     allowed = held.allowed;
     table = same.0 ∙ held.table;
@@ -50,11 +55,11 @@ module _ (l : Inside) (held : IsHeld l) (new : Inside) (stepped : IsStepped l ne
   })
 
   -- memory ran out, or passes met
-  pub still_held : IsPrefix l.pass.seen new.pass.seen → KeepsOwn l.pass new.pass → IsUnchanged l.records new.records → new.applications ≡ l.applications → new.history.items ≡ l.history.items → new.sent.pairs ≡ l.sent.pairs → IsHeld new
-  still_held prefix keeps unchanged kept items sent =
+  pub still_held : IsPrefix l.pass.seen new.pass.seen → KeepsOwn l.pass new.pass → IsUnchanged l.node.records new.node.records → plain_apps new.node.applications ≡ plain_apps l.node.applications → IsInFlight new.node.applications.transfers (core_of new.node.records) → new.history.items ≡ l.history.items → new.sent.pairs ≡ l.sent.pairs → IsHeld new
+  still_held prefix keeps unchanged kept flight items sent =
       held_by (map plain_entry l.history.items) (l.pass.seen ++ prefix.0) (ap (map plain_entry) (sym items)) prefix.1
-      (stands_unchanged (ledger_of l) l.records (plain_apps l.applications) held.stands prefix.0 (ap (published_by l.chain) prefix.1 ∙ keeps_own keeps) new.records (plain_apps new.applications) unchanged (ap plain_apps kept))
-      (still_in_flight l.records new.records l.applications.bank new.applications.bank held.flight unchanged (ap (λ (a : HeldApps). a.bank) kept)) (subst (λ places. AreFirst places (map happened_of (map plain_entry l.history.items))) (sym sent) held.sent)
+      (stands_unchanged (ledger_of l) l.node.records (plain_apps l.node.applications) held.stands prefix.0 (ap (published_by l.node.number) prefix.1 ∙ keeps_own keeps) new.node.records (plain_apps new.node.applications) unchanged kept)
+      flight (subst (λ places. AreFirst places (map happened_of (map plain_entry l.history.items))) (sym sent) held.sent)
 
   -- there is one entry more
   pub longer_history : (kept : KeptEntry) → new.history.items ≡ l.history.items ++ kept ∷ [] → map plain_entry l.history.items ++ plain_entry kept ∷ [] ≡ map plain_entry new.history.items
@@ -68,7 +73,7 @@ module _ (l : Inside) (held : IsHeld l) (new : Inside) (stepped : IsStepped l ne
       (first_more l.sent.pairs (happened_on (ledger_of l)) held.sent (happened_of e))
 
   pub held_with : (kept : KeptEntry) (e : StampedEntry) (prefix : IsPrefix l.pass.seen new.pass.seen) → new.history.items ≡ l.history.items ++ kept ∷ [] → e ≡ plain_entry kept
-      → Stands (with_entry (ledger_of l) e prefix.0) new.records (plain_apps new.applications) → IsInFlight new.applications.bank (core_of new.records)
+      → Stands (with_entry (ledger_of l) e prefix.0) new.node.records (plain_apps new.node.applications) → IsInFlight new.node.applications.transfers (core_of new.node.records)
       → new.sent.pairs ≡ with_first (sent_name (happened_of e)) (length l.history.items) l.sent.pairs → IsHeld new
   held_with kept e prefix items is stands flight sent =
       held_by (map plain_entry l.history.items ++ e ∷ []) (l.pass.seen ++ prefix.0) (ap (λ x. map plain_entry l.history.items ++ x ∷ []) is ∙ longer_history kept items) prefix.1 stands

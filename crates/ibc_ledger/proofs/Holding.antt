@@ -42,16 +42,16 @@ module _ (window : ℕ) (state : LedgerState) (old : HeldRecords) (apps : Apps) 
   }
 
   -- the records and the applications were written, by a message that tells no client of a height
-  pub written_holds : (m : Message) (core : Core) (left kept : Apps) (new : HeldRecords) → left ≡ kept → IsWritten core old new → with_consensus m state.consensus ≡ state.consensus
-      → IsStateOf window (with_records m state (record { core = core; apps = kept })) new left
-  written_holds m core left kept new left_is written same = record {
+  pub written_holds : (m : Message) (core : Core) (left : Apps) (new : HeldRecords) → IsWritten core old new → with_consensus m state.consensus ≡ state.consensus
+      → IsStateOf window (with_records m state (record { core = core; apps = left })) new left
+  written_holds m core left new written same = record {
     core = written.core_is;
     time = ap (λ (s : HeldStore). s.time) written.stored.store ∙ holds.time;
     height = ap (λ (s : HeldStore). height_of s) written.stored.store ∙ holds.height;
     window_is = ap (λ (s : HeldStore). s.window) written.stored.store ∙ holds.window_is;
-    apps_are = left_is;
+    apps_are = refl;
     known = λ client height known e. ap (λ consensus. at consensus_cmp (client, height) consensus) same ∙ holds.known client height known (written.knows client height known e);
-    keeps = keeps_stored window state.chain old new (record { core = core; apps = kept }) holds.keeps written.stored written.core_is;
+    keeps = keeps_stored window state.chain old new (record { core = core; apps = left }) holds.keeps written.stored written.core_is;
   }
 
   -- a client that was told of a header knows what the ledger's state says of it
@@ -72,18 +72,18 @@ module _ (window : ℕ) (state : LedgerState) (old : HeldRecords) (apps : Apps) 
         by_height client height known is (nat_cmp height m.header.height)
         (sym (at-with nat_cmp nat_cmp_total height m.header.height (consensus_of m.header) updates.client.known) ∙ e)
 
-    pub updated_holds : (left : Apps) → left ≡ apps → IsStateOf window (with_records (message.UpdateClient m) state (record state.chain.records { core = core_of new })) new left
-    updated_holds left kept = record {
+    pub updated_holds : (left : Apps) → IsStateOf window (with_records (message.UpdateClient m) state (record { core = core_of new; apps = left })) new left
+    updated_holds left = record {
       core = refl;
       time = ap (λ (s : HeldStore). s.time) updates.stored.store ∙ holds.time;
       height = ap (λ (s : HeldStore). height_of s) updates.stored.store ∙ holds.height;
       window_is = ap (λ (s : HeldStore). s.window) updates.stored.store ∙ holds.window_is;
-      apps_are = kept ∙ holds.apps_are;
+      apps_are = refl;
       known = λ client height known e.
           at-with consensus_cmp consensus_cmp_total (client, height) (m.client, m.header.height) (plain_consensus (consensus_of m.header)) state.consensus
           ∙ by_client client height known (text_cmp client m.client) refl
           (sym (ap (option_and_then (λ (c : HeldClient). at nat_cmp height c.known)) (ap (λ (h : HeldRecords). at text_cmp client h.clients) updates.records ∙ at-with text_cmp text_cmp_total client m.client (with_height m.header.height (consensus_of m.header) updates.client) old.clients)) ∙ e);
-      keeps = keeps_stored window state.chain old new (record state.chain.records { core = core_of new }) holds.keeps updates.stored refl;
+      keeps = keeps_stored window state.chain old new (record { core = core_of new; apps = left }) holds.keeps updates.stored refl;
     }
 
   -- the working block joins the committed ones

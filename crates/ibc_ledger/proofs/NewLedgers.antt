@@ -3,18 +3,18 @@ use Rattle.std.proofs.Common.{◌≡◌, ◌∙◌, ◌<◌, List, [], length, m
 use Rattle.std.specs.Prelude.{IsTrue, slice_get}
 use Rattle.std.proofs.lemmas.List.{length-map}
 use Rattle.std.proofs.lemmas.Option.{slice_get-map}
-use Rattle.ibc_ids.specs.declared.publication.Publication.{Publication}
+use Rattle.ibc_ids.specs.Publications.{published_by}
 use Rattle.ibc_machine.specs.declared.genesis.Genesis.{Genesis}
 use Rattle.ibc_machine.specs.declared.genesis.ChainStart.{ChainStart}
 use Rattle.ibc_machine.specs.Records.{Core}
 use Rattle.ibc_machine.specs.Genesis.{genesis_state, chain_state, is_allowed}
 use Rattle.ibc_machine.specs.Replay.{StampedEntry}
-use Rattle.ibc_root_table.specs.Passes.{Sight, unused_pass}
 use Rattle.ibc_transfer.specs.InFlight.{IsInFlight}
 use Rattle.ibc_records.specs.Held.{core_of, IsNew}
 use Rattle.ibc_ledger.specs.declared.ledger.Ledger.TheInside.{Inside}
 use Rattle.ibc_ledger.specs.Standing.{Stands}
-use Rattle.ibc_ledger.specs.Apps.{HeldApps, plain_apps, starting_apps}
+use Rattle.ibc_ledger.specs.declared.applications.Applications.{Applications}
+use Rattle.ibc_ledger.specs.Apps.{plain_apps, starting_apps}
 use Rattle.ibc_ledger.specs.Held.{plain_entry, shape_of}
 use Rattle.ibc_ledger.specs.declared.entry.StampedEntry.{StampedEntry as KeptEntry}
 use Rattle.ibc_ledger.specs.Happened.{happened_of}
@@ -26,14 +26,16 @@ use Rattle.ibc_ledger.proofs.EndedBlocks.{stands_new}
 pub record IsFresh (l : Inside) (genesis : Genesis) : Type 0 where
   pub start : ChainStart
   pub allowed : IsTrue (is_allowed (genesis_state genesis))
-  pub inside : l.chain < length genesis.chains.items
-  pub there : slice_get genesis.chains.items l.chain ≡ Some start
-  pub chains : l.chains ≡ length genesis.chains.items
+  pub inside : l.node.number < length genesis.chains.items
+  pub there : slice_get genesis.chains.items l.node.number ≡ Some start
+  pub chains : l.node.chains ≡ length genesis.chains.items
   pub capacity : l.capacity ≡ genesis.capacity
   pub shape : l.table.value.shape ≡ shape_of (genesis_state genesis)
-  pub pass : l.pass ≡ unused_pass l.table.value (Some l.chain)
-  pub records : IsNew genesis.window start.time l.records
-  pub applications : l.applications ≡ starting_apps start.balances.items
+  pub table : l.pass.table ≡ l.table.value
+  pub own : l.pass.own ≡ Some l.node.number
+  pub unpublished : published_by l.node.number l.pass.seen ≡ []
+  pub records : IsNew genesis.window start.time l.node.records
+  pub applications : l.node.applications ≡ starting_apps start.balances.items
   pub history : l.history.items ≡ []
   pub sent : l.sent.pairs ≡ []
 
@@ -41,19 +43,18 @@ module _ (l : Inside) (fresh : IsFresh l l.genesis.value) where
   as_many : length (genesis_of l).chains ≡ length l.genesis.value.chains.items
   as_many = length-map l.genesis.value.chains.items chain_state
 
-  stands : Stands (ledger_of l) l.records (plain_apps l.applications)
+  stands : Stands (ledger_of l) l.node.records (plain_apps l.node.applications)
   stands =
       let history : [] ≡ map plain_entry l.history.items = ap (map plain_entry) (sym fresh.history) in
-      let seen : [] ≡ l.pass.seen = ap (λ (s : Sight). s.seen) (sym fresh.pass) in
-      let there = slice_get-map chain_state l.genesis.value.chains.items l.chain ∙ ap (option_map chain_state) fresh.there in
-      subst (λ (w : (List StampedEntry × List Publication) × HeldApps). Stands (record { genesis = genesis_of l; chain = l.chain; history = w.0.0; seen = w.0.1 }) l.records (plain_apps w.1))
-      (λ i. ((history i, seen i), (sym fresh.applications) i))
-      (stands_new (genesis_of l) l.chain (chain_state fresh.start) there (subst (λ n. l.chain < n) (sym as_many) fresh.inside) l.records fresh.records)
+      let there = slice_get-map chain_state l.genesis.value.chains.items l.node.number ∙ ap (option_map chain_state) fresh.there in
+      subst (λ (w : List StampedEntry × Applications). Stands (record { genesis = genesis_of l; chain = l.node.number; history = w.0; seen = l.pass.seen }) l.node.records (plain_apps w.1))
+      (λ i. (history i, (sym fresh.applications) i))
+      (stands_new (genesis_of l) l.node.number (chain_state fresh.start) there (subst (λ n. l.node.number < n) (sym as_many) fresh.inside) l.pass.seen fresh.unpublished l.node.records fresh.records)
 
   -- nothing is burnt yet, and there is no channel
-  flight : IsInFlight l.applications.bank (core_of l.records)
+  flight : IsInFlight l.node.applications.transfers (core_of l.node.records)
   flight =
-      subst (λ (w : HeldApps × Core). IsInFlight w.0.bank w.1) (λ i. (sym fresh.applications i, sym fresh.records.core i))
+      subst (λ (w : Applications × Core). IsInFlight w.0.transfers w.1) (λ i. (sym fresh.applications i, sym fresh.records.core i))
       (record { sorted = refl; counted = λ denom. refl })
 
   pub fresh_held : IsHeld l
@@ -61,8 +62,8 @@ module _ (l : Inside) (fresh : IsFresh l l.genesis.value) where
     stands = stands;
     flight = flight;
     allowed = fresh.allowed;
-    table = ap (λ (s : Sight). s.table) fresh.pass;
-    own = ap (λ (s : Sight). s.own) fresh.pass;
+    table = fresh.table;
+    own = fresh.own;
     shape = fresh.shape;
     chains = fresh.chains ∙ sym as_many;
     capacity = fresh.capacity;

@@ -7,7 +7,7 @@ use Rattle.ibc_machine.specs.declared.event.Event.TheVariants as event
 use Rattle.ibc_machine.specs.declared.reply.Effect.{Effect}
 use Rattle.ibc_machine.specs.declared.reply.Reply.TheVariants as reply
 use Rattle.ibc_machine.specs.declared.entry.Reading.{Reading}
-use Rattle.ibc_machine.specs.Records.{Records}
+use Rattle.ibc_machine.specs.Records.{Core, Apps, Records}
 use Rattle.ibc_machine.specs.Checks.{Checked}
 use Rattle.ibc_machine.specs.Genesis.{GenesisState}
 use Rattle.ibc_machine.specs.Handlers.{handle, after_message, host_of}
@@ -22,13 +22,13 @@ with_records m state records = record {
 
 module _ (genesis : GenesisState) (k : ℕ) (seen : List Publication) (reading : Option Reading) (state : LedgerState) (m : Message) where
   -- the effect of the message and the records after it, or why it is refused
-  abbrev pub step : Checked (Effect × Records)
-  step = handle (proves seen reading state) (host_of (length genesis.chains) k state.chain) state.chain.records m
+  abbrev pub step : Checked (Effect × Core × Apps)
+  step = handle m (proves seen reading state) (host_of (length genesis.chains) k state.chain) state.chain.records.core state.chain.records.apps
 
-  pub taken_answer : (effect : Effect) (records : Records) → step ≡ Ok (effect, records)
-      → ledger_answer genesis k seen reading state (event.Message k m) ≡ (reply.Ok effect, with_records m state records)
+  pub taken_answer : (effect : Effect) (core : Core) (apps : Apps) → step ≡ Ok (effect, core, apps)
+      → ledger_answer genesis k seen reading state (event.Message k m) ≡ (reply.Ok effect, with_records m state (record { core = core; apps = apps }))
   unfolding ledger_answer
-  taken_answer effect records e = ap (λ x. after_answer m state (after_message state.chain x)) e
+  taken_answer effect core apps e = ap (λ x. after_answer m state (after_message state.chain x)) e
 
   pub refused_answer : (r : Refusal) → step ≡ Err r → ledger_answer genesis k seen reading state (event.Message k m) ≡ (reply.No r, state)
   unfolding ledger_answer

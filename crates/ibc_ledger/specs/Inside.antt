@@ -16,7 +16,7 @@ abbrev pub genesis_of : Inside → GenesisState
 genesis_of l = genesis_state l.genesis.value
 
 abbrev pub ledger_of : Inside → Ledger
-ledger_of l = record { genesis = genesis_of l; chain = l.chain; history = map plain_entry l.history.items; seen = l.pass.seen }
+ledger_of l = record { genesis = genesis_of l; chain = l.node.number; history = map plain_entry l.history.items; seen = l.pass.seen }
 
 abbrev pub held_of : Inside → HeldLedger
 held_of l = record { ledger = ledger_of l; table = l.table.value }
@@ -24,12 +24,12 @@ held_of l = record { ledger = ledger_of l; table = l.table.value }
 -- what is held is the state that the history leaves, and the bank knows what is burnt in flight; the pass is the chain's
 -- own of the table of the genesis; and where in the history packets were sent is known
 pub record IsHeld (l : Inside) : Type 0 where
-  pub stands : Stands (ledger_of l) l.records (plain_apps l.applications)
-  pub flight : IsInFlight l.applications.bank (core_of l.records)
+  pub stands : Stands (ledger_of l) l.node.records (plain_apps l.node.applications)
+  pub flight : IsInFlight l.node.applications.transfers (core_of l.node.records)
   pub allowed : IsTrue (is_allowed (genesis_of l))
   pub table : l.pass.table ≡ l.table.value
-  pub own : l.pass.own ≡ Some l.chain
+  pub own : l.pass.own ≡ Some l.node.number
   pub shape : l.table.value.shape ≡ shape_of (genesis_of l)
-  pub chains : l.chains ≡ length (genesis_of l).chains
+  pub chains : l.node.chains ≡ length (genesis_of l).chains
   pub capacity : l.capacity ≡ (genesis_of l).capacity
   pub sent : AreFirst l.sent.pairs (happened_on (ledger_of l))

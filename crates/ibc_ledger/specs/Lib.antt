@@ -1,9 +1,8 @@
 pub mod Growing
 pub mod Entries
 pub mod Proving
-pub mod Parts
 pub mod Apps
-pub mod Settling
+pub mod Effects
 pub mod Standing
 pub mod Held
 pub mod Happened

@@ -12,21 +12,12 @@ use ibc_machine::ChainStart;
 use ibc_note::{Notes, is_note_port};
 use ibc_transfer::Transfers;
 use std::alloc::{AllocError, Global};
-use std::marker::Model;
 
 /// What the applications of a chain keep (ICS 24, "Private store").
 #[derive(Drop, Debug)]
 pub struct Applications {
     pub transfers: Transfers,
     pub notes: Notes,
-}
-
-impl Model for Applications {
-    ghost use Rattle.ibc_ledger.specs.Apps.{HeldApps};
-
-    ghost Value = { HeldApps };
-
-    ghost view = { λ applications. record { bank = applications.transfers; notes = applications.notes } };
 }
 
 impl Applications {

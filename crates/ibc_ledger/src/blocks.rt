@@ -2,19 +2,21 @@
 
 ghost use Rattle.std.specs.Prelude.{◌≡◌, IsSome};
 ghost use Rattle.ibc_ids.specs.Publications.{height_of as published_height};
+ghost use Rattle.ibc_ids.specs.declared.refusal.Refusal.TheVariants.{NoMemory};
 ghost use Rattle.ibc_machine.specs.declared.event.Event.TheVariants as event;
+ghost use Rattle.ibc_machine.specs.declared.reply.Reply.TheVariants as reply_of;
 ghost use Rattle.ibc_path_store.specs.Held.{height_of};
 ghost use Rattle.ibc_root_table.specs.Passes.{own_chain};
 ghost use Rattle.ibc_ledger.specs.Adding.{AddsOrNot};
 ghost use Rattle.ibc_ledger.specs.Ending.{IsEnded};
 
-use crate::refusals::with_memory;
+use crate::entry::seen_if;
+use crate::outcome::{Effects, replies};
 use crate::{Ledger, StampedEntry};
 use ibc_ids::{Refusal, Root};
-use ibc_machine::{Effect, Entry, Event, Reply};
+use ibc_machine::{Entry, Event, Reply};
 use ibc_records::Records;
 use ibc_root_table::{Pass, RootTable};
-use std::snapshot::Snapshot;
 
 impl Ledger {
     /// Ends the working block: it is committed as the next height and published, and the next block has this time. Refused,
@@ -24,31 +26,24 @@ impl Ledger {
     pub fn end_block(&mut self, next_time: u64) -> Reply
         ensures table { self.new.table ≡ self.old.table }
         ensures adds { AddsOrNot self.old.ledger (event.Block self.old.ledger.chain next_time) result self.new.ledger }
+        ensures nothing { result ≡ reply_of.No NoMemory → self.new ≡ self.old }
     {
         let Ok(()) = self.history.reserve(1) else {
             return Reply::No(Refusal::NoMemory);
         };
-        let (reply, kept, seen) = match commit_block(
-            &mut self.records,
+        let ended = commit_block(
+            &mut self.node.records,
             &self.table,
             &mut self.pass,
             self.capacity,
             next_time,
-        ) {
-            Ok(block) => (
-                Reply::Ok(Effect::Block(block.0, block.1)),
-                Reply::Ok(Effect::Block(block.0, block.1)),
-                Some(Snapshot::of(&self.pass)),
-            ),
-            Err(refusal) => {
-                let Ok(other) = with_memory(refusal) else {
-                    return Reply::No(Refusal::NoMemory);
-                };
-                (Reply::No(other), Reply::No(other), None)
-            }
+        );
+        let seen = seen_if(&self.pass, ended.is_ok());
+        let Ok((reply, kept)) = replies(Effects::of_block(ended)) else {
+            return Reply::No(Refusal::NoMemory);
         };
         let event = Event::Block {
-            chain: self.chain,
+            chain: self.node.number,
             next_time,
         };
         self.history.push_reserved(StampedEntry {

@@ -1,73 +1,55 @@
 //! What becomes of the messages of connections.
 
-ghost use Rattle.std.specs.Prelude.{◌≡◌, ℕ, IfOk, OnErr};
-ghost use Rattle.ibc_machine.specs.Connections.{conn_open_init, conn_open_try, conn_open_ack, conn_open_confirm};
-ghost use Rattle.ibc_records.specs.Held.{IsUnchanged};
-ghost use Rattle.ibc_ledger.specs.Answering.{IsTakenAs};
+ghost use Rattle.ibc_wire.specs.declared.messages.Message.TheVariants as message_of;
+ghost use Rattle.ibc_ledger.specs.Answering.{IsReady, IsAnswered};
 
-use crate::outcome::Outcome;
+use crate::node::Node;
+use crate::outcome::Effects;
 use ibc_connection::{open_ack, open_confirm, open_init, open_try};
-use ibc_ids::nth_connection;
-use ibc_records::Records;
+use ibc_ids::{Refusal, nth_connection};
+use ibc_machine::Effect;
 use ibc_wire::{ConnOpenAck, ConnOpenConfirm, ConnOpenInit, ConnOpenTry};
-use std::alloc::{AllocError, Global};
 
-/// Begins a connection in the records.
-pub fn init_in(
-    alloc: Global,
-    records: &mut Records,
-    message: &ConnOpenInit,
-) -> Result<Outcome, AllocError>
-    ensures kept { IfOk result (λ outcome. outcome.kept ≡ outcome.reply) }
-    ensures answer { (chain chains : ℕ) → IfOk result (λ outcome. IsTakenAs (λ evidence host core. conn_open_init core message.now) chain chains records.old (outcome.reply, outcome.reading) records.new) }
-    ensures err { OnErr result (IsUnchanged records.old records.new) }
-{
-    let Ok(named) = nth_connection(alloc, records.next_connection()) else {
-        return Err(AllocError);
-    };
-    Outcome::of_connection(open_init(alloc, records, message), named)
-}
+impl Node {
+    /// Begins a connection (ICS 3, "ConnOpenInit"). Refused as by `ibc_connection::open_init`.
+    pub fn conn_open_init(&mut self, message: &ConnOpenInit) -> Result<Effects, Refusal>
+        requires { IsReady (message_of.ConnOpenInit message.now) self.old }
+        ensures { IsAnswered (message_of.ConnOpenInit message.now) self.old result self.new }
+    {
+        let name = nth_connection(self.alloc, self.records.next_connection())?;
+        let id = open_init(self.alloc, &mut self.records, message)?;
+        Ok(Effects {
+            told: Effect::Connection(id),
+            kept: Effect::Connection(name),
+        })
+    }
 
-/// Answers a connection of the peer in the records.
-pub fn try_in(
-    alloc: Global,
-    records: &mut Records,
-    chain: u8,
-    message: &ConnOpenTry,
-) -> Result<Outcome, AllocError>
-    ensures kept { IfOk result (λ outcome. outcome.kept ≡ outcome.reply) }
-    ensures answer { (chains : ℕ) → IfOk result (λ outcome. IsTakenAs (λ evidence host core. conn_open_try evidence host core message.now) chain chains records.old (outcome.reply, outcome.reading) records.new) }
-    ensures err { OnErr result (IsUnchanged records.old records.new) }
-{
-    let Ok(named) = nth_connection(alloc, records.next_connection()) else {
-        return Err(AllocError);
-    };
-    Outcome::of_connection(open_try(alloc, records, chain, message), named)
-}
+    /// Answers a connection of the peer (ICS 3, "ConnOpenTry"). Refused as by `ibc_connection::open_try`.
+    pub fn conn_open_try(&mut self, message: &ConnOpenTry) -> Result<Effects, Refusal>
+        requires { IsReady (message_of.ConnOpenTry message.now) self.old }
+        ensures { IsAnswered (message_of.ConnOpenTry message.now) self.old result self.new }
+    {
+        let name = nth_connection(self.alloc, self.records.next_connection())?;
+        let id = open_try(self.alloc, &mut self.records, self.number, message)?;
+        Ok(Effects {
+            told: Effect::Connection(id),
+            kept: Effect::Connection(name),
+        })
+    }
 
-/// Opens a connection that the peer answered, in the records.
-pub fn ack_in(
-    alloc: Global,
-    records: &mut Records,
-    chain: u8,
-    message: &ConnOpenAck,
-) -> Result<Outcome, AllocError>
-    ensures kept { IfOk result (λ outcome. outcome.kept ≡ outcome.reply) }
-    ensures answer { (chains : ℕ) → IfOk result (λ outcome. IsTakenAs (λ evidence host core. conn_open_ack evidence host core message.now) chain chains records.old (outcome.reply, outcome.reading) records.new) }
-    ensures err { OnErr result (IsUnchanged records.old records.new) }
-{
-    Outcome::of_nothing(open_ack(alloc, records, chain, message))
-}
+    /// Opens a connection that the peer answered (ICS 3, "ConnOpenAck"). Refused as by `ibc_connection::open_ack`.
+    pub fn conn_open_ack(&mut self, message: &ConnOpenAck) -> Result<Effects, Refusal>
+        requires { IsReady (message_of.ConnOpenAck message.now) self.old }
+        ensures { IsAnswered (message_of.ConnOpenAck message.now) self.old result self.new }
+    {
+        Effects::of_nothing(open_ack(self.alloc, &mut self.records, self.number, message))
+    }
 
-/// Opens a connection that the peer opened, in the records.
-pub fn confirm_in(
-    alloc: Global,
-    records: &mut Records,
-    message: &ConnOpenConfirm,
-) -> Result<Outcome, AllocError>
-    ensures kept { IfOk result (λ outcome. outcome.kept ≡ outcome.reply) }
-    ensures answer { (chain chains : ℕ) → IfOk result (λ outcome. IsTakenAs (λ evidence host core. conn_open_confirm evidence core message.now) chain chains records.old (outcome.reply, outcome.reading) records.new) }
-    ensures err { OnErr result (IsUnchanged records.old records.new) }
-{
-    Outcome::of_nothing(open_confirm(alloc, records, message))
+    /// Opens a connection that the peer opened (ICS 3, "ConnOpenConfirm"). Refused as by `ibc_connection::open_confirm`.
+    pub fn conn_open_confirm(&mut self, message: &ConnOpenConfirm) -> Result<Effects, Refusal>
+        requires { IsReady (message_of.ConnOpenConfirm message.now) self.old }
+        ensures { IsAnswered (message_of.ConnOpenConfirm message.now) self.old result self.new }
+    {
+        Effects::of_nothing(open_confirm(self.alloc, &mut self.records, message))
+    }
 }

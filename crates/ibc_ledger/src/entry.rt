@@ -1,5 +1,8 @@
 //! What a ledger keeps of an event.
 
+ghost use Rattle.std.specs.Prelude.{◌≡◌, length, option_map};
+ghost use Rattle.ibc_ledger.specs.Entries.{stamp_if};
+
 use ibc_machine::Entry;
 use ibc_root_table::Pass;
 use std::snapshot::Snapshot;
@@ -10,4 +13,15 @@ use std::snapshot::Snapshot;
 pub struct StampedEntry {
     pub entry: Entry,
     pub seen: Option<Snapshot<Pass>>,
+}
+
+/// What the pass has seen, where it is kept.
+pub(crate) fn seen_if(pass: &Pass, is_kept: bool) -> Option<Snapshot<Pass>>
+    ensures { option_map (λ s. length s.value.seen) result ≡ stamp_if is_kept pass.now.seen }
+{
+    if is_kept {
+        Some(Snapshot::of(pass))
+    } else {
+        None
+    }
 }

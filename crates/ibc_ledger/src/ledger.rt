@@ -1,28 +1,28 @@
 //! A ledger: a chain with its history, its records and its pass of the table.
 
-ghost use Rattle.std.specs.Prelude.{◌≡◌, ◌<◌, ◌⊎◌, ◌↔◌, ◌++◌, ℕ, [], Some, length, map, option_map, IfOk, IfErr, IsNone, IsTrue};
+ghost use Rattle.std.specs.Prelude.{◌≡◌, ◌<◌, ◌⊎◌, ◌↔◌, ◌++◌, ℕ, [], false, Some, Err, length, map, option_map, IfOk, IfErr, IsNone, IsTrue};
 ghost use Rattle.std.specs.Option.{IsSomeAnd};
 ghost use mathlib.Core.List.{IsPrefix};
 ghost use Rattle.ibc_ids.specs.Texts.{text_cmp};
 ghost use Rattle.ibc_ids.specs.Maps.{at};
 ghost use Rattle.ibc_ids.specs.Paths.{path};
-ghost use Rattle.ibc_ids.specs.Publications.{height_of};
-ghost use Rattle.ibc_ids.specs.declared.refusal.Refusal.TheVariants.{NoConsensus, NoMemory};
+ghost use Rattle.ibc_ids.specs.Publications.{height_of, published_by};
+ghost use Rattle.ibc_ids.specs.declared.refusal.Refusal.TheVariants.{BadMessage, NoConsensus, NoMemory};
 ghost use Rattle.ibc_merkle.specs.Written.{written};
 ghost use Rattle.ibc_machine.specs.Genesis.{genesis_state, is_allowed};
 ghost use Rattle.ibc_machine.specs.Image.{image};
 ghost use Rattle.ibc_machine.specs.Ledgers.{IsLedger, SeesMore, state_of};
-ghost use Rattle.ibc_root_table.specs.Passes.{unused_pass};
 ghost use Rattle.ibc_note.specs.Plain.{plain_notes};
 ghost use Rattle.ibc_bank.specs.Listed.{plain_holding};
 ghost use Rattle.ibc_ledger.specs.Held.{plain_entry, shape_of};
 ghost use Rattle.ibc_ledger.specs.Happened.{ack_on, packet_on};
 ghost use Rattle.ibc_ledger.specs.Proving.{provable};
 
-use crate::StampedEntry;
 use crate::applications::Applications;
+use crate::node::Node;
 use crate::places::{Places, place_of};
 use crate::sent::{commitment_in, packet_to};
+use crate::{StampedEntry, is_allowed};
 use ibc_ids::{Account, Bytes, ChannelId, Denom, Key, PortId, Refusal};
 use ibc_machine::Genesis;
 use ibc_merkle::Proof;
@@ -38,15 +38,11 @@ use std::sync::Arc;
 /// pass has seen; they also see what genesis it is of.
 #[derive(Drop)]
 pub struct Ledger {
-    pub(crate) alloc: Global,
     pub(crate) genesis: Snapshot<Genesis>,
-    pub(crate) chain: u8,
-    pub(crate) chains: u8,
+    pub(crate) node: Node,
     pub(crate) capacity: u64,
     pub(crate) table: Arc<RootTable, Global>,
     pub(crate) pass: Pass,
-    pub(crate) records: Records,
-    pub(crate) applications: Applications,
     pub(crate) history: Vec<StampedEntry>,
     pub(crate) sent: Places,
 }
@@ -63,8 +59,8 @@ impl Model for Ledger {
 }
 
 impl Ledger {
-    /// The ledger of the chain numbered `chain` of a genesis, which publishes in the table. `NoMemory` where a growth is
-    /// refused.
+    /// The ledger of the chain numbered `chain` of a genesis, which publishes in the table by the chain's own pass. The pass
+    /// may have seen what others published. Refused: `BadMessage` exactly where the genesis isn't allowed; `NoMemory`.
     pub fn new(
         alloc: Global,
         genesis: &Genesis,
@@ -72,24 +68,31 @@ impl Ledger {
         table: Arc<RootTable, Global>,
         pass: Pass,
     ) -> Result<Ledger, Refusal>
-        requires allowed { IsTrue (is_allowed (genesis_state genesis.now)) }
         requires chain { chain < length genesis.now.chains.items }
         requires table { table.value.shape ≡ shape_of (genesis_state genesis.now) }
-        requires pass { pass ≡ unused_pass table.value (Some chain) }
-        ensures ok { IfOk result (λ ledger. ledger ≡ record { ledger = record { genesis = genesis_state genesis.now; chain = chain; history = []; seen = [] }; table = table.value }) }
-        ensures err { IfErr result (λ refusal. refusal ≡ NoMemory) }
+        requires pass { (pass.table ≡ table.value) × (pass.own ≡ Some chain) }
+        requires unpublished { published_by chain pass.seen ≡ [] }
+        ensures ok { IfOk result (λ ledger. ledger ≡ record { ledger = record { genesis = genesis_state genesis.now; chain = chain; history = []; seen = pass.seen }; table = table.value }) }
+        ensures bad { (result ≡ Err BadMessage) ↔ (is_allowed (genesis_state genesis.now) ≡ false) }
+        ensures err { IfErr result (λ refusal. (refusal ≡ BadMessage) ⊎ (refusal ≡ NoMemory)) }
     {
+        if !is_allowed(genesis) {
+            return Err(Refusal::BadMessage);
+        }
         let start = &genesis.chains[usize::from(chain)];
-        Ok(Ledger {
+        let node = Node {
             alloc,
-            genesis: Snapshot::of(genesis),
-            chain,
+            number: chain,
             chains: genesis.chains.len() as u8,
+            records: Records::new(alloc, genesis.window, start.time)?,
+            applications: Applications::new(alloc, start)?,
+        };
+        Ok(Ledger {
+            genesis: Snapshot::of(genesis),
+            node,
             capacity: genesis.capacity,
             table,
             pass,
-            records: Records::new(alloc, genesis.window, start.time)?,
-            applications: Applications::new(alloc, start)?,
             history: Vec::new(alloc),
             sent: Places::new(alloc),
         })
@@ -99,7 +102,7 @@ impl Ledger {
     pub fn chain(&self) -> u8
         ensures { result ≡ self.now.ledger.chain }
     {
-        self.chain
+        self.node.number
     }
 
     /// All that was asked of the chain, and what it answered, in order. What was answered with `NoMemory` isn't there.
@@ -109,10 +112,11 @@ impl Ledger {
         self.history.as_slice()
     }
 
-    /// A ledger is one: its state is the replay of its history, whose replies are those of the steps; and what its pass has
-    /// seen is of the chains of the genesis.
+    /// A ledger is one: its state is the replay of its history, whose replies are those of the steps; what its pass has seen
+    /// is of the chains of the genesis; and the genesis is allowed.
     pub fn is_its_history(&self)
         ensures is { IsLedger self.now.ledger }
+        ensures allowed { IsTrue (is_allowed self.now.ledger.genesis) }
         ensures within { (c : ℕ) → 0 < height_of c self.now.ledger.seen → c < length self.now.ledger.genesis.chains }
     {
         self.table.holds_what_is_seen(&self.pass);
@@ -124,9 +128,9 @@ impl Ledger {
         ensures ok { IfOk result (λ value. value ≡ at text_cmp (path key.now) (image (state_of self.now.ledger).chain.records.core)) }
         ensures err { IfErr result (λ refusal. refusal ≡ NoMemory) }
     {
-        let path = key.path(self.alloc)?;
-        match self.records.value(path.as_str()) {
-            Some(value) => Ok(Some(Bytes::copy_of(self.alloc, value)?)),
+        let path = key.path(self.node.alloc)?;
+        match self.node.records.value(path.as_str()) {
+            Some(value) => Ok(Some(Bytes::copy_of(self.node.alloc, value)?)),
             None => Ok(None),
         }
     }
@@ -139,7 +143,7 @@ impl Ledger {
         ensures unknown { (result ≡ Err NoConsensus) ↔ IsNone (provable self.now.ledger.genesis.window (state_of self.now.ledger).chain.committed height) }
         ensures err { IfErr result (λ refusal. (refusal ≡ NoConsensus) ⊎ (refusal ≡ NoMemory)) }
     {
-        self.records.prove(height, key)
+        self.node.records.prove(height, key)
     }
 
     /// Who holds how much of what in the working block: the amounts above 0, in the byte order of the accounts' texts and
@@ -148,7 +152,8 @@ impl Ledger {
         ensures ok { IfOk result (λ list. map plain_holding list.items ≡ (state_of self.now.ledger).chain.records.apps.balances) }
         ensures err { IfErr result (λ refusal. refusal ≡ NoMemory) }
     {
-        Ok(self.applications.transfers.bank().list(self.alloc)?)
+        let bank = self.node.applications.transfers.bank();
+        Ok(bank.list(self.node.alloc)?)
     }
 
     /// The notes that came over each channel of port `note`, in the order in which they came; the channels in the byte order
@@ -157,7 +162,7 @@ impl Ledger {
         ensures ok { IfOk result (λ list. map plain_notes list.items ≡ (state_of self.now.ledger).chain.records.apps.notes) }
         ensures err { IfErr result (λ refusal. refusal ≡ NoMemory) }
     {
-        Ok(self.applications.notes.all(self.alloc)?)
+        Ok(self.node.applications.notes.all(self.node.alloc)?)
     }
 
     /// The packet that was sent from an end of a channel under a sequence (ICS 4, "sendPacket"), whether its commitment stands
@@ -172,7 +177,7 @@ impl Ledger {
         ensures ok { IfOk result (λ packet. packet ≡ packet_on self.now.ledger port.now channel.now sequence) }
         ensures err { IfErr result (λ refusal. refusal ≡ NoMemory) }
     {
-        let Some(mine) = self.records.channel(port, channel)? else {
+        let Some(mine) = self.node.records.channel(port, channel)? else {
             return Ok(None);
         };
         let end = mine.end();
@@ -182,7 +187,8 @@ impl Ledger {
         let Some(place) = place_of(&self.sent, port, channel, sequence)? else {
             return Ok(None);
         };
-        let Some(commitment) = commitment_in(self.alloc, &self.history[place].entry.event)? else {
+        let Some(commitment) = commitment_in(self.node.alloc, &self.history[place].entry.event)?
+        else {
             unreachable!();
         };
         let packet = packet_to(port, channel, sequence, end, peer, commitment)?;
@@ -200,7 +206,7 @@ impl Ledger {
         ensures ok { IfOk result (λ ack. ack ≡ ack_on self.now.ledger port.now channel.now sequence) }
         ensures err { IfErr result (λ refusal. refusal ≡ NoMemory) }
     {
-        let Some(mine) = self.records.channel(port, channel)? else {
+        let Some(mine) = self.node.records.channel(port, channel)? else {
             return Ok(None);
         };
         match mine.ack(sequence) {

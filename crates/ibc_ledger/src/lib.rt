@@ -4,18 +4,18 @@
 mod applications;
 mod blocks;
 mod channels;
+mod clients;
 mod connections;
 mod entry;
 mod genesis;
 mod laws;
 mod ledger;
 mod messages;
+mod node;
 mod outcome;
 mod packets;
 mod places;
-mod refusals;
 mod sent;
-mod settlement;
 
 pub use entry::StampedEntry;
 pub use genesis::is_allowed;

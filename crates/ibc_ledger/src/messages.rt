@@ -1,28 +1,21 @@
 //! What a ledger does with messages.
 
-ghost use Rattle.std.specs.Prelude.{◌≡◌, length, option_map, None, IfOk, OnErr};
+ghost use Rattle.std.specs.Prelude.{◌≡◌};
 ghost use mathlib.Core.List.{IsPrefix};
 ghost use Rattle.ibc_machine.specs.declared.event.Event.TheVariants as event;
-ghost use Rattle.ibc_machine.specs.Clients.{create_client};
-ghost use Rattle.ibc_records.specs.Held.{IsUnchanged};
 ghost use Rattle.ibc_root_table.specs.Passes.{SamePass, KeepsOwn};
 ghost use Rattle.ibc_ledger.specs.Adding.{AddsOrNot};
-ghost use Rattle.ibc_ledger.specs.Answering.{IsAnswerTo, IsTakenAs, IsUpdateAnswer};
-ghost use Rattle.ibc_ledger.specs.Entries.{stamp_if};
+ghost use Rattle.ibc_ledger.specs.Answering.{IsReady, IsAnswer};
 
-use crate::applications::Applications;
-use crate::outcome::Outcome;
+use crate::entry::seen_if;
+use crate::node::Node;
+use crate::outcome::{Outcome, replies};
 use crate::places::{keep_first, make_room};
-use crate::settlement::Settlement;
-use crate::{Ledger, StampedEntry, channels, connections, packets};
-use ibc_client::{create, update};
-use ibc_ids::{Refusal, nth_client};
+use crate::{Ledger, StampedEntry};
+use ibc_ids::Refusal;
 use ibc_machine::{Entry, Event, Reply};
-use ibc_records::Records;
 use ibc_root_table::{Pass, RootTable};
-use ibc_wire::{CreateClient, Message, UpdateClient};
-use std::alloc::{AllocError, Global};
-use std::snapshot::Snapshot;
+use ibc_wire::Message;
 
 impl Ledger {
     /// Applies a message to the working block. The history then has one entry more, with the message and the reply; where
@@ -35,143 +28,62 @@ impl Ledger {
             drop(message);
             return Reply::No(Refusal::NoMemory);
         };
-        let Ok(sender) = make_room(self.alloc, &mut self.sent, &message) else {
+        let Ok(sender) = make_room(self.node.alloc, &mut self.sent, &message) else {
             drop(message);
             return Reply::No(Refusal::NoMemory);
         };
         message.is_typed();
-        self.records.is_orderly();
-        let chain = self.chain;
-        let Ok(outcome) = answer(
-            self.alloc,
-            &mut self.records,
-            &mut self.applications,
-            &self.table,
-            &mut self.pass,
-            chain,
-            self.chains,
-            &message,
-        ) else {
+        self.node.records.is_orderly();
+        let chain = self.node.number;
+        let outcome = self.node.answer(&self.table, &mut self.pass, &message);
+        let reading = outcome.reading;
+        let Ok((reply, kept)) = replies(outcome.result) else {
             drop(sender);
             drop(message);
             return Reply::No(Refusal::NoMemory);
         };
-        let reading = outcome.reading;
         let seen = seen_if(&self.pass, reading.is_some());
-        keep_first(&mut self.sent, sender, &outcome.kept, self.history.len());
+        keep_first(&mut self.sent, sender, &kept, self.history.len());
         self.history.push_reserved(StampedEntry {
             entry: Entry {
                 event: Event::Message { chain, message },
-                reply: outcome.kept,
+                reply: kept,
                 reading,
             },
             seen,
         });
-        outcome.reply
+        reply
     }
 }
 
-// What becomes of a message on the chain numbered `chain` of `chains`. Error: memory ran out, and nothing but room and
-// what the pass has seen has changed.
-fn answer(
-    alloc: Global,
-    records: &mut Records,
-    applications: &mut Applications,
-    table: &RootTable,
-    pass: &mut Pass,
-    chain: u8,
-    chains: u8,
-    message: &Message,
-) -> Result<Outcome, AllocError>
-    requires table { pass.old.table ≡ table.now }
-    ensures kept { IfOk result (λ outcome. outcome.kept ≡ outcome.reply) }
-    ensures answer { IfOk result (λ outcome. IsAnswerTo message.now (record { chain = chain; chains = chains; table = table.now; records = records.old; apps = applications.old; pass = pass.old }) (outcome.reply, outcome.reading) (record { records = records.new; apps = applications.new; pass = pass.new })) }
-    ensures err { OnErr result (IsUnchanged records.old records.new × (applications.new ≡ applications.old)) }
-    ensures pass { SamePass pass.old pass.new × IsPrefix pass.old.seen pass.new.seen × KeepsOwn pass.old pass.new }
-{
-    match message {
-        Message::CreateClient(message) => create_in(alloc, records, chain, chains, message),
-        Message::UpdateClient(message) => update_in(records, table, pass, message),
-        Message::ConnOpenInit(message) => connections::init_in(alloc, records, message),
-        Message::ConnOpenTry(message) => connections::try_in(alloc, records, chain, message),
-        Message::ConnOpenAck(message) => connections::ack_in(alloc, records, chain, message),
-        Message::ConnOpenConfirm(message) => connections::confirm_in(alloc, records, message),
-        Message::ChanOpenInit(message) => channels::init_in(alloc, records, applications, message),
-        Message::ChanOpenTry(message) => channels::try_in(alloc, records, applications, message),
-        Message::ChanOpenAck(message) => channels::ack_in(alloc, records, message),
-        Message::ChanOpenConfirm(message) => channels::confirm_in(alloc, records, message),
-        Message::ChanCloseInit(message) => channels::close_in(records, applications, message),
-        Message::ChanCloseConfirm(message) => channels::close_confirm_in(alloc, records, message),
-        Message::Transfer(message) => {
-            packets::transfer_in(alloc, records, applications, message)
+impl Node {
+    // What becomes of a message.
+    fn answer(&mut self, table: &RootTable, pass: &mut Pass, message: &Message) -> Outcome
+        requires table { pass.old.table ≡ table.now }
+        requires ready { IsReady message.now self.old }
+        ensures answer { IsAnswer message.now self.old pass.old result self.new pass.new }
+        ensures pass { SamePass pass.old pass.new × IsPrefix pass.old.seen pass.new.seen × KeepsOwn pass.old pass.new }
+    {
+        match message {
+            Message::CreateClient(message) => Outcome::unread(self.create_client(message)),
+            Message::UpdateClient(message) => self.update_client(table, pass, message),
+            Message::ConnOpenInit(message) => Outcome::unread(self.conn_open_init(message)),
+            Message::ConnOpenTry(message) => Outcome::unread(self.conn_open_try(message)),
+            Message::ConnOpenAck(message) => Outcome::unread(self.conn_open_ack(message)),
+            Message::ConnOpenConfirm(message) => Outcome::unread(self.conn_open_confirm(message)),
+            Message::ChanOpenInit(message) => Outcome::unread(self.chan_open_init(message)),
+            Message::ChanOpenTry(message) => Outcome::unread(self.chan_open_try(message)),
+            Message::ChanOpenAck(message) => Outcome::unread(self.chan_open_ack(message)),
+            Message::ChanOpenConfirm(message) => Outcome::unread(self.chan_open_confirm(message)),
+            Message::ChanCloseInit(message) => Outcome::unread(self.chan_close_init(message)),
+            Message::ChanCloseConfirm(message) => Outcome::unread(self.chan_close_confirm(message)),
+            Message::Transfer(message) => Outcome::unread(self.transfer(message)),
+            Message::TransferMany(message) => Outcome::unread(self.transfer_many(message)),
+            Message::SendNote(message) => Outcome::unread(self.send_note(message)),
+            Message::RecvPacket(message) => Outcome::unread(self.recv_packet(message)),
+            Message::AckPacket(message) => Outcome::unread(self.ack_packet(message)),
+            Message::Timeout(message) => Outcome::unread(self.timeout(message)),
+            Message::TimeoutOnClose(message) => Outcome::unread(self.timeout_on_close(message)),
         }
-        Message::TransferMany(message) => {
-            packets::transfer_many_in(alloc, records, applications, message)
-        }
-        Message::SendNote(message) => packets::send_in(alloc, records, message),
-        Message::RecvPacket(message) => packets::recv_in(alloc, records, applications, message),
-        Message::AckPacket(message) => {
-            let settlement = Settlement::Acknowledged(message);
-            packets::settle_in(alloc, records, applications, settlement)
-        }
-        Message::Timeout(message) => {
-            let settlement = Settlement::TimedOut(message);
-            packets::settle_in(alloc, records, applications, settlement)
-        }
-        Message::TimeoutOnClose(message) => {
-            let settlement = Settlement::TimedOutOnClose(message);
-            packets::settle_in(alloc, records, applications, settlement)
-        }
-    }
-}
-
-// Makes a client of a chain in the records.
-fn create_in(
-    alloc: Global,
-    records: &mut Records,
-    chain: u8,
-    chains: u8,
-    message: &CreateClient,
-) -> Result<Outcome, AllocError>
-    ensures kept { IfOk result (λ outcome. outcome.kept ≡ outcome.reply) }
-    ensures answer { IfOk result (λ outcome. IsTakenAs (λ evidence host core. create_client host core message.now) chain chains records.old (outcome.reply, outcome.reading) records.new) }
-    ensures err { OnErr result (IsUnchanged records.old records.new) }
-{
-    let Ok(named) = nth_client(alloc, records.next_client()) else {
-        return Err(AllocError);
-    };
-    Outcome::of_client(create(alloc, records, chain, chains, message), named)
-}
-
-// Tells a client in the records of a height.
-fn update_in(
-    records: &mut Records,
-    table: &RootTable,
-    pass: &mut Pass,
-    message: &UpdateClient,
-) -> Result<Outcome, AllocError>
-    requires table { pass.old.table ≡ table.now }
-    ensures kept { IfOk result (λ outcome. outcome.kept ≡ outcome.reply) }
-    ensures answer { IfOk result (λ outcome. IsUpdateAnswer table.now message.now records.old (outcome.reply, outcome.reading) records.new pass.new) }
-    ensures err { OnErr result (IsUnchanged records.old records.new) }
-    ensures pass { SamePass pass.old pass.new × IsPrefix pass.old.seen pass.new.seen × KeepsOwn pass.old pass.new }
-{
-    let updated = update(records, table, pass, message);
-    let outcome = Outcome::of_nothing(updated.result)?;
-    Ok(Outcome {
-        reply: outcome.reply,
-        kept: outcome.kept,
-        reading: updated.reading,
-    })
-}
-
-// What the pass has seen, where something was read.
-fn seen_if(pass: &Pass, is_read: bool) -> Option<Snapshot<Pass>>
-    ensures { option_map (λ s. length s.value.seen) result ≡ stamp_if is_read pass.now.seen }
-{
-    if is_read {
-        Some(Snapshot::of(pass))
-    } else {
-        None
     }
 }

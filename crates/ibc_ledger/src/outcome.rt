@@ -1,140 +1,104 @@
 //! What becomes of a message.
 
-ghost use Rattle.std.specs.Prelude.{◌≡◌, None, IfOk, IsErr};
+ghost use Rattle.std.specs.Prelude.{◌≡◌, None, Err, IfOk, IsOk, IsErr};
 ghost use Rattle.ibc_ids.specs.declared.refusal.Refusal.TheVariants.{NoMemory};
 ghost use Rattle.ibc_machine.specs.declared.reply.Effect.TheVariants as effect_of;
-ghost use Rattle.ibc_ledger.specs.Answering.{IsReplyTo};
+ghost use Rattle.ibc_ledger.specs.Effects.{both, told_by, told_reply, kept_reply};
 
-use crate::refusals::with_memory;
-use ibc_ids::{Bytes, ChannelId, ClientId, ConnectionId, Refusal};
+use ibc_ids::{Bytes, Refusal, Root};
 use ibc_machine::{Effect, Reading, Reply};
 use std::alloc::AllocError;
 
-/// The reply to a message, once for the caller and once for the history, and what was read for it.
+/// An effect, once for the caller and once for the history.
+#[derive(Drop)]
+pub struct Effects {
+    pub told: Effect,
+    pub kept: Effect,
+}
+
+/// What became of a message, and what was read for it.
 #[derive(Drop)]
 pub struct Outcome {
-    pub reply: Reply,
-    pub kept: Reply,
+    pub result: Result<Effects, Refusal>,
     pub reading: Option<Reading>,
 }
 
 impl Outcome {
-    /// The outcome of a call that reads nothing, whose effect is told once and kept once. Error: memory ran out.
-    pub fn of_effect(given: Result<(Effect, Effect), Refusal>) -> Result<Outcome, AllocError>
-        requires { IfOk given (λ effects. effects.1 ≡ effects.0) }
-        ensures kept { IfOk result (λ outcome. outcome.kept ≡ outcome.reply) }
-        ensures reply { IfOk result (λ outcome. IsReplyTo (λ effects. effects.0) given outcome.reply) }
-        ensures unread { IfOk result (λ outcome. outcome.reading ≡ None) }
-        ensures err { IsErr result → given ≡ Err NoMemory }
+    /// The outcome of a message that reads nothing.
+    pub fn unread(given: Result<Effects, Refusal>) -> Outcome
+        ensures { result ≡ record { result = given; reading = None } }
+    {
+        Outcome {
+            result: given,
+            reading: None,
+        }
+    }
+}
+
+impl Effects {
+    /// The effects of a call that tells nothing.
+    pub fn of_nothing(given: Result<(), Refusal>) -> Result<Effects, Refusal>
+        ensures { result ≡ told_by (λ _. effect_of.None) given }
     {
         match given {
-            Ok((effect, kept)) => Ok(Outcome {
-                reply: Reply::Ok(effect),
-                kept: Reply::Ok(kept),
-                reading: None,
+            Ok(()) => Ok(Effects {
+                told: Effect::None,
+                kept: Effect::None,
             }),
-            Err(refusal) => {
-                let other = with_memory(refusal)?;
-                Ok(Outcome {
-                    reply: Reply::No(other),
-                    kept: Reply::No(other),
-                    reading: None,
-                })
-            }
+            Err(refusal) => Err(refusal),
         }
     }
 
-    /// The outcome of a call that made a client of this name. Error: memory ran out.
-    pub fn of_client(
-        made: Result<ClientId, Refusal>,
-        named: ClientId,
-    ) -> Result<Outcome, AllocError>
-        requires { IfOk made (λ id. id ≡ named) }
-        ensures kept { IfOk result (λ outcome. outcome.kept ≡ outcome.reply) }
-        ensures reply { IfOk result (λ outcome. IsReplyTo effect_of.Client made outcome.reply) }
-        ensures unread { IfOk result (λ outcome. outcome.reading ≡ None) }
-        ensures err { IsErr result → made ≡ Err NoMemory }
-    {
-        match made {
-            Ok(id) => Outcome::of_effect(Ok((Effect::Client(id), Effect::Client(named)))),
-            Err(refusal) => Outcome::of_effect(Err(refusal)),
-        }
-    }
-
-    /// The outcome of a call that made a connection of this name. Error: memory ran out.
-    pub fn of_connection(
-        made: Result<ConnectionId, Refusal>,
-        named: ConnectionId,
-    ) -> Result<Outcome, AllocError>
-        requires { IfOk made (λ id. id ≡ named) }
-        ensures kept { IfOk result (λ outcome. outcome.kept ≡ outcome.reply) }
-        ensures reply { IfOk result (λ outcome. IsReplyTo effect_of.Connection made outcome.reply) }
-        ensures unread { IfOk result (λ outcome. outcome.reading ≡ None) }
-        ensures err { IsErr result → made ≡ Err NoMemory }
-    {
-        match made {
-            Ok(id) => Outcome::of_effect(Ok((Effect::Connection(id), Effect::Connection(named)))),
-            Err(refusal) => Outcome::of_effect(Err(refusal)),
-        }
-    }
-
-    /// The outcome of a call that made a channel of this name. Error: memory ran out.
-    pub fn of_channel(
-        made: Result<ChannelId, Refusal>,
-        named: ChannelId,
-    ) -> Result<Outcome, AllocError>
-        requires { IfOk made (λ id. id ≡ named) }
-        ensures kept { IfOk result (λ outcome. outcome.kept ≡ outcome.reply) }
-        ensures reply { IfOk result (λ outcome. IsReplyTo effect_of.Channel made outcome.reply) }
-        ensures unread { IfOk result (λ outcome. outcome.reading ≡ None) }
-        ensures err { IsErr result → made ≡ Err NoMemory }
-    {
-        match made {
-            Ok(id) => Outcome::of_effect(Ok((Effect::Channel(id), Effect::Channel(named)))),
-            Err(refusal) => Outcome::of_effect(Err(refusal)),
-        }
-    }
-
-    /// The outcome of a call that sent a packet under this sequence. Error: memory ran out.
-    pub fn of_sent(sent: Result<u64, Refusal>) -> Result<Outcome, AllocError>
-        ensures kept { IfOk result (λ outcome. outcome.kept ≡ outcome.reply) }
-        ensures reply { IfOk result (λ outcome. IsReplyTo effect_of.Sent sent outcome.reply) }
-        ensures unread { IfOk result (λ outcome. outcome.reading ≡ None) }
-        ensures err { IsErr result → sent ≡ Err NoMemory }
+    /// The effects of a call that sent a packet under this sequence.
+    pub fn of_sent(sent: Result<u64, Refusal>) -> Result<Effects, Refusal>
+        ensures { result ≡ told_by effect_of.Sent sent }
     {
         match sent {
-            Ok(sequence) => Outcome::of_effect(Ok((
-                Effect::Sent(sequence),
-                Effect::Sent(sequence),
-            ))),
-            Err(refusal) => Outcome::of_effect(Err(refusal)),
+            Ok(sequence) => Ok(Effects {
+                told: Effect::Sent(sequence),
+                kept: Effect::Sent(sequence),
+            }),
+            Err(refusal) => Err(refusal),
         }
     }
 
-    /// The outcome of a call that wrote an acknowledgement, of which it gives a copy too. Error: memory ran out.
-    pub fn of_ack(written: Result<(Bytes, Bytes), Refusal>) -> Result<Outcome, AllocError>
+    /// The effects of a call that ended a block, by its height and its root.
+    pub fn of_block(ended: Result<(u64, Root), Refusal>) -> Result<Effects, Refusal>
+        ensures { result ≡ told_by (λ block. effect_of.Block block.0 block.1) ended }
+    {
+        match ended {
+            Ok((height, root)) => Ok(Effects {
+                told: Effect::Block(height, root),
+                kept: Effect::Block(height, root),
+            }),
+            Err(refusal) => Err(refusal),
+        }
+    }
+
+    /// The effects of a call that wrote an acknowledgement, of which it gives a copy too.
+    pub fn of_ack(written: Result<(Bytes, Bytes), Refusal>) -> Result<Effects, Refusal>
         requires { IfOk written (λ acks. acks.1 ≡ acks.0) }
-        ensures kept { IfOk result (λ outcome. outcome.kept ≡ outcome.reply) }
-        ensures reply { IfOk result (λ outcome. IsReplyTo (λ acks. effect_of.Ack acks.0) written outcome.reply) }
-        ensures unread { IfOk result (λ outcome. outcome.reading ≡ None) }
-        ensures err { IsErr result → written ≡ Err NoMemory }
+        ensures { result ≡ told_by (λ acks. effect_of.Ack acks.0) written }
     {
         match written {
-            Ok((ack, kept)) => Outcome::of_effect(Ok((Effect::Ack(ack), Effect::Ack(kept)))),
-            Err(refusal) => Outcome::of_effect(Err(refusal)),
+            Ok((ack, kept)) => Ok(Effects {
+                told: Effect::Ack(ack),
+                kept: Effect::Ack(kept),
+            }),
+            Err(refusal) => Err(refusal),
         }
     }
+}
 
-    /// The outcome of a call that tells nothing. Error: memory ran out.
-    pub fn of_nothing(given: Result<(), Refusal>) -> Result<Outcome, AllocError>
-        ensures kept { IfOk result (λ outcome. outcome.kept ≡ outcome.reply) }
-        ensures reply { IfOk result (λ outcome. IsReplyTo (λ _. effect_of.None) given outcome.reply) }
-        ensures unread { IfOk result (λ outcome. outcome.reading ≡ None) }
-        ensures err { IsErr result → given ≡ Err NoMemory }
-    {
-        match given {
-            Ok(()) => Outcome::of_effect(Ok((Effect::None, Effect::None))),
-            Err(refusal) => Outcome::of_effect(Err(refusal)),
-        }
+/// The replies that tell a result, once for the caller and once for the history. Error: memory ran out.
+pub fn replies(given: Result<Effects, Refusal>) -> Result<(Reply, Reply), AllocError>
+    ensures ok { IfOk result (λ replies. (replies.0 ≡ told_reply given) × (replies.1 ≡ kept_reply given)) }
+    ensures plenty { IsOk result → given ≡ Err NoMemory → ⊥ }
+    ensures err { IsErr result → given ≡ Err NoMemory }
+{
+    match given {
+        Ok(effects) => Ok((Reply::Ok(effects.told), Reply::Ok(effects.kept))),
+        Err(Refusal::NoMemory) => Err(AllocError),
+        Err(refusal) => Ok((Reply::No(refusal), Reply::No(refusal))),
     }
 }

@@ -1,123 +1,96 @@
 //! What becomes of the messages of packets.
 
-ghost use Rattle.std.specs.Prelude.{◌≡◌, ℕ, IfOk, OnErr};
-ghost use Rattle.ibc_machine.specs.declared.reply.Effect.TheVariants as effect;
-ghost use Rattle.ibc_machine.specs.Notes.{send_note};
-ghost use Rattle.ibc_records.specs.Held.{IsUnchanged};
-ghost use Rattle.ibc_records.specs.Taking.{IsHandledWith};
-ghost use Rattle.ibc_ledger.specs.Answering.{IsTakenAs, IsBothTakenAs};
-ghost use Rattle.ibc_ledger.specs.Apps.{recv_with, transfer_with, transfer_many_with};
-ghost use Rattle.ibc_ledger.specs.Settling.{settle_with};
+ghost use Rattle.ibc_wire.specs.declared.messages.Message.TheVariants as message_of;
+ghost use Rattle.ibc_ledger.specs.Answering.{IsReady, IsAnswered};
 
-use crate::applications::Applications;
-use crate::outcome::Outcome;
-use crate::settlement::Settlement;
-use ibc_ids::{Bytes, Refusal};
+use crate::node::Node;
+use crate::outcome::Effects;
+use ibc_ids::Refusal;
 use ibc_note::send_note;
-use ibc_packet::recv;
-use ibc_records::Records;
+use ibc_packet::{acknowledge, recv, timeout, timeout_on_close};
 use ibc_transfer::{is_transfer_port, send_transfer, send_transfer_many};
-use ibc_wire::{RecvPacket, SendNote, Transfer, TransferMany};
-use std::alloc::{AllocError, Global};
+use ibc_wire::{AckPacket, RecvPacket, SendNote, Timeout, TimeoutOnClose, Transfer, TransferMany};
 
-/// Sends a note, by the records.
-pub fn send_in(
-    alloc: Global,
-    records: &mut Records,
-    message: &SendNote,
-) -> Result<Outcome, AllocError>
-    ensures kept { IfOk result (λ outcome. outcome.kept ≡ outcome.reply) }
-    ensures answer { (chain chains : ℕ) → IfOk result (λ outcome. IsTakenAs (λ evidence host core. send_note evidence core message.now) chain chains records.old (outcome.reply, outcome.reading) records.new) }
-    ensures err { OnErr result (IsUnchanged records.old records.new) }
-{
-    Outcome::of_sent(send_note(alloc, records, message))
-}
-
-/// Sends tokens of one denomination, by the records and the bank.
-pub fn transfer_in(
-    alloc: Global,
-    records: &mut Records,
-    applications: &mut Applications,
-    message: &Transfer,
-) -> Result<Outcome, AllocError>
-    ensures kept { IfOk result (λ outcome. outcome.kept ≡ outcome.reply) }
-    ensures answer { (chain chains : ℕ) → IfOk result (λ outcome. IsBothTakenAs (transfer_with applications.old message.now) chain chains records.old applications.old (outcome.reply, outcome.reading) records.new applications.new) }
-    ensures err { OnErr result (IsUnchanged records.old records.new × (applications.new ≡ applications.old)) }
-{
-    Outcome::of_sent(send_transfer(alloc, records, &mut applications.transfers, message))
-}
-
-/// Sends several tokens in one packet, by the records and the bank.
-pub fn transfer_many_in(
-    alloc: Global,
-    records: &mut Records,
-    applications: &mut Applications,
-    message: &TransferMany,
-) -> Result<Outcome, AllocError>
-    ensures kept { IfOk result (λ outcome. outcome.kept ≡ outcome.reply) }
-    ensures answer { (chain chains : ℕ) → IfOk result (λ outcome. IsBothTakenAs (transfer_many_with applications.old message.now) chain chains records.old applications.old (outcome.reply, outcome.reading) records.new applications.new) }
-    ensures err { OnErr result (IsUnchanged records.old records.new × (applications.new ≡ applications.old)) }
-{
-    Outcome::of_sent(send_transfer_many(alloc, records, &mut applications.transfers, message))
-}
-
-/// Receives a packet of the peer, by the records and the application of its port.
-pub fn recv_in(
-    alloc: Global,
-    records: &mut Records,
-    applications: &mut Applications,
-    message: &RecvPacket,
-) -> Result<Outcome, AllocError>
-    ensures kept { IfOk result (λ outcome. outcome.kept ≡ outcome.reply) }
-    ensures answer { (chain chains : ℕ) → IfOk result (λ outcome. IsBothTakenAs (recv_with applications.old message.now) chain chains records.old applications.old (outcome.reply, outcome.reading) records.new applications.new) }
-    ensures err { OnErr result (IsUnchanged records.old records.new × (applications.new ≡ applications.old)) }
-{
-    Outcome::of_ack(recv_on_port(alloc, records, applications, message))
-}
-
-/// Settles a packet that was sent, by the records and the application of its port.
-pub fn settle_in(
-    alloc: Global,
-    records: &mut Records,
-    applications: &mut Applications,
-    settlement: Settlement<'_>,
-) -> Result<Outcome, AllocError>
-    ensures kept { IfOk result (λ outcome. outcome.kept ≡ outcome.reply) }
-    ensures answer { (chain chains : ℕ) → IfOk result (λ outcome. IsBothTakenAs (settle_with applications.old settlement.entry) chain chains records.old applications.old (outcome.reply, outcome.reading) records.new applications.new) }
-    ensures err { OnErr result (IsUnchanged records.old records.new × (applications.new ≡ applications.old)) }
-{
-    Outcome::of_nothing(settle_on_port(alloc, records, applications, settlement))
-}
-
-// Receives a packet where the application of its port takes it, and gives the acknowledgement twice.
-fn recv_on_port(
-    alloc: Global,
-    records: &mut Records,
-    applications: &mut Applications,
-    message: &RecvPacket,
-) -> Result<(Bytes, Bytes), Refusal>
-    ensures answer { (chain chains : ℕ) → IsHandledWith (λ acks. effect.Ack acks.0) (recv_with applications.old message.now) chain chains records.old applications.old result records.new applications.new }
-    ensures copy { IfOk result (λ acks. acks.1 ≡ acks.0) }
-{
-    if is_transfer_port(&message.packet.destination_port) {
-        recv(alloc, records, &mut applications.transfers, message)
-    } else {
-        recv(alloc, records, &mut applications.notes, message)
+impl Node {
+    /// Sends a note. Refused as by `ibc_note::send_note`.
+    pub fn send_note(&mut self, message: &SendNote) -> Result<Effects, Refusal>
+        requires { IsReady (message_of.SendNote message.now) self.old }
+        ensures { IsAnswered (message_of.SendNote message.now) self.old result self.new }
+    {
+        Effects::of_sent(send_note(self.alloc, &mut self.records, message))
     }
-}
 
-// Settles a packet with the application of the port that it was sent from.
-fn settle_on_port(
-    alloc: Global,
-    records: &mut Records,
-    applications: &mut Applications,
-    settlement: Settlement<'_>,
-) -> Result<(), Refusal>
-    ensures { (chain chains : ℕ) → IsHandledWith (λ _. effect.None) (settle_with applications.old settlement.entry) chain chains records.old applications.old result records.new applications.new }
-{
-    if is_transfer_port(settlement.source_port()) {
-        settlement.settle(alloc, records, &mut applications.transfers)
-    } else {
-        settlement.settle(alloc, records, &mut applications.notes)
+    /// Sends tokens of one denomination (ICS 20, "sendFungibleTokens"). Refused as by `ibc_transfer::send_transfer`.
+    pub fn transfer(&mut self, message: &Transfer) -> Result<Effects, Refusal>
+        requires { IsReady (message_of.Transfer message.now) self.old }
+        ensures { IsAnswered (message_of.Transfer message.now) self.old result self.new }
+    {
+        let transfers = &mut self.applications.transfers;
+        Effects::of_sent(send_transfer(self.alloc, &mut self.records, transfers, message))
+    }
+
+    /// Sends several tokens in one packet. Refused as by `ibc_transfer::send_transfer_many`.
+    pub fn transfer_many(&mut self, message: &TransferMany) -> Result<Effects, Refusal>
+        requires { IsReady (message_of.TransferMany message.now) self.old }
+        ensures { IsAnswered (message_of.TransferMany message.now) self.old result self.new }
+    {
+        let transfers = &mut self.applications.transfers;
+        Effects::of_sent(send_transfer_many(self.alloc, &mut self.records, transfers, message))
+    }
+
+    /// Receives a packet by the application of its port (ICS 4, "recvPacket"). Refused as by `ibc_packet::recv`.
+    pub fn recv_packet(&mut self, message: &RecvPacket) -> Result<Effects, Refusal>
+        requires { IsReady (message_of.RecvPacket message.now) self.old }
+        ensures { IsAnswered (message_of.RecvPacket message.now) self.old result self.new }
+    {
+        if is_transfer_port(&message.packet.destination_port) {
+            let transfers = &mut self.applications.transfers;
+            Effects::of_ack(recv(self.alloc, &mut self.records, transfers, message))
+        } else {
+            let notes = &mut self.applications.notes;
+            Effects::of_ack(recv(self.alloc, &mut self.records, notes, message))
+        }
+    }
+
+    /// Acknowledges a packet by the application of its port (ICS 4, "acknowledgePacket"). Refused as by `ibc_packet::acknowledge`.
+    pub fn ack_packet(&mut self, message: &AckPacket) -> Result<Effects, Refusal>
+        requires { IsReady (message_of.AckPacket message.now) self.old }
+        ensures { IsAnswered (message_of.AckPacket message.now) self.old result self.new }
+    {
+        if is_transfer_port(&message.packet.source_port) {
+            let transfers = &mut self.applications.transfers;
+            Effects::of_nothing(acknowledge(self.alloc, &mut self.records, transfers, message))
+        } else {
+            let notes = &mut self.applications.notes;
+            Effects::of_nothing(acknowledge(self.alloc, &mut self.records, notes, message))
+        }
+    }
+
+    /// Times a packet out by the application of its port (ICS 4, "timeoutPacket"). Refused as by `ibc_packet::timeout`.
+    pub fn timeout(&mut self, message: &Timeout) -> Result<Effects, Refusal>
+        requires { IsReady (message_of.Timeout message.now) self.old }
+        ensures { IsAnswered (message_of.Timeout message.now) self.old result self.new }
+    {
+        if is_transfer_port(&message.packet.source_port) {
+            let transfers = &mut self.applications.transfers;
+            Effects::of_nothing(timeout(self.alloc, &mut self.records, transfers, message))
+        } else {
+            let notes = &mut self.applications.notes;
+            Effects::of_nothing(timeout(self.alloc, &mut self.records, notes, message))
+        }
+    }
+
+    /// Times a packet out whose peer is closed (ICS 4, "timeoutOnClose"). Refused as by `ibc_packet::timeout_on_close`.
+    pub fn timeout_on_close(&mut self, message: &TimeoutOnClose) -> Result<Effects, Refusal>
+        requires { IsReady (message_of.TimeoutOnClose message.now) self.old }
+        ensures { IsAnswered (message_of.TimeoutOnClose message.now) self.old result self.new }
+    {
+        if is_transfer_port(&message.packet.source_port) {
+            let transfers = &mut self.applications.transfers;
+            Effects::of_nothing(timeout_on_close(self.alloc, &mut self.records, transfers, message))
+        } else {
+            let notes = &mut self.applications.notes;
+            Effects::of_nothing(timeout_on_close(self.alloc, &mut self.records, notes, message))
+        }
     }
 }

@@ -10,4 +10,4 @@ invariant_of-self c =
     let own = ap (λ (h : HeldLedger). h.ledger.seen) c.self.view_is in
     let leads = ap (λ (h : HeldLedger). h.ledger.seen) c.leader.view_is in
     let behind = subst (λ (z : List Publication × List Publication). IsPrefix z.0 z.1) (λ i. (sym own i, (sym leads ∙ sym c.follow.ensures.seen) i)) c.requires.behind in
-    still_held c.self.inside c.self.invariant _ refl c.follow.ensures.pass behind c.follow.ensures.own refl refl refl refl
+    still_held c.self.inside c.self.invariant _ refl c.follow.ensures.pass behind c.follow.ensures.own refl refl c.self.invariant.flight refl refl

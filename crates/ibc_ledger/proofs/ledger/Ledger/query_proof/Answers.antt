@@ -17,7 +17,7 @@ returns-clause-ok c =
     let l = c.self.inside in
     subst (λ (h : HeldLedger). IfOk c.prove.result (λ proof. IsSomeAnd (provable h.ledger.genesis.window (state_of h.ledger).chain.committed c.args.height) (λ block. proof ≡ written (image block.records.core) (path c.args.key.now))))
     c.self.view_is
-    (proof_of_block (genesis_of l).window (state_of (ledger_of l)).chain l.records.store c.self.invariant.stands.holds.keeps c.args.height c.prove.result (path c.args.key.now)
+    (proof_of_block (genesis_of l).window (state_of (ledger_of l)).chain l.node.records.store c.self.invariant.stands.holds.keeps c.args.height c.prove.result (path c.args.key.now)
     c.prove.ensures.ok)
 
 pub returns-clause-unknown : goal.returns-clause-unknown
@@ -25,4 +25,4 @@ returns-clause-unknown c =
     let l = c.self.inside in
     subst (λ (h : HeldLedger). (c.prove.result ≡ Err NoConsensus) ↔ IsNone (provable h.ledger.genesis.window (state_of h.ledger).chain.committed c.args.height))
     c.self.view_is
-    (no_consensus (genesis_of l).window (state_of (ledger_of l)).chain l.records.store c.self.invariant.stands.holds.keeps c.args.height c.prove.result c.prove.ensures.unknown)
+    (no_consensus (genesis_of l).window (state_of (ledger_of l)).chain l.node.records.store c.self.invariant.stands.holds.keeps c.args.height c.prove.result c.prove.ensures.unknown)

@@ -1,0 +1,54 @@
+//! What becomes of the messages of clients.
+
+ghost use Rattle.std.specs.Prelude.{◌≡◌};
+ghost use mathlib.Core.List.{IsPrefix};
+ghost use Rattle.ibc_wire.specs.declared.messages.Message.TheVariants as message_of;
+ghost use Rattle.ibc_root_table.specs.Passes.{SamePass, KeepsOwn};
+ghost use Rattle.ibc_ledger.specs.Answering.{IsReady, IsAnswered, IsUpdateAnswer};
+
+use crate::node::Node;
+use crate::outcome::{Effects, Outcome};
+use ibc_client::{create, update};
+use ibc_ids::{Refusal, nth_client};
+use ibc_machine::Effect;
+use ibc_root_table::{Pass, RootTable};
+use ibc_wire::{CreateClient, UpdateClient};
+
+impl Node {
+    /// Makes a client of a chain (ICS 2, "createClient"). Refused as by `ibc_client::create`.
+    pub fn create_client(&mut self, message: &CreateClient) -> Result<Effects, Refusal>
+        requires { IsReady (message_of.CreateClient message.now) self.old }
+        ensures { IsAnswered (message_of.CreateClient message.now) self.old result self.new }
+    {
+        let name = nth_client(self.alloc, self.records.next_client())?;
+        let id = create(
+            self.alloc,
+            &mut self.records,
+            self.number,
+            self.chains,
+            message,
+        )?;
+        Ok(Effects {
+            told: Effect::Client(id),
+            kept: Effect::Client(name),
+        })
+    }
+
+    /// Tells a client of a height (ICS 2, "updateClient"). Refused as by `ibc_client::update`.
+    pub fn update_client(
+        &mut self,
+        table: &RootTable,
+        pass: &mut Pass,
+        message: &UpdateClient,
+    ) -> Outcome
+        requires { pass.old.table ≡ table.now }
+        ensures answer { IsUpdateAnswer message.now self.old pass.old result self.new pass.new }
+        ensures pass { SamePass pass.old pass.new × IsPrefix pass.old.seen pass.new.seen × KeepsOwn pass.old pass.new }
+    {
+        let updated = update(&mut self.records, table, pass, message);
+        Outcome {
+            result: Effects::of_nothing(updated.result),
+            reading: updated.reading,
+        }
+    }
+}
