@@ -1,2 +1,3 @@
 pub mod AskedWords
+mod MadeKinds
 mod PrintedLines

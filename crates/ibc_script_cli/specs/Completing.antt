@@ -4,6 +4,7 @@ use Rattle.std.specs.Int.{w64, from_be_bytes}
 use Rattle.ibc_ids.specs.Texts.{Text}
 use Rattle.ibc_ids.specs.declared.key.Key.{Key}
 use Rattle.ibc_ids.specs.declared.key.Key.TheVariants as key
+use Rattle.ibc_machine.specs.Proving.{commitment_key, ack_key, receipt_key, next_recv_key, destination_key, recv_message, ack_message, timeout_message, timeout_on_close_message}
 use Rattle.ibc_merkle.specs.declared.proof.Proof.{Proof}
 use Rattle.ibc_merkle.specs.declared.proof.Proof.TheVariants.{Present, Absent}
 use Rattle.ibc_wire.specs.Fields.{Spells, have_form}
@@ -17,8 +18,11 @@ use Rattle.ibc_wire.specs.declared.records.ConnectionEnd.{ConnectionEnd}
 use Rattle.ibc_wire.specs.declared.records.ChannelEnd.{ChannelEnd}
 use Rattle.ibc_wire.specs.declared.records.Order.{Order}
 use Rattle.ibc_wire.specs.declared.records.Order.TheVariants.{Unordered, Ordered}
+use Rattle.ibc_script_cli.specs.Answers.{Answers}
 use Rattle.ibc_script_cli.specs.Heights.{kept_at}
 use Rattle.ibc_script_cli.specs.declared.completing.Claim.{Claim}
+use Rattle.ibc_script_cli.specs.declared.completing.packets.Handling.{Handling}
+use Rattle.ibc_script_cli.specs.declared.completing.packets.Handling.TheVariants as handling
 use Rattle.ibc_script_cli.specs.declared.completing.packets.Unreceived.{Unreceived}
 use Rattle.ibc_script.specs.declared.draft.ClientDraft.{ClientDraft}
 use Rattle.ibc_script.specs.declared.draft.ClientDraft.TheVariants as client
@@ -36,31 +40,7 @@ use Rattle.ibc_script.specs.declared.draft.Origin.{Origin}
 use Rattle.ibc_script_cli.specs.declared.heights.Committed.{Committed}
 use Rattle.ibc_script_cli.specs.declared.heights.Heights.{Heights}
 
--- ---- what chains answer
-
--- what a chain says of its clients, by the chain's number
-abbrev pub SaysOfClients : Type 1
-SaysOfClients = ℕ → Text → Option ClientState → Type 0
-
--- what a chain says of its ends of connections
-abbrev pub SaysOfConnections : Type 1
-SaysOfConnections = ℕ → Text → Option ConnectionEnd → Type 0
-
--- what a chain says of its ends of channels, by port and channel
-abbrev pub SaysOfChannels : Type 1
-SaysOfChannels = ℕ → Text → Text → Option ChannelEnd → Type 0
-
--- what a chain says of the packets that it sent, by port, channel and sequence
-abbrev pub SaysOfPackets : Type 1
-SaysOfPackets = ℕ → Text → Text → ℕ → Option Packet → Type 0
-
--- what a chain says of the acknowledgements that it wrote, by port, channel and sequence
-abbrev pub SaysOfAcks : Type 1
-SaysOfAcks = ℕ → Text → Text → ℕ → Option Text → Type 0
-
--- what a chain proves at a height
-abbrev pub Proves : Type 1
-Proves = ℕ → ℕ → Key → Option Proof → Type 0
+-- ---- what is proved
 
 -- the encoding of a proof that was found
 abbrev pub IsEncoding : Option Proof → Option Text → Type 0
@@ -69,14 +49,14 @@ IsEncoding (Some proof) None = have_form (proof_fields proof) ≡ false
 IsEncoding (Some proof) (Some bytes) = bytes ≡ proof_bytes proof
 
 -- the encoding of the proof of a key
-abbrev pub IsProofAt : Proves → Origin → Key → Option Text → Type 0
-IsProofAt proves from key bytes =
-    (found : Option Proof) × proves from.chain from.height key found × IsEncoding found bytes
+abbrev pub IsProofAt : Answers → Origin → Key → Option Text → Type 0
+IsProofAt told from key bytes =
+    (found : Option Proof) × told.proof from.chain from.height key found × IsEncoding found bytes
 
 -- the same, none where there is no key
-abbrev pub IsProofOf : Proves → Origin → Option Key → Option Text → Type 0
-IsProofOf proves from None bytes = bytes ≡ None
-IsProofOf proves from (Some key) bytes = IsProofAt proves from key bytes
+abbrev pub IsProofOf : Answers → Origin → Option Key → Option Text → Type 0
+IsProofOf told from None bytes = bytes ≡ None
+IsProofOf told from (Some key) bytes = IsProofAt told from key bytes
 
 -- what a proof that was found shows of a client: its state, and the proof's encoding
 abbrev pub IsClaim : Option Proof → Option Claim → Type 0
@@ -89,9 +69,9 @@ IsClaim (Some (Present presence)) (Some claim) =
     Spells (client_state_fields claim.state) presence.value × (claim.proof ≡ proof_bytes (Present presence))
 
 -- what the proof of a client's state shows
-abbrev pub IsClaimAt : Proves → Origin → Text → Option Claim → Type 0
-IsClaimAt proves from id claim =
-    (found : Option Proof) × proves from.chain from.height (key.ClientState id) found × IsClaim found claim
+abbrev pub IsClaimAt : Answers → Origin → Text → Option Claim → Type 0
+IsClaimAt told from id claim =
+    (found : Option Proof) × told.proof from.chain from.height (key.ClientState id) found × IsClaim found claim
 
 -- ---- messages for clients
 
@@ -110,77 +90,104 @@ header_of heights on height None = header_from on height None
 header_of heights on height (Some state) =
     unwrap_or (header_at state.chain height (slice_get heights state.chain)) (header_from on height None)
 
-abbrev pub MakesClientMessage : SaysOfClients → List Heights → ℕ → ClientDraft → Message → Type 0
-MakesClientMessage says heights on (client.Create of) made = made ≡ message.CreateClient (record { chain = of })
-MakesClientMessage says heights on (client.Update id height) made =
-    (state : Option ClientState) × says on id state
+abbrev pub MakesClientMessage : Answers → List Heights → ℕ → ClientDraft → Message → Type 0
+MakesClientMessage told heights on (client.Create of) made = made ≡ message.CreateClient (record { chain = of })
+MakesClientMessage told heights on (client.Update id height) made =
+    (state : Option ClientState) × told.client on id state
     × (made ≡ message.UpdateClient (record { client = id; header = header_of heights on height state }))
 
 -- ---- messages for connections
 
-abbrev pub try_message : Text → Text → Text → ℕ → Option Text → Option Claim → Option Message
-try_message id peer_client peer_connection height (Some proof_end) (Some claim) =
+-- with the proof of the peer's end, and what is claimed of the peer's client; none where one that it needs isn't there
+abbrev pub connection_message : ConnectionDraft → Option Text → Option Claim → Option Message
+connection_message (connection.OpenInit id peer_client) _ _ =
+    Some (message.ConnOpenInit (record { client = id; peer_client = peer_client }))
+connection_message (connection.OpenTry id peer_client peer_connection from) (Some proof_end) (Some claim) =
     Some (message.ConnOpenTry (record {
       client = id;
       peer_client = peer_client;
       peer_connection = peer_connection;
       claim = claim.state;
-      height = height;
+      height = from.height;
       proof_end = proof_end;
       proof_client = claim.proof;
     }))
-try_message id peer_client peer_connection height _ _ = None
-
-abbrev pub ack_message : Text → Text → ℕ → Option Text → Option Claim → Option Message
-ack_message id peer_connection height (Some proof_end) (Some claim) =
+connection_message (connection.OpenAck id peer_connection from) (Some proof_end) (Some claim) =
     Some (message.ConnOpenAck (record {
       connection = id;
       peer_connection = peer_connection;
       claim = claim.state;
-      height = height;
+      height = from.height;
       proof_end = proof_end;
       proof_client = claim.proof;
     }))
-ack_message id peer_connection height _ _ = None
+connection_message (connection.OpenConfirm id from) (Some proof) _ =
+    Some (message.ConnOpenConfirm (record { connection = id; height = from.height; proof = proof }))
+connection_message _ _ _ = None
 
-abbrev pub confirm_message : Text → ℕ → Option Text → Option Message
-confirm_message id height =
-    option_map (λ proof. message.ConnOpenConfirm (record { connection = id; height = height; proof = proof }))
+-- the proof of the peer's connection, and what is claimed of its client
+abbrev pub AreProofs : Answers → Origin → Text → Text → Option Text → Option Claim → Type 0
+AreProofs told from peer_connection peer_client proof_end claim =
+    IsProofAt told from (key.Connection peer_connection) proof_end × IsClaimAt told from peer_client claim
 
--- the peer's client being known
-abbrev pub MakesAckOf : Proves → Text → Text → Origin → Text → Option Message → Type 0
-MakesAckOf proves id peer_connection from peer_client made =
-    (proof_end : Option Text) × (claim : Option Claim)
-    × IsProofAt proves from (key.Connection peer_connection) proof_end × IsClaimAt proves from peer_client claim
-    × (made ≡ ack_message id peer_connection from.height proof_end claim)
+-- the same of the client that the own end names, none where there is no such end
+abbrev pub AreProofsFor : Answers → Origin → Text → Option ConnectionEnd → Option Text → Option Claim → Type 0
+AreProofsFor told from peer_connection None proof_end claim = (proof_end ≡ None) × (claim ≡ None)
+AreProofsFor told from peer_connection (Some own) proof_end claim =
+    AreProofs told from peer_connection own.peer_client proof_end claim
 
--- the peer's client is the one that the own end names
-abbrev pub MakesAck : Proves → Text → Text → Origin → Option ConnectionEnd → Option Message → Type 0
-MakesAck proves id peer_connection from None made = made ≡ None
-MakesAck proves id peer_connection from (Some end) made = MakesAckOf proves id peer_connection from end.peer_client made
+-- the key of the connection that an own end names as the peer's
+abbrev pub peer_connection_key : ConnectionEnd → Option Key
+peer_connection_key own = option_map key.Connection own.peer_connection
 
--- the peer's connection is the one that the own end names
-abbrev pub MakesConfirm : Proves → Text → Origin → Option Text → Option Message → Type 0
-MakesConfirm proves id from None made = made ≡ None
-MakesConfirm proves id from (Some peer_connection) made =
-    (proof : Option Text) × IsProofAt proves from (key.Connection peer_connection) proof
-    × (made ≡ confirm_message id from.height proof)
+-- what a step needs: an answer proves the connection and the client that it names, what opens a connection proves the
+-- client that the own end names, and in the end the connection that the own end names
+abbrev pub AreConnectionProofs : Answers → ℕ → ConnectionDraft → Option Text → Option Claim → Type 0
+AreConnectionProofs told on (connection.OpenInit id peer_client) proof_end claim = (proof_end ≡ None) × (claim ≡ None)
+AreConnectionProofs told on (connection.OpenTry id peer_client peer_connection from) proof_end claim =
+    AreProofs told from peer_connection peer_client proof_end claim
+AreConnectionProofs told on (connection.OpenAck id peer_connection from) proof_end claim =
+    (own : Option ConnectionEnd) × told.connection on id own × AreProofsFor told from peer_connection own proof_end claim
+AreConnectionProofs told on (connection.OpenConfirm id from) proof claim =
+    (own : Option ConnectionEnd) × told.connection on id own
+    × IsProofOf told from (option_and_then peer_connection_key own) proof × (claim ≡ None)
 
 -- the message that a step becomes, none where something that it needs isn't there
-abbrev pub MakesConnectionMessage : SaysOfConnections → Proves → ℕ → ConnectionDraft → Option Message → Type 0
-MakesConnectionMessage says proves on (connection.OpenInit id peer_client) made =
-    made ≡ Some (message.ConnOpenInit (record { client = id; peer_client = peer_client }))
-MakesConnectionMessage says proves on (connection.OpenTry id peer_client peer_connection from) made =
-    (proof_end : Option Text) × (claim : Option Claim)
-    × IsProofAt proves from (key.Connection peer_connection) proof_end × IsClaimAt proves from peer_client claim
-    × (made ≡ try_message id peer_client peer_connection from.height proof_end claim)
-MakesConnectionMessage says proves on (connection.OpenAck id peer_connection from) made =
-    (own : Option ConnectionEnd) × says on id own × MakesAck proves id peer_connection from own made
-MakesConnectionMessage says proves on (connection.OpenConfirm id from) made =
-    (own : Option ConnectionEnd) × says on id own
-    × MakesConfirm proves id from (option_and_then (λ end. end.peer_connection) own) made
+abbrev pub MakesConnectionMessage : Answers → ℕ → ConnectionDraft → Option Message → Type 0
+MakesConnectionMessage told on d made =
+    (proof_end : Option Text) × (claim : Option Claim) × AreConnectionProofs told on d proof_end claim
+    × (made ≡ connection_message d proof_end claim)
 
 -- ---- messages for channels
+
+-- with the proof of the peer's end; none where one that it needs isn't there
+abbrev pub channel_message : ChannelDraft → Option Text → Option Message
+channel_message (channel.OpenInit m) _ = Some (message.ChanOpenInit m)
+channel_message (channel.CloseInit m) _ = Some (message.ChanCloseInit m)
+channel_message (channel.OpenTry d) (Some proof) =
+    Some (message.ChanOpenTry (record {
+      port = d.port;
+      order = d.order;
+      connection = d.connection;
+      peer_port = d.peer_port;
+      peer_channel = d.peer_channel;
+      version = d.version;
+      height = d.from.height;
+      proof = proof;
+    }))
+channel_message (channel.OpenAck port id peer_channel from) (Some proof) =
+    Some (message.ChanOpenAck (record {
+      port = port;
+      channel = id;
+      peer_channel = peer_channel;
+      height = from.height;
+      proof = proof;
+    }))
+channel_message (channel.OpenConfirm port id from) (Some proof) =
+    Some (message.ChanOpenConfirm (record { port = port; channel = id; height = from.height; proof = proof }))
+channel_message (channel.CloseConfirm port id from) (Some proof) =
+    Some (message.ChanCloseConfirm (record { port = port; channel = id; height = from.height; proof = proof }))
+channel_message _ _ = None
 
 -- the key of the end that an own end names as the peer's, none in state INIT
 abbrev pub peer_key : ChannelEnd → Option Key
@@ -191,80 +198,33 @@ abbrev pub answer_key : Text → ChannelEnd → Key
 answer_key peer_channel end = key.ChannelEnd end.peer_port peer_channel
 
 -- the proof of the end that the own end names as the peer's
-abbrev pub IsPeerProof : SaysOfChannels → Proves → ℕ → Text → Text → Origin → Option Text → Type 0
-IsPeerProof says proves on port id from proof =
-    (own : Option ChannelEnd) × says on port id own × IsProofOf proves from (option_and_then peer_key own) proof
+abbrev pub IsPeerProof : Answers → ℕ → Text → Text → Origin → Option Text → Type 0
+IsPeerProof told on port id from proof =
+    (own : Option ChannelEnd) × told.channel on port id own × IsProofOf told from (option_and_then peer_key own) proof
 
 -- the proof of the end that a message names as the peer's
-abbrev pub IsAnswerProof : SaysOfChannels → Proves → ℕ → Text → Text → Text → Origin → Option Text → Type 0
-IsAnswerProof says proves on port id peer_channel from proof =
-    (own : Option ChannelEnd) × says on port id own
-    × IsProofOf proves from (option_map (answer_key peer_channel) own) proof
+abbrev pub IsAnswerProof : Answers → ℕ → Text → Text → Text → Origin → Option Text → Type 0
+IsAnswerProof told on port id peer_channel from proof =
+    (own : Option ChannelEnd) × told.channel on port id own
+    × IsProofOf told from (option_map (answer_key peer_channel) own) proof
 
-abbrev pub channel_try_message : ChannelTry → Option Text → Option Message
-channel_try_message d =
-    option_map (λ proof. message.ChanOpenTry (record {
-      port = d.port;
-      order = d.order;
-      connection = d.connection;
-      peer_port = d.peer_port;
-      peer_channel = d.peer_channel;
-      version = d.version;
-      height = d.from.height;
-      proof = proof;
-    }))
-
-abbrev pub channel_ack_message : Text → Text → Text → ℕ → Option Text → Option Message
-channel_ack_message port id peer_channel height =
-    option_map (λ proof. message.ChanOpenAck (record {
-      port = port;
-      channel = id;
-      peer_channel = peer_channel;
-      height = height;
-      proof = proof;
-    }))
-
-abbrev pub channel_confirm_message : Text → Text → ℕ → Option Text → Option Message
-channel_confirm_message port id height =
-    option_map (λ proof. message.ChanOpenConfirm (record { port = port; channel = id; height = height; proof = proof }))
-
-abbrev pub close_confirm_message : Text → Text → ℕ → Option Text → Option Message
-close_confirm_message port id height =
-    option_map (λ proof. message.ChanCloseConfirm (record { port = port; channel = id; height = height; proof = proof }))
+-- what a step needs
+abbrev pub IsChannelProof : Answers → ℕ → ChannelDraft → Option Text → Type 0
+IsChannelProof told on (channel.OpenInit m) proof = proof ≡ None
+IsChannelProof told on (channel.OpenTry d) proof =
+    IsProofAt told d.from (key.ChannelEnd d.peer_port d.peer_channel) proof
+IsChannelProof told on (channel.OpenAck port id peer_channel from) proof =
+    IsAnswerProof told on port id peer_channel from proof
+IsChannelProof told on (channel.OpenConfirm port id from) proof = IsPeerProof told on port id from proof
+IsChannelProof told on (channel.CloseInit m) proof = proof ≡ None
+IsChannelProof told on (channel.CloseConfirm port id from) proof = IsPeerProof told on port id from proof
 
 -- the message that a step becomes, none where something that it needs isn't there
-abbrev pub MakesChannelMessage : SaysOfChannels → Proves → ℕ → ChannelDraft → Option Message → Type 0
-MakesChannelMessage says proves on (channel.OpenInit m) made = made ≡ Some (message.ChanOpenInit m)
-MakesChannelMessage says proves on (channel.OpenTry d) made =
-    (proof : Option Text) × IsProofAt proves d.from (key.ChannelEnd d.peer_port d.peer_channel) proof
-    × (made ≡ channel_try_message d proof)
-MakesChannelMessage says proves on (channel.OpenAck port id peer_channel from) made =
-    (proof : Option Text) × IsAnswerProof says proves on port id peer_channel from proof
-    × (made ≡ channel_ack_message port id peer_channel from.height proof)
-MakesChannelMessage says proves on (channel.OpenConfirm port id from) made =
-    (proof : Option Text) × IsPeerProof says proves on port id from proof
-    × (made ≡ channel_confirm_message port id from.height proof)
-MakesChannelMessage says proves on (channel.CloseInit m) made = made ≡ Some (message.ChanCloseInit m)
-MakesChannelMessage says proves on (channel.CloseConfirm port id from) made =
-    (proof : Option Text) × IsPeerProof says proves on port id from proof
-    × (made ≡ close_confirm_message port id from.height proof)
+abbrev pub MakesChannelMessage : Answers → ℕ → ChannelDraft → Option Message → Type 0
+MakesChannelMessage told on d made =
+    (proof : Option Text) × IsChannelProof told on d proof × (made ≡ channel_message d proof)
 
--- ---- messages for packets: what is proved of a packet stands under its own ports, channels and sequence
-
-abbrev pub commitment_key : Packet → Key
-commitment_key p = key.Commitment p.source_port p.source_channel p.sequence
-
-abbrev pub ack_key : Packet → Key
-ack_key p = key.Acknowledgement p.destination_port p.destination_channel p.sequence
-
-abbrev pub receipt_key : Packet → Key
-receipt_key p = key.Receipt p.destination_port p.destination_channel p.sequence
-
-abbrev pub next_recv_key : Packet → Key
-next_recv_key p = key.NextSequenceRecv p.destination_port p.destination_channel
-
-abbrev pub destination_key : Packet → Key
-destination_key p = key.ChannelEnd p.destination_port p.destination_channel
+-- ---- messages for packets
 
 -- the number that 8 bytes are, big-endian
 abbrev pub number_in : Text → Option ℕ
@@ -284,74 +244,61 @@ IsNextRecv (Some (Present presence)) shown =
     × (shown ≡ unreceived (number_in presence.value) proof)
 
 -- by the order of the own end: the sequence that is received next, or that there is no receipt
-abbrev pub IsUnreceived : Proves → Origin → Packet → Order → Option Unreceived → Type 0
-IsUnreceived proves from p Ordered shown =
-    (found : Option Proof) × proves from.chain from.height (next_recv_key p) found × IsNextRecv found shown
-IsUnreceived proves from p Unordered shown =
-    (proof : Option Text) × IsProofAt proves from (receipt_key p) proof × (shown ≡ unreceived (Some 0) proof)
+abbrev pub IsUnreceived : Answers → Origin → Packet → Order → Option Unreceived → Type 0
+IsUnreceived told from p Ordered shown =
+    (found : Option Proof) × told.proof from.chain from.height (next_recv_key p) found × IsNextRecv found shown
+IsUnreceived told from p Unordered shown =
+    (proof : Option Text) × IsProofAt told from (receipt_key p) proof × (shown ≡ unreceived (Some 0) proof)
 
 -- the same, none where there is no own end
-abbrev pub IsUnreceivedBy : Proves → Origin → Packet → Option ChannelEnd → Option Unreceived → Type 0
-IsUnreceivedBy proves from p None shown = shown ≡ None
-IsUnreceivedBy proves from p (Some own) shown = IsUnreceived proves from p own.order shown
+abbrev pub IsUnreceivedBy : Answers → Origin → Packet → Option ChannelEnd → Option Unreceived → Type 0
+IsUnreceivedBy told from p None shown = shown ≡ None
+IsUnreceivedBy told from p (Some own) shown = IsUnreceived told from p own.order shown
 
 -- the own end is that of the packet's source, on the chain that is told
-abbrev pub IsUnreceivedAt : SaysOfChannels → Proves → ℕ → Origin → Packet → Option Unreceived → Type 0
-IsUnreceivedAt says proves on from p shown =
-    (own : Option ChannelEnd) × says on p.source_port p.source_channel own × IsUnreceivedBy proves from p own shown
-
-abbrev pub recv_message : Packet → ℕ → Option Text → Option Message
-recv_message p height =
-    option_map (λ proof. message.RecvPacket (record { packet = p; height = height; proof = proof }))
-
-abbrev pub ack_packet_message : Packet → ℕ → Option Text → Option Text → Option Message
-ack_packet_message p height (Some ack) (Some proof) =
-    Some (message.AckPacket (record { packet = p; ack = ack; height = height; proof = proof }))
-ack_packet_message p height _ _ = None
-
-abbrev pub timeout_message : Packet → ℕ → Option Unreceived → Option Message
-timeout_message p height =
-    option_map (λ (shown : Unreceived). message.Timeout (record {
-      packet = p;
-      next_recv = shown.next_recv;
-      height = height;
-      proof = shown.proof;
-    }))
-
-abbrev pub timeout_on_close_message : Packet → ℕ → Option Unreceived → Option Text → Option Message
-timeout_on_close_message p height (Some shown) (Some proof_close) =
-    Some (message.TimeoutOnClose (record {
-      packet = p;
-      next_recv = shown.next_recv;
-      height = height;
-      proof = shown.proof;
-      proof_close = proof_close;
-    }))
-timeout_on_close_message p height _ _ = None
+abbrev pub IsUnreceivedAt : Answers → ℕ → Origin → Packet → Option Unreceived → Type 0
+IsUnreceivedAt told on from p shown =
+    (own : Option ChannelEnd) × told.channel on p.source_port p.source_channel own × IsUnreceivedBy told from p own shown
 
 -- the packet was committed
-abbrev pub MakesRecv : Proves → Origin → Packet → Option Message → Type 0
-MakesRecv proves from p made =
-    (proof : Option Text) × IsProofAt proves from (commitment_key p) proof × (made ≡ recv_message p from.height proof)
+abbrev pub MakesRecv : Answers → Origin → Packet → Option Message → Type 0
+MakesRecv told from p made =
+    (proof : Option Text) × IsProofAt told from (commitment_key p) proof
+    × (made ≡ option_map (recv_message p from.height) proof)
+
+abbrev pub acknowledged_message : Packet → ℕ → Option Text → Option Text → Option Message
+acknowledged_message p height (Some ack) (Some proof) = Some (ack_message p height ack proof)
+acknowledged_message p height _ _ = None
 
 -- the acknowledgement is the one that was written, at whatever height
-abbrev pub MakesAckPacket : SaysOfAcks → Proves → Origin → Packet → Option Message → Type 0
-MakesAckPacket says proves from p made =
+abbrev pub MakesAck : Answers → Origin → Packet → Option Message → Type 0
+MakesAck told from p made =
     (ack : Option Text) × (proof : Option Text)
-    × says from.chain p.destination_port p.destination_channel p.sequence ack
-    × IsProofAt proves from (ack_key p) proof × (made ≡ ack_packet_message p from.height ack proof)
+    × told.ack from.chain p.destination_port p.destination_channel p.sequence ack × IsProofAt told from (ack_key p) proof
+    × (made ≡ acknowledged_message p from.height ack proof)
 
-abbrev pub MakesTimeout : SaysOfChannels → Proves → ℕ → Origin → Packet → Option Message → Type 0
-MakesTimeout says proves on from p made =
-    (shown : Option Unreceived) × IsUnreceivedAt says proves on from p shown
-    × (made ≡ timeout_message p from.height shown)
+abbrev pub MakesTimeout : Answers → ℕ → Origin → Packet → Option Message → Type 0
+MakesTimeout told on from p made =
+    (shown : Option Unreceived) × IsUnreceivedAt told on from p shown
+    × (made ≡ option_map (λ (s : Unreceived). timeout_message p from.height s.next_recv s.proof) shown)
+
+abbrev pub closed_message : Packet → ℕ → Option Unreceived → Option Text → Option Message
+closed_message p height (Some shown) (Some proof_close) =
+    Some (timeout_on_close_message p height shown.next_recv shown.proof proof_close)
+closed_message p height _ _ = None
 
 -- and the peer's end is proved, which is to be closed
-abbrev pub MakesTimeoutOnClose : SaysOfChannels → Proves → ℕ → Origin → Packet → Option Message → Type 0
-MakesTimeoutOnClose says proves on from p made =
-    (shown : Option Unreceived) × (proof_close : Option Text) × IsUnreceivedAt says proves on from p shown
-    × IsProofAt proves from (destination_key p) proof_close
-    × (made ≡ timeout_on_close_message p from.height shown proof_close)
+abbrev pub MakesTimeoutOnClose : Answers → ℕ → Origin → Packet → Option Message → Type 0
+MakesTimeoutOnClose told on from p made =
+    (shown : Option Unreceived) × (proof_close : Option Text) × IsUnreceivedAt told on from p shown
+    × IsProofAt told from (destination_key p) proof_close × (made ≡ closed_message p from.height shown proof_close)
+
+-- by what the message does with the packet
+abbrev pub MakesHandled : Answers → ℕ → Handling → Origin → Packet → Option Message → Type 0
+MakesHandled told on handling.Recv from = MakesRecv told from
+MakesHandled told on handling.Ack from = MakesAck told from
+MakesHandled told on handling.Timeout from = MakesTimeout told on from
+MakesHandled told on handling.TimeoutOnClose from = MakesTimeoutOnClose told on from
 
 -- where there is a packet
 abbrev pub MakesOfFound : (Packet → Option Message → Type 0) → Option Packet → Option Message → Type 0
@@ -359,37 +306,31 @@ MakesOfFound makes None made = made ≡ None
 MakesOfFound makes (Some p) made = makes p made
 
 -- the packet is the one that the step names
-abbrev pub MakesOf : SaysOfPackets → SentPacket → (Packet → Option Message → Type 0) → Option Message → Type 0
-MakesOf says sent makes made =
-    (found : Option Packet) × says sent.chain sent.port sent.channel sent.sequence found × MakesOfFound makes found made
+abbrev pub MakesOf : Answers → SentPacket → (Packet → Option Message → Type 0) → Option Message → Type 0
+MakesOf told sent makes made =
+    (found : Option Packet) × told.packet sent.chain sent.port sent.channel sent.sequence found
+    × MakesOfFound makes found made
 
 -- the message that a step becomes, none where something that it needs isn't there; a packet is received with a proof
 -- of the chain that sent it
-abbrev pub MakesPacketMessage : SaysOfChannels → SaysOfPackets → SaysOfAcks → Proves → ℕ → PacketDraft → Option Message → Type 0
-MakesPacketMessage of_channels of_packets of_acks proves on (packet.Transfer m) made =
-    made ≡ Some (message.Transfer m)
-MakesPacketMessage of_channels of_packets of_acks proves on (packet.TransferMany t) made =
-    made ≡ Some (message.TransferMany t.message)
-MakesPacketMessage of_channels of_packets of_acks proves on (packet.SendNote m) made =
-    made ≡ Some (message.SendNote m)
-MakesPacketMessage of_channels of_packets of_acks proves on (packet.Recv sent height) made =
-    MakesOf of_packets sent (MakesRecv proves (record { chain = sent.chain; height = height })) made
-MakesPacketMessage of_channels of_packets of_acks proves on (packet.Ack sent from) made =
-    MakesOf of_packets sent (MakesAckPacket of_acks proves from) made
-MakesPacketMessage of_channels of_packets of_acks proves on (packet.Timeout sent from) made =
-    MakesOf of_packets sent (MakesTimeout of_channels proves on from) made
-MakesPacketMessage of_channels of_packets of_acks proves on (packet.TimeoutOnClose sent from) made =
-    MakesOf of_packets sent (MakesTimeoutOnClose of_channels proves on from) made
+abbrev pub MakesPacketMessage : Answers → ℕ → PacketDraft → Option Message → Type 0
+MakesPacketMessage told on (packet.Transfer m) made = made ≡ Some (message.Transfer m)
+MakesPacketMessage told on (packet.TransferMany t) made = made ≡ Some (message.TransferMany t.message)
+MakesPacketMessage told on (packet.SendNote m) made = made ≡ Some (message.SendNote m)
+MakesPacketMessage told on (packet.Recv sent height) made =
+    MakesOf told sent (MakesHandled told on handling.Recv (record { chain = sent.chain; height = height })) made
+MakesPacketMessage told on (packet.Ack sent from) made = MakesOf told sent (MakesHandled told on handling.Ack from) made
+MakesPacketMessage told on (packet.Timeout sent from) made =
+    MakesOf told sent (MakesHandled told on handling.Timeout from) made
+MakesPacketMessage told on (packet.TimeoutOnClose sent from) made =
+    MakesOf told sent (MakesHandled told on handling.TimeoutOnClose from) made
 
 -- ---- all messages
 
 -- the message that a step becomes, none where something that it needs isn't there
-abbrev pub MakesMessage : SaysOfClients → SaysOfConnections → SaysOfChannels → SaysOfPackets → SaysOfAcks → Proves → List Heights → ℕ → Draft → Option Message → Type 0
-MakesMessage of_clients of_connections of_channels of_packets of_acks proves heights on (draft.Client d) made =
-    (sent : Message) × (made ≡ Some sent) × MakesClientMessage of_clients heights on d sent
-MakesMessage of_clients of_connections of_channels of_packets of_acks proves heights on (draft.Connection d) made =
-    MakesConnectionMessage of_connections proves on d made
-MakesMessage of_clients of_connections of_channels of_packets of_acks proves heights on (draft.Channel d) made =
-    MakesChannelMessage of_channels proves on d made
-MakesMessage of_clients of_connections of_channels of_packets of_acks proves heights on (draft.Packet d) made =
-    MakesPacketMessage of_channels of_packets of_acks proves on d made
+abbrev pub MakesMessage : Answers → List Heights → ℕ → Draft → Option Message → Type 0
+MakesMessage told heights on (draft.Client d) made =
+    (sent : Message) × (made ≡ Some sent) × MakesClientMessage told heights on d sent
+MakesMessage told heights on (draft.Connection d) made = MakesConnectionMessage told on d made
+MakesMessage told heights on (draft.Channel d) made = MakesChannelMessage told on d made
+MakesMessage told heights on (draft.Packet d) made = MakesPacketMessage told on d made

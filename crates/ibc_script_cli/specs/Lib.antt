@@ -1,3 +1,4 @@
+pub mod Answers
 pub mod Completing
 pub mod Heights
 pub mod Lines

@@ -1,5 +1,5 @@
 -- The lines that the program prints, without their line feeds.
-use Rattle.std.specs.Prelude.{ℕ, codes, List, [], ◌∷◌, ◌++◌, map, ◌&&◌, nat_le, if◌then◌else◌, Option, None, Some}
+use Rattle.std.specs.Prelude.{ℕ, codes, List, [], ◌∷◌, ◌++◌, map, ◌&&◌, nat_le, if◌then◌else◌, Option, None, Some, option_map}
 use Rattle.std.specs.Fmt.{decimal}
 use Rattle.hex.specs.Hex.{encode_lower}
 use Rattle.base64.specs.Engines.{standard}
@@ -46,16 +46,16 @@ digits_of (Some bytes) = encode_lower bytes
 
 -- the words of a line
 abbrev pub line_words : Line → List Text
-line_words (printed.Reply chain kind answer) = chain ∷ name_of kind ∷ reply_words answer
-line_words (printed.Missing chain kind) = chain ∷ name_of kind ∷ codes "none" ∷ []
+line_words (printed.Reply chain kind answer) = chain.now ∷ name_of kind ∷ reply_words answer.now
+line_words (printed.Missing chain kind) = chain.now ∷ name_of kind ∷ codes "none" ∷ []
 line_words (printed.Balance chain account denom amount) =
-    codes "balance" ∷ chain ∷ account_text account ∷ denom ∷ decimal amount ∷ []
+    codes "balance" ∷ chain.now ∷ account_text account.now ∷ denom.now ∷ decimal amount ∷ []
 line_words (printed.Note chain channel index bytes) =
-    codes "note" ∷ chain ∷ channel ∷ decimal index ∷ encode_of standard bytes ∷ []
+    codes "note" ∷ chain.now ∷ channel.now ∷ decimal index ∷ encode_of standard bytes.now ∷ []
 line_words (printed.Root chain height root) =
-    chain ∷ codes "root" ∷ decimal height ∷ digits_of root ∷ []
+    chain.now ∷ codes "root" ∷ decimal height ∷ digits_of (option_map (λ r. r.now) root) ∷ []
 line_words (printed.Prove chain height proof) =
-    chain ∷ codes "prove" ∷ decimal height ∷ digits_of proof ∷ []
+    chain.now ∷ codes "prove" ∷ decimal height ∷ digits_of (option_map (λ p. p.now) proof) ∷ []
 
 -- the text of a line
 abbrev pub line : Line → Text

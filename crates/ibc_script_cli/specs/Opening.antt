@@ -1,5 +1,6 @@
 -- The messages of the step `open`, by what its two chains have given so far.
 use Rattle.std.specs.Prelude.{ℕ, Option, None, Some, option_map}
+use Rattle.std.specs.Option.{option_zip}
 use Rattle.ibc_ids.specs.Texts.{Text}
 use Rattle.ibc_machine.specs.declared.reply.Effect.{Effect}
 use Rattle.ibc_machine.specs.declared.reply.Effect.TheVariants as effect
@@ -45,33 +46,22 @@ origin_of p = record { chain = p.chain; height = p.height }
 
 -- ---- messages, to a chain of its own names and the peer's; none where a name isn't given
 
-abbrev pub update_of : ℕ → Option Text → Option Draft
-update_of height = option_map (λ id. draft.Client (client.Update id height))
-
 abbrev pub update_draft : Party → Party → Option Draft
-update_draft own peer = update_of peer.height own.client
-
-abbrev pub init_of : Option Text → Option Text → Option Draft
-init_of (Some id) (Some peer_client) = Some (draft.Connection (connection.OpenInit id peer_client))
-init_of _ _ = None
+update_draft own peer = option_map (λ id. draft.Client (client.Update id peer.height)) own.client
 
 abbrev pub init_draft : Party → Party → Option Draft
-init_draft own peer = init_of own.client peer.client
-
-abbrev pub try_of : Origin → Option Text → Option Text → Option Text → Option Draft
-try_of from (Some id) (Some peer_client) (Some peer_connection) =
-    Some (draft.Connection (connection.OpenTry id peer_client peer_connection from))
-try_of from _ _ _ = None
+init_draft own peer =
+    option_map (λ clients. draft.Connection (connection.OpenInit clients.0 clients.1)) (option_zip own.client peer.client)
 
 abbrev pub try_draft : Party → Party → Option Draft
-try_draft own peer = try_of (origin_of peer) own.client peer.client peer.connection
-
-abbrev pub ack_of : Origin → Option Text → Option Text → Option Draft
-ack_of from (Some id) (Some peer_connection) = Some (draft.Connection (connection.OpenAck id peer_connection from))
-ack_of from _ _ = None
+try_draft own peer =
+    option_map (λ names. draft.Connection (connection.OpenTry names.0.0 names.0.1 names.1 (origin_of peer)))
+    (option_zip (option_zip own.client peer.client) peer.connection)
 
 abbrev pub ack_draft : Party → Party → Option Draft
-ack_draft own peer = ack_of (origin_of peer) own.connection peer.connection
+ack_draft own peer =
+    option_map (λ ends. draft.Connection (connection.OpenAck ends.0 ends.1 (origin_of peer)))
+    (option_zip own.connection peer.connection)
 
 abbrev pub confirm_draft : Party → Party → Option Draft
 confirm_draft own peer = option_map (λ id. draft.Connection (connection.OpenConfirm id (origin_of peer))) own.connection
@@ -86,29 +76,22 @@ channel_init_draft app own =
       version = version_of app;
     }))) own.connection
 
-abbrev pub channel_try_of : Application → Origin → Option Text → Option Text → Option Draft
-channel_try_of app from (Some id) (Some peer_channel) =
-    Some (draft.Channel (channel.OpenTry (record {
+abbrev pub channel_try_draft : Application → Party → Party → Option Draft
+channel_try_draft app own peer =
+    option_map (λ names. draft.Channel (channel.OpenTry (record {
       port = port_of app;
       order = order_of app;
-      connection = id;
+      connection = names.0;
       peer_port = port_of app;
-      peer_channel = peer_channel;
+      peer_channel = names.1;
       version = version_of app;
-      from = from;
-    })))
-channel_try_of app from _ _ = None
-
-abbrev pub channel_try_draft : Application → Party → Party → Option Draft
-channel_try_draft app own peer = channel_try_of app (origin_of peer) own.connection peer.channel
-
-abbrev pub channel_ack_of : Application → Origin → Option Text → Option Text → Option Draft
-channel_ack_of app from (Some id) (Some peer_channel) =
-    Some (draft.Channel (channel.OpenAck (port_of app) id peer_channel from))
-channel_ack_of app from _ _ = None
+      from = origin_of peer;
+    }))) (option_zip own.connection peer.channel)
 
 abbrev pub channel_ack_draft : Application → Party → Party → Option Draft
-channel_ack_draft app own peer = channel_ack_of app (origin_of peer) own.channel peer.channel
+channel_ack_draft app own peer =
+    option_map (λ ends. draft.Channel (channel.OpenAck (port_of app) ends.0 ends.1 (origin_of peer)))
+    (option_zip own.channel peer.channel)
 
 abbrev pub channel_confirm_draft : Application → Party → Party → Option Draft
 channel_confirm_draft app own peer =

@@ -1,13 +1,7 @@
 //! The chains that the steps of a script are run on.
 
-ghost use Rattle.std.specs.Prelude.{ℕ, Option, ⊤, IfOk};
-ghost use Rattle.ibc_ids.specs.Texts.{Text};
-ghost use Rattle.ibc_ids.specs.declared.key.Key.{Key};
-ghost use Rattle.ibc_merkle.specs.declared.proof.Proof.{Proof};
-ghost use Rattle.ibc_wire.specs.declared.packet.Packet.{Packet};
-ghost use Rattle.ibc_wire.specs.declared.records.ClientState.{ClientState};
-ghost use Rattle.ibc_wire.specs.declared.records.ConnectionEnd.{ConnectionEnd};
-ghost use Rattle.ibc_wire.specs.declared.records.ChannelEnd.{ChannelEnd};
+ghost use Rattle.std.specs.Prelude.{IfOk};
+ghost use Rattle.ibc_script_cli.specs.Answers.{Answers, any_answers};
 
 use ibc_ids::{Account, Bytes, ChannelId, ClientId, ConnectionId, Denom, Key, PortId, Refusal};
 use ibc_machine::{Event, Reply};
@@ -16,30 +10,15 @@ use ibc_wire::{ChannelEnd, ClientState, ConnectionEnd, Packet};
 
 /// The chains that the steps of a script are run on, by their numbers. Each call is refused with `NoMemory` alone.
 pub trait Chains {
-    // What a chain says of a client.
-    ghost has_client: { Self → ℕ → Text → Option ClientState → Type 0 } = { λ _ _ _ _. ⊤ };
-
-    // What a chain says of its end of a connection.
-    ghost has_connection: { Self → ℕ → Text → Option ConnectionEnd → Type 0 } = { λ _ _ _ _. ⊤ };
-
-    // What a chain says of its end of a channel.
-    ghost has_channel: { Self → ℕ → Text → Text → Option ChannelEnd → Type 0 } = { λ _ _ _ _ _. ⊤ };
-
-    // What a chain says of a packet that it sent from an end of a channel, by its sequence.
-    ghost has_packet: { Self → ℕ → Text → Text → ℕ → Option Packet → Type 0 } = { λ _ _ _ _ _ _. ⊤ };
-
-    // What a chain says of the acknowledgement that it wrote at an end of a channel, by the packet's sequence.
-    ghost has_ack: { Self → ℕ → Text → Text → ℕ → Option Text → Type 0 } = { λ _ _ _ _ _ _. ⊤ };
-
-    // What a chain proves at a height of a key.
-    ghost has_proof: { Self → ℕ → ℕ → Key → Option Proof → Type 0 } = { λ _ _ _ _ _. ⊤ };
+    // What the chains answer to the questions below.
+    ghost answers: { Self → Answers } = { λ _. any_answers };
 
     /// Asks a chain for an event.
     fn ask(&mut self, event: Event) -> Result<Reply, Refusal>;
 
     /// The state of a client of a chain as it stands, `None` where there is no such client.
     fn client_state(&self, chain: u8, client: &ClientId) -> Result<Option<ClientState>, Refusal>
-        ensures { IfOk result (has_client self.now chain client.now) };
+        ensures { IfOk result ((answers self.now).client chain client.now) };
 
     /// The end of a connection of a chain as it stands, `None` where there is none.
     fn connection(
@@ -47,7 +26,7 @@ pub trait Chains {
         chain: u8,
         connection: &ConnectionId,
     ) -> Result<Option<ConnectionEnd>, Refusal>
-        ensures { IfOk result (has_connection self.now chain connection.now) };
+        ensures { IfOk result ((answers self.now).connection chain connection.now) };
 
     /// The end of a channel of a chain as it stands, `None` where there is none.
     fn channel(
@@ -56,7 +35,7 @@ pub trait Chains {
         port: &PortId,
         channel: &ChannelId,
     ) -> Result<Option<ChannelEnd>, Refusal>
-        ensures { IfOk result (has_channel self.now chain port.now channel.now) };
+        ensures { IfOk result ((answers self.now).channel chain port.now channel.now) };
 
     /// The packet that a chain sent from an end of a channel under a sequence, whether its commitment still stands or
     /// not; `None` where it sent none.
@@ -67,7 +46,7 @@ pub trait Chains {
         channel: &ChannelId,
         sequence: u64,
     ) -> Result<Option<Packet>, Refusal>
-        ensures { IfOk result (has_packet self.now chain port.now channel.now sequence) };
+        ensures { IfOk result ((answers self.now).packet chain port.now channel.now sequence) };
 
     /// The acknowledgement that a chain wrote at an end of a channel for the packet of a sequence, be it committed
     /// yet or not; `None` where it wrote none.
@@ -78,12 +57,12 @@ pub trait Chains {
         channel: &ChannelId,
         sequence: u64,
     ) -> Result<Option<Bytes>, Refusal>
-        ensures { IfOk result (has_ack self.now chain port.now channel.now sequence) };
+        ensures { IfOk result ((answers self.now).ack chain port.now channel.now sequence) };
 
     /// The proof of what a committed height of a chain has at a key, `None` where the height isn't committed or its
     /// records are gone.
     fn proof(&self, chain: u8, height: u64, key: &Key) -> Result<Option<Proof>, Refusal>
-        ensures { IfOk result (has_proof self.now chain height key.now) };
+        ensures { IfOk result ((answers self.now).proof chain height key.now) };
 
     /// The amounts above 0 on a chain, by account and then denomination, in the byte order of their texts.
     fn balances(&self, chain: u8) -> Result<Vec<(Account, Denom, u128)>, Refusal>;

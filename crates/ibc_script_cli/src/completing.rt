@@ -48,9 +48,9 @@ fn encoding_of(alloc: Global, proof: &Proof) -> Result<Option<Bytes>, Fault>
 
 impl<C: Chains + Drop> Completer<'_, C> {
     /// The message that a step of a chain sends, `None` where something that it needs isn't there. Fault: `NoMemory`.
-    pub fn complete(&self, on: u8, draft: &Draft) -> Result<Option<Message>, Fault>
-        ensures made { IfOk result (MakesMessage (C.has_client self.now.chains.now) (C.has_connection self.now.chains.now) (C.has_channel self.now.chains.now) (C.has_packet self.now.chains.now) (C.has_ack self.now.chains.now) (C.has_proof self.now.chains.now) self.now.heights.now on draft.now) }
-        ensures kind { IfOk result (λ made. IfSome made (λ message. kind_of message ≡ draft_kind draft.now)) }
+    pub fn complete(&self, on: u8, draft: Draft) -> Result<Option<Message>, Fault>
+        ensures made { IfOk result (MakesMessage (C.answers self.now.chains.now) self.now.heights.now on draft) }
+        ensures kind { IfOk result (λ made. IfSome made (λ message. kind_of message ≡ draft_kind draft)) }
         ensures err { IfErr result (λ fault. fault ≡ Fault.NoMemory) }
     {
         match draft {
@@ -63,7 +63,7 @@ impl<C: Chains + Drop> Completer<'_, C> {
 
     // What a chain proves of a key at a height, `None` where there is nothing.
     fn found(&self, from: Origin, key: Key) -> Result<Option<Proof>, Fault>
-        ensures found { IfOk result (C.has_proof self.now.chains.now from.chain from.height key) }
+        ensures found { IfOk result ((C.answers self.now.chains.now).proof from.chain from.height key) }
         ensures err { IfErr result (λ fault. fault ≡ Fault.NoMemory) }
     {
         let found = self.chains.proof(from.chain, from.height, &key);
@@ -73,7 +73,7 @@ impl<C: Chains + Drop> Completer<'_, C> {
 
     /// The encoding of the proof of a key at a height, `None` where there is none.
     pub fn proof(&self, from: Origin, key: Key) -> Result<Option<Bytes>, Fault>
-        ensures is { IfOk result (IsProofAt (C.has_proof self.now.chains.now) from key) }
+        ensures is { IfOk result (IsProofAt (C.answers self.now.chains.now) from key) }
         ensures err { IfErr result (λ fault. fault ≡ Fault.NoMemory) }
     {
         match self.found(from, key)? {
@@ -88,7 +88,7 @@ impl<C: Chains + Drop> Completer<'_, C> {
 
     /// The state of a client at a height, with the encoding of the proof that shows it; `None` where there is none.
     fn claim(&self, from: Origin, client: &ClientId) -> Result<Option<Claim>, Fault>
-        ensures is { IfOk result (IsClaimAt (C.has_proof self.now.chains.now) from client.now) }
+        ensures is { IfOk result (IsClaimAt (C.answers self.now.chains.now) from client.now) }
         ensures err { IfErr result (λ fault. fault ≡ Fault.NoMemory) }
     {
         match self.found(from, Key::ClientState(client.clone()?))? {

@@ -1,7 +1,7 @@
 //! The heights that the chains of a script have committed.
 
-ghost use Rattle.std.specs.Prelude.{◌≡◌, ◌<◌, ◌++◌, ◌∷◌, [], length, map, IfOk, OnOk, vec_len, vec_capacity};
-ghost use Rattle.ibc_script_cli.specs.Heights.{kept_at};
+ghost use Rattle.std.specs.Prelude.{◌≡◌, ◌++◌, ◌∷◌, [], length, map, All, IfOk, OnOk};
+ghost use Rattle.ibc_script_cli.specs.Heights.{kept_at, KeepsNone};
 
 use ibc_ids::Root;
 use ibc_machine::{ChainStart, Genesis};
@@ -34,29 +34,27 @@ impl Heights {
         self.committed.get(height as usize - 1).copied()
     }
 
-    /// Makes room for one more height. Error: no memory; nothing has changed then.
-    pub fn reserve(&mut self) -> Result<(), AllocError>
-        ensures room { OnOk result (vec_len self.new.committed < vec_capacity self.new.committed) }
-        ensures same { (self.new.window ≡ self.old.window) × (self.new.working_time ≡ self.old.working_time) × (self.new.committed.items ≡ self.old.committed.items) }
+    /// The working block is committed with this root, and the next one has this time. Error: no memory; nothing has
+    /// changed then.
+    pub fn commit(&mut self, root: Root, next_time: u64) -> Result<(), AllocError>
+        ensures committed { OnOk result (self.new.committed.items ≡ self.old.committed.items ++ (record { root = root; time = self.old.working_time }) ∷ []) }
+        ensures next { OnOk result (self.new.working_time ≡ next_time) }
+        ensures window { self.new.window ≡ self.old.window }
     {
-        self.committed.reserve(1)
-    }
-
-    /// The working block is committed with this root, and the next one has this time.
-    pub fn commit(&mut self, root: Root, next_time: u64)
-        requires { vec_len self.old.committed < vec_capacity self.old.committed }
-        ensures committed { self.new.committed.items ≡ self.old.committed.items ++ (record { root = root; time = self.old.working_time }) ∷ [] }
-        ensures next { (self.new.working_time ≡ next_time) × (self.new.window ≡ self.old.window) }
-    {
-        self.committed.push_reserved(Committed {
+        self.committed.push(Committed {
             root,
             time: self.working_time,
-        });
+        })?;
         self.working_time = next_time;
+        Ok(())
     }
 }
 
-fn begun(alloc: Global, window: u64, start: &ChainStart) -> Heights {
+// What a chain has committed as it begins.
+fn begun(alloc: Global, window: u64, start: &ChainStart) -> Heights
+    ensures none { KeepsNone window result }
+    ensures time { result.working_time ≡ start.now.time }
+{
     Heights {
         window,
         working_time: start.time,
@@ -66,7 +64,9 @@ fn begun(alloc: Global, window: u64, start: &ChainStart) -> Heights {
 
 /// The heights of each chain of a genesis, none of them committed yet.
 pub fn heights_at(alloc: Global, genesis: &Genesis) -> Result<Vec<Heights>, AllocError>
-    ensures { IfOk result (λ heights. length heights.items ≡ length genesis.now.chains.items) }
+    ensures length { IfOk result (λ heights. length heights.items ≡ length genesis.now.chains.items) }
+    ensures times { IfOk result (λ heights. map (λ h. h.working_time) heights.items ≡ map (λ start. start.time) genesis.now.chains.items) }
+    ensures begun { IfOk result (λ heights. All (KeepsNone genesis.now.window) heights.items) }
 {
     let mut heights = Vec::with_capacity(alloc, genesis.chains.len())?;
     for start in &genesis.chains {

@@ -6,6 +6,7 @@ mod completing;
 mod heights;
 mod line;
 mod opening;
+mod printing;
 mod program;
 mod runner;
 mod streams;

@@ -14,44 +14,44 @@ use ibc_script::{ChainName, EventKind};
 use std::alloc::{AllocError, Global};
 
 /// A line that the program prints, without its line feed.
-#[derive(Drop, Debug)]
-pub enum Line {
+#[derive(Clone, Copy, Debug)]
+pub enum Line<'a> {
     /// The reply to an event.
     Reply {
-        chain: ChainName,
+        chain: &'a ChainName,
         kind: EventKind,
-        reply: Reply,
+        reply: &'a Reply,
     },
     /// Something that the message needs doesn't exist, and nothing was asked of the chain.
     Missing {
-        chain: ChainName,
+        chain: &'a ChainName,
         kind: EventKind,
     },
     /// What an account has at the end.
     Balance {
-        chain: ChainName,
-        account: Account,
-        denom: Denom,
+        chain: &'a ChainName,
+        account: &'a Account,
+        denom: &'a Denom,
         amount: u128,
     },
     /// A note that was received, by its number on its channel, from 1.
     Note {
-        chain: ChainName,
-        channel: ChannelId,
+        chain: &'a ChainName,
+        channel: &'a ChannelId,
         index: u64,
-        bytes: Bytes,
+        bytes: &'a Bytes,
     },
     /// The root of a height, `None` where the chain doesn't keep the height.
     Root {
-        chain: ChainName,
+        chain: &'a ChainName,
         height: u64,
-        root: Option<Root>,
+        root: Option<&'a Root>,
     },
     /// The encoding of a proof at a height, `None` where the chain doesn't keep the height.
     Prove {
-        chain: ChainName,
+        chain: &'a ChainName,
         height: u64,
-        proof: Option<Bytes>,
+        proof: Option<&'a Bytes>,
     },
 }
 
@@ -261,8 +261,8 @@ fn height_line(
     }
 }
 
-fn text_of(alloc: Global, printed: &Line) -> Result<String, AllocError>
-    ensures { IfOk result (λ text. string_bytes text ≡ line printed.now) }
+fn text_of(alloc: Global, printed: Line<'_>) -> Result<String, AllocError>
+    ensures { IfOk result (λ text. string_bytes text ≡ line printed.entry) }
 {
     match printed {
         Line::Reply { chain, kind, reply } => {
@@ -274,7 +274,7 @@ fn text_of(alloc: Global, printed: &Line) -> Result<String, AllocError>
             account,
             denom,
             amount,
-        } => balance_line(alloc, chain.as_str(), account, denom.as_str(), *amount),
+        } => balance_line(alloc, chain.as_str(), account, denom.as_str(), amount),
         Line::Note {
             chain,
             channel,
@@ -284,7 +284,7 @@ fn text_of(alloc: Global, printed: &Line) -> Result<String, AllocError>
             alloc,
             chain.as_str(),
             channel.as_str(),
-            *index,
+            index,
             bytes.as_slice(),
         ),
         Line::Root {
@@ -292,23 +292,23 @@ fn text_of(alloc: Global, printed: &Line) -> Result<String, AllocError>
             height,
             root,
         } => {
-            let bytes = root.as_ref().map(|root| root.bytes().as_slice());
-            height_line(alloc, chain.as_str(), "root", *height, bytes)
+            let bytes = root.map(|root| root.bytes().as_slice());
+            height_line(alloc, chain.as_str(), "root", height, bytes)
         }
         Line::Prove {
             chain,
             height,
             proof,
         } => {
-            let bytes = proof.as_ref().map(|proof| proof.as_slice());
-            height_line(alloc, chain.as_str(), "prove", *height, bytes)
+            let bytes = proof.map(|proof| proof.as_slice());
+            height_line(alloc, chain.as_str(), "prove", height, bytes)
         }
     }
 }
 
 /// The text of a line, without its line feed. Refused: `NoMemory`.
-pub fn line_text(alloc: Global, printed: &Line) -> Result<String, Refusal>
-    ensures text { IfOk result (λ text. string_bytes text ≡ line printed.now) }
+pub fn line_text(alloc: Global, printed: Line<'_>) -> Result<String, Refusal>
+    ensures text { IfOk result (λ text. string_bytes text ≡ line printed.entry) }
     ensures memory { IsOkUnless result Refusal.NoMemory }
 {
     Ok(text_of(alloc, printed)?)

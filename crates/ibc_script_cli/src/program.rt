@@ -1,10 +1,10 @@
 //! The program, from its words and its input to the lines on its output.
 
 ghost use Rattle.std.specs.Prelude.{◌≡◌, ◌⊎◌, ◌<◌, map, true, false, length, IfOk, IfErr, IfSome, IsErrOf, Err};
-ghost use Rattle.ibc_script.specs.Faults.{StopsRun};
+ghost use Rattle.ibc_script.specs.Faults.{StopsRun, JudgesScript};
 ghost use Rattle.ibc_script_cli.specs.Words.{are_words};
 
-use crate::heights::heights_at;
+use crate::heights::{Heights, heights_at};
 use crate::runner::Runner;
 use crate::{Chains, Command, read_input, read_words};
 use ibc_ids::Refusal;
@@ -42,7 +42,33 @@ pub fn drive<S: Worlds, R: Read + Drop, W: Write>(
     let Command::Run = read_words(alloc, words)?;
     let bytes = read_input(alloc, input)?;
     let script = read_script(alloc, bytes.as_slice())?;
-    run_script(alloc, worlds, &script, output)
+    run_script(alloc, worlds, script, output)
+}
+
+/// What a script begins with: the heights of its chains, none committed yet, and the chains.
+#[derive(Drop)]
+struct Beginning<C: Chains + Drop> {
+    heights: Vec<Heights>,
+    chains: C,
+}
+
+/// The beginning of a genesis. Faults: `BadScript` where no chains begin so; `NoMemory`.
+fn begin<S: Worlds>(
+    alloc: Global,
+    worlds: &S,
+    genesis: &Genesis,
+) -> Result<Beginning<S::Chains>, Fault>
+    ensures one_each { IfOk result (λ begun. length begun.heights.items ≡ length genesis.now.chains.items) }
+    ensures faults { IfErr result JudgesScript }
+{
+    let heights = heights_at(alloc, genesis)?;
+    match worlds.begin(genesis) {
+        Ok(chains) => Ok(Beginning { heights, chains }),
+        Err(refusal) => {
+            drop(heights);
+            Err(Fault::of_refusal(refusal))
+        }
+    }
 }
 
 /// Runs a script on the chains of its genesis. Faults: `BadScript` where no chains begin so, and then nothing was
@@ -50,16 +76,25 @@ pub fn drive<S: Worlds, R: Read + Drop, W: Write>(
 fn run_script<S: Worlds, W: Write>(
     alloc: Global,
     worlds: &S,
-    script: &Script,
+    script: Script,
     output: &mut W,
 ) -> Result<(), Fault>
     ensures faults { IfErr result (λ fault. StopsRun fault ⊎ ((fault ≡ Fault.BadScript) × (output.new ≡ output.old))) }
 {
-    let heights = heights_at(alloc, &script.genesis)?;
-    let chains = worlds.begin(&script.genesis).map_err(Fault::of_refusal)?;
-    let mut runner = Runner::new(alloc, script.names.as_slice(), heights, chains);
-    let ran = runner.run_all(script.steps.as_slice(), output);
-    flush_after(ran, output)
+    match begin(alloc, worlds, &script.genesis) {
+        Ok(beginning) => {
+            let Script { names, steps, .. } = script;
+            let Beginning { heights, chains } = beginning;
+            let mut runner = Runner::new(alloc, names, heights, chains);
+            let ran = runner.run_all(steps, output);
+            drop(runner);
+            flush_after(ran, output)
+        }
+        Err(fault) => {
+            drop(script);
+            Err(fault)
+        }
+    }
 }
 
 /// Gives on what the output holds back, also where the run has stopped.

@@ -1,12 +1,25 @@
 //! The input and the output of the program.
 
-ghost use Rattle.std.specs.Prelude.{◌≡◌, ◌⊎◌, ◌++◌, codes, take, IfOk, IfErr, IfSome, OnOk};
+ghost use Rattle.std.specs.Prelude.{◌≡◌, ◌≢◌, ◌⊎◌, ◌↔◌, ◌++◌, codes, take, IfOk, IfErr, IfSome, OnOk};
 ghost use Rattle.std.specs.Io.KnownBytes.{Appends};
+ghost use Rattle.std.specs.IoError.{error_kind};
 
 use ibc_script::{Fault, MOST_BYTES};
 use std::alloc::Global;
 use std::io;
-use std::io::{Read, Write};
+use std::io::{ErrorKind, Read, Write};
+
+// The fault of a reader that fails.
+fn read_fault(error: &io::Error) -> Fault
+    ensures memory { result ≡ Fault.NoMemory ↔ (error_kind error.now ≡ ErrorKind.OutOfMemory) }
+    ensures other { result ≡ Fault.CannotRead ↔ (error_kind error.now ≢ ErrorKind.OutOfMemory) }
+{
+    if error.kind() == ErrorKind::OutOfMemory {
+        Fault::NoMemory
+    } else {
+        Fault::CannotRead
+    }
+}
 
 /// The bytes of the input, at most one more than a script may have. Faults: `CannotRead` where the reader fails for
 /// another cause than memory, `NoMemory`.
@@ -17,8 +30,7 @@ pub fn read_input<R: Read + Drop>(alloc: Global, input: R) -> Result<Vec<u8>, Fa
     let mut bytes = Vec::new(alloc);
     match input.take(MOST_BYTES as u64 + 1).read_to_end(&mut bytes) {
         Ok(_) => Ok(bytes),
-        Err(e) if e.kind() == io::ErrorKind::OutOfMemory => Err(Fault::NoMemory),
-        Err(_) => Err(Fault::CannotRead),
+        Err(error) => Err(read_fault(&error)),
     }
 }
 

@@ -32,11 +32,10 @@ fn parser<'a>(alloc: Global) -> Result<Parser<'a>, Fault>
     ensures app { IfOk result (λ parser. app_of parser ≡ ibcworld) }
     ensures memory { IfErr result (λ fault. fault ≡ Fault.NoMemory) }
 {
-    let run = Parser::new(alloc, "run");
     let parser = Parser::new(alloc, "ibcworld")
         .subcommand_required(true)
         .no_binary_name(true);
-    Ok(parser.subcommand(run)?)
+    Ok(parser.subcommand(Parser::new(alloc, "run"))?)
 }
 
 /// What the words after the program's name ask for. Faults: `BadArguments` exactly where they ask for nothing that the

@@ -54,28 +54,24 @@ impl<C: Chains + Drop> Completer<'_, C> {
         }
     }
 
-    fn update_client(&self, on: u8, client: &ClientId, height: u64) -> Result<Message, Fault>
-        ensures made { IfOk result (MakesClientMessage (C.has_client self.now.chains.now) self.now.heights.now on (client_draft.Update client.now height)) }
+    fn update_client(&self, on: u8, client: ClientId, height: u64) -> Result<Message, Fault>
+        ensures made { IfOk result (MakesClientMessage (C.answers self.now.chains.now) self.now.heights.now on (client_draft.Update client height)) }
         ensures err { IfErr result (λ fault. fault ≡ Fault.NoMemory) }
     {
-        let state = self
-            .chains
-            .client_state(on, client)
-            .map_err(Fault::no_memory)?;
-        Ok(Message::UpdateClient(UpdateClient {
-            client: client.clone()?,
-            header: self.header(on, state, height),
-        }))
+        let state = self.chains.client_state(on, &client);
+        let state = state.map_err(Fault::no_memory)?;
+        let header = self.header(on, state, height);
+        Ok(Message::UpdateClient(UpdateClient { client, header }))
     }
 
     /// The message for clients that a step of a chain sends. Fault: `NoMemory`.
-    pub fn client_message(&self, on: u8, draft: &ClientDraft) -> Result<Message, Fault>
-        ensures made { IfOk result (MakesClientMessage (C.has_client self.now.chains.now) self.now.heights.now on draft.now) }
+    pub fn client_message(&self, on: u8, draft: ClientDraft) -> Result<Message, Fault>
+        ensures made { IfOk result (MakesClientMessage (C.answers self.now.chains.now) self.now.heights.now on draft) }
         ensures err { IfErr result (λ fault. fault ≡ Fault.NoMemory) }
     {
         match draft {
-            ClientDraft::Create { of } => Ok(Message::CreateClient(CreateClient { chain: *of })),
-            ClientDraft::Update { client, height } => self.update_client(on, client, *height),
+            ClientDraft::Create { of } => Ok(Message::CreateClient(CreateClient { chain: of })),
+            ClientDraft::Update { client, height } => self.update_client(on, client, height),
         }
     }
 }

@@ -1,80 +1,130 @@
 //! Messages for connections.
 
-ghost use Rattle.std.specs.Prelude.{◌≡◌, IfOk, IfErr};
-ghost use Rattle.ibc_script_cli.specs.Completing.{try_message, ack_message, IsProofAt, IsClaimAt, MakesAckOf, MakesConnectionMessage};
-ghost use Rattle.ibc_ids.specs.declared.key.Key.TheVariants as key;
+ghost use Rattle.std.specs.Prelude.{◌≡◌, Some, IfOk, IfErr};
+ghost use Rattle.ibc_script_cli.specs.Completing.{connection_message, peer_connection_key, AreProofs, AreConnectionProofs, MakesConnectionMessage};
 ghost use Rattle.ibc_script.specs.declared.draft.ConnectionDraft.TheVariants as connection_draft;
 
 use super::{Claim, Completer};
 use crate::Chains;
 use ibc_ids::{Bytes, ClientId, ConnectionId, Key};
 use ibc_script::{ConnectionDraft, Fault, Origin};
-use ibc_wire::{ConnOpenAck, ConnOpenConfirm, ConnOpenInit, ConnOpenTry, Message};
-use std::alloc::AllocError;
+use ibc_wire::{ConnOpenAck, ConnOpenConfirm, ConnOpenInit, ConnOpenTry, ConnectionEnd, Message};
 
-// The answer to a connection, `None` where one of its proofs isn't there.
-fn try_message(
-    client: &ClientId,
-    peer_client: &ClientId,
-    peer_connection: &ConnectionId,
-    height: u64,
+/// What is shown of the peer: the proof of its end of a connection, and what is claimed of its client. Each is `None`
+/// where it isn't there, or the message needs none.
+#[derive(Drop)]
+struct Shown {
     end: Option<Bytes>,
     claim: Option<Claim>,
-) -> Result<Option<Message>, AllocError>
-    ensures { IfOk result (λ made. made ≡ try_message client.now peer_client.now peer_connection.now height end claim) }
+}
+
+/// Nothing of the peer.
+fn nothing() -> Shown
+    ensures { result ≡ record { end = None; claim = None } }
 {
-    match end.zip(claim) {
-        Some((proof_end, claim)) => Ok(Some(Message::ConnOpenTry(ConnOpenTry {
-            client: client.clone()?,
-            peer_client: peer_client.clone()?,
-            peer_connection: peer_connection.clone()?,
-            claim: claim.state,
-            height,
-            proof_end,
-            proof_client: claim.proof,
-        }))),
-        None => Ok(None),
+    Shown {
+        end: None,
+        claim: None,
     }
 }
 
-// The message that opens a connection which the peer answered, `None` where one of its proofs isn't there.
-fn ack_message(
-    connection: &ConnectionId,
-    peer_connection: &ConnectionId,
-    height: u64,
-    end: Option<Bytes>,
-    claim: Option<Claim>,
-) -> Result<Option<Message>, AllocError>
-    ensures { IfOk result (λ made. made ≡ ack_message connection.now peer_connection.now height end claim) }
+/// The key of the connection that an own end names as the peer's.
+fn peer_connection_key(own: ConnectionEnd) -> Option<Key>
+    ensures { result ≡ peer_connection_key own }
 {
-    match end.zip(claim) {
-        Some((proof_end, claim)) => Ok(Some(Message::ConnOpenAck(ConnOpenAck {
-            connection: connection.clone()?,
-            peer_connection: peer_connection.clone()?,
+    let ConnectionEnd {
+        peer_connection,
+        ..
+    } = own;
+    match peer_connection {
+        Some(peer_connection) => Some(Key::Connection(peer_connection)),
+        None => None,
+    }
+}
+
+/// The message that a step becomes with what is shown of the peer, `None` where something that it needs isn't there.
+fn connection_message(draft: ConnectionDraft, shown: Shown) -> Option<Message>
+    ensures { result ≡ connection_message draft shown.end shown.claim }
+{
+    let Shown { end, claim } = shown;
+    match (draft, end, claim) {
+        (
+            ConnectionDraft::OpenInit {
+                client,
+                peer_client,
+            },
+            _,
+            _,
+        ) => {
+            Some(Message::ConnOpenInit(ConnOpenInit {
+                client,
+                peer_client,
+            }))
+        }
+        (
+            ConnectionDraft::OpenTry {
+                client,
+                peer_client,
+                peer_connection,
+                from,
+            },
+            Some(proof_end),
+            Some(claim),
+        ) => Some(Message::ConnOpenTry(ConnOpenTry {
+            client,
+            peer_client,
+            peer_connection,
             claim: claim.state,
-            height,
+            height: from.height,
             proof_end,
             proof_client: claim.proof,
-        }))),
-        None => Ok(None),
+        })),
+        (
+            ConnectionDraft::OpenAck {
+                connection,
+                peer_connection,
+                from,
+            },
+            Some(proof_end),
+            Some(claim),
+        ) => Some(Message::ConnOpenAck(ConnOpenAck {
+            connection,
+            peer_connection,
+            claim: claim.state,
+            height: from.height,
+            proof_end,
+            proof_client: claim.proof,
+        })),
+        (ConnectionDraft::OpenConfirm { connection, from }, Some(proof), _) => {
+            Some(Message::ConnOpenConfirm(ConnOpenConfirm {
+                connection,
+                height: from.height,
+                proof,
+            }))
+        }
+        (draft, end, claim) => {
+            drop(draft);
+            drop(end);
+            drop(claim);
+            None
+        }
     }
 }
 
 impl<C: Chains + Drop> Completer<'_, C> {
     // The proof of the peer's end of a connection, and what is claimed of its client.
-    fn peer_proofs(
+    fn peer_shown(
         &self,
+        from: Origin,
         peer_connection: &ConnectionId,
         peer_client: &ClientId,
-        from: Origin,
-    ) -> Result<(Option<Bytes>, Option<Claim>), Fault>
-        ensures end { IfOk result (λ shown. IsProofAt (C.has_proof self.now.chains.now) from (key.Connection peer_connection.now) shown.0) }
-        ensures claim { IfOk result (λ shown. IsClaimAt (C.has_proof self.now.chains.now) from peer_client.now shown.1) }
+    ) -> Result<Shown, Fault>
+        ensures shown { IfOk result (λ shown. AreProofs (C.answers self.now.chains.now) from peer_connection.now peer_client.now shown.end shown.claim) }
         ensures err { IfErr result (λ fault. fault ≡ Fault.NoMemory) }
     {
         let end = self.proof(from, Key::Connection(peer_connection.clone()?))?;
         match self.claim(from, peer_client) {
-            Ok(claim) => Ok((end, claim)),
+            Ok(claim) => Ok(Shown { end, claim }),
             Err(fault) => {
                 drop(end);
                 Err(fault)
@@ -82,94 +132,65 @@ impl<C: Chains + Drop> Completer<'_, C> {
         }
     }
 
-    fn conn_open_try(
-        &self,
-        client: &ClientId,
-        peer_client: &ClientId,
-        peer_connection: &ConnectionId,
-        from: Origin,
-    ) -> Result<Option<Message>, Fault>
-        ensures made { IfOk result (MakesConnectionMessage (C.has_connection self.now.chains.now) (C.has_proof self.now.chains.now) 0 (connection_draft.OpenTry client.now peer_client.now peer_connection.now from)) }
-        ensures err { IfErr result (λ fault. fault ≡ Fault.NoMemory) }
-    {
-        let (end, claim) = self.peer_proofs(peer_connection, peer_client, from)?;
-        Ok(try_message(
-            client,
-            peer_client,
-            peer_connection,
-            from.height,
-            end,
-            claim,
-        )?)
-    }
-
-    fn conn_open_ack_of(
-        &self,
-        connection: &ConnectionId,
-        peer_connection: &ConnectionId,
-        peer_client: &ClientId,
-        from: Origin,
-    ) -> Result<Option<Message>, Fault>
-        ensures made { IfOk result (MakesAckOf (C.has_proof self.now.chains.now) connection.now peer_connection.now from peer_client.now) }
-        ensures err { IfErr result (λ fault. fault ≡ Fault.NoMemory) }
-    {
-        let (end, claim) = self.peer_proofs(peer_connection, peer_client, from)?;
-        Ok(ack_message(connection, peer_connection, from.height, end, claim)?)
-    }
-
-    fn conn_open_ack(
+    // What the opening of a connection needs that the peer answered.
+    fn ack_shown(
         &self,
         on: u8,
         connection: &ConnectionId,
         peer_connection: &ConnectionId,
         from: Origin,
-    ) -> Result<Option<Message>, Fault>
-        ensures made { IfOk result (MakesConnectionMessage (C.has_connection self.now.chains.now) (C.has_proof self.now.chains.now) on (connection_draft.OpenAck connection.now peer_connection.now from)) }
+    ) -> Result<Shown, Fault>
+        ensures shown { IfOk result (λ shown. AreConnectionProofs (C.answers self.now.chains.now) on (connection_draft.OpenAck connection.now peer_connection.now from) shown.end shown.claim) }
         ensures err { IfErr result (λ fault. fault ≡ Fault.NoMemory) }
     {
-        match self
-            .chains
-            .connection(on, connection)
-            .map_err(Fault::no_memory)?
-        {
+        let own = self.chains.connection(on, connection);
+        match own.map_err(Fault::no_memory)? {
             Some(own) => {
-                let made = self.conn_open_ack_of(
-                    connection,
-                    peer_connection,
-                    &own.peer_client,
-                    from,
-                );
+                let shown = self.peer_shown(from, peer_connection, &own.peer_client);
                 drop(own);
-                made
+                shown
             }
-            None => Ok(None),
+            None => Ok(nothing()),
         }
     }
 
-    fn conn_open_confirm(
-        &self,
-        on: u8,
-        connection: &ConnectionId,
-        from: Origin,
-    ) -> Result<Option<Message>, Fault>
-        ensures made { IfOk result (MakesConnectionMessage (C.has_connection self.now.chains.now) (C.has_proof self.now.chains.now) on (connection_draft.OpenConfirm connection.now from)) }
+    // What the opening of a connection needs that the peer opened.
+    fn confirm_shown(&self, on: u8, connection: &ConnectionId, from: Origin) -> Result<Shown, Fault>
+        ensures shown { IfOk result (λ shown. AreConnectionProofs (C.answers self.now.chains.now) on (connection_draft.OpenConfirm connection.now from) shown.end shown.claim) }
         ensures err { IfErr result (λ fault. fault ≡ Fault.NoMemory) }
     {
-        let own = self
-            .chains
-            .connection(on, connection)
-            .map_err(Fault::no_memory)?;
-        let Some(peer_connection) = own.and_then(|own| own.peer_connection) else {
-            return Ok(None);
-        };
-        let Some(proof) = self.proof(from, Key::Connection(peer_connection))? else {
-            return Ok(None);
-        };
-        Ok(Some(Message::ConnOpenConfirm(ConnOpenConfirm {
-            connection: connection.clone()?,
-            height: from.height,
-            proof,
-        })))
+        let own = self.chains.connection(on, connection);
+        match own.map_err(Fault::no_memory)?.and_then(peer_connection_key) {
+            Some(key) => Ok(Shown {
+                end: self.proof(from, key)?,
+                claim: None,
+            }),
+            None => Ok(nothing()),
+        }
+    }
+
+    // What a step needs.
+    fn connection_shown(&self, on: u8, draft: &ConnectionDraft) -> Result<Shown, Fault>
+        ensures shown { IfOk result (λ shown. AreConnectionProofs (C.answers self.now.chains.now) on draft.now shown.end shown.claim) }
+        ensures err { IfErr result (λ fault. fault ≡ Fault.NoMemory) }
+    {
+        match draft {
+            ConnectionDraft::OpenInit { .. } => Ok(nothing()),
+            ConnectionDraft::OpenTry {
+                peer_client,
+                peer_connection,
+                from,
+                ..
+            } => { self.peer_shown(*from, peer_connection, peer_client) }
+            ConnectionDraft::OpenAck {
+                connection,
+                peer_connection,
+                from,
+            } => { self.ack_shown(on, connection, peer_connection, *from) }
+            ConnectionDraft::OpenConfirm { connection, from } => {
+                self.confirm_shown(on, connection, *from)
+            }
+        }
     }
 
     /// The message for connections that a step of a chain sends, `None` where something that it needs isn't there.
@@ -177,32 +198,16 @@ impl<C: Chains + Drop> Completer<'_, C> {
     pub fn connection_message(
         &self,
         on: u8,
-        draft: &ConnectionDraft,
+        draft: ConnectionDraft,
     ) -> Result<Option<Message>, Fault>
-        ensures made { IfOk result (MakesConnectionMessage (C.has_connection self.now.chains.now) (C.has_proof self.now.chains.now) on draft.now) }
+        ensures made { IfOk result (MakesConnectionMessage (C.answers self.now.chains.now) on draft) }
         ensures err { IfErr result (λ fault. fault ≡ Fault.NoMemory) }
     {
-        match draft {
-            ConnectionDraft::OpenInit {
-                client,
-                peer_client,
-            } => Ok(Some(Message::ConnOpenInit(ConnOpenInit {
-                client: client.clone()?,
-                peer_client: peer_client.clone()?,
-            }))),
-            ConnectionDraft::OpenTry {
-                client,
-                peer_client,
-                peer_connection,
-                from,
-            } => self.conn_open_try(client, peer_client, peer_connection, *from),
-            ConnectionDraft::OpenAck {
-                connection,
-                peer_connection,
-                from,
-            } => self.conn_open_ack(on, connection, peer_connection, *from),
-            ConnectionDraft::OpenConfirm { connection, from } => {
-                self.conn_open_confirm(on, connection, *from)
+        match self.connection_shown(on, &draft) {
+            Ok(shown) => Ok(connection_message(draft, shown)),
+            Err(fault) => {
+                drop(draft);
+                Err(fault)
             }
         }
     }

@@ -1,9 +1,9 @@
 //! Messages for packets.
 
 ghost use Rattle.std.specs.Prelude.{◌≡◌, Some, IfOk, IfErr};
+ghost use Rattle.ibc_machine.specs.Proving.{commitment_key, ack_key, receipt_key, next_recv_key, destination_key};
 ghost use Rattle.ibc_wire.specs.declared.records.Order.TheVariants.{Unordered, Ordered};
-ghost use Rattle.ibc_script_cli.specs.Completing.{commitment_key, ack_key, receipt_key, next_recv_key, destination_key, number_in, ack_packet_message, timeout_on_close_message, IsProofAt, IsNextRecv, IsUnreceived, IsUnreceivedAt, MakesRecv, MakesAckPacket, MakesTimeout, MakesTimeoutOnClose, MakesPacketMessage};
-ghost use Rattle.ibc_script.specs.declared.draft.PacketDraft.TheVariants as packet_draft;
+ghost use Rattle.ibc_script_cli.specs.Completing.{number_in, acknowledged_message, closed_message, IsProofAt, IsNextRecv, IsUnreceived, IsUnreceivedAt, MakesRecv, MakesAck, MakesTimeout, MakesTimeoutOnClose, MakesHandled, MakesOf, MakesPacketMessage};
 
 use super::{Completer, encoding_of};
 use crate::Chains;
@@ -12,6 +12,19 @@ use ibc_merkle::{Presence, Proof};
 use ibc_script::{Fault, Origin, PacketDraft, SentPacket};
 use ibc_wire::{AckPacket, Message, Order, Packet, RecvPacket, Timeout, TimeoutOnClose};
 use std::alloc::{AllocError, Global};
+
+/// What a message does with a packet that was sent (ICS 4, "Packet flow & handling").
+#[derive(Clone, Copy)]
+pub enum Handling {
+    /// It is received.
+    Recv,
+    /// Its acknowledgement is told to the sender.
+    Ack,
+    /// The sender is told that it came too late.
+    Timeout,
+    /// The sender is told that it wasn't received, and that the peer's end is closed.
+    TimeoutOnClose,
+}
 
 /// What shows that a packet wasn't received: the sequence that is received next, 0 where the channel is unordered, and
 /// the encoding of the proof.
@@ -96,61 +109,73 @@ fn next_recv_of(alloc: Global, proof: &Proof) -> Result<Option<Unreceived>, Faul
     }
 }
 
-// The message of an acknowledgement and its proof, `None` where one of them isn't there.
-fn ack_message(
-    packet: &Packet,
-    height: u64,
+/// What shows how a packet was acknowledged: the acknowledgement that was written, and the proof of its digest.
+#[derive(Drop)]
+struct Acknowledged {
     ack: Option<Bytes>,
     proof: Option<Bytes>,
-) -> Result<Option<Message>, AllocError>
-    ensures { IfOk result (λ made. made ≡ ack_packet_message packet.now height ack proof) }
+}
+
+/// What shows that a packet won't be received any more: that it wasn't, and the proof of the peer's end.
+#[derive(Drop)]
+struct Closed {
+    unreceived: Option<Unreceived>,
+    proof: Option<Bytes>,
+}
+
+// The message of an acknowledgement, `None` where what shows it isn't there.
+fn ack_message(packet: Packet, height: u64, shown: Acknowledged) -> Option<Message>
+    ensures { result ≡ acknowledged_message packet height shown.ack shown.proof }
 {
-    match ack.zip(proof) {
-        Some((ack, proof)) => Ok(Some(Message::AckPacket(AckPacket {
-            packet: packet.clone()?,
+    match shown.ack.zip(shown.proof) {
+        Some((ack, proof)) => Some(Message::AckPacket(AckPacket {
+            packet,
             ack,
             height,
             proof,
-        }))),
-        None => Ok(None),
+        })),
+        None => {
+            drop(packet);
+            None
+        }
     }
 }
 
-// The message of a timeout on a closed channel, `None` where one of its proofs isn't there.
-fn timeout_on_close_message(
-    packet: &Packet,
-    height: u64,
-    shown: Option<Unreceived>,
-    proof_close: Option<Bytes>,
-) -> Result<Option<Message>, AllocError>
-    ensures { IfOk result (λ made. made ≡ timeout_on_close_message packet.now height shown proof_close) }
+// The message of a timeout on a closed channel, `None` where what shows it isn't there.
+fn timeout_on_close_message(packet: Packet, height: u64, shown: Closed) -> Option<Message>
+    ensures { result ≡ closed_message packet height shown.unreceived shown.proof }
 {
-    match shown.zip(proof_close) {
-        Some((shown, proof_close)) => Ok(Some(Message::TimeoutOnClose(TimeoutOnClose {
-            packet: packet.clone()?,
-            next_recv: shown.next_recv,
+    match shown.unreceived.zip(shown.proof) {
+        Some((unreceived, proof_close)) => Some(Message::TimeoutOnClose(TimeoutOnClose {
+            packet,
+            next_recv: unreceived.next_recv,
             height,
-            proof: shown.proof,
+            proof: unreceived.proof,
             proof_close,
-        }))),
-        None => Ok(None),
+        })),
+        None => {
+            drop(packet);
+            None
+        }
     }
 }
 
 impl<C: Chains + Drop> Completer<'_, C> {
     /// The packet that a step names, `None` where it wasn't sent.
-    fn sent_packet(&self, sent: &SentPacket) -> Result<Option<Packet>, Fault>
-        ensures found { IfOk result (C.has_packet self.now.chains.now sent.now.chain sent.now.port sent.now.channel sent.now.sequence) }
+    fn sent_packet(&self, sent: SentPacket) -> Result<Option<Packet>, Fault>
+        ensures found { IfOk result ((C.answers self.now.chains.now).packet sent.chain sent.port sent.channel sent.sequence) }
         ensures err { IfErr result (λ fault. fault ≡ Fault.NoMemory) }
     {
-        self.chains
-            .packet(sent.chain, &sent.port, &sent.channel, sent.sequence)
-            .map_err(Fault::no_memory)
+        let found = self
+            .chains
+            .packet(sent.chain, &sent.port, &sent.channel, sent.sequence);
+        drop(sent);
+        found.map_err(Fault::no_memory)
     }
 
     /// The acknowledgement of a packet that a chain wrote, `None` where it wrote none.
     fn written_ack(&self, chain: u8, packet: &Packet) -> Result<Option<Bytes>, Fault>
-        ensures found { IfOk result (C.has_ack self.now.chains.now chain packet.now.destination_port packet.now.destination_channel packet.now.sequence) }
+        ensures found { IfOk result ((C.answers self.now.chains.now).ack chain packet.now.destination_port packet.now.destination_channel packet.now.sequence) }
         ensures err { IfErr result (λ fault. fault ≡ Fault.NoMemory) }
     {
         self.chains
@@ -165,7 +190,7 @@ impl<C: Chains + Drop> Completer<'_, C> {
 
     /// What shows on an ordered channel that a packet wasn't received.
     fn ordered_unreceived(&self, packet: &Packet, from: Origin) -> Result<Option<Unreceived>, Fault>
-        ensures is { IfOk result (IsUnreceived (C.has_proof self.now.chains.now) from packet.now Ordered) }
+        ensures is { IfOk result (IsUnreceived (C.answers self.now.chains.now) from packet.now Ordered) }
         ensures err { IfErr result (λ fault. fault ≡ Fault.NoMemory) }
     {
         match self.found(from, next_recv_key(packet)?)? {
@@ -184,7 +209,7 @@ impl<C: Chains + Drop> Completer<'_, C> {
         packet: &Packet,
         from: Origin,
     ) -> Result<Option<Unreceived>, Fault>
-        ensures is { IfOk result (IsUnreceived (C.has_proof self.now.chains.now) from packet.now Unordered) }
+        ensures is { IfOk result (IsUnreceived (C.answers self.now.chains.now) from packet.now Unordered) }
         ensures err { IfErr result (λ fault. fault ≡ Fault.NoMemory) }
     {
         match self.proof(from, receipt_key(packet)?)? {
@@ -198,7 +223,7 @@ impl<C: Chains + Drop> Completer<'_, C> {
 
     /// What shows that a packet wasn't received, by the order of the own end, `None` where there is none.
     fn unreceived(&self, on: u8, packet: &Packet, from: Origin) -> Result<Option<Unreceived>, Fault>
-        ensures is { IfOk result (IsUnreceivedAt (C.has_channel self.now.chains.now) (C.has_proof self.now.chains.now) on from packet.now) }
+        ensures is { IfOk result (IsUnreceivedAt (C.answers self.now.chains.now) on from packet.now) }
         ensures err { IfErr result (λ fault. fault ≡ Fault.NoMemory) }
     {
         let own = self
@@ -211,35 +236,39 @@ impl<C: Chains + Drop> Completer<'_, C> {
         }
     }
 
-    fn recv_of(&self, packet: &Packet, from: Origin) -> Result<Option<Message>, Fault>
-        ensures made { IfOk result (MakesRecv (C.has_proof self.now.chains.now) from packet.now) }
+    // The proof that a packet was committed.
+    fn commitment_proof(&self, packet: &Packet, from: Origin) -> Result<Option<Bytes>, Fault>
+        ensures is { IfOk result (IsProofAt (C.answers self.now.chains.now) from (commitment_key packet.now)) }
         ensures err { IfErr result (λ fault. fault ≡ Fault.NoMemory) }
     {
-        let Some(proof) = self.proof(from, commitment_key(packet)?)? else {
-            return Ok(None);
-        };
-        Ok(Some(Message::RecvPacket(RecvPacket {
-            packet: packet.clone()?,
-            height: from.height,
-            proof,
-        })))
+        self.proof(from, commitment_key(packet)?)
     }
 
     // The proof of what a packet's destination has of its acknowledgement.
     fn ack_proof(&self, packet: &Packet, from: Origin) -> Result<Option<Bytes>, Fault>
-        ensures is { IfOk result (IsProofAt (C.has_proof self.now.chains.now) from (ack_key packet.now)) }
+        ensures is { IfOk result (IsProofAt (C.answers self.now.chains.now) from (ack_key packet.now)) }
         ensures err { IfErr result (λ fault. fault ≡ Fault.NoMemory) }
     {
         self.proof(from, ack_key(packet)?)
     }
 
-    fn ack_of(&self, packet: &Packet, from: Origin) -> Result<Option<Message>, Fault>
-        ensures made { IfOk result (MakesAckPacket (C.has_ack self.now.chains.now) (C.has_proof self.now.chains.now) from packet.now) }
+    // The proof of the end of a packet's destination.
+    fn close_proof(&self, packet: &Packet, from: Origin) -> Result<Option<Bytes>, Fault>
+        ensures is { IfOk result (IsProofAt (C.answers self.now.chains.now) from (destination_key packet.now)) }
+        ensures err { IfErr result (λ fault. fault ≡ Fault.NoMemory) }
+    {
+        self.proof(from, destination_key(packet)?)
+    }
+
+    // What shows how a packet was acknowledged.
+    fn acknowledged(&self, packet: &Packet, from: Origin) -> Result<Acknowledged, Fault>
+        ensures ack { IfOk result (λ shown. (C.answers self.now.chains.now).ack from.chain packet.now.destination_port packet.now.destination_channel packet.now.sequence shown.ack) }
+        ensures proof { IfOk result (λ shown. IsProofAt (C.answers self.now.chains.now) from (ack_key packet.now) shown.proof) }
         ensures err { IfErr result (λ fault. fault ≡ Fault.NoMemory) }
     {
         let ack = self.written_ack(from.chain, packet)?;
         match self.ack_proof(packet, from) {
-            Ok(proof) => Ok(ack_message(packet, from.height, ack, proof)?),
+            Ok(proof) => Ok(Acknowledged { ack, proof }),
             Err(fault) => {
                 drop(ack);
                 Err(fault)
@@ -247,130 +276,159 @@ impl<C: Chains + Drop> Completer<'_, C> {
         }
     }
 
-    fn timeout_of(&self, on: u8, packet: &Packet, from: Origin) -> Result<Option<Message>, Fault>
-        ensures made { IfOk result (MakesTimeout (C.has_channel self.now.chains.now) (C.has_proof self.now.chains.now) on from packet.now) }
+    // What shows that a packet won't be received any more.
+    fn closed(&self, on: u8, packet: &Packet, from: Origin) -> Result<Closed, Fault>
+        ensures unreceived { IfOk result (λ shown. IsUnreceivedAt (C.answers self.now.chains.now) on from packet.now shown.unreceived) }
+        ensures proof { IfOk result (λ shown. IsProofAt (C.answers self.now.chains.now) from (destination_key packet.now) shown.proof) }
         ensures err { IfErr result (λ fault. fault ≡ Fault.NoMemory) }
     {
-        let Some(shown) = self.unreceived(on, packet, from)? else {
-            return Ok(None);
-        };
-        Ok(Some(Message::Timeout(Timeout {
-            packet: packet.clone()?,
-            next_recv: shown.next_recv,
-            height: from.height,
-            proof: shown.proof,
-        })))
-    }
-
-    // The proof of the end of a packet's destination.
-    fn close_proof(&self, packet: &Packet, from: Origin) -> Result<Option<Bytes>, Fault>
-        ensures is { IfOk result (IsProofAt (C.has_proof self.now.chains.now) from (destination_key packet.now)) }
-        ensures err { IfErr result (λ fault. fault ≡ Fault.NoMemory) }
-    {
-        self.proof(from, destination_key(packet)?)
-    }
-
-    fn timeout_on_close_of(
-        &self,
-        on: u8,
-        packet: &Packet,
-        from: Origin,
-    ) -> Result<Option<Message>, Fault>
-        ensures made { IfOk result (MakesTimeoutOnClose (C.has_channel self.now.chains.now) (C.has_proof self.now.chains.now) on from packet.now) }
-        ensures err { IfErr result (λ fault. fault ≡ Fault.NoMemory) }
-    {
-        let shown = self.unreceived(on, packet, from)?;
+        let unreceived = self.unreceived(on, packet, from)?;
         match self.close_proof(packet, from) {
-            Ok(close) => Ok(timeout_on_close_message(packet, from.height, shown, close)?),
+            Ok(proof) => Ok(Closed { unreceived, proof }),
             Err(fault) => {
-                drop(shown);
+                drop(unreceived);
                 Err(fault)
             }
         }
     }
 
-    fn recv_packet(&self, sent: &SentPacket, height: u64) -> Result<Option<Message>, Fault>
-        ensures made { IfOk result (MakesPacketMessage (C.has_channel self.now.chains.now) (C.has_packet self.now.chains.now) (C.has_ack self.now.chains.now) (C.has_proof self.now.chains.now) 0 (packet_draft.Recv sent.now height)) }
+    fn recv_packet(&self, packet: Packet, from: Origin) -> Result<Option<Message>, Fault>
+        ensures made { IfOk result (MakesRecv (C.answers self.now.chains.now) from packet) }
         ensures err { IfErr result (λ fault. fault ≡ Fault.NoMemory) }
     {
-        let from = Origin {
-            chain: sent.chain,
-            height,
-        };
-        match self.sent_packet(sent)? {
-            Some(packet) => {
-                let made = self.recv_of(&packet, from);
+        match self.commitment_proof(&packet, from) {
+            Ok(Some(proof)) => Ok(Some(Message::RecvPacket(RecvPacket {
+                packet,
+                height: from.height,
+                proof,
+            }))),
+            Ok(None) => {
                 drop(packet);
-                made
+                Ok(None)
             }
-            None => Ok(None),
+            Err(fault) => {
+                drop(packet);
+                Err(fault)
+            }
         }
     }
 
-    fn ack_packet(&self, sent: &SentPacket, from: Origin) -> Result<Option<Message>, Fault>
-        ensures made { IfOk result (MakesPacketMessage (C.has_channel self.now.chains.now) (C.has_packet self.now.chains.now) (C.has_ack self.now.chains.now) (C.has_proof self.now.chains.now) 0 (packet_draft.Ack sent.now from)) }
+    fn ack_packet(&self, packet: Packet, from: Origin) -> Result<Option<Message>, Fault>
+        ensures made { IfOk result (MakesAck (C.answers self.now.chains.now) from packet) }
         ensures err { IfErr result (λ fault. fault ≡ Fault.NoMemory) }
     {
-        match self.sent_packet(sent)? {
-            Some(packet) => {
-                let made = self.ack_of(&packet, from);
+        match self.acknowledged(&packet, from) {
+            Ok(shown) => Ok(ack_message(packet, from.height, shown)),
+            Err(fault) => {
                 drop(packet);
-                made
+                Err(fault)
             }
-            None => Ok(None),
         }
     }
 
-    fn timeout(&self, on: u8, sent: &SentPacket, from: Origin) -> Result<Option<Message>, Fault>
-        ensures made { IfOk result (MakesPacketMessage (C.has_channel self.now.chains.now) (C.has_packet self.now.chains.now) (C.has_ack self.now.chains.now) (C.has_proof self.now.chains.now) on (packet_draft.Timeout sent.now from)) }
+    fn timeout(&self, on: u8, packet: Packet, from: Origin) -> Result<Option<Message>, Fault>
+        ensures made { IfOk result (MakesTimeout (C.answers self.now.chains.now) on from packet) }
         ensures err { IfErr result (λ fault. fault ≡ Fault.NoMemory) }
     {
-        match self.sent_packet(sent)? {
-            Some(packet) => {
-                let made = self.timeout_of(on, &packet, from);
+        match self.unreceived(on, &packet, from) {
+            Ok(Some(shown)) => Ok(Some(Message::Timeout(Timeout {
+                packet,
+                next_recv: shown.next_recv,
+                height: from.height,
+                proof: shown.proof,
+            }))),
+            Ok(None) => {
                 drop(packet);
-                made
+                Ok(None)
             }
-            None => Ok(None),
+            Err(fault) => {
+                drop(packet);
+                Err(fault)
+            }
         }
     }
 
     fn timeout_on_close(
         &self,
         on: u8,
-        sent: &SentPacket,
+        packet: Packet,
         from: Origin,
     ) -> Result<Option<Message>, Fault>
-        ensures made { IfOk result (MakesPacketMessage (C.has_channel self.now.chains.now) (C.has_packet self.now.chains.now) (C.has_ack self.now.chains.now) (C.has_proof self.now.chains.now) on (packet_draft.TimeoutOnClose sent.now from)) }
+        ensures made { IfOk result (MakesTimeoutOnClose (C.answers self.now.chains.now) on from packet) }
+        ensures err { IfErr result (λ fault. fault ≡ Fault.NoMemory) }
+    {
+        match self.closed(on, &packet, from) {
+            Ok(shown) => Ok(timeout_on_close_message(packet, from.height, shown)),
+            Err(fault) => {
+                drop(packet);
+                Err(fault)
+            }
+        }
+    }
+
+    // The message that handles a packet with proofs of a height.
+    fn handled(
+        &self,
+        on: u8,
+        handling: Handling,
+        packet: Packet,
+        from: Origin,
+    ) -> Result<Option<Message>, Fault>
+        ensures made { IfOk result (MakesHandled (C.answers self.now.chains.now) on handling from packet) }
+        ensures err { IfErr result (λ fault. fault ≡ Fault.NoMemory) }
+    {
+        match handling {
+            Handling::Recv => self.recv_packet(packet, from),
+            Handling::Ack => self.ack_packet(packet, from),
+            Handling::Timeout => self.timeout(on, packet, from),
+            Handling::TimeoutOnClose => self.timeout_on_close(on, packet, from),
+        }
+    }
+
+    // The message that handles the packet that a step names, `None` where it wasn't sent.
+    fn handled_if_sent(
+        &self,
+        on: u8,
+        handling: Handling,
+        sent: SentPacket,
+        from: Origin,
+    ) -> Result<Option<Message>, Fault>
+        ensures made { IfOk result (MakesOf (C.answers self.now.chains.now) sent (MakesHandled (C.answers self.now.chains.now) on handling from)) }
         ensures err { IfErr result (λ fault. fault ≡ Fault.NoMemory) }
     {
         match self.sent_packet(sent)? {
-            Some(packet) => {
-                let made = self.timeout_on_close_of(on, &packet, from);
-                drop(packet);
-                made
-            }
+            Some(packet) => self.handled(on, handling, packet, from),
             None => Ok(None),
         }
     }
 
     /// The message for packets that a step of a chain sends, `None` where something that it needs isn't there.
     /// Fault: `NoMemory`.
-    pub fn packet_message(&self, on: u8, draft: &PacketDraft) -> Result<Option<Message>, Fault>
-        ensures made { IfOk result (MakesPacketMessage (C.has_channel self.now.chains.now) (C.has_packet self.now.chains.now) (C.has_ack self.now.chains.now) (C.has_proof self.now.chains.now) on draft.now) }
+    pub fn packet_message(&self, on: u8, draft: PacketDraft) -> Result<Option<Message>, Fault>
+        ensures made { IfOk result (MakesPacketMessage (C.answers self.now.chains.now) on draft) }
         ensures err { IfErr result (λ fault. fault ≡ Fault.NoMemory) }
     {
         match draft {
-            PacketDraft::Transfer(message) => Ok(Some(Message::Transfer(message.clone()?))),
-            PacketDraft::TransferMany(transfer) => {
-                Ok(Some(Message::TransferMany(transfer.message.clone()?)))
+            PacketDraft::Transfer(message) => Ok(Some(Message::Transfer(message))),
+            PacketDraft::TransferMany(transfer) => Ok(Some(Message::TransferMany(
+                transfer.message,
+            ))),
+            PacketDraft::SendNote(message) => Ok(Some(Message::SendNote(message))),
+            PacketDraft::Recv { packet, height } => {
+                let from = Origin {
+                    chain: packet.chain,
+                    height,
+                };
+                self.handled_if_sent(on, Handling::Recv, packet, from)
             }
-            PacketDraft::SendNote(message) => Ok(Some(Message::SendNote(message.clone()?))),
-            PacketDraft::Recv { packet, height } => self.recv_packet(packet, *height),
-            PacketDraft::Ack { packet, from } => self.ack_packet(packet, *from),
-            PacketDraft::Timeout { packet, from } => self.timeout(on, packet, *from),
+            PacketDraft::Ack { packet, from } => {
+                self.handled_if_sent(on, Handling::Ack, packet, from)
+            }
+            PacketDraft::Timeout { packet, from } => {
+                self.handled_if_sent(on, Handling::Timeout, packet, from)
+            }
             PacketDraft::TimeoutOnClose { packet, from } => {
-                self.timeout_on_close(on, packet, *from)
+                self.handled_if_sent(on, Handling::TimeoutOnClose, packet, from)
             }
         }
     }

@@ -1,17 +1,17 @@
 //! The messages of the turns of an `open`.
 
-ghost use Rattle.std.specs.Prelude.{◌≡◌, Some, IfOk, IfErr};
-ghost use Rattle.ibc_script.specs.declared.draft.ChannelDraft.TheVariants as channel;
-ghost use Rattle.ibc_script.specs.declared.draft.Draft.TheVariants as draft;
-ghost use Rattle.ibc_script_cli.specs.Opening.{update_draft, init_draft, try_draft, ack_draft, confirm_draft, channel_init_draft, channel_try_draft, channel_ack_draft, channel_confirm_draft, channel_try_of, channel_ack_of, origin_of, draft_of};
+ghost use Rattle.std.specs.Prelude.{◌≡◌, IfOk, IfErr};
+ghost use Rattle.std.specs.Option.{option_zip};
+ghost use Rattle.ibc_script.specs.Applications.{port_of, version_of};
+ghost use Rattle.ibc_script_cli.specs.Opening.{update_draft, init_draft, try_draft, ack_draft, confirm_draft, channel_init_draft, channel_try_draft, channel_ack_draft, channel_confirm_draft, draft_of};
 
 use super::Party;
-use ibc_ids::{ChannelId, ConnectionId};
+use ibc_ids::{Kind, Name, PortId, Version};
 use ibc_script::{
     Application, ChannelDraft, ChannelTry, ClientDraft, ConnectionDraft, Draft, Fault,
 };
 use ibc_wire::{ChanOpenInit, MessageKind};
-use std::alloc::Global;
+use std::alloc::{AllocError, Global};
 
 /// What a message of an `open` is made of: the application, the chain that it is sent to, and the other one.
 #[derive(Clone, Copy)]
@@ -20,6 +20,27 @@ pub struct Drafting<'p> {
     pub application: Application,
     pub own: &'p Party,
     pub peer: &'p Party,
+}
+
+/// What the two ends of an application's channel agree on.
+#[derive(Drop)]
+struct Terms {
+    port: PortId,
+    peer_port: PortId,
+    version: Version,
+}
+
+/// Copies of two names, `None` where one of them isn't there.
+fn both<K: Kind, L: Kind>(
+    first: &Option<Name<K>>,
+    second: &Option<Name<L>>,
+) -> Result<Option<(Name<K>, Name<L>)>, AllocError>
+    ensures { IfOk result (λ names. names ≡ option_zip first.now second.now) }
+{
+    let (Some(first), Some(second)) = (first, second) else {
+        return Ok(None);
+    };
+    Ok(Some((first.clone()?, second.clone()?)))
 }
 
 impl Drafting<'_> {
@@ -40,48 +61,49 @@ impl Drafting<'_> {
         ensures made { IfOk result (λ made. made ≡ init_draft self.now.own.now self.now.peer.now) }
         ensures memory { IfErr result (λ fault. fault ≡ Fault.NoMemory) }
     {
-        let (Some(client), Some(peer_client)) = (&self.own.client, &self.peer.client) else {
-            return Ok(None);
-        };
-        Ok(Some(Draft::Connection(ConnectionDraft::OpenInit {
-            client: client.clone()?,
-            peer_client: peer_client.clone()?,
-        })))
+        match both(&self.own.client, &self.peer.client)? {
+            Some((client, peer_client)) => {
+                Ok(Some(Draft::Connection(ConnectionDraft::OpenInit {
+                    client,
+                    peer_client,
+                })))
+            }
+            None => Ok(None),
+        }
     }
 
     fn conn_open_try(&self) -> Result<Option<Draft>, Fault>
         ensures made { IfOk result (λ made. made ≡ try_draft self.now.own.now self.now.peer.now) }
         ensures memory { IfErr result (λ fault. fault ≡ Fault.NoMemory) }
     {
-        let (Some(client), Some(peer_client)) = (&self.own.client, &self.peer.client) else {
-            return Ok(None);
-        };
         let Some(peer_connection) = &self.peer.connection else {
             return Ok(None);
         };
-        Ok(Some(Draft::Connection(ConnectionDraft::OpenTry {
-            client: client.clone()?,
-            peer_client: peer_client.clone()?,
-            peer_connection: peer_connection.clone()?,
-            from: self.peer.origin(),
-        })))
+        match both(&self.own.client, &self.peer.client)? {
+            Some((client, peer_client)) => Ok(Some(Draft::Connection(ConnectionDraft::OpenTry {
+                client,
+                peer_client,
+                peer_connection: peer_connection.clone()?,
+                from: self.peer.origin(),
+            }))),
+            None => Ok(None),
+        }
     }
 
     fn conn_open_ack(&self) -> Result<Option<Draft>, Fault>
         ensures made { IfOk result (λ made. made ≡ ack_draft self.now.own.now self.now.peer.now) }
         ensures memory { IfErr result (λ fault. fault ≡ Fault.NoMemory) }
     {
-        let (Some(connection), Some(peer_connection)) = (
-            &self.own.connection,
-            &self.peer.connection,
-        ) else {
-            return Ok(None);
-        };
-        Ok(Some(Draft::Connection(ConnectionDraft::OpenAck {
-            connection: connection.clone()?,
-            peer_connection: peer_connection.clone()?,
-            from: self.peer.origin(),
-        })))
+        match both(&self.own.connection, &self.peer.connection)? {
+            Some((connection, peer_connection)) => {
+                Ok(Some(Draft::Connection(ConnectionDraft::OpenAck {
+                    connection,
+                    peer_connection,
+                    from: self.peer.origin(),
+                })))
+            }
+            None => Ok(None),
+        }
     }
 
     fn conn_open_confirm(&self) -> Result<Option<Draft>, Fault>
@@ -97,6 +119,20 @@ impl Drafting<'_> {
         })))
     }
 
+    // What the two ends of the application's channel agree on.
+    fn terms(&self) -> Result<Terms, Fault>
+        ensures port { IfOk result (λ terms. terms.port ≡ port_of self.now.application) }
+        ensures peer_port { IfOk result (λ terms. terms.peer_port ≡ port_of self.now.application) }
+        ensures version { IfOk result (λ terms. terms.version ≡ version_of self.now.application) }
+        ensures memory { IfErr result (λ fault. fault ≡ Fault.NoMemory) }
+    {
+        Ok(Terms {
+            port: self.application.port(self.alloc)?,
+            peer_port: self.application.port(self.alloc)?,
+            version: self.application.version(self.alloc)?,
+        })
+    }
+
     fn chan_open_init(&self) -> Result<Option<Draft>, Fault>
         ensures made { IfOk result (λ made. made ≡ channel_init_draft self.now.application self.now.own.now) }
         ensures memory { IfErr result (λ fault. fault ≡ Fault.NoMemory) }
@@ -104,73 +140,50 @@ impl Drafting<'_> {
         let Some(connection) = &self.own.connection else {
             return Ok(None);
         };
-        let message = ChanOpenInit {
-            port: self.application.port(self.alloc)?,
+        let connection = connection.clone()?;
+        let terms = self.terms()?;
+        Ok(Some(Draft::Channel(ChannelDraft::OpenInit(ChanOpenInit {
+            port: terms.port,
             order: self.application.order(),
-            connection: connection.clone()?,
-            peer_port: self.application.port(self.alloc)?,
-            version: self.application.version(self.alloc)?,
-        };
-        Ok(Some(Draft::Channel(ChannelDraft::OpenInit(message))))
-    }
-
-    // The answer to the peer's end of a channel, on a connection.
-    fn channel_try(
-        &self,
-        connection: &ConnectionId,
-        peer_channel: &ChannelId,
-    ) -> Result<ChannelTry, Fault>
-        ensures made { IfOk result (λ made. Some (draft.Channel (channel.OpenTry made)) ≡ channel_try_of self.now.application (origin_of self.now.peer.now) (Some connection.now) (Some peer_channel.now)) }
-        ensures memory { IfErr result (λ fault. fault ≡ Fault.NoMemory) }
-    {
-        Ok(ChannelTry {
-            port: self.application.port(self.alloc)?,
-            order: self.application.order(),
-            connection: connection.clone()?,
-            peer_port: self.application.port(self.alloc)?,
-            peer_channel: peer_channel.clone()?,
-            version: self.application.version(self.alloc)?,
-            from: self.peer.origin(),
-        })
+            connection,
+            peer_port: terms.peer_port,
+            version: terms.version,
+        }))))
     }
 
     fn chan_open_try(&self) -> Result<Option<Draft>, Fault>
         ensures made { IfOk result (λ made. made ≡ channel_try_draft self.now.application self.now.own.now self.now.peer.now) }
         ensures memory { IfErr result (λ fault. fault ≡ Fault.NoMemory) }
     {
-        let (Some(connection), Some(peer_channel)) = (&self.own.connection, &self.peer.channel)
+        let Some((connection, peer_channel)) = both(&self.own.connection, &self.peer.channel)?
         else {
             return Ok(None);
         };
-        let draft = self.channel_try(connection, peer_channel)?;
-        Ok(Some(Draft::Channel(ChannelDraft::OpenTry(draft))))
-    }
-
-    // The opening of a channel whose peer's end is known.
-    fn channel_ack(
-        &self,
-        channel: &ChannelId,
-        peer_channel: &ChannelId,
-    ) -> Result<ChannelDraft, Fault>
-        ensures made { IfOk result (λ made. Some (draft.Channel made) ≡ channel_ack_of self.now.application (origin_of self.now.peer.now) (Some channel.now) (Some peer_channel.now)) }
-        ensures memory { IfErr result (λ fault. fault ≡ Fault.NoMemory) }
-    {
-        Ok(ChannelDraft::OpenAck {
-            port: self.application.port(self.alloc)?,
-            channel: channel.clone()?,
-            peer_channel: peer_channel.clone()?,
+        let terms = self.terms()?;
+        Ok(Some(Draft::Channel(ChannelDraft::OpenTry(ChannelTry {
+            port: terms.port,
+            order: self.application.order(),
+            connection,
+            peer_port: terms.peer_port,
+            peer_channel,
+            version: terms.version,
             from: self.peer.origin(),
-        })
+        }))))
     }
 
     fn chan_open_ack(&self) -> Result<Option<Draft>, Fault>
         ensures made { IfOk result (λ made. made ≡ channel_ack_draft self.now.application self.now.own.now self.now.peer.now) }
         ensures memory { IfErr result (λ fault. fault ≡ Fault.NoMemory) }
     {
-        let (Some(channel), Some(peer_channel)) = (&self.own.channel, &self.peer.channel) else {
+        let Some((channel, peer_channel)) = both(&self.own.channel, &self.peer.channel)? else {
             return Ok(None);
         };
-        Ok(Some(Draft::Channel(self.channel_ack(channel, peer_channel)?)))
+        Ok(Some(Draft::Channel(ChannelDraft::OpenAck {
+            port: self.application.port(self.alloc)?,
+            channel,
+            peer_channel,
+            from: self.peer.origin(),
+        })))
     }
 
     fn chan_open_confirm(&self) -> Result<Option<Draft>, Fault>
