@@ -1,6 +1,6 @@
 //! The fields of messages in the order in which they are spelled, behind the message's tag.
 
-use ibc_script::EventKind;
+use ibc_wire::MessageKind;
 
 /// How a field is spelled.
 #[derive(Clone, Copy, Debug, PartialEq, Eq, Drop)]
@@ -111,19 +111,19 @@ const TIMEOUT_ON_CLOSE: &[Field] = &[
 
 /// The fields of a message of a packet are those of the packet, and these behind them; those of another message are these
 /// alone. There are none of messages without proofs, but of an `UpdateClient`.
-pub fn fields_of(kind: EventKind) -> (&'static [Field], &'static [Field]) {
+pub fn fields_of(kind: MessageKind) -> (&'static [Field], &'static [Field]) {
     match kind {
-        EventKind::UpdateClient => (&[], UPDATE_CLIENT),
-        EventKind::ConnOpenTry => (&[], CONN_OPEN_TRY),
-        EventKind::ConnOpenAck => (&[], CONN_OPEN_ACK),
-        EventKind::ConnOpenConfirm => (&[], CONN_OPEN_CONFIRM),
-        EventKind::ChanOpenTry => (&[], CHAN_OPEN_TRY),
-        EventKind::ChanOpenAck => (&[], CHAN_OPEN_ACK),
-        EventKind::ChanOpenConfirm | EventKind::ChanCloseConfirm => (&[], CHAN_CONFIRM),
-        EventKind::RecvPacket => (PACKET, RECV_PACKET),
-        EventKind::AckPacket => (PACKET, ACK_PACKET),
-        EventKind::Timeout => (PACKET, TIMEOUT),
-        EventKind::TimeoutOnClose => (PACKET, TIMEOUT_ON_CLOSE),
+        MessageKind::UpdateClient => (&[], UPDATE_CLIENT),
+        MessageKind::ConnOpenTry => (&[], CONN_OPEN_TRY),
+        MessageKind::ConnOpenAck => (&[], CONN_OPEN_ACK),
+        MessageKind::ConnOpenConfirm => (&[], CONN_OPEN_CONFIRM),
+        MessageKind::ChanOpenTry => (&[], CHAN_OPEN_TRY),
+        MessageKind::ChanOpenAck => (&[], CHAN_OPEN_ACK),
+        MessageKind::ChanOpenConfirm | MessageKind::ChanCloseConfirm => (&[], CHAN_CONFIRM),
+        MessageKind::RecvPacket => (PACKET, RECV_PACKET),
+        MessageKind::AckPacket => (PACKET, ACK_PACKET),
+        MessageKind::Timeout => (PACKET, TIMEOUT),
+        MessageKind::TimeoutOnClose => (PACKET, TIMEOUT_ON_CLOSE),
         _ => (&[], &[]),
     }
 }

@@ -7,10 +7,9 @@ use crate::spelled::Spelled;
 use ibc_ids::{Account, Bytes, ChannelId, ClientId, ConnectionId, Denom, Key, PortId, Refusal};
 use ibc_machine::{Effect, Event, Genesis, Reply};
 use ibc_merkle::Proof;
-use ibc_script::EventKind;
 use ibc_script_cli::{Chains, Worlds};
 use ibc_script_worlds::{Ledgers, NewWorlds};
-use ibc_wire::{ChannelEnd, ClientState, ConnectionEnd, Message, Packet};
+use ibc_wire::{ChannelEnd, ClientState, ConnectionEnd, Message, MessageKind, Packet};
 use std::alloc::Global;
 
 /// Makes the world of a genesis, and has it sent these groups of forgeries, which stand in the order of the messages that they
@@ -28,7 +27,7 @@ pub struct ForgedChains<'l> {
     alloc: Global,
     groups: &'l [Group<'l>],
     log: &'l Log,
-    seen: Vec<EventKind>,
+    seen: Vec<MessageKind>,
     ledgers: Ledgers,
 }
 
@@ -156,7 +155,7 @@ impl<'l> ForgedChains<'l> {
 
     // Sends the forgeries of a message that is about to be sent.
     fn forge(&mut self, chain: u8, message: &Message) -> Result<(), Refusal> {
-        let kind = EventKind::of_message(message);
+        let kind = message.kind();
         self.seen.push(kind)?;
         let number = self.seen.iter().filter(|seen| **seen == kind).count();
         for group in self.groups.iter().skip(self.log.sent()) {

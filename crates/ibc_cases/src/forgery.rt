@@ -5,8 +5,8 @@
 use crate::spelled::Spelled;
 use ibc_codec::encode;
 use ibc_ids::{Key, Refusal};
-use ibc_script::EventKind;
 use ibc_script_cli::Chains;
+use ibc_wire::MessageKind;
 use std::alloc::{AllocError, Global};
 
 /// Forgeries of one message.
@@ -35,7 +35,7 @@ impl<'t> Group<'t> {
     }
 
     /// Whether it forges the message of this kind that has this number.
-    pub fn is_of(&self, kind: EventKind, number: usize) -> bool {
+    pub fn is_of(&self, kind: MessageKind, number: usize) -> bool {
         self.kind == kind.name() && self.number == number
     }
 }

@@ -3,14 +3,13 @@
 use crate::fields::{Form, fields_of};
 use ibc_ids::Refusal;
 use ibc_message_codec::{decode, encode};
-use ibc_script::EventKind;
-use ibc_wire::Message;
+use ibc_wire::{Message, MessageKind};
 use std::alloc::{AllocError, Global};
 
 /// A message as it is spelled.
 #[derive(Drop)]
 pub struct Spelled {
-    kind: EventKind,
+    kind: MessageKind,
     bytes: Vec<u8>,
 }
 
@@ -62,7 +61,7 @@ impl Spelled {
     /// How a message is spelled. Refused: `NoMemory`, and `BadMessage` where it has no spelling.
     pub fn of(alloc: Global, message: &Message) -> Result<Spelled, Refusal> {
         Ok(Spelled {
-            kind: EventKind::of_message(message),
+            kind: message.kind(),
             bytes: encode(alloc, message)?,
         })
     }
