@@ -49,9 +49,4 @@ module _ (evidence : Evidence) (host : Host) (core : Core) (orderly : IsOrderly 
   core_message_burns_nothing (message.ChanCloseInit m) _ = of_core (chan_close_init_burnt evidence host core orderly _ m)
   core_message_burns_nothing (message.ChanCloseConfirm m) _ = of_core (chan_close_confirm_burnt evidence host core orderly m)
   core_message_burns_nothing (message.SendNote m) _ = of_core (send_note_burnt evidence host core orderly m)
-  core_message_burns_nothing (message.Transfer m) other = absurd other
-  core_message_burns_nothing (message.TransferMany m) other = absurd other
-  core_message_burns_nothing (message.RecvPacket m) other = absurd other
-  core_message_burns_nothing (message.AckPacket m) other = absurd other
-  core_message_burns_nothing (message.Timeout m) other = absurd other
-  core_message_burns_nothing (message.TimeoutOnClose m) other = absurd other
+  core_message_burns_nothing m other = absurd other

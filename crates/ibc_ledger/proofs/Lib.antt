@@ -1,4 +1,3 @@
-pub mod SeenMore
 pub mod OwnEntries
 pub mod Growing
 pub mod Entries

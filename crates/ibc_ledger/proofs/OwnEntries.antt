@@ -12,9 +12,9 @@ use Rattle.ibc_machine.specs.declared.reply.Reply.{Reply}
 use Rattle.ibc_machine.specs.Genesis.{GenesisState}
 use Rattle.ibc_machine.specs.Replay.{LedgerState, StampedEntry, entry_answer, replay, met_states}
 use Rattle.ibc_machine.specs.Ledgers.{Ledger, IsOwnEntry, IsReading, IsOwnBlock, AreRising, header_in, reading_fits, is_accepted_block, keeps_a_stamp}
+use Rattle.ibc_machine.proofs.SeenMore.{entry_stays}
 use Rattle.ibc_root_table.proofs.Beginnings.{prefix_get}
 use Rattle.ibc_root_table.proofs.Growing.{height_among-stays}
-use Rattle.ibc_ledger.proofs.SeenMore.{entry_stays}
 
 -- ---- with more publications
 

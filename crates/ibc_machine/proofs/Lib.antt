@@ -5,6 +5,7 @@ pub mod PacketScripts
 mod PublishedHeights
 mod WindowOfHeights
 pub mod Members
+pub mod SeenMore
 pub mod Identifiers
 pub mod FiniteMaps
 pub mod SortedMaps

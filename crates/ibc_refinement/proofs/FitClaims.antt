@@ -124,9 +124,6 @@ back : (S : Text → Type 0) (xs ys : List Text) → AreHashed S (xs ++ ys) → 
 back S xs ys h x i = h x (in_right x xs ys i)
 
 pub asks_fit : (S : Text → Type 0) (core : Core) (m : Message) → IsTyped core → IsTypedMessage m → AreHashed S (message_texts m) → AllAsked (IsFitClaim S) core m
-asks_fit S core (message.CreateClient m) typed t h = tt
-asks_fit S core (message.UpdateClient m) typed t h = tt
-asks_fit S core (message.ConnOpenInit m) typed t h = tt
 asks_fit S core (message.ConnOpenTry m) typed t h = (
   connection_fit S m.peer_connection (connection_end conn.Init m.peer_client m.client None) m.proof_end t.2 (record { client = t.1; peer_client = t.0; peer = tt }) t.5
       (front S (delivered m.proof_end) (delivered m.proof_client) h),
@@ -149,7 +146,6 @@ asks_fit S core (message.ConnOpenConfirm m) typed t h = λ mine peer is named.
 
     peer_is : (mine : ConnectionEnd) (peer : Text) → IsTypedConnection mine → mine.peer_connection ≡ Some peer → is_connection peer ≡ true
     peer_is mine peer c named = by_init _ peer (subst (IsNamedPeer is_connection _) named c.peer)
-asks_fit S core (message.ChanOpenInit m) typed t h = tt
 asks_fit S core (message.ChanOpenTry m) typed t h =
     channel_fit S core (channel_end TryOpen m.order m.peer_port (Some m.peer_channel) m.connection m.version) m.peer_channel m.port None Init m.proof typed t.2 t.3 t.0 tt
     (short_version m.version t.4) t.5 h
@@ -161,15 +157,11 @@ asks_fit S core (message.ChanOpenConfirm m) typed t h = λ mine is state.
     let c = channel_typed core m.port m.channel mine typed is in
     channel_fit S core mine.end (peer_channel_of mine.end) m.port (Some m.channel) Open m.proof typed c.value.end.peer_port
     (peer_named mine.end c.value.end (not_init _ 2 refl state)) t.0 (short_name m.channel t.1) (short_version mine.end.version c.value.end.version) t.2 h
-asks_fit S core (message.ChanCloseInit m) typed t h = tt
 asks_fit S core (message.ChanCloseConfirm m) typed t h = λ mine is state.
     let c = channel_typed core m.port m.channel mine typed is in
     let other : eqb (channel_state_number mine.end.state) 1 ≡ false = elim (or_cases (is_in_state TryOpen mine) (is_in_state Open mine) state) [ inl s ↦ not_init _ 2 refl s | inr s ↦ not_init _ 3 refl s ] in
     channel_fit S core mine.end (peer_channel_of mine.end) m.port (Some m.channel) Closed m.proof typed c.value.end.peer_port
     (peer_named mine.end c.value.end other) t.0 (short_name m.channel t.1) (short_version mine.end.version c.value.end.version) t.2 h
-asks_fit S core (message.Transfer m) typed t h = tt
-asks_fit S core (message.TransferMany m) typed t h = tt
-asks_fit S core (message.SendNote m) typed t h = tt
 asks_fit S core (message.RecvPacket m) typed t h =
     let p = m.packet in
     let texts = front S (packet_texts p) (delivered m.proof) h in
@@ -191,3 +183,4 @@ asks_fit S core (message.TimeoutOnClose m) typed t h = λ mine is.
           (short_name p.source_channel t.0.source_channel) (short_version mine.end.version c.value.end.version) t.3
           (back S (packet_texts p ++ delivered m.proof) (delivered m.proof_close) h),
     )
+asks_fit S core m typed t h = tt

@@ -23,25 +23,18 @@ use Rattle.ibc_refinement.proofs.FitClaims.{AreHashed, asks_fit}
 
 -- what is asked, for a weaker word
 pub asked_weaker : (asked other : Asked) (core : Core) (m : Message) → ((claim : Claim) (bytes : Text) → asked claim bytes → other claim bytes) → AllAsked asked core m → AllAsked other core m
-asked_weaker asked other core (message.CreateClient m) f a = tt
-asked_weaker asked other core (message.UpdateClient m) f a = tt
-asked_weaker asked other core (message.ConnOpenInit m) f a = tt
 asked_weaker asked other core (message.ConnOpenTry m) f a = (f _ _ a.0, f _ _ a.1)
 asked_weaker asked other core (message.ConnOpenAck m) f a = λ mine is. (f _ _ (a mine is).0, f _ _ (a mine is).1)
 asked_weaker asked other core (message.ConnOpenConfirm m) f a = λ mine peer is named. f _ _ (a mine peer is named)
-asked_weaker asked other core (message.ChanOpenInit m) f a = tt
 asked_weaker asked other core (message.ChanOpenTry m) f a = f _ _ a
 asked_weaker asked other core (message.ChanOpenAck m) f a = λ mine is. f _ _ (a mine is)
 asked_weaker asked other core (message.ChanOpenConfirm m) f a = λ mine is state. f _ _ (a mine is state)
-asked_weaker asked other core (message.ChanCloseInit m) f a = tt
 asked_weaker asked other core (message.ChanCloseConfirm m) f a = λ mine is state. f _ _ (a mine is state)
-asked_weaker asked other core (message.Transfer m) f a = tt
-asked_weaker asked other core (message.TransferMany m) f a = tt
-asked_weaker asked other core (message.SendNote m) f a = tt
 asked_weaker asked other core (message.RecvPacket m) f a = f _ _ a
 asked_weaker asked other core (message.AckPacket m) f a = f _ _ a
 asked_weaker asked other core (message.Timeout m) f a = λ mine is. f _ _ (a mine is)
 asked_weaker asked other core (message.TimeoutOnClose m) f a = λ mine is. (f _ _ (a mine is).0, f _ _ (a mine is).1)
+asked_weaker asked other core m f a = tt
 
 -- all committed records are fit
 abbrev pub AllFit : (Text → Type 0) → World → Type 0

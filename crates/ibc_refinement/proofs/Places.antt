@@ -20,11 +20,6 @@ length_set [] k x = refl
 length_set (y ∷ xs) zero x = refl
 length_set (y ∷ xs) (suc k) x = ap suc (length_set xs k x)
 
-pub get_left : {A : Type 0} (xs ys : List A) (n : ℕ) → n < length xs → slice_get (xs ++ ys) n ≡ slice_get xs n
-get_left [] ys n h = absurd (omega arith)
-get_left (x ∷ xs) ys zero h = refl
-get_left (x ∷ xs) ys (suc n) h = get_left xs ys n (omega arith)
-
 pub get_last : {A : Type 0} (xs : List A) (x : A) → slice_get (xs ++ x ∷ []) (length xs) ≡ Some x
 get_last [] x = refl
 get_last (y ∷ xs) x = get_last xs x

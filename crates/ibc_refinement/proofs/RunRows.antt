@@ -14,19 +14,12 @@ use Rattle.ibc_machine.specs.Genesis.{GenesisState}
 use Rattle.ibc_machine.specs.Machine.{World, block_at, committed_of}
 use Rattle.ibc_machine.specs.Ledgers.{Ledger, published_as, fits, reading_fits}
 use Rattle.ibc_machine.specs.Merge.{blocks_of}
-use Rattle.ibc_refinement.proofs.Places.{get_left}
+use Rattle.ibc_machine.proofs.Members.{get_left}
+use Rattle.ibc_machine.proofs.SeenMore.{height_grows}
 use Rattle.ibc_refinement.proofs.Steps.{SeesRow}
 use Rattle.ibc_refinement.proofs.EntrySteps.{ledger_of, replay_grows}
 use Rattle.ibc_refinement.proofs.Hashed.{Among}
 use Rattle.ibc_refinement.proofs.RunStates.{Runs, AllRun, AreOfWorld, IsLedgerAt, ledger_at}
-
-pub height_grows : (chain n : ℕ) (seen : List Publication) → height_among chain n seen ≤ height_of chain seen
-height_grows chain n seen =
-    let test = λ (p : Publication). eqb p.chain chain in
-    let parts : length (filter test seen) ≡ length (filter test (take n seen)) + length (filter test (drop n seen)) =
-    ap (λ xs. length (filter test xs)) (sym (take-append-drop n seen)) ∙ ap length (filter-append test (take n seen) (drop n seen)) ∙ length-append (filter test (take n seen)) (filter test (drop n seen))
-    in
-    omega (arith, parts)
 
 -- a chain's publications among the first of a list
 published_front : (chain n i : ℕ) (publications : List Publication) → i < length (published_by chain (take n publications))

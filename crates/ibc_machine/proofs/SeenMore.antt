@@ -1,9 +1,10 @@
 -- What a ledger answered where it had seen these publications, it answers where more are seen.
-use Rattle.std.proofs.Common.{◌≡◌, ℕ, zero, suc, ◌+◌, ◌<◌, ◌≤◌, Bool, true, false, ◌&&◌, nat_le, nat_lt, List, [], ◌∷◌, ◌++◌, length, take, refl, sym, ap, ◌∙◌, Some, None, Option, option_and_then, slice_get, arith, leb-true, subst}
+use Rattle.std.proofs.Common.{◌≡◌, ℕ, zero, suc, ◌+◌, ◌≤◌, Bool, true, false, ◌&&◌, eqb, nat_le, nat_lt, List, ◌++◌, length, take, drop, filter, refl, sym, ap, ◌∙◌, Some, None, Option, option_and_then, slice_get, arith, leb-true, subst, length-append, take-append-drop}
 use Rattle.std.specs.Prelude.{⊤, IfSome}
 use Rattle.std.specs.Option.{option_map_or}
 use Rattle.std.proofs.lemmas.Bool.{and_parts}
-use Rattle.ibc_ids.specs.Publications.{published_by, height_of, height_among, row_at}
+use Rattle.std.proofs.lemmas.List.Elements.{filter-append}
+use Rattle.ibc_ids.specs.Publications.{height_of, height_among, row_at}
 use Rattle.ibc_ids.specs.declared.publication.Publication.{Publication}
 use Rattle.ibc_wire.specs.declared.header.Header.{Header}
 use Rattle.ibc_wire.specs.declared.messages.Message.{Message}
@@ -21,19 +22,23 @@ use Rattle.ibc_machine.specs.Transfers.{send_tokens, transfer, transfer_many}
 use Rattle.ibc_machine.specs.Notes.{send_note}
 use Rattle.ibc_machine.specs.Replay.{LedgerState, StampedEntry, is_published_as, row_read, proves, after_answer, ledger_answer, entry_answer}
 use Rattle.ibc_machine.specs.Ledgers.{IsReading, header_in, fits, reading_fits}
-use Rattle.ibc_root_table.proofs.Chains.{published_by-append, height_grows}
+use Rattle.ibc_machine.proofs.Members.{get_left}
 
 -- ---- rows
-
-get_left : {A : Type 0} (xs ys : List A) (k : ℕ) → k < length xs → slice_get (xs ++ ys) k ≡ slice_get xs k
-get_left [] ys k low = absurd (omega arith)
-get_left (x ∷ xs) ys zero low = refl
-get_left (x ∷ xs) ys (suc k) low = get_left xs ys k (omega arith)
 
 row_stays : (seen more : List Publication) (chain h : ℕ) → h ≤ height_of chain seen → row_at (seen ++ more) chain h ≡ row_at seen chain h
 row_stays seen more chain zero within = refl
 row_stays seen more chain (suc h) within =
-    ap (λ xs. slice_get xs h) (published_by-append chain seen more) ∙ get_left (published_by chain seen) (published_by chain more) h (omega arith)
+    let test = λ (p : Publication). eqb p.chain chain in
+    ap (λ xs. slice_get xs h) (filter-append test seen more) ∙ get_left (filter test seen) (filter test more) h (omega arith)
+
+pub height_grows : (chain n : ℕ) (seen : List Publication) → height_among chain n seen ≤ height_of chain seen
+height_grows chain n seen =
+    let test = λ (p : Publication). eqb p.chain chain in
+    let parts : length (filter test seen) ≡ length (filter test (take n seen)) + length (filter test (drop n seen)) =
+    ap (λ xs. length (filter test xs)) (sym (take-append-drop n seen)) ∙ ap length (filter-append test (take n seen) (drop n seen)) ∙ length-append (filter test (take n seen)) (filter test (drop n seen))
+    in
+    omega (arith, parts)
 
 -- a row that was there was published among what is seen
 abbrev ReadsSeen : List Publication → Option Bool → Header → Type 0
@@ -59,27 +64,10 @@ module _ (genesis : GenesisState) (k : ℕ) (seen more : List Publication) (read
   message_stays : (m : Message) → ReadsFor seen reading m
       → ledger_answer genesis k (seen ++ more) reading state (event.Message chain m) ≡ ledger_answer genesis k seen reading state (event.Message chain m)
   unfolding ledger_answer handle create_client update_client conn_open_init conn_open_try conn_open_ack conn_open_confirm chan_open_init chan_open_try chan_open_ack chan_open_confirm chan_close_init chan_close_confirm require_timeouts recv_checked recv_packet ack_checked ack_packet timeout_checked timeout timeout_on_close_checked timeout_on_close send_tokens transfer transfer_many send_note
-  message_stays (message.CreateClient m) reads = refl
   message_stays (message.UpdateClient m) reads =
       ap (λ r. after_answer (message.UpdateClient m) state (message_answer (record (proves seen reading state) { row = λ _. r }) (length genesis.chains) k state.chain (message.UpdateClient m)))
       (row_read_stays seen more (row_of reading) m.header reads)
-  message_stays (message.ConnOpenInit m) reads = refl
-  message_stays (message.ConnOpenTry m) reads = refl
-  message_stays (message.ConnOpenAck m) reads = refl
-  message_stays (message.ConnOpenConfirm m) reads = refl
-  message_stays (message.ChanOpenInit m) reads = refl
-  message_stays (message.ChanOpenTry m) reads = refl
-  message_stays (message.ChanOpenAck m) reads = refl
-  message_stays (message.ChanOpenConfirm m) reads = refl
-  message_stays (message.ChanCloseInit m) reads = refl
-  message_stays (message.ChanCloseConfirm m) reads = refl
-  message_stays (message.Transfer m) reads = refl
-  message_stays (message.TransferMany m) reads = refl
-  message_stays (message.SendNote m) reads = refl
-  message_stays (message.RecvPacket m) reads = refl
-  message_stays (message.AckPacket m) reads = refl
-  message_stays (message.Timeout m) reads = refl
-  message_stays (message.TimeoutOnClose m) reads = refl
+  message_stays m reads = refl
 
   block_stays : (next_time : ℕ) → ledger_answer genesis k (seen ++ more) reading state (event.Block chain next_time) ≡ ledger_answer genesis k seen reading state (event.Block chain next_time)
   unfolding ledger_answer
@@ -92,13 +80,8 @@ of_fit window seen header n read (Some true) fit =
     let p = and_parts (nat_le header.height read) (nat_le read (height_among header.chain n seen)) (and_parts (nat_le header.height read && nat_le read (height_among header.chain n seen)) (nat_lt (height_among header.chain n seen) (header.height + window)) fit).0 in
     let low = leb-true header.height read p.0 in
     let high = leb-true read (height_among header.chain n seen) p.1 in
-    let grows = height_grows header.chain (take n seen) seen (beginning n seen) in
+    let grows = height_grows header.chain n seen in
     omega arith
-  where
-    beginning : (n : ℕ) (xs : List Publication) → (t : List Publication) × (take n xs ++ t ≡ xs)
-    beginning zero xs = (xs, refl)
-    beginning (suc n) [] = ([], refl)
-    beginning (suc n) (x ∷ xs) = let w = beginning n xs in (w.0, ap (λ ys. x ∷ ys) w.1)
 of_fit window seen header n read (Some false) fit = tt
 of_fit window seen header n read None fit = tt
 
