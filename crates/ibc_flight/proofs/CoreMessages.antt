@@ -1,6 +1,5 @@
 -- A message of the core, in which applications keep what they have, burns nothing that goes back.
 use Rattle.std.proofs.Common.{◌≡◌, refl, Ok}
-use Rattle.std.specs.Prelude.{⊤}
 use Rattle.ibc_wire.specs.declared.messages.Message.{Message}
 use Rattle.ibc_wire.specs.declared.messages.Message.TheVariants as message
 use Rattle.ibc_machine.specs.declared.reply.Effect.{Effect}
@@ -8,6 +7,7 @@ use Rattle.ibc_machine.specs.Records.{Core, Apps}
 use Rattle.ibc_machine.specs.Checks.{Checked, ◌>>=◌}
 use Rattle.ibc_machine.specs.Evidence.{Host, Evidence}
 use Rattle.ibc_machine.specs.Handlers.{handle}
+use Rattle.ibc_flight.specs.OfCore.{IsOfCore}
 use Rattle.ibc_flight.specs.Orderly.{IsOrderly}
 use Rattle.ibc_flight.specs.Returned.{SameBurnt}
 use Rattle.ibc_machine.proofs.PassedRows.{Gives}
@@ -15,16 +15,6 @@ use Rattle.ibc_machine.proofs.PassedHandlers.{gives_on_core}
 use Rattle.ibc_flight.proofs.UnchangedChannels.{LeavesBurnt, create_client_burnt, update_client_burnt, conn_open_init_burnt, conn_open_try_burnt, conn_open_ack_burnt, conn_open_confirm_burnt}
 use Rattle.ibc_flight.proofs.ChannelSteps.{chan_open_init_burnt, chan_open_try_burnt, chan_open_ack_burnt, chan_open_confirm_burnt, chan_close_init_burnt, chan_close_confirm_burnt}
 use Rattle.ibc_flight.proofs.SendSteps.{send_note_burnt}
-
--- not one of the messages in which tokens are sent or an application takes a packet
-abbrev pub IsOfCore : Message → Type 0
-IsOfCore (message.Transfer m) = ⊥
-IsOfCore (message.TransferMany m) = ⊥
-IsOfCore (message.RecvPacket m) = ⊥
-IsOfCore (message.AckPacket m) = ⊥
-IsOfCore (message.Timeout m) = ⊥
-IsOfCore (message.TimeoutOnClose m) = ⊥
-IsOfCore m = ⊤
 
 module _ (evidence : Evidence) (host : Host) (core : Core) (orderly : IsOrderly core) (apps : Apps) where
   -- as much is burnt in flight as before, and applications keep the same

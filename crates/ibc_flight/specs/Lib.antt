@@ -1,2 +1,3 @@
+pub mod OfCore
 pub mod Orderly
 pub mod Returned

@@ -11,7 +11,8 @@ use Rattle.ibc_machine.specs.Evidence.{Host, Evidence, CoreHandler, Handler, on_
 use Rattle.ibc_machine.specs.Handlers.{handle}
 use Rattle.ibc_machine.specs.Ledgers.{is_block_reply}
 use Rattle.ibc_machine.specs.Replay.{LedgerState, proves}
-use Rattle.ibc_flight.proofs.CoreMessages.{IsOfCore, core_message_burns_nothing}
+use Rattle.ibc_flight.specs.OfCore.{IsOfCore}
+use Rattle.ibc_flight.proofs.CoreMessages.{core_message_burns_nothing}
 use Rattle.ibc_records.specs.Held.{HeldRecords, core_of}
 use Rattle.ibc_records.specs.Taking.{IsTaken, IsTakenWith, IsHandled, IsHandledWith, host_with}
 use Rattle.ibc_records.proofs.KnownStates.{knowing}

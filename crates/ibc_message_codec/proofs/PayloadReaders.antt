@@ -3,7 +3,11 @@ use Rattle.std.proofs.Common.{refl, arith}
 use Rattle.ibc_ids.specs.Names.{is_client, is_connection, is_channel, is_port, is_version, is_user, is_denom, is_receiver, is_memo}
 use Rattle.ibc_ids.proofs.Ascii.{clients, connections, channels, ports, versions, users, denominations, receivers, memos}
 use Rattle.ibc_wire.specs.Lawful.{IsReader}
-use Rattle.ibc_message_codec.specs.PayloadFronts.{create_client_fields, create_client_at_front, update_client_fields, update_client_at_front, conn_open_init_fields, conn_open_init_at_front, conn_open_try_fields, conn_open_try_at_front, conn_open_ack_fields, conn_open_ack_at_front, conn_open_confirm_fields, conn_open_confirm_at_front, chan_open_init_fields, chan_open_init_at_front, chan_open_try_fields, chan_open_try_at_front, chan_open_ack_fields, chan_open_ack_at_front, chan_open_confirm_fields, chan_open_confirm_at_front, chan_close_init_fields, chan_close_init_at_front, chan_close_confirm_fields, chan_close_confirm_at_front, transfer_fields, transfer_at_front, send_note_fields, send_note_at_front, recv_packet_fields, recv_packet_at_front, ack_packet_fields, ack_packet_at_front, timeout_fields, timeout_at_front, timeout_on_close_fields, timeout_on_close_at_front, transfer_many_fields, transfer_many_at_front}
+use Rattle.ibc_message_codec.specs.ClientFronts.{create_client_fields, create_client_at_front, update_client_fields, update_client_at_front}
+use Rattle.ibc_message_codec.specs.ConnectionFronts.{conn_open_init_fields, conn_open_init_at_front, conn_open_try_fields, conn_open_try_at_front, conn_open_ack_fields, conn_open_ack_at_front, conn_open_confirm_fields, conn_open_confirm_at_front}
+use Rattle.ibc_message_codec.specs.ChannelFronts.{chan_open_init_fields, chan_open_init_at_front, chan_open_try_fields, chan_open_try_at_front, chan_open_ack_fields, chan_open_ack_at_front, chan_open_confirm_fields, chan_open_confirm_at_front, chan_close_init_fields, chan_close_init_at_front, chan_close_confirm_fields, chan_close_confirm_at_front}
+use Rattle.ibc_message_codec.specs.PacketFronts.{recv_packet_fields, recv_packet_at_front, ack_packet_fields, ack_packet_at_front, timeout_fields, timeout_at_front, timeout_on_close_fields, timeout_on_close_at_front}
+use Rattle.ibc_message_codec.specs.TransferFronts.{transfer_fields, transfer_at_front, send_note_fields, send_note_at_front, transfer_many_fields, transfer_many_at_front}
 use Rattle.ibc_wire.proofs.Steps.{first, done, reader_of}
 use Rattle.ibc_wire.proofs.Readers.{u8_reader, n8_reader, n16_reader, str_reader, name_reader}
 use Rattle.ibc_wire.proofs.RecordReaders.{order_reader, client_state_reader, header_reader, packet_reader}

@@ -1,2 +1,6 @@
-pub mod PayloadFronts
+pub mod ClientFronts
+pub mod ConnectionFronts
+pub mod ChannelFronts
+pub mod PacketFronts
+pub mod TransferFronts
 pub mod MessageFront

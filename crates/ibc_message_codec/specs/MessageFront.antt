@@ -3,7 +3,11 @@ use Rattle.std.specs.Prelude.{Some}
 use Rattle.ibc_ids.specs.Texts.{Text}
 use Rattle.ibc_wire.specs.Kinds.{kind_of_tag}
 use Rattle.ibc_wire.specs.Reading.{◌>>=◌, Front, byte_at_front}
-use Rattle.ibc_message_codec.specs.PayloadFronts.{create_client_at_front, update_client_at_front, conn_open_init_at_front, conn_open_try_at_front, conn_open_ack_at_front, conn_open_confirm_at_front, chan_open_init_at_front, chan_open_try_at_front, chan_open_ack_at_front, chan_open_confirm_at_front, chan_close_init_at_front, chan_close_confirm_at_front, transfer_at_front, send_note_at_front, recv_packet_at_front, ack_packet_at_front, timeout_at_front, timeout_on_close_at_front, transfer_many_at_front}
+use Rattle.ibc_message_codec.specs.ClientFronts.{create_client_at_front, update_client_at_front}
+use Rattle.ibc_message_codec.specs.ConnectionFronts.{conn_open_init_at_front, conn_open_try_at_front, conn_open_ack_at_front, conn_open_confirm_at_front}
+use Rattle.ibc_message_codec.specs.ChannelFronts.{chan_open_init_at_front, chan_open_try_at_front, chan_open_ack_at_front, chan_open_confirm_at_front, chan_close_init_at_front, chan_close_confirm_at_front}
+use Rattle.ibc_message_codec.specs.PacketFronts.{recv_packet_at_front, ack_packet_at_front, timeout_at_front, timeout_on_close_at_front}
+use Rattle.ibc_message_codec.specs.TransferFronts.{transfer_at_front, send_note_at_front, transfer_many_at_front}
 use Rattle.ibc_wire.specs.declared.messages.Message.{Message}
 use Rattle.ibc_wire.specs.declared.messages.Message.TheVariants as message
 use Rattle.ibc_wire.specs.declared.messages.MessageKind.{MessageKind}

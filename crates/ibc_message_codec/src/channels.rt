@@ -5,7 +5,7 @@ ghost use Rattle.ibc_ids.specs.Names.{is_connection, is_port};
 ghost use Rattle.ibc_wire.specs.Fields.{u8, name};
 ghost use Rattle.ibc_wire.specs.Spelling.{order_number};
 ghost use Rattle.ibc_wire.specs.Fronts.{Writes};
-ghost use Rattle.ibc_message_codec.specs.PayloadFronts.{chan_open_init_fields, chan_open_try_fields, chan_open_ack_fields, chan_open_confirm_fields, chan_close_init_fields, chan_close_confirm_fields, chan_open_init_at_front, chan_open_try_at_front, chan_open_ack_at_front, chan_open_confirm_at_front, chan_close_init_at_front, chan_close_confirm_at_front};
+ghost use Rattle.ibc_message_codec.specs.ChannelFronts.{chan_open_init_fields, chan_open_try_fields, chan_open_ack_fields, chan_open_confirm_fields, chan_close_init_fields, chan_close_confirm_fields, chan_open_init_at_front, chan_open_try_at_front, chan_open_ack_at_front, chan_open_confirm_at_front, chan_close_init_at_front, chan_close_confirm_at_front};
 
 use crate::behind::{n8_behind, name_behind, str_behind, value_behind};
 use crate::parts::write_proof;
@@ -23,7 +23,7 @@ impl Payload for ChanOpenInit {
 
     ghost front = { chan_open_init_at_front };
 
-    #[tactic(auto, unfolding(crate::specs::PayloadFronts::chan_open_init_at_front))]
+    #[tactic(auto, unfolding(crate::specs::ChannelFronts::chan_open_init_at_front))]
     fn read(alloc: Global, bytes: &[u8]) -> Result<(ChanOpenInit, &[u8]), Refusal> {
         let (fields, rest) = read_name(alloc, bytes)?;
         let (fields, rest) = value_behind(alloc, fields, rest)?;
@@ -60,7 +60,7 @@ impl Payload for ChanOpenTry {
 
     ghost front = { chan_open_try_at_front };
 
-    #[tactic(auto, unfolding(crate::specs::PayloadFronts::chan_open_try_at_front))]
+    #[tactic(auto, unfolding(crate::specs::ChannelFronts::chan_open_try_at_front))]
     fn read(alloc: Global, bytes: &[u8]) -> Result<(ChanOpenTry, &[u8]), Refusal> {
         let (fields, rest) = read_name(alloc, bytes)?;
         let (fields, rest) = value_behind(alloc, fields, rest)?;
@@ -106,7 +106,7 @@ impl Payload for ChanOpenAck {
 
     ghost front = { chan_open_ack_at_front };
 
-    #[tactic(auto, unfolding(crate::specs::PayloadFronts::chan_open_ack_at_front))]
+    #[tactic(auto, unfolding(crate::specs::ChannelFronts::chan_open_ack_at_front))]
     fn read(alloc: Global, bytes: &[u8]) -> Result<(ChanOpenAck, &[u8]), Refusal> {
         let (fields, rest) = read_name(alloc, bytes)?;
         let (fields, rest) = name_behind(alloc, fields, rest)?;
@@ -139,7 +139,7 @@ impl Payload for ChanOpenConfirm {
 
     ghost front = { chan_open_confirm_at_front };
 
-    #[tactic(auto, unfolding(crate::specs::PayloadFronts::chan_open_confirm_at_front))]
+    #[tactic(auto, unfolding(crate::specs::ChannelFronts::chan_open_confirm_at_front))]
     fn read(alloc: Global, bytes: &[u8]) -> Result<(ChanOpenConfirm, &[u8]), Refusal> {
         let (fields, rest) = read_name(alloc, bytes)?;
         let (fields, rest) = name_behind(alloc, fields, rest)?;
@@ -169,7 +169,7 @@ impl Payload for ChanCloseInit {
 
     ghost front = { chan_close_init_at_front };
 
-    #[tactic(auto, unfolding(crate::specs::PayloadFronts::chan_close_init_at_front))]
+    #[tactic(auto, unfolding(crate::specs::ChannelFronts::chan_close_init_at_front))]
     fn read(alloc: Global, bytes: &[u8]) -> Result<(ChanCloseInit, &[u8]), Refusal> {
         let (fields, rest) = read_name(alloc, bytes)?;
         let (fields, rest) = name_behind(alloc, fields, rest)?;
@@ -188,7 +188,7 @@ impl Payload for ChanCloseConfirm {
 
     ghost front = { chan_close_confirm_at_front };
 
-    #[tactic(auto, unfolding(crate::specs::PayloadFronts::chan_close_confirm_at_front))]
+    #[tactic(auto, unfolding(crate::specs::ChannelFronts::chan_close_confirm_at_front))]
     fn read(alloc: Global, bytes: &[u8]) -> Result<(ChanCloseConfirm, &[u8]), Refusal> {
         let (fields, rest) = read_name(alloc, bytes)?;
         let (fields, rest) = name_behind(alloc, fields, rest)?;

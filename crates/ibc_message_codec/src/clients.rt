@@ -1,6 +1,6 @@
 //! How the messages of clients are spelled behind their tag.
 
-ghost use Rattle.ibc_message_codec.specs.PayloadFronts.{create_client_fields, update_client_fields, create_client_at_front, update_client_at_front};
+ghost use Rattle.ibc_message_codec.specs.ClientFronts.{create_client_fields, update_client_fields, create_client_at_front, update_client_at_front};
 
 use crate::payload::Payload;
 use ibc_codec::Wire;
@@ -14,7 +14,7 @@ impl Payload for CreateClient {
 
     ghost front = { create_client_at_front };
 
-    #[tactic(auto, unfolding(crate::specs::PayloadFronts::create_client_at_front))]
+    #[tactic(auto, unfolding(crate::specs::ClientFronts::create_client_at_front))]
     fn read(_alloc: Global, bytes: &[u8]) -> Result<(CreateClient, &[u8]), Refusal> {
         let (chain, rest) = read_u8(bytes)?;
         Ok((CreateClient { chain }, rest))
@@ -30,7 +30,7 @@ impl Payload for UpdateClient {
 
     ghost front = { update_client_at_front };
 
-    #[tactic(auto, unfolding(crate::specs::PayloadFronts::update_client_at_front))]
+    #[tactic(auto, unfolding(crate::specs::ClientFronts::update_client_at_front))]
     fn read(alloc: Global, bytes: &[u8]) -> Result<(UpdateClient, &[u8]), Refusal> {
         let (client, rest) = read_name(alloc, bytes)?;
         match Header::read(alloc, rest) {

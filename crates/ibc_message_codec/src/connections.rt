@@ -1,6 +1,6 @@
 //! How the messages of connections are spelled behind their tag.
 
-ghost use Rattle.ibc_message_codec.specs.PayloadFronts.{conn_open_init_fields, conn_open_try_fields, conn_open_ack_fields, conn_open_confirm_fields, conn_open_init_at_front, conn_open_try_at_front, conn_open_ack_at_front, conn_open_confirm_at_front};
+ghost use Rattle.ibc_message_codec.specs.ConnectionFronts.{conn_open_init_fields, conn_open_try_fields, conn_open_ack_fields, conn_open_confirm_fields, conn_open_init_at_front, conn_open_try_at_front, conn_open_ack_at_front, conn_open_confirm_at_front};
 
 use crate::behind::{n8_behind, name_behind, str_behind, value_behind};
 use crate::parts::{write_proof, write_proofs};
@@ -16,7 +16,7 @@ impl Payload for ConnOpenInit {
 
     ghost front = { conn_open_init_at_front };
 
-    #[tactic(auto, unfolding(crate::specs::PayloadFronts::conn_open_init_at_front))]
+    #[tactic(auto, unfolding(crate::specs::ConnectionFronts::conn_open_init_at_front))]
     fn read(alloc: Global, bytes: &[u8]) -> Result<(ConnOpenInit, &[u8]), Refusal> {
         let (fields, rest) = read_name(alloc, bytes)?;
         let (fields, rest) = name_behind(alloc, fields, rest)?;
@@ -41,7 +41,7 @@ impl Payload for ConnOpenTry {
 
     ghost front = { conn_open_try_at_front };
 
-    #[tactic(auto, unfolding(crate::specs::PayloadFronts::conn_open_try_at_front))]
+    #[tactic(auto, unfolding(crate::specs::ConnectionFronts::conn_open_try_at_front))]
     fn read(alloc: Global, bytes: &[u8]) -> Result<(ConnOpenTry, &[u8]), Refusal> {
         let (fields, rest) = read_name(alloc, bytes)?;
         let (fields, rest) = name_behind(alloc, fields, rest)?;
@@ -82,7 +82,7 @@ impl Payload for ConnOpenAck {
 
     ghost front = { conn_open_ack_at_front };
 
-    #[tactic(auto, unfolding(crate::specs::PayloadFronts::conn_open_ack_at_front))]
+    #[tactic(auto, unfolding(crate::specs::ConnectionFronts::conn_open_ack_at_front))]
     fn read(alloc: Global, bytes: &[u8]) -> Result<(ConnOpenAck, &[u8]), Refusal> {
         let (fields, rest) = read_name(alloc, bytes)?;
         let (fields, rest) = name_behind(alloc, fields, rest)?;
@@ -117,7 +117,7 @@ impl Payload for ConnOpenConfirm {
 
     ghost front = { conn_open_confirm_at_front };
 
-    #[tactic(auto, unfolding(crate::specs::PayloadFronts::conn_open_confirm_at_front))]
+    #[tactic(auto, unfolding(crate::specs::ConnectionFronts::conn_open_confirm_at_front))]
     fn read(alloc: Global, bytes: &[u8]) -> Result<(ConnOpenConfirm, &[u8]), Refusal> {
         let (fields, rest) = read_name(alloc, bytes)?;
         let (fields, rest) = n8_behind(fields, rest)?;

@@ -3,7 +3,7 @@
 ghost use Rattle.std.specs.Prelude.{◌∷◌, []};
 ghost use Rattle.ibc_wire.specs.Fields.{n8, str};
 ghost use Rattle.ibc_wire.specs.Fronts.{Writes};
-ghost use Rattle.ibc_message_codec.specs.PayloadFronts.{recv_packet_fields, ack_packet_fields, timeout_fields, timeout_on_close_fields, recv_packet_at_front, ack_packet_at_front, timeout_at_front, timeout_on_close_at_front};
+ghost use Rattle.ibc_message_codec.specs.PacketFronts.{recv_packet_fields, ack_packet_fields, timeout_fields, timeout_on_close_fields, recv_packet_at_front, ack_packet_at_front, timeout_at_front, timeout_on_close_at_front};
 
 use crate::behind::{n8_behind, str_behind};
 use crate::parts::{write_proof, write_proofs};
@@ -19,7 +19,7 @@ impl Payload for RecvPacket {
 
     ghost front = { recv_packet_at_front };
 
-    #[tactic(auto, unfolding(crate::specs::PayloadFronts::recv_packet_at_front))]
+    #[tactic(auto, unfolding(crate::specs::PacketFronts::recv_packet_at_front))]
     fn read(alloc: Global, bytes: &[u8]) -> Result<(RecvPacket, &[u8]), Refusal> {
         let (fields, rest) = Packet::read(alloc, bytes)?;
         let (fields, rest) = n8_behind(fields, rest)?;
@@ -46,7 +46,7 @@ impl Payload for AckPacket {
 
     ghost front = { ack_packet_at_front };
 
-    #[tactic(auto, unfolding(crate::specs::PayloadFronts::ack_packet_at_front))]
+    #[tactic(auto, unfolding(crate::specs::PacketFronts::ack_packet_at_front))]
     fn read(alloc: Global, bytes: &[u8]) -> Result<(AckPacket, &[u8]), Refusal> {
         let (fields, rest) = Packet::read(alloc, bytes)?;
         let (fields, rest) = str_behind(alloc, fields, rest)?;
@@ -75,7 +75,7 @@ impl Payload for Timeout {
 
     ghost front = { timeout_at_front };
 
-    #[tactic(auto, unfolding(crate::specs::PayloadFronts::timeout_at_front))]
+    #[tactic(auto, unfolding(crate::specs::PacketFronts::timeout_at_front))]
     fn read(alloc: Global, bytes: &[u8]) -> Result<(Timeout, &[u8]), Refusal> {
         let (fields, rest) = Packet::read(alloc, bytes)?;
         let (fields, rest) = n8_behind(fields, rest)?;
@@ -104,7 +104,7 @@ impl Payload for TimeoutOnClose {
 
     ghost front = { timeout_on_close_at_front };
 
-    #[tactic(auto, unfolding(crate::specs::PayloadFronts::timeout_on_close_at_front))]
+    #[tactic(auto, unfolding(crate::specs::PacketFronts::timeout_on_close_at_front))]
     fn read(alloc: Global, bytes: &[u8]) -> Result<(TimeoutOnClose, &[u8]), Refusal> {
         let (fields, rest) = Packet::read(alloc, bytes)?;
         let (fields, rest) = n8_behind(fields, rest)?;

@@ -1,6 +1,6 @@
 //! How the messages of transfers and notes are spelled behind their tag.
 
-ghost use Rattle.ibc_message_codec.specs.PayloadFronts.{transfer_fields, send_note_fields, transfer_many_fields, transfer_at_front, send_note_at_front, transfer_many_at_front};
+ghost use Rattle.ibc_message_codec.specs.TransferFronts.{transfer_fields, send_note_fields, transfer_many_fields, transfer_at_front, send_note_at_front, transfer_many_at_front};
 
 use crate::behind::{n8_behind, n16_behind, name_behind, str_behind, value_behind};
 use crate::parts::write_delivery;
@@ -16,7 +16,7 @@ impl Payload for Transfer {
 
     ghost front = { transfer_at_front };
 
-    #[tactic(auto, unfolding(crate::specs::PayloadFronts::transfer_at_front))]
+    #[tactic(auto, unfolding(crate::specs::TransferFronts::transfer_at_front))]
     fn read(alloc: Global, bytes: &[u8]) -> Result<(Transfer, &[u8]), Refusal> {
         let (fields, rest) = read_name(alloc, bytes)?;
         let (fields, rest) = name_behind(alloc, fields, rest)?;
@@ -65,7 +65,7 @@ impl Payload for SendNote {
 
     ghost front = { send_note_at_front };
 
-    #[tactic(auto, unfolding(crate::specs::PayloadFronts::send_note_at_front))]
+    #[tactic(auto, unfolding(crate::specs::TransferFronts::send_note_at_front))]
     fn read(alloc: Global, bytes: &[u8]) -> Result<(SendNote, &[u8]), Refusal> {
         let (fields, rest) = read_name(alloc, bytes)?;
         let (fields, rest) = str_behind(alloc, fields, rest)?;
@@ -96,7 +96,7 @@ impl Payload for TransferMany {
 
     ghost front = { transfer_many_at_front };
 
-    #[tactic(auto, unfolding(crate::specs::PayloadFronts::transfer_many_at_front))]
+    #[tactic(auto, unfolding(crate::specs::TransferFronts::transfer_many_at_front))]
     fn read(alloc: Global, bytes: &[u8]) -> Result<(TransferMany, &[u8]), Refusal> {
         let (fields, rest) = read_name(alloc, bytes)?;
         let (fields, rest) = name_behind(alloc, fields, rest)?;

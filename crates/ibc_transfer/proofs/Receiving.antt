@@ -2,13 +2,12 @@
 use Rattle.std.proofs.Common.{codes, ◌≡◌, ◌+◌, ◌<◌, ℕ, Bool, true, false, cond, refl, ap, sym, subst, ◌∙◌, List, [], ◌∷◌, ◌++◌, length, drop, get_or, Option, Some, None, Ok, Err, option_map, append_assoc}
 use Rattle.std.specs.Option.{option_and_then}
 use Rattle.std.proofs.Math.Seq.{drop-append_seam}
-use Rattle.std.proofs.lemmas.Bool.Decides.{Decides-eqb}
 use Rattle.std.proofs.lemmas.List.{at_drop_more}
-use Rattle.std.proofs.lemmas.Slice.Eq.{starts_is}
 use Rattle.ibc_ids.specs.Texts.{Text}
 use Rattle.ibc_ids.specs.Names.{is_user, hop, came_over}
 use Rattle.ibc_ids.specs.declared.refusal.Refusal.{Refusal}
 use Rattle.ibc_ids.specs.declared.refusal.Refusal.TheVariants.{Poor, TooLarge}
+use Rattle.ibc_ids.proofs.Hops.{came_over_by}
 use Rattle.ibc_wire.specs.declared.packet.Packet.{Packet}
 use Rattle.ibc_wire.specs.declared.token.Token.{Token}
 use Rattle.ibc_machine.specs.Bank.{Balances, out_of_escrow, mint}
@@ -23,10 +22,6 @@ use Rattle.ibc_transfer.specs.Banked.{bank_receives}
 use Rattle.ibc_transfer.specs.declared.acks.Failure.TheVariants.{BadReceiver}
 
 -- ---- one token
-
-pub came_over_by : (port channel rest : Text) → came_over port channel (hop port channel ++ rest) ≡ true
-came_over_by port channel rest =
-    (starts_is Decides-eqb (hop port channel ++ rest) (hop port channel) (came_over port channel (hop port channel ++ rest)) refl).1 rest refl
 
 -- the token of a denomination that came from here
 pub comes_home : (p : Packet) (user rest : Text) (token : Token) → token.denom ≡ hop p.source_port p.source_channel ++ rest

@@ -3,7 +3,7 @@ use Rattle.std.proofs.Common.{◌≡◌, ap, sym, ◌∙◌, false, Option, Some
 use Rattle.std.specs.Prelude.{MatchOption}
 use Rattle.ibc_ids.specs.Texts.{Text}
 use Rattle.ibc_ids.specs.Names.{hop, came_over}
-use Rattle.ibc_transfer.proofs.Receiving.{came_over_by}
+use Rattle.ibc_ids.proofs.Hops.{came_over_by}
 use Rattle.ibc_transfer.proofs.names.came_over.Goals as goal
 
 stripped : (port channel denom : Text) (rest : Option Text) → MatchOption rest (came_over port channel denom ≡ false) (λ behind. denom ≡ hop port channel ++ behind)
