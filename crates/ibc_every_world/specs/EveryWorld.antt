@@ -4,19 +4,26 @@ use Rattle.std.specs.Prelude.{◌≡◌, ℕ, ◌+◌, true, false, nat_lt, List
 use Rattle.std.specs.List.{Contains, list_all}
 use Rattle.ibc_ids.specs.Texts.{Text}
 use Rattle.ibc_ids.specs.declared.refusal.Refusal.TheVariants.{Poor}
+use Rattle.ibc_wire.specs.declared.token.Token.{Token}
+use Rattle.ibc_wire.specs.declared.packet.Packet.{Packet}
+use Rattle.ibc_wire.specs.declared.messages.RecvPacket.{RecvPacket}
+use Rattle.ibc_wire.specs.declared.messages.Message.TheVariants as message
 use Rattle.ibc_machine.specs.declared.event.Event.{Event}
+use Rattle.ibc_machine.specs.declared.event.Event.TheVariants as event
+use Rattle.ibc_machine.specs.declared.reply.Effect.{Effect}
 use Rattle.ibc_machine.specs.declared.reply.Reply.TheVariants as reply
 use Rattle.ibc_machine.specs.declared.entry.Entry.{Entry}
 use Rattle.ibc_machine.specs.Records.{Channel}
 use Rattle.ibc_machine.specs.Packets.{is_ordered}
 use Rattle.ibc_machine.specs.Transfers.{transfer_port, came_over}
-use Rattle.ibc_machine.specs.Machine.{World}
-use Rattle.ibc_machine.specs.Ledgers.{Ledger, chain_of, machine_of}
+use Rattle.ibc_machine.specs.TokenData.{Data, data_of}
+use Rattle.ibc_machine.specs.Machine.{World, Step}
+use Rattle.ibc_machine.specs.Ledgers.{Ledger, chain_of, machine_of, is_typed}
 use Rattle.ibc_machine.specs.HashedTexts.{HasNoClash}
 use Rattle.ibc_machine.specs.Histories.{Happened, End, sent, received}
 use Rattle.ibc_machine.specs.Peers.{end_at, are_peers}
 use Rattle.ibc_machine.specs.Totals.{flight, vouchers, escrowed, hopped}
-use Rattle.ibc_machine.specs.Laws.{IsPast, HasOnePeer, IsExactlyOnce, IsBeginning, settles}
+use Rattle.ibc_machine.specs.Laws.{IsPast, HasOnePeer, IsExactlyOnce, IsBeginning, IsEscrowed, settles}
 use Rattle.ibc_machine.specs.Merge.{is_of}
 use Rattle.ibc_machine.specs.Worlds.{entries, happened_by}
 use Rattle.ibc_world_steps.specs.World.{WorldState, kept_entries}
@@ -31,6 +38,20 @@ states_of world = machine_of world.ledgers
 
 abbrev pub ArePeers : WorldState → End → End → Type 0
 ArePeers world e f = IsTrue (are_peers (states_of world) e f)
+
+-- a packet that a chain takes next: its message is what its type promises, and is answered with Ok
+abbrev pub TakesNext : WorldState → ℕ → RecvPacket → Type 0
+TakesNext world chain m =
+    let given : Event = event.Message chain (message.RecvPacket m) in
+    IsTrue (is_typed given) × (effect : Effect) × (after : World)
+    × Step world.genesis (states_of world) given (reply.Ok effect) after
+
+-- a token that a packet brings to an end of port `transfer`
+abbrev pub Brings : WorldState → ℕ → Packet → Token → Type 0
+Brings world chain p token =
+    let e : End = record { chain = chain; port = transfer_port; channel = p.destination_channel } in
+    (p.destination_port ≡ transfer_port) × (mine : Channel) × (end_at (states_of world) e ≡ Some mine) × (d : Data)
+    × (data_of mine.end.version p.payload ≡ Some d) × Contains d.tokens token
 
 pub record IsLawful (world : WorldState) : Type 0 where
   -- The replies and the states of all chains are a run, since an allowed genesis, of the machine in which each end
@@ -58,6 +79,9 @@ pub record IsLawful (world : WorldState) : Type 0 where
       + flight (states_of world) f e (hopped f denom)
   -- No acknowledgement and no timeout was refused because an escrow holds too little for the refund.
   pub never_poor : (event : Event) → IsTrue (settles event) → ¬ (Contains (happened_in world) (event, reply.No Poor))
+  -- No escrow holds too little at a receive: what a packet that is taken brings home was held by the escrow of its channel.
+  pub never_short : (chain : ℕ) (m : RecvPacket) (token : Token) → TakesNext world chain m
+      → Brings world chain m.packet token → IsEscrowed (states_of world) chain m.packet token
 
 -- All of it stands where no two different texts that the chains hashed share a digest.
 abbrev pub IsLawfulUnlessClash : WorldState → Type 0

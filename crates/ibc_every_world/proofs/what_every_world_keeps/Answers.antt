@@ -27,4 +27,6 @@ returns c = λ clash.
       in_order = λ e f mine peers. laws.in_order world.genesis happened states e f history.past peers mine;
       conserved = λ e f denom peers. laws.conserved world.genesis happened states e f history.past peers denom;
       never_poor = λ event. laws.never_poor world.genesis happened states event history.past;
+      never_short = λ chain m token takes brings.
+          laws.never_short world.genesis happened states takes.2 chain m takes.1 brings.1 brings.3 token history.past takes.0 takes.3 brings.0 brings.2 brings.4 brings.5;
     }
