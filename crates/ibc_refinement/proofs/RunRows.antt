@@ -1,5 +1,5 @@
 -- What a ledger read of another chain fits what that chain has committed by now, and its row is of its block.
-use Rattle.std.proofs.Common.{◌≡◌, ℕ, zero, suc, ◌+◌, ◌<◌, ◌≤◌, true, ◌&&◌, eqb, nat_le, nat_lt, List, [], ◌++◌, length, map, take, drop, filter, refl, sym, ap, ◌∙◌, Some, option_map, slice_get, arith, leb-true, inl, inr, length-append, take-append-drop}
+use Rattle.std.proofs.Common.{◌≡◌, ℕ, zero, suc, ◌+◌, ◌<◌, ◌≤◌, true, ◌&&◌, eqb, nat_le, nat_lt, List, [], ◌++◌, length, map, take, drop, filter, refl, sym, ap, ◌∙◌, Some, option_map, slice_get, arith, leb-true, inl, inr, take-append-drop}
 use Rattle.std.specs.Option.{option_map_or}
 use Rattle.std.proofs.lemmas.Bool.{and_parts, cases_lt}
 use Rattle.std.proofs.lemmas.Option.{slice_get-map, slice_get_past}
