@@ -7,7 +7,7 @@ ghost use Rattle.ibc_merkle.specs.Proofs as proofs;
 use crate::operations::{are_adjacent, are_inner, are_left, are_right, climb};
 use crate::texts::{is_same, stands_below};
 use ibc_ids::Root;
-use ibc_merkle::{Absence, Presence, Proof, hash_leaf, hash_value};
+use ibc_merkle::{Absence, Presence, Proof, Steps, hash_leaf, hash_value};
 
 /// Whether the proof shows that the key has the value under the root (ICS 23, "VerifyMembership"). It takes no memory,
 /// and hashes each node of a path once.
@@ -85,7 +85,8 @@ fn presence_root(presence: &Presence) -> [u8; 32]
     requires { presence.now.leaf_prefix ≡ leaf_mark }
     ensures { result ≡ proofs.presence_root presence.now }
 {
-    let value_hash = hash_value(presence.value.as_slice());
-    let leaf = hash_leaf(presence.key.as_slice(), &value_hash);
+    let mut steps = Steps::new();
+    let value_hash = hash_value(presence.value.as_slice(), &mut steps);
+    let leaf = hash_leaf(presence.key.as_slice(), &value_hash, &mut steps);
     climb(leaf, presence.operations.as_slice())
 }

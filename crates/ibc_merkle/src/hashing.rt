@@ -2,20 +2,48 @@
 
 ghost use Rattle.std.specs.Prelude.{◌≡◌, ◌∷◌, ◌++◌, length};
 ghost use Rattle.ibc_ids.specs.Texts.{Text};
-ghost use Rattle.ibc_merkle.specs.Hash.{hash, varint, leaf_mark, inner_text};
+ghost use Rattle.ibc_merkle.specs.Hash.{hash, varint, leaf_mark, inner_text, one_more};
 ghost use Rattle.sha2.specs.Hashers.{Holds256};
 
+use crate::steps::Steps;
 use sha2::{Digest, Sha256};
 
-/// The hash of a leaf's value.
-pub fn hash_value(value: &[u8]) -> [u8; 32]
+/// The hash of a leaf's value. One text is hashed.
+pub fn hash_value(value: &[u8], steps: &mut Steps) -> [u8; 32]
+    ensures digest { result ≡ hash value.now }
+    ensures steps { steps.new ≡ one_more steps.old }
+{
+    steps.add();
+    value_digest(value)
+}
+
+/// The hash of a leaf, of its key and its value's hash. One text is hashed.
+pub fn hash_leaf(key: &[u8], value_hash: &[u8; 32], steps: &mut Steps) -> [u8; 32]
+    ensures digest { result ≡ hash (leaf_mark ++ varint (length key.now) ++ key.now ++ 0x20 ∷ value_hash.now) }
+    ensures steps { steps.new ≡ one_more steps.old }
+{
+    steps.add();
+    leaf_digest(key, value_hash)
+}
+
+/// The hash of an inner node, of its children's hashes. One text is hashed.
+pub fn hash_inner(left: &[u8; 32], right: &[u8; 32], steps: &mut Steps) -> [u8; 32]
+    ensures digest { result ≡ hash (inner_text left.now right.now) }
+    ensures steps { steps.new ≡ one_more steps.old }
+{
+    steps.add();
+    inner_digest(left, right)
+}
+
+// The hash of a leaf's value.
+pub(crate) fn value_digest(value: &[u8]) -> [u8; 32]
     ensures { result ≡ hash value.now }
 {
     Sha256::digest(value)
 }
 
-/// The hash of a leaf, of its key and its value's hash.
-pub fn hash_leaf(key: &[u8], value_hash: &[u8; 32]) -> [u8; 32]
+// The hash of a leaf, of its key and its value's hash.
+pub(crate) fn leaf_digest(key: &[u8], value_hash: &[u8; 32]) -> [u8; 32]
     ensures { result ≡ hash (leaf_mark ++ varint (length key.now) ++ key.now ++ 0x20 ∷ value_hash.now) }
 {
     let mut hasher = Sha256::new();
@@ -27,8 +55,8 @@ pub fn hash_leaf(key: &[u8], value_hash: &[u8; 32]) -> [u8; 32]
     hasher.finalize()
 }
 
-/// The hash of an inner node, of its children's hashes.
-pub fn hash_inner(left: &[u8; 32], right: &[u8; 32]) -> [u8; 32]
+// The hash of an inner node, of its children's hashes.
+pub(crate) fn inner_digest(left: &[u8; 32], right: &[u8; 32]) -> [u8; 32]
     ensures { result ≡ hash (inner_text left.now right.now) }
 {
     let mut hasher = Sha256::new();

@@ -7,6 +7,7 @@ mod laws;
 mod merkle_tree;
 mod proof;
 mod search;
+mod steps;
 mod tree;
 mod writing;
 
@@ -16,5 +17,6 @@ pub use laws::{accepted_is_written, written_is_accepted};
 pub use merkle_tree::MerkleTree;
 pub use proof::{Absence, Operation, Operations, Presence, Proof};
 pub use search::place;
-pub use tree::root;
+pub use steps::Steps;
+pub use tree::{root, split_of};
 pub use writing::{prove, prove_absent, prove_present};

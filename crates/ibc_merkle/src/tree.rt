@@ -6,7 +6,7 @@ ghost use Rattle.ibc_merkle.specs.Tree.{largest_power_below, tree_root};
 ghost use Rattle.ibc_merkle.specs.Kept.{digests_of};
 
 use crate::entry::Entry;
-use crate::hashing::{hash_inner, hash_leaf, hash_value};
+use crate::hashing::{inner_digest, leaf_digest, value_digest};
 use ibc_ids::Root;
 use std::alloc::{AllocError, Global};
 
@@ -23,11 +23,12 @@ pub fn root(entries: &[Entry]) -> Root
 fn leaf_hash(entry: &Entry) -> [u8; 32]
     ensures { result ≡ hash (leaf_text leaf_mark entry.now.0 entry.now.1) }
 {
-    hash_leaf(entry.key(), &hash_value(entry.value()))
+    leaf_digest(entry.key(), &value_digest(entry.value()))
 }
 
-// The largest power of two below a number of leaves.
-pub(crate) fn split_of(leaves: usize) -> usize
+/// The largest power of two below a number of leaves, of which there are two at least: how many of them stand on the
+/// left (RFC 6962, section 2.1).
+pub fn split_of(leaves: usize) -> usize
     requires { 1 < leaves }
     ensures power { result ≡ largest_power_below leaves }
     ensures some { 0 < result }
@@ -49,7 +50,7 @@ pub(crate) fn tree_root_of(entries: &[Entry]) -> [u8; 32]
         return leaf_hash(&entries[0]);
     }
     let (left, right) = entries.split_at(split_of(entries.len()));
-    hash_inner(&tree_root_of(left), &tree_root_of(right))
+    inner_digest(&tree_root_of(left), &tree_root_of(right))
 }
 
 // The digests of the tree over the pairs.
@@ -76,7 +77,7 @@ fn add_digests(digests: &mut Vec<[u8; 32]>, entries: &[Entry]) -> Result<[u8; 32
     let (left, right) = entries.split_at(split_of(entries.len()));
     let left = add_digests(digests, left)?;
     let right = add_digests(digests, right)?;
-    add_digest(digests, hash_inner(&left, &right))
+    add_digest(digests, inner_digest(&left, &right))
 }
 
 // Adds a digest, and answers it.

@@ -8,8 +8,8 @@ ghost use Rattle.ibc_ids.specs.Texts.{text_cmp};
 use ibc_ics23_proof::verify_absent;
 use ibc_ids::{Bytes, Refusal};
 use ibc_merkle::{
-    Entry, MerkleTree, Presence, Proof, hash_inner, hash_leaf, hash_value, place, prove_absent,
-    prove_present, root,
+    Entry, MerkleTree, Presence, Proof, Steps, hash_inner, hash_leaf, hash_value, place,
+    prove_absent, prove_present, root, split_of,
 };
 use std::alloc::{AllocError, Global};
 
@@ -26,7 +26,7 @@ fn the_hash_of_a_value(rt: HostRuntime) {
     assert!(rt;
         is_hex(
             rt.alloc(),
-            hash_value(b"abc".as_slice()).as_slice(),
+            hash_value(b"abc".as_slice(), &mut Steps::new()).as_slice(),
             expected
         )
     );
@@ -34,8 +34,9 @@ fn the_hash_of_a_value(rt: HostRuntime) {
 
 // Whether this is the hash of the leaf of a counter at 0.
 fn is_leaf(alloc: Global, key: &[u8], text: &str) -> bool {
-    let value = hash_value([0u8; 8].as_slice());
-    is_hex(alloc, hash_leaf(key, &value).as_slice(), text)
+    let mut steps = Steps::new();
+    let value = hash_value([0u8; 8].as_slice(), &mut steps);
+    is_hex(alloc, hash_leaf(key, &value, &mut steps).as_slice(), text)
 }
 
 // The length of a key is written in one byte below 128, and in two from there on.
@@ -51,17 +52,22 @@ fn leaves_of_short_and_long_keys(rt: HostRuntime) {
 }
 
 // The hash of a counter's leaf.
-fn counter_hash(key: &str) -> [u8; 32] {
-    hash_leaf(key.as_bytes(), &hash_value([0u8; 8].as_slice()))
+fn counter_hash(key: &str, steps: &mut Steps) -> [u8; 32] {
+    let value = hash_value([0u8; 8].as_slice(), steps);
+    hash_leaf(key.as_bytes(), &value, steps)
 }
 
 #[test]
 fn three_leaves_are_split_after_two(rt: HostRuntime) {
-    let channels = counter_hash("nextChannelSequence");
-    let clients = counter_hash("nextClientSequence");
-    let connections = counter_hash("nextConnectionSequence");
-    let hash = hash_inner(&hash_inner(&channels, &clients), &connections);
+    let mut steps = Steps::new();
+    let channels = counter_hash("nextChannelSequence", &mut steps);
+    let clients = counter_hash("nextClientSequence", &mut steps);
+    let connections = counter_hash("nextConnectionSequence", &mut steps);
+    let first = hash_inner(&channels, &clients, &mut steps);
+    let hash = hash_inner(&first, &connections, &mut steps);
     assert!(rt; is_hex(rt.alloc(), hash.as_slice(), GENESIS_ROOT));
+    assert!(rt; steps.count() == 8);
+    assert!(rt; split_of(3) == 2);
 }
 
 // A counter at 0.

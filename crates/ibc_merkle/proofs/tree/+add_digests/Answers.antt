@@ -7,9 +7,9 @@ use Rattle.ibc_merkle.proofs.Trees.{tree_root-halves}
 use Rattle.ibc_merkle.proofs.Kept.{added_halves}
 use Rattle.ibc_merkle.proofs.tree.+add_digests.Goals as goal
 
-root_is : {t : _} (c : goal.After-add_digest-2 t) → c.hash_inner.result ≡ tree_root c.args.entries.now
+root_is : {t : _} (c : goal.After-add_digest-2 t) → c.inner_digest.result ≡ tree_root c.args.entries.now
 root_is c =
-    c.hash_inner.ensures
+    c.inner_digest.ensures
     ∙ ap₂ (λ l r. hash (inner_text l r))
     (c.in_ok-left.ensures.root ∙ ap tree_root c.split_at.ensures.front)
     (c.in_ok-right.ensures.root ∙ ap tree_root c.split_at.ensures.back)

@@ -7,7 +7,7 @@ use Rattle.ibc_merkle.proofs.tree.+tree_root_of.Goals as goal
 
 pub returns : goal.returns
 returns t c =
-    c.hash_inner.ensures
+    c.inner_digest.ensures
     ∙ ap₂ (λ l r. hash (inner_text l r))
     (c.tree_root_of.ensures ∙ ap tree_root c.split_at.ensures.front)
     (c.tree_root_of-2.ensures ∙ ap tree_root c.split_at.ensures.back)
