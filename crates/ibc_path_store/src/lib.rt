@@ -2,7 +2,8 @@
 #![tactic(auto)]
 
 mod path_map;
-mod snapshot;
 mod store;
+mod tree;
 
 pub use store::Store;
+pub use tree::Tree;

@@ -9,7 +9,7 @@ ghost use Rattle.ibc_ids.specs.Texts.{text_cmp};
 ghost use Rattle.ibc_ids.specs.Maps.{at, with, without};
 
 use ibc_ids::Bytes;
-use ibc_merkle::{Entry, MerkleTree, place};
+use ibc_merkle::{Entry, place};
 use std::alloc::{AllocError, Global};
 use std::marker::Model;
 
@@ -88,11 +88,12 @@ impl PathMap {
         }
     }
 
-    /// The tree over a copy of the pairs.
-    pub fn tree(&self) -> Result<MerkleTree, AllocError>
-        ensures { IfOk result (λ tree. tree ≡ self.now.pairs) }
+    /// The pairs; their keys strictly rise in byte order.
+    pub fn entries(&self) -> &[Entry]
+        ensures pairs { result.now ≡ self.now.pairs }
+        ensures sorted { IsTrue (is_sorted text_cmp result.now) }
     {
-        MerkleTree::of(*self.entries.allocator(), self.entries.clone()?)
+        self.entries.as_slice()
     }
 
     // Where a path stands, or where it would stand.

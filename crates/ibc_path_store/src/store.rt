@@ -1,6 +1,6 @@
 //! A store of records by path, with its committed heights.
 
-ghost use Rattle.std.specs.Prelude.{◌≡◌, ◌⊎◌, ◌↔◌, ◌+◌, ◌-◌, ◌^◌, ◌≤◌, ◌<◌, ℕ, [], length, min, IsTrue, IsOk, OnOk, OnErr, IfOk, IfErr, IsNone, option_map, option_copied, string_bytes};
+ghost use Rattle.std.specs.Prelude.{◌≡◌, ◌⊎◌, ◌↔◌, ◌+◌, ◌-◌, ◌^◌, ◌≤◌, ◌<◌, ℕ, [], length, min, IsTrue, IsOk, OnOk, OnErr, IfSome, IfOk, IfErr, IsNone, Some, None, slice_index_or, option_map, string_bytes};
 ghost use Rattle.std.specs.Option.{IsSomeAnd};
 ghost use Rattle.ibc_ids.specs.Texts.{text_cmp};
 ghost use Rattle.ibc_ids.specs.Maps.{at, with, without};
@@ -11,11 +11,11 @@ ghost use Rattle.ibc_merkle.specs.Written.{written};
 ghost use Rattle.ibc_path_store.specs.Held.{committed, height_of, kept_at};
 
 use crate::path_map::PathMap;
-use crate::snapshot::Snapshot;
+use crate::tree::Tree;
 use ibc_ids::{Bytes, Key, Refusal, Root};
 use ibc_merkle::Proof;
+use ibc_nodes::Forest;
 use std::alloc::Global;
-use std::collections::VecDeque;
 use std::marker::Model;
 
 /// A chain's provable records: a working map from paths to values, the working time, and of the committed heights the
@@ -27,7 +27,7 @@ pub struct Store {
     time: u64,
     window: u64,
     gone: u64,
-    kept: VecDeque<Snapshot>,
+    forest: Forest,
 }
 
 impl Model for Store {
@@ -42,10 +42,10 @@ impl Model for Store {
       time = store.time;
       window = store.window;
       gone = store.gone;
-      kept = store.kept.items;
+      kept = store.forest.kept;
     } };
 
-    ghost invariant = { λ store. length store.kept.items ≤ store.window };
+    ghost invariant = { λ store. length store.forest.kept ≤ store.window };
 }
 
 impl Store {
@@ -63,7 +63,7 @@ impl Store {
             time,
             window,
             gone: 0,
-            kept: VecDeque::new(alloc),
+            forest: Forest::new(alloc),
         }
     }
 
@@ -71,7 +71,13 @@ impl Store {
     pub fn height(&self) -> u64
         ensures { result ≡ min (height_of self.now) (2 ^ 64 - 1) }
     {
-        self.gone.saturating_add(self.kept.len() as u64)
+        self.gone.saturating_add(self.forest.heights() as u64)
+    }
+
+    /// How many texts were hashed for the accepted commits, and never above 2^64 - 1 (`Forest::commit` says how many at
+    /// most).
+    pub fn digests(&self) -> u64 {
+        self.forest.digests()
     }
 
     /// The working time.
@@ -133,13 +139,10 @@ impl Store {
         if next_time < self.time {
             return Err(Refusal::TimeBack);
         }
-        let tree = self.map.tree()?;
-        self.kept.reserve(1)?;
-        let root = tree.root();
-        self.kept.push_back_reserved(Snapshot::new(tree, self.time));
+        let root = self.forest.commit(self.map.entries(), self.time)?;
         self.time = next_time;
-        if self.kept.len() as u64 > self.window {
-            self.kept.pop_front();
+        if self.forest.heights() as u64 > self.window {
+            self.forest.forget_first();
             self.gone = self.gone.saturating_add(1);
         }
         Ok(root)
@@ -153,23 +156,38 @@ impl Store {
         ensures unknown { (result ≡ Err NoConsensus) ↔ IsNone (kept_at self.now height) }
         ensures err { IfErr result (λ refusal. (refusal ≡ NoConsensus) ⊎ (refusal ≡ NoMemory)) }
     {
-        match self.snapshot(height) {
-            Some(snapshot) => {
-                let alloc = *self.kept.allocator();
-                let path = key.path(alloc)?;
-                snapshot.tree().prove(alloc, path.as_bytes())
-            }
-            None => Err(Refusal::NoConsensus),
-        }
+        let index = self.kept_index(height).ok_or(Refusal::NoConsensus)?;
+        let alloc = self.forest.allocator();
+        let path = key.path(alloc)?;
+        Ok(self.forest.prove(alloc, index, path.as_bytes())?)
     }
 
-    // What is kept of a height.
-    fn snapshot(&self, height: u64) -> Option<&Snapshot>
-        ensures { option_copied result ≡ kept_at self.now height }
+    /// The tree of a committed height, as a value of its own; nothing is hashed for it, and all but the last few nodes are
+    /// shared. `NoConsensus` exactly where the height isn't committed or is gone from the window, `NoMemory` where a growth
+    /// is refused.
+    pub fn snapshot(&self, height: u64) -> Result<Tree, Refusal>
+        ensures ok { IfOk result (λ tree. IsSomeAnd (kept_at self.now height) (λ kept. tree ≡ kept.0)) }
+        ensures unknown { (result ≡ Err NoConsensus) ↔ IsNone (kept_at self.now height) }
+        ensures err { IfErr result (λ refusal. (refusal ≡ NoConsensus) ⊎ (refusal ≡ NoMemory)) }
+    {
+        let index = self.kept_index(height).ok_or(Refusal::NoConsensus)?;
+        Ok(Tree::new(self.forest.tree(index)?))
+    }
+
+    // The place of a height among those that are kept.
+    fn kept_index(&self, height: u64) -> Option<usize>
+        ensures there { IfSome result (λ index. index < length self.now.kept) }
+        ensures kept { IfSome result (λ index. kept_at self.now height ≡ Some (slice_index_or self.now.kept index ([], 0))) }
+        ensures none { result ≡ None → kept_at self.now height ≡ None }
     {
         if height <= self.gone {
             return None;
         }
-        self.kept.get((height - self.gone - 1) as usize)
+        let index = height - self.gone - 1;
+        if index < self.forest.heights() as u64 {
+            Some(index as usize)
+        } else {
+            None
+        }
     }
 }

@@ -1,0 +1,13 @@
+pub mod Levels
+pub mod Arenas
+pub mod Pairing
+pub mod Descents
+pub mod Climbing
+pub mod Workings
+pub mod Committing
+pub mod Chunks
+pub mod LeafRows
+pub mod Putting
+pub mod Turning
+pub mod Places
+pub mod Moved

@@ -1,0 +1,10 @@
+pub mod Codes
+pub mod Forest
+pub mod HeldForest
+pub mod Heights
+pub mod Leaves
+pub mod Levels
+pub mod Moving
+pub mod Nodes
+pub mod Rows
+pub mod Shelves

@@ -1,0 +1,129 @@
+//! Rows of leaves.
+
+ghost use Rattle.std.specs.Prelude.{◌≡◌, ◌+◌, ◌*◌, ◌<◌, ◌≤◌, true, Ok, length, drop, map, slice_index_or, IfOk};
+ghost use Rattle.ibc_merkle.specs.Tree.{tree};
+ghost use Rattle.ibc_nodes.specs.Levels.{leaf_of, tree_at, trees_at};
+ghost use Rattle.ibc_nodes.specs.Leaves.{pair_at, row_pairs, AreLeaves, from_key, behind_key, begins_with, is_new, count_new, keys, differing};
+ghost use Rattle.ibc_nodes.specs.Nodes.{Grows};
+ghost use Rattle.ibc_nodes.specs.Rows.{Stand};
+ghost use Rattle.ibc_ids.specs.Texts.{same_text};
+ghost use Rattle.ibc_merkle.specs.Proofs.{is_below};
+
+use crate::arena::Arena;
+use crate::node::Below;
+use ibc_merkle::Entry;
+use std::alloc::{AllocError, Global};
+
+// The pair of a leaf.
+fn leaf_at(arena: &Arena, node: usize) -> &Entry
+    requires there { node < length arena.now.trees }
+    requires leaf { tree_at arena.now.trees node ≡ leaf_of (pair_at arena.now.trees node) }
+    ensures { tree_at arena.now.trees node ≡ leaf_of result.now }
+{
+    match arena.below(node) {
+        Below::Record(entry) => entry,
+        Below::Children(_, _) => unreachable!(),
+    }
+}
+
+// Whether these are the same bytes.
+fn is_same(a: &[u8], b: &[u8]) -> bool
+    ensures { result ≡ same_text a.now b.now }
+{
+    a == b
+}
+
+// Whether the first bytes stand below the second in byte order.
+fn stands_below(a: &[u8], b: &[u8]) -> bool
+    ensures { result ≡ is_below a.now b.now }
+{
+    a.cmp(b).is_lt()
+}
+
+// The place of a row of leaves, from a place on, where the keys aren't below this one any more.
+fn place_from(arena: &Arena, row: &[usize], from: usize, key: &[u8]) -> usize
+    requires leaves { AreLeaves arena.now.trees row.now }
+    requires from { from ≤ length row.now }
+    ensures rest { drop result (row_pairs arena.now.trees row.now) ≡ from_key key.now (drop from (row_pairs arena.now.trees row.now)) }
+    ensures within { result ≤ length row.now }
+{
+    for at in from..row.len() {
+        if !stands_below(leaf_at(arena, row[at]).key(), key) {
+            return at;
+        }
+    }
+    row.len()
+}
+
+// The place behind a place of a row of leaves, if a leaf of this key is there, and else the place.
+fn place_behind(arena: &Arena, row: &[usize], at: usize, key: &[u8]) -> usize
+    requires leaves { AreLeaves arena.now.trees row.now }
+    requires within { at ≤ length row.now }
+    ensures rest { drop result (row_pairs arena.now.trees row.now) ≡ behind_key key.now (drop at (row_pairs arena.now.trees row.now)) }
+    ensures within { result ≤ length row.now }
+{
+    if at == row.len() {
+        return at;
+    }
+    if is_same(leaf_at(arena, row[at]).key(), key) {
+        return at + 1;
+    }
+    at
+}
+
+// Whether the leaf of a pair stands at a place of a row of leaves.
+fn is_there(arena: &Arena, row: &[usize], at: usize, entry: &Entry) -> bool
+    requires leaves { AreLeaves arena.now.trees row.now }
+    requires within { at ≤ length row.now }
+    ensures { result ≡ begins_with entry.now (drop at (row_pairs arena.now.trees row.now)) }
+{
+    if at == row.len() {
+        return false;
+    }
+    let leaf = leaf_at(arena, row[at]);
+    is_same(leaf.key(), entry.key()) && is_same(leaf.value(), entry.value())
+}
+
+// The leaf of a pair: the one at a place of a row, if it is that of the pair, and else a new one, for which two texts
+// are hashed.
+fn leaf_for(arena: &mut Arena, row: &[usize], at: usize, entry: &Entry) -> Result<usize, AllocError>
+    requires leaves { AreLeaves arena.old.trees row.now }
+    requires within { at ≤ length row.now }
+    ensures leaf { IfOk result (λ leaf. tree_at arena.new.trees leaf ≡ leaf_of entry.now) }
+    ensures there { IfOk result (λ leaf. leaf < length arena.new.trees) }
+    ensures grows { Grows arena.old.trees arena.new.trees }
+    ensures steps { arena.new.steps ≤ arena.old.steps + 2 * is_new entry.now (drop at (row_pairs arena.old.trees row.now)) }
+    ensures kept { is_new entry.now (drop at (row_pairs arena.old.trees row.now)) ≡ 0 → result ≡ Ok (slice_index_or row.now at 0) }
+{
+    if is_there(arena, row, at, entry) {
+        return Ok(row[at]);
+    }
+    arena.leaf(entry.clone()?)
+}
+
+// The leaves of pairs, and those of a row of leaves where they have the same pairs: two texts are hashed for each other
+// one.
+pub(crate) fn leaf_row(
+    alloc: Global,
+    arena: &mut Arena,
+    old: &[usize],
+    entries: &[Entry],
+) -> Result<Vec<usize>, AllocError>
+    requires { AreLeaves arena.old.trees old.now }
+    ensures leaves { IfOk result (λ row. trees_at arena.new.trees row.items ≡ map leaf_of entries.now) }
+    ensures stand { IfOk result (λ row. Stand arena.new.trees row.items) }
+    ensures grows { Grows arena.old.trees arena.new.trees }
+    ensures steps { IfOk result (λ row. arena.new.steps ≤ arena.old.steps + 2 * count_new (row_pairs arena.old.trees old.now) entries.now) }
+    ensures same { keys entries.now ≡ keys (row_pairs arena.old.trees old.now) → IfOk result (λ row. differing row.items old.now ≤ count_new (row_pairs arena.old.trees old.now) entries.now) }
+{
+    let mut row = Vec::with_capacity(alloc, entries.len())?;
+    let mut at = 0;
+    for i in 0..entries.len() {
+        let entry = &entries[i];
+        let found = place_from(arena, old, at, entry.key());
+        let leaf = leaf_for(arena, old, found, entry)?;
+        row.push(leaf)?;
+        at = place_behind(arena, old, found, entry.key());
+    }
+    Ok(row)
+}

@@ -1,0 +1,21 @@
+//! Trees that share their nodes.
+#![tactic(auto)]
+
+mod arena;
+mod ascent;
+mod descent;
+mod forest;
+mod leaves;
+mod moving;
+mod next_rows;
+mod node;
+mod nodes;
+mod place;
+mod proving;
+mod rows;
+mod shared_tree;
+mod shelf;
+mod working;
+
+pub use forest::Forest;
+pub use shared_tree::SharedTree;

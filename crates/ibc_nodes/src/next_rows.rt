@@ -1,0 +1,90 @@
+//! The rows of the tree over pairs, from the rows of the tree before.
+
+ghost use Rattle.std.specs.Prelude.{true, false, ◌≡◌, ◌+◌, ◌-◌, ◌*◌, ◌^◌, ◌<◌, ◌≤◌, ℕ, length, IfOk};
+ghost use Rattle.ibc_nodes.specs.Leaves.{row_pairs, count_new, keys, differing};
+ghost use Rattle.ibc_nodes.specs.Nodes.{Grows};
+ghost use Rattle.ibc_nodes.specs.Rows.{Stand, IsPyramid, rows_of, first_row};
+ghost use Rattle.ibc_nodes.specs.Forest.{IsWorking, IsLast};
+
+use crate::arena::Arena;
+use crate::leaves::leaf_row;
+use crate::working::{copied, count_differing, first_of, put_leaves, raised};
+use ibc_merkle::Entry;
+use std::alloc::{AllocError, Global};
+
+// Whether it takes fewer texts to put the other leaves into the tree than it has leaves.
+fn are_few(rows: &[Vec<usize>], row: &[usize]) -> bool
+    ensures few { result ≡ true → (length row.now ≡ length (first_row (rows_of rows.now))) × (differing row.now (first_row (rows_of rows.now)) * (length rows.now - 1) < length row.now) }
+    ensures many { result ≡ false → length row.now ≡ length (first_row (rows_of rows.now)) → length row.now ≤ differing row.now (first_row (rows_of rows.now)) * (length rows.now - 1) }
+{
+    let old = first_of(rows);
+    if row.len() != old.len() {
+        return false;
+    }
+    let above = rows.len().saturating_sub(1);
+    count_differing(row, old).saturating_mul(above) < row.len()
+}
+
+// The rows with other leaves: at most one text is hashed for each other one and row above it.
+fn changed(
+    alloc: Global,
+    arena: &mut Arena,
+    rows: &[Vec<usize>],
+    row: &[usize],
+) -> Result<Vec<Vec<usize>>, AllocError>
+    requires levels { IsPyramid arena.old.trees (rows_of rows.now) }
+    requires stand { Stand arena.old.trees row.now }
+    requires counted { length row.now ≡ length (first_row (rows_of rows.now)) }
+    ensures levels { IfOk result (λ next. IsPyramid arena.new.trees (rows_of next.items)) }
+    ensures row { IfOk result (λ next. first_row (rows_of next.items) ≡ row.now) }
+    ensures grows { Grows arena.old.trees arena.new.trees }
+    ensures steps { IfOk result (λ _. arena.new.steps ≤ arena.old.steps + differing row.now (first_row (rows_of rows.now)) * (length rows.now - 1)) }
+{
+    let mut next = copied(alloc, rows)?;
+    let mut path = Vec::new(alloc);
+    put_leaves(arena, next.as_mut_slice(), &mut path, row)?;
+    Ok(next)
+}
+
+// The rows over a row of leaves, from the rows before: fewer texts are hashed than there are leaves, and of as many leaves
+// as before at most one for each other leaf and row above it.
+fn rows_over(
+    alloc: Global,
+    arena: &mut Arena,
+    rows: &[Vec<usize>],
+    row: Vec<usize>,
+) -> Result<Vec<Vec<usize>>, AllocError>
+    requires last { IsLast arena.old.trees (rows_of rows.now) }
+    requires stand { Stand arena.old.trees row.items }
+    requires some { 0 < length row.items }
+    ensures levels { IfOk result (λ next. IsPyramid arena.new.trees (rows_of next.items)) }
+    ensures row { IfOk result (λ next. first_row (rows_of next.items) ≡ row.items) }
+    ensures grows { Grows arena.old.trees arena.new.trees }
+    ensures steps { IfOk result (λ _. arena.new.steps + 1 ≤ arena.old.steps + length row.items) }
+    ensures few { length row.items ≡ length (first_row (rows_of rows.now)) → IfOk result (λ _. arena.new.steps ≤ arena.old.steps + differing row.items (first_row (rows_of rows.now)) * (length rows.now - 1)) }
+{
+    if are_few(rows, row.as_slice()) {
+        return changed(alloc, arena, rows, row.as_slice());
+    }
+    raised(alloc, arena, row)
+}
+
+// The rows of the tree over pairs, from the rows before: at most two texts are hashed for each new pair, and fewer over
+// them than there are pairs; where the keys are the same, at most one for each new pair and level above it.
+pub(crate) fn next_rows(
+    alloc: Global,
+    arena: &mut Arena,
+    rows: &[Vec<usize>],
+    entries: &[Entry],
+) -> Result<Vec<Vec<usize>>, AllocError>
+    requires last { IsLast arena.old.trees (rows_of rows.now) }
+    requires some { 0 < length entries.now }
+    ensures working { IfOk result (λ next. IsWorking arena.new.trees (rows_of next.items)) }
+    ensures pairs { IfOk result (λ next. row_pairs arena.new.trees (first_row (rows_of next.items)) ≡ entries.now) }
+    ensures grows { Grows arena.old.trees arena.new.trees }
+    ensures steps { let new = count_new (row_pairs arena.old.trees (first_row (rows_of rows.now))) entries.now in IfOk result (λ _. arena.new.steps + 1 ≤ arena.old.steps + 2 * new + length entries.now) }
+    ensures same { let last = row_pairs arena.old.trees (first_row (rows_of rows.now)) in keys entries.now ≡ keys last → (log : ℕ) → length entries.now ≤ 2 ^ log → IfOk result (λ _. arena.new.steps ≤ arena.old.steps + count_new last entries.now * (2 + log)) }
+{
+    let row = leaf_row(alloc, arena, first_of(rows), entries)?;
+    rows_over(alloc, arena, rows, row)
+}
