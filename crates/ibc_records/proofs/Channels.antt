@@ -40,7 +40,7 @@ module _ (old : HeldRecords) (port id : Text) (end : ChannelEnd) (channels : Cha
       let above : old.next_channel < old.next_channel + 1 = omega arith in
       let still = still_orderly (old.next_channel + 1) old.channels (port, id) (new_channel end) (counted old.next_channel old.channels held.orderly) (old.next_channel, above, next) (orderly_new end) in
       subst (λ cs. IsHeld (record old { channels = cs; next_channel = old.next_channel + 1; store = s3 }) × AddsChannel old port id end (record old { channels = cs; next_channel = old.next_channel + 1; store = s3 })) (sym is)
-      (is_held old after core _ is_image becomes refl still, record { records = refl; stored = is_stored old after core _ is_image becomes refl; core = refl })
+      (is_held old after core _ is_image becomes refl refl still, record { records = refl; stored = is_stored old after core _ is_image becomes refl refl; core = refl })
 
   pub sets : (channel : Channel) (s1 s2 : HeldStore) {p v : Text} → at pair_cmp (port, id) old.channels ≡ Some channel
       → channels ≡ with pair_cmp (port, id) (record channel { end = end }) old.channels
@@ -55,12 +55,12 @@ module _ (old : HeldRecords) (port id : Text) (end : ChannelEnd) (channels : Cha
       let after : HeldRecords = record old { channels = with pair_cmp (port, id) (record channel { end = end }) old.channels; store = s2 } in
       let still = still_there old port id channel (record channel { end = end }) held there (orderly_alike channel (record channel { end = end }) refl refl (held.orderly.ends port id channel there)) in
       subst (λ cs. IsHeld (record old { channels = cs; store = s2 }) × SetsChannelEnd old port id end (record old { channels = cs; store = s2 })) (sym is) (
-        is_held old after core _ is_image becomes refl still,
+        is_held old after core _ is_image becomes refl refl still,
         record {
           channel = channel;
           stood = there;
           records = refl;
-          stored = is_stored old after core _ is_image becomes refl;
+          stored = is_stored old after core _ is_image becomes refl refl;
           core = refl;
         },
       )

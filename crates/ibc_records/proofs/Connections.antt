@@ -37,7 +37,7 @@ module _ (old : HeldRecords) (id : Text) (end : ConnectionEnd) (connections : Li
       let becomes = becomes_set old.store _ s1 s2 (becomes_roomy old.store s1 e) f ep ev in
       let after : HeldRecords = record old { connections = with text_cmp id end old.connections; store = s2 } in
       subst (λ cs. IsHeld (record old { connections = cs; store = s2 }) × SetsConnection old id end (record old { connections = cs; store = s2 })) (sym entries)
-      (is_held old after with_it set_pairs image_with becomes refl held.orderly, record { records = refl; stored = is_stored old after with_it set_pairs image_with becomes refl; core = refl })
+      (is_held old after with_it set_pairs image_with becomes refl refl held.orderly, record { records = refl; stored = is_stored old after with_it set_pairs image_with becomes refl refl; core = refl })
 
   pub adds : (s1 s2 s3 : HeldStore) {p v q w : Text} → p ≡ path (key.Connection id) → v ≡ value_bytes (ConnectionIs end)
       → q ≡ path key.NextConnectionSequence → w ≡ value_bytes (NumberIs (old.next_connection + 1))
@@ -51,4 +51,4 @@ module _ (old : HeldRecords) (id : Text) (end : ConnectionEnd) (connections : Li
       (keyed-next_connection with_it (old.next_connection + 1) image_with.keyed) (changes-next_connection with_it (old.next_connection + 1)) in
       let after : HeldRecords = record old { connections = with text_cmp id end old.connections; next_connection = old.next_connection + 1; store = s3 } in
       subst (λ cs. IsHeld (record old { connections = cs; next_connection = old.next_connection + 1; store = s3 }) × AddsConnection old id end (record old { connections = cs; next_connection = old.next_connection + 1; store = s3 })) (sym entries)
-      (is_held old after core _ is_image becomes refl held.orderly, record { records = refl; stored = is_stored old after core _ is_image becomes refl; core = refl })
+      (is_held old after core _ is_image becomes refl refl held.orderly, record { records = refl; stored = is_stored old after core _ is_image becomes refl refl; core = refl })

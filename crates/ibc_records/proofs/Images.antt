@@ -35,7 +35,7 @@ image_set old new k v pairs before keyed changes =
     image_changed old new ((k, Some v) ∷ []) pairs before keyed (one_change old new k v keyed changes)
 
 -- records whose store became the image of their core
-module _ (old new : HeldRecords) (core : Core) (pairs : Pairs) (is_image : IsImageOf core pairs) (becomes : Becomes old.store pairs new.store) (core_is : core_of new ≡ core) where
+module _ (old new : HeldRecords) (core : Core) (pairs : Pairs) (is_image : IsImageOf core pairs) (becomes : Becomes old.store pairs new.store) (core_is : core_of new ≡ core) (same_last : new.last ≡ old.last) where
   image_of : new.store.pairs ≡ image (core_of new)
   image_of = becomes.pairs_are ∙ is_image.pairs_are ∙ ap image (sym core_is)
 
@@ -43,4 +43,4 @@ module _ (old new : HeldRecords) (core : Core) (pairs : Pairs) (is_image : IsIma
   is_held orderly = record { keyed = subst IsKeyed (sym core_is) is_image.keyed; stored = image_of; orderly = orderly }
 
   pub is_stored : IsStored old new
-  is_stored = record { store = becomes.rewrites; image_of = image_of }
+  is_stored = record { store = becomes.rewrites; image_of = image_of; last = same_last }

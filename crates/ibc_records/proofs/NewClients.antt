@@ -46,7 +46,7 @@ module _ (old : HeldRecords) (id : Text) (chain : ℕ) (store : HeldStore) where
   pub adds_client : IsHeld old → IsTrue (is_client id) → Becomes old.store set_pairs store → IsHeld after × AddsClient old id chain after
   adds_client held named becomes =
       let is_image = image_after held named in
-      (is_held old after _ set_pairs is_image becomes core-after held.orderly, record { records = refl; stored = is_stored old after _ set_pairs is_image becomes core-after; core = core-after })
+      (is_held old after _ set_pairs is_image becomes core-after refl held.orderly, record { records = refl; stored = is_stored old after _ set_pairs is_image becomes core-after refl; core = core-after })
 
 -- the same, from what the calls on the map and the store say
 pub added : (old : HeldRecords) (id : Text) (chain : ℕ) (clients : List (Text × HeldClient)) (s1 s2 s3 : HeldStore) {p v q w : Text} → IsHeld old → IsTrue (is_client id)

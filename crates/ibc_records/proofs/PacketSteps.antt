@@ -44,11 +44,11 @@ module _ (old : HeldRecords) (port id : Text) (mine after : Channel) (edits : Li
 
   pub edited_held : IsHeld new
   edited_held =
-      is_held old new core _ image_is becomes core_is
+      is_held old new core _ image_is becomes core_is refl
       (subst (λ cs. AreOrderly old.next_channel cs) (sym entries) (still_there old port id mine after held stood orderly))
 
   pub edited_written : IsWritten core old new
-  edited_written = record { core_is = core_is; stored = is_stored old new core _ image_is becomes core_is; knows = same_clients old new refl }
+  edited_written = record { core_is = core_is; stored = is_stored old new core _ image_is becomes core_is refl; knows = same_clients old new refl }
 
 -- ---- the four steps, from what the calls on the map and the store say
 

@@ -42,12 +42,12 @@ module _ (old : HeldRecords) (id : Text) (height : ℕ) (known : ConsensusState)
       let told = updated height (plain_client client) in
       let is_image = image_set (core_of old) (with_client id told (core_of old)) (key.ClientState id) (ClientIs told.state) old.store.pairs (image_in old held)
       (keyed-with_client (core_of old) id told held.keyed named) (changes-with_client (core_of old) id told) in (
-        is_held old after _ _ is_image becomes core-after held.orderly,
+        is_held old after _ _ is_image becomes core-after refl held.orderly,
         record {
           client = client;
           stood = there;
           records = refl;
-          stored = is_stored old after _ _ is_image becomes core-after;
+          stored = is_stored old after _ _ is_image becomes core-after refl;
           core = core-after;
         },
       )

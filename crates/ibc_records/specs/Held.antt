@@ -14,12 +14,22 @@ use Rattle.ibc_machine.specs.Channels.{new_channel, with_new_channel}
 use Rattle.ibc_machine.specs.Genesis.{empty_core}
 use Rattle.ibc_machine.specs.Image.{image, IsKeyed}
 use Rattle.ibc_machine.specs.Clients.{new_client, updated}
-use Rattle.ibc_path_store.specs.Held.{HeldStore}
+use Rattle.ibc_path_store.specs.Held.{HeldStore, committed}
 use Rattle.ibc_flight.specs.Orderly.{IsOrderlyEnd}
 use Rattle.ibc_records.specs.declared.client.ConsensusState.{ConsensusState}
 use Rattle.ibc_records.specs.declared.records.NextNumbers.{NextNumbers}
 use Rattle.ibc_records.specs.HeldClients.{HeldClient, plain_client, new_held, with_height}
 
+-- what the chain proved at its last committed height, with the time of that height
+pub record LastBlock : Type 0 where
+  pub core : Core
+  pub time : ℕ
+
+-- no height is committed
+abbrev pub no_block : LastBlock
+no_block = record { core = empty_core; time = 0 }
+
+-- the working records with their store, and what was committed last
 pub record HeldRecords : Type 0 where
   pub clients : Map Text HeldClient
   pub connections : Map Text ConnectionEnd
@@ -28,6 +38,7 @@ pub record HeldRecords : Type 0 where
   pub next_connection : ℕ
   pub next_channel : ℕ
   pub store : HeldStore
+  pub last : LastBlock
 
 abbrev pub plain_entry : Text × HeldClient → Text × Client
 plain_entry entry = (entry.0, plain_client entry.1)
@@ -77,10 +88,19 @@ pub record IsCountingFrom (window time : ℕ) (next : NextNumbers) (held : HeldR
   pub channels : held.channels ≡ []
   pub core : core_of held ≡ core_from next
   pub store : held.store ≡ record { pairs = image (core_from next); room = held.store.room; time = time; window = window; gone = 0; kept = [] }
+  pub last : held.last ≡ no_block
 
 -- the records of a chain in the beginning, whose working block has this time
 abbrev pub IsNew : ℕ → ℕ → HeldRecords → Type 0
 IsNew window time = IsCountingFrom window time (record { client = 0; connection = 0; channel = 0 })
+
+-- the working block, as it is committed
+abbrev pub as_committed : HeldRecords → LastBlock
+as_committed held = record { core = core_of held; time = held.store.time }
+
+-- the records after a commit, whose working block has this time
+abbrev pub after_commit : HeldRecords → ℕ → HeldRecords
+after_commit held next_time = record held { store = committed held.store next_time; last = as_committed held }
 
 -- nothing changed but how much room there is
 abbrev pub IsUnchanged : HeldRecords → HeldRecords → Type 0
@@ -90,6 +110,7 @@ IsUnchanged old new = new ≡ record old { store = record old.store { room = new
 pub record IsStored (old new : HeldRecords) : Type 0 where
   pub store : new.store ≡ record old.store { pairs = new.store.pairs; room = new.store.room }
   pub image_of : new.store.pairs ≡ image (core_of new)
+  pub last : new.last ≡ old.last
 
 -- a client of a chain was added, and the next is counted
 pub record AddsClient (old : HeldRecords) (id : Text) (chain : ℕ) (new : HeldRecords) : Type 0 where

@@ -4,3 +4,4 @@ pub mod Entries
 pub mod Knowledge
 pub mod Taking
 pub mod Packets
+pub mod Inside

@@ -5,7 +5,7 @@ ghost use Rattle.ibc_ids.specs.declared.refusal.Refusal.TheVariants.{NoMemory};
 ghost use Rattle.ibc_machine.specs.Values.{value_bytes, AckIs};
 
 use ibc_ids::{Bytes, Refusal};
-use ibc_merkle::hash_value;
+use ibc_merkle::{Steps, hash_value};
 use std::alloc::Global;
 use std::marker::Model;
 
@@ -63,7 +63,7 @@ impl AckRoom {
         AckCopies {
             reply: filled(self.reply, ack),
             copy: filled(self.copy, ack),
-            value: filled(self.value, &hash_value(ack)),
+            value: filled(self.value, &hash_value(ack, &mut Steps::new())),
         }
     }
 }

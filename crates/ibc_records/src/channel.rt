@@ -1,6 +1,7 @@
 //! An end of a channel with its counters and its packets.
 
-ghost use Rattle.std.specs.Prelude.{◌≡◌, ◌⊎◌, ◌-◌, ◌^◌, ◌<◌, ◌≤◌, true, Ok, Err, IfOk, IfErr, OnOk, OnErr, option_copied};
+ghost use Rattle.std.specs.Prelude.{◌≡◌, ◌⊎◌, ◌-◌, ◌^◌, ◌<◌, ◌≤◌, true, Ok, Err, IfOk, IfErr, OnOk, OnErr, IsTrue, option_copied};
+ghost use Rattle.std.specs.FinMap.{is_sorted};
 ghost use Rattle.std.specs.Ordering.{nat_cmp};
 ghost use Rattle.ibc_ids.specs.Maps.{at};
 ghost use Rattle.ibc_ids.specs.declared.refusal.Refusal.TheVariants.{NoMemory};
@@ -15,7 +16,7 @@ use ibc_app_port::{App, Pays};
 use ibc_ids::{Bytes, Refusal};
 use ibc_sorted_map::SortedMap;
 use ibc_wire::{ChannelEnd, ChannelState, Order, Packet};
-use std::alloc::Global;
+use std::alloc::{AllocError, Global};
 use std::marker::Model;
 
 /// An end of a channel with its three counters (ICS 4, "Channel paths"): the sequences of the packet that it sends next,
@@ -107,6 +108,14 @@ impl Channel {
         ensures { option_copied result ≡ at nat_cmp sequence self.now.commitments }
     {
         self.commitments.get(&sequence)
+    }
+
+    /// What is committed of the packets that were sent and aren't settled, in the order of their sequences.
+    pub fn commitments(&self) -> &[(u64, Commitment)]
+        ensures pairs { result.now ≡ self.now.commitments }
+        ensures sorted { IsTrue (is_sorted nat_cmp self.now.commitments) }
+    {
+        self.commitments.entries()
     }
 
     /// The packet of a sequence was received, where they come in any order.
@@ -211,5 +220,21 @@ impl Channel {
         ensures { self.new ≡ without_commitment sequence self.old }
     {
         self.commitments.remove(&sequence);
+    }
+}
+
+impl Clone for Channel {
+    ghost is_clone = { λ channel copy. copy ≡ channel };
+
+    fn clone(&self) -> Result<Channel, AllocError> {
+        Ok(Channel {
+            end: self.end.clone()?,
+            next_send: self.next_send,
+            next_recv: self.next_recv,
+            next_ack: self.next_ack,
+            commitments: self.commitments.copy()?,
+            receipts: self.receipts.copy()?,
+            acks: self.acks.copy()?,
+        })
     }
 }

@@ -8,7 +8,7 @@ ghost use Rattle.ibc_records.specs.HeldClients.{new_held, with_height};
 
 use ibc_ids::{Refusal, Root};
 use ibc_wire::ClientState;
-use std::alloc::Global;
+use std::alloc::{AllocError, Global};
 use std::collections::BTreeMap;
 use std::marker::Model;
 
@@ -68,5 +68,16 @@ impl Client {
         self.known.insert(height, known)?;
         self.state.latest = self.state.latest.max(height);
         Ok(())
+    }
+}
+
+impl Clone for Client {
+    ghost is_clone = { λ client copy. copy ≡ client };
+
+    fn clone(&self) -> Result<Client, AllocError> {
+        Ok(Client {
+            state: self.state,
+            known: self.known.clone()?,
+        })
     }
 }

@@ -1,6 +1,9 @@
 //! What is committed of a packet.
 
+ghost use Rattle.std.specs.Prelude.{◌≡◌};
+
 use ibc_ids::Bytes;
+use std::alloc::AllocError;
 use std::marker::Model;
 
 /// What is committed of a packet that was sent (ICS 4, "Packet commitment"): its payload and its two timeouts, a height
@@ -22,4 +25,16 @@ impl Model for Commitment {
       timeout_height = commitment.timeout_height;
       timeout_time = commitment.timeout_time;
     } };
+}
+
+impl Clone for Commitment {
+    ghost is_clone = { λ commitment copy. copy ≡ commitment };
+
+    fn clone(&self) -> Result<Commitment, AllocError> {
+        Ok(Commitment {
+            payload: self.payload.clone()?,
+            timeout_height: self.timeout_height,
+            timeout_time: self.timeout_time,
+        })
+    }
 }

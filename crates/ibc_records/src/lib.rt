@@ -8,6 +8,7 @@ mod client;
 mod commitment;
 mod packet_entries;
 mod packet_values;
+mod plain;
 mod records;
 mod values;
 
@@ -15,5 +16,6 @@ pub use channel::Channel;
 pub use client::{Client, ConsensusState};
 pub use commitment::Commitment;
 pub use packet_values::{ack_value, commitment_value, packet_path};
+pub use plain::PlainRecords;
 pub use records::{NextNumbers, Records};
 pub use values::{channel_value, client_value, connection_value};

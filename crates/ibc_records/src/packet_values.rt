@@ -9,7 +9,7 @@ ghost use Rattle.ibc_machine.specs.Values.{value_bytes, AckIs, CommitmentIs, Num
 use crate::commitment::Commitment;
 use crate::values::channel_path;
 use ibc_ids::{Bytes, ChannelId, PortId, Refusal};
-use ibc_merkle::hash_value;
+use ibc_merkle::{Steps, hash_value};
 use std::alloc::Global;
 
 /// The path of a packet's record of this kind, by the end of the channel and the packet's sequence (ICS 24,
@@ -37,12 +37,14 @@ pub fn commitment_value(alloc: Global, commitment: &Commitment) -> Result<Bytes,
     ensures ok { IfOk result (λ bytes. bytes ≡ value_bytes (CommitmentIs commitment.now)) }
     ensures err { IfErr result (λ refusal. refusal ≡ NoMemory) }
 {
+    let mut steps = Steps::new();
+    let payload = hash_value(commitment.payload.as_slice(), &mut steps);
     let mut text = Vec::with_capacity(alloc, 56)?;
     text.extend_from_slice(&commitment.timeout_time.to_be_bytes())?;
     text.extend_from_slice(&0_u64.to_be_bytes())?;
     text.extend_from_slice(&commitment.timeout_height.to_be_bytes())?;
-    text.extend_from_slice(&hash_value(commitment.payload.as_slice()))?;
-    Ok(Bytes::copy_of(alloc, &hash_value(text.as_slice()))?)
+    text.extend_from_slice(&payload)?;
+    Ok(Bytes::copy_of(alloc, &hash_value(text.as_slice(), &mut steps))?)
 }
 
 /// The bytes of an acknowledgement (ICS 4, "Packet acknowledgement"): its hash. `NoMemory` where a growth is refused.
@@ -50,7 +52,7 @@ pub fn ack_value(alloc: Global, ack: &[u8]) -> Result<Bytes, Refusal>
     ensures ok { IfOk result (λ bytes. bytes ≡ value_bytes (AckIs ack.now)) }
     ensures err { IfErr result (λ refusal. refusal ≡ NoMemory) }
 {
-    Ok(Bytes::copy_of(alloc, &hash_value(ack))?)
+    Ok(Bytes::copy_of(alloc, &hash_value(ack, &mut Steps::new()))?)
 }
 
 /// The path of a counter of a channel, and the bytes of a sequence. `NoMemory` where a growth is refused.

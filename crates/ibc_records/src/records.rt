@@ -7,11 +7,12 @@ ghost use Rattle.ibc_ids.specs.Paths.{path};
 ghost use Rattle.std.specs.Option.{IsSomeAnd};
 ghost use Rattle.ibc_ids.specs.declared.refusal.Refusal.TheVariants.{NoConsensus, NoMemory, TimeBack, UnknownClient};
 ghost use Rattle.ibc_merkle.specs.Written.{written};
-ghost use Rattle.ibc_records.specs.Held.{core_of, IsNew, IsCountingFrom, AddsClient, UpdatesClient, IsUnchanged};
+ghost use Rattle.ibc_records.specs.Held.{core_of, after_commit, IsNew, IsCountingFrom, AddsClient, UpdatesClient, IsUnchanged};
+ghost use Rattle.ibc_machine.specs.Genesis.{empty_core};
 ghost use Rattle.ibc_machine.specs.Image.{image, core_root, IsKeyed};
 ghost use Rattle.ibc_flight.specs.Orderly.{IsOrderly};
 ghost use Rattle.ibc_records.specs.HeldClients.{with_height};
-ghost use Rattle.ibc_path_store.specs.Held.{committed, height_of, kept_at};
+ghost use Rattle.ibc_path_store.specs.Held.{height_of, kept_at};
 
 mod channels;
 mod connections;
@@ -19,14 +20,16 @@ mod packets;
 
 use crate::channel::Channel;
 use crate::client::{Client, ConsensusState};
+use crate::plain::PlainRecords;
 use crate::values::{client_path, client_value, counter, set_reserved};
 use ibc_ids::{ChannelId, ClientId, ConnectionId, Key, PortId, Refusal, Root};
 use ibc_merkle::Proof;
-use ibc_path_store::Store;
+use ibc_path_store::{Store, Tree};
 use ibc_wire::{ClientState, ConnectionEnd};
-use std::alloc::Global;
+use std::alloc::{AllocError, Global};
 use std::collections::BTreeMap;
 use std::marker::Model;
+use std::sync::Arc;
 
 /// The numbers of the next client, connection and channel.
 #[derive(Clone, Copy, Debug, PartialEq, Eq, Drop)]
@@ -46,33 +49,20 @@ pub struct Records {
     next_connection: u64,
     next_channel: u64,
     store: Store,
+    last: Arc<PlainRecords, Global>,
+    last_time: u64,
     alloc: Global,
 }
 
 impl Model for Records {
     ghost use Rattle.ibc_records.specs.Held.{HeldRecords, IsHeld};
+    ghost use Rattle.ibc_records.specs.Inside.{held_of};
 
     ghost Value = { HeldRecords };
 
-    ghost view = { λ records. record {
-      clients = records.clients.entries;
-      connections = records.connections.entries;
-      channels = records.channels.entries;
-      next_client = records.next_client;
-      next_connection = records.next_connection;
-      next_channel = records.next_channel;
-      store = records.store;
-    } };
+    ghost view = { held_of };
 
-    ghost invariant = { λ records. IsHeld (record {
-      clients = records.clients.entries;
-      connections = records.connections.entries;
-      channels = records.channels.entries;
-      next_client = records.next_client;
-      next_connection = records.next_connection;
-      next_channel = records.next_channel;
-      store = records.store;
-    }) };
+    ghost invariant = { λ records. IsHeld (held_of records) };
 }
 
 impl Records {
@@ -101,6 +91,7 @@ impl Records {
         ensures ok { IfOk result (λ records. IsCountingFrom window time next records) }
         ensures err { IfErr result (λ refusal. refusal ≡ NoMemory) }
     {
+        let last = nothing(alloc)?;
         let mut store = Store::new(alloc, window, time);
         store.reserve(3)?;
         let (path, number) = counter(alloc, &Key::NextClientSequence, next.client)?;
@@ -117,6 +108,8 @@ impl Records {
             next_connection: next.connection,
             next_channel: next.channel,
             store,
+            last,
+            last_time: 0,
             alloc,
         })
     }
@@ -224,13 +217,73 @@ impl Records {
     /// refused. A refusal leaves the records.
     pub fn commit(&mut self, next_time: u64) -> Result<Root, Refusal>
         ensures root { IfOk result (λ root. root ≡ core_root (core_of self.old)) }
-        ensures ok { OnOk result (self.new ≡ record self.old { store = committed self.old.store next_time }) }
+        ensures ok { OnOk result (self.new ≡ after_commit self.old next_time) }
         ensures size { OnOk result (length (image (core_of self.old)) < 2 ^ 64) }
         ensures time_back { (result ≡ Err TimeBack) ↔ (next_time < self.old.store.time) }
         ensures err { IfErr result (λ refusal. (refusal ≡ TimeBack) ⊎ (refusal ≡ NoMemory)) }
         ensures unchanged { OnErr result (self.new ≡ self.old) }
     {
-        self.store.commit(next_time)
+        if next_time < self.store.time() {
+            return Err(Refusal::TimeBack);
+        }
+        let last = self.plain()?;
+        let time = self.store.time();
+        let root = self.store.commit(next_time)?;
+        self.last = last;
+        self.last_time = time;
+        Ok(root)
+    }
+
+    /// What the chain proved at the last commit, and nothing before the first. It is a value of its own, which stays as it
+    /// is while the records go on; it isn't copied. `NoMemory` where too many share it.
+    pub fn last(&self) -> Result<Arc<PlainRecords, Global>, Refusal>
+        ensures ok { IfOk result (λ last. last.value ≡ self.now.last.core) }
+        ensures err { IfErr result (λ refusal. refusal ≡ NoMemory) }
+    {
+        Ok(Arc::try_clone(&self.last)?)
+    }
+
+    /// The tree of a committed height, as a value of its own; nothing is copied or hashed for it (ICS 23,
+    /// "CommitmentState"). `NoConsensus` exactly where the height isn't committed or is gone from the window; `NoMemory`
+    /// where too many share it.
+    pub fn snapshot(&self, height: u64) -> Result<Tree, Refusal>
+        ensures ok { IfOk result (λ tree. IsSomeAnd (kept_at self.now.store height) (λ kept. tree ≡ kept.0)) }
+        ensures unknown { (result ≡ Err NoConsensus) ↔ IsNone (kept_at self.now.store height) }
+        ensures err { IfErr result (λ refusal. (refusal ≡ NoConsensus) ⊎ (refusal ≡ NoMemory)) }
+    {
+        self.store.snapshot(height)
+    }
+
+    /// The time of the last committed height, 0 before the first.
+    pub fn last_time(&self) -> u64
+        ensures { result ≡ self.now.last.time }
+    {
+        self.last_time
+    }
+
+    // A copy of what the working block proves.
+    fn plain(&self) -> Result<Arc<PlainRecords, Global>, Refusal>
+        ensures ok { IfOk result (λ plain. plain.value ≡ core_of self.now) }
+        ensures err { IfErr result (λ refusal. refusal ≡ NoMemory) }
+    {
+        let plain = PlainRecords::copy_of(
+            &self.clients,
+            &self.connections,
+            &self.channels,
+            self.next_numbers(),
+        )?;
+        Ok(Arc::new(self.alloc, plain)?)
+    }
+
+    // The numbers of the next client, connection and channel.
+    fn next_numbers(&self) -> NextNumbers
+        ensures { result ≡ record { client = self.now.next_client; connection = self.now.next_connection; channel = self.now.next_channel } }
+    {
+        NextNumbers {
+            client: self.next_client,
+            connection: self.next_connection,
+            channel: self.next_channel,
+        }
     }
 
     /// The proof of what a committed height has at a key: of its presence where it is there, and of its absence where
@@ -243,6 +296,13 @@ impl Records {
     {
         self.store.prove(height, key)
     }
+}
+
+// What stood at the last commit, before the first.
+fn nothing(alloc: Global) -> Result<Arc<PlainRecords, Global>, AllocError>
+    ensures { IfOk result (λ last. last.value ≡ empty_core) }
+{
+    Ok(Arc::new(alloc, PlainRecords::new(alloc))?)
 }
 
 // A client knows a height more.

@@ -130,6 +130,20 @@ impl<K: Ord, V> SortedMap<K, V> {
         }
     }
 
+    /// The same pairs in a map of their own. Refused only where a growth is.
+    pub fn copy(&self) -> Result<SortedMap<K, V>, AllocError>
+    where
+        K: Clone,
+        V: Clone,
+        requires keys { (key copy : K) → K.is_clone key copy → copy ≡ key }
+        requires values { (value copy : V) → V.is_clone value copy → copy ≡ value }
+        ensures { IfOk result (λ copy. copy.pairs ≡ self.now.pairs) }
+    {
+        Ok(SortedMap {
+            entries: Vec::from_clones(*self.entries.allocator(), self.entries())?,
+        })
+    }
+
     // Where a key stands, or where it would stand.
     fn place(&self, key: &K) -> Result<usize, usize>
         ensures found { IfOk result (λ index. index < length self.now.pairs) }

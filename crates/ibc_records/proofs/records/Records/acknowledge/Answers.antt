@@ -7,29 +7,30 @@ use Rattle.ibc_wire.specs.declared.records.ChannelEnd.{ChannelEnd}
 use Rattle.ibc_machine.specs.Records.{Channel}
 use Rattle.ibc_machine.specs.Packets.{is_ordered, after_ack}
 use Rattle.ibc_records.specs.Held.{HeldRecords}
+use Rattle.ibc_records.specs.Inside.{held_of}
 use Rattle.ibc_records.proofs.PacketSteps.{acknowledges, where_found, found, asked, not_missing, written_at, why}
 use Rattle.ibc_records.proofs.records.Records.acknowledge.Goals as goal
 
 pub returns-in_default-clause-err : goal.returns-in_default-clause-err
 returns-in_default-clause-err g c =
-    let old : HeldRecords = record { clients = c.self.inside.clients.entries; connections = c.self.inside.connections.entries; channels = c.self.inside.channels.entries; next_client = c.self.inside.next_client; next_connection = c.self.inside.next_connection; next_channel = c.self.inside.next_channel; store = c.self.inside.store } in
+    let old : HeldRecords = held_of c.self.inside in
     absurd (not_missing old c.args.self.now c.in_ok-name.name c.args.packet.now.source_port c.args.packet.now.source_channel c.self.view_is c.in_ok-name.ensures.ok (λ (mine : Channel). is_ordered mine ≡ true → mine.next_ack < 2 ^ 64 - 1) c.requires (sym c.in_default.ensures.value))
 
 pub reserve_acknowledged-requires : goal.reserve_acknowledged-requires
 reserve_acknowledged-requires g c =
-    let old : HeldRecords = record { clients = c.self.inside.clients.entries; connections = c.self.inside.connections.entries; channels = c.self.inside.channels.entries; next_client = c.self.inside.next_client; next_connection = c.self.inside.next_connection; next_channel = c.self.inside.next_channel; store = c.self.inside.store } in
+    let old : HeldRecords = held_of c.self.inside in
     asked old c.args.self.now c.in_ok-name.name c.args.packet.now.source_port c.args.packet.now.source_channel c.self.view_is c.in_ok-name.ensures.ok (λ (mine : Channel). is_ordered mine ≡ true → mine.next_ack < 2 ^ 64 - 1) c.in-Some.channel.now c.requires (sym c.in-Some.ensures.value)
 
 pub returns-in_err-on_ack-clause-err : goal.returns-in_err-on_ack-clause-err
 returns-in_err-on_ack-clause-err g c =
-    let old : HeldRecords = record { clients = c.self.inside.clients.entries; connections = c.self.inside.connections.entries; channels = c.self.inside.channels.entries; next_client = c.self.inside.next_client; next_connection = c.self.inside.next_connection; next_channel = c.self.inside.next_channel; store = c.self.inside.store } in
+    let old : HeldRecords = held_of c.self.inside in
     let p = err_from_is_err_and c.from_residual-in_err-on_ack.result c.from_residual-in_err-on_ack.ensures.1 in
     rw (p.1, p.2)
     (why old c.args.self.now c.in_ok-name.name c.args.packet.now.source_port c.args.packet.now.source_channel c.self.view_is c.in_ok-name.ensures.ok c.in-Some.channel.now c.end.result.now (λ (end : ChannelEnd). g.A.App.is_acknowledged c.args.app.now end.version c.args.packet.now c.args.ack.now) c.in_err-on_ack.field-0.0 (sym c.in-Some.ensures.value) c.end.ensures c.in_err-on_ack.ensures.err)
 
 pub invariant_of-self-2 : goal.invariant_of-self-2
 invariant_of-self-2 g c =
-    let old : HeldRecords = record { clients = c.self.inside.clients.entries; connections = c.self.inside.connections.entries; channels = c.self.inside.channels.entries; next_client = c.self.inside.next_client; next_connection = c.self.inside.next_connection; next_channel = c.self.inside.next_channel; store = c.self.inside.store } in
+    let old : HeldRecords = held_of c.self.inside in
     let mine : Channel = c.in-Some.channel.now in
     let there : at pair_cmp c.in_ok-name.name old.channels ≡ Some mine = sym c.in-Some.ensures.value in
     let entries = where_found (at pair_cmp c.in_ok-name.name old.channels) (λ (x : Channel). c.acknowledge_on.new.channels.entries ≡ with pair_cmp c.in_ok-name.name (after_ack c.args.packet.now.sequence x) old.channels) mine there c.acknowledge_on.ensures in
@@ -38,7 +39,7 @@ invariant_of-self-2 g c =
 
 pub returns-clause-ok : goal.returns-clause-ok
 returns-clause-ok g c =
-    let old : HeldRecords = record { clients = c.self.inside.clients.entries; connections = c.self.inside.connections.entries; channels = c.self.inside.channels.entries; next_client = c.self.inside.next_client; next_connection = c.self.inside.next_connection; next_channel = c.self.inside.next_channel; store = c.self.inside.store } in
+    let old : HeldRecords = held_of c.self.inside in
     let mine : Channel = c.in-Some.channel.now in
     let there : at pair_cmp c.in_ok-name.name old.channels ≡ Some mine = sym c.in-Some.ensures.value in
     let entries = where_found (at pair_cmp c.in_ok-name.name old.channels) (λ (x : Channel). c.acknowledge_on.new.channels.entries ≡ with pair_cmp c.in_ok-name.name (after_ack c.args.packet.now.sequence x) old.channels) mine there c.acknowledge_on.ensures in

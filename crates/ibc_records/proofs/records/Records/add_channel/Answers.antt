@@ -5,17 +5,18 @@ use Rattle.ibc_ids.specs.Maps.{with}
 use Rattle.ibc_ids.specs.Paths.{nth_channel}
 use Rattle.ibc_machine.specs.Records.{Channel}
 use Rattle.ibc_records.specs.Held.{HeldRecords, AddsChannel}
+use Rattle.ibc_records.specs.Inside.{held_of}
 use Rattle.ibc_records.proofs.Channels.{adds, roomy}
 use Rattle.ibc_records.proofs.records.Records.add_channel.Goals as goal
 
 pub invariant_of-self-in_err-insert : goal.invariant_of-self-in_err-insert
 invariant_of-self-in_err-insert c =
-    let old : HeldRecords = record { clients = c.self.inside.clients.entries; connections = c.self.inside.connections.entries; channels = c.self.inside.channels.entries; next_client = c.self.inside.next_client; next_connection = c.self.inside.next_connection; next_channel = c.self.inside.next_channel; store = c.self.inside.store } in
+    let old : HeldRecords = held_of c.self.inside in
     roomy old c.insert.new.self.entries c.reserve_entries.new.store c.self.invariant c.in_err-insert.ensures.err c.reserve_entries.ensures.same
 
 pub invariant_of-self-2 : goal.invariant_of-self-2
 invariant_of-self-2 c =
-    let old : HeldRecords = record { clients = c.self.inside.clients.entries; connections = c.self.inside.connections.entries; channels = c.self.inside.channels.entries; next_client = c.self.inside.next_client; next_connection = c.self.inside.next_connection; next_channel = c.self.inside.next_channel; store = c.self.inside.store } in
+    let old : HeldRecords = held_of c.self.inside in
     (adds old c.args.port c.args.id c.args.end c.insert.new.self.entries c.self.invariant c.in-Ok.ensures.named
     c.reserve_entries.new.store c.set_entries.new.store (subst (λ (held : HeldRecords). held.next_channel < 2 ^ 64 - 1) (sym c.self.view_is) c.requires.room)
     (c.requires.next ∙ ap (λ (held : HeldRecords). nth_channel held.next_channel) (sym c.self.view_is))
@@ -24,7 +25,7 @@ invariant_of-self-2 c =
 
 pub returns-clause-ok : goal.returns-clause-ok
 returns-clause-ok c =
-    let old : HeldRecords = record { clients = c.self.inside.clients.entries; connections = c.self.inside.connections.entries; channels = c.self.inside.channels.entries; next_client = c.self.inside.next_client; next_connection = c.self.inside.next_connection; next_channel = c.self.inside.next_channel; store = c.self.inside.store } in
+    let old : HeldRecords = held_of c.self.inside in
     subst (λ (before : HeldRecords). AddsChannel before c.args.port c.args.id c.args.end (record old { channels = c.insert.new.self.entries; next_channel = c.self.inside.next_channel + 1; store = c.set_entries.new.store })) c.self.view_is
     (adds old c.args.port c.args.id c.args.end c.insert.new.self.entries c.self.invariant c.in-Ok.ensures.named
     c.reserve_entries.new.store c.set_entries.new.store (subst (λ (held : HeldRecords). held.next_channel < 2 ^ 64 - 1) (sym c.self.view_is) c.requires.room)

@@ -2,11 +2,12 @@
 use Rattle.std.proofs.Common.{◌<◌, ◌^◌, arith, subst}
 use Rattle.ibc_flight.specs.Orderly.{IsOrderly}
 use Rattle.ibc_records.specs.Held.{HeldRecords, core_of}
+use Rattle.ibc_records.specs.Inside.{held_of}
 use Rattle.ibc_records.proofs.Orderly.{orderly_core}
 use Rattle.ibc_records.proofs.records.Records.is_orderly.Goals as goal
 
 pub returns : goal.returns
 returns c =
-    let held : HeldRecords = record { clients = c.self.inside.clients.entries; connections = c.self.inside.connections.entries; channels = c.self.inside.channels.entries; next_client = c.self.inside.next_client; next_connection = c.self.inside.next_connection; next_channel = c.self.inside.next_channel; store = c.self.inside.store } in
+    let held : HeldRecords = held_of c.self.inside in
     let fits : held.next_channel < 2 ^ 64 = omega arith in
     subst (λ (value : HeldRecords). IsOrderly (core_of value)) c.self.view_is (orderly_core held c.self.invariant fits)

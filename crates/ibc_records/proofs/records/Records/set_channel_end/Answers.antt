@@ -1,6 +1,7 @@
 -- The store is again the image of the core, in which the channel has the new end.
 use Rattle.std.proofs.Common.{sym, ◌∙◌, subst}
 use Rattle.ibc_records.specs.Held.{HeldRecords, SetsChannelEnd}
+use Rattle.ibc_records.specs.Inside.{held_of}
 use Rattle.ibc_records.proofs.Channels.{sets_there, is_not_missing}
 use Rattle.ibc_records.proofs.records.Records.set_channel_end.Goals as goal
 
@@ -10,13 +11,13 @@ returns-in-Err-clause-unknown c =
 
 pub invariant_of-self-2 : goal.invariant_of-self-2
 invariant_of-self-2 c =
-    let old : HeldRecords = record { clients = c.self.inside.clients.entries; connections = c.self.inside.connections.entries; channels = c.self.inside.channels.entries; next_client = c.self.inside.next_client; next_connection = c.self.inside.next_connection; next_channel = c.self.inside.next_channel; store = c.self.inside.store } in
+    let old : HeldRecords = held_of c.self.inside in
     (sets_there old c.args.port c.args.id c.args.end c.set_end.new.channels.entries c.self.invariant c.in-Ok.ensures.named
     c.reserve_end.new.store c.set_reserved.new.store (sym c.contains_key.ensures ∙ c.if-not-contains_key.false) c.set_end.ensures c.in-Ok.ensures.path c.in-Ok.ensures.value c.reserve_end.ensures.same c.set_reserved.ensures.set).0
 
 pub returns-clause-ok : goal.returns-clause-ok
 returns-clause-ok c =
-    let old : HeldRecords = record { clients = c.self.inside.clients.entries; connections = c.self.inside.connections.entries; channels = c.self.inside.channels.entries; next_client = c.self.inside.next_client; next_connection = c.self.inside.next_connection; next_channel = c.self.inside.next_channel; store = c.self.inside.store } in
+    let old : HeldRecords = held_of c.self.inside in
     subst (λ (before : HeldRecords). SetsChannelEnd before c.args.port c.args.id c.args.end (record old { channels = c.set_end.new.channels.entries; store = c.set_reserved.new.store })) c.self.view_is
     (sets_there old c.args.port c.args.id c.args.end c.set_end.new.channels.entries c.self.invariant c.in-Ok.ensures.named
     c.reserve_end.new.store c.set_reserved.new.store (sym c.contains_key.ensures ∙ c.if-not-contains_key.false) c.set_end.ensures c.in-Ok.ensures.path c.in-Ok.ensures.value c.reserve_end.ensures.same c.set_reserved.ensures.set).1

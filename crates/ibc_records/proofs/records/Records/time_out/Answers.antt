@@ -7,24 +7,25 @@ use Rattle.ibc_wire.specs.declared.records.ChannelEnd.{ChannelEnd}
 use Rattle.ibc_machine.specs.Records.{Channel}
 use Rattle.ibc_machine.specs.Packets.{after_timeout}
 use Rattle.ibc_records.specs.Held.{HeldRecords}
+use Rattle.ibc_records.specs.Inside.{held_of}
 use Rattle.ibc_records.proofs.PacketSteps.{times_out, where_found, found, not_absent, written_at, why}
 use Rattle.ibc_records.proofs.records.Records.time_out.Goals as goal
 
 pub returns-in_default-clause-err : goal.returns-in_default-clause-err
 returns-in_default-clause-err g c =
-    let old : HeldRecords = record { clients = c.self.inside.clients.entries; connections = c.self.inside.connections.entries; channels = c.self.inside.channels.entries; next_client = c.self.inside.next_client; next_connection = c.self.inside.next_connection; next_channel = c.self.inside.next_channel; store = c.self.inside.store } in
+    let old : HeldRecords = held_of c.self.inside in
     absurd (not_absent old c.args.self.now c.in_ok-name.name c.args.packet.now.source_port c.args.packet.now.source_channel c.self.view_is c.in_ok-name.ensures.ok c.requires (sym c.in_default.ensures.value))
 
 pub returns-in_err-on_timeout-clause-err : goal.returns-in_err-on_timeout-clause-err
 returns-in_err-on_timeout-clause-err g c =
-    let old : HeldRecords = record { clients = c.self.inside.clients.entries; connections = c.self.inside.connections.entries; channels = c.self.inside.channels.entries; next_client = c.self.inside.next_client; next_connection = c.self.inside.next_connection; next_channel = c.self.inside.next_channel; store = c.self.inside.store } in
+    let old : HeldRecords = held_of c.self.inside in
     let p = err_from_is_err_and c.from_residual-in_err-on_timeout.result c.from_residual-in_err-on_timeout.ensures.1 in
     rw (p.1, p.2)
     (why old c.args.self.now c.in_ok-name.name c.args.packet.now.source_port c.args.packet.now.source_channel c.self.view_is c.in_ok-name.ensures.ok c.in-Some.channel.now c.end.result.now (λ (end : ChannelEnd). g.A.App.times_out c.args.app.now end.version c.args.packet.now) c.in_err-on_timeout.field-0.0 (sym c.in-Some.ensures.value) c.end.ensures c.in_err-on_timeout.ensures.err)
 
 pub invariant_of-self-2 : goal.invariant_of-self-2
 invariant_of-self-2 g c =
-    let old : HeldRecords = record { clients = c.self.inside.clients.entries; connections = c.self.inside.connections.entries; channels = c.self.inside.channels.entries; next_client = c.self.inside.next_client; next_connection = c.self.inside.next_connection; next_channel = c.self.inside.next_channel; store = c.self.inside.store } in
+    let old : HeldRecords = held_of c.self.inside in
     let mine : Channel = c.in-Some.channel.now in
     let there : at pair_cmp c.in_ok-name.name old.channels ≡ Some mine = sym c.in-Some.ensures.value in
     let entries = where_found (at pair_cmp c.in_ok-name.name old.channels) (λ (x : Channel). c.time_out_on.new.channels.entries ≡ with pair_cmp c.in_ok-name.name (after_timeout c.args.packet.now.sequence x) old.channels) mine there c.time_out_on.ensures in
@@ -33,7 +34,7 @@ invariant_of-self-2 g c =
 
 pub returns-clause-ok : goal.returns-clause-ok
 returns-clause-ok g c =
-    let old : HeldRecords = record { clients = c.self.inside.clients.entries; connections = c.self.inside.connections.entries; channels = c.self.inside.channels.entries; next_client = c.self.inside.next_client; next_connection = c.self.inside.next_connection; next_channel = c.self.inside.next_channel; store = c.self.inside.store } in
+    let old : HeldRecords = held_of c.self.inside in
     let mine : Channel = c.in-Some.channel.now in
     let there : at pair_cmp c.in_ok-name.name old.channels ≡ Some mine = sym c.in-Some.ensures.value in
     let entries = where_found (at pair_cmp c.in_ok-name.name old.channels) (λ (x : Channel). c.time_out_on.new.channels.entries ≡ with pair_cmp c.in_ok-name.name (after_timeout c.args.packet.now.sequence x) old.channels) mine there c.time_out_on.ensures in

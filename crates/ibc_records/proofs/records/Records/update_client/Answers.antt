@@ -6,6 +6,7 @@ use Rattle.ibc_ids.specs.Maps.{with}
 use Rattle.ibc_machine.specs.Values.{ClientIs, value_bytes}
 use Rattle.ibc_records.specs.HeldClients.{with_height}
 use Rattle.ibc_records.specs.Held.{HeldRecords, UpdatesClient}
+use Rattle.ibc_records.specs.Inside.{held_of}
 use Rattle.ibc_records.proofs.UpdatedClients.{updated_from, is_there, is_not_there}
 use Rattle.ibc_records.proofs.records.Records.update_client.Goals as goal
 
@@ -23,7 +24,7 @@ returns-in_err-reserve-clause-unknown c = λ none. absurd (is_there _ c.args.sel
 
 pub invariant_of-self-2 : goal.invariant_of-self-2
 invariant_of-self-2 c =
-    (updated_from (record { clients = c.self.inside.clients.entries; connections = c.self.inside.connections.entries; channels = c.self.inside.channels.entries; next_client = c.self.inside.next_client; next_connection = c.self.inside.next_connection; next_channel = c.self.inside.next_channel; store = c.self.inside.store })
+    (updated_from (held_of c.self.inside)
     c.args.id.now c.args.height c.args.known c.in-Some.client.now c.learn.new.clients.entries c.reserve.new.self c.set_reserved.new.store c.self.invariant c.client_path.ensures.named (sym c.in-Some.ensures.value)
     (subst (λ o. IfSome o (λ client. c.learn.new.clients.entries ≡ with text_cmp c.args.id.now (with_height c.args.height c.args.known client) c.self.inside.clients.entries)) (sym c.in-Some.ensures.value) c.in_ok-learn.ensures.ok)
     c.in_ok-path.ensures.ok (c.in_ok-value.ensures.ok ∙ ap (λ latest. value_bytes (ClientIs (record { chain = c.state-state.result.chain; latest = latest }))) c.max-latest.ensures ∙ ap (λ state. value_bytes (ClientIs (record { chain = state.chain; latest = max state.latest c.args.height }))) c.state-state.ensures)
@@ -31,16 +32,8 @@ invariant_of-self-2 c =
 
 pub returns-clause-ok : goal.returns-clause-ok
 returns-clause-ok c =
-    subst (λ (old : HeldRecords). UpdatesClient old c.args.id.now c.args.height c.args.known (record {
-      clients = c.learn.new.clients.entries;
-      connections = c.self.inside.connections.entries;
-      channels = c.self.inside.channels.entries;
-      next_client = c.self.inside.next_client;
-      next_connection = c.self.inside.next_connection;
-      next_channel = c.self.inside.next_channel;
-      store = c.set_reserved.new.store;
-    })) c.self.view_is
-    (updated_from (record { clients = c.self.inside.clients.entries; connections = c.self.inside.connections.entries; channels = c.self.inside.channels.entries; next_client = c.self.inside.next_client; next_connection = c.self.inside.next_connection; next_channel = c.self.inside.next_channel; store = c.self.inside.store })
+    subst (λ (old : HeldRecords). UpdatesClient old c.args.id.now c.args.height c.args.known (record (held_of c.self.inside) { clients = c.learn.new.clients.entries; store = c.set_reserved.new.store })) c.self.view_is
+    (updated_from (held_of c.self.inside)
     c.args.id.now c.args.height c.args.known c.in-Some.client.now c.learn.new.clients.entries c.reserve.new.self c.set_reserved.new.store c.self.invariant c.client_path.ensures.named (sym c.in-Some.ensures.value)
     (subst (λ o. IfSome o (λ client. c.learn.new.clients.entries ≡ with text_cmp c.args.id.now (with_height c.args.height c.args.known client) c.self.inside.clients.entries)) (sym c.in-Some.ensures.value) c.in_ok-learn.ensures.ok)
     c.in_ok-path.ensures.ok (c.in_ok-value.ensures.ok ∙ ap (λ latest. value_bytes (ClientIs (record { chain = c.state-state.result.chain; latest = latest }))) c.max-latest.ensures ∙ ap (λ state. value_bytes (ClientIs (record { chain = state.chain; latest = max state.latest c.args.height }))) c.state-state.ensures)

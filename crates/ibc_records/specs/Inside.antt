@@ -1,0 +1,15 @@
+-- What a ledger keeps of a chain's records, as contracts see it.
+use Rattle.ibc_records.specs.Held.{HeldRecords}
+use Rattle.ibc_records.specs.declared.records.Records.TheInside.{Inside}
+
+abbrev pub held_of : Inside → HeldRecords
+held_of records = record {
+  clients = records.clients.entries;
+  connections = records.connections.entries;
+  channels = records.channels.entries;
+  next_client = records.next_client;
+  next_connection = records.next_connection;
+  next_channel = records.next_channel;
+  store = records.store;
+  last = record { core = records.last.value; time = records.last_time };
+}
