@@ -1,8 +1,9 @@
 //! The bank of a chain.
 
-ghost use Rattle.std.specs.Prelude.{◌≡◌, ◌⊎◌, ◌↔◌, [], Some, None, Ok, Err, map, IsTrue, IsOk, IsSome, IfOk, IfErr, OnOk, OnErr, IsErrOf, IsOkUnless};
+ghost use Rattle.std.specs.Prelude.{◌≡◌, ◌⊎◌, ◌↔◌, [], true, Some, None, Ok, Err, map, IsTrue, IsOk, IsSome, IfOk, IfErr, OnOk, OnErr, IsErrOf, IsOkUnless};
 ghost use Rattle.std.specs.List.{list_all};
 ghost use Rattle.ibc_ids.specs.Texts.{pair_cmp};
+ghost use Rattle.ibc_ids.specs.Names.{is_denom};
 ghost use Rattle.ibc_ids.specs.Paths.{account_text};
 ghost use Rattle.ibc_machine.specs.Bank.{balance, supply, is_bounded};
 ghost use Rattle.ibc_machine.specs.Genesis.{starting_balances, is_fair};
@@ -99,6 +100,15 @@ impl Bank {
         ensures { result ≡ burnt_of self.now denom.now }
     {
         self.books.burnt.get(denom)
+    }
+
+    /// Each denomination of which an account holds something has the form of one (ICS 20).
+    pub fn holds_denominations(&self)
+        ensures { list_all (λ entry. is_denom entry.0.1) self.now.balances ≡ true }
+    {
+        for entry in self.books.held.entries() {
+            let _denom = entry.0.1.as_str();
+        }
     }
 
     /// Moves tokens from a user to the escrow of a channel. Refused: `Poor` exactly where the user holds less;

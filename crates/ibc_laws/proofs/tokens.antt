@@ -20,3 +20,4 @@ pub mod EscrowsHold
 pub mod NeverShort
 pub mod RefusedAsPoor
 pub mod NeverPoor
+pub mod BalancedTotals

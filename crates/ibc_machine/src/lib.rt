@@ -5,8 +5,10 @@ mod entry;
 mod event;
 mod genesis;
 mod reply;
+mod totals;
 
 pub use entry::{Entry, Reading};
 pub use event::Event;
 pub use genesis::{ChainStart, Genesis};
 pub use reply::{Effect, Reply};
+pub use totals::Totals;

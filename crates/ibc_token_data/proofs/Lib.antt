@@ -4,3 +4,5 @@ pub mod AsciiTexts
 pub mod Spelled
 pub mod Read
 pub mod Found
+pub mod PartialSums
+pub mod DenomAmounts

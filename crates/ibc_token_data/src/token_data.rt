@@ -1,8 +1,8 @@
 //! The data of a packet of tokens.
 
-ghost use Rattle.std.specs.Prelude.{◌≡◌, ◌↔◌, Some, None, IsTrue, IfOk, IfErr, IsErrOf, MatchResult, option_map};
+ghost use Rattle.std.specs.Prelude.{◌≡◌, ◌↔◌, ◌<◌, ◌^◌, Some, None, IsTrue, IfOk, IfErr, IsErrOf, MatchResult, SomeIff, option_map};
 ghost use Rattle.ibc_ids.specs.declared.refusal.Refusal.TheVariants.{NoMemory};
-ghost use Rattle.ibc_machine.specs.TokenData.{Data, data_of, data_text};
+ghost use Rattle.ibc_machine.specs.TokenData.{Data, amount_of, data_of, data_text};
 ghost use Rattle.ibc_machine.specs.Transfers.{transfer_data, transfer_many_data};
 ghost use Rattle.ibc_token_data.specs.declared.fault.Fault.TheVariants as fault;
 ghost use Rattle.ibc_token_data.specs.Plain.{plain_data};
@@ -12,7 +12,7 @@ use crate::forms::{has_several, is_data, is_typed};
 use crate::members::parsed;
 use crate::reading::data_in;
 use crate::writing::data_json;
-use ibc_ids::{Bytes, Memo, Receiver, Refusal, UserName, Version};
+use ibc_ids::{Bytes, Denom, Memo, Receiver, Refusal, UserName, Version};
 use ibc_wire::{Token, Transfer, TransferMany};
 use std::alloc::{AllocError, Global};
 
@@ -80,6 +80,29 @@ impl TokenData {
     {
         Ok(Bytes::from_vec(spelling(alloc, version, self)?))
     }
+
+    /// How much of a denomination the packet has, or `None` where that is more than 2^128 - 1.
+    pub fn amount_of(&self, denom: &Denom) -> Option<u128>
+        ensures { SomeIff result (amount_of denom.now (plain_data self.now).tokens < 2 ^ 128) (amount_of denom.now (plain_data self.now).tokens) }
+    {
+        amount_in(self.tokens.as_slice(), denom)
+    }
+}
+
+// How much of a denomination there is among tokens, or `None` where that is more than 2^128 - 1.
+fn amount_in(tokens: &[Token], denom: &Denom) -> Option<u128>
+    ensures { SomeIff result (amount_of denom.now tokens.now < 2 ^ 128) (amount_of denom.now tokens.now) }
+{
+    let mut amount: u128 = 0;
+    for token in tokens {
+        if token.denom == *denom {
+            let Some(more) = amount.checked_add(token.amount) else {
+                return None;
+            };
+            amount = more;
+        }
+    }
+    Some(amount)
 }
 
 fn spelling(alloc: Global, version: &Version, told: &TokenData) -> Result<Vec<u8>, AllocError>

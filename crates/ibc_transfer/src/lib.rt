@@ -9,7 +9,9 @@ mod parcels;
 mod returning;
 mod sending;
 mod transfers;
+mod under_way;
 
-pub use names::is_transfer_port;
+pub use names::{came_over, is_transfer_port, transfer_port};
 pub use sending::{send_transfer, send_transfer_many};
 pub use transfers::Transfers;
+pub use under_way::in_flight;

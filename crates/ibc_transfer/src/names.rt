@@ -30,8 +30,8 @@ pub(crate) fn is_transfer_version(version: &Version) -> bool
     version.as_str() == ONE_TOKEN || version.as_str() == SEVERAL_TOKENS
 }
 
-/// The port of transfers.
-pub(crate) fn transfer_port(alloc: Global) -> Result<PortId, Refusal>
+/// The port of transfers. Refused: `NoMemory`.
+pub fn transfer_port(alloc: Global) -> Result<PortId, Refusal>
     ensures ok { IfOk result (λ port. port ≡ transfers.transfer_port) }
     ensures err { IfErr result (λ refusal. refusal ≡ NoMemory) }
 {
@@ -54,8 +54,8 @@ pub(crate) fn several_tokens(alloc: Global) -> Result<Version, Refusal>
     Version::parse(alloc, SEVERAL_TOKENS)
 }
 
-/// Whether a denomination came over a channel, and so goes back over it.
-pub(crate) fn came_over(alloc: Global, channel: &ChannelId, denom: &Denom) -> Result<bool, Refusal>
+/// Whether a denomination came over a channel, and so goes back over it. Refused: `NoMemory`.
+pub fn came_over(alloc: Global, channel: &ChannelId, denom: &Denom) -> Result<bool, Refusal>
     ensures ok { IfOk result (λ came. came ≡ transfers.came_over transfers.transfer_port channel.now denom.now) }
     ensures err { IfErr result (λ refusal. refusal ≡ NoMemory) }
 {

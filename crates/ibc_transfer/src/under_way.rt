@@ -1,0 +1,69 @@
+//! What is under way of a denomination.
+
+ghost use Rattle.std.specs.Prelude.{◌≡◌, ◌<◌, ◌^◌, Some, IfOk, IfErr, SomeIff};
+ghost use Rattle.ibc_ids.specs.declared.refusal.Refusal.TheVariants.{NoMemory};
+ghost use Rattle.ibc_machine.specs.Totals.{succeeded, amount_under_way, flight_between};
+
+use crate::acks::is_success;
+use ibc_ids::{Denom, Refusal, Version};
+use ibc_records::{Channel, Commitment};
+use ibc_token_data::TokenData;
+use std::alloc::Global;
+
+/// How much of a denomination is under way from an end of a channel to its peer: what the packets have that stand committed
+/// there and that the peer hasn't received with success (ICS 20, "Correctness"). `None` where that is more than 2^128 - 1.
+/// Refused: `NoMemory`.
+pub fn in_flight(
+    alloc: Global,
+    mine: &Channel,
+    theirs: &Channel,
+    denom: &Denom,
+) -> Result<Option<u128>, Refusal>
+    ensures ok { IfOk result (λ sum. SomeIff sum (flight_between denom.now (Some mine.now) (Some theirs.now) < 2 ^ 128) (flight_between denom.now (Some mine.now) (Some theirs.now))) }
+    ensures err { IfErr result (λ refusal. refusal ≡ NoMemory) }
+{
+    let version = &mine.end().version;
+    let mut sum: u128 = 0;
+    for entry in mine.commitments() {
+        let Some(amount) = amount_under_way(alloc, version, theirs, denom, entry)? else {
+            return Ok(None);
+        };
+        let Some(more) = sum.checked_add(amount) else {
+            return Ok(None);
+        };
+        sum = more;
+    }
+    Ok(Some(sum))
+}
+
+// How much of a denomination a packet has under way, by its sequence and what is committed of it; `None` where that is more
+// than 2^128 - 1. Refused: `NoMemory`.
+fn amount_under_way(
+    alloc: Global,
+    version: &Version,
+    theirs: &Channel,
+    denom: &Denom,
+    entry: &(u64, Commitment),
+) -> Result<Option<u128>, Refusal>
+    ensures ok { IfOk result (λ amount. SomeIff amount (amount_under_way version.now denom.now theirs.now entry.now < 2 ^ 128) (amount_under_way version.now denom.now theirs.now entry.now)) }
+    ensures err { IfErr result (λ refusal. refusal ≡ NoMemory) }
+{
+    let (sequence, commitment) = entry;
+    if has_succeeded(theirs, *sequence) {
+        return Ok(Some(0));
+    }
+    match TokenData::read(alloc, version, commitment.payload.as_slice())? {
+        Some(data) => Ok(data.amount_of(denom)),
+        None => Ok(Some(0)),
+    }
+}
+
+// Whether the packet of a sequence was received at the end, and acknowledged with success.
+fn has_succeeded(theirs: &Channel, sequence: u64) -> bool
+    ensures { result ≡ succeeded theirs.now sequence }
+{
+    match theirs.ack(sequence) {
+        Some(ack) => is_success(ack.as_slice()),
+        None => false,
+    }
+}
