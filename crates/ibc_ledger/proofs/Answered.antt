@@ -1,30 +1,63 @@
--- A message that reads nothing is answered as its handler's call says.
-use Rattle.std.proofs.Common.{◌≡◌, ℕ, false, [], refl, sym, ap, subst, Result, Ok, Err, None, inl, inr, ⊎_elim}
-use Rattle.ibc_ids.specs.declared.refusal.Refusal.{Refusal}
-use Rattle.ibc_ids.specs.declared.refusal.Refusal.TheVariants.{NoMemory}
-use Rattle.ibc_wire.specs.declared.messages.Message.{Message}
-use Rattle.ibc_machine.specs.declared.reply.Effect.{Effect}
-use Rattle.ibc_machine.specs.declared.reply.Reply.TheVariants as reply
-use Rattle.ibc_machine.specs.Records.{Core, Apps}
-use Rattle.ibc_machine.specs.Checks.{Checked, go_on, ◌>>=◌}
-use Rattle.ibc_machine.specs.Evidence.{Host, Evidence, CoreHandler, Handler, on_core}
-use Rattle.ibc_machine.specs.Handlers.{handle}
-use Rattle.ibc_machine.specs.Ledgers.{is_block_reply}
-use Rattle.ibc_machine.specs.Replay.{LedgerState, proves}
+-- A message that reads nothing is answered as its handler's call says, also where what its application keeps is a part of
+-- something more.
+use Rattle.ibc_ledger.proofs.Common.{IsErrAnd, ◌∙◌, ◌≡◌, ℕ, false, [], refl, sym, ap, subst, Result, Ok, Err, None, inl, inr, ⊎_elim, Refusal, NoMemory, Text, Message, Packet, RecvPacket, Effect, Core, Apps, Checked, go_on, ◌>>=◌, Host}
+use Rattle.ibc_ledger.proofs.Common.{Evidence, CoreHandler, Handler, on_core, handle, is_block_reply, LedgerState, proves, Channel, recv_packet, recv_checked, with_received, HeldRecords, core_of, IsTaken, IsTakenWith, IsHandled}
+use Rattle.ibc_ledger.proofs.Common.{IsHandledWith, host_with, IsInFlight, same_flight, Applications, Node, Effects, plain_apps, told_by, IsReady, IsAnswered}
+use Rattle.std.proofs.lemmas.Result.{err_from_is_err_and}
 use Rattle.ibc_flight.specs.OfCore.{IsOfCore}
 use Rattle.ibc_flight.proofs.CoreMessages.{core_message_burns_nothing}
-use Rattle.ibc_records.specs.Held.{HeldRecords, core_of}
-use Rattle.ibc_records.specs.Taking.{IsTaken, IsTakenWith, IsHandled, IsHandledWith, host_with}
 use Rattle.ibc_records.proofs.KnownStates.{knowing}
-use Rattle.ibc_transfer.specs.InFlight.{IsInFlight}
-use Rattle.ibc_transfer.proofs.Flight.{same_flight}
-use Rattle.ibc_ledger.specs.declared.applications.Applications.{Applications}
-use Rattle.ibc_ledger.specs.declared.node.Node.{Node}
-use Rattle.ibc_ledger.specs.declared.outcome.Effects.{Effects}
-use Rattle.ibc_ledger.specs.Apps.{plain_apps}
-use Rattle.ibc_ledger.specs.Effects.{told_by}
-use Rattle.ibc_ledger.specs.Answering.{IsReady, IsAnswered}
-use Rattle.ibc_ledger.proofs.AppParts.{put_last, put_taken}
+use Rattle.ibc_machine.specs.declared.reply.Reply.TheVariants as reply
+use Rattle.ibc_machine.specs.declared.reply.Effect.TheVariants as effect
+
+-- what a settled packet leaves, by what was checked and by what its application answers
+abbrev pub settling : {A : Type 0} → Checked Channel → (Channel → Core) → (Channel → Checked A) → Checked (Effect × Core × A)
+settling checked next on_answer = checked >>= λ mine. on_answer mine >>= λ app. Ok (effect.None, next mine, app)
+
+module _ {A B : Type 0} (put : A → B) where
+  -- put into its place, where nothing was refused
+  abbrev pub put_in : Checked A → Checked B
+  put_in checked = checked >>= λ app. Ok (put app)
+
+  -- the same beside an acknowledgement, and behind the effect and the core
+  abbrev pub put_beside : Text × A → Text × B
+  put_beside (ack, app) = (ack, put app)
+
+  abbrev pub put_last : Checked (Effect × Core × A) → Checked (Effect × Core × B)
+  put_last checked = checked >>= λ ((effect, core, app) : Effect × Core × A). Ok (effect, core, put app)
+
+  pub put_taken : {X : Type 0} (effect_of : X → Effect) (checked : Checked (Effect × Core × A)) (old new : HeldRecords) (app left : A) (result : Result X Refusal)
+      → IsTakenWith effect_of checked old app result new left → IsTakenWith effect_of (put_last checked) old (put app) result new (put left)
+  unfolding go_on
+  put_taken effect_of checked old new app left (Ok x) taken = (taken.0, ap put_last taken.1, taken.2)
+  put_taken effect_of checked old new app left (Err refusal) taken = (⊎_elim (λ e. inl (ap put_last e)) (λ none. inr none) taken.0, taken.1, ap put taken.2)
+
+  received : (p : Packet) (core : Core) (on_recv : Text → Packet → Text × A) (whole : Text → Packet → Text × B) (checked : Checked Channel)
+      → ((version : Text) → whole version p ≡ put_beside (on_recv version p))
+      → (checked >>= λ mine. Ok (with_received p mine core (whole mine.end.version p))) ≡ put_last (checked >>= λ mine. Ok (with_received p mine core (on_recv mine.end.version p)))
+  unfolding go_on
+  received p core on_recv whole (Ok mine) same = ap (λ w. Ok (with_received p mine core w)) (same mine.end.version)
+  received p core on_recv whole (Err refusal) same = refl
+
+  put_answered : (on_answer : Checked A) (next : Core) → (put_in on_answer >>= λ app. Ok (effect.None, next, app)) ≡ put_last (on_answer >>= λ app. Ok (effect.None, next, app))
+  unfolding go_on
+  put_answered (Ok app) next = refl
+  put_answered (Err refusal) next = refl
+
+  -- where the application may also answer by what was checked
+  pub settled : (on_answer : Channel → Checked A) (whole : Channel → Checked B) (next : Channel → Core) (checked : Checked Channel) → ((mine : Channel) → checked ≡ Ok mine → whole mine ≡ put_in (on_answer mine))
+      → settling checked next whole ≡ put_last (settling checked next on_answer)
+  unfolding go_on
+  settled on_answer whole next (Ok mine) same =
+      ap (λ (x : Checked B). x >>= λ app. Ok (effect.None, next mine, app)) (same mine refl) ∙ put_answered (on_answer mine) (next mine)
+  settled on_answer whole next (Err refusal) same = refl
+
+  module _ (evidence : Evidence) (host : Host) (core : Core) (app : A) where
+    pub recv_put : (on_recv : A → Text → Packet → Text × A) (whole : B → Text → Packet → Text × B) (m : RecvPacket)
+        → ((version : Text) → whole (put app) version m.packet ≡ put_beside (on_recv app version m.packet))
+        → recv_packet whole m evidence host core (put app) ≡ put_last (recv_packet on_recv m evidence host core app)
+    unfolding recv_packet
+    recv_put on_recv whole m same = received m.packet core (on_recv app) (whole (put app)) (recv_checked m evidence host core) same
 
 -- a call's effect is no block's
 abbrev pub IsNoBlock : {X : Type 0} → (X → Effect) → Type 0
@@ -70,9 +103,9 @@ pub record IsPart {P : Type 0} (m : Message) (old : Node) (put : P → Applicati
 
 -- the answer is that of a call to the application
 pub part_answered : {P X : Type 0} (m : Message) (old : Node) → IsReady m old → (put : P → Applications) (handler : Handler P) (app left : P) → IsPart m old put handler app
-    → (effect_of : X → Effect) → IsNoBlock effect_of → (new : HeldRecords) (given : Result X Refusal) → IsHandledWith effect_of handler old.number old.chains old.records app given new left
+    → (effect_of : X → Effect) (new : HeldRecords) (given : Result X Refusal) → IsHandledWith effect_of handler old.number old.chains old.records app given new left → IsNoBlock effect_of
     → (result : Result Effects Refusal) → result ≡ told_by effect_of given → IsAnswered m old result (record old { records = new; applications = put left })
-part_answered m old ready put handler app left is_part effect_of none new given handled result is =
+part_answered m old ready put handler app left is_part effect_of new given handled none result is =
     answered m old (record old { records = new; applications = put left }) refl effect_of none given
     (λ seen state knows.
     let evidence = proves seen None state in
@@ -86,10 +119,10 @@ part_answered m old ready put handler app left is_part effect_of none new given 
     result is
 
 -- the answer is that of a call which changes the core alone
-pub core_answered : (m : Message) (old : Node) → IsReady m old → IsOfCore m → {X : Type 0} (effect_of : X → Effect) → IsNoBlock effect_of → (handler : CoreHandler) → handle m ≡ on_core handler
-    → (new : HeldRecords) (given : Result X Refusal) → IsHandled effect_of handler old.number old.chains old.records given new
+pub core_answered : (m : Message) (old : Node) → IsReady m old → IsOfCore m → {X : Type 0} (effect_of : X → Effect) (handler : CoreHandler) → handle m ≡ on_core handler
+    → (new : HeldRecords) (given : Result X Refusal) → IsHandled effect_of handler old.number old.chains old.records given new → IsNoBlock effect_of
     → (result : Result Effects Refusal) → result ≡ told_by effect_of given → IsAnswered m old result (record old { records = new })
-core_answered m old ready of_core effect_of none handler is_handler new given handled result is =
+core_answered m old ready of_core effect_of handler is_handler new given handled none result is =
     answered m old (record old { records = new }) refl effect_of none given whole flight result is
   where
     whole : IsHandledWith effect_of (handle m) old.number old.chains old.records (plain_apps old.applications) given new (plain_apps old.applications)
@@ -105,12 +138,16 @@ core_answered m old ready of_core effect_of none handler is_handler new given ha
         ((core_message_burns_nothing evidence host (core_of old.records) ready.orderly (plain_apps old.applications) m of_core).gives (effect, after, plain_apps old.applications) e).0)
         ready.flight whole
 
+-- a refusal that is passed on
+pub passed_on : {result : Result Effects Refusal} {refusal : Refusal} → IsErrAnd result (λ y. y ≡ refusal) → result ≡ Err refusal
+passed_on passed = let p = err_from_is_err_and _ passed in p.1 ∙ ap Err p.2
+
 -- memory ran out before the call
-pub no_memory : (m : Message) (old : Node) → IsReady m old → (refusal : Refusal) → refusal ≡ NoMemory → IsAnswered m old (Err refusal) old
-no_memory m old ready refusal is = record {
+pub no_memory : (m : Message) (old : Node) → IsReady m old → (refusal : Refusal) {result : Result Effects Refusal} → result ≡ Err refusal → refusal ≡ NoMemory → IsAnswered m old result old
+no_memory m old ready refusal passed is = subst (λ r. IsAnswered m old r old) (sym passed) (record {
   same = refl;
   handled = λ seen state knows. (inr is, refl, refl);
   flight = ready.flight;
   kept = tt;
   no_block = tt;
-}
+})

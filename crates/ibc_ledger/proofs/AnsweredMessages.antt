@@ -1,42 +1,26 @@
 -- A ledger with what it holds, after a message.
-use Rattle.std.proofs.Common.{◌≡◌, ◌⊎◌, ◌+◌, ℕ, true, false, List, ◌++◌, length, refl, sym, ap, ◌∙◌, None, Option, is_some, Result, Ok, Err, subst, inl, inr, ⊎_elim}
-use Rattle.std.specs.Prelude.{⊤}
-use Rattle.ibc_ids.specs.Texts.{Text}
-use Rattle.ibc_ids.specs.Maps.{Map}
-use Rattle.ibc_ids.specs.Publications.{published_by}
-use Rattle.ibc_ids.specs.declared.publication.Publication.{Publication}
-use Rattle.ibc_ids.specs.declared.refusal.Refusal.TheVariants.{NoMemory}
-use Rattle.ibc_ids.specs.declared.refusal.Refusal.{Refusal}
-use Rattle.ibc_wire.specs.declared.messages.Message.{Message}
+use Rattle.ibc_ledger.proofs.Common.{eqb, eq-eqb, and_from, ◌≡◌, ◌⊎◌, ◌+◌, ℕ, true, false, List, ◌++◌, length, refl, sym, ap, ◌∙◌, None, Option, is_some, Result, Ok, Err, subst, inl, inr, ⊎_elim, ⊤, Text, Map, published_by, Publication}
+use Rattle.ibc_ledger.proofs.Common.{NoMemory, Refusal, Message, UpdateClient, after_answer, host_of, after_message, GenesisState, Effect, Reply, Reading, Core, Apps, Checked, go_on, ◌>>=◌, update_client, handle, LedgerState, Consensus}
+use Rattle.ibc_ledger.proofs.Common.{proves, ledger_answer, with_consensus, Ledger, state_of, is_typed, is_looking, is_block_reply, HeldRecords, core_of, IsUnchanged, IsHandledWith, IsTakenWith, host_with, IsUpdated, Effects, told_by}
+use Rattle.ibc_ledger.proofs.Common.{told_reply, seeing_more, with_entry, entry_of, stamp_if, Reads, IsStateOf, Stands}
 use Rattle.ibc_wire.specs.declared.messages.Message.TheVariants as message
-use Rattle.ibc_wire.specs.declared.messages.UpdateClient.{UpdateClient}
 use Rattle.ibc_machine.specs.declared.event.Event.TheVariants as event
-use Rattle.ibc_machine.specs.declared.reply.Effect.{Effect}
 use Rattle.ibc_machine.specs.declared.reply.Effect.TheVariants as effect
-use Rattle.ibc_machine.specs.declared.reply.Reply.{Reply}
-use Rattle.ibc_machine.specs.declared.entry.Reading.{Reading}
-use Rattle.ibc_machine.specs.Records.{Core, Apps}
-use Rattle.ibc_machine.specs.Checks.{Checked, go_on, ◌>>=◌}
-use Rattle.ibc_machine.specs.Clients.{update_client}
-use Rattle.ibc_machine.specs.Handlers.{handle}
-use Rattle.ibc_machine.specs.Replay.{LedgerState, Consensus, proves, ledger_answer, with_consensus}
-use Rattle.ibc_machine.specs.Ledgers.{Ledger, state_of, is_typed, is_looking, is_block_reply}
-use Rattle.ibc_records.specs.Held.{HeldRecords, core_of, IsUnchanged}
-use Rattle.ibc_records.specs.Taking.{IsHandledWith, IsTakenWith, host_with}
-use Rattle.ibc_client.specs.Answers.{IsUpdated}
-use Rattle.ibc_ledger.specs.declared.outcome.Effects.{Effects}
-use Rattle.ibc_ledger.specs.Effects.{told_by, told_reply}
-use Rattle.ibc_ledger.specs.Growing.{seeing_more, with_entry}
-use Rattle.ibc_ledger.specs.Entries.{entry_of, stamp_if, Reads}
-use Rattle.ibc_ledger.specs.Standing.{IsStateOf, Stands}
-use Rattle.ibc_ledger.proofs.Growing.{ledgers_go_on, ledgers_see_more}
-use Rattle.ibc_ledger.proofs.Entries.{message_next}
-use Rattle.ibc_ledger.proofs.Standing.{with_records, step, taken_answer, refused_answer}
-use Rattle.ibc_ledger.proofs.Holding.{unchanged_holds, written_holds, updated_holds}
+use Rattle.ibc_ledger.proofs.Growing.{ledgers_see_more, answer_next, message_commits, stands_next}
+use Rattle.ibc_ledger.proofs.Holding.{with_records, unchanged_holds, written_holds, updated_holds}
 
 -- no client is told of a height
 abbrev pub TellsNothing : Message → Type 0
 TellsNothing m = (known : Map (Text × ℕ) Consensus) → with_consensus m known ≡ known
+
+module _ (genesis : GenesisState) (k : ℕ) (seen : List Publication) (reading : Option Reading) (state : LedgerState) (m : Message) where
+  -- the effect of the message and the records after it, or why it is refused
+  abbrev pub step : Checked (Effect × Core × Apps)
+  step = handle m (proves seen reading state) (host_of (length genesis.chains) k state.chain) state.chain.records.core state.chain.records.apps
+
+  step_answer : (x : Checked (Effect × Core × Apps)) → step ≡ x → ledger_answer genesis k seen reading state (event.Message k m) ≡ after_answer m state (after_message state.chain x)
+  unfolding ledger_answer
+  step_answer x e = ap (λ x. after_answer m state (after_message state.chain x)) e
 
 module _ (ledger : Ledger) (old : HeldRecords) (apps : Apps) (stands : Stands ledger old apps) (more : List Publication) (others : published_by ledger.chain (ledger.seen ++ more) ≡ published_by ledger.chain ledger.seen) where
   -- memory ran out: the pass may have seen more, and there is other room
@@ -68,24 +52,25 @@ module _ (ledger : Ledger) (old : HeldRecords) (apps : Apps) (stands : Stands le
         → ledger_answer ledger.genesis ledger.chain (ledger.seen ++ more) reading (state_of ledger) (event.Message ledger.chain m) ≡ (given, after) → IsStateOf ledger.genesis.window after new left
         → Stands (Followed given) new left
     stands_with given after typed no_block looking reads answer holds =
-        let next = message_next ledger more stands.is m given reading others
-        (record { typed = typed; reply = sym (ap (λ (w : Reply × LedgerState). w.0) answer); no_block = no_block; looking = looking; reads = reads })
-        in
-        let w = ledgers_go_on ledger (entry_of (event.Message ledger.chain m) given reading (stamp_if (is_some reading) (ledger.seen ++ more))) more stands.is next in
-        record {
-          is = w.0;
-          holds = subst (λ (s : LedgerState). IsStateOf ledger.genesis.window s new left) (sym (w.1 ∙ ap (λ (w : Reply × LedgerState). w.1) answer)) holds;
-        }
+        stands_next ledger _ more new left stands.is (answer_next ledger more stands.is (event.Message ledger.chain m) given reading others (record {
+          own = and_from (eqb ledger.chain ledger.chain) (is_typed (event.Message ledger.chain m)) (eq-eqb ledger.chain ledger.chain refl) typed;
+          reply = sym (ap (λ (w : Reply × LedgerState). w.0) answer);
+          no_block = no_block;
+          looking = looking;
+          reads = reads;
+          commits = message_commits ledger.genesis ledger.chain (ledger.seen ++ more) reading (state_of ledger) ledger.chain m;
+        }))
+        (subst (λ (w : Reply × LedgerState). IsStateOf ledger.genesis.window w.1 new left) (sym answer) holds)
 
     pub stands_left : is_typed (event.Message ledger.chain m) ≡ true → is_some reading ≡ is_looking (state_of ledger) (event.Message ledger.chain m)
         → Reads ledger.genesis.window (ledger.seen ++ more) (event.Message ledger.chain m) reading
         → (result : Result Effects Refusal) → is_block_reply (told_reply result) ≡ false → (result ≡ Err NoMemory → ⊥) → Leaves result → Stands (Followed (told_reply result)) new left
     stands_left typed looking reads (Ok effects) no_block plenty leaves =
         stands_with (told_reply (Ok effects)) (with_records m (state_of ledger) (record { core = leaves.0; apps = left })) typed no_block looking reads
-        (taken_answer ledger.genesis ledger.chain (ledger.seen ++ more) reading (state_of ledger) m effects.told leaves.0 left leaves.1) leaves.2
+        (step_answer ledger.genesis ledger.chain (ledger.seen ++ more) reading (state_of ledger) m (Ok (effects.told, leaves.0, left)) leaves.1) leaves.2
     stands_left typed looking reads (Err r) no_block plenty leaves =
         stands_with (told_reply (Err r)) (state_of ledger) typed no_block looking reads
-        (refused_answer ledger.genesis ledger.chain (ledger.seen ++ more) reading (state_of ledger) m r (⊎_elim (λ e. e) (λ none. absurd (plenty (ap Err none))) leaves.0))
+        (step_answer ledger.genesis ledger.chain (ledger.seen ++ more) reading (state_of ledger) m (Err r) (⊎_elim (λ e. e) (λ none. absurd (plenty (ap Err none))) leaves.0))
         (unchanged_holds ledger.genesis.window (state_of ledger) old apps stands.holds new left leaves.1 leaves.2)
 
   module _ (chains : ℕ) (as_many : chains ≡ length ledger.genesis.chains) where
@@ -100,18 +85,15 @@ module _ (ledger : Ledger) (old : HeldRecords) (apps : Apps) (stands : Stands le
     -- ---- messages that read nothing
 
     module _ (m : Message) (tells : TellsNothing m) (new : HeldRecords) (left : Apps) where
-      abbrev Taken : Result Effects Refusal → Type 0
-      Taken result = IsTakenWith (λ (effects : Effects). effects.told) (step ledger.genesis ledger.chain (ledger.seen ++ more) None (state_of ledger) m) old apps result new left
-
-      by_result : (result : Result Effects Refusal) → Taken result → Leaves m None new left result
-      by_result (Ok effects) taken =
-          (taken.0, taken.1, written_holds ledger.genesis.window (state_of ledger) old apps stands.holds m taken.0 left new taken.2 (tells (state_of ledger).consensus))
-      by_result (Err r) taken = taken
+      taken : (result : Result Effects Refusal) → IsHandledWith (λ (effects : Effects). effects.told) (handle m) ledger.chain chains old apps result new left
+          → IsTakenWith (λ (effects : Effects). effects.told) (step ledger.genesis ledger.chain (ledger.seen ++ more) None (state_of ledger) m) old apps result new left
+      taken result handled = subst (λ checked. IsTakenWith (λ (effects : Effects). effects.told) checked old apps result new left) (says_so m None) (handled (ledger.seen ++ more) (state_of ledger) stands.holds.known)
 
       pub unread_leaves : (result : Result Effects Refusal) → IsHandledWith (λ (effects : Effects). effects.told) (handle m) ledger.chain chains old apps result new left → Leaves m None new left result
-      unread_leaves result handled =
-          by_result result (subst (λ checked. IsTakenWith (λ (effects : Effects). effects.told) checked old apps result new left) (says_so m None)
-          (handled (ledger.seen ++ more) (state_of ledger) stands.holds.known))
+      unread_leaves (Ok effects) handled =
+          let did = taken (Ok effects) handled in
+          (did.0, did.1, written_holds ledger.genesis.window (state_of ledger) old apps stands.holds m did.0 left new did.2 (tells (state_of ledger).consensus))
+      unread_leaves (Err r) handled = taken (Err r) handled
 
     -- ---- a client is told of a height, or not
 

@@ -1,42 +1,25 @@
 -- What the applications answer by the bank is what the definitions say, where the bank knows what is burnt in flight.
-use Rattle.std.proofs.Common.{◌≡◌, ℕ, ◌≤◌, Bool, true, false, refl, sym, ap, ◌∙◌, subst, Ok, Err}
-use Rattle.std.specs.Prelude.{List, if◌then◌else◌}
-use Rattle.ibc_ids.specs.Texts.{Text, same_text}
-use Rattle.ibc_ids.specs.Maps.{Map}
-use Rattle.ibc_wire.specs.declared.packet.Packet.{Packet}
-use Rattle.ibc_wire.specs.declared.messages.Message.TheVariants as message
-use Rattle.ibc_wire.specs.declared.messages.Transfer.{Transfer}
-use Rattle.ibc_wire.specs.declared.messages.TransferMany.{TransferMany}
-use Rattle.ibc_wire.specs.declared.messages.RecvPacket.{RecvPacket}
+use Rattle.ibc_ledger.proofs.Common.{◌≡◌, ℕ, ◌≤◌, Bool, true, false, refl, sym, ap, ◌∙◌, subst, Ok, Err, if◌then◌else◌, Text, same_text, Map, Message, Packet, RecvPacket, ack_checked, timeout_checked, timeout_on_close_checked, Handler}
+use Rattle.ibc_ledger.proofs.Common.{Host, Evidence, Effect, Core, Channel, Apps, commitment_of, Checked, go_on, ◌>>=◌, tokens_of, transfer_port, burnt, receive_transfer, acknowledge_transfer, refund_transfer, receive_note, recv_packet}
+use Rattle.ibc_ledger.proofs.Common.{recv_checked, with_received, ack_packet, timeout, timeout_on_close, on_recv, on_ack, on_timeout, with_balances, handle, core_of, IsInFlight, transfer_keeps_flight, transfer_many_keeps_flight}
+use Rattle.ibc_ledger.proofs.Common.{ack_keeps_flight, timeout_keeps_flight, timeout_on_close_keeps_flight, same_flight, Applications, Node, plain_apps, IsReady}
 use Rattle.ibc_wire.specs.declared.messages.AckPacket.{AckPacket}
 use Rattle.ibc_wire.specs.declared.messages.Timeout.{Timeout}
 use Rattle.ibc_wire.specs.declared.messages.TimeoutOnClose.{TimeoutOnClose}
-use Rattle.ibc_machine.specs.declared.reply.Effect.{Effect}
-use Rattle.ibc_machine.specs.Records.{Core, Channel, Apps, commitment_of}
-use Rattle.ibc_machine.specs.Checks.{Checked, go_on, ◌>>=◌}
-use Rattle.ibc_machine.specs.Bank.{Balances}
-use Rattle.ibc_machine.specs.TokenData.{tokens_of}
-use Rattle.ibc_machine.specs.Transfers.{transfer_port, burnt, receive_transfer, acknowledge_transfer, refund_transfer}
-use Rattle.ibc_machine.specs.Notes.{receive_note}
-use Rattle.ibc_machine.specs.Packets.{recv_packet, recv_checked, with_received, ack_packet, timeout, timeout_on_close}
-use Rattle.ibc_machine.specs.Applications.{on_recv, on_ack, on_timeout, with_balances}
-use Rattle.ibc_machine.specs.Handlers.{handle}
-use Rattle.ibc_bank.specs.Moves.{BankState, burnt_of}
-use Rattle.ibc_flight.specs.Returned.{returned}
-use Rattle.ibc_flight.proofs.PacketSteps.{recv_packet_burnt, ack_packet_burnt, timeout_burnt, timeout_on_close_burnt}
-use Rattle.ibc_flight.proofs.UnsettledPackets.{ack_covered, timeout_covered, timeout_on_close_covered}
-use Rattle.ibc_records.specs.Held.{core_of}
-use Rattle.ibc_transfer.specs.InFlight.{IsInFlight}
 use Rattle.ibc_transfer.specs.Banked.{bank_receives, bank_acknowledged, bank_times_out}
 use Rattle.ibc_transfer.specs.Sent.{bank_transfer, bank_transfer_many}
+use Rattle.std.specs.Prelude.{List}
+use Rattle.ibc_wire.specs.declared.messages.Transfer.{Transfer}
+use Rattle.ibc_wire.specs.declared.messages.TransferMany.{TransferMany}
+use Rattle.ibc_machine.specs.Bank.{Balances}
+use Rattle.ibc_bank.specs.Moves.{BankState, burnt_of}
+use Rattle.ibc_flight.specs.Returned.{SameBurnt, returned}
+use Rattle.ibc_machine.proofs.PassedChecks.{bind_bind}
+use Rattle.ibc_flight.proofs.PacketSteps.{recv_packet_burnt, ack_packet_burnt, timeout_burnt, timeout_on_close_burnt}
+use Rattle.ibc_flight.proofs.UnsettledPackets.{ack_covered, timeout_covered, timeout_on_close_covered}
 use Rattle.ibc_transfer.proofs.ByBank.{transfer_by_bank, transfer_many_by_bank, acknowledged_by_bank, timed_out_by_bank}
-use Rattle.ibc_transfer.proofs.Flight.{transfer_keeps_flight, transfer_many_keeps_flight, ack_keeps_flight, timeout_keeps_flight, timeout_on_close_keeps_flight, same_flight}
-use Rattle.ibc_ledger.specs.declared.applications.Applications.{Applications}
-use Rattle.ibc_ledger.specs.declared.node.Node.{Node}
-use Rattle.ibc_ledger.specs.Apps.{plain_apps}
-use Rattle.ibc_ledger.specs.Answering.{IsReady}
-use Rattle.ibc_ledger.proofs.AppParts.{put_in, put_last, recv_put, ack_put, timeout_put, timeout_on_close_put}
-use Rattle.ibc_ledger.proofs.Answered.{IsPart}
+use Rattle.ibc_wire.specs.declared.messages.Message.TheVariants as message
+use Rattle.ibc_ledger.proofs.Answered.{put_in, put_last, settling, settled, recv_put, IsPart}
 
 abbrev pub with_bank : Node → BankState → Applications
 with_bank old bank = record old.applications { transfers = bank }
@@ -75,8 +58,7 @@ module _ (old : Node) where
       → ((checked >>= λ ((effect, after, left) : Effect × Core × BankState). Ok (effect, after, left.balances)) >>= λ ((effect, after, balances) : Effect × Core × Balances). Ok (effect, after, with_balances (put_bank bank) balances))
       ≡ put_last put_bank checked
   unfolding go_on
-  sends (Ok (effect, after, left)) = refl
-  sends (Err refusal) = refl
+  sends checked = bind_bind checked _ _
 
   abbrev in_place : Checked (Effect × Core × Balances) → Checked (Effect × Core × Apps)
   in_place checked = checked >>= λ ((effect, after, balances) : Effect × Core × Balances). Ok (effect, after, with_balances (put_bank bank) balances)
@@ -135,8 +117,7 @@ module _ (old : Node) where
 
   settles : (checked : Checked BankState) → ((checked >>= λ left. Ok left.balances) >>= λ balances. Ok (with_balances (put_bank bank) balances)) ≡ put_in put_bank checked
   unfolding go_on
-  settles (Ok left) = refl
-  settles (Err refusal) = refl
+  settles checked = bind_bind checked _ _
 
   -- what goes back over the channel was burnt
   abbrev IsCovered : (Text → ℕ) → Text → Packet → Type 0
@@ -160,67 +141,70 @@ module _ (old : Node) where
         ∙ ap (λ (x : Checked Balances). x >>= λ balances. Ok (with_balances (put_bank bank) balances)) (timed_out_by_bank bank version p flight.sorted (covers covered))
         ∙ settles (bank_times_out bank version p)
 
-  -- the notes stay
-  notes_stay : (answer : Checked Apps) (on_transfers : Bool) → on_transfers ≡ false → (if on_transfers then answer else Ok (put_notes notes)) ≡ put_in put_notes (Ok notes)
-  unfolding go_on
-  notes_stay answer on_transfers is = ap (λ b. if b then answer else Ok (put_notes notes)) is
-
-  module _ (m : AckPacket) (ready : IsReady (message.AckPacket m) old) where
-    pub ack_by_bank : same_text m.packet.source_port transfer_port ≡ true → IsPart (message.AckPacket m) old (with_bank old) (ack_packet bank_acknowledged m) bank
-    unfolding handle
-    ack_by_bank port = record {
+  module _ (m : Message) (ready : IsReady m old) (checked : Evidence → Host → Checked Channel) (next : Channel → Core) where
+    -- by the bank
+    bank_settles : (handler : Handler BankState) (plain : Channel → Checked Apps) (banked : Channel → Checked BankState)
+        → ((evidence : Evidence) (host : Host) → handle m evidence host core (put_bank bank) ≡ settling (checked evidence host) next plain)
+        → ((evidence : Evidence) (host : Host) → handler evidence host core bank ≡ settling (checked evidence host) next banked)
+        → ((evidence : Evidence) (host : Host) (mine : Channel) → checked evidence host ≡ Ok mine → plain mine ≡ put_in put_bank (banked mine))
+        → ((evidence : Evidence) (host : Host) (effect : Effect) (after : Core) (left : BankState) → handler evidence host core bank ≡ Ok (effect, after, left) → IsInFlight left after)
+        → IsPart m old (with_bank old) handler bank
+    bank_settles handler plain banked whole part same flight = record {
       here = refl;
-      part = λ evidence host. ack_put put_bank evidence host core bank bank_acknowledged (on_ack m.packet.source_port) m
-          (λ mine passed. acknowledged_plain ready.flight mine.end.version m.packet m.packet.source_port m.ack port (ack_covered evidence host core m mine port passed));
-      flight = λ evidence host effect after left e. ack_keeps_flight evidence host core bank ready.orderly ready.flight m port e;
+      part = λ evidence host. whole evidence host ∙ settled put_bank banked plain next (checked evidence host) (same evidence host) ∙ ap (put_last put_bank) (sym (part evidence host));
+      flight = flight;
     }
 
-    pub ack_by_notes : same_text m.packet.source_port transfer_port ≡ false → IsPart (message.AckPacket m) old (with_notes old) (ack_packet (λ notes version p ack. Ok notes) m) notes
-    unfolding handle
-    ack_by_notes port = record {
+    -- the notes stay
+    notes_settle : (handler : Handler (Map Text (List Text))) (on_transfers : Bool) (transfers : Channel → Checked Apps) → on_transfers ≡ false
+        → ((evidence : Evidence) (host : Host) → handle m evidence host core (put_notes notes) ≡ settling (checked evidence host) next (λ mine. if on_transfers then transfers mine else Ok (put_notes notes)))
+        → ((evidence : Evidence) (host : Host) → handler evidence host core notes ≡ settling (checked evidence host) next (λ _. Ok notes))
+        → ((evidence : Evidence) (host : Host) (effect : Effect) (after : Core) (left : Map Text (List Text)) → handler evidence host core notes ≡ Ok (effect, after, left) → SameBurnt core after)
+        → IsPart m old (with_notes old) handler notes
+    unfolding go_on
+    notes_settle handler on_transfers transfers other whole part same = record {
       here = refl;
-      part = λ evidence host. ack_put put_notes evidence host core notes (λ notes version p ack. Ok notes) (on_ack m.packet.source_port) m
-          (λ mine passed. notes_stay _ (same_text m.packet.source_port transfer_port) port);
-      flight = λ evidence host effect after left e.
-          same_flight bank bank core after ready.flight refl (ack_packet_burnt (λ notes version p ack. Ok notes) evidence host core m notes ready.orderly port e);
+      part = λ evidence host. whole evidence host
+          ∙ settled put_notes (λ _. Ok notes) (λ mine. if on_transfers then transfers mine else Ok (put_notes notes)) next (checked evidence host) (λ mine passed. ap (λ b. if b then transfers mine else Ok (put_notes notes)) other)
+          ∙ ap (put_last put_notes) (sym (part evidence host));
+      flight = λ evidence host effect after left e. same_flight bank bank core after ready.flight refl (same evidence host effect after left e);
     }
 
-  module _ (m : Timeout) (ready : IsReady (message.Timeout m) old) where
-    pub timeout_by_bank : same_text m.packet.source_port transfer_port ≡ true → IsPart (message.Timeout m) old (with_bank old) (timeout bank_times_out m) bank
-    unfolding handle
-    timeout_by_bank port = record {
-      here = refl;
-      part = λ evidence host. timeout_put put_bank evidence host core bank bank_times_out (on_timeout m.packet.source_port) m
-          (λ mine passed. timed_out_plain ready.flight mine.end.version m.packet m.packet.source_port port (timeout_covered evidence host core m mine port passed));
-      flight = λ evidence host effect after left e. timeout_keeps_flight evidence host core bank ready.orderly ready.flight m port e;
-    }
+  pub ack_by_bank : (m : AckPacket) → IsReady (message.AckPacket m) old → same_text m.packet.source_port transfer_port ≡ true → IsPart (message.AckPacket m) old (with_bank old) (ack_packet bank_acknowledged m) bank
+  unfolding handle ack_packet
+  ack_by_bank m ready port =
+      bank_settles (message.AckPacket m) ready (λ evidence host. ack_checked m evidence host core) _ _ _ _ (λ evidence host. refl) (λ evidence host. refl)
+      (λ evidence host mine passed. acknowledged_plain ready.flight mine.end.version m.packet m.packet.source_port m.ack port (ack_covered evidence host core m mine port passed))
+      (λ evidence host effect after left e. ack_keeps_flight evidence host core bank ready.orderly ready.flight m port e)
 
-    pub timeout_by_notes : same_text m.packet.source_port transfer_port ≡ false → IsPart (message.Timeout m) old (with_notes old) (timeout (λ notes version p. Ok notes) m) notes
-    unfolding handle
-    timeout_by_notes port = record {
-      here = refl;
-      part = λ evidence host. timeout_put put_notes evidence host core notes (λ notes version p. Ok notes) (on_timeout m.packet.source_port) m
-          (λ mine passed. notes_stay _ (same_text m.packet.source_port transfer_port) port);
-      flight = λ evidence host effect after left e.
-          same_flight bank bank core after ready.flight refl (timeout_burnt (λ notes version p. Ok notes) evidence host core notes ready.orderly m port e);
-    }
+  pub ack_by_notes : (m : AckPacket) → IsReady (message.AckPacket m) old → same_text m.packet.source_port transfer_port ≡ false → IsPart (message.AckPacket m) old (with_notes old) (ack_packet (λ notes version p ack. Ok notes) m) notes
+  unfolding handle ack_packet
+  ack_by_notes m ready port =
+      notes_settle (message.AckPacket m) ready (λ evidence host. ack_checked m evidence host core) _ _ (same_text m.packet.source_port transfer_port) _ port (λ evidence host. refl) (λ evidence host. refl)
+      (λ evidence host effect after left e. ack_packet_burnt (λ notes version p ack. Ok notes) evidence host core m notes ready.orderly port e)
 
-  module _ (m : TimeoutOnClose) (ready : IsReady (message.TimeoutOnClose m) old) where
-    pub timeout_on_close_by_bank : same_text m.packet.source_port transfer_port ≡ true → IsPart (message.TimeoutOnClose m) old (with_bank old) (timeout_on_close bank_times_out m) bank
-    unfolding handle
-    timeout_on_close_by_bank port = record {
-      here = refl;
-      part = λ evidence host. timeout_on_close_put put_bank evidence host core bank bank_times_out (on_timeout m.packet.source_port) m
-          (λ mine passed. timed_out_plain ready.flight mine.end.version m.packet m.packet.source_port port (timeout_on_close_covered evidence host core m mine port passed));
-      flight = λ evidence host effect after left e. timeout_on_close_keeps_flight evidence host core bank ready.orderly ready.flight m port e;
-    }
+  pub timeout_by_bank : (m : Timeout) → IsReady (message.Timeout m) old → same_text m.packet.source_port transfer_port ≡ true → IsPart (message.Timeout m) old (with_bank old) (timeout bank_times_out m) bank
+  unfolding handle timeout
+  timeout_by_bank m ready port =
+      bank_settles (message.Timeout m) ready (λ evidence host. timeout_checked m evidence host core) _ _ _ _ (λ evidence host. refl) (λ evidence host. refl)
+      (λ evidence host mine passed. timed_out_plain ready.flight mine.end.version m.packet m.packet.source_port port (timeout_covered evidence host core m mine port passed))
+      (λ evidence host effect after left e. timeout_keeps_flight evidence host core bank ready.orderly ready.flight m port e)
 
-    pub timeout_on_close_by_notes : same_text m.packet.source_port transfer_port ≡ false → IsPart (message.TimeoutOnClose m) old (with_notes old) (timeout_on_close (λ notes version p. Ok notes) m) notes
-    unfolding handle
-    timeout_on_close_by_notes port = record {
-      here = refl;
-      part = λ evidence host. timeout_on_close_put put_notes evidence host core notes (λ notes version p. Ok notes) (on_timeout m.packet.source_port) m
-          (λ mine passed. notes_stay _ (same_text m.packet.source_port transfer_port) port);
-      flight = λ evidence host effect after left e.
-          same_flight bank bank core after ready.flight refl (timeout_on_close_burnt (λ notes version p. Ok notes) evidence host core notes ready.orderly m port e);
-    }
+  pub timeout_by_notes : (m : Timeout) → IsReady (message.Timeout m) old → same_text m.packet.source_port transfer_port ≡ false → IsPart (message.Timeout m) old (with_notes old) (timeout (λ notes version p. Ok notes) m) notes
+  unfolding handle timeout
+  timeout_by_notes m ready port =
+      notes_settle (message.Timeout m) ready (λ evidence host. timeout_checked m evidence host core) _ _ (same_text m.packet.source_port transfer_port) _ port (λ evidence host. refl) (λ evidence host. refl)
+      (λ evidence host effect after left e. timeout_burnt (λ notes version p. Ok notes) evidence host core notes ready.orderly m port e)
+
+  pub timeout_on_close_by_bank : (m : TimeoutOnClose) → IsReady (message.TimeoutOnClose m) old → same_text m.packet.source_port transfer_port ≡ true → IsPart (message.TimeoutOnClose m) old (with_bank old) (timeout_on_close bank_times_out m) bank
+  unfolding handle timeout_on_close
+  timeout_on_close_by_bank m ready port =
+      bank_settles (message.TimeoutOnClose m) ready (λ evidence host. timeout_on_close_checked m evidence host core) _ _ _ _ (λ evidence host. refl) (λ evidence host. refl)
+      (λ evidence host mine passed. timed_out_plain ready.flight mine.end.version m.packet m.packet.source_port port (timeout_on_close_covered evidence host core m mine port passed))
+      (λ evidence host effect after left e. timeout_on_close_keeps_flight evidence host core bank ready.orderly ready.flight m port e)
+
+  pub timeout_on_close_by_notes : (m : TimeoutOnClose) → IsReady (message.TimeoutOnClose m) old → same_text m.packet.source_port transfer_port ≡ false → IsPart (message.TimeoutOnClose m) old (with_notes old) (timeout_on_close (λ notes version p. Ok notes) m) notes
+  unfolding handle timeout_on_close
+  timeout_on_close_by_notes m ready port =
+      notes_settle (message.TimeoutOnClose m) ready (λ evidence host. timeout_on_close_checked m evidence host core) _ _ (same_text m.packet.source_port transfer_port) _ port (λ evidence host. refl) (λ evidence host. refl)
+      (λ evidence host effect after left e. timeout_on_close_burnt (λ notes version p. Ok notes) evidence host core notes ready.orderly m port e)

@@ -1,35 +1,95 @@
--- A ledger with the entry of a block's end is a ledger.
-use Rattle.std.proofs.Common.{◌≡◌, ℕ, ◌^◌, ◌<◌, ◌≤◌, ◌++◌, ◌∷◌, [], List, length, refl, sym, ap, ◌∙◌, subst, Some, None, Option, Result, Ok, Err, ⊎_elim, arith, append-nil, append_assoc, length-append}
-use Rattle.std.specs.Prelude.{IfSome, is_ok}
-use mathlib.Core.List.{IsPrefix}
-use Rattle.ibc_ids.specs.Texts.{Text}
-use Rattle.ibc_ids.specs.Publications.{published_by, height_of as published_height}
-use Rattle.ibc_ids.specs.declared.publication.Publication.{Publication}
-use Rattle.ibc_ids.specs.declared.refusal.Refusal.{Refusal}
-use Rattle.ibc_ids.specs.declared.refusal.Refusal.TheVariants.{NoMemory, TimeBack, TableFull}
-use Rattle.ibc_machine.specs.declared.event.Event.TheVariants as event
-use Rattle.ibc_machine.specs.declared.reply.Effect.{Effect}
-use Rattle.ibc_machine.specs.declared.reply.Effect.TheVariants as effect
-use Rattle.ibc_machine.specs.declared.reply.Reply.{Reply}
-use Rattle.ibc_machine.specs.declared.reply.Reply.TheVariants as reply
-use Rattle.ibc_machine.specs.Records.{Chain}
-use Rattle.ibc_machine.specs.Replay.{StampedEntry}
-use Rattle.ibc_machine.specs.Handlers.{may_commit, working_height}
-use Rattle.ibc_machine.specs.Image.{image, core_root}
-use Rattle.ibc_machine.specs.Ledgers.{published_as, state_of}
-use Rattle.ibc_root_table.specs.Passes.{Sight, SamePass, Publishes, own_chain}
+-- A ledger with what it holds, in the beginning and after the end of a block.
+use Rattle.ibc_ledger.proofs.Common.{◌≡◌, ℕ, ◌^◌, ◌<◌, ◌≤◌, ◌++◌, ◌∷◌, [], List, length, refl, sym, ap, ◌∙◌, subst, Some, None, Option, Result, Ok, Err, ⊎_elim, arith, append-nil, append_assoc, length-append, is_ok, ◌-◌, map, option_map}
+use Rattle.ibc_ledger.proofs.Common.{option_and_then, unwrap_or, le-ltb, lt-ltb, le-leb, AllByRecursion, lt-leb, length-map, slice_get-map, nat_cmp, IsPrefix, Text, published_by, published_height, Publication, Refusal, NoMemory, TimeBack}
+use Rattle.ibc_ledger.proofs.Common.{TableFull, text_cmp, at, Effect, Reply, Chain, StampedEntry, may_commit, working_height, image, core_root, published_as, state_of, Apps, Block, and_then, GenesisState, ChainState, starting_chain}
+use Rattle.ibc_ledger.proofs.Common.{LedgerState, empty_chain, Ledger, HeldStore, committed, Sight, Publishes, own_chain, HeldRecords, core_of, ConsensusState, HeldClient, consensus_in, IsNew, IsInFlight, Inside, with_entry, told_by}
+use Rattle.ibc_ledger.proofs.Common.{told_reply, kept_reply, entry_of, stamp_if, working_block, Stands, plain_apps, genesis_of, ledger_of, IsHeld, passed, kept_of, IsStateOf, starting_apps}
 use Rattle.ibc_path_store.specs.Held.{height_of}
-use Rattle.ibc_records.specs.Held.{HeldRecords, core_of}
-use Rattle.ibc_ledger.specs.declared.ledger.Ledger.TheInside.{Inside}
-use Rattle.ibc_ledger.specs.Growing.{with_entry}
-use Rattle.ibc_ledger.specs.Effects.{told_by, told_reply, kept_reply}
-use Rattle.ibc_ledger.specs.Entries.{entry_of, stamp_if, working_block}
-use Rattle.ibc_ledger.specs.Standing.{Stands}
-use Rattle.ibc_ledger.specs.Apps.{plain_apps}
-use Rattle.ibc_ledger.specs.Inside.{genesis_of, ledger_of, IsHeld}
+use Rattle.ibc_records.specs.Held.{after_commit}
 use Rattle.ibc_ledger.specs.Ending.{IsCommitted, IsWhy, IsEnded, publication_of}
-use Rattle.ibc_ledger.proofs.EndedBlocks.{stands_ended, stands_not_ended, may_commit-back, may_commit-full, may_commit-room, published_height as own_height}
+use Rattle.std.specs.Prelude.{slice_get}
+use Rattle.ibc_machine.specs.declared.event.Event.TheVariants as event
+use Rattle.ibc_machine.specs.declared.reply.Effect.TheVariants as effect
+use Rattle.ibc_machine.specs.declared.reply.Reply.TheVariants as reply
+use Rattle.ibc_ledger.proofs.HeldLedgers.{IsEntry}
 use Rattle.ibc_ledger.proofs.Windows.{some_window, small_capacity}
+use Rattle.ibc_ledger.proofs.Holding.{drop_none, committed_holds}
+use Rattle.ibc_ledger.proofs.Growing.{answer_next, refused_block, ended_block_next, block_answer-by, stands_next}
+
+-- ---- whether a block may be ended
+
+module _ (capacity : ℕ) (chain : Chain) (next_time : ℕ) where
+  may_commit-back : next_time < chain.time → may_commit capacity chain next_time ≡ Err TimeBack
+  unfolding and_then
+  may_commit-back back = rw (lt-leb chain.time next_time back)
+
+  may_commit-full : chain.time ≤ next_time → capacity ≤ length chain.committed → may_commit capacity chain next_time ≡ Err TableFull
+  unfolding and_then
+  may_commit-full on full = rw (le-leb chain.time next_time on, le-ltb (length chain.committed) capacity full)
+
+  may_commit-room : chain.time ≤ next_time → length chain.committed < capacity → may_commit capacity chain next_time ≡ Ok tt
+  unfolding and_then
+  may_commit-room on room = rw (le-leb chain.time next_time on, lt-ltb (length chain.committed) capacity room)
+
+-- ---- ends of blocks
+
+module _ (ledger : Ledger) (old : HeldRecords) (apps : Apps) (stands : Stands ledger old apps) (more : List Publication) (next_time : ℕ) (fits : next_time < 2 ^ 64) where
+  stands_not_ended : (r : Refusal) → may_commit ledger.genesis.capacity (state_of ledger).chain next_time ≡ Err r
+      → published_by ledger.chain (ledger.seen ++ more) ≡ published_by ledger.chain ledger.seen
+      → Stands (with_entry ledger (entry_of (event.Block ledger.chain next_time) (reply.No r) None None) more) old apps
+  stands_not_ended r e others =
+      stands_next ledger _ more old apps stands.is (answer_next ledger more stands.is (event.Block ledger.chain next_time) (reply.No r) None others (refused_block ledger more stands.is next_time fits r e))
+      (subst (λ (w : Reply × LedgerState). IsStateOf ledger.genesis.window w.1 old apps) (sym (block_answer-by ledger more stands.is next_time fits (Err r) e)) stands.holds)
+
+  stands_ended : length (image (state_of ledger).chain.records.core) < 2 ^ 64 → (new : HeldRecords) → may_commit ledger.genesis.capacity (state_of ledger).chain next_time ≡ Ok tt
+      → Publishes ledger.seen (published_as ledger.chain (working_block (state_of ledger).chain)) (ledger.seen ++ more)
+      → published_by ledger.chain (ledger.seen ++ more) ≡ published_by ledger.chain ledger.seen ++ published_as ledger.chain (working_block (state_of ledger).chain) ∷ []
+      → 0 < ledger.genesis.window → height_of old.store < 2 ^ 64 - 1 → new ≡ after_commit old next_time
+      → Stands (with_entry ledger (entry_of (event.Block ledger.chain next_time) (reply.Ok (effect.Block (working_height (state_of ledger).chain) (core_root (state_of ledger).chain.records.core))) None (Some (length (ledger.seen ++ more)))) more) new apps
+  stands_ended small new e publishes own_last some room is =
+      stands_next ledger _ more new apps stands.is (ended_block_next ledger more stands.is next_time fits small tt e publishes own_last)
+      (subst (λ (w : Reply × LedgerState). IsStateOf ledger.genesis.window w.1 new apps) (sym (block_answer-by ledger more stands.is next_time fits (Ok tt) e))
+      (committed_holds ledger.genesis.window (state_of ledger) old apps stands.holds next_time new some room is))
+
+-- ---- the beginning
+
+module _ (genesis : GenesisState) (k : ℕ) (start : ChainState) (there : slice_get genesis.chains k ≡ Some start) (inside : k < length genesis.chains) where
+  abbrev pub new_ledger : List Publication → Ledger
+  new_ledger seen = record { genesis = genesis; chain = k; history = []; seen = seen }
+
+  first_state : (seen : List Publication) → state_of (new_ledger seen) ≡ record { chain = starting_chain start; consensus = [] }
+  first_state seen = ap (λ o. record { chain = unwrap_or o empty_chain; consensus = [] }) (slice_get-map starting_chain genesis.chains k ∙ ap (option_map starting_chain) there)
+
+  pub stands_new : (seen : List Publication) → published_by k seen ≡ [] → (held : HeldRecords) → IsNew genesis.window start.time held
+      → Stands (new_ledger seen) held (plain_apps (starting_apps start.balances))
+  stands_new seen unpublished held new = record {
+    is = record {
+      number = inside;
+      entries = tt;
+      published = unpublished ∙ ap (λ (s : LedgerState). map (published_as k) s.chain.committed) (sym (first_state seen));
+      stamps = tt;
+      small = subst (λ (s : LedgerState). AllByRecursion (λ (block : Block). length (image block.records.core) < 2 ^ 64) s.chain.committed) (sym (first_state seen)) tt;
+    };
+    holds = subst (λ (s : LedgerState). IsStateOf genesis.window s held (plain_apps (starting_apps start.balances))) (sym (first_state seen)) (record {
+      core = new.core;
+      time = ap (λ (s : HeldStore). s.time) new.store;
+      height = ap (λ (s : HeldStore). height_of s) new.store;
+      window_is = ap (λ (s : HeldStore). s.window) new.store;
+      apps_are = refl;
+      known = λ client height known e. absurd (nothing client height known e);
+      last = new.last;
+      keeps = record {
+        working = ap (λ (s : HeldStore). s.pairs) new.store;
+        gone = ap (λ (s : HeldStore). s.gone) new.store ∙ omega arith;
+        kept = ap (λ (s : HeldStore). s.kept) new.store ∙ ap (map kept_of) (sym (drop_none (passed genesis.window [])));
+      };
+    });
+  }
+    where
+      nothing : (client : Text) (height : ℕ) (known : ConsensusState) → consensus_in held client height ≡ Some known → ⊥
+      nothing client height known e =
+          let none : None ≡ Some known = sym (ap (λ clients. option_and_then (λ (c : HeldClient). at nat_cmp height c.known) (at text_cmp client clients)) new.clients) ∙ e in
+          cc
 
 module _ (l : Inside) (held : IsHeld l) (next_time : ℕ) (fits : next_time < 2 ^ 64) where
   abbrev chain_now : Chain
@@ -38,7 +98,7 @@ module _ (l : Inside) (held : IsHeld l) (next_time : ℕ) (fits : next_time < 2 
   -- a chain's height is the same in its store and in the table
   pub same_height : height_of l.node.records.store ≡ published_height (own_chain l.pass) l.pass.seen
   same_height =
-      held.stands.holds.height ∙ sym (own_height (ledger_of l) held.stands.is)
+      held.stands.holds.height ∙ sym (ap length held.stands.is.published ∙ length-map chain_now.committed (published_as l.node.number))
       ∙ ap (λ (o : Option ℕ). published_height (own_chain (record l.pass { own = o })) l.pass.seen) (sym held.own)
 
   own_is : own_chain l.pass ≡ l.node.number
@@ -70,14 +130,14 @@ module _ (l : Inside) (held : IsHeld l) (next_time : ℕ) (fits : next_time < 2 
         let height : given.0 ≡ working_height chain_now = omega (arith, committed.height) in
         λ i. effect.Block (height i) ((committed.root ∙ ap core_root held.stands.holds.core) i)
 
-    pub ended_stands : Stands (with_entry (ledger_of l) (entry_of (event.Block l.node.number next_time) (reply.Ok (effect.Block given.0 given.1)) None (Some (length (l.pass.seen ++ prefix.0)))) prefix.0) new (plain_apps l.node.applications)
+    ended_stands : Stands (with_entry (ledger_of l) (entry_of (event.Block l.node.number next_time) (reply.Ok (effect.Block given.0 given.1)) None (Some (length (l.pass.seen ++ prefix.0)))) prefix.0) new (plain_apps l.node.applications)
     ended_stands =
         subst (λ e. Stands (with_entry (ledger_of l) (entry_of (event.Block l.node.number next_time) (reply.Ok e) None (Some (length (l.pass.seen ++ prefix.0)))) prefix.0) new (plain_apps l.node.applications)) (sym same_effect)
         (stands_ended (ledger_of l) l.node.records (plain_apps l.node.applications) held.stands prefix.0 next_time fits
         (subst (λ core. length (image core) < 2 ^ 64) held.stands.holds.core committed.small) new may publishes own_last (some_window (genesis_of l) held.allowed)
         (let s = small_capacity (genesis_of l) held.allowed in let c = held.capacity in let r = committed.room in omega arith) committed.records)
 
-  pub not_ended_stands : (r : Refusal) → (r ≡ NoMemory → ⊥) → IsWhy l.capacity next_time l.node.records r
+  not_ended_stands : (r : Refusal) → (r ≡ NoMemory → ⊥) → IsWhy l.capacity next_time l.node.records r
       → Stands (with_entry (ledger_of l) (entry_of (event.Block l.node.number next_time) (reply.No r) None None) []) l.node.records (plain_apps l.node.applications)
   not_ended_stands r plenty why =
       stands_not_ended (ledger_of l) l.node.records (plain_apps l.node.applications) held.stands [] next_time fits r may_not (ap (published_by l.node.number) (append-nil l.pass.seen))
@@ -98,54 +158,49 @@ block_of given = effect.Block given.0 given.1
 
 -- ---- the entry that a block's end adds
 
-pub record IsBlockEntry (l : Inside) (next_time : ℕ) (given : Reply) (e : StampedEntry) (new : HeldRecords) (pass : Sight) : Type 0 where
-  pub prefix : IsPrefix l.pass.seen pass.seen
-  pub stamp : Option ℕ
-  pub is : entry_of (event.Block l.node.number next_time) given None stamp ≡ e
-  pub stands : Stands (with_entry (ledger_of l) (entry_of (event.Block l.node.number next_time) given None stamp) prefix.0) new (plain_apps l.node.applications)
-  pub same : SamePass l.pass pass
-  pub plenty : given ≡ reply.No NoMemory → ⊥
-  pub late : IfSome stamp (λ n. length l.pass.seen ≤ n)
-  pub core_is : core_of new ≡ core_of l.node.records
+-- the entry of a block's end, where nothing but the records changes
+abbrev pub IsBlockEntry : Inside → ℕ → Reply → StampedEntry → HeldRecords → Sight → Type 0
+IsBlockEntry l next_time given e new pass = IsEntry l (event.Block l.node.number next_time) given e (record l.node { records = new }) pass
 
 module _ (l : Inside) (held : IsHeld l) (next_time : ℕ) (fits : next_time < 2 ^ 64) where
-  pub committed_entry : (given : ℕ × Text) (new : HeldRecords) (pass seen : Sight) → seen ≡ pass → IsCommitted l.capacity next_time l.node.records l.pass given new pass
-      → IsBlockEntry l next_time (reply.Ok (effect.Block given.0 given.1)) (entry_of (event.Block l.node.number next_time) (reply.Ok (effect.Block given.0 given.1)) None (Some (length seen.seen))) new pass
-  committed_entry given new pass seen sees committed =
-      let between = committed.publishes.0 in
+  committed_entry : (given : ℕ × Text) (new : HeldRecords) (pass : Sight) → IsCommitted l.capacity next_time l.node.records l.pass given new pass
+      → IsBlockEntry l next_time (reply.Ok (effect.Block given.0 given.1)) (entry_of (event.Block l.node.number next_time) (reply.Ok (effect.Block given.0 given.1)) None (Some (length pass.seen))) new pass
+  committed_entry given new pass committed =
+      let entry = λ (xs : List Publication). entry_of (event.Block l.node.number next_time) (reply.Ok (effect.Block given.0 given.1)) None (Some (length xs)) in
       let last = publication_of l.pass l.node.records in
-      let prefix : IsPrefix l.pass.seen pass.seen = (between ++ last ∷ [], sym (append_assoc l.pass.seen between (last ∷ [])) ∙ sym committed.publishes.1) in
+      let prefix : IsPrefix l.pass.seen pass.seen = (committed.publishes.0 ++ last ∷ [], sym (append_assoc l.pass.seen committed.publishes.0 (last ∷ [])) ∙ sym committed.publishes.1) in
       record {
+        its_event = refl;
+        its_reply = refl;
+        same = refl;
+        kept = committed.same;
         prefix = prefix;
-        stamp = Some (length (l.pass.seen ++ prefix.0));
-        is = ap (λ xs. entry_of (event.Block l.node.number next_time) (reply.Ok (effect.Block given.0 given.1)) None (Some (length xs))) (prefix.1 ∙ ap (λ (s : Sight). s.seen) (sym sees));
-        stands = ended_stands l held next_time fits given new pass committed prefix;
-        same = committed.same;
+        stands = subst (λ xs. Stands (with_entry (ledger_of l) (entry xs) prefix.0) new (plain_apps l.node.applications)) prefix.1 (ended_stands l held next_time fits given new pass committed prefix);
+        flight = subst (IsInFlight l.node.applications.transfers) (sym (ap core_of committed.records)) held.flight;
         plenty = λ is. absurd cc;
-        late = let e = length-append l.pass.seen prefix.0 in omega arith;
-        core_is = ap core_of committed.records;
+        late = let e = length-append l.pass.seen prefix.0 in let long = ap length prefix.1 in omega arith;
+        was_so = tt;
       }
 
-  refusal_in : (r : Refusal) → reply.No r ≡ reply.No NoMemory → r ≡ NoMemory
-  refusal_in r e = cc
-
-  pub refused_entry : (r : Refusal) (new : HeldRecords) (pass : Sight) → (r ≡ NoMemory → ⊥) → IsWhy l.capacity next_time l.node.records r → new ≡ l.node.records → pass ≡ l.pass
+  refused_entry : (r : Refusal) (new : HeldRecords) (pass : Sight) → (r ≡ NoMemory → ⊥) → IsWhy l.capacity next_time l.node.records r → new ≡ l.node.records → pass ≡ l.pass
       → IsBlockEntry l next_time (reply.No r) (entry_of (event.Block l.node.number next_time) (reply.No r) None None) new pass
   refused_entry r new pass plenty why records same =
       subst (λ (z : HeldRecords × Sight). IsBlockEntry l next_time (reply.No r) (entry_of (event.Block l.node.number next_time) (reply.No r) None None) z.0 z.1) (λ i. (sym records i, sym same i)) (record {
+        its_event = refl;
+        its_reply = refl;
+        same = refl;
+        kept = (refl, refl);
         prefix = ([], append-nil l.pass.seen);
-        stamp = None;
-        is = refl;
         stands = not_ended_stands l held next_time fits r plenty why;
-        same = (refl, refl);
-        plenty = λ is. plenty (refusal_in r is);
+        flight = held.flight;
+        plenty = λ (is : reply.No r ≡ reply.No NoMemory). plenty (cc);
         late = tt;
-        core_is = refl;
+        was_so = tt;
       })
 
   pub ended_entry : (ended : Result (ℕ × Text) Refusal) (new : HeldRecords) (pass : Sight) → IsEnded l.capacity next_time l.node.records l.pass ended new pass → (told_by block_of ended ≡ Err NoMemory → ⊥)
       → IsBlockEntry l next_time (told_reply (told_by block_of ended)) (entry_of (event.Block l.node.number next_time) (told_reply (told_by block_of ended)) None (stamp_if (is_ok ended) pass.seen)) new pass
-  ended_entry (Ok given) new pass ended plenty = committed_entry given new pass pass refl ended
+  ended_entry (Ok given) new pass ended plenty = committed_entry given new pass ended
   ended_entry (Err r) new pass ended plenty = refused_entry r new pass (λ none. plenty (ap Err none)) ended.0 ended.1 ended.2
 
 -- a block's reply is the same twice

@@ -1,24 +1,9 @@
 -- What a ledger says of a packet that it sent, by what it keeps.
-use Rattle.std.proofs.Common.{◌≡◌, ◌<◌, ℕ, true, List, [], ◌∷◌, length, map, refl, sym, ap, ◌∙◌, subst, Some, None, Option, slice_get, option_map, option_and_then}
-use Rattle.std.specs.Prelude.{◌==◌}
-use Rattle.std.proofs.lemmas.Option.{slice_get-map, slice_get_within}
-use Rattle.ibc_ids.specs.Texts.{Text, pair_cmp}
-use Rattle.ibc_ids.specs.Maps.{at}
-use Rattle.ibc_wire.specs.declared.packet.Packet.{Packet}
-use Rattle.ibc_machine.specs.Records.{Core, Channel, Commitment, channel_at}
-use Rattle.ibc_machine.specs.Histories.{Happened, End, sent_by, packet_sent}
+use Rattle.ibc_ledger.proofs.Common.{◌≡◌, ◌<◌, ℕ, true, List, [], ◌∷◌, length, map, refl, sym, ap, ◌∙◌, subst, Some, None, Option, slice_get, option_map, option_and_then, ◌==◌, slice_get-map, slice_get_within, and_parts, AllByRecursion}
+use Rattle.ibc_ledger.proofs.Common.{Text, pair_cmp, at, Packet, Core, Channel, Commitment, channel_at, Happened, End, sent_by, packet_sent, LedgerState, StampedEntry, entry_answer, met_states, starting_state, Ledger, IsOwnEntry, chain_of}
+use Rattle.ibc_ledger.proofs.Common.{is_typed, KeptEntry, Inside, plain_entry, ledger_of, IsHeld, happened_of, happened_on, packet_on, commitment_in, packet_to, SentName, sent_cmp, is_named}
 use Rattle.std.specs.Option.{unwrap_or}
-use Rattle.std.proofs.lemmas.Bool.{and_parts}
-use Rattle.ibc_machine.specs.Replay.{LedgerState, StampedEntry, entry_answer, met_states, starting_state}
-use Rattle.ibc_machine.specs.Ledgers.{Ledger, IsOwnEntry, chain_of, is_typed}
-use Rattle.ibc_ledger.specs.declared.entry.StampedEntry.{StampedEntry as KeptEntry}
-use Rattle.ibc_ledger.specs.declared.ledger.Ledger.TheInside.{Inside}
-use Rattle.ibc_ledger.specs.Held.{plain_entry}
-use Rattle.ibc_ledger.specs.Inside.{ledger_of, IsHeld}
-use Rattle.ibc_ledger.specs.Happened.{happened_of, happened_on, packet_on}
-use Rattle.ibc_ledger.specs.SentPackets.{commitment_in, packet_to, SentName, sent_cmp, is_named}
 use Rattle.ibc_ledger.proofs.SentPackets.{sent_at, stands_at, named_packet, names_a_packet}
-use Rattle.std.specs.List.{AllByRecursion}
 
 -- the events of a ledger are of its chain
 own_events : (ledger : Ledger) (state : LedgerState) (history : List StampedEntry) → AllByRecursion (IsOwnEntry ledger) (met_states ledger.genesis ledger.chain ledger.seen state history)
@@ -49,46 +34,32 @@ module _ (l : Inside) (held : IsHeld l) (port channel : Text) (n : ℕ) where
   says : packet_on (ledger_of l) port channel n ≡ Says its_end
   says = ap (λ (core : Core). Says (channel_at core port channel)) (sym held.stands.holds.core)
 
-  pub no_end : its_end ≡ None → packet_on (ledger_of l) port channel n ≡ None
-  no_end none = says ∙ ap Says none
-
   module _ (mine : Channel) (is : its_end ≡ Some mine) where
-    abbrev AtPeer : Option Text → Option Packet
-    AtPeer o = option_and_then (λ peer. packet_sent from mine happened n) o
-
-    pub no_peer : mine.end.peer_channel ≡ None → packet_on (ledger_of l) port channel n ≡ None
-    no_peer none = says ∙ ap Says is ∙ ap AtPeer none
-
-    sent_there : packet_sent from mine happened n ≡ option_and_then (λ i. option_and_then (sent_by from mine) (slice_get happened i)) (at sent_cmp name l.sent.pairs)
-    sent_there = sent_at from mine n happened (own_events (ledger_of l) (starting_state (ledger_of l).genesis l.node.number) (ledger_of l).history held.stands.is.entries) l.sent.pairs held.sent
-
     at_peer : (peer : Text) → mine.end.peer_channel ≡ Some peer → packet_on (ledger_of l) port channel n
         ≡ option_and_then (λ i. option_and_then (sent_by from mine) (slice_get happened i)) (at sent_cmp name l.sent.pairs)
-    at_peer peer knows = says ∙ ap Says is ∙ ap AtPeer knows ∙ sent_there
+    at_peer peer knows =
+        says ∙ ap Says is ∙ ap (λ o. option_and_then (λ peer. packet_sent from mine happened n) o) knows
+        ∙ sent_at from mine n happened (own_events (ledger_of l) (starting_state (ledger_of l).genesis l.node.number) (ledger_of l).history held.stands.is.entries) l.sent.pairs held.sent
 
     pub not_sent : (peer : Text) → mine.end.peer_channel ≡ Some peer → at sent_cmp name l.sent.pairs ≡ None → packet_on (ledger_of l) port channel n ≡ None
     not_sent peer knows none = at_peer peer knows ∙ ap (option_and_then (λ i. option_and_then (sent_by from mine) (slice_get happened i))) none
 
   -- ---- what stands at a place
 
-  its_entry : (i : ℕ) → slice_get happened i ≡ option_map (λ e. happened_of (plain_entry e)) (slice_get l.history.items i)
-  its_entry i = slice_get-map happened_of (map plain_entry l.history.items) i ∙ ap (option_map happened_of) (slice_get-map plain_entry l.history.items i) ∙ twice (slice_get l.history.items i)
-    where
-      twice : (o : Option KeptEntry) → option_map happened_of (option_map plain_entry o) ≡ option_map (λ e. happened_of (plain_entry e)) o
-      twice (Some e) = refl
-      twice None = refl
+  its_entry : (i : ℕ) → slice_get happened i ≡ option_map happened_of (option_map plain_entry (slice_get l.history.items i))
+  its_entry i = slice_get-map happened_of (map plain_entry l.history.items) i ∙ ap (option_map happened_of) (slice_get-map plain_entry l.history.items i)
 
   module _ (i : ℕ) (found : at sent_cmp name l.sent.pairs ≡ Some i) where
     pub within : i < length l.history.items
     within = by_entry (slice_get l.history.items i) refl (sym (its_entry i) ∙ (stands_at l.sent.pairs happened held.sent name i found).1)
       where
-        by_entry : (o : Option KeptEntry) → slice_get l.history.items i ≡ o → option_map (λ e. happened_of (plain_entry e)) o ≡ Some (stands_at l.sent.pairs happened held.sent name i found).0 → i < length l.history.items
+        by_entry : (o : Option KeptEntry) → slice_get l.history.items i ≡ o → option_map happened_of (option_map plain_entry o) ≡ Some (stands_at l.sent.pairs happened held.sent name i found).0 → i < length l.history.items
         by_entry (Some e) is there = slice_get_within l.history.items i e is
         by_entry None is there = absurd (cc there)
 
     module _ (e : KeptEntry) (here : slice_get l.history.items i ≡ Some e) where
       is_there : slice_get happened i ≡ Some (happened_of (plain_entry e))
-      is_there = its_entry i ∙ ap (option_map (λ e. happened_of (plain_entry e))) here
+      is_there = its_entry i ∙ ap (λ o. option_map happened_of (option_map plain_entry o)) here
 
       is_named_so : is_named name (happened_of (plain_entry e)) ≡ true
       is_named_so =

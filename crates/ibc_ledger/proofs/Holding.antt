@@ -1,29 +1,135 @@
--- What is held stays the state of the ledger: through messages, and through ends of blocks.
-use Rattle.std.proofs.Common.{◌≡◌, ℕ, ◌+◌, ◌-◌, ◌^◌, ◌<◌, cond, is_eq, Ordering, Less, Equal, Greater, [], ◌∷◌, ◌++◌, length, refl, sym, ap, ◌∙◌, subst, Some, option_and_then, option_map, arith, length-append, length-drop}
-use Rattle.std.specs.Ordering.{nat_cmp, ordering_then}
+-- What is held stays the state of the ledger, and a store keeps the paths of a chain's last blocks: through messages, and
+-- through ends of blocks.
+use Rattle.ibc_ledger.proofs.Common.{Bool, drop-drop, ◌≡◌, ℕ, ◌+◌, ◌-◌, ◌^◌, ◌<◌, cond, is_eq, Ordering, Less, Equal, Greater, [], ◌∷◌, ◌++◌, length, refl, sym, ap, ◌∙◌, subst, Some, option_and_then, option_map, arith, length-append}
+use Rattle.ibc_ledger.proofs.Common.{length-drop, nat_cmp, ordering_then, is_some, zero, suc, ◌≤◌, true, false, List, drop, map, Option, None, Result, Ok, Err, slice_get, ltb-true, ◌↔◌, IsNone, IfOk, IsSomeAnd, drop-append-le, drop-map}
+use Rattle.ibc_ledger.proofs.Common.{map-append, slice_get-map, Text, text_cmp, at, text_cmp_total, text_tied, Refusal, NoConsensus, written, UpdateClient, Message, Records, Core, Apps, LedgerState, consensus_cmp, consensus_at}
+use Rattle.ibc_ledger.proofs.Common.{with_consensus, Block, Chain, image, HeldStore, committed, kept_at, excess, gone_after, IsStored, ConsensusState, HeldClient, with_height, HeldRecords, core_of, consensus_in, IsUnchanged, UpdatesClient}
+use Rattle.ibc_ledger.proofs.Common.{IsWritten, consensus_of, working_block, IsStateOf, KeepsBlocks, passed, provable, kept_of}
+use Rattle.std.specs.List.{last_or}
+use Rattle.ibc_path_store.specs.Held.{height_of}
+use Rattle.ibc_records.specs.Held.{after_commit}
+use Rattle.ibc_ledger.specs.Standing.{last_block}
+use Rattle.ibc_records.specs.Knowledge.{Knows, plain_consensus}
 use Rattle.std.proofs.lemmas.Cmp.{nat_cmp_total, then_total, on_total}
 use Rattle.std.specs.Cmp.{IsTotalOrder}
-use Rattle.ibc_ids.specs.Texts.{Text, text_cmp}
-use Rattle.ibc_ids.specs.Maps.{at}
-use Rattle.ibc_ids.proofs.Texts.{text_cmp_total, text_tied}
-use Rattle.ibc_wire.specs.declared.messages.UpdateClient.{UpdateClient}
-use Rattle.ibc_wire.specs.declared.messages.Message.{Message}
-use Rattle.ibc_wire.specs.declared.messages.Message.TheVariants as message
-use Rattle.ibc_machine.specs.Records.{Core, Apps}
-use Rattle.ibc_machine.specs.Replay.{LedgerState, consensus_cmp, consensus_at, with_consensus}
 use Rattle.ibc_machine.proofs.Images.{at-with}
-use Rattle.ibc_path_store.specs.Held.{HeldStore, height_of, committed}
-use Rattle.ibc_records.specs.declared.client.ConsensusState.{ConsensusState}
-use Rattle.ibc_records.specs.HeldClients.{HeldClient, with_height}
-use Rattle.ibc_records.specs.Held.{HeldRecords, core_of, consensus_in, IsUnchanged, UpdatesClient}
-use Rattle.ibc_records.specs.Knowledge.{plain_consensus}
-use Rattle.ibc_records.specs.Taking.{IsWritten}
-use Rattle.ibc_client.specs.Answers.{consensus_of}
-use Rattle.ibc_ledger.specs.Entries.{working_block}
-use Rattle.ibc_ledger.specs.Standing.{IsStateOf}
-use Rattle.ibc_ledger.specs.Proving.{KeepsBlocks}
-use Rattle.ibc_ledger.proofs.Keeping.{keeps_stored, keeps_unchanged, keeps_committed}
-use Rattle.ibc_ledger.proofs.Standing.{with_records}
+use Rattle.std.proofs.Common.{nat_lt}
+use Rattle.ibc_merkle.specs.Tree.{Pairs}
+use Rattle.ibc_merkle.specs.declared.proof.Proof.{Proof}
+use Rattle.ibc_machine.specs.Machine.{block_of}
+use Rattle.ibc_wire.specs.declared.messages.Message.TheVariants as message
+
+-- ---- lists without their front
+
+pub drop_none : {A : Type 0} (n : ℕ) → drop {A = A} n [] ≡ []
+drop_none zero = refl
+drop_none (suc n) = refl
+
+get_drop : {A : Type 0} (n i : ℕ) (xs : List A) → slice_get (drop n xs) i ≡ slice_get xs (n + i)
+get_drop zero i xs = ap (slice_get xs) (omega arith)
+get_drop (suc n) i [] = refl
+get_drop (suc n) i (x ∷ xs) = let e : suc (n + i) ≡ suc n + i = omega arith in get_drop n i xs ∙ ap (slice_get (x ∷ xs)) e
+
+last_more : {A : Type 0} (o : Option A) (xs : List A) (x : A) → last_or o (xs ++ x ∷ []) ≡ Some x
+last_more o [] x = refl
+last_more o (y ∷ ys) x = last_more (Some y) ys x
+
+-- ---- messages
+
+module _ (window : ℕ) (chain : Chain) where
+  pub keeps_stored : (old new : HeldRecords) (records : Records) → KeepsBlocks window chain old.store → IsStored old new → core_of new ≡ records.core → KeepsBlocks window (record chain { records = records }) new.store
+  keeps_stored old new records keeps stored is = record {
+    working = stored.image_of ∙ ap image is;
+    gone = ap (λ (s : HeldStore). s.gone) stored.store ∙ keeps.gone;
+    kept = ap (λ (s : HeldStore). s.kept) stored.store ∙ keeps.kept;
+  }
+
+-- ---- ends of blocks
+
+module _ (window : ℕ) (chain : Chain) (store : HeldStore) (next_time : ℕ) (some : 0 < window) (room : height_of store < 2 ^ 64 - 1) (window_is : store.window ≡ window) (time : store.time ≡ chain.time)
+    (height : height_of store ≡ length chain.committed) (keeps : KeepsBlocks window chain store) where
+  abbrev longer : List Block
+  longer = chain.committed ++ working_block chain ∷ []
+
+  one_more : passed window chain.committed + excess store ≡ passed window longer
+  one_more =
+      let a = length-append chain.committed (working_block chain ∷ []) in
+      let g = keeps.gone in
+      omega (arith, a, g, height, window_is, some)
+
+  gone : gone_after store.gone (excess store) ≡ passed window longer
+  gone =
+      let a = length-append chain.committed (working_block chain ∷ []) in
+      let g = keeps.gone in
+      let o = one_more in
+      omega (arith, a, g, o, height, room)
+
+  kept : drop (excess store) (store.kept ++ (store.pairs, store.time) ∷ []) ≡ map kept_of (drop (passed window longer) longer)
+  kept =
+      let n = passed window chain.committed in
+      let last : (store.pairs, store.time) ≡ kept_of (working_block chain) = λ i. (keeps.working i, time i) in
+      let low : n ≤ length chain.committed = omega arith in
+      ap (drop (excess store)) (
+      (λ i. keeps.kept i ++ last i ∷ [])
+      ∙ sym (map-append kept_of (drop n chain.committed) (working_block chain ∷ []))
+      ∙ ap (map kept_of) (sym (drop-append-le n chain.committed (working_block chain ∷ []) low))
+      )
+      ∙ drop-map kept_of (excess store) (drop n longer)
+      ∙ ap (map kept_of) (drop-drop (excess store) n longer ∙ ap (λ m. drop m longer) one_more)
+
+  pub keeps_committed : KeepsBlocks window (record { records = chain.records; time = next_time; committed = longer }) (committed store next_time)
+  keeps_committed = record { working = keeps.working; gone = gone; kept = kept }
+
+-- ---- proofs of committed heights
+
+module _ (window : ℕ) (chain : Chain) (store : HeldStore) (keeps : KeepsBlocks window chain store) (height : ℕ) where
+  abbrev its_block : Option Block
+  its_block = provable window chain.committed height
+
+  block_there : (height : ℕ) → store.gone < height → slice_get chain.committed (passed window chain.committed + (height - store.gone - 1)) ≡ block_of height chain.committed
+  block_there zero below = absurd (omega arith)
+  block_there (suc k) below = let g = keeps.gone in ap (slice_get chain.committed) (omega (arith, g, below))
+
+  by_place : (b : Bool) → nat_lt store.gone height ≡ b
+      → elim b as (λ _. Option (Pairs × ℕ)) [ true ↦ slice_get store.kept (height - store.gone - 1) | false ↦ None ]
+      ≡ option_map kept_of (elim b as (λ _. Option Block) [ true ↦ block_of height chain.committed | false ↦ None ])
+  by_place false is = refl
+  by_place true is =
+      let n = passed window chain.committed in
+      let i = height - store.gone - 1 in
+      ap (λ kept. slice_get kept i) keeps.kept
+      ∙ slice_get-map kept_of (drop n chain.committed) i
+      ∙ ap (option_map kept_of) (get_drop n i chain.committed ∙ block_there height (ltb-true store.gone height is))
+
+  pub kept_block : kept_at store height ≡ option_map kept_of its_block
+  kept_block =
+      by_place (nat_lt store.gone height) refl
+      ∙ ap (λ n. option_map kept_of (elim (nat_lt n height) as (λ _. Option Block) [ true ↦ block_of height chain.committed | false ↦ None ])) keeps.gone
+
+  by_block : (o : Option Block) (proof : Proof) (path : Text) → IsSomeAnd (option_map kept_of o) (λ kept. proof ≡ written kept.0 path) → IsSomeAnd o (λ block. proof ≡ written (image block.records.core) path)
+  by_block None proof path is = is
+  by_block (Some block) proof path is = is
+
+  pub proof_of_block : (result : Result Proof Refusal) (path : Text) → IfOk result (λ proof. IsSomeAnd (kept_at store height) (λ kept. proof ≡ written kept.0 path))
+      → IfOk result (λ proof. IsSomeAnd its_block (λ block. proof ≡ written (image block.records.core) path))
+  proof_of_block (Ok proof) path is =
+      by_block its_block proof path (subst (λ (o : Option (Pairs × ℕ)). IsSomeAnd o (λ kept. proof ≡ written kept.0 path)) kept_block is)
+  proof_of_block (Err refusal) path is = tt
+
+  same_some : (o : Option Block) → is_some (option_map kept_of o) ≡ is_some o
+  same_some None = refl
+  same_some (Some block) = refl
+
+  -- the result names an unknown height where the height has no block that can be proved
+  pub no_consensus : (result : Result Proof Refusal) → ((result ≡ Err NoConsensus) ↔ IsNone (kept_at store height)) → (result ≡ Err NoConsensus) ↔ IsNone its_block
+  no_consensus result unknown = subst (λ b. (result ≡ Err NoConsensus) ↔ (b ≡ false)) (ap is_some kept_block ∙ same_some its_block) unknown
+
+-- the state with these records, after this message
+abbrev pub with_records : Message → LedgerState → Records → LedgerState
+with_records m state records = record {
+  chain = record state.chain { records = records };
+  consensus = with_consensus m state.consensus;
+}
 
 consensus_cmp_total : IsTotalOrder consensus_cmp
 consensus_cmp_total = then_total (on_total (λ (x : Text × ℕ). x.0) text_cmp_total) (on_total (λ (x : Text × ℕ). x.1) nat_cmp_total)
@@ -31,37 +137,46 @@ consensus_cmp_total = then_total (on_total (λ (x : Text × ℕ). x.0) text_cmp_
 module _ (window : ℕ) (state : LedgerState) (old : HeldRecords) (apps : Apps) (holds : IsStateOf window state old apps) where
   -- only how much room there is changed
   pub unchanged_holds : (new : HeldRecords) (left : Apps) → IsUnchanged old new → left ≡ apps → IsStateOf window state new left
-  unchanged_holds new left same kept = record {
-    core = ap core_of same ∙ holds.core;
-    time = ap (λ (h : HeldRecords). h.store.time) same ∙ holds.time;
-    height = ap (λ (h : HeldRecords). height_of h.store) same ∙ holds.height;
-    window_is = ap (λ (h : HeldRecords). h.store.window) same ∙ holds.window_is;
-    apps_are = kept ∙ holds.apps_are;
-    known = λ client height known e. holds.known client height known (sym (ap (λ (h : HeldRecords). consensus_in h client height) same) ∙ e);
-    keeps = keeps_unchanged window state.chain old new holds.keeps same;
+  unchanged_holds new left same kept =
+      subst (λ (w : HeldRecords × Apps). IsStateOf window state w.0 w.1) (λ i. (sym same i, sym kept i)) (record {
+        core = holds.core;
+        time = holds.time;
+        height = holds.height;
+        window_is = holds.window_is;
+        apps_are = holds.apps_are;
+        known = holds.known;
+        last = holds.last;
+        keeps = record { working = holds.keeps.working; gone = holds.keeps.gone; kept = holds.keeps.kept };
+      })
+
+  -- the records were written, and the store is their image
+  stored_holds : (m : Message) (core : Core) (left : Apps) (new : HeldRecords) → IsStored old new → core_of new ≡ core → Knows new (with_records m state (record { core = core; apps = left }))
+      → IsStateOf window (with_records m state (record { core = core; apps = left })) new left
+  stored_holds m core left new stored is known = record {
+    core = is;
+    time = ap (λ (s : HeldStore). s.time) stored.store ∙ holds.time;
+    height = ap (λ (s : HeldStore). height_of s) stored.store ∙ holds.height;
+    window_is = ap (λ (s : HeldStore). s.window) stored.store ∙ holds.window_is;
+    apps_are = refl;
+    known = known;
+    last = stored.last ∙ holds.last;
+    keeps = keeps_stored window state.chain old new (record { core = core; apps = left }) holds.keeps stored is;
   }
 
   -- the records and the applications were written, by a message that tells no client of a height
   pub written_holds : (m : Message) (core : Core) (left : Apps) (new : HeldRecords) → IsWritten core old new → with_consensus m state.consensus ≡ state.consensus
       → IsStateOf window (with_records m state (record { core = core; apps = left })) new left
-  written_holds m core left new written same = record {
-    core = written.core_is;
-    time = ap (λ (s : HeldStore). s.time) written.stored.store ∙ holds.time;
-    height = ap (λ (s : HeldStore). height_of s) written.stored.store ∙ holds.height;
-    window_is = ap (λ (s : HeldStore). s.window) written.stored.store ∙ holds.window_is;
-    apps_are = refl;
-    known = λ client height known e. ap (λ consensus. at consensus_cmp (client, height) consensus) same ∙ holds.known client height known (written.knows client height known e);
-    keeps = keeps_stored window state.chain old new (record { core = core; apps = left }) holds.keeps written.stored written.core_is;
-  }
+  written_holds m core left new written same =
+      stored_holds m core left new written.stored written.core_is
+      (λ client height known e. ap (λ consensus. at consensus_cmp (client, height) consensus) same ∙ holds.known client height known (written.knows client height known e))
 
   -- a client that was told of a header knows what the ledger's state says of it
   module _ (m : UpdateClient) (new : HeldRecords) (updates : UpdatesClient old m.client m.header.height (consensus_of m.header) new) where
-    by_height : (client : Text) (height : ℕ) (known : ConsensusState) → text_cmp client m.client ≡ Equal → (o : Ordering)
-        → cond (is_eq o) (Some (consensus_of m.header)) (at nat_cmp height updates.client.known) ≡ Some known
-        → cond (is_eq o) (Some (plain_consensus (consensus_of m.header))) (consensus_at state client height) ≡ Some (plain_consensus known)
-    by_height client height known same Equal e = ap (option_map plain_consensus) e
-    by_height client height known same Less e = holds.known client height known (ap (option_and_then (λ (c : HeldClient). at nat_cmp height c.known)) (ap (λ t. at text_cmp t old.clients) (text_tied client m.client same) ∙ updates.stood) ∙ e)
-    by_height client height known same Greater e = holds.known client height known (ap (option_and_then (λ (c : HeldClient). at nat_cmp height c.known)) (ap (λ t. at text_cmp t old.clients) (text_tied client m.client same) ∙ updates.stood) ∙ e)
+    by_height : (client : Text) (height : ℕ) (known : ConsensusState) → text_cmp client m.client ≡ Equal → (b : Bool)
+        → cond b (Some (consensus_of m.header)) (at nat_cmp height updates.client.known) ≡ Some known
+        → cond b (Some (plain_consensus (consensus_of m.header))) (consensus_at state client height) ≡ Some (plain_consensus known)
+    by_height client height known same true e = ap (option_map plain_consensus) e
+    by_height client height known same false e = holds.known client height known (ap (option_and_then (λ (c : HeldClient). at nat_cmp height c.known)) (ap (λ t. at text_cmp t old.clients) (text_tied client m.client same) ∙ updates.stood) ∙ e)
 
     by_client : (client : Text) (height : ℕ) (known : ConsensusState) (o : Ordering) → text_cmp client m.client ≡ o
         → option_and_then (λ (c : HeldClient). at nat_cmp height c.known) (cond (is_eq o) (Some (with_height m.header.height (consensus_of m.header) updates.client)) (at text_cmp client old.clients)) ≡ Some known
@@ -69,39 +184,34 @@ module _ (window : ℕ) (state : LedgerState) (old : HeldRecords) (apps : Apps) 
     by_client client height known Less is e = holds.known client height known e
     by_client client height known Greater is e = holds.known client height known e
     by_client client height known Equal is e =
-        by_height client height known is (nat_cmp height m.header.height)
+        by_height client height known is (is_eq (nat_cmp height m.header.height))
         (sym (at-with nat_cmp nat_cmp_total height m.header.height (consensus_of m.header) updates.client.known) ∙ e)
 
     pub updated_holds : (left : Apps) → IsStateOf window (with_records (message.UpdateClient m) state (record { core = core_of new; apps = left })) new left
-    updated_holds left = record {
-      core = refl;
-      time = ap (λ (s : HeldStore). s.time) updates.stored.store ∙ holds.time;
-      height = ap (λ (s : HeldStore). height_of s) updates.stored.store ∙ holds.height;
-      window_is = ap (λ (s : HeldStore). s.window) updates.stored.store ∙ holds.window_is;
-      apps_are = refl;
-      known = λ client height known e.
-          at-with consensus_cmp consensus_cmp_total (client, height) (m.client, m.header.height) (plain_consensus (consensus_of m.header)) state.consensus
-          ∙ by_client client height known (text_cmp client m.client) refl
-          (sym (ap (option_and_then (λ (c : HeldClient). at nat_cmp height c.known)) (ap (λ (h : HeldRecords). at text_cmp client h.clients) updates.records ∙ at-with text_cmp text_cmp_total client m.client (with_height m.header.height (consensus_of m.header) updates.client) old.clients)) ∙ e);
-      keeps = keeps_stored window state.chain old new (record { core = core_of new; apps = left }) holds.keeps updates.stored refl;
-    }
+    updated_holds left =
+        stored_holds (message.UpdateClient m) (core_of new) left new updates.stored refl
+        (λ client height known e.
+        at-with consensus_cmp consensus_cmp_total (client, height) (m.client, m.header.height) (plain_consensus (consensus_of m.header)) state.consensus
+        ∙ by_client client height known (text_cmp client m.client) refl
+        (sym (ap (option_and_then (λ (c : HeldClient). at nat_cmp height c.known)) (ap (λ (h : HeldRecords). at text_cmp client h.clients) updates.records ∙ at-with text_cmp text_cmp_total client m.client (with_height m.header.height (consensus_of m.header) updates.client) old.clients)) ∙ e))
 
   -- the working block joins the committed ones
-  pub committed_holds : (next_time : ℕ) (new : HeldRecords) → 0 < window → height_of old.store < 2 ^ 64 - 1 → new ≡ record old { store = committed old.store next_time }
+  pub committed_holds : (next_time : ℕ) (new : HeldRecords) → 0 < window → height_of old.store < 2 ^ 64 - 1 → new ≡ after_commit old next_time
       → IsStateOf window (record state { chain = record { records = state.chain.records; time = next_time; committed = state.chain.committed ++ working_block state.chain ∷ [] } }) new apps
   committed_holds next_time new some room is = record {
     core = ap core_of is ∙ holds.core;
     time = ap (λ (h : HeldRecords). h.store.time) is;
-    height = ap (λ (h : HeldRecords). height_of h.store) is ∙ one_more;
+    height = ap (λ (h : HeldRecords). height_of h.store) is ∙ one_higher;
     window_is = ap (λ (h : HeldRecords). h.store.window) is ∙ holds.window_is;
     apps_are = holds.apps_are;
     known = λ client height known e. holds.known client height known (sym (ap (λ (h : HeldRecords). consensus_in h client height) is) ∙ e);
+    last = ap (λ (h : HeldRecords). h.last) is ∙ (λ i. record { core = holds.core i; time = holds.time i }) ∙ ap last_block (sym (last_more None state.chain.committed (working_block state.chain)));
     keeps = subst (λ (h : HeldRecords). KeepsBlocks window (record { records = state.chain.records; time = next_time; committed = state.chain.committed ++ working_block state.chain ∷ [] }) h.store) (sym is)
         (keeps_committed window state.chain old.store next_time some room holds.window_is holds.time holds.height holds.keeps);
   }
     where
-      one_more : height_of (committed old.store next_time) ≡ length (state.chain.committed ++ working_block state.chain ∷ [])
-      one_more =
+      one_higher : height_of (committed old.store next_time) ≡ length (state.chain.committed ++ working_block state.chain ∷ [])
+      one_higher =
           let kept = old.store.kept ++ (old.store.pairs, old.store.time) ∷ [] in
           let a = length-drop (length old.store.kept + 1 - old.store.window) kept in
           let b = length-append old.store.kept ((old.store.pairs, old.store.time) ∷ []) in

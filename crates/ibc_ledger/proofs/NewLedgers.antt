@@ -1,26 +1,8 @@
 -- A ledger in the beginning is one.
-use Rattle.std.proofs.Common.{◌≡◌, ◌∙◌, ◌<◌, List, [], length, map, refl, sym, ap, subst, Some, option_map}
-use Rattle.std.specs.Prelude.{IsTrue, slice_get}
-use Rattle.std.proofs.lemmas.List.{length-map}
-use Rattle.std.proofs.lemmas.Option.{slice_get-map}
-use Rattle.ibc_ids.specs.Publications.{published_by}
-use Rattle.ibc_machine.specs.declared.genesis.Genesis.{Genesis}
-use Rattle.ibc_machine.specs.declared.genesis.ChainStart.{ChainStart}
-use Rattle.ibc_machine.specs.Records.{Core}
-use Rattle.ibc_machine.specs.Genesis.{genesis_state, chain_state, is_allowed}
-use Rattle.ibc_machine.specs.Replay.{StampedEntry}
-use Rattle.ibc_transfer.specs.InFlight.{IsInFlight}
-use Rattle.ibc_records.specs.Held.{core_of, IsNew}
-use Rattle.ibc_ledger.specs.declared.ledger.Ledger.TheInside.{Inside}
-use Rattle.ibc_ledger.specs.Standing.{Stands}
-use Rattle.ibc_ledger.specs.declared.applications.Applications.{Applications}
-use Rattle.ibc_ledger.specs.Apps.{plain_apps, starting_apps}
-use Rattle.ibc_ledger.specs.Held.{plain_entry, shape_of}
-use Rattle.ibc_ledger.specs.declared.entry.StampedEntry.{StampedEntry as KeptEntry}
-use Rattle.ibc_ledger.specs.Happened.{happened_of}
-use Rattle.ibc_ledger.specs.SentPackets.{Places, AreFirst}
-use Rattle.ibc_ledger.specs.Inside.{genesis_of, ledger_of, IsHeld}
-use Rattle.ibc_ledger.proofs.EndedBlocks.{stands_new}
+use Rattle.ibc_ledger.proofs.Common.{◌≡◌, ◌∙◌, ◌<◌, List, [], length, map, refl, sym, ap, subst, Some, option_map, IsTrue, length-map, slice_get-map, published_by, Genesis, ChainStart, Core, genesis_state, chain_state, is_allowed}
+use Rattle.ibc_ledger.proofs.Common.{StampedEntry, core_of, IsNew, IsInFlight, Inside, Stands, Applications, plain_apps, starting_apps, plain_entry, shape_of, KeptEntry, happened_of, Places, AreFirst, genesis_of, ledger_of, IsHeld}
+use Rattle.std.specs.Prelude.{slice_get}
+use Rattle.ibc_ledger.proofs.Ending.{stands_new}
 
 -- what a new ledger is made of
 pub record IsFresh (l : Inside) (genesis : Genesis) : Type 0 where

@@ -1,19 +1,8 @@
 -- What the application of a port is asked, where the port is that of transfers and where it isn't.
-use Rattle.std.proofs.Common.{◌≡◌, Bool, ◌||◌, ap, ◌∙◌}
-use Rattle.std.specs.Prelude.{if◌then◌else◌}
-use Rattle.ibc_ids.specs.Texts.{Text, same_text}
-use Rattle.ibc_ids.specs.declared.refusal.Refusal.TheVariants.{UnknownPort}
-use Rattle.ibc_wire.specs.declared.messages.ChanOpenInit.{ChanOpenInit}
-use Rattle.ibc_wire.specs.declared.messages.ChanOpenTry.{ChanOpenTry}
+use Rattle.ibc_ledger.proofs.Common.{ℕ, Result, subst, ◌≡◌, Bool, ◌||◌, ap, ◌∙◌, if◌then◌else◌, ⊤, Refusal, Text, same_text, UnknownPort, Effect, require, transfer_port, opens_for_transfers, closes_for_transfers, note_port, opens_for_notes}
+use Rattle.ibc_ledger.proofs.Common.{closes_for_notes, require_application, on_open, on_close, CoreHandler, chan_close_init, Checked, HeldRecords, IsHandled}
+use Rattle.ibc_wire.specs.declared.records.Order.{Order}
 use Rattle.ibc_wire.specs.declared.messages.ChanCloseInit.{ChanCloseInit}
-use Rattle.ibc_machine.specs.Checks.{require}
-use Rattle.ibc_machine.specs.Transfers.{transfer_port, opens_for_transfers, closes_for_transfers}
-use Rattle.ibc_machine.specs.Notes.{note_port, opens_for_notes, closes_for_notes}
-use Rattle.ibc_machine.specs.Applications.{require_application, on_open, on_close}
-use Rattle.ibc_machine.specs.Channels.{chan_open_init, chan_open_try, chan_close_init}
-use Rattle.ibc_machine.specs.Evidence.{CoreHandler}
-
--- ---- channels
 
 module _ (port : Text) (on_transfers : Bool) (is : on_transfers ≡ same_text port transfer_port) where
   port_is_known : (known : Bool) → known ≡ (on_transfers || same_text port note_port) → require known UnknownPort ≡ require_application port
@@ -23,16 +12,15 @@ module _ (port : Text) (on_transfers : Bool) (is : on_transfers ≡ same_text po
   opens_on_port i = λ order version. if is i then opens_for_transfers order version else opens_for_notes order version
 
 -- what a channel's message is answered by the application of its port
-pub init_by_port : (m : ChanOpenInit) (on_transfers : Bool) → on_transfers ≡ same_text m.port transfer_port → (known : Bool) → known ≡ (on_transfers || same_text m.port note_port)
-    → ◌≡◌ {A = CoreHandler} (chan_open_init (require known UnknownPort) (λ order version. if on_transfers then opens_for_transfers order version else opens_for_notes order version) m)
-    (chan_open_init (require_application m.port) (on_open m.port) m)
-init_by_port m on_transfers is known knows = λ i. chan_open_init (port_is_known m.port on_transfers is known knows i) (opens_on_port m.port on_transfers is i) m
+pub opened_by_port : {X : Type 0} (effect_of : X → Effect) (old new : HeldRecords) (result : Result X Refusal) (port : Text) (opening : Checked ⊤ → (Order → Text → Checked ⊤) → CoreHandler)
+    (on_transfers : Bool) → on_transfers ≡ same_text port transfer_port → (known : Bool) → known ≡ (on_transfers || same_text port note_port)
+    → ((chain chains : ℕ) → IsHandled effect_of (opening (require known UnknownPort) (λ order version. if on_transfers then opens_for_transfers order version else opens_for_notes order version)) chain chains old result new)
+    → (chain chains : ℕ) → IsHandled effect_of (opening (require_application port) (on_open port)) chain chains old result new
+opened_by_port effect_of old new result port opening on_transfers is known knows =
+    subst (λ (h : CoreHandler). (chain chains : ℕ) → IsHandled effect_of h chain chains old result new) (λ i. opening (port_is_known port on_transfers is known knows i) (opens_on_port port on_transfers is i))
 
-pub try_by_port : (m : ChanOpenTry) (on_transfers : Bool) → on_transfers ≡ same_text m.port transfer_port → (known : Bool) → known ≡ (on_transfers || same_text m.port note_port)
-    → ◌≡◌ {A = CoreHandler} (chan_open_try (require known UnknownPort) (λ order version. if on_transfers then opens_for_transfers order version else opens_for_notes order version) m)
-    (chan_open_try (require_application m.port) (on_open m.port) m)
-try_by_port m on_transfers is known knows = λ i. chan_open_try (port_is_known m.port on_transfers is known knows i) (opens_on_port m.port on_transfers is i) m
-
-pub close_by_port : (m : ChanCloseInit) (on_transfers : Bool) → on_transfers ≡ same_text m.port transfer_port
-    → ◌≡◌ {A = CoreHandler} (chan_close_init (if on_transfers then closes_for_transfers else closes_for_notes) m) (chan_close_init (on_close m.port) m)
-close_by_port m on_transfers is = λ i. chan_close_init (if is i then closes_for_transfers else closes_for_notes) m
+pub closed_by_port : {X : Type 0} (effect_of : X → Effect) (old new : HeldRecords) (result : Result X Refusal) (m : ChanCloseInit) (on_transfers : Bool) → on_transfers ≡ same_text m.port transfer_port
+    → ((chain chains : ℕ) → IsHandled effect_of (chan_close_init (if on_transfers then closes_for_transfers else closes_for_notes) m) chain chains old result new)
+    → (chain chains : ℕ) → IsHandled effect_of (chan_close_init (on_close m.port) m) chain chains old result new
+closed_by_port effect_of old new result m on_transfers is =
+    subst (λ (h : CoreHandler). (chain chains : ℕ) → IsHandled effect_of h chain chains old result new) (λ i. chan_close_init (if is i then closes_for_transfers else closes_for_notes) m)

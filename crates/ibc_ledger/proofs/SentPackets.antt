@@ -1,27 +1,14 @@
 -- Where packets stand in a history that gets longer, and that a packet is found at its place.
-use Rattle.std.proofs.Common.{◌≡◌, ◌+◌, ℕ, suc, eqb, Bool, true, false, ◌&&◌, cond, is_eq, List, [], ◌∷◌, ◌++◌, length, refl, sym, ap, ◌∙◌, Some, None, Option, slice_get, option_and_then, arith}
-use Rattle.std.specs.Prelude.{◌==◌}
-use Rattle.std.specs.Ordering.{nat_cmp}
-use Rattle.std.specs.Option.{option_map_or, option_or}
-use Rattle.std.specs.List.{AllByRecursion, find, filter_map, cons_option, position_from}
-use Rattle.std.proofs.lemmas.Bool.{and_parts, and_from, false≢true}
+use Rattle.ibc_ledger.proofs.Common.{◌≡◌, ◌+◌, ℕ, suc, eqb, Bool, true, false, ◌&&◌, cond, is_eq, List, [], ◌∷◌, ◌++◌, length, refl, sym, ap, ◌∙◌, Some, None, Option, slice_get, option_and_then, arith, ◌==◌, nat_cmp, option_map_or}
+use Rattle.ibc_ledger.proofs.Common.{option_or, AllByRecursion, find, filter_map, cons_option, position_from, and_parts, and_from, false≢true, Text, same_text, pair_cmp, at, with, text_same, same_text_from, Packet, Channel, Commitment}
+use Rattle.ibc_ledger.proofs.Common.{one_token, several_tokens, transfer_port, transfer_commitment, transfer_data, transfer_many_data, note_port, note_commitment, Happened, End, is_end, packet_if, packet_from, sent_by, packet_sent}
+use Rattle.ibc_ledger.proofs.Common.{history_of, chain_of, commitment_in, SentName, sent_cmp, sent_name, is_named, Places, AreFirst, with_first}
 use Rattle.std.proofs.lemmas.Map.Lookups.{exact_pairs}
-use Rattle.ibc_ids.specs.Texts.{Text, same_text, pair_cmp}
-use Rattle.ibc_ids.specs.Maps.{at, with}
-use Rattle.ibc_ids.proofs.Texts.{text_same, same_text_from}
-use Rattle.ibc_wire.specs.declared.packet.Packet.{Packet}
+use Rattle.ibc_machine.proofs.FiniteMaps.{TellsApart, by_number, by_pair, at-with, same_key}
 use Rattle.ibc_wire.specs.declared.messages.Message.TheVariants as message
 use Rattle.ibc_machine.specs.declared.event.Event.TheVariants as event
 use Rattle.ibc_machine.specs.declared.reply.Effect.TheVariants as effect
 use Rattle.ibc_machine.specs.declared.reply.Reply.TheVariants as reply
-use Rattle.ibc_machine.specs.Records.{Channel, Commitment}
-use Rattle.ibc_machine.specs.TokenData.{one_token, several_tokens}
-use Rattle.ibc_machine.specs.Transfers.{transfer_port, transfer_commitment, transfer_data, transfer_many_data}
-use Rattle.ibc_machine.specs.Notes.{note_port, note_commitment}
-use Rattle.ibc_machine.specs.Histories.{Happened, End, is_end, packet_if, packet_from, sent_by, packet_sent, history_of}
-use Rattle.ibc_machine.specs.Ledgers.{chain_of}
-use Rattle.ibc_machine.proofs.FiniteMaps.{TellsApart, by_number, by_pair, at-with, same_key}
-use Rattle.ibc_ledger.specs.SentPackets.{commitment_in, SentName, sent_cmp, sent_name, is_named, Places, AreFirst, with_first}
 
 by_sent_name : TellsApart sent_cmp
 by_sent_name = record {
@@ -187,9 +174,6 @@ module _ (e : End) (mine : Channel) (n : ℕ) where
         ∙ found_there (sent_by e mine) passes (is_named name) (slice_get happened) 0 happened (λ j. ap (slice_get happened) (let e : 0 + j ≡ j = omega arith in e)) (all_tell happened)
         ∙ ap (option_and_then (λ i. option_and_then (sent_by e mine) (slice_get happened i))) (sym (first name))
 
-some_same : {A : Type 0} {x y : A} → Some x ≡ Some y → x ≡ y
-some_same is = cc
-
 -- the place that is found has an item that passes the test
 module _ {A : Type 0} (test : A → Bool) where
   abbrev IsThere : (ℕ → Option A) → ℕ → Type 0
@@ -225,15 +209,15 @@ sent_under e mine n port channel s c d same named =
 pub named_packet : (e : End) (mine : Channel) (n : ℕ) (h : Happened) (c : Commitment) → commitment_in h.0 ≡ Some c → is_named ((e.port, e.channel), n) h ≡ true
     → sent_by e mine h ≡ Some (packet_from e mine n c)
 named_packet e mine n (event.Message k (message.SendNote m), reply.Ok (effect.Sent s)) c is named =
-    sent_under e mine n note_port m.channel s (note_commitment m) c (some_same is) named
+    sent_under e mine n note_port m.channel s (note_commitment m) c (cc) named
 named_packet e mine n (event.Message k (message.SendNote m), reply.Ok _) c is named = absurd (false≢true named)
 named_packet e mine n (event.Message k (message.SendNote m), reply.No r) c is named = absurd (false≢true named)
 named_packet e mine n (event.Message k (message.Transfer m), reply.Ok (effect.Sent s)) c is named =
-    sent_under e mine n transfer_port m.channel s (transfer_commitment one_token (transfer_data m) m.timeout_height m.timeout_time) c (some_same is) named
+    sent_under e mine n transfer_port m.channel s (transfer_commitment one_token (transfer_data m) m.timeout_height m.timeout_time) c (cc) named
 named_packet e mine n (event.Message k (message.Transfer m), reply.Ok _) c is named = absurd (false≢true named)
 named_packet e mine n (event.Message k (message.Transfer m), reply.No r) c is named = absurd (false≢true named)
 named_packet e mine n (event.Message k (message.TransferMany m), reply.Ok (effect.Sent s)) c is named =
-    sent_under e mine n transfer_port m.channel s (transfer_commitment several_tokens (transfer_many_data m) m.timeout_height m.timeout_time) c (some_same is) named
+    sent_under e mine n transfer_port m.channel s (transfer_commitment several_tokens (transfer_many_data m) m.timeout_height m.timeout_time) c (cc) named
 named_packet e mine n (event.Message k (message.TransferMany m), reply.Ok _) c is named = absurd (false≢true named)
 named_packet e mine n (event.Message k (message.TransferMany m), reply.No r) c is named = absurd (false≢true named)
 named_packet e mine n (event.Message k _, given) c is named = absurd (false≢true named)

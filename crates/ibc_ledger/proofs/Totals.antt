@@ -1,17 +1,9 @@
 -- The amounts of a denomination in a genesis, how often a holding stands there, and which genesis is allowed.
-use Rattle.std.proofs.Common.{◌≡◌, ℕ, Bool, ◌+◌, ◌<◌, ◌≤◌, ◌&&◌, true, false, cond, ltb, leb, List, length, get_or, take, refl, sym, ap, ◌∙◌, subst, arith}
+use Rattle.ibc_ledger.proofs.Common.{◌≡◌, ℕ, Bool, ◌+◌, ◌<◌, ◌≤◌, ◌&&◌, true, false, cond, ltb, leb, List, length, get_or, take, refl, sym, ap, ◌∙◌, subst, arith, list_all, sum_by_more, sum_by_more_le, IsTrue, and_parts, false≢true}
+use Rattle.ibc_ledger.proofs.Common.{take_all, length-map, Text, same_text, Holding, ChainState, is_same_holding, is_fair, is_allowed, has_limits, total_of, chain_state, genesis_state, Genesis, ChainStart}
 use Rattle.std.specs.Str.{bytes_eq}
-use Rattle.std.specs.List.{list_all}
-use Rattle.std.proofs.lemmas.List.Sums.{sum_by_more, sum_by_more_le}
-use Rattle.std.specs.Prelude.{IsTrue}
-use Rattle.std.proofs.lemmas.Bool.{le-ltb, lt-ltb, le-leb, and_parts, false≢true}
-use Rattle.std.proofs.lemmas.List.{take_all}
-use Rattle.ibc_ids.specs.Texts.{Text, same_text}
+use Rattle.std.proofs.lemmas.Bool.{le-ltb, lt-ltb, le-leb}
 use Rattle.ibc_client.proofs.FoundRows.{bytes_eq-same}
-use Rattle.ibc_machine.specs.Genesis.{Holding, ChainState, is_same_holding, is_fair, is_allowed, has_limits, total_of, chain_state, genesis_state}
-use Rattle.ibc_machine.specs.declared.genesis.Genesis.{Genesis}
-use Rattle.ibc_machine.specs.declared.genesis.ChainStart.{ChainStart}
-use Rattle.std.proofs.lemmas.List.{length-map}
 use Rattle.std.proofs.lemmas.List.Folds.{list_all-map, list_all_at}
 
 pub same_holding : (a b : Holding) → (bytes_eq a.0 b.0 && bytes_eq a.1 b.1) ≡ is_same_holding a b
@@ -45,12 +37,10 @@ pub allowed : (genesis : Genesis) (fair : Bool) → 2 ≤ length genesis.chains.
 unfolding is_allowed
 allowed genesis fair two eight limits is =
     let state = genesis_state genesis in
-    let chains = genesis.chains.items in
-    let count = length-map chains chain_state in
-    let e2 : leb 2 (length state.chains) ≡ true = le-leb 2 (length state.chains) (omega (arith, count)) in
-    let e8 : leb (length state.chains) 8 ≡ true = le-leb (length state.chains) 8 (omega (arith, count)) in
-    let e = list_all-map (λ (chain : ChainState). list_all (is_fair chain.balances) chain.balances) chain_state chains in
-    rw e2 (rw e8 (rw limits (is ∙ sym e)))
+    let count = length-map genesis.chains.items chain_state in
+    let few = le-leb 2 (length state.chains) (omega (arith, count)) in
+    let e = list_all-map (λ (chain : ChainState). list_all (is_fair chain.balances) chain.balances) chain_state genesis.chains.items in
+    rw (few, le-leb (length state.chains) 8 (omega (arith, count)), limits) (is ∙ sym e)
 
 -- the holdings of each chain of an allowed genesis are fair
 pub fair_start : (genesis : Genesis) → IsTrue (is_allowed (genesis_state genesis)) → (i : ℕ) (start : ChainStart) → i < length genesis.chains.items → start ≡ get_or genesis.chains.items i start → is_fair_start start ≡ true

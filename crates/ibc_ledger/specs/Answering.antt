@@ -1,5 +1,5 @@
 -- What a chain answers to a message, and what that does to what it keeps.
-use Rattle.std.specs.Prelude.{◌≡◌, true, false, is_some, Result, None, ⊤, IfOk, IfSome}
+use Rattle.std.specs.Prelude.{◌≡◌, true, false, is_some, Result, None, ⊤, IfOk, IfSome, Ok, Err}
 use Rattle.ibc_ids.specs.Publications.{height_of as published_height}
 use Rattle.ibc_ids.specs.declared.refusal.Refusal.{Refusal}
 use Rattle.ibc_wire.specs.Fields.{are_typed}
@@ -23,8 +23,27 @@ use Rattle.ibc_transfer.specs.InFlight.{IsInFlight}
 use Rattle.ibc_ledger.specs.declared.node.Node.{Node}
 use Rattle.ibc_ledger.specs.declared.outcome.Effects.{Effects}
 use Rattle.ibc_ledger.specs.declared.outcome.Outcome.{Outcome}
-use Rattle.ibc_ledger.specs.Apps.{plain_apps}
-use Rattle.ibc_ledger.specs.Effects.{told_by}
+use Rattle.ibc_ledger.specs.Standing.{plain_apps}
+use Rattle.ibc_machine.specs.declared.reply.Effect.{Effect}
+use Rattle.ibc_machine.specs.declared.reply.Reply.{Reply}
+
+-- the same effect twice
+abbrev pub both : Effect → Effects
+both effect = record { told = effect; kept = effect }
+
+-- what a result has to tell
+abbrev pub told_by : {A : Type 0} → (A → Effect) → Result A Refusal → Result Effects Refusal
+told_by effect_of (Ok x) = Ok (both (effect_of x))
+told_by effect_of (Err refusal) = Err refusal
+
+-- the reply to the caller, and the one in the history
+abbrev pub told_reply : Result Effects Refusal → Reply
+told_reply (Ok effects) = reply.Ok effects.told
+told_reply (Err refusal) = reply.No refusal
+
+abbrev pub kept_reply : Result Effects Refusal → Reply
+kept_reply (Ok effects) = reply.Ok effects.kept
+kept_reply (Err refusal) = reply.No refusal
 
 -- The message is as its type promises, the channels are in order, and the bank knows what is burnt in flight.
 pub record IsReady (m : Message) (node : Node) : Type 0 where

@@ -6,8 +6,8 @@ use Rattle.ibc_ids.specs.declared.publication.Publication.{Publication}
 use Rattle.ibc_ids.specs.declared.refusal.Refusal.{Refusal}
 use Rattle.ibc_ids.specs.declared.refusal.Refusal.TheVariants.{NoMemory, TimeBack, TableFull}
 use Rattle.ibc_machine.specs.Image.{image, core_root}
-use Rattle.ibc_path_store.specs.Held.{committed, height_of}
-use Rattle.ibc_records.specs.Held.{HeldRecords, core_of}
+use Rattle.ibc_path_store.specs.Held.{height_of}
+use Rattle.ibc_records.specs.Held.{HeldRecords, core_of, after_commit}
 use Rattle.ibc_root_table.specs.Passes.{Sight, SamePass, Publishes, own_chain}
 
 -- the working block as it is published
@@ -19,7 +19,7 @@ pub record IsCommitted (capacity next_time : ℕ) (held : HeldRecords) (pass : S
   pub forward : held.store.time ≤ next_time
   pub room : height_of held.store < capacity
   pub small : length (image (core_of held)) < 2 ^ 64
-  pub records : held' ≡ record held { store = committed held.store next_time }
+  pub records : held' ≡ after_commit held next_time
   pub root : given.1 ≡ core_root (core_of held)
   pub height : given.0 ≡ published_height (own_chain pass) pass'.seen
   pub same : SamePass pass pass'

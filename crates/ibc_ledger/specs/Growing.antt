@@ -1,12 +1,34 @@
 -- How a ledger grows: its pass sees more, and its history gets longer by an entry.
-use Rattle.std.specs.Prelude.{◌≡◌, ◌++◌, ◌<◌, ◌≤◌, ◌^◌, true, List, [], ◌∷◌, length, map, IfSome}
+use Rattle.std.specs.Prelude.{◌≡◌, ◌++◌, ◌<◌, ◌≤◌, ◌^◌, true, List, [], ◌∷◌, length, map, IfSome, ℕ, Bool, false, Option, Some, None}
 use Rattle.std.specs.List.{AllByRecursion}
-use Rattle.ibc_ids.specs.Publications.{published_by}
+use Rattle.ibc_ids.specs.Publications.{published_by, height_of}
 use Rattle.ibc_ids.specs.declared.publication.Publication.{Publication}
-use Rattle.ibc_machine.specs.Records.{Block}
+use Rattle.ibc_machine.specs.Records.{Block, Chain}
 use Rattle.ibc_machine.specs.Image.{image}
 use Rattle.ibc_machine.specs.Replay.{LedgerState, StampedEntry, entry_answer}
-use Rattle.ibc_machine.specs.Ledgers.{Ledger, IsLedger, IsOwnEntry, published_as, state_of, is_accepted_block}
+use Rattle.ibc_machine.specs.Ledgers.{Ledger, IsLedger, IsOwnEntry, published_as, state_of, is_accepted_block, header_in, reading_fits}
+use Rattle.ibc_wire.specs.declared.header.Header.{Header}
+use Rattle.ibc_machine.specs.declared.event.Event.{Event}
+use Rattle.ibc_machine.specs.declared.reply.Reply.{Reply}
+use Rattle.ibc_machine.specs.declared.entry.Reading.{Reading}
+
+abbrev pub entry_of : Event → Reply → Option Reading → Option ℕ → StampedEntry
+entry_of event reply reading stamp =
+    record { entry = record { event = event; reply = reply; reading = reading }; stamp = stamp }
+
+-- the stamp of all that was seen, where there is one
+abbrev pub stamp_if : Bool → List Publication → Option ℕ
+stamp_if true seen = Some (length seen)
+stamp_if false seen = None
+
+-- what was read of the header's chain fits what is seen of it
+abbrev pub Reads : ℕ → List Publication → Event → Option Reading → Type 0
+Reads window seen event reading = IfSome reading (λ r. (header : Header) × (header_in event ≡ Some header)
+    × (reading_fits window (height_of header.chain seen) header.height r ≡ true))
+
+-- the working block of a chain, as it is committed
+abbrev pub working_block : Chain → Block
+working_block chain = record { records = chain.records; time = chain.time }
 
 abbrev pub seeing_more : Ledger → List Publication → Ledger
 seeing_more ledger more = record ledger { seen = ledger.seen ++ more }

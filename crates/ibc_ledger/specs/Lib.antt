@@ -1,11 +1,6 @@
 pub mod Growing
-pub mod Entries
-pub mod Proving
-pub mod Apps
-pub mod Effects
 pub mod Standing
 pub mod Held
-pub mod Happened
 pub mod SentPackets
 pub mod Inside
 pub mod Ending

@@ -1,6 +1,7 @@
--- Where in a history the packets stand that were sent.
-use Rattle.std.specs.Prelude.{◌≡◌, ℕ, Bool, false, List, Option, Some, None}
-use Rattle.std.specs.Option.{option_map_or}
+-- What happened on a ledger, where in its history the packets stand that were sent, and which they are (ICS 4, "Packet
+-- flow & handling").
+use Rattle.std.specs.Prelude.{◌≡◌, ℕ, Bool, false, List, Option, Some, None, map}
+use Rattle.std.specs.Option.{option_map_or, option_and_then}
 use Rattle.std.specs.List.{position_from}
 use Rattle.std.specs.Ordering.{nat_cmp, ordering_then, is_eq}
 use Rattle.std.specs.declared.cmp.Ordering.{Ordering}
@@ -15,11 +16,13 @@ use Rattle.ibc_machine.specs.declared.event.Event.TheVariants as event
 use Rattle.ibc_machine.specs.declared.reply.Effect.TheVariants as effect
 use Rattle.ibc_machine.specs.declared.reply.Reply.{Reply}
 use Rattle.ibc_machine.specs.declared.reply.Reply.TheVariants as reply
-use Rattle.ibc_machine.specs.Records.{Commitment}
+use Rattle.ibc_machine.specs.Records.{Commitment, Channel, channel_at}
 use Rattle.ibc_machine.specs.TokenData.{one_token, several_tokens}
 use Rattle.ibc_machine.specs.Transfers.{transfer_port, transfer_commitment, transfer_data, transfer_many_data}
 use Rattle.ibc_machine.specs.Notes.{note_port, note_commitment}
-use Rattle.ibc_machine.specs.Histories.{Happened}
+use Rattle.ibc_machine.specs.Histories.{Happened, End, packet_sent}
+use Rattle.ibc_machine.specs.Replay.{StampedEntry}
+use Rattle.ibc_machine.specs.Ledgers.{Ledger, state_of}
 
 -- what names a packet where it was sent: the port and the name of its end, and its sequence
 abbrev pub SentName : Type 0
@@ -87,3 +90,26 @@ abbrev pub with_first : Option SentName → ℕ → Places → Places
 with_first None place places = places
 with_first (Some name) place places =
     elim (at sent_cmp name places) [ Some first ↦ places | None ↦ with sent_cmp name place places ]
+
+abbrev pub happened_of : StampedEntry → Happened
+happened_of e = (e.entry.event, e.entry.reply)
+
+abbrev pub happened_on : Ledger → List Happened
+happened_on ledger = map happened_of ledger.history
+
+-- the end of a ledger's channel, where it is there
+abbrev pub end_at : Ledger → Text → Text → Option Channel
+end_at ledger port channel = channel_at (state_of ledger).chain.records.core port channel
+
+-- the packet that the ledger sent from an end under a sequence, whether its commitment stands or not; none where there is
+-- no such end, or the end doesn't know its peer yet
+abbrev pub packet_on : Ledger → Text → Text → ℕ → Option Packet
+packet_on ledger port channel n =
+    let from : End = record { chain = ledger.chain; port = port; channel = channel } in
+    option_and_then (λ (mine : Channel). option_and_then (λ peer. packet_sent from mine (happened_on ledger) n) mine.end.peer_channel)
+    (end_at ledger port channel)
+
+-- the acknowledgement that the ledger wrote at an end for a sequence
+abbrev pub ack_on : Ledger → Text → Text → ℕ → Option Text
+ack_on ledger port channel n =
+    option_and_then (λ (mine : Channel). at nat_cmp n mine.acks) (end_at ledger port channel)

@@ -95,12 +95,8 @@ fn init_on_port(
     if is_transfer_port(&message.port) {
         open_init(alloc, records, Some(&applications.transfers), message)
     } else {
-        open_init(
-            alloc,
-            records,
-            applications.notes_on(&message.port),
-            message,
-        )
+        let notes = applications.notes_on(&message.port);
+        open_init(alloc, records, notes, message)
     }
 }
 
@@ -117,12 +113,8 @@ fn try_on_port(
     if is_transfer_port(&message.port) {
         open_try(alloc, records, Some(&applications.transfers), message)
     } else {
-        open_try(
-            alloc,
-            records,
-            applications.notes_on(&message.port),
-            message,
-        )
+        let notes = applications.notes_on(&message.port);
+        open_try(alloc, records, notes, message)
     }
 }
 

@@ -15,8 +15,8 @@ ghost use Rattle.ibc_machine.specs.Ledgers.{IsLedger, SeesMore, state_of};
 ghost use Rattle.ibc_note.specs.Plain.{plain_notes};
 ghost use Rattle.ibc_bank.specs.Listed.{plain_holding};
 ghost use Rattle.ibc_ledger.specs.Held.{plain_entry, shape_of};
-ghost use Rattle.ibc_ledger.specs.Happened.{ack_on, packet_on};
-ghost use Rattle.ibc_ledger.specs.Proving.{provable};
+ghost use Rattle.ibc_ledger.specs.SentPackets.{ack_on, packet_on};
+ghost use Rattle.ibc_ledger.specs.Standing.{provable};
 
 use crate::applications::Applications;
 use crate::node::Node;
@@ -103,6 +103,13 @@ impl Ledger {
         ensures { result ≡ self.now.ledger.chain }
     {
         self.node.number
+    }
+
+    /// How many chains the genesis has.
+    pub fn chains(&self) -> u8
+        ensures { result ≡ length self.now.ledger.genesis.chains }
+    {
+        self.node.chains
     }
 
     /// All that was asked of the chain, and what it answered, in order. What was answered with `NoMemory` isn't there.

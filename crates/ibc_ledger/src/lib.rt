@@ -15,7 +15,9 @@ mod node;
 mod outcome;
 mod packets;
 mod places;
+mod reads;
 mod sent;
+mod views;
 
 pub use entry::StampedEntry;
 pub use genesis::is_allowed;

@@ -1,9 +1,8 @@
 //! Where in a history the packets stand that were sent.
 
-ghost use Rattle.std.specs.Prelude.{◌≡◌, ◌<◌, IfOk, OnOk};
+ghost use Rattle.std.specs.Prelude.{◌≡◌, ◌<◌, IfOk, OnOk, IsTrue};
 ghost use Rattle.ibc_ids.specs.Maps.{at};
-ghost use Rattle.ibc_machine.specs.Notes.{note_port};
-ghost use Rattle.ibc_machine.specs.Transfers.{transfer_port};
+ghost use Rattle.ibc_ids.specs.Names.{is_port};
 ghost use Rattle.ibc_ledger.specs.SentPackets.{sender_of, sent_as, sent_cmp, with_first};
 
 use ibc_ids::{ChannelId, PortId};
@@ -53,12 +52,12 @@ fn sender_of(alloc: Global, message: &Message) -> Result<Option<Sender>, AllocEr
     ensures { IfOk result (λ sender. sender ≡ sender_of message.now) }
 {
     match message {
-        Message::SendNote(message) => Ok(Some((note_port(alloc)?, message.channel.clone()?))),
+        Message::SendNote(message) => Ok(Some((port(alloc, "note")?, message.channel.clone()?))),
         Message::Transfer(message) => {
-            Ok(Some((transfer_port(alloc)?, message.channel.clone()?)))
+            Ok(Some((port(alloc, "transfer")?, message.channel.clone()?)))
         }
         Message::TransferMany(message) => {
-            Ok(Some((transfer_port(alloc)?, message.channel.clone()?)))
+            Ok(Some((port(alloc, "transfer")?, message.channel.clone()?)))
         }
         _ => Ok(None),
     }
@@ -84,19 +83,12 @@ pub fn keep_first(places: &mut Places, sender: Option<Sender>, reply: &Reply, pl
     };
 }
 
-fn note_port(alloc: Global) -> Result<PortId, AllocError>
-    ensures { IfOk result (λ port. port ≡ note_port) }
+// The port of this name. Error: memory ran out.
+fn port(alloc: Global, name: &str) -> Result<PortId, AllocError>
+    requires { IsTrue (is_port name.now) }
+    ensures { IfOk result (λ port. port ≡ name.now) }
 {
-    match PortId::parse(alloc, "note") {
-        Ok(port) => Ok(port),
-        Err(_) => Err(AllocError),
-    }
-}
-
-fn transfer_port(alloc: Global) -> Result<PortId, AllocError>
-    ensures { IfOk result (λ port. port ≡ transfer_port) }
-{
-    match PortId::parse(alloc, "transfer") {
+    match PortId::parse(alloc, name) {
         Ok(port) => Ok(port),
         Err(_) => Err(AllocError),
     }

@@ -3,9 +3,6 @@
 ghost use Rattle.std.specs.Prelude.{◌≡◌, Some, IfOk, IfErr};
 ghost use Rattle.ibc_ids.specs.declared.refusal.Refusal.TheVariants.{NoMemory};
 ghost use Rattle.ibc_wire.specs.declared.messages.Message.TheVariants as message;
-ghost use Rattle.ibc_machine.specs.TokenData as plain;
-ghost use Rattle.ibc_machine.specs.Transfers.{transfer_commitment};
-ghost use Rattle.ibc_token_data.specs.Plain.{plain_data};
 ghost use Rattle.ibc_ledger.specs.SentPackets.{commitment_by, commitment_in, packet_to};
 
 use ibc_ids::{ChannelId, PortId, Refusal, Version};
@@ -48,15 +45,13 @@ fn transfer_by(alloc: Global, sent: &Transfer) -> Result<Commitment, Refusal>
     ensures ok { IfOk result (λ commitment. Some commitment ≡ commitment_by (message.Transfer sent.now)) }
     ensures err { IfErr result (λ refusal. refusal ≡ NoMemory) }
 {
-    let version = one_token(alloc)?;
+    let version = Version::parse(alloc, "ics20-1")?;
     let told = TokenData::of_transfer(alloc, sent)?;
-    token_commitment(
-        alloc,
-        &version,
-        &told,
-        sent.timeout_height,
-        sent.timeout_time,
-    )
+    Ok(Commitment {
+        payload: told.write(alloc, &version)?,
+        timeout_height: sent.timeout_height,
+        timeout_time: sent.timeout_time,
+    })
 }
 
 // What is committed of the packet of a transfer of several tokens.
@@ -64,32 +59,12 @@ fn transfer_many_by(alloc: Global, sent: &TransferMany) -> Result<Commitment, Re
     ensures ok { IfOk result (λ commitment. Some commitment ≡ commitment_by (message.TransferMany sent.now)) }
     ensures err { IfErr result (λ refusal. refusal ≡ NoMemory) }
 {
-    let version = several_tokens(alloc)?;
+    let version = Version::parse(alloc, "ics20-own-2")?;
     let told = TokenData::of_transfer_many(alloc, sent)?;
-    token_commitment(
-        alloc,
-        &version,
-        &told,
-        sent.timeout_height,
-        sent.timeout_time,
-    )
-}
-
-// What is committed of a packet of tokens over a channel of the version.
-fn token_commitment(
-    alloc: Global,
-    version: &Version,
-    told: &TokenData,
-    timeout_height: u64,
-    timeout_time: u64,
-) -> Result<Commitment, Refusal>
-    ensures ok { IfOk result (λ commitment. commitment ≡ transfer_commitment version.now (plain_data told.now) timeout_height timeout_time) }
-    ensures err { IfErr result (λ refusal. refusal ≡ NoMemory) }
-{
     Ok(Commitment {
-        payload: told.write(alloc, version)?,
-        timeout_height,
-        timeout_time,
+        payload: told.write(alloc, &version)?,
+        timeout_height: sent.timeout_height,
+        timeout_time: sent.timeout_time,
     })
 }
 
@@ -114,20 +89,4 @@ pub fn packet_to(
         destination_channel: peer.clone()?,
         payload: commitment.payload,
     })
-}
-
-// The version of channels that carry one token a packet.
-fn one_token(alloc: Global) -> Result<Version, Refusal>
-    ensures ok { IfOk result (λ version. version ≡ plain.one_token) }
-    ensures err { IfErr result (λ refusal. refusal ≡ NoMemory) }
-{
-    Version::parse(alloc, "ics20-1")
-}
-
-// The version of channels that carry several.
-fn several_tokens(alloc: Global) -> Result<Version, Refusal>
-    ensures ok { IfOk result (λ version. version ≡ plain.several_tokens) }
-    ensures err { IfErr result (λ refusal. refusal ≡ NoMemory) }
-{
-    Version::parse(alloc, "ics20-own-2")
 }

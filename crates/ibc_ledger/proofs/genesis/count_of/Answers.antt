@@ -1,9 +1,6 @@
 -- The filter keeps the holdings that are the same.
-use Rattle.std.proofs.Common.{◌∙◌, rules, tests}
-use Rattle.std.proofs.lemmas.Iterator.{YieldsList-from_slice}
+use Rattle.ibc_ledger.proofs.Common.{◌∙◌, rules, tests, YieldsList-from_slice, length-filter, is_same_holding}
 use Rattle.std.proofs.lemmas.Iterator.Consumers.{YieldsList-at, YieldsList-from_filter, count_from_yields_List}
-use Rattle.std.proofs.lemmas.List.Sums.{length-filter}
-use Rattle.ibc_machine.specs.Genesis.{is_same_holding}
 use Rattle.ibc_ledger.proofs.Totals.{same_holding}
 use Rattle.ibc_ledger.proofs.genesis.count_of.Goals as goal
 

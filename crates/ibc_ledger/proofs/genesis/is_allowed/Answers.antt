@@ -1,7 +1,5 @@
 -- The tests that were passed on the way, and `all` over the chains.
-use Rattle.std.proofs.Common.{sym, ◌∙◌, rules, tests, arith}
-use Rattle.std.proofs.lemmas.Bool.{leb-true, false≢true}
-use Rattle.std.proofs.lemmas.Iterator.{YieldsList-from_slice}
+use Rattle.ibc_ledger.proofs.Common.{sym, ◌∙◌, rules, tests, arith, leb-true, false≢true, YieldsList-from_slice}
 use Rattle.std.proofs.lemmas.Iterator.Search.{all_from_yields_List}
 use Rattle.ibc_ledger.proofs.Totals.{allowed, is_fair_start}
 use Rattle.ibc_ledger.proofs.genesis.is_allowed.Goals.{then-len-ge2, else-len-ge2, then-len-le8, else-len-le8}

@@ -1,6 +1,5 @@
 -- The total so far is that of the holdings before the place.
-use Rattle.std.proofs.Common.{◌≡◌, ◌<◌, ◌^◌, take}
-use Rattle.ibc_machine.specs.Genesis.{total_of}
+use Rattle.ibc_ledger.proofs.Common.{◌≡◌, ◌<◌, ◌^◌, take, total_of}
 use Rattle.ibc_ledger.proofs.genesis.is_total_small.Given as goal
 
 abbrev pub invariant-loop-holding : goal.invariant-loop-holding

@@ -1,18 +1,8 @@
-use Rattle.std.proofs.Common.{List, ◌≡◌, is_some, length, ◌∷◌, [], ◌++◌, refl, sym, ap, ◌∙◌, subst, arith}
+use Rattle.ibc_ledger.proofs.Common.{List, ◌≡◌, is_some, length, ◌∷◌, [], ◌++◌, refl, sym, ap, ◌∙◌, subst, arith, published_by, Reply, KeptEntry, Inside, AddsOrNot, told_reply, entry_of, stamp_if, plain_entry, ledger_of, sender_of, sent_as}
+use Rattle.ibc_ledger.proofs.Common.{with_first}
 use Rattle.std.specs.Prelude.{option_map}
-use Rattle.ibc_ids.specs.Publications.{published_by}
 use Rattle.ibc_machine.specs.declared.event.Event.TheVariants as event
-use Rattle.ibc_machine.specs.declared.reply.Reply.{Reply}
-use Rattle.ibc_ledger.specs.declared.entry.StampedEntry.{StampedEntry as KeptEntry}
-use Rattle.ibc_ledger.specs.declared.ledger.Ledger.TheInside.{Inside}
-use Rattle.ibc_ledger.specs.Adding.{AddsOrNot}
-use Rattle.ibc_ledger.specs.Effects.{told_reply}
-use Rattle.ibc_ledger.specs.Entries.{entry_of, stamp_if}
-use Rattle.ibc_ledger.specs.Held.{plain_entry}
-use Rattle.ibc_ledger.specs.Inside.{ledger_of}
-use Rattle.ibc_ledger.specs.SentPackets.{sender_of, sent_as, with_first}
-use Rattle.ibc_ledger.proofs.HeldLedgers.{still_held, held_with}
-use Rattle.ibc_ledger.proofs.Applying.{IsApplied, adds, not_added, applied, others_publish, stands_applied, unchanged_applied, has_memory, late_stamp}
+use Rattle.ibc_ledger.proofs.HeldLedgers.{still_held, IsEntry, held_with, adds, IsApplied, not_added, applied, others_publish, entry_applied, unchanged_applied}
 use Rattle.ibc_ledger.proofs.ledger.Ledger.apply.Goals as goal
 
 -- ---- memory ran out
@@ -22,7 +12,7 @@ invariant_of-self-in_default-replies c =
     let passes = c.answer-outcome.ensures.pass in
     let others = others_publish c.self.inside c.self.invariant c.answer-outcome.new.pass passes.1 passes.2 in
     let says = applied c.self.inside c.self.invariant c.answer-outcome.new.pass passes.1 others c.answer-outcome.new.self c.args.message c.answer-outcome.result c.answer-outcome.ensures.answer in
-    let left = unchanged_applied c.self.inside c.self.invariant passes.1.0 others c.args.message c.answer-outcome.result c.answer-outcome.new.self says (c.in_default-replies.ensures.err refl) in
+    let left = unchanged_applied c.self.inside c.self.invariant c.answer-outcome.new.pass passes.1 others c.args.message c.answer-outcome.result c.answer-outcome.new.self says (c.in_default-replies.ensures.err refl) in
     let new : Inside = record c.self.inside { node = c.answer-outcome.new.self; pass = c.answer-outcome.new.pass; history = c.reserve.new.self; sent = c.make_room.new.places } in
     still_held c.self.inside c.self.invariant new (λ i. record new { node = says.same i })
     passes.0 passes.1 passes.2 left.0 left.1 says.flight c.in-Ok.ensures.items c.make_room.ensures.pairs
@@ -67,24 +57,21 @@ items : (c : goal.After-push_reserved) → c.push_reserved.new.self.items ≡ c.
 items c = c.push_reserved.ensures.items ∙ ap (λ (xs : List KeptEntry). xs ++ kept c ∷ []) c.in-Ok.ensures.items
 
 -- the place of the packet that was sent, if one was, is the entry's
-sent : (c : goal.After-push_reserved) → c.keep_first.new.places.pairs ≡ with_first (sent_as (sender_of c.args.message) (given c)) (length c.self.inside.history.items) c.self.inside.sent.pairs
+sent : (c : goal.After-push_reserved) → c.keep_first.new.places.pairs ≡ with_first (sent_as (sender_of c.args.message) c.in-Ok-replies.kept) (length c.self.inside.history.items) c.self.inside.sent.pairs
 sent c =
     let place : c.len.result ≡ length c.self.inside.history.items = omega (arith, c.len.ensures, ap length c.in-Ok.ensures.items) in
-    c.keep_first.ensures ∙ (λ i. with_first (sent_as (c.in-Ok-make_room.ensures.sender i) (told c i)) (place i) (c.make_room.ensures.pairs i))
+    c.keep_first.ensures ∙ (λ i. with_first (sent_as (c.in-Ok-make_room.ensures.sender i) c.in-Ok-replies.kept) (place i) (c.make_room.ensures.pairs i))
+
+entry : (c : goal.After-push_reserved) → IsEntry c.self.inside (event.Message c.self.inside.node.number c.args.message) (given c) (plain_entry (kept c)) c.answer-outcome.new.self c.answer-outcome.new.pass
+entry c =
+    let passes = c.answer-outcome.ensures.pass in
+    subst (λ e. IsEntry c.self.inside (event.Message c.self.inside.node.number c.args.message) (given c) e c.answer-outcome.new.self c.answer-outcome.new.pass) (is_kept c)
+    (entry_applied c.self.inside c.self.invariant c.answer-outcome.new.pass passes.1 (others c) c.args.message c.answer-outcome.result c.answer-outcome.new.self (says c) c.is_typed.ensures (c.in-Ok-replies.ensures.plenty refl) passes.0)
 
 pub invariant_of-self-2 : goal.invariant_of-self-2
-invariant_of-self-2 c =
-    let passes = c.answer-outcome.ensures.pass in
-    held_with c.self.inside c.self.invariant (new_inside c) (λ i. record (new_inside c) { node = (says c).same i }) passes.0 (kept c) _ passes.1 (items c) (is_kept c)
-    (stands_applied c.self.inside c.self.invariant passes.1.0 (others c) c.args.message c.answer-outcome.result c.answer-outcome.new.self (says c) c.is_typed.ensures (c.in-Ok-replies.ensures.plenty refl))
-    (says c).flight (sent c)
+invariant_of-self-2 c = held_with c.self.inside c.self.invariant (λ k. event.Message k c.args.message) (given c) (kept c) (new_inside c) (entry c) refl (items c) (sent c)
 
 pub returns-clause-adds : goal.returns-clause-adds
 returns-clause-adds c =
-    let passes = c.answer-outcome.ensures.pass in
     subst (λ r. AddsOrNot c.args.self.now.ledger (event.Message c.args.self.now.ledger.chain c.args.message) r (ledger_of (new_inside c))) (sym c.in-Ok-replies.ensures.ok.0)
-    (adds c.self.inside c.self.invariant (new_inside c) (λ i. record (new_inside c) { node = (says c).same i }) passes.0 passes.1 (kept c) (items c)
-    (λ k. event.Message k c.args.message) (given c) c.answer-outcome.result.reading
-    (stamp_if (is_some c.answer-outcome.result.reading) (c.self.inside.pass.seen ++ passes.1.0)) (is_kept c)
-    (has_memory c.answer-outcome.result.result (c.in-Ok-replies.ensures.plenty refl))
-    (late_stamp (is_some c.answer-outcome.result.reading) c.self.inside.pass.seen passes.1.0) (says c).was_so c.args.self.now c.self.view_is)
+    (adds c.self.inside c.self.invariant (λ k. event.Message k c.args.message) (given c) (kept c) (new_inside c) (entry c) refl (items c) c.args.self.now c.self.view_is)

@@ -1,18 +1,6 @@
-use Rattle.std.proofs.Common.{List, None, Err, ◌≡◌, ◌∷◌, [], ◌++◌, refl, sym, ap, ◌∙◌, subst, arith}
-use Rattle.std.specs.Prelude.{is_ok}
-use Rattle.ibc_ids.specs.declared.refusal.Refusal.TheVariants.{NoMemory}
+use Rattle.ibc_ledger.proofs.Common.{List, None, Err, ◌≡◌, ◌∷◌, [], ◌++◌, refl, sym, ap, ◌∙◌, subst, arith, is_ok, NoMemory, Reply, KeptEntry, Inside, AddsOrNot, told_by, told_reply, kept_reply, entry_of, stamp_if, plain_entry, ledger_of}
 use Rattle.ibc_machine.specs.declared.event.Event.TheVariants as event
-use Rattle.ibc_machine.specs.declared.reply.Reply.{Reply}
-use Rattle.ibc_transfer.specs.InFlight.{IsInFlight}
-use Rattle.ibc_ledger.specs.declared.entry.StampedEntry.{StampedEntry as KeptEntry}
-use Rattle.ibc_ledger.specs.declared.ledger.Ledger.TheInside.{Inside}
-use Rattle.ibc_ledger.specs.Adding.{AddsOrNot}
-use Rattle.ibc_ledger.specs.Effects.{told_by, told_reply, kept_reply}
-use Rattle.ibc_ledger.specs.Entries.{entry_of, stamp_if}
-use Rattle.ibc_ledger.specs.Held.{plain_entry}
-use Rattle.ibc_ledger.specs.Inside.{ledger_of}
-use Rattle.ibc_ledger.proofs.HeldLedgers.{held_with}
-use Rattle.ibc_ledger.proofs.Applying.{adds}
+use Rattle.ibc_ledger.proofs.HeldLedgers.{held_with, adds}
 use Rattle.ibc_ledger.proofs.Ending.{IsBlockEntry, block_of, ended_entry, block_told}
 use Rattle.ibc_ledger.proofs.ledger.Ledger.end_block.Goals as goal
 
@@ -44,16 +32,12 @@ items : (c : goal.After-push_reserved) → c.push_reserved.new.self.items ≡ c.
 items c = c.push_reserved.ensures.items ∙ ap (λ (xs : List KeptEntry). xs ++ kept c ∷ []) c.in-Ok.ensures.items
 
 pub invariant_of-self-2 : goal.invariant_of-self-2
-invariant_of-self-2 c =
-    let e = entry c in
-    held_with c.self.inside c.self.invariant (new_inside c) refl e.same (kept c) _ e.prefix (items c) e.is e.stands (subst (IsInFlight c.self.inside.node.applications.transfers) (sym e.core_is) c.self.invariant.flight) refl
+invariant_of-self-2 c = held_with c.self.inside c.self.invariant (λ k. event.Block k c.args.next_time) (given c) (kept c) (new_inside c) (entry c) refl (items c) refl
 
 pub returns-clause-adds : goal.returns-clause-adds
 returns-clause-adds c =
-    let e = entry c in
     subst (λ r. AddsOrNot c.args.self.now.ledger (event.Block c.args.self.now.ledger.chain c.args.next_time) r (ledger_of (new_inside c))) (sym (replied c))
-    (adds c.self.inside c.self.invariant (new_inside c) refl e.same e.prefix (kept c) (items c)
-    (λ k. event.Block k c.args.next_time) (given c) None e.stamp e.is e.plenty e.late tt c.args.self.now c.self.view_is)
+    (adds c.self.inside c.self.invariant (λ k. event.Block k c.args.next_time) (given c) (kept c) (new_inside c) (entry c) refl (items c) c.args.self.now c.self.view_is)
 
 pub returns-clause-nothing : goal.returns-clause-nothing
 returns-clause-nothing c = λ none. absurd ((entry c).plenty (sym (replied c) ∙ none))

@@ -1,7 +1,4 @@
-use Rattle.std.proofs.Common.{List, refl, sym, ap, ◌∙◌, subst}
-use mathlib.Core.List.{IsPrefix}
-use Rattle.ibc_ids.specs.declared.publication.Publication.{Publication}
-use Rattle.ibc_ledger.specs.Held.{HeldLedger}
+use Rattle.ibc_ledger.proofs.Common.{List, refl, sym, ap, ◌∙◌, subst, IsPrefix, Publication, HeldLedger}
 use Rattle.ibc_ledger.proofs.HeldLedgers.{still_held}
 use Rattle.ibc_ledger.proofs.ledger.Ledger.follow.Goals as goal
 

@@ -1,4 +1,4 @@
-use Rattle.std.proofs.Common.{refl}
+use Rattle.ibc_ledger.proofs.Common.{refl}
 use Rattle.ibc_ledger.proofs.HeldLedgers.{still_held}
 use Rattle.ibc_ledger.proofs.ledger.Ledger.meet.Goals as goal
 

@@ -1,9 +1,5 @@
-use Rattle.std.proofs.Common.{◌≡◌, ◌∙◌, ◌<◌, true, refl, sym, ap, subst, Some, arith, length}
+use Rattle.ibc_ledger.proofs.Common.{◌≡◌, ◌∙◌, ◌<◌, true, refl, sym, ap, subst, Some, arith, length, length-map, slice_get-get_or, genesis_state, chain_state, is_allowed}
 use Rattle.std.specs.Prelude.{slice_get}
-use Rattle.std.proofs.lemmas.List.{length-map}
-use Rattle.std.proofs.lemmas.Option.{slice_get-get_or}
-use Rattle.ibc_machine.specs.Genesis.{genesis_state, chain_state, is_allowed}
-use Rattle.ibc_ledger.specs.declared.ledger.Ledger.TheInside.{Inside}
 use Rattle.ibc_ledger.proofs.Windows.{few_chains}
 use Rattle.ibc_ledger.proofs.Totals.{fair_start}
 use Rattle.ibc_ledger.proofs.NewLedgers.{IsFresh, fresh_held}
@@ -12,9 +8,7 @@ use Rattle.ibc_ledger.proofs.ledger.Ledger.new.Goals as goal
 pub overflow_cast-node : goal.overflow_cast-node
 overflow_cast-node c =
     let allowed : is_allowed (genesis_state c.args.genesis.now) ≡ true = cc (c.is_allowed.ensures, c.if-not-is_allowed.false) in
-    let few = few_chains (genesis_state c.args.genesis.now) allowed in
-    let long = length-map c.args.genesis.now.chains.items chain_state in
-    omega (arith, few, long, c.len.ensures)
+    omega (arith, few_chains (genesis_state c.args.genesis.now) allowed, length-map c.args.genesis.now.chains.items chain_state, c.len.ensures)
 
 pub new-requires-2 : goal.new-requires-2
 new-requires-2 c =
@@ -27,29 +21,15 @@ invariant_of-result c =
     let allowed : is_allowed (genesis_state c.args.genesis.now) ≡ true = cc (c.is_allowed.ensures, c.if-not-is_allowed.false) in
     let items = c.args.genesis.now.chains.items in
     let start = c.index-start.result.now in
-    let new : Inside = record {
-      genesis = c.of.result;
-      node = record {
-        alloc = c.args.alloc;
-        number = c.args.chain;
-        chains = c.len.result;
-        records = c.in_ok-new.field-0;
-        applications = c.in_ok-new-2.field-0;
-      };
-      capacity = c.args.genesis.now.capacity;
-      table = c.args.table;
-      pass = c.args.pass;
-      history = c.new-3.result;
-      sent = c.new-4.result;
-    } in
     let there : slice_get items c.args.chain ≡ Some start =
     ap (slice_get items) (sym c.from.ensures) ∙ slice_get-get_or items c.from.result start (subst (λ n. n < length items) (sym c.from.ensures) c.requires.chain) ∙ ap Some (sym c.index-start.ensures) in
-    fresh_held new (subst (IsFresh new) (sym c.of.ensures) (record {
+    let chains : c.len.result ≡ length items = omega (arith, c.len.ensures) in
+    fresh_held _ (subst (IsFresh _) (sym c.of.ensures) (record {
       start = start;
       allowed = allowed;
       inside = c.requires.chain;
       there = there;
-      chains = omega (arith, c.len.ensures);
+      chains = chains;
       capacity = refl;
       shape = c.requires.table;
       table = c.requires.pass.0;

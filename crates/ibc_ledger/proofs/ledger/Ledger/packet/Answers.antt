@@ -1,9 +1,5 @@
-use Rattle.std.proofs.Common.{◌≡◌, sym, ap, ◌∙◌, Some, slice_get, option_copied, arith}
-use Rattle.std.proofs.lemmas.Option.{slice_get-get_or}
+use Rattle.ibc_ledger.proofs.Common.{◌≡◌, sym, ap, ◌∙◌, Some, slice_get, option_copied, arith, slice_get-get_or, HeldLedger, packet_on, packet_to}
 use Rattle.ibc_wire.specs.declared.records.ChannelEnd.{ChannelEnd}
-use Rattle.ibc_ledger.specs.Held.{HeldLedger}
-use Rattle.ibc_ledger.specs.Happened.{packet_on}
-use Rattle.ibc_ledger.specs.SentPackets.{packet_to}
 use Rattle.ibc_ledger.proofs.FoundPackets.{not_sent, within, no_other, was_sent}
 use Rattle.ibc_ledger.proofs.ledger.Ledger.packet.Goals as goal
 

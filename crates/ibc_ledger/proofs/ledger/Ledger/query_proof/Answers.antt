@@ -1,15 +1,5 @@
-use Rattle.std.proofs.Common.{◌≡◌, subst, Err}
-use Rattle.std.specs.Prelude.{◌↔◌, IfOk, IsNone}
-use Rattle.std.specs.Option.{IsSomeAnd}
-use Rattle.ibc_ids.specs.Paths.{path}
-use Rattle.ibc_ids.specs.declared.refusal.Refusal.TheVariants.{NoConsensus}
-use Rattle.ibc_merkle.specs.Written.{written}
-use Rattle.ibc_machine.specs.Image.{image}
-use Rattle.ibc_machine.specs.Ledgers.{state_of}
-use Rattle.ibc_ledger.specs.Held.{HeldLedger}
-use Rattle.ibc_ledger.specs.Inside.{genesis_of, ledger_of}
-use Rattle.ibc_ledger.specs.Proving.{provable}
-use Rattle.ibc_ledger.proofs.Keeping.{proof_of_block, no_consensus}
+use Rattle.ibc_ledger.proofs.Common.{◌≡◌, subst, Err, ◌↔◌, IfOk, IsNone, IsSomeAnd, path, NoConsensus, written, image, state_of, HeldLedger, genesis_of, ledger_of, provable}
+use Rattle.ibc_ledger.proofs.Holding.{proof_of_block, no_consensus}
 use Rattle.ibc_ledger.proofs.ledger.Ledger.query_proof.Goals as goal
 
 pub returns-clause-ok : goal.returns-clause-ok

@@ -1,13 +1,7 @@
-use Rattle.std.proofs.Common.{refl}
-use Rattle.ibc_wire.specs.declared.messages.Message.TheVariants as message
-use Rattle.ibc_machine.specs.declared.reply.Effect.TheVariants as effect
-use Rattle.ibc_machine.specs.Connections.{conn_open_ack}
-use Rattle.ibc_machine.specs.Handlers.{handle}
+use Rattle.ibc_ledger.proofs.Common.{refl, handle}
 use Rattle.ibc_ledger.proofs.Answered.{core_answered}
 use Rattle.ibc_ledger.proofs.node.Node.conn_open_ack.Goals as goal
 
 pub returns : goal.returns
 unfolding handle
-returns c =
-    core_answered (message.ConnOpenAck c.args.message.now) c.args.self.now c.requires tt (λ _. effect.None) (λ _. refl) (conn_open_ack c.args.message.now) refl c.open_ack.new.records c.open_ack.result
-    (c.open_ack.ensures c.args.self.now.chains) c.of_nothing.result c.of_nothing.ensures
+returns c = core_answered _ _ c.requires tt _ _ refl _ c.open_ack.result (c.open_ack.ensures c.args.self.now.chains) (λ _. refl) _ c.of_nothing.ensures

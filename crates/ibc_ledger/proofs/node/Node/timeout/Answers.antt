@@ -1,21 +1,14 @@
-use Rattle.std.proofs.Common.{refl, sym, ◌∙◌}
-use Rattle.ibc_wire.specs.declared.messages.Message.TheVariants as message
-use Rattle.ibc_machine.specs.declared.reply.Effect.TheVariants as effect
-use Rattle.std.proofs.Common.{Ok}
-use Rattle.ibc_machine.specs.Packets.{timeout}
-use Rattle.ibc_transfer.specs.Banked.{bank_times_out}
+use Rattle.ibc_ledger.proofs.Common.{refl, sym, ◌∙◌}
 use Rattle.ibc_ledger.proofs.Answered.{part_answered}
-use Rattle.ibc_ledger.proofs.BankedApps.{with_bank, timeout_by_bank, with_notes, timeout_by_notes}
+use Rattle.ibc_ledger.proofs.BankedApps.{timeout_by_bank, timeout_by_notes}
 use Rattle.ibc_ledger.proofs.node.Node.timeout.Goals as goal
 
 pub returns-then-is_transfer_port : goal.returns-then-is_transfer_port
 returns-then-is_transfer_port c =
-    part_answered (message.Timeout c.args.message.now) c.args.self.now c.requires (with_bank c.args.self.now) (timeout bank_times_out c.args.message.now) c.args.self.now.applications.transfers c.timeout.new.app
-    (timeout_by_bank c.args.self.now c.args.message.now c.requires (sym c.is_transfer_port.ensures ∙ c.if-is_transfer_port.true)) (λ _. effect.None) (λ _. refl) c.timeout.new.records c.timeout.result
-    (c.timeout.ensures c.args.self.now.number c.args.self.now.chains) c.of_nothing.result c.of_nothing.ensures
+    part_answered _ _ c.requires _ _ _ c.timeout.new.app (timeout_by_bank c.args.self.now c.args.message.now c.requires (sym c.is_transfer_port.ensures ∙ c.if-is_transfer_port.true)) _ _ c.timeout.result
+    (c.timeout.ensures c.args.self.now.number c.args.self.now.chains) (λ _. refl) _ c.of_nothing.ensures
 
 pub returns-else-is_transfer_port : goal.returns-else-is_transfer_port
 returns-else-is_transfer_port c =
-    part_answered (message.Timeout c.args.message.now) c.args.self.now c.requires (with_notes c.args.self.now) (timeout (λ notes version p. Ok notes) c.args.message.now) c.args.self.now.applications.notes c.timeout-else-is_transfer_port.new.app
-    (timeout_by_notes c.args.self.now c.args.message.now c.requires (sym c.is_transfer_port.ensures ∙ c.if-is_transfer_port.false)) (λ _. effect.None) (λ _. refl) c.timeout-else-is_transfer_port.new.records c.timeout-else-is_transfer_port.result
-    (c.timeout-else-is_transfer_port.ensures c.args.self.now.number c.args.self.now.chains) c.of_nothing-else-is_transfer_port.result c.of_nothing-else-is_transfer_port.ensures
+    part_answered _ _ c.requires _ _ _ c.timeout-else-is_transfer_port.new.app (timeout_by_notes c.args.self.now c.args.message.now c.requires (sym c.is_transfer_port.ensures ∙ c.if-is_transfer_port.false)) _ _ c.timeout-else-is_transfer_port.result
+    (c.timeout-else-is_transfer_port.ensures c.args.self.now.number c.args.self.now.chains) (λ _. refl) _ c.of_nothing-else-is_transfer_port.ensures

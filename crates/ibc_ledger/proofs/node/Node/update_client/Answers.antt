@@ -1,9 +1,5 @@
-use Rattle.std.proofs.Common.{refl, sym, subst}
-use Rattle.std.specs.Prelude.{◌≡◌, true, IfSome}
-use Rattle.ibc_ids.specs.Publications.{height_of}
-use Rattle.ibc_machine.specs.Ledgers.{reading_fits}
-use Rattle.ibc_records.specs.Taking.{host_with}
-use Rattle.ibc_root_table.specs.Passes.{TableName}
+use Rattle.ibc_ledger.proofs.Common.{refl, sym, subst, IfSome, height_of, reading_fits, TableName, host_with}
+use Rattle.std.specs.Prelude.{◌≡◌, true}
 use Rattle.ibc_ledger.proofs.node.Node.update_client.Goals as goal
 
 pub returns-clause-answer : goal.returns-clause-answer

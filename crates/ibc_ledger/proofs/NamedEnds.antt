@@ -1,0 +1,41 @@
+-- Ends and clients that an end names: no channel has the empty name, and a client is found under its connection.
+use Rattle.std.proofs.Common.{◌≡◌, ◌&&◌, refl, sym, ap, ◌∙◌, [], Option, Some, None, option_map}
+use Rattle.std.specs.Prelude.{IsTrue}
+use Rattle.std.specs.Option.{option_map_or}
+use Rattle.std.proofs.lemmas.Bool.{and_parts}
+use Rattle.ibc_ids.specs.Texts.{Text, text_cmp}
+use Rattle.ibc_ids.specs.Maps.{at}
+use Rattle.ibc_ids.specs.Names.{is_port, is_channel}
+use Rattle.ibc_ids.specs.declared.key.Key.TheVariants as key
+use Rattle.ibc_wire.specs.declared.records.ConnectionEnd.{ConnectionEnd}
+use Rattle.ibc_machine.specs.Records.{Core, Client, Channel, client_at, connection_at, channel_at}
+use Rattle.ibc_machine.specs.Values.{ChannelIs}
+use Rattle.ibc_machine.specs.Channels.{client_of}
+use Rattle.ibc_machine.specs.Image.{IsKeyed}
+use Rattle.ibc_records.specs.HeldClients.{HeldClient, plain_client}
+use Rattle.ibc_records.specs.Held.{HeldRecords, core_of}
+use Rattle.ibc_client.proofs.Updating.{client_at-held}
+
+pub no_empty_name : (core : Core) (port : Text) → IsKeyed core → channel_at core port [] ≡ None
+no_empty_name core port keyed = go (channel_at core port []) refl
+  where
+    go : (o : Option Channel) → channel_at core port [] ≡ o → o ≡ None
+    go None is = refl
+    go (Some c) is =
+        let named : IsTrue (is_port port && is_channel []) = keyed.keyed (key.ChannelEnd port []) (ChannelIs c.end) (ap (option_map (λ (channel : Channel). ChannelIs channel.end)) is) in
+        let empty : IsTrue (is_channel []) = (and_parts (is_port port) (is_channel []) named).1 in
+        absurd (cc)
+
+module _ (held : HeldRecords) (id : Text) (end : ConnectionEnd) (there : connection_at (core_of held) id ≡ Some end) where
+  under : client_at (core_of held) (client_of (core_of held) id) ≡ option_map plain_client (at text_cmp end.client held.clients)
+  under =
+      ap (λ (o : Option ConnectionEnd). client_at (core_of held) (option_map_or (λ (c : ConnectionEnd). c.client) o [])) there
+      ∙ client_at-held held end.client
+
+  pub tracks : (client : HeldClient) → at text_cmp end.client held.clients ≡ Some client
+      → Some client.state.chain ≡ option_map (λ (c : Client). c.state.chain) (client_at (core_of held) (client_of (core_of held) id))
+  tracks client found = sym (ap (option_map (λ (c : Client). c.state.chain)) (under ∙ ap (option_map plain_client) found))
+
+  pub tracks_none : at text_cmp end.client held.clients ≡ None
+      → None ≡ option_map (λ (c : Client). c.state.chain) (client_at (core_of held) (client_of (core_of held) id))
+  tracks_none gone = sym (ap (option_map (λ (c : Client). c.state.chain)) (under ∙ ap (option_map plain_client) gone))

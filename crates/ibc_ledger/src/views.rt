@@ -1,0 +1,43 @@
+//! What a relayer sees of a ledger.
+
+ghost use Rattle.std.specs.Prelude.{◌≡◌, ◌<◌, IsSome, IfOk, IfErr, option_map};
+ghost use Rattle.ibc_ids.specs.declared.refusal.Refusal.TheVariants.{NoMemory};
+ghost use Rattle.ibc_machine.specs.Ledgers.{state_of};
+ghost use Rattle.ibc_machine.specs.Relay.{view_of};
+ghost use Rattle.ibc_path_store.specs.Held.{kept_at};
+
+use crate::Ledger;
+use ibc_ids::Refusal;
+use ibc_path_store::Tree;
+use ibc_records::Records;
+use ibc_view::View;
+
+impl Ledger {
+    /// What the chain proves as it stands at its last committed height, with the time of the working block (ICS 18, "Relayer
+    /// algorithm"). It is a value of its own, which stays as it is while the ledger goes on. `NoMemory` where a growth is
+    /// refused; nothing has changed then.
+    pub fn view(&self) -> Result<View, Refusal>
+        ensures ok { IfOk result (λ view. view ≡ view_of self.now.ledger.chain (state_of self.now.ledger).chain) }
+        ensures err { IfErr result (λ refusal. refusal ≡ NoMemory) }
+    {
+        self.table.holds_what_is_seen(&self.pass);
+        let records = &self.node.records;
+        let height = records.height();
+        let tree = tree_at(records, height)?;
+        let plain = records.last()?;
+        let times = (records.last_time(), records.time());
+        Ok(View::new(self.node.number, height, times, plain, tree))
+    }
+}
+
+// The tree of a height that is kept, and none at height 0.
+fn tree_at(records: &Records, height: u64) -> Result<Option<Tree>, Refusal>
+    requires kept { 0 < height → IsSome (kept_at records.now.store height) }
+    ensures ok { IfOk result (λ tree. 0 < height → tree ≡ option_map (λ kept. kept.0) (kept_at records.now.store height)) }
+    ensures err { IfErr result (λ refusal. refusal ≡ NoMemory) }
+{
+    if height == 0 {
+        return Ok(None);
+    }
+    Ok(Some(records.snapshot(height)?))
+}
