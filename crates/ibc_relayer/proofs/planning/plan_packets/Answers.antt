@@ -1,0 +1,51 @@
+-- What is planned for the end at the place is added.
+use Rattle.std.proofs.Common.{◌≡◌, ◌++◌, ◌∙◌, ◌||◌, List, Some, is_some, sym, ap, subst}
+use Rattle.std.proofs.Math.Bool.{or-false}
+use Rattle.std.specs.List.{All, AllByRecursion, filter_map, flat_map}
+use Rattle.ibc_ids.specs.Texts.{Text, text_cmp, pair_cmp}
+use Rattle.ibc_ids.specs.Maps.{at}
+use Rattle.ibc_wire.specs.declared.messages.Message.{Message}
+use Rattle.ibc_machine.specs.Records.{Core, Channel}
+use Rattle.ibc_machine.specs.Relay.{pending_at, pending_message}
+use Rattle.ibc_relayer.specs.Found.{AreTheEnds, AreEnds}
+use Rattle.ibc_relayer.specs.Used.{goes_over}
+use Rattle.ibc_relayer.proofs.Plans.{one_end, one_used, same_messages, same_over, each_by_place}
+use Rattle.ibc_relayer.proofs.planning.plan_packets.Goals as goal
+
+pub loop-port-init : goal.loop-port-init
+loop-port-init c =
+    let a = c.args.a.now in
+    let b = c.args.b.now in
+    let gives = c.into_iter-port-iterator.ensures.into_iter_gives in
+    let entries : c.channels-port-items.result.now.entries ≡ b.core.channels = c.channels-port-items.ensures ∙ ap (λ (core : Core). core.channels) c.plain.ensures in
+    let all : c.into_iter-port-iterator.result ≡ b.core.channels = gives.0 ∙ entries in
+    record {
+      planned = λ i. c.requires.empty i ++ filter_map (pending_message a b) (flat_map (pending_at a b) (all i));
+      used = λ id. (λ i. goes_over b id (flat_map (pending_at a b) (all i)) || is_some (at text_cmp id (c.new-used.ensures.empty i))) ∙ or-false (goes_over b id (flat_map (pending_at a b) b.core.channels));
+      there = subst (λ (es : List ((Text × Text) × Channel)). AllByRecursion (λ e. at pair_cmp e.0 b.core.channels ≡ Some e.1) es) (sym all)
+          (each_by_place (λ (e : (Text × Text) × Channel). at pair_cmp e.0 b.core.channels ≡ Some e.1) b.core.channels
+          (subst (λ (es : List ((Text × Text) × Channel)). All (λ e. at pair_cmp e.0 es ≡ Some e.1) es) entries gives.6));
+    }
+
+pub loop-port-preserved-in-Continue-branch-3 : goal.loop-port-preserved-in-Continue-branch-3
+loop-port-preserved-in-Continue-branch-3 c =
+    let a = c.args.a.now in
+    let b = c.args.b.now in
+    let place = c.in-Some.field-0-0.now in
+    let mine = c.in-Some.mine.now in
+    let e : (Text × Text) × Channel = (place, mine) in
+    let rest = c.next.new.self in
+    let ends = c.in-Some-2.ends in
+    let are : AreTheEnds a b place.0 place.1 mine ends = subst (AreEnds a b place.0 place.1 mine) c.in-Some-2.is c.in_ok-ends.ensures.ok in
+    let before = c.loop-port.messages.items in
+    let used = c.loop-port.used.entries in
+    let steps = c.in-Some.ensures.steps in
+    record {
+      planned = one_end a b before c.plan_end.new.messages.items e rest
+          (ap (λ (left : List ((Text × Text) × Channel)). before ++ filter_map (pending_message a b) (flat_map (pending_at a b) left)) (sym steps) ∙ c.loop-port.invariant.planned)
+          (c.in_ok-plan_end.ensures.ok ∙ ap (λ (ms : List Message). before ++ ms) (same_messages a b place.0 place.1 mine ends are));
+      used = λ id. one_used a b id (is_some (at text_cmp id used)) (is_some (at text_cmp id c.plan_end.new.used.entries)) e rest
+          (ap (λ (left : List ((Text × Text) × Channel)). goes_over b id (flat_map (pending_at a b) left) || is_some (at text_cmp id used)) (sym steps) ∙ c.loop-port.invariant.used id)
+          (c.in_ok-plan_end.ensures.used id ∙ ap (λ x. x || is_some (at text_cmp id used)) (same_over a b place.0 place.1 mine ends id are));
+      there = (subst (AllByRecursion (λ (e : (Text × Text) × Channel). at pair_cmp e.0 b.core.channels ≡ Some e.1)) steps c.loop-port.invariant.there).1;
+    }

@@ -1,0 +1,25 @@
+-- The clients over which messages go (ICS 18, "Relayer algorithm").
+use Rattle.std.specs.Prelude.{◌≡◌, ◌&&◌, Bool, true, false, List, [], ◌∷◌, not, is_some}
+use Rattle.std.specs.List.{list_any}
+use Rattle.ibc_ids.specs.Texts.{Text, same_text, text_cmp}
+use Rattle.ibc_ids.specs.Maps.{Map, at}
+use Rattle.ibc_wire.specs.declared.messages.Message.{Message}
+use Rattle.ibc_machine.specs.Records.{Client, is_one_of}
+use Rattle.ibc_machine.specs.Relay.{View, Pending, client_used}
+
+-- whether a message goes over the client
+abbrev pub goes_over : View → Text → List Pending → Bool
+goes_over b id all = list_any (λ pend. same_text (client_used b pend) id) all
+
+-- there is a message
+abbrev pub has_any : List Message → Bool
+has_any [] = false
+has_any (m ∷ ms) = true
+
+-- the clients over which these messages go, and no others
+abbrev pub AreUsed : View → List Pending → Map Text (Unit {0}) → Type 0
+AreUsed b all used = (id : Text) → is_some (at text_cmp id used) ≡ goes_over b id all
+
+-- the client is used, and doesn't know a's height
+abbrev pub is_told : View → Map Text (Unit {0}) → Text × Client → Bool
+is_told a used entry = is_some (at text_cmp entry.0 used) && not (is_one_of entry.1.known a.height)

@@ -1,0 +1,313 @@
+//! The messages about packets, with their proofs.
+
+ghost use Rattle.std.specs.Prelude.{◌≡◌, ◌<◌, Some, IfOk, IfErr, IfSome};
+ghost use Rattle.ibc_ids.specs.declared.refusal.Refusal.TheVariants.{NoMemory};
+ghost use Rattle.ibc_ids.specs.declared.key.Key.TheVariants as key;
+ghost use Rattle.ibc_machine.specs.Channels.{peer_channel_of};
+ghost use Rattle.ibc_machine.specs.Proving.{commitment_key, ack_key, destination_key, recv_message, ack_message, timeout_message, timeout_on_close_message};
+ghost use Rattle.ibc_machine.specs.Relay.{proof_at, unreceived_key, next_recv};
+ghost use Rattle.ibc_relayer.specs.Ends.{packet_between, peer_of, unreceived_at, received_at, acked_at, timed_out_at};
+
+use crate::due::{has_received, is_timed_out, is_to_receive};
+use crate::ends::Ends;
+use ibc_ids::{Bytes, ChannelId, Key, PortId, Refusal};
+use ibc_records::Commitment;
+use ibc_wire::{AckPacket, ChannelState, Message, Packet, RecvPacket, Timeout, TimeoutOnClose};
+use std::alloc::Global;
+
+impl Ends<'_> {
+    /// The message that has a packet received that the peer sent, if it is due (ICS 4, "recvPacket"). `NoMemory`.
+    pub fn receive(
+        &self,
+        alloc: Global,
+        sequence: u64,
+        commitment: &Commitment,
+    ) -> Result<Option<Message>, Refusal>
+        requires height { 0 < self.now.a.now.height }
+        requires peer { self.now.mine.now.end.peer_channel ≡ Some self.now.peer.now }
+        ensures ok { IfOk result (λ made. made ≡ received_at self.now.a.now self.now.b.now (self.now.port.now, self.now.channel.now) self.now.mine.now (sequence, commitment.now)) }
+        ensures err { IfErr result (λ refusal. refusal ≡ NoMemory) }
+    {
+        if !is_to_receive(self.b, self.mine, sequence, commitment) {
+            return Ok(None);
+        }
+        Ok(Some(self.recv_message(alloc, sequence, commitment)?))
+    }
+
+    /// The message that tells the end of a packet's acknowledgement, if the peer wrote one (ICS 4, "acknowledgePacket").
+    /// `NoMemory`.
+    pub fn acknowledge(
+        &self,
+        alloc: Global,
+        sequence: u64,
+        commitment: &Commitment,
+    ) -> Result<Option<Message>, Refusal>
+        requires height { 0 < self.now.a.now.height }
+        requires peer { self.now.mine.now.end.peer_channel ≡ Some self.now.peer.now }
+        ensures ok { IfOk result (λ made. made ≡ acked_at self.now.a.now (self.now.port.now, self.now.channel.now) self.now.mine.now self.now.theirs.now (sequence, commitment.now)) }
+        ensures err { IfErr result (λ refusal. refusal ≡ NoMemory) }
+    {
+        match self.theirs.ack(sequence) {
+            Some(ack) => Ok(Some(self.ack_message(alloc, sequence, commitment, ack)?)),
+            None => Ok(None),
+        }
+    }
+
+    /// The message that ends a packet that won't be received any more, if it is so: it is too late for it, or the peer is
+    /// CLOSED (ICS 4, "timeoutPacket" and "timeoutOnClose"). `NoMemory`.
+    pub fn time_out(
+        &self,
+        alloc: Global,
+        sequence: u64,
+        commitment: &Commitment,
+    ) -> Result<Option<Message>, Refusal>
+        requires height { 0 < self.now.a.now.height }
+        requires peer { self.now.mine.now.end.peer_channel ≡ Some self.now.peer.now }
+        ensures ok { IfOk result (λ made. made ≡ timed_out_at self.now.a.now (self.now.port.now, self.now.channel.now) self.now.mine.now self.now.theirs.now (sequence, commitment.now)) }
+        ensures err { IfErr result (λ refusal. refusal ≡ NoMemory) }
+    {
+        if has_received(self.theirs, sequence) {
+            return Ok(None);
+        }
+        if is_timed_out(commitment, self.height(), self.a.time()) {
+            return Ok(Some(self.timeout(alloc, sequence, commitment)?));
+        }
+        if self.theirs.end().state == ChannelState::Closed {
+            return Ok(Some(self.timeout_on_close(alloc, sequence, commitment)?));
+        }
+        Ok(None)
+    }
+
+    // The message that has a packet received.
+    fn recv_message(
+        &self,
+        alloc: Global,
+        sequence: u64,
+        commitment: &Commitment,
+    ) -> Result<Message, Refusal>
+        requires height { 0 < self.now.a.now.height }
+        requires peer { self.now.mine.now.end.peer_channel ≡ Some self.now.peer.now }
+        ensures ok { IfOk result (λ made. let packet = packet_between (peer_of self.now.mine.now) (self.now.port.now, self.now.channel.now) sequence commitment.now in
+            made ≡ recv_message packet self.now.a.now.height (proof_at self.now.a.now (commitment_key packet))) }
+        ensures err { IfErr result (λ refusal. refusal ≡ NoMemory) }
+    {
+        let proof = self.committed(alloc, sequence)?;
+        let port = self.peer_port();
+        let packet = packet(
+            port,
+            self.peer,
+            self.port,
+            self.channel,
+            sequence,
+            commitment,
+        )?;
+        Ok(Message::RecvPacket(RecvPacket {
+            packet,
+            height: self.height(),
+            proof,
+        }))
+    }
+
+    // The message that tells of a packet's acknowledgement.
+    fn ack_message(
+        &self,
+        alloc: Global,
+        sequence: u64,
+        commitment: &Commitment,
+        ack: &Bytes,
+    ) -> Result<Message, Refusal>
+        requires height { 0 < self.now.a.now.height }
+        requires peer { self.now.mine.now.end.peer_channel ≡ Some self.now.peer.now }
+        ensures ok { IfOk result (λ made. let packet = packet_between (self.now.port.now, self.now.channel.now) (peer_of self.now.mine.now) sequence commitment.now in
+            made ≡ ack_message packet self.now.a.now.height ack.now (proof_at self.now.a.now (ack_key packet))) }
+        ensures err { IfErr result (λ refusal. refusal ≡ NoMemory) }
+    {
+        let proof = self.acknowledged(alloc, sequence)?;
+        let ack = ack.clone()?;
+        let port = self.peer_port();
+        let packet = packet(
+            self.port,
+            self.channel,
+            port,
+            self.peer,
+            sequence,
+            commitment,
+        )?;
+        Ok(Message::AckPacket(AckPacket {
+            packet,
+            ack,
+            height: self.height(),
+            proof,
+        }))
+    }
+
+    // The message that ends a packet for which it is too late.
+    fn timeout(
+        &self,
+        alloc: Global,
+        sequence: u64,
+        commitment: &Commitment,
+    ) -> Result<Message, Refusal>
+        requires height { 0 < self.now.a.now.height }
+        requires peer { self.now.mine.now.end.peer_channel ≡ Some self.now.peer.now }
+        ensures ok { IfOk result (λ made. let packet = packet_between (self.now.port.now, self.now.channel.now) (peer_of self.now.mine.now) sequence commitment.now in
+            made ≡ timeout_message packet self.now.a.now.height (next_recv self.now.mine.now self.now.theirs.now) (proof_at self.now.a.now (unreceived_key self.now.mine.now packet))) }
+        ensures err { IfErr result (λ refusal. refusal ≡ NoMemory) }
+    {
+        let proof = self.unreceived(alloc, sequence)?;
+        let port = self.peer_port();
+        let packet = packet(
+            self.port,
+            self.channel,
+            port,
+            self.peer,
+            sequence,
+            commitment,
+        )?;
+        Ok(Message::Timeout(Timeout {
+            packet,
+            next_recv: self.next_recv(),
+            height: self.height(),
+            proof,
+        }))
+    }
+
+    // The message that ends a packet whose peer is CLOSED.
+    fn timeout_on_close(
+        &self,
+        alloc: Global,
+        sequence: u64,
+        commitment: &Commitment,
+    ) -> Result<Message, Refusal>
+        requires height { 0 < self.now.a.now.height }
+        requires peer { self.now.mine.now.end.peer_channel ≡ Some self.now.peer.now }
+        ensures ok { IfOk result (λ made. let packet = packet_between (self.now.port.now, self.now.channel.now) (peer_of self.now.mine.now) sequence commitment.now in
+            made ≡ timeout_on_close_message packet self.now.a.now.height (next_recv self.now.mine.now self.now.theirs.now) (proof_at self.now.a.now (unreceived_key self.now.mine.now packet)) (proof_at self.now.a.now (destination_key packet))) }
+        ensures err { IfErr result (λ refusal. refusal ≡ NoMemory) }
+    {
+        let proof = self.unreceived(alloc, sequence)?;
+        let proof_close = self.closed(alloc)?;
+        let port = self.peer_port();
+        let packet = packet(
+            self.port,
+            self.channel,
+            port,
+            self.peer,
+            sequence,
+            commitment,
+        )?;
+        Ok(Message::TimeoutOnClose(TimeoutOnClose {
+            packet,
+            next_recv: self.next_recv(),
+            height: self.height(),
+            proof,
+            proof_close,
+        }))
+    }
+
+    // The proof that the peer has committed to a packet.
+    fn committed(&self, alloc: Global, sequence: u64) -> Result<Bytes, Refusal>
+        requires height { 0 < self.now.a.now.height }
+        requires peer { self.now.mine.now.end.peer_channel ≡ Some self.now.peer.now }
+        ensures ok { IfOk result (λ proof. proof ≡ proof_at self.now.a.now (key.Commitment self.now.mine.now.end.peer_port (peer_channel_of self.now.mine.now.end) sequence)) }
+        ensures err { IfErr result (λ refusal. refusal ≡ NoMemory) }
+    {
+        let port = self.peer_port().clone()?;
+        let channel = self.peer.clone()?;
+        self.proof(alloc, Key::Commitment(port, channel, sequence))
+    }
+
+    // The proof of the peer's acknowledgement of a packet.
+    fn acknowledged(&self, alloc: Global, sequence: u64) -> Result<Bytes, Refusal>
+        requires height { 0 < self.now.a.now.height }
+        requires peer { self.now.mine.now.end.peer_channel ≡ Some self.now.peer.now }
+        ensures ok { IfOk result (λ proof. proof ≡ proof_at self.now.a.now (key.Acknowledgement self.now.mine.now.end.peer_port (peer_channel_of self.now.mine.now.end) sequence)) }
+        ensures err { IfErr result (λ refusal. refusal ≡ NoMemory) }
+    {
+        let port = self.peer_port().clone()?;
+        let channel = self.peer.clone()?;
+        self.proof(alloc, Key::Acknowledgement(port, channel, sequence))
+    }
+
+    // The proof of the peer's end.
+    fn closed(&self, alloc: Global) -> Result<Bytes, Refusal>
+        requires height { 0 < self.now.a.now.height }
+        requires peer { self.now.mine.now.end.peer_channel ≡ Some self.now.peer.now }
+        ensures ok { IfOk result (λ proof. proof ≡ proof_at self.now.a.now (key.ChannelEnd self.now.mine.now.end.peer_port (peer_channel_of self.now.mine.now.end))) }
+        ensures err { IfErr result (λ refusal. refusal ≡ NoMemory) }
+    {
+        let port = self.peer_port().clone()?;
+        let channel = self.peer.clone()?;
+        self.proof(alloc, Key::ChannelEnd(port, channel))
+    }
+
+    // The proof that shows whether the peer has received a sequence.
+    fn unreceived(&self, alloc: Global, sequence: u64) -> Result<Bytes, Refusal>
+        requires height { 0 < self.now.a.now.height }
+        requires peer { self.now.mine.now.end.peer_channel ≡ Some self.now.peer.now }
+        ensures ok { IfOk result (λ proof. proof ≡ proof_at self.now.a.now (unreceived_at self.now.mine.now sequence)) }
+        ensures err { IfErr result (λ refusal. refusal ≡ NoMemory) }
+    {
+        let port = self.peer_port().clone()?;
+        let channel = self.peer.clone()?;
+        let key = if self.mine.is_ordered() {
+            Key::NextSequenceRecv(port, channel)
+        } else {
+            Key::Receipt(port, channel, sequence)
+        };
+        self.proof(alloc, key)
+    }
+
+    // The proof of what the peer's chain has at a key.
+    fn proof(&self, alloc: Global, key: Key) -> Result<Bytes, Refusal>
+        requires { 0 < self.now.a.now.height }
+        ensures ok { IfOk result (λ proof. proof ≡ proof_at self.now.a.now key) }
+        ensures err { IfErr result (λ refusal. refusal ≡ NoMemory) }
+    {
+        let proof = self.a.prove(alloc, &key);
+        drop(key);
+        proof
+    }
+
+    // The height from which the peer's chain proves.
+    fn height(&self) -> u64
+        ensures { result ≡ self.now.a.now.height }
+    {
+        self.a.height()
+    }
+
+    // The sequence that an ordered peer receives next.
+    fn next_recv(&self) -> u64
+        ensures { result ≡ next_recv self.now.mine.now self.now.theirs.now }
+    {
+        if self.mine.is_ordered() {
+            self.theirs.next_recv()
+        } else {
+            0
+        }
+    }
+}
+
+// The packet of a sequence from an end to another.
+fn packet(
+    source_port: &PortId,
+    source_channel: &ChannelId,
+    destination_port: &PortId,
+    destination_channel: &ChannelId,
+    sequence: u64,
+    commitment: &Commitment,
+) -> Result<Packet, Refusal>
+    ensures ok { IfOk result (λ packet. packet ≡ packet_between (source_port.now, source_channel.now) (destination_port.now, destination_channel.now) sequence commitment.now) }
+    ensures err { IfErr result (λ refusal. refusal ≡ NoMemory) }
+{
+    Ok(Packet {
+        sequence,
+        timeout_height: commitment.timeout_height,
+        timeout_time: commitment.timeout_time,
+        source_port: source_port.clone()?,
+        source_channel: source_channel.clone()?,
+        destination_port: destination_port.clone()?,
+        destination_channel: destination_channel.clone()?,
+        payload: commitment.payload.clone()?,
+    })
+}

@@ -1,0 +1,141 @@
+//! What is planned for a chain.
+
+ghost use Rattle.std.specs.Prelude.{◌≡◌, ◌<◌, ◌&&◌, ◌||◌, ◌++◌, [], map, Some, is_some, IfOk, IfErr, OnOk};
+ghost use Rattle.std.specs.List.{filter, filter_map, flat_map};
+ghost use Rattle.ibc_ids.specs.Texts.{Text, same_text, text_cmp};
+ghost use Rattle.ibc_ids.specs.Maps.{at};
+ghost use Rattle.ibc_ids.specs.declared.refusal.Refusal.TheVariants.{NoMemory};
+ghost use Rattle.ibc_wire.specs.declared.messages.Message.TheVariants as message_of;
+ghost use Rattle.ibc_machine.specs.Image.{core_root};
+ghost use Rattle.ibc_machine.specs.Records.{channel_at};
+ghost use Rattle.ibc_machine.specs.Relay as relay;
+ghost use Rattle.ibc_machine.specs.Relay.{pending_at, pending_message, update_of};
+ghost use Rattle.ibc_records.specs.HeldClients.{plain_client};
+ghost use Rattle.ibc_relayer.specs.Found.{AreTheEnds};
+ghost use Rattle.ibc_relayer.specs.Used.{goes_over, AreUsed, is_told};
+
+use crate::ends::{Ends, ends_of};
+use ibc_ids::{ClientId, Refusal};
+use ibc_records::Client;
+use ibc_view::View;
+use ibc_wire::{Header, Message, UpdateClient};
+use std::alloc::Global;
+use std::collections::BTreeMap;
+
+/// The clients over which messages go.
+type Used = BTreeMap<ClientId, ()>;
+
+/// The messages for the chain of `b` that prove from the chain of `a`, as both views stand (ICS 18, "Relayer algorithm"): first
+/// the updates of the clients over which messages go and that don't know `a`'s height, then the packets to be received, their
+/// acknowledgements and their timeouts, end by end. Nothing that was received or acknowledged is looked through. `NoMemory`
+/// where a growth is refused.
+pub fn plan(alloc: Global, a: &View, b: &View) -> Result<Vec<Message>, Refusal>
+    ensures ok { IfOk result (λ plan. plan.items ≡ relay.plan a.now b.now) }
+    ensures err { IfErr result (λ refusal. refusal ≡ NoMemory) }
+{
+    if a.height() == 0 {
+        return Ok(Vec::new(alloc));
+    }
+    let mut packets = Vec::new(alloc);
+    let used = plan_packets(alloc, a, b, &mut packets)?;
+    let mut plan = updates(alloc, a, b, &used)?;
+    plan.append(&mut packets)?;
+    Ok(plan)
+}
+
+// The messages about packets, and the clients over which they go.
+fn plan_packets(
+    alloc: Global,
+    a: &View,
+    b: &View,
+    messages: &mut Vec<Message>,
+) -> Result<Used, Refusal>
+    requires height { 0 < a.now.height }
+    requires empty { messages.old.items ≡ [] }
+    ensures ok { OnOk result (messages.new.items ≡ filter_map (pending_message a.now b.now) (flat_map (pending_at a.now b.now) b.now.core.channels)) }
+    ensures used { IfOk result (λ used. AreUsed b.now (flat_map (pending_at a.now b.now) b.now.core.channels) used.entries) }
+    ensures err { IfErr result (λ refusal. refusal ≡ NoMemory) }
+{
+    let mut used = Used::new(alloc);
+    for ((port, channel), mine) in b.plain().channels() {
+        if let Some(ends) = ends_of(a, b, port, channel, mine)? {
+            plan_end(alloc, &ends, messages, &mut used)?;
+        }
+    }
+    Ok(used)
+}
+
+// The messages for an end, and its client, if there is a message.
+fn plan_end(
+    alloc: Global,
+    ends: &Ends,
+    messages: &mut Vec<Message>,
+    used: &mut Used,
+) -> Result<(), Refusal>
+    requires height { 0 < ends.now.a.now.height }
+    requires ends { AreTheEnds ends.now.a.now ends.now.b.now ends.now.port.now ends.now.channel.now ends.now.mine.now ends.now }
+    requires there { channel_at ends.now.b.now.core ends.now.port.now ends.now.channel.now ≡ Some ends.now.mine.now }
+    ensures ok { OnOk result (messages.new.items ≡ messages.old.items ++ filter_map (pending_message ends.now.a.now ends.now.b.now) (pending_at ends.now.a.now ends.now.b.now ((ends.now.port.now, ends.now.channel.now), ends.now.mine.now))) }
+    ensures used { OnOk result ((id : Text) → is_some (at text_cmp id used.new.entries) ≡ (goes_over ends.now.b.now id (pending_at ends.now.a.now ends.now.b.now ((ends.now.port.now, ends.now.channel.now), ends.now.mine.now)) || is_some (at text_cmp id used.old.entries))) }
+    ensures err { IfErr result (λ refusal. refusal ≡ NoMemory) }
+{
+    if !has_messages(alloc, ends, messages)? {
+        return Ok(());
+    }
+    used.insert(ends.client.clone()?, ())?;
+    Ok(())
+}
+
+// Adds the messages for an end. The result is whether there is one.
+fn has_messages(alloc: Global, ends: &Ends, messages: &mut Vec<Message>) -> Result<bool, Refusal>
+    requires height { 0 < ends.now.a.now.height }
+    requires ends { AreTheEnds ends.now.a.now ends.now.b.now ends.now.port.now ends.now.channel.now ends.now.mine.now ends.now }
+    requires there { channel_at ends.now.b.now.core ends.now.port.now ends.now.channel.now ≡ Some ends.now.mine.now }
+    ensures ok { OnOk result (messages.new.items ≡ messages.old.items ++ filter_map (pending_message ends.now.a.now ends.now.b.now) (pending_at ends.now.a.now ends.now.b.now ((ends.now.port.now, ends.now.channel.now), ends.now.mine.now))) }
+    ensures over { IfOk result (λ any. (id : Text) → goes_over ends.now.b.now id (pending_at ends.now.a.now ends.now.b.now ((ends.now.port.now, ends.now.channel.now), ends.now.mine.now)) ≡ (any && same_text ends.now.client.now id)) }
+    ensures err { IfErr result (λ refusal. refusal ≡ NoMemory) }
+{
+    ends.are_in_order();
+    let before = messages.len();
+    ends.plan(alloc, messages)?;
+    Ok(before < messages.len())
+}
+
+// The updates of the clients that are used and don't know the height of `a`.
+fn updates(alloc: Global, a: &View, b: &View, used: &Used) -> Result<Vec<Message>, Refusal>
+    requires { 0 < a.now.height }
+    ensures ok { IfOk result (λ updates. updates.items ≡ map (update_of a.now) (filter (is_told a.now used.now.entries) b.now.core.clients)) }
+    ensures err { IfErr result (λ refusal. refusal ≡ NoMemory) }
+{
+    let mut updates = Vec::new(alloc);
+    for (id, client) in b.plain().clients() {
+        if is_told(a, used, id, client) {
+            updates.push(update(a, id)?)?;
+        }
+    }
+    Ok(updates)
+}
+
+// Whether a client is used, and doesn't know the height of `a`.
+fn is_told(a: &View, used: &Used, id: &ClientId, client: &Client) -> bool
+    ensures { result ≡ is_told a.now used.now.entries (id.now, plain_client client.now) }
+{
+    used.contains_key(id) && client.consensus_state(a.height()).is_none()
+}
+
+// The update of a client by the height of `a`.
+fn update(a: &View, id: &ClientId) -> Result<Message, Refusal>
+    requires { 0 < a.now.height }
+    ensures ok { IfOk result (λ message. message ≡ message_of.UpdateClient (record { client = id.now; header = record { chain = a.now.chain; height = a.now.height; time = a.now.time; root = core_root a.now.core } })) }
+    ensures err { IfErr result (λ refusal. refusal ≡ NoMemory) }
+{
+    Ok(Message::UpdateClient(UpdateClient {
+        client: id.clone()?,
+        header: Header {
+            chain: a.chain(),
+            height: a.height(),
+            time: a.time(),
+            root: a.root(),
+        },
+    }))
+}
