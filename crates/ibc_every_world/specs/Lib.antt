@@ -1,1 +1,2 @@
 pub mod EveryWorld
+pub mod EveryAudit

@@ -2,14 +2,19 @@
 //! that has an entry is the next of those that it keeps (`World::step`, `World::run`). The page speaks of these entries.
 #![tactic(auto)]
 
+mod audits;
+mod totals;
+
 ghost use Rattle.ibc_machine.specs.Laws.{Laws};
 ghost use Rattle.ibc_every_world.specs.EveryWorld.{IsLawfulUnlessClash};
 
+pub use audits::lawful_audit;
 use ibc_laws::{
     each_end_has_one_peer, each_ordered_channel_delivers_in_order, each_packet_is_handled_once,
     escrow_equals_vouchers_and_flight, no_escrow_is_short, no_refund_is_refused,
 };
 use ibc_world_core::World;
+pub use totals::balanced_totals;
 
 /// Whatever a world was asked, its replies and states are a run of the machine since genesis, of which the laws hold. The
 /// function does nothing: to call it is to cite what it says.

@@ -6,3 +6,9 @@ pub mod Stepping
 pub mod Beginnings
 -- How a world goes on by events.
 pub mod Turns
+-- The totals of a channel.
+pub mod CountedTotals
+pub mod Denominations
+-- Ledgers that are gathered.
+pub mod Firsts
+pub mod OneWorld

@@ -1,9 +1,9 @@
 -- A world as its callers see it, and what its ledgers have in common.
-use Rattle.std.specs.Prelude.{◌≡◌, ◌<◌, ℕ, List, map, length, Some, slice_get}
+use Rattle.std.specs.Prelude.{◌≡◌, ◌<◌, ℕ, List, map, length, Some, slice_get, IsTrue}
 use Rattle.ibc_machine.specs.Ledgers.{Ledger, IsLedger}
 use Rattle.ibc_root_table.specs.Passes.{TableName}
 use Rattle.ibc_ledger.specs.Held.{HeldLedger}
-use Rattle.ibc_machine.specs.Genesis.{GenesisState}
+use Rattle.ibc_machine.specs.Genesis.{GenesisState, is_allowed}
 use Rattle.ibc_machine.specs.declared.event.Event.{Event}
 use Rattle.ibc_machine.specs.declared.reply.Reply.{Reply}
 use Rattle.ibc_world_steps.specs.World.{new_ledger}
@@ -45,3 +45,11 @@ SameTables old new = (k : ℕ) (g h : HeldLedger) → slice_get old k ≡ Some g
 abbrev pub IsPutTo : List HeldLedger → List ℕ → Event → Reply → List HeldLedger → List ℕ → Type 0
 IsPutTo old order event given new order' = (genesis : GenesisState)
     → IsPut (record { genesis = genesis; ledgers = plain old; order = order }) event given (record { genesis = genesis; ledgers = plain new; order = order' })
+
+-- each is a ledger
+abbrev pub AreLedgers : List HeldLedger → Type 0
+AreLedgers ledgers = (k : ℕ) (h : HeldLedger) → slice_get ledgers k ≡ Some h → IsLedger h.ledger
+
+-- each is of an allowed genesis
+abbrev pub AreAllowed : List HeldLedger → Type 0
+AreAllowed ledgers = (k : ℕ) (h : HeldLedger) → slice_get ledgers k ≡ Some h → IsTrue (is_allowed h.ledger.genesis)

@@ -1,2 +1,4 @@
+pub mod Audits
 pub mod Held
 pub mod Inside
+pub mod Totals

@@ -1,7 +1,12 @@
 //! The ledgers of one process, asked one event after another.
 #![tactic(auto)]
 
+mod gathering;
+mod holdings;
 mod meeting;
+mod totals;
 mod world;
 
+pub use gathering::audit;
+pub use holdings::Audit;
 pub use world::{NotRun, World};

@@ -10,7 +10,8 @@ ghost use Rattle.ibc_ledger.specs.Held.{HeldLedger, shape_of};
 ghost use Rattle.ibc_ledger.specs.Adding.{AddsOrNot};
 ghost use Rattle.ibc_world_steps.specs.World.{AreNew, HasItsPast, new_ledger};
 ghost use Rattle.ibc_world_steps.specs.Steps.{IsStep, GoesOnBy};
-ghost use Rattle.ibc_world_core.specs.Held.{AreBegun, AreNumbered, IsPutTo, SameTables};
+ghost use Rattle.ibc_world_core.specs.Held.{plain, AreBegun, AreNumbered, IsPutTo, SameTables};
+ghost use Rattle.ibc_world_core.specs.Audits.{AreOfOneWorld};
 
 use crate::meeting::meet_all;
 use ibc_ids::Refusal;
@@ -32,9 +33,9 @@ pub struct NotRun {
 /// The ledgers of a genesis, in the order of their numbers, and the order of their entries as the numbers of the chains.
 #[derive(Drop)]
 pub struct World {
-    alloc: Global,
+    pub(crate) alloc: Global,
     genesis: Snapshot<Genesis>,
-    ledgers: Vec<Ledger>,
+    pub(crate) ledgers: Vec<Ledger>,
     order: Vec<u8>,
 }
 
@@ -111,6 +112,14 @@ impl World {
         ensures { HasItsPast self.now }
     {
         let _ = &self.ledgers;
+    }
+
+    /// The ledgers, in the order of their numbers. They can be driven apart, and gathered by `audit`.
+    pub fn into_ledgers(self) -> Vec<Ledger>
+        ensures ledgers { plain result.items ≡ self.ledgers }
+        ensures world { AreOfOneWorld result.items }
+    {
+        self.ledgers
     }
 
     /// The ledger of a chain, or none.

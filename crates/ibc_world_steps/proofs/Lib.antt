@@ -12,3 +12,6 @@ pub mod OneMore
 pub mod Runs
 pub mod Meetings
 pub mod Leading
+-- Why gathered ledgers are of one table, and have an order of their entries.
+pub mod Gathered
+pub mod Interleavings
