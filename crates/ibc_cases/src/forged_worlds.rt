@@ -5,7 +5,7 @@ use crate::forgery::{Group, forged, with_byte};
 use crate::log::Log;
 use crate::spelled::Spelled;
 use ibc_ids::{Account, Bytes, ChannelId, ClientId, ConnectionId, Denom, Key, PortId, Refusal};
-use ibc_machine::{Effect, Event, Genesis, Reply};
+use ibc_machine::{Effect, Event, Genesis, Reply, Totals};
 use ibc_merkle::Proof;
 use ibc_script_cli::{Chains, Worlds};
 use ibc_script_worlds::{Ledgers, NewWorlds};
@@ -239,6 +239,14 @@ impl Chains for ForgedChains<'_> {
 
     fn proof(&self, chain: u8, height: u64, key: &Key) -> Result<Option<Proof>, Refusal> {
         self.ledgers.proof(chain, height, key)
+    }
+
+    fn plans(&self, first: u8, second: u8) -> Result<(Vec<Message>, Vec<Message>), Refusal> {
+        self.ledgers.plans(first, second)
+    }
+
+    fn totals(&self, chain: u8, channel: &ChannelId, denom: &Denom) -> Result<Totals, Refusal> {
+        self.ledgers.totals(chain, channel, denom)
     }
 
     fn balances(&self, chain: u8) -> Result<Vec<(Account, Denom, u128)>, Refusal> {

@@ -1,5 +1,5 @@
 -- What a script's steps say of its chains, and where its values stand in JSON.
-use Rattle.std.specs.Prelude.{◌≢◌, ℕ, ◌<◌, ⊤, Option}
+use Rattle.std.specs.Prelude.{◌≢◌, ℕ, ◌<◌, ◌≤◌, ⊤, Option}
 use Rattle.std.specs.Option.{option_and_then}
 use Rattle.std.proofs.Props.{props}
 use Rattle.serde_json.specs.Data.{Data}
@@ -52,13 +52,16 @@ IsDraftAmong chains (draft.Connection d) = IsConnectionAmong chains d
 IsDraftAmong chains (draft.Channel d) = IsChannelAmong chains d
 IsDraftAmong chains (draft.Packet d) = IsPacketAmong chains d
 
--- the chains that a step names are among so many, and where it names two they differ
+-- the chains that a step names are among so many, and where it names two they differ; it relays for 1 to 1,000 turns
 abbrev pub IsAmong : ℕ → Step → Type 0
 IsAmong chains (step.Message on d) = (on < chains) × IsDraftAmong chains d
 IsAmong chains (step.Block on time) = on < chains
 IsAmong chains (step.Root on height) = on < chains
 IsAmong chains (step.Prove on height key) = on < chains
+IsAmong chains (step.Totals on id denom) = on < chains
 IsAmong chains (step.Open first second app) = (first < chains) × (second < chains) × (first ≢ second)
+IsAmong chains (step.Relay first second turns) =
+    (first < chains) × (second < chains) × (first ≢ second) × (0 < turns) × (turns ≤ 1000)
 
 pub IsProp-IsClientAmong : (chains : ℕ) (d : ClientDraft) → IsProp (IsClientAmong chains d)
 IsProp-IsClientAmong chains (client.Create of) = hlevel props
@@ -98,7 +101,9 @@ IsProp-IsAmong chains (step.Message on d) = hlevel (props, IsProp-IsDraftAmong)
 IsProp-IsAmong chains (step.Block on time) = hlevel props
 IsProp-IsAmong chains (step.Root on height) = hlevel props
 IsProp-IsAmong chains (step.Prove on height key) = hlevel props
+IsProp-IsAmong chains (step.Totals on id denom) = hlevel props
 IsProp-IsAmong chains (step.Open first second app) = hlevel props
+IsProp-IsAmong chains (step.Relay first second turns) = hlevel props
 
 -- the number below 2^64 that a member is
 abbrev pub number_at : Text → Data → Option ℕ

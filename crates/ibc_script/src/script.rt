@@ -5,7 +5,7 @@ ghost use Rattle.std.proofs.Props.{props};
 ghost use Rattle.ibc_script.specs.Scripts.{IsAmong, IsProp-IsAmong};
 
 use crate::{Application, ChainName, Draft};
-use ibc_ids::Key;
+use ibc_ids::{ChannelId, Denom, Key};
 use ibc_machine::Genesis;
 
 /// A script has at most so many bytes.
@@ -13,6 +13,9 @@ pub const MOST_BYTES: usize = 1_048_576;
 
 /// A script names at most so many chains.
 pub const MOST_CHAINS: usize = 8;
+
+/// A step relays for at most so many turns.
+pub const MOST_TURNS: u16 = 1_000;
 
 /// A script has at most so many steps.
 pub const MOST_STEPS: usize = 10_000;
@@ -41,12 +44,24 @@ pub enum Step {
         height: u64,
         key: Key,
     },
+    /// The totals of a channel are printed: what it has of a denomination.
+    Totals {
+        on: u8,
+        channel: ChannelId,
+        denom: Denom,
+    },
     /// A client, a connection and a channel of the application are made between two different chains. The first
     /// begins the handshakes.
     Open {
         first: u8,
         second: u8,
         application: Application,
+    },
+    /// Two different chains are relayed between for 1 to 1,000 turns.
+    Relay {
+        first: u8,
+        second: u8,
+        turns: u16,
     },
 }
 

@@ -1,5 +1,5 @@
 -- The lines that the program prints, without their line feeds.
-use Rattle.std.specs.Prelude.{ℕ, codes, List, [], ◌∷◌, ◌++◌, map, ◌&&◌, nat_le, if◌then◌else◌, Option, None, Some, option_map}
+use Rattle.std.specs.Prelude.{ℕ, codes, List, [], ◌∷◌, ◌++◌, map, ◌&&◌, nat_le, if◌then◌else◌, Option, None, Some, option_map, Result, Ok, Err}
 use Rattle.std.specs.Fmt.{decimal}
 use Rattle.hex.specs.Hex.{encode_lower}
 use Rattle.base64.specs.Engines.{standard}
@@ -7,10 +7,12 @@ use Rattle.base64.specs.GeneralPurpose.{encode_of}
 use Rattle.ibc_ids.specs.Texts.{Text}
 use Rattle.ibc_ids.specs.Paths.{account_text}
 use Rattle.ibc_ids.specs.Refusals.{number_of}
+use Rattle.ibc_ids.specs.declared.refusal.Refusal.{Refusal}
 use Rattle.ibc_machine.specs.declared.reply.Effect.{Effect}
 use Rattle.ibc_machine.specs.declared.reply.Effect.TheVariants as effect
 use Rattle.ibc_machine.specs.declared.reply.Reply.{Reply}
 use Rattle.ibc_machine.specs.declared.reply.Reply.TheVariants as reply
+use Rattle.ibc_machine.specs.declared.totals.Totals.{Totals}
 use Rattle.ibc_script.specs.EventKinds.{name_of}
 use Rattle.ibc_script_cli.specs.declared.line.Line.{Line}
 use Rattle.ibc_script_cli.specs.declared.line.Line.TheVariants as printed
@@ -44,6 +46,12 @@ abbrev pub digits_of : Option Text → Text
 digits_of None = codes "none"
 digits_of (Some bytes) = encode_lower bytes
 
+-- what a channel has of a denomination, or the number of the refusal
+abbrev pub totals_words : Text → Text → Result Totals Refusal → List Text
+totals_words channel denom (Ok t) =
+    channel ∷ denom ∷ decimal t.escrow ∷ decimal t.vouchers ∷ decimal t.out ∷ decimal t.back ∷ []
+totals_words channel denom (Err refusal) = codes "no" ∷ decimal (number_of refusal) ∷ []
+
 -- the words of a line
 abbrev pub line_words : Line → List Text
 line_words (printed.Reply chain kind answer) = chain.now ∷ name_of kind ∷ reply_words answer.now
@@ -56,6 +64,8 @@ line_words (printed.Root chain height root) =
     chain.now ∷ codes "root" ∷ decimal height ∷ digits_of (option_map (λ r. r.now) root) ∷ []
 line_words (printed.Prove chain height proof) =
     chain.now ∷ codes "prove" ∷ decimal height ∷ digits_of (option_map (λ p. p.now) proof) ∷ []
+line_words (printed.Totals chain channel denom totals) =
+    chain.now ∷ codes "totals" ∷ totals_words channel.now denom.now totals
 
 -- the text of a line
 abbrev pub line : Line → Text

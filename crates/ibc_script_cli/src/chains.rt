@@ -4,11 +4,12 @@ ghost use Rattle.std.specs.Prelude.{IfOk};
 ghost use Rattle.ibc_script_cli.specs.Answers.{Answers, any_answers};
 
 use ibc_ids::{Account, Bytes, ChannelId, ClientId, ConnectionId, Denom, Key, PortId, Refusal};
-use ibc_machine::{Event, Reply};
+use ibc_machine::{Event, Reply, Totals};
 use ibc_merkle::Proof;
-use ibc_wire::{ChannelEnd, ClientState, ConnectionEnd, Packet};
+use ibc_wire::{ChannelEnd, ClientState, ConnectionEnd, Message, Packet};
 
-/// The chains that the steps of a script are run on, by their numbers. Each call is refused with `NoMemory` alone.
+/// The chains that the steps of a script are run on, by their numbers. Each call but `totals` is refused with `NoMemory`
+/// alone.
 pub trait Chains {
     // What the chains answer to the questions below.
     ghost answers: { Self → Answers } = { λ _. any_answers };
@@ -63,6 +64,13 @@ pub trait Chains {
     /// records are gone.
     fn proof(&self, chain: u8, height: u64, key: &Key) -> Result<Option<Proof>, Refusal>
         ensures { IfOk result ((answers self.now).proof chain height key.now) };
+
+    /// What relayers plan between two chains, from views of both as they stand at their last blocks: the messages for the
+    /// second, which prove from the first, and those for the first.
+    fn plans(&self, first: u8, second: u8) -> Result<(Vec<Message>, Vec<Message>), Refusal>;
+
+    /// What a channel of port `transfer` of a chain has of a denomination, or why it has none.
+    fn totals(&self, chain: u8, channel: &ChannelId, denom: &Denom) -> Result<Totals, Refusal>;
 
     /// The amounts above 0 on a chain, by account and then denomination, in the byte order of their texts.
     fn balances(&self, chain: u8) -> Result<Vec<(Account, Denom, u128)>, Refusal>;

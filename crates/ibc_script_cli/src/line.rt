@@ -5,11 +5,11 @@ ghost use Rattle.base64.specs.Engines.{standard};
 ghost use Rattle.base64.specs.GeneralPurpose.{encode_of};
 ghost use Rattle.ibc_ids.specs.Paths.{account_text};
 ghost use Rattle.ibc_ids.specs.Refusals.{number_of};
-ghost use Rattle.ibc_script_cli.specs.Lines.{line, shown, spaced, effect_words, reply_words, digits_of};
+ghost use Rattle.ibc_script_cli.specs.Lines.{line, shown, spaced, effect_words, reply_words, digits_of, totals_words};
 
 use base64::engine::general_purpose::STANDARD;
 use ibc_ids::{Account, Bytes, ChannelId, Denom, Refusal, Root};
-use ibc_machine::{Effect, Reply};
+use ibc_machine::{Effect, Reply, Totals};
 use ibc_script::{ChainName, EventKind};
 use std::alloc::{AllocError, Global};
 
@@ -52,6 +52,13 @@ pub enum Line<'a> {
         chain: &'a ChainName,
         height: u64,
         proof: Option<&'a Bytes>,
+    },
+    /// The totals of a channel: what it has of a denomination, or why there are none.
+    Totals {
+        chain: &'a ChainName,
+        channel: &'a ChannelId,
+        denom: &'a Denom,
+        totals: Result<Totals, Refusal>,
     },
 }
 
@@ -261,6 +268,62 @@ fn height_line(
     }
 }
 
+// The four numbers of totals, with blanks between.
+fn four_numbers(alloc: Global, totals: Totals) -> Result<String, AllocError>
+    ensures { IfOk result (λ text. string_bytes text ≡ spaced (decimal totals.escrow ∷ decimal totals.vouchers ∷ decimal totals.out ∷ decimal totals.back ∷ [])) }
+{
+    let Totals {
+        escrow,
+        vouchers,
+        out,
+        back,
+    } = totals;
+    format!(in alloc; "{escrow} {vouchers} {out} {back}")
+}
+
+// The line of the totals of a channel, by their numbers.
+fn numbers_line(
+    alloc: Global,
+    chain: &str,
+    channel: &str,
+    denom: &str,
+    numbers: &str,
+) -> Result<String, AllocError>
+    ensures { IfOk result (λ text. string_bytes text ≡ spaced (chain.now ∷ codes "totals" ∷ channel.now ∷ denom.now ∷ numbers.now ∷ [])) }
+{
+    format!(in alloc; "{chain} totals {channel} {denom} {numbers}")
+}
+
+// The line of the totals of a channel.
+fn counted_totals_line(
+    alloc: Global,
+    chain: &str,
+    channel: &str,
+    denom: &str,
+    totals: Totals,
+) -> Result<String, AllocError>
+    ensures { IfOk result (λ text. string_bytes text ≡ spaced (chain.now ∷ codes "totals" ∷ channel.now ∷ denom.now ∷ decimal totals.escrow ∷ decimal totals.vouchers ∷ decimal totals.out ∷ decimal totals.back ∷ [])) }
+{
+    let numbers = four_numbers(alloc, totals)?;
+    numbers_line(alloc, chain, channel, denom, numbers.as_str())
+}
+
+// The line of the totals of a channel, or of why there are none.
+fn totals_line(
+    alloc: Global,
+    chain: &str,
+    channel: &str,
+    denom: &str,
+    totals: Result<Totals, Refusal>,
+) -> Result<String, AllocError>
+    ensures { IfOk result (λ text. string_bytes text ≡ spaced (chain.now ∷ codes "totals" ∷ totals_words channel.now denom.now totals)) }
+{
+    match totals {
+        Ok(totals) => counted_totals_line(alloc, chain, channel, denom, totals),
+        Err(refusal) => refused_line(alloc, chain, "totals", refusal),
+    }
+}
+
 fn text_of(alloc: Global, printed: Line<'_>) -> Result<String, AllocError>
     ensures { IfOk result (λ text. string_bytes text ≡ line printed.entry) }
 {
@@ -303,6 +366,18 @@ fn text_of(alloc: Global, printed: Line<'_>) -> Result<String, AllocError>
             let bytes = proof.map(|proof| proof.as_slice());
             height_line(alloc, chain.as_str(), "prove", height, bytes)
         }
+        Line::Totals {
+            chain,
+            channel,
+            denom,
+            totals,
+        } => totals_line(
+            alloc,
+            chain.as_str(),
+            channel.as_str(),
+            denom.as_str(),
+            totals,
+        ),
     }
 }
 

@@ -10,7 +10,7 @@ use crate::heights::Heights;
 use crate::opening::{Opening, PLAN, Side};
 use crate::printing::{print, print_balances, print_notes};
 use crate::{Chains, Line};
-use ibc_ids::{Bytes, Key, Root};
+use ibc_ids::{Bytes, ChannelId, Denom, Key, Root};
 use ibc_machine::{Effect, Event, Reply};
 use ibc_script::{ChainName, Draft, EventKind, Fault, Origin, Step};
 use ibc_wire::Message;
@@ -319,6 +319,93 @@ impl<C: Chains + Drop> Runner<C> {
         printed
     }
 
+    /// Prints what a channel of a chain has of a denomination.
+    fn print_totals<W: Write>(
+        &self,
+        on: u8,
+        channel: ChannelId,
+        denom: Denom,
+        output: &mut W,
+    ) -> Result<(), Fault>
+        requires { on < length self.now.names.items }
+        ensures { IfErr result StopsRun }
+    {
+        let line = Line::Totals {
+            chain: &self.names[on as usize],
+            channel: &channel,
+            denom: &denom,
+            totals: self.chains.totals(on, &channel, &denom),
+        };
+        print(self.alloc, output, line)
+    }
+
+    // Sends messages to a chain in turn, and prints the replies.
+    fn send_each<W: Write>(
+        &mut self,
+        on: u8,
+        messages: Vec<Message>,
+        output: &mut W,
+    ) -> Result<(), Fault>
+        requires { on < length self.old.names.items }
+        ensures same { self.new.names.items ≡ self.old.names.items }
+        ensures faults { IfErr result StopsRun }
+    {
+        for message in messages {
+            self.send(on, message, output)?;
+        }
+        Ok(())
+    }
+
+    // Sends two chains what is planned for them, as both stand before anything is sent.
+    fn send_plans<W: Write>(&mut self, first: u8, second: u8, output: &mut W) -> Result<(), Fault>
+        requires first { first < length self.old.names.items }
+        requires second { second < length self.old.names.items }
+        ensures same { self.new.names.items ≡ self.old.names.items }
+        ensures faults { IfErr result StopsRun }
+    {
+        let (for_second, for_first) = self.chains.plans(first, second).map_err(Fault::no_memory)?;
+        let sent = self.send_each(second, for_second, output);
+        match sent {
+            Ok(()) => self.send_each(first, for_first, output),
+            Err(fault) => {
+                drop(for_first);
+                Err(fault)
+            }
+        }
+    }
+
+    /// Takes one turn of a `relay`: both chains end their blocks, and then each is sent what is planned for it. A block or a
+    /// message that is refused stops nothing.
+    fn relay_once<W: Write>(&mut self, first: u8, second: u8, output: &mut W) -> Result<(), Fault>
+        requires first { first < length self.old.names.items }
+        requires second { second < length self.old.names.items }
+        ensures same { self.new.names.items ≡ self.old.names.items }
+        ensures faults { IfErr result StopsRun }
+    {
+        self.end_block(first, None, output)?;
+        self.end_block(second, None, output)?;
+        self.send_plans(first, second, output)
+    }
+
+    /// Relays between two chains for so many turns.
+    fn relay<W: Write>(
+        &mut self,
+        first: u8,
+        second: u8,
+        turns: u16,
+        output: &mut W,
+    ) -> Result<(), Fault>
+        requires first { first < length self.old.names.items }
+        requires second { second < length self.old.names.items }
+        ensures same { self.new.names.items ≡ self.old.names.items }
+        ensures faults { IfErr result StopsRun }
+    {
+        for _turn in 0..turns {
+            self.relay_once(first, second, output)?;
+        }
+        Ok(())
+    }
+
     fn run<W: Write>(&mut self, step: Step, output: &mut W) -> Result<(), Fault>
         requires { IsAmong (length self.old.names.items) step }
         ensures same { self.new.names.items ≡ self.old.names.items }
@@ -329,11 +416,17 @@ impl<C: Chains + Drop> Runner<C> {
             Step::Block { on, time } => self.end_block(on, time, output).map(drop),
             Step::Root { on, height } => self.print_root(on, height, output),
             Step::Prove { on, height, key } => self.print_proof(on, height, key, output),
+            Step::Totals { on, channel, denom } => self.print_totals(on, channel, denom, output),
             Step::Open {
                 first,
                 second,
                 application,
             } => self.open(Opening::new(application, first, second), output),
+            Step::Relay {
+                first,
+                second,
+                turns,
+            } => self.relay(first, second, turns, output),
         }
     }
 

@@ -1,11 +1,12 @@
 //! Worlds, as the steps of a script see them.
 
+use crate::relaying::plans_between;
 use ibc_codec::{Wire, decode};
 use ibc_ids::{Account, Bytes, ChannelId, ClientId, ConnectionId, Denom, Key, PortId, Refusal};
-use ibc_machine::{Event, Genesis, Reply};
+use ibc_machine::{Event, Genesis, Reply, Totals};
 use ibc_merkle::Proof;
 use ibc_script_cli::{Chains, Worlds};
-use ibc_wire::{ChannelEnd, ClientState, ConnectionEnd, Packet};
+use ibc_wire::{ChannelEnd, ClientState, ConnectionEnd, Message, Packet};
 use ibc_world_core::World;
 use std::alloc::Global;
 
@@ -122,6 +123,17 @@ impl Chains for Ledgers {
             Err(Refusal::NoConsensus) => Ok(None),
             Err(refusal) => Err(refusal),
         }
+    }
+
+    fn plans(&self, first: u8, second: u8) -> Result<(Vec<Message>, Vec<Message>), Refusal> {
+        match (self.world.ledger(first), self.world.ledger(second)) {
+            (Some(first), Some(second)) => plans_between(self.alloc, first, second),
+            _ => Ok((Vec::new(self.alloc), Vec::new(self.alloc))),
+        }
+    }
+
+    fn totals(&self, chain: u8, channel: &ChannelId, denom: &Denom) -> Result<Totals, Refusal> {
+        self.world.totals(chain, channel, denom)
     }
 
     fn balances(&self, chain: u8) -> Result<Vec<(Account, Denom, u128)>, Refusal> {

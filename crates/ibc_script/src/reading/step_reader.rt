@@ -6,6 +6,7 @@ ghost use Rattle.ibc_script.specs.Faults.{JudgesScript};
 use super::parse_name;
 use crate::draft::Origin;
 use crate::members::{list, number, text};
+use crate::script::MOST_TURNS;
 use crate::{Application, ChainName, Fault};
 use ibc_ids::{Key, Kind, Name};
 use ibc_wire::Order;
@@ -64,6 +65,18 @@ impl StepReader<'_> {
         ensures { IfErr result JudgesScript }
     {
         number(self.object, member)
+    }
+
+    /// The number of turns that a member is, 1 to 1,000.
+    pub fn turns(&self, member: &str) -> Result<u16, Fault>
+        ensures some { IfOk result (λ turns. 0 < turns) }
+        ensures most { IfOk result (λ turns. turns ≤ 1000) }
+        ensures faults { IfErr result JudgesScript }
+    {
+        match u16::try_from(self.number(member)?) {
+            Ok(turns) if (1..=MOST_TURNS).contains(&turns) => Ok(turns),
+            _ => Err(Fault::BadScript),
+        }
     }
 
     /// The name of a kind that a member is.

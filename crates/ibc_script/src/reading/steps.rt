@@ -46,6 +46,18 @@ impl StepReader<'_> {
         })
     }
 
+    fn totals(&self) -> Result<Step, Fault>
+        ensures among { IfOk result (IsAmong (length self.now.names.now)) }
+        ensures faults { IfErr result JudgesScript }
+    {
+        has_only(self.object, &["do", "on", "channel", "denom"])?;
+        Ok(Step::Totals {
+            on: self.chain("on")?,
+            channel: self.name("channel")?,
+            denom: self.name("denom")?,
+        })
+    }
+
     fn open(&self) -> Result<Step, Fault>
         ensures among { IfOk result (IsAmong (length self.now.names.now)) }
         ensures faults { IfErr result JudgesScript }
@@ -56,6 +68,19 @@ impl StepReader<'_> {
             first,
             second,
             application: self.application("app")?,
+        })
+    }
+
+    fn relay(&self) -> Result<Step, Fault>
+        ensures among { IfOk result (IsAmong (length self.now.names.now)) }
+        ensures faults { IfErr result JudgesScript }
+    {
+        has_only(self.object, &["do", "chains", "turns"])?;
+        let (first, second) = self.two_chains("chains")?;
+        Ok(Step::Relay {
+            first,
+            second,
+            turns: self.turns("turns")?,
         })
     }
 
@@ -106,7 +131,9 @@ impl StepReader<'_> {
             "Block" => self.block(),
             "root" => self.root(),
             "prove" => self.prove(),
+            "totals" => self.totals(),
             "open" => self.open(),
+            "relay" => self.relay(),
             kind => self.message(kind),
         }
     }

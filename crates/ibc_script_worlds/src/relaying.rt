@@ -1,0 +1,29 @@
+//! What relayers plan between two ledgers.
+
+ghost use Rattle.std.specs.Prelude.{◌≡◌, IfOk, IfErr};
+ghost use Rattle.ibc_ids.specs.declared.refusal.Refusal.TheVariants.{NoMemory};
+ghost use Rattle.ibc_machine.specs.Relay as relay;
+ghost use Rattle.ibc_script_worlds.specs.Relaying.{seen};
+
+use ibc_ids::Refusal;
+use ibc_ledger::Ledger;
+use ibc_relayer::plan;
+use ibc_wire::Message;
+use std::alloc::Global;
+
+/// What relayers plan between two ledgers as both stand at their last blocks (ICS 18, "Relayer algorithm"): the messages for
+/// the second, which prove from the first, and those for the first. `NoMemory` where a growth is refused.
+pub fn plans_between(
+    alloc: Global,
+    first: &Ledger,
+    second: &Ledger,
+) -> Result<(Vec<Message>, Vec<Message>), Refusal>
+    ensures second { IfOk result (λ plans. plans.0.items ≡ relay.plan (seen first.now.ledger) (seen second.now.ledger)) }
+    ensures first { IfOk result (λ plans. plans.1.items ≡ relay.plan (seen second.now.ledger) (seen first.now.ledger)) }
+    ensures err { IfErr result (λ refusal. refusal ≡ NoMemory) }
+{
+    let first = first.view()?;
+    let second = second.view()?;
+    let for_second = plan(alloc, &first, &second)?;
+    Ok((for_second, plan(alloc, &second, &first)?))
+}
