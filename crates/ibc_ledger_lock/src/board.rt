@@ -1,0 +1,108 @@
+//! The views that chains post, in one row that only grows and that is read without a lock.
+
+ghost use Rattle.std.specs.Prelude.{◌≡◌, IfErr, IfSome};
+ghost use Rattle.ibc_ids.specs.declared.refusal.Refusal.TheVariants.{NoMemory};
+ghost use Rattle.ibc_ledger_lock.specs.Worlds.{IsViewOf, ShowsEnd};
+
+use crate::receipt::Receipt;
+use crate::world::World;
+use boxcar::Keeps;
+use boxcar::tag::Tag;
+use ibc_ids::Refusal;
+use ibc_view::View;
+use std::alloc::Global;
+use std::marker::PhantomData;
+use std::sync::Wait;
+use std::sync::atomic::{AtomicUsize, Ordering};
+
+/// What stands on the board is the view of a ledger of the world.
+pub struct OfWorld<W: World>(PhantomData<W>);
+
+impl<W: World> Keeps<View> for OfWorld<W> {
+    ghost use Rattle.ibc_ledger_lock.specs.Worlds.{IsViewOf};
+
+    ghost holds = { λ tag index view. IsViewOf W.table W.genesis view };
+}
+
+/// The views that the chains of a world posted. It only grows, and reading it takes no lock.
+#[derive(Drop)]
+pub struct Board<W: World> {
+    views: boxcar::Vec<View, Global, OfWorld<W>>,
+    // for each chain the index of its newest view that is known; an old one costs a longer scan and nothing else
+    hints: Vec<AtomicUsize>,
+}
+
+impl<W: World> Board<W> {
+    /// A board with no views. `NoMemory` where a growth is refused.
+    pub fn new(alloc: Global) -> Result<Board<W>, Refusal>
+        ensures { IfErr result (λ refusal. refusal ≡ NoMemory) }
+    {
+        let mut hints = Vec::with_capacity(alloc, 256)?;
+        for _ in 0..256 {
+            hints.push(AtomicUsize::new(0))?;
+        }
+        Ok(Board {
+            views: boxcar::Vec::with_rule(alloc, Tag::empty())?,
+            hints,
+        })
+    }
+
+    /// The view of the greatest height that it finds for a chain, none where none was posted.
+    pub fn latest(&self, chain: u8) -> Option<&View>
+        ensures { IfSome result (λ view. IsViewOf W.table W.genesis view.now × (view.now.chain ≡ chain)) }
+    {
+        let mut best: Option<&View> = None;
+        for index in self.hint(chain)..usize::MAX {
+            let Some(view) = self.views.get(index) else {
+                break;
+            };
+            if view.chain() == chain && is_newer(view, best) {
+                best = Some(view);
+            }
+        }
+        best
+    }
+
+    /// Posts the view of a ledger as it stands. Where a growth is refused, it isn't there, and nothing else has changed.
+    pub(crate) fn post<R: Wait>(&self, rt: &R, view: View)
+        requires { IsViewOf W.table W.genesis view }
+    {
+        let chain = view.chain();
+        if let Ok(index) = self.views.push(rt, view) {
+            self.raise(chain, index);
+        }
+    }
+
+    /// Posts the view after the end of a block, as the receipt tells it. Where a growth is refused, it isn't there, and
+    /// nothing else has changed.
+    pub(crate) fn post_end<R: Wait>(&self, rt: &R, receipt: &Receipt<W>, view: View)
+        requires world { IsViewOf W.table W.genesis view }
+        requires shows { ShowsEnd receipt.now view }
+    {
+        let _chain = receipt.chain();
+        self.post(rt, view);
+    }
+
+    // The index from which a chain's newest view is looked for.
+    fn hint(&self, chain: u8) -> usize {
+        match self.hints.get(usize::from(chain)) {
+            Some(hint) => hint.load(Ordering::SeqCst),
+            None => 0,
+        }
+    }
+
+    // A view of the chain stands at the index. What it was raised to never falls.
+    fn raise(&self, chain: u8, index: usize) {
+        if let Some(hint) = self.hints.get(usize::from(chain)) {
+            hint.fetch_max(index, Ordering::SeqCst);
+        }
+    }
+}
+
+// Whether the view is as high as the best so far.
+fn is_newer(view: &View, best: Option<&View>) -> bool {
+    match best {
+        Some(best) => view.height() >= best.height(),
+        None => true,
+    }
+}

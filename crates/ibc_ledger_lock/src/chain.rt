@@ -1,0 +1,245 @@
+//! A ledger under a lock.
+
+ghost use Rattle.std.specs.Prelude.{◌≡◌, ◌⊎◌, ◌↔◌, All, Err, IfErr, IfOk, IsNone, List, drop, map};
+ghost use Rattle.std.specs.Fn.{FnOnceReturnsAt};
+ghost use Rattle.std.specs.Option.{IsSomeAnd};
+ghost use Rattle.ibc_ids.specs.Maps.{at};
+ghost use Rattle.ibc_ids.specs.Paths.{path};
+ghost use Rattle.ibc_ids.specs.Texts.{text_cmp};
+ghost use Rattle.ibc_ids.specs.declared.refusal.Refusal.TheVariants.{NoConsensus, NoMemory};
+ghost use Rattle.ibc_merkle.specs.Written.{written};
+ghost use Rattle.ibc_machine.specs.declared.event.Event.TheVariants as event_of;
+ghost use Rattle.ibc_machine.specs.Image.{image};
+ghost use Rattle.ibc_machine.specs.Ledgers.{state_of};
+ghost use Rattle.ibc_ledger.specs.declared.entry.StampedEntry.{StampedEntry as KeptEntry};
+ghost use Rattle.ibc_ledger.specs.Held.{plain_entry};
+ghost use Rattle.ibc_ledger.specs.SentPackets.{ack_on, packet_on};
+ghost use Rattle.ibc_ledger.specs.Standing.{provable};
+ghost use Rattle.ibc_ledger_lock.specs.Worlds.{Holds, IsOfWorld, IsToldOf, IsViewOf, OnALedger};
+
+use crate::board::Board;
+use crate::book::Opened;
+use crate::desk::Desk;
+use crate::gate::Gate;
+use crate::receipt::Receipt;
+use crate::world::World;
+use ibc_ids::{Bytes, ChannelId, Key, PortId, Refusal};
+use ibc_ledger::{Ledger, StampedEntry};
+use ibc_machine::Reply;
+use ibc_merkle::Proof;
+use ibc_view::View;
+use ibc_wire::{Message, Packet};
+use std::alloc::Global;
+use std::marker::Model;
+use std::sync::{Arc, Mutex, Wait};
+
+/// A ledger of the world, which threads share. Contracts see the number of its chain.
+#[derive(Drop)]
+pub struct Chain<W: World> {
+    number: u8,
+    desk: Mutex<Desk<W>>,
+    board: Arc<Board<W>, Global>,
+    opening: View,
+}
+
+impl<W: World> Model for Chain<W> {
+    ghost use Rattle.std.specs.Prelude.{◌≡◌, ℕ};
+    ghost use Rattle.ibc_ledger_lock.specs.Worlds.{IsViewOf};
+
+    ghost Value = { ℕ };
+
+    ghost view = { λ c. c.number };
+
+    ghost invariant = { λ c. IsViewOf W.table W.genesis c.opening × (c.opening.chain ≡ c.number) };
+}
+
+impl<W: World> Chain<W> {
+    /// The chain of a ledger of the world, with an unused book that is the world's for its number; its views are posted on
+    /// the board, that of the ledger as it stands first. `NoMemory` where a growth is refused: the ledger comes back then.
+    pub fn new<R: Wait>(
+        rt: &R,
+        ledger: Ledger,
+        opened: Opened,
+        board: Arc<Board<W>, Global>,
+    ) -> Result<Chain<W>, (Refusal, Ledger)>
+        requires world { IsOfWorld W.table W.genesis ledger }
+        requires book { opened ≡ W.book ledger.ledger.chain }
+        ensures ok { IfOk result (λ chain. chain ≡ ledger.ledger.chain) }
+        ensures err { IfErr result (λ back. (back.0 ≡ NoMemory) × (back.1 ≡ ledger)) }
+    {
+        ledger.is_its_history();
+        let number = ledger.chain();
+        let opening = match ledger.view() {
+            Ok(view) => view,
+            Err(refusal) => return Err((refusal, ledger)),
+        };
+        if let Ok(view) = ledger.view() {
+            board.post(rt, view);
+        }
+        Ok(Chain {
+            number,
+            desk: Mutex::new(Desk::new(ledger, opened)),
+            board,
+            opening,
+        })
+    }
+
+    /// Applies a message to the ledger, as its `apply` does. The receipt claims the message with its reply.
+    pub fn submit<R: Wait>(&self, rt: &R, message: Message) -> Receipt<W>
+        ensures { IsToldOf (event_of.Message result.chain message) result }
+    {
+        self.desk.lock(rt).submit(message)
+    }
+
+    /// Ends the ledger's working block, as its `end_block` does. The receipt claims the block's end with its reply. The
+    /// view after an accepted block is posted on the board, unless memory runs out for it; the lock is held meanwhile, so
+    /// that a chain's views stand there in the order of their heights.
+    pub fn produce<R: Wait>(&self, rt: &R, next_time: u64) -> Receipt<W>
+        ensures { IsToldOf (event_of.Block result.chain next_time) result }
+    {
+        let mut desk = self.desk.lock(rt);
+        let (receipt, view) = desk.produce_and_look(next_time);
+        if let Some(view) = view {
+            self.board.post_end(rt, &receipt, view);
+        }
+        drop(desk);
+        receipt
+    }
+
+    /// The newest view of the chain that the board shows, or else that of the ledger as the chain was made. It may be older
+    /// than the ledger. Takes no lock.
+    pub fn view(&self) -> &View
+        ensures world { IsViewOf W.table W.genesis result.now }
+        ensures chain { result.now.chain ≡ self.now }
+    {
+        match self.board.latest(self.number) {
+            Some(view) => view,
+            None => &self.opening,
+        }
+    }
+
+    /// The value of a key in the ledger's working block, as its `query` gives it.
+    pub fn query<R: Wait>(&self, rt: &R, key: &Key) -> Result<Option<Bytes>, Refusal>
+        ensures ok { OnALedger W.table W.genesis (λ ledger. IfOk result (λ value. value ≡ at text_cmp (path key.now) (image (state_of ledger).chain.records.core))) }
+        ensures err { IfErr result (λ refusal. refusal ≡ NoMemory) }
+    {
+        self.desk.lock(rt).ledger().query(key)
+    }
+
+    /// The proof of what a committed height has at a key, as the ledger's `query_proof` gives it.
+    pub fn query_proof<R: Wait>(&self, rt: &R, height: u64, key: &Key) -> Result<Proof, Refusal>
+        ensures ok { OnALedger W.table W.genesis (λ ledger. (IfOk result (λ proof. IsSomeAnd (provable ledger.genesis.window (state_of ledger).chain.committed height) (λ block. proof ≡ written (image block.records.core) (path key.now)))) × ((result ≡ Err NoConsensus) ↔ IsNone (provable ledger.genesis.window (state_of ledger).chain.committed height))) }
+        ensures err { IfErr result (λ refusal. (refusal ≡ NoConsensus) ⊎ (refusal ≡ NoMemory)) }
+    {
+        self.desk.lock(rt).ledger().query_proof(height, key)
+    }
+
+    /// The packet that was sent from an end of a channel under a sequence, as the ledger's `packet` gives it.
+    pub fn packet<R: Wait>(
+        &self,
+        rt: &R,
+        port: &PortId,
+        channel: &ChannelId,
+        sequence: u64,
+    ) -> Result<Option<Packet>, Refusal>
+        ensures ok { OnALedger W.table W.genesis (λ ledger. IfOk result (λ packet. packet ≡ packet_on ledger port.now channel.now sequence)) }
+        ensures err { IfErr result (λ refusal. refusal ≡ NoMemory) }
+    {
+        self.desk.lock(rt).ledger().packet(port, channel, sequence)
+    }
+
+    /// The acknowledgement that was written at an end of a channel for a sequence, as the ledger's `ack` gives it.
+    pub fn ack<R: Wait>(
+        &self,
+        rt: &R,
+        port: &PortId,
+        channel: &ChannelId,
+        sequence: u64,
+    ) -> Result<Option<Bytes>, Refusal>
+        ensures ok { OnALedger W.table W.genesis (λ ledger. IfOk result (λ ack. ack ≡ ack_on ledger port.now channel.now sequence)) }
+        ensures err { IfErr result (λ refusal. refusal ≡ NoMemory) }
+    {
+        self.desk.lock(rt).ledger().ack(port, channel, sequence)
+    }
+
+    /// Lends the entries of the ledger's history from a place on to `read`, none where the history ends before it, and gives
+    /// what it gives. The lock is held meanwhile.
+    pub fn events_from<R: Wait, T, F: FnOnce(&[StampedEntry]) -> T>(
+        &self,
+        rt: &R,
+        place: usize,
+        read: F,
+    ) -> T
+        requires { F.IsAlwaysCallable read }
+        ensures { OnALedger W.table W.genesis (λ ledger. (entries : List KeptEntry) × (map plain_entry entries ≡ drop place ledger.history) × FnOnceReturnsAt F.FnOnce read entries result) }
+    {
+        let guard = self.desk.lock(rt);
+        guard.ledger();
+        read(guard.entries_from(place))
+    }
+
+    /// The ledger, which is of the world's table and genesis. What each receipt of its chain's number claims
+    /// is so: it has that event with that reply at the place.
+    pub fn into_ledger(self, receipts: &mut [Receipt<W>]) -> Ledger
+        ensures world { IsOfWorld W.table W.genesis result }
+        ensures receipts { receipts.new ≡ receipts.old }
+        ensures held { All (λ r. r.chain ≡ result.ledger.chain → Holds result.ledger r) receipts.old }
+    {
+        let mut desk = self.desk.into_inner();
+        for k in 0..receipts.len() {
+            desk.find(&mut receipts[k]);
+        }
+        desk.into_ledger()
+    }
+}
+
+impl<W: World + Send + Sync> Gate for Chain<W> {
+    fn submit<R: Wait>(&self, rt: &R, message: Message) -> Reply {
+        Chain::submit(self, rt, message).into_reply()
+    }
+
+    fn produce<R: Wait>(&self, rt: &R, next_time: u64) -> Reply {
+        Chain::produce(self, rt, next_time).into_reply()
+    }
+
+    fn view(&self) -> &View {
+        Chain::view(self)
+    }
+
+    fn query<R: Wait>(&self, rt: &R, key: &Key) -> Result<Option<Bytes>, Refusal> {
+        Chain::query(self, rt, key)
+    }
+
+    fn query_proof<R: Wait>(&self, rt: &R, height: u64, key: &Key) -> Result<Proof, Refusal> {
+        Chain::query_proof(self, rt, height, key)
+    }
+
+    fn packet<R: Wait>(
+        &self,
+        rt: &R,
+        port: &PortId,
+        channel: &ChannelId,
+        sequence: u64,
+    ) -> Result<Option<Packet>, Refusal> {
+        Chain::packet(self, rt, port, channel, sequence)
+    }
+
+    fn ack<R: Wait>(
+        &self,
+        rt: &R,
+        port: &PortId,
+        channel: &ChannelId,
+        sequence: u64,
+    ) -> Result<Option<Bytes>, Refusal> {
+        Chain::ack(self, rt, port, channel, sequence)
+    }
+
+    fn events_from<R: Wait, T, F: FnOnce(&[StampedEntry]) -> T>(
+        &self,
+        rt: &R,
+        place: usize,
+        read: F,
+    ) -> T {
+        Chain::events_from(self, rt, place, read)
+    }
+}

@@ -1,0 +1,18 @@
+//! Ledgers that threads share: each under a lock, with receipts of what was answered, and a board of views that is read
+//! without a lock.
+#![tactic(auto)]
+
+mod board;
+mod book;
+mod chain;
+mod desk;
+mod gate;
+mod receipt;
+mod world;
+
+pub use board::Board;
+pub use book::Opened;
+pub use chain::Chain;
+pub use gate::Gate;
+pub use receipt::Receipt;
+pub use world::World;

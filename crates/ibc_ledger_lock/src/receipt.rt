@@ -1,0 +1,59 @@
+//! What a call on a shared ledger was answered.
+ghost use Rattle.std.specs.Prelude.{◌≡◌, ◌⊎◌, IsSome};
+ghost use Rattle.ibc_ids.specs.declared.refusal.Refusal.TheVariants.{NoMemory};
+ghost use Rattle.ibc_machine.specs.declared.reply.Reply.TheVariants as answer;
+
+use crate::book::Place;
+use crate::world::World;
+use ibc_machine::Reply;
+use std::marker::{Model, PhantomData};
+
+/// The reply of a call on a chain of the world. Contracts see, where it isn't `NoMemory`, the place at which the chain's
+/// history has the reply, and the event that stands there.
+#[derive(Drop)]
+pub struct Receipt<W: World> {
+    pub(crate) chain: u8,
+    pub(crate) reply: Reply,
+    pub(crate) seat: Option<Place>,
+    pub(crate) of: PhantomData<W>,
+}
+
+impl<W: World> Model for Receipt<W> {
+    ghost use Rattle.std.specs.Prelude.{◌≡◌, ◌⊎◌, [], IfSome, IsNone, IsSome};
+    ghost use Rattle.std.specs.Option.{option_map};
+    ghost use Rattle.ibc_ids.specs.declared.refusal.Refusal.TheVariants.{NoMemory};
+    ghost use Rattle.ibc_machine.specs.declared.reply.Reply.TheVariants as answer;
+    ghost use Rattle.ibc_ledger_lock.specs.Books.{claim};
+    ghost use Rattle.ibc_ledger_lock.specs.Worlds.{Told};
+
+    ghost Value = { Told };
+
+    ghost view = { λ r. record { chain = r.chain; reply = r.reply; claim = option_map (λ c. record { place = c.me.0.place; event = c.me.0.entry.0 }) r.seat } };
+
+    ghost invariant = { λ r. (((r.reply ≡ answer.No NoMemory) × IsNone r.seat) ⊎ ((r.reply ≡ answer.No NoMemory → ⊥) × IsSome r.seat))
+        × IfSome r.seat (λ c. (c.table_id ≡ W.book r.chain) × (c.me ≡ (claim c.me.0.place (c.me.0.entry.0, r.reply), []))) };
+}
+
+impl<W: World> Receipt<W> {
+    /// The number of the chain.
+    pub fn chain(&self) -> u8
+        ensures { result ≡ self.now.chain }
+    {
+        self.chain
+    }
+
+    /// The reply. Where it isn't `NoMemory`, the history of the chain has it.
+    pub fn reply(&self) -> &Reply
+        ensures reply { result.now ≡ self.now.reply }
+        ensures claimed { (self.now.reply ≡ answer.No NoMemory) ⊎ IsSome self.now.claim }
+    {
+        &self.reply
+    }
+
+    /// The reply, taken out.
+    pub fn into_reply(self) -> Reply
+        ensures { result ≡ self.reply }
+    {
+        self.reply
+    }
+}
