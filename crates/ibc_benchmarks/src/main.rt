@@ -1,12 +1,16 @@
 //! Makes one kind of call many times over, so that it can be timed from outside: `ibc_benchmarks CALL COUNT THREADS`.
 #![tactic(auto)]
 
+mod blocks;
 mod counting;
 mod messages;
+mod plans;
 mod proofs;
 mod table;
 
+use crate::blocks::{commit_changes, commit_inserts};
 use crate::messages::decode_messages;
+use crate::plans::make_plans;
 use crate::proofs::{decode_proofs, hash_texts, verify_proofs};
 use crate::table::{TableCall, call_table};
 use ibc_ids::Refusal;
@@ -27,6 +31,9 @@ enum Call {
     Decode,
     Message,
     Hash,
+    Plan,
+    Change,
+    Insert,
 }
 
 impl Call {
@@ -40,12 +47,15 @@ impl Call {
             "decode" => Some(Call::Decode),
             "message" => Some(Call::Message),
             "hash" => Some(Call::Hash),
+            "plan" => Some(Call::Plan),
+            "change" => Some(Call::Change),
+            "insert" => Some(Call::Insert),
             _ => None,
         }
     }
 }
 
-/// What is asked for: a call, how often, and from how many threads.
+/// What is asked for: a call, how often, and from how many threads; a plan, after how many thousand packets.
 #[derive(Clone, Copy, Debug, PartialEq, Eq, Drop)]
 struct Benchmark {
     call: Call,
@@ -92,6 +102,9 @@ fn run<R: Threads + Sync>(rt: &R, alloc: Global, asked: Benchmark) -> Result<u64
         Call::Decode => decode_proofs(alloc, count),
         Call::Message => decode_messages(alloc, count),
         Call::Hash => Ok(hash_texts(count)),
+        Call::Plan => make_plans(alloc, u64::from(threads.get()) * 1000, count),
+        Call::Change => commit_changes(alloc, u64::from(threads.get()) * 1000, count),
+        Call::Insert => commit_inserts(alloc, count),
     }
 }
 
@@ -104,7 +117,7 @@ fn main(rt: HostRuntime) -> io::Result<()> {
     let words: Vec<&str> = texts.iter().map(|word| word.as_str()).collect(alloc)?;
     let Some(asked) = read_words(words.as_slice()) else {
         return println!(rt;
-            "ibc_benchmarks publish|published|row|verify|decode|message|hash COUNT THREADS"
+            "ibc_benchmarks publish|published|row|verify|decode|message|hash|insert COUNT THREADS, or plan|change COUNT THOUSANDS"
         );
     };
     match run(&rt, alloc, asked) {

@@ -1,13 +1,11 @@
 //! Calls that judge proofs.
 
-ghost use Rattle.std.specs.Prelude.{◌<◌, length, IfOk, OnOk};
-
+use crate::blocks::{key_of, store_of};
 use crate::counting::count_right;
 use ibc_codec::{decode, encode};
 use ibc_ics23_proof::verify_present;
-use ibc_ids::{Bytes, Key, Refusal, Root, nth_connection};
+use ibc_ids::{Refusal, Root};
 use ibc_merkle::Proof;
-use ibc_path_store::Store;
 use sha2::{Digest, Sha256};
 use std::alloc::Global;
 
@@ -25,33 +23,9 @@ struct Proved {
     proof: Proof,
 }
 
-fn key_of(alloc: Global, number: u64) -> Result<Key, Refusal> {
-    Ok(Key::Connection(nth_connection(alloc, number)?))
-}
-
-#[tactic(auto, using(ibc_merkle::proofs::Edits::with_some))]
-fn set_leaf(alloc: Global, store: &mut Store, number: u64) -> Result<(), Refusal>
-    ensures { OnOk result (0 < length store.new.pairs) }
-{
-    let path = key_of(alloc, number)?.path(alloc)?;
-    store.set(path, Bytes::copy_of(alloc, VALUE.as_slice())?)
-}
-
-// The store of a chain with a value for each of so many connections.
-fn fill_store(alloc: Global) -> Result<Store, Refusal>
-    ensures { IfOk result (λ store. 0 < length store.pairs) }
-{
-    let mut store = Store::new(alloc, 1, 0);
-    set_leaf(alloc, &mut store, 0)?;
-    for number in 1..LEAVES {
-        set_leaf(alloc, &mut store, number)?;
-    }
-    Ok(store)
-}
-
 // The leaf in the middle, committed, with its proof of 14 operations.
 fn prove_one(alloc: Global) -> Result<Proved, Refusal> {
-    let mut store = fill_store(alloc)?;
+    let mut store = store_of(alloc, 1, LEAVES, VALUE.as_slice())?;
     let root = store.commit(0)?;
     let key = key_of(alloc, LEAVES / 2)?;
     Ok(Proved {

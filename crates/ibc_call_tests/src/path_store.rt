@@ -4,7 +4,8 @@ ghost use Rattle.std.specs.Prelude.{◌≡◌, ◌<◌, length, IfOk};
 
 use crate::genesis::GENESIS_ROOT;
 use ibc_ids::{Bytes, Key, Refusal};
-use ibc_path_store::Store;
+use ibc_merkle::Proof;
+use ibc_path_store::{Store, Tree};
 use std::alloc::Global;
 
 // Sets a counter to 0.
@@ -95,4 +96,70 @@ fn set_back(alloc: Global) -> Result<Option<Refusal>, Refusal> {
 #[test]
 fn time_goes_forward(rt: HostRuntime) {
     assert!(rt; set_back(rt.alloc()) == Ok(Some(Refusal::TimeBack)));
+}
+
+// Why there is no tree of a height, or none.
+fn no_tree(store: &Store, height: u64) -> Option<Refusal> {
+    store.snapshot(height).err()
+}
+
+// The tree of the second height of a new chain in a window of one, whose store is gone, and why there is none at the
+// heights 0, 1 and 3.
+fn second_tree(alloc: Global) -> Result<(Tree, [Option<Refusal>; 3]), Refusal> {
+    let mut store = Store::new(alloc, 1, 100);
+    set_counters(alloc, &mut store)?;
+    commit_twice(&mut store)?;
+    let refusals = [no_tree(&store, 0), no_tree(&store, 1), no_tree(&store, 3)];
+    Ok((store.snapshot(2)?, refusals))
+}
+
+// Whether the tree proves that the counter of clients is 0, and the refusals.
+fn trees(alloc: Global) -> Result<(bool, [Option<Refusal>; 3]), Refusal> {
+    let (tree, refusals) = second_tree(alloc)?;
+    let is_zero = match tree.prove(alloc, b"nextClientSequence".as_slice())? {
+        Proof::Present(presence) => presence.value.as_slice() == [0; 8].as_slice(),
+        Proof::Absent(_) => false,
+    };
+    Ok((is_zero, refusals))
+}
+
+#[test]
+fn a_tree_outlives_its_store(rt: HostRuntime) {
+    let gone = Some(Refusal::NoConsensus);
+    assert!(rt; trees(rt.alloc()) == Ok((true, [gone, gone, gone])));
+}
+
+// Commits a height: how many texts are hashed for it.
+fn hashed(store: &mut Store) -> Result<u64, Refusal>
+    requires { 0 < length store.old.pairs }
+    ensures { IfOk result (λ _. store.new.pairs ≡ store.old.pairs) }
+{
+    let before = store.digests();
+    store.commit(100)?;
+    Ok(store.digests().saturating_sub(before))
+}
+
+// Sets another value and commits a height: how many texts are hashed for it.
+#[tactic(auto, using(ibc_merkle::proofs::Edits::with_some))]
+fn hashed_after(alloc: Global, store: &mut Store, path: &str) -> Result<u64, Refusal> {
+    let value = Bytes::copy_of(alloc, [1; 8].as_slice())?;
+    store.set(String::from_str(alloc, path)?, value)?;
+    hashed(store)
+}
+
+// How many texts are hashed for the first height of a new chain, for one without a change, and for those with another
+// value of the second key and of the third.
+fn all_hashed(alloc: Global) -> Result<[u64; 4], Refusal> {
+    let mut store = Store::new(alloc, 4, 100);
+    set_counters(alloc, &mut store)?;
+    let first = hashed(&mut store)?;
+    let unchanged = hashed(&mut store)?;
+    let second = hashed_after(alloc, &mut store, "nextClientSequence")?;
+    let third = hashed_after(alloc, &mut store, "nextConnectionSequence")?;
+    Ok([first, unchanged, second, third])
+}
+
+#[test]
+fn unchanged_nodes_are_not_hashed_again(rt: HostRuntime) {
+    assert!(rt; all_hashed(rt.alloc()) == Ok([8, 0, 4, 3]));
 }

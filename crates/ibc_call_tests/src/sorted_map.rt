@@ -34,3 +34,17 @@ fn kept(alloc: Global) -> Result<(bool, [Option<u64>; 3], usize), AllocError> {
 fn numbers_in_their_order(rt: HostRuntime) {
     assert!(rt; kept(rt.alloc()) == Ok((true, [Some(4), None, Some(30)], 2)));
 }
+
+// Whether a copy has the entries, and keeps them when the map goes on.
+fn is_copied(alloc: Global) -> Result<bool, AllocError> {
+    let mut map = SortedMap::new(alloc);
+    fill(&mut map)?;
+    let copy = map.copy()?;
+    let _removed = remove(&mut map);
+    Ok(copy.entries() == [(2, 20), (41, 4), (300, 30)].as_slice())
+}
+
+#[test]
+fn a_copy_is_a_map_of_its_own(rt: HostRuntime) {
+    assert!(rt; is_copied(rt.alloc()) == Ok(true));
+}

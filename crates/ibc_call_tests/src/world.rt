@@ -1,10 +1,10 @@
-//! A world that is asked for a list of events.
+//! A world that is asked for a list of events, and its ledgers, which are gathered and audited.
 
 use crate::genesis::GENESIS_ROOT;
-use ibc_ids::Refusal;
+use ibc_ids::{Account, Denom, Refusal, UserName};
 use ibc_machine::{ChainStart, Effect, Event, Genesis, Reply};
 use ibc_wire::{CreateClient, Message};
-use ibc_world_core::World;
+use ibc_world_core::{Audit, World, audit};
 use std::alloc::Global;
 
 // A chain on which no one holds anything.
@@ -89,4 +89,81 @@ fn run(alloc: Global) -> Result<bool, Refusal> {
 #[test]
 fn events_are_answered_in_their_order(rt: HostRuntime) {
     assert!(rt; run(rt.alloc()) == Ok(true));
+}
+
+// A chain on which alice holds 1000 atom.
+fn alices(alloc: Global) -> Result<ChainStart, Refusal> {
+    let alice = UserName::parse(alloc, "alice")?;
+    let atom = Denom::parse(alloc, "atom")?;
+    Ok(ChainStart {
+        time: 100,
+        balances: vec![in alloc; (alice, atom, 1000)]?,
+    })
+}
+
+// The beginning of two chains, on the second of which alice holds 1000 atom.
+fn holding(alloc: Global) -> Result<Genesis, Refusal> {
+    Ok(Genesis {
+        capacity: 64,
+        window: 4,
+        chains: vec![in alloc; start(alloc), alices(alloc)?]?,
+    })
+}
+
+// Whether they are alice's 1000 atom.
+fn are_alices(list: &[(Account, Denom, u128)]) -> bool {
+    match list {
+        [(Account::User(user), denom, amount)] => {
+            user.as_str() == "alice" && denom.as_str() == "atom" && *amount == 1000
+        }
+        _ => false,
+    }
+}
+
+// Whether it tells that the first chain has nothing and the second alice's atom, and that there are no notes.
+fn is_due(audit: &Audit) -> bool {
+    let balances = match audit.balances.as_slice() {
+        [first, second] => first.is_empty() && are_alices(second.as_slice()),
+        _ => false,
+    };
+    let notes = match audit.notes.as_slice() {
+        [first, second] => first.is_empty() && second.is_empty(),
+        _ => false,
+    };
+    balances && notes
+}
+
+// Whether the ledgers of a world that was asked for some events are told of so.
+fn gathered(alloc: Global) -> Result<bool, Refusal> {
+    let mut world = World::new(alloc, &holding(alloc)?)?;
+    let events = vec![in alloc; create(), block(1, 100), block(0, 99)]?;
+    if world.run(events).is_err() {
+        return Err(Refusal::NoMemory);
+    }
+    Ok(is_due(&audit(alloc, world.into_ledgers())?))
+}
+
+#[test]
+fn ledgers_are_gathered_and_audited(rt: HostRuntime) {
+    assert!(rt; gathered(rt.alloc()) == Ok(true));
+}
+
+// What is answered where there are no ledgers, and where the second chain's is missing.
+fn not_gathered(alloc: Global) -> Result<[bool; 2], Refusal> {
+    let mut ledgers = World::new(alloc, &holding(alloc)?)?.into_ledgers();
+    let last = ledgers.pop();
+    drop(last);
+    let none = audit(alloc, Vec::new(alloc));
+    let one = audit(alloc, ledgers);
+    Ok([is_bad(&none), is_bad(&one)])
+}
+
+// Whether it is the refusal that a chain is missing or twice.
+fn is_bad(answer: &Result<Audit, Refusal>) -> bool {
+    matches!(answer, Err(Refusal::BadMessage))
+}
+
+#[test]
+fn worlds_with_a_chain_missing_are_refused(rt: HostRuntime) {
+    assert!(rt; not_gathered(rt.alloc()) == Ok([true, true]));
 }
