@@ -10,8 +10,6 @@ mod connection;
 #[cfg(test)]
 mod genesis;
 #[cfg(test)]
-mod pair;
-#[cfg(test)]
 mod path_store;
 #[cfg(test)]
 mod records;
@@ -19,8 +17,6 @@ mod records;
 mod sorted_map;
 #[cfg(test)]
 mod token_data;
-#[cfg(test)]
-mod totals;
 #[cfg(test)]
 mod transfer;
 #[cfg(test)]
