@@ -10,6 +10,8 @@ mod connection;
 #[cfg(test)]
 mod genesis;
 #[cfg(test)]
+mod pair;
+#[cfg(test)]
 mod path_store;
 #[cfg(test)]
 mod records;
@@ -17,6 +19,8 @@ mod records;
 mod sorted_map;
 #[cfg(test)]
 mod token_data;
+#[cfg(test)]
+mod totals;
 #[cfg(test)]
 mod transfer;
 #[cfg(test)]
