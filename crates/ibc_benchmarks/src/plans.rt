@@ -58,8 +58,16 @@ impl<'c> Worlds for PlannedWorlds<'c> {
 
 // A transfer of one token.
 fn one_token(chain: u8, transfer: &Transfer) -> Result<Event, Refusal> {
-    let mut one = transfer.clone()?;
-    one.amount = 1;
+    let one = Transfer {
+        amount: 1,
+        timeout_height: transfer.timeout_height,
+        timeout_time: transfer.timeout_time,
+        channel: transfer.channel.clone()?,
+        user: transfer.user.clone()?,
+        denom: transfer.denom.clone()?,
+        receiver: transfer.receiver.clone()?,
+        memo: transfer.memo.clone()?,
+    };
     Ok(Event::Message {
         chain,
         message: Message::Transfer(one),

@@ -7,7 +7,7 @@ use crate::{ChannelId, ClientId, ConnectionId, PortId, Refusal};
 use std::alloc::Global;
 
 /// A key, one variant a path (ICS 24, "Path-space"). Sequences count from 1.
-#[derive(Clone, Drop, Debug, PartialEq, Eq)]
+#[derive(Drop, PartialEq, Eq)]
 pub enum Key {
     /// The state of a client.
     ClientState(ClientId),

@@ -4,7 +4,6 @@
 mod entry;
 mod hashing;
 mod laws;
-mod merkle_tree;
 mod proof;
 mod search;
 mod steps;
@@ -14,7 +13,6 @@ mod writing;
 pub use entry::Entry;
 pub use hashing::{hash_inner, hash_leaf, hash_value};
 pub use laws::{accepted_is_written, written_is_accepted};
-pub use merkle_tree::MerkleTree;
 pub use proof::{Absence, Operation, Operations, Presence, Proof};
 pub use search::place;
 pub use steps::Steps;

@@ -6,11 +6,10 @@ ghost use Rattle.std.specs.Cmp.Lexicographic.{pointwise, lists_equiv, nat_list_e
 ghost use Rattle.std.specs.Ordering.{on, eq_of_both};
 
 use ibc_ids::Bytes;
-use std::alloc::AllocError;
 use std::marker::Model;
 
 /// One inner operation (ICS 23, "InnerOp"): it hashes the prefix, the child's hash and the suffix.
-#[derive(Clone, Drop, Debug, PartialEq, Eq)]
+#[derive(Drop, Debug, PartialEq, Eq)]
 pub struct Operation {
     pub prefix: Bytes,
     pub suffix: Bytes,
@@ -47,16 +46,6 @@ impl Operations {
     }
 }
 
-impl Clone for Operations {
-    ghost is_clone = { λ operations copy. copy ≡ operations };
-
-    fn clone(&self) -> Result<Operations, AllocError> {
-        Ok(Operations {
-            items: self.items.clone()?,
-        })
-    }
-}
-
 impl PartialEq for Operations {
     ghost eq = { pointwise (eq_of_both (on (λ operation. operation.prefix) bytes_eq) (on (λ operation. operation.suffix) bytes_eq)) };
 
@@ -72,7 +61,7 @@ impl Eq for Operations {
 }
 
 /// That a key has a value (ICS 23, "ExistenceProof").
-#[derive(Clone, Drop, Debug, PartialEq, Eq)]
+#[derive(Drop, Debug, PartialEq, Eq)]
 pub struct Presence {
     pub key: Bytes,
     pub value: Bytes,
@@ -82,7 +71,7 @@ pub struct Presence {
 
 /// That a key isn't there (ICS 23, "NonExistenceProof"): its neighbours are, and nothing stands between them. A
 /// neighbour is missing before the first key and behind the last.
-#[derive(Clone, Drop, Debug, PartialEq, Eq)]
+#[derive(Drop, Debug, PartialEq, Eq)]
 pub struct Absence {
     pub key: Bytes,
     pub left: Option<Presence>,
@@ -90,7 +79,7 @@ pub struct Absence {
 }
 
 /// A proof that a key has a value, or that it isn't there (ICS 23, "CommitmentProof").
-#[derive(Clone, Drop, Debug, PartialEq, Eq)]
+#[derive(Drop, Debug, PartialEq, Eq)]
 pub enum Proof {
     /// The key has the value.
     Present(Presence),

@@ -19,8 +19,7 @@ use ibc_ids::{Bytes, Refusal};
 use std::alloc::{AllocError, Global};
 
 /// The proof of what pairs have at a key: of its presence where it is among them, and of its absence where not. The
-/// keys strictly rise in byte order. `NoMemory` where a growth is refused. All pairs are hashed: whoever asks for more
-/// than one proof keeps a `MerkleTree`.
+/// keys strictly rise in byte order. `NoMemory` where a growth is refused. All pairs are hashed.
 pub fn prove(alloc: Global, entries: &[Entry], key: &[u8]) -> Result<Proof, Refusal>
     requires { IsTrue (is_sorted text_cmp entries.now) }
     ensures ok { IfOk result (λ proof. proof ≡ written entries.now key.now) }
@@ -31,7 +30,7 @@ pub fn prove(alloc: Global, entries: &[Entry], key: &[u8]) -> Result<Proof, Refu
 }
 
 // The proof of what pairs have at a key, by the digests of their tree.
-pub(crate) fn prove_by(
+fn prove_by(
     alloc: Global,
     entries: &[Entry],
     digests: &[[u8; 32]],

@@ -14,7 +14,7 @@ const LONGEST: usize = 1_024;
 
 /// Room for an acknowledgement of at most 1,024 bytes twice, and for what stands at its path. Contracts see how long it
 /// may be.
-#[derive(Drop, Debug)]
+#[derive(Drop)]
 pub struct AckRoom {
     reply: Vec<u8>,
     copy: Vec<u8>,
@@ -33,7 +33,7 @@ impl Model for AckRoom {
 
 /// An acknowledgement twice, to be told and to be kept, and what stands at its path (ICS 4, "Packet
 /// acknowledgement").
-#[derive(Drop, Debug)]
+#[derive(Drop)]
 pub struct AckCopies {
     pub reply: Bytes,
     pub copy: Bytes,

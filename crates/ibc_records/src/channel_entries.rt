@@ -15,7 +15,7 @@ use std::marker::Model;
 
 /// The end of a new channel, its three counters, and the number of the next channel, each a path with the bytes that stand
 /// there.
-#[derive(Drop, Debug)]
+#[derive(Drop)]
 pub struct ChannelEntries {
     end: (String, Bytes),
     next_send: (String, Bytes),

@@ -40,7 +40,7 @@ pub struct NextNumbers {
 }
 
 /// What a chain proves to others, in plain, and the store of paths that is its image (ICS 24, "Provable store").
-#[derive(Drop, Debug)]
+#[derive(Drop)]
 pub struct Records {
     clients: BTreeMap<ClientId, Client>,
     connections: BTreeMap<ConnectionId, ConnectionEnd>,

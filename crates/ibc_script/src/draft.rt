@@ -15,7 +15,7 @@ pub struct Origin {
 }
 
 /// A message for clients (ICS 2).
-#[derive(Drop, Debug)]
+#[derive(Drop)]
 pub enum ClientDraft {
     /// A client is made of a chain.
     Create { of: u8 },
@@ -24,7 +24,7 @@ pub enum ClientDraft {
 }
 
 /// A message for connections (ICS 3).
-#[derive(Drop, Debug)]
+#[derive(Drop)]
 pub enum ConnectionDraft {
     /// A connection is begun.
     OpenInit {
@@ -52,7 +52,7 @@ pub enum ConnectionDraft {
 }
 
 /// The answer to a channel that the peer began, without its proof.
-#[derive(Drop, Debug)]
+#[derive(Drop)]
 pub struct ChannelTry {
     pub port: PortId,
     pub order: Order,
@@ -64,7 +64,7 @@ pub struct ChannelTry {
 }
 
 /// A message for channels (ICS 4).
-#[derive(Drop, Debug)]
+#[derive(Drop)]
 pub enum ChannelDraft {
     /// A channel is begun.
     OpenInit(ChanOpenInit),
@@ -95,7 +95,7 @@ pub enum ChannelDraft {
 
 /// A packet, by the chain, the port and the channel that it was sent from, and its sequence there (ICS 4, "Packet").
 /// There may be no such packet.
-#[derive(Drop, Debug)]
+#[derive(Drop)]
 pub struct SentPacket {
     pub chain: u8,
     pub port: PortId,
@@ -104,7 +104,7 @@ pub struct SentPacket {
 }
 
 /// A message for packets (ICS 4, "Packet flow & handling").
-#[derive(Drop, Debug)]
+#[derive(Drop)]
 pub enum PacketDraft {
     /// Tokens of one denomination are sent (ICS 20).
     Transfer(Transfer),
@@ -123,7 +123,7 @@ pub enum PacketDraft {
 }
 
 /// A message as a step of a script names it. Its other fields come from what the chains answer when the step is run.
-#[derive(Drop, Debug)]
+#[derive(Drop)]
 pub enum Draft {
     Client(ClientDraft),
     Connection(ConnectionDraft),

@@ -7,7 +7,7 @@ use ibc_wire::TransferMany;
 
 /// A transfer of several tokens (ICS 20) whose list is one that a message may name: 1 to 8 tokens, whose denominations
 /// rise strictly in byte order.
-#[derive(Drop, Debug)]
+#[derive(Drop)]
 pub struct ListedTransfer {
     pub message: TransferMany,
     ghost listed: { IsTrue (is_listed message.tokens) },

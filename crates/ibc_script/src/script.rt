@@ -21,7 +21,7 @@ pub const MOST_TURNS: u16 = 1_000;
 pub const MOST_STEPS: usize = 10_000;
 
 /// A step of a script. Chains are numbers: their places in the script, from 0.
-#[derive(Drop, Debug)]
+#[derive(Drop)]
 pub enum Step {
     /// The chain is sent a message.
     Message {
@@ -67,7 +67,7 @@ pub enum Step {
 
 /// A script: how the world begins, the names of its chains in their order, and the steps. The genesis may still be
 /// one that no world begins with.
-#[derive(Drop, Debug)]
+#[derive(Drop)]
 pub struct Script {
     pub genesis: Genesis,
     pub names: Vec<ChainName>,

@@ -8,8 +8,8 @@ ghost use Rattle.ibc_ids.specs.Texts.{text_cmp};
 use ibc_ics23_proof::verify_absent;
 use ibc_ids::{Bytes, Refusal};
 use ibc_merkle::{
-    Entry, MerkleTree, Presence, Proof, Steps, hash_inner, hash_leaf, hash_value, place,
-    prove_absent, prove_present, root, split_of,
+    Entry, Presence, Proof, Steps, hash_inner, hash_leaf, hash_value, place, prove, prove_absent,
+    prove_present, root, split_of,
 };
 use std::alloc::{AllocError, Global};
 
@@ -137,13 +137,6 @@ fn proofs_of_both_kinds(rt: HostRuntime) {
     assert!(rt; proves_an_absence(rt.alloc()) == Ok(true));
 }
 
-// The tree of a new chain, with its digests.
-fn new_tree(alloc: Global) -> Result<MerkleTree, AllocError>
-    ensures { IfOk result (λ tree. 0 < length tree) }
-{
-    MerkleTree::of(alloc, new_chain(alloc)?)
-}
-
 // The key of a neighbour, empty where there is none.
 fn key_of(neighbour: &Option<Presence>) -> &[u8] {
     match neighbour {
@@ -163,9 +156,9 @@ fn has_neighbours(proof: &Proof, left: &str, right: &str) -> bool {
 
 // Whether a key is proved to be absent from a new chain by these neighbours, and the proof is accepted.
 fn stands_between(alloc: Global, left: &str, key: &str, right: &str) -> Result<bool, Refusal> {
-    let tree = new_tree(alloc)?;
-    let proof = tree.prove(alloc, key.as_bytes())?;
-    let is_accepted = verify_absent(&proof, &tree.root(), key.as_bytes());
+    let entries = new_chain(alloc)?;
+    let proof = prove(alloc, entries.as_slice(), key.as_bytes())?;
+    let is_accepted = verify_absent(&proof, &root(entries.as_slice()), key.as_bytes());
     let stands_between = is_accepted && has_neighbours(&proof, left, right);
     drop(proof);
     Ok(stands_between)

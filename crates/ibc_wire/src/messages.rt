@@ -9,29 +9,30 @@ use crate::{ClientState, Header, Order, Packet, Tokens};
 use ibc_ids::{
     Bytes, ChannelId, ClientId, ConnectionId, Denom, Memo, PortId, Receiver, UserName, Version,
 };
+use std::fmt;
 
 /// Makes a client of another chain, by its number (ICS 2, "createClient").
-#[derive(Drop, Debug, PartialEq, Eq)]
+#[derive(Drop)]
 pub struct CreateClient {
     pub chain: u8,
 }
 
 /// Tells a client of a height of the chain that it tracks (ICS 2, "updateClient").
-#[derive(Drop, Debug, PartialEq, Eq)]
+#[derive(Drop)]
 pub struct UpdateClient {
     pub client: ClientId,
     pub header: Header,
 }
 
 /// Begins a connection (ICS 3, "ConnOpenInit").
-#[derive(Drop, Debug, PartialEq, Eq)]
+#[derive(Drop)]
 pub struct ConnOpenInit {
     pub client: ClientId,
     pub peer_client: ClientId,
 }
 
 /// Answers a connection that the peer began (ICS 3, "ConnOpenTry"). The claim is the state of the peer's client.
-#[derive(Drop, Debug, PartialEq, Eq)]
+#[derive(Drop)]
 pub struct ConnOpenTry {
     pub client: ClientId,
     pub peer_client: ClientId,
@@ -43,7 +44,7 @@ pub struct ConnOpenTry {
 }
 
 /// Opens a connection that the peer answered (ICS 3, "ConnOpenAck").
-#[derive(Drop, Debug, PartialEq, Eq)]
+#[derive(Drop)]
 pub struct ConnOpenAck {
     pub connection: ConnectionId,
     pub peer_connection: ConnectionId,
@@ -54,7 +55,7 @@ pub struct ConnOpenAck {
 }
 
 /// Opens a connection that the peer opened (ICS 3, "ConnOpenConfirm").
-#[derive(Drop, Debug, PartialEq, Eq)]
+#[derive(Drop)]
 pub struct ConnOpenConfirm {
     pub connection: ConnectionId,
     pub height: u64,
@@ -62,7 +63,7 @@ pub struct ConnOpenConfirm {
 }
 
 /// Begins a channel (ICS 4, "chanOpenInit").
-#[derive(Clone, Drop, Debug, PartialEq, Eq)]
+#[derive(Drop)]
 pub struct ChanOpenInit {
     pub port: PortId,
     pub order: Order,
@@ -72,7 +73,7 @@ pub struct ChanOpenInit {
 }
 
 /// Answers a channel that the peer began (ICS 4, "chanOpenTry").
-#[derive(Drop, Debug, PartialEq, Eq)]
+#[derive(Drop)]
 pub struct ChanOpenTry {
     pub port: PortId,
     pub order: Order,
@@ -85,7 +86,7 @@ pub struct ChanOpenTry {
 }
 
 /// Opens a channel that the peer answered (ICS 4, "chanOpenAck").
-#[derive(Drop, Debug, PartialEq, Eq)]
+#[derive(Drop)]
 pub struct ChanOpenAck {
     pub port: PortId,
     pub channel: ChannelId,
@@ -95,7 +96,7 @@ pub struct ChanOpenAck {
 }
 
 /// Opens a channel that the peer opened (ICS 4, "chanOpenConfirm").
-#[derive(Drop, Debug, PartialEq, Eq)]
+#[derive(Drop)]
 pub struct ChanOpenConfirm {
     pub port: PortId,
     pub channel: ChannelId,
@@ -104,14 +105,14 @@ pub struct ChanOpenConfirm {
 }
 
 /// Closes a channel (ICS 4, "chanCloseInit").
-#[derive(Clone, Drop, Debug, PartialEq, Eq)]
+#[derive(Drop)]
 pub struct ChanCloseInit {
     pub port: PortId,
     pub channel: ChannelId,
 }
 
 /// Closes a channel that the peer closed (ICS 4, "chanCloseConfirm").
-#[derive(Drop, Debug, PartialEq, Eq)]
+#[derive(Drop)]
 pub struct ChanCloseConfirm {
     pub port: PortId,
     pub channel: ChannelId,
@@ -120,7 +121,7 @@ pub struct ChanCloseConfirm {
 }
 
 /// Sends tokens of one denomination (ICS 20, "sendFungibleTokens").
-#[derive(Clone, Drop, Debug, PartialEq, Eq)]
+#[derive(Drop)]
 pub struct Transfer {
     pub channel: ChannelId,
     pub user: UserName,
@@ -133,7 +134,7 @@ pub struct Transfer {
 }
 
 /// Sends several tokens in one packet (ICS 20): 1 to 8, whose denominations rise strictly in byte order.
-#[derive(Clone, Drop, Debug, PartialEq, Eq)]
+#[derive(Drop)]
 pub struct TransferMany {
     pub channel: ChannelId,
     pub user: UserName,
@@ -145,7 +146,7 @@ pub struct TransferMany {
 }
 
 /// Sends a note, 1 to 1,024 bytes, over a channel of port `note`.
-#[derive(Clone, Drop, Debug, PartialEq, Eq)]
+#[derive(Drop)]
 pub struct SendNote {
     pub channel: ChannelId,
     pub payload: Bytes,
@@ -154,7 +155,7 @@ pub struct SendNote {
 }
 
 /// Receives a packet that the peer sent (ICS 4, "recvPacket").
-#[derive(Drop, Debug, PartialEq, Eq)]
+#[derive(Drop)]
 pub struct RecvPacket {
     pub packet: Packet,
     pub height: u64,
@@ -162,7 +163,7 @@ pub struct RecvPacket {
 }
 
 /// Tells the sender how the peer acknowledged its packet (ICS 4, "acknowledgePacket").
-#[derive(Drop, Debug, PartialEq, Eq)]
+#[derive(Drop)]
 pub struct AckPacket {
     pub packet: Packet,
     pub ack: Bytes,
@@ -172,7 +173,7 @@ pub struct AckPacket {
 
 /// Tells the sender that the peer hasn't received its packet in time (ICS 4, "timeoutPacket"). On an ordered
 /// channel `next_recv` is the sequence that the peer receives next; on an unordered one it is ignored.
-#[derive(Drop, Debug, PartialEq, Eq)]
+#[derive(Drop)]
 pub struct Timeout {
     pub packet: Packet,
     pub next_recv: u64,
@@ -182,7 +183,7 @@ pub struct Timeout {
 
 /// Tells the sender that the peer hasn't received its packet, and that the peer's end is closed (ICS 4,
 /// "timeoutOnClose").
-#[derive(Drop, Debug, PartialEq, Eq)]
+#[derive(Drop)]
 pub struct TimeoutOnClose {
     pub packet: Packet,
     pub next_recv: u64,
@@ -192,7 +193,7 @@ pub struct TimeoutOnClose {
 }
 
 /// A message. Each of its refusals has a number and leaves the state as before.
-#[derive(Drop, Debug, PartialEq, Eq)]
+#[derive(Drop)]
 pub enum Message {
     CreateClient(CreateClient),
     UpdateClient(UpdateClient),
@@ -213,6 +214,13 @@ pub enum Message {
     Timeout(Timeout),
     TimeoutOnClose(TimeoutOnClose),
     TransferMany(TransferMany),
+}
+
+/// The name of its kind: what a message carries is read from its fields.
+impl fmt::Debug for Message {
+    fn fmt<W: fmt::Write>(&self, f: &mut fmt::Formatter<W>) -> fmt::Result {
+        f.write_str(self.kind().name())
+    }
 }
 
 /// The kinds of messages, by their tags.
