@@ -137,7 +137,9 @@ impl View {
         };
         let path = key.path(alloc)?;
         let proof = tree.prove(alloc, path.as_bytes())?;
-        Ok(Bytes::from_vec(encode(alloc, &proof)?))
+        let bytes = encode(alloc, &proof);
+        drop(proof);
+        Ok(Bytes::from_vec(bytes?))
     }
 }
 
