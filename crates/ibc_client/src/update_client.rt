@@ -22,7 +22,7 @@ use ibc_root_table::{Pass, RootTable};
 use ibc_wire::UpdateClient;
 
 /// What became of an update, and what it read of the chain that the client tracks, where it looked.
-#[derive(Drop, Debug)]
+#[derive(Drop)]
 pub struct Updated {
     pub result: Result<(), Refusal>,
     pub reading: Option<Reading>,

@@ -14,7 +14,7 @@ use ibc_transfer::Transfers;
 use std::alloc::{AllocError, Global};
 
 /// What the applications of a chain keep (ICS 24, "Private store").
-#[derive(Drop, Debug)]
+#[derive(Drop)]
 pub struct Applications {
     pub transfers: Transfers,
     pub notes: Notes,

@@ -7,7 +7,7 @@ use std::alloc::{AllocError, Global};
 use std::marker::Model;
 
 /// Notes in the order in which they came.
-#[derive(Drop, Debug)]
+#[derive(Drop)]
 pub struct NoteList {
     items: Vec<Bytes>,
 }

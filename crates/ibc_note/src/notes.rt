@@ -18,7 +18,7 @@ use std::collections::BTreeMap;
 use std::marker::Model;
 
 /// The notes that came over each channel, in the order in which they came.
-#[derive(Drop, Debug)]
+#[derive(Drop)]
 pub struct Notes {
     notes: BTreeMap<ChannelId, NoteList>,
     alloc: Global,

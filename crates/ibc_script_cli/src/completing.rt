@@ -28,7 +28,7 @@ pub struct Completer<'r, C: Chains + Drop> {
 }
 
 /// What is claimed of a client: its state, and the encoding of the proof that shows it.
-#[derive(Drop, Debug)]
+#[derive(Drop)]
 struct Claim {
     state: ClientState,
     proof: Bytes,

@@ -15,7 +15,7 @@ pub struct Committed {
 }
 
 /// What one chain has committed, from height 1, and the time of its working block. The last `window` heights are kept.
-#[derive(Drop, Debug)]
+#[derive(Drop)]
 pub struct Heights {
     pub window: u64,
     pub working_time: u64,

@@ -14,7 +14,7 @@ use ibc_script::{ChainName, EventKind};
 use std::alloc::{AllocError, Global};
 
 /// A line that the program prints, without its line feed.
-#[derive(Clone, Copy, Debug)]
+#[derive(Clone, Copy)]
 pub enum Line<'a> {
     /// The reply to an event.
     Reply {

@@ -55,7 +55,7 @@ pub const PLAN: [(Side, EventKind); 20] = [
 
 /// A chain of an `open`, with the names that it has given, and the height that it has committed last, 0 before the
 /// first.
-#[derive(Drop, Debug)]
+#[derive(Drop)]
 pub struct Party {
     pub chain: u8,
     pub client: Option<ClientId>,
@@ -101,7 +101,7 @@ impl Party {
 }
 
 /// An `open` under way.
-#[derive(Drop, Debug)]
+#[derive(Drop)]
 pub struct Opening {
     pub application: Application,
     pub first: Party,

@@ -18,7 +18,7 @@ use std::alloc::{AllocError, Global};
 
 /// What a packet of tokens says (ICS 20, "FungibleTokenPacketData"): the tokens, a memo, who receives them and who sends
 /// them.
-#[derive(Drop, Debug)]
+#[derive(Drop)]
 pub struct TokenData {
     pub tokens: Vec<Token>,
     pub memo: Memo,

@@ -17,7 +17,7 @@ use ibc_wire::{Token, Transfer, TransferMany};
 use std::alloc::Global;
 
 /// What a message sends.
-#[derive(Drop, Debug)]
+#[derive(Drop)]
 pub(crate) struct Parcel {
     /// The version that its channel has to have.
     pub(crate) version: Version,

@@ -24,7 +24,7 @@ use std::marker::Model;
 
 /// The tokens of a chain, as the application of port `transfer` keeps them (ICS 20): contracts see the state of their
 /// bank.
-#[derive(Drop, Debug)]
+#[derive(Drop)]
 pub struct Transfers {
     bank: Bank,
     alloc: Global,

@@ -12,7 +12,7 @@ use ibc_ledger::Ledger;
 use std::alloc::Global;
 
 /// What the ledgers of a world hold, by the numbers of their chains.
-#[derive(Debug, Drop)]
+#[derive(Drop)]
 pub struct Audit {
     /// Of each chain the amounts above 0, in the byte order of the accounts' texts and then of the denominations.
     pub balances: Vec<Vec<(Account, Denom, u128)>>,

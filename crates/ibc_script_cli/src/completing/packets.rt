@@ -28,7 +28,7 @@ pub enum Handling {
 
 /// What shows that a packet wasn't received: the sequence that is received next, 0 where the channel is unordered, and
 /// the encoding of the proof.
-#[derive(Drop, Debug)]
+#[derive(Drop)]
 pub struct Unreceived {
     pub next_recv: u64,
     pub proof: Bytes,
