@@ -64,6 +64,13 @@ pub fn text_or_empty<'v>(object: &'v Value, name: &str) -> Result<&'v str, Fault
     text(object, name)
 }
 
+/// The text that an item of a list is. Fault: `BadScript`.
+pub fn item_text(item: &Value) -> Result<&str, Fault>
+    ensures { IfErr result JudgesScript }
+{
+    item.as_str().ok_or(Fault::BadScript)
+}
+
 /// The items of the member of this name, a list. Fault: `BadScript`.
 pub fn list<'v>(object: &'v Value, name: &str) -> Result<&'v [Value], Fault>
     ensures { IfErr result JudgesScript }

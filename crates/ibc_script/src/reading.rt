@@ -13,7 +13,7 @@ mod steps;
 mod transfers;
 
 use crate::amount::amount_of;
-use crate::members::{has_only, list, number, optional_number};
+use crate::members::{has_only, item_text, list, number, optional_number};
 use crate::{Fault, MOST_BYTES, Script};
 use chains::read_chains;
 use ibc_ids::{Kind, Name};
@@ -42,6 +42,13 @@ fn read_amount(alloc: Global, text: &str) -> Result<u128, Fault>
     amount_of(alloc, text)?.ok_or(Fault::BadScript)
 }
 
+// The amount that an item of a list is, a text.
+fn item_amount(alloc: Global, item: &Value) -> Result<u128, Fault>
+    ensures { IfErr result JudgesScript }
+{
+    read_amount(alloc, item_text(item)?)
+}
+
 fn parse_name<K: Kind>(alloc: Global, text: &str) -> Result<Name<K>, Fault>
     ensures { IfErr result JudgesScript }
 {
@@ -49,6 +56,13 @@ fn parse_name<K: Kind>(alloc: Global, text: &str) -> Result<Name<K>, Fault>
         Ok(name) => Ok(name),
         Err(refusal) => Err(Fault::of_refusal(refusal)),
     }
+}
+
+// The name that an item of a list is, a text.
+fn item_name<K: Kind>(alloc: Global, item: &Value) -> Result<Name<K>, Fault>
+    ensures { IfErr result JudgesScript }
+{
+    parse_name(alloc, item_text(item)?)
 }
 
 /// The script that the bytes write in JSON. That a world begins with its genesis is judged by the world. Faults:
@@ -61,12 +75,22 @@ pub fn read_script(alloc: Global, bytes: &[u8]) -> Result<Script, Fault>
     if bytes.len() > MOST_BYTES {
         return Err(Fault::BadScript);
     }
-    let script = parsed(alloc, bytes)?;
-    has_only(&script, &["capacity", "window", "chains", "steps"])?;
-    let capacity = number(&script, "capacity")?;
-    let window = optional_number(&script, "window")?.unwrap_or(capacity.min(USUAL_WINDOW));
-    let (names, chains) = read_chains(alloc, list(&script, "chains")?)?;
-    let steps = read_steps(alloc, names.as_slice(), list(&script, "steps")?)?;
+    let value = parsed(alloc, bytes)?;
+    let script = read_members(alloc, &value);
+    drop(value);
+    script
+}
+
+// The script that a JSON object is.
+fn read_members(alloc: Global, script: &Value) -> Result<Script, Fault>
+    ensures { IfErr result JudgesScript }
+{
+    has_only(script, &["capacity", "window", "chains", "steps"])?;
+    let capacity = number(script, "capacity")?;
+    let window = optional_number(script, "window")?.unwrap_or(capacity.min(USUAL_WINDOW));
+    let steps = list(script, "steps")?;
+    let (names, chains) = read_chains(alloc, list(script, "chains")?)?;
+    let steps = read_steps(alloc, names.as_slice(), steps)?;
     Ok(Script {
         genesis: Genesis {
             capacity,

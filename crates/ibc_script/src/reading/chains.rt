@@ -3,7 +3,7 @@
 ghost use Rattle.std.specs.Prelude.{◌≡◌, ◌≤◌, length, IfOk, IfErr};
 ghost use Rattle.ibc_script.specs.Faults.{JudgesScript};
 
-use super::{parse_name, read_amount};
+use super::{item_amount, item_name, parse_name};
 use crate::members::{has_only, list, number, text};
 use crate::script::MOST_CHAINS;
 use crate::{ChainName, Fault};
@@ -20,10 +20,8 @@ fn read_balance(alloc: Global, value: &Value) -> Result<(UserName, Denom, u128),
     let [user, denom, amount] = items.as_slice() else {
         return Err(Fault::BadScript);
     };
-    let user = user.as_str().ok_or(Fault::BadScript)?;
-    let denom = denom.as_str().ok_or(Fault::BadScript)?;
-    let amount = read_amount(alloc, amount.as_str().ok_or(Fault::BadScript)?)?;
-    Ok((parse_name(alloc, user)?, parse_name(alloc, denom)?, amount))
+    let amount = item_amount(alloc, amount)?;
+    Ok((item_name(alloc, user)?, item_name(alloc, denom)?, amount))
 }
 
 fn read_balances(alloc: Global, values: &[Value]) -> Result<Vec<(UserName, Denom, u128)>, Fault>
@@ -40,9 +38,10 @@ fn read_chain(alloc: Global, value: &Value) -> Result<(ChainName, ChainStart), F
     ensures { IfErr result JudgesScript }
 {
     has_only(value, &["name", "time", "balances"])?;
-    let name = parse_name(alloc, text(value, "name")?)?;
     let time = number(value, "time")?;
-    let balances = read_balances(alloc, list(value, "balances")?)?;
+    let balances = list(value, "balances")?;
+    let name = parse_name(alloc, text(value, "name")?)?;
+    let balances = read_balances(alloc, balances)?;
     Ok((name, ChainStart { time, balances }))
 }
 

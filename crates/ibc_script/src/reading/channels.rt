@@ -8,10 +8,47 @@ use super::step_reader::StepReader;
 use crate::Fault;
 use crate::draft::{ChannelDraft, ChannelTry};
 use crate::members::has_only;
+use ibc_ids::{ChannelId, PortId};
 use ibc_wire::{ChanCloseInit, ChanOpenInit};
 
 impl StepReader<'_> {
-    pub fn chan_open_init(&self) -> Result<ChannelDraft, Fault>
+    /// The message for channels of this kind.
+    pub fn channel_draft(&self, kind: &str) -> Result<ChannelDraft, Fault>
+        ensures among { IfOk result (IsChannelAmong (length self.now.names.now)) }
+        ensures faults { IfErr result JudgesScript }
+    {
+        match kind {
+            "ChanOpenInit" => self.chan_open_init(),
+            "ChanOpenTry" => self.chan_open_try(),
+            "ChanOpenAck" => self.chan_open_ack(),
+            "ChanOpenConfirm" => self.chan_open_confirm(),
+            "ChanCloseInit" => self.chan_close_init(),
+            "ChanCloseConfirm" => self.chan_close_confirm(),
+            _ => Err(Fault::BadScript),
+        }
+    }
+
+    /// The port and the identifier of a channel's own end.
+    fn own_end(&self) -> Result<(PortId, ChannelId), Fault>
+        ensures { IfErr result JudgesScript }
+    {
+        Ok((self.name("port")?, self.name("channel")?))
+    }
+
+    /// What the first two steps of a channel's handshake have in common.
+    fn opening(&self) -> Result<ChanOpenInit, Fault>
+        ensures { IfErr result JudgesScript }
+    {
+        Ok(ChanOpenInit {
+            order: self.order("order")?,
+            port: self.name("port")?,
+            connection: self.name("connection")?,
+            peer_port: self.name("peer_port")?,
+            version: self.name("version")?,
+        })
+    }
+
+    fn chan_open_init(&self) -> Result<ChannelDraft, Fault>
         ensures among { IfOk result (IsChannelAmong (length self.now.names.now)) }
         ensures faults { IfErr result JudgesScript }
     {
@@ -27,16 +64,10 @@ impl StepReader<'_> {
                 "version",
             ],
         )?;
-        Ok(ChannelDraft::OpenInit(ChanOpenInit {
-            port: self.name("port")?,
-            order: self.order("order")?,
-            connection: self.name("connection")?,
-            peer_port: self.name("peer_port")?,
-            version: self.name("version")?,
-        }))
+        Ok(ChannelDraft::OpenInit(self.opening()?))
     }
 
-    pub fn chan_open_try(&self) -> Result<ChannelDraft, Fault>
+    fn chan_open_try(&self) -> Result<ChannelDraft, Fault>
         ensures among { IfOk result (IsChannelAmong (length self.now.names.now)) }
         ensures faults { IfErr result JudgesScript }
     {
@@ -55,18 +86,21 @@ impl StepReader<'_> {
                 "height",
             ],
         )?;
+        let from = self.origin()?;
+        let peer_channel = self.name("peer_channel")?;
+        let opening = self.opening()?;
         Ok(ChannelDraft::OpenTry(ChannelTry {
-            port: self.name("port")?,
-            order: self.order("order")?,
-            connection: self.name("connection")?,
-            peer_port: self.name("peer_port")?,
-            peer_channel: self.name("peer_channel")?,
-            version: self.name("version")?,
-            from: self.origin()?,
+            port: opening.port,
+            order: opening.order,
+            connection: opening.connection,
+            peer_port: opening.peer_port,
+            peer_channel,
+            version: opening.version,
+            from,
         }))
     }
 
-    pub fn chan_open_ack(&self) -> Result<ChannelDraft, Fault>
+    fn chan_open_ack(&self) -> Result<ChannelDraft, Fault>
         ensures among { IfOk result (IsChannelAmong (length self.now.names.now)) }
         ensures faults { IfErr result JudgesScript }
     {
@@ -82,15 +116,18 @@ impl StepReader<'_> {
                 "height",
             ],
         )?;
+        let from = self.origin()?;
+        let peer_channel = self.name("peer_channel")?;
+        let (port, channel) = self.own_end()?;
         Ok(ChannelDraft::OpenAck {
-            port: self.name("port")?,
-            channel: self.name("channel")?,
-            peer_channel: self.name("peer_channel")?,
-            from: self.origin()?,
+            port,
+            channel,
+            peer_channel,
+            from,
         })
     }
 
-    pub fn chan_open_confirm(&self) -> Result<ChannelDraft, Fault>
+    fn chan_open_confirm(&self) -> Result<ChannelDraft, Fault>
         ensures among { IfOk result (IsChannelAmong (length self.now.names.now)) }
         ensures faults { IfErr result JudgesScript }
     {
@@ -98,25 +135,25 @@ impl StepReader<'_> {
             self.object,
             &["do", "on", "port", "channel", "from", "height"],
         )?;
+        let from = self.origin()?;
+        let (port, channel) = self.own_end()?;
         Ok(ChannelDraft::OpenConfirm {
-            port: self.name("port")?,
-            channel: self.name("channel")?,
-            from: self.origin()?,
+            port,
+            channel,
+            from,
         })
     }
 
-    pub fn chan_close_init(&self) -> Result<ChannelDraft, Fault>
+    fn chan_close_init(&self) -> Result<ChannelDraft, Fault>
         ensures among { IfOk result (IsChannelAmong (length self.now.names.now)) }
         ensures faults { IfErr result JudgesScript }
     {
         has_only(self.object, &["do", "on", "port", "channel"])?;
-        Ok(ChannelDraft::CloseInit(ChanCloseInit {
-            port: self.name("port")?,
-            channel: self.name("channel")?,
-        }))
+        let (port, channel) = self.own_end()?;
+        Ok(ChannelDraft::CloseInit(ChanCloseInit { port, channel }))
     }
 
-    pub fn chan_close_confirm(&self) -> Result<ChannelDraft, Fault>
+    fn chan_close_confirm(&self) -> Result<ChannelDraft, Fault>
         ensures among { IfOk result (IsChannelAmong (length self.now.names.now)) }
         ensures faults { IfErr result JudgesScript }
     {
@@ -124,10 +161,12 @@ impl StepReader<'_> {
             self.object,
             &["do", "on", "port", "channel", "from", "height"],
         )?;
+        let from = self.origin()?;
+        let (port, channel) = self.own_end()?;
         Ok(ChannelDraft::CloseConfirm {
-            port: self.name("port")?,
-            channel: self.name("channel")?,
-            from: self.origin()?,
+            port,
+            channel,
+            from,
         })
     }
 }

@@ -10,7 +10,19 @@ use crate::draft::ClientDraft;
 use crate::members::has_only;
 
 impl StepReader<'_> {
-    pub fn create_client(&self) -> Result<ClientDraft, Fault>
+    /// The message for clients of this kind.
+    pub fn client_draft(&self, kind: &str) -> Result<ClientDraft, Fault>
+        ensures among { IfOk result (IsClientAmong (length self.now.names.now)) }
+        ensures faults { IfErr result JudgesScript }
+    {
+        match kind {
+            "CreateClient" => self.create_client(),
+            "UpdateClient" => self.update_client(),
+            _ => Err(Fault::BadScript),
+        }
+    }
+
+    fn create_client(&self) -> Result<ClientDraft, Fault>
         ensures among { IfOk result (IsClientAmong (length self.now.names.now)) }
         ensures faults { IfErr result JudgesScript }
     {
@@ -20,14 +32,14 @@ impl StepReader<'_> {
         })
     }
 
-    pub fn update_client(&self) -> Result<ClientDraft, Fault>
+    fn update_client(&self) -> Result<ClientDraft, Fault>
         ensures among { IfOk result (IsClientAmong (length self.now.names.now)) }
         ensures faults { IfErr result JudgesScript }
     {
         has_only(self.object, &["do", "on", "client", "height"])?;
         Ok(ClientDraft::Update {
-            client: self.name("client")?,
             height: self.number("height")?,
+            client: self.name("client")?,
         })
     }
 }

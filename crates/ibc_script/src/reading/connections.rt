@@ -8,20 +8,43 @@ use super::step_reader::StepReader;
 use crate::Fault;
 use crate::draft::ConnectionDraft;
 use crate::members::has_only;
+use ibc_ids::ClientId;
 
 impl StepReader<'_> {
-    pub fn conn_open_init(&self) -> Result<ConnectionDraft, Fault>
+    /// The message for connections of this kind.
+    pub fn connection_draft(&self, kind: &str) -> Result<ConnectionDraft, Fault>
+        ensures among { IfOk result (IsConnectionAmong (length self.now.names.now)) }
+        ensures faults { IfErr result JudgesScript }
+    {
+        match kind {
+            "ConnOpenInit" => self.conn_open_init(),
+            "ConnOpenTry" => self.conn_open_try(),
+            "ConnOpenAck" => self.conn_open_ack(),
+            "ConnOpenConfirm" => self.conn_open_confirm(),
+            _ => Err(Fault::BadScript),
+        }
+    }
+
+    /// The clients of the two ends of a connection.
+    fn two_clients(&self) -> Result<(ClientId, ClientId), Fault>
+        ensures { IfErr result JudgesScript }
+    {
+        Ok((self.name("client")?, self.name("peer_client")?))
+    }
+
+    fn conn_open_init(&self) -> Result<ConnectionDraft, Fault>
         ensures among { IfOk result (IsConnectionAmong (length self.now.names.now)) }
         ensures faults { IfErr result JudgesScript }
     {
         has_only(self.object, &["do", "on", "client", "peer_client"])?;
+        let (client, peer_client) = self.two_clients()?;
         Ok(ConnectionDraft::OpenInit {
-            client: self.name("client")?,
-            peer_client: self.name("peer_client")?,
+            client,
+            peer_client,
         })
     }
 
-    pub fn conn_open_try(&self) -> Result<ConnectionDraft, Fault>
+    fn conn_open_try(&self) -> Result<ConnectionDraft, Fault>
         ensures among { IfOk result (IsConnectionAmong (length self.now.names.now)) }
         ensures faults { IfErr result JudgesScript }
     {
@@ -37,15 +60,18 @@ impl StepReader<'_> {
                 "height",
             ],
         )?;
+        let from = self.origin()?;
+        let peer_connection = self.name("peer_connection")?;
+        let (client, peer_client) = self.two_clients()?;
         Ok(ConnectionDraft::OpenTry {
-            client: self.name("client")?,
-            peer_client: self.name("peer_client")?,
-            peer_connection: self.name("peer_connection")?,
-            from: self.origin()?,
+            client,
+            peer_client,
+            peer_connection,
+            from,
         })
     }
 
-    pub fn conn_open_ack(&self) -> Result<ConnectionDraft, Fault>
+    fn conn_open_ack(&self) -> Result<ConnectionDraft, Fault>
         ensures among { IfOk result (IsConnectionAmong (length self.now.names.now)) }
         ensures faults { IfErr result JudgesScript }
     {
@@ -61,20 +87,20 @@ impl StepReader<'_> {
             ],
         )?;
         Ok(ConnectionDraft::OpenAck {
+            from: self.origin()?,
             connection: self.name("connection")?,
             peer_connection: self.name("peer_connection")?,
-            from: self.origin()?,
         })
     }
 
-    pub fn conn_open_confirm(&self) -> Result<ConnectionDraft, Fault>
+    fn conn_open_confirm(&self) -> Result<ConnectionDraft, Fault>
         ensures among { IfOk result (IsConnectionAmong (length self.now.names.now)) }
         ensures faults { IfErr result JudgesScript }
     {
         has_only(self.object, &["do", "on", "connection", "from", "height"])?;
         Ok(ConnectionDraft::OpenConfirm {
-            connection: self.name("connection")?,
             from: self.origin()?,
+            connection: self.name("connection")?,
         })
     }
 }

@@ -4,15 +4,14 @@ ghost use Rattle.std.specs.Prelude.{◌≡◌, ◌<◌, length, IfOk, IfErr};
 ghost use Rattle.ibc_script.specs.Faults.{JudgesScript};
 ghost use Rattle.ibc_script.specs.Scripts.{IsPacketAmong};
 
-use super::parse_name;
+use super::item_name;
 use super::step_reader::StepReader;
 use crate::Fault;
 use crate::draft::{Origin, PacketDraft, SentPacket};
 use crate::members::{has_only, list, text};
 use crate::payload::payload_of;
-use ibc_ids::{Bytes, Kind, Name};
+use ibc_ids::Bytes;
 use ibc_wire::SendNote;
-use serde_json::Value;
 
 impl StepReader<'_> {
     /// The bytes that a member writes in base64.
@@ -20,12 +19,6 @@ impl StepReader<'_> {
         ensures { IfErr result JudgesScript }
     {
         payload_of(self.alloc, text(self.object, member)?)?.ok_or(Fault::BadScript)
-    }
-
-    fn item_name<K: Kind>(&self, item: &Value) -> Result<Name<K>, Fault>
-        ensures { IfErr result JudgesScript }
-    {
-        parse_name(self.alloc, item.as_str().ok_or(Fault::BadScript)?)
     }
 
     /// The packet that the member `packet` names: `[chain, port, channel, sequence]`.
@@ -37,10 +30,10 @@ impl StepReader<'_> {
             return Err(Fault::BadScript);
         };
         Ok(SentPacket {
-            chain: self.chain_of(chain.as_str().ok_or(Fault::BadScript)?)?,
+            chain: self.item_chain(chain)?,
             sequence: sequence.as_u64().ok_or(Fault::BadScript)?,
-            port: self.item_name(port)?,
-            channel: self.item_name(channel)?,
+            port: item_name(self.alloc, port)?,
+            channel: item_name(self.alloc, channel)?,
         })
     }
 
@@ -55,7 +48,24 @@ impl StepReader<'_> {
         Ok((self.packet()?, from))
     }
 
-    pub fn send_note(&self) -> Result<PacketDraft, Fault>
+    /// The message for packets of this kind.
+    pub fn packet_draft(&self, kind: &str) -> Result<PacketDraft, Fault>
+        ensures among { IfOk result (IsPacketAmong (length self.now.names.now)) }
+        ensures faults { IfErr result JudgesScript }
+    {
+        match kind {
+            "Transfer" => self.transfer(),
+            "TransferMany" => self.transfer_many(),
+            "SendNote" => self.send_note(),
+            "RecvPacket" => self.recv_packet(),
+            "AckPacket" => self.ack_packet(),
+            "Timeout" => self.timeout(),
+            "TimeoutOnClose" => self.timeout_on_close(),
+            _ => Err(Fault::BadScript),
+        }
+    }
+
+    fn send_note(&self) -> Result<PacketDraft, Fault>
         ensures among { IfOk result (IsPacketAmong (length self.now.names.now)) }
         ensures faults { IfErr result JudgesScript }
     {
@@ -78,7 +88,7 @@ impl StepReader<'_> {
         }))
     }
 
-    pub fn recv_packet(&self) -> Result<PacketDraft, Fault>
+    fn recv_packet(&self) -> Result<PacketDraft, Fault>
         ensures among { IfOk result (IsPacketAmong (length self.now.names.now)) }
         ensures faults { IfErr result JudgesScript }
     {
@@ -89,7 +99,7 @@ impl StepReader<'_> {
         })
     }
 
-    pub fn ack_packet(&self) -> Result<PacketDraft, Fault>
+    fn ack_packet(&self) -> Result<PacketDraft, Fault>
         ensures among { IfOk result (IsPacketAmong (length self.now.names.now)) }
         ensures faults { IfErr result JudgesScript }
     {
@@ -97,7 +107,7 @@ impl StepReader<'_> {
         Ok(PacketDraft::Ack { packet, from })
     }
 
-    pub fn timeout(&self) -> Result<PacketDraft, Fault>
+    fn timeout(&self) -> Result<PacketDraft, Fault>
         ensures among { IfOk result (IsPacketAmong (length self.now.names.now)) }
         ensures faults { IfErr result JudgesScript }
     {
@@ -105,7 +115,7 @@ impl StepReader<'_> {
         Ok(PacketDraft::Timeout { packet, from })
     }
 
-    pub fn timeout_on_close(&self) -> Result<PacketDraft, Fault>
+    fn timeout_on_close(&self) -> Result<PacketDraft, Fault>
         ensures among { IfOk result (IsPacketAmong (length self.now.names.now)) }
         ensures faults { IfErr result JudgesScript }
     {

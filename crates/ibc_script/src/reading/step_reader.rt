@@ -5,7 +5,7 @@ ghost use Rattle.ibc_script.specs.Faults.{JudgesScript};
 
 use super::parse_name;
 use crate::draft::Origin;
-use crate::members::{list, number, text};
+use crate::members::{item_text, list, number, text};
 use crate::script::MOST_TURNS;
 use crate::{Application, ChainName, Fault};
 use ibc_ids::{Key, Kind, Name};
@@ -42,6 +42,14 @@ impl StepReader<'_> {
         self.chain_of(text(self.object, member)?)
     }
 
+    /// The number of the chain that an item of a list names.
+    pub fn item_chain(&self, item: &Value) -> Result<u8, Fault>
+        ensures among { IfOk result (λ chain. chain < length self.now.names.now) }
+        ensures faults { IfErr result JudgesScript }
+    {
+        self.chain_of(item_text(item)?)
+    }
+
     /// The numbers of the two different chains that a member names.
     pub fn two_chains(&self, member: &str) -> Result<(u8, u8), Fault>
         ensures first { IfOk result (λ chains. chains.0 < length self.now.names.now) }
@@ -52,8 +60,8 @@ impl StepReader<'_> {
         let [first, second] = list(self.object, member)? else {
             return Err(Fault::BadScript);
         };
-        let first = self.chain_of(first.as_str().ok_or(Fault::BadScript)?)?;
-        let second = self.chain_of(second.as_str().ok_or(Fault::BadScript)?)?;
+        let first = self.item_chain(first)?;
+        let second = self.item_chain(second)?;
         if first == second {
             return Err(Fault::BadScript);
         }

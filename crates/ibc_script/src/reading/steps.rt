@@ -89,28 +89,15 @@ impl StepReader<'_> {
         ensures among { IfOk result (IsDraftAmong (length self.now.names.now)) }
         ensures faults { IfErr result JudgesScript }
     {
-        Ok(match kind {
-            "CreateClient" => Draft::Client(self.create_client()?),
-            "UpdateClient" => Draft::Client(self.update_client()?),
-            "ConnOpenInit" => Draft::Connection(self.conn_open_init()?),
-            "ConnOpenTry" => Draft::Connection(self.conn_open_try()?),
-            "ConnOpenAck" => Draft::Connection(self.conn_open_ack()?),
-            "ConnOpenConfirm" => Draft::Connection(self.conn_open_confirm()?),
-            "ChanOpenInit" => Draft::Channel(self.chan_open_init()?),
-            "ChanOpenTry" => Draft::Channel(self.chan_open_try()?),
-            "ChanOpenAck" => Draft::Channel(self.chan_open_ack()?),
-            "ChanOpenConfirm" => Draft::Channel(self.chan_open_confirm()?),
-            "ChanCloseInit" => Draft::Channel(self.chan_close_init()?),
-            "ChanCloseConfirm" => Draft::Channel(self.chan_close_confirm()?),
-            "Transfer" => Draft::Packet(self.transfer()?),
-            "TransferMany" => Draft::Packet(self.transfer_many()?),
-            "SendNote" => Draft::Packet(self.send_note()?),
-            "RecvPacket" => Draft::Packet(self.recv_packet()?),
-            "AckPacket" => Draft::Packet(self.ack_packet()?),
-            "Timeout" => Draft::Packet(self.timeout()?),
-            "TimeoutOnClose" => Draft::Packet(self.timeout_on_close()?),
-            _ => return Err(Fault::BadScript),
-        })
+        if kind.ends_with("Client") {
+            self.client_draft(kind).map(Draft::Client)
+        } else if kind.starts_with("Conn") {
+            self.connection_draft(kind).map(Draft::Connection)
+        } else if kind.starts_with("Chan") {
+            self.channel_draft(kind).map(Draft::Channel)
+        } else {
+            self.packet_draft(kind).map(Draft::Packet)
+        }
     }
 
     fn message(&self, kind: &str) -> Result<Step, Fault>

@@ -6,12 +6,12 @@ ghost use Rattle.ibc_script.specs.Faults.{JudgesScript};
 ghost use Rattle.ibc_script.specs.Scripts.{IsPacketAmong};
 
 use super::step_reader::StepReader;
-use super::{parse_name, read_amount};
+use super::{item_amount, item_name, parse_name, read_amount};
 use crate::Fault;
 use crate::draft::PacketDraft;
 use crate::listed_transfer::ListedTransfer;
 use crate::members::{has_only, list, text, text_or_empty};
-use ibc_ids::Memo;
+use ibc_ids::{ChannelId, Memo, Receiver, UserName};
 use ibc_wire::{Token, Tokens, Transfer, TransferMany, is_listed};
 use serde_json::Value;
 use std::alloc::Global;
@@ -24,8 +24,8 @@ fn read_token(alloc: Global, value: &Value) -> Result<Token, Fault>
     let [denom, amount] = items.as_slice() else {
         return Err(Fault::BadScript);
     };
-    let amount = read_amount(alloc, amount.as_str().ok_or(Fault::BadScript)?)?;
-    let denom = parse_name(alloc, denom.as_str().ok_or(Fault::BadScript)?)?;
+    let amount = item_amount(alloc, amount)?;
+    let denom = item_name(alloc, denom)?;
     Ok(Token { denom, amount })
 }
 
@@ -44,12 +44,36 @@ fn read_tokens(alloc: Global, values: &[Value]) -> Result<Tokens, Fault>
     }
 }
 
+/// What transfers of one token and of several have in common.
+#[derive(Drop)]
+struct Sending {
+    timeout_height: u64,
+    timeout_time: u64,
+    channel: ChannelId,
+    user: UserName,
+    receiver: Receiver,
+    memo: Memo,
+}
+
 impl StepReader<'_> {
     /// The memo of a transfer, the empty one where the step has none.
     fn memo(&self) -> Result<Memo, Fault>
         ensures { IfErr result JudgesScript }
     {
         parse_name(self.alloc, text_or_empty(self.object, "memo")?)
+    }
+
+    fn sending(&self) -> Result<Sending, Fault>
+        ensures { IfErr result JudgesScript }
+    {
+        Ok(Sending {
+            timeout_height: self.number("timeout_height")?,
+            timeout_time: self.number("timeout_time")?,
+            channel: self.name("channel")?,
+            user: self.name("user")?,
+            receiver: self.name("receiver")?,
+            memo: self.memo()?,
+        })
     }
 
     pub fn transfer(&self) -> Result<PacketDraft, Fault>
@@ -71,15 +95,18 @@ impl StepReader<'_> {
                 "timeout_time",
             ],
         )?;
+        let amount = read_amount(self.alloc, text(self.object, "amount")?)?;
+        let denom = self.name("denom")?;
+        let sending = self.sending()?;
         Ok(PacketDraft::Transfer(Transfer {
-            timeout_height: self.number("timeout_height")?,
-            timeout_time: self.number("timeout_time")?,
-            amount: read_amount(self.alloc, text(self.object, "amount")?)?,
-            channel: self.name("channel")?,
-            user: self.name("user")?,
-            denom: self.name("denom")?,
-            receiver: self.name("receiver")?,
-            memo: self.memo()?,
+            channel: sending.channel,
+            user: sending.user,
+            denom,
+            amount,
+            receiver: sending.receiver,
+            memo: sending.memo,
+            timeout_height: sending.timeout_height,
+            timeout_time: sending.timeout_time,
         }))
     }
 
@@ -101,14 +128,16 @@ impl StepReader<'_> {
                 "timeout_time",
             ],
         )?;
+        let tokens = read_tokens(self.alloc, list(self.object, "tokens")?)?;
+        let sending = self.sending()?;
         let message = TransferMany {
-            timeout_height: self.number("timeout_height")?,
-            timeout_time: self.number("timeout_time")?,
-            tokens: read_tokens(self.alloc, list(self.object, "tokens")?)?,
-            channel: self.name("channel")?,
-            user: self.name("user")?,
-            receiver: self.name("receiver")?,
-            memo: self.memo()?,
+            channel: sending.channel,
+            user: sending.user,
+            tokens,
+            receiver: sending.receiver,
+            memo: sending.memo,
+            timeout_height: sending.timeout_height,
+            timeout_time: sending.timeout_time,
         };
         Ok(PacketDraft::TransferMany(ListedTransfer { message }))
     }
