@@ -11,3 +11,4 @@ pub mod Putting
 pub mod Turning
 pub mod Places
 pub mod Moved
+pub mod Ends

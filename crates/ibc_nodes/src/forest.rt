@@ -5,7 +5,7 @@ ghost use Rattle.std.specs.FinMap.{is_sorted};
 ghost use Rattle.ibc_ids.specs.Texts.{text_cmp};
 ghost use Rattle.ibc_merkle.specs.Tree.{tree_root};
 ghost use Rattle.ibc_merkle.specs.Written.{written};
-ghost use Rattle.ibc_nodes.specs.Leaves.{count_new, keys};
+ghost use Rattle.ibc_nodes.specs.Leaves.{count_new, keys, SharesEnds};
 
 use crate::arena::Arena;
 use crate::moving::{move_kept, move_rows};
@@ -107,10 +107,40 @@ impl Forest {
         ensures same { keys entries.now ≡ keys self.old.last → (log : ℕ) → length entries.now ≤ 2 ^ log → OnOk result (self.new.digests ≤ self.old.digests + count_new self.old.last entries.now * (2 + log)) }
         ensures err { OnErr result (self.new ≡ self.old) }
     {
+        self.commit_between(entries, time, 0, 0)
+    }
+
+    /// The same of pairs of which so many first ones and so many last ones are as in the last commit: these aren't looked
+    /// at.
+    pub fn commit_between(
+        &mut self,
+        entries: &[Entry],
+        time: u64,
+        front: usize,
+        back: usize,
+    ) -> Result<Root, AllocError>
+        requires some { 0 < length entries.now }
+        requires sorted { IsTrue (is_sorted text_cmp entries.now) }
+        requires ends { SharesEnds self.old.last entries.now front back }
+        ensures root { IfOk result (λ root. root ≡ tree_root entries.now) }
+        ensures last { OnOk result (self.new.last ≡ entries.now) }
+        ensures kept { OnOk result (self.new.kept ≡ self.old.kept ++ (entries.now, time) ∷ []) }
+        ensures more { self.old.digests ≤ self.new.digests }
+        ensures few { OnOk result (self.new.digests + 1 ≤ self.old.digests + 2 * count_new self.old.last entries.now + length entries.now) }
+        ensures same { keys entries.now ≡ keys self.old.last → (log : ℕ) → length entries.now ≤ 2 ^ log → OnOk result (self.new.digests ≤ self.old.digests + count_new self.old.last entries.now * (2 + log)) }
+        ensures err { OnErr result (self.new ≡ self.old) }
+    {
         self.gather();
         let alloc = *self.kept.allocator();
         self.arena.restart();
-        let rows = next_rows(alloc, &mut self.arena, self.rows.as_slice(), entries)?;
+        let rows = next_rows(
+            alloc,
+            &mut self.arena,
+            self.rows.as_slice(),
+            entries,
+            front,
+            back,
+        )?;
         self.kept.reserve(1)?;
         let root = root_of(&self.arena, rows.as_slice());
         let digest = self.arena.digest(root);

@@ -1,9 +1,9 @@
 //! Rows of leaves.
 
-ghost use Rattle.std.specs.Prelude.{◌≡◌, ◌+◌, ◌*◌, ◌<◌, ◌≤◌, true, Ok, length, drop, map, slice_index_or, IfOk};
+ghost use Rattle.std.specs.Prelude.{◌≡◌, ◌+◌, ◌*◌, ◌<◌, ◌≤◌, true, Ok, length, drop, map, slice_index_or, take, IfOk};
 ghost use Rattle.ibc_merkle.specs.Tree.{tree};
 ghost use Rattle.ibc_nodes.specs.Levels.{leaf_of, tree_at, trees_at};
-ghost use Rattle.ibc_nodes.specs.Leaves.{pair_at, row_pairs, AreLeaves, from_key, behind_key, begins_with, is_new, count_new, keys, differing};
+ghost use Rattle.ibc_nodes.specs.Leaves.{pair_at, row_pairs, AreLeaves, from_key, behind_key, begins_with, is_new, count_new, keys, differing, SharesEnds};
 ghost use Rattle.ibc_nodes.specs.Nodes.{Grows};
 ghost use Rattle.ibc_nodes.specs.Rows.{Stand};
 ghost use Rattle.ibc_ids.specs.Texts.{same_text};
@@ -101,29 +101,62 @@ fn leaf_for(arena: &mut Arena, row: &[usize], at: usize, entry: &Entry) -> Resul
     arena.leaf(entry.clone()?)
 }
 
-// The leaves of pairs, and those of a row of leaves where they have the same pairs: two texts are hashed for each other
-// one.
-pub(crate) fn leaf_row(
+// The leaves of pairs up to a place, of which so many first ones stand in a row of leaves: of the others those of the row
+// where they have the same pairs, and two texts are hashed for each other one.
+fn leaves_until(
     alloc: Global,
     arena: &mut Arena,
     old: &[usize],
     entries: &[Entry],
+    front: usize,
+    end: usize,
 ) -> Result<Vec<usize>, AllocError>
-    requires { AreLeaves arena.old.trees old.now }
-    ensures leaves { IfOk result (λ row. trees_at arena.new.trees row.items ≡ map leaf_of entries.now) }
+    requires leaves { AreLeaves arena.old.trees old.now }
+    requires there { front ≤ length old.now }
+    requires front { front ≤ end }
+    requires end { end ≤ length entries.now }
+    requires same { take front entries.now ≡ take front (row_pairs arena.old.trees old.now) }
+    ensures leaves { IfOk result (λ row. trees_at arena.new.trees row.items ≡ map leaf_of (take end entries.now)) }
     ensures stand { IfOk result (λ row. Stand arena.new.trees row.items) }
     ensures grows { Grows arena.old.trees arena.new.trees }
     ensures steps { IfOk result (λ row. arena.new.steps ≤ arena.old.steps + 2 * count_new (row_pairs arena.old.trees old.now) entries.now) }
     ensures same { keys entries.now ≡ keys (row_pairs arena.old.trees old.now) → IfOk result (λ row. differing row.items old.now ≤ count_new (row_pairs arena.old.trees old.now) entries.now) }
 {
     let mut row = Vec::with_capacity(alloc, entries.len())?;
-    let mut at = 0;
-    for i in 0..entries.len() {
+    row.extend_from_slice(&old[..front])?;
+    let mut at = front;
+    for i in front..end {
         let entry = &entries[i];
         let found = place_from(arena, old, at, entry.key());
         let leaf = leaf_for(arena, old, found, entry)?;
         row.push(leaf)?;
         at = place_behind(arena, old, found, entry.key());
     }
+    Ok(row)
+}
+
+// The leaves of pairs, of which so many first ones and so many last ones are those of a row of leaves: of the others those
+// of the row where they have the same pairs, and two texts are hashed for each other one.
+pub(crate) fn leaf_row(
+    alloc: Global,
+    arena: &mut Arena,
+    old: &[usize],
+    entries: &[Entry],
+    front: usize,
+    back: usize,
+) -> Result<Vec<usize>, AllocError>
+    requires leaves { AreLeaves arena.old.trees old.now }
+    requires ends { SharesEnds (row_pairs arena.old.trees old.now) entries.now front back }
+    ensures leaves { IfOk result (λ row. trees_at arena.new.trees row.items ≡ map leaf_of entries.now) }
+    ensures stand { IfOk result (λ row. Stand arena.new.trees row.items) }
+    ensures grows { Grows arena.old.trees arena.new.trees }
+    ensures steps { IfOk result (λ row. arena.new.steps ≤ arena.old.steps + 2 * count_new (row_pairs arena.old.trees old.now) entries.now) }
+    ensures same { keys entries.now ≡ keys (row_pairs arena.old.trees old.now) → IfOk result (λ row. differing row.items old.now ≤ count_new (row_pairs arena.old.trees old.now) entries.now) }
+{
+    let fewer = old.len().min(entries.len());
+    let behind = back.min(fewer - front);
+    let end = entries.len() - behind;
+    let mut row = leaves_until(alloc, arena, old, entries, front, end)?;
+    row.extend_from_slice(&old[old.len() - behind..])?;
     Ok(row)
 }

@@ -1,7 +1,7 @@
 //! The rows of the tree over pairs, from the rows of the tree before.
 
 ghost use Rattle.std.specs.Prelude.{true, false, ◌≡◌, ◌+◌, ◌-◌, ◌*◌, ◌^◌, ◌<◌, ◌≤◌, ℕ, length, IfOk};
-ghost use Rattle.ibc_nodes.specs.Leaves.{row_pairs, count_new, keys, differing};
+ghost use Rattle.ibc_nodes.specs.Leaves.{row_pairs, count_new, keys, differing, SharesEnds};
 ghost use Rattle.ibc_nodes.specs.Nodes.{Grows};
 ghost use Rattle.ibc_nodes.specs.Rows.{Stand, IsPyramid, rows_of, first_row};
 ghost use Rattle.ibc_nodes.specs.Forest.{IsWorking, IsLast};
@@ -69,22 +69,25 @@ fn rows_over(
     raised(alloc, arena, row)
 }
 
-// The rows of the tree over pairs, from the rows before: at most two texts are hashed for each new pair, and fewer over
+// The rows of the tree over pairs, of which so many first ones and so many last ones are as before, from the rows before: at most two texts are hashed for each new pair, and fewer over
 // them than there are pairs; where the keys are the same, at most one for each new pair and level above it.
 pub(crate) fn next_rows(
     alloc: Global,
     arena: &mut Arena,
     rows: &[Vec<usize>],
     entries: &[Entry],
+    front: usize,
+    back: usize,
 ) -> Result<Vec<Vec<usize>>, AllocError>
     requires last { IsLast arena.old.trees (rows_of rows.now) }
     requires some { 0 < length entries.now }
+    requires ends { SharesEnds (row_pairs arena.old.trees (first_row (rows_of rows.now))) entries.now front back }
     ensures working { IfOk result (λ next. IsWorking arena.new.trees (rows_of next.items)) }
     ensures pairs { IfOk result (λ next. row_pairs arena.new.trees (first_row (rows_of next.items)) ≡ entries.now) }
     ensures grows { Grows arena.old.trees arena.new.trees }
     ensures steps { let new = count_new (row_pairs arena.old.trees (first_row (rows_of rows.now))) entries.now in IfOk result (λ _. arena.new.steps + 1 ≤ arena.old.steps + 2 * new + length entries.now) }
     ensures same { let last = row_pairs arena.old.trees (first_row (rows_of rows.now)) in keys entries.now ≡ keys last → (log : ℕ) → length entries.now ≤ 2 ^ log → IfOk result (λ _. arena.new.steps ≤ arena.old.steps + count_new last entries.now * (2 + log)) }
 {
-    let row = leaf_row(alloc, arena, first_of(rows), entries)?;
+    let row = leaf_row(alloc, arena, first_of(rows), entries, front, back)?;
     rows_over(alloc, arena, rows, row)
 }

@@ -2,10 +2,13 @@
 use Rattle.std.specs.Prelude.{ℕ, ◌+◌, ◌-◌, ◌^◌, min, List, [], ◌∷◌, ◌++◌, length, drop, slice_get, nat_lt, true, false, Option, None}
 use Rattle.ibc_merkle.specs.Tree.{Pairs}
 
--- the pairs of a map in the order of their keys, and how many more fit without a growth
+-- the pairs of a map in the order of their keys, how many more fit without a growth, and how many first ones and last ones
+-- weren't touched since the map was settled
 pub record HeldMap : Type 0 where
   pub pairs : Pairs
   pub room : ℕ
+  pub front : ℕ
+  pub back : ℕ
 
 -- A store: the working map with its room, the working time, and of the committed heights the last ones, at
 -- most as many as the window, each with its pairs and its time. The heights before them are gone.

@@ -32,6 +32,7 @@ pub struct Store {
 
 impl Model for Store {
     ghost use Rattle.std.specs.Prelude.{◌≤◌, length};
+    ghost use Rattle.ibc_nodes.specs.Leaves.{SharesEnds};
     ghost use Rattle.ibc_path_store.specs.Held.{HeldStore};
 
     ghost Value = { HeldStore };
@@ -45,7 +46,7 @@ impl Model for Store {
       kept = store.forest.kept;
     } };
 
-    ghost invariant = { λ store. length store.forest.kept ≤ store.window };
+    ghost invariant = { λ store. (length store.forest.kept ≤ store.window) × SharesEnds store.forest.last store.map.pairs store.map.front store.map.back };
 }
 
 impl Store {
@@ -139,7 +140,11 @@ impl Store {
         if next_time < self.time {
             return Err(Refusal::TimeBack);
         }
-        let root = self.forest.commit(self.map.entries(), self.time)?;
+        let (front, back) = (self.map.front(), self.map.back());
+        let root = self
+            .forest
+            .commit_between(self.map.entries(), self.time, front, back)?;
+        self.map.settle();
         self.time = next_time;
         if self.forest.heights() as u64 > self.window {
             self.forest.forget_first();

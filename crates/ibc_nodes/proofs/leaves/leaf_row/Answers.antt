@@ -1,98 +1,27 @@
--- One leaf more.
-use Rattle.std.proofs.Common.{◌≡◌, ℕ, ◌+◌, ◌*◌, ◌<◌, ◌≤◌, ◌∷◌, ◌++◌, [], Ok, Result, length, get_or, drop, take, map, sym, ap, ap₂, ◌∙◌, arith, subst, length-take}
-use Rattle.std.proofs.lemmas.List.{map_push, take_more, length-map}
-use Rattle.std.proofs.lemmas.List.Elements.{All-push}
-use Rattle.std.specs.declared.alloc.AllocError.{AllocError}
-use Rattle.ibc_ids.specs.Texts.{Text}
+-- The last leaves, behind the others.
+use Rattle.std.proofs.Common.{◌≡◌, ◌-◌, ◌≤◌, length, drop, take, refl, arith, ℕ, List, length-drop}
+use Rattle.std.proofs.lemmas.List.{take_all}
 use Rattle.ibc_merkle.specs.Tree.{Pairs}
-use Rattle.ibc_nodes.specs.Levels.{leaf_of, tree_at, trees_at}
-use Rattle.ibc_nodes.specs.Leaves.{row_pairs, from_key, behind_key, is_new, count_new, differing}
-use Rattle.ibc_nodes.specs.Rows.{Stand}
-use Rattle.ibc_nodes.proofs.Climbing.{length-trees_at}
-use Rattle.ibc_nodes.proofs.Pairing.{grows_on, trees_at-grows, stand-grows}
-use Rattle.ibc_nodes.proofs.LeafRows.{length-row_pairs, pairs-grows, leaves-grows, count_more, lockstep, differing-push}
+use Rattle.ibc_nodes.specs.Leaves.{differing}
+use Rattle.ibc_nodes.proofs.Ends.{Joined, joined}
 use Rattle.ibc_nodes.proofs.leaves.leaf_row.Goals as goal
 
-pub place_from-found-requires-clause-leaves : goal.place_from-found-requires-clause-leaves
-place_from-found-requires-clause-leaves c = leaves-grows c.args.arena.now.trees c.loop-i.arena.trees c.args.old.now c.loop-i.invariant.grows c.requires
-
-pub leaf_for-requires-clause-leaves : goal.leaf_for-requires-clause-leaves
-leaf_for-requires-clause-leaves c = leaves-grows c.args.arena.now.trees c.loop-i.arena.trees c.args.old.now c.loop-i.invariant.grows c.requires
-
-pub place_behind-at-requires-clause-leaves : goal.place_behind-at-requires-clause-leaves
-place_behind-at-requires-clause-leaves c =
-    leaves-grows c.args.arena.now.trees c.leaf_for.new.arena.trees c.args.old.now (grows_on _ c.loop-i.arena.trees _ c.loop-i.invariant.grows c.leaf_for.ensures.grows) c.requires
-
-ok_is : (r : Result ℕ AllocError) (x y : ℕ) → r ≡ Ok x → r ≡ Ok y → x ≡ y
-ok_is r x y a b = cc
-
-pub loop-i-preserved : goal.loop-i-preserved
-loop-i-preserved c =
-    let before = c.args.arena.now.trees in
-    let trees = c.loop-i.arena.trees in
-    let after = c.leaf_for.new.arena.trees in
+whole : (c : goal.In_ok-extend_from_slice) → Joined c.args.arena.now.trees c.leaves_until.new.arena.trees c.in_ok-row.row.items c.args.old.now c.extend_from_slice.new.self.items c.args.entries.now
+whole c =
     let old = c.args.old.now in
-    let entries : Pairs = c.args.entries.now in
-    let i = c.loop-i.i in
-    let row = c.loop-i.row.items in
-    let leaf = c.in_ok-leaf.leaf in
-    let entry = c.index-entries-i.result in
-    let pairs : Pairs = row_pairs before old in
-    let l : i < length entries = c.loop-i-test.true in
-    let is : entry ≡ get_or entries i entry = c.index-entries-i.is in
-    let all = grows_on before trees after c.loop-i.invariant.grows c.leaf_for.ensures.grows in
-    let held : row_pairs trees old ≡ pairs = pairs-grows before trees old c.loop-i.invariant.grows c.requires.0 in
-    let held_after : row_pairs after old ≡ pairs = pairs-grows before after old all c.requires.0 in
-    let rest : drop c.place_from-found.result pairs ≡ from_key entry.0 (drop c.loop-i.at pairs) =
-    subst (λ (ps : Pairs). drop c.place_from-found.result ps ≡ from_key entry.0 (drop c.loop-i.at ps)) held
-    (c.place_from-found.ensures.rest ∙ ap (λ key. from_key key (drop c.loop-i.at (row_pairs trees old))) c.key.ensures)
-    in
-    let past : drop c.place_behind-at.result pairs ≡ behind_key entry.0 (drop c.place_from-found.result pairs) =
-    subst (λ (ps : Pairs). drop c.place_behind-at.result ps ≡ behind_key entry.0 (drop c.place_from-found.result ps)) held_after
-    (c.place_behind-at.ensures.rest ∙ ap (λ key. behind_key key (drop c.place_from-found.result (row_pairs after old))) c.key-in-loop-i.ensures)
-    in
-    let more = count_more pairs entries c.loop-i.at i c.place_from-found.result c.place_behind-at.result entry l is rest past in
-    let steps : c.leaf_for.new.arena.steps ≤ c.loop-i.arena.steps + 2 * is_new entry (drop c.place_from-found.result pairs) =
-    subst (λ (ps : Pairs). c.leaf_for.new.arena.steps ≤ c.loop-i.arena.steps + 2 * is_new entry (drop c.place_from-found.result ps)) held c.leaf_for.ensures.steps
-    in
-    let so_far = c.loop-i.invariant.steps in
-    let counted_leaves : length row ≡ i =
-    let a = length-trees_at trees row in
-    let b = ap length c.loop-i.invariant.leaves in
-    let d = length-map (take i entries) leaf_of in
-    let e = length-take i entries in
-    omega arith
-    in
-    let counted = length-row_pairs before old in
-    let items = c.in_ok-push.ensures.items in
-    record {
-      leaves =
-          ap (trees_at after) items
-          ∙ map_push (tree_at after) row leaf
-          ∙ ap₂ (λ xs t. xs ++ t ∷ []) (trees_at-grows trees after row c.leaf_for.ensures.grows c.loop-i.invariant.stand ∙ c.loop-i.invariant.leaves) c.in_ok-leaf.ensures.leaf
-          ∙ sym (ap (map leaf_of) (take_more entries i entry l ∙ ap (λ (e : Text × Text). take i entries ++ e ∷ []) (sym is)) ∙ map_push leaf_of (take i entries) entry);
-      stand = subst (Stand after) (sym items) (All-push (λ n. n < length after) row leaf (stand-grows trees after row c.leaf_for.ensures.grows c.loop-i.invariant.stand) c.in_ok-leaf.ensures.there);
-      grows = all;
-      within = c.place_behind-at.ensures.within;
-      steps = omega arith;
-      same = λ same.
-          let now = c.loop-i.invariant.same same in
-          let rest_here : drop c.place_from-found.result pairs ≡ from_key entry.0 (drop i pairs) = rest ∙ ap (λ n. from_key entry.0 (drop n pairs)) now.0 in
-          let a = c.place_from-found.ensures.within in
-          let b = c.place_behind-at.ensures.within in
-          let w = lockstep pairs entries i c.place_from-found.result c.place_behind-at.result entry same l is (omega arith) (omega arith) rest_here past in
-          let kept : is_new entry (drop c.place_from-found.result pairs) ≡ 0 → leaf ≡ get_or old (length row) 0 =
-          λ none.
-          ok_is c.leaf_for.result leaf (get_or old c.place_from-found.result 0) c.in_ok-leaf.was
-          (subst (λ (ps : Pairs). is_new entry (drop c.place_from-found.result ps) ≡ 0 → c.leaf_for.result ≡ Ok (get_or old c.place_from-found.result 0)) held c.leaf_for.ensures.kept none)
-          ∙ ap (λ n. get_or old n 0) (w.1 ∙ sym counted_leaves)
-          in
-          let there = w.0 in
-          let pushed = differing-push row old leaf (is_new entry (drop c.place_from-found.result pairs)) (omega arith) kept in
-          let pushed_row : differing c.push.new.self.items old ≡ differing (row ++ leaf ∷ []) old = ap (λ row. differing row old) items in
-          let opened : count_new (drop i pairs) (drop i entries) ≡ is_new entry (drop c.place_from-found.result pairs) + count_new (drop (i + 1) pairs) (drop (i + 1) entries) =
-          ap (λ n. count_new (drop n pairs) (drop i entries)) (sym now.0) ∙ more ∙ ap (λ n. is_new entry (drop c.place_from-found.result pairs) + count_new (drop n pairs) (drop (i + 1) entries)) w.2
-          in
-          let most = now.1 in
-          (w.2, omega arith);
-    }
+    let less = c.min-behind.result in
+    let few : less ≤ c.args.back = let is = c.min-behind.ensures in omega arith in
+    let from : ℕ = length old - less in
+    let slice : List ℕ = take (length old - from) (drop from old) in
+    let is : slice ≡ drop from old = let counted = length-drop from old in take_all (length old - from) (drop from old) (omega arith) in
+    joined c.args.arena.now.trees c.leaves_until.new.arena.trees c.in_ok-row.row.items old c.extend_from_slice.new.self.items slice c.args.entries.now c.args.front c.args.back less
+    (length c.args.entries.now - less) c.requires.leaves c.requires.ends few refl c.leaves_until.ensures.grows c.in_ok-row.ensures.leaves c.in_ok-row.ensures.stand is c.in_ok-extend_from_slice.ensures.items
+
+pub returns-clause-leaves : goal.returns-clause-leaves
+returns-clause-leaves c = (whole c).leaves
+
+pub returns-clause-stand : goal.returns-clause-stand
+returns-clause-stand c = (whole c).stand
+
+pub returns-clause-same : goal.returns-clause-same
+returns-clause-same c = λ same. let most = (whole c).same same in let few = c.in_ok-row.ensures.same same in omega arith

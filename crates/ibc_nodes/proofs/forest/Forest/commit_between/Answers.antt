@@ -18,7 +18,7 @@ use Rattle.ibc_nodes.proofs.Chunks.{on_err}
 use Rattle.ibc_nodes.proofs.LeafRows.{length-row_pairs}
 use Rattle.ibc_nodes.proofs.Committing.{Committed, committed}
 use Rattle.ibc_nodes.proofs.Turning.{last-grows, last_pairs-grows, working_last, kept-grows, kept_pairs-grows}
-use Rattle.ibc_nodes.proofs.forest.Forest.commit.Goals as goal
+use Rattle.ibc_nodes.proofs.forest.Forest.commit_between.Goals as goal
 
 -- ---- a refusal
 

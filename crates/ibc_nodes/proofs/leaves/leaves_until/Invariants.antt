@@ -3,7 +3,7 @@ use Rattle.ibc_nodes.specs.Levels.{leaf_of, trees_at}
 use Rattle.ibc_nodes.specs.Leaves.{row_pairs, count_new, keys, differing}
 use Rattle.ibc_nodes.specs.Nodes.{Grows}
 use Rattle.ibc_nodes.specs.Rows.{Stand}
-use Rattle.ibc_nodes.proofs.leaves.leaf_row.Given as goal
+use Rattle.ibc_nodes.proofs.leaves.leaves_until.Given as goal
 
 abbrev pub invariant-loop-i : goal.invariant-loop-i
 invariant-loop-i l =
