@@ -44,7 +44,7 @@ module _ (ledger : Ledger) (old : HeldRecords) (apps : Apps) (stands : Stands le
   stands_ended : length (image (state_of ledger).chain.records.core) < 2 ^ 64 → (new : HeldRecords) → may_commit ledger.genesis.capacity (state_of ledger).chain next_time ≡ Ok tt
       → Publishes ledger.seen (published_as ledger.chain (working_block (state_of ledger).chain)) (ledger.seen ++ more)
       → published_by ledger.chain (ledger.seen ++ more) ≡ published_by ledger.chain ledger.seen ++ published_as ledger.chain (working_block (state_of ledger).chain) ∷ []
-      → 0 < ledger.genesis.window → height_of old.store < 2 ^ 64 - 1 → new ≡ after_commit old next_time
+      → 0 < ledger.genesis.window → height_of old.store < 2 ^ 64 - 1 → new ≡ after_commit old next_time new.store.hashed
       → Stands (with_entry ledger (entry_of (event.Block ledger.chain next_time) (reply.Ok (effect.Block (working_height (state_of ledger).chain) (core_root (state_of ledger).chain.records.core))) None (Some (length (ledger.seen ++ more)))) more) new apps
   stands_ended small new e publishes own_last some room is =
       stands_next ledger _ more new apps stands.is (ended_block_next ledger more stands.is next_time fits small tt e publishes own_last)

@@ -6,7 +6,7 @@ use Rattle.ibc_ledger.proofs.Common.{map-append, slice_get-map, Text, text_cmp, 
 use Rattle.ibc_ledger.proofs.Common.{with_consensus, Block, Chain, image, HeldStore, committed, kept_at, excess, gone_after, IsStored, ConsensusState, HeldClient, with_height, HeldRecords, core_of, consensus_in, IsUnchanged, UpdatesClient}
 use Rattle.ibc_ledger.proofs.Common.{IsWritten, consensus_of, working_block, IsStateOf, KeepsBlocks, passed, provable, kept_of}
 use Rattle.std.specs.List.{last_or}
-use Rattle.ibc_path_store.specs.Held.{height_of}
+use Rattle.ibc_path_store.specs.Held.{height_of, Hashed}
 use Rattle.ibc_records.specs.Held.{after_commit}
 use Rattle.ibc_ledger.specs.Standing.{last_block}
 use Rattle.ibc_records.specs.Knowledge.{Knows, plain_consensus}
@@ -77,8 +77,8 @@ module _ (window : ℕ) (chain : Chain) (store : HeldStore) (next_time : ℕ) (s
       ∙ drop-map kept_of (excess store) (drop n longer)
       ∙ ap (map kept_of) (drop-drop (excess store) n longer ∙ ap (λ m. drop m longer) one_more)
 
-  pub keeps_committed : KeepsBlocks window (record { records = chain.records; time = next_time; committed = longer }) (committed store next_time)
-  keeps_committed = record { working = keeps.working; gone = gone; kept = kept }
+  pub keeps_committed : (hashed : Hashed) → KeepsBlocks window (record { records = chain.records; time = next_time; committed = longer }) (record (committed store next_time) { hashed = hashed })
+  keeps_committed hashed = record { working = keeps.working; gone = gone; kept = kept }
 
 -- ---- proofs of committed heights
 
@@ -196,7 +196,7 @@ module _ (window : ℕ) (state : LedgerState) (old : HeldRecords) (apps : Apps) 
         (sym (ap (option_and_then (λ (c : HeldClient). at nat_cmp height c.known)) (ap (λ (h : HeldRecords). at text_cmp client h.clients) updates.records ∙ at-with text_cmp text_cmp_total client m.client (with_height m.header.height (consensus_of m.header) updates.client) old.clients)) ∙ e))
 
   -- the working block joins the committed ones
-  pub committed_holds : (next_time : ℕ) (new : HeldRecords) → 0 < window → height_of old.store < 2 ^ 64 - 1 → new ≡ after_commit old next_time
+  pub committed_holds : (next_time : ℕ) (new : HeldRecords) → 0 < window → height_of old.store < 2 ^ 64 - 1 → new ≡ after_commit old next_time new.store.hashed
       → IsStateOf window (record state { chain = record { records = state.chain.records; time = next_time; committed = state.chain.committed ++ working_block state.chain ∷ [] } }) new apps
   committed_holds next_time new some room is = record {
     core = ap core_of is ∙ holds.core;
@@ -207,7 +207,7 @@ module _ (window : ℕ) (state : LedgerState) (old : HeldRecords) (apps : Apps) 
     known = λ client height known e. holds.known client height known (sym (ap (λ (h : HeldRecords). consensus_in h client height) is) ∙ e);
     last = ap (λ (h : HeldRecords). h.last) is ∙ (λ i. record { core = holds.core i; time = holds.time i }) ∙ ap last_block (sym (last_more None state.chain.committed (working_block state.chain)));
     keeps = subst (λ (h : HeldRecords). KeepsBlocks window (record { records = state.chain.records; time = next_time; committed = state.chain.committed ++ working_block state.chain ∷ [] }) h.store) (sym is)
-        (keeps_committed window state.chain old.store next_time some room holds.window_is holds.time holds.height holds.keeps);
+        (keeps_committed window state.chain old.store next_time some room holds.window_is holds.time holds.height holds.keeps new.store.hashed);
   }
     where
       one_higher : height_of (committed old.store next_time) ≡ length (state.chain.committed ++ working_block state.chain ∷ [])

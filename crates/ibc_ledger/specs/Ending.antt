@@ -19,7 +19,7 @@ pub record IsCommitted (capacity next_time : ℕ) (held : HeldRecords) (pass : S
   pub forward : held.store.time ≤ next_time
   pub room : height_of held.store < capacity
   pub small : length (image (core_of held)) < 2 ^ 64
-  pub records : held' ≡ after_commit held next_time
+  pub records : held' ≡ after_commit held next_time held'.store.hashed
   pub root : given.1 ≡ core_root (core_of held)
   pub height : given.0 ≡ published_height (own_chain pass) pass'.seen
   pub same : SamePass pass pass'

@@ -1,17 +1,22 @@
 -- What a store holds, and what it keeps of each height.
 use Rattle.std.specs.Prelude.{ℕ, ◌+◌, ◌-◌, ◌^◌, min, List, [], ◌∷◌, ◌++◌, length, drop, slice_get, nat_lt, true, false, Option, None}
 use Rattle.ibc_merkle.specs.Tree.{Pairs}
+use Rattle.ibc_path_store.specs.declared.untouched.Untouched.{Untouched}
 
--- the pairs of a map in the order of their keys, how many more fit without a growth, and how many first ones and last ones
--- weren't touched since the map was settled
+-- the pairs of a map in the order of their keys, how many more fit without a growth, and which weren't touched since the map
+-- was settled
 pub record HeldMap : Type 0 where
   pub pairs : Pairs
   pub room : ℕ
-  pub front : ℕ
-  pub back : ℕ
+  pub untouched : Untouched
+
+-- what was hashed: the pairs of the last commit, none before the first one, and how many texts for all accepted commits
+pub record Hashed : Type 0 where
+  pub last : Pairs
+  pub digests : ℕ
 
 -- A store: the working map with its room, the working time, and of the committed heights the last ones, at
--- most as many as the window, each with its pairs and its time. The heights before them are gone.
+-- most as many as the window, each with its pairs and its time. The heights before them are gone. And what was hashed.
 pub record HeldStore : Type 0 where
   pub pairs : Pairs
   pub room : ℕ
@@ -19,6 +24,7 @@ pub record HeldStore : Type 0 where
   pub window : ℕ
   pub gone : ℕ
   pub kept : List (Pairs × ℕ)
+  pub hashed : Hashed
 
 -- how many heights are gone: no height is above 2^64 - 1
 abbrev pub gone_after : ℕ → ℕ → ℕ
@@ -32,7 +38,7 @@ height_of store = store.gone + length store.kept
 abbrev pub excess : HeldStore → ℕ
 excess store = length store.kept + 1 - store.window
 
--- the store after a commit: the working pairs and the working time are those of one more height
+-- the store after a commit, up to what was hashed: the working pairs and the working time are those of one more height
 abbrev pub committed : HeldStore → ℕ → HeldStore
 committed store next_time =
     let all = store.kept ++ (store.pairs, store.time) ∷ [] in

@@ -4,6 +4,7 @@
 mod path_map;
 mod store;
 mod tree;
+mod untouched;
 
 pub use store::Store;
 pub use tree::Tree;

@@ -1,6 +1,6 @@
 //! A map from paths to values, in the order of the paths.
 
-ghost use Rattle.std.specs.Prelude.{◌≡◌, ◌+◌, ◌≤◌, ◌<◌, length, min, [], IsTrue, IsOk, OnOk, OnErr, IfOk, IfErr, option_map, string_bytes};
+ghost use Rattle.std.specs.Prelude.{◌≡◌, ◌+◌, ◌≤◌, ◌<◌, length, [], IsTrue, IsOk, OnOk, OnErr, IfOk, IfErr, option_map, string_bytes};
 ghost use Rattle.std.specs.List.{HoldsAt};
 ghost use Rattle.std.specs.List.Sorted.{IsPartitionPoint};
 ghost use Rattle.std.specs.FinMap.{is_sorted};
@@ -10,6 +10,7 @@ ghost use Rattle.ibc_ids.specs.Maps.{at, with, without};
 ghost use Rattle.ibc_merkle.specs.Tree.{Pairs};
 ghost use Rattle.ibc_nodes.specs.Leaves.{SharesEnds};
 
+use crate::untouched::Untouched;
 use ibc_ids::Bytes;
 use ibc_merkle::{Entry, place};
 use std::alloc::{AllocError, Global};
@@ -19,8 +20,7 @@ use std::marker::Model;
 #[derive(Drop, Debug)]
 pub struct PathMap {
     entries: Vec<Entry>,
-    front: usize,
-    back: usize,
+    untouched: Untouched,
 }
 
 impl Model for PathMap {
@@ -34,8 +34,7 @@ impl Model for PathMap {
     ghost view = { λ map. record {
       pairs = map.entries.items;
       room = vec_capacity map.entries - vec_len map.entries;
-      front = map.front;
-      back = map.back;
+      untouched = map.untouched;
     } };
 
     ghost invariant = { λ map. IsTrue (is_sorted text_cmp map.entries.items) };
@@ -45,13 +44,11 @@ impl PathMap {
     /// An empty map.
     pub fn new(alloc: Global) -> PathMap
         ensures pairs { result.pairs ≡ [] }
-        ensures front { result.front ≡ 0 }
-        ensures back { result.back ≡ 0 }
+        ensures untouched { result.untouched ≡ record { front = 0; back = 0 } }
     {
         PathMap {
             entries: Vec::new(alloc),
-            front: 0,
-            back: 0,
+            untouched: Untouched::all(0),
         }
     }
 
@@ -70,20 +67,20 @@ impl PathMap {
         ensures reserved { 0 < self.old.room → IsOk result }
         ensures room { self.old.room ≤ self.new.room + 1 }
         ensures err { OnErr result (self.new.pairs ≡ self.old.pairs) }
-        ensures ends { (last : Pairs) → SharesEnds last self.old.pairs self.old.front self.old.back → SharesEnds last self.new.pairs self.new.front self.new.back }
+        ensures ends { (last : Pairs) → SharesEnds last self.old.pairs self.old.untouched.front self.old.untouched.back → SharesEnds last self.new.pairs self.new.untouched.front self.new.untouched.back }
     {
         let key = Bytes::from_vec(path.into_bytes());
         match self.place(key.as_slice()) {
             Ok(index) => {
                 let behind = self.entries.len() - index - 1;
                 self.entries[index].set_value(value);
-                self.touch(index, behind);
+                self.untouched.touch(index, behind);
                 Ok(())
             }
             Err(index) => {
                 let behind = self.entries.len() - index;
                 self.entries.insert(index, Entry::new(key, value))?;
-                self.touch(index, behind);
+                self.untouched.touch(index, behind);
                 Ok(())
             }
         }
@@ -103,44 +100,28 @@ impl PathMap {
     pub fn remove(&mut self, path: &str)
         ensures pairs { self.new.pairs ≡ without text_cmp path.now self.old.pairs }
         ensures room { self.old.room ≤ self.new.room }
-        ensures ends { (last : Pairs) → SharesEnds last self.old.pairs self.old.front self.old.back → SharesEnds last self.new.pairs self.new.front self.new.back }
+        ensures ends { (last : Pairs) → SharesEnds last self.old.pairs self.old.untouched.front self.old.untouched.back → SharesEnds last self.new.pairs self.new.untouched.front self.new.untouched.back }
     {
         if let Ok(index) = self.place(path.as_bytes()) {
             let behind = self.entries.len() - index - 1;
             self.entries.remove(index);
-            self.touch(index, behind);
+            self.untouched.touch(index, behind);
         }
     }
 
-    /// Begins to note anew which first and last pairs aren't touched.
+    /// Begins to note anew which pairs aren't touched.
     pub fn settle(&mut self)
-        ensures same { self.new ≡ record self.old { front = length self.old.pairs; back = length self.old.pairs } }
-        ensures ends { SharesEnds self.old.pairs self.new.pairs self.new.front self.new.back }
+        ensures same { self.new ≡ record self.old { untouched = record { front = length self.old.pairs; back = length self.old.pairs } } }
+        ensures ends { SharesEnds self.old.pairs self.new.pairs self.new.untouched.front self.new.untouched.back }
     {
-        self.front = self.entries.len();
-        self.back = self.entries.len();
+        self.untouched = Untouched::all(self.entries.len());
     }
 
-    /// How many first pairs weren't touched since the map was settled.
-    pub fn front(&self) -> usize
-        ensures { result ≡ self.now.front }
+    /// Which pairs weren't touched since the map was settled.
+    pub fn untouched(&self) -> Untouched
+        ensures { result ≡ self.now.untouched }
     {
-        self.front
-    }
-
-    /// How many last pairs weren't touched since the map was settled.
-    pub fn back(&self) -> usize
-        ensures { result ≡ self.now.back }
-    {
-        self.back
-    }
-
-    // Notes that a pair was touched, of which so many stand before it, and so many behind.
-    fn touch(&mut self, before: usize, behind: usize)
-        ensures { self.new ≡ record self.old { front = min self.old.front before; back = min self.old.back behind } }
-    {
-        self.front = self.front.min(before);
-        self.back = self.back.min(behind);
+        self.untouched
     }
 
     /// The pairs; their keys strictly rise in byte order.

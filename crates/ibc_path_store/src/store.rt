@@ -1,6 +1,6 @@
 //! A store of records by path, with its committed heights.
 
-ghost use Rattle.std.specs.Prelude.{◌≡◌, ◌⊎◌, ◌↔◌, ◌+◌, ◌-◌, ◌^◌, ◌≤◌, ◌<◌, ℕ, [], length, min, IsTrue, IsOk, OnOk, OnErr, IfSome, IfOk, IfErr, IsNone, Some, None, slice_index_or, option_map, string_bytes};
+ghost use Rattle.std.specs.Prelude.{◌≡◌, ◌⊎◌, ◌↔◌, ◌+◌, ◌-◌, ◌*◌, ◌^◌, ◌≤◌, ◌<◌, ℕ, [], length, min, IsTrue, IsOk, OnOk, OnErr, IfSome, IfOk, IfErr, IsNone, Some, None, slice_index_or, option_map, string_bytes};
 ghost use Rattle.std.specs.Option.{IsSomeAnd};
 ghost use Rattle.ibc_ids.specs.Texts.{text_cmp};
 ghost use Rattle.ibc_ids.specs.Maps.{at, with, without};
@@ -8,10 +8,12 @@ ghost use Rattle.ibc_ids.specs.Paths.{path};
 ghost use Rattle.ibc_ids.specs.declared.refusal.Refusal.TheVariants.{NoMemory, NoConsensus, TimeBack};
 ghost use Rattle.ibc_merkle.specs.Tree.{tree_root};
 ghost use Rattle.ibc_merkle.specs.Written.{written};
+ghost use Rattle.ibc_nodes.specs.Leaves.{count_new, keys};
 ghost use Rattle.ibc_path_store.specs.Held.{committed, height_of, kept_at};
 
 use crate::path_map::PathMap;
 use crate::tree::Tree;
+use crate::untouched::Untouched;
 use ibc_ids::{Bytes, Key, Refusal, Root};
 use ibc_merkle::Proof;
 use ibc_nodes::Forest;
@@ -44,9 +46,10 @@ impl Model for Store {
       window = store.window;
       gone = store.gone;
       kept = store.forest.kept;
+      hashed = record { last = store.forest.last; digests = store.forest.digests };
     } };
 
-    ghost invariant = { λ store. (length store.forest.kept ≤ store.window) × SharesEnds store.forest.last store.map.pairs store.map.front store.map.back };
+    ghost invariant = { λ store. (length store.forest.kept ≤ store.window) × SharesEnds store.forest.last store.map.pairs store.map.untouched.front store.map.untouched.back };
 }
 
 impl Store {
@@ -58,6 +61,7 @@ impl Store {
         ensures window { result.window ≡ window }
         ensures gone { result.gone ≡ 0 }
         ensures kept { result.kept ≡ [] }
+        ensures hashed { result.hashed ≡ record { last = []; digests = 0 } }
     {
         Store {
             map: PathMap::new(alloc),
@@ -75,9 +79,11 @@ impl Store {
         self.gone.saturating_add(self.forest.heights() as u64)
     }
 
-    /// How many texts were hashed for the accepted commits, and never above 2^64 - 1 (`Forest::commit` says how many at
-    /// most).
-    pub fn digests(&self) -> u64 {
+    /// How many texts were hashed for all accepted commits, and never above 2^64 - 1. A refused commit doesn't count, nor does
+    /// anything else.
+    pub fn digests(&self) -> u64
+        ensures { result ≡ self.now.hashed.digests }
+    {
         self.forest.digests()
     }
 
@@ -127,11 +133,16 @@ impl Store {
 
     /// Commits the working map and the working time as the next height, answers the root of the map's tree (ICS 23,
     /// "CommitmentRoot"), and begins a block of the time `next_time`. `TimeBack` where `next_time` is below the working
-    /// time; `NoMemory` where a growth is refused. A refusal leaves the store.
+    /// time; `NoMemory` where a growth is refused. A refusal leaves the store. Of n pairs, of which the last commit doesn't have k,
+    /// at most `2k + n - 1` texts are hashed, and where the keys are those of the last commit at most `2k + k * ceil(log2 n)`.
     pub fn commit(&mut self, next_time: u64) -> Result<Root, Refusal>
         requires { 0 < length self.old.pairs }
         ensures root { IfOk result (λ root. root ≡ tree_root self.old.pairs) }
-        ensures ok { OnOk result (self.new ≡ committed self.old next_time) }
+        ensures ok { OnOk result (self.new ≡ record (committed self.old next_time) { hashed = self.new.hashed }) }
+        ensures last { OnOk result (self.new.hashed.last ≡ self.old.pairs) }
+        ensures more { self.old.hashed.digests ≤ self.new.hashed.digests }
+        ensures few { OnOk result (self.new.hashed.digests + 1 ≤ self.old.hashed.digests + 2 * count_new self.old.hashed.last self.old.pairs + length self.old.pairs) }
+        ensures same { keys self.old.pairs ≡ keys self.old.hashed.last → (log : ℕ) → length self.old.pairs ≤ 2 ^ log → OnOk result (self.new.hashed.digests ≤ self.old.hashed.digests + count_new self.old.hashed.last self.old.pairs * (2 + log)) }
         ensures size { OnOk result (length self.old.pairs < 2 ^ 64) }
         ensures time_back { (result ≡ Err TimeBack) ↔ (next_time < self.old.time) }
         ensures err { IfErr result (λ refusal. (refusal ≡ TimeBack) ⊎ (refusal ≡ NoMemory)) }
@@ -140,7 +151,7 @@ impl Store {
         if next_time < self.time {
             return Err(Refusal::TimeBack);
         }
-        let (front, back) = (self.map.front(), self.map.back());
+        let Untouched { front, back } = self.map.untouched();
         let root = self
             .forest
             .commit_between(self.map.entries(), self.time, front, back)?;

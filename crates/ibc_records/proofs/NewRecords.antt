@@ -41,12 +41,12 @@ abbrev pub with_maps : Maps → HeldRecords → HeldRecords
 with_maps maps held = record held { clients = maps.0; connections = maps.1; channels = maps.2; last = maps.3 }
 
 pub new_held_records : (maps : Maps) (window time : ℕ) (next : NextNumbers) (s0 s1 s2 s3 s4 : HeldStore) {p q r u v w : Text}
-    → maps.0 ≡ [] → maps.1 ≡ [] → maps.2 ≡ [] → maps.3 ≡ no_block → s0.pairs ≡ [] → s0.time ≡ time → s0.window ≡ window → s0.gone ≡ 0 → s0.kept ≡ []
+    → maps.0 ≡ [] → maps.1 ≡ [] → maps.2 ≡ [] → maps.3 ≡ no_block → s0.pairs ≡ [] → s0.time ≡ time → s0.window ≡ window → s0.gone ≡ 0 → s0.kept ≡ [] → s0.hashed ≡ record { last = []; digests = 0 }
     → s1 ≡ record s0 { room = s1.room } → Sets s1 p u s2 → Sets s2 q v s3 → Sets s3 r w s4
     → p ≡ path key.NextClientSequence → q ≡ path key.NextConnectionSequence → r ≡ path key.NextChannelSequence
     → u ≡ value_bytes (NumberIs next.client) → v ≡ value_bytes (NumberIs next.connection) → w ≡ value_bytes (NumberIs next.channel)
     → IsHeld (with_maps maps (new_records next s4)) × IsCountingFrom window time next (with_maps maps (new_records next s4))
-new_held_records maps window time next s0 s1 s2 s3 s4 {p} {q} {r} {u} {v} {w} no_client no_connection no_channel no_last empty et ew eg ek e f g h ep eq er eu ev ewv =
+new_held_records maps window time next s0 s1 s2 s3 s4 {p} {q} {r} {u} {v} {w} no_client no_connection no_channel no_last empty et ew eg ek eh e f g h ep eq er eu ev ewv =
     let becomes = becomes_set s0 _ s3 s4 (becomes_set s0 _ s2 s3 (becomes_set s0 _ s1 s2 (becomes_roomy s0 s1 e) f ep eu) g eq ev) h er ewv in
     let pairs : s4.pairs ≡ image (core_from next) = becomes.pairs_are ∙ ap (λ pairs. with text_cmp (path key.NextChannelSequence) (value_bytes (NumberIs next.channel)) (with text_cmp (path key.NextConnectionSequence) (value_bytes (NumberIs next.connection)) (with text_cmp (path key.NextClientSequence) (value_bytes (NumberIs next.client)) pairs))) empty ∙ image-counters next in
     let held : HeldRecords = new_records next s4 in
@@ -66,6 +66,7 @@ new_held_records maps window time next s0 s1 s2 s3 s4 {p} {q} {r} {u} {v} {w} no
           window = (ap (λ (s : HeldStore). s.window) becomes.rewrites ∙ ew) i;
           gone = (ap (λ (s : HeldStore). s.gone) becomes.rewrites ∙ eg) i;
           kept = (ap (λ (s : HeldStore). s.kept) becomes.rewrites ∙ ek) i;
+          hashed = (ap (λ (s : HeldStore). s.hashed) becomes.rewrites ∙ eh) i;
         };
       },
     )

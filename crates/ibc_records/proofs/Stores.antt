@@ -18,6 +18,7 @@ rewrites_twice a b c e f = λ i. record {
   window = (ap (λ (s : HeldStore). s.window) f ∙ ap (λ (s : HeldStore). s.window) e) i;
   gone = (ap (λ (s : HeldStore). s.gone) f ∙ ap (λ (s : HeldStore). s.gone) e) i;
   kept = (ap (λ (s : HeldStore). s.kept) f ∙ ap (λ (s : HeldStore). s.kept) e) i;
+  hashed = (ap (λ (s : HeldStore). s.hashed) f ∙ ap (λ (s : HeldStore). s.hashed) e) i;
 }
 
 -- the store has these values at these paths
@@ -36,6 +37,7 @@ sets_rewrites old pairs new e = λ i. record {
   window = ap (λ (s : HeldStore). s.window) e i;
   gone = ap (λ (s : HeldStore). s.gone) e i;
   kept = ap (λ (s : HeldStore). s.kept) e i;
+  hashed = ap (λ (s : HeldStore). s.hashed) e i;
 }
 
 -- a store whose pairs are these, and which is the old one otherwise
@@ -53,6 +55,7 @@ becomes_roomy old new e = record {
     window = ap (λ (s : HeldStore). s.window) e i;
     gone = ap (λ (s : HeldStore). s.gone) e i;
     kept = ap (λ (s : HeldStore). s.kept) e i;
+    hashed = ap (λ (s : HeldStore). s.hashed) e i;
   };
   pairs_are = ap (λ (s : HeldStore). s.pairs) e;
 }

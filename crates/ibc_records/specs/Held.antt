@@ -14,7 +14,7 @@ use Rattle.ibc_machine.specs.Channels.{new_channel, with_new_channel}
 use Rattle.ibc_machine.specs.Genesis.{empty_core}
 use Rattle.ibc_machine.specs.Image.{image, IsKeyed}
 use Rattle.ibc_machine.specs.Clients.{new_client, updated}
-use Rattle.ibc_path_store.specs.Held.{HeldStore, committed}
+use Rattle.ibc_path_store.specs.Held.{HeldStore, Hashed, committed}
 use Rattle.ibc_flight.specs.Orderly.{IsOrderlyEnd}
 use Rattle.ibc_records.specs.declared.client.ConsensusState.{ConsensusState}
 use Rattle.ibc_records.specs.declared.records.NextNumbers.{NextNumbers}
@@ -87,7 +87,7 @@ pub record IsCountingFrom (window time : ℕ) (next : NextNumbers) (held : HeldR
   pub connections : held.connections ≡ []
   pub channels : held.channels ≡ []
   pub core : core_of held ≡ core_from next
-  pub store : held.store ≡ record { pairs = image (core_from next); room = held.store.room; time = time; window = window; gone = 0; kept = [] }
+  pub store : held.store ≡ record { pairs = image (core_from next); room = held.store.room; time = time; window = window; gone = 0; kept = []; hashed = record { last = []; digests = 0 } }
   pub last : held.last ≡ no_block
 
 -- the records of a chain in the beginning, whose working block has this time
@@ -98,9 +98,10 @@ IsNew window time = IsCountingFrom window time (record { client = 0; connection 
 abbrev pub as_committed : HeldRecords → LastBlock
 as_committed held = record { core = core_of held; time = held.store.time }
 
--- the records after a commit, whose working block has this time
-abbrev pub after_commit : HeldRecords → ℕ → HeldRecords
-after_commit held next_time = record held { store = committed held.store next_time; last = as_committed held }
+-- the records after a commit, whose working block has this time, where this was hashed
+abbrev pub after_commit : HeldRecords → ℕ → Hashed → HeldRecords
+after_commit held next_time hashed =
+    record held { store = record (committed held.store next_time) { hashed = hashed }; last = as_committed held }
 
 -- nothing changed but how much room there is
 abbrev pub IsUnchanged : HeldRecords → HeldRecords → Type 0

@@ -217,7 +217,7 @@ impl Records {
     /// refused. A refusal leaves the records.
     pub fn commit(&mut self, next_time: u64) -> Result<Root, Refusal>
         ensures root { IfOk result (λ root. root ≡ core_root (core_of self.old)) }
-        ensures ok { OnOk result (self.new ≡ after_commit self.old next_time) }
+        ensures ok { OnOk result (self.new ≡ after_commit self.old next_time self.new.store.hashed) }
         ensures size { OnOk result (length (image (core_of self.old)) < 2 ^ 64) }
         ensures time_back { (result ≡ Err TimeBack) ↔ (next_time < self.old.store.time) }
         ensures err { IfErr result (λ refusal. (refusal ≡ TimeBack) ⊎ (refusal ≡ NoMemory)) }
