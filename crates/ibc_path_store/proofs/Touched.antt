@@ -1,11 +1,13 @@
 -- The first pairs and the last ones, where a pair between them is touched.
 use Rattle.std.proofs.Common.{◌≡◌, ℕ, suc, ◌+◌, ◌-◌, ◌<◌, ◌≤◌, ◌∷◌, ◌++◌, List, length, min, take, drop, set, sym, ap, ◌∙◌, subst, arith, length-take, length-drop, length-append}
-use Rattle.std.proofs.lemmas.List.{length-set, take-take, take-set-le, take-append-le, drop-set-lt, drop-drop, drop-append-add, length-take-le}
+use Rattle.std.proofs.lemmas.List.{length-set, take-take, take-set-le, take-append-le, drop-set-lt, drop-drop, length-take-le}
+use Rattle.std.proofs.Math.Seq.{drop-append-add}
 use Rattle.std.specs.List.{insert, remove}
 use Rattle.ibc_ids.specs.Texts.{Text}
 use Rattle.ibc_merkle.specs.Tree.{Pairs}
 use Rattle.ibc_nodes.specs.Leaves.{SharesEnds}
 use Rattle.ibc_nodes.proofs.Ends.{fewer_back}
+use Rattle.ibc_path_store.specs.declared.untouched.Untouched.{Untouched}
 
 -- fewer first ones are the same too
 fewer_front : (last pairs : Pairs) (front back less : ℕ) → SharesEnds last pairs front back → less ≤ front → take less pairs ≡ take less last
@@ -100,3 +102,14 @@ touched_gone last pairs after front back i l is ends =
           ∙ ap (λ n. drop n pairs) (let e : suc i + j ≡ length pairs - b = omega arith in e)
           ∙ fewer_back last pairs front back b ends (omega arith);
     }
+
+-- ---- as the code has it
+
+-- so many pairs stand before one that was touched, and so many behind it
+abbrev pub touched : Untouched → ℕ → ℕ → Untouched
+touched untouched before behind = record { front = min untouched.front before; back = min untouched.back behind }
+
+pub ends_after : (last after : Pairs) (old now new : Untouched) (before behind behind' : ℕ) → now ≡ old → new ≡ touched now before behind' → behind' ≡ behind
+    → SharesEnds last after (touched old before behind).front (touched old before behind).back → SharesEnds last after new.front new.back
+ends_after last after old now new before behind behind' same is counted ends =
+    subst (λ (untouched : Untouched). SharesEnds last after untouched.front untouched.back) (sym (is ∙ λ i. touched (same i) before (counted i))) ends

@@ -1,23 +1,24 @@
 -- The pairs without the one at the place of the path.
-use Rattle.std.proofs.Common.{◌≡◌, true, get_or, ap, ◌∙◌, sym}
+use Rattle.std.proofs.Common.{◌≡◌, ◌-◌, true, get_or, length, arith, ap, ◌∙◌, sym}
 use Rattle.std.specs.List.{remove}
 use Rattle.std.specs.FinMap.{is_sorted}
 use Rattle.ibc_ids.specs.Texts.{text_cmp}
 use Rattle.ibc_ids.specs.Maps.{without}
 use Rattle.ibc_path_store.specs.Held.{HeldMap}
 use Rattle.ibc_merkle.proofs.Places.{found-without, gap-without, remove_is_sorted}
+use Rattle.ibc_path_store.proofs.Touched.{touched_gone, ends_after}
 use Rattle.ibc_path_store.proofs.path_map.PathMap.remove.Goals as goal
 
-pairs_are : (c : goal.After-drop-remove-in-Ok) → c.self.inside.entries.items ≡ c.args.self.now.pairs
+pairs_are : (c : goal.After-touch) → c.self.inside.entries.items ≡ c.args.self.now.pairs
 pairs_are c = ap (λ (map : HeldMap). map.pairs) c.self.view_is
 
-stands : (c : goal.After-drop-remove-in-Ok) → c.remove.result ≡ get_or c.args.self.now.pairs c.in-Ok.index c.remove.result
+stands : (c : goal.After-touch) → c.remove.result ≡ get_or c.args.self.now.pairs c.in-Ok.index c.remove.result
 stands c = c.remove.ensures.value ∙ ap (λ pairs. get_or pairs c.in-Ok.index c.remove.result) (pairs_are c)
 
-sorted : (c : goal.After-drop-remove-in-Ok) → is_sorted text_cmp c.args.self.now.pairs ≡ true
+sorted : (c : goal.After-touch) → is_sorted text_cmp c.args.self.now.pairs ≡ true
 sorted c = ap (is_sorted text_cmp) (sym (pairs_are c)) ∙ c.self.invariant
 
-items_are : (c : goal.After-drop-remove-in-Ok) → c.remove.new.self.items ≡ remove c.args.self.now.pairs c.in-Ok.index
+items_are : (c : goal.After-touch) → c.remove.new.self.items ≡ remove c.args.self.now.pairs c.in-Ok.index
 items_are c = c.remove.ensures.items ∙ ap (λ pairs. remove pairs c.in-Ok.index) (pairs_are c)
 
 pub invariant_of-self : goal.invariant_of-self
@@ -35,3 +36,13 @@ pub returns-in_default-clause-pairs : goal.returns-in_default-clause-pairs
 returns-in_default-clause-pairs c =
     gap-without c.args.self.now.pairs c.as_bytes.result.now c.in_default.field-0 c.in_default.ensures.within c.in_default.ensures.gap
     ∙ ap (λ path. without text_cmp path c.args.self.now.pairs) c.as_bytes.ensures.value
+
+pub returns-in-Ok-clause-ends : goal.returns-in-Ok-clause-ends
+returns-in-Ok-clause-ends c = λ last ends.
+    let pairs = c.args.self.now.pairs in
+    let i = c.in-Ok.index in
+    let old = c.args.self.now.untouched in
+    ends_after last c.remove.new.self.items old c.self.inside.untouched c.touch.new.self i (length pairs - i - 1) _
+    (ap (λ (map : HeldMap). map.untouched) c.self.view_is) c.touch.ensures
+    (let counted = c.len.ensures in let same = ap length (pairs_are c) in omega arith)
+    (touched_gone last pairs c.remove.new.self.items old.front old.back i c.in-Ok.ensures.found (items_are c) ends)
