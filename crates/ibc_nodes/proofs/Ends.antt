@@ -1,5 +1,5 @@
 -- Rows and pairs that share their first and their last ones with others.
-use Rattle.std.proofs.Common.{◌≡◌, ℕ, zero, suc, ◌+◌, ◌-◌, ◌*◌, ◌<◌, ◌≤◌, true, false, ◌&&◌, is_lt, List, [], ◌∷◌, ◌++◌, length, take, drop, map, refl, sym, ap, ap₂, ◌∙◌, subst, arith, length-take, length-drop}
+use Rattle.std.proofs.Common.{◌≡◌, ℕ, zero, suc, ◌+◌, ◌-◌, ◌<◌, ◌≤◌, true, false, ◌&&◌, is_lt, List, [], ◌∷◌, ◌++◌, length, take, drop, map, refl, sym, ap, ap₂, ◌∙◌, subst, arith, length-take}
 use Rattle.std.proofs.lemmas.List.{length-map, take-map, drop-map, map-append, take-append-drop, drop-drop}
 use Rattle.std.proofs.lemmas.List.Elements.{All-drop, All-append}
 use Rattle.ibc_ids.specs.Texts.{Text}
@@ -9,7 +9,7 @@ use Rattle.ibc_merkle.specs.Proofs.{is_below}
 use Rattle.ibc_nodes.specs.Levels.{leaf_of, tree_at, trees_at}
 use Rattle.ibc_nodes.specs.Nodes.{Grows}
 use Rattle.ibc_nodes.specs.Rows.{Stand}
-use Rattle.ibc_nodes.specs.Leaves.{row_pairs, AreLeaves, from_key, behind_key, begins_with, is_new, count_new, keys, unlike, differing, SharesEnds}
+use Rattle.ibc_nodes.specs.Leaves.{row_pairs, AreLeaves, behind_key, begins_with, is_new, count_new, keys, differing, SharesEnds}
 use Rattle.ibc_nodes.proofs.Climbing.{length-trees_at}
 use Rattle.ibc_nodes.proofs.LeafRows.{stops, leaves_behind, is_new-not, unlike_not, length-row_pairs}
 use Rattle.ibc_nodes.proofs.Pairing.{trees_at-grows, stand-grows}

@@ -1,8 +1,6 @@
 -- The last leaves, behind the others.
 use Rattle.std.proofs.Common.{◌≡◌, ◌-◌, ◌≤◌, length, drop, take, refl, arith, ℕ, List, length-drop}
 use Rattle.std.proofs.lemmas.List.{take_all}
-use Rattle.ibc_merkle.specs.Tree.{Pairs}
-use Rattle.ibc_nodes.specs.Leaves.{differing}
 use Rattle.ibc_nodes.proofs.Ends.{Joined, joined}
 use Rattle.ibc_nodes.proofs.leaves.leaf_row.Goals as goal
 
