@@ -1,0 +1,2 @@
+mod Booked
+mod Gathering
