@@ -41,21 +41,30 @@ impl Counts {
     pub fn add_unmade(&mut self) {
         self.unmade = self.unmade.saturating_add(1);
     }
-}
 
-impl fmt::Display for Counts {
-    fn fmt<W: fmt::Write>(&self, f: &mut fmt::Formatter<W>) -> fmt::Result {
-        if self.accepted > 0 {
-            write!(f, "; ok: {}", self.accepted)?;
-        }
+    // Writes how often each refusal came, of those that came.
+    fn write_refused<W: fmt::Write>(&self, f: &mut fmt::Formatter<W>) -> fmt::Result {
         for (number, count) in self.refused.iter().enumerate() {
             if *count > 0 {
                 write!(f, "; no {number}: {count}")?;
             }
         }
-        if self.unmade > 0 {
-            write!(f, "; no message: {}", self.unmade)?;
-        }
         Ok(())
+    }
+}
+
+// Writes how often this came, if it did.
+fn write_count<W: fmt::Write>(f: &mut fmt::Formatter<W>, what: &str, count: u32) -> fmt::Result {
+    if count == 0 {
+        return Ok(());
+    }
+    write!(f, "; {what}: {count}")
+}
+
+impl fmt::Display for Counts {
+    fn fmt<W: fmt::Write>(&self, f: &mut fmt::Formatter<W>) -> fmt::Result {
+        write_count(f, "ok", self.accepted)?;
+        self.write_refused(f)?;
+        write_count(f, "no message", self.unmade)
     }
 }

@@ -7,10 +7,10 @@ use crate::spelled::Spelled;
 use ibc_ids::{Account, Bytes, ChannelId, ClientId, ConnectionId, Denom, Key, PortId, Refusal};
 use ibc_machine::{Effect, Event, Genesis, Reply, Totals};
 use ibc_merkle::Proof;
-use ibc_script_cli::{Chains, Worlds};
+use ibc_script_cli::{Chains, Tells, Worlds};
 use ibc_script_worlds::{Ledgers, NewWorlds};
 use ibc_wire::{ChannelEnd, ClientState, ConnectionEnd, Message, MessageKind, Packet};
-use std::alloc::Global;
+use std::alloc::{AllocError, Global};
 
 /// Makes the world of a genesis, and has it sent these groups of forgeries, which stand in the order of the messages that they
 /// forge.
@@ -153,11 +153,16 @@ impl<'l> ForgedChains<'l> {
         sent
     }
 
+    // The number of a message of a kind among those of that kind.
+    fn number_of(&mut self, kind: MessageKind) -> Result<usize, AllocError> {
+        self.seen.push(kind)?;
+        Ok(self.seen.iter().filter(|seen| **seen == kind).count())
+    }
+
     // Sends the forgeries of a message that is about to be sent.
     fn forge(&mut self, chain: u8, message: &Message) -> Result<(), Refusal> {
         let kind = message.kind();
-        self.seen.push(kind)?;
-        let number = self.seen.iter().filter(|seen| **seen == kind).count();
+        let number = self.number_of(kind)?;
         for group in self.groups.iter().skip(self.log.sent()) {
             if !group.is_of(kind, number) {
                 return Ok(());
@@ -244,7 +249,9 @@ impl Chains for ForgedChains<'_> {
     fn plans(&self, first: u8, second: u8) -> Result<(Vec<Message>, Vec<Message>), Refusal> {
         self.ledgers.plans(first, second)
     }
+}
 
+impl Tells for ForgedChains<'_> {
     fn totals(&self, chain: u8, channel: &ChannelId, denom: &Denom) -> Result<Totals, Refusal> {
         self.ledgers.totals(chain, channel, denom)
     }

@@ -31,6 +31,13 @@ pub struct LogWriter<'l> {
 }
 
 impl Kept {
+    // Adds a line of what was answered to a group of forgeries.
+    fn note_forged(&mut self, line: &str) -> Result<(), AllocError> {
+        self.lines.extend_from_slice(line.as_bytes())?;
+        self.sent = self.sent.saturating_add(1);
+        Ok(())
+    }
+
     // Adds bytes that the script wrote.
     fn write(&mut self, bytes: &[u8]) -> Result<(), AllocError> {
         self.lines.extend_from_slice(bytes)?;
@@ -64,11 +71,12 @@ impl Log {
     /// Keeps what was answered to a group of forgeries. Refused: `NoMemory`.
     pub fn note_forged(&self, title: &str, counts: &Counts) -> Result<(), Refusal> {
         let line = format!(in self.alloc; "  {title}{counts}\n")?;
-        if let Ok(mut kept) = self.kept.try_borrow_mut() {
-            kept.lines.extend_from_slice(line.as_bytes())?;
-            kept.sent = kept.sent.saturating_add(1);
-        }
-        Ok(())
+        let noted = match self.kept.try_borrow_mut() {
+            Ok(mut kept) => kept.note_forged(line.as_str()),
+            Err(_) => Ok(()),
+        };
+        drop(line);
+        Ok(noted?)
     }
 
     /// Keeps the root of a block. Refused: `NoMemory`.

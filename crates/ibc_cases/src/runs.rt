@@ -5,11 +5,21 @@ use crate::forgery::Group;
 use crate::log::{Log, LogWriter};
 use crate::streams::{SlowReader, SlowWriter};
 use ibc_script::Fault;
-use ibc_script_cli::drive;
+use ibc_script_cli::{Audited, Race, Races, drive};
 use ibc_script_worlds::NewWorlds;
 use std::alloc::Global;
 use std::io;
 use std::io::Write;
+
+/// Runs no races.
+pub struct NoRaces;
+
+impl Races for NoRaces {
+    fn race(&self, _relayers: u8, race: Race) -> Result<Audited, Fault> {
+        drop(race);
+        Err(Fault::NoMemory)
+    }
+}
 
 // Prints why a run has stopped, if it has.
 fn print_end<W: Write>(driven: Result<(), Fault>, output: &mut W) -> io::Result<()> {
@@ -23,7 +33,7 @@ fn print_end<W: Write>(driven: Result<(), Fault>, output: &mut W) -> io::Result<
 fn keep_run(alloc: Global, script: &[u8], groups: &[Group<'_>], log: &Log) -> io::Result<()> {
     let worlds = ForgedWorlds { alloc, groups, log };
     let mut output = LogWriter { log };
-    let driven = drive(alloc, &worlds, &["run"], script, &mut output);
+    let driven = drive(alloc, &worlds, &NoRaces, &["run"], script, &mut output);
     print_end(driven, &mut output)
 }
 
@@ -72,7 +82,7 @@ impl Run<'_> {
             calls: self.writes,
         };
         let worlds = NewWorlds::new(alloc);
-        let driven = drive(alloc, &worlds, &[self.word], reader, &mut writer);
+        let driven = drive(alloc, &worlds, &NoRaces, &[self.word], reader, &mut writer);
         output.write_all(writer.taken.as_slice())?;
         print_end(driven, output)
     }

@@ -30,7 +30,6 @@ use Rattle.ibc_script.specs.declared.draft.ConnectionDraft.{ConnectionDraft}
 use Rattle.ibc_script.specs.declared.draft.ConnectionDraft.TheVariants as connection
 use Rattle.ibc_script.specs.declared.draft.ChannelDraft.{ChannelDraft}
 use Rattle.ibc_script.specs.declared.draft.ChannelDraft.TheVariants as channel
-use Rattle.ibc_script.specs.declared.draft.ChannelTry.{ChannelTry}
 use Rattle.ibc_script.specs.declared.draft.PacketDraft.{PacketDraft}
 use Rattle.ibc_script.specs.declared.draft.PacketDraft.TheVariants as packet
 use Rattle.ibc_script.specs.declared.draft.SentPacket.{SentPacket}

@@ -1,7 +1,6 @@
 -- The messages of the step `open`, by what its two chains have given so far.
 use Rattle.std.specs.Prelude.{ℕ, Option, None, Some, option_map}
 use Rattle.std.specs.Option.{option_zip}
-use Rattle.ibc_ids.specs.Texts.{Text}
 use Rattle.ibc_machine.specs.declared.reply.Effect.{Effect}
 use Rattle.ibc_machine.specs.declared.reply.Effect.TheVariants as effect
 use Rattle.ibc_machine.specs.declared.reply.Reply.{Reply}

@@ -3,13 +3,21 @@
 ghost use Rattle.std.specs.Prelude.{IfOk};
 ghost use Rattle.ibc_script_cli.specs.Answers.{Answers, any_answers};
 
-use ibc_ids::{Account, Bytes, ChannelId, ClientId, ConnectionId, Denom, Key, PortId, Refusal};
+use ibc_ids::{
+    Account, Bytes, ChannelId, ClientId, ConnectionId, Denom, Key, PortId, Refusal, Root,
+};
 use ibc_machine::{Event, Reply, Totals};
 use ibc_merkle::Proof;
 use ibc_wire::{ChannelEnd, ClientState, ConnectionEnd, Message, Packet};
 
-/// The chains that the steps of a script are run on, by their numbers. Each call but `totals` is refused with `NoMemory`
-/// alone.
+/// What a chain's accepted block end gave: the root of the height that was committed, and the time of the next block.
+#[derive(Clone, Copy, Debug, PartialEq, Eq, Drop)]
+pub struct EndedBlock {
+    pub root: Root,
+    pub next_time: u64,
+}
+
+/// The chains that the steps of a script are run on, by their numbers. Each call is refused with `NoMemory` alone.
 pub trait Chains {
     // What the chains answer to the questions below.
     ghost answers: { Self → Answers } = { λ _. any_answers };
@@ -68,7 +76,10 @@ pub trait Chains {
     /// What relayers plan between two chains, from views of both as they stand at their last blocks: the messages for the
     /// second, which prove from the first, and those for the first.
     fn plans(&self, first: u8, second: u8) -> Result<(Vec<Message>, Vec<Message>), Refusal>;
+}
 
+/// Chains that tell what they hold, by their numbers. Each call but `totals` is refused with `NoMemory` alone.
+pub trait Tells {
     /// What a channel of port `transfer` of a chain has of a denomination, or why it has none.
     fn totals(&self, chain: u8, channel: &ChannelId, denom: &Denom) -> Result<Totals, Refusal>;
 

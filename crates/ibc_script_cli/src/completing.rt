@@ -8,6 +8,7 @@ ghost use Rattle.ibc_script_cli.specs.Completing.{IsEncoding, IsClaim, IsProofAt
 mod channels;
 mod clients;
 mod connections;
+mod packet_keys;
 mod packets;
 
 use crate::Chains;

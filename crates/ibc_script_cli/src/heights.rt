@@ -3,6 +3,7 @@
 ghost use Rattle.std.specs.Prelude.{◌≡◌, ◌++◌, ◌∷◌, [], length, map, All, IfOk, OnOk};
 ghost use Rattle.ibc_script_cli.specs.Heights.{kept_at, KeepsNone};
 
+use crate::EndedBlock;
 use ibc_ids::Root;
 use ibc_machine::{ChainStart, Genesis};
 use std::alloc::{AllocError, Global};
@@ -46,6 +47,16 @@ impl Heights {
             time: self.working_time,
         })?;
         self.working_time = next_time;
+        Ok(())
+    }
+
+    /// Blocks were committed, one after another. Error: no memory; a beginning of them is committed then.
+    pub fn commit_each(&mut self, blocks: &[EndedBlock]) -> Result<(), AllocError>
+        ensures { self.new.window ≡ self.old.window }
+    {
+        for block in blocks {
+            self.commit(block.root, block.next_time)?;
+        }
         Ok(())
     }
 }

@@ -8,12 +8,15 @@ mod line;
 mod opening;
 mod printing;
 mod program;
+mod racing;
 mod runner;
 mod streams;
 mod words;
 
-pub use chains::Chains;
+pub use chains::{Chains, EndedBlock, Tells};
 pub use line::{Line, line_text};
-pub use program::{Worlds, drive};
+pub use program::{Races, Worlds, drive};
+pub use racing::{Audited, Race};
+pub use runner::Runner;
 pub use streams::{read_input, write_line};
 pub use words::{Command, read_words};

@@ -3,7 +3,7 @@
 ghost use Rattle.std.specs.Prelude.{◌≤◌, length, IfErr};
 ghost use Rattle.ibc_script.specs.Faults.{StopsRun};
 
-use crate::{Chains, Line, line_text, write_line};
+use crate::{Audited, Line, Tells, line_text, write_line};
 use ibc_ids::{Account, Bytes, ChannelId, Denom};
 use ibc_script::{ChainName, Fault};
 use std::alloc::Global;
@@ -39,7 +39,7 @@ fn print_amounts<W: Write>(
 }
 
 // Prints the balances of a chain.
-fn print_balances_of<C: Chains, W: Write>(
+fn print_balances_of<C: Tells, W: Write>(
     alloc: Global,
     chain: &ChainName,
     number: u8,
@@ -55,7 +55,7 @@ fn print_balances_of<C: Chains, W: Write>(
 }
 
 /// Prints the balances of all chains, in the chains' order. Faults: `CannotWrite`, `NoMemory`.
-pub fn print_balances<C: Chains, W: Write>(
+pub fn print_balances<C: Tells, W: Write>(
     alloc: Global,
     names: &[ChainName],
     chains: &C,
@@ -108,7 +108,7 @@ fn print_channels<W: Write>(
 }
 
 // Prints the notes of a chain.
-fn print_notes_of<C: Chains, W: Write>(
+fn print_notes_of<C: Tells, W: Write>(
     alloc: Global,
     chain: &ChainName,
     number: u8,
@@ -124,7 +124,7 @@ fn print_notes_of<C: Chains, W: Write>(
 }
 
 /// Prints the notes of all chains, in the chains' order. Faults: `CannotWrite`, `NoMemory`.
-pub fn print_notes<C: Chains, W: Write>(
+pub fn print_notes<C: Tells, W: Write>(
     alloc: Global,
     names: &[ChainName],
     chains: &C,
@@ -135,6 +135,37 @@ pub fn print_notes<C: Chains, W: Write>(
 {
     for (number, chain) in names.iter().enumerate() {
         print_notes_of(alloc, chain, number as u8, chains, output)?;
+    }
+    Ok(())
+}
+
+/// Prints what an audit tells: the balances of all chains, and then the notes, in the chains' order. Faults: `CannotWrite`,
+/// `NoMemory`.
+pub fn print_audited<W: Write>(
+    alloc: Global,
+    names: &[ChainName],
+    audited: &Audited,
+    output: &mut W,
+) -> Result<(), Fault>
+    ensures { IfErr result StopsRun }
+{
+    for (chain, amounts) in names.iter().zip(audited.balances.iter()) {
+        print_amounts(alloc, chain, amounts.as_slice(), output)?;
+    }
+    print_audited_notes(alloc, names, audited, output)
+}
+
+// Prints the notes that an audit tells.
+fn print_audited_notes<W: Write>(
+    alloc: Global,
+    names: &[ChainName],
+    audited: &Audited,
+    output: &mut W,
+) -> Result<(), Fault>
+    ensures { IfErr result StopsRun }
+{
+    for (chain, channels) in names.iter().zip(audited.notes.iter()) {
+        print_channels(alloc, chain, channels.as_slice(), output)?;
     }
     Ok(())
 }

@@ -1,48 +1,68 @@
 //! The program, from its words and its input to the lines on its output.
 
-ghost use Rattle.std.specs.Prelude.{◌≡◌, ◌⊎◌, ◌<◌, map, true, false, length, IfOk, IfErr, IfSome, IsErrOf, Err};
+ghost use Rattle.std.specs.Prelude.{⊤, ◌≡◌, ◌⊎◌, ◌<◌, ◌≤◌, map, true, false, length, IfOk, IfErr, IfSome, IsErrOf, Err};
 ghost use Rattle.ibc_script.specs.Faults.{StopsRun, JudgesScript};
 ghost use Rattle.ibc_script_cli.specs.Words.{are_words};
 
 use crate::heights::{Heights, heights_at};
+use crate::printing::print_audited;
 use crate::runner::Runner;
-use crate::{Chains, Command, read_input, read_words};
+use crate::{Audited, Chains, Command, Race, Tells, read_input, read_words};
 use ibc_ids::Refusal;
 use ibc_machine::Genesis;
-use ibc_script::{Fault, Script, read_script};
-use std::alloc::Global;
+use ibc_script::{ChainName, Fault, Script, read_script};
+use std::alloc::{AllocError, Global};
 use std::io::{Read, Write};
 
 /// What makes the chains that a script is run on.
 pub trait Worlds {
     /// The chains that are made.
-    type Chains: Chains + Drop;
+    type Chains: Chains + Tells + Drop;
 
     /// The chains of a genesis in the beginning. Refused: `BadMessage` where no chains begin so; `NoMemory`.
     fn begin(&self, genesis: &Genesis) -> Result<Self::Chains, Refusal>;
 }
 
+/// What runs races.
+pub trait Races {
+    // What it stands on to start threads: that its leave may be shared by these, where it has one.
+    ghost may_race: { Self → Type 0 } = { λ _. ⊤ };
+
+    /// Runs a race on chains of its genesis that threads share, with so many relayers at each `relay`, and tells what an audit
+    /// of the chains finds at the end. Faults: `BadScript` where no chains begin so; those that stop a run.
+    fn race(&self, relayers: u8, race: Race) -> Result<Audited, Fault>
+        requires may { Self.may_race self.now }
+        requires few { 1 ≤ relayers × relayers ≤ 8 }
+        ensures { IfErr result (λ fault. StopsRun fault ⊎ JudgesScript fault) };
+}
+
 /// Does what the words after the program's name ask for: the script on the input is run on the chains of its genesis,
 /// and its lines are written to the output. Faults, by the first step that fails: `BadArguments` where the words ask for
 /// nothing that the program does; `CannotRead` where the input can't be read; `BadScript` where it is no script, or no
-/// chains begin as it says; then `CannotWrite`, where what was written stays written. `NoMemory` may come at each step.
-pub fn drive<S: Worlds, R: Read + Drop, W: Write>(
+/// chains begin as it says; then `CannotWrite`, where what was written stays written. `NoMemory` may come at each step. Where
+/// the words ask for a race, it is run by `races`, and what its audit tells is all that is written.
+pub fn drive<S: Worlds, Q: Races, R: Read + Drop, W: Write>(
     alloc: Global,
     worlds: &S,
+    races: &Q,
     words: &[&str],
     input: R,
     output: &mut W,
 ) -> Result<(), Fault>
+    requires { Q.may_race races.now }
     ensures asked { IfOk result (λ _. are_words (map (λ word. word.now) words.now) ≡ true) }
     ensures bad_arguments { IsErrOf result Fault.BadArguments → are_words (map (λ word. word.now) words.now) ≡ false }
     ensures words_first { are_words (map (λ word. word.now) words.now) ≡ false → (result ≡ Err Fault.BadArguments) ⊎ (result ≡ Err Fault.NoMemory) }
     ensures too_long { IfOk result (λ _. IfSome (R.remaining input) (λ known. length known < 1048577)) }
     ensures unwritten { IfErr result (λ fault. StopsRun fault ⊎ (output.new ≡ output.old)) }
 {
-    let Command::Run = read_words(alloc, words)?;
+    let command = read_words(alloc, words)?;
     let bytes = read_input(alloc, input)?;
     let script = read_script(alloc, bytes.as_slice())?;
-    run_script(alloc, worlds, script, output)
+    match command {
+        Command::Run => run_script(alloc, worlds, script, output),
+        Command::Race { relayers } => race_script(alloc, races, relayers, script, output),
+    }
 }
 
 /// What a script begins with: the heights of its chains, none committed yet, and the chains.
@@ -95,6 +115,37 @@ fn run_script<S: Worlds, W: Write>(
             Err(fault)
         }
     }
+}
+
+/// Runs a script as a race, and prints what the audit tells. Faults: `BadScript` where no chains begin so, and then nothing
+/// was written; `CannotWrite`, `NoMemory`, and then what was written stays written.
+fn race_script<Q: Races, W: Write>(
+    alloc: Global,
+    races: &Q,
+    relayers: u8,
+    script: Script,
+    output: &mut W,
+) -> Result<(), Fault>
+    requires may { Q.may_race races.now }
+    requires few { 1 ≤ relayers × relayers ≤ 8 }
+    ensures faults { IfErr result (λ fault. StopsRun fault ⊎ ((fault ≡ Fault.BadScript) × (output.new ≡ output.old))) }
+{
+    let names: Result<Vec<ChainName>, AllocError> = script.names.clone();
+    let race = Race::new(alloc, script);
+    let audited = races.race(relayers, race?)?;
+    print_race(alloc, names?.as_slice(), &audited, output)
+}
+
+/// Prints what an audit tells, and gives on what the output holds back.
+fn print_race<W: Write>(
+    alloc: Global,
+    names: &[ChainName],
+    audited: &Audited,
+    output: &mut W,
+) -> Result<(), Fault>
+    ensures { IfErr result StopsRun }
+{
+    flush_after(print_audited(alloc, names, audited, output), output)
 }
 
 /// Gives on what the output holds back, also where the run has stopped.

@@ -5,14 +5,16 @@ ghost use Rattle.ibc_script.specs.Faults.{StopsRun};
 ghost use Rattle.ibc_script.specs.Scripts.{IsAmong};
 ghost use Rattle.ibc_script_cli.specs.Opening.{own_of, given_by};
 
+mod looking;
+mod relaying;
+
 use crate::completing::Completer;
 use crate::heights::Heights;
 use crate::opening::{Opening, PLAN, Side};
 use crate::printing::{print, print_balances, print_notes};
-use crate::{Chains, Line};
-use ibc_ids::{Bytes, ChannelId, Denom, Key, Root};
+use crate::{Chains, EndedBlock, Line, Tells};
 use ibc_machine::{Effect, Event, Reply};
-use ibc_script::{ChainName, Draft, EventKind, Fault, Origin, Step};
+use ibc_script::{ChainName, Draft, EventKind, Fault, Step};
 use ibc_wire::Message;
 use std::alloc::{AllocError, Global};
 use std::io::Write;
@@ -251,162 +253,9 @@ impl<C: Chains + Drop> Runner<C> {
         opened
     }
 
-    // Prints what is known of the root of a height of a chain.
-    fn print_known_root<W: Write>(
-        &self,
-        on: u8,
-        height: u64,
-        root: Option<&Root>,
-        output: &mut W,
-    ) -> Result<(), Fault>
-        requires { on < length self.now.names.items }
-        ensures { IfErr result StopsRun }
-    {
-        let chain = &self.names[on as usize];
-        let line = Line::Root {
-            chain,
-            height,
-            root,
-        };
-        print(self.alloc, output, line)
-    }
-
-    /// Prints the root of a height of a chain.
-    fn print_root<W: Write>(&self, on: u8, height: u64, output: &mut W) -> Result<(), Fault>
-        requires { on < length self.now.names.items }
-        ensures { IfErr result StopsRun }
-    {
-        let committed = self.heights[on as usize].at(height);
-        let root = committed.map(|committed| committed.root);
-        self.print_known_root(on, height, root.as_ref(), output)
-    }
-
-    // Prints the encoding of a proof at a height of a chain.
-    fn print_encoding<W: Write>(
-        &self,
-        on: u8,
-        height: u64,
-        proof: Option<&Bytes>,
-        output: &mut W,
-    ) -> Result<(), Fault>
-        requires { on < length self.now.names.items }
-        ensures { IfErr result StopsRun }
-    {
-        let chain = &self.names[on as usize];
-        let line = Line::Prove {
-            chain,
-            height,
-            proof,
-        };
-        print(self.alloc, output, line)
-    }
-
-    /// Prints the proof of what a height of a chain has at a key.
-    fn print_proof<W: Write>(
-        &self,
-        on: u8,
-        height: u64,
-        key: Key,
-        output: &mut W,
-    ) -> Result<(), Fault>
-        requires { on < length self.now.names.items }
-        ensures { IfErr result StopsRun }
-    {
-        let from = Origin { chain: on, height };
-        let proof = self.completer().proof(from, key)?;
-        let printed = self.print_encoding(on, height, proof.as_ref(), output);
-        drop(proof);
-        printed
-    }
-
-    /// Prints what a channel of a chain has of a denomination.
-    fn print_totals<W: Write>(
-        &self,
-        on: u8,
-        channel: ChannelId,
-        denom: Denom,
-        output: &mut W,
-    ) -> Result<(), Fault>
-        requires { on < length self.now.names.items }
-        ensures { IfErr result StopsRun }
-    {
-        let line = Line::Totals {
-            chain: &self.names[on as usize],
-            channel: &channel,
-            denom: &denom,
-            totals: self.chains.totals(on, &channel, &denom),
-        };
-        print(self.alloc, output, line)
-    }
-
-    // Sends messages to a chain in turn, and prints the replies.
-    fn send_each<W: Write>(
-        &mut self,
-        on: u8,
-        messages: Vec<Message>,
-        output: &mut W,
-    ) -> Result<(), Fault>
-        requires { on < length self.old.names.items }
-        ensures same { self.new.names.items ≡ self.old.names.items }
-        ensures faults { IfErr result StopsRun }
-    {
-        for message in messages {
-            self.send(on, message, output)?;
-        }
-        Ok(())
-    }
-
-    // Sends two chains what is planned for them, as both stand before anything is sent.
-    fn send_plans<W: Write>(&mut self, first: u8, second: u8, output: &mut W) -> Result<(), Fault>
-        requires first { first < length self.old.names.items }
-        requires second { second < length self.old.names.items }
-        ensures same { self.new.names.items ≡ self.old.names.items }
-        ensures faults { IfErr result StopsRun }
-    {
-        let (for_second, for_first) = self.chains.plans(first, second).map_err(Fault::no_memory)?;
-        let sent = self.send_each(second, for_second, output);
-        match sent {
-            Ok(()) => self.send_each(first, for_first, output),
-            Err(fault) => {
-                drop(for_first);
-                Err(fault)
-            }
-        }
-    }
-
-    /// Takes one turn of a `relay`: both chains end their blocks, and then each is sent what is planned for it. A block or a
-    /// message that is refused stops nothing.
-    fn relay_once<W: Write>(&mut self, first: u8, second: u8, output: &mut W) -> Result<(), Fault>
-        requires first { first < length self.old.names.items }
-        requires second { second < length self.old.names.items }
-        ensures same { self.new.names.items ≡ self.old.names.items }
-        ensures faults { IfErr result StopsRun }
-    {
-        self.end_block(first, None, output)?;
-        self.end_block(second, None, output)?;
-        self.send_plans(first, second, output)
-    }
-
-    /// Relays between two chains for so many turns.
-    fn relay<W: Write>(
-        &mut self,
-        first: u8,
-        second: u8,
-        turns: u16,
-        output: &mut W,
-    ) -> Result<(), Fault>
-        requires first { first < length self.old.names.items }
-        requires second { second < length self.old.names.items }
-        ensures same { self.new.names.items ≡ self.old.names.items }
-        ensures faults { IfErr result StopsRun }
-    {
-        for _turn in 0..turns {
-            self.relay_once(first, second, output)?;
-        }
-        Ok(())
-    }
-
-    fn run<W: Write>(&mut self, step: Step, output: &mut W) -> Result<(), Fault>
+    /// Takes a step of the chains, and prints the replies. A step that only asks what chains have is passed over. Faults:
+    /// `CannotWrite`, `NoMemory`; what was written stays written.
+    pub fn act<W: Write>(&mut self, step: Step, output: &mut W) -> Result<(), Fault>
         requires { IsAmong (length self.old.names.items) step }
         ensures same { self.new.names.items ≡ self.old.names.items }
         ensures faults { IfErr result StopsRun }
@@ -414,9 +263,6 @@ impl<C: Chains + Drop> Runner<C> {
         match step {
             Step::Message { on, draft } => self.submit(on, draft, output).map(drop),
             Step::Block { on, time } => self.end_block(on, time, output).map(drop),
-            Step::Root { on, height } => self.print_root(on, height, output),
-            Step::Prove { on, height, key } => self.print_proof(on, height, key, output),
-            Step::Totals { on, channel, denom } => self.print_totals(on, channel, denom, output),
             Step::Open {
                 first,
                 second,
@@ -427,6 +273,53 @@ impl<C: Chains + Drop> Runner<C> {
                 second,
                 turns,
             } => self.relay(first, second, turns, output),
+            Step::Root { .. } | Step::Prove { .. } | Step::Totals { .. } => Ok(()),
+        }
+    }
+
+    /// Takes the steps of the chains in turn, and prints the replies; steps that only ask what chains have are passed over.
+    /// Faults: `CannotWrite`, `NoMemory`; what was written stays written.
+    pub fn act_each<W: Write>(&mut self, steps: Vec<Step>, output: &mut W) -> Result<(), Fault>
+        requires { All (IsAmong (length self.old.names.items)) steps.items }
+        ensures same { self.new.names.items ≡ self.old.names.items }
+        ensures faults { IfErr result StopsRun }
+    {
+        for step in steps {
+            self.act(step, output)?;
+        }
+        Ok(())
+    }
+
+    /// The chains.
+    pub fn chains(&self) -> &C {
+        &self.chains
+    }
+
+    /// Keeps the blocks that a chain was seen to end, one after another. Error: no memory; a beginning of them is kept then.
+    pub fn keep_ended(&mut self, on: u8, blocks: &[EndedBlock]) -> Result<(), AllocError>
+        requires { on < length self.old.names.items }
+        ensures { self.new.names.items ≡ self.old.names.items }
+    {
+        self.heights[on as usize].commit_each(blocks)
+    }
+
+    /// The chains, taken out.
+    pub fn into_chains(self) -> C {
+        self.chains
+    }
+}
+
+impl<C: Chains + Tells + Drop> Runner<C> {
+    fn run<W: Write>(&mut self, step: Step, output: &mut W) -> Result<(), Fault>
+        requires { IsAmong (length self.old.names.items) step }
+        ensures same { self.new.names.items ≡ self.old.names.items }
+        ensures faults { IfErr result StopsRun }
+    {
+        match step {
+            Step::Root { on, height } => self.print_root(on, height, output),
+            Step::Prove { on, height, key } => self.print_proof(on, height, key, output),
+            Step::Totals { on, channel, denom } => self.print_totals(on, channel, denom, output),
+            step => self.act(step, output),
         }
     }
 

@@ -5,7 +5,7 @@ use ibc_codec::{Wire, decode};
 use ibc_ids::{Account, Bytes, ChannelId, ClientId, ConnectionId, Denom, Key, PortId, Refusal};
 use ibc_machine::{Event, Genesis, Reply, Totals};
 use ibc_merkle::Proof;
-use ibc_script_cli::{Chains, Worlds};
+use ibc_script_cli::{Chains, Tells, Worlds};
 use ibc_wire::{ChannelEnd, ClientState, ConnectionEnd, Message, Packet};
 use ibc_world_core::World;
 use std::alloc::Global;
@@ -35,10 +35,7 @@ impl Ledgers {
     fn record<T: Wire + Drop>(&self, chain: u8, key: Key) -> Result<Option<T>, Refusal> {
         let value = self.value(chain, &key);
         drop(key);
-        match value? {
-            Some(bytes) => Ok(Some(decode(self.alloc, bytes.as_slice())?)),
-            None => Ok(None),
-        }
+        decoded(self.alloc, value?)
     }
 
     // The bytes that a chain has at a key.
@@ -47,6 +44,14 @@ impl Ledgers {
             Some(ledger) => ledger.query(key),
             None => Ok(None),
         }
+    }
+}
+
+// The record that bytes spell, none where there are none. Refused: `NoMemory`.
+pub fn decoded<T: Wire + Drop>(alloc: Global, bytes: Option<Bytes>) -> Result<Option<T>, Refusal> {
+    match bytes {
+        Some(bytes) => Ok(Some(decode(alloc, bytes.as_slice())?)),
+        None => Ok(None),
     }
 }
 
@@ -131,7 +136,9 @@ impl Chains for Ledgers {
             _ => Ok((Vec::new(self.alloc), Vec::new(self.alloc))),
         }
     }
+}
 
+impl Tells for Ledgers {
     fn totals(&self, chain: u8, channel: &ChannelId, denom: &Denom) -> Result<Totals, Refusal> {
         self.world.totals(chain, channel, denom)
     }

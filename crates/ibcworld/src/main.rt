@@ -3,10 +3,12 @@
 
 use ibc_script::Fault;
 use ibc_script_cli::drive;
-use ibc_script_worlds::NewWorlds;
+use ibc_script_worlds::{NewRaces, NewWorlds};
 use std::env::Env;
 use std::io::BufWriter;
 use std::process::ExitCode;
+use std::sync::Wait;
+use std::thread::Threads;
 use std::{env, io};
 
 /// The fault of words that can't be read, and of an output that can't be made.
@@ -19,7 +21,7 @@ fn fault_of(error: io::Error) -> Fault {
 }
 
 /// Does what the words after the program's name ask for.
-fn run(rt: &(impl Env + Input + Print + AllocGlobal)) -> Result<(), Fault> {
+fn run<R: Env + Input + Print + AllocGlobal + Threads + Wait + Sync>(rt: &R) -> Result<(), Fault> {
     let alloc = rt.alloc();
     let mut texts = Vec::new(alloc);
     for word in env::args(rt).map_err(fault_of)?.skip(1) {
@@ -30,6 +32,7 @@ fn run(rt: &(impl Env + Input + Print + AllocGlobal)) -> Result<(), Fault> {
     drive(
         alloc,
         &NewWorlds::new(alloc),
+        &NewRaces::new(rt, alloc),
         words.as_slice(),
         rt.reader(),
         &mut output,

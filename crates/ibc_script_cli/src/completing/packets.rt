@@ -1,17 +1,18 @@
 //! Messages for packets.
 
 ghost use Rattle.std.specs.Prelude.{◌≡◌, Some, IfOk, IfErr};
-ghost use Rattle.ibc_machine.specs.Proving.{commitment_key, ack_key, receipt_key, next_recv_key, destination_key};
+ghost use Rattle.ibc_machine.specs.Proving.{commitment_key, ack_key, destination_key};
 ghost use Rattle.ibc_wire.specs.declared.records.Order.TheVariants.{Unordered, Ordered};
 ghost use Rattle.ibc_script_cli.specs.Completing.{number_in, acknowledged_message, closed_message, IsProofAt, IsNextRecv, IsUnreceived, IsUnreceivedAt, MakesRecv, MakesAck, MakesTimeout, MakesTimeoutOnClose, MakesHandled, MakesOf, MakesPacketMessage};
 
+use super::packet_keys::{ack_key, commitment_key, destination_key, next_recv_key, receipt_key};
 use super::{Completer, encoding_of};
 use crate::Chains;
-use ibc_ids::{Bytes, Key};
+use ibc_ids::Bytes;
 use ibc_merkle::{Presence, Proof};
 use ibc_script::{Fault, Origin, PacketDraft, SentPacket};
 use ibc_wire::{AckPacket, Message, Order, Packet, RecvPacket, Timeout, TimeoutOnClose};
-use std::alloc::{AllocError, Global};
+use std::alloc::Global;
 
 /// What a message does with a packet that was sent (ICS 4, "Packet flow & handling").
 #[derive(Clone, Copy)]
@@ -32,54 +33,6 @@ pub enum Handling {
 pub struct Unreceived {
     pub next_recv: u64,
     pub proof: Bytes,
-}
-
-fn commitment_key(packet: &Packet) -> Result<Key, AllocError>
-    ensures { IfOk result (λ key. key ≡ commitment_key packet.now) }
-{
-    Ok(Key::Commitment(
-        packet.source_port.clone()?,
-        packet.source_channel.clone()?,
-        packet.sequence,
-    ))
-}
-
-fn ack_key(packet: &Packet) -> Result<Key, AllocError>
-    ensures { IfOk result (λ key. key ≡ ack_key packet.now) }
-{
-    Ok(Key::Acknowledgement(
-        packet.destination_port.clone()?,
-        packet.destination_channel.clone()?,
-        packet.sequence,
-    ))
-}
-
-fn receipt_key(packet: &Packet) -> Result<Key, AllocError>
-    ensures { IfOk result (λ key. key ≡ receipt_key packet.now) }
-{
-    Ok(Key::Receipt(
-        packet.destination_port.clone()?,
-        packet.destination_channel.clone()?,
-        packet.sequence,
-    ))
-}
-
-fn next_recv_key(packet: &Packet) -> Result<Key, AllocError>
-    ensures { IfOk result (λ key. key ≡ next_recv_key packet.now) }
-{
-    Ok(Key::NextSequenceRecv(
-        packet.destination_port.clone()?,
-        packet.destination_channel.clone()?,
-    ))
-}
-
-fn destination_key(packet: &Packet) -> Result<Key, AllocError>
-    ensures { IfOk result (λ key. key ≡ destination_key packet.now) }
-{
-    Ok(Key::ChannelEnd(
-        packet.destination_port.clone()?,
-        packet.destination_channel.clone()?,
-    ))
 }
 
 /// The number that 8 bytes are, `None` where they are not 8.

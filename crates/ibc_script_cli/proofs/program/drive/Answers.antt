@@ -16,8 +16,14 @@ whatever : {T E : Type 0} (r : Result T E) (P : Type 0) → P → IfOk r (λ _. 
 whatever (Ok x) P p = p
 whatever (Err e) P p = tt
 
+pub returns-in-Run-clause-too_long : goal.returns-in-Run-clause-too_long
+returns-in-Run-clause-too_long g c =
+    let same : length c.as_slice.result.now ≡ length c.in_ok-bytes.bytes.items = cc in
+    let short : length c.as_slice.result.now < 1048577 = few c.read_script.result c.in_ok-script.script _ 1048576 (length c.as_slice.result.now) c.read_script.ensures.too_long c.in_ok-script.was in
+    whatever c.run_script.result _ (whole (g.R.Read.remaining c.args.input) 1048577 c.in_ok-bytes.bytes.items c.in_ok-bytes.ensures.bytes (omega arith))
+
 pub returns-clause-too_long : goal.returns-clause-too_long
 returns-clause-too_long g c =
     let same : length c.as_slice.result.now ≡ length c.in_ok-bytes.bytes.items = cc in
     let short : length c.as_slice.result.now < 1048577 = few c.read_script.result c.in_ok-script.script _ 1048576 (length c.as_slice.result.now) c.read_script.ensures.too_long c.in_ok-script.was in
-    whatever c.run_script.result _ (whole (g.R.Read.remaining c.args.input) 1048577 c.in_ok-bytes.bytes.items c.in_ok-bytes.ensures.bytes (omega arith))
+    whatever c.race_script.result _ (whole (g.R.Read.remaining c.args.input) 1048577 c.in_ok-bytes.bytes.items c.in_ok-bytes.ensures.bytes (omega arith))

@@ -1,4 +1,4 @@
-use Rattle.std.proofs.Common.{◌≡◌, IfOk, subst, sym}
+use Rattle.std.proofs.Common.{IfOk, subst, sym}
 use Rattle.ibc_script_cli.proofs.MadeKinds.{are_of_kind}
 use Rattle.ibc_script_cli.specs.Completing.{MakesMessage}
 use Rattle.ibc_script_cli.proofs.completing.Completer.complete.Goals as goal

@@ -1,4 +1,4 @@
-use Rattle.std.proofs.Common.{◌≡◌, length, All, sym, subst, ◌∙◌}
+use Rattle.std.proofs.Common.{length, All, sym, subst, ◌∙◌}
 use Rattle.std.proofs.lemmas.List.Elements.{All-tail}
 use Rattle.std.specs.Vec.Iter.{into_iter_items}
 use Rattle.ibc_script.specs.Scripts.{IsAmong}
