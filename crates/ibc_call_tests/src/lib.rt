@@ -16,6 +16,8 @@ mod path_store;
 #[cfg(test)]
 mod records;
 #[cfg(test)]
+mod relayer;
+#[cfg(test)]
 mod sorted_map;
 #[cfg(test)]
 mod token_data;

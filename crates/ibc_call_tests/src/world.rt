@@ -15,8 +15,8 @@ fn start(alloc: Global) -> ChainStart {
     }
 }
 
-// The beginning of two chains.
-fn genesis(alloc: Global) -> Result<Genesis, Refusal> {
+/// The beginning of two chains.
+pub fn genesis(alloc: Global) -> Result<Genesis, Refusal> {
     Ok(Genesis {
         capacity: 64,
         window: 4,
@@ -24,16 +24,16 @@ fn genesis(alloc: Global) -> Result<Genesis, Refusal> {
     })
 }
 
-// Chain 0 makes a client of chain 1.
-fn create() -> Event {
+/// Chain 0 makes a client of chain 1.
+pub fn create() -> Event {
     Event::Message {
         chain: 0,
         message: Message::CreateClient(CreateClient { chain: 1 }),
     }
 }
 
-// The working block of a chain ends.
-fn block(chain: u8, next_time: u64) -> Event {
+/// The working block of a chain ends.
+pub fn block(chain: u8, next_time: u64) -> Event {
     Event::Block { chain, next_time }
 }
 

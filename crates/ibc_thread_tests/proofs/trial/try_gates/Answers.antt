@@ -1,0 +1,7 @@
+use denote.Exit.{yes}
+use denote.Param.Send.{arg_sync, param_sync}
+use Rattle.ibc_script_worlds.proofs.Crossing.{chain_sync}
+use Rattle.ibc_thread_tests.proofs.trial.try_gates.Goals as goal
+
+pub is_done_by_gates-requires-sync-G : goal.is_done_by_gates-requires-sync-G
+is_done_by_gates-requires-sync-G g c κs within = param_sync 1 _ (arg_sync _ yes _ (chain_sync _ _ c.type_bounds.send-W c.type_bounds.sync-W))

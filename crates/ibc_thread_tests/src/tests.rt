@@ -1,0 +1,233 @@
+//! Each test has chains of a script shared, and looks at what they did and hold.
+
+use crate::scripts::{
+    BLOCKS, HEIGHTS, IN_A_ROW, RELAYED, SENT, SENT_IN_A_BLOCK, Steps, TOKENS, opened,
+};
+use crate::trial::{Calls, Deed, Trial};
+use ibc_script::Fault;
+use ibc_script_cli::drive;
+use ibc_script_worlds::{NewRaces, NewWorlds};
+use std::alloc::Global;
+use std::cell::Cell;
+use std::sync::Wait;
+use std::test::Fail;
+use std::thread::Threads;
+
+// What is printed where no token is away.
+const AT_HOME: &str = "balance a alice atom 1000
+";
+
+// What is printed first where 100 of the tokens were sent.
+const AWAY: &str = "balance a alice atom 900
+balance a escrow/transfer/channel-0 atom 100
+";
+
+// What is printed once 50 of the tokens have come over.
+const FIFTY: &str = "balance a alice atom 950
+balance a escrow/transfer/channel-0 atom 50
+balance b bob transfer/channel-0/atom 50
+";
+
+// Has the steps of a script taken by these calls. The result is what is printed of the chains, or nothing where these didn't do
+// what they must.
+fn tried<R: Threads + Wait + Sync>(
+    rt: &R,
+    alloc: Global,
+    calls: Calls,
+    deed: Deed,
+    script: &str,
+) -> Result<Option<Vec<u8>>, Fault> {
+    let is_done = Cell::new(false);
+    let trial = Trial {
+        rt,
+        alloc,
+        calls,
+        deed,
+        is_done: &is_done,
+    };
+    let mut output = Vec::new(alloc);
+    let words = ["race", "--relayers", "8"];
+    let worlds = NewWorlds::new(alloc);
+    drive(
+        alloc,
+        &worlds,
+        &trial,
+        &words,
+        script.as_bytes(),
+        &mut output,
+    )?;
+    if is_done.get() {
+        Ok(Some(output))
+    } else {
+        Ok(None)
+    }
+}
+
+// Whether what is printed is this.
+fn is_printed(tried: Result<Option<Vec<u8>>, Fault>, text: &str) -> bool {
+    match &tried {
+        Ok(Some(output)) => output.as_slice() == text.as_bytes(),
+        Ok(None) | Err(_) => false,
+    }
+}
+
+/// What the histories say is what scripts come to by the calls of `Gate`, and their answers are those of its entries.
+#[test]
+fn histories_tell_what_gates_answered(rt: HostRuntime) {
+    let alloc = rt.alloc();
+    for case in [HEIGHTS, TOKENS] {
+        let tried = tried(
+            &rt,
+            alloc,
+            Calls::OfGates,
+            Deed::Tell(case.told),
+            case.script,
+        );
+        assert!(rt; is_printed(tried, AT_HOME));
+    }
+}
+
+/// So it is by the chains' own calls, whose receipts are each of an entry of its own, also where two messages are equal.
+#[test]
+fn receipts_are_of_entries_of_their_own(rt: HostRuntime) {
+    let alloc = rt.alloc();
+    for case in [HEIGHTS, TOKENS] {
+        let tried = tried(&rt, alloc, Calls::Own, Deed::Tell(case.told), case.script);
+        assert!(rt; is_printed(tried, AT_HOME));
+    }
+}
+
+/// While a thread ends 30 blocks, the two that look at the chain see no height fall, and what they relay is received once each.
+#[test]
+fn heights_never_fall_while_threads_relay(rt: HostRuntime) -> Result<(), Fail> {
+    let alloc = rt.alloc();
+    let script = opened(
+        alloc,
+        &[
+            Steps {
+                text: BLOCKS,
+                times: 1,
+            },
+            Steps {
+                text: SENT_IN_A_BLOCK,
+                times: 30,
+            },
+        ],
+    )?;
+    let tried = tried(
+        &rt,
+        alloc,
+        Calls::Watched,
+        Deed::HaveThirty,
+        script.as_str(),
+    );
+    assert!(rt; matches!(&tried, Ok(Some(_))));
+    drop(tried);
+    Ok(())
+}
+
+/// Eight relayers race for 50 packets: each is received once, what they answer is what the histories gained, the first message
+/// sees another relayer's answered while it is held back, and the chains pass the audit.
+#[test]
+fn eight_relayers_race(rt: HostRuntime) -> Result<(), Fail> {
+    let alloc = rt.alloc();
+    let script = opened(
+        alloc,
+        &[
+            Steps {
+                text: SENT,
+                times: 50,
+            },
+            Steps {
+                text: BLOCKS,
+                times: 1,
+            },
+        ],
+    )?;
+    let tried = tried(&rt, alloc, Calls::Own, Deed::Race, script.as_str());
+    assert!(rt; is_printed(tried, FIFTY));
+    Ok(())
+}
+
+/// Two relayers between two chains and two between the second and a third relay at the same time, and the chains pass the audit.
+#[test]
+fn pairs_of_relayers_share_a_chain(rt: HostRuntime) {
+    let tried = tried(&rt, rt.alloc(), Calls::Own, Deed::RelayInPairs, IN_A_ROW);
+    assert!(rt; matches!(&tried, Ok(Some(output)) if output.starts_with(AWAY.as_bytes())));
+    drop(tried);
+}
+
+/// One relayer has two messages accepted for a packet, and two for its acknowledgement.
+#[test]
+fn a_relayer_counts_what_is_accepted(rt: HostRuntime) -> Result<(), Fail> {
+    let alloc = rt.alloc();
+    let script = opened(
+        alloc,
+        &[
+            Steps {
+                text: SENT,
+                times: 1,
+            },
+            Steps {
+                text: BLOCKS,
+                times: 1,
+            },
+        ],
+    )?;
+    let tried = tried(&rt, alloc, Calls::Own, Deed::Relay, script.as_str());
+    assert!(rt; matches!(&tried, Ok(Some(_))));
+    drop(tried);
+    Ok(())
+}
+
+/// A race prints what the audit finds, whatever came first.
+#[test]
+fn a_race_prints_its_audit(rt: HostRuntime) -> Result<(), Fail> {
+    let alloc = rt.alloc();
+    let script = opened(
+        alloc,
+        &[
+            Steps {
+                text: SENT,
+                times: 50,
+            },
+            Steps {
+                text: RELAYED,
+                times: 1,
+            },
+        ],
+    )?;
+    for words in [["race", "--relayers", "1"], ["race", "--relayers", "8"]] {
+        let mut output = Vec::new(alloc);
+        let driven = drive(
+            alloc,
+            &NewWorlds::new(alloc),
+            &NewRaces::new(&rt, alloc),
+            &words,
+            script.as_bytes(),
+            &mut output,
+        );
+        assert!(rt; driven.is_ok());
+        assert_eq!(rt; output.as_slice(), FIFTY.as_bytes());
+    }
+    Ok(())
+}
+
+/// Words that ask for no race, and a script that has no chains to race between, run none and print nothing.
+#[test]
+fn bad_words_race_nothing(rt: HostRuntime) {
+    let alloc = rt.alloc();
+    for relayers in ["0", "9", "04", ""] {
+        let mut output = Vec::new(alloc);
+        let driven = drive(
+            alloc,
+            &NewWorlds::new(alloc),
+            &NewRaces::new(&rt, alloc),
+            &["race", "--relayers", relayers],
+            FIFTY.as_bytes(),
+            &mut output,
+        );
+        assert!(rt; driven == Err(Fault::BadArguments));
+        assert!(rt; output.is_empty());
+    }
+}

@@ -1,0 +1,194 @@
+//! Scripts whose chains threads share.
+
+ghost use denote.Param.Send.{IsSync};
+ghost use Rattle.std.specs.Prelude.{All};
+ghost use Rattle.ibc_shared_world.specs.SharedWorlds.{HasItsBook};
+
+use crate::asked::{Answer, take_steps};
+use crate::histories::{Told, are_told};
+use crate::kept::{Kept, answers_of};
+use crate::looks::{received_thirty, take_steps_watched};
+use crate::relayed::{eight_race, two_and_two, two_pairs_relay};
+use ibc_ids::Refusal;
+use ibc_ledger::Ledger;
+use ibc_ledger_lock::{Chain, Gate, Opened, Receipt, World};
+use ibc_script::Fault;
+use ibc_script_cli::{Audited, Race, Races};
+use ibc_script_worlds::Shared;
+use ibc_shared_world::{audit_chains, begin, share};
+use ibc_world_core::Audit;
+use std::alloc::Global;
+use std::cell::Cell;
+use std::marker::Brand;
+use std::sync::Wait;
+use std::thread::Threads;
+
+/// The calls by which the chains are asked for the steps of a script.
+#[derive(Clone, Copy)]
+pub enum Calls {
+    /// The chains' own, whose receipts are kept.
+    Own,
+    /// Those of `Gate`.
+    OfGates,
+    /// Those of `Gate`, while two threads look at the first chain and relay to the second.
+    Watched,
+}
+
+/// What the chains are to do once the steps are taken.
+#[derive(Clone, Copy)]
+pub enum Deed {
+    /// Their histories say these lines, and the answers are of entries of their own.
+    Tell(Told),
+    /// The second received 30 packets.
+    HaveThirty,
+    /// Eight relayers race between them.
+    Race,
+    /// One relayer relays a packet and its acknowledgement.
+    Relay,
+    /// Two relayers relay between the first two, and two between the last two.
+    RelayInPairs,
+}
+
+/// Has the steps of scripts taken on chains that threads share, and keeps whether these did what they must.
+#[derive(Drop)]
+pub struct Trial<'r, R: Threads + Wait + Sync> {
+    pub rt: &'r R,
+    pub alloc: Global,
+    pub calls: Calls,
+    pub deed: Deed,
+    pub is_done: &'r Cell<bool>,
+}
+
+impl<R: Threads + Wait + Sync> Races for Trial<'_, R> {
+    ghost may_race = { λ _. IsSync R.row };
+
+    // Whatever stopped it, `NoMemory` is told.
+    fn race(&self, _relayers: u8, race: Race) -> Result<Audited, Fault> {
+        match try_script(self, race) {
+            Ok(audited) => Ok(audited),
+            Err(_) => Err(Fault::NoMemory),
+        }
+    }
+}
+
+// Begins with the ledgers of a script's genesis.
+fn try_script<R: Threads + Wait + Sync>(
+    trial: &Trial<'_, R>,
+    race: Race,
+) -> Result<Audited, Fault> {
+    match begin(trial.alloc, race.genesis()) {
+        Ok(ledgers) => try_on::<R, Brand>(trial, ledgers, race),
+        Err(refusal) => {
+            drop(race);
+            Err(Fault::of_refusal(refusal))
+        }
+    }
+}
+
+// Takes the steps on chains of the ledgers of the world.
+fn try_on<R: Threads + Wait + Sync, W: World + Send + Sync>(
+    trial: &Trial<'_, R>,
+    ledgers: Vec<(Ledger, Opened)>,
+    race: Race,
+) -> Result<Audited, Fault>
+    requires { All (HasItsBook W.table W.genesis W.book) ledgers.items }
+{
+    let chains = match share::<R, W>(trial.rt, trial.alloc, ledgers) {
+        Ok(chains) => chains,
+        Err(refusal) => {
+            drop(race);
+            return Err(Fault::of_refusal(refusal));
+        }
+    };
+    match trial.calls {
+        Calls::Own => try_own_calls(trial, chains, race),
+        Calls::OfGates | Calls::Watched => try_gates(trial, chains, race),
+    }
+}
+
+// Takes the steps by the chains' own calls.
+fn try_own_calls<R: Threads + Wait + Sync, W: World + Send + Sync>(
+    trial: &Trial<'_, R>,
+    chains: Vec<Chain<W>>,
+    race: Race,
+) -> Result<Audited, Fault> {
+    let (rt, alloc) = (trial.rt, trial.alloc);
+    let shared = Shared { rt, alloc, chains };
+    let kept = Kept {
+        shared,
+        receipts: Vec::new(alloc),
+    };
+    let Kept { shared, receipts } = race.run_on(kept)?;
+    let Shared { chains, .. } = shared;
+    let done = is_done_by_receipts(trial, chains.as_slice(), receipts.as_slice());
+    audited(trial, chains, receipts, done)
+}
+
+// Whether the chains do what they must, which the receipts tell the answers of.
+fn is_done_by_receipts<R: Threads + Wait + Sync, W: World + Send + Sync>(
+    trial: &Trial<'_, R>,
+    chains: &[Chain<W>],
+    receipts: &[Receipt<W>],
+) -> Result<bool, Refusal> {
+    let answers = answers_of(trial.alloc, receipts)?;
+    is_done(trial, chains, answers.as_slice())
+}
+
+// Takes the steps by the calls of `Gate`.
+fn try_gates<R: Threads + Wait + Sync, W: World + Send + Sync>(
+    trial: &Trial<'_, R>,
+    chains: Vec<Chain<W>>,
+    race: Race,
+) -> Result<Audited, Fault> {
+    match is_done_by_gates(trial, chains.as_slice(), race) {
+        Ok(done) => audited(trial, chains, Vec::new(trial.alloc), Ok(done)),
+        Err(fault) => {
+            drop(chains);
+            Err(fault)
+        }
+    }
+}
+
+// Whether the chains take the steps and do what they must.
+fn is_done_by_gates<R: Threads + Wait + Sync, G: Gate>(
+    trial: &Trial<'_, R>,
+    gates: &[G],
+    race: Race,
+) -> Result<bool, Fault> {
+    let (answers, saw) = match trial.calls {
+        Calls::Watched => take_steps_watched(trial.rt, trial.alloc, gates, race)?,
+        Calls::Own | Calls::OfGates => (take_steps(trial.rt, trial.alloc, gates, race)?, true),
+    };
+    let done = is_done(trial, gates, answers.as_slice()).map_err(Fault::of_refusal)?;
+    Ok(done && saw)
+}
+
+// Whether the chains do what they must once they have given the answers. Refused: `NoMemory`.
+fn is_done<R: Threads + Wait + Sync, G: Gate>(
+    trial: &Trial<'_, R>,
+    gates: &[G],
+    answers: &[Answer],
+) -> Result<bool, Refusal> {
+    let (rt, alloc) = (trial.rt, trial.alloc);
+    match trial.deed {
+        Deed::Tell(told) => are_told(rt, alloc, gates, answers, told),
+        Deed::HaveThirty => received_thirty(rt, alloc, gates),
+        Deed::Race => eight_race(rt, alloc, gates),
+        Deed::Relay => two_and_two(rt, alloc, gates),
+        Deed::RelayInPairs => two_pairs_relay(rt, alloc, gates),
+    }
+}
+
+// What the chains hold, if their ledgers pass the audit with the receipts; keeps whether they did what they must.
+fn audited<R: Threads + Wait + Sync, W: World>(
+    trial: &Trial<'_, R>,
+    chains: Vec<Chain<W>>,
+    mut receipts: Vec<Receipt<W>>,
+    done: Result<bool, Refusal>,
+) -> Result<Audited, Fault> {
+    trial.is_done.set(done == Ok(true));
+    match audit_chains(trial.alloc, chains, receipts.as_mut_slice()) {
+        Ok(Audit { balances, notes }) => Ok(Audited { balances, notes }),
+        Err(refusal) => Err(Fault::of_refusal(refusal)),
+    }
+}
