@@ -5,6 +5,8 @@
 #[cfg(test)]
 mod asked;
 #[cfg(test)]
+mod handing;
+#[cfg(test)]
 mod histories;
 #[cfg(test)]
 mod holding;

@@ -1,5 +1,6 @@
 //! Each test has chains of a script shared, and looks at what they did and hold.
 
+use crate::handing::Returning;
 use crate::scripts::{
     BLOCKS, HEIGHTS, IN_A_ROW, RELAYED, SENT, SENT_IN_A_BLOCK, Steps, TOKENS, opened,
 };
@@ -230,4 +231,28 @@ fn bad_words_race_nothing(rt: HostRuntime) {
         assert!(rt; driven == Err(Fault::BadArguments));
         assert!(rt; output.is_empty());
     }
+}
+
+/// A ledger comes back out of the chain that was made of it. Where a growth is refused as the chain is made it comes back too, as
+/// it was: so this passes also where one of those growths is the one that is refused.
+#[test]
+fn ledgers_come_back_from_chains(rt: HostRuntime) {
+    let alloc = rt.alloc();
+    let is_done = Cell::new(false);
+    let returning = Returning {
+        rt: &rt,
+        alloc,
+        is_done: &is_done,
+    };
+    let mut output = Vec::new(alloc);
+    let driven = drive(
+        alloc,
+        &NewWorlds::new(alloc),
+        &returning,
+        &["race", "--relayers", "1"],
+        TOKENS.script.as_bytes(),
+        &mut output,
+    );
+    assert!(rt; driven.is_ok());
+    assert!(rt; is_done.get());
 }

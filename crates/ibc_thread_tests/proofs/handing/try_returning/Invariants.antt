@@ -1,0 +1,7 @@
+-- The world is that of the ledgers which were made.
+use Rattle.ibc_machine.specs.Genesis.{genesis_state}
+use Rattle.ibc_shared_world.specs.SharedWorlds.{book_of, table_of}
+use Rattle.ibc_thread_tests.proofs.handing.try_returning.Given as goal
+
+abbrev pub ghosts-come_back : goal.ghosts-come_back
+ghosts-come_back g a = record { table = table_of a.ledgers.items; genesis = genesis_state a.race.script.genesis; book = book_of a.ledgers.items }

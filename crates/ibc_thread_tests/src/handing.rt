@@ -1,0 +1,131 @@
+//! Chains that are made of ledgers, and the ledgers that come back.
+
+ghost use denote.Param.Send.{IsSync};
+ghost use Rattle.std.specs.Prelude.{◌≡◌, All};
+ghost use Rattle.ibc_shared_world.specs.SharedWorlds.{HasItsBook};
+
+use ibc_ids::Refusal;
+use ibc_ledger::Ledger;
+use ibc_ledger_lock::{Board, Chain, Opened, World};
+use ibc_script::Fault;
+use ibc_script_cli::{Audited, Race, Races};
+use ibc_shared_world::begin;
+use ibc_wire::{CreateClient, Message};
+use std::alloc::Global;
+use std::cell::Cell;
+use std::marker::Brand;
+use std::sync::{Arc, Wait};
+
+/// Has chains made of the ledgers of a script and the ledgers taken out again, and keeps whether these came back as they were. No
+/// step is taken, and nothing is told of what the chains have.
+#[derive(Drop)]
+pub struct Returning<'r, R: Wait> {
+    pub rt: &'r R,
+    pub alloc: Global,
+    pub is_done: &'r Cell<bool>,
+}
+
+impl<R: Wait> Races for Returning<'_, R> {
+    ghost may_race = { λ _. IsSync R.row };
+
+    fn race(&self, _relayers: u8, race: Race) -> Result<Audited, Fault> {
+        match try_returning(self, race) {
+            Ok(are_same) => {
+                self.is_done.set(are_same);
+                Ok(Audited {
+                    balances: Vec::new(self.alloc),
+                    notes: Vec::new(self.alloc),
+                })
+            }
+            Err(refusal) => Err(Fault::of_refusal(refusal)),
+        }
+    }
+}
+
+// Whether the ledgers of a script's genesis come back as they were.
+fn try_returning<R: Wait>(returning: &Returning<'_, R>, race: Race) -> Result<bool, Refusal> {
+    match begin(returning.alloc, race.genesis()) {
+        Ok(ledgers) => come_back::<R, Brand>(returning, ledgers, race),
+        Err(refusal) => {
+            drop(race);
+            Err(refusal)
+        }
+    }
+}
+
+// Makes a chain of each ledger and takes the ledger out again; where no chain can be made, the ledger is handed back. Gives
+// whether each ledger that came back has the number and the balances that it had. No step of the script is taken. Refused:
+// `NoMemory`, but not for a growth that `Chain::new` asks for.
+fn come_back<R: Wait, W: World>(
+    returning: &Returning<'_, R>,
+    ledgers: Vec<(Ledger, Opened)>,
+    race: Race,
+) -> Result<bool, Refusal>
+    requires { All (HasItsBook W.table W.genesis W.book) ledgers.items }
+{
+    drop(race);
+    let mut are_same = true;
+    for (ledger, opened) in ledgers {
+        let is_same = comes_back::<R, W>(returning.rt, returning.alloc, ledger, opened)?;
+        are_same &= is_same;
+    }
+    Ok(are_same)
+}
+
+// Whether a ledger comes back as it was.
+fn comes_back<R: Wait, W: World>(
+    rt: &R,
+    alloc: Global,
+    ledger: Ledger,
+    opened: Opened,
+) -> Result<bool, Refusal>
+    requires { HasItsBook W.table W.genesis W.book (ledger, opened) }
+{
+    let ledger = with_a_client(ledger);
+    let number = ledger.chain();
+    let held = ledger.balances();
+    let back = match board_of::<W>(alloc) {
+        Ok(board) => made_and_taken(rt, alloc, ledger, opened, board),
+        Err(refusal) => {
+            drop(ledger);
+            return Err(refusal);
+        }
+    };
+    let is_number = back.chain() == number;
+    let again = back.balances();
+    drop(back);
+    Ok(is_number && again? == held?)
+}
+
+// The ledger once it has made a client and ended a block: a view of it asks for memory.
+fn with_a_client(mut ledger: Ledger) -> Ledger
+    ensures table { result.table ≡ ledger.table }
+    ensures genesis { result.ledger.genesis ≡ ledger.ledger.genesis }
+    ensures chain { result.ledger.chain ≡ ledger.ledger.chain }
+{
+    let chain = if ledger.chain() == 0 { 1 } else { 0 };
+    ledger.apply(Message::CreateClient(CreateClient { chain }));
+    ledger.end_block(200);
+    ledger
+}
+
+// A board of its own.
+fn board_of<W: World>(alloc: Global) -> Result<Arc<Board<W>, Global>, Refusal> {
+    Ok(Arc::new(alloc, Board::new(alloc)?)?)
+}
+
+// The ledger of the chain that was made of a ledger, or the ledger that was handed back.
+fn made_and_taken<R: Wait, W: World>(
+    rt: &R,
+    alloc: Global,
+    ledger: Ledger,
+    opened: Opened,
+    board: Arc<Board<W>, Global>,
+) -> Ledger
+    requires { HasItsBook W.table W.genesis W.book (ledger, opened) }
+{
+    match Chain::new(rt, ledger, opened, board) {
+        Ok(chain) => chain.into_ledger(Vec::new(alloc).as_mut_slice()),
+        Err((_, ledger)) => ledger,
+    }
+}
