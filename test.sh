@@ -29,6 +29,7 @@ part() {
 part rt ci
 part tools/refuse_growths
 part tools/broken_streams
+part tools/wrong_bytes --count 100000
 
 echo "$passed passed, $failed failed"
 [ "$failed" -eq 0 ]

@@ -4,6 +4,7 @@ use crate::counts::Counts;
 use crate::forgery::{Group, forged, with_byte};
 use crate::log::Log;
 use crate::spelled::Spelled;
+use crate::wrong_bytes::{Numbers, WrongBytes};
 use ibc_ids::{Account, Bytes, ChannelId, ClientId, ConnectionId, Denom, Key, PortId, Refusal};
 use ibc_machine::{Effect, Event, Genesis, Reply, Totals};
 use ibc_merkle::Proof;
@@ -106,8 +107,24 @@ impl<'l> ForgedChains<'l> {
         Ok(())
     }
 
-    // Sends what a line forges.
-    fn send_line(
+    // Sends so many messages with wrong bytes.
+    fn send_wrong(
+        &mut self,
+        chain: u8,
+        honest: &Spelled,
+        wrong: WrongBytes,
+        counts: &mut Counts,
+    ) -> Result<(), Refusal> {
+        let mut numbers = Numbers::new(wrong.seed);
+        for _ in 0..wrong.count {
+            let made = honest.spoilt(self.alloc, &mut numbers)?;
+            self.send(chain, made, counts)?;
+        }
+        Ok(())
+    }
+
+    // Sends what a line forges by the change of fields.
+    fn send_forged(
         &mut self,
         chain: u8,
         honest: &Spelled,
@@ -120,6 +137,20 @@ impl<'l> ForgedChains<'l> {
                 let made = forged(self.alloc, &self.ledgers, honest, line)?;
                 self.send(chain, made, counts)
             }
+        }
+    }
+
+    // Sends what a line forges.
+    fn send_line(
+        &mut self,
+        chain: u8,
+        honest: &Spelled,
+        line: &str,
+        counts: &mut Counts,
+    ) -> Result<(), Refusal> {
+        match WrongBytes::of(line) {
+            Some(wrong) => self.send_wrong(chain, honest, wrong, counts),
+            None => self.send_forged(chain, honest, line, counts),
         }
     }
 

@@ -14,6 +14,7 @@ mod runs;
 mod spelled;
 mod streams;
 mod texts;
+mod wrong_bytes;
 
 use crate::case::print_cases;
 use crate::measures::print_measure;

@@ -1,6 +1,7 @@
 //! The bytes of messages, of which fields are read and changed.
 
 use crate::fields::{Form, fields_of};
+use crate::wrong_bytes::Numbers;
 use ibc_ids::Refusal;
 use ibc_message_codec::{decode, encode};
 use ibc_wire::{Message, MessageKind};
@@ -127,6 +128,21 @@ impl Spelled {
     ) -> Result<Option<Spelled>, AllocError> {
         match self.place(field) {
             Some(place) => Ok(self.with_at(alloc, place, content)?),
+            None => Ok(None),
+        }
+    }
+
+    /// The same with wrong bytes, `None` where none is. Error: no memory.
+    pub fn spoilt(
+        &self,
+        alloc: Global,
+        numbers: &mut Numbers,
+    ) -> Result<Option<Spelled>, AllocError> {
+        match numbers.spoilt(alloc, self.bytes.as_slice())? {
+            Some(bytes) => Ok(Some(Spelled {
+                kind: self.kind,
+                bytes,
+            })),
             None => Ok(None),
         }
     }
