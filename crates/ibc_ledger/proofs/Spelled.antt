@@ -21,14 +21,11 @@ use Rattle.ibc_refinement.proofs.EntrySteps.{working, answer_commits, own_typed}
 use Rattle.ibc_refinement.proofs.MergedRun.{typed_start}
 use Rattle.ibc_records.proofs.NewRecords.{keyed-counters}
 use Rattle.ibc_view.specs.Proved.{HasSpellings}
+use Rattle.ibc_ledger_steps.proofs.Growing.{all_last}
 use Rattle.ibc_ledger.specs.Standing.{last_block}
 
 abbrev AreTyped : List Block → Type 0
 AreTyped = AllByRecursion (λ (block : Block). IsTyped block.records.core)
-
-typed_append : (blocks : List Block) (block : Block) → AreTyped blocks → IsTyped block.records.core → AreTyped (blocks ++ block ∷ [])
-typed_append [] block all typed = (typed, tt)
-typed_append (b ∷ blocks) block all typed = (all.0, typed_append blocks block all.1 typed)
 
 -- all blocks of a history are typed
 replay_typed : (ledger : Ledger) (genesis : GenesisState) (k : ℕ) (seen : List Publication) (state : LedgerState) (history : List StampedEntry) → IsTyped state.chain.records.core → AreTyped state.chain.committed
@@ -41,7 +38,7 @@ replay_typed ledger genesis k seen state (e ∷ history) typed all own =
     let blocks : AreTyped next.chain.committed =
     elim (c.blocks) [
       | inl w ↦ subst AreTyped (sym w.1) all
-      | inr w ↦ subst AreTyped (sym w.1) (typed_append state.chain.committed (working state.chain) all typed)
+      | inr w ↦ subst AreTyped (sym w.1) (all_last (λ (block : Block). IsTyped block.records.core) state.chain.committed (working state.chain) all typed)
     ] in
     replay_typed ledger genesis k seen next history c.typed blocks own.1
 
