@@ -4,9 +4,8 @@ use Rattle.ibc_ledger.proofs.Common.{Bool, drop-drop, ◌≡◌, ℕ, ◌+◌, �
 use Rattle.ibc_ledger.proofs.Common.{length-drop, nat_cmp, ordering_then, is_some, zero, suc, ◌≤◌, true, false, List, drop, map, Option, None, Result, Ok, Err, slice_get, ltb-true, ◌↔◌, IsNone, IfOk, IsSomeAnd, drop-append-le, drop-map}
 use Rattle.ibc_ledger.proofs.Common.{map-append, slice_get-map, Text, text_cmp, at, text_cmp_total, text_tied, Refusal, NoConsensus, written, UpdateClient, Message, Records, Core, Apps, LedgerState, consensus_cmp, consensus_at}
 use Rattle.ibc_ledger.proofs.Common.{with_consensus, Block, Chain, image, HeldStore, committed, kept_at, excess, gone_after, IsStored, ConsensusState, HeldClient, with_height, HeldRecords, core_of, consensus_in, IsUnchanged, UpdatesClient}
-use Rattle.ibc_ledger.proofs.Common.{IsWritten, consensus_of, working_block, IsStateOf, KeepsBlocks, passed, provable, kept_of, Ledger, IsLedger, state_of, StampedEntry, IsNext, state_with, with_entry, Stands, Publication}
+use Rattle.ibc_ledger.proofs.Common.{IsWritten, consensus_of, working_block, IsStateOf, KeepsBlocks, passed, provable, kept_of, Ledger, IsLedger, StampedEntry, IsNext, state_with, with_entry, Stands, Publication}
 use Rattle.ibc_ledger_steps.proofs.Growing.{ledgers_go_on}
-use Rattle.std.specs.List.{last_or}
 use Rattle.ibc_path_store.specs.Held.{height_of, Hashed}
 use Rattle.ibc_records.specs.Held.{after_commit}
 use Rattle.ibc_ledger.specs.Standing.{last_block}

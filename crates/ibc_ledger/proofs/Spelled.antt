@@ -1,15 +1,10 @@
 -- What a ledger has committed is what its types promise, so each proof of it has a spelling.
-use Rattle.std.proofs.Common.{◌≡◌, ℕ, ◌^◌, ◌<◌, List, [], ◌∷◌, ◌++◌, length, refl, sym, ap, ◌∙◌, subst, Option, Some, None, option_map, unwrap_or, slice_get, inl, inr, arith}
-use Rattle.std.specs.Prelude.{⊤, IsTrue}
-use Rattle.std.specs.List.{AllByRecursion, last_or}
-use Rattle.std.proofs.lemmas.Option.{slice_get-map}
-use Rattle.ibc_ids.specs.Texts.{Text}
-use Rattle.ibc_ids.specs.declared.publication.Publication.{Publication}
-use Rattle.ibc_machine.specs.Records.{Core, Block, Chain}
-use Rattle.ibc_machine.specs.Image.{image, IsKeyed}
-use Rattle.ibc_machine.specs.Genesis.{GenesisState, start, starting_chain}
-use Rattle.ibc_machine.specs.Replay.{LedgerState, StampedEntry, entry_answer, replay, met_states, starting_state, empty_chain}
-use Rattle.ibc_machine.specs.Ledgers.{Ledger, IsLedger, IsOwnEntry, state_of}
+use Rattle.ibc_ledger.proofs.Common.{◌≡◌, ℕ, ◌^◌, ◌<◌, List, [], ◌∷◌, length, refl, sym, ap, ◌∙◌, subst, Option, Some, None, option_map, unwrap_or, slice_get, inl, inr, arith, ⊤, AllByRecursion, slice_get-map, Text}
+use Rattle.ibc_ledger.proofs.Common.{Publication, Core, Block, Chain, image, GenesisState, starting_chain, LedgerState, StampedEntry, entry_answer, met_states, starting_state, empty_chain, Ledger, IsLedger, IsOwnEntry, state_of}
+use Rattle.std.specs.List.{last_or}
+use Rattle.ibc_machine.specs.Image.{IsKeyed}
+use Rattle.ibc_machine.specs.Genesis.{start}
+use Rattle.ibc_machine.specs.Replay.{replay}
 use Rattle.ibc_refinement.proofs.Places.{get_there}
 use Rattle.ibc_refinement.proofs.Typed.{IsTyped}
 use Rattle.ibc_refinement.proofs.TypedLook.{stands, fit_from}

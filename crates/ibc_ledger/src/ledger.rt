@@ -194,15 +194,7 @@ impl Ledger {
             return Ok(None);
         };
         let event = &self.history[place].entry.event;
-        packet_in(
-            self.node.alloc,
-            event,
-            port,
-            channel,
-            sequence,
-            end,
-            peer,
-        )
+        packet_in(self.node.alloc, event, port, channel, sequence, end, peer)
     }
 
     /// The acknowledgement that was written at an end of a channel for a sequence (ICS 4, "writeAcknowledgement"). None where
