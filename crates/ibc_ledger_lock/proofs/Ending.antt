@@ -18,7 +18,7 @@ use Rattle.ibc_machine.specs.Relay.{View, view_at, view_of}
 use Rattle.ibc_machine.specs.Replay.{LedgerState, StampedEntry, entry_answer, ledger_answer, met_states, replay, starting_state, with_chain}
 use Rattle.ibc_merkle.proofs.Sorted.{last-push}
 use Rattle.ibc_root_table.specs.Passes.{TableName}
-use Rattle.ibc_ledger_steps.proofs.Growing.{replay-last}
+use Rattle.ibc_refinement.proofs.EntrySteps.{replay_more}
 use Rattle.ibc_ledger.specs.Adding.{AddsOrNot}
 use Rattle.ibc_ledger.specs.Held.{HeldLedger}
 use Rattle.ibc_ledger_lock.specs.Worlds.{Told, IsOfWorld, IsViewOf, IsEndOf, ShowsEnd}
@@ -58,7 +58,7 @@ module _ (old : Ledger) (e : StampedEntry) (more : List Publication) (t height :
   height_told asked answered is =
       let own = last_met (IsOwnEntry longer) old.genesis old.chain (old.seen ++ more) (starting_state old.genesis old.chain) old.history e is.entries in
       let step = answer asked in
-      let state = replay-last old.genesis old.chain (old.seen ++ more) (starting_state old.genesis old.chain) old.history e in
+      let state = replay_more old.genesis old.chain (old.seen ++ more) (starting_state old.genesis old.chain) old.history e in
       ap (λ (s : LedgerState). (view_of old.chain s.chain).height) (state ∙ ap (λ (w : Reply × LedgerState). w.1) step)
       ∙ ended old.chain before t _ height root (sym answered ∙ own.reply ∙ ap (λ (w : Reply × LedgerState). w.0) step)
 

@@ -25,6 +25,8 @@ use Rattle.ibc_wire.specs.declared.messages.Message.{Message}
 use Rattle.ibc_root_table.proofs.Growing.{height_among-stays, Publishes-last}
 use Rattle.ibc_wire.specs.declared.header.Header.{Header}
 use Rattle.ibc_machine.proofs.SeenMore.{entry_stays}
+use Rattle.ibc_refinement.proofs.EntrySteps.{replay_more}
+use Rattle.ibc_refinement.proofs.SeenMore.{replay_stays}
 use Rattle.ibc_root_table.proofs.Beginnings.{prefix_get}
 use Rattle.ibc_machine.specs.declared.event.Event.TheVariants as event
 use Rattle.ibc_machine.specs.declared.reply.Effect.TheVariants as effect
@@ -50,13 +52,6 @@ own_stays ledger history more at own = record {
 -- ---- histories
 
 module _ (ledger : Ledger) (after : List StampedEntry) (more : List Publication) where
-  replay_stays : (state : LedgerState) (history : List StampedEntry) → AllByRecursion (IsOwnEntry ledger) (met_states ledger.genesis ledger.chain ledger.seen state history)
-      → replay ledger.genesis ledger.chain (ledger.seen ++ more) state history ≡ replay ledger.genesis ledger.chain ledger.seen state history
-  replay_stays state [] own = refl
-  replay_stays state (e ∷ history) own =
-      ap (λ (w : Reply × LedgerState). replay ledger.genesis ledger.chain (ledger.seen ++ more) w.1 history) (entry_stays ledger.genesis ledger.chain ledger.seen more state e own.0.reading)
-      ∙ replay_stays (entry_answer ledger.genesis ledger.chain ledger.seen state e).1 history own.1
-
   entries_stay : (state : LedgerState) (history : List StampedEntry) → AllByRecursion (IsOwnEntry ledger) (met_states ledger.genesis ledger.chain ledger.seen state history)
       → AllByRecursion (IsOwnEntry (record ledger { history = after; seen = ledger.seen ++ more })) (met_states ledger.genesis ledger.chain (ledger.seen ++ more) state history)
   entries_stay state [] own = tt
@@ -66,12 +61,6 @@ module _ (ledger : Ledger) (after : List StampedEntry) (more : List Publication)
         (sym (entry_stays ledger.genesis ledger.chain ledger.seen more state e own.0.reading))
         (entries_stay (entry_answer ledger.genesis ledger.chain ledger.seen state e).1 history own.1),
   )
-
--- one entry at the end
-pub replay-last : (genesis : GenesisState) (k : ℕ) (seen : List Publication) (state : LedgerState) (history : List StampedEntry) (e : StampedEntry)
-    → replay genesis k seen state (history ++ e ∷ []) ≡ (entry_answer genesis k seen (replay genesis k seen state history) e).1
-replay-last genesis k seen state [] e = refl
-replay-last genesis k seen state (x ∷ history) e = replay-last genesis k seen (entry_answer genesis k seen state x).1 history e
 
 all_and_last : (P : LedgerState × StampedEntry → Type 0) (genesis : GenesisState) (k : ℕ) (seen : List Publication) (state : LedgerState) (history : List StampedEntry) (e : StampedEntry)
     → AllByRecursion P (met_states genesis k seen state history) → P (replay genesis k seen state history, e) → AllByRecursion P (met_states genesis k seen state (history ++ e ∷ []))
@@ -131,7 +120,7 @@ IsSmall block = length (image block.records.core) < 2 ^ 64
 
 module _ (ledger : Ledger) (more : List Publication) (is : IsLedger ledger) where
   same_state : state_of (seeing_more ledger more) ≡ state_of ledger
-  same_state = replay_stays ledger ledger.history more (starting_state ledger.genesis ledger.chain) ledger.history is.entries
+  same_state = replay_stays ledger ledger.chain more (starting_state ledger.genesis ledger.chain) ledger.history is.entries
 
   sees_more : published_by ledger.chain (ledger.seen ++ more) ≡ published_by ledger.chain ledger.seen → IsLedger (seeing_more ledger more)
   sees_more others = record {
@@ -145,7 +134,7 @@ module _ (ledger : Ledger) (more : List Publication) (is : IsLedger ledger) wher
   module _ (e : StampedEntry) (next : IsNext ledger e more) where
     next_state : state_of (with_entry ledger e more) ≡ state_with ledger e more
     next_state =
-        replay-last ledger.genesis ledger.chain (ledger.seen ++ more) (starting_state ledger.genesis ledger.chain) ledger.history e
+        replay_more ledger.genesis ledger.chain (ledger.seen ++ more) (starting_state ledger.genesis ledger.chain) ledger.history e
         ∙ ap (λ (s : LedgerState). (entry_answer ledger.genesis ledger.chain (ledger.seen ++ more) s e).1) same_state
 
     own_entries : AllByRecursion (IsOwnEntry (with_entry ledger e more)) (met_by (with_entry ledger e more))
