@@ -193,7 +193,8 @@ impl Ledger {
         let Some(place) = self.sent.place(port, channel, sequence)? else {
             return Ok(None);
         };
-        let event = &self.history[place].entry.event;
+        let stamped = &self.history[place];
+        let event = &stamped.entry.event;
         packet_in(self.node.alloc, event, port, channel, sequence, end, peer)
     }
 

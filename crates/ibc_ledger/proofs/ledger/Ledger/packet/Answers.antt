@@ -10,8 +10,8 @@ returns-in_default-2-clause-ok c =
     sym (ap (λ (h : HeldLedger). packet_on h.ledger c.args.port.now c.args.channel.now c.args.sequence) (sym c.self.view_is)
     ∙ not_sent c.self.inside c.self.invariant c.args.port.now c.args.channel.now c.args.sequence c.in-Some.mine.now there c.in-Some-peer_channel.peer knows (sym c.in_ok-place.ensures ∙ c.in_default-2.is))
 
-pub index-event-requires : goal.index-event-requires
-index-event-requires c =
+pub index-stamped-requires : goal.index-stamped-requires
+index-stamped-requires c =
     let low = within c.self.inside c.self.invariant c.args.port.now c.args.channel.now c.args.sequence c.in-Some-2.place (sym c.in_ok-place.ensures ∙ c.in-Some-2.is) in
     omega (arith, low)
 
@@ -22,10 +22,10 @@ returns-clause-ok c =
     let knows = ap (λ (e : ChannelEnd). e.peer_channel) (sym c.end-end.ensures) ∙ c.in-Some-peer_channel.is in
     let found = sym c.in_ok-place.ensures ∙ c.in-Some-2.is in
     let low = within l c.self.invariant c.args.port.now c.args.channel.now c.args.sequence c.in-Some-2.place found in
-    let here : slice_get l.history.items c.in-Some-2.place ≡ Some c.index-event.result.now =
-    slice_get-get_or l.history.items c.in-Some-2.place c.index-event.result.now low ∙ ap Some (sym c.index-event.ensures) in
+    let here : slice_get l.history.items c.in-Some-2.place ≡ Some c.index-stamped.result.now =
+    slice_get-get_or l.history.items c.in-Some-2.place c.index-stamped.result.now low ∙ ap Some (sym c.index-stamped.ensures) in
     subst (λ (o : Option Packet). IfOk c.packet_in.result (λ packet. packet ≡ o))
-    (ap (λ (e : ChannelEnd). option_map (λ commitment. packet_to c.args.port.now c.args.channel.now c.args.sequence e c.in-Some-peer_channel.peer commitment) (commitment_in c.index-event.result.now.entry.event)) c.end-end.ensures
+    (ap (λ (e : ChannelEnd). option_map (λ commitment. packet_to c.args.port.now c.args.channel.now c.args.sequence e c.in-Some-peer_channel.peer commitment) (commitment_in c.index-stamped.result.now.entry.event)) c.end-end.ensures
     ∙ sym (ap (λ (h : HeldLedger). packet_on h.ledger c.args.port.now c.args.channel.now c.args.sequence) (sym c.self.view_is)
-    ∙ was_sent l c.self.invariant c.args.port.now c.args.channel.now c.args.sequence c.in-Some-2.place found c.index-event.result.now here c.in-Some.mine.now there c.in-Some-peer_channel.peer knows))
+    ∙ was_sent l c.self.invariant c.args.port.now c.args.channel.now c.args.sequence c.in-Some-2.place found c.index-stamped.result.now here c.in-Some.mine.now there c.in-Some-peer_channel.peer knows))
     c.packet_in.ensures.ok
