@@ -15,11 +15,14 @@ use std::marker::Model;
 /// The end from which a packet is sent: its port and its name.
 pub type Sender = (PortId, ChannelId);
 
+// The places by the ends and sequences of the packets.
+type Places = SortedMap<(Sender, u64), usize>;
+
 /// The places in a history of the packets that were sent in it, by their ends and sequences (ICS 4, "sendPacket").
 /// Contracts see the places by name, and for how many more there is room.
 #[derive(Drop)]
 pub struct SentPackets {
-    places: SortedMap<(Sender, u64), usize>,
+    places: Places,
 }
 
 impl Model for SentPackets {
@@ -38,7 +41,7 @@ impl SentPackets {
         ensures { result.pairs ≡ [] }
     {
         SentPackets {
-            places: SortedMap::new(alloc),
+            places: Places::new(alloc),
         }
     }
 
@@ -78,20 +81,28 @@ impl SentPackets {
         requires { 0 < self.old.room }
         ensures { self.new.pairs ≡ with_first (sent_as sender reply.now) place self.old.pairs }
     {
-        let Some(sender) = sender else {
-            return;
-        };
-        let Reply::Ok(Effect::Sent(sequence)) = reply else {
-            return;
-        };
-        let name = (sender, *sequence);
-        if self.places.get(&name).is_some() {
-            return;
-        }
-        let Ok(()) = self.places.set(name, place) else {
-            unreachable!();
-        };
+        keep_in(&mut self.places, sender, reply, place);
     }
+}
+
+// Keeps the place of the packet that was sent by this reply, if one was.
+fn keep_in(places: &mut Places, sender: Option<Sender>, reply: &Reply, place: usize)
+    requires { 0 < places.old.room }
+    ensures { places.new.pairs ≡ with_first (sent_as sender reply.now) place places.old.pairs }
+{
+    let Some(sender) = sender else {
+        return;
+    };
+    let Reply::Ok(Effect::Sent(sequence)) = reply else {
+        return;
+    };
+    let name = (sender, *sequence);
+    if places.get(&name).is_some() {
+        return;
+    }
+    let Ok(()) = places.set(name, place) else {
+        unreachable!();
+    };
 }
 
 // The end from which a message sends a packet, or none. Error: memory ran out.
