@@ -2,20 +2,20 @@
 pub use Rattle.std.proofs.Common.{IsErrAnd, ◌∙◌, ◌≡◌, ℕ, false, [], refl, sym, ap, subst, Result, Ok, Err, None, inl, inr, ⊎_elim, eqb, eq-eqb, ◌⊎◌, ◌+◌, true, List}
 pub use Rattle.std.proofs.Common.{◌++◌, length, Option, is_some, ◌≤◌, Bool, ◌^◌, ◌<◌, ◌∷◌, Some, arith, append-nil, append_assoc, length-append, ◌-◌, map, option_map, option_and_then, unwrap_or, le-ltb, lt-ltb, le-leb, slice_get}
 pub use Rattle.std.proofs.Common.{◌||◌, drop-drop, cond, is_eq, Ordering, Less, Equal, Greater, length-drop, zero, suc, drop, ltb-true, ◌&&◌, ltb, leb, get_or, take, rules, tests, option_copied}
-pub use Rattle.std.proofs.lemmas.Bool.{and_from, lt-leb, and_parts, or_cases, false≢true, leb-true}
+pub use Rattle.std.proofs.lemmas.Bool.{and_from, lt-leb, and_parts, false≢true, leb-true}
 pub use Rattle.std.proofs.lemmas.Iterator.{YieldsList-from_slice}
 pub use Rattle.std.proofs.lemmas.List.{length-map, take_all, map-append, drop-append-le, drop-map}
 pub use Rattle.std.proofs.lemmas.List.Sums.{sum_by_more, sum_by_more_le, length-filter}
 pub use Rattle.std.proofs.lemmas.Option.{slice_get-map, slice_get_within, slice_get-get_or}
-pub use Rattle.std.specs.List.{AllByRecursion, find, filter_map, cons_option, position_from, list_all}
-pub use Rattle.std.specs.Option.{IsSomeAnd, option_map_or, option_or}
+pub use Rattle.std.specs.List.{AllByRecursion, list_all}
+pub use Rattle.std.specs.Option.{IsSomeAnd}
 pub use Rattle.std.specs.Ordering.{nat_cmp, ordering_then}
-pub use Rattle.std.specs.Prelude.{⊤, if◌then◌else◌, is_ok, ◌==◌, IfSome, nat_lt, IfOk, ◌↔◌, IsNone, IsTrue}
+pub use Rattle.std.specs.Prelude.{⊤, if◌then◌else◌, is_ok, ◌==◌, IfSome, IfOk, ◌↔◌, IsNone, IsTrue}
 pub use mathlib.Core.List.{IsPrefix}
-pub use Rattle.ibc_ids.proofs.Texts.{text_cmp_total, text_tied, text_same, same_text_from}
-pub use Rattle.ibc_ids.specs.Maps.{Map, at, with}
+pub use Rattle.ibc_ids.proofs.Texts.{text_cmp_total, text_tied}
+pub use Rattle.ibc_ids.specs.Maps.{Map, at}
 pub use Rattle.ibc_ids.specs.Paths.{path, nth_channel, nth_connection, nth_client}
-pub use Rattle.ibc_ids.specs.Publications.{published_by, height_of as published_height, height_among, height_of}
+pub use Rattle.ibc_ids.specs.Publications.{published_by, height_of as published_height, height_of}
 pub use Rattle.ibc_ids.specs.Texts.{Text, same_text, text_cmp, pair_cmp}
 pub use Rattle.ibc_ids.specs.declared.publication.Publication.{Publication}
 pub use Rattle.ibc_ids.specs.declared.refusal.Refusal.{Refusal}
@@ -33,19 +33,19 @@ pub use Rattle.ibc_machine.specs.Clients.{update_client, create_client}
 pub use Rattle.ibc_machine.specs.Evidence.{Host, Evidence, CoreHandler, Handler, on_core}
 pub use Rattle.ibc_machine.specs.Genesis.{GenesisState, ChainState, starting_chain, genesis_state, chain_state, Holding, is_same_holding, is_fair, has_limits, total_of}
 unfoldable pub use Rattle.ibc_machine.specs.Genesis.{is_allowed}
-pub use Rattle.ibc_machine.specs.Handlers.{host_of, after_message, may_commit, working_height, after_block}
+pub use Rattle.ibc_machine.specs.Handlers.{host_of, after_message, may_commit, working_height}
 unfoldable pub use Rattle.ibc_machine.specs.Handlers.{handle}
-pub use Rattle.ibc_machine.specs.Histories.{Happened, End, sent_by, packet_sent, is_end, packet_if, packet_from, history_of}
+pub use Rattle.ibc_machine.specs.Histories.{Happened, End, sent_by, packet_sent}
 pub use Rattle.ibc_machine.specs.Image.{image, core_root}
-pub use Rattle.ibc_machine.specs.Ledgers.{is_block_reply, Ledger, state_of, is_typed, is_looking, published_as, IsOwnEntry, chain_of, IsLedger, met_by, IsReading, IsOwnBlock, AreRising, header_in, reading_fits, is_accepted_block, keeps_a_stamp, is_own_event, ReadsThen, IsReadBetween}
-pub use Rattle.ibc_machine.specs.Notes.{receive_note, note_port, opens_for_notes, closes_for_notes, note_commitment}
+pub use Rattle.ibc_machine.specs.Ledgers.{is_block_reply, Ledger, state_of, is_typed, is_looking, published_as, IsOwnEntry, chain_of, IsLedger, reading_fits, ReadsThen, IsReadBetween}
+pub use Rattle.ibc_machine.specs.Notes.{receive_note, note_port, opens_for_notes, closes_for_notes}
 pub use Rattle.ibc_machine.specs.Packets.{recv_checked, with_received, ack_checked, timeout_checked, timeout_on_close_checked}
 unfoldable pub use Rattle.ibc_machine.specs.Packets.{recv_packet, ack_packet, timeout, timeout_on_close}
 pub use Rattle.ibc_machine.specs.Records.{Core, Apps, Channel, commitment_of, Chain, Block, Commitment, channel_at, Records}
-pub use Rattle.ibc_machine.specs.Replay.{LedgerState, proves, after_answer, Consensus, with_consensus, StampedEntry, empty_chain, entry_answer, met_states, starting_state, replay, with_chain, consensus_cmp, consensus_at}
+pub use Rattle.ibc_machine.specs.Replay.{LedgerState, proves, after_answer, Consensus, with_consensus, StampedEntry, empty_chain, entry_answer, met_states, starting_state, consensus_cmp, consensus_at}
 unfoldable pub use Rattle.ibc_machine.specs.Replay.{ledger_answer}
-pub use Rattle.ibc_machine.specs.TokenData.{tokens_of, one_token, several_tokens}
-pub use Rattle.ibc_machine.specs.Transfers.{transfer_port, burnt, receive_transfer, acknowledge_transfer, refund_transfer, opens_for_transfers, closes_for_transfers, transfer_commitment, transfer_data, transfer_many_data}
+pub use Rattle.ibc_machine.specs.TokenData.{tokens_of}
+pub use Rattle.ibc_machine.specs.Transfers.{transfer_port, burnt, receive_transfer, acknowledge_transfer, refund_transfer, opens_for_transfers, closes_for_transfers}
 pub use Rattle.ibc_machine.specs.declared.entry.Reading.{Reading}
 pub use Rattle.ibc_machine.specs.declared.event.Event.{Event}
 pub use Rattle.ibc_machine.specs.declared.genesis.ChainStart.{ChainStart}
@@ -63,10 +63,11 @@ pub use Rattle.ibc_transfer.proofs.Flight.{same_flight, transfer_keeps_flight, t
 pub use Rattle.ibc_transfer.specs.InFlight.{IsInFlight}
 pub use Rattle.ibc_ledger.specs.Adding.{AddsOrNot}
 pub use Rattle.ibc_ledger.specs.Answering.{told_by, IsReady, IsAnswered, told_reply, kept_reply, IsUpdateAnswer, IsAnswer}
-pub use Rattle.ibc_ledger.specs.Growing.{seeing_more, with_entry, entry_of, stamp_if, Reads, working_block, state_with, IsNext, LedgersSeeMore, LedgersGoOn}
+pub use Rattle.ibc_ledger_steps.specs.Growing.{seeing_more, with_entry, entry_of, stamp_if, Reads, working_block, state_with, IsNext}
 pub use Rattle.ibc_ledger.specs.Held.{plain_entry, HeldLedger, shape_of}
 pub use Rattle.ibc_ledger.specs.Inside.{genesis_of, ledger_of, IsHeld, held_of}
-pub use Rattle.ibc_ledger.specs.SentPackets.{happened_of, happened_on, packet_on, commitment_in, packet_to, SentName, sent_cmp, is_named, Places, AreFirst, sent_name, with_first, sender_of, sent_as}
+pub use Rattle.ibc_sent_packets.specs.Sent.{commitment_in, packet_to, SentName, sent_cmp, is_named, Places, AreFirst, sent_name, with_first, sender_of, sent_as}
+pub use Rattle.ibc_ledger.specs.SentPackets.{happened_of, happened_on, packet_on}
 pub use Rattle.ibc_ledger.specs.Standing.{plain_apps, IsStateOf, Stands, passed, kept_of, starting_apps, KeepsBlocks, provable}
 pub use Rattle.ibc_ledger.specs.declared.applications.Applications.{Applications}
 pub use Rattle.ibc_ledger.specs.declared.entry.StampedEntry.{StampedEntry as KeptEntry}

@@ -3,18 +3,17 @@ use Rattle.ibc_ledger.proofs.Common.{◌≡◌, ℕ, ◌^◌, ◌<◌, ◌≤◌
 use Rattle.ibc_ledger.proofs.Common.{option_and_then, unwrap_or, le-ltb, lt-ltb, le-leb, AllByRecursion, lt-leb, length-map, slice_get-map, nat_cmp, IsPrefix, Text, published_by, published_height, Publication, Refusal, NoMemory, TimeBack}
 use Rattle.ibc_ledger.proofs.Common.{TableFull, text_cmp, at, Effect, Reply, Chain, StampedEntry, may_commit, working_height, image, core_root, published_as, state_of, Apps, Block, and_then, GenesisState, ChainState, starting_chain}
 use Rattle.ibc_ledger.proofs.Common.{LedgerState, empty_chain, Ledger, HeldStore, committed, Sight, Publishes, own_chain, HeldRecords, core_of, ConsensusState, HeldClient, consensus_in, IsNew, IsInFlight, Inside, with_entry, told_by}
-use Rattle.ibc_ledger.proofs.Common.{told_reply, kept_reply, entry_of, stamp_if, working_block, Stands, plain_apps, genesis_of, ledger_of, IsHeld, passed, kept_of, IsStateOf, starting_apps}
+use Rattle.ibc_ledger.proofs.Common.{told_reply, kept_reply, entry_of, stamp_if, working_block, Stands, plain_apps, genesis_of, ledger_of, IsHeld, passed, kept_of, IsStateOf, starting_apps, slice_get}
 use Rattle.ibc_path_store.specs.Held.{height_of}
 use Rattle.ibc_records.specs.Held.{after_commit}
 use Rattle.ibc_ledger.specs.Ending.{IsCommitted, IsWhy, IsEnded, publication_of}
-use Rattle.std.specs.Prelude.{slice_get}
 use Rattle.ibc_machine.specs.declared.event.Event.TheVariants as event
 use Rattle.ibc_machine.specs.declared.reply.Effect.TheVariants as effect
 use Rattle.ibc_machine.specs.declared.reply.Reply.TheVariants as reply
 use Rattle.ibc_ledger.proofs.HeldLedgers.{IsEntry}
 use Rattle.ibc_ledger.proofs.Windows.{some_window, small_capacity}
-use Rattle.ibc_ledger.proofs.Holding.{drop_none, committed_holds}
-use Rattle.ibc_ledger.proofs.Growing.{answer_next, refused_block, ended_block_next, block_answer-by, stands_next}
+use Rattle.ibc_ledger.proofs.Holding.{stands_next, drop_none, committed_holds}
+use Rattle.ibc_ledger_steps.proofs.Growing.{answer_next, refused_block, ended_block_next, block_answer-by}
 
 -- ---- whether a block may be ended
 

@@ -1,9 +1,9 @@
 -- What a ledger says of a packet that it sent, by what it keeps.
 use Rattle.ibc_ledger.proofs.Common.{◌≡◌, ◌<◌, ℕ, true, List, [], ◌∷◌, length, map, refl, sym, ap, ◌∙◌, subst, Some, None, Option, slice_get, option_map, option_and_then, ◌==◌, slice_get-map, slice_get_within, and_parts, AllByRecursion}
-use Rattle.ibc_ledger.proofs.Common.{Text, pair_cmp, at, Packet, Core, Channel, Commitment, channel_at, Happened, End, sent_by, packet_sent, LedgerState, StampedEntry, entry_answer, met_states, starting_state, Ledger, IsOwnEntry, chain_of}
+use Rattle.ibc_ledger.proofs.Common.{Text, pair_cmp, at, Packet, Core, Channel, channel_at, Happened, End, sent_by, packet_sent, LedgerState, StampedEntry, entry_answer, met_states, starting_state, Ledger, IsOwnEntry, chain_of}
 use Rattle.ibc_ledger.proofs.Common.{is_typed, KeptEntry, Inside, plain_entry, ledger_of, IsHeld, happened_of, happened_on, packet_on, commitment_in, packet_to, SentName, sent_cmp, is_named}
 use Rattle.std.specs.Option.{unwrap_or}
-use Rattle.ibc_ledger.proofs.SentPackets.{sent_at, stands_at, named_packet, names_a_packet}
+use Rattle.ibc_sent_packets.proofs.Found.{sent_at, stands_at, named_packet}
 
 -- the events of a ledger are of its chain
 own_events : (ledger : Ledger) (state : LedgerState) (history : List StampedEntry) → AllByRecursion (IsOwnEntry ledger) (met_states ledger.genesis ledger.chain ledger.seen state history)
@@ -67,12 +67,9 @@ module _ (l : Inside) (held : IsHeld l) (port channel : Text) (n : ℕ) where
           let same : w.0 ≡ happened_of (plain_entry e) = (let s = sym w.1 ∙ is_there in cc) in
           subst (λ h. is_named name h ≡ true) same w.2
 
-      pub no_other : commitment_in e.entry.event ≡ None → ⊥
-      no_other = names_a_packet name (happened_of (plain_entry e)) is_named_so
-
-      pub was_sent : (mine : Channel) → its_end ≡ Some mine → (peer : Text) → mine.end.peer_channel ≡ Some peer → (c : Commitment) → commitment_in e.entry.event ≡ Some c
-          → packet_on (ledger_of l) port channel n ≡ Some (packet_to port channel n mine.end peer c)
-      was_sent mine is peer knows c sends =
+      pub was_sent : (mine : Channel) → its_end ≡ Some mine → (peer : Text) → mine.end.peer_channel ≡ Some peer
+          → packet_on (ledger_of l) port channel n ≡ option_map (λ c. packet_to port channel n mine.end peer c) (commitment_in e.entry.event)
+      was_sent mine is peer knows =
           at_peer mine is peer knows ∙ ap (option_and_then (λ i. option_and_then (sent_by from mine) (slice_get happened i))) found
-          ∙ ap (option_and_then (sent_by from mine)) is_there ∙ named_packet from mine n (happened_of (plain_entry e)) c sends is_named_so
-          ∙ ap (λ o. Some (packet_to port channel n mine.end (unwrap_or o []) c)) knows
+          ∙ ap (option_and_then (sent_by from mine)) is_there ∙ named_packet from mine n (happened_of (plain_entry e)) is_named_so
+          ∙ ap (λ o. option_map (λ c. packet_to port channel n mine.end (unwrap_or o []) c) (commitment_in e.entry.event)) knows

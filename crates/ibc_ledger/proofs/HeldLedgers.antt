@@ -12,7 +12,7 @@ use Rattle.ibc_machine.specs.declared.reply.Reply.TheVariants as reply
 use Rattle.ibc_wire.specs.declared.messages.Message.TheVariants as message
 use Rattle.ibc_machine.specs.declared.event.Event.TheVariants as event
 use Rattle.ibc_machine.specs.declared.reply.Effect.TheVariants as effect
-use Rattle.ibc_ledger.proofs.SentPackets.{first_more}
+use Rattle.ibc_sent_packets.proofs.Found.{first_more}
 use Rattle.ibc_ledger.proofs.AnsweredMessages.{stands_unchanged, TellsNothing, Leaves, stands_left, unread_leaves, update_leaves}
 
 -- a step changes the records, the applications, the pass, the history and the places in it, and nothing else

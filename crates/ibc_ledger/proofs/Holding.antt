@@ -4,8 +4,8 @@ use Rattle.ibc_ledger.proofs.Common.{Bool, drop-drop, ◌≡◌, ℕ, ◌+◌, �
 use Rattle.ibc_ledger.proofs.Common.{length-drop, nat_cmp, ordering_then, is_some, zero, suc, ◌≤◌, true, false, List, drop, map, Option, None, Result, Ok, Err, slice_get, ltb-true, ◌↔◌, IsNone, IfOk, IsSomeAnd, drop-append-le, drop-map}
 use Rattle.ibc_ledger.proofs.Common.{map-append, slice_get-map, Text, text_cmp, at, text_cmp_total, text_tied, Refusal, NoConsensus, written, UpdateClient, Message, Records, Core, Apps, LedgerState, consensus_cmp, consensus_at}
 use Rattle.ibc_ledger.proofs.Common.{with_consensus, Block, Chain, image, HeldStore, committed, kept_at, excess, gone_after, IsStored, ConsensusState, HeldClient, with_height, HeldRecords, core_of, consensus_in, IsUnchanged, UpdatesClient}
-use Rattle.ibc_ledger.proofs.Common.{IsWritten, consensus_of, working_block, IsStateOf, KeepsBlocks, passed, provable, kept_of}
-use Rattle.std.specs.List.{last_or}
+use Rattle.ibc_ledger.proofs.Common.{IsWritten, consensus_of, working_block, IsStateOf, KeepsBlocks, passed, provable, kept_of, Ledger, IsLedger, StampedEntry, IsNext, state_with, with_entry, Stands, Publication}
+use Rattle.ibc_ledger_steps.proofs.Growing.{ledgers_go_on}
 use Rattle.ibc_path_store.specs.Held.{height_of, Hashed}
 use Rattle.ibc_records.specs.Held.{after_commit}
 use Rattle.ibc_ledger.specs.Standing.{last_block}
@@ -15,6 +15,7 @@ use Rattle.std.specs.Cmp.{IsTotalOrder}
 use Rattle.ibc_machine.proofs.Images.{at-with}
 use Rattle.std.proofs.Common.{nat_lt}
 use Rattle.ibc_merkle.specs.Tree.{Pairs}
+use Rattle.ibc_merkle.proofs.Sorted.{last-push}
 use Rattle.ibc_merkle.specs.declared.proof.Proof.{Proof}
 use Rattle.ibc_machine.specs.Machine.{block_of}
 use Rattle.ibc_wire.specs.declared.messages.Message.TheVariants as message
@@ -29,10 +30,6 @@ get_drop : {A : Type 0} (n i : ℕ) (xs : List A) → slice_get (drop n xs) i �
 get_drop zero i xs = ap (slice_get xs) (omega arith)
 get_drop (suc n) i [] = refl
 get_drop (suc n) i (x ∷ xs) = let e : suc (n + i) ≡ suc n + i = omega arith in get_drop n i xs ∙ ap (slice_get (x ∷ xs)) e
-
-last_more : {A : Type 0} (o : Option A) (xs : List A) (x : A) → last_or o (xs ++ x ∷ []) ≡ Some x
-last_more o [] x = refl
-last_more o (y ∷ ys) x = last_more (Some y) ys x
 
 -- ---- messages
 
@@ -205,7 +202,7 @@ module _ (window : ℕ) (state : LedgerState) (old : HeldRecords) (apps : Apps) 
     window_is = ap (λ (h : HeldRecords). h.store.window) is ∙ holds.window_is;
     apps_are = holds.apps_are;
     known = λ client height known e. holds.known client height known (sym (ap (λ (h : HeldRecords). consensus_in h client height) is) ∙ e);
-    last = ap (λ (h : HeldRecords). h.last) is ∙ (λ i. record { core = holds.core i; time = holds.time i }) ∙ ap last_block (sym (last_more None state.chain.committed (working_block state.chain)));
+    last = ap (λ (h : HeldRecords). h.last) is ∙ (λ i. record { core = holds.core i; time = holds.time i }) ∙ ap last_block (sym (last-push None state.chain.committed (working_block state.chain)));
     keeps = subst (λ (h : HeldRecords). KeepsBlocks window (record { records = state.chain.records; time = next_time; committed = state.chain.committed ++ working_block state.chain ∷ [] }) h.store) (sym is)
         (keeps_committed window state.chain old.store next_time some room holds.window_is holds.time holds.height holds.keeps new.store.hashed);
   }
@@ -219,3 +216,10 @@ module _ (window : ℕ) (state : LedgerState) (old : HeldRecords) (apps : Apps) 
           let d = holds.height in
           let w = holds.window_is in
           omega arith
+
+-- a ledger stands with its next entry, where what is held is the state after it
+pub stands_next : (ledger : Ledger) (e : StampedEntry) (more : List Publication) (new : HeldRecords) (left : Apps) → IsLedger ledger → IsNext ledger e more
+    → IsStateOf ledger.genesis.window (state_with ledger e more) new left → Stands (with_entry ledger e more) new left
+stands_next ledger e more new left is next holds =
+    let w = ledgers_go_on ledger e more is next in
+    record { is = w.0; holds = subst (λ (s : LedgerState). IsStateOf ledger.genesis.window s new left) (sym w.1) holds }

@@ -1,24 +1,20 @@
 -- A view of a ledger: what stood at its last committed block, and the tree that is kept of it.
-use Rattle.std.proofs.Common.{◌≡◌, ℕ, zero, suc, ◌-◌, ◌≤◌, ◌^◌, ◌<◌, Bool, true, false, nat_lt, List, [], ◌∷◌, length, refl, sym, ap, ◌∙◌, subst, Option, Some, None, option_map, slice_get, arith, lt-ltb}
-use Rattle.std.proofs.lemmas.List.{length-map}
+use Rattle.ibc_ledger.proofs.Common.{◌≡◌, ℕ, zero, suc, ◌-◌, ◌≤◌, ◌^◌, ◌<◌, Bool, true, false, List, [], ◌∷◌, length, refl, sym, ap, ◌∙◌, subst, Option, Some, None, option_map, slice_get, arith, lt-ltb, length-map, Core, Apps, Block}
+use Rattle.ibc_ledger.proofs.Common.{image, LedgerState, Ledger, published_as, state_of, kept_at, HeldRecords, passed, provable, kept_of, IsStateOf, Stands, genesis_of, ledger_of, IsHeld, Inside}
+use Rattle.std.proofs.Common.{nat_lt}
 use Rattle.std.specs.Prelude.{min, IsSome}
 use Rattle.std.specs.List.{last_or}
 use Rattle.ibc_ids.specs.Publications.{height_of as height_in}
 use Rattle.ibc_merkle.specs.Tree.{Pairs}
-use Rattle.ibc_machine.specs.Records.{Core, Apps, Block, Chain}
-use Rattle.ibc_machine.specs.Image.{image, IsKeyed}
+use Rattle.ibc_machine.specs.Image.{IsKeyed}
 use Rattle.ibc_machine.specs.Machine.{block_of}
-use Rattle.ibc_machine.specs.Replay.{LedgerState}
-use Rattle.ibc_machine.specs.Ledgers.{Ledger, published_as, state_of}
 use Rattle.ibc_machine.specs.Relay.{View, view_at, view_of}
-use Rattle.ibc_path_store.specs.Held.{HeldStore, height_of, kept_at}
-use Rattle.ibc_records.specs.Held.{HeldRecords, LastBlock}
+use Rattle.ibc_path_store.specs.Held.{height_of}
+use Rattle.ibc_records.specs.Held.{LastBlock}
 use Rattle.ibc_root_table.specs.Publications.{IsWithin}
 use Rattle.ibc_root_table.specs.declared.shape.Shape.{Shape}
 use Rattle.ibc_view.specs.Proved.{HasSpellings, IsProved}
-use Rattle.ibc_ledger.specs.Standing.{passed, provable, kept_of, KeepsBlocks, IsStateOf, Stands, last_block}
-use Rattle.ibc_ledger.specs.Inside.{genesis_of, ledger_of, IsHeld}
-use Rattle.ibc_ledger.specs.declared.ledger.Ledger.TheInside.{Inside}
+use Rattle.ibc_ledger.specs.Standing.{last_block}
 use Rattle.ibc_ledger.proofs.Holding.{kept_block}
 use Rattle.ibc_ledger.proofs.Windows.{small_capacity}
 use Rattle.ibc_ledger.proofs.Spelled.{last_spelled, last_keyed}

@@ -1,6 +1,4 @@
 pub mod Common
-pub mod Growing
-pub mod SentPackets
 pub mod Holding
 pub mod AnsweredMessages
 pub mod Answered

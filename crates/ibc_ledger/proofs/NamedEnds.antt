@@ -1,19 +1,14 @@
 -- Ends and clients that an end names: no channel has the empty name, and a client is found under its connection.
-use Rattle.std.proofs.Common.{◌≡◌, ◌&&◌, refl, sym, ap, ◌∙◌, [], Option, Some, None, option_map}
-use Rattle.std.specs.Prelude.{IsTrue}
+use Rattle.ibc_ledger.proofs.Common.{◌≡◌, ◌&&◌, refl, sym, ap, ◌∙◌, [], Option, Some, None, option_map, IsTrue, and_parts, Text, text_cmp, at, Core, Channel, channel_at, HeldClient, HeldRecords, core_of}
 use Rattle.std.specs.Option.{option_map_or}
-use Rattle.std.proofs.lemmas.Bool.{and_parts}
-use Rattle.ibc_ids.specs.Texts.{Text, text_cmp}
-use Rattle.ibc_ids.specs.Maps.{at}
 use Rattle.ibc_ids.specs.Names.{is_port, is_channel}
 use Rattle.ibc_ids.specs.declared.key.Key.TheVariants as key
 use Rattle.ibc_wire.specs.declared.records.ConnectionEnd.{ConnectionEnd}
-use Rattle.ibc_machine.specs.Records.{Core, Client, Channel, client_at, connection_at, channel_at}
+use Rattle.ibc_machine.specs.Records.{Client, client_at, connection_at}
 use Rattle.ibc_machine.specs.Values.{ChannelIs}
 use Rattle.ibc_machine.specs.Channels.{client_of}
 use Rattle.ibc_machine.specs.Image.{IsKeyed}
-use Rattle.ibc_records.specs.HeldClients.{HeldClient, plain_client}
-use Rattle.ibc_records.specs.Held.{HeldRecords, core_of}
+use Rattle.ibc_records.specs.HeldClients.{plain_client}
 use Rattle.ibc_client.proofs.Updating.{client_at-held}
 
 pub no_empty_name : (core : Core) (port : Text) → IsKeyed core → channel_at core port [] ≡ None

@@ -1,7 +1,7 @@
 -- A ledger in the beginning is one.
 use Rattle.ibc_ledger.proofs.Common.{◌≡◌, ◌∙◌, ◌<◌, List, [], length, map, refl, sym, ap, subst, Some, option_map, IsTrue, length-map, slice_get-map, published_by, Genesis, ChainStart, Core, genesis_state, chain_state, is_allowed}
 use Rattle.ibc_ledger.proofs.Common.{StampedEntry, core_of, IsNew, IsInFlight, Inside, Stands, Applications, plain_apps, starting_apps, plain_entry, shape_of, KeptEntry, happened_of, Places, AreFirst, genesis_of, ledger_of, IsHeld}
-use Rattle.std.specs.Prelude.{slice_get}
+use Rattle.ibc_ledger.proofs.Common.{slice_get}
 use Rattle.ibc_ledger.proofs.Ending.{stands_new}
 
 -- what a new ledger is made of

@@ -1,15 +1,10 @@
 -- What a ledger has committed is what its types promise, so each proof of it has a spelling.
-use Rattle.std.proofs.Common.{◌≡◌, ℕ, ◌^◌, ◌<◌, List, [], ◌∷◌, ◌++◌, length, refl, sym, ap, ◌∙◌, subst, Option, Some, None, option_map, unwrap_or, slice_get, inl, inr, arith}
-use Rattle.std.specs.Prelude.{⊤, IsTrue}
-use Rattle.std.specs.List.{AllByRecursion, last_or}
-use Rattle.std.proofs.lemmas.Option.{slice_get-map}
-use Rattle.ibc_ids.specs.Texts.{Text}
-use Rattle.ibc_ids.specs.declared.publication.Publication.{Publication}
-use Rattle.ibc_machine.specs.Records.{Core, Block, Chain}
-use Rattle.ibc_machine.specs.Image.{image, IsKeyed}
-use Rattle.ibc_machine.specs.Genesis.{GenesisState, start, starting_chain}
-use Rattle.ibc_machine.specs.Replay.{LedgerState, StampedEntry, entry_answer, replay, met_states, starting_state, empty_chain}
-use Rattle.ibc_machine.specs.Ledgers.{Ledger, IsLedger, IsOwnEntry, state_of}
+use Rattle.ibc_ledger.proofs.Common.{◌≡◌, ℕ, ◌^◌, ◌<◌, List, [], ◌∷◌, length, refl, sym, ap, ◌∙◌, subst, Option, Some, None, option_map, unwrap_or, slice_get, inl, inr, arith, ⊤, AllByRecursion, slice_get-map, Text}
+use Rattle.ibc_ledger.proofs.Common.{Publication, Core, Block, Chain, image, GenesisState, starting_chain, LedgerState, StampedEntry, entry_answer, met_states, starting_state, empty_chain, Ledger, IsLedger, IsOwnEntry, state_of}
+use Rattle.std.specs.List.{last_or}
+use Rattle.ibc_machine.specs.Image.{IsKeyed}
+use Rattle.ibc_machine.specs.Genesis.{start}
+use Rattle.ibc_machine.specs.Replay.{replay}
 use Rattle.ibc_refinement.proofs.Places.{get_there}
 use Rattle.ibc_refinement.proofs.Typed.{IsTyped}
 use Rattle.ibc_refinement.proofs.TypedLook.{stands, fit_from}
@@ -21,14 +16,11 @@ use Rattle.ibc_refinement.proofs.EntrySteps.{working, answer_commits, own_typed}
 use Rattle.ibc_refinement.proofs.MergedRun.{typed_start}
 use Rattle.ibc_records.proofs.NewRecords.{keyed-counters}
 use Rattle.ibc_view.specs.Proved.{HasSpellings}
+use Rattle.ibc_ledger_steps.proofs.Growing.{all_last}
 use Rattle.ibc_ledger.specs.Standing.{last_block}
 
 abbrev AreTyped : List Block → Type 0
 AreTyped = AllByRecursion (λ (block : Block). IsTyped block.records.core)
-
-typed_append : (blocks : List Block) (block : Block) → AreTyped blocks → IsTyped block.records.core → AreTyped (blocks ++ block ∷ [])
-typed_append [] block all typed = (typed, tt)
-typed_append (b ∷ blocks) block all typed = (all.0, typed_append blocks block all.1 typed)
 
 -- all blocks of a history are typed
 replay_typed : (ledger : Ledger) (genesis : GenesisState) (k : ℕ) (seen : List Publication) (state : LedgerState) (history : List StampedEntry) → IsTyped state.chain.records.core → AreTyped state.chain.committed
@@ -41,7 +33,7 @@ replay_typed ledger genesis k seen state (e ∷ history) typed all own =
     let blocks : AreTyped next.chain.committed =
     elim (c.blocks) [
       | inl w ↦ subst AreTyped (sym w.1) all
-      | inr w ↦ subst AreTyped (sym w.1) (typed_append state.chain.committed (working state.chain) all typed)
+      | inr w ↦ subst AreTyped (sym w.1) (all_last (λ (block : Block). IsTyped block.records.core) state.chain.committed (working state.chain) all typed)
     ] in
     replay_typed ledger genesis k seen next history c.typed blocks own.1
 

@@ -7,7 +7,8 @@ use Rattle.ibc_transfer.specs.InFlight.{IsInFlight}
 use Rattle.ibc_ledger.specs.Standing.{plain_apps}
 use Rattle.ibc_ledger.specs.Standing.{Stands}
 use Rattle.ibc_ledger.specs.Held.{HeldLedger, plain_entry, shape_of}
-use Rattle.ibc_ledger.specs.SentPackets.{happened_on, AreFirst}
+use Rattle.ibc_sent_packets.specs.Sent.{AreFirst}
+use Rattle.ibc_ledger.specs.SentPackets.{happened_on}
 use Rattle.ibc_ledger.specs.declared.ledger.Ledger.TheInside.{Inside}
 
 abbrev pub genesis_of : Inside → GenesisState

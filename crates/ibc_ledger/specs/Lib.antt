@@ -1,4 +1,3 @@
-pub mod Growing
 pub mod Standing
 pub mod Held
 pub mod SentPackets

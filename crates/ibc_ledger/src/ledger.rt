@@ -20,14 +20,13 @@ ghost use Rattle.ibc_ledger.specs.Standing.{provable};
 
 use crate::applications::Applications;
 use crate::node::Node;
-use crate::places::{Places, place_of};
-use crate::sent::{commitment_in, packet_to};
 use crate::{StampedEntry, is_allowed};
 use ibc_ids::{Account, Bytes, ChannelId, Denom, Key, PortId, Refusal};
 use ibc_machine::Genesis;
 use ibc_merkle::Proof;
 use ibc_records::Records;
 use ibc_root_table::{Pass, RootTable};
+use ibc_sent_packets::{SentPackets, packet_in};
 use ibc_wire::Packet;
 use std::alloc::Global;
 use std::marker::Model;
@@ -44,7 +43,7 @@ pub struct Ledger {
     pub(crate) table: Arc<RootTable, Global>,
     pub(crate) pass: Pass,
     pub(crate) history: Vec<StampedEntry>,
-    pub(crate) sent: Places,
+    pub(crate) sent: SentPackets,
 }
 
 impl Model for Ledger {
@@ -94,7 +93,7 @@ impl Ledger {
             table,
             pass,
             history: Vec::new(alloc),
-            sent: Places::new(alloc),
+            sent: SentPackets::new(alloc),
         })
     }
 
@@ -191,15 +190,12 @@ impl Ledger {
         let Some(peer) = &end.peer_channel else {
             return Ok(None);
         };
-        let Some(place) = place_of(&self.sent, port, channel, sequence)? else {
+        let Some(place) = self.sent.place(port, channel, sequence)? else {
             return Ok(None);
         };
-        let Some(commitment) = commitment_in(self.node.alloc, &self.history[place].entry.event)?
-        else {
-            unreachable!();
-        };
-        let packet = packet_to(port, channel, sequence, end, peer, commitment)?;
-        Ok(Some(packet))
+        let stamped = &self.history[place];
+        let event = &stamped.entry.event;
+        packet_in(self.node.alloc, event, port, channel, sequence, end, peer)
     }
 
     /// The acknowledgement that was written at an end of a channel for a sequence (ICS 4, "writeAcknowledgement"). None where

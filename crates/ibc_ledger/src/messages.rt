@@ -10,7 +10,6 @@ ghost use Rattle.ibc_ledger.specs.Answering.{IsReady, IsAnswer};
 use crate::entry::seen_if;
 use crate::node::Node;
 use crate::outcome::{Outcome, replies};
-use crate::places::{keep_first, make_room};
 use crate::{Ledger, StampedEntry};
 use ibc_ids::Refusal;
 use ibc_machine::{Entry, Event, Reply};
@@ -28,7 +27,7 @@ impl Ledger {
             drop(message);
             return Reply::No(Refusal::NoMemory);
         };
-        let Ok(sender) = make_room(self.node.alloc, &mut self.sent, &message) else {
+        let Ok(sender) = self.sent.make_room(self.node.alloc, &message) else {
             drop(message);
             return Reply::No(Refusal::NoMemory);
         };
@@ -43,7 +42,7 @@ impl Ledger {
             return Reply::No(Refusal::NoMemory);
         };
         let seen = seen_if(&self.pass, reading.is_some());
-        keep_first(&mut self.sent, sender, &kept, self.history.len());
+        self.sent.keep_first(sender, &kept, self.history.len());
         self.history.push_reserved(StampedEntry {
             entry: Entry {
                 event: Event::Message { chain, message },

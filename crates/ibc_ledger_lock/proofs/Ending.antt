@@ -16,25 +16,18 @@ use Rattle.ibc_machine.specs.Ledgers.{Ledger, IsLedger, IsOwnEntry, SeesMore, Ad
 use Rattle.ibc_machine.specs.Records.{Block, Chain}
 use Rattle.ibc_machine.specs.Relay.{View, view_at, view_of}
 use Rattle.ibc_machine.specs.Replay.{LedgerState, StampedEntry, entry_answer, ledger_answer, met_states, replay, starting_state, with_chain}
+use Rattle.ibc_merkle.proofs.Sorted.{last-push}
 use Rattle.ibc_root_table.specs.Passes.{TableName}
+use Rattle.ibc_refinement.proofs.EntrySteps.{replay_more}
 use Rattle.ibc_ledger.specs.Adding.{AddsOrNot}
 use Rattle.ibc_ledger.specs.Held.{HeldLedger}
 use Rattle.ibc_ledger_lock.specs.Worlds.{Told, IsOfWorld, IsViewOf, IsEndOf, ShowsEnd}
 use Rattle.ibc_ledger_lock.proofs.Noting.{same}
 
-replay_last : (genesis : GenesisState) (k : ℕ) (seen : List Publication) (state : LedgerState) (history : List StampedEntry) (e : StampedEntry)
-    → replay genesis k seen state (history ++ e ∷ []) ≡ (entry_answer genesis k seen (replay genesis k seen state history) e).1
-replay_last genesis k seen state [] e = refl
-replay_last genesis k seen state (x ∷ history) e = replay_last genesis k seen (entry_answer genesis k seen state x).1 history e
-
 last_met : (P : LedgerState × StampedEntry → Type 0) (genesis : GenesisState) (k : ℕ) (seen : List Publication) (state : LedgerState) (history : List StampedEntry) (e : StampedEntry)
     → AllByRecursion P (met_states genesis k seen state (history ++ e ∷ [])) → P (replay genesis k seen state history, e)
 last_met P genesis k seen state [] e all = all.0
 last_met P genesis k seen state (x ∷ history) e all = last_met P genesis k seen (entry_answer genesis k seen state x).1 history e all.1
-
-last_is : (o : Option Block) (blocks : List Block) (last : Block) → last_or o (blocks ++ last ∷ []) ≡ Some last
-last_is o [] last = refl
-last_is o (x ∷ blocks) last = last_is (Some x) blocks last
 
 -- where a block was ended, it is the last of the chain
 ended : (k : ℕ) (s : LedgerState) (t : ℕ) (x : Checked ⊤) (height : ℕ) (root : Text)
@@ -44,7 +37,7 @@ ended k s t (Ok may) height root e =
     let block : Block = record { records = s.chain.records; time = s.chain.time } in
     let chain : Chain = record { records = s.chain.records; time = t; committed = s.chain.committed ++ block ∷ [] } in
     let same : height ≡ length s.chain.committed + 1 = cc in
-    ap (λ o. (view_at k chain o).height) (last_is None s.chain.committed block)
+    ap (λ o. (view_at k chain o).height) (last-push None s.chain.committed block)
     ∙ length-append s.chain.committed (block ∷ []) ∙ sym same
 ended k s t (Err refusal) height root e = absurd (cc)
 
@@ -65,7 +58,7 @@ module _ (old : Ledger) (e : StampedEntry) (more : List Publication) (t height :
   height_told asked answered is =
       let own = last_met (IsOwnEntry longer) old.genesis old.chain (old.seen ++ more) (starting_state old.genesis old.chain) old.history e is.entries in
       let step = answer asked in
-      let state = replay_last old.genesis old.chain (old.seen ++ more) (starting_state old.genesis old.chain) old.history e in
+      let state = replay_more old.genesis old.chain (old.seen ++ more) (starting_state old.genesis old.chain) old.history e in
       ap (λ (s : LedgerState). (view_of old.chain s.chain).height) (state ∙ ap (λ (w : Reply × LedgerState). w.1) step)
       ∙ ended old.chain before t _ height root (sym answered ∙ own.reply ∙ ap (λ (w : Reply × LedgerState). w.0) step)
 

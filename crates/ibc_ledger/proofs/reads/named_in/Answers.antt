@@ -1,10 +1,6 @@
 -- Where no peer is named, the empty name is asked for, which no channel has.
-use Rattle.std.proofs.Common.{ap, ◌∙◌, Option}
+use Rattle.ibc_ledger.proofs.Common.{ap, ◌∙◌, Option, [], Text, channel_at, core_of}
 use Rattle.std.specs.Option.{unwrap_or}
-use Rattle.std.specs.Prelude.{[]}
-use Rattle.ibc_ids.specs.Texts.{Text}
-use Rattle.ibc_machine.specs.Records.{channel_at}
-use Rattle.ibc_records.specs.Held.{core_of}
 use Rattle.ibc_ledger.proofs.NamedEnds.{no_empty_name}
 use Rattle.ibc_ledger.proofs.reads.named_in.Goals as goal
 

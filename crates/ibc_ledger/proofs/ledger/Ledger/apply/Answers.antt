@@ -13,7 +13,7 @@ invariant_of-self-in_default-replies c =
     let others = others_publish c.self.inside c.self.invariant c.answer-outcome.new.pass passes.1 passes.2 in
     let says = applied c.self.inside c.self.invariant c.answer-outcome.new.pass passes.1 others c.answer-outcome.new.self c.args.message c.answer-outcome.result c.answer-outcome.ensures.answer in
     let left = unchanged_applied c.self.inside c.self.invariant c.answer-outcome.new.pass passes.1 others c.args.message c.answer-outcome.result c.answer-outcome.new.self says (c.in_default-replies.ensures.err refl) in
-    let new : Inside = record c.self.inside { node = c.answer-outcome.new.self; pass = c.answer-outcome.new.pass; history = c.reserve.new.self; sent = c.make_room.new.places } in
+    let new : Inside = record c.self.inside { node = c.answer-outcome.new.self; pass = c.answer-outcome.new.pass; history = c.reserve.new.self; sent = c.make_room.new.self } in
     still_held c.self.inside c.self.invariant new (λ i. record new { node = says.same i })
     passes.0 passes.1 passes.2 left.0 left.1 says.flight c.in-Ok.ensures.items c.make_room.ensures.pairs
 
@@ -22,7 +22,7 @@ returns-in_default-replies-clause-adds c =
     let passes = c.answer-outcome.ensures.pass in
     let others = others_publish c.self.inside c.self.invariant c.answer-outcome.new.pass passes.1 passes.2 in
     let says = applied c.self.inside c.self.invariant c.answer-outcome.new.pass passes.1 others c.answer-outcome.new.self c.args.message c.answer-outcome.result c.answer-outcome.ensures.answer in
-    let new : Inside = record c.self.inside { node = c.answer-outcome.new.self; pass = c.answer-outcome.new.pass; history = c.reserve.new.self; sent = c.make_room.new.places } in
+    let new : Inside = record c.self.inside { node = c.answer-outcome.new.self; pass = c.answer-outcome.new.pass; history = c.reserve.new.self; sent = c.make_room.new.self } in
     not_added c.self.inside new (λ i. record new { node = says.same i }) passes.1 c.in-Ok.ensures.items (λ k. event.Message k c.args.message) c.args.self.now c.self.view_is
 
 -- ---- there is one entry more
@@ -35,7 +35,7 @@ says : (c : goal.After-push_reserved) → IsApplied c.self.inside c.answer-outco
 says c = applied c.self.inside c.self.invariant c.answer-outcome.new.pass c.answer-outcome.ensures.pass.1 (others c) c.answer-outcome.new.self c.args.message c.answer-outcome.result c.answer-outcome.ensures.answer
 
 abbrev new_inside : goal.After-push_reserved → Inside
-new_inside c = record c.self.inside { node = c.answer-outcome.new.self; pass = c.answer-outcome.new.pass; history = c.push_reserved.new.self; sent = c.keep_first.new.places }
+new_inside c = record c.self.inside { node = c.answer-outcome.new.self; pass = c.answer-outcome.new.pass; history = c.push_reserved.new.self; sent = c.keep_first.new.self }
 
 abbrev given : goal.After-push_reserved → Reply
 given c = told_reply c.answer-outcome.result.result
@@ -57,7 +57,7 @@ items : (c : goal.After-push_reserved) → c.push_reserved.new.self.items ≡ c.
 items c = c.push_reserved.ensures.items ∙ ap (λ (xs : List KeptEntry). xs ++ kept c ∷ []) c.in-Ok.ensures.items
 
 -- the place of the packet that was sent, if one was, is the entry's
-sent : (c : goal.After-push_reserved) → c.keep_first.new.places.pairs ≡ with_first (sent_as (sender_of c.args.message) c.in-Ok-replies.kept) (length c.self.inside.history.items) c.self.inside.sent.pairs
+sent : (c : goal.After-push_reserved) → c.keep_first.new.self.pairs ≡ with_first (sent_as (sender_of c.args.message) c.in-Ok-replies.kept) (length c.self.inside.history.items) c.self.inside.sent.pairs
 sent c =
     let place : c.len.result ≡ length c.self.inside.history.items = omega (arith, c.len.ensures, ap length c.in-Ok.ensures.items) in
     c.keep_first.ensures ∙ (λ i. with_first (sent_as (c.in-Ok-make_room.ensures.sender i) c.in-Ok-replies.kept) (place i) (c.make_room.ensures.pairs i))

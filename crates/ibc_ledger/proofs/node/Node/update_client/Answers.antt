@@ -1,5 +1,4 @@
-use Rattle.ibc_ledger.proofs.Common.{refl, sym, subst, IfSome, height_of, reading_fits, TableName, host_with}
-use Rattle.std.specs.Prelude.{◌≡◌, true}
+use Rattle.ibc_ledger.proofs.Common.{refl, sym, subst, IfSome, height_of, reading_fits, TableName, host_with, ◌≡◌, true}
 use Rattle.ibc_ledger.proofs.node.Node.update_client.Goals as goal
 
 pub returns-clause-answer : goal.returns-clause-answer

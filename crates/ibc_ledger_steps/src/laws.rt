@@ -1,6 +1,6 @@
 //! What stays true of ledgers as they go on.
 
-ghost use Rattle.ibc_ledger.specs.Growing.{LedgersGoOn, LedgersSeeMore};
+ghost use Rattle.ibc_ledger_steps.specs.Growing.{LedgersGoOn, LedgersSeeMore};
 
 /// A ledger whose pass has seen more publications of the others is a ledger in the same state.
 pub fn a_ledger_sees_more()

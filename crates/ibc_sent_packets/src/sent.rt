@@ -1,9 +1,9 @@
 //! The packets that messages sent.
 
-ghost use Rattle.std.specs.Prelude.{◌≡◌, Some, IfOk, IfErr};
+ghost use Rattle.std.specs.Prelude.{◌≡◌, Some, option_map, IfOk, IfErr};
 ghost use Rattle.ibc_ids.specs.declared.refusal.Refusal.TheVariants.{NoMemory};
 ghost use Rattle.ibc_wire.specs.declared.messages.Message.TheVariants as message;
-ghost use Rattle.ibc_ledger.specs.SentPackets.{commitment_by, commitment_in, packet_to};
+ghost use Rattle.ibc_sent_packets.specs.Sent.{commitment_by, commitment_in, packet_to};
 
 use ibc_ids::{ChannelId, PortId, Refusal, Version};
 use ibc_machine::Event;
@@ -12,8 +12,28 @@ use ibc_token_data::TokenData;
 use ibc_wire::{ChannelEnd, Message, Packet, Transfer, TransferMany};
 use std::alloc::{AllocError, Global};
 
-/// What was committed of the packet that an event sent, or none where it sends none. `NoMemory` where a growth is refused.
-pub fn commitment_in(alloc: Global, event: &Event) -> Result<Option<Commitment>, Refusal>
+/// The packet that an event sent from an end under a sequence to the peer of this name (ICS 4, "sendPacket"), or none where
+/// it is of a kind that sends none. `NoMemory` where a growth is refused.
+pub fn packet_in(
+    alloc: Global,
+    event: &Event,
+    port: &PortId,
+    channel: &ChannelId,
+    sequence: u64,
+    end: &ChannelEnd,
+    peer: &ChannelId,
+) -> Result<Option<Packet>, Refusal>
+    ensures ok { IfOk result (λ packet. packet ≡ option_map (λ c. packet_to port.now channel.now sequence end.now peer.now c) (commitment_in event.now)) }
+    ensures err { IfErr result (λ refusal. refusal ≡ NoMemory) }
+{
+    let Some(commitment) = commitment_in(alloc, event)? else {
+        return Ok(None);
+    };
+    Ok(Some(packet_to(port, channel, sequence, end, peer, commitment)?))
+}
+
+// What was committed of the packet that an event sent, or none where it sends none.
+fn commitment_in(alloc: Global, event: &Event) -> Result<Option<Commitment>, Refusal>
     ensures ok { IfOk result (λ commitment. commitment ≡ commitment_in event.now) }
     ensures err { IfErr result (λ refusal. refusal ≡ NoMemory) }
 {
@@ -68,8 +88,8 @@ fn transfer_many_by(alloc: Global, sent: &TransferMany) -> Result<Commitment, Re
     })
 }
 
-/// The packet that was committed to so, from an end under a sequence to the peer of this name. Error: memory ran out.
-pub fn packet_to(
+// The packet that was committed to so, from an end under a sequence to the peer of this name. Error: memory ran out.
+fn packet_to(
     port: &PortId,
     channel: &ChannelId,
     sequence: u64,

@@ -1,8 +1,21 @@
 -- Where packets stand in a history that gets longer, and that a packet is found at its place.
-use Rattle.ibc_ledger.proofs.Common.{◌≡◌, ◌+◌, ℕ, suc, eqb, Bool, true, false, ◌&&◌, cond, is_eq, List, [], ◌∷◌, ◌++◌, length, refl, sym, ap, ◌∙◌, Some, None, Option, slice_get, option_and_then, arith, ◌==◌, nat_cmp, option_map_or}
-use Rattle.ibc_ledger.proofs.Common.{option_or, AllByRecursion, find, filter_map, cons_option, position_from, and_parts, and_from, false≢true, Text, same_text, pair_cmp, at, with, text_same, same_text_from, Packet, Channel, Commitment}
-use Rattle.ibc_ledger.proofs.Common.{one_token, several_tokens, transfer_port, transfer_commitment, transfer_data, transfer_many_data, note_port, note_commitment, Happened, End, is_end, packet_if, packet_from, sent_by, packet_sent}
-use Rattle.ibc_ledger.proofs.Common.{history_of, chain_of, commitment_in, SentName, sent_cmp, sent_name, is_named, Places, AreFirst, with_first}
+use Rattle.std.proofs.Common.{◌≡◌, ◌+◌, ℕ, suc, eqb, Bool, true, false, ◌&&◌, cond, is_eq, List, [], ◌∷◌, ◌++◌, length, refl, sym, ap, ◌∙◌, Some, None, Option, slice_get, option_and_then, option_map, arith}
+use Rattle.std.proofs.lemmas.Bool.{and_parts, and_from, false≢true}
+use Rattle.std.specs.List.{AllByRecursion, find, filter_map, cons_option, position_from}
+use Rattle.std.specs.Option.{option_map_or, option_or}
+use Rattle.std.specs.Ordering.{nat_cmp}
+use Rattle.std.specs.Prelude.{◌==◌}
+use Rattle.ibc_ids.proofs.Texts.{text_same, same_text_from}
+use Rattle.ibc_ids.specs.Maps.{at, with}
+use Rattle.ibc_ids.specs.Texts.{Text, same_text, pair_cmp}
+use Rattle.ibc_machine.specs.Histories.{Happened, End, is_end, packet_if, packet_from, sent_by, packet_sent, history_of}
+use Rattle.ibc_machine.specs.Ledgers.{chain_of}
+use Rattle.ibc_machine.specs.Notes.{note_port, note_commitment}
+use Rattle.ibc_machine.specs.Records.{Channel, Commitment}
+use Rattle.ibc_machine.specs.TokenData.{one_token, several_tokens}
+use Rattle.ibc_machine.specs.Transfers.{transfer_port, transfer_commitment, transfer_data, transfer_many_data}
+use Rattle.ibc_sent_packets.specs.Sent.{commitment_in, SentName, sent_cmp, sent_name, is_named, Places, AreFirst, with_first}
+use Rattle.ibc_wire.specs.declared.packet.Packet.{Packet}
 use Rattle.std.proofs.lemmas.Map.Lookups.{exact_pairs}
 use Rattle.ibc_machine.proofs.FiniteMaps.{TellsApart, by_number, by_pair, at-with, same_key}
 use Rattle.ibc_wire.specs.declared.messages.Message.TheVariants as message
@@ -140,18 +153,11 @@ module _ (e : End) (mine : Channel) (n : ℕ) where
 
   tells : (h : Happened) → option_map_or passes (sent_by e mine h) false ≡ is_named name h
   tells (event.Message k (message.SendNote m), reply.Ok (effect.Sent s)) = sent_from note_port m.channel s (note_commitment m)
-  tells (event.Message k (message.SendNote m), reply.Ok _) = refl
-  tells (event.Message k (message.SendNote m), reply.No r) = refl
   tells (event.Message k (message.Transfer m), reply.Ok (effect.Sent s)) =
       sent_from transfer_port m.channel s (transfer_commitment one_token (transfer_data m) m.timeout_height m.timeout_time)
-  tells (event.Message k (message.Transfer m), reply.Ok _) = refl
-  tells (event.Message k (message.Transfer m), reply.No r) = refl
   tells (event.Message k (message.TransferMany m), reply.Ok (effect.Sent s)) =
       sent_from transfer_port m.channel s (transfer_commitment several_tokens (transfer_many_data m) m.timeout_height m.timeout_time)
-  tells (event.Message k (message.TransferMany m), reply.Ok _) = refl
-  tells (event.Message k (message.TransferMany m), reply.No r) = refl
-  tells (event.Message k m, given) = refl
-  tells (event.Block k next_time, given) = refl
+  tells (ev, given) = refl
 
   -- an event of the chain
   abbrev IsOwn : Happened → Type 0
@@ -198,35 +204,18 @@ stands_at places happened first name i found =
     there (is_named name) (slice_get happened) 0 happened (λ j. ap (slice_get happened) (let e : 0 + j ≡ j = omega arith in e)) i (sym (first name) ∙ found)
 
 -- a packet that was sent under the name by an end of the port
-sent_under : (e : End) (mine : Channel) (n : ℕ) (port channel : Text) (s : ℕ) (c d : Commitment) → c ≡ d → is_eq (sent_cmp ((e.port, e.channel), n) ((port, channel), s)) ≡ true
-    → packet_if (is_end e port channel) (packet_from e mine s c) ≡ Some (packet_from e mine n d)
-sent_under e mine n port channel s c d same named =
+sent_under : (e : End) (mine : Channel) (n : ℕ) (port channel : Text) (s : ℕ) (c : Commitment) → is_eq (sent_cmp ((e.port, e.channel), n) ((port, channel), s)) ≡ true
+    → packet_if (is_end e port channel) (packet_from e mine s c) ≡ Some (packet_from e mine n c)
+sent_under e mine n port channel s c named =
     let both = and_parts (is_end e port channel) (eqb s n) (same_name e mine n port channel s ∙ named) in
     let sequence : s ≡ n = grind (arith, both.1) in
-    ap (λ b. packet_if b (packet_from e mine s c)) both.0 ∙ (λ i. Some (packet_from e mine (sequence i) (same i)))
+    ap (λ b. packet_if b (packet_from e mine s c)) both.0 ∙ ap (λ k. Some (packet_from e mine k c)) sequence
 
--- what has the name was sent under it
-pub named_packet : (e : End) (mine : Channel) (n : ℕ) (h : Happened) (c : Commitment) → commitment_in h.0 ≡ Some c → is_named ((e.port, e.channel), n) h ≡ true
-    → sent_by e mine h ≡ Some (packet_from e mine n c)
-named_packet e mine n (event.Message k (message.SendNote m), reply.Ok (effect.Sent s)) c is named =
-    sent_under e mine n note_port m.channel s (note_commitment m) c (cc) named
-named_packet e mine n (event.Message k (message.SendNote m), reply.Ok _) c is named = absurd (false≢true named)
-named_packet e mine n (event.Message k (message.SendNote m), reply.No r) c is named = absurd (false≢true named)
-named_packet e mine n (event.Message k (message.Transfer m), reply.Ok (effect.Sent s)) c is named =
-    sent_under e mine n transfer_port m.channel s (transfer_commitment one_token (transfer_data m) m.timeout_height m.timeout_time) c (cc) named
-named_packet e mine n (event.Message k (message.Transfer m), reply.Ok _) c is named = absurd (false≢true named)
-named_packet e mine n (event.Message k (message.Transfer m), reply.No r) c is named = absurd (false≢true named)
-named_packet e mine n (event.Message k (message.TransferMany m), reply.Ok (effect.Sent s)) c is named =
-    sent_under e mine n transfer_port m.channel s (transfer_commitment several_tokens (transfer_many_data m) m.timeout_height m.timeout_time) c (cc) named
-named_packet e mine n (event.Message k (message.TransferMany m), reply.Ok _) c is named = absurd (false≢true named)
-named_packet e mine n (event.Message k (message.TransferMany m), reply.No r) c is named = absurd (false≢true named)
-named_packet e mine n (event.Message k _, given) c is named = absurd (false≢true named)
-named_packet e mine n (event.Block k next_time, given) c is named = absurd (false≢true named)
-
--- what has a name sent a packet
-pub names_a_packet : (q : SentName) (h : Happened) → is_named q h ≡ true → commitment_in h.0 ≡ None → ⊥
-names_a_packet q (event.Message k (message.SendNote m), given) named none = absurd (cc none)
-names_a_packet q (event.Message k (message.Transfer m), given) named none = absurd (cc none)
-names_a_packet q (event.Message k (message.TransferMany m), given) named none = absurd (cc none)
-names_a_packet q (event.Message k _, given) named none = absurd (false≢true named)
-names_a_packet q (event.Block k next_time, given) named none = absurd (false≢true named)
+-- what has the name sent the packet that it committed to
+pub named_packet : (e : End) (mine : Channel) (n : ℕ) (h : Happened) → is_named ((e.port, e.channel), n) h ≡ true → sent_by e mine h ≡ option_map (λ c. packet_from e mine n c) (commitment_in h.0)
+named_packet e mine n (event.Message k (message.SendNote m), reply.Ok (effect.Sent s)) named = sent_under e mine n note_port m.channel s (note_commitment m) named
+named_packet e mine n (event.Message k (message.Transfer m), reply.Ok (effect.Sent s)) named =
+    sent_under e mine n transfer_port m.channel s (transfer_commitment one_token (transfer_data m) m.timeout_height m.timeout_time) named
+named_packet e mine n (event.Message k (message.TransferMany m), reply.Ok (effect.Sent s)) named =
+    sent_under e mine n transfer_port m.channel s (transfer_commitment several_tokens (transfer_many_data m) m.timeout_height m.timeout_time) named
+named_packet e mine n (ev, given) named = absurd (false≢true named)

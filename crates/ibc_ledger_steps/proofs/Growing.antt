@@ -1,13 +1,32 @@
 -- A ledger that has seen more is a ledger, and so is one with its next entry: of a message, or of a block's end.
-use Rattle.ibc_ledger.proofs.Common.{◌≡◌, ◌<◌, ◌^◌, List, [], ◌∷◌, ◌++◌, length, map, sym, ap, ◌∙◌, arith, subst, AllByRecursion, ℕ, ◌≤◌, true, refl, Some, None, Option, is_some, unwrap_or, length-append, ⊎_elim, IfSome, or_cases}
-use Rattle.ibc_ledger.proofs.Common.{slice_get_within, false, ◌||◌, eqb, Ok, Err, eq-eqb, lt-ltb, ⊤, nat_lt, and_from, false≢true, take_all, map-append, published_by, Publication, height_among, Refusal, height_of, Message, Block, image}
-use Rattle.ibc_ledger.proofs.Common.{LedgerState, StampedEntry, entry_answer, starting_state, Ledger, IsLedger, IsOwnEntry, published_as, state_of, met_by, Reading, Reply, GenesisState, replay, met_states, IsReading, IsOwnBlock, AreRising}
-use Rattle.ibc_ledger.proofs.Common.{header_in, reading_fits, is_accepted_block, keeps_a_stamp, is_looking, Event, Effect, Core, Apps, Checked, handle, host_of, after_message, may_commit, after_block, working_height, core_root, proves}
-use Rattle.ibc_ledger.proofs.Common.{after_answer, with_chain, ledger_answer, is_own_event, is_block_reply, Publishes, HeldRecords, seeing_more, with_entry, state_with, IsNext, LedgersSeeMore, LedgersGoOn, IsStateOf, Stands, entry_of}
-use Rattle.ibc_ledger.proofs.Common.{stamp_if, working_block, Reads}
+use Rattle.std.proofs.Common.{◌≡◌, ◌<◌, ◌^◌, List, [], ◌∷◌, ◌++◌, length, map, sym, ap, ◌∙◌, arith, subst, ℕ, ◌≤◌, true, refl, Some, None, Option, is_some, unwrap_or, length-append, ⊎_elim, false, ◌||◌, eqb, Ok, Err, eq-eqb, lt-ltb}
+use Rattle.std.proofs.lemmas.Bool.{or_cases, and_from, false≢true}
+use Rattle.std.proofs.lemmas.List.{take_all, map-append}
+use Rattle.std.proofs.lemmas.Option.{slice_get_within, IfSome_then}
+use Rattle.std.specs.List.{AllByRecursion}
+use Rattle.std.specs.Prelude.{IfSome, ⊤, nat_lt}
+use Rattle.ibc_ids.specs.Publications.{published_by, height_among, height_of}
+use Rattle.ibc_ids.specs.declared.publication.Publication.{Publication}
+use Rattle.ibc_ids.specs.declared.refusal.Refusal.{Refusal}
+use Rattle.ibc_ledger_steps.specs.Growing.{seeing_more, with_entry, state_with, IsNext, LedgersSeeMore, LedgersGoOn, entry_of, stamp_if, working_block, Reads}
+use Rattle.ibc_machine.specs.Checks.{Checked}
+use Rattle.ibc_machine.specs.Genesis.{GenesisState}
+use Rattle.ibc_machine.specs.Handlers.{handle, host_of, after_message, may_commit, after_block, working_height}
+use Rattle.ibc_machine.specs.Image.{image, core_root}
+use Rattle.ibc_machine.specs.Ledgers.{Ledger, IsLedger, IsOwnEntry, published_as, state_of, met_by, IsReading, IsOwnBlock, AreRising, header_in, reading_fits, is_accepted_block, keeps_a_stamp, is_looking, is_own_event, is_block_reply}
+use Rattle.ibc_machine.specs.Records.{Block, Core, Apps}
+use Rattle.ibc_machine.specs.Replay.{LedgerState, StampedEntry, entry_answer, starting_state, replay, met_states, proves, after_answer, with_chain, ledger_answer}
+use Rattle.ibc_machine.specs.declared.entry.Reading.{Reading}
+use Rattle.ibc_machine.specs.declared.event.Event.{Event}
+use Rattle.ibc_machine.specs.declared.reply.Effect.{Effect}
+use Rattle.ibc_machine.specs.declared.reply.Reply.{Reply}
+use Rattle.ibc_root_table.specs.Passes.{Publishes}
+use Rattle.ibc_wire.specs.declared.messages.Message.{Message}
 use Rattle.ibc_root_table.proofs.Growing.{height_among-stays, Publishes-last}
 use Rattle.ibc_wire.specs.declared.header.Header.{Header}
 use Rattle.ibc_machine.proofs.SeenMore.{entry_stays}
+use Rattle.ibc_refinement.proofs.EntrySteps.{replay_more}
+use Rattle.ibc_refinement.proofs.SeenMore.{replay_stays}
 use Rattle.ibc_root_table.proofs.Beginnings.{prefix_get}
 use Rattle.ibc_machine.specs.declared.event.Event.TheVariants as event
 use Rattle.ibc_machine.specs.declared.reply.Effect.TheVariants as effect
@@ -16,14 +35,8 @@ use Rattle.ibc_machine.specs.declared.reply.Reply.TheVariants as reply
 -- ---- with more publications
 
 reading_stays : (window : ℕ) (seen more : List Publication) (e : StampedEntry) → IsReading window seen e → IsReading window (seen ++ more) e
-reading_stays window seen more e reading = by_reading e.entry.reading reading
-  where
-    by_reading : (o : Option Reading)
-        → IfSome o (λ r. (header : Header) × (n : ℕ) × (header_in e.entry.event ≡ Some header) × (e.stamp ≡ Some n) × (n ≤ length seen) × (reading_fits window (height_among header.chain n seen) header.height r ≡ true))
-        → IfSome o (λ r. (header : Header) × (n : ℕ) × (header_in e.entry.event ≡ Some header) × (e.stamp ≡ Some n) × (n ≤ length (seen ++ more)) × (reading_fits window (height_among header.chain n (seen ++ more)) header.height r ≡ true))
-    by_reading None w = tt
-    by_reading (Some r) w =
-        (w.0, w.1, w.2, w.3, (let e = length-append seen more in let low = w.4 in omega arith), ap (λ h. reading_fits window h w.0.height r) (height_among-stays w.0.chain w.1 seen (seen ++ more) (more, refl) w.4) ∙ w.5)
+reading_stays window seen more e reading = IfSome_then e.entry.reading reading (λ r w.
+    (w.0, w.1, w.2, w.3, (let long = length-append seen more in let low = w.4 in omega arith), ap (λ h. reading_fits window h w.0.height r) (height_among-stays w.0.chain w.1 seen (seen ++ more) (more, refl) w.4) ∙ w.5))
 
 -- an entry is of a ledger by the genesis, the chain and what was seen, whatever the history
 own_stays : (ledger : Ledger) (history : List StampedEntry) (more : List Publication) (at : LedgerState × StampedEntry) → IsOwnEntry ledger at → IsOwnEntry (record ledger { history = history; seen = ledger.seen ++ more }) at
@@ -39,13 +52,6 @@ own_stays ledger history more at own = record {
 -- ---- histories
 
 module _ (ledger : Ledger) (after : List StampedEntry) (more : List Publication) where
-  replay_stays : (state : LedgerState) (history : List StampedEntry) → AllByRecursion (IsOwnEntry ledger) (met_states ledger.genesis ledger.chain ledger.seen state history)
-      → replay ledger.genesis ledger.chain (ledger.seen ++ more) state history ≡ replay ledger.genesis ledger.chain ledger.seen state history
-  replay_stays state [] own = refl
-  replay_stays state (e ∷ history) own =
-      ap (λ (w : Reply × LedgerState). replay ledger.genesis ledger.chain (ledger.seen ++ more) w.1 history) (entry_stays ledger.genesis ledger.chain ledger.seen more state e own.0.reading)
-      ∙ replay_stays (entry_answer ledger.genesis ledger.chain ledger.seen state e).1 history own.1
-
   entries_stay : (state : LedgerState) (history : List StampedEntry) → AllByRecursion (IsOwnEntry ledger) (met_states ledger.genesis ledger.chain ledger.seen state history)
       → AllByRecursion (IsOwnEntry (record ledger { history = after; seen = ledger.seen ++ more })) (met_states ledger.genesis ledger.chain (ledger.seen ++ more) state history)
   entries_stay state [] own = tt
@@ -55,12 +61,6 @@ module _ (ledger : Ledger) (after : List StampedEntry) (more : List Publication)
         (sym (entry_stays ledger.genesis ledger.chain ledger.seen more state e own.0.reading))
         (entries_stay (entry_answer ledger.genesis ledger.chain ledger.seen state e).1 history own.1),
   )
-
--- one entry at the end
-replay-last : (genesis : GenesisState) (k : ℕ) (seen : List Publication) (state : LedgerState) (history : List StampedEntry) (e : StampedEntry)
-    → replay genesis k seen state (history ++ e ∷ []) ≡ (entry_answer genesis k seen (replay genesis k seen state history) e).1
-replay-last genesis k seen state [] e = refl
-replay-last genesis k seen state (x ∷ history) e = replay-last genesis k seen (entry_answer genesis k seen state x).1 history e
 
 all_and_last : (P : LedgerState × StampedEntry → Type 0) (genesis : GenesisState) (k : ℕ) (seen : List Publication) (state : LedgerState) (history : List StampedEntry) (e : StampedEntry)
     → AllByRecursion P (met_states genesis k seen state history) → P (replay genesis k seen state history, e) → AllByRecursion P (met_states genesis k seen state (history ++ e ∷ []))
@@ -120,7 +120,7 @@ IsSmall block = length (image block.records.core) < 2 ^ 64
 
 module _ (ledger : Ledger) (more : List Publication) (is : IsLedger ledger) where
   same_state : state_of (seeing_more ledger more) ≡ state_of ledger
-  same_state = replay_stays ledger ledger.history more (starting_state ledger.genesis ledger.chain) ledger.history is.entries
+  same_state = replay_stays ledger ledger.chain more (starting_state ledger.genesis ledger.chain) ledger.history is.entries
 
   sees_more : published_by ledger.chain (ledger.seen ++ more) ≡ published_by ledger.chain ledger.seen → IsLedger (seeing_more ledger more)
   sees_more others = record {
@@ -134,7 +134,7 @@ module _ (ledger : Ledger) (more : List Publication) (is : IsLedger ledger) wher
   module _ (e : StampedEntry) (next : IsNext ledger e more) where
     next_state : state_of (with_entry ledger e more) ≡ state_with ledger e more
     next_state =
-        replay-last ledger.genesis ledger.chain (ledger.seen ++ more) (starting_state ledger.genesis ledger.chain) ledger.history e
+        replay_more ledger.genesis ledger.chain (ledger.seen ++ more) (starting_state ledger.genesis ledger.chain) ledger.history e
         ∙ ap (λ (s : LedgerState). (entry_answer ledger.genesis ledger.chain (ledger.seen ++ more) s e).1) same_state
 
     own_entries : AllByRecursion (IsOwnEntry (with_entry ledger e more)) (met_by (with_entry ledger e more))
@@ -187,13 +187,6 @@ pub record IsReplied (ledger : Ledger) (more : List Publication) (ev : Event) (g
   pub looking : is_some reading ≡ is_looking (state_of ledger) ev
   pub reads : Reads ledger.genesis.window (ledger.seen ++ more) ev reading
   pub commits : (ledger_answer ledger.genesis ledger.chain (ledger.seen ++ more) reading (state_of ledger) ev).1.chain.committed ≡ (state_of ledger).chain.committed
-
--- a ledger stands with its next entry, where what is held is the state after it
-pub stands_next : (ledger : Ledger) (e : StampedEntry) (more : List Publication) (new : HeldRecords) (left : Apps) → IsLedger ledger → IsNext ledger e more
-    → IsStateOf ledger.genesis.window (state_with ledger e more) new left → Stands (with_entry ledger e more) new left
-stands_next ledger e more new left is next holds =
-    let w = ledgers_go_on ledger e more is next in
-    record { is = w.0; holds = subst (λ (s : LedgerState). IsStateOf ledger.genesis.window s new left) (sym w.1) holds }
 
 module _ (ledger : Ledger) (more : List Publication) (is : IsLedger ledger) where
   pub answer_next : (ev : Event) (given : Reply) (reading : Option Reading) → published_by ledger.chain (ledger.seen ++ more) ≡ published_by ledger.chain ledger.seen
