@@ -1,5 +1,5 @@
 -- Pairs after changes: what is found, and one change more.
-use Rattle.std.proofs.Common.{◌≡◌, Bool, true, false, Option, Some, None, [], ◌∷◌, ◌++◌, refl, sym, ap, ◌∙◌, Ordering, Less, Equal, Greater, cond, is_eq}
+use Rattle.std.proofs.Common.{◌≡◌, ℕ, ◌+◌, ◌<◌, Bool, true, false, Option, Some, None, List, [], ◌∷◌, ◌++◌, length, get_or, take, refl, sym, ap, ◌∙◌, Ordering, Less, Equal, Greater, cond, is_eq}
 use Rattle.std.specs.Option.{unwrap_or}
 use Rattle.std.specs.Cmp.{IsTotalOrder}
 use Rattle.std.specs.FinMap.{is_sorted}
@@ -9,6 +9,10 @@ use Rattle.ibc_sorted_map.proofs.Sorted.{AreRising, AllAbove, rising_from_sorted
 use Rattle.ibc_sorted_map.proofs.Edits.{sorted_from_rising}
 use Rattle.ibc_shared_map.specs.Changes.{written, changed}
 use Rattle.ibc_shared_map.proofs.Orders.{above-tied, rising-with, rising-without, at-with, at-without, same_pairs}
+use Rattle.ibc_shared_map.proofs.Rows.{one_more, take_more}
+
+take_one_more : {A : Type 0} (xs : List A) (i : ℕ) (x : A) → i < length xs → x ≡ get_or xs i x → take (i + 1) xs ≡ take i xs ++ x ∷ []
+take_one_more xs i x l is = ap (λ n. take n xs) (one_more i) ∙ take_more xs i x l is
 
 module _ {K V : Type 0} {order : K → K → Ordering} (total : IsTotalOrder order) where
   at-written : (q k : K) (c : Option V) (m : Map K V) → AreRising order m → at order q (written order k c m) ≡ cond (is_eq (order q k)) c (at order q m)
@@ -71,3 +75,23 @@ module _ {K V : Type 0} {order : K → K → Ordering} (total : IsTotalOrder ord
   pub changed-push : (cs : Map K (Option V)) (c : K × Option V) (m : Map K V) → changed order (cs ++ c ∷ []) m ≡ written order c.0 c.1 (changed order cs m)
   changed-push [] c m = refl
   changed-push (x ∷ cs) c m = changed-push cs c (written order x.0 x.1 m)
+
+  pub changed-more : (cs : Map K (Option V)) (i : ℕ) (c : K × Option V) (m row after : Map K V) → i < length cs → c ≡ get_or cs i c → row ≡ changed order (take i cs) m
+      → after ≡ written order c.0 c.1 row → after ≡ changed order (take (i + 1) cs) m
+  changed-more cs i c m row after l is so_far one =
+      one
+      ∙ ap (written order c.0 c.1) so_far
+      ∙ sym (changed-push (take i cs) c m)
+      ∙ ap (λ xs. changed order xs m) (sym (take_one_more cs i c l is))
+
+  -- ---- what is found under a key
+
+  pub found_in_changes : (q : K) (cs : Map K (Option V)) (base m : Map K V) (c r : Option V) → is_sorted order cs ≡ true → is_sorted order base ≡ true → changed order cs base ≡ m
+      → r ≡ c → Some c ≡ at order q cs → r ≡ at order q m
+  found_in_changes q cs base m c r hc hm view is there =
+      is ∙ ap (λ o. unwrap_or o (at order q base)) there ∙ sym (at-changed q cs base hc hm) ∙ ap (at order q) view
+
+  pub found_settled : (q : K) (cs : Map K (Option V)) (base m : Map K V) (r : Option V) → is_sorted order cs ≡ true → is_sorted order base ≡ true → changed order cs base ≡ m
+      → r ≡ at order q base → None ≡ at order q cs → r ≡ at order q m
+  found_settled q cs base m r hc hm view is there =
+      is ∙ ap (λ o. unwrap_or o (at order q base)) there ∙ sym (at-changed q cs base hc hm) ∙ ap (at order q) view

@@ -41,6 +41,11 @@ no_pairs : {A : Type 0} (xs : List A) → length xs ≡ 0 → xs ≡ []
 no_pairs [] l = refl
 no_pairs (x ∷ xs) l = absurd (omega arith)
 
+pub take_more : {A : Type 0} (xs : List A) (i : ℕ) (x : A) → i < length xs → x ≡ get_or xs i x → take (suc i) xs ≡ take i xs ++ x ∷ []
+take_more [] i x l is = absurd (omega arith)
+take_more (y ∷ ys) zero x l is = ap (λ z. z ∷ []) (sym is)
+take_more (y ∷ ys) (suc i) x l is = ap (λ zs. y ∷ zs) (take_more ys i x (omega arith) is)
+
 module _ {K V : Type 0} where
   pub joined-append : (xs ys : List (Chunk K V)) → joined (xs ++ ys) ≡ joined xs ++ joined ys
   joined-append [] ys = refl
@@ -143,8 +148,3 @@ module _ {K V : Type 0} where
       ∙ ap₂ (λ es (m : _). es ++ (m.pairs ++ [])) so_far same
       ∙ sym (joined-append (take i chunks) (chunk ∷ []))
       ∙ ap joined (sym (take_more chunks i chunk l is))
-    where
-      take_more : {A : Type 0} (xs : List A) (i : ℕ) (x : A) → i < length xs → x ≡ get_or xs i x → take (suc i) xs ≡ take i xs ++ x ∷ []
-      take_more [] i x l is = absurd (omega arith)
-      take_more (y ∷ ys) zero x l is = ap (λ z. z ∷ []) (sym is)
-      take_more (y ∷ ys) (suc i) x l is = ap (λ zs. y ∷ zs) (take_more ys i x (omega arith) is)

@@ -1,6 +1,6 @@
 //! The pairs of a map, one after another.
 
-ghost use Rattle.std.specs.Prelude.{◌≡◌, [], drop, slice_get, option_copied};
+ghost use Rattle.std.specs.Prelude.{◌≡◌, drop, slice_get, option_copied};
 ghost use Rattle.std.specs.Iterator.{YieldsFirstBy, item_count};
 ghost use Rattle.ibc_shared_map.specs.Merging.{order_to};
 
@@ -32,16 +32,6 @@ impl<'m, K: Ord, V> Model for ChunkPairs<'m, K, V> {
 }
 
 impl<'m, K: Ord, V> ChunkPairs<'m, K, V> {
-    /// No pairs.
-    pub fn none() -> ChunkPairs<'m, K, V>
-        ensures { result ≡ [] }
-    {
-        ChunkPairs {
-            pairs: &[],
-            chunks: &[],
-        }
-    }
-
     /// The next pair, or none.
     pub fn first(&self) -> Option<&'m (K, V)>
         ensures { option_copied result ≡ slice_get self.now 0 }

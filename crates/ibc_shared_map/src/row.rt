@@ -98,7 +98,10 @@ impl<K: Ord + Clone, V: Clone> Row<K, V> {
                 pairs: chunk.entries(),
                 chunks,
             },
-            None => ChunkPairs::none(),
+            None => ChunkPairs {
+                pairs: &[],
+                chunks: &self.chunks,
+            },
         }
     }
 

@@ -99,7 +99,10 @@ impl<K: Ord + Clone, V: Clone> SharedMap<K, V> {
             changes: self.changes.entries(),
             settled: match &self.settled {
                 Some(row) => row.pairs(),
-                None => ChunkPairs::none(),
+                None => ChunkPairs {
+                    pairs: &[],
+                    chunks: &[],
+                },
             },
         }
     }
