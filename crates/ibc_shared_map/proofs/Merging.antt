@@ -1,14 +1,26 @@
 -- Changes merged into the pairs that they change, pair by pair.
-use Rattle.std.proofs.Common.{◌≡◌, true, Option, Some, None, [], ◌∷◌, refl, sym, ap, ◌∙◌, Ordering, Less, Equal, Greater, cond, is_eq}
+use Rattle.std.proofs.Common.{◌≡◌, ◌<◌, Bool, true, false, Option, Some, None, List, [], ◌∷◌, length, refl, sym, ap, ◌∙◌, arith, Ordering, Less, Equal, Greater, cond, is_eq}
 use Rattle.std.specs.Cmp.{IsTotalOrder}
-use Rattle.std.specs.Ordering.{match_ordering}
+use Rattle.std.specs.Ordering.{match_ordering, is_gt}
+use Rattle.std.specs.FinMap.{is_sorted}
+use Rattle.std.specs.Iterator.{MakesProgress, item_count}
+use Rattle.std.proofs.lemmas.Map.Lookups.{CmpEqualImpliesEq}
 use Rattle.ibc_ids.specs.Maps.{Map, with, without}
-use Rattle.ibc_sorted_map.proofs.Sorted.{AreRising, AllAbove, greater_from, less_from}
-use Rattle.ibc_sorted_map.proofs.Edits.{without-above}
+use Rattle.ibc_sorted_map.proofs.Sorted.{AreRising, AllAbove, rising_from_sorted, greater_from, less_from}
+use Rattle.ibc_sorted_map.proofs.Edits.{without-above, sorted_from_rising}
 use Rattle.ibc_shared_map.specs.Changes.{written, changed}
-use Rattle.ibc_shared_map.proofs.Orders.{above-less, above-tied}
+use Rattle.ibc_shared_map.specs.Merging.{begins_below, behind_key}
+use Rattle.ibc_shared_map.proofs.Orders.{above-less}
 
 module _ {K V : Type 0} {order : K → K → Ordering} (total : IsTotalOrder order) where
+  greater : (o : Ordering) → is_gt o ≡ true → o ≡ Greater
+  greater Less h = absurd (cc h)
+  greater Equal h = absurd (cc h)
+  greater Greater h = refl
+
+  pub sorted-rest : {X : Type 0} (p : K × X) (ps : Map K X) → is_sorted order (p ∷ ps) ≡ true → is_sorted order ps ≡ true
+  sorted-rest p ps h = sorted_from_rising order ps (rising_from_sorted order (p ∷ ps) h).1
+
   written-behind : (e : K × V) (key : K) (c : Option V) (ps : Map K V) → order key e.0 ≡ Greater → written order key c (e ∷ ps) ≡ e ∷ written order key c ps
   written-behind e key (Some v) ps is = ap (λ o. match_ordering o ((key, v) ∷ e ∷ ps) ((e.0, v) ∷ ps) (e ∷ with order key v ps)) is
   written-behind e key None ps is = ap (λ o. cond (is_eq o) ps (e ∷ without order key ps)) is
@@ -43,3 +55,51 @@ module _ {K V : Type 0} {order : K → K → Ordering} (total : IsTotalOrder ord
 
   pub changed-removed : (key : K) (cs : Map K (Option V)) (p : K × V) (ps : Map K V) → order key p.0 ≡ Equal → changed order ((key, None) ∷ cs) (p ∷ ps) ≡ changed order cs ps
   changed-removed key cs p ps is = ap (λ o. changed order cs (cond (is_eq o) ps (p ∷ without order key ps))) is
+
+  -- ---- one turn
+
+  -- all changes are above the first pair
+  pub passes : (c : K × Option V) (cs : Map K (Option V)) (p : K × V) (ps : Map K V) → is_sorted order (c ∷ cs) ≡ true → is_gt (order c.0 p.0) ≡ true
+      → changed order (c ∷ cs) (p ∷ ps) ≡ p ∷ changed order (c ∷ cs) ps
+  passes c cs p ps sorted above =
+      let less : order p.0 c.0 ≡ Less = less_from total c.0 p.0 (greater (order c.0 p.0) above) in
+      changed-behind p (c ∷ cs) ps (less, above-less total p.0 c.0 cs less (rising_from_sorted order (c ∷ cs) sorted).0)
+
+  -- a new value comes, in place of the first pair if that has the key
+  pub gives : CmpEqualImpliesEq order → (c : K × Option V) (v : V) (cs : Map K (Option V)) (ps : Map K V) → is_sorted order (c ∷ cs) ≡ true → is_sorted order ps ≡ true
+      → begins_below order c.0 ps ≡ false → c.1 ≡ Some v → changed order (c ∷ cs) ps ≡ (c.0, v) ∷ changed order cs (behind_key order c.0 ps)
+  gives exact c v cs ps sorted_c sorted_p first is = ap (λ x. changed order cs (written order c.0 x ps)) is ∙ by ps (rising_from_sorted order ps sorted_p) first
+    where
+      above : AllAbove order c.0 cs
+      above = (rising_from_sorted order (c ∷ cs) sorted_c).0
+
+      by : (ps : Map K V) → AreRising order ps → begins_below order c.0 ps ≡ false → changed order ((c.0, Some v) ∷ cs) ps ≡ (c.0, v) ∷ changed order cs (behind_key order c.0 ps)
+      by [] h first = changed-new c.0 v cs [] above tt
+      by (p ∷ ps) h first = go (order c.0 p.0) refl first
+        where
+          go : (o : Ordering) → order c.0 p.0 ≡ o → is_gt o ≡ false → changed order ((c.0, Some v) ∷ cs) (p ∷ ps) ≡ (c.0, v) ∷ changed order cs (cond (is_eq o) ps (p ∷ ps))
+          go Less was not = changed-new c.0 v cs (p ∷ ps) above (was, above-less total c.0 p.0 ps was h.0)
+          go Equal was not = changed-first c.0 v cs p ps was (exact c.0 p.0 was) above
+          go Greater was not = absurd (cc not)
+
+  -- a removal
+  pub skips : (c : K × Option V) (cs : Map K (Option V)) (ps : Map K V) → is_sorted order ps ≡ true → begins_below order c.0 ps ≡ false → c.1 ≡ None
+      → changed order (c ∷ cs) ps ≡ changed order cs (behind_key order c.0 ps)
+  skips c cs ps sorted_p first is = ap (λ x. changed order cs (written order c.0 x ps)) is ∙ by ps (rising_from_sorted order ps sorted_p) first
+    where
+      by : (ps : Map K V) → AreRising order ps → begins_below order c.0 ps ≡ false → changed order ((c.0, None) ∷ cs) ps ≡ changed order cs (behind_key order c.0 ps)
+      by [] h first = refl
+      by (p ∷ ps) h first = go (order c.0 p.0) refl first
+        where
+          go : (o : Ordering) → order c.0 p.0 ≡ o → is_gt o ≡ false → changed order ((c.0, None) ∷ cs) (p ∷ ps) ≡ changed order cs (cond (is_eq o) ps (p ∷ ps))
+          go Less was not = changed-absent c.0 cs (p ∷ ps) (was, above-less total c.0 p.0 ps was h.0)
+          go Equal was not = changed-removed c.0 cs p ps was
+          go Greater was not = absurd (cc not)
+
+  pub sorted-behind : (key : K) (ps : Map K V) → is_sorted order ps ≡ true → is_sorted order (behind_key order key ps) ≡ true
+  sorted-behind key [] h = h
+  sorted-behind key (p ∷ ps) h =
+      elim (is_eq (order key p.0)) as (λ b. is_sorted order (cond b ps (p ∷ ps)) ≡ true) [
+        | true ↦ sorted-rest p ps h
+        | false ↦ h
+      ]

@@ -1,8 +1,10 @@
 //! The pairs of a map, one after another.
 
-ghost use Rattle.std.specs.Prelude.{◌≡◌, drop, slice_get, option_copied};
+ghost use Rattle.std.specs.Prelude.{◌≡◌, ◌++◌};
+ghost use Rattle.std.specs.List.{AllByRecursion};
 ghost use Rattle.std.specs.Iterator.{YieldsFirstBy, item_count};
-ghost use Rattle.ibc_shared_map.specs.Merging.{order_to};
+ghost use Rattle.ibc_shared_map.specs.Chunks.{joined, HasPairs};
+ghost use Rattle.ibc_shared_map.specs.Merging.{begins_below, behind_key};
 
 use crate::chunk::Chunk;
 use std::cmp::{Ord, Ordering};
@@ -32,28 +34,48 @@ impl<'m, K: Ord, V> Model for ChunkPairs<'m, K, V> {
 }
 
 impl<'m, K: Ord, V> ChunkPairs<'m, K, V> {
-    /// The next pair, or none.
-    pub fn first(&self) -> Option<&'m (K, V)>
-        ensures { option_copied result ≡ slice_get self.now 0 }
+    /// Gives the next pair, or none, and goes on behind it.
+    pub(crate) fn take(&mut self) -> Option<(&'m K, &'m V)>
+        ensures { YieldsFirstBy (λ pair. (pair.0.now, pair.1.now)) (λ rest. rest) self.old result self.new }
     {
-        self.pairs.first()
+        let (pair, pairs) = self.pairs.split_first()?;
+        *self = front(pairs, self.chunks);
+        Some((&pair.0, &pair.1))
     }
 
-    /// Goes on behind the next pair, if there is one.
-    pub fn pass(&mut self)
-        ensures { self.new ≡ drop 1 self.old }
+    /// Whether the next pair is below a key. One that has the key is passed.
+    pub(crate) fn begins_below(&mut self, key: &K) -> bool
+        ensures below { result ≡ begins_below K.cmp key.now self.old }
+        ensures passed { self.new ≡ behind_key K.cmp key.now self.old }
     {
-        let Some((_, pairs)) = self.pairs.split_first() else {
-            return;
+        let Some((pair, pairs)) = self.pairs.split_first() else {
+            return false;
         };
-        self.pairs = pairs;
-        if !pairs.is_empty() {
-            return;
+        let order = key.cmp(&pair.0);
+        if order == Ordering::Equal {
+            *self = front(pairs, self.chunks);
         }
-        if let Some((chunk, chunks)) = self.chunks.split_first() {
-            self.pairs = chunk.entries();
-            self.chunks = chunks;
-        }
+        order == Ordering::Greater
+    }
+}
+
+// These pairs and those of the chunks.
+fn front<'m, K: Ord, V>(
+    pairs: &'m [(K, V)],
+    chunks: &'m [Chunk<K, V>],
+) -> ChunkPairs<'m, K, V>
+    requires { AllByRecursion HasPairs chunks.now }
+    ensures { result ≡ pairs.now ++ joined chunks.now }
+{
+    if !pairs.is_empty() {
+        return ChunkPairs { pairs, chunks };
+    }
+    match chunks.split_first() {
+        Some((chunk, chunks)) => ChunkPairs {
+            pairs: chunk.entries(),
+            chunks,
+        },
+        None => ChunkPairs { pairs, chunks },
     }
 }
 
@@ -89,30 +111,14 @@ impl<'m, K: Ord, V> Iterator for Pairs<'m, K, V> {
 
     fn next(&mut self) -> Option<(&'m K, &'m V)> {
         while let Some((change, changes)) = self.changes.split_first() {
-            let order = order_to(&change.0, self.settled.first());
-            if order == Ordering::Greater {
-                break;
+            if self.settled.begins_below(&change.0) {
+                return self.settled.take();
             }
             self.changes = changes;
-            if order == Ordering::Equal {
-                self.settled.pass();
-            }
             if let Some(value) = &change.1 {
                 return Some((&change.0, value));
             }
         }
-        let pair = self.settled.first()?;
-        self.settled.pass();
-        Some((&pair.0, &pair.1))
-    }
-}
-
-// How a key compares to that of a pair, less where there is none.
-fn order_to<K: Ord, V>(key: &K, pair: Option<&(K, V)>) -> Ordering
-    ensures { result ≡ order_to K.cmp key.now (option_copied pair.entry) }
-{
-    match pair {
-        Some(pair) => key.cmp(&pair.0),
-        None => Ordering::Less,
+        self.settled.take()
     }
 }

@@ -20,7 +20,7 @@ use std::sync::Arc;
 type Settled<K, V> = Option<Arc<Row<K, V>, Global>>;
 
 /// A map in the order of its keys, in which room can be made beforehand, and whose copies share what is the same in both.
-/// A change waits beside what is shared, until the next copy is made. Contracts see the pairs, and how many changes more
+/// A change waits beside what is shared until it is settled. Contracts see the pairs, and how many changes more
 /// fit without a growth.
 #[derive(Drop, Debug)]
 pub struct SharedMap<K: Ord + Clone, V: Clone> {
@@ -133,30 +133,40 @@ impl<K: Ord + Clone, V: Clone> SharedMap<K, V> {
         self.changes.set(key, None)
     }
 
-    /// The same pairs in a map of its own, which shares them with this one. The changes since the last copy are settled; what
-    /// didn't change is not copied. Refused only where a growth is, or where too many share; nothing changes then.
-    pub fn share(&mut self) -> Result<SharedMap<K, V>, AllocError>
+    /// Settles the changes that wait, so that a copy made afterwards shares them too. Refused only where a growth is, and then
+    /// nothing changes.
+    pub fn settle(&mut self) -> Result<(), AllocError>
     where
         K: Drop,
         V: Drop,
-        ensures ok { IfOk result (λ copy. copy.pairs ≡ self.old.pairs) }
-        ensures same { self.new.pairs ≡ self.old.pairs }
+        ensures pairs { self.new.pairs ≡ self.old.pairs }
+        ensures room { self.old.room ≤ self.new.room }
         ensures err { OnErr result (self.new ≡ self.old) }
     {
-        let settled = settle(self.alloc, &self.settled, self.changes.entries())?;
-        let copy = another(&settled)?;
+        let settled = settled_with(self.alloc, &self.settled, self.changes.entries())?;
         self.settled = settled;
-        self.changes = SortedMap::new(self.alloc);
+        self.changes.clear();
+        Ok(())
+    }
+
+    /// The same pairs in a map of its own, which shares what is settled with this one; the changes that wait are copied.
+    /// Refused only where a growth is, or where too many share what is settled.
+    pub fn copy(&self) -> Result<SharedMap<K, V>, AllocError>
+    where
+        K: Drop,
+        V: Drop,
+        ensures { IfOk result (λ copy. copy.pairs ≡ self.now.pairs) }
+    {
         Ok(SharedMap {
-            settled: copy,
-            changes: SortedMap::new(self.alloc),
+            settled: another(&self.settled)?,
+            changes: self.changes.copy()?,
             alloc: self.alloc,
         })
     }
 }
 
 // What is settled once the changes are.
-fn settle<K: Ord + Clone + Drop, V: Clone + Drop>(
+fn settled_with<K: Ord + Clone + Drop, V: Clone + Drop>(
     alloc: Global,
     settled: &Settled<K, V>,
     changes: &[(K, Option<V>)],

@@ -130,6 +130,17 @@ impl<K: Ord, V> SortedMap<K, V> {
         }
     }
 
+    /// Removes all pairs, and keeps the room.
+    pub fn clear(&mut self)
+    where
+        K: Drop,
+        V: Drop,
+        ensures pairs { self.new.pairs ≡ [] }
+        ensures room { self.old.room ≤ self.new.room }
+    {
+        self.entries.clear();
+    }
+
     /// The same pairs in a map of their own. Refused only where a growth is.
     pub fn copy(&self) -> Result<SortedMap<K, V>, AllocError>
     where
