@@ -8,4 +8,3 @@ mod shared_map;
 
 pub use pairs::Pairs;
 pub use shared_map::SharedMap;
-

@@ -60,10 +60,7 @@ impl<'m, K: Ord, V> ChunkPairs<'m, K, V> {
 }
 
 // These pairs and those of the chunks.
-fn front<'m, K: Ord, V>(
-    pairs: &'m [(K, V)],
-    chunks: &'m [Chunk<K, V>],
-) -> ChunkPairs<'m, K, V>
+fn front<'m, K: Ord, V>(pairs: &'m [(K, V)], chunks: &'m [Chunk<K, V>]) -> ChunkPairs<'m, K, V>
     requires { AllByRecursion HasPairs chunks.now }
     ensures { result ≡ pairs.now ++ joined chunks.now }
 {

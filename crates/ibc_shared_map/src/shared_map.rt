@@ -16,6 +16,9 @@ use std::cmp::Ord;
 use std::marker::Model;
 use std::sync::Arc;
 
+// How many changes wait before they are settled.
+const MANY: usize = 64;
+
 // What copies of a map share, nothing where it has no pair.
 type Settled<K, V> = Option<Arc<Row<K, V>, Global>>;
 
@@ -60,14 +63,18 @@ impl<K: Ord + Clone, V: Clone> SharedMap<K, V> {
         }
     }
 
-    /// Makes room for this many changes more. Refused only where that room was missing, and then nothing changes.
+    /// Makes room for this many changes more, and settles those that wait where they are many. Refused only where that room was
+    /// missing; the pairs and the room that was there stay.
     pub fn reserve(&mut self, changes: usize) -> Result<(), AllocError>
+    where
+        K: Drop,
+        V: Drop,
         ensures pairs { self.new.pairs ≡ self.old.pairs }
         ensures room { self.old.room ≤ self.new.room }
         ensures ok { OnOk result (changes ≤ self.new.room) }
         ensures roomy { changes ≤ self.old.room → IsOk result }
-        ensures err { OnErr result (self.new ≡ self.old) }
     {
+        self.settle_many();
         self.changes.reserve(changes)
     }
 
@@ -147,6 +154,19 @@ impl<K: Ord + Clone, V: Clone> SharedMap<K, V> {
         self.settled = settled;
         self.changes.clear();
         Ok(())
+    }
+
+    // Settles the changes that wait, where they are many and memory is there.
+    fn settle_many(&mut self)
+    where
+        K: Drop,
+        V: Drop,
+        ensures pairs { self.new.pairs ≡ self.old.pairs }
+        ensures room { self.old.room ≤ self.new.room }
+    {
+        if self.changes.len() >= MANY {
+            let _settled = self.settle();
+        }
     }
 
     /// The same pairs in a map of its own, which shares what is settled with this one; the changes that wait are copied.

@@ -12,8 +12,7 @@ use Rattle.ibc_shared_map.proofs.shared_map.SharedMap.set.Goals as goal
 
 pub invariant_of-self : goal.invariant_of-self
 invariant_of-self g c =
-    let kept = c.self.invariant in
-    (
+    let kept = c.self.invariant in (
       record {
         in_changes =
             either c.set.result c.set.ensures.ok c.set.ensures.err

@@ -9,8 +9,7 @@ use Rattle.ibc_shared_map.proofs.shared_map.SharedMap.settle.Goals as goal
 pub invariant_of-self : goal.invariant_of-self
 invariant_of-self g c =
     let kept = c.self.invariant in
-    let base = settled_pairs c.self.inside.settled in
-    (
+    let base = settled_pairs c.self.inside.settled in (
       record {
         in_changes = ap (is_sorted g.K.Ord.cmp) c.clear.ensures.pairs;
         in_settled =
