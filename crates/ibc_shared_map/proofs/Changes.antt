@@ -4,8 +4,8 @@ use Rattle.std.specs.Option.{unwrap_or}
 use Rattle.std.specs.Cmp.{IsTotalOrder}
 use Rattle.std.specs.FinMap.{is_sorted}
 use Rattle.std.proofs.lemmas.Map.Lookups.{CmpEqualImpliesEq}
-use Rattle.ibc_ids.specs.Maps.{Map, at, with, without}
-use Rattle.ibc_sorted_map.proofs.Sorted.{AreRising, AllAbove, rising_from_sorted, at-none}
+use Rattle.ibc_ids.specs.Maps.{Map, at, with}
+use Rattle.ibc_sorted_map.proofs.Sorted.{AreRising, rising_from_sorted, at-none}
 use Rattle.ibc_sorted_map.proofs.Edits.{sorted_from_rising}
 use Rattle.ibc_shared_map.specs.Changes.{written, changed}
 use Rattle.ibc_shared_map.proofs.Orders.{above-tied, rising-with, rising-without, at-with, at-without, same_pairs}

@@ -1,5 +1,5 @@
 -- Changes merged into the pairs that they change, pair by pair.
-use Rattle.std.proofs.Common.{◌≡◌, ◌<◌, Bool, true, false, Option, Some, None, List, [], ◌∷◌, length, refl, sym, ap, ap₂, ◌∙◌, subst, arith, Ordering, Less, Equal, Greater, cond, is_eq}
+use Rattle.std.proofs.Common.{◌≡◌, ◌<◌, true, false, Option, Some, None, List, [], ◌∷◌, length, refl, sym, ap, ap₂, ◌∙◌, subst, arith, Ordering, Less, Equal, Greater, cond, is_eq}
 use Rattle.std.specs.Cmp.{IsTotalOrder}
 use Rattle.std.specs.Ordering.{match_ordering, is_gt}
 use Rattle.std.specs.FinMap.{is_sorted}

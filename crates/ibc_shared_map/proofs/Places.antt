@@ -1,5 +1,5 @@
 -- A key among chunks: the chunk in which it stands or would stand, and a change there.
-use Rattle.std.proofs.Common.{◌≡◌, ℕ, zero, suc, ◌+◌, ◌<◌, true, false, List, [], ◌∷◌, ◌++◌, length, get_or, set, take, drop, refl, sym, ap, ◌∙◌, subst, arith, Ordering, Less, Equal, Greater, Some, None, cond, is_eq}
+use Rattle.std.proofs.Common.{◌≡◌, ℕ, zero, suc, ◌+◌, ◌<◌, true, false, List, [], ◌∷◌, ◌++◌, length, get_or, set, take, drop, refl, sym, ap, ◌∙◌, subst, arith, Ordering, Less, Equal, Greater, Some, cond, is_eq}
 use Rattle.std.specs.Arc.{arc_value}
 use Rattle.std.specs.Cmp.{IsTotalOrder}
 use Rattle.std.specs.Ordering.{is_gt, match_ordering, ordering_reverse}

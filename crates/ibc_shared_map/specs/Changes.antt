@@ -1,5 +1,5 @@
 -- Changes to the values of keys.
-use Rattle.std.specs.Prelude.{Option, Some, None, List, [], ◌∷◌}
+use Rattle.std.specs.Prelude.{Option, Some, None, [], ◌∷◌}
 use Rattle.std.specs.declared.cmp.Ordering.{Ordering}
 use Rattle.ibc_ids.specs.Maps.{Map, with, without}
 

@@ -1,9 +1,9 @@
 -- The halves of a chunk stand in its place.
-use Rattle.std.proofs.Common.{◌≡◌, ◌+◌, ◌<◌, ◌≤◌, ◌++◌, suc, length, set, take, drop, sym, ap, ap₂, ◌∙◌, subst, arith, take-append-drop}
+use Rattle.std.proofs.Common.{◌≡◌, ◌<◌, ◌++◌, suc, length, set, sym, ap, ap₂, ◌∙◌, subst, arith, take-append-drop}
 use Rattle.std.specs.Arc.{arc_value}
 use Rattle.std.specs.FinMap.{is_sorted}
 use Rattle.std.specs.List.{AllByRecursion, insert}
-use Rattle.ibc_shared_map.specs.Chunks.{Chunk, joined, HasPairs}
+use Rattle.ibc_shared_map.specs.Chunks.{joined, HasPairs}
 use Rattle.ibc_shared_map.proofs.Rows.{one_more, joined-divided, whole-divided, some-take, some-drop}
 use Rattle.ibc_shared_map.proofs.row.divide.Given.{Over}
 use Rattle.ibc_shared_map.proofs.row.divide.Goals as goal

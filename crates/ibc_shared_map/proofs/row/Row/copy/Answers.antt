@@ -1,5 +1,5 @@
 -- One chunk more.
-use Rattle.std.proofs.Common.{◌≡◌, ◌+◌, ◌++◌, ◌∷◌, [], length, take, sym, ap, ◌∙◌, subst, ◌<◌}
+use Rattle.std.proofs.Common.{length, take, sym, ap, ◌∙◌, subst, ◌<◌}
 use Rattle.std.specs.List.{AllByRecursion}
 use Rattle.ibc_shared_map.specs.Chunks.{joined, HasPairs}
 use Rattle.ibc_shared_map.proofs.Rows.{one_more, copied_more, has_pairs_at, whole-push}
