@@ -70,7 +70,10 @@ fn count(alloc: Global, keys: u64) -> Result<(u64, bool), AllocError> {
             pairs += 1;
         }
     }
-    Ok((pairs, copy.get(&500) == Some(&500) && map.get(&500).is_none()))
+    Ok((
+        pairs,
+        copy.get(&500) == Some(&500) && map.get(&500).is_none(),
+    ))
 }
 
 #[test]
