@@ -136,8 +136,7 @@ impl Records {
             channel,
             packet.sequence,
         )?;
-        app.on_ack(&channel.end().version, packet, ack)?;
-        acknowledge_on(&mut self.channels, &name, packet.sequence);
+        acknowledge_on(&mut self.channels, &name, app, packet, ack)?;
         settle(&mut self.store, path.as_str(), counter);
         Ok(())
     }
@@ -162,8 +161,7 @@ impl Records {
             channel,
             packet.sequence,
         )?;
-        app.on_timeout(&channel.end().version, packet)?;
-        time_out_on(&mut self.channels, &name, packet.sequence);
+        time_out_on(&mut self.channels, &name, app, packet)?;
         settle(&mut self.store, path.as_str(), closed);
         Ok(())
     }
@@ -293,17 +291,23 @@ fn reserve_acknowledged(
     Ok((path, acknowledged_entry(alloc, &name.0, &name.1, channel)?))
 }
 
-// A packet of a channel that is there was acknowledged.
-fn acknowledge_on(
+// A channel that is there has a packet acknowledged.
+fn acknowledge_on<A: App>(
     channels: &mut BTreeMap<(PortId, ChannelId), Channel>,
     name: &(PortId, ChannelId),
-    sequence: u64,
-)
-    requires { IfSome (at pair_cmp name.now channels.old.entries) (λ mine. is_ordered mine ≡ true → mine.next_ack < 2 ^ 64 - 1) }
-    ensures { IfSome (at pair_cmp name.now channels.old.entries) (λ mine. channels.new.entries ≡ with pair_cmp name.now (after_ack sequence mine) channels.old.entries) }
+    app: &mut A,
+    packet: &Packet,
+    ack: &[u8],
+) -> Result<(), Refusal>
+    requires { IsSomeAnd (at pair_cmp name.now channels.old.entries) (λ mine. is_ordered mine ≡ true → mine.next_ack < 2 ^ 64 - 1) }
+    ensures ok { OnOk result (IfSome (at pair_cmp name.now channels.old.entries) (λ mine. channels.new.entries ≡ with pair_cmp name.now (after_ack packet.now.sequence mine) channels.old.entries)) }
+    ensures told { OnOk result (IfSome (at pair_cmp name.now channels.old.entries) (λ mine. A.is_acknowledged app.old mine.end.version packet.now ack.now ≡ Ok app.new)) }
+    ensures err { IfErr result (λ refusal. (refusal ≡ NoMemory) ⊎ IfSome (at pair_cmp name.now channels.old.entries) (λ mine. A.is_acknowledged app.old mine.end.version packet.now ack.now ≡ Err refusal)) }
+    ensures unchanged { OnErr result ((channels.new.entries ≡ channels.old.entries) × (app.new ≡ app.old)) }
 {
-    if let Some(channel) = channels.get_mut(name) {
-        channel.acknowledge(sequence);
+    match channels.get_mut(name) {
+        Some(channel) => channel.acknowledge(app, packet, ack),
+        None => Err(Refusal::UnknownChannel),
     }
 }
 
@@ -328,15 +332,21 @@ fn reserve_timed_out(
     Ok((path, closed_entry(alloc, &name.0, &name.1, channel)?))
 }
 
-// A packet of a channel that is there won't be received any more.
-fn time_out_on(
+// A channel that is there has a packet timed out.
+fn time_out_on<A: App>(
     channels: &mut BTreeMap<(PortId, ChannelId), Channel>,
     name: &(PortId, ChannelId),
-    sequence: u64,
-)
-    ensures { IfSome (at pair_cmp name.now channels.old.entries) (λ mine. channels.new.entries ≡ with pair_cmp name.now (after_timeout sequence mine) channels.old.entries) }
+    app: &mut A,
+    packet: &Packet,
+) -> Result<(), Refusal>
+    requires { IsSome (at pair_cmp name.now channels.old.entries) }
+    ensures ok { OnOk result (IfSome (at pair_cmp name.now channels.old.entries) (λ mine. channels.new.entries ≡ with pair_cmp name.now (after_timeout packet.now.sequence mine) channels.old.entries)) }
+    ensures told { OnOk result (IfSome (at pair_cmp name.now channels.old.entries) (λ mine. A.times_out app.old mine.end.version packet.now ≡ Ok app.new)) }
+    ensures err { IfErr result (λ refusal. (refusal ≡ NoMemory) ⊎ IfSome (at pair_cmp name.now channels.old.entries) (λ mine. A.times_out app.old mine.end.version packet.now ≡ Err refusal)) }
+    ensures unchanged { OnErr result ((channels.new.entries ≡ channels.old.entries) × (app.new ≡ app.old)) }
 {
-    if let Some(channel) = channels.get_mut(name) {
-        channel.time_out(sequence);
+    match channels.get_mut(name) {
+        Some(channel) => channel.time_out(app, packet),
+        None => Err(Refusal::UnknownChannel),
     }
 }
