@@ -1,6 +1,6 @@
 -- What is written to a copy of an entry, and set, is inserted in the map: a client is told of a height, a channel has an end.
-use Rattle.std.proofs.Common.{◌≡◌, sym, subst, ◌∙◌, List, Ordering, Option, Some, Result, Ok, Err}
-use Rattle.std.specs.Prelude.{IfSome}
+use Rattle.std.proofs.Common.{◌≡◌, refl, sym, subst, ◌∙◌, List, Ordering, Option, Some, None}
+use Rattle.std.specs.Prelude.{IsSome, IfSome}
 use Rattle.std.specs.Option.{IsSomeAnd}
 use Rattle.ibc_ids.specs.Maps.{with, at}
 
@@ -11,6 +11,11 @@ said_of o Said x there said = subst (λ found. IfSome found Said) (sym there) sa
 -- what is asked of the entry that is found
 pub asked_of : {X : Type 0} (o : Option X) (Asked : X → Type 0) (x : X) → o ≡ Some x → IsSomeAnd o Asked → Asked x
 asked_of o Asked x there asked = subst (λ found. IsSomeAnd found Asked) there asked
+
+-- .. which is there
+pub is_there : {X : Type 0} (o : Option X) (Asked : X → Type 0) → IsSomeAnd o Asked → IsSome o
+is_there None Asked asked = absurd asked
+is_there (Some x) Asked asked = refl
 
 -- a copy of an entry became what a function makes of it, and was set where room had been made
 pub replaced : {K X : Type 0} (order : K → K → Ordering) (entries roomy after : List (K × X)) (k : K) (x new : X) → at order k entries ≡ Some x

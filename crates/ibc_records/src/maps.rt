@@ -1,13 +1,12 @@
 //! The maps of a chain's records, whose copies share what is the same in both.
 
-ghost use Rattle.std.specs.Prelude.{◌≡◌, ◌⊎◌, ◌<◌, [], Some, is_some, IsNone, IfOk, IfErr, OnOk, OnErr};
+ghost use Rattle.std.specs.Prelude.{◌≡◌, ◌<◌, [], Some, is_some, IsSome, IfOk, OnOk, OnErr};
 ghost use Rattle.ibc_ids.specs.Texts.{pair_cmp};
 ghost use Rattle.ibc_ids.specs.Maps.{at, with};
-ghost use Rattle.ibc_ids.specs.declared.refusal.Refusal.TheVariants.{NoMemory, UnknownChannel};
 
 use crate::channel::Channel;
 use crate::client::Client;
-use ibc_ids::{ChannelId, ClientId, ConnectionId, PortId, Refusal};
+use ibc_ids::{ChannelId, ClientId, ConnectionId, PortId};
 use ibc_shared_map::SharedMap;
 use ibc_wire::ConnectionEnd;
 use std::alloc::{AllocError, Global};
@@ -63,17 +62,17 @@ pub(crate) fn contains(channels: &Channels, name: &(PortId, ChannelId)) -> bool
     channels.get(name).is_some()
 }
 
-/// A copy of a channel, and room to set the channel: `UnknownChannel` exactly where there is no such channel.
-pub(crate) fn own(channels: &mut Channels, name: &(PortId, ChannelId)) -> Result<Channel, Refusal>
+/// A copy of a channel that is there, and room to set it. Refused only where a growth is; the pairs stay.
+pub(crate) fn own(channels: &mut Channels, name: &(PortId, ChannelId)) -> Result<Channel, AllocError>
+    requires { IsSome (at pair_cmp name.now channels.old.pairs) }
     ensures ok { IfOk result (λ own. at pair_cmp name.now channels.old.pairs ≡ Some own) }
     ensures room { OnOk result (0 < channels.new.room) }
     ensures same { channels.new.pairs ≡ channels.old.pairs }
-    ensures err { IfErr result (λ refusal. (refusal ≡ NoMemory) ⊎ ((refusal ≡ UnknownChannel) × IsNone (at pair_cmp name.now channels.old.pairs))) }
 {
     channels.reserve(1)?;
     match channels.get(name) {
-        Some(channel) => Ok(channel.clone()?),
-        None => Err(Refusal::UnknownChannel),
+        Some(channel) => channel.clone(),
+        None => unreachable!(),
     }
 }
 

@@ -316,10 +316,21 @@ fn learn(
     ensures known { IsSome (at text_cmp id.now clients.old.pairs) → IfErr result (λ refusal. refusal ≡ NoMemory) }
     ensures unchanged { OnErr result (clients.new.pairs ≡ clients.old.pairs) }
 {
-    let mut client = match clients.get(id) {
-        Some(client) => client.clone()?,
-        None => return Err(Refusal::UnknownClient),
+    let Some(client) = clients.get(id) else {
+        return Err(Refusal::UnknownClient);
     };
-    client.learn(height, known)?;
-    Ok(insert(clients, id.clone()?, client)?)
+    let client = learned(client, height, known)?;
+    let id = id.clone()?;
+    insert(clients, id, client)?;
+    Ok(())
+}
+
+// The client once it knows a height more.
+fn learned(client: &Client, height: u64, known: ConsensusState) -> Result<Client, Refusal>
+    ensures ok { IfOk result (λ learned. learned ≡ with_height height known client.now) }
+    ensures err { IfErr result (λ refusal. refusal ≡ NoMemory) }
+{
+    let mut learned = client.clone()?;
+    learned.learn(height, known)?;
+    Ok(learned)
 }

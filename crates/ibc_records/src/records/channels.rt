@@ -130,15 +130,8 @@ fn set_end(
     ensures err { IfErr result (λ refusal. refusal ≡ NoMemory) }
     ensures unchanged { OnErr result (channels.new.pairs ≡ channels.old.pairs) }
 {
-    match own(channels, &name) {
-        Ok(mut channel) => {
-            channel.set_end(end);
-            put(channels, name, channel);
-            Ok(())
-        }
-        Err(refusal) => {
-            drop(end);
-            Err(refusal)
-        }
-    }
+    let mut channel = own(channels, &name)?;
+    channel.set_end(end);
+    put(channels, name, channel);
+    Ok(())
 }

@@ -2,12 +2,24 @@
 use Rattle.std.proofs.Common.{sym, ◌∙◌, subst}
 use Rattle.ibc_records.specs.Held.{HeldRecords, SetsChannelEnd}
 use Rattle.ibc_records.specs.Inside.{held_of}
-use Rattle.ibc_records.proofs.Channels.{sets_there, is_not_missing}
+use Rattle.ibc_records.proofs.Channels.{roomy, sets_there, is_not_missing}
 use Rattle.ibc_records.proofs.records.Records.set_channel_end.Goals as goal
 
 pub returns-in-Err-clause-unknown : goal.returns-in-Err-clause-unknown
 returns-in-Err-clause-unknown c =
     λ none. absurd (is_not_missing _ c.args.self.now (c.args.port, c.args.id) (sym c.contains.ensures ∙ c.if-not-contains.false) c.self.view_is none)
+
+pub set_end-requires : goal.set_end-requires
+set_end-requires c = sym c.contains.ensures ∙ c.if-not-contains.false
+
+pub returns-in_err-set_end-clause-unknown : goal.returns-in_err-set_end-clause-unknown
+returns-in_err-set_end-clause-unknown c =
+    λ none. absurd (is_not_missing _ c.args.self.now (c.args.port, c.args.id) (sym c.contains.ensures ∙ c.if-not-contains.false) c.self.view_is none)
+
+pub invariant_of-self-in_err-set_end : goal.invariant_of-self-in_err-set_end
+invariant_of-self-in_err-set_end c =
+    let old : HeldRecords = held_of c.self.inside in
+    roomy old c.set_end.new.channels.pairs c.reserve_end.new.store c.self.invariant c.in_err-set_end.ensures.unchanged c.reserve_end.ensures.same
 
 pub invariant_of-self-2 : goal.invariant_of-self-2
 invariant_of-self-2 c =
