@@ -17,7 +17,7 @@ use std::marker::Model;
 use std::sync::Arc;
 
 // How many changes wait before they are settled.
-const MANY: usize = 64;
+const MANY: usize = 16;
 
 // What copies of a map share, nothing where it has no pair.
 type Settled<K, V> = Option<Arc<Row<K, V>, Global>>;
