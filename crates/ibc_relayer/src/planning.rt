@@ -57,9 +57,9 @@ fn plan_packets(
     ensures err { IfErr result (λ refusal. refusal ≡ NoMemory) }
 {
     let mut used = Used::new(alloc);
-    let channels = b.plain().channels();
-    channels.are_in_order();
-    for ((port, channel), mine) in channels.iter() {
+    let all = b.plain().channels();
+    all.are_in_order();
+    for ((port, channel), mine) in all.iter() {
         if let Some(ends) = ends_of(a, b, port, channel, mine)? {
             plan_end(alloc, &ends, messages, &mut used)?;
         }

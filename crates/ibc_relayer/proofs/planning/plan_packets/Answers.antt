@@ -19,8 +19,8 @@ pub loop-port-init : goal.loop-port-init
 loop-port-init c =
     let a = c.args.a.now in
     let b = c.args.b.now in
-    let pairs : c.channels.result.now.pairs ≡ b.core.channels = c.channels.ensures ∙ ap (λ (core : Core). core.channels) c.plain.ensures in
-    let all : c.iter-port-iterator.result ≡ b.core.channels = c.iter-port-iterator.ensures ∙ pairs in
+    let pairs : c.channels-all.result.now.pairs ≡ b.core.channels = c.channels-all.ensures ∙ ap (λ (core : Core). core.channels) c.plain.ensures in
+    let all : c.into_iter-port-iterator.result ≡ b.core.channels = c.into_iter-port-iterator.ensures.into_iter_gives ∙ c.iter-port-items.ensures ∙ pairs in
     record {
       planned = λ i. c.requires.empty i ++ filter_map (pending_message a b) (flat_map (pending_at a b) (all i));
       used = λ id. (λ i. goes_over b id (flat_map (pending_at a b) (all i)) || is_some (at text_cmp id (c.new-used.ensures.empty i))) ∙ or-false (goes_over b id (flat_map (pending_at a b) b.core.channels));
