@@ -63,7 +63,10 @@ pub(crate) fn contains(channels: &Channels, name: &(PortId, ChannelId)) -> bool
 }
 
 /// A copy of a channel that is there, and room to set it. Refused only where a growth is; the pairs stay.
-pub(crate) fn own(channels: &mut Channels, name: &(PortId, ChannelId)) -> Result<Channel, AllocError>
+pub(crate) fn own(
+    channels: &mut Channels,
+    name: &(PortId, ChannelId),
+) -> Result<Channel, AllocError>
     requires { IsSome (at pair_cmp name.now channels.old.pairs) }
     ensures ok { IfOk result (λ own. at pair_cmp name.now channels.old.pairs ≡ Some own) }
     ensures room { OnOk result (0 < channels.new.room) }

@@ -19,7 +19,9 @@ mod connections;
 mod packets;
 
 use crate::client::{Client, ConsensusState};
-use crate::maps::{Channels, Clients, Connections, insert, no_channels, no_clients, no_connections};
+use crate::maps::{
+    Channels, Clients, Connections, insert, no_channels, no_clients, no_connections,
+};
 use crate::plain::PlainRecords;
 use crate::values::{client_path, client_value, counter, set_reserved};
 use ibc_ids::{ClientId, Key, Refusal, Root};
