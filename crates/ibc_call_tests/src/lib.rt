@@ -18,6 +18,8 @@ mod records;
 #[cfg(test)]
 mod relayer;
 #[cfg(test)]
+mod shared_map;
+#[cfg(test)]
 mod sorted_map;
 #[cfg(test)]
 mod token_data;

@@ -4,9 +4,9 @@ use Rattle.ibc_records.specs.declared.records.Records.TheInside.{Inside}
 
 abbrev pub held_of : Inside → HeldRecords
 held_of records = record {
-  clients = records.clients.entries;
-  connections = records.connections.entries;
-  channels = records.channels.entries;
+  clients = records.clients.pairs;
+  connections = records.connections.pairs;
+  channels = records.channels.pairs;
   next_client = records.next_client;
   next_connection = records.next_connection;
   next_channel = records.next_channel;

@@ -3,18 +3,18 @@
 ghost use Rattle.std.specs.Prelude.{◌≡◌, ◌⊎◌, ◌-◌, ◌^◌, ◌<◌, ◌≤◌, true, Ok, Err, IfOk, IfErr, OnOk, OnErr, IsTrue, option_copied};
 ghost use Rattle.std.specs.FinMap.{is_sorted};
 ghost use Rattle.std.specs.Ordering.{nat_cmp};
-ghost use Rattle.ibc_ids.specs.Maps.{at};
+ghost use Rattle.ibc_ids.specs.Maps.{at, without};
 ghost use Rattle.ibc_ids.specs.declared.refusal.Refusal.TheVariants.{NoMemory};
 ghost use Rattle.ibc_machine.specs.Records.{is_one_of};
 ghost use Rattle.ibc_machine.specs.Channels.{new_channel};
-ghost use Rattle.ibc_machine.specs.Packets.{is_ordered, after_send, after_receive, without_commitment, after_ack, after_timeout};
+ghost use Rattle.ibc_machine.specs.Packets.{is_ordered, after_send, after_receive, after_ack, after_timeout};
 ghost use Rattle.ibc_machine.specs.Values.{value_bytes, AckIs};
 
 use crate::acknowledgement::{AckCopies, AckRoom};
 use crate::commitment::Commitment;
 use ibc_app_port::{App, Pays};
 use ibc_ids::{Bytes, Refusal};
-use ibc_sorted_map::SortedMap;
+use ibc_shared_map::{Pairs, SharedMap};
 use ibc_wire::{ChannelEnd, ChannelState, Order, Packet};
 use std::alloc::{AllocError, Global};
 use std::marker::Model;
@@ -29,9 +29,9 @@ pub struct Channel {
     next_send: u64,
     next_recv: u64,
     next_ack: u64,
-    commitments: SortedMap<u64, Commitment>,
-    receipts: SortedMap<u64, ()>,
-    acks: SortedMap<u64, Bytes>,
+    commitments: SharedMap<u64, Commitment>,
+    receipts: SharedMap<u64, ()>,
+    acks: SharedMap<u64, Bytes>,
 }
 
 impl Model for Channel {
@@ -62,9 +62,9 @@ impl Channel {
             next_send: 1,
             next_recv: 1,
             next_ack: 1,
-            commitments: SortedMap::new(alloc),
-            receipts: SortedMap::new(alloc),
-            acks: SortedMap::new(alloc),
+            commitments: SharedMap::new(alloc),
+            receipts: SharedMap::new(alloc),
+            acks: SharedMap::new(alloc),
         }
     }
 
@@ -111,11 +111,17 @@ impl Channel {
     }
 
     /// What is committed of the packets that were sent and aren't settled, in the order of their sequences.
-    pub fn commitments(&self) -> &[(u64, Commitment)]
-        ensures pairs { result.now ≡ self.now.commitments }
-        ensures sorted { IsTrue (is_sorted nat_cmp self.now.commitments) }
+    pub fn commitments(&self) -> Pairs<'_, u64, Commitment>
+        ensures { result ≡ self.now.commitments }
     {
-        self.commitments.entries()
+        self.commitments.iter()
+    }
+
+    /// What is committed is in the order of the sequences.
+    pub fn is_in_order(&self)
+        ensures { IsTrue (is_sorted nat_cmp self.now.commitments) }
+    {
+        self.commitments.are_in_order();
     }
 
     /// The packet of a sequence was received, where they come in any order.
@@ -192,34 +198,46 @@ impl Channel {
         Ok(copies)
     }
 
-    /// Removes the commitment of a packet that was acknowledged; an ordered channel counts on (ICS 4,
-    /// "acknowledgePacket").
-    pub(crate) fn acknowledge(&mut self, sequence: u64)
+    /// Tells the application an acknowledgement, and removes the commitment of the packet; an ordered channel counts on (ICS 4,
+    /// "acknowledgePacket"). What the application refuses; `NoMemory` where a growth is refused. The channel and the application
+    /// are then as before.
+    pub(crate) fn acknowledge<A: App>(
+        &mut self,
+        app: &mut A,
+        packet: &Packet,
+        ack: &[u8],
+    ) -> Result<(), Refusal>
         requires { is_ordered self.old ≡ true → self.old.next_ack < 2 ^ 64 - 1 }
-        ensures { self.new ≡ after_ack sequence self.old }
+        ensures ok { OnOk result (self.new ≡ after_ack packet.now.sequence self.old) }
+        ensures told { OnOk result (A.is_acknowledged app.old self.old.end.version packet.now ack.now ≡ Ok app.new) }
+        ensures err { IfErr result (λ refusal. (refusal ≡ NoMemory) ⊎ (A.is_acknowledged app.old self.old.end.version packet.now ack.now ≡ Err refusal)) }
+        ensures unchanged { OnErr result ((self.new ≡ self.old) × (app.new ≡ app.old)) }
     {
-        self.remove_commitment(sequence);
+        make_room(&mut self.commitments)?;
+        app.on_ack(&self.end.version, packet, ack)?;
+        take_out(&mut self.commitments, packet.sequence);
         if self.end.order == Order::Ordered {
             self.next_ack += 1;
         }
+        Ok(())
     }
 
-    /// Removes the commitment of a packet that won't be received any more; an ordered channel is closed (ICS 4,
-    /// "timeoutPacket").
-    pub(crate) fn time_out(&mut self, sequence: u64)
-        ensures { self.new ≡ after_timeout sequence self.old }
+    /// Tells the application that a packet won't be received any more, and removes its commitment; an ordered channel is closed
+    /// (ICS 4, "timeoutPacket"). What the application refuses; `NoMemory` where a growth is refused. The channel and the
+    /// application are then as before.
+    pub(crate) fn time_out<A: App>(&mut self, app: &mut A, packet: &Packet) -> Result<(), Refusal>
+        ensures ok { OnOk result (self.new ≡ after_timeout packet.now.sequence self.old) }
+        ensures told { OnOk result (A.times_out app.old self.old.end.version packet.now ≡ Ok app.new) }
+        ensures err { IfErr result (λ refusal. (refusal ≡ NoMemory) ⊎ (A.times_out app.old self.old.end.version packet.now ≡ Err refusal)) }
+        ensures unchanged { OnErr result ((self.new ≡ self.old) × (app.new ≡ app.old)) }
     {
-        self.remove_commitment(sequence);
+        make_room(&mut self.commitments)?;
+        app.on_timeout(&self.end.version, packet)?;
+        take_out(&mut self.commitments, packet.sequence);
         if self.end.order == Order::Ordered {
             self.end.state = ChannelState::Closed;
         }
-    }
-
-    // Removes the commitment of a packet.
-    fn remove_commitment(&mut self, sequence: u64)
-        ensures { self.new ≡ without_commitment sequence self.old }
-    {
-        self.commitments.remove(&sequence);
+        Ok(())
     }
 }
 
@@ -237,4 +255,20 @@ impl Clone for Channel {
             acks: self.acks.copy()?,
         })
     }
+}
+
+// Makes room to remove a commitment.
+fn make_room(commitments: &mut SharedMap<u64, Commitment>) -> Result<(), AllocError>
+    ensures pairs { commitments.new.pairs ≡ commitments.old.pairs }
+    ensures ok { OnOk result (0 < commitments.new.room) }
+{
+    commitments.reserve(1)
+}
+
+// Removes a commitment.
+fn take_out(commitments: &mut SharedMap<u64, Commitment>, sequence: u64)
+    requires { 0 < commitments.old.room }
+    ensures { commitments.new.pairs ≡ without nat_cmp sequence commitments.old.pairs }
+{
+    let _ = commitments.remove(sequence);
 }

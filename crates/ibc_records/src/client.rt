@@ -7,9 +7,9 @@ ghost use Rattle.ibc_ids.specs.declared.refusal.Refusal.TheVariants.{NoMemory};
 ghost use Rattle.ibc_records.specs.HeldClients.{new_held, with_height};
 
 use ibc_ids::{Refusal, Root};
+use ibc_shared_map::SharedMap;
 use ibc_wire::ClientState;
 use std::alloc::{AllocError, Global};
-use std::collections::BTreeMap;
 use std::marker::Model;
 
 /// What a client knows of a height of the chain that it tracks: the root and the time (ICS 2, "Consensus state").
@@ -23,7 +23,7 @@ pub struct ConsensusState {
 #[derive(Drop, Debug)]
 pub struct Client {
     state: ClientState,
-    known: BTreeMap<u64, ConsensusState>,
+    known: SharedMap<u64, ConsensusState>,
 }
 
 impl Model for Client {
@@ -31,7 +31,7 @@ impl Model for Client {
 
     ghost Value = { HeldClient };
 
-    ghost view = { λ client. record { state = client.state; known = client.known.entries } };
+    ghost view = { λ client. record { state = client.state; known = client.known.pairs } };
 }
 
 impl Client {
@@ -41,7 +41,7 @@ impl Client {
     {
         Client {
             state: ClientState { chain, latest: 0 },
-            known: BTreeMap::new(alloc),
+            known: SharedMap::new(alloc),
         }
     }
 
@@ -65,7 +65,8 @@ impl Client {
         ensures err { IfErr result (λ refusal. refusal ≡ NoMemory) }
         ensures unchanged { OnErr result (self.new ≡ self.old) }
     {
-        self.known.insert(height, known)?;
+        self.known.reserve(1)?;
+        self.known.set(height, known)?;
         self.state.latest = self.state.latest.max(height);
         Ok(())
     }
@@ -77,7 +78,7 @@ impl Clone for Client {
     fn clone(&self) -> Result<Client, AllocError> {
         Ok(Client {
             state: self.state,
-            known: self.known.clone()?,
+            known: self.known.copy()?,
         })
     }
 }

@@ -18,16 +18,17 @@ mod channels;
 mod connections;
 mod packets;
 
-use crate::channel::Channel;
 use crate::client::{Client, ConsensusState};
+use crate::maps::{
+    Channels, Clients, Connections, insert, no_channels, no_clients, no_connections,
+};
 use crate::plain::PlainRecords;
 use crate::values::{client_path, client_value, counter, set_reserved};
-use ibc_ids::{ChannelId, ClientId, ConnectionId, Key, PortId, Refusal, Root};
+use ibc_ids::{ClientId, Key, Refusal, Root};
 use ibc_merkle::Proof;
 use ibc_path_store::{Store, Tree};
-use ibc_wire::{ClientState, ConnectionEnd};
+use ibc_wire::ClientState;
 use std::alloc::{AllocError, Global};
-use std::collections::BTreeMap;
 use std::marker::Model;
 use std::sync::Arc;
 
@@ -42,9 +43,9 @@ pub struct NextNumbers {
 /// What a chain proves to others, in plain, and the store of paths that is its image (ICS 24, "Provable store").
 #[derive(Drop)]
 pub struct Records {
-    clients: BTreeMap<ClientId, Client>,
-    connections: BTreeMap<ConnectionId, ConnectionEnd>,
-    channels: BTreeMap<(PortId, ChannelId), Channel>,
+    clients: Clients,
+    connections: Connections,
+    channels: Channels,
     next_client: u64,
     next_connection: u64,
     next_channel: u64,
@@ -101,9 +102,9 @@ impl Records {
         let (path, number) = counter(alloc, &Key::NextChannelSequence, next.channel)?;
         set_reserved(&mut store, path, number);
         Ok(Records {
-            clients: BTreeMap::new(alloc),
-            connections: BTreeMap::new(alloc),
-            channels: BTreeMap::new(alloc),
+            clients: no_clients(alloc),
+            connections: no_connections(alloc),
+            channels: no_channels(alloc),
             next_client: next.client,
             next_connection: next.connection,
             next_channel: next.channel,
@@ -164,7 +165,7 @@ impl Records {
         let next = self.next_client + 1;
         let (number_path, number) = counter(self.alloc, &Key::NextClientSequence, next)?;
         self.store.reserve(2)?;
-        self.clients.insert(id, client)?;
+        insert(&mut self.clients, id, client)?;
         self.next_client = next;
         set_reserved(&mut self.store, path, value);
         set_reserved(&mut self.store, number_path, number);
@@ -307,18 +308,31 @@ fn nothing(alloc: Global) -> Result<Arc<PlainRecords, Global>, AllocError>
 
 // A client knows a height more.
 fn learn(
-    clients: &mut BTreeMap<ClientId, Client>,
+    clients: &mut Clients,
     id: &ClientId,
     height: u64,
     known: ConsensusState,
 ) -> Result<(), Refusal>
-    ensures ok { OnOk result (IfSome (at text_cmp id.now clients.old.entries) (λ client. clients.new.entries ≡ with text_cmp id.now (with_height height known client) clients.old.entries)) }
-    ensures unknown { IsNone (at text_cmp id.now clients.old.entries) → result ≡ Err UnknownClient }
-    ensures known { IsSome (at text_cmp id.now clients.old.entries) → IfErr result (λ refusal. refusal ≡ NoMemory) }
-    ensures unchanged { OnErr result (clients.new.entries ≡ clients.old.entries) }
+    ensures ok { OnOk result (IfSome (at text_cmp id.now clients.old.pairs) (λ client. clients.new.pairs ≡ with text_cmp id.now (with_height height known client) clients.old.pairs)) }
+    ensures unknown { IsNone (at text_cmp id.now clients.old.pairs) → result ≡ Err UnknownClient }
+    ensures known { IsSome (at text_cmp id.now clients.old.pairs) → IfErr result (λ refusal. refusal ≡ NoMemory) }
+    ensures unchanged { OnErr result (clients.new.pairs ≡ clients.old.pairs) }
 {
-    match clients.get_mut(id) {
-        Some(client) => client.learn(height, known),
-        None => Err(Refusal::UnknownClient),
-    }
+    let Some(client) = clients.get(id) else {
+        return Err(Refusal::UnknownClient);
+    };
+    let client = learned(client, height, known)?;
+    let id = id.clone()?;
+    insert(clients, id, client)?;
+    Ok(())
+}
+
+// The client once it knows a height more.
+fn learned(client: &Client, height: u64, known: ConsensusState) -> Result<Client, Refusal>
+    ensures ok { IfOk result (λ learned. learned ≡ with_height height known client.now) }
+    ensures err { IfErr result (λ refusal. refusal ≡ NoMemory) }
+{
+    let mut learned = client.clone()?;
+    learned.learn(height, known)?;
+    Ok(learned)
 }

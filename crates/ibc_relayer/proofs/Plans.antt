@@ -1,6 +1,8 @@
 -- The plan, from the messages about packets and from the clients over which they go.
 use Rattle.std.proofs.Common.{◌≡◌, ℕ, zero, suc, ◌+◌, ◌<◌, nat_lt, length, length-append, Bool, true, false, cond, ◌&&◌, ◌||◌, not, List, [], ◌∷◌, ◌++◌, map, filter, refl, sym, ap, ◌∙◌, subst, Some, Ordering, Less, Equal, Greater, is_eq, is_some, eqb, arith, append_assoc}
-use Rattle.std.specs.List.{All, AllByRecursion, filter_map, flat_map}
+use Rattle.std.specs.Cmp.{IsTotalOrder, tied_itself}
+use Rattle.std.specs.Ordering.{ordering_reverse}
+use Rattle.std.specs.List.{AllByRecursion, filter_map, flat_map}
 use Rattle.std.proofs.lemmas.Bool.{le-ltb, lt-ltb}
 use Rattle.std.proofs.lemmas.List.Elements.{filter_map-append}
 use Rattle.std.proofs.lemmas.List.Folds.{list_any-append}
@@ -11,6 +13,7 @@ use Rattle.ibc_wire.specs.declared.messages.Message.{Message}
 use Rattle.ibc_machine.specs.Records.{Client, Channel, is_one_of}
 use Rattle.ibc_machine.specs.Relay.{View, Pending, pending, pending_at, pending_message, client_used, needs_update, update_of, plan, when}
 use Rattle.ibc_machine.proofs.Images.{at-with}
+use Rattle.ibc_machine.proofs.SortedMaps.{Below, Sorted}
 use Rattle.ibc_relayer.specs.declared.ends.Ends.{Ends}
 use Rattle.ibc_relayer.specs.Found.{AreTheEnds}
 use Rattle.ibc_relayer.specs.Used.{goes_over, has_any, AreUsed, is_told}
@@ -138,7 +141,18 @@ module _ (a b : View) where
       → pending_at a b e ≡ [] → (goes_over b id (flat_map (pending_at a b) rest) || old) ≡ all
   none_used id old e rest so_far none = ap (λ (ps : List Pending). goes_over b id (ps ++ flat_map (pending_at a b) rest) || old) (sym none) ∙ so_far
 
--- what holds of each entry by its place
-pub each_by_place : {X : Type 0} (P : X → Type 0) (xs : List X) → All P xs → AllByRecursion P xs
-each_by_place P [] all = tt
-each_by_place P (x ∷ xs) all = (all zero x (omega arith), each_by_place P xs (λ k d low. all (suc k) d (omega (arith, low))))
+-- each entry of a map in order stands under its key
+module _ {K V : Type 0} {order : K → K → Ordering} (total : IsTotalOrder order) where
+  -- it is found behind a first one too
+  behind : (first : K × V) (all es : Map K V) → Below order first.0 es → AllByRecursion (λ e. at order e.0 all ≡ Some e.1) es
+      → AllByRecursion (λ e. at order e.0 (first ∷ all) ≡ Some e.1) es
+  behind first all [] below there = tt
+  behind first all (e ∷ es) below there = (
+    ap (λ o. cond (is_eq o) (Some first.1) (at order e.0 all)) (total.antisymm e.0 first.0 ∙ ap ordering_reverse below.0) ∙ there.0,
+    behind first all es below.1 there.1,
+  )
+
+  pub each_there : (es : Map K V) → Sorted order es → AllByRecursion (λ e. at order e.0 es ≡ Some e.1) es
+  each_there [] sorted = tt
+  each_there (e ∷ es) sorted =
+      (ap (λ o. cond (is_eq o) (Some e.1) (at order e.0 es)) (tied_itself total e.0), behind e es es sorted.0 (each_there es sorted.1))

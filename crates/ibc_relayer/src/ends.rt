@@ -45,8 +45,8 @@ impl<'v> Ends<'v> {
         ensures mine { IsTrue (is_sorted nat_cmp self.now.mine.now.commitments) }
         ensures theirs { IsTrue (is_sorted nat_cmp self.now.theirs.now.commitments) }
     {
-        let _mine = self.mine.commitments();
-        let _theirs = self.theirs.commitments();
+        self.mine.is_in_order();
+        self.theirs.is_in_order();
     }
 
     /// Adds all messages for the end. `NoMemory` where a growth is refused.
@@ -74,9 +74,8 @@ impl<'v> Ends<'v> {
         ensures ok { OnOk result (messages.new.items ≡ messages.old.items ++ filter_map (received_at self.now.a.now self.now.b.now (self.now.port.now, self.now.channel.now) self.now.mine.now) self.now.theirs.now.commitments) }
         ensures err { IfErr result (λ refusal. refusal ≡ NoMemory) }
     {
-        let entries = self.theirs.commitments();
-        for entry in entries {
-            add(messages, self.receive(alloc, entry.0, &entry.1)?)?;
+        for (sequence, commitment) in self.theirs.commitments() {
+            add(messages, self.receive(alloc, *sequence, commitment)?)?;
         }
         Ok(())
     }
@@ -88,9 +87,8 @@ impl<'v> Ends<'v> {
         ensures ok { OnOk result (messages.new.items ≡ messages.old.items ++ filter_map (acked_at self.now.a.now (self.now.port.now, self.now.channel.now) self.now.mine.now self.now.theirs.now) self.now.mine.now.commitments) }
         ensures err { IfErr result (λ refusal. refusal ≡ NoMemory) }
     {
-        let entries = self.mine.commitments();
-        for entry in entries {
-            add(messages, self.acknowledge(alloc, entry.0, &entry.1)?)?;
+        for (sequence, commitment) in self.mine.commitments() {
+            add(messages, self.acknowledge(alloc, *sequence, commitment)?)?;
         }
         Ok(())
     }
@@ -102,9 +100,8 @@ impl<'v> Ends<'v> {
         ensures ok { OnOk result (messages.new.items ≡ messages.old.items ++ filter_map (timed_out_at self.now.a.now (self.now.port.now, self.now.channel.now) self.now.mine.now self.now.theirs.now) self.now.mine.now.commitments) }
         ensures err { IfErr result (λ refusal. refusal ≡ NoMemory) }
     {
-        let entries = self.mine.commitments();
-        for entry in entries {
-            add(messages, self.time_out(alloc, entry.0, &entry.1)?)?;
+        for (sequence, commitment) in self.mine.commitments() {
+            add(messages, self.time_out(alloc, *sequence, commitment)?)?;
         }
         Ok(())
     }

@@ -57,7 +57,9 @@ fn plan_packets(
     ensures err { IfErr result (λ refusal. refusal ≡ NoMemory) }
 {
     let mut used = Used::new(alloc);
-    for ((port, channel), mine) in b.plain().channels() {
+    let all = b.plain().channels();
+    all.are_in_order();
+    for ((port, channel), mine) in all.iter() {
         if let Some(ends) = ends_of(a, b, port, channel, mine)? {
             plan_end(alloc, &ends, messages, &mut used)?;
         }
@@ -108,7 +110,7 @@ fn updates(alloc: Global, a: &View, b: &View, used: &Used) -> Result<Vec<Message
     ensures err { IfErr result (λ refusal. refusal ≡ NoMemory) }
 {
     let mut updates = Vec::new(alloc);
-    for (id, client) in b.plain().clients() {
+    for (id, client) in b.plain().clients().iter() {
         if is_told(a, used, id, client) {
             updates.push(update(a, id)?)?;
         }

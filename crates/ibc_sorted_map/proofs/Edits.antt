@@ -1,5 +1,5 @@
 -- Sorted pairs, edited at a key.
-use Rattle.std.proofs.Common.{◌≡◌, true, cond, [], ◌∷◌, ◌++◌, refl, ap, ◌∙◌, Ordering, Less, Equal, is_lt, is_eq}
+use Rattle.std.proofs.Common.{◌≡◌, ℕ, zero, suc, take, drop, true, cond, [], ◌∷◌, ◌++◌, refl, ap, ◌∙◌, Ordering, Less, Equal, is_lt, is_eq}
 use Rattle.std.specs.Cmp.{IsTotalOrder}
 use Rattle.std.specs.FinMap.{is_sorted}
 use Rattle.std.specs.FinMap.Entries.{below_all}
@@ -15,7 +15,7 @@ module _ {K V : Type 0} (order : K → K → Ordering) where
   below_all_from_above key [] h = refl
   below_all_from_above key (e ∷ es) h = and_from (is_lt (order key e.0)) (below_all order key es) (ap is_lt h.0) (below_all_from_above key es h.1)
 
-  sorted_from_rising : (es : Map K V) → AreRising order es → is_sorted order es ≡ true
+  pub sorted_from_rising : (es : Map K V) → AreRising order es → is_sorted order es ≡ true
   sorted_from_rising [] h = refl
   sorted_from_rising (e ∷ es) h = and_from (below_all order e.0 es) (is_sorted order es) (below_all_from_above e.0 es h.0) (sorted_from_rising es h.1)
 
@@ -54,14 +54,34 @@ module _ {K V : Type 0} (order : K → K → Ordering) where
   pub middle_is_sorted : (low : Map K V) (x : K × V) (high : Map K V) → is_sorted order (low ++ x ∷ high) ≡ true → is_sorted order (low ++ high) ≡ true
   middle_is_sorted low x high h = sorted_from_rising _ (rising-middle low x high (rising_from_sorted order _ h))
 
+  -- ---- a part of the pairs
+
+  above-take : (key : K) (n : ℕ) (es : Map K V) → AllAbove order key es → AllAbove order key (take n es)
+  above-take key zero es h = tt
+  above-take key (suc n) [] h = tt
+  above-take key (suc n) (e ∷ es) h = (h.0, above-take key n es h.1)
+
+  rising-take : (n : ℕ) (es : Map K V) → AreRising order es → AreRising order (take n es)
+  rising-take zero es h = tt
+  rising-take (suc n) [] h = tt
+  rising-take (suc n) (e ∷ es) h = (above-take e.0 n es h.0, rising-take n es h.1)
+
+  rising-drop : (n : ℕ) (es : Map K V) → AreRising order es → AreRising order (drop n es)
+  rising-drop zero es h = h
+  rising-drop (suc n) [] h = tt
+  rising-drop (suc n) (e ∷ es) h = rising-drop n es h.1
+
+  pub part_is_sorted : (es : Map K V) (m n : ℕ) → is_sorted order es ≡ true → is_sorted order (take n (drop m es)) ≡ true
+  part_is_sorted es m n h = sorted_from_rising _ (rising-take n (drop m es) (rising-drop m es (rising_from_sorted order es h)))
+
 module _ {K V : Type 0} {order : K → K → Ordering} (total : IsTotalOrder order) where
   -- ---- at a key that is there
 
-  with-step : (key : K) (value : V) (x : K × V) (es : Map K V) → order x.0 key ≡ Less → with order key value (x ∷ es) ≡ x ∷ with order key value es
+  pub with-step : (key : K) (value : V) (x : K × V) (es : Map K V) → order x.0 key ≡ Less → with order key value (x ∷ es) ≡ x ∷ with order key value es
   with-step key value x es h =
       ap (λ o. match_ordering o ((key, value) ∷ x ∷ es) ((x.0, value) ∷ es) (x ∷ with order key value es)) (greater_from total x.0 key h)
 
-  without-step : (key : K) (x : K × V) (es : Map K V) → order x.0 key ≡ Less → without order key (x ∷ es) ≡ x ∷ without order key es
+  pub without-step : (key : K) (x : K × V) (es : Map K V) → order x.0 key ≡ Less → without order key (x ∷ es) ≡ x ∷ without order key es
   without-step key x es h = ap (λ o. cond (is_eq o) es (x ∷ without order key es)) (greater_from total x.0 key h)
 
   pub with-here : (low : Map K V) (x : K × V) (high : Map K V) (key : K) (value : V) → AllBelow order key low → order key x.0 ≡ Equal
@@ -81,7 +101,7 @@ module _ {K V : Type 0} {order : K → K → Ordering} (total : IsTotalOrder ord
   with-gap [] (x ∷ high) key value below above = ap (λ o. match_ordering o ((key, value) ∷ x ∷ high) ((x.0, value) ∷ high) (x ∷ with order key value high)) above.0
   with-gap (y ∷ low) high key value below above = with-step key value y (low ++ high) below.0 ∙ ap (λ es. y ∷ es) (with-gap low high key value below.1 above)
 
-  without-above : (high : Map K V) (key : K) → AllAbove order key high → without order key high ≡ high
+  pub without-above : (high : Map K V) (key : K) → AllAbove order key high → without order key high ≡ high
   without-above [] key above = refl
   without-above (x ∷ high) key above = ap (λ o. cond (is_eq o) high (x ∷ without order key high)) above.0 ∙ ap (λ es. x ∷ es) (without-above high key above.1)
 

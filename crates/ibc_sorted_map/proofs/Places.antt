@@ -12,12 +12,12 @@ use Rattle.ibc_sorted_map.proofs.Edits.{with-here, without-here, with-gap, witho
 
 -- ---- a list at an index
 
-parts_at : {A : Type 0} (es : List A) (i : ℕ) (x : A) → i < length es → x ≡ get_or es i x → es ≡ take i es ++ x ∷ drop (suc i) es
+pub parts_at : {A : Type 0} (es : List A) (i : ℕ) (x : A) → i < length es → x ≡ get_or es i x → es ≡ take i es ++ x ∷ drop (suc i) es
 parts_at [] i x l is = absurd (omega arith)
 parts_at (e ∷ es) zero x l is = ap (λ y. y ∷ es) (sym is)
 parts_at (e ∷ es) (suc i) x l is = ap (λ ys. e ∷ ys) (parts_at es i x (omega arith) is)
 
-set_parts : {A : Type 0} (es : List A) (i : ℕ) (y : A) → i < length es → set es i y ≡ take i es ++ y ∷ drop (suc i) es
+pub set_parts : {A : Type 0} (es : List A) (i : ℕ) (y : A) → i < length es → set es i y ≡ take i es ++ y ∷ drop (suc i) es
 set_parts [] i y l = absurd (omega arith)
 set_parts (e ∷ es) zero y l = refl
 set_parts (e ∷ es) (suc i) y l = ap (λ ys. e ∷ ys) (set_parts es i y (omega arith))

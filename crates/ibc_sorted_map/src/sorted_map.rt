@@ -1,6 +1,6 @@
 //! A map as a sorted vector.
 
-ghost use Rattle.std.specs.Prelude.{◌≡◌, ◌+◌, ◌≤◌, ◌<◌, length, [], IsTrue, IsOk, OnOk, OnErr, IfOk, IfErr, None, option_copied};
+ghost use Rattle.std.specs.Prelude.{◌≡◌, ◌+◌, ◌≤◌, ◌<◌, length, [], IsTrue, IsOk, OnOk, OnErr, IfOk, IfErr, None, option_copied, slice_range};
 ghost use Rattle.std.specs.Borrow.{sem};
 ghost use Rattle.std.specs.Option.{option_copied_mut};
 ghost use Rattle.std.specs.List.{HoldsAt};
@@ -130,6 +130,17 @@ impl<K: Ord, V> SortedMap<K, V> {
         }
     }
 
+    /// Removes all pairs, and keeps the room.
+    pub fn clear(&mut self)
+    where
+        K: Drop,
+        V: Drop,
+        ensures pairs { self.new.pairs ≡ [] }
+        ensures room { self.old.room ≤ self.new.room }
+    {
+        self.entries.clear();
+    }
+
     /// The same pairs in a map of their own. Refused only where a growth is.
     pub fn copy(&self) -> Result<SortedMap<K, V>, AllocError>
     where
@@ -141,6 +152,23 @@ impl<K: Ord, V> SortedMap<K, V> {
     {
         Ok(SortedMap {
             entries: Vec::from_clones(*self.entries.allocator(), self.entries())?,
+        })
+    }
+
+    /// The pairs from one place up to another, in a map of their own. Refused only where a growth is.
+    pub fn part(&self, from: usize, to: usize) -> Result<SortedMap<K, V>, AllocError>
+    where
+        K: Clone,
+        V: Clone,
+        requires order { from ≤ to }
+        requires within { to ≤ length self.now.pairs }
+        requires keys { (key copy : K) → K.is_clone key copy → copy ≡ key }
+        requires values { (value copy : V) → V.is_clone value copy → copy ≡ value }
+        ensures { IfOk result (λ part. part.pairs ≡ slice_range self.now.pairs from to) }
+    {
+        let pairs = &self.entries()[from..to];
+        Ok(SortedMap {
+            entries: Vec::from_clones(*self.entries.allocator(), pairs)?,
         })
     }
 

@@ -24,8 +24,9 @@ pub fn in_flight(
 {
     let version = &mine.end().version;
     let mut sum: u128 = 0;
-    for entry in mine.commitments() {
-        let Some(amount) = amount_under_way(alloc, version, theirs, denom, entry)? else {
+    for (sequence, commitment) in mine.commitments() {
+        let Some(amount) = amount_under_way(alloc, version, theirs, denom, *sequence, commitment)?
+        else {
             return Ok(None);
         };
         let Some(more) = sum.checked_add(amount) else {
@@ -43,13 +44,13 @@ fn amount_under_way(
     version: &Version,
     theirs: &Channel,
     denom: &Denom,
-    entry: &(u64, Commitment),
+    sequence: u64,
+    commitment: &Commitment,
 ) -> Result<Option<u128>, Refusal>
-    ensures ok { IfOk result (λ amount. SomeIff amount (amount_under_way version.now denom.now theirs.now entry.now < 2 ^ 128) (amount_under_way version.now denom.now theirs.now entry.now)) }
+    ensures ok { IfOk result (λ amount. SomeIff amount (amount_under_way version.now denom.now theirs.now (sequence, commitment.now) < 2 ^ 128) (amount_under_way version.now denom.now theirs.now (sequence, commitment.now))) }
     ensures err { IfErr result (λ refusal. refusal ≡ NoMemory) }
 {
-    let (sequence, commitment) = entry;
-    if has_succeeded(theirs, *sequence) {
+    if has_succeeded(theirs, sequence) {
         return Ok(Some(0));
     }
     match TokenData::read(alloc, version, commitment.payload.as_slice())? {

@@ -13,12 +13,12 @@ ghost use Rattle.ibc_records.specs.Held.{AddsChannel, SetsChannelEnd, IsUnchange
 use crate::Records;
 use crate::channel::Channel;
 use crate::channel_entries::{reserve_entries, set_entries};
+use crate::maps::{Channels, contains, insert, own, put};
 use crate::values::{channel_path, channel_value, set_reserved};
 use ibc_ids::{Bytes, ChannelId, PortId, Refusal};
 use ibc_path_store::Store;
 use ibc_wire::ChannelEnd;
 use std::alloc::Global;
-use std::collections::BTreeMap;
 
 impl Records {
     /// A channel by its port and its identifier, or none. Refused: `NoMemory`.
@@ -60,8 +60,8 @@ impl Records {
                 return Err(refusal);
             }
         };
-        self.channels
-            .insert((port, id), Channel::new(self.alloc, end))?;
+        let channel = Channel::new(self.alloc, end);
+        insert(&mut self.channels, (port, id), channel)?;
         self.next_channel = next;
         set_entries(&mut self.store, entries);
         Ok(())
@@ -82,7 +82,7 @@ impl Records {
         ensures unchanged { OnErr result (IsUnchanged self.old self.new) }
     {
         let name = (port, id);
-        if !self.channels.contains_key(&name) {
+        if !contains(&self.channels, &name) {
             drop(end);
             return Err(Refusal::UnknownChannel);
         }
@@ -93,7 +93,7 @@ impl Records {
                 return Err(refusal);
             }
         };
-        set_end(&mut self.channels, &name, end);
+        set_end(&mut self.channels, name, end)?;
         set_reserved(&mut self.store, path, value);
         Ok(())
     }
@@ -121,13 +121,17 @@ fn reserve_end(
 
 // A channel that is there has this end.
 fn set_end(
-    channels: &mut BTreeMap<(PortId, ChannelId), Channel>,
-    name: &(PortId, ChannelId),
+    channels: &mut Channels,
+    name: (PortId, ChannelId),
     end: ChannelEnd,
-)
-    ensures { IfSome (at pair_cmp name.now channels.old.entries) (λ channel. channels.new.entries ≡ with pair_cmp name.now (record channel { end = end }) channels.old.entries) }
+) -> Result<(), Refusal>
+    requires { IsSome (at pair_cmp name channels.old.pairs) }
+    ensures ok { OnOk result (IfSome (at pair_cmp name channels.old.pairs) (λ channel. channels.new.pairs ≡ with pair_cmp name (record channel { end = end }) channels.old.pairs)) }
+    ensures err { IfErr result (λ refusal. refusal ≡ NoMemory) }
+    ensures unchanged { OnErr result (channels.new.pairs ≡ channels.old.pairs) }
 {
-    if let Some(channel) = channels.get_mut(name) {
-        channel.set_end(end);
-    }
+    let mut channel = own(channels, &name)?;
+    channel.set_end(end);
+    put(channels, name, channel);
+    Ok(())
 }

@@ -7,6 +7,7 @@ ghost use Rattle.ibc_ids.specs.declared.refusal.Refusal.TheVariants.{NoMemory};
 ghost use Rattle.ibc_records.specs.Held.{AddsConnection, SetsConnection, IsUnchanged};
 
 use crate::Records;
+use crate::maps::insert;
 use crate::values::{connection_path, connection_value, counter, set_reserved};
 use ibc_ids::{ConnectionId, Key, Refusal};
 use ibc_wire::ConnectionEnd;
@@ -39,7 +40,7 @@ impl Records {
         let next = self.next_connection + 1;
         let (number_path, number) = counter(self.alloc, &Key::NextConnectionSequence, next)?;
         self.store.reserve(2)?;
-        self.connections.insert(id, end)?;
+        insert(&mut self.connections, id, end)?;
         self.next_connection = next;
         set_reserved(&mut self.store, path, value);
         set_reserved(&mut self.store, number_path, number);
@@ -56,7 +57,7 @@ impl Records {
         let path = connection_path(self.alloc, &id)?;
         let value = connection_value(self.alloc, &end)?;
         self.store.reserve(1)?;
-        self.connections.insert(id, end)?;
+        insert(&mut self.connections, id, end)?;
         set_reserved(&mut self.store, path, value);
         Ok(())
     }

@@ -19,6 +19,7 @@ use crate::Records;
 use crate::acknowledgement::{AckCopies, AckRoom};
 use crate::channel::Channel;
 use crate::commitment::Commitment;
+use crate::maps::{Channels, own, put};
 use crate::packet_entries::{acknowledged_entry, closed_entry, received_entry, settle};
 use crate::packet_values::{channel_counter, commitment_value, packet_path};
 use crate::values::set_reserved;
@@ -27,7 +28,6 @@ use ibc_ids::{Bytes, ChannelId, PortId, Refusal};
 use ibc_path_store::Store;
 use ibc_wire::Packet;
 use std::alloc::Global;
-use std::collections::BTreeMap;
 
 impl Records {
     /// Commits to a packet under the next sequence of a channel, and answers it (ICS 4, "sendPacket"). `NoMemory` where a
@@ -74,7 +74,7 @@ impl Records {
             sequence,
             &commitment,
         )?;
-        send_on(&mut self.channels, &name, payer, bill, commitment)?;
+        send_on(&mut self.channels, name, payer, bill, commitment)?;
         set_reserved(&mut self.store, path, value);
         set_reserved(&mut self.store, next_path, next);
         Ok(sequence)
@@ -105,7 +105,7 @@ impl Records {
             channel,
             packet.sequence,
         )?;
-        let acks = receive_on(&mut self.channels, &name, app, packet, room)?;
+        let acks = receive_on(&mut self.channels, name, app, packet, room)?;
         set_reserved(&mut self.store, path, acks.value);
         set_reserved(&mut self.store, other_path, other);
         Ok((acks.reply, acks.copy))
@@ -136,8 +136,7 @@ impl Records {
             channel,
             packet.sequence,
         )?;
-        app.on_ack(&channel.end().version, packet, ack)?;
-        acknowledge_on(&mut self.channels, &name, packet.sequence);
+        acknowledge_on(&mut self.channels, name, app, packet, ack)?;
         settle(&mut self.store, path.as_str(), counter);
         Ok(())
     }
@@ -162,8 +161,7 @@ impl Records {
             channel,
             packet.sequence,
         )?;
-        app.on_timeout(&channel.end().version, packet)?;
-        time_out_on(&mut self.channels, &name, packet.sequence);
+        time_out_on(&mut self.channels, name, app, packet)?;
         settle(&mut self.store, path.as_str(), closed);
         Ok(())
     }
@@ -205,21 +203,28 @@ fn reserve_send(
 
 // A channel that is there commits to a packet that is paid for.
 fn send_on<Bill, P: Pays<Bill>>(
-    channels: &mut BTreeMap<(PortId, ChannelId), Channel>,
-    name: &(PortId, ChannelId),
+    channels: &mut Channels,
+    name: (PortId, ChannelId),
     payer: &mut P,
     bill: &Bill,
     commitment: Commitment,
 ) -> Result<(), Refusal>
-    requires { IsSomeAnd (at pair_cmp name.now channels.old.entries) (λ mine. mine.next_send < 2 ^ 64 - 1) }
-    ensures ok { OnOk result (IfSome (at pair_cmp name.now channels.old.entries) (λ mine. channels.new.entries ≡ with pair_cmp name.now (after_send commitment mine) channels.old.entries)) }
+    requires { IsSomeAnd (at pair_cmp name channels.old.pairs) (λ mine. mine.next_send < 2 ^ 64 - 1) }
+    ensures ok { OnOk result (IfSome (at pair_cmp name channels.old.pairs) (λ mine. channels.new.pairs ≡ with pair_cmp name (after_send commitment mine) channels.old.pairs)) }
     ensures paid { OnOk result (P.pays payer.old bill.now ≡ Ok payer.new) }
     ensures err { IfErr result (λ refusal. (refusal ≡ NoMemory) ⊎ (P.pays payer.old bill.now ≡ Err refusal)) }
-    ensures unchanged { OnErr result ((channels.new.entries ≡ channels.old.entries) × (payer.new ≡ payer.old)) }
+    ensures unchanged { OnErr result ((channels.new.pairs ≡ channels.old.pairs) × (payer.new ≡ payer.old)) }
 {
-    match channels.get_mut(name) {
-        Some(channel) => channel.send(payer, bill, commitment),
-        None => Err(Refusal::UnknownChannel),
+    let mut channel = own(channels, &name)?;
+    match channel.send(payer, bill, commitment) {
+        Ok(()) => {
+            put(channels, name, channel);
+            Ok(())
+        }
+        Err(refusal) => {
+            drop(channel);
+            Err(refusal)
+        }
     }
 }
 
@@ -250,24 +255,31 @@ fn reserve_receive(
 
 // A channel that is there receives a packet.
 fn receive_on<A: App>(
-    channels: &mut BTreeMap<(PortId, ChannelId), Channel>,
-    name: &(PortId, ChannelId),
+    channels: &mut Channels,
+    name: (PortId, ChannelId),
     app: &mut A,
     packet: &Packet,
     room: AckRoom,
 ) -> Result<AckCopies, Refusal>
-    requires some { IsSomeAnd (at pair_cmp name.now channels.old.entries) (λ mine. is_ordered mine ≡ true → mine.next_recv < 2 ^ 64 - 1) }
+    requires some { IsSomeAnd (at pair_cmp name channels.old.pairs) (λ mine. is_ordered mine ≡ true → mine.next_recv < 2 ^ 64 - 1) }
     requires room { 1024 ≤ room }
-    ensures answer { IfOk result (λ acks. IfSome (at pair_cmp name.now channels.old.entries) (λ mine. (acks.reply, app.new) ≡ A.receives app.old mine.end.version packet.now)) }
+    ensures answer { IfOk result (λ acks. IfSome (at pair_cmp name channels.old.pairs) (λ mine. (acks.reply, app.new) ≡ A.receives app.old mine.end.version packet.now)) }
     ensures copy { IfOk result (λ acks. acks.copy ≡ acks.reply) }
     ensures value { IfOk result (λ acks. acks.value ≡ value_bytes (AckIs acks.reply)) }
-    ensures ok { IfOk result (λ acks. IfSome (at pair_cmp name.now channels.old.entries) (λ mine. channels.new.entries ≡ with pair_cmp name.now (after_receive packet.now.sequence acks.reply mine) channels.old.entries)) }
+    ensures ok { IfOk result (λ acks. IfSome (at pair_cmp name channels.old.pairs) (λ mine. channels.new.pairs ≡ with pair_cmp name (after_receive packet.now.sequence acks.reply mine) channels.old.pairs)) }
     ensures err { IfErr result (λ refusal. refusal ≡ NoMemory) }
-    ensures unchanged { OnErr result ((channels.new.entries ≡ channels.old.entries) × (app.new ≡ app.old)) }
+    ensures unchanged { OnErr result ((channels.new.pairs ≡ channels.old.pairs) × (app.new ≡ app.old)) }
 {
-    match channels.get_mut(name) {
-        Some(channel) => channel.receive(app, packet, room),
-        None => Err(Refusal::UnknownChannel),
+    let mut channel = own(channels, &name)?;
+    match channel.receive(app, packet, room) {
+        Ok(acks) => {
+            put(channels, name, channel);
+            Ok(acks)
+        }
+        Err(refusal) => {
+            drop(channel);
+            Err(refusal)
+        }
     }
 }
 
@@ -293,17 +305,30 @@ fn reserve_acknowledged(
     Ok((path, acknowledged_entry(alloc, &name.0, &name.1, channel)?))
 }
 
-// A packet of a channel that is there was acknowledged.
-fn acknowledge_on(
-    channels: &mut BTreeMap<(PortId, ChannelId), Channel>,
-    name: &(PortId, ChannelId),
-    sequence: u64,
-)
-    requires { IfSome (at pair_cmp name.now channels.old.entries) (λ mine. is_ordered mine ≡ true → mine.next_ack < 2 ^ 64 - 1) }
-    ensures { IfSome (at pair_cmp name.now channels.old.entries) (λ mine. channels.new.entries ≡ with pair_cmp name.now (after_ack sequence mine) channels.old.entries) }
+// A channel that is there has a packet acknowledged.
+fn acknowledge_on<A: App>(
+    channels: &mut Channels,
+    name: (PortId, ChannelId),
+    app: &mut A,
+    packet: &Packet,
+    ack: &[u8],
+) -> Result<(), Refusal>
+    requires { IsSomeAnd (at pair_cmp name channels.old.pairs) (λ mine. is_ordered mine ≡ true → mine.next_ack < 2 ^ 64 - 1) }
+    ensures ok { OnOk result (IfSome (at pair_cmp name channels.old.pairs) (λ mine. channels.new.pairs ≡ with pair_cmp name (after_ack packet.now.sequence mine) channels.old.pairs)) }
+    ensures told { OnOk result (IfSome (at pair_cmp name channels.old.pairs) (λ mine. A.is_acknowledged app.old mine.end.version packet.now ack.now ≡ Ok app.new)) }
+    ensures err { IfErr result (λ refusal. (refusal ≡ NoMemory) ⊎ IfSome (at pair_cmp name channels.old.pairs) (λ mine. A.is_acknowledged app.old mine.end.version packet.now ack.now ≡ Err refusal)) }
+    ensures unchanged { OnErr result ((channels.new.pairs ≡ channels.old.pairs) × (app.new ≡ app.old)) }
 {
-    if let Some(channel) = channels.get_mut(name) {
-        channel.acknowledge(sequence);
+    let mut channel = own(channels, &name)?;
+    match channel.acknowledge(app, packet, ack) {
+        Ok(()) => {
+            put(channels, name, channel);
+            Ok(())
+        }
+        Err(refusal) => {
+            drop(channel);
+            Err(refusal)
+        }
     }
 }
 
@@ -328,15 +353,28 @@ fn reserve_timed_out(
     Ok((path, closed_entry(alloc, &name.0, &name.1, channel)?))
 }
 
-// A packet of a channel that is there won't be received any more.
-fn time_out_on(
-    channels: &mut BTreeMap<(PortId, ChannelId), Channel>,
-    name: &(PortId, ChannelId),
-    sequence: u64,
-)
-    ensures { IfSome (at pair_cmp name.now channels.old.entries) (λ mine. channels.new.entries ≡ with pair_cmp name.now (after_timeout sequence mine) channels.old.entries) }
+// A channel that is there has a packet timed out.
+fn time_out_on<A: App>(
+    channels: &mut Channels,
+    name: (PortId, ChannelId),
+    app: &mut A,
+    packet: &Packet,
+) -> Result<(), Refusal>
+    requires { IsSome (at pair_cmp name channels.old.pairs) }
+    ensures ok { OnOk result (IfSome (at pair_cmp name channels.old.pairs) (λ mine. channels.new.pairs ≡ with pair_cmp name (after_timeout packet.now.sequence mine) channels.old.pairs)) }
+    ensures told { OnOk result (IfSome (at pair_cmp name channels.old.pairs) (λ mine. A.times_out app.old mine.end.version packet.now ≡ Ok app.new)) }
+    ensures err { IfErr result (λ refusal. (refusal ≡ NoMemory) ⊎ IfSome (at pair_cmp name channels.old.pairs) (λ mine. A.times_out app.old mine.end.version packet.now ≡ Err refusal)) }
+    ensures unchanged { OnErr result ((channels.new.pairs ≡ channels.old.pairs) × (app.new ≡ app.old)) }
 {
-    if let Some(channel) = channels.get_mut(name) {
-        channel.time_out(sequence);
+    let mut channel = own(channels, &name)?;
+    match channel.time_out(app, packet) {
+        Ok(()) => {
+            put(channels, name, channel);
+            Ok(())
+        }
+        Err(refusal) => {
+            drop(channel);
+            Err(refusal)
+        }
     }
 }

@@ -1,30 +1,31 @@
 -- What is planned for the end at the place is added.
 use Rattle.std.proofs.Common.{◌≡◌, ◌++◌, ◌∙◌, ◌||◌, List, Some, is_some, sym, ap, subst}
 use Rattle.std.proofs.Math.Bool.{or-false}
-use Rattle.std.specs.List.{All, AllByRecursion, filter_map, flat_map}
+use Rattle.std.specs.FinMap.{is_sorted}
+use Rattle.std.specs.List.{AllByRecursion, filter_map, flat_map}
 use Rattle.ibc_ids.specs.Texts.{Text, text_cmp, pair_cmp}
 use Rattle.ibc_ids.specs.Maps.{at}
 use Rattle.ibc_wire.specs.declared.messages.Message.{Message}
 use Rattle.ibc_machine.specs.Records.{Core, Channel}
 use Rattle.ibc_machine.specs.Relay.{pending_at, pending_message}
+use Rattle.ibc_machine.proofs.FiniteMaps.{pair_cmp_total}
+use Rattle.ibc_machine.proofs.SortedMaps.{Sorted-from}
 use Rattle.ibc_relayer.specs.Found.{AreTheEnds, AreEnds}
 use Rattle.ibc_relayer.specs.Used.{goes_over}
-use Rattle.ibc_relayer.proofs.Plans.{one_end, one_used, same_messages, same_over, each_by_place}
+use Rattle.ibc_relayer.proofs.Plans.{one_end, one_used, same_messages, same_over, each_there}
 use Rattle.ibc_relayer.proofs.planning.plan_packets.Goals as goal
 
 pub loop-port-init : goal.loop-port-init
 loop-port-init c =
     let a = c.args.a.now in
     let b = c.args.b.now in
-    let gives = c.into_iter-port-iterator.ensures.into_iter_gives in
-    let entries : c.channels-port-items.result.now.entries ≡ b.core.channels = c.channels-port-items.ensures ∙ ap (λ (core : Core). core.channels) c.plain.ensures in
-    let all : c.into_iter-port-iterator.result ≡ b.core.channels = gives.0 ∙ entries in
+    let pairs : c.channels-all.result.now.pairs ≡ b.core.channels = c.channels-all.ensures ∙ ap (λ (core : Core). core.channels) c.plain.ensures in
+    let all : c.into_iter-port-iterator.result ≡ b.core.channels = c.into_iter-port-iterator.ensures.into_iter_gives ∙ c.iter-port-items.ensures ∙ pairs in
     record {
       planned = λ i. c.requires.empty i ++ filter_map (pending_message a b) (flat_map (pending_at a b) (all i));
       used = λ id. (λ i. goes_over b id (flat_map (pending_at a b) (all i)) || is_some (at text_cmp id (c.new-used.ensures.empty i))) ∙ or-false (goes_over b id (flat_map (pending_at a b) b.core.channels));
       there = subst (λ (es : List ((Text × Text) × Channel)). AllByRecursion (λ e. at pair_cmp e.0 b.core.channels ≡ Some e.1) es) (sym all)
-          (each_by_place (λ (e : (Text × Text) × Channel). at pair_cmp e.0 b.core.channels ≡ Some e.1) b.core.channels
-          (subst (λ (es : List ((Text × Text) × Channel)). All (λ e. at pair_cmp e.0 es ≡ Some e.1) es) entries gives.6));
+          (each_there pair_cmp_total b.core.channels (Sorted-from pair_cmp b.core.channels (ap (is_sorted pair_cmp) (sym pairs) ∙ c.are_in_order.ensures)));
     }
 
 pub loop-port-preserved-in-Continue-branch-3 : goal.loop-port-preserved-in-Continue-branch-3

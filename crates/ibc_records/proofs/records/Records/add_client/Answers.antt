@@ -11,16 +11,16 @@ use Rattle.ibc_records.proofs.records.Records.add_client.Goals as goal
 pub invariant_of-self-2 : goal.invariant_of-self-2
 invariant_of-self-2 c =
     (added (held_of c.self.inside)
-    c.args.id c.args.chain c.insert.new.self.entries c.reserve.new.self c.set_reserved.new.store c.set_reserved-2.new.store c.self.invariant c.client_path.ensures.named
-    (c.in_ok-insert.ensures.entries ∙ ap (λ client. with text_cmp c.args.id client c.self.inside.clients.entries) c.new-client.ensures)
+    c.args.id c.args.chain c.insert.new.map.pairs c.reserve.new.self c.set_reserved.new.store c.set_reserved-2.new.store c.self.invariant c.client_path.ensures.named
+    (c.in_ok-insert.ensures.ok ∙ ap (λ client. with text_cmp c.args.id client c.self.inside.clients.pairs) c.new-client.ensures)
     c.in_ok-path.ensures.ok (c.in_ok-value.ensures.ok ∙ ap (λ state. value_bytes (ClientIs state)) (c.state.ensures ∙ ap (λ client. client.state) c.new-client.ensures))
     c.in_ok-number_path.ensures.path c.in_ok-number_path.ensures.number c.in_ok-reserve.ensures.same c.set_reserved.ensures.set c.set_reserved-2.ensures.set).0
 
 pub returns-clause-ok : goal.returns-clause-ok
 returns-clause-ok c =
-    subst (λ (old : HeldRecords). AddsClient old c.args.id c.args.chain (record (held_of c.self.inside) { clients = c.insert.new.self.entries; next_client = c.self.inside.next_client + 1; store = c.set_reserved-2.new.store })) c.self.view_is
+    subst (λ (old : HeldRecords). AddsClient old c.args.id c.args.chain (record (held_of c.self.inside) { clients = c.insert.new.map.pairs; next_client = c.self.inside.next_client + 1; store = c.set_reserved-2.new.store })) c.self.view_is
     (added (held_of c.self.inside)
-    c.args.id c.args.chain c.insert.new.self.entries c.reserve.new.self c.set_reserved.new.store c.set_reserved-2.new.store c.self.invariant c.client_path.ensures.named
-    (c.in_ok-insert.ensures.entries ∙ ap (λ client. with text_cmp c.args.id client c.self.inside.clients.entries) c.new-client.ensures)
+    c.args.id c.args.chain c.insert.new.map.pairs c.reserve.new.self c.set_reserved.new.store c.set_reserved-2.new.store c.self.invariant c.client_path.ensures.named
+    (c.in_ok-insert.ensures.ok ∙ ap (λ client. with text_cmp c.args.id client c.self.inside.clients.pairs) c.new-client.ensures)
     c.in_ok-path.ensures.ok (c.in_ok-value.ensures.ok ∙ ap (λ state. value_bytes (ClientIs state)) (c.state.ensures ∙ ap (λ client. client.state) c.new-client.ensures))
     c.in_ok-number_path.ensures.path c.in_ok-number_path.ensures.number c.in_ok-reserve.ensures.same c.set_reserved.ensures.set c.set_reserved-2.ensures.set).1

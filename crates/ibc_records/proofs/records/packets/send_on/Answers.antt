@@ -1,17 +1,19 @@
--- What is written through the loan of the channel is inserted in the map.
-use Rattle.std.proofs.Common.{sym}
+-- What became of the copy of the channel is set in place of what stood.
+use Rattle.std.proofs.Common.{◌-◌, ◌^◌, ◌<◌}
 use Rattle.ibc_ids.specs.Texts.{pair_cmp}
+use Rattle.ibc_ids.specs.Maps.{at}
+use Rattle.ibc_machine.specs.Records.{Channel}
 use Rattle.ibc_machine.specs.Packets.{after_send}
-use Rattle.ibc_machine.proofs.FiniteMaps.{pair_cmp_total}
-use Rattle.ibc_records.proofs.Learning.{replaced_if, both_unchanged_if}
+use Rattle.ibc_records.proofs.Learning.{replaced, is_there, asked_of}
 use Rattle.ibc_records.proofs.records.packets.send_on.Goals as goal
 
-pub returns-in-Some-clause-ok : goal.returns-in-Some-clause-ok
-returns-in-Some-clause-ok g c =
-    replaced_if pair_cmp c.args.channels.now.entries (c.get_mut.follows.lender c.send.new.self).entries c.args.name.now c.in-Some.channel.now c.send.new.self (sym c.in-Some.ensures.value)
-    (c.get_mut.follows.holds c.send.new.self).0 pair_cmp_total c.in-Some.ensures.ordered c.send.result (λ done. after_send c.args.commitment) c.send.ensures.ok
+pub own-requires : goal.own-requires
+own-requires g c = is_there (at pair_cmp c.args.name c.args.channels.now.pairs) (λ (mine : Channel). mine.next_send < 2 ^ 64 - 1) c.requires
 
-pub returns-in-Some-clause-unchanged : goal.returns-in-Some-clause-unchanged
-returns-in-Some-clause-unchanged g c =
-    both_unchanged_if pair_cmp c.args.channels.now.entries (c.get_mut.follows.lender c.send.new.self).entries c.args.name.now c.in-Some.channel.now c.send.new.self (sym c.in-Some.ensures.value)
-    (c.get_mut.follows.holds c.send.new.self).0 _ c.send.result c.send.ensures.unchanged
+pub send-requires : goal.send-requires
+send-requires g c = asked_of (at pair_cmp c.args.name c.args.channels.now.pairs) (λ (mine : Channel). mine.next_send < 2 ^ 64 - 1) c.in_ok-channel.channel c.in_ok-channel.ensures.ok c.requires
+
+pub returns-in-Ok-clause-ok : goal.returns-in-Ok-clause-ok
+returns-in-Ok-clause-ok g c =
+    replaced pair_cmp c.args.channels.now.pairs c.own.new.channels.pairs c.put.new.channels.pairs c.args.name c.in_ok-channel.channel c.send.new.self c.in_ok-channel.ensures.ok c.in_ok-channel.ensures.same c.put.ensures
+    (after_send c.args.commitment) c.in-Ok.ensures.ok

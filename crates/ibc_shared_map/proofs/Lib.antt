@@ -1,0 +1,5 @@
+pub mod Orders
+pub mod Rows
+pub mod Places
+pub mod Changes
+pub mod Merging

@@ -1,0 +1,4 @@
+pub mod Chunks
+pub mod Changes
+pub mod Settled
+pub mod Merging
