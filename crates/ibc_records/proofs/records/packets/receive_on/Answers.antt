@@ -10,8 +10,8 @@ use Rattle.ibc_records.proofs.records.packets.receive_on.Goals as goal
 pub own-requires : goal.own-requires
 own-requires g c = is_there (at pair_cmp c.args.name c.args.channels.now.pairs) (λ (mine : Channel). is_ordered mine ≡ true → mine.next_recv < 2 ^ 64 - 1) c.requires.some
 
-pub receive-requires-counter : goal.receive-requires-counter
-receive-requires-counter g c = asked_of (at pair_cmp c.args.name c.args.channels.now.pairs) (λ (mine : Channel). is_ordered mine ≡ true → mine.next_recv < 2 ^ 64 - 1) c.in_ok-channel.channel c.in_ok-channel.ensures.ok c.requires.some
+pub receive-requires-clause-counter : goal.receive-requires-clause-counter
+receive-requires-clause-counter g c = asked_of (at pair_cmp c.args.name c.args.channels.now.pairs) (λ (mine : Channel). is_ordered mine ≡ true → mine.next_recv < 2 ^ 64 - 1) c.in_ok-channel.channel c.in_ok-channel.ensures.ok c.requires.some
 
 pub returns-in-Ok-clause-answer : goal.returns-in-Ok-clause-answer
 returns-in-Ok-clause-answer g c =
