@@ -37,9 +37,23 @@ fn with_books(alloc: Global, ledgers: Vec<Ledger>) -> Result<Vec<(Ledger, Opened
 {
     let mut booked = Vec::with_capacity(alloc, ledgers.len())?;
     for ledger in ledgers {
-        booked.push((ledger, Opened::new(alloc)?))?;
+        booked.push(with_book(alloc, ledger)?)?;
     }
     Ok(booked)
+}
+
+// A ledger with an unused book.
+fn with_book(alloc: Global, ledger: Ledger) -> Result<(Ledger, Opened), Refusal>
+    ensures ok { IfOk result (λ booked. booked.0 ≡ ledger) }
+    ensures err { IfErr result (λ refusal. refusal ≡ NoMemory) }
+{
+    match Opened::new(alloc) {
+        Ok(opened) => Ok((ledger, opened)),
+        Err(error) => {
+            drop(ledger);
+            Err(Refusal::from(error))
+        }
+    }
 }
 
 /// The chains of ledgers of the world, each with an unused book that is the world's for its number; all post their views on one
