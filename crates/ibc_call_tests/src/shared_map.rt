@@ -64,10 +64,10 @@ fn count(alloc: Global, keys: u64) -> Result<(u64, bool), AllocError> {
         }
     }
     map.settle()?;
-    let mut pairs = 0;
+    let mut pairs = 0u64;
     for (key, value) in map.iter() {
         if key == value && key % 2 == 1 {
-            pairs += 1;
+            pairs = pairs.saturating_add(1);
         }
     }
     Ok((
