@@ -104,8 +104,8 @@ fn with_a_client(mut ledger: Ledger) -> Ledger
     ensures chain { result.ledger.chain ≡ ledger.ledger.chain }
 {
     let chain = if ledger.chain() == 0 { 1 } else { 0 };
-    ledger.apply(Message::CreateClient(CreateClient { chain }));
-    ledger.end_block(200);
+    drop(ledger.apply(Message::CreateClient(CreateClient { chain })));
+    drop(ledger.end_block(200));
     ledger
 }
 
