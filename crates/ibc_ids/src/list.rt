@@ -15,11 +15,8 @@ pub struct ListOf<T> {
 
 impl<T> Model for ListOf<T> {
     ghost use Rattle.std.specs.Prelude.{List};
-    ghost use Rattle.std.specs.Coded.{coded_list};
 
     ghost Value = { List T };
-
-    ghost coded = { coded_list T.code };
 
     ghost view = { λ list. list.items.items };
 }
