@@ -8,6 +8,7 @@ mod forms;
 mod identifiers;
 mod key;
 mod kinds;
+mod list;
 mod name;
 mod path;
 mod publication;
@@ -22,6 +23,7 @@ pub use kinds::{
     Kind, Memo, MemoKind, PortId, PortKind, Receiver, ReceiverKind, UserKind, UserName, Version,
     VersionKind,
 };
+pub use list::ListOf;
 pub use name::Name;
 pub use publication::{Publication, Root};
 pub use refusal::Refusal;

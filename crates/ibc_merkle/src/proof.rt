@@ -1,12 +1,6 @@
 //! What a proof holds (ICS 23, "Proofs").
 
-ghost use Rattle.std.specs.Prelude.{◌≡◌, bytes_eq};
-ghost use Rattle.std.specs.Cmp.{on_equiv, on_per, and_equiv, partial_equiv_from_equiv};
-ghost use Rattle.std.specs.Cmp.Lexicographic.{pointwise, lists_equiv, nat_list_eq_equiv};
-ghost use Rattle.std.specs.Ordering.{on, eq_of_both};
-
-use ibc_ids::Bytes;
-use std::marker::Model;
+use ibc_ids::{Bytes, ListOf};
 
 /// One inner operation (ICS 23, "InnerOp"): it hashes the prefix, the child's hash and the suffix.
 #[derive(Drop, Debug, PartialEq, Eq)]
@@ -16,49 +10,7 @@ pub struct Operation {
 }
 
 /// The operations from a leaf up to the root.
-#[derive(Drop, Debug)]
-pub struct Operations {
-    items: Vec<Operation>,
-}
-
-impl Model for Operations {
-    ghost use Rattle.std.specs.Prelude.{List};
-    ghost use Rattle.ibc_merkle.specs.declared.proof.Operation.{Operation};
-
-    ghost Value = { List Operation };
-
-    ghost view = { λ operations. operations.items.items };
-}
-
-impl Operations {
-    /// The operations of a vector, which is moved in.
-    pub fn from_vec(items: Vec<Operation>) -> Operations
-        ensures { result ≡ items.items }
-    {
-        Operations { items }
-    }
-
-    /// The operations, from the leaf up.
-    pub fn as_slice(&self) -> &[Operation]
-        ensures { result.now ≡ self.now }
-    {
-        self.items.as_slice()
-    }
-}
-
-impl PartialEq for Operations {
-    ghost eq = { pointwise (eq_of_both (on (λ operation. operation.prefix) bytes_eq) (on (λ operation. operation.suffix) bytes_eq)) };
-
-    ghost laws = { partial_equiv_from_equiv (lists_equiv (and_equiv (on_equiv (λ operation. operation.prefix) nat_list_eq_equiv) (on_equiv (λ operation. operation.suffix) nat_list_eq_equiv))) };
-
-    fn eq(&self, other: &Operations) -> bool {
-        self.items == other.items
-    }
-}
-
-impl Eq for Operations {
-    ghost laws = { lists_equiv (and_equiv (on_equiv (λ operation. operation.prefix) nat_list_eq_equiv) (on_equiv (λ operation. operation.suffix) nat_list_eq_equiv)) };
-}
+pub type Operations = ListOf<Operation>;
 
 /// That a key has a value (ICS 23, "ExistenceProof").
 #[derive(Drop, Debug, PartialEq, Eq)]

@@ -127,3 +127,19 @@ fn one_to_eight_tokens_in_rising_order(rt: HostRuntime) {
     assert!(rt; size_of(alloc, &NINE[..0]) == Err(Refusal::BadMessage));
     assert!(rt; size_of(alloc, &TWICE) == Err(Refusal::BadMessage));
 }
+
+// Whether a copy of tokens is equal to others.
+fn is_copied(
+    alloc: Global,
+    amounts: &[(&str, u128)],
+    others: &[(&str, u128)],
+) -> Result<bool, Refusal> {
+    let copy = tokens_of(alloc, amounts)?.clone()?;
+    Ok(copy == tokens_of(alloc, others)?)
+}
+
+#[test]
+fn copied_tokens(rt: HostRuntime) {
+    assert!(rt; is_copied(rt.alloc(), &NINE[..8], &NINE[..8]) == Ok(true));
+    assert!(rt; is_copied(rt.alloc(), &NINE[..8], &NINE[..7]) == Ok(false));
+}
