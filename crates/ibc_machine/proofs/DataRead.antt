@@ -1,16 +1,12 @@
 -- The data of a packet of tokens: what is read is spelled so, and what is spelled so is read.
-use Rattle.std.proofs.Common.{◌≡◌, ℕ, ◌+◌, ◌*◌, ◌-◌, ◌<◌, ◌^◌, Bool, true, false, refl, ap, sym, ◌∙◌, subst, codes, List, [], ◌∷◌, ◌++◌, length, map, Option, Some, None, arith, not, ◌==◌, ◌&&◌, cond, if◌then◌else◌, append_assoc, append-nil, decimal, eqb-true, nat_lt, nat_le, ltb-true, option_map, ltb-false}
-use Rattle.std.specs.List.{join_with_byte, list_all, fold, onto_first, slice_split}
+use Rattle.std.proofs.Common.{◌≡◌, Bool, true, false, refl, ap, sym, ◌∙◌, subst, codes, List, [], ◌∷◌, ◌++◌, length, map, Option, Some, None, arith, ◌==◌, ◌&&◌, if◌then◌else◌, append_assoc, append-nil, decimal, eqb-true, nat_le, option_map}
+use Rattle.std.specs.List.{join_with_byte, list_all}
 use Rattle.std.specs.Option.{option_and_then}
-use Rattle.std.specs.Char.{digit_value}
-use Rattle.std.specs.Str.Parse.{digits_value_after, AllDigits}
-use Rattle.std.proofs.lemmas.List.Splits.{join_with_byte-slice_split}
-use Rattle.std.proofs.lemmas.Fmt.{decimal_is_IsNumeral_wide}
 use Rattle.ibc_ids.specs.Texts.{Text, same_text}
-use Rattle.ibc_ids.specs.Names.{is_port, is_channel, is_denom, are_hops_and_base, is_made_of, is_memo, is_receiver, is_user}
+use Rattle.ibc_ids.specs.Names.{is_denom, is_memo, is_receiver, is_user}
 use Rattle.ibc_wire.specs.Tokens.{is_short, is_rising}
 use Rattle.ibc_wire.specs.declared.token.Token.{Token}
-use Rattle.ibc_machine.specs.TokenData.{Data, quoted, member, object, token_members, memo_member, party_members, members_of_first, tokens_member, data_text, is_amount, is_token, is_list_for, is_data, between_quotes, number_of, tokens_in, parties_in, one_token_in, tokens_behind, data_in, data_if, data_of, has_several, ReadsData}
+use Rattle.ibc_machine.specs.TokenData.{Data, quoted, member, object, token_members, memo_member, party_members, members_of_first, tokens_member, data_text, is_amount, is_token, is_list_for, is_data, number_of, tokens_in, parties_in, one_token_in, tokens_behind, data_in, data_if, data_of, has_several, ReadsData}
 use Rattle.ibc_machine.proofs.QuotedTexts.{both, and_true, Clear, clear_made, clear_denom, clear_decimal, number_read, between, Spells, spells-clear, spells-quoted, spells-both, spelled, spells-member, spells-next, spells-object}
 
 -- ---- the parts of data

@@ -1,12 +1,11 @@
 -- What a message on a packet has passed where its checks end well: the end that was there, and what was shown of the peer.
-use Rattle.std.proofs.Common.{◌≡◌, ℕ, Bool, true, false, refl, ap, subst, Option, Some, None, Ok, nat_cmp, eqb-true, ◌==◌, ◌&&◌, ◌||◌, not, nat_lt}
+use Rattle.std.proofs.Common.{◌≡◌, ℕ, Bool, true, false, refl, ap, subst, Option, Some, None, Ok, nat_cmp, ◌==◌, ◌&&◌, ◌||◌, not, nat_lt}
 use Rattle.std.specs.Prelude.{if◌then◌else◌}
 use Rattle.std.specs.Option.{option_map_or}
 use Rattle.std.proofs.lemmas.Bool.{and_parts}
-use Rattle.ibc_ids.specs.Texts.{Text, same_text}
+use Rattle.ibc_ids.specs.Texts.{Text}
 use Rattle.ibc_ids.specs.Maps.{at}
 use Rattle.ibc_ids.specs.declared.refusal.Refusal.TheVariants as refusal
-use Rattle.ibc_ids.proofs.Texts.{text_same}
 use Rattle.ibc_wire.specs.declared.records.ChannelState.TheVariants.{Open, Closed}
 use Rattle.ibc_wire.specs.declared.packet.Packet.{Packet}
 use Rattle.ibc_wire.specs.declared.messages.RecvPacket.{RecvPacket}

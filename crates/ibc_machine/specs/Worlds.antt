@@ -1,5 +1,5 @@
 -- What a world and an audit promise: what ledgers do over roots and proofs is a run of the machine, which looks.
-use Rattle.std.specs.Prelude.{◌≡◌, ◌≤◌, ◌==◌, take, ℕ, Bool, true, false, List, [], ◌∷◌, ◌++◌, map, length, Option, Some, None, slice_get, slice_set, IfSome, IsTrue}
+use Rattle.std.specs.Prelude.{◌≡◌, ◌≤◌, ◌==◌, take, ℕ, Bool, true, false, List, [], ◌∷◌, map, length, Option, Some, None, slice_get, slice_set, IsTrue}
 use Rattle.std.specs.List.{filter, flat_map, list_all, list_any, range_with_len}
 use Rattle.ibc_ids.specs.Texts.{Text}
 use Rattle.ibc_ids.specs.Maps.{Map}

@@ -1,5 +1,5 @@
 -- Every accepted message keeps the records typed, and every one but the two for clients keeps the clients.
-use Rattle.std.proofs.Common.{◌≡◌, ◌<◌, ◌^◌, Some, Ok}
+use Rattle.std.proofs.Common.{◌≡◌, ◌<◌, ◌^◌, Ok}
 use Rattle.std.specs.Prelude.{⊤}
 use Rattle.ibc_ids.specs.Texts.{Text}
 use Rattle.ibc_wire.specs.declared.messages.Transfer.{Transfer}
@@ -8,7 +8,7 @@ use Rattle.ibc_wire.specs.declared.messages.SendNote.{SendNote}
 use Rattle.ibc_wire.specs.declared.messages.Message.{Message}
 use Rattle.ibc_wire.specs.declared.messages.Message.TheVariants as message
 use Rattle.ibc_machine.specs.declared.reply.Effect.{Effect}
-use Rattle.ibc_machine.specs.Records.{Core, Apps, Channel, Commitment, channel_at}
+use Rattle.ibc_machine.specs.Records.{Core, Apps, Channel, Commitment}
 use Rattle.ibc_machine.specs.Checks.{Checked, ◌>>=◌}
 use Rattle.ibc_machine.specs.Evidence.{Host, Evidence}
 use Rattle.ibc_machine.specs.TokenData.{Data}
@@ -17,7 +17,7 @@ use Rattle.ibc_machine.specs.Packets.{sending_end}
 use Rattle.ibc_machine.specs.Transfers.{transfer_port, transfer, transfer_many, send_tokens}
 use Rattle.ibc_machine.specs.Notes.{note_port, note_commitment, send_note}
 use Rattle.ibc_machine.specs.Handlers.{handle}
-use Rattle.ibc_machine.proofs.PassedRows.{Gives, gives_ok, gives_then, gives_require, gives_bind, gives_expect}
+use Rattle.ibc_machine.proofs.PassedRows.{Gives, gives_ok, gives_then, gives_require, gives_bind}
 use Rattle.ibc_machine.proofs.PacketChecks.{sending_passed}
 use Rattle.ibc_machine.proofs.PassedHandlers.{gives_on_core, gives_on_balances}
 use Rattle.ibc_refinement.proofs.Typed.{IsTyped}

@@ -1,9 +1,9 @@
 -- The readers of proofs.
-use Rattle.std.proofs.Common.{◌≡◌, ℕ, zero, suc, Bool, true, false, ◌&&◌, nat_lt, nat_le, List, [], ◌∷◌, ◌++◌, length, Option, Some, None, refl, sym, ap, ◌∙◌, subst, arith, append-nil, le-leb}
+use Rattle.std.proofs.Common.{◌≡◌, ℕ, zero, suc, true, false, nat_le, List, [], ◌∷◌, length, Option, Some, None, refl, sym, ap, ◌∙◌, subst, arith, append-nil, le-leb}
 use Rattle.std.specs.List.{flat_map}
 use Rattle.std.proofs.lemmas.Bool.{and_parts, and_from}
 use Rattle.ibc_ids.specs.Texts.{Text}
-use Rattle.ibc_wire.specs.Fields.{Field, u8, str_up_to, count_between, bytes_of}
+use Rattle.ibc_wire.specs.Fields.{Field, count_between}
 use Rattle.ibc_wire.specs.Spelling.{operation_fields, presence_fields, neighbour_fields, proof_fields}
 use Rattle.ibc_wire.specs.Reading.{◌>>=◌, Front, byte_at_front, str_at_front, operation_at_front, operations_at_front, presence_at_front, neighbour_at_front, neighbour_behind, proof_behind, whole, proof_of, ReadsWhatIsSpelled}
 use Rattle.ibc_wire.specs.Fronts.{many_at_front, only}
@@ -15,7 +15,7 @@ use Rattle.ibc_merkle.specs.declared.proof.Absence.{Absence}
 use Rattle.ibc_merkle.specs.declared.proof.Proof.{Proof}
 use Rattle.ibc_merkle.specs.declared.proof.Proof.TheVariants.{Present, Absent}
 use Rattle.ibc_wire.proofs.Fronts.{bind_some, some_same, none_some, if_some, begins_both, begins_split, bytes_behind, bytes_parts, bytes_from, byte_read, u8_read, u8_front, count_read, count_front}
-use Rattle.ibc_wire.proofs.Steps.{ReadsRest, first, under, like, done, reader_of, tagged_read, tagged_front}
+use Rattle.ibc_wire.proofs.Steps.{first, under, like, done, reader_of, tagged_read, tagged_front}
 use Rattle.ibc_wire.proofs.Readers.{str_reader}
 use Rattle.ibc_wire.proofs.TokenReaders.{many_read, many_front}
 use Rattle.ibc_wire.proofs.Whole.{is_spelled, is_read}

@@ -1,11 +1,11 @@
 -- The readers of records, packets and tokens.
-use Rattle.std.proofs.Common.{◌≡◌, ℕ, zero, suc, true, nat_lt, ◌==◌, codes, List, [], ◌∷◌, Option, Some, None, refl, sym, ap, arith}
-use Rattle.ibc_ids.specs.Names.{is_client, is_connection, is_channel, is_port, is_version, is_denom}
-use Rattle.ibc_ids.proofs.Ascii.{clients, connections, channels, ports, versions, denominations}
-use Rattle.ibc_wire.specs.Spelling.{connection_state_number, channel_state_number, order_number, peer, client_state_fields, connection_end_fields, channel_end_fields, packet_fields, token_fields}
+use Rattle.std.proofs.Common.{◌≡◌, ℕ, zero, suc, true, nat_lt, ◌==◌, codes, [], ◌∷◌, Some, refl, ap, arith}
+use Rattle.ibc_ids.specs.Names.{is_client, is_connection, is_channel, is_port, is_version}
+use Rattle.ibc_ids.proofs.Ascii.{clients, connections, channels, ports, versions}
+use Rattle.ibc_wire.specs.Spelling.{connection_state_number, channel_state_number, order_number, peer, client_state_fields, connection_end_fields, channel_end_fields, packet_fields}
 use Rattle.ibc_wire.specs.Fields.{u8, name, str}
 use Rattle.ibc_wire.specs.Fronts.{coded_at_front}
-use Rattle.ibc_wire.specs.RecordFronts.{connection_state_of, channel_state_of, order_of, client_state_at_front, header_fields, header_at_front, connection_end_at_front, channel_end_at_front, packet_at_front, token_at_front}
+use Rattle.ibc_wire.specs.RecordFronts.{connection_state_of, channel_state_of, order_of, client_state_at_front, header_fields, header_at_front, connection_end_at_front, channel_end_at_front, packet_at_front}
 use Rattle.ibc_wire.specs.Lawful.{IsReader}
 use Rattle.ibc_wire.specs.declared.records.ConnectionState.{ConnectionState}
 use Rattle.ibc_wire.specs.declared.records.ConnectionState.TheVariants as conn

@@ -1,15 +1,15 @@
 -- The readers of lists: so many values in a row, tokens in rising order.
-use Rattle.std.proofs.Common.{◌≡◌, ℕ, zero, suc, Bool, true, false, ◌&&◌, nat_le, List, [], ◌∷◌, ◌++◌, length, Option, Some, None, refl, sym, ap, ◌∙◌, subst, arith, append-nil, append_assoc}
+use Rattle.std.proofs.Common.{◌≡◌, ℕ, zero, suc, Bool, true, false, ◌&&◌, nat_le, List, [], ◌∷◌, ◌++◌, length, Some, None, refl, sym, ap, ◌∙◌, subst}
 use Rattle.std.specs.List.{flat_map}
 use Rattle.std.proofs.lemmas.Bool.{and_parts, and_from}
 use Rattle.ibc_ids.specs.Texts.{Text}
 use Rattle.ibc_ids.specs.Names.{is_denom}
 use Rattle.ibc_ids.proofs.Ascii.{denominations}
 use Rattle.ibc_wire.specs.Tokens.{is_rising}
-use Rattle.ibc_wire.specs.Fields.{Field, name, n16, where_, count_between, have_form, bytes_of}
+use Rattle.ibc_wire.specs.Fields.{Field, where_, count_between}
 use Rattle.ibc_wire.specs.Spelling.{token_fields, tokens_fields}
 use Rattle.ibc_wire.specs.Reading.{◌>>=◌, Front, byte_at_front}
-use Rattle.ibc_wire.specs.Fronts.{many_at_front, name_at_front, amount_at_front}
+use Rattle.ibc_wire.specs.Fronts.{many_at_front}
 use Rattle.ibc_wire.specs.RecordFronts.{token_at_front, tokens_at_front}
 use Rattle.ibc_wire.specs.Lawful.{AreBytes, Begins, IsReader}
 use Rattle.ibc_wire.specs.declared.token.Token.{Token}

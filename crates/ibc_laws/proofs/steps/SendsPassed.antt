@@ -1,6 +1,5 @@
 -- What an accepted message that sends a packet did.
-use Rattle.std.proofs.Common.{◌≡◌, ℕ, Bool, true, refl, ap, sym, ◌∙◌, subst, Some, Ok, inl, inr}
-use Rattle.ibc_ids.specs.declared.refusal.Refusal.TheVariants as refusal
+use Rattle.std.proofs.Common.{◌≡◌, ℕ, Bool, true, refl, ap, sym, ◌∙◌, subst, Ok, inl, inr}
 use Rattle.ibc_ids.specs.Texts.{Text, same_text}
 use Rattle.ibc_ids.proofs.Texts.{text_same}
 use Rattle.ibc_wire.specs.Fields.{are_typed}
@@ -13,8 +12,7 @@ use Rattle.ibc_wire.specs.declared.messages.SendNote.{SendNote}
 use Rattle.ibc_wire.specs.declared.messages.Message.{Message}
 use Rattle.ibc_machine.specs.declared.reply.Effect.{Effect}
 use Rattle.ibc_machine.specs.declared.reply.Effect.TheVariants as effect
-use Rattle.ibc_machine.specs.Records.{Core, Records, Channel, Commitment, channel_at, with_channel}
-use Rattle.ibc_machine.specs.Checks.{expect}
+use Rattle.ibc_machine.specs.Records.{Core, Records, Channel, Commitment, with_channel}
 use Rattle.ibc_machine.specs.Evidence.{Host, Evidence}
 use Rattle.ibc_machine.specs.Packets.{sending_end, after_send}
 use Rattle.ibc_machine.specs.TokenData.{Data, one_token, several_tokens, data_text, is_data}

@@ -1,5 +1,5 @@
 -- The totals of a channel balance: the end that is named is its one peer, and a denomination that is too long is nowhere.
-use Rattle.std.proofs.Common.{◌≡◌, ℕ, ◌+◌, ◌&&◌, Bool, true, false, not, List, [], ◌∷◌, refl, sym, ap, ◌∙◌, subst, Option, Some, None, Ok, option_map, slice_get, if◌then◌else◌, arith}
+use Rattle.std.proofs.Common.{◌≡◌, ℕ, ◌+◌, Bool, true, false, not, List, [], ◌∷◌, refl, sym, ap, ◌∙◌, subst, Option, Some, None, Ok, option_map, slice_get, if◌then◌else◌, arith}
 use Rattle.std.specs.Prelude.{nat_le, length, IsTrue}
 use Rattle.std.specs.List.{list_all, sum_by}
 use Rattle.std.specs.Option.{option_and_then, option_map_or, unwrap_or}
@@ -10,7 +10,7 @@ use Rattle.ibc_ids.specs.declared.refusal.Refusal.TheVariants.{UnknownChain, Unk
 use Rattle.ibc_ids.proofs.Texts.{text_same}
 use Rattle.ibc_wire.specs.declared.records.ConnectionEnd.{ConnectionEnd}
 use Rattle.ibc_wire.specs.declared.token.Token.{Token}
-use Rattle.ibc_machine.specs.Records.{Core, Records, Chain, Client, Channel, Commitment, client_at, channel_at}
+use Rattle.ibc_machine.specs.Records.{Records, Chain, Client, Channel, Commitment, client_at, channel_at}
 use Rattle.ibc_machine.specs.Channels.{is_established, client_of, peer_channel_of}
 use Rattle.ibc_machine.specs.TokenData.{Data, is_data, is_token, is_amount, data_of, tokens_of, amount_of}
 use Rattle.ibc_machine.specs.Bank.{Balances, supply}
@@ -18,13 +18,13 @@ use Rattle.ibc_machine.specs.Transfers.{transfer_port, came_over}
 use Rattle.ibc_machine.specs.Machine.{World}
 use Rattle.ibc_machine.specs.Histories.{End}
 use Rattle.ibc_machine.specs.Peers.{records_of, end_at, are_peers}
-use Rattle.ibc_machine.specs.Totals.{Totals, totals, totals_between, named_peer, peer_at, are_bounded, balances_of, flight, flight_between, amount_under_way, succeeded, escrowed, vouchers, hopped}
+use Rattle.ibc_machine.specs.Totals.{Totals, totals, totals_between, named_peer, peer_at, are_bounded, flight, flight_between, amount_under_way, succeeded, escrowed, vouchers, hopped}
 use Rattle.ibc_machine.specs.Laws.{HasOnePeer}
 use Rattle.ibc_machine.proofs.DataRead.{data_spelled}
 use Rattle.ibc_machine.proofs.PassedRows.{Gives, gives_expect, gives_require, gives_ok}
 use Rattle.ibc_laws.proofs.basics.PassedTests.{both, no_longer}
 use Rattle.ibc_laws.proofs.basics.Places.{some_is}
-use Rattle.ibc_laws.proofs.peers.Peers.{Stands, Names, Peers, true_peers, stands, stands_same}
+use Rattle.ibc_laws.proofs.peers.Peers.{Stands, Peers, true_peers, stands, stands_same}
 
 -- ---- of what is no denomination nothing is held, and nothing is under way
 
