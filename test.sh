@@ -28,6 +28,7 @@ part() {
 
 part rt ci
 part tools/refuse_growths
+part tools/refuse_by_call
 part tools/broken_streams
 part tools/wrong_bytes --count 100000
 

@@ -1,9 +1,11 @@
 //! Chains that threads share: scripts by each way to call them, what their histories say of it, and threads that relay and race
-//! between them. Tests alone.
+//! between them. Lists of events that a world is asked at once, also under refused growths. Tests alone.
 #![tactic(auto)]
 
 #[cfg(test)]
 mod asked;
+#[cfg(test)]
+mod gathered;
 #[cfg(test)]
 mod handing;
 #[cfg(test)]
@@ -13,11 +15,19 @@ mod holding;
 #[cfg(test)]
 mod kept;
 #[cfg(test)]
+mod list_tests;
+#[cfg(test)]
+mod lists;
+#[cfg(test)]
 mod looks;
+#[cfg(test)]
+mod refused;
 #[cfg(test)]
 mod relayed;
 #[cfg(test)]
 mod scripts;
+#[cfg(test)]
+mod spelled;
 #[cfg(test)]
 mod tests;
 #[cfg(test)]

@@ -253,6 +253,6 @@ fn ledgers_come_back_from_chains(rt: HostRuntime) {
         TOKENS.script.as_bytes(),
         &mut output,
     );
-    assert!(rt; driven.is_ok());
+    assert!(rt; driven.is_ok(), "no memory beside the run");
     assert!(rt; is_done.get());
 }
