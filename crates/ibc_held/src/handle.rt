@@ -1,0 +1,86 @@
+//! A value behind a pointer, as C holds it.
+ghost use Rattle.std.specs.Prelude.{◌≡◌};
+ghost use Rattle.std.specs.Option.{MatchOption};
+ghost use Rattle.std.specs.declared.option.Option.{Option};
+ghost use Rattle.std.specs.declared.option.Option.TheVariants.{None, Some};
+ghost use Rattle.ibc_held.specs.declared.held.Held.{Held as Value};
+
+use crate::held::Held;
+use ibc_handles::Loose;
+use std::alloc::Global;
+use std::marker::{Model, Send};
+use std::mem::replace;
+use std::ptr::null_mut;
+
+/// A value that C holds, or none. C begins with a null pointer, which holds none.
+#[repr(C)]
+pub struct Handle {
+    at: *mut u8,
+    /// What the handle holds.
+    pub ghost value: { Option Value },
+}
+
+impl Model for Handle {
+    ghost use Rattle.ibc_held.specs.contracts.held.Held.{the_row};
+    ghost use Rattle.ibc_held.specs.Owned.{owned};
+
+    ghost also_owns = { λ h. owned the_row h.at h.value };
+}
+
+impl Handle {
+    /// A handle that holds nothing.
+    pub fn empty() -> Handle
+        ensures { result.value ≡ None }
+    {
+        Handle { at: null_mut() }
+    }
+
+    fn of_loose(loose: Loose<Held, Global>) -> Handle
+        ensures { result.value ≡ Some loose.value }
+    {
+        let Loose { at, alloc: _ } = loose;
+        Handle { at: at as *mut u8 }
+    }
+
+    fn into_loose(self, alloc: Global) -> Option<Loose<Held, Global>>
+        ensures { MatchOption result (self.value ≡ None) (λ l. self.value ≡ Some l.value) }
+    {
+        let Handle { at } = self;
+        if at.is_null() {
+            None
+        } else {
+            Some(Loose {
+                at: at as *mut Held,
+                alloc,
+            })
+        }
+    }
+
+    fn into_box(self, alloc: Global) -> Option<Box<Held>>
+        ensures { MatchOption result (self.value ≡ None) (λ b. self.value ≡ Some b.value) }
+    {
+        match self.into_loose(alloc) {
+            None => None,
+            Some(loose) => Some(loose.into_box()),
+        }
+    }
+
+    /// Takes what the handle holds, and leaves it empty.
+    pub fn take(&mut self, alloc: Global) -> Option<Box<Held>>
+        ensures value { MatchOption result (self.old.value ≡ None) (λ b. self.old.value ≡ Some b.value) }
+        ensures left { self.new.value ≡ None }
+    {
+        replace(self, Handle::empty()).into_box(alloc)
+    }
+
+    /// Puts a value into the handle, and answers what it held before.
+    pub fn put(&mut self, alloc: Global, held: Box<Held>) -> Option<Box<Held>>
+        ensures value { MatchOption result (self.old.value ≡ None) (λ b. self.old.value ≡ Some b.value) }
+        ensures left { self.new.value ≡ Some held.value }
+    {
+        replace(self, Handle::of_loose(Loose::of(held))).into_box(alloc)
+    }
+}
+
+// It may go to another thread as what it holds may.
+unsafe impl Send for Handle {}
