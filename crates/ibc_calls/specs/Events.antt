@@ -1,5 +1,5 @@
 -- What a call does to the ledger that a handle holds.
-use Rattle.std.specs.Prelude.{◌≡◌, ◌⊎◌, ℕ, Option, Some, None, Err}
+use Rattle.std.specs.Prelude.{◌≡◌, ◌⊎◌, ℕ, Option, Some, Err}
 use Rattle.ibc_ids.specs.Texts.{Text}
 use Rattle.ibc_ids.specs.declared.refusal.Refusal.TheVariants.{NoMemory, BadMessage}
 use Rattle.ibc_wire.specs.Fields.{Spells}
@@ -12,13 +12,9 @@ use Rattle.ibc_ledger.specs.Held.{HeldLedger}
 use Rattle.ibc_ledger.specs.Adding.{AddsOrNot}
 use Rattle.ibc_held.specs.declared.held.Held.{Held}
 use Rattle.ibc_held.specs.declared.held.Held.TheVariants as held
-use Rattle.ibc_calls.specs.declared.answer.Refused.TheVariants.{Core, Empty, OtherKind}
+use Rattle.ibc_calls.specs.declared.answer.Refused.TheVariants.{Core, OtherKind}
 use Rattle.ibc_calls.specs.Answers.{Answer, answer_to}
-
--- a handle that holds nothing is refused, and stays so
-abbrev pub AtHeld : (Held → Option Held → Answer → Type 0) → Option Held → Option Held → Answer → Type 0
-AtHeld does None new answer = (new ≡ None) × (answer ≡ Err Empty)
-AtHeld does (Some old) new answer = does old new answer
+use Rattle.ibc_calls.specs.Handles.{AtHeld}
 
 -- A ledger goes on, of the same world; another value is refused, and stays.
 abbrev pub LedgerGoesOn : (HeldLedger → HeldLedger → Answer → Type 0) → Held → Option Held → Answer → Type 0

@@ -22,7 +22,7 @@ pub fn apply(alloc: Global, ledger: &mut Handle, message: &[u8]) -> Result<(), R
         Some(held) => {
             let mut held = held;
             let answer = apply_to(alloc, &mut held, message);
-            drop(ledger.put(alloc, held));
+            ledger.set(alloc, held);
             answer
         }
     }
@@ -58,7 +58,7 @@ pub fn end_block(alloc: Global, ledger: &mut Handle, next_time: u64) -> Result<(
         Some(held) => {
             let mut held = held;
             let answer = end_of(&mut held, next_time);
-            drop(ledger.put(alloc, held));
+            ledger.set(alloc, held);
             answer
         }
     }

@@ -3,6 +3,18 @@
 
 mod answer;
 mod events;
+mod genesis;
+mod handles;
+mod light;
+mod reads;
+mod views;
+mod worlds;
 
 pub use answer::{Refused, number};
 pub use events::{apply, end_block};
+pub use genesis::{add_balance, add_chain, make_genesis};
+pub use handles::free;
+pub use light::{message_tag, verify_absent, verify_present};
+pub use reads::{Amount, Told, balance, length, plan_message, query, reply};
+pub use views::{Heights, make_plan, make_view, view_heights, view_proof, view_root};
+pub use worlds::{make_ledgers, take_ledger};

@@ -26,6 +26,9 @@ use Rattle.ibc_ids.proofs.account.Account.TheSendSync as account
 use Rattle.ibc_ids.proofs.bytes.Bytes.TheSendSync as bytes
 use Rattle.ibc_held.specs.contracts.held.WorldLedger as WorldLedger
 use Rattle.ibc_held.specs.contracts.held.Held as Held
+use Rattle.ibc_held.specs.contracts.ledgers.Ledgers as Ledgers
+use Rattle.ibc_held.specs.contracts.ledgers.Ledgers.TheInside as InLedgers
+use Rattle.ibc_world_core.specs.contracts.holdings.Audit as Audit
 
 entry_send : IsSend StampedEntry.the_row
 entry_send = declared_send StampedEntry.the_type (entry.the_send, (search (sendable, crosses) depth 20, tt))
@@ -50,8 +53,16 @@ member_send = declared_send WorldLedger.the_type (search sendable, (ledger_send,
 denom_send : IsSend Denom
 denom_send = name.the_send DenomKind.the_row denom.ghosts
 
+ledgers_send : IsSend Ledgers.the_row
+ledgers_send =
+    let inside : IsSend InLedgers.the_row = declared_send InLedgers.the_type (search sendable, (search (sendable, crosses, ledger_send) depth 20, tt)) in
+    view_send _ _ _ _ _ inside
+
+audit_send : IsSend Audit.the_row
+audit_send = declared_send Audit.the_type (search (sendable, crosses, account.the_send, denom_send) depth 20, (search (sendable, crosses, bytes.the_send, channel_send) depth 20, tt))
+
 pub held_send : IsSend Held.the_row
-held_send = variants_send Held.enum ((genesis.the_send, tt), ((member_send, tt), ((view.the_send, tt),
+held_send = variants_send Held.enum ((genesis.the_send, tt), ((ledgers_send, tt), ((member_send, tt), ((view.the_send, tt),
     ((search (sendable, crosses, message.the_send) depth 20, tt),
     ((search (sendable, crosses, account.the_send, denom_send) depth 20, tt),
-    ((search (sendable, crosses, bytes.the_send, channel_send) depth 20, tt), tt))))))
+    ((search (sendable, crosses, bytes.the_send, channel_send) depth 20, tt), ((audit_send, tt), tt))))))))

@@ -1,5 +1,5 @@
 //! A value behind a pointer, as C holds it.
-ghost use Rattle.std.specs.Prelude.{◌≡◌};
+ghost use Rattle.std.specs.Prelude.{◌≡◌, IsSome, OnOk, OnErr, is_none, is_some};
 ghost use Rattle.std.specs.Option.{MatchOption};
 ghost use Rattle.std.specs.declared.option.Option.{Option};
 ghost use Rattle.std.specs.declared.option.Option.TheVariants.{None, Some};
@@ -7,7 +7,7 @@ ghost use Rattle.ibc_held.specs.declared.held.Held.{Held as Value};
 
 use crate::held::Held;
 use ibc_handles::Loose;
-use std::alloc::Global;
+use std::alloc::{AllocError, Global};
 use std::marker::{Model, Send};
 use std::mem::replace;
 use std::ptr::null_mut;
@@ -73,12 +73,77 @@ impl Handle {
         replace(self, Handle::empty()).into_box(alloc)
     }
 
-    /// Puts a value into the handle, and answers what it held before.
-    pub fn put(&mut self, alloc: Global, held: Box<Held>) -> Option<Box<Held>>
+    // Puts a value into the handle, and answers what it held before.
+    fn put(&mut self, alloc: Global, held: Box<Held>) -> Option<Box<Held>>
         ensures value { MatchOption result (self.old.value ≡ None) (λ b. self.old.value ≡ Some b.value) }
         ensures left { self.new.value ≡ Some held.value }
     {
         replace(self, Handle::of_loose(Loose::of(held))).into_box(alloc)
+    }
+
+    /// The handle holds this value. What it held before is let go.
+    pub fn set(&mut self, alloc: Global, held: Box<Held>)
+        ensures { self.new.value ≡ Some held.value }
+    {
+        drop(self.put(alloc, held));
+    }
+
+    /// Whether the handle holds nothing. It keeps what it holds.
+    pub fn is_empty(&mut self, alloc: Global) -> bool
+        ensures empty { result ≡ is_none self.old.value }
+        ensures kept { self.new.value ≡ self.old.value }
+    {
+        match self.take(alloc) {
+            None => true,
+            Some(held) => {
+                self.set(alloc, held);
+                false
+            }
+        }
+    }
+
+    /// Puts a value into the handle; what it held before is let go. Where a growth is refused, the handle is as it was, and the
+    /// value is let go.
+    pub fn fill(&mut self, alloc: Global, value: Held) -> Result<(), AllocError>
+        ensures ok { OnOk result (self.new.value ≡ Some value) }
+        ensures err { OnErr result (self.new.value ≡ self.old.value) }
+    {
+        match Box::new(alloc, value) {
+            Ok(held) => {
+                self.set(alloc, held);
+                Ok(())
+            }
+            Err(_) => Err(AllocError),
+        }
+    }
+
+    /// The handle, which holds something, holds this value in its place. No memory is asked for.
+    pub fn replace(&mut self, alloc: Global, value: Held)
+        requires { IsSome self.old.value }
+        ensures { self.new.value ≡ Some value }
+    {
+        match self.take(alloc) {
+            None => unreachable!(),
+            Some(held) => {
+                let mut held = held;
+                *held = value;
+                self.set(alloc, held);
+            }
+        }
+    }
+
+    /// Lets go what the handle holds. The result is whether it held something.
+    pub fn free(&mut self, alloc: Global) -> bool
+        ensures some { result ≡ is_some self.old.value }
+        ensures left { self.new.value ≡ None }
+    {
+        match self.take(alloc) {
+            None => false,
+            Some(held) => {
+                drop(held);
+                true
+            }
+        }
     }
 }
 

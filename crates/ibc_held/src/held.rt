@@ -1,9 +1,11 @@
 //! The kinds of values.
+use crate::Ledgers;
 use ibc_ids::{Account, Bytes, ChannelId, Denom};
 use ibc_ledger::Ledger;
 use ibc_machine::Genesis;
 use ibc_view::View;
 use ibc_wire::Message;
+use ibc_world_core::Audit;
 
 /// A ledger of a world, and the number that the world's owner gave it.
 #[derive(Drop)]
@@ -17,6 +19,8 @@ pub struct WorldLedger {
 pub enum Held {
     /// How a world begins.
     Genesis(Genesis),
+    /// Ledgers of one world.
+    Ledgers(Ledgers),
     /// A ledger.
     Ledger(WorldLedger),
     /// What a chain proves at its last committed height.
@@ -27,4 +31,6 @@ pub enum Held {
     Balances(Vec<(Account, Denom, u128)>),
     /// The notes that came over each channel.
     Notes(Vec<(ChannelId, Vec<Bytes>)>),
+    /// What the ledgers of a world hold.
+    Audit(Audit),
 }

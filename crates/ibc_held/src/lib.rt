@@ -3,6 +3,8 @@
 
 pub mod handle;
 pub mod held;
+mod ledgers;
 
 pub use handle::Handle;
 pub use held::{Held, WorldLedger};
+pub use ledgers::Ledgers;
