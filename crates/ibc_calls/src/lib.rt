@@ -3,8 +3,10 @@
 
 mod answer;
 mod events;
+mod gathering;
 mod genesis;
 mod handles;
+mod holdings;
 mod light;
 mod reads;
 mod views;
@@ -12,8 +14,10 @@ mod worlds;
 
 pub use answer::{Refused, number};
 pub use events::{apply, end_block};
+pub use gathering::{audit, join_ledger};
 pub use genesis::{add_balance, add_chain, make_genesis};
 pub use handles::free;
+pub use holdings::{holding, holding_amount, make_balances};
 pub use light::{message_tag, verify_absent, verify_present};
 pub use reads::{Amount, Told, balance, length, plan_message, query, reply};
 pub use views::{Heights, make_plan, make_view, view_heights, view_proof, view_root};

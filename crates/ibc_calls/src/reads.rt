@@ -315,7 +315,7 @@ fn balance_of(
     Ok(())
 }
 
-fn parts_of(amount: u128) -> Amount
+pub(crate) fn parts_of(amount: u128) -> Amount
     ensures { amount_of result ≡ amount }
 {
     Amount {

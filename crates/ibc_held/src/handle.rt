@@ -3,9 +3,12 @@ ghost use Rattle.std.specs.Prelude.{◌≡◌, IsSome, OnOk, OnErr, is_none, is_
 ghost use Rattle.std.specs.Option.{MatchOption};
 ghost use Rattle.std.specs.declared.option.Option.{Option};
 ghost use Rattle.std.specs.declared.option.Option.TheVariants.{None, Some};
+ghost use Rattle.ibc_held.specs.Joining.{AreToldApart, HoldsNoLedgers, IsJoined};
 ghost use Rattle.ibc_held.specs.declared.held.Held.{Held as Value};
+ghost use Rattle.ibc_held.specs.declared.held.Held.TheVariants as held;
 
 use crate::held::Held;
+use crate::{Ledgers, NotJoined};
 use ibc_handles::Loose;
 use std::alloc::{AllocError, Global};
 use std::marker::{Model, Send};
@@ -128,6 +131,52 @@ impl Handle {
                 let mut held = held;
                 *held = value;
                 self.set(alloc, held);
+            }
+        }
+    }
+
+    /// Takes the ledgers that the handle holds. Where it holds none, it keeps what it holds.
+    pub fn take_ledgers(&mut self, alloc: Global) -> Option<Ledgers>
+        ensures { MatchOption result ((self.new.value ≡ self.old.value) × HoldsNoLedgers self.old.value) (λ all. (self.old.value ≡ Some (held.Ledgers all)) × (self.new.value ≡ None)) }
+    {
+        match self.take(alloc) {
+            None => None,
+            Some(held) => {
+                let mut held = held;
+                let taken = held.take_ledgers(alloc);
+                match taken {
+                    Some(all) => {
+                        drop(held);
+                        Some(all)
+                    }
+                    None => {
+                        self.set(alloc, held);
+                        None
+                    }
+                }
+            }
+        }
+    }
+
+    /// Moves the ledger that the handle holds to others of its world. Where it is refused, nothing has changed.
+    pub fn join(&mut self, alloc: Global, all: &mut Ledgers) -> Result<(), NotJoined>
+        requires { AreToldApart all.old self.old.value }
+        ensures { IsJoined all.old self.old.value all.new self.new.value result }
+    {
+        match self.take(alloc) {
+            None => Err(NotJoined::Empty),
+            Some(held) => {
+                let mut held = held;
+                match held.join(alloc, all) {
+                    Ok(()) => {
+                        drop(held);
+                        Ok(())
+                    }
+                    Err(reason) => {
+                        self.set(alloc, held);
+                        Err(reason)
+                    }
+                }
             }
         }
     }

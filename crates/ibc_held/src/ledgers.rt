@@ -1,6 +1,6 @@
 //! Ledgers of one world.
 
-ghost use Rattle.std.specs.Prelude.{◌≡◌, ◌⊎◌, ◌↔◌, ◌++◌, ◌∷◌, [], Err, false, length, IfOk, IfErr, MatchOption, OnOk, OnErr};
+ghost use Rattle.std.specs.Prelude.{◌≡◌, ◌≢◌, ◌⊎◌, ◌↔◌, ◌++◌, ◌∷◌, [], Err, false, length, IfOk, IfErr, MatchOption, OnOk, OnErr};
 ghost use Rattle.ibc_ids.specs.declared.refusal.Refusal.TheVariants.{BadMessage, NoMemory};
 ghost use Rattle.ibc_machine.specs.Genesis.{genesis_state, is_allowed};
 ghost use Rattle.ibc_world_steps.specs.World.{AreNew};
@@ -8,7 +8,10 @@ ghost use Rattle.ibc_world_core.specs.Held.{plain};
 ghost use Rattle.ibc_world_core.specs.Audits.{IsAudit, is_whole};
 ghost use Rattle.ibc_every_world.specs.EveryAudit.{AreLawful};
 ghost use Rattle.ibc_held.specs.Ledgers.{Joins};
+ghost use Rattle.ibc_held.specs.Joining.{IsToldApart, with_member};
+ghost use Rattle.ibc_held.specs.declared.ledgers.NotJoined.TheVariants.{OtherWorld, NoMemory as NoRoom};
 
+use crate::WorldLedger;
 use ibc_every_world::lawful_audit;
 use ibc_ids::Refusal;
 use ibc_ledger::Ledger;
@@ -16,6 +19,19 @@ use ibc_machine::Genesis;
 use ibc_world_core::{Audit, World};
 use std::alloc::Global;
 use std::marker::Model;
+
+/// Why a ledger isn't moved to others.
+#[derive(Clone, Copy, Debug, PartialEq, Eq, Drop)]
+pub enum NotJoined {
+    /// There is no value.
+    Empty,
+    /// The value is no ledger.
+    OtherKind,
+    /// The ledger is of a world with another number.
+    OtherWorld,
+    /// A growth was refused.
+    NoMemory,
+}
 
 /// Ledgers of one world, under the number that the world's owner gave it. Contracts see them as a list.
 #[derive(Drop)]
@@ -89,6 +105,24 @@ impl Ledgers {
         };
         self.ledgers.push_reserved(ledger);
         Ok(())
+    }
+
+    /// Adds the ledger, where it is of the world of this number. Else it is handed back with the reason, `OtherWorld` or
+    /// `NoMemory`, and nothing has changed.
+    pub fn join(&mut self, member: WorldLedger) -> Result<(), (NotJoined, WorldLedger)>
+        requires { IsToldApart self.old member }
+        ensures ok { OnOk result ((member.number ≡ self.old.number) × (self.new ≡ with_member self.old member)) }
+        ensures err { OnErr result (self.new ≡ self.old) }
+        ensures back { IfErr result (λ e. (e.1 ≡ member) × (((e.0 ≡ OtherWorld) × (member.number ≢ self.old.number)) ⊎ (e.0 ≡ NoRoom))) }
+    {
+        if member.number != self.number {
+            return Err((NotJoined::OtherWorld, member));
+        }
+        let WorldLedger { number, ledger } = member;
+        match self.add(ledger) {
+            Ok(()) => Ok(()),
+            Err(ledger) => Err((NotJoined::NoMemory, WorldLedger { number, ledger })),
+        }
     }
 
     /// What the ledgers hold, and that what they did together is lawful, where no two different texts that they hashed share a

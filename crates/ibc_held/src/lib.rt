@@ -7,4 +7,4 @@ mod ledgers;
 
 pub use handle::Handle;
 pub use held::{Held, WorldLedger};
-pub use ledgers::Ledgers;
+pub use ledgers::{Ledgers, NotJoined};
