@@ -1,0 +1,81 @@
+//! Tokens go both ways between two chains, each driven by a thread of its own that is also the relayer to it: the script
+//! examples/race.json. It prints what the program prints of a race of that script: the balances that the audit tells.
+mod opening;
+
+use ibcworld::{Audit, Genesis, Ledger, Message, Refused, View, World};
+use std::error::Error;
+use std::sync::mpsc::{Receiver, Sender, channel};
+use std::thread;
+
+/// The time of all blocks.
+pub const TIME: u64 = 100;
+
+/// How often each chain ends its block and is told of the other.
+const TURNS: usize = 4;
+
+type Failure = Box<dyn Error + Send + Sync>;
+
+fn transfer(user: &str, denom: &str, amount: u128, receiver: &str) -> Message {
+    let named = Message::new(13).text("channel-0").text(user).text(denom);
+    let to = named.amount(amount).text(receiver).text("");
+    to.number(1000).number(0)
+}
+
+fn begin() -> Result<World, Refused> {
+    let mut genesis = Genesis::new(64, 64)?;
+    genesis.add_chain(TIME)?;
+    genesis.add_balance("alice", "atom", 1000)?;
+    genesis.add_chain(TIME)?;
+    genesis.add_balance("carol", "gold", 20)?;
+    genesis.world()
+}
+
+/// Ends a block, shows the other chain what stands, and takes what is owed to this one, turn by turn.
+fn drive(
+    mut ledger: Ledger,
+    to: &Sender<View>,
+    from: &Receiver<View>,
+) -> Result<Ledger, Failure> {
+    for _ in 0..TURNS {
+        ledger.end_block(TIME)?;
+        let sent = to.send(ledger.view()?);
+        sent.map_err(|_| "the other thread has ended")?;
+        let mut theirs = from.recv()?;
+        let mut mine = ledger.view()?;
+        for message in theirs.plan_for(&mut mine)? {
+            ledger.apply(&message)?;
+        }
+    }
+    Ok(ledger)
+}
+
+fn print(audit: &mut Audit, name: &str, chain: u64) -> Result<(), Refused> {
+    for held in audit.balances(chain)? {
+        println!("balance {name} {} {} {}", held.account, held.denom, held.amount);
+    }
+    Ok(())
+}
+
+fn main() -> Result<(), Failure> {
+    let mut world = begin()?;
+    let mut harbour = world.take()?.ok_or("no first ledger")?;
+    let mut island = world.take()?.ok_or("no second ledger")?;
+    opening::open(&mut harbour, &mut island)?;
+    harbour.apply(transfer("alice", "atom", 100, "bob").bytes())?;
+    harbour.apply(transfer("alice", "atom", 20, "bob").bytes())?;
+    island.apply(transfer("carol", "gold", 5, "alice").bytes())?;
+
+    let (to_island, from_harbour) = channel();
+    let (to_harbour, from_island) = channel();
+    let harbour = thread::spawn(move || drive(harbour, &to_island, &from_island));
+    let island = thread::spawn(move || drive(island, &to_harbour, &from_harbour));
+    let harbour = harbour.join().map_err(|_| "a thread has panicked")??;
+    let island = island.join().map_err(|_| "a thread has panicked")??;
+
+    world.join(island).map_err(|(refused, _)| refused)?;
+    world.join(harbour).map_err(|(refused, _)| refused)?;
+    let mut audit = world.audit()?;
+    print(&mut audit, "harbour", 0)?;
+    print(&mut audit, "island", 1)?;
+    Ok(())
+}
