@@ -1,7 +1,6 @@
--- What the numbers mean that calls answer.
-use Rattle.std.specs.Prelude.{ℕ, zero, suc, ◌-◌, List, [], ◌∷◌, slice_get, Option, Some, None, Result, Ok, Err, ⊤}
-use Rattle.ibc_ids.specs.declared.refusal.Refusal.{Refusal}
-use Rattle.ibc_ids.specs.declared.refusal.Refusal.TheVariants as r
+-- What calls answer, and by which numbers.
+use Rattle.std.specs.Prelude.{◌≡◌, ℕ, Result, Ok, Err, ⊤}
+use Rattle.ibc_ids.specs.Refusals as core
 use Rattle.ibc_machine.specs.declared.reply.Reply.{Reply}
 use Rattle.ibc_machine.specs.declared.reply.Reply.TheVariants as reply
 use Rattle.ibc_calls.specs.declared.answer.Refused.{Refused}
@@ -10,27 +9,24 @@ use Rattle.ibc_calls.specs.declared.answer.Refused.TheVariants.{Core, Empty, Ful
 abbrev pub Answer : Type 0
 Answer = Result ⊤ Refused
 
--- the refusals of the core, from number 1 on
-abbrev pub refusals : List Refusal
-refusals = r.NoMemory ∷ r.BadName ∷ r.UnknownChain ∷ r.OwnChain ∷ r.UnknownClient ∷ r.NotPublished ∷ r.WrongHeader ∷
-    r.UnknownConnection ∷ r.WrongState ∷ r.WrongPeer ∷ r.NoConsensus ∷ r.BadProof ∷ r.WrongSelfClient ∷
-    r.UnknownPort ∷ r.UnknownChannel ∷ r.WrongOrder ∷ r.WrongVersion ∷ r.NoTimeout ∷ r.TimeoutPassed ∷
-    r.AlreadyReceived ∷ r.OutOfOrder ∷ r.NoCommitment ∷ r.NotTimedOut ∷ r.TooLarge ∷ r.Poor ∷ r.CloseRefused ∷
-    r.TimeBack ∷ r.TableFull ∷ r.NumberFull ∷ r.BadMessage ∷ r.Pruned ∷ []
-
--- the refusals of calls, from number 101 on
-abbrev pub refused : List Refused
-refused = Empty ∷ Full ∷ OtherKind ∷ TooShort ∷ NothingThere ∷ OtherWorld ∷ []
-
-abbrev pub answer_by : Option Refusal → Option Refused → Answer
-answer_by (Some refusal) other = Err (Core refusal)
-answer_by None (Some refused) = Err refused
-answer_by None None = Ok tt
+-- the refusals of the core by their own numbers, 1 to 31, and those of calls from 101 on
+abbrev pub number_of : Refused → ℕ
+number_of (Core refusal) = core.number_of refusal
+number_of Empty = 101
+number_of Full = 102
+number_of OtherKind = 103
+number_of TooShort = 104
+number_of NothingThere = 105
+number_of OtherWorld = 106
 
 -- 0 where nothing was refused
-unfoldable pub answer_of : ℕ → Answer
-answer_of zero = Ok tt
-answer_of (suc n) = answer_by (slice_get refusals n) (slice_get refused (n - 100))
+abbrev pub answer_number : Answer → ℕ
+answer_number (Ok x) = 0
+answer_number (Err refused) = number_of refused
+
+-- the number is that of an answer of which this is so
+abbrev pub Numbered : (Answer → Type 0) → ℕ → Type 0
+Numbered is number = (answer : Answer) × (number ≡ answer_number answer) × is answer
 
 -- the answer of a reply
 abbrev pub answer_to : Reply → Answer

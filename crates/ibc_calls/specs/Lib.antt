@@ -4,7 +4,6 @@ pub mod Gathering
 pub mod Genesis
 pub mod Handles
 pub mod Holdings
-pub mod Light
 pub mod Reads
 pub mod Views
 pub mod Worlds

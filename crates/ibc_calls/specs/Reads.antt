@@ -111,7 +111,7 @@ amount_of amount = amount.high * 2 ^ 64 + amount.low
 abbrev pub IsBalance : Text → Text → Ledger → Amount → Amount → Answer → Type 0
 IsBalance user denom ledger old new answer =
     ((answer ≡ Ok tt) × IsTrue (is_user user) × IsTrue (is_denom denom)
-        × (amount_of new ≡ balance (state_of ledger).chain.records.apps.balances user denom))
+    × (amount_of new ≡ balance (state_of ledger).chain.records.apps.balances user denom))
     ⊎ ((new ≡ old) × ((answer ≡ Err (Core BadName)) ⊎ (answer ≡ Err (Core NoMemory))))
 
 unfoldable pub TellsBalance : Text → Text → Option Held → Amount → Amount → Answer → Type 0

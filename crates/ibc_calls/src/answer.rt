@@ -1,7 +1,7 @@
 //! What a call answers, and its number.
 
-ghost use Rattle.std.specs.Prelude.{◌≡◌, Ok, Err};
-ghost use Rattle.ibc_calls.specs.Answers.{answer_of, answer_to};
+ghost use Rattle.std.specs.Prelude.{◌≡◌};
+ghost use Rattle.ibc_calls.specs.Answers.{answer_number, answer_to};
 
 use ibc_ids::Refusal;
 use ibc_machine::Reply;
@@ -27,6 +27,7 @@ pub enum Refused {
 
 impl From<Refusal> for Refused {
     ghost use Rattle.ibc_calls.specs.declared.answer.Refused.TheVariants.{Core};
+
     ghost from_gives = { λ r e. e ≡ Core r };
 
     fn from(refusal: Refusal) -> Refused {
@@ -35,9 +36,8 @@ impl From<Refusal> for Refused {
 }
 
 /// The number of an answer: 0 where nothing was refused, else that of the refusal.
-#[tactic(auto, using(crate::proofs::Numbers::core_number))]
 pub fn number(answer: Result<(), Refused>) -> u32
-    ensures { answer_of result ≡ answer }
+    ensures { result ≡ answer_number answer }
 {
     match answer {
         Ok(()) => 0,

@@ -14,11 +14,7 @@ use std::alloc::Global;
 /// where the first handle holds no ledgers or the second no ledger; `OtherWorld` where their numbers differ; `Core(NoMemory)`.
 /// Then nothing has changed.
 #[tactic(auto, unfolding(crate::specs::Gathering::JoinsLedger, crate::specs::Gathering::AreApart))]
-pub fn join_ledger(
-    alloc: Global,
-    ledgers: &mut Handle,
-    ledger: &mut Handle,
-) -> Result<(), Refused>
+pub fn join_ledger(alloc: Global, ledgers: &mut Handle, ledger: &mut Handle) -> Result<(), Refused>
     requires { AreApart ledgers.old.value ledger.old.value }
     ensures { JoinsLedger ledgers.old.value ledgers.new.value ledger.old.value ledger.new.value result }
 {

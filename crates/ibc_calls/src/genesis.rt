@@ -138,7 +138,12 @@ fn balance_added(
 }
 
 // A user holds so much more at a chain. On an error nothing has changed.
-fn hold(start: &mut ChainStart, user: UserName, denom: Denom, amount: u128) -> Result<(), AllocError>
+fn hold(
+    start: &mut ChainStart,
+    user: UserName,
+    denom: Denom,
+    amount: u128,
+) -> Result<(), AllocError>
     ensures ok { OnOk result (start.new.balances.items ≡ start.old.balances.items ++ (user, (denom, amount)) ∷ []) }
     ensures err { OnErr result (start.new.balances.items ≡ start.old.balances.items) }
     ensures time { start.new.time ≡ start.old.time }

@@ -70,12 +70,7 @@ pub fn holding(
 }
 
 #[tactic(auto, unfolding(crate::specs::Holdings::FindsHolding, crate::specs::Holdings::holding_at))]
-fn text_in(
-    alloc: Global,
-    balances: &mut Handle,
-    chain: u64,
-    index: u64,
-) -> Result<Bytes, Refused>
+fn text_in(alloc: Global, balances: &mut Handle, chain: u64, index: u64) -> Result<Bytes, Refused>
     ensures kept { balances.new.value ≡ balances.old.value }
     ensures found { FindsHolding chain index balances.old.value result }
 {

@@ -125,7 +125,7 @@ fn length_of(held: &Held, length: &mut u64) -> Result<(), Refused>
 /// `Empty`; `OtherKind`; `NothingThere` where there is no such entry: then nothing is told. `TooShort`: then the numbers alone
 /// are told.
 #[tactic(auto, unfolding(crate::specs::Reads::TellsReply))]
-pub fn reply(
+pub fn history_reply(
     alloc: Global,
     ledger: &mut Handle,
     index: u64,

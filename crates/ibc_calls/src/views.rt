@@ -60,11 +60,7 @@ fn view_at(alloc: Global, held: &Held, view: &mut Handle) -> Result<(), Refused>
 
 /// Tells the number of a view's chain, its height and its times. Refused: `Empty`; `OtherKind`. Then nothing is told.
 #[tactic(auto, unfolding(crate::specs::Views::TellsHeights))]
-pub fn view_heights(
-    alloc: Global,
-    view: &mut Handle,
-    heights: &mut Heights,
-) -> Result<(), Refused>
+pub fn view_heights(alloc: Global, view: &mut Handle, heights: &mut Heights) -> Result<(), Refused>
     ensures kept { view.new.value ≡ view.old.value }
     ensures told { TellsHeights view.old.value heights.old heights.new result }
 {
@@ -245,12 +241,7 @@ pub fn make_plan(
     }
 }
 
-fn plan_at(
-    alloc: Global,
-    held: &Held,
-    to: &mut Handle,
-    plan: &mut Handle,
-) -> Result<(), Refused>
+fn plan_at(alloc: Global, held: &Held, to: &mut Handle, plan: &mut Handle) -> Result<(), Refused>
     requires { plan.old.value ≡ None }
     ensures kept { to.new.value ≡ to.old.value }
     ensures made { IsPlanOf (Some held.now) to.old.value plan.new.value result }
@@ -261,12 +252,7 @@ fn plan_at(
     }
 }
 
-fn plan_from(
-    alloc: Global,
-    from: &View,
-    to: &mut Handle,
-    plan: &mut Handle,
-) -> Result<(), Refused>
+fn plan_from(alloc: Global, from: &View, to: &mut Handle, plan: &mut Handle) -> Result<(), Refused>
     requires { plan.old.value ≡ None }
     ensures kept { to.new.value ≡ to.old.value }
     ensures made { IsPlanFrom from.now to.old.value plan.new.value result }

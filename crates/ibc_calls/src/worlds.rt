@@ -47,12 +47,7 @@ fn make_at(alloc: Global, held: &Held, number: u64, ledgers: &mut Handle) -> Res
     }
 }
 
-fn begin(
-    alloc: Global,
-    genesis: &Genesis,
-    number: u64,
-    ledgers: &mut Handle,
-) -> Result<(), Refused>
+fn begin(alloc: Global, genesis: &Genesis, number: u64, ledgers: &mut Handle) -> Result<(), Refused>
     requires { ledgers.old.value ≡ None }
     ensures { ByAllowed (is_allowed (genesis_state genesis.now)) (genesis_state genesis.now) number ledgers.new.value result }
 {
@@ -66,11 +61,7 @@ fn begin(
 /// second handle holds something; `Empty` and `OtherKind` where the first holds no ledgers; `Core(NoMemory)`; `NothingThere`
 /// where all were taken. Then nothing has changed.
 #[tactic(auto, unfolding(crate::specs::Worlds::TakesLedger))]
-pub fn take_ledger(
-    alloc: Global,
-    ledgers: &mut Handle,
-    ledger: &mut Handle,
-) -> Result<(), Refused>
+pub fn take_ledger(alloc: Global, ledgers: &mut Handle, ledger: &mut Handle) -> Result<(), Refused>
     ensures { TakesLedger ledgers.old.value ledgers.new.value ledger.old.value ledger.new.value result }
 {
     if !ledger.is_empty(alloc) {

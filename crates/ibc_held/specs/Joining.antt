@@ -31,6 +31,11 @@ IsJoined all None all' new answer = (all' ≡ all) × (new ≡ None) × (answer 
 IsJoined all (Some (held.Ledger member)) all' new answer = IsMemberJoined all member all' new answer
 IsJoined all (Some old) all' new answer = (all' ≡ all) × (new ≡ Some old) × (answer ≡ Err OtherKind)
 
+-- a value that is no ledger
+abbrev pub HoldsNoLedger : Held → Type 0
+HoldsNoLedger (held.Ledger member) = ⊥
+HoldsNoLedger _ = ⊤
+
 -- a value that is no ledgers
 abbrev pub HoldsNoLedgers : Option Held → Type 0
 HoldsNoLedgers (Some (held.Ledgers all)) = ⊥

@@ -129,7 +129,7 @@ impl Handle {
             None => unreachable!(),
             Some(held) => {
                 let mut held = held;
-                *held = value;
+                held.put(value);
                 self.set(alloc, held);
             }
         }

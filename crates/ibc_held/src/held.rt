@@ -1,7 +1,7 @@
 //! The kinds of values.
 
-ghost use Rattle.std.specs.Prelude.{◌≡◌, MatchOption, Some};
-ghost use Rattle.ibc_held.specs.Joining.{AreToldApart, HoldsNoLedgers, IsJoined, kept_unless};
+ghost use Rattle.std.specs.Prelude.{◌≡◌, IfOk, IfErr, MatchOption, Some};
+ghost use Rattle.ibc_held.specs.Joining.{AreToldApart, HoldsNoLedger, HoldsNoLedgers, IsJoined, IsMemberJoined, IsToldApart, kept_unless};
 ghost use Rattle.ibc_held.specs.declared.held.Held.TheVariants as held;
 
 use crate::{Ledgers, NotJoined};
@@ -43,14 +43,50 @@ pub enum Held {
 }
 
 impl Held {
+    // The value in place of what was there, which is let go by a call: its drop, written out, would take minutes to prove.
+    pub(crate) fn put(&mut self, value: Held)
+        ensures { self.new ≡ value }
+    {
+        drop(replace(self, value));
+    }
+
+    // Takes the value out, and leaves an empty plan.
+    fn take_out(&mut self, alloc: Global) -> Held
+        ensures { result ≡ self.old }
+    {
+        replace(self, Held::Plan(Vec::new(alloc)))
+    }
+
+    // The ledgers, or else the value.
+    fn into_ledgers(self) -> Result<Ledgers, Held>
+        ensures ok { IfOk result (λ all. self ≡ held.Ledgers all) }
+        ensures err { IfErr result (λ other. (other ≡ self) × HoldsNoLedgers (Some self)) }
+    {
+        match self {
+            Held::Ledgers(all) => Ok(all),
+            other => Err(other),
+        }
+    }
+
+    // The ledger, or else the value.
+    fn into_ledger(self) -> Result<WorldLedger, Held>
+        ensures ok { IfOk result (λ member. self ≡ held.Ledger member) }
+        ensures err { IfErr result (λ other. (other ≡ self) × HoldsNoLedger self) }
+    {
+        match self {
+            Held::Ledger(member) => Ok(member),
+            other => Err(other),
+        }
+    }
+
     // Takes the ledgers out, where the value is ledgers. Else it stays.
     pub(crate) fn take_ledgers(&mut self, alloc: Global) -> Option<Ledgers>
         ensures { MatchOption result ((self.new ≡ self.old) × HoldsNoLedgers (Some self.old)) (λ all. self.old ≡ held.Ledgers all) }
     {
-        match replace(self, Held::Plan(Vec::new(alloc))) {
-            Held::Ledgers(all) => Some(all),
-            other => {
-                *self = other;
+        match self.take_out(alloc).into_ledgers() {
+            Ok(all) => Some(all),
+            Err(other) => {
+                self.put(other);
                 None
             }
         }
@@ -61,17 +97,26 @@ impl Held {
         requires { AreToldApart all.old (Some self.old) }
         ensures { IsJoined all.old (Some self.old) all.new (kept_unless result self.new) result }
     {
-        match replace(self, Held::Plan(Vec::new(alloc))) {
-            Held::Ledger(member) => match all.join(member) {
-                Ok(()) => Ok(()),
-                Err((reason, member)) => {
-                    *self = Held::Ledger(member);
-                    Err(reason)
-                }
-            },
-            other => {
-                *self = other;
+        match self.take_out(alloc).into_ledger() {
+            Ok(member) => self.hand_over(all, member),
+            Err(other) => {
+                self.put(other);
                 Err(NotJoined::OtherKind)
+            }
+        }
+    }
+
+    // Moves the ledger to others. Where it is refused, it is the value.
+    fn hand_over(&mut self, all: &mut Ledgers, member: WorldLedger) -> Result<(), NotJoined>
+        requires { IsToldApart all.old member }
+        ensures { IsMemberJoined all.old member all.new (kept_unless result self.new) result }
+    {
+        match all.join(member) {
+            Ok(()) => Ok(()),
+            Err(back) => {
+                let (reason, member) = back;
+                self.put(Held::Ledger(member));
+                Err(reason)
             }
         }
     }
