@@ -1,0 +1,21 @@
+-- The numbers that calls answer.
+use Rattle.std.specs.Prelude.{◌≡◌, ◌⊎◌, ℕ, Ok, Err, ⊤}
+use Rattle.ibc_ids.specs.Texts.{Text}
+use Rattle.ibc_ids.specs.Refusals.{number_of}
+use Rattle.ibc_wire.specs.Fields.{Spells}
+use Rattle.ibc_wire.specs.Kinds.{kind_of, tag_of}
+use Rattle.ibc_wire.specs.Messages.{message_fields}
+use Rattle.ibc_wire.specs.declared.messages.Message.{Message}
+use Rattle.ibc_machine.specs.Checks.{Checked}
+
+-- 0 where nothing was refused, else the number of the refusal
+abbrev pub code_of : Checked ⊤ → ℕ
+code_of (Ok x) = 0
+code_of (Err refusal) = number_of refusal
+
+-- The bytes spell a message, whose tag is told; or they spell none (30), or memory ran out (1), and no tag is told.
+abbrev pub IsTagged : Text → ℕ → ℕ → ℕ → Type 0
+IsTagged bytes old new answer =
+    ((answer ≡ 0) × (m : Message) × Spells (message_fields m) bytes × (new ≡ tag_of (kind_of m)))
+    ⊎ ((answer ≡ 30) × (new ≡ old) × ((m : Message) → Spells (message_fields m) bytes → ⊥))
+    ⊎ ((answer ≡ 1) × (new ≡ old))
