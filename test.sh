@@ -1,6 +1,6 @@
 #!/usr/bin/env bash
-# All that is proved and tested: the gate, then the built programs in hostile surroundings (docs/HOSTILE.md), then the library for C and
-# Rust with its examples. What each part says is printed, and in the end how much passed and failed in all. The status is 0 where nothing failed.
+# All that is proved and tested: the gate, and then the built programs in hostile surroundings (docs/HOSTILE.md). What each part says is
+# printed, and in the end how much passed and failed in all. The status is 0 where nothing failed.
 set -u
 cd "$(dirname "$0")"
 
@@ -31,7 +31,6 @@ part tools/refuse_growths
 part tools/refuse_by_call
 part tools/broken_streams
 part tools/wrong_bytes --count 100000
-part tools/build_library
 
 echo "$passed passed, $failed failed"
 [ "$failed" -eq 0 ]
