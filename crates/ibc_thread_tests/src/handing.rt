@@ -81,7 +81,7 @@ fn comes_back<R: Wait, W: World>(
 ) -> Result<bool, Refusal>
     requires { HasItsBook W.table W.genesis W.book (ledger, opened) }
 {
-    let ledger = with_a_block(with_a_client(ledger));
+    let ledger = with_a_client(ledger);
     let number = ledger.chain();
     let held = ledger.balances();
     let back = match board_of::<W>(alloc) {
@@ -97,7 +97,7 @@ fn comes_back<R: Wait, W: World>(
     Ok(is_number && again? == held?)
 }
 
-// The ledger once it has made a client.
+// The ledger once it has made a client and ended a block: a view of it asks for memory.
 fn with_a_client(mut ledger: Ledger) -> Ledger
     ensures table { result.table ≡ ledger.table }
     ensures genesis { result.ledger.genesis ≡ ledger.ledger.genesis }
@@ -105,15 +105,6 @@ fn with_a_client(mut ledger: Ledger) -> Ledger
 {
     let chain = if ledger.chain() == 0 { 1 } else { 0 };
     drop(ledger.apply(Message::CreateClient(CreateClient { chain })));
-    ledger
-}
-
-// The ledger once it has ended a block: a view of it asks for memory.
-fn with_a_block(mut ledger: Ledger) -> Ledger
-    ensures table { result.table ≡ ledger.table }
-    ensures genesis { result.ledger.genesis ≡ ledger.ledger.genesis }
-    ensures chain { result.ledger.chain ≡ ledger.ledger.chain }
-{
     drop(ledger.end_block(200));
     ledger
 }
