@@ -1,5 +1,8 @@
 //! Worlds that keep what they were asked.
 
+ghost use Rattle.std.specs.Prelude.{◌⊎◌, IfErr};
+ghost use Rattle.ibc_script.specs.Faults.{JudgesScript, StopsRun};
+
 use crate::spelled::{Spelled, is_no_memory};
 use ibc_ids::{Bytes, ChannelId, ClientId, ConnectionId, Key, PortId, Refusal};
 use ibc_machine::{Event, Genesis, Reply};
@@ -27,7 +30,9 @@ struct Gathering {
 
 /// What a world is asked and answers when the steps of a script are taken with ample memory. Faults: `NoMemory`, also where
 /// a step was refused for want of it; those that stop a run.
-pub fn list_of(alloc: Global, race: Race) -> Result<List, Fault> {
+pub fn list_of(alloc: Global, race: Race) -> Result<List, Fault>
+    ensures { IfErr result (λ fault. StopsRun fault ⊎ JudgesScript fault) }
+{
     match begin(alloc, race.genesis()) {
         Ok(gathering) => {
             let Gathering { list, .. } = race.run_on(gathering)?;

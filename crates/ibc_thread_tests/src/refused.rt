@@ -1,5 +1,8 @@
 //! Lists of events that worlds are asked at once, also where one growth is refused meanwhile.
 
+ghost use Rattle.std.specs.Prelude.{◌⊎◌, IfErr};
+ghost use Rattle.ibc_script.specs.Faults.{JudgesScript, StopsRun};
+
 use crate::gathered::{List, list_of};
 use crate::spelled::{Spelled, answered, are_spelled, is_no_memory, read_back};
 use ibc_ids::Refusal;
@@ -62,7 +65,9 @@ impl Races for Listing<'_> {
 }
 
 // Reads the messages of the list back.
-fn try_read_back(alloc: Global, race: Race) -> Result<Came, Fault> {
+fn try_read_back(alloc: Global, race: Race) -> Result<Came, Fault>
+    ensures { IfErr result (λ fault. StopsRun fault ⊎ JudgesScript fault) }
+{
     let list = list_of(alloc, race)?;
     let back = read_back(alloc, list.events.as_slice());
     drop(list);
@@ -81,7 +86,9 @@ struct Pair {
 }
 
 // Asks a world of the script's genesis the list, and another one of the same to judge it by.
-fn try_run(alloc: Global, race: Race) -> Result<Came, Fault> {
+fn try_run(alloc: Global, race: Race) -> Result<Came, Fault>
+    ensures { IfErr result (λ fault. StopsRun fault ⊎ JudgesScript fault) }
+{
     match pair_of(alloc, race.genesis()) {
         Ok(pair) => try_pair(alloc, pair, race),
         Err(refusal) => {
@@ -104,7 +111,9 @@ fn pair_of(alloc: Global, genesis: &Genesis) -> Result<Pair, Refusal> {
 }
 
 // Asks the first of two worlds the list.
-fn try_pair(alloc: Global, mut pair: Pair, race: Race) -> Result<Came, Fault> {
+fn try_pair(alloc: Global, mut pair: Pair, race: Race) -> Result<Came, Fault>
+    ensures { IfErr result (λ fault. StopsRun fault ⊎ JudgesScript fault) }
+{
     let list = match list_of(alloc, race) {
         Ok(list) => list,
         Err(fault) => {
