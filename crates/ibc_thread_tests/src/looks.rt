@@ -46,11 +46,14 @@ fn look<G: Gate, R: Wait>(rt: &R, alloc: Global, from: &G, to: &G) -> Result<boo
         let view = from.view();
         let before = seen;
         seen = view.height();
-        if seen < before || (turn >= LOOKS && seen == LAST) {
-            return Ok(seen == LAST);
+        if seen < before {
+            return Ok(false);
         }
         if seen > before {
             send_plan(alloc, rt, view, to)?;
+        }
+        if turn >= LOOKS && seen == LAST {
+            return Ok(true);
         }
         thread::yield_now();
     }
