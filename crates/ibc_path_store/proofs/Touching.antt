@@ -1,6 +1,6 @@
 -- The gaps of a map that is touched at a place.
 use Rattle.std.proofs.Common.{◌≡◌, ℕ, suc, ◌+◌, ◌-◌, ◌<◌, ◌≤◌, true, false, cond, List, [], ◌∷◌, ◌++◌, length, get_or, take, drop, set, refl, sym, ap, ap₂, ◌∙◌, subst, arith, inl, inr, length-drop, length-append, nat_lt, nat_le, Option, Some, None}
-use Rattle.std.proofs.lemmas.Bool.{cases_lt, lt-ltb, le-ltb, le-leb, lt-leb, cond-true, cond-false, leb-true, leb-false}
+use Rattle.std.proofs.lemmas.Bool.{cases_lt, lt-ltb, le-ltb, le-leb, lt-leb, cond-true, cond-false}
 use Rattle.std.proofs.lemmas.List.{append-nil, append_assoc, take_all, drop_more, drop_all, drop-drop, drop-take, drop-set-lt, drop-set-add, take-take, take_more, take-set-le, take-append-le, take_at, drop_at, length-set, length-take-le, set_split}
 use Rattle.std.proofs.Math.Seq.{drop-append-add}
 use Rattle.std.specs.List.{insert, remove}
@@ -137,7 +137,7 @@ differ_touched (gap ∷ gaps) last pairs after index gone come one differ new =
 -- ---- as the code goes over the gaps
 
 pub touched_further : (gaps : List Gap) (i before gone come : ℕ) (gap : Gap) → i < length gaps → gap ≡ get_or gaps i gap → gap.kept ≤ before
-    → nat_le (before - gap.kept + gone) gap.come ≡ false
+    → gap.come < before - gap.kept + gone
     → take i gaps ++ touched (drop i gaps) before gone come ≡ take (i + 1) gaps ++ touched (drop (i + 1) gaps) (before - gap.kept - gap.come) gone come
 touched_further gaps i before gone come gap l is behind past =
     let rest : List Gap = drop (i + 1) gaps in
@@ -145,7 +145,7 @@ touched_further gaps i before gone come gap l is behind past =
     let taken : take (i + 1) gaps ≡ take i gaps ++ gap ∷ [] = take_more gaps i gap l ∙ ap (λ (g : Gap). take i gaps ++ g ∷ []) (sym is) in
     let next : List Gap = touched rest (before - gap.kept - gap.come) gone come in
     ap (λ (gs : List Gap). take i gaps ++ touched gs before gone come) opened
-    ∙ ap (λ (gs : List Gap). take i gaps ++ gs) (cond-false (nat_lt before gap.kept) _ _ (le-ltb before gap.kept behind) ∙ cond-false (nat_le (before - gap.kept + gone) gap.come) _ _ past)
+    ∙ ap (λ (gs : List Gap). take i gaps ++ gs) (cond-false (nat_lt before gap.kept) _ _ (le-ltb before gap.kept behind) ∙ cond-false (nat_le (before - gap.kept + gone) gap.come) _ _ (lt-leb (before - gap.kept + gone) gap.come past))
     ∙ sym (ap (λ (gs : List Gap). gs ++ next) taken ∙ append_assoc (take i gaps) (gap ∷ []) next)
 
 -- in front of a gap, or behind all
@@ -165,14 +165,14 @@ touched_own gaps number before gone come within front =
     ]
 
 pub touched_wide : (gaps : List Gap) (number before gone come : ℕ) → number < length gaps → (get_or gaps number no_gap).kept ≤ before
-    → nat_le (before - (get_or gaps number no_gap).kept + gone) (get_or gaps number no_gap).come ≡ true
+    → before - (get_or gaps number no_gap).kept + gone ≤ (get_or gaps number no_gap).come
     → set gaps number (record (get_or gaps number no_gap) { come = (get_or gaps number no_gap).come - gone + come }) ≡ take number gaps ++ touched (drop number gaps) before gone come
 touched_wide gaps number before gone come l behind inside =
     let gap = get_or gaps number no_gap in
     let opened : drop number gaps ≡ gap ∷ drop (number + 1) gaps = drop_more gaps number no_gap l in
     set_split gaps number (record gap { come = gap.come - gone + come }) l
     ∙ sym (ap (λ (gs : List Gap). take number gaps ++ touched gs before gone come) opened
-    ∙ ap (λ (gs : List Gap). take number gaps ++ gs) (cond-false (nat_lt before gap.kept) _ _ (le-ltb before gap.kept behind) ∙ cond-true (nat_le (before - gap.kept + gone) gap.come) _ _ inside))
+    ∙ ap (λ (gs : List Gap). take number gaps ++ gs) (cond-false (nat_lt before gap.kept) _ _ (le-ltb before gap.kept behind) ∙ cond-true (nat_le (before - gap.kept + gone) gap.come) _ _ (le-leb (before - gap.kept + gone) gap.come inside)))
 
 pub shrunk_at : (gaps : List Gap) (number fewer : ℕ) → number < length gaps
     → set gaps number (record (get_or gaps number no_gap) { kept = (get_or gaps number no_gap).kept - fewer }) ≡ take number gaps ++ shrunk (drop number gaps) fewer

@@ -1,6 +1,6 @@
 //! Where a map was touched.
 
-ghost use Rattle.std.specs.Prelude.{◌≡◌, ◌+◌, ◌-◌, ◌<◌, ◌≤◌, ◌++◌, ◌∷◌, [], ℕ, true, Some, length, take, drop, slice_set, slice_index_or, nat_le, option_map};
+ghost use Rattle.std.specs.Prelude.{◌≡◌, ◌+◌, ◌-◌, ◌<◌, ◌≤◌, ◌++◌, ◌∷◌, [], ℕ, true, false, Some, length, take, drop, slice_set, slice_index_or, option_map};
 ghost use Rattle.ibc_merkle.specs.Tree.{Pairs};
 ghost use Rattle.ibc_path_store.specs.Touching.{Shares, IsReplaced, no_gap, shrunk, touched};
 
@@ -68,7 +68,8 @@ impl Touched {
 // Whether the place of a gap behind which so many pairs stand lies in it, with as many pairs as are gone there.
 fn is_in(gap: Gap, before: usize, gone: usize) -> bool
     requires { gap.kept ≤ before }
-    ensures { result ≡ nat_le (before - gap.kept + gone) gap.come }
+    ensures inside { result ≡ true → before - gap.kept + gone ≤ gap.come }
+    ensures past { result ≡ false → gap.come < before - gap.kept + gone }
 {
     gone <= gap.come && before - gap.kept <= gap.come - gone
 }
@@ -78,7 +79,7 @@ fn place_of(gaps: &[Gap], index: usize, gone: usize) -> (usize, usize)
     requires { gone ≤ 1 }
     ensures within { result.0 ≤ length gaps.now }
     ensures rest { (come : ℕ) → touched gaps.now index gone come ≡ take result.0 gaps.now ++ touched (drop result.0 gaps.now) result.1 gone come }
-    ensures inside { let gap = slice_index_or gaps.now result.0 no_gap in result.0 < length gaps.now → gap.kept ≤ result.1 → nat_le (result.1 - gap.kept + gone) gap.come ≡ true }
+    ensures inside { let gap = slice_index_or gaps.now result.0 no_gap in result.0 < length gaps.now → gap.kept ≤ result.1 → result.1 - gap.kept + gone ≤ gap.come }
 {
     let mut before = index;
     for i in 0..gaps.len() {
