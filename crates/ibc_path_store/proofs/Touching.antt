@@ -1,6 +1,6 @@
 -- The gaps of a map that is touched at a place.
-use Rattle.std.proofs.Common.{◌≡◌, ℕ, suc, ◌+◌, ◌-◌, ◌<◌, ◌≤◌, true, false, cond, List, [], ◌∷◌, ◌++◌, length, get_or, take, drop, set, refl, sym, ap, ap₂, ◌∙◌, subst, arith, inl, inr, length-drop, length-append, nat_lt, nat_le, Option, Some, None}
-use Rattle.std.proofs.lemmas.Bool.{cases_lt, lt-ltb, le-ltb, le-leb, lt-leb, cond-true, cond-false}
+use Rattle.std.proofs.Common.{◌≡◌, ℕ, suc, ◌+◌, ◌-◌, ◌<◌, ◌≤◌, Bool, true, false, cond, List, [], ◌∷◌, ◌++◌, length, get_or, take, drop, set, refl, sym, ap, ap₂, ◌∙◌, subst, arith, inl, inr, length-drop, length-append, nat_lt, nat_le, Option, Some, None}
+use Rattle.std.proofs.lemmas.Bool.{cases_lt, lt-ltb, le-ltb, le-leb, lt-leb, cond-true, cond-false, false≢true}
 use Rattle.std.proofs.lemmas.List.{append-nil, append_assoc, take_all, drop_more, drop_all, drop-drop, drop-take, drop-set-lt, drop-set-add, take-take, take_more, take-set-le, take-append-le, take_at, drop_at, length-set, length-take-le, set_split}
 use Rattle.std.proofs.Math.Seq.{drop-append-add}
 use Rattle.std.specs.List.{insert, remove}
@@ -192,6 +192,19 @@ insert_own gaps between number fewer gap within is =
     let counted : length front ≡ number = length-take-le number gaps within in
     ap (λ (gs : List Gap). insert gs number gap) is
     ∙ ap₂ (λ (xs ys : List Gap). xs ++ gap ∷ ys) (take_at front rest number counted) (drop_at front rest number counted)
+
+-- ---- the gaps of a map, if they are known
+
+pub shares_lost : (lost : Bool) (gaps : List Gap) (last after : Pairs) → lost ≡ true → Shares (elim lost [ true ↦ None | false ↦ Some gaps ]) last after
+shares_lost true gaps last after is = tt
+shares_lost false gaps last after is = absurd (false≢true is)
+
+pub shares_touched : (old : Option (List Gap)) (lost : Bool) (before gaps : List Gap) (index gone come : ℕ) → elim lost [ true ↦ None | false ↦ Some before ] ≡ old → lost ≡ false → gone ≤ 1
+    → gaps ≡ touched before index gone come → (last pairs after : Pairs) → Shares old last pairs → IsReplaced pairs after index gone come
+    → Shares (elim lost [ true ↦ None | false ↦ Some gaps ]) last after
+shares_touched old true before gaps index gone come view is one noted last pairs after shares new = tt
+shares_touched old false before gaps index gone come view is one noted last pairs after shares new =
+    subst (λ (gs : List Gap). DifferIn gs last after) (sym noted) (differ_touched before last pairs after index gone come one (subst (λ held. Shares held last pairs) (sym view) shares) new)
 
 -- ---- what happens to pairs
 

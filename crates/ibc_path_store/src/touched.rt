@@ -55,13 +55,18 @@ impl Touched {
     }
 
     /// Notes that at a place so many pairs, one at most, were replaced by so many others.
+    #[tactic(auto, using(crate::proofs::Touching::shares_lost, crate::proofs::Touching::shares_touched))]
     pub fn touch(&mut self, index: usize, gone: usize, come: usize)
         requires { gone ≤ 1 }
         ensures { (last pairs after : Pairs) → Shares self.old last pairs → IsReplaced pairs after index gone come → Shares self.new last after }
     {
-        if !self.lost && !touch_gaps(&mut self.gaps, index, gone, come) {
-            self.lost = true;
+        if self.lost {
+            return;
         }
+        if touch_gaps(&mut self.gaps, index, gone, come) {
+            return;
+        }
+        self.lost = true;
     }
 }
 
@@ -75,6 +80,7 @@ fn is_in(gap: Gap, before: usize, gone: usize) -> bool
 }
 
 // The number of the gap in which or in front of which a place lies, and how many pairs stand between the gap before and the place.
+#[tactic(auto, using(crate::proofs::Touching::touched_further))]
 fn place_of(gaps: &[Gap], index: usize, gone: usize) -> (usize, usize)
     requires { gone ≤ 1 }
     ensures within { result.0 ≤ length gaps.now }
@@ -110,6 +116,7 @@ fn widen(gaps: &mut [Gap], number: usize, gone: usize, come: usize) -> bool
 }
 
 // Takes a gap that comes in front of another one from what stays there.
+#[tactic(auto, using(crate::proofs::Touching::shrunk_at, crate::proofs::Touching::shrunk_none))]
 fn shrink(gaps: &mut [Gap], number: usize, gap: Gap)
     requires { number < length gaps.old → gap.kept + gap.gone ≤ (slice_index_or gaps.old number no_gap).kept }
     ensures { gaps.new ≡ take number gaps.old ++ shrunk (drop number gaps.old) (gap.kept + gap.gone) }
@@ -120,6 +127,7 @@ fn shrink(gaps: &mut [Gap], number: usize, gap: Gap)
 }
 
 // Puts a gap in front of one, or behind all. Answers whether there is memory for it.
+#[tactic(auto, using(crate::proofs::Touching::insert_own))]
 fn put(gaps: &mut Vec<Gap>, number: usize, gap: Gap) -> bool
     requires there { number ≤ length gaps.old.items }
     requires fits { number < length gaps.old.items → gap.kept + gap.gone ≤ (slice_index_or gaps.old.items number no_gap).kept }
@@ -130,6 +138,7 @@ fn put(gaps: &mut Vec<Gap>, number: usize, gap: Gap) -> bool
 }
 
 // Notes among gaps that at a place so many pairs were replaced by so many others. Answers whether there is room for it.
+#[tactic(auto, using(crate::proofs::Touching::touched_own, crate::proofs::Touching::touched_wide))]
 fn touch_gaps(gaps: &mut Vec<Gap>, index: usize, gone: usize, come: usize) -> bool
     requires { gone ≤ 1 }
     ensures { result ≡ true → gaps.new.items ≡ touched gaps.old.items index gone come }
