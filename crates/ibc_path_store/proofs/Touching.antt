@@ -10,7 +10,7 @@ use Rattle.ibc_nodes.specs.Gaps.{DifferIn}
 use Rattle.ibc_nodes.specs.declared.gap.Gap.{Gap}
 use Rattle.ibc_path_store.specs.Touching.{Shares, IsReplaced, no_gap, shrunk, touched}
 
-own : ℕ → ℕ → ℕ → Gap
+abbrev own : ℕ → ℕ → ℕ → Gap
 own index gone come = record { kept = index; gone = gone; come = come }
 
 -- ---- one place more is touched
@@ -164,21 +164,28 @@ touched_own gaps number before gone come within front =
           ap (λ (gs : List Gap). touched gs before gone come) none ∙ ap (λ (gs : List Gap). own before gone come ∷ shrunk gs (before + gone)) (sym none)
     ]
 
+behind_one : (gaps : List Gap) (number : ℕ) → number < length gaps → drop number gaps ≡ get_or gaps number no_gap ∷ drop (suc number) gaps
+behind_one gaps number l = drop_more gaps number no_gap l ∙ ap (λ n. get_or gaps number no_gap ∷ drop n gaps) (let e : number + 1 ≡ suc number = omega arith in e)
+
 pub touched_wide : (gaps : List Gap) (number before gone come : ℕ) → number < length gaps → (get_or gaps number no_gap).kept ≤ before
     → before - (get_or gaps number no_gap).kept + gone ≤ (get_or gaps number no_gap).come
     → set gaps number (record (get_or gaps number no_gap) { come = (get_or gaps number no_gap).come - gone + come }) ≡ take number gaps ++ touched (drop number gaps) before gone come
 touched_wide gaps number before gone come l behind inside =
     let gap = get_or gaps number no_gap in
-    let opened : drop number gaps ≡ gap ∷ drop (number + 1) gaps = drop_more gaps number no_gap l in
     set_split gaps number (record gap { come = gap.come - gone + come }) l
-    ∙ sym (ap (λ (gs : List Gap). take number gaps ++ touched gs before gone come) opened
+    ∙ sym (ap (λ (gs : List Gap). take number gaps ++ touched gs before gone come) (behind_one gaps number l)
     ∙ ap (λ (gs : List Gap). take number gaps ++ gs) (cond-false (nat_lt before gap.kept) _ _ (le-ltb before gap.kept behind) ∙ cond-true (nat_le (before - gap.kept + gone) gap.come) _ _ (le-leb (before - gap.kept + gone) gap.come inside)))
+
+-- all of a list that was written over
+pub written_over : (gaps new : List Gap) (count : ℕ) → count ≡ length gaps → length new ≡ length gaps → take count (new ++ drop (length new) gaps) ≡ new
+written_over gaps new count counted same =
+    ap (λ (gs : List Gap). take count (new ++ gs)) (drop_all (length new) gaps (omega arith)) ∙ ap (take count) (append-nil new) ∙ take_all count new (omega arith)
 
 pub shrunk_at : (gaps : List Gap) (number fewer : ℕ) → number < length gaps
     → set gaps number (record (get_or gaps number no_gap) { kept = (get_or gaps number no_gap).kept - fewer }) ≡ take number gaps ++ shrunk (drop number gaps) fewer
 shrunk_at gaps number fewer l =
     let gap = get_or gaps number no_gap in
-    set_split gaps number (record gap { kept = gap.kept - fewer }) l ∙ sym (ap (λ (gs : List Gap). take number gaps ++ shrunk gs fewer) (drop_more gaps number no_gap l))
+    set_split gaps number (record gap { kept = gap.kept - fewer }) l ∙ sym (ap (λ (gs : List Gap). take number gaps ++ shrunk gs fewer) (behind_one gaps number l))
 
 pub shrunk_none : (gaps : List Gap) (number fewer : ℕ) → length gaps ≤ number → gaps ≡ take number gaps ++ shrunk (drop number gaps) fewer
 shrunk_none gaps number fewer past =

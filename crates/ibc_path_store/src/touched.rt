@@ -122,7 +122,8 @@ fn shrink(gaps: &mut [Gap], number: usize, gap: Gap)
     ensures { gaps.new ≡ take number gaps.old ++ shrunk (drop number gaps.old) (gap.kept + gap.gone) }
 {
     if number < gaps.len() {
-        gaps[number].kept -= gap.kept + gap.gone;
+        let kept = gaps[number].kept;
+        gaps[number].kept = kept - (gap.kept + gap.gone);
     }
 }
 
