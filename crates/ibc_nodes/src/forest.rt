@@ -141,13 +141,7 @@ impl Forest {
         self.gather();
         let alloc = *self.kept.allocator();
         self.arena.restart();
-        let rows = next_rows(
-            alloc,
-            &mut self.arena,
-            self.rows.as_slice(),
-            entries,
-            gaps,
-        )?;
+        let rows = next_rows(alloc, &mut self.arena, self.rows.as_slice(), entries, gaps)?;
         self.kept.reserve(1)?;
         let root = root_of(&self.arena, rows.as_slice());
         let digest = self.arena.digest(root);

@@ -24,7 +24,7 @@ invariant_of-result c = (
   c.in_ok-kept.ensures.kept,
   ap (is_sorted text_cmp)
       (last_moved_on c.self.inside.arena.trees c.nodes-nodes.result.now c.move_rows.new.new.trees c.move_kept.new.new.trees c.self.inside.rows.items c.as_slice.result.now c.in_ok-rows.rows.items
-          c.nodes-nodes.ensures c.as_slice.ensures.value c.in_ok-rows.ensures.same c.in_ok-rows.ensures.stand c.move_kept.ensures.grows c.self.invariant.0).1
+      c.nodes-nodes.ensures c.as_slice.ensures.value c.in_ok-rows.ensures.same c.in_ok-rows.ensures.stand c.move_kept.ensures.grows c.self.invariant.0).1
       ∙ c.self.invariant.2,
 )
 
