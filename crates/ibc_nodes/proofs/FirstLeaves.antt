@@ -1,7 +1,7 @@
 -- A row of the leaves of first pairs, to which more come.
-use Rattle.std.proofs.Common.{◌≡◌, ℕ, zero, suc, ◌+◌, ◌-◌, ◌<◌, ◌≤◌, List, [], ◌∷◌, ◌++◌, length, get_or, take, drop, map, refl, sym, ap, ap₂, ◌∙◌, subst, arith, length-append, length-drop}
+use Rattle.std.proofs.Common.{◌≡◌, ℕ, zero, suc, ◌+◌, ◌<◌, ◌≤◌, List, [], ◌∷◌, ◌++◌, length, get_or, take, drop, map, refl, sym, ap, ap₂, ◌∙◌, subst, arith, length-append, length-drop}
 use Rattle.std.proofs.Math.Seq.{take-add}
-use Rattle.std.proofs.lemmas.List.{length_push, length-take-le, take-map, drop-map, take_all, take_more, map_push, map-append}
+use Rattle.std.proofs.lemmas.List.{length_push, length-take-le, take-map, drop-map, take_more, map_push, map-append}
 use Rattle.std.proofs.lemmas.List.Elements.{All-append, All-drop, All-push, All-take}
 use Rattle.ibc_ids.specs.Texts.{Text}
 use Rattle.ibc_merkle.specs.Tree.{Pairs, Tree}
@@ -9,7 +9,7 @@ use Rattle.ibc_nodes.specs.Levels.{leaf_of, tree_at, trees_at}
 use Rattle.ibc_nodes.specs.Nodes.{Grows}
 use Rattle.ibc_nodes.specs.Leaves.{row_pairs, AreLeaves, differing}
 use Rattle.ibc_nodes.specs.Gaps.{HasFirst}
-use Rattle.ibc_nodes.proofs.LeafRows.{unlike_not, length-row_pairs}
+use Rattle.ibc_nodes.proofs.LeafRows.{unlike_not}
 use Rattle.ibc_nodes.proofs.Pairing.{trees_at-grows, stand-grows}
 
 pub first_none : (trees : List Tree) (pairs : Pairs) (row : List ℕ) → row ≡ [] → HasFirst trees pairs row

@@ -1,16 +1,16 @@
 -- A row of leaves and its pairs, from a place on.
-use Rattle.std.proofs.Common.{◌≡◌, ℕ, ◌+◌, ◌<◌, ◌≤◌, Bool, true, false, is_lt, List, [], ◌∷◌, ◌++◌, length, get_or, drop, map, sym, ap, ap₂, ◌∙◌, arith, inl, inr, eq-eqb, length-drop}
+use Rattle.std.proofs.Common.{◌≡◌, ℕ, ◌+◌, ◌<◌, ◌≤◌, Bool, true, false, List, [], ◌∷◌, ◌++◌, length, get_or, drop, map, sym, ap, ap₂, ◌∙◌, arith, inl, inr, eq-eqb}
 use Rattle.std.specs.Prelude.{◌==◌}
 use Rattle.std.proofs.lemmas.Bool.{cases_eq, cases_lt, and_parts, false≢true}
 use Rattle.std.proofs.lemmas.List.{length-map, get_or-map, drop_more, drop_all}
 use Rattle.ibc_ids.specs.Texts.{Text, same_text}
-use Rattle.ibc_ids.proofs.Texts.{text_same, same_text_from, text_ties}
+use Rattle.ibc_ids.proofs.Texts.{text_same}
 use Rattle.ibc_merkle.specs.Tree.{Pairs, Tree, Leaf}
 use Rattle.ibc_merkle.specs.Proofs.{is_below}
 use Rattle.ibc_nodes.specs.Levels.{leaf_of, tree_at, trees_at}
 use Rattle.ibc_nodes.specs.Nodes.{Grows}
 use Rattle.ibc_nodes.specs.Rows.{Stand}
-use Rattle.ibc_nodes.specs.Leaves.{pair_of, pair_at, row_pairs, AreLeaves, same_pair, from_key, behind_key, begins_with, is_new, count_new, keys, unlike, differing}
+use Rattle.ibc_nodes.specs.Leaves.{pair_of, pair_at, row_pairs, AreLeaves, same_pair, from_key, behind_key, begins_with, is_new, keys, unlike, differing}
 use Rattle.ibc_nodes.proofs.Climbing.{row_tree, length-trees_at}
 use Rattle.ibc_nodes.proofs.Pairing.{stand-grows, trees_at-grows}
 

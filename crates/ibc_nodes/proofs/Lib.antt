@@ -14,3 +14,4 @@ pub mod Moved
 pub mod Finding
 pub mod FirstLeaves
 pub mod OverGaps
+pub mod KnownRows

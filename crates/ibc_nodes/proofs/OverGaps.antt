@@ -1,7 +1,7 @@
 -- A row of leaves from gap to gap: what stays in front of a gap, and what stays behind all.
-use Rattle.std.proofs.Common.{◌≡◌, ℕ, ◌+◌, ◌-◌, ◌<◌, ◌≤◌, List, [], ◌∷◌, ◌++◌, length, get_or, take, drop, map, refl, sym, ap, ◌∙◌, subst, arith, inl, inr, length-drop}
+use Rattle.std.proofs.Common.{◌≡◌, ℕ, ◌+◌, ◌-◌, ◌<◌, ◌≤◌, List, [], ◌∷◌, ◌++◌, length, get_or, take, drop, map, refl, sym, ap, ◌∙◌, subst, arith, inl, inr, length-append, length-drop}
 use Rattle.std.proofs.lemmas.Bool.{cases_eq}
-use Rattle.std.proofs.lemmas.List.{append-nil, drop_more, drop_all, drop-drop, take_all}
+use Rattle.std.proofs.lemmas.List.{append-nil, append_assoc, drop_at, drop_more, drop_all, drop-drop, length-take-le, take_all, take_at, take_rest, take-append-drop}
 use Rattle.ibc_merkle.specs.Tree.{Pairs, Tree}
 use Rattle.ibc_merkle.proofs.Sorted.{AreRising}
 use Rattle.ibc_nodes.specs.Levels.{leaf_of, trees_at}
@@ -118,3 +118,46 @@ whole trees last entries old row all gaps i from leaves held first there past di
           let most = differing-kept row old kept (omega arith) in
           omega arith;
     }
+
+-- ---- the row differs from the one before in the gaps
+
+-- where the rest of a row differs in the rest of the gaps, the whole row differs in all
+pub splice_next : (gaps : List Gap) (i from : ℕ) (d : Gap) (old row next : List ℕ) → i < length gaps
+    → from + ((get_or gaps i d).kept + (get_or gaps i d).gone) ≤ length old
+    → length next ≡ length row + ((get_or gaps i d).kept + (get_or gaps i d).come)
+    → take (length row + (get_or gaps i d).kept) next ≡ row ++ take (get_or gaps i d).kept (drop from old)
+    → ((rest : List ℕ) → DifferIn (drop i gaps) (drop from old) rest → DifferIn gaps old (row ++ rest))
+    → (rest : List ℕ) → DifferIn (drop (i + 1) gaps) (drop (from + ((get_or gaps i d).kept + (get_or gaps i d).gone)) old) rest → DifferIn gaps old (next ++ rest)
+splice_next gaps i from d old row next l there counted front so_far rest differ =
+    let gap = get_or gaps i d in
+    let kept : List ℕ = take gap.kept (drop from old) in
+    let come : List ℕ = drop (length row + gap.kept) next in
+    let mid : List ℕ = kept ++ (come ++ rest) in
+    let a = length-drop from old in
+    let its : length kept ≡ gap.kept = length-take-le gap.kept (drop from old) (omega arith) in
+    let b = length-drop (length row + gap.kept) next in
+    let both = length-append kept come in
+    let all = length-append kept (come ++ rest) in
+    let behind = length-append come rest in
+    let is : next ++ rest ≡ row ++ mid =
+    ap (λ (xs : List ℕ). xs ++ rest) (sym (take-append-drop (length row + gap.kept) next) ∙ ap (λ (xs : List ℕ). xs ++ come) front)
+    ∙ append_assoc (row ++ kept) come rest
+    ∙ append_assoc row kept (come ++ rest)
+    in
+    let passed : drop (gap.kept + gap.come) mid ≡ rest = ap (drop (gap.kept + gap.come)) (sym (append_assoc kept come rest)) ∙ drop_at (kept ++ come) rest (gap.kept + gap.come) (omega arith) in
+    let here : DifferIn (gap ∷ drop (i + 1) gaps) (drop from old) mid = (
+      omega arith,
+      omega arith,
+      take_at kept (come ++ rest) gap.kept its,
+      subst (λ (xs : List ℕ). DifferIn (drop (i + 1) gaps) xs (drop (gap.kept + gap.come) mid)) (sym (drop-drop (gap.kept + gap.gone) from old))
+          (subst (λ (xs : List ℕ). DifferIn (drop (i + 1) gaps) (drop (from + (gap.kept + gap.gone)) old) xs) (sym passed) differ),
+    )
+    in
+    subst (DifferIn gaps old) (sym is) (so_far mid (subst (λ (gs : List Gap). DifferIn gs (drop from old) mid) (sym (drop_more gaps i d l)) here))
+
+pub splice_end : (gaps : List Gap) (i from : ℕ) (old row all : List ℕ) → length gaps ≤ i → all ≡ row ++ take (length old - from) (drop from old)
+    → ((rest : List ℕ) → DifferIn (drop i gaps) (drop from old) rest → DifferIn gaps old (row ++ rest)) → DifferIn gaps old all
+splice_end gaps i from old row all past items so_far =
+    let is : all ≡ row ++ drop from old = items ∙ ap (λ (xs : List ℕ). row ++ xs) (take_rest old from) in
+    let none : DifferIn [] (drop from old) (drop from old) = refl in
+    subst (DifferIn gaps old) (sym is) (so_far (drop from old) (subst (λ (gs : List Gap). DifferIn gs (drop from old) (drop from old)) (sym (drop_all i gaps past)) none))

@@ -6,8 +6,8 @@ use Rattle.ibc_nodes.specs.Levels.{leaf_of, trees_at}
 use Rattle.ibc_nodes.specs.Rows.{Stand}
 use Rattle.ibc_nodes.specs.declared.gap.Gap.{Gap}
 
--- the pairs are the last ones but in the gaps
-abbrev pub DifferIn : List Gap → Pairs → Pairs → Type 0
+-- the pairs are the last ones but in the gaps; so it is said of other lists too
+abbrev pub DifferIn : {A : Type 0} → List Gap → List A → List A → Type 0
 DifferIn [] last pairs = pairs ≡ last
 DifferIn (gap ∷ gaps) last pairs =
     (gap.kept + gap.gone ≤ length last) × (gap.kept + gap.come ≤ length pairs) × (take gap.kept pairs ≡ take gap.kept last)

@@ -123,6 +123,7 @@ fn add_leaves(
     requires from { length row.old.items ≤ end }
     requires end { end ≤ length entries.now }
     ensures first { IfOk result (λ _. HasFirst arena.new.trees entries.now row.new.items) }
+    ensures front { IfOk result (λ _. take (length row.old.items) row.new.items ≡ row.old.items) }
     ensures end { IfOk result (λ _. length row.new.items ≡ end) }
     ensures place { IfOk result (λ next. next ≤ length old.now) }
     ensures found { IfOk result (λ next. IsFoundFrom (row_pairs arena.old.trees old.now) next (drop end entries.now)) }
@@ -179,6 +180,7 @@ pub(crate) fn leaf_row(
     ensures grows { Grows arena.old.trees arena.new.trees }
     ensures steps { IfOk result (λ row. arena.new.steps ≤ arena.old.steps + 2 * count_new (row_pairs arena.old.trees old.now) entries.now) }
     ensures same { keys entries.now ≡ keys (row_pairs arena.old.trees old.now) → IfOk result (λ row. differing row.items old.now ≤ count_new (row_pairs arena.old.trees old.now) entries.now) }
+    ensures gaps { IfOk result (λ row. DifferIn gaps.now old.now row.items) }
 {
     let mut row = Vec::with_capacity(alloc, entries.len())?;
     let mut from = 0;

@@ -1,6 +1,6 @@
 //! The rows of the tree over pairs, from the rows of the tree before.
 
-ghost use Rattle.std.specs.Prelude.{true, false, ◌≡◌, ◌+◌, ◌-◌, ◌*◌, ◌^◌, ◌<◌, ◌≤◌, ℕ, length, IsTrue, IfOk};
+ghost use Rattle.std.specs.Prelude.{true, false, ◌≡◌, ◌+◌, ◌-◌, ◌*◌, ◌^◌, ◌<◌, ◌≤◌, ℕ, List, length, take, IsTrue, IfOk};
 ghost use Rattle.std.specs.FinMap.{is_sorted};
 ghost use Rattle.ibc_ids.specs.Texts.{text_cmp};
 ghost use Rattle.ibc_nodes.specs.Leaves.{row_pairs, count_new, keys, differing};
@@ -50,17 +50,30 @@ fn changed(
     Ok(next)
 }
 
-// The rows over a row of leaves, from the rows before: fewer texts are hashed than there are leaves, and of as many leaves
-// as before at most one for each other leaf and row above it.
+// How many first numbers are the same in rows that differ in gaps, the first of which has so many.
+#[tactic(auto, using(crate::proofs::KnownRows::front_first, crate::proofs::KnownRows::front_all))]
+fn front_of(gaps: &[Gap], all: usize) -> usize
+    ensures { (old row : List ℕ) → length old ≡ all → DifferIn gaps.now old row → (result ≤ length row) × (take result row ≡ take result old) }
+{
+    if gaps.is_empty() {
+        return all;
+    }
+    gaps[0].kept
+}
+
+// The rows over a row of leaves that differs in gaps from the row before, from the rows before: fewer texts are hashed than
+// there are leaves, and of as many leaves as before at most one for each other leaf and row above it.
 fn rows_over(
     alloc: Global,
     arena: &mut Arena,
     rows: &[Vec<usize>],
     row: Vec<usize>,
+    gaps: &[Gap],
 ) -> Result<Vec<Vec<usize>>, AllocError>
     requires last { IsLast arena.old.trees (rows_of rows.now) }
     requires stand { Stand arena.old.trees row.items }
     requires some { 0 < length row.items }
+    requires gaps { DifferIn gaps.now (first_row (rows_of rows.now)) row.items }
     ensures levels { IfOk result (λ next. IsPyramid arena.new.trees (rows_of next.items)) }
     ensures row { IfOk result (λ next. first_row (rows_of next.items) ≡ row.items) }
     ensures grows { Grows arena.old.trees arena.new.trees }
@@ -70,7 +83,8 @@ fn rows_over(
     if are_few(rows, row.as_slice()) {
         return changed(alloc, arena, rows, row.as_slice());
     }
-    raised(alloc, arena, row)
+    let front = front_of(gaps, first_of(rows).len());
+    raised(alloc, arena, row, rows, front)
 }
 
 // The rows of the tree over pairs that differ in gaps from those before, from the rows before: at most two texts are hashed
@@ -95,5 +109,5 @@ pub(crate) fn next_rows(
     ensures same { let last = row_pairs arena.old.trees (first_row (rows_of rows.now)) in keys entries.now ≡ keys last → (log : ℕ) → length entries.now ≤ 2 ^ log → IfOk result (λ _. arena.new.steps ≤ arena.old.steps + count_new last entries.now * (2 + log)) }
 {
     let row = leaf_row(alloc, arena, first_of(rows), entries, gaps)?;
-    rows_over(alloc, arena, rows, row)
+    rows_over(alloc, arena, rows, row, gaps)
 }

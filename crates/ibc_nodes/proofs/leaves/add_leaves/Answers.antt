@@ -1,14 +1,14 @@
 -- One leaf more.
-use Rattle.std.proofs.Common.{◌≡◌, ℕ, ◌+◌, ◌*◌, ◌<◌, ◌≤◌, ◌∷◌, ◌++◌, [], Ok, Result, length, get_or, drop, sym, ap, ◌∙◌, arith, subst}
-use Rattle.std.proofs.lemmas.List.{length_push}
+use Rattle.std.proofs.Common.{◌≡◌, ℕ, ◌+◌, ◌*◌, ◌<◌, ◌≤◌, ◌∷◌, ◌++◌, [], Ok, Result, length, get_or, take, drop, sym, ap, ◌∙◌, arith, subst}
+use Rattle.std.proofs.lemmas.List.{length_push, take_all, take-append-le}
 use Rattle.std.specs.declared.alloc.AllocError.{AllocError}
 use Rattle.ibc_merkle.specs.Tree.{Pairs}
 use Rattle.ibc_merkle.proofs.Sorted.{rising_from_sorted}
 use Rattle.ibc_nodes.specs.Leaves.{row_pairs, from_key, behind_key, is_new, count_new, differing}
-use Rattle.ibc_nodes.specs.Gaps.{HasFirst}
+use Rattle.ibc_nodes.specs.Gaps.{HasFirst, IsFoundFrom}
 use Rattle.ibc_nodes.proofs.Finding.{stepped}
 use Rattle.ibc_nodes.proofs.FirstLeaves.{first_more}
-use Rattle.ibc_nodes.proofs.Pairing.{grows_on}
+use Rattle.ibc_nodes.proofs.Pairing.{grows_on, grows_not}
 use Rattle.ibc_nodes.proofs.LeafRows.{length-row_pairs, pairs-grows, leaves-grows, differing-push}
 use Rattle.ibc_nodes.proofs.leaves.add_leaves.Goals as goal
 
@@ -69,6 +69,10 @@ loop-i-preserved c =
       first =
           subst (HasFirst after entries) (sym items)
           (first_more trees after entries row leaf entry c.loop-i.invariant.first c.leaf_for.ensures.grows (omega arith) (is ∙ ap (λ n. get_or entries n entry) (sym counted)) c.in_ok-leaf.ensures.leaf c.in_ok-leaf.ensures.there);
+      front =
+          ap (take (length c.args.row.now.items)) items
+          ∙ take-append-le (length c.args.row.now.items) row (leaf ∷ []) (let from = c.loop-i.auto.i in let n = c.len-i.ensures in let k = c.args.row.now.ok.0 in omega arith)
+          ∙ c.loop-i.invariant.front;
       counted = omega arith;
       grows = all;
       place = c.place_behind-at.ensures.within;
@@ -87,4 +91,23 @@ loop-i-preserved c =
           let pushed = differing-push row old leaf (is_new entry (drop found last)) (omega arith) kept in
           let pushed_row : differing c.push.new.self.items old ≡ differing (row ++ leaf ∷ []) old = ap (λ row. differing row old) items in
           omega arith;
+    }
+
+pub loop-i-init : goal.loop-i-init
+loop-i-init c =
+    let before = c.args.arena.now.trees in
+    let row = c.args.row.now.items in
+    let entries : Pairs = c.args.entries.now in
+    let last : Pairs = row_pairs before c.args.old.now in
+    let n : length row ≡ c.len-i.result = let a = c.len-i.ensures in let k = c.args.row.now.ok.0 in omega arith in
+    let counts : count_new last (drop (length row) entries) ≡ count_new last (drop c.len-i.result entries) = ap (λ n. count_new last (drop n entries)) n in
+    record {
+      first = c.requires.first;
+      front = take_all (length row) row (omega arith);
+      counted = n;
+      grows = grows_not before;
+      place = c.requires.place;
+      found = subst (λ n. IsFoundFrom last c.args.place (drop n entries)) n c.requires.found;
+      steps = omega arith;
+      same = λ same. omega arith;
     }

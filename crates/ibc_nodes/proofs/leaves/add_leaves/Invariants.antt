@@ -1,4 +1,4 @@
-use Rattle.std.proofs.Common.{◌≡◌, ◌+◌, ◌*◌, ◌≤◌, length, drop}
+use Rattle.std.proofs.Common.{◌≡◌, ◌+◌, ◌*◌, ◌≤◌, length, take, drop}
 use Rattle.ibc_nodes.specs.Gaps.{HasFirst, IsFoundFrom}
 use Rattle.ibc_nodes.specs.Leaves.{row_pairs, count_new, keys, differing}
 use Rattle.ibc_nodes.specs.Nodes.{Grows}
@@ -10,6 +10,7 @@ invariant-loop-i l =
     let all = count_new last (drop (length l.initial.row.items) l.entries) in
     record {
       first : HasFirst l.arena.trees l.entries l.row.items;
+      front : take (length l.initial.row.items) l.row.items ≡ l.initial.row.items;
       counted : length l.row.items ≡ l.i;
       grows : Grows l.initial.arena.trees l.arena.trees;
       place : l.at ≤ length l.old;

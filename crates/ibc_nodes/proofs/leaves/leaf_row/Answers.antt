@@ -1,5 +1,5 @@
 -- What stays in front of a gap, what comes in it, and what stays behind all gaps.
-use Rattle.std.proofs.Common.{◌≡◌, ℕ, ◌+◌, ◌-◌, ◌*◌, ◌<◌, ◌≤◌, ◌++◌, List, Ok, Result, length, get_or, take, drop, sym, ap, ◌∙◌, arith, subst}
+use Rattle.std.proofs.Common.{◌≡◌, ℕ, ◌+◌, ◌*◌, ◌≤◌, ◌++◌, List, Ok, Result, length, get_or, take, drop, sym, ap, ◌∙◌, arith, subst}
 use Rattle.std.specs.FinMap.{is_sorted}
 use Rattle.std.specs.declared.alloc.AllocError.{AllocError}
 use Rattle.ibc_ids.specs.Texts.{text_cmp}
@@ -8,10 +8,10 @@ use Rattle.ibc_merkle.proofs.Sorted.{rising_from_sorted}
 use Rattle.ibc_nodes.specs.Leaves.{row_pairs, count_new, keys, differing}
 use Rattle.ibc_nodes.specs.Gaps.{DifferIn, HasFirst, IsFoundFrom}
 use Rattle.ibc_nodes.specs.declared.gap.Gap.{Gap}
-use Rattle.ibc_nodes.proofs.FirstLeaves.{first-grows, first_none}
+use Rattle.ibc_nodes.proofs.FirstLeaves.{first_none}
 use Rattle.ibc_nodes.proofs.Finding.{first_found}
-use Rattle.ibc_nodes.proofs.OverGaps.{Opened, opened, found_past, differing_past, Whole, whole}
-use Rattle.ibc_nodes.proofs.Pairing.{grows_on}
+use Rattle.ibc_nodes.proofs.OverGaps.{Opened, opened, found_past, differing_past, Whole, whole, splice_next, splice_end}
+use Rattle.ibc_nodes.proofs.Pairing.{grows_on, grows_not}
 use Rattle.ibc_nodes.proofs.LeafRows.{pairs-grows, leaves-grows}
 use Rattle.ibc_nodes.proofs.leaves.leaf_row.Goals as goal
 
@@ -99,6 +99,9 @@ loop-i-preserved c =
       place = c.in_ok-place.ensures.place;
       found = found;
       gaps = subst (λ n. DifferIn (drop (c.loop-i.i + 1) c.args.gaps.now) (drop (from + (gap.kept + gap.gone)) last) (drop n entries)) (sym end) its.next;
+      splice =
+          splice_next c.args.gaps.now c.loop-i.i from none old row next c.loop-i-test.true within end
+          (ap (λ n. take n next) (sym counted) ∙ c.in_ok-place.ensures.front ∙ c.in_ok-behind.ensures.row) c.loop-i.invariant.splice;
       steps = omega arith;
       same = λ same.
           let now = c.loop-i.invariant.same same in
@@ -131,3 +134,28 @@ returns-clause-stand c = (all c).stand
 
 pub returns-clause-same : goal.returns-clause-same
 returns-clause-same c = λ same. let most = (all c).same same in let few = c.loop-i.invariant.same same in omega arith
+
+pub returns-clause-gaps : goal.returns-clause-gaps
+returns-clause-gaps c =
+    splice_end c.args.gaps.now c.loop-i.i c.loop-i.from c.args.old.now c.loop-i.row.items c.extend_from_slice.new.self.items c.loop-i-test.false c.in_ok-extend_from_slice.ensures.items c.loop-i.invariant.splice
+
+pub loop-i-init : goal.loop-i-init
+loop-i-init c =
+    let before = c.args.arena.now.trees in
+    let old = c.args.old.now in
+    let entries : Pairs = c.args.entries.now in
+    let last : Pairs = row_pairs before old in
+    let row = c.in_ok-row.row.items in
+    let items = c.in_ok-row.ensures.items in
+    let counts : count_new last (drop (length row) entries) ≡ count_new last entries = ap (λ (xs : List ℕ). count_new last (drop (length xs) entries)) items in
+    record {
+      first = first_none before entries row items;
+      grows = grows_not before;
+      from = omega arith;
+      place = omega arith;
+      found = first_found last (drop (length row) entries);
+      gaps = subst (λ (xs : List ℕ). DifferIn c.args.gaps.now last (drop (length xs) entries)) (sym items) c.requires.gaps;
+      splice = λ others differ. subst (λ (xs : List ℕ). DifferIn c.args.gaps.now old (xs ++ others)) (sym items) differ;
+      steps = omega arith;
+      same = λ same. let none = ap (λ (xs : List ℕ). differing xs old) items in omega arith;
+    }

@@ -1,4 +1,4 @@
-use Rattle.std.proofs.Common.{◌≡◌, ◌+◌, ◌*◌, ◌≤◌, length, drop}
+use Rattle.std.proofs.Common.{◌≡◌, ◌+◌, ◌*◌, ◌≤◌, ◌++◌, ℕ, List, length, drop}
 use Rattle.ibc_nodes.specs.Gaps.{DifferIn, HasFirst, IsFoundFrom}
 use Rattle.ibc_nodes.specs.Leaves.{row_pairs, count_new, keys, differing}
 use Rattle.ibc_nodes.specs.Nodes.{Grows}
@@ -15,6 +15,7 @@ invariant-loop-i l =
       place : l.place ≤ length l.old;
       found : IsFoundFrom last l.place rest;
       gaps : DifferIn (drop l.i l.gaps) (drop l.from last) rest;
+      splice : (others : List ℕ) → DifferIn (drop l.i l.gaps) (drop l.from l.old) others → DifferIn l.gaps l.old (l.row.items ++ others);
       steps : l.arena.steps + 2 * count_new last rest ≤ l.initial.arena.steps + 2 * count_new last l.entries;
       same : keys l.entries ≡ keys last → differing l.row.items l.old + count_new last rest ≤ count_new last l.entries;
     }

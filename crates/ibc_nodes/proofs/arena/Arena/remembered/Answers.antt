@@ -1,5 +1,5 @@
 -- What is remembered is the pair.
-use Rattle.std.proofs.Common.{◌≡◌, ◌<◌, ap, ◌∙◌, arith, length, subst}
+use Rattle.std.proofs.Common.{◌≡◌, ap, ◌∙◌, arith, length, subst}
 use Rattle.ibc_merkle.specs.Tree.{Node}
 use Rattle.ibc_nodes.specs.Levels.{tree_at}
 use Rattle.ibc_nodes.specs.Codes.{HeldArena}
