@@ -1,7 +1,7 @@
 -- The gaps of a map that is touched at a place.
-use Rattle.std.proofs.Common.{◌≡◌, ℕ, suc, ◌+◌, ◌-◌, ◌<◌, ◌≤◌, Bool, true, false, cond, List, [], ◌∷◌, ◌++◌, length, get_or, take, drop, set, refl, sym, ap, ap₂, ◌∙◌, subst, arith, inl, inr, length-drop, length-append, nat_lt, nat_le, Option, Some, None}
+use Rattle.std.proofs.Common.{◌≡◌, ℕ, suc, ◌+◌, ◌-◌, ◌<◌, ◌≤◌, Bool, true, false, cond, List, [], ◌∷◌, ◌++◌, length, get_or, take, drop, set, sym, ap, ap₂, ◌∙◌, subst, arith, inl, inr, length-drop, length-append, nat_lt, nat_le, Option, Some, None}
 use Rattle.std.proofs.lemmas.Bool.{cases_lt, lt-ltb, le-ltb, le-leb, lt-leb, cond-true, cond-false, false≢true}
-use Rattle.std.proofs.lemmas.List.{append-nil, append_assoc, take_all, drop_more, drop_all, drop-drop, drop-take, drop-set-lt, drop-set-add, take-take, take_more, take-set-le, take-append-le, take_at, drop_at, length-set, length-take-le, set_split}
+use Rattle.std.proofs.lemmas.List.{append-nil, append_assoc, take_all, drop_more, drop_all, drop-drop, drop-take, drop-set-lt, take-take, take_more, take-set-le, take_at, drop_at, length-set, length-take-le, set_split}
 use Rattle.std.proofs.Math.Seq.{drop-append-add}
 use Rattle.std.specs.List.{insert, remove}
 use Rattle.ibc_ids.specs.Texts.{Text}
