@@ -1,16 +1,16 @@
 -- A row of leaves and its pairs, from a place on.
-use Rattle.std.proofs.Common.{◌≡◌, ℕ, ◌+◌, ◌<◌, ◌≤◌, Bool, true, false, is_lt, List, [], ◌∷◌, ◌++◌, length, get_or, drop, map, sym, ap, ap₂, ◌∙◌, arith, inl, inr, eq-eqb, length-drop}
+use Rattle.std.proofs.Common.{◌≡◌, ℕ, ◌+◌, ◌<◌, ◌≤◌, Bool, true, false, List, [], ◌∷◌, ◌++◌, length, get_or, drop, map, sym, ap, ap₂, ◌∙◌, arith, inl, inr, eq-eqb}
 use Rattle.std.specs.Prelude.{◌==◌}
 use Rattle.std.proofs.lemmas.Bool.{cases_eq, cases_lt, and_parts, false≢true}
 use Rattle.std.proofs.lemmas.List.{length-map, get_or-map, drop_more, drop_all}
 use Rattle.ibc_ids.specs.Texts.{Text, same_text}
-use Rattle.ibc_ids.proofs.Texts.{text_same, same_text_from, text_ties}
+use Rattle.ibc_ids.proofs.Texts.{text_same}
 use Rattle.ibc_merkle.specs.Tree.{Pairs, Tree, Leaf}
 use Rattle.ibc_merkle.specs.Proofs.{is_below}
 use Rattle.ibc_nodes.specs.Levels.{leaf_of, tree_at, trees_at}
 use Rattle.ibc_nodes.specs.Nodes.{Grows}
 use Rattle.ibc_nodes.specs.Rows.{Stand}
-use Rattle.ibc_nodes.specs.Leaves.{pair_of, pair_at, row_pairs, AreLeaves, same_pair, from_key, behind_key, begins_with, is_new, count_new, keys, unlike, differing}
+use Rattle.ibc_nodes.specs.Leaves.{pair_of, pair_at, row_pairs, AreLeaves, same_pair, from_key, behind_key, begins_with, is_new, keys, unlike, differing}
 use Rattle.ibc_nodes.proofs.Climbing.{row_tree, length-trees_at}
 use Rattle.ibc_nodes.proofs.Pairing.{stand-grows, trees_at-grows}
 
@@ -84,44 +84,13 @@ pub leaves-grows : (a b : List Tree) (row : List ℕ) → Grows a b → AreLeave
 leaves-grows a b row g leaves =
     (stand-grows a b row g leaves.0, trees_at-grows a b row g leaves.0 ∙ leaves.1 ∙ ap (map leaf_of) (sym (pairs-grows a b row g leaves.0)))
 
-pub count_more : (before entries : Pairs) (at i found behind : ℕ) (entry : Text × Text) → i < length entries → entry ≡ get_or entries i entry
-    → drop found before ≡ from_key entry.0 (drop at before) → drop behind before ≡ behind_key entry.0 (drop found before)
-    → count_new (drop at before) (drop i entries) ≡ is_new entry (drop found before) + count_new (drop behind before) (drop (i + 1) entries)
-count_more before entries at i found behind entry l is rest past =
-    let opened : drop i entries ≡ entry ∷ drop (i + 1) entries = drop_more entries i entry l ∙ ap (λ (e : Text × Text). e ∷ drop (i + 1) entries) (sym is) in
-    ap (count_new (drop at before)) opened
-    ∙ ap (λ (pairs : Pairs). is_new entry pairs + count_new (behind_key entry.0 pairs) (drop (i + 1) entries)) (sym rest)
-    ∙ ap (λ (pairs : Pairs). is_new entry (drop found before) + count_new pairs (drop (i + 1) entries)) (sym past)
-
-same_key : (before entries : Pairs) (i : ℕ) (entry d : Text × Text) → keys entries ≡ keys before → i < length entries → entry ≡ get_or entries i entry
+pub same_key : (before entries : Pairs) (i : ℕ) (entry d : Text × Text) → keys entries ≡ keys before → i < length entries → entry ≡ get_or entries i entry
     → (i < length before) × ((get_or before i d).0 ≡ entry.0)
 same_key before entries i entry d same l is =
     let key = λ (pair : Text × Text). pair.0 in
     let counted : length entries ≡ length before = sym (length-map entries key) ∙ ap length same ∙ length-map before key in
     let there : i < length before = omega arith in
     (there, sym (get_or-map key before i d [] there) ∙ sym (ap (λ (ks : List Text). get_or ks i []) same) ∙ get_or-map key entries i entry [] l ∙ sym (ap key is))
-
-pub lockstep : (before entries : Pairs) (i found behind : ℕ) (entry : Text × Text) → keys entries ≡ keys before → i < length entries → entry ≡ get_or entries i entry
-    → found ≤ length before → behind ≤ length before → drop found before ≡ from_key entry.0 (drop i before) → drop behind before ≡ behind_key entry.0 (drop found before)
-    → (i < length before) × (found ≡ i) × (behind ≡ i + 1)
-lockstep before entries i found behind entry same l is within last rest past =
-    let d : Text × Text = ([], []) in
-    let k = same_key before entries i entry d same l is in
-    let pair = get_or before i d in
-    let opened : drop i before ≡ pair ∷ drop (i + 1) before = drop_more before i d k.0 in
-    let not_below : is_below pair.0 entry.0 ≡ false = ap (λ (key : Text). is_below key entry.0) k.1 ∙ ap is_lt (text_ties entry.0) in
-    let same_found : drop found before ≡ drop i before = rest ∙ stops entry.0 (drop i before) (drop (i + 1) before) pair opened not_below in
-    let same_behind : drop behind before ≡ drop (i + 1) before =
-    past ∙ leaves_behind entry.0 (drop found before) (drop (i + 1) before) pair (same_found ∙ opened) (same_text_from pair.0 entry.0 k.1)
-    in
-    let a = length-drop found before in
-    let b = length-drop i before in
-    let c = length-drop behind before in
-    let e = length-drop (i + 1) before in
-    let x = ap length same_found in
-    let y = ap length same_behind in
-    let there = k.0 in
-    (k.0, omega arith, omega arith)
 
 pub unlike_not : (number other : ℕ) → number ≡ other → unlike number other ≡ 0
 unfolding unlike

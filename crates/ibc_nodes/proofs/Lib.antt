@@ -11,4 +11,7 @@ pub mod Putting
 pub mod Turning
 pub mod Places
 pub mod Moved
-pub mod Ends
+pub mod Finding
+pub mod FirstLeaves
+pub mod OverGaps
+pub mod KnownRows

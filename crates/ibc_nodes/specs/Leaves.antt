@@ -1,5 +1,5 @@
 -- Rows of leaves, and how sorted pairs differ from others.
-use Rattle.std.specs.Prelude.{◌≡◌, ℕ, ◌+◌, ◌-◌, ◌≤◌, Bool, true, false, ◌&&◌, ◌==◌, List, [], ◌∷◌, length, take, drop, map}
+use Rattle.std.specs.Prelude.{◌≡◌, ℕ, ◌+◌, Bool, true, false, ◌&&◌, ◌==◌, List, [], ◌∷◌, map}
 use Rattle.ibc_ids.specs.Texts.{Text, same_text}
 use Rattle.ibc_merkle.specs.Tree.{Pairs, Tree, Leaf, Node}
 use Rattle.ibc_merkle.specs.Proofs.{is_below}
@@ -52,13 +52,6 @@ count_new before (pair ∷ pairs) =
 
 abbrev pub keys : Pairs → List Text
 keys pairs = map (λ (pair : Text × Text). pair.0) pairs
-
--- so many first pairs are the same, and so many last ones
-pub record SharesEnds (last pairs : Pairs) (front back : ℕ) : Type 0 where
-  pub front_there : (front ≤ length last) × (front ≤ length pairs)
-  pub back_there : (back ≤ length last) × (back ≤ length pairs)
-  pub same_front : take front pairs ≡ take front last
-  pub same_back : drop (length pairs - back) pairs ≡ drop (length last - back) last
 
 -- 0 for the same number, and else 1
 unfoldable pub unlike : ℕ → ℕ → ℕ

@@ -1,6 +1,7 @@
 pub mod Codes
 pub mod Forest
 pub mod HeldForest
+pub mod Gaps
 pub mod Heights
 pub mod Leaves
 pub mod Levels

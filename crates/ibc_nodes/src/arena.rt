@@ -1,6 +1,6 @@
 //! The nodes of a store's trees, and which pairs of them were hashed.
 
-ghost use Rattle.std.specs.Prelude.{◌≡◌, ◌+◌, ◌<◌, ◌≤◌, ◌∷◌, ◌++◌, [], length, OnOk, OnErr, IfOk};
+ghost use Rattle.std.specs.Prelude.{◌≡◌, ◌+◌, ◌<◌, ◌≤◌, ◌∷◌, ◌++◌, [], length, OnOk, OnErr, IfSome, IfOk};
 ghost use Rattle.ibc_merkle.specs.Tree.{Node, root};
 ghost use Rattle.ibc_nodes.specs.Levels.{leaf_of, tree_at};
 ghost use Rattle.ibc_nodes.specs.Nodes.{built, ChildrenStand, IsRight, Grows};
@@ -134,10 +134,34 @@ impl Arena {
         ensures grows { Grows self.old.trees self.new.trees }
         ensures steps { self.new.steps ≤ self.old.steps + 1 }
     {
+        match self.remembered(left, right) {
+            Some(parent) => Ok(parent),
+            None => self.join(left, right),
+        }
+    }
+
+    // The node over two nodes that the left one remembers, if it does.
+    fn remembered(&self, left: usize, right: usize) -> Option<usize>
+        requires { left < length self.now.trees }
+        ensures made { IfSome result (λ number. tree_at self.now.trees number ≡ Node (tree_at self.now.trees left) (tree_at self.now.trees right)) }
+        ensures there { IfSome result (λ number. number < length self.now.trees) }
+    {
         let known = self.known[left];
         if known.parent > 0 && known.right == right {
-            return Ok(known.parent);
+            return Some(known.parent);
         }
+        None
+    }
+
+    // A new node over two nodes, which the left one remembers: one text is hashed.
+    fn join(&mut self, left: usize, right: usize) -> Result<usize, AllocError>
+        requires left { left < length self.old.trees }
+        requires right { right < length self.old.trees }
+        ensures made { IfOk result (λ number. tree_at self.new.trees number ≡ Node (tree_at self.old.trees left) (tree_at self.old.trees right)) }
+        ensures there { IfOk result (λ number. number < length self.new.trees) }
+        ensures grows { Grows self.old.trees self.new.trees }
+        ensures steps { self.new.steps ≤ self.old.steps + 1 }
+    {
         let (left_digest, right_digest) = (self.digest(left), self.digest(right));
         let digest = hash_inner(&left_digest, &right_digest, &mut self.steps);
         let parent = self.add(ArenaNode {
@@ -147,6 +171,7 @@ impl Arena {
         self.known[left] = Known { right, parent };
         Ok(parent)
     }
+
     /// Lets the left one of two nodes remember the node over them, if it remembers none.
     pub fn remember(&mut self, left: usize, right: usize, parent: usize)
         requires left { left < length self.old.trees }

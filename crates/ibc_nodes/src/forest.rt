@@ -5,14 +5,16 @@ ghost use Rattle.std.specs.FinMap.{is_sorted};
 ghost use Rattle.ibc_ids.specs.Texts.{text_cmp};
 ghost use Rattle.ibc_merkle.specs.Tree.{tree_root};
 ghost use Rattle.ibc_merkle.specs.Written.{written};
-ghost use Rattle.ibc_nodes.specs.Leaves.{count_new, keys, SharesEnds};
+ghost use Rattle.ibc_nodes.specs.Leaves.{count_new, keys};
+ghost use Rattle.ibc_nodes.specs.Gaps.{DifferIn};
 
 use crate::arena::Arena;
+use crate::gap::Gap;
 use crate::moving::{move_kept, move_rows};
 use crate::next_rows::next_rows;
 use crate::proving::prove_in;
 use crate::shared_tree::SharedTree;
-use crate::working::root_of;
+use crate::working::{first_of, root_of};
 use ibc_ids::Root;
 use ibc_merkle::{Entry, Proof};
 use std::alloc::{AllocError, Global};
@@ -42,6 +44,9 @@ pub struct Forest {
 }
 
 impl Model for Forest {
+    ghost use Rattle.std.specs.Prelude.{IsTrue};
+    ghost use Rattle.std.specs.FinMap.{is_sorted};
+    ghost use Rattle.ibc_ids.specs.Texts.{text_cmp};
     ghost use Rattle.ibc_nodes.specs.HeldForest.{HeldForest};
 
     ghost Value = { HeldForest };
@@ -56,7 +61,7 @@ impl Model for Forest {
       digests = forest.digests;
     } };
 
-    ghost invariant = { λ forest. IsLast forest.arena.trees (rows_of forest.rows.items) × AreKept forest.arena.trees forest.kept.items };
+    ghost invariant = { λ forest. IsLast forest.arena.trees (rows_of forest.rows.items) × AreKept forest.arena.trees forest.kept.items × IsTrue (is_sorted text_cmp (row_pairs forest.arena.trees (first_row (rows_of forest.rows.items)))) };
 }
 
 impl Forest {
@@ -107,21 +112,24 @@ impl Forest {
         ensures same { keys entries.now ≡ keys self.old.last → (log : ℕ) → length entries.now ≤ 2 ^ log → OnOk result (self.new.digests ≤ self.old.digests + count_new self.old.last entries.now * (2 + log)) }
         ensures err { OnErr result (self.new ≡ self.old) }
     {
-        self.commit_between(entries, time, 0, 0)
+        let gap = Gap {
+            kept: 0,
+            gone: first_of(self.rows.as_slice()).len(),
+            come: entries.len(),
+        };
+        self.commit_gaps(entries, time, [gap].as_slice())
     }
 
-    /// The same of pairs of which so many first ones and so many last ones are as in the last commit: these aren't looked
-    /// at.
-    pub fn commit_between(
+    /// The same of pairs that differ in gaps alone from those of the last commit: no other pair is looked at.
+    pub fn commit_gaps(
         &mut self,
         entries: &[Entry],
         time: u64,
-        front: usize,
-        back: usize,
+        gaps: &[Gap],
     ) -> Result<Root, AllocError>
         requires some { 0 < length entries.now }
         requires sorted { IsTrue (is_sorted text_cmp entries.now) }
-        requires ends { SharesEnds self.old.last entries.now front back }
+        requires gaps { DifferIn gaps.now self.old.last entries.now }
         ensures root { IfOk result (λ root. root ≡ tree_root entries.now) }
         ensures last { OnOk result (self.new.last ≡ entries.now) }
         ensures kept { OnOk result (self.new.kept ≡ self.old.kept ++ (entries.now, time) ∷ []) }
@@ -133,14 +141,7 @@ impl Forest {
         self.gather();
         let alloc = *self.kept.allocator();
         self.arena.restart();
-        let rows = next_rows(
-            alloc,
-            &mut self.arena,
-            self.rows.as_slice(),
-            entries,
-            front,
-            back,
-        )?;
+        let rows = next_rows(alloc, &mut self.arena, self.rows.as_slice(), entries, gaps)?;
         self.kept.reserve(1)?;
         let root = root_of(&self.arena, rows.as_slice());
         let digest = self.arena.digest(root);

@@ -1,15 +1,17 @@
 //! Rows of leaves.
 
-ghost use Rattle.std.specs.Prelude.{◌≡◌, ◌+◌, ◌*◌, ◌<◌, ◌≤◌, true, Ok, length, drop, map, slice_index_or, take, IfOk};
-ghost use Rattle.ibc_merkle.specs.Tree.{tree};
+ghost use Rattle.std.specs.Prelude.{◌≡◌, ◌+◌, ◌*◌, ◌<◌, ◌≤◌, ◌++◌, true, Ok, length, drop, map, slice_index_or, take, IsTrue, IfOk};
+ghost use Rattle.std.specs.FinMap.{is_sorted};
 ghost use Rattle.ibc_nodes.specs.Levels.{leaf_of, tree_at, trees_at};
-ghost use Rattle.ibc_nodes.specs.Leaves.{pair_at, row_pairs, AreLeaves, from_key, behind_key, begins_with, is_new, count_new, keys, differing, SharesEnds};
+ghost use Rattle.ibc_nodes.specs.Leaves.{pair_at, row_pairs, AreLeaves, from_key, behind_key, begins_with, is_new, count_new, keys, differing};
+ghost use Rattle.ibc_nodes.specs.Gaps.{DifferIn, IsFoundFrom, HasFirst};
 ghost use Rattle.ibc_nodes.specs.Nodes.{Grows};
 ghost use Rattle.ibc_nodes.specs.Rows.{Stand};
-ghost use Rattle.ibc_ids.specs.Texts.{same_text};
+ghost use Rattle.ibc_ids.specs.Texts.{same_text, text_cmp};
 ghost use Rattle.ibc_merkle.specs.Proofs.{is_below};
 
 use crate::arena::Arena;
+use crate::gap::Gap;
 use crate::node::Below;
 use ibc_merkle::Entry;
 use std::alloc::{AllocError, Global};
@@ -101,62 +103,95 @@ fn leaf_for(arena: &mut Arena, row: &[usize], at: usize, entry: &Entry) -> Resul
     arena.leaf(entry.clone()?)
 }
 
-// The leaves of pairs up to a place, of which so many first ones stand in a row of leaves: of the others those of the row
-// where they have the same pairs, and two texts are hashed for each other one.
-fn leaves_until(
-    alloc: Global,
+// Adds the leaves of pairs up to a place to those of the pairs before: those of a row where they have the same pairs, which are
+// looked for from a place of it on, and two texts are hashed for each other one. Answers the place from which the next one
+// is looked for.
+fn add_leaves(
     arena: &mut Arena,
+    row: &mut Vec<usize>,
     old: &[usize],
+    place: usize,
     entries: &[Entry],
-    front: usize,
     end: usize,
-) -> Result<Vec<usize>, AllocError>
+) -> Result<usize, AllocError>
     requires leaves { AreLeaves arena.old.trees old.now }
-    requires there { front ≤ length old.now }
-    requires front { front ≤ end }
+    requires sorted { IsTrue (is_sorted text_cmp entries.now) }
+    requires last { IsTrue (is_sorted text_cmp (row_pairs arena.old.trees old.now)) }
+    requires first { HasFirst arena.old.trees entries.now row.old.items }
+    requires place { place ≤ length old.now }
+    requires found { IsFoundFrom (row_pairs arena.old.trees old.now) place (drop (length row.old.items) entries.now) }
+    requires from { length row.old.items ≤ end }
     requires end { end ≤ length entries.now }
-    requires same { take front entries.now ≡ take front (row_pairs arena.old.trees old.now) }
-    ensures leaves { IfOk result (λ row. trees_at arena.new.trees row.items ≡ map leaf_of (take end entries.now)) }
-    ensures stand { IfOk result (λ row. Stand arena.new.trees row.items) }
+    ensures first { IfOk result (λ _. HasFirst arena.new.trees entries.now row.new.items) }
+    ensures front { IfOk result (λ _. take (length row.old.items) row.new.items ≡ row.old.items) }
+    ensures end { IfOk result (λ _. length row.new.items ≡ end) }
+    ensures place { IfOk result (λ next. next ≤ length old.now) }
+    ensures found { IfOk result (λ next. IsFoundFrom (row_pairs arena.old.trees old.now) next (drop end entries.now)) }
     ensures grows { Grows arena.old.trees arena.new.trees }
-    ensures steps { IfOk result (λ row. arena.new.steps ≤ arena.old.steps + 2 * count_new (row_pairs arena.old.trees old.now) entries.now) }
-    ensures same { keys entries.now ≡ keys (row_pairs arena.old.trees old.now) → IfOk result (λ row. differing row.items old.now ≤ count_new (row_pairs arena.old.trees old.now) entries.now) }
+    ensures steps { let last = row_pairs arena.old.trees old.now in IfOk result (λ _. arena.new.steps + 2 * count_new last (drop end entries.now) ≤ arena.old.steps + 2 * count_new last (drop (length row.old.items) entries.now)) }
+    ensures same { let last = row_pairs arena.old.trees old.now in keys entries.now ≡ keys last → IfOk result (λ _. differing row.new.items old.now + count_new last (drop end entries.now) ≤ differing row.old.items old.now + count_new last (drop (length row.old.items) entries.now)) }
 {
-    let mut row = Vec::with_capacity(alloc, entries.len())?;
-    row.extend_from_slice(&old[..front])?;
-    let mut at = front;
-    for i in front..end {
+    let mut at = place;
+    for i in row.len()..end {
         let entry = &entries[i];
         let found = place_from(arena, old, at, entry.key());
         let leaf = leaf_for(arena, old, found, entry)?;
         row.push(leaf)?;
         at = place_behind(arena, old, found, entry.key());
     }
-    Ok(row)
+    Ok(at)
 }
 
-// The leaves of pairs, of which so many first ones and so many last ones are those of a row of leaves: of the others those
-// of the row where they have the same pairs, and two texts are hashed for each other one.
+// Adds so many numbers of a row from a place on. Answers the place behind them, and where there are none the other one.
+fn add_kept(
+    row: &mut Vec<usize>,
+    old: &[usize],
+    from: usize,
+    kept: usize,
+    place: usize,
+) -> Result<usize, AllocError>
+    requires there { from + kept ≤ length old.now }
+    ensures row { IfOk result (λ _. row.new.items ≡ row.old.items ++ take kept (drop from old.now)) }
+    ensures none { kept ≡ 0 → result ≡ Ok place }
+    ensures some { 0 < kept → IfOk result (λ next. next ≡ from + kept) }
+{
+    if kept == 0 {
+        return Ok(place);
+    }
+    row.extend_from_slice(&old[from..from + kept])?;
+    Ok(from + kept)
+}
+
+// The leaves of pairs that differ in gaps from those of a row of leaves: behind the gaps those of the row, and in them too
+// where they have the same pairs; two texts are hashed for each other one.
 pub(crate) fn leaf_row(
     alloc: Global,
     arena: &mut Arena,
     old: &[usize],
     entries: &[Entry],
-    front: usize,
-    back: usize,
+    gaps: &[Gap],
 ) -> Result<Vec<usize>, AllocError>
     requires leaves { AreLeaves arena.old.trees old.now }
-    requires ends { SharesEnds (row_pairs arena.old.trees old.now) entries.now front back }
+    requires sorted { IsTrue (is_sorted text_cmp entries.now) }
+    requires last { IsTrue (is_sorted text_cmp (row_pairs arena.old.trees old.now)) }
+    requires gaps { DifferIn gaps.now (row_pairs arena.old.trees old.now) entries.now }
     ensures leaves { IfOk result (λ row. trees_at arena.new.trees row.items ≡ map leaf_of entries.now) }
     ensures stand { IfOk result (λ row. Stand arena.new.trees row.items) }
     ensures grows { Grows arena.old.trees arena.new.trees }
     ensures steps { IfOk result (λ row. arena.new.steps ≤ arena.old.steps + 2 * count_new (row_pairs arena.old.trees old.now) entries.now) }
     ensures same { keys entries.now ≡ keys (row_pairs arena.old.trees old.now) → IfOk result (λ row. differing row.items old.now ≤ count_new (row_pairs arena.old.trees old.now) entries.now) }
+    ensures gaps { IfOk result (λ row. DifferIn gaps.now old.now row.items) }
 {
-    let fewer = old.len().min(entries.len());
-    let behind = back.min(fewer - front);
-    let end = entries.len() - behind;
-    let mut row = leaves_until(alloc, arena, old, entries, front, end)?;
-    row.extend_from_slice(&old[old.len() - behind..])?;
+    let mut row = Vec::with_capacity(alloc, entries.len())?;
+    let mut from = 0;
+    let mut place = 0;
+    for i in 0..gaps.len() {
+        let gap = gaps[i];
+        let behind = add_kept(&mut row, old, from, gap.kept, place)?;
+        let end = row.len() + gap.come;
+        place = add_leaves(arena, &mut row, old, behind, entries, end)?;
+        from += gap.kept + gap.gone;
+    }
+    row.extend_from_slice(&old[from..])?;
     Ok(row)
 }

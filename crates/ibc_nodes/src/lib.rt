@@ -5,6 +5,7 @@ mod arena;
 mod ascent;
 mod descent;
 mod forest;
+mod gap;
 mod leaves;
 mod moving;
 mod next_rows;
@@ -18,4 +19,5 @@ mod shelf;
 mod working;
 
 pub use forest::Forest;
+pub use gap::Gap;
 pub use shared_tree::SharedTree;

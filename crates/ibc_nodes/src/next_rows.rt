@@ -1,12 +1,16 @@
 //! The rows of the tree over pairs, from the rows of the tree before.
 
-ghost use Rattle.std.specs.Prelude.{true, false, ◌≡◌, ◌+◌, ◌-◌, ◌*◌, ◌^◌, ◌<◌, ◌≤◌, ℕ, length, IfOk};
-ghost use Rattle.ibc_nodes.specs.Leaves.{row_pairs, count_new, keys, differing, SharesEnds};
+ghost use Rattle.std.specs.Prelude.{true, false, ◌≡◌, ◌+◌, ◌-◌, ◌*◌, ◌^◌, ◌<◌, ◌≤◌, ℕ, List, length, take, IsTrue, IfOk};
+ghost use Rattle.std.specs.FinMap.{is_sorted};
+ghost use Rattle.ibc_ids.specs.Texts.{text_cmp};
+ghost use Rattle.ibc_nodes.specs.Leaves.{row_pairs, count_new, keys, differing};
+ghost use Rattle.ibc_nodes.specs.Gaps.{DifferIn};
 ghost use Rattle.ibc_nodes.specs.Nodes.{Grows};
 ghost use Rattle.ibc_nodes.specs.Rows.{Stand, IsPyramid, rows_of, first_row};
 ghost use Rattle.ibc_nodes.specs.Forest.{IsWorking, IsLast};
 
 use crate::arena::Arena;
+use crate::gap::Gap;
 use crate::leaves::leaf_row;
 use crate::working::{copied, count_differing, first_of, put_leaves, raised};
 use ibc_merkle::Entry;
@@ -46,17 +50,30 @@ fn changed(
     Ok(next)
 }
 
-// The rows over a row of leaves, from the rows before: fewer texts are hashed than there are leaves, and of as many leaves
-// as before at most one for each other leaf and row above it.
+// How many first numbers are the same in rows that differ in gaps, the first of which has so many.
+#[tactic(auto, using(crate::proofs::KnownRows::front_first, crate::proofs::KnownRows::front_all))]
+fn front_of(gaps: &[Gap], all: usize) -> usize
+    ensures { (old row : List ℕ) → length old ≡ all → DifferIn gaps.now old row → (result ≤ length row) × (take result row ≡ take result old) }
+{
+    if gaps.is_empty() {
+        return all;
+    }
+    gaps[0].kept
+}
+
+// The rows over a row of leaves that differs in gaps from the row before, from the rows before: fewer texts are hashed than
+// there are leaves, and of as many leaves as before at most one for each other leaf and row above it.
 fn rows_over(
     alloc: Global,
     arena: &mut Arena,
     rows: &[Vec<usize>],
     row: Vec<usize>,
+    gaps: &[Gap],
 ) -> Result<Vec<Vec<usize>>, AllocError>
     requires last { IsLast arena.old.trees (rows_of rows.now) }
     requires stand { Stand arena.old.trees row.items }
     requires some { 0 < length row.items }
+    requires gaps { DifferIn gaps.now (first_row (rows_of rows.now)) row.items }
     ensures levels { IfOk result (λ next. IsPyramid arena.new.trees (rows_of next.items)) }
     ensures row { IfOk result (λ next. first_row (rows_of next.items) ≡ row.items) }
     ensures grows { Grows arena.old.trees arena.new.trees }
@@ -66,28 +83,31 @@ fn rows_over(
     if are_few(rows, row.as_slice()) {
         return changed(alloc, arena, rows, row.as_slice());
     }
-    raised(alloc, arena, row)
+    let front = front_of(gaps, first_of(rows).len());
+    raised(alloc, arena, row, rows, front)
 }
 
-// The rows of the tree over pairs, of which so many first ones and so many last ones are as before, from the rows before: at most two texts are hashed for each new pair, and fewer over
-// them than there are pairs; where the keys are the same, at most one for each new pair and level above it.
+// The rows of the tree over pairs that differ in gaps from those before, from the rows before: at most two texts are hashed
+// for each new pair, and fewer over them than there are pairs; where the keys are the same, at most one for each new pair and
+// level above it.
 pub(crate) fn next_rows(
     alloc: Global,
     arena: &mut Arena,
     rows: &[Vec<usize>],
     entries: &[Entry],
-    front: usize,
-    back: usize,
+    gaps: &[Gap],
 ) -> Result<Vec<Vec<usize>>, AllocError>
     requires last { IsLast arena.old.trees (rows_of rows.now) }
     requires some { 0 < length entries.now }
-    requires ends { SharesEnds (row_pairs arena.old.trees (first_row (rows_of rows.now))) entries.now front back }
+    requires sorted { IsTrue (is_sorted text_cmp entries.now) }
+    requires sorted_last { IsTrue (is_sorted text_cmp (row_pairs arena.old.trees (first_row (rows_of rows.now)))) }
+    requires gaps { DifferIn gaps.now (row_pairs arena.old.trees (first_row (rows_of rows.now))) entries.now }
     ensures working { IfOk result (λ next. IsWorking arena.new.trees (rows_of next.items)) }
     ensures pairs { IfOk result (λ next. row_pairs arena.new.trees (first_row (rows_of next.items)) ≡ entries.now) }
     ensures grows { Grows arena.old.trees arena.new.trees }
     ensures steps { let new = count_new (row_pairs arena.old.trees (first_row (rows_of rows.now))) entries.now in IfOk result (λ _. arena.new.steps + 1 ≤ arena.old.steps + 2 * new + length entries.now) }
     ensures same { let last = row_pairs arena.old.trees (first_row (rows_of rows.now)) in keys entries.now ≡ keys last → (log : ℕ) → length entries.now ≤ 2 ^ log → IfOk result (λ _. arena.new.steps ≤ arena.old.steps + count_new last entries.now * (2 + log)) }
 {
-    let row = leaf_row(alloc, arena, first_of(rows), entries, front, back)?;
-    rows_over(alloc, arena, rows, row)
+    let row = leaf_row(alloc, arena, first_of(rows), entries, gaps)?;
+    rows_over(alloc, arena, rows, row, gaps)
 }

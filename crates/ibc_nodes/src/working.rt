@@ -1,10 +1,10 @@
 //! The rows of a tree, and what a commit changes in them.
 
-ghost use Rattle.std.specs.Prelude.{◌≡◌, ◌+◌, ◌-◌, ◌*◌, ◌^◌, ◌<◌, ◌≤◌, ℕ, [], length, slice_set, slice_index_or, IfOk};
+ghost use Rattle.std.specs.Prelude.{◌≡◌, ◌+◌, ◌-◌, ◌*◌, ◌^◌, ◌<◌, ◌≤◌, ℕ, [], length, take, drop, slice_set, slice_index_or, IfOk};
 ghost use Rattle.ibc_nodes.specs.Levels.{over, tree_at, trees_at};
 ghost use Rattle.ibc_nodes.specs.Leaves.{row_pairs, count_new, keys, unlike, differing};
 ghost use Rattle.ibc_nodes.specs.Nodes.{Grows};
-ghost use Rattle.ibc_nodes.specs.Rows.{Stand, IsPyramid, Raised, rows_of, first_row};
+ghost use Rattle.ibc_nodes.specs.Rows.{Stand, IsPyramid, AreKnown, Raised, rows_of, first_row};
 
 use crate::arena::Arena;
 use crate::ascent::{climb, put_path};
@@ -20,15 +20,38 @@ pub(crate) fn root_of(arena: &Arena, rows: &[Vec<usize>]) -> usize
     rows[rows.len() - 1][0]
 }
 
-// Adds the rows of the tree over a row of leaves: at most one text less than there are leaves is hashed.
+// The first so many numbers of a row, or all.
+fn first_part(row: &[usize], count: usize) -> &[usize]
+    ensures { result.now ≡ take count row.now }
+{
+    &row[..count.min(row.len())]
+}
+
+// The rows above the first one.
+fn rows_behind(rows: &[Vec<usize>]) -> &[Vec<usize>]
+    ensures { result.now ≡ drop 1 rows.now }
+{
+    if rows.is_empty() {
+        return rows;
+    }
+    &rows[1..]
+}
+
+// Adds the rows of the tree over a row of leaves, of which so many first ones are those of a tree before: what stands over these
+// is taken over. At most one text less than there are leaves is hashed.
 fn add_levels(
     alloc: Global,
     arena: &mut Arena,
     rows: &mut Vec<Vec<usize>>,
     row: Vec<usize>,
+    before: &[Vec<usize>],
+    front: usize,
 ) -> Result<(), AllocError>
     requires stand { Stand arena.old.trees row.items }
     requires some { 0 < length row.items }
+    requires before { AreKnown arena.old.trees (rows_of before.now) }
+    requires there { front ≤ length row.items }
+    requires front { take front row.items ≡ take front (first_row (rows_of before.now)) }
     ensures levels { IfOk result (λ _. Raised arena.new.trees rows.old.items row.items rows.new.items) }
     ensures grows { Grows arena.old.trees arena.new.trees }
     ensures steps { IfOk result (λ _. arena.new.steps + 1 ≤ arena.old.steps + length row.items) }
@@ -37,26 +60,34 @@ fn add_levels(
         rows.push(row)?;
         return Ok(());
     }
-    let above = row_above(alloc, arena, row.as_slice())?;
+    let behind = rows_behind(before);
+    let known = first_part(first_of(behind), front / 2);
+    let above = row_above(alloc, arena, row.as_slice(), known)?;
     rows.push(row)?;
-    add_levels(alloc, arena, rows, above)
+    add_levels(alloc, arena, rows, above, behind, known.len())
 }
 
-// The rows of the tree over a row of leaves: at most one text less than there are leaves is hashed.
+// The rows of the tree over a row of leaves, of which so many first ones are those of a tree before: at most one text less
+// than there are leaves is hashed.
 pub(crate) fn raised(
     alloc: Global,
     arena: &mut Arena,
     row: Vec<usize>,
+    before: &[Vec<usize>],
+    front: usize,
 ) -> Result<Vec<Vec<usize>>, AllocError>
     requires stand { Stand arena.old.trees row.items }
     requires some { 0 < length row.items }
+    requires before { AreKnown arena.old.trees (rows_of before.now) }
+    requires there { front ≤ length row.items }
+    requires front { take front row.items ≡ take front (first_row (rows_of before.now)) }
     ensures levels { IfOk result (λ rows. IsPyramid arena.new.trees (rows_of rows.items)) }
     ensures row { IfOk result (λ rows. first_row (rows_of rows.items) ≡ row.items) }
     ensures grows { Grows arena.old.trees arena.new.trees }
     ensures steps { IfOk result (λ _. arena.new.steps + 1 ≤ arena.old.steps + length row.items) }
 {
     let mut rows = Vec::new(alloc);
-    add_levels(alloc, arena, &mut rows, row)?;
+    add_levels(alloc, arena, &mut rows, row, before, front)?;
     Ok(rows)
 }
 

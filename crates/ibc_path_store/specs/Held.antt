@@ -1,14 +1,14 @@
 -- What a store holds, and what it keeps of each height.
 use Rattle.std.specs.Prelude.{ℕ, ◌+◌, ◌-◌, ◌^◌, min, List, [], ◌∷◌, ◌++◌, length, drop, slice_get, nat_lt, true, false, Option, None}
 use Rattle.ibc_merkle.specs.Tree.{Pairs}
-use Rattle.ibc_path_store.specs.declared.untouched.Untouched.{Untouched}
+use Rattle.ibc_nodes.specs.declared.gap.Gap.{Gap}
 
--- the pairs of a map in the order of their keys, how many more fit without a growth, and which weren't touched since the map
--- was settled
+-- the pairs of a map in the order of their keys, how many more fit without a growth, and the gaps in which the map was touched
+-- since it was settled, if they are known
 pub record HeldMap : Type 0 where
   pub pairs : Pairs
   pub room : ℕ
-  pub untouched : Untouched
+  pub touched : Option (List Gap)
 
 -- what was hashed: the pairs of the last commit, none before the first one, and how many texts for all accepted commits
 pub record Hashed : Type 0 where

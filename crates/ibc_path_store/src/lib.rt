@@ -3,8 +3,8 @@
 
 mod path_map;
 mod store;
+mod touched;
 mod tree;
-mod untouched;
 
 pub use store::Store;
 pub use tree::Tree;

@@ -1,6 +1,6 @@
 //! A map from paths to values, in the order of the paths.
 
-ghost use Rattle.std.specs.Prelude.{◌≡◌, ◌+◌, ◌≤◌, ◌<◌, length, [], IsTrue, IsOk, OnOk, OnErr, IfOk, IfErr, option_map, string_bytes};
+ghost use Rattle.std.specs.Prelude.{◌≡◌, ◌+◌, ◌≤◌, ◌<◌, length, [], Some, IsTrue, IsOk, OnOk, OnErr, IfOk, IfErr, option_map, string_bytes};
 ghost use Rattle.std.specs.List.{HoldsAt};
 ghost use Rattle.std.specs.List.Sorted.{IsPartitionPoint};
 ghost use Rattle.std.specs.FinMap.{is_sorted};
@@ -8,11 +8,12 @@ ghost use Rattle.std.specs.declared.cmp.Ordering.TheVariants.{Less, Equal, Great
 ghost use Rattle.ibc_ids.specs.Texts.{text_cmp};
 ghost use Rattle.ibc_ids.specs.Maps.{at, with, without};
 ghost use Rattle.ibc_merkle.specs.Tree.{Pairs};
-ghost use Rattle.ibc_nodes.specs.Leaves.{SharesEnds};
+ghost use Rattle.ibc_path_store.specs.Touching.{Shares};
 
-use crate::untouched::Untouched;
+use crate::touched::Touched;
 use ibc_ids::Bytes;
 use ibc_merkle::{Entry, place};
+use ibc_nodes::Gap;
 use std::alloc::{AllocError, Global};
 use std::marker::Model;
 
@@ -20,7 +21,7 @@ use std::marker::Model;
 #[derive(Drop, Debug)]
 pub struct PathMap {
     entries: Vec<Entry>,
-    untouched: Untouched,
+    touched: Touched,
 }
 
 impl Model for PathMap {
@@ -34,7 +35,7 @@ impl Model for PathMap {
     ghost view = { λ map. record {
       pairs = map.entries.items;
       room = vec_capacity map.entries - vec_len map.entries;
-      untouched = map.untouched;
+      touched = map.touched;
     } };
 
     ghost invariant = { λ map. IsTrue (is_sorted text_cmp map.entries.items) };
@@ -44,11 +45,11 @@ impl PathMap {
     /// An empty map.
     pub fn new(alloc: Global) -> PathMap
         ensures pairs { result.pairs ≡ [] }
-        ensures untouched { result.untouched ≡ record { front = 0; back = 0 } }
+        ensures touched { result.touched ≡ Some [] }
     {
         PathMap {
             entries: Vec::new(alloc),
-            untouched: Untouched::all(0),
+            touched: Touched::none(alloc),
         }
     }
 
@@ -67,20 +68,18 @@ impl PathMap {
         ensures reserved { 0 < self.old.room → IsOk result }
         ensures room { self.old.room ≤ self.new.room + 1 }
         ensures err { OnErr result (self.new.pairs ≡ self.old.pairs) }
-        ensures ends { (last : Pairs) → SharesEnds last self.old.pairs self.old.untouched.front self.old.untouched.back → SharesEnds last self.new.pairs self.new.untouched.front self.new.untouched.back }
+        ensures shares { (last : Pairs) → Shares self.old.touched last self.old.pairs → Shares self.new.touched last self.new.pairs }
     {
         let key = Bytes::from_vec(path.into_bytes());
         match self.place(key.as_slice()) {
             Ok(index) => {
-                let behind = self.entries.len() - index - 1;
                 self.entries[index].set_value(value);
-                self.untouched.touch(index, behind);
+                self.touched.touch(index, 1, 1);
                 Ok(())
             }
             Err(index) => {
-                let behind = self.entries.len() - index;
                 self.entries.insert(index, Entry::new(key, value))?;
-                self.untouched.touch(index, behind);
+                self.touched.touch(index, 0, 1);
                 Ok(())
             }
         }
@@ -100,28 +99,27 @@ impl PathMap {
     pub fn remove(&mut self, path: &str)
         ensures pairs { self.new.pairs ≡ without text_cmp path.now self.old.pairs }
         ensures room { self.old.room ≤ self.new.room }
-        ensures ends { (last : Pairs) → SharesEnds last self.old.pairs self.old.untouched.front self.old.untouched.back → SharesEnds last self.new.pairs self.new.untouched.front self.new.untouched.back }
+        ensures shares { (last : Pairs) → Shares self.old.touched last self.old.pairs → Shares self.new.touched last self.new.pairs }
     {
         if let Ok(index) = self.place(path.as_bytes()) {
-            let behind = self.entries.len() - index - 1;
             self.entries.remove(index);
-            self.untouched.touch(index, behind);
+            self.touched.touch(index, 1, 0);
         }
     }
 
-    /// Begins to note anew which pairs aren't touched.
+    /// Begins to note anew where it is touched.
     pub fn settle(&mut self)
-        ensures same { self.new ≡ record self.old { untouched = record { front = length self.old.pairs; back = length self.old.pairs } } }
-        ensures ends { SharesEnds self.old.pairs self.new.pairs self.new.untouched.front self.new.untouched.back }
+        ensures same { self.new ≡ record self.old { touched = Some [] } }
+        ensures shares { Shares self.new.touched self.old.pairs self.new.pairs }
     {
-        self.untouched = Untouched::all(self.entries.len());
+        self.touched.clear();
     }
 
-    /// Which pairs weren't touched since the map was settled.
-    pub fn untouched(&self) -> Untouched
-        ensures { result ≡ self.now.untouched }
+    /// The gaps in which the map was touched since it was settled, or none where there was no memory to note them.
+    pub fn gaps(&self) -> Option<&[Gap]>
+        ensures { option_map (λ gaps. gaps.now) result ≡ self.now.touched }
     {
-        self.untouched
+        self.touched.gaps()
     }
 
     /// The pairs; their keys strictly rise in byte order.

@@ -1,6 +1,6 @@
 //! A store of records by path, with its committed heights.
 
-ghost use Rattle.std.specs.Prelude.{◌≡◌, ◌⊎◌, ◌↔◌, ◌+◌, ◌-◌, ◌*◌, ◌^◌, ◌≤◌, ◌<◌, ℕ, [], length, min, IsTrue, IsOk, OnOk, OnErr, IfSome, IfOk, IfErr, IsNone, Some, None, slice_index_or, option_map, string_bytes};
+ghost use Rattle.std.specs.Prelude.{◌≡◌, ◌⊎◌, ◌↔◌, ◌+◌, ◌-◌, ◌*◌, ◌^◌, ◌≤◌, ◌<◌, ◌∷◌, ◌++◌, ℕ, [], length, min, IsTrue, IsOk, OnOk, OnErr, IfSome, IfOk, IfErr, IsNone, Some, None, slice_index_or, option_map, string_bytes};
 ghost use Rattle.std.specs.Option.{IsSomeAnd};
 ghost use Rattle.ibc_ids.specs.Texts.{text_cmp};
 ghost use Rattle.ibc_ids.specs.Maps.{at, with, without};
@@ -10,14 +10,14 @@ ghost use Rattle.ibc_merkle.specs.Tree.{tree_root};
 ghost use Rattle.ibc_merkle.specs.Written.{written};
 ghost use Rattle.ibc_nodes.specs.Leaves.{count_new, keys};
 ghost use Rattle.ibc_path_store.specs.Held.{committed, height_of, kept_at};
+ghost use Rattle.ibc_path_store.specs.Touching.{Shares};
 
 use crate::path_map::PathMap;
 use crate::tree::Tree;
-use crate::untouched::Untouched;
 use ibc_ids::{Bytes, Key, Refusal, Root};
 use ibc_merkle::Proof;
 use ibc_nodes::Forest;
-use std::alloc::Global;
+use std::alloc::{AllocError, Global};
 use std::marker::Model;
 
 /// A chain's provable records: a working map from paths to values, the working time, and of the committed heights the
@@ -34,8 +34,8 @@ pub struct Store {
 
 impl Model for Store {
     ghost use Rattle.std.specs.Prelude.{◌≤◌, length};
-    ghost use Rattle.ibc_nodes.specs.Leaves.{SharesEnds};
     ghost use Rattle.ibc_path_store.specs.Held.{HeldStore};
+    ghost use Rattle.ibc_path_store.specs.Touching.{Shares};
 
     ghost Value = { HeldStore };
 
@@ -49,7 +49,7 @@ impl Model for Store {
       hashed = record { last = store.forest.last; digests = store.forest.digests };
     } };
 
-    ghost invariant = { λ store. (length store.forest.kept ≤ store.window) × SharesEnds store.forest.last store.map.pairs store.map.untouched.front store.map.untouched.back };
+    ghost invariant = { λ store. (length store.forest.kept ≤ store.window) × Shares store.map.touched store.forest.last store.map.pairs };
 }
 
 impl Store {
@@ -151,10 +151,7 @@ impl Store {
         if next_time < self.time {
             return Err(Refusal::TimeBack);
         }
-        let Untouched { front, back } = self.map.untouched();
-        let root = self
-            .forest
-            .commit_between(self.map.entries(), self.time, front, back)?;
+        let root = commit_map(&mut self.forest, &self.map, self.time)?;
         self.map.settle();
         self.time = next_time;
         if self.forest.heights() as u64 > self.window {
@@ -205,5 +202,24 @@ impl Store {
         } else {
             None
         }
+    }
+}
+
+// Commits the pairs of a map with a time: in the gaps in which it was touched, if they are known.
+fn commit_map(forest: &mut Forest, map: &PathMap, time: u64) -> Result<Root, AllocError>
+    requires some { 0 < length map.now.pairs }
+    requires shares { Shares map.now.touched forest.old.last map.now.pairs }
+    ensures root { IfOk result (λ root. root ≡ tree_root map.now.pairs) }
+    ensures last { OnOk result (forest.new.last ≡ map.now.pairs) }
+    ensures kept { OnOk result (forest.new.kept ≡ forest.old.kept ++ (map.now.pairs, time) ∷ []) }
+    ensures more { forest.old.digests ≤ forest.new.digests }
+    ensures few { OnOk result (forest.new.digests + 1 ≤ forest.old.digests + 2 * count_new forest.old.last map.now.pairs + length map.now.pairs) }
+    ensures same { keys map.now.pairs ≡ keys forest.old.last → (log : ℕ) → length map.now.pairs ≤ 2 ^ log → OnOk result (forest.new.digests ≤ forest.old.digests + count_new forest.old.last map.now.pairs * (2 + log)) }
+    ensures size { OnOk result (length map.now.pairs < 2 ^ 64) }
+    ensures err { OnErr result (forest.new ≡ forest.old) }
+{
+    match map.gaps() {
+        Some(gaps) => forest.commit_gaps(map.entries(), time, gaps),
+        None => forest.commit(map.entries(), time),
     }
 }

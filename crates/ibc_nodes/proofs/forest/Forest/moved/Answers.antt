@@ -1,6 +1,8 @@
 -- Over other nodes the rows and the heights are what they were.
 use Rattle.std.proofs.Common.{ℕ, List, sym, ap, ap₂, ◌∙◌, subst, Vec}
+use Rattle.std.specs.FinMap.{is_sorted}
 use Rattle.std.specs.declared.alloc.Global.{Global}
+use Rattle.ibc_ids.specs.Texts.{text_cmp}
 use Rattle.ibc_merkle.specs.Tree.{Pairs, Tree}
 use Rattle.ibc_nodes.specs.Forest.{kept_pairs}
 use Rattle.ibc_nodes.specs.HeldForest.{HeldForest}
@@ -20,6 +22,10 @@ invariant_of-result c = (
   (last_moved_on c.self.inside.arena.trees c.nodes-nodes.result.now c.move_rows.new.new.trees c.move_kept.new.new.trees c.self.inside.rows.items c.as_slice.result.now c.in_ok-rows.rows.items
       c.nodes-nodes.ensures c.as_slice.ensures.value c.in_ok-rows.ensures.same c.in_ok-rows.ensures.stand c.move_kept.ensures.grows c.self.invariant.0).0,
   c.in_ok-kept.ensures.kept,
+  ap (is_sorted text_cmp)
+      (last_moved_on c.self.inside.arena.trees c.nodes-nodes.result.now c.move_rows.new.new.trees c.move_kept.new.new.trees c.self.inside.rows.items c.as_slice.result.now c.in_ok-rows.rows.items
+      c.nodes-nodes.ensures c.as_slice.ensures.value c.in_ok-rows.ensures.same c.in_ok-rows.ensures.stand c.move_kept.ensures.grows c.self.invariant.0).1
+      ∙ c.self.invariant.2,
 )
 
 pub returns : goal.returns

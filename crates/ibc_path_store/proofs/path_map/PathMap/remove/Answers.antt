@@ -1,12 +1,14 @@
 -- The pairs without the one at the place of the path.
-use Rattle.std.proofs.Common.{◌≡◌, ◌-◌, true, get_or, length, arith, ap, ◌∙◌, sym}
+use Rattle.std.proofs.Common.{◌≡◌, true, get_or, subst, ap, ◌∙◌, sym}
 use Rattle.std.specs.List.{remove}
 use Rattle.std.specs.FinMap.{is_sorted}
 use Rattle.ibc_ids.specs.Texts.{text_cmp}
 use Rattle.ibc_ids.specs.Maps.{without}
 use Rattle.ibc_path_store.specs.Held.{HeldMap}
 use Rattle.ibc_merkle.proofs.Places.{found-without, gap-without, remove_is_sorted}
-use Rattle.ibc_path_store.proofs.Touched.{touched_gone, ends_after}
+use Rattle.ibc_merkle.specs.Tree.{Pairs}
+use Rattle.ibc_path_store.specs.Touching.{Shares}
+use Rattle.ibc_path_store.proofs.Touching.{replaced_gone}
 use Rattle.ibc_path_store.proofs.path_map.PathMap.remove.Goals as goal
 
 pairs_are : (c : goal.After-touch) → c.self.inside.entries.items ≡ c.args.self.now.pairs
@@ -37,12 +39,9 @@ returns-in_default-clause-pairs c =
     gap-without c.args.self.now.pairs c.as_bytes.result.now c.in_default.field-0 c.in_default.ensures.within c.in_default.ensures.gap
     ∙ ap (λ path. without text_cmp path c.args.self.now.pairs) c.as_bytes.ensures.value
 
-pub returns-in-Ok-clause-ends : goal.returns-in-Ok-clause-ends
-returns-in-Ok-clause-ends c = λ last ends.
-    let pairs = c.args.self.now.pairs in
+pub returns-in-Ok-clause-shares : goal.returns-in-Ok-clause-shares
+returns-in-Ok-clause-shares c = λ last shares.
+    let pairs : Pairs = c.args.self.now.pairs in
     let i = c.in-Ok.index in
-    let old = c.args.self.now.untouched in
-    ends_after last c.remove.new.self.items old c.self.inside.untouched c.touch.new.self i (length pairs - i - 1) _
-    (ap (λ (map : HeldMap). map.untouched) c.self.view_is) c.touch.ensures
-    (let counted = c.len.ensures in let same = ap length (pairs_are c) in omega arith)
-    (touched_gone last pairs c.remove.new.self.items old.front old.back i c.in-Ok.ensures.found (items_are c) ends)
+    c.touch.ensures last pairs c.remove.new.self.items (subst (λ gaps. Shares gaps last pairs) (sym (ap (λ (map : HeldMap). map.touched) c.self.view_is)) shares)
+    (replaced_gone pairs c.remove.new.self.items i c.in-Ok.ensures.found (items_are c))

@@ -1,5 +1,5 @@
 -- The pairs with the value at the place of the path.
-use Rattle.std.proofs.Common.{◌≡◌, ◌-◌, true, ℕ, get_or, length, set, arith, ap, ◌∙◌, sym, string_bytes, Vec}
+use Rattle.std.proofs.Common.{◌≡◌, true, ℕ, get_or, set, subst, ap, ◌∙◌, sym, string_bytes, Vec}
 use Rattle.std.specs.List.{insert}
 use Rattle.std.specs.FinMap.{is_sorted}
 use Rattle.std.specs.declared.alloc.Global.{Global}
@@ -7,7 +7,9 @@ use Rattle.ibc_ids.specs.Texts.{Text, text_cmp}
 use Rattle.ibc_ids.specs.Maps.{with}
 use Rattle.ibc_path_store.specs.Held.{HeldMap}
 use Rattle.ibc_merkle.proofs.Places.{found-with, gap-with, set_is_sorted, insert_is_sorted}
-use Rattle.ibc_path_store.proofs.Touched.{touched_value, touched_new, ends_after}
+use Rattle.ibc_merkle.specs.Tree.{Pairs}
+use Rattle.ibc_path_store.specs.Touching.{Shares}
+use Rattle.ibc_path_store.proofs.Touching.{replaced_value, replaced_new}
 use Rattle.ibc_path_store.proofs.path_map.PathMap.set.Goals as goal
 
 -- ---- a path that is there
@@ -41,15 +43,12 @@ returns-in-Ok-clause-ok c =
     ∙ found-with c.args.self.now.pairs c.as_slice.result.now c.in-Ok.index c.index_mut.result.now c.args.value (found_sorted c) c.in-Ok.ensures.found (stands c) (c.in-Ok.ensures.here c.index_mut.result.now)
     ∙ ap (λ path. with text_cmp path c.args.value c.args.self.now.pairs) (found_path c)
 
-pub returns-in-Ok-clause-ends : goal.returns-in-Ok-clause-ends
-returns-in-Ok-clause-ends c = λ last ends.
-    let pairs = c.args.self.now.pairs in
+pub returns-in-Ok-clause-shares : goal.returns-in-Ok-clause-shares
+returns-in-Ok-clause-shares c = λ last shares.
+    let pairs : Pairs = c.args.self.now.pairs in
     let i = c.in-Ok.index in
-    let old = c.args.self.now.untouched in
-    ends_after last (set c.self.inside.entries.items i c.set_value.new.self) old c.self.inside.untouched c.touch.new.self i (length pairs - i - 1) _
-    (ap (λ (map : HeldMap). map.untouched) c.self.view_is) c.touch.ensures
-    (let counted = c.len.ensures in let same = ap length (found_pairs c) in omega arith)
-    (touched_value last pairs (set c.self.inside.entries.items i c.set_value.new.self) old.front old.back i (c.index_mut.result.now.0, c.args.value) c.in-Ok.ensures.found (found_items c) ends)
+    c.touch.ensures last pairs (set c.self.inside.entries.items i c.set_value.new.self) (subst (λ gaps. Shares gaps last pairs) (sym (ap (λ (map : HeldMap). map.touched) c.self.view_is)) shares)
+    (replaced_value pairs (set c.self.inside.entries.items i c.set_value.new.self) i (c.index_mut.result.now.0, c.args.value) c.in-Ok.ensures.found (found_items c))
 
 -- ---- a new path
 
@@ -76,12 +75,9 @@ returns-in_ok-insert-in-Err-clause-ok c =
     ∙ gap-with c.args.self.now.pairs c.as_slice.result.now c.args.value c.in-Err.index c.in-Err.ensures.within c.in-Err.ensures.gap
     ∙ ap (λ path. with text_cmp path c.args.value c.args.self.now.pairs) (c.as_slice.ensures ∙ key_path c)
 
-pub returns-in_ok-insert-in-Err-clause-ends : goal.returns-in_ok-insert-in-Err-clause-ends
-returns-in_ok-insert-in-Err-clause-ends c = λ last ends.
-    let pairs = c.args.self.now.pairs in
+pub returns-in_ok-insert-in-Err-clause-shares : goal.returns-in_ok-insert-in-Err-clause-shares
+returns-in_ok-insert-in-Err-clause-shares c = λ last shares.
+    let pairs : Pairs = c.args.self.now.pairs in
     let i = c.in-Err.index in
-    let old = c.args.self.now.untouched in
-    ends_after last c.insert.new.self.items old c.self.inside.untouched c.touch-in-Err.new.self i (length pairs - i) _
-    (ap (λ (map : HeldMap). map.untouched) c.self.view_is) c.touch-in-Err.ensures
-    (let counted = c.len-in-Err.ensures in let same = ap length (new_pairs c) in omega arith)
-    (touched_new last pairs c.insert.new.self.items old.front old.back i (c.as_slice.result.now, c.args.value) c.in-Err.ensures.within (new_items c) ends)
+    c.touch-in-Err.ensures last pairs c.insert.new.self.items (subst (λ gaps. Shares gaps last pairs) (sym (ap (λ (map : HeldMap). map.touched) c.self.view_is)) shares)
+    (replaced_new pairs c.insert.new.self.items i (c.as_slice.result.now, c.args.value) c.in-Err.ensures.within (new_items c))

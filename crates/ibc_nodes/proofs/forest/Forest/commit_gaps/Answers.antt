@@ -18,7 +18,7 @@ use Rattle.ibc_nodes.proofs.Chunks.{on_err}
 use Rattle.ibc_nodes.proofs.LeafRows.{length-row_pairs}
 use Rattle.ibc_nodes.proofs.Committing.{Committed, committed}
 use Rattle.ibc_nodes.proofs.Turning.{last-grows, last_pairs-grows, working_last, kept-grows, kept_pairs-grows}
-use Rattle.ibc_nodes.proofs.forest.Forest.commit_between.Goals as goal
+use Rattle.ibc_nodes.proofs.forest.Forest.commit_gaps.Goals as goal
 
 -- ---- a refusal
 
@@ -27,7 +27,7 @@ invariant_of-self c =
     let before = c.self.inside.arena.trees in
     let after = c.next_rows.new.arena.trees in
     let g : Grows before after = subst (λ trees. Grows trees after) (ap (λ (a : HeldArena). a.trees) c.restart.ensures) c.next_rows.ensures.grows in
-    (last-grows before after (rows_of c.self.inside.rows.items) g c.self.invariant.0, kept-grows before after c.self.inside.kept.items g c.self.invariant.1)
+    (last-grows before after (rows_of c.self.inside.rows.items) g c.self.invariant.0, kept-grows before after c.self.inside.kept.items g c.self.invariant.1, ap (is_sorted text_cmp) (last_pairs-grows before after (rows_of c.self.inside.rows.items) g c.self.invariant.0) ∙ c.self.invariant.2)
 
 pub returns-in_err-rows-clause-err : goal.returns-in_err-rows-clause-err
 returns-in_err-rows-clause-err c =
@@ -46,6 +46,7 @@ invariant_of-self-in_err-reserve c =
     let g : Grows before after = subst (λ trees. Grows trees after) (ap (λ (a : HeldArena). a.trees) c.restart.ensures) c.next_rows.ensures.grows in (
       last-grows before after (rows_of c.self.inside.rows.items) g c.self.invariant.0,
       subst (AreKept after) (sym c.reserve.ensures.items) (kept-grows before after c.self.inside.kept.items g c.self.invariant.1),
+      ap (is_sorted text_cmp) (last_pairs-grows before after (rows_of c.self.inside.rows.items) g c.self.invariant.0) ∙ c.self.invariant.2,
     )
 
 pub returns-in_err-reserve-clause-err : goal.returns-in_err-reserve-clause-err
@@ -87,6 +88,7 @@ invariant_of-self-2 c =
             over = (new_height c).is_tree;
             sorted = ap (is_sorted text_cmp) ((new_height c).same ∙ c.in_ok-rows.ensures.pairs) ∙ c.requires.sorted;
           })),
+      ap (is_sorted text_cmp) c.in_ok-rows.ensures.pairs ∙ c.requires.sorted,
     )
 
 pub returns-clause-root : goal.returns-clause-root

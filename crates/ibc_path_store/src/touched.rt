@@ -1,0 +1,157 @@
+//! Where a map was touched.
+
+ghost use Rattle.std.specs.Prelude.{◌≡◌, ◌+◌, ◌-◌, ◌<◌, ◌≤◌, ◌++◌, ◌∷◌, [], ℕ, true, false, Some, length, take, drop, slice_set, slice_index_or, option_map};
+ghost use Rattle.ibc_merkle.specs.Tree.{Pairs};
+ghost use Rattle.ibc_path_store.specs.Touching.{Shares, IsReplaced, no_gap, shrunk, touched};
+
+use ibc_nodes::Gap;
+use std::alloc::Global;
+use std::marker::Model;
+
+/// The gaps in which a map was touched since it was settled, in the order of its pairs. Where there is no memory for one more,
+/// they are lost, and any pair may have been touched. Contracts see the gaps, or none where they are lost.
+#[derive(Drop, Debug)]
+pub struct Touched {
+    gaps: Vec<Gap>,
+    lost: bool,
+}
+
+impl Model for Touched {
+    ghost use Rattle.std.specs.Prelude.{Option, Some, None, List, true, false};
+    ghost use Rattle.ibc_nodes.specs.declared.gap.Gap.{Gap};
+
+    ghost Value = { Option (List Gap) };
+
+    ghost view = { λ touched. elim touched.lost [ true ↦ None | false ↦ Some touched.gaps.items ] };
+}
+
+impl Touched {
+    /// No pair was touched.
+    pub fn none(alloc: Global) -> Touched
+        ensures { result ≡ Some [] }
+    {
+        Touched {
+            gaps: Vec::new(alloc),
+            lost: false,
+        }
+    }
+
+    /// Begins anew: no pair was touched.
+    pub fn clear(&mut self)
+        ensures { self.new ≡ Some [] }
+    {
+        self.gaps.clear();
+        self.lost = false;
+    }
+
+    /// The gaps, or none where they are lost.
+    pub fn gaps(&self) -> Option<&[Gap]>
+        ensures { option_map (λ gaps. gaps.now) result ≡ self.now }
+    {
+        if self.lost {
+            return None;
+        }
+        Some(self.gaps.as_slice())
+    }
+
+    /// Notes that at a place so many pairs, one at most, were replaced by so many others.
+    #[tactic(auto, using(crate::proofs::Touching::shares_lost, crate::proofs::Touching::shares_touched))]
+    pub fn touch(&mut self, index: usize, gone: usize, come: usize)
+        requires { gone ≤ 1 }
+        ensures { (last pairs after : Pairs) → Shares self.old last pairs → IsReplaced pairs after index gone come → Shares self.new last after }
+    {
+        if self.lost {
+            return;
+        }
+        if touch_gaps(&mut self.gaps, index, gone, come) {
+            return;
+        }
+        self.lost = true;
+    }
+}
+
+// Whether the place of a gap behind which so many pairs stand lies in it, with as many pairs as are gone there.
+fn is_in(gap: Gap, before: usize, gone: usize) -> bool
+    requires { gap.kept ≤ before }
+    ensures inside { result ≡ true → before - gap.kept + gone ≤ gap.come }
+    ensures past { result ≡ false → gap.come < before - gap.kept + gone }
+{
+    gone <= gap.come && before - gap.kept <= gap.come - gone
+}
+
+// The number of the gap in which or in front of which a place lies, and how many pairs stand between the gap before and the place.
+#[tactic(auto, using(crate::proofs::Touching::touched_further))]
+fn place_of(gaps: &[Gap], index: usize, gone: usize) -> (usize, usize)
+    requires { gone ≤ 1 }
+    ensures within { result.0 ≤ length gaps.now }
+    ensures rest { (come : ℕ) → touched gaps.now index gone come ≡ take result.0 gaps.now ++ touched (drop result.0 gaps.now) result.1 gone come }
+    ensures inside { let gap = slice_index_or gaps.now result.0 no_gap in result.0 < length gaps.now → gap.kept ≤ result.1 → result.1 - gap.kept + gone ≤ gap.come }
+{
+    let mut before = index;
+    for i in 0..gaps.len() {
+        let gap = gaps[i];
+        if before < gap.kept || is_in(gap, before, gone) {
+            return (i, before);
+        }
+        before -= gap.kept;
+        before -= gap.come;
+    }
+    (gaps.len(), before)
+}
+
+// Lets a gap be wider: so many of its pairs are replaced by so many others. Answers whether their number fits.
+fn widen(gaps: &mut [Gap], number: usize, gone: usize, come: usize) -> bool
+    requires there { number < length gaps.old }
+    requires gone { gone ≤ (slice_index_or gaps.old number no_gap).come }
+    ensures { let gap = slice_index_or gaps.old number no_gap in result ≡ true → gaps.new ≡ slice_set gaps.old number (record gap { come = gap.come - gone + come }) }
+{
+    let gap = gaps[number];
+    match (gap.come - gone).checked_add(come) {
+        Some(all) => {
+            gaps[number] = Gap { come: all, ..gap };
+            true
+        }
+        None => false,
+    }
+}
+
+// Takes a gap that comes in front of another one from what stays there.
+#[tactic(auto, using(crate::proofs::Touching::shrunk_at, crate::proofs::Touching::shrunk_none))]
+fn shrink(gaps: &mut [Gap], number: usize, gap: Gap)
+    requires { number < length gaps.old → gap.kept + gap.gone ≤ (slice_index_or gaps.old number no_gap).kept }
+    ensures { gaps.new ≡ take number gaps.old ++ shrunk (drop number gaps.old) (gap.kept + gap.gone) }
+{
+    if number < gaps.len() {
+        let kept = gaps[number].kept;
+        gaps[number].kept = kept - (gap.kept + gap.gone);
+    }
+}
+
+// Puts a gap in front of one, or behind all. Answers whether there is memory for it.
+#[tactic(auto, using(crate::proofs::Touching::insert_own))]
+fn put(gaps: &mut Vec<Gap>, number: usize, gap: Gap) -> bool
+    requires there { number ≤ length gaps.old.items }
+    requires fits { number < length gaps.old.items → gap.kept + gap.gone ≤ (slice_index_or gaps.old.items number no_gap).kept }
+    ensures { result ≡ true → gaps.new.items ≡ take number gaps.old.items ++ gap ∷ shrunk (drop number gaps.old.items) (gap.kept + gap.gone) }
+{
+    shrink(gaps.as_mut_slice(), number, gap);
+    gaps.insert(number, gap).is_ok()
+}
+
+// Notes among gaps that at a place so many pairs were replaced by so many others. Answers whether there is room for it.
+#[tactic(auto, using(crate::proofs::Touching::touched_own, crate::proofs::Touching::touched_wide))]
+fn touch_gaps(gaps: &mut Vec<Gap>, index: usize, gone: usize, come: usize) -> bool
+    requires { gone ≤ 1 }
+    ensures { result ≡ true → gaps.new.items ≡ touched gaps.old.items index gone come }
+{
+    let (number, before) = place_of(gaps.as_slice(), index, gone);
+    if number < gaps.len() && gaps[number].kept <= before {
+        return widen(gaps.as_mut_slice(), number, gone, come);
+    }
+    let gap = Gap {
+        kept: before,
+        gone,
+        come,
+    };
+    put(gaps, number, gap)
+}
