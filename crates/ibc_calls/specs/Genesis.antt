@@ -44,7 +44,7 @@ unfoldable pub AddsBalance : Text → Text → ℕ → GenesisState → GenesisS
 AddsBalance user denom amount old new answer =
     ((answer ≡ Ok tt) × IsTrue (is_user user) × IsTrue (is_denom denom)
     × (before : List ChainState) × (chain : ChainState) × (old.chains ≡ before ++ chain ∷ [])
-    × (new ≡ record old { chains = before ++ with_holding (user, (denom, amount)) chain ∷ [] }))
+    × (new ≡ record old { chains = before ++ with_holding (user, denom, amount) chain ∷ [] }))
     ⊎ ((new ≡ old) × (((answer ≡ Err NothingThere) × (old.chains ≡ [])) ⊎ (answer ≡ Err (Core BadName)) ⊎ (answer ≡ Err (Core NoMemory))))
 
 unfoldable pub ChainAdded : ℕ → Option Held → Option Held → Answer → Type 0

@@ -63,7 +63,7 @@ unfoldable pub FindsHolding : ℕ → ℕ → Option Held → Result Text Refuse
 FindsHolding chain index old found = IsHoldingText (holding_at chain index old) found
 
 abbrev pub IsHoldingAmount : Result Holding Refused → Amount → Amount → Answer → Type 0
-IsHoldingAmount (Ok holding) old new answer = (amount_of new ≡ holding.1.1) × (answer ≡ Ok tt)
+IsHoldingAmount (Ok holding) old new answer = (amount_of new ≡ holding.2) × (answer ≡ Ok tt)
 IsHoldingAmount (Err why) old new answer = (new ≡ old) × (answer ≡ Err why)
 
 unfoldable pub TellsHolding : ℕ → ℕ → Option Held → Amount → Amount → Answer → Type 0

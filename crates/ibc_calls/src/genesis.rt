@@ -144,7 +144,7 @@ fn hold(
     denom: Denom,
     amount: u128,
 ) -> Result<(), AllocError>
-    ensures ok { OnOk result (start.new.balances.items ≡ start.old.balances.items ++ (user, (denom, amount)) ∷ []) }
+    ensures ok { OnOk result (start.new.balances.items ≡ start.old.balances.items ++ (user, denom, amount) ∷ []) }
     ensures err { OnErr result (start.new.balances.items ≡ start.old.balances.items) }
     ensures time { start.new.time ≡ start.old.time }
 {
