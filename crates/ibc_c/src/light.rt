@@ -28,12 +28,7 @@ pub extern "C" fn ibcw_verify_present(
 /// Whether the bytes spell a proof that shows that the key isn't there under the root (ICS 23, "VerifyNonMembership"). Answers as
 /// `ibcw_verify_present`.
 #[unsafe(no_mangle)]
-pub extern "C" fn ibcw_verify_absent(
-    alloc: Global,
-    root: &[u8],
-    key: &[u8],
-    proof: &[u8],
-) -> u32
+pub extern "C" fn ibcw_verify_absent(alloc: Global, root: &[u8], key: &[u8], proof: &[u8]) -> u32
     ensures { (result ≡ 1) ⊎ (result ≡ code_of (judged root.now proof.now (λ p. accepts_absent p root.now key.now))) }
 {
     code_of(show_absent(alloc, root, key, proof))
