@@ -66,9 +66,21 @@ pub enum Refused {
     BadMessage = 30,
     /// The height is published, and gone from the window of heights that are kept.
     Pruned = 31,
+    /// The handle holds nothing.
+    Empty = 101,
+    /// The handle holds something already.
+    Full = 102,
+    /// The handle holds a value of another kind.
+    OtherKind = 103,
+    /// The place is too short for the bytes.
+    TooShort = 104,
+    /// There is nothing there.
+    NothingThere = 105,
+    /// The ledger is of another world.
+    OtherWorld = 106,
 }
 
-const ALL: [Refused; 31] = [
+const ALL: [Refused; 37] = [
     Refused::NoMemory,
     Refused::BadName,
     Refused::UnknownChain,
@@ -100,6 +112,12 @@ const ALL: [Refused; 31] = [
     Refused::NumberFull,
     Refused::BadMessage,
     Refused::Pruned,
+    Refused::Empty,
+    Refused::Full,
+    Refused::OtherKind,
+    Refused::TooShort,
+    Refused::NothingThere,
+    Refused::OtherWorld,
 ];
 
 impl Refused {

@@ -1,54 +1,81 @@
-//! A verifier with no ledger: verify ROOT PATH PROOF [VALUE]
-//!
-//! ROOT, PROOF and VALUE are hexadecimal digits, as the program prints roots and proofs. It tells whether the proof shows that the
-//! key with this path has the value under the root, or, with no value, that the key isn't there.
-use ibcworld::Proof;
-use std::env::args;
-use std::process::ExitCode;
+//! Tokens go both ways between two chains, each driven by a thread of its own that is also the relayer to it: the script
+//! examples/race.json. It prints what the program prints of a race of that script: the balances that the audit tells.
+mod opening;
 
-/// The bytes that hexadecimal digits stand for.
-fn read_hex(digits: &str) -> Option<Vec<u8>> {
-    if digits.len() % 2 != 0 || !digits.is_ascii() {
-        return None;
+use ibcworld::{Audit, Genesis, Ledger, Message, Refused, View, World};
+use std::error::Error;
+use std::sync::mpsc::{Receiver, Sender, channel};
+use std::thread;
+
+/// The time of all blocks.
+pub const TIME: u64 = 100;
+
+/// How often each chain ends its block and is told of the other.
+const TURNS: usize = 4;
+
+type Failure = Box<dyn Error + Send + Sync>;
+
+fn transfer(user: &str, denom: &str, amount: u128, receiver: &str) -> Message {
+    let named = Message::new(13).text("channel-0").text(user).text(denom);
+    let to = named.amount(amount).text(receiver).text("");
+    to.number(1000).number(0)
+}
+
+fn begin() -> Result<World, Refused> {
+    let mut genesis = Genesis::new(64, 64)?;
+    genesis.add_chain(TIME)?;
+    genesis.add_balance("alice", "atom", 1000)?;
+    genesis.add_chain(TIME)?;
+    genesis.add_balance("carol", "gold", 20)?;
+    genesis.world()
+}
+
+/// Ends a block, shows the other chain what stands, and takes what is owed to this one, turn by turn.
+fn drive(
+    mut ledger: Ledger,
+    to: &Sender<View>,
+    from: &Receiver<View>,
+) -> Result<Ledger, Failure> {
+    for _ in 0..TURNS {
+        ledger.end_block(TIME)?;
+        let sent = to.send(ledger.view()?);
+        sent.map_err(|_| "the other thread has ended")?;
+        let mut theirs = from.recv()?;
+        let mut mine = ledger.view()?;
+        for message in theirs.plan_for(&mut mine)? {
+            ledger.apply(&message)?;
+        }
     }
-    let pairs = (0..digits.len()).step_by(2);
-    let bytes = pairs.map(|at| u8::from_str_radix(&digits[at..at + 2], 16).ok());
-    bytes.collect()
+    Ok(ledger)
 }
 
-/// What is told of a proof, and whether it was taken. None where the words are no question.
-fn judge(words: &[String]) -> Option<(String, bool)> {
-    let (root, path, proof, value) = match words {
-        [root, path, proof] => (root, path, proof, None),
-        [root, path, proof, value] => (root, path, proof, Some(read_hex(value)?)),
-        _ => return None,
-    };
-    let root = read_hex(root)?;
-    let proof = Proof {
-        bytes: read_hex(proof)?,
-    };
-    let (answer, told) = match value {
-        Some(value) => (
-            proof.verify_present(&root, path.as_bytes(), &value),
-            "the key has the value",
-        ),
-        None => (
-            proof.verify_absent(&root, path.as_bytes()),
-            "the key isn't there",
-        ),
-    };
-    Some(match answer {
-        Ok(()) => (told.to_owned(), true),
-        Err(refused) => (format!("refused: {}", refused.number()), false),
-    })
+fn print(audit: &mut Audit, name: &str, chain: u64) -> Result<(), Refused> {
+    for held in audit.balances(chain)? {
+        println!("balance {name} {} {} {}", held.account, held.denom, held.amount);
+    }
+    Ok(())
 }
 
-fn main() -> ExitCode {
-    let words: Vec<String> = args().skip(1).collect();
-    let Some((told, is_taken)) = judge(&words) else {
-        eprintln!("usage: verify ROOT PATH PROOF [VALUE]");
-        return ExitCode::from(2);
-    };
-    println!("{told}");
-    ExitCode::from(u8::from(!is_taken))
+fn main() -> Result<(), Failure> {
+    let mut world = begin()?;
+    let mut harbour = world.take()?.ok_or("no first ledger")?;
+    let mut island = world.take()?.ok_or("no second ledger")?;
+    opening::open(&mut harbour, &mut island)?;
+    harbour.apply(transfer("alice", "atom", 100, "bob").bytes())?;
+    harbour.apply(transfer("alice", "atom", 20, "bob").bytes())?;
+    island.apply(transfer("carol", "gold", 5, "alice").bytes())?;
+
+    let (to_island, from_harbour) = channel();
+    let (to_harbour, from_island) = channel();
+    let harbour = thread::spawn(move || drive(harbour, &to_island, &from_island));
+    let island = thread::spawn(move || drive(island, &to_harbour, &from_harbour));
+    let harbour = harbour.join().map_err(|_| "a thread has panicked")??;
+    let island = island.join().map_err(|_| "a thread has panicked")??;
+
+    world.join(island).map_err(|(refused, _)| refused)?;
+    world.join(harbour).map_err(|(refused, _)| refused)?;
+    let mut audit = world.audit()?;
+    print(&mut audit, "harbour", 0)?;
+    print(&mut audit, "island", 1)?;
+    Ok(())
 }

@@ -1,0 +1,110 @@
+//! What is read of ledgers.
+
+ghost use Rattle.std.specs.Prelude.{◌≡◌};
+ghost use Rattle.ibc_calls.specs.Answers.{Numbered};
+ghost use Rattle.ibc_calls.specs.Handles.{Finds};
+ghost use Rattle.ibc_calls.specs.Holdings.{FindsHolding, MakesBalances, TellsHolding};
+ghost use Rattle.ibc_calls.specs.Reads.{FindsValue, TellsBalance, TellsLength, TellsReply};
+
+use ibc_calls::{Amount, Told, number};
+use ibc_held::Handle;
+use std::alloc::Global;
+
+/// Tells how many entries a ledger's history has, or how many messages a plan. As `length` of `ibc_calls`.
+#[unsafe(no_mangle)]
+pub extern "C" fn ibcw_length(alloc: Global, handle: &mut Handle, count: &mut u64) -> u32
+    ensures kept { handle.new.value ≡ handle.old.value }
+    ensures told { Numbered (TellsLength handle.old.value count.old count.new) result }
+{
+    number(ibc_calls::length(alloc, handle, count))
+}
+
+/// Tells the reply of an entry of a ledger's history. As `history_reply` of `ibc_calls`.
+#[unsafe(no_mangle)]
+pub extern "C" fn ibcw_reply(
+    alloc: Global,
+    ledger: &mut Handle,
+    index: u64,
+    told: &mut Told,
+    bytes: &mut [u8],
+    size: &mut usize,
+) -> u32
+    ensures kept { ledger.new.value ≡ ledger.old.value }
+    ensures told { Numbered (TellsReply index ledger.old.value (record { told = told.old; bytes = bytes.old; size = size.old }) (record { told = told.new; bytes = bytes.new; size = size.new })) result }
+{
+    number(ibc_calls::history_reply(alloc, ledger, index, told, bytes, size))
+}
+
+/// Writes the value at the path of a key in the working block of a ledger. As `query` of `ibc_calls`.
+#[unsafe(no_mangle)]
+pub extern "C" fn ibcw_query(
+    alloc: Global,
+    ledger: &mut Handle,
+    path: &[u8],
+    value: &mut [u8],
+    size: &mut usize,
+) -> u32
+    ensures kept { ledger.new.value ≡ ledger.old.value }
+    ensures found { Numbered (Finds (FindsValue path.now ledger.old.value) value.old value.new size.old size.new) result }
+{
+    number(ibc_calls::query(alloc, ledger, path, value, size))
+}
+
+/// Makes the list of what accounts hold in an empty handle. As `make_balances` of `ibc_calls`.
+#[unsafe(no_mangle)]
+pub extern "C" fn ibcw_make_balances(
+    alloc: Global,
+    ledger: &mut Handle,
+    balances: &mut Handle,
+) -> u32
+    ensures kept { ledger.new.value ≡ ledger.old.value }
+    ensures made { Numbered (MakesBalances ledger.old.value balances.old.value balances.new.value) result }
+{
+    number(ibc_calls::make_balances(alloc, ledger, balances))
+}
+
+/// Writes who holds what at an index. As `holding` of `ibc_calls`.
+#[unsafe(no_mangle)]
+pub extern "C" fn ibcw_holding(
+    alloc: Global,
+    balances: &mut Handle,
+    chain: u64,
+    index: u64,
+    text: &mut [u8],
+    size: &mut usize,
+) -> u32
+    ensures kept { balances.new.value ≡ balances.old.value }
+    ensures found { Numbered (Finds (FindsHolding chain index balances.old.value) text.old text.new size.old size.new) result }
+{
+    number(ibc_calls::holding(alloc, balances, chain, index, text, size))
+}
+
+/// Tells how much is held at an index. As `holding_amount` of `ibc_calls`.
+#[unsafe(no_mangle)]
+pub extern "C" fn ibcw_holding_amount(
+    alloc: Global,
+    balances: &mut Handle,
+    chain: u64,
+    index: u64,
+    amount: &mut Amount,
+) -> u32
+    ensures kept { balances.new.value ≡ balances.old.value }
+    ensures told { Numbered (TellsHolding chain index balances.old.value amount.old amount.new) result }
+{
+    number(ibc_calls::holding_amount(alloc, balances, chain, index, amount))
+}
+
+/// Tells what a user holds of a denomination. As `balance` of `ibc_calls`.
+#[unsafe(no_mangle)]
+pub extern "C" fn ibcw_balance(
+    alloc: Global,
+    ledger: &mut Handle,
+    user: &[u8],
+    denom: &[u8],
+    amount: &mut Amount,
+) -> u32
+    ensures kept { ledger.new.value ≡ ledger.old.value }
+    ensures told { Numbered (TellsBalance user.now denom.now ledger.old.value amount.old amount.new) result }
+{
+    number(ibc_calls::balance(alloc, ledger, user, denom, amount))
+}

@@ -1,0 +1,9 @@
+pub mod Answers
+pub mod Events
+pub mod Gathering
+pub mod Genesis
+pub mod Handles
+pub mod Holdings
+pub mod Reads
+pub mod Views
+pub mod Worlds

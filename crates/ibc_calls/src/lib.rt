@@ -1,0 +1,22 @@
+//! What a program that is not Rattle's asks of this library, by handles and bytes.
+#![tactic(auto)]
+
+mod answer;
+mod events;
+mod gathering;
+mod genesis;
+mod handles;
+mod holdings;
+mod reads;
+mod views;
+mod worlds;
+
+pub use answer::{Refused, number};
+pub use events::{apply, end_block};
+pub use gathering::{audit, join_ledger};
+pub use genesis::{add_balance, add_chain, make_genesis};
+pub use handles::free;
+pub use holdings::{holding, holding_amount, make_balances};
+pub use reads::{Amount, Told, balance, history_reply, length, plan_message, query};
+pub use views::{Heights, make_plan, make_view, view_heights, view_proof, view_root};
+pub use worlds::{make_ledgers, take_ledger};
