@@ -62,7 +62,22 @@ audit_send : IsSend Audit.the_row
 audit_send = declared_send Audit.the_type (search (sendable, crosses, account.the_send, denom_send) depth 20, (search (sendable, crosses, bytes.the_send, channel_send) depth 20, tt))
 
 pub held_send : IsSend Held.the_row
-held_send = variants_send Held.enum ((genesis.the_send, tt), ((ledgers_send, tt), ((member_send, tt), ((view.the_send, tt),
-    ((search (sendable, crosses, message.the_send) depth 20, tt),
-    ((search (sendable, crosses, account.the_send, denom_send) depth 20, tt),
-    ((search (sendable, crosses, bytes.the_send, channel_send) depth 20, tt), ((audit_send, tt), tt))))))))
+held_send = variants_send Held.enum (
+  (genesis.the_send, tt),
+  (
+    (ledgers_send, tt),
+    (
+      (member_send, tt),
+      (
+        (view.the_send, tt),
+        (
+          (search (sendable, crosses, message.the_send) depth 20, tt),
+          (
+            (search (sendable, crosses, account.the_send, denom_send) depth 20, tt),
+            ((search (sendable, crosses, bytes.the_send, channel_send) depth 20, tt), ((audit_send, tt), tt)),
+          ),
+        ),
+      ),
+    ),
+  ),
+)
