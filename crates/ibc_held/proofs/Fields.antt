@@ -15,7 +15,6 @@ use denote.RawPtr.{Ptr, block_ptr, null_ptr, ptr_val, lies_at, Testable}
 use denote.Steps.{nothing}
 use denote.Struct.Struct.{within}
 use denote.Struct.Owning.{shape}
-use Rattle.libc.specs.Heap.{chunk}
 use Rattle.std.specs.declared.alloc.Global.{Global}
 use Rattle.std.proofs.GlobalToken.{dealloc_token-Testable}
 use Rattle.std.specs.declared.option.Option.{Option}
@@ -24,7 +23,7 @@ use Rattle.std_alloc.specs.Box.Ownership.{box_owns}
 use Rattle.ibc_held.specs.declared.held.Held.{Held}
 use Rattle.ibc_held.specs.contracts.held.Held.{the_row as R}
 use Rattle.ibc_held.specs.contracts.handle.Handle as handle
-use Rattle.ibc_held.specs.Owned.{owned}
+use Rattle.ibc_held.specs.Owned.{chunk, owned}
 
 abbrev pub word : Ptr → Val
 word p = vstruct (vcons (ptr_val p) vnil)

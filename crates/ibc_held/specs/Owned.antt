@@ -1,11 +1,16 @@
 -- What a handle owns.
+use mir.Syntax.{Ty}
 use base.Fml.{Fml, ftrue, fex}
 use denote.RattleType.{RattleType}
 use denote.RawPtr.{Ptr, block_ptr, null_ptr}
-use Rattle.libc.specs.Heap.{chunk}
 use Rattle.std.specs.declared.option.Option.{Option}
 use Rattle.std.specs.declared.option.Option.TheVariants.{None, Some}
 use Rattle.std_alloc.specs.Box.Ownership.{box_owns}
+use Rattle.std_heap.specs.contracts.GlobalAllocator.TheImpl.{ghosts}
+
+-- a block that the heap gave and takes back
+abbrev pub chunk : Ty → Ptr → Fml
+chunk = ghosts.dealloc_token (record { memory = record { seal = tt } })
 
 -- at null nothing, and else what a box of the heap owns that has the value
 abbrev pub owned : (R : RattleType) → Ptr → Option R.Denot → Fml

@@ -7,8 +7,8 @@ use denote.RawPtr.{Ptr, block_ptr, null_ptr}
 use denote.Struct.Struct.{exits_of}
 use denote.Struct.Owning.{shape, fields, to}
 use denote.Param.Send.{IsSend, AllSend, owning_send, struct_send, sendable}
-use Rattle.libc.specs.Heap.{chunk-Keyless}
 use Rattle.std_alloc.proofs.SendSync.{quiet, lies}
+use Rattle.std.proofs.Crossing.{frees}
 use Rattle.std.specs.declared.option.Option.{Option}
 use Rattle.std.specs.declared.option.Option.TheVariants.{None, Some}
 use Rattle.ibc_held.specs.declared.held.Held.{Held}
@@ -21,7 +21,7 @@ owned_keyless : (p : Ptr) (x : Option Held) → Keyless (owned R p x)
 owned_keyless null_ptr None = tt
 owned_keyless null_ptr (Some x) = λ _. tt
 owned_keyless (block_ptr b o) None = λ _. tt
-owned_keyless (block_ptr b o) (Some x) = (lies R held_send (block_ptr b o) x, chunk-Keyless (raw (lone R.mir)) (block_ptr b o))
+owned_keyless (block_ptr b o) (Some x) = (lies R held_send (block_ptr b o) x, frees.frees (record { memory = record { seal = tt } }) (raw (lone R.mir)) (block_ptr b o))
 
 pub send : IsSend the_row
 send =
