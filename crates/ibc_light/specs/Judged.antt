@@ -27,3 +27,15 @@ abbrev pub kind_in : Option Proof → Checked ProofKind
 kind_in None = Err BadMessage
 kind_in (Some (Present proof)) = Ok kind.Present
 kind_in (Some (Absent proof)) = Ok kind.Absent
+
+-- the key of the proof that was read
+abbrev pub key_in : Option Proof → Checked Text
+key_in None = Err BadMessage
+key_in (Some (Present proof)) = Ok proof.key
+key_in (Some (Absent proof)) = Ok proof.key
+
+-- the value that it shows the key to have, or none where it shows that the key isn't there
+abbrev pub value_in : Option Proof → Checked (Option Text)
+value_in None = Err BadMessage
+value_in (Some (Present proof)) = Ok (Some proof.value)
+value_in (Some (Absent proof)) = Ok None

@@ -4,5 +4,5 @@
 mod messages;
 mod proofs;
 
-pub use messages::tag_of;
-pub use proofs::{ProofKind, kind_of, show_absent, show_present};
+pub use messages::{Carried, carried_proof, tag_of};
+pub use proofs::{ProofKind, key_of, kind_of, show_absent, show_present, value_of};

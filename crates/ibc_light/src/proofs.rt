@@ -4,11 +4,11 @@ ghost use Rattle.std.specs.Prelude.{◌≡◌, ◌≢◌, ◌⊎◌, Err, IfOk, 
 ghost use Rattle.ibc_ids.specs.declared.refusal.Refusal.TheVariants.{BadMessage, NoMemory};
 ghost use Rattle.ibc_merkle.specs.Proofs.{accepts_absent, accepts_present};
 ghost use Rattle.ibc_wire.specs.Reading.{proof_of};
-ghost use Rattle.ibc_light.specs.Judged.{judged, tested, kind_in};
+ghost use Rattle.ibc_light.specs.Judged.{judged, key_in, kind_in, tested, value_in};
 
 use ibc_client::read_proof;
 use ibc_ics23_proof::{verify_absent, verify_present};
-use ibc_ids::{Refusal, Root};
+use ibc_ids::{Bytes, Refusal, Root};
 use ibc_merkle::Proof;
 use std::alloc::Global;
 
@@ -63,6 +63,27 @@ pub fn kind_of(alloc: Global, proof: &[u8]) -> Result<ProofKind, Refusal>
     };
     drop(proof);
     Ok(kind)
+}
+
+/// The key of which the proof speaks that the bytes spell. Refused as by `kind_of`.
+pub fn key_of(alloc: Global, proof: &[u8]) -> Result<Bytes, Refusal>
+    ensures { (result ≡ Err NoMemory) ⊎ (result ≡ key_in (proof_of proof.now)) }
+{
+    match read_proof(alloc, proof)? {
+        Proof::Present(shown) => Ok(shown.key),
+        Proof::Absent(shown) => Ok(shown.key),
+    }
+}
+
+/// The value that the proof shows its key to have which the bytes spell, or none where it shows that the key isn't there. Refused
+/// as by `kind_of`.
+pub fn value_of(alloc: Global, proof: &[u8]) -> Result<Option<Bytes>, Refusal>
+    ensures { (result ≡ Err NoMemory) ⊎ (result ≡ value_in (proof_of proof.now)) }
+{
+    match read_proof(alloc, proof)? {
+        Proof::Present(shown) => Ok(Some(shown.value)),
+        Proof::Absent(_) => Ok(None),
+    }
 }
 
 // The root of 32 bytes, or else `BadMessage`.
