@@ -87,8 +87,8 @@ uint32_t ibcw_make_genesis(ibcw_handle *genesis, uint64_t capacity, uint64_t win
 /* Adds a chain behind the others, whose first block has this time. IBCW_EMPTY, IBCW_OTHER_KIND. */
 uint32_t ibcw_add_chain(ibcw_handle *genesis, uint64_t time);
 
-/* Lets a user hold high * 2^64 + low of a denomination at the last chain. IBCW_EMPTY, IBCW_OTHER_KIND, IBCW_BAD_NAME,
-   IBCW_NOTHING_THERE where there is no chain. */
+/* Lets a user hold high * 2^64 + low of a denomination at the last chain. IBCW_EMPTY, IBCW_OTHER_KIND;
+   IBCW_BAD_NAME exactly where the user or the denomination is no name of its kind; IBCW_NOTHING_THERE where there is no chain. */
 uint32_t ibcw_add_balance(ibcw_handle *genesis, const uint8_t *user, size_t user_size,
                           const uint8_t *denom, size_t denom_size, uint64_t high, uint64_t low);
 
@@ -127,8 +127,26 @@ uint32_t ibcw_apply(ibcw_handle *ledger, const uint8_t *message, size_t message_
    an entry more, but where the answer is IBCW_NO_MEMORY, IBCW_EMPTY or IBCW_OTHER_KIND. IBCW_TIME_BACK, IBCW_TABLE_FULL. */
 uint32_t ibcw_end_block(ibcw_handle *ledger, uint64_t next_time);
 
-/* Tells how many entries a ledger's history has, or how many messages a plan. IBCW_EMPTY, IBCW_OTHER_KIND. */
+/* Tells how many entries a ledger's history has, how many messages a plan, how many holdings a list of balances, or how many
+   channels a list of notes. IBCW_EMPTY, IBCW_OTHER_KIND. */
 uint32_t ibcw_length(ibcw_handle *handle, uint64_t *count);
+
+/* What a ledger was asked: the tag of a message, 1 to 19; or IBCW_ASKED_BLOCK for the end of a block, and then the time of the
+   next one, which else is 0. */
+typedef struct {
+    uint64_t kind;
+    uint64_t next_time;
+} ibcw_asked;
+
+enum {
+    IBCW_ASKED_BLOCK = 0
+};
+
+/* Tells what the ledger was asked by an entry of its history, which are numbered from 0, and writes the bytes that spell the message:
+   those that ibcw_apply was given. Of the end of a block they are none. IBCW_EMPTY, IBCW_OTHER_KIND, IBCW_NOTHING_THERE;
+   IBCW_TOO_SHORT, and then *asked and *size are told. */
+uint32_t ibcw_event(ibcw_handle *ledger, uint64_t index, ibcw_asked *asked, uint8_t *message, size_t room,
+                    size_t *size);
 
 /* What a reply tells: its kind, and the number that goes with it. */
 typedef struct {
@@ -163,7 +181,8 @@ typedef struct {
     uint64_t low;
 } ibcw_amount;
 
-/* Tells what a user holds of a denomination in the working block. IBCW_EMPTY, IBCW_OTHER_KIND, IBCW_BAD_NAME. */
+/* Tells what a user holds of a denomination in the working block. IBCW_EMPTY, IBCW_OTHER_KIND, IBCW_BAD_NAME exactly where one
+   is no name of its kind. */
 uint32_t ibcw_balance(ibcw_handle *ledger, const uint8_t *user, size_t user_size, const uint8_t *denom,
                       size_t denom_size, ibcw_amount *amount);
 
@@ -179,6 +198,24 @@ uint32_t ibcw_holding(ibcw_handle *balances, uint64_t chain, uint64_t index, uin
 
 /* Tells how much is held there. IBCW_EMPTY, IBCW_OTHER_KIND, IBCW_NOTHING_THERE. */
 uint32_t ibcw_holding_amount(ibcw_handle *balances, uint64_t chain, uint64_t index, ibcw_amount *amount);
+
+/* Makes the list of the notes that came to a ledger over channels of port note, as the working block has them, in an empty
+   handle. Its channels are those over which a note came, in the byte order of their names; ibcw_length tells how many.
+   IBCW_FULL; IBCW_EMPTY, IBCW_OTHER_KIND of the ledger. */
+uint32_t ibcw_make_notes(ibcw_handle *ledger, ibcw_handle *notes);
+
+/* Writes the name of a channel: that at an index, from 0 on, of a list of notes, and then the chain is not looked at; or of an
+   audit, at an index of the channels of that chain. IBCW_EMPTY, IBCW_OTHER_KIND, IBCW_NOTHING_THERE, IBCW_TOO_SHORT. */
+uint32_t ibcw_note_channel(ibcw_handle *notes, uint64_t chain, uint64_t channel, uint8_t *name, size_t room,
+                           size_t *size);
+
+/* Tells how many notes came over that channel, 1 or more. IBCW_EMPTY, IBCW_OTHER_KIND, IBCW_NOTHING_THERE. */
+uint32_t ibcw_note_count(ibcw_handle *notes, uint64_t chain, uint64_t channel, uint64_t *count);
+
+/* Writes the note at an index, from 0 on, of those that came over that channel, in the order in which they came. IBCW_EMPTY,
+   IBCW_OTHER_KIND, IBCW_NOTHING_THERE where there is no such channel or no such note, IBCW_TOO_SHORT. */
+uint32_t ibcw_note(ibcw_handle *notes, uint64_t chain, uint64_t channel, uint64_t index, uint8_t *note,
+                   size_t room, size_t *size);
 
 /* ---- views and plans */
 
@@ -227,8 +264,33 @@ uint32_t ibcw_verify_present(const uint8_t *root, size_t root_size, const uint8_
 uint32_t ibcw_verify_absent(const uint8_t *root, size_t root_size, const uint8_t *key, size_t key_size,
                             const uint8_t *proof, size_t proof_size);
 
-/* Tells the tag, 1 to 19, of the message that the bytes spell. IBCW_BAD_MESSAGE where they spell none. */
+enum {
+    IBCW_PRESENT = 1, /* a key has a value */
+    IBCW_ABSENT = 2   /* a key isn't there */
+};
+
+/* Tells what the proof shows that the bytes spell: IBCW_PRESENT or IBCW_ABSENT. IBCW_BAD_MESSAGE where they spell no proof. */
+uint32_t ibcw_proof_kind(const uint8_t *proof, size_t proof_size, uint8_t *kind);
+
+/* Writes the key, as its path, of which the proof speaks. IBCW_BAD_MESSAGE where the bytes spell no proof, IBCW_TOO_SHORT. */
+uint32_t ibcw_proof_key(const uint8_t *proof, size_t proof_size, uint8_t *key, size_t room, size_t *size);
+
+/* Writes the value that the proof shows its key to have. IBCW_BAD_MESSAGE where the bytes spell no proof, IBCW_NOTHING_THERE
+   where it shows that the key isn't there, IBCW_TOO_SHORT. What a proof says of itself is true under a root where
+   ibcw_verify_present or ibcw_verify_absent answers 0 of that key and value. */
+uint32_t ibcw_proof_value(const uint8_t *proof, size_t proof_size, uint8_t *value, size_t room, size_t *size);
+
+/* Tells the tag, 1 to 19, of the message that the bytes spell. IBCW_BAD_MESSAGE where they spell none. How messages are spelled
+   stands in docs/LIBRARY.md: a message has one spelling, and no bytes spell two messages. */
 uint32_t ibcw_message_tag(const uint8_t *message, size_t message_size, uint8_t *tag);
+
+/* Writes the proof at an index, 0 or 1, that the message carries which the bytes spell, and tells the height of the other chain at
+   which it is. ConnOpenTry and ConnOpenAck carry that of the end and that of the client, TimeoutOnClose that of the packet and that
+   of the closed channel; ConnOpenConfirm, ChanOpenTry, ChanOpenAck, ChanOpenConfirm, ChanCloseConfirm, RecvPacket, AckPacket and
+   Timeout carry one. IBCW_BAD_MESSAGE where the bytes spell no message, IBCW_NOTHING_THERE where it carries no such proof;
+   IBCW_TOO_SHORT, and then *height and *size are told. */
+uint32_t ibcw_message_proof(const uint8_t *message, size_t message_size, uint64_t index, uint64_t *height,
+                            uint8_t *proof, size_t room, size_t *size);
 
 #ifdef __cplusplus
 }

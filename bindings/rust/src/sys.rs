@@ -12,6 +12,12 @@ pub struct Told {
 }
 
 #[repr(C)]
+pub struct Asked {
+    pub kind: u64,
+    pub next_time: u64,
+}
+
+#[repr(C)]
 pub struct Amount {
     pub high: u64,
     pub low: u64,
@@ -51,6 +57,14 @@ unsafe extern "C" {
     pub fn ibcw_apply(ledger: *mut Handle, message: *const u8, message_size: usize) -> u32;
     pub fn ibcw_end_block(ledger: *mut Handle, next_time: u64) -> u32;
     pub fn ibcw_length(handle: *mut Handle, count: *mut u64) -> u32;
+    pub fn ibcw_event(
+        ledger: *mut Handle,
+        index: u64,
+        asked: *mut Asked,
+        message: *mut u8,
+        room: usize,
+        size: *mut usize,
+    ) -> u32;
     pub fn ibcw_reply(
         ledger: *mut Handle,
         index: u64,
@@ -90,6 +104,25 @@ unsafe extern "C" {
         index: u64,
         amount: *mut Amount,
     ) -> u32;
+    pub fn ibcw_make_notes(ledger: *mut Handle, notes: *mut Handle) -> u32;
+    pub fn ibcw_note_channel(
+        notes: *mut Handle,
+        chain: u64,
+        channel: u64,
+        name: *mut u8,
+        room: usize,
+        size: *mut usize,
+    ) -> u32;
+    pub fn ibcw_note_count(notes: *mut Handle, chain: u64, channel: u64, count: *mut u64) -> u32;
+    pub fn ibcw_note(
+        notes: *mut Handle,
+        chain: u64,
+        channel: u64,
+        index: u64,
+        note: *mut u8,
+        room: usize,
+        size: *mut usize,
+    ) -> u32;
     pub fn ibcw_make_view(ledger: *mut Handle, view: *mut Handle) -> u32;
     pub fn ibcw_view_heights(view: *mut Handle, heights: *mut Heights) -> u32;
     pub fn ibcw_view_root(view: *mut Handle, root: *mut u8, room: usize, size: *mut usize) -> u32;
@@ -126,6 +159,30 @@ unsafe extern "C" {
         key_size: usize,
         proof: *const u8,
         proof_size: usize,
+    ) -> u32;
+    pub fn ibcw_proof_kind(proof: *const u8, proof_size: usize, kind: *mut u8) -> u32;
+    pub fn ibcw_proof_key(
+        proof: *const u8,
+        proof_size: usize,
+        key: *mut u8,
+        room: usize,
+        size: *mut usize,
+    ) -> u32;
+    pub fn ibcw_proof_value(
+        proof: *const u8,
+        proof_size: usize,
+        value: *mut u8,
+        room: usize,
+        size: *mut usize,
+    ) -> u32;
+    pub fn ibcw_message_proof(
+        message: *const u8,
+        message_size: usize,
+        index: u64,
+        height: *mut u64,
+        proof: *mut u8,
+        room: usize,
+        size: *mut usize,
     ) -> u32;
     pub fn ibcw_message_tag(message: *const u8, message_size: usize, tag: *mut u8) -> u32;
 }

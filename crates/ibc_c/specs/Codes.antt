@@ -7,6 +7,8 @@ use Rattle.ibc_wire.specs.Kinds.{kind_of, tag_of}
 use Rattle.ibc_wire.specs.Messages.{message_fields}
 use Rattle.ibc_wire.specs.declared.messages.Message.{Message}
 use Rattle.ibc_machine.specs.Checks.{Checked}
+use Rattle.ibc_light.specs.declared.proofs.ProofKind.{ProofKind}
+use Rattle.ibc_light.specs.declared.proofs.ProofKind.TheVariants.{Present, Absent}
 
 -- 0 where nothing was refused, else the number of the refusal
 abbrev pub code_of : Checked ⊤ → ℕ
@@ -19,3 +21,13 @@ IsTagged bytes old new answer =
     ((answer ≡ 0) × (m : Message) × Spells (message_fields m) bytes × (new ≡ tag_of (kind_of m)))
     ⊎ ((answer ≡ 30) × (new ≡ old) × ((m : Message) → Spells (message_fields m) bytes → ⊥))
     ⊎ ((answer ≡ 1) × (new ≡ old))
+
+-- what a proof shows in a number: 1 that a key has a value, 2 that it isn't there
+abbrev pub kind_number : ProofKind → ℕ
+kind_number Present = 1
+kind_number Absent = 2
+
+-- the kind was read and is told, or there is none and nothing is told
+abbrev pub IsKindTold : Checked ProofKind → ℕ → ℕ → ℕ → Type 0
+IsKindTold (Ok kind) old new answer = (answer ≡ 0) × (new ≡ kind_number kind)
+IsKindTold (Err refusal) old new answer = (answer ≡ number_of refusal) × (new ≡ old)

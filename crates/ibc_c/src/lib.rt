@@ -4,6 +4,7 @@
 #![tactic(auto)]
 
 mod light;
+mod notes;
 mod reads;
 mod views;
 mod worlds;

@@ -4,13 +4,14 @@ ghost use Rattle.std.specs.Prelude.{◌≡◌};
 ghost use Rattle.ibc_calls.specs.Answers.{Numbered};
 ghost use Rattle.ibc_calls.specs.Handles.{Finds};
 ghost use Rattle.ibc_calls.specs.Holdings.{FindsHolding, MakesBalances, TellsHolding};
-ghost use Rattle.ibc_calls.specs.Reads.{FindsValue, TellsBalance, TellsLength, TellsReply};
+ghost use Rattle.ibc_calls.specs.History.{TellsEvent, TellsLength, TellsReply};
+ghost use Rattle.ibc_calls.specs.Reads.{FindsValue, TellsBalance};
 
-use ibc_calls::{Amount, Told, number};
+use ibc_calls::{Amount, Asked, Told, number};
 use ibc_held::Handle;
 use std::alloc::Global;
 
-/// Tells how many entries a ledger's history has, or how many messages a plan. As `length` of `ibc_calls`.
+/// Tells how many entries a ledger's history has, or a plan, a list of balances or one of notes. As `length` of `ibc_calls`.
 #[unsafe(no_mangle)]
 pub extern "C" fn ibcw_length(alloc: Global, handle: &mut Handle, count: &mut u64) -> u32
     ensures kept { handle.new.value ≡ handle.old.value }
@@ -33,6 +34,22 @@ pub extern "C" fn ibcw_reply(
     ensures told { Numbered (TellsReply index ledger.old.value (record { told = told.old; bytes = bytes.old; size = size.old }) (record { told = told.new; bytes = bytes.new; size = size.new })) result }
 {
     number(ibc_calls::history_reply(alloc, ledger, index, told, bytes, size))
+}
+
+/// Tells what a ledger was asked by an entry of its history. As `history_event` of `ibc_calls`.
+#[unsafe(no_mangle)]
+pub extern "C" fn ibcw_event(
+    alloc: Global,
+    ledger: &mut Handle,
+    index: u64,
+    asked: &mut Asked,
+    bytes: &mut [u8],
+    size: &mut usize,
+) -> u32
+    ensures kept { ledger.new.value ≡ ledger.old.value }
+    ensures told { Numbered (TellsEvent index ledger.old.value (record { asked = asked.old; bytes = bytes.old; size = size.old }) (record { asked = asked.new; bytes = bytes.new; size = size.new })) result }
+{
+    number(ibc_calls::history_event(alloc, ledger, index, asked, bytes, size))
 }
 
 /// Writes the value at the path of a key in the working block of a ledger. As `query` of `ibc_calls`.

@@ -38,14 +38,20 @@ AddsChain time old new answer =
 abbrev pub with_holding : Holding → ChainState → ChainState
 with_holding holding chain = record chain { balances = chain.balances ++ holding ∷ [] }
 
--- The last chain has a balance more; or it is refused and nothing has changed: there is no chain, a name is none, or memory
--- ran out.
+-- a user's name and a denomination
+abbrev pub AreNames : Text → Text → Type 0
+AreNames user denom = IsTrue (is_user user) × IsTrue (is_denom denom)
+
+-- The last chain has a balance more; or it is refused and nothing has changed: there is no chain, a name is none of its kind, or
+-- memory ran out.
 unfoldable pub AddsBalance : Text → Text → ℕ → GenesisState → GenesisState → Answer → Type 0
 AddsBalance user denom amount old new answer =
-    ((answer ≡ Ok tt) × IsTrue (is_user user) × IsTrue (is_denom denom)
+    ((answer ≡ Ok tt) × AreNames user denom
     × (before : List ChainState) × (chain : ChainState) × (old.chains ≡ before ++ chain ∷ [])
     × (new ≡ record old { chains = before ++ with_holding (user, denom, amount) chain ∷ [] }))
-    ⊎ ((new ≡ old) × (((answer ≡ Err NothingThere) × (old.chains ≡ [])) ⊎ (answer ≡ Err (Core BadName)) ⊎ (answer ≡ Err (Core NoMemory))))
+    ⊎ ((new ≡ old)
+    × (((answer ≡ Err NothingThere) × AreNames user denom × (old.chains ≡ []))
+    ⊎ ((answer ≡ Err (Core BadName)) × (AreNames user denom → ⊥)) ⊎ (answer ≡ Err (Core NoMemory))))
 
 unfoldable pub ChainAdded : ℕ → Option Held → Option Held → Answer → Type 0
 ChainAdded time = AtHeld (GenesisGoesOn (AddsChain time))

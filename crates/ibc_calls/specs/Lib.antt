@@ -1,9 +1,12 @@
 pub mod Answers
 pub mod Events
+pub mod Evidence
 pub mod Gathering
 pub mod Genesis
 pub mod Handles
+pub mod History
 pub mod Holdings
+pub mod Notes
 pub mod Reads
 pub mod Views
 pub mod Worlds

@@ -48,11 +48,15 @@ InView is (Some other) found = found ≡ Err OtherKind
 abbrev pub IsRoot : View → Result Text Refused → Type 0
 IsRoot view found = (found ≡ Ok (core_root view.core)) ⊎ (found ≡ Err (Core NoMemory))
 
--- The bytes are the path of a key, and this is found at the key; or they are none, or memory ran out.
+-- the key has this path (ICS 24, "Path-space")
+abbrev pub HasPath : Text → Key → Type 0
+HasPath bytes key = IsTrue (is_key key) × (path key ≡ bytes)
+
+-- The bytes are the path of a key, and this is found at the key; or they are the path of none, or memory ran out.
 abbrev pub AtPath : Text → (Key → Result Text Refused → Type 0) → Result Text Refused → Type 0
 AtPath bytes is found =
-    ((key : Key) × IsTrue (is_key key) × (path key ≡ bytes) × is key found)
-    ⊎ (found ≡ Err (Core BadName)) ⊎ (found ≡ Err (Core NoMemory))
+    ((key : Key) × HasPath bytes key × is key found)
+    ⊎ ((found ≡ Err (Core BadName)) × ((key : Key) → HasPath bytes key → ⊥)) ⊎ (found ≡ Err (Core NoMemory))
 
 -- the bytes of the proof of what the view's height has at the path
 abbrev pub IsProofAt : Text → View → Result Text Refused → Type 0

@@ -74,7 +74,7 @@ fn chain_added(alloc: Global, genesis: &mut Genesis, time: u64) -> Result<(), Re
 }
 
 /// Lets a user hold so much of a denomination at the last chain of a genesis: `high` times 2^64 and `low`. Refused: `Empty`;
-/// `OtherKind`; `Core(BadName)` where a name is none of its kind; `NothingThere` where there is no chain; `Core(NoMemory)`.
+/// `OtherKind`; `Core(BadName)` exactly where a name is none of its kind; `NothingThere` where there is no chain; `Core(NoMemory)`.
 #[tactic(auto, unfolding(crate::specs::Genesis::BalanceAdded))]
 pub fn add_balance(
     alloc: Global,

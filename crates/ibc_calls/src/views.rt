@@ -1,10 +1,10 @@
 //! Views of ledgers, what they prove, and what is planned from two of them.
 
-ghost use Rattle.std.specs.Prelude.{◌≡◌, ◌⊎◌, ◌<◌, None, Some, IfOk, IfErr, IsTrue};
-ghost use Rattle.ibc_ids.specs.Paths.{path, is_key};
+ghost use Rattle.std.specs.Prelude.{◌≡◌, ◌⊎◌, ◌<◌, None, Some, IfOk, IfErr};
+ghost use Rattle.ibc_ids.specs.declared.key.Key.{Key as AKey};
 ghost use Rattle.ibc_ids.specs.declared.refusal.Refusal.TheVariants.{BadName, NoMemory};
 ghost use Rattle.ibc_calls.specs.Handles.{Finds};
-ghost use Rattle.ibc_calls.specs.Views.{FindsProof, FindsRoot, InView, IsPlanFrom, IsPlanOf, IsProofAt, IsRoot, IsViewOf, MakesPlan, MakesView, TellsHeights, heights_of};
+ghost use Rattle.ibc_calls.specs.Views.{FindsProof, FindsRoot, HasPath, InView, IsPlanFrom, IsPlanOf, IsProofAt, IsRoot, IsViewOf, MakesPlan, MakesView, TellsHeights, heights_of};
 
 use crate::Refused;
 use crate::handles::{give, put_new};
@@ -150,7 +150,7 @@ fn root_of(alloc: Global, view: &View) -> Result<Bytes, Refused>
 
 /// Writes the bytes of the proof of what a view's height has at the path of a key (ICS 23, "CommitmentProof"): of its presence
 /// where it is there, and of its absence where not. Refused: `Empty`; `OtherKind`; `NothingThere` at height 0; `Core(BadName)`
-/// where no key has the path; `TooShort`; `Core(NoMemory)`.
+/// exactly where no key has the path; `TooShort`; `Core(NoMemory)`.
 #[tactic(auto, unfolding(crate::specs::Handles::Finds))]
 pub fn view_proof(
     alloc: Global,
@@ -203,10 +203,10 @@ fn proof_of(alloc: Global, view: &View, path: &[u8]) -> Result<Bytes, Refused>
     }
 }
 
-/// The key that has this path. Refused: `BadName` where none has it; `NoMemory`.
+/// The key that has this path. Refused: `BadName` exactly where none has it; `NoMemory`.
 pub(crate) fn key_of(alloc: Global, bytes: &[u8]) -> Result<Key, Refusal>
-    ensures ok { IfOk result (λ key. IsTrue (is_key key) × (path key ≡ bytes.now)) }
-    ensures err { IfErr result (λ refusal. (refusal ≡ BadName) ⊎ (refusal ≡ NoMemory)) }
+    ensures ok { IfOk result (HasPath bytes.now) }
+    ensures err { IfErr result (λ refusal. ((refusal ≡ BadName) × ((key : AKey) → ¬ HasPath bytes.now key)) ⊎ (refusal ≡ NoMemory)) }
 {
     match str::from_utf8(bytes) {
         Ok(text) => Key::parse(alloc, text),

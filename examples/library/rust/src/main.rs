@@ -31,11 +31,7 @@ fn begin() -> Result<World, Refused> {
 }
 
 /// Ends a block, shows the other chain what stands, and takes what is owed to this one, turn by turn.
-fn drive(
-    mut ledger: Ledger,
-    to: &Sender<View>,
-    from: &Receiver<View>,
-) -> Result<Ledger, Failure> {
+fn drive(mut ledger: Ledger, to: &Sender<View>, from: &Receiver<View>) -> Result<Ledger, Failure> {
     for _ in 0..TURNS {
         ledger.end_block(TIME)?;
         let sent = to.send(ledger.view()?);
@@ -51,7 +47,10 @@ fn drive(
 
 fn print(audit: &mut Audit, name: &str, chain: u64) -> Result<(), Refused> {
     for held in audit.balances(chain)? {
-        println!("balance {name} {} {} {}", held.account, held.denom, held.amount);
+        println!(
+            "balance {name} {} {} {}",
+            held.account, held.denom, held.amount
+        );
     }
     Ok(())
 }

@@ -55,7 +55,13 @@ fn open_connection(x: &mut Ledger, y: &mut Ledger) -> Result<(), Refused> {
 }
 
 fn open_channel(x: &mut Ledger, y: &mut Ledger) -> Result<(), Refused> {
-    let begun = |tag| Message::new(tag).text("transfer").byte(1).text(CONNECTION).text("transfer");
+    let begun = |tag| {
+        Message::new(tag)
+            .text("transfer")
+            .byte(1)
+            .text(CONNECTION)
+            .text("transfer")
+    };
     let named = |tag| Message::new(tag).text("transfer").text("channel-0");
     x.apply(begun(7).text("ics20-1").bytes())?;
     x.end_block(TIME)?;
@@ -63,7 +69,11 @@ fn open_channel(x: &mut Ledger, y: &mut Ledger) -> Result<(), Refused> {
     update(y, x)?;
     let confirmed = proved(Message::new(6).text(CONNECTION), x, &[CONNECTION_PATH])?;
     y.apply(confirmed.bytes())?;
-    let tried = proved(begun(8).text("channel-0").text("ics20-1"), x, &[CHANNEL_PATH])?;
+    let tried = proved(
+        begun(8).text("channel-0").text("ics20-1"),
+        x,
+        &[CHANNEL_PATH],
+    )?;
     y.apply(tried.bytes())?;
     y.end_block(TIME)?;
 
