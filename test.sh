@@ -1,6 +1,7 @@
 #!/usr/bin/env bash
-# All that is proved and tested: the gate, and then the built programs in hostile surroundings (docs/HOSTILE.md). What each part says is
-# printed, and in the end how much passed and failed in all. The status is 0 where nothing failed.
+# All that is proved and tested: the gate, then the library for C and Rust with its examples (docs/LIBRARY.md), and the built programs in hostile
+# surroundings (docs/HOSTILE.md). What each part says is printed, and in the end how much passed and failed in all. The status is 0
+# where nothing failed. Nothing is installed: gcc or clang, g++ and cargo have to be there.
 set -u
 cd "$(dirname "$0")"
 
@@ -27,6 +28,7 @@ part() {
 }
 
 part rt ci
+part tools/build_library --gated
 part tools/refuse_growths
 part tools/refuse_by_call
 part tools/broken_streams

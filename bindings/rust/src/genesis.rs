@@ -1,6 +1,6 @@
 //! How worlds begin.
 use crate::owned::Owned;
-use crate::{Refused, World, sys};
+use crate::{sys, Refused, World};
 use std::sync::atomic::{AtomicU64, Ordering};
 
 /// How a world begins.

@@ -1,7 +1,7 @@
 //! Ledgers.
-use crate::lists::{ChannelNotes, Holding, holdings, notes};
-use crate::owned::{Owned, bytes_of, length_of};
-use crate::{Refused, View, sys};
+use crate::lists::{holdings, notes, ChannelNotes, Holding};
+use crate::owned::{bytes_of, length_of, Owned};
+use crate::{sys, Refused, View};
 
 /// What a ledger was asked.
 #[derive(Clone, Debug, PartialEq, Eq)]

@@ -19,7 +19,7 @@ mod world;
 pub use genesis::Genesis;
 pub use ledger::{Effect, Event, Ledger};
 pub use lists::{ChannelNotes, Holding};
-pub use message::{Message, message_proof, message_tag};
+pub use message::{message_proof, message_tag, Message};
 pub use proof::{Claim, Proof};
 pub use refused::Refused;
 pub use view::{Heights, View};

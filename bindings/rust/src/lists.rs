@@ -1,6 +1,6 @@
 //! What accounts hold, and which notes came.
-use crate::owned::{Owned, bytes_of};
-use crate::{Refused, sys};
+use crate::owned::{bytes_of, Owned};
+use crate::{sys, Refused};
 
 /// What an account holds: a user, or `escrow/transfer/` and a channel.
 #[derive(Clone, Debug, PartialEq, Eq)]

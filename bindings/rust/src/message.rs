@@ -1,6 +1,6 @@
 //! How messages are spelled: a tag, and the fields in order (docs/LIBRARY.md).
 use crate::owned::bytes_of;
-use crate::{Proof, Refused, sys};
+use crate::{sys, Proof, Refused};
 use std::ptr::null;
 
 /// A message that is being spelled, field by field. What it spells is judged by the library alone.

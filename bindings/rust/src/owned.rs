@@ -1,5 +1,5 @@
 //! Values of the library, and the bytes that it writes.
-use crate::{Refused, sys};
+use crate::{sys, Refused};
 use std::ptr::null_mut;
 
 /// A value of the library, which is freed with it. Its pointer keeps it from being `Sync`.

@@ -1,6 +1,6 @@
 //! Proofs, with no ledger.
 use crate::owned::bytes_of;
-use crate::{Refused, sys};
+use crate::{sys, Refused};
 
 /// A proof as its bytes: that a key has a value under a root, or that it isn't there (ICS 23). Any bytes may be judged.
 #[derive(Clone, Debug, PartialEq, Eq)]

@@ -37,7 +37,7 @@ pub struct Heights {
     pub working_time: u64,
 }
 
-unsafe extern "C" {
+extern "C" {
     pub fn ibcw_make_genesis(genesis: *mut Handle, capacity: u64, window: u64) -> u32;
     pub fn ibcw_add_chain(genesis: *mut Handle, time: u64) -> u32;
     pub fn ibcw_add_balance(

@@ -1,6 +1,6 @@
 //! What ledgers prove, and what relayers owe.
-use crate::owned::{Owned, bytes_of, length_of};
-use crate::{Proof, Refused, sys};
+use crate::owned::{bytes_of, length_of, Owned};
+use crate::{sys, Proof, Refused};
 
 /// The number of a view's chain, its last committed height (0 if there is none), and its times.
 #[derive(Clone, Copy, Debug, PartialEq, Eq)]

@@ -1,7 +1,7 @@
 //! Ledgers of one world, and what they come to.
-use crate::lists::{ChannelNotes, Holding, holdings, notes};
+use crate::lists::{holdings, notes, ChannelNotes, Holding};
 use crate::owned::Owned;
-use crate::{Ledger, Refused, sys};
+use crate::{sys, Ledger, Refused};
 
 /// Ledgers of one world. They can be taken out, driven by any threads, and joined again.
 pub struct World {

@@ -1,5 +1,4 @@
 //! A connection, and a channel of port transfer over it, step by step (ICS 3 and 4).
-use crate::TIME;
 use ibcworld::{Ledger, Message, Refused};
 
 const CLIENT: &str = "inprocess-0";
@@ -37,16 +36,16 @@ fn claimed(message: Message, of: &mut Ledger) -> Result<Message, Refused> {
     Ok(message.raw(&state))
 }
 
-fn open_connection(x: &mut Ledger, y: &mut Ledger) -> Result<(), Refused> {
+fn open_connection(x: &mut Ledger, y: &mut Ledger, time: u64) -> Result<(), Refused> {
     x.apply(Message::new(3).text(CLIENT).text(CLIENT).bytes())?;
-    x.end_block(TIME)?;
+    x.end_block(time)?;
 
     update(y, x)?;
     let ends = Message::new(4).text(CLIENT).text(CLIENT).text(CONNECTION);
     let both = [CONNECTION_PATH, STATE];
     let tried = proved(claimed(ends, x)?, x, &both)?;
     y.apply(tried.bytes())?;
-    y.end_block(TIME)?;
+    y.end_block(time)?;
 
     update(x, y)?;
     let ends = Message::new(5).text(CONNECTION).text(CONNECTION);
@@ -54,7 +53,7 @@ fn open_connection(x: &mut Ledger, y: &mut Ledger) -> Result<(), Refused> {
     x.apply(answered.bytes())
 }
 
-fn open_channel(x: &mut Ledger, y: &mut Ledger) -> Result<(), Refused> {
+fn open_channel(x: &mut Ledger, y: &mut Ledger, time: u64) -> Result<(), Refused> {
     let begun = |tag| {
         Message::new(tag)
             .text("transfer")
@@ -64,7 +63,7 @@ fn open_channel(x: &mut Ledger, y: &mut Ledger) -> Result<(), Refused> {
     };
     let named = |tag| Message::new(tag).text("transfer").text("channel-0");
     x.apply(begun(7).text("ics20-1").bytes())?;
-    x.end_block(TIME)?;
+    x.end_block(time)?;
 
     update(y, x)?;
     let confirmed = proved(Message::new(6).text(CONNECTION), x, &[CONNECTION_PATH])?;
@@ -75,22 +74,23 @@ fn open_channel(x: &mut Ledger, y: &mut Ledger) -> Result<(), Refused> {
         &[CHANNEL_PATH],
     )?;
     y.apply(tried.bytes())?;
-    y.end_block(TIME)?;
+    y.end_block(time)?;
 
     update(x, y)?;
     let answered = proved(named(9).text("channel-0"), y, &[CHANNEL_PATH])?;
     x.apply(answered.bytes())?;
-    x.end_block(TIME)?;
+    x.end_block(time)?;
 
     update(y, x)?;
     let confirmed = proved(named(10), x, &[CHANNEL_PATH])?;
     y.apply(confirmed.bytes())
 }
 
-/// Makes a client, a connection and a channel between two chains, of which the first has number 0 and the second 1.
-pub fn open(x: &mut Ledger, y: &mut Ledger) -> Result<(), Refused> {
+/// Makes a client, a connection and a channel between two chains, of which the first has number 0 and the second 1. All blocks
+/// have this time.
+pub fn open(x: &mut Ledger, y: &mut Ledger, time: u64) -> Result<(), Refused> {
     x.apply(Message::new(1).byte(1).bytes())?;
     y.apply(Message::new(1).byte(0).bytes())?;
-    open_connection(x, y)?;
-    open_channel(x, y)
+    open_connection(x, y, time)?;
+    open_channel(x, y, time)
 }

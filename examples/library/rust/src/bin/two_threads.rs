@@ -1,25 +1,15 @@
 //! Tokens go both ways between two chains, each driven by a thread of its own that is also the relayer to it: the script
 //! examples/race.json. It prints what the program prints of a race of that script: the balances that the audit tells.
-mod opening;
-
-use ibcworld::{Audit, Genesis, Ledger, Message, Refused, View, World};
-use std::error::Error;
-use std::sync::mpsc::{Receiver, Sender, channel};
+use ibcworld::{Audit, Genesis, Ledger, Refused, View, World};
+use library_examples::{open, transfer, Failure};
+use std::sync::mpsc::{channel, Receiver, Sender};
 use std::thread;
 
 /// The time of all blocks.
-pub const TIME: u64 = 100;
+const TIME: u64 = 100;
 
 /// How often each chain ends its block and is told of the other.
 const TURNS: usize = 4;
-
-type Failure = Box<dyn Error + Send + Sync>;
-
-fn transfer(user: &str, denom: &str, amount: u128, receiver: &str) -> Message {
-    let named = Message::new(13).text("channel-0").text(user).text(denom);
-    let to = named.amount(amount).text(receiver).text("");
-    to.number(1000).number(0)
-}
 
 fn begin() -> Result<World, Refused> {
     let mut genesis = Genesis::new(64, 64)?;
@@ -59,10 +49,10 @@ fn main() -> Result<(), Failure> {
     let mut world = begin()?;
     let mut harbour = world.take()?.ok_or("no first ledger")?;
     let mut island = world.take()?.ok_or("no second ledger")?;
-    opening::open(&mut harbour, &mut island)?;
-    harbour.apply(transfer("alice", "atom", 100, "bob").bytes())?;
-    harbour.apply(transfer("alice", "atom", 20, "bob").bytes())?;
-    island.apply(transfer("carol", "gold", 5, "alice").bytes())?;
+    open(&mut harbour, &mut island, TIME)?;
+    harbour.apply(transfer("alice", "atom", 100, "bob", (1000, 0)).bytes())?;
+    harbour.apply(transfer("alice", "atom", 20, "bob", (1000, 0)).bytes())?;
+    island.apply(transfer("carol", "gold", 5, "alice", (1000, 0)).bytes())?;
 
     let (to_island, from_harbour) = channel();
     let (to_harbour, from_island) = channel();

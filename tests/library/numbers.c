@@ -1,0 +1,610 @@
+/* Each number of include/ibcworld.h is met once, at least: what the core refuses, wrong use of the calls, and want of memory: of each
+   message and block, and of most other calls, each allocation is refused in turn. Where a call is refused, the ledger's history is as
+   long as the header says. One number has no call here: IBCW_NUMBER_FULL is answered where a number has reached 2^64 - 1, which as many
+   messages would have to count up to.
+
+   Link it with -Wl,--wrap=malloc,--wrap=realloc. */
+#include "messages.h"
+
+enum { TIME = 100 };
+
+static int met[128];
+
+/* ---- allocations that are refused */
+
+void *__real_malloc(size_t size);
+void *__real_realloc(void *old, size_t size);
+void *__wrap_malloc(size_t size);
+void *__wrap_realloc(void *old, size_t size);
+
+/* How many allocations are granted before one is refused, or -1. */
+static long granted = -1;
+static int refused, refusals;
+
+static int is_refused(void)
+{
+    if (granted < 0) return 0;
+    if (granted-- > 0) return 0;
+    refused = 1;
+    refusals++;
+    return 1;
+}
+
+void *__wrap_malloc(size_t size) { return is_refused() ? NULL : __real_malloc(size); }
+
+void *__wrap_realloc(void *old, size_t size) { return is_refused() ? NULL : __real_realloc(old, size); }
+
+/* Makes a call again and again, each time with the next of its allocations refused, until none is. Then that is its answer. */
+#define WITH_REFUSALS(answer, call, what)                          \
+    do {                                                           \
+        for (long n = 0;; n++) {                                   \
+            granted = n;                                           \
+            refused = 0;                                           \
+            answer = call;                                         \
+            granted = -1;                                          \
+            if (!refused) break;                                   \
+            met[IBCW_NO_MEMORY] = 1;                               \
+            want(answer, IBCW_NO_MEMORY, what ": want of memory"); \
+        }                                                          \
+    } while (0)
+
+/* A call answers this. */
+static void meet(uint32_t answer, uint32_t wanted, const char *what)
+{
+    want(answer, wanted, what);
+    met[answer] = 1;
+}
+
+static uint64_t length_of(ibcw_handle *handle)
+{
+    uint64_t count = 0;
+    want(ibcw_length(handle, &count), IBCW_DONE, "length");
+    return count;
+}
+
+/* The ledger answers the message so. The reply is the last of its history, or the bytes are no message and it has no reply. */
+static void answer(ibcw_handle *ledger, const text *message, uint32_t wanted, const char *what)
+{
+    uint8_t tag = 0;
+    size_t size = 0;
+    ibcw_told told = {77, 77};
+    uint32_t found;
+    uint64_t before = length_of(ledger);
+    uint64_t adds = ibcw_message_tag(message->data, message->size, &tag) == IBCW_DONE;
+    WITH_REFUSALS(found, ibcw_apply(ledger, message->data, message->size), "a message");
+    meet(found, wanted, what);
+    want((uint32_t)(length_of(ledger) - before), (uint32_t)adds, what);
+    if (adds && wanted != IBCW_DONE) {
+        want(ibcw_reply(ledger, before, &told, NULL, 0, &size), IBCW_DONE, what);
+        want((uint32_t)told.kind, IBCW_TOLD_REFUSAL, what);
+        want((uint32_t)told.number, wanted, what);
+    }
+}
+
+static void end_block(ibcw_handle *ledger)
+{
+    uint32_t found;
+    uint64_t before = length_of(ledger);
+    WITH_REFUSALS(found, ibcw_end_block(ledger, TIME), "a block");
+    want(found, IBCW_DONE, "a block");
+    want((uint32_t)(length_of(ledger) - before), 1, "a block");
+}
+
+/* ---- a world of two chains */
+
+typedef struct {
+    ibcw_handle genesis, ledgers, x, y;
+} world;
+
+static void add_balance(ibcw_handle *genesis, const char *user, const char *denom, uint64_t amount)
+{
+    want(ibcw_add_balance(genesis, bytes(user), strlen(user), bytes(denom), strlen(denom), 0, amount), IBCW_DONE,
+         "a balance");
+}
+
+static world begin_world(uint64_t capacity, uint64_t window, uint64_t number)
+{
+    uint32_t found;
+    world w = {{0}, {0}, {0}, {0}};
+    want(ibcw_make_genesis(&w.genesis, capacity, window), IBCW_DONE, "a genesis");
+    want(ibcw_add_chain(&w.genesis, TIME), IBCW_DONE, "a chain");
+    add_balance(&w.genesis, "alice", "atom", 1000);
+    want(ibcw_add_chain(&w.genesis, TIME), IBCW_DONE, "a chain");
+    WITH_REFUSALS(found, ibcw_make_ledgers(&w.genesis, number, &w.ledgers), "ledgers");
+    want(found, IBCW_DONE, "ledgers");
+    WITH_REFUSALS(found, ibcw_take_ledger(&w.ledgers, &w.x), "a ledger");
+    want(found, IBCW_DONE, "a ledger");
+    want(ibcw_take_ledger(&w.ledgers, &w.y), IBCW_DONE, "a ledger");
+    return w;
+}
+
+static void free_all(ibcw_handle *handles[], int count)
+{
+    for (int k = 0; k < count; k++) want(ibcw_free(handles[k]), IBCW_DONE, "free");
+}
+
+static void free_world(world *w)
+{
+    ibcw_handle *handles[] = {&w->genesis, &w->ledgers, &w->x, &w->y};
+    free_all(handles, 4);
+}
+
+static void update(ibcw_handle *at, ibcw_handle *of)
+{
+    static text message;
+    update_client(&message, of);
+    answer(at, &message, IBCW_DONE, "an update");
+}
+
+/* ---- clients and connections */
+
+static void refuse_clients(world *w)
+{
+    static text message;
+    create_client(&message, 7);
+    answer(&w->x, &message, IBCW_UNKNOWN_CHAIN, "a client of no chain");
+    create_client(&message, 0);
+    answer(&w->x, &message, IBCW_OWN_CHAIN, "a client of the chain itself");
+    end_block(&w->y);
+    update_client(&message, &w->y);
+    answer(&w->x, &message, IBCW_UNKNOWN_CLIENT, "an update of no client");
+    create_client(&message, 1);
+    answer(&w->x, &message, IBCW_DONE, "a client");
+    create_client(&message, 0);
+    answer(&w->y, &message, IBCW_DONE, "a client");
+    update_client(&message, &w->y);
+    message.data[message.size - 1] ^= 1;
+    answer(&w->x, &message, IBCW_WRONG_HEADER, "an update with another root");
+    message.data[message.size - 48] = 1;
+    answer(&w->x, &message, IBCW_NOT_PUBLISHED, "an update with a height that isn't there");
+}
+
+static void open_connection(world *w)
+{
+    static text message;
+    end_block(&w->y);
+    conn_open_init(&message);
+    answer(&w->x, &message, IBCW_DONE, "a connection begins");
+    end_block(&w->x);
+
+    conn_open_try(&message, &w->x);
+    answer(&w->y, &message, IBCW_NO_CONSENSUS, "a height of which the client wasn't told");
+    update(&w->y, &w->x);
+    begin(&message, 4);
+    put_name(&message, CLIENT);
+    put_name(&message, CLIENT);
+    put_name(&message, CONNECTION);
+    put_number(&message, 0, 1);
+    put_number(&message, 1, 8);
+    put_proved(&message, &w->x, CONNECTION_END);
+    put_proof(&message, &w->x, CLIENT_STATE);
+    answer(&w->y, &message, IBCW_WRONG_SELF_CLIENT, "a claim of a client of another chain");
+    conn_open_try(&message, &w->x);
+    answer(&w->y, &message, IBCW_DONE, "a connection is tried");
+    end_block(&w->y);
+
+    update(&w->x, &w->y);
+    conn_open_ack(&message, &w->y);
+    answer(&w->x, &message, IBCW_DONE, "a connection opens");
+    answer(&w->x, &message, IBCW_WRONG_STATE, "a connection opens again");
+    end_block(&w->x);
+
+    update(&w->y, &w->x);
+    conn_open_confirm(&message, &w->x);
+    answer(&w->y, &message, IBCW_DONE, "a connection is confirmed");
+}
+
+/* ---- channels */
+
+static void refuse_channels(world *w)
+{
+    static text message;
+    chan_open_init(&message, "transfer", UNORDERED, "connection-7", "ics20-1");
+    answer(&w->x, &message, IBCW_UNKNOWN_CONNECTION, "a channel over no connection");
+    chan_open_init(&message, "elsewhere", UNORDERED, CONNECTION, "ics20-1");
+    answer(&w->x, &message, IBCW_UNKNOWN_PORT, "a channel of no port");
+    chan_open_init(&message, "transfer", ORDERED, CONNECTION, "ics20-1");
+    answer(&w->x, &message, IBCW_WRONG_ORDER, "an ordered channel of tokens");
+    chan_open_init(&message, "transfer", UNORDERED, CONNECTION, "ics20-9");
+    answer(&w->x, &message, IBCW_WRONG_VERSION, "a version that isn't there");
+}
+
+static void open_channel(world *w, const char *port, uint8_t order, const char *version, const char *channel)
+{
+    static text message;
+    chan_open_init(&message, port, order, CONNECTION, version);
+    answer(&w->x, &message, IBCW_DONE, "a channel begins");
+    end_block(&w->x);
+    update(&w->y, &w->x);
+    chan_open_try(&message, port, order, version, &w->x, channel);
+    answer(&w->y, &message, IBCW_DONE, "a channel is tried");
+    end_block(&w->y);
+    update(&w->x, &w->y);
+    chan_open_ack(&message, port, channel, &w->y);
+    answer(&w->x, &message, IBCW_DONE, "a channel opens");
+    end_block(&w->x);
+    update(&w->y, &w->x);
+    chan_open_confirm(&message, port, channel, &w->x);
+    answer(&w->y, &message, IBCW_DONE, "a channel is confirmed");
+}
+
+/* ---- packets */
+
+/* Both chains end a block, and the plan of what `to` is owed from `from` is made. */
+static ibcw_handle plan_of(ibcw_handle *from, ibcw_handle *to)
+{
+    uint32_t found;
+    ibcw_handle a, b, plan = {0};
+    end_block(from);
+    end_block(to);
+    a = view_of(from);
+    b = view_of(to);
+    WITH_REFUSALS(found, ibcw_make_plan(&a, &b, &plan), "a plan");
+    want(found, IBCW_DONE, "a plan");
+    want(ibcw_free(&a), IBCW_DONE, "free");
+    want(ibcw_free(&b), IBCW_DONE, "free");
+    return plan;
+}
+
+static void planned(ibcw_handle *plan, uint64_t index, text *out)
+{
+    want(ibcw_plan_message(plan, index, out->data, ROOM, &out->size), IBCW_DONE, "a planned message");
+}
+
+/* The first of the plan's messages, an update, is applied, and the message behind it read. */
+static void first_owed(ibcw_handle *from, ibcw_handle *to, text *out)
+{
+    ibcw_handle plan = plan_of(from, to);
+    planned(&plan, 0, out);
+    answer(to, out, IBCW_DONE, "a planned update");
+    planned(&plan, 1, out);
+    want(ibcw_free(&plan), IBCW_DONE, "free");
+}
+
+static void refuse_sending(world *w)
+{
+    static text message;
+    transfer(&message, "channel-9", "alice", "atom", 1, "bob", "", 1000);
+    answer(&w->x, &message, IBCW_UNKNOWN_CHANNEL, "a transfer over no channel");
+    transfer(&message, "channel-0", "alice", "atom", 1, "bob", "", 0);
+    answer(&w->x, &message, IBCW_NO_TIMEOUT, "a transfer without a timeout");
+    transfer(&message, "channel-0", "alice", "atom", 0, "bob", "", 1000);
+    answer(&w->x, &message, IBCW_TOO_LARGE, "a transfer of nothing");
+    transfer(&message, "channel-0", "alice", "atom", 1001, "bob", "", 1000);
+    answer(&w->x, &message, IBCW_POOR, "a transfer of more than one holds");
+    chan_close_init(&message, "transfer", "channel-0");
+    answer(&w->x, &message, IBCW_CLOSE_REFUSED, "a channel of tokens is closed");
+}
+
+/* The end of the text is another: a packet's proof, or the channel that it came from. */
+static void refuse_packets(world *w)
+{
+    static text message, other;
+    transfer(&message, "channel-0", "alice", "atom", 5, "bob", "", 1000);
+    answer(&w->x, &message, IBCW_DONE, "a transfer");
+    first_owed(&w->x, &w->y, &message);
+    other = message;
+    other.data[other.size - 1] ^= 1;
+    answer(&w->y, &other, IBCW_BAD_PROOF, "a packet with another proof");
+    other = message;
+    other.data[45] = '9';
+    answer(&w->y, &other, IBCW_WRONG_PEER, "a packet from another channel");
+    answer(&w->y, &message, IBCW_DONE, "a packet");
+    answer(&w->y, &message, IBCW_ALREADY_RECEIVED, "a packet again");
+    first_owed(&w->y, &w->x, &message);
+    answer(&w->x, &message, IBCW_DONE, "an acknowledgement");
+    answer(&w->x, &message, IBCW_NO_COMMITMENT, "an acknowledgement again");
+}
+
+/* A timeout of the packet that the message brings, with the proof that it has no receipt. */
+static void timeout_of(text *out, const text *received, ibcw_handle *peer, uint64_t sequence)
+{
+    static text proof;
+    char receipt[128];
+    uint64_t height = 0;
+    want(ibcw_message_proof(received->data, received->size, 0, &height, proof.data, ROOM, &proof.size), IBCW_DONE,
+         "a packet's proof");
+    snprintf(receipt, sizeof receipt, "receipts/ports/transfer/channels/channel-0/sequences/%llu",
+             (unsigned long long)sequence);
+    begin(out, 17);
+    put_bytes(out, received->data + 1, received->size - 1 - 8 - 2 - proof.size);
+    put_number(out, 0, 8);
+    put_proved(out, peer, receipt);
+}
+
+static void refuse_timeouts(world *w)
+{
+    static text message, timeout;
+    transfer(&message, "channel-0", "alice", "atom", 5, "bob", "", height_of(&w->y) + 3);
+    answer(&w->x, &message, IBCW_DONE, "a transfer");
+    first_owed(&w->x, &w->y, &message);
+    update(&w->x, &w->y);
+    timeout_of(&timeout, &message, &w->y, 2);
+    answer(&w->x, &timeout, IBCW_NOT_TIMED_OUT, "a timeout too early");
+    end_block(&w->y);
+    end_block(&w->y);
+    answer(&w->y, &message, IBCW_TIMEOUT_PASSED, "a packet too late");
+    update(&w->x, &w->y);
+    timeout_of(&timeout, &message, &w->y, 2);
+    answer(&w->x, &timeout, IBCW_DONE, "a timeout");
+}
+
+/* ---- notes */
+
+static void want_note(ibcw_handle *notes, uint64_t chain, uint64_t index, const char *wanted)
+{
+    static text note;
+    uint32_t found;
+    WITH_REFUSALS(found, ibcw_note(notes, chain, 0, index, note.data, ROOM, &note.size), "a note");
+    want(found, IBCW_DONE, "a note");
+    want((uint32_t)note.size, (uint32_t)strlen(wanted), "the size of a note");
+    want((uint32_t)memcmp(note.data, wanted, note.size), 0, "the bytes of a note");
+}
+
+/* Two notes came over channel-1. */
+static void want_notes(ibcw_handle *notes, uint64_t chain)
+{
+    static text name;
+    uint64_t count = 0;
+    want(ibcw_note_channel(notes, chain, 0, name.data, ROOM, &name.size), IBCW_DONE, "a channel of notes");
+    want((uint32_t)memcmp(name.data, "channel-1", 9), 0, "the name of a channel");
+    want(ibcw_note_count(notes, chain, 0, &count), IBCW_DONE, "how many notes");
+    want((uint32_t)count, 2, "how many notes");
+    want_note(notes, chain, 0, "one");
+    want_note(notes, chain, 1, "two");
+    meet(ibcw_note(notes, chain, 0, 2, name.data, ROOM, &name.size), IBCW_NOTHING_THERE, "a third note");
+    want(ibcw_note_channel(notes, chain, 1, name.data, ROOM, &name.size), IBCW_NOTHING_THERE, "a second channel");
+    want(ibcw_note_count(notes, chain, 1, &count), IBCW_NOTHING_THERE, "a second channel");
+}
+
+static void refuse_notes(world *w)
+{
+    static text message;
+    uint32_t found;
+    ibcw_handle plan, notes = {0};
+    send_note(&message, "channel-1", "", 1000);
+    answer(&w->x, &message, IBCW_TOO_LARGE, "a note of no bytes");
+    send_note(&message, "channel-1", "one", 1000);
+    answer(&w->x, &message, IBCW_DONE, "a note");
+    send_note(&message, "channel-1", "two", 1000);
+    answer(&w->x, &message, IBCW_DONE, "a note");
+    plan = plan_of(&w->x, &w->y);
+    planned(&plan, 0, &message);
+    answer(&w->y, &message, IBCW_DONE, "a planned update");
+    planned(&plan, 2, &message);
+    answer(&w->y, &message, IBCW_OUT_OF_ORDER, "the second note first");
+    planned(&plan, 1, &message);
+    answer(&w->y, &message, IBCW_DONE, "the first note");
+    planned(&plan, 2, &message);
+    answer(&w->y, &message, IBCW_DONE, "the second note");
+    want(ibcw_free(&plan), IBCW_DONE, "free");
+    WITH_REFUSALS(found, ibcw_make_notes(&w->y, &notes), "notes");
+    want(found, IBCW_DONE, "notes");
+    want((uint32_t)length_of(&notes), 1, "how many channels");
+    want_notes(&notes, 7);
+    want(ibcw_free(&notes), IBCW_DONE, "free");
+}
+
+/* ---- blocks, and windows of heights */
+
+static void refuse_blocks(void)
+{
+    static text message, old;
+    world w = begin_world(2, 1, 2);
+    meet(ibcw_end_block(&w.x, TIME - 1), IBCW_TIME_BACK, "a block of an earlier time");
+    create_client(&message, 1);
+    answer(&w.x, &message, IBCW_DONE, "a client");
+    end_block(&w.y);
+    update_client(&old, &w.y);
+    end_block(&w.y);
+    answer(&w.x, &old, IBCW_PRUNED, "an update with a height that is gone");
+    meet(ibcw_end_block(&w.y, TIME), IBCW_TABLE_FULL, "a block more than may be");
+    free_world(&w);
+}
+
+/* ---- texts that are none, and handles */
+
+static void refuse_texts(world *w)
+{
+    static text message = {{200, 1, 2, 3}, 4};
+    ibcw_amount amount = {7, 7};
+    uint8_t kind = 9, tag = 9;
+    uint32_t found;
+    size_t size = 77;
+    answer(&w->x, &message, IBCW_BAD_MESSAGE, "bytes of no message");
+    want(ibcw_apply(&w->x, NULL, 0), IBCW_BAD_MESSAGE, "no bytes");
+    want(ibcw_message_tag(NULL, 0, &tag), IBCW_BAD_MESSAGE, "the tag of no bytes");
+    want(ibcw_proof_kind(NULL, 0, &kind), IBCW_BAD_MESSAGE, "the kind of no bytes");
+    want(ibcw_proof_key(message.data, message.size, NULL, 0, &size), IBCW_BAD_MESSAGE, "the key of no proof");
+    want(ibcw_proof_value(message.data, message.size, NULL, 0, &size), IBCW_BAD_MESSAGE, "the value of no proof");
+    meet(ibcw_query(&w->x, bytes("clients"), 7, NULL, 0, &size), IBCW_BAD_NAME, "a path of no key");
+    want(ibcw_query(&w->x, bytes("\xff\xfe"), 2, NULL, 0, &size), IBCW_BAD_NAME, "a path that is no text");
+    WITH_REFUSALS(found, ibcw_query(&w->x, bytes("nextClientSequence"), 18, NULL, 0, &size), "a value");
+    meet(found, IBCW_TOO_SHORT, "a value with no room");
+    want((uint32_t)size, 8, "the room that a value needs");
+    want(ibcw_balance(&w->x, bytes("al/ice"), 6, bytes("atom"), 4, &amount), IBCW_BAD_NAME, "a user of no name");
+    want(ibcw_balance(&w->x, bytes("alice"), 5, bytes("a//b"), 4, &amount), IBCW_BAD_NAME, "no denomination");
+    want(ibcw_balance(&w->x, NULL, 0, NULL, 0, &amount), IBCW_BAD_NAME, "no name");
+    want(ibcw_add_balance(&w->genesis, NULL, 0, bytes("atom"), 4, 0, 1), IBCW_BAD_NAME, "no user");
+    want((uint32_t)(kind + tag + amount.high + amount.low), 32, "what isn't told");
+}
+
+/* Every kind of value that a handle may hold, and none. */
+enum { GENESIS, LEDGERS, LEDGER, VIEW, PLAN, BALANCES, NOTES, AUDIT, NOTHING, KINDS };
+
+/* The calls that ask a value of a handle, and of which kinds. They are tried with values of every other kind. */
+typedef struct {
+    const char *name;
+    uint32_t (*call)(ibcw_handle *handle);
+    unsigned takes;
+} asking;
+
+enum { OF_LISTS = 1 << LEDGER | 1 << PLAN | 1 << BALANCES | 1 << NOTES, OF_HOLDINGS = 1 << BALANCES | 1 << AUDIT, OF_NOTES = 1 << NOTES | 1 << AUDIT };
+
+static uint64_t number;
+static size_t written;
+static ibcw_handle made;
+
+static uint32_t ask_add_chain(ibcw_handle *h) { return ibcw_add_chain(h, TIME); }
+static uint32_t ask_add_balance(ibcw_handle *h) { return ibcw_add_balance(h, bytes("a"), 1, bytes("b"), 1, 0, 1); }
+static uint32_t ask_make_ledgers(ibcw_handle *h) { return ibcw_make_ledgers(h, 9, &made); }
+static uint32_t ask_take_ledger(ibcw_handle *h) { return ibcw_take_ledger(h, &made); }
+static uint32_t ask_audit(ibcw_handle *h) { return ibcw_audit(h, &made); }
+static uint32_t ask_apply(ibcw_handle *h) { return ibcw_apply(h, bytes("?"), 1); }
+static uint32_t ask_end_block(ibcw_handle *h) { return ibcw_end_block(h, TIME); }
+static uint32_t ask_length(ibcw_handle *h) { return ibcw_length(h, &number); }
+static uint32_t ask_event(ibcw_handle *h)
+{
+    ibcw_asked asked;
+    return ibcw_event(h, 0, &asked, NULL, 0, &written);
+}
+static uint32_t ask_reply(ibcw_handle *h)
+{
+    ibcw_told told;
+    return ibcw_reply(h, 0, &told, NULL, 0, &written);
+}
+static uint32_t ask_query(ibcw_handle *h) { return ibcw_query(h, bytes("nextClientSequence"), 18, NULL, 0, &written); }
+static uint32_t ask_balance(ibcw_handle *h)
+{
+    ibcw_amount amount;
+    return ibcw_balance(h, bytes("a"), 1, bytes("b"), 1, &amount);
+}
+static uint32_t ask_make_balances(ibcw_handle *h) { return ibcw_make_balances(h, &made); }
+static uint32_t ask_holding(ibcw_handle *h) { return ibcw_holding(h, 0, 0, NULL, 0, &written); }
+static uint32_t ask_holding_amount(ibcw_handle *h)
+{
+    ibcw_amount amount;
+    return ibcw_holding_amount(h, 0, 0, &amount);
+}
+static uint32_t ask_make_notes(ibcw_handle *h) { return ibcw_make_notes(h, &made); }
+static uint32_t ask_note_channel(ibcw_handle *h) { return ibcw_note_channel(h, 1, 0, NULL, 0, &written); }
+static uint32_t ask_note_count(ibcw_handle *h) { return ibcw_note_count(h, 1, 0, &number); }
+static uint32_t ask_note(ibcw_handle *h) { return ibcw_note(h, 1, 0, 0, NULL, 0, &written); }
+static uint32_t ask_make_view(ibcw_handle *h) { return ibcw_make_view(h, &made); }
+static uint32_t ask_view_heights(ibcw_handle *h)
+{
+    ibcw_heights heights;
+    return ibcw_view_heights(h, &heights);
+}
+static uint32_t ask_view_root(ibcw_handle *h) { return ibcw_view_root(h, NULL, 0, &written); }
+static uint32_t ask_view_proof(ibcw_handle *h) { return ibcw_view_proof(h, bytes("connections/c"), 13, NULL, 0, &written); }
+static uint32_t ask_plan_message(ibcw_handle *h) { return ibcw_plan_message(h, 0, NULL, 0, &written); }
+
+static const asking CALLS[] = {
+    {"ibcw_add_chain", ask_add_chain, 1 << GENESIS},
+    {"ibcw_add_balance", ask_add_balance, 1 << GENESIS},
+    {"ibcw_make_ledgers", ask_make_ledgers, 1 << GENESIS},
+    {"ibcw_take_ledger", ask_take_ledger, 1 << LEDGERS},
+    {"ibcw_audit", ask_audit, 1 << LEDGERS},
+    {"ibcw_apply", ask_apply, 1 << LEDGER},
+    {"ibcw_end_block", ask_end_block, 1 << LEDGER},
+    {"ibcw_length", ask_length, OF_LISTS},
+    {"ibcw_event", ask_event, 1 << LEDGER},
+    {"ibcw_reply", ask_reply, 1 << LEDGER},
+    {"ibcw_query", ask_query, 1 << LEDGER},
+    {"ibcw_balance", ask_balance, 1 << LEDGER},
+    {"ibcw_make_balances", ask_make_balances, 1 << LEDGER},
+    {"ibcw_holding", ask_holding, OF_HOLDINGS},
+    {"ibcw_holding_amount", ask_holding_amount, OF_HOLDINGS},
+    {"ibcw_make_notes", ask_make_notes, 1 << LEDGER},
+    {"ibcw_note_channel", ask_note_channel, OF_NOTES},
+    {"ibcw_note_count", ask_note_count, OF_NOTES},
+    {"ibcw_note", ask_note, OF_NOTES},
+    {"ibcw_make_view", ask_make_view, 1 << LEDGER},
+    {"ibcw_view_heights", ask_view_heights, 1 << VIEW},
+    {"ibcw_view_root", ask_view_root, 1 << VIEW},
+    {"ibcw_view_proof", ask_view_proof, 1 << VIEW},
+    {"ibcw_plan_message", ask_plan_message, 1 << PLAN},
+};
+
+/* Of two handles, one is of the wrong kind, or empty. */
+static void refuse_pairs(ibcw_handle *values[KINDS], int k, uint32_t why)
+{
+    ibcw_handle plan = {0};
+    if (k != VIEW) {
+        meet(ibcw_make_plan(values[k], values[VIEW], &plan), why, "ibcw_make_plan");
+        meet(ibcw_make_plan(values[VIEW], values[k], &plan), why, "ibcw_make_plan");
+    }
+    if (k != LEDGERS) meet(ibcw_join_ledger(values[k], values[LEDGER]), why, "ibcw_join_ledger");
+    if (k != LEDGER) meet(ibcw_join_ledger(values[LEDGERS], values[k]), why, "ibcw_join_ledger");
+}
+
+/* Each call is refused by each handle that holds a value of another kind, and by an empty one. */
+static void refuse_kinds(ibcw_handle *values[KINDS])
+{
+    for (int k = 0; k < KINDS; k++) {
+        uint32_t why = k == NOTHING ? IBCW_EMPTY : IBCW_OTHER_KIND;
+        for (size_t n = 0; n < sizeof CALLS / sizeof CALLS[0]; n++)
+            if (!(CALLS[n].takes >> k & 1)) meet(CALLS[n].call(values[k]), why, CALLS[n].name);
+        refuse_pairs(values, k, why);
+    }
+}
+
+/* Nothing is put into a handle that holds something. */
+static void refuse_full(ibcw_handle *values[KINDS])
+{
+    ibcw_handle a = view_of(values[LEDGER]);
+    meet(ibcw_make_genesis(values[VIEW], 1, 1), IBCW_FULL, "ibcw_make_genesis");
+    meet(ibcw_make_ledgers(values[GENESIS], 9, values[VIEW]), IBCW_FULL, "ibcw_make_ledgers");
+    meet(ibcw_take_ledger(values[LEDGERS], values[VIEW]), IBCW_FULL, "ibcw_take_ledger");
+    meet(ibcw_audit(values[LEDGERS], values[VIEW]), IBCW_FULL, "ibcw_audit");
+    meet(ibcw_make_view(values[LEDGER], values[VIEW]), IBCW_FULL, "ibcw_make_view");
+    meet(ibcw_make_plan(values[VIEW], &a, values[PLAN]), IBCW_FULL, "ibcw_make_plan");
+    meet(ibcw_make_balances(values[LEDGER], values[VIEW]), IBCW_FULL, "ibcw_make_balances");
+    meet(ibcw_make_notes(values[LEDGER], values[VIEW]), IBCW_FULL, "ibcw_make_notes");
+    want(ibcw_free(&a), IBCW_DONE, "free");
+}
+
+/* The ledgers of the world are gone afterwards. */
+static void refuse_handles(world *w)
+{
+    uint32_t found;
+    world other = begin_world(8, 8, 3);
+    ibcw_handle view = view_of(&w->x), plan = plan_of(&w->x, &w->y);
+    ibcw_handle balances = {0}, notes = {0}, audit = {0}, nothing = {0};
+    ibcw_handle *values[KINDS] = {&w->genesis, &other.ledgers, &other.x, &view, &plan, &balances, &notes, &audit, &nothing};
+    ibcw_handle *rest[] = {&w->genesis, &view, &plan, &balances, &notes, &audit};
+    WITH_REFUSALS(found, ibcw_make_balances(&w->x, &balances), "balances");
+    want(found, IBCW_DONE, "balances");
+    want(ibcw_make_notes(&w->y, &notes), IBCW_DONE, "notes");
+    meet(ibcw_join_ledger(&w->ledgers, &other.y), IBCW_OTHER_WORLD, "a ledger of another world");
+    want(ibcw_join_ledger(&w->ledgers, &w->y), IBCW_DONE, "a ledger joins");
+    want(ibcw_join_ledger(&w->ledgers, &w->y), IBCW_EMPTY, "a ledger that has joined");
+    want(ibcw_join_ledger(&w->ledgers, &w->x), IBCW_DONE, "a ledger joins");
+    want(ibcw_audit(&w->ledgers, &audit), IBCW_DONE, "an audit");
+    want_notes(&audit, 1);
+    want(ibcw_audit(&w->ledgers, &nothing), IBCW_EMPTY, "ledgers that are gone");
+    refuse_kinds(values);
+    refuse_full(values);
+    want(ibcw_audit(&other.ledgers, &nothing), IBCW_BAD_MESSAGE, "an audit without a chain");
+    want(ibcw_free(&other.ledgers), IBCW_EMPTY, "ledgers that are gone");
+    want(ibcw_make_ledgers(&other.genesis, 3, &other.ledgers), IBCW_DONE, "ledgers");
+    free_world(&other);
+    free_all(rest, 6);
+    want(ibcw_free(&nothing), IBCW_EMPTY, "free of an empty handle");
+}
+
+int main(void)
+{
+    int count = 0;
+    world w = begin_world(64, 64, 1);
+    refuse_clients(&w);
+    open_connection(&w);
+    refuse_channels(&w);
+    open_channel(&w, "transfer", UNORDERED, "ics20-1", "channel-0");
+    open_channel(&w, "note", ORDERED, "note-1", "channel-1");
+    refuse_sending(&w);
+    refuse_packets(&w);
+    refuse_timeouts(&w);
+    refuse_notes(&w);
+    refuse_blocks();
+    refuse_texts(&w);
+    refuse_handles(&w);
+    for (int n = IBCW_NO_MEMORY; n <= IBCW_OTHER_WORLD; n++) {
+        int is_number = n <= IBCW_PRUNED || n >= IBCW_EMPTY;
+        if (is_number && n != IBCW_NUMBER_FULL) want((uint32_t)met[n], 1, "a number is met");
+        count += met[n];
+    }
+    printf("%d numbers are met, and %d allocations were refused\n", count, refusals);
+    return 0;
+}
