@@ -518,25 +518,25 @@ static const asking CALLS[] = {
 };
 
 /* Of two handles, one is of the wrong kind, or empty. */
-static void refuse_pairs(ibcw_handle *values[KINDS], int k, uint32_t why)
+static void refuse_pairs(ibcw_handle *values[KINDS], ibcw_handle *ledger, int k, uint32_t why)
 {
     ibcw_handle plan = {0};
     if (k != VIEW) {
         meet(ibcw_make_plan(values[k], values[VIEW], &plan), why, "ibcw_make_plan");
         meet(ibcw_make_plan(values[VIEW], values[k], &plan), why, "ibcw_make_plan");
     }
-    if (k != LEDGERS) meet(ibcw_join_ledger(values[k], values[LEDGER]), why, "ibcw_join_ledger");
-    if (k != LEDGER) meet(ibcw_join_ledger(values[LEDGERS], values[k]), why, "ibcw_join_ledger");
+    if (k != LEDGERS) meet(ibcw_join_ledger(values[k], ledger), why, "ibcw_join_ledger");
+    if (k != LEDGER && k != LEDGERS) meet(ibcw_join_ledger(values[LEDGERS], values[k]), why, "ibcw_join_ledger");
 }
 
 /* Each call is refused by each handle that holds a value of another kind, and by an empty one. */
-static void refuse_kinds(ibcw_handle *values[KINDS])
+static void refuse_kinds(ibcw_handle *values[KINDS], ibcw_handle *ledger)
 {
     for (int k = 0; k < KINDS; k++) {
         uint32_t why = k == NOTHING ? IBCW_EMPTY : IBCW_OTHER_KIND;
         for (size_t n = 0; n < sizeof CALLS / sizeof CALLS[0]; n++)
             if (!(CALLS[n].takes >> k & 1)) meet(CALLS[n].call(values[k]), why, CALLS[n].name);
-        refuse_pairs(values, k, why);
+        refuse_pairs(values, ledger, k, why);
     }
 }
 
@@ -574,11 +574,11 @@ static void refuse_handles(world *w)
     want(ibcw_audit(&w->ledgers, &audit), IBCW_DONE, "an audit");
     want_notes(&audit, 1);
     want(ibcw_audit(&w->ledgers, &nothing), IBCW_EMPTY, "ledgers that are gone");
-    refuse_kinds(values);
+    refuse_kinds(values, &other.y);
     refuse_full(values);
     want(ibcw_audit(&other.ledgers, &nothing), IBCW_BAD_MESSAGE, "an audit without a chain");
     want(ibcw_free(&other.ledgers), IBCW_EMPTY, "ledgers that are gone");
-    want(ibcw_make_ledgers(&other.genesis, 3, &other.ledgers), IBCW_DONE, "ledgers");
+    want(ibcw_make_ledgers(&other.genesis, 4, &other.ledgers), IBCW_DONE, "ledgers");
     free_world(&other);
     free_all(rest, 6);
     want(ibcw_free(&nothing), IBCW_EMPTY, "free of an empty handle");

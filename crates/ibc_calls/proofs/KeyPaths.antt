@@ -1,5 +1,5 @@
 -- The path of a key is ASCII, and so UTF-8.
-use Rattle.std.proofs.Common.{◌≡◌, ℕ, ◌^◌, Bool, true, ◌&&◌, nat_lt, codes, [], ◌∷◌, ◌++◌, refl}
+use Rattle.std.proofs.Common.{◌≡◌, ℕ, ◌^◌, Bool, true, ◌&&◌, nat_lt, codes, [], ◌∷◌, ◌++◌, refl, subst}
 use Rattle.std.specs.List.{list_all}
 use Rattle.std.specs.Fmt.{decimal}
 use Rattle.std.specs.Str.{IsAscii, IsUtf8}
@@ -13,6 +13,7 @@ use Rattle.ibc_ids.specs.Paths.{channel_path, sequence_path, path, is_key}
 use Rattle.ibc_ids.specs.declared.key.Key.{Key}
 use Rattle.ibc_ids.specs.declared.key.Key.TheVariants as key
 use Rattle.ibc_ids.proofs.Ascii.{ports, clients, connections, channels}
+use Rattle.ibc_calls.specs.Views.{HasPath}
 
 abbrev is_plain : Text → Bool
 is_plain = list_all (λ c. nat_lt c 128)
@@ -57,5 +58,6 @@ are_ascii key.NextClientSequence h = plain (codes "nextClientSequence") refl
 are_ascii key.NextConnectionSequence h = plain (codes "nextConnectionSequence") refl
 are_ascii key.NextChannelSequence h = plain (codes "nextChannelSequence") refl
 
-pub are_utf8 : (k : Key) → is_key k ≡ true → IsUtf8 (path k)
-are_utf8 k h = IsUtf8-from_ascii (path k) (are_ascii k h)
+-- bytes that are no UTF-8 are the path of no key
+pub none_has : (bytes : Text) → (IsUtf8 bytes → ⊥) → (k : Key) → HasPath bytes k → ⊥
+none_has bytes no k h = no (subst IsUtf8 h.1 (IsUtf8-from_ascii (path k) (are_ascii k h.0)))

@@ -1,1 +1,1 @@
-mod KeyPaths
+pub mod KeyPaths

@@ -1,12 +1,15 @@
 //! Tokens go both ways between two chains, each driven by a thread of its own that is also the relayer to it: the script
 //! examples/race.json. It prints what the program prints of a race of that script: the balances that the audit tells.
-use ibcworld::{Audit, Genesis, Ledger, Refused, View, World};
+use ibcworld::{message_proof, message_tag, Audit, Genesis, Ledger, Refused, View, World};
 use library_examples::{open, transfer, Failure};
 use std::sync::mpsc::{channel, Receiver, Sender};
 use std::thread;
 
 /// The time of all blocks.
 const TIME: u64 = 100;
+
+/// The tag of a message that brings a packet.
+const RECV_PACKET: u8 = 15;
 
 /// How often each chain ends its block and is told of the other.
 const TURNS: usize = 4;
@@ -20,6 +23,14 @@ fn begin() -> Result<World, Refused> {
     genesis.world()
 }
 
+/// A packet's message is judged by its bytes and the root alone, as the ledger will judge it: its proof shows what it says.
+fn judge(message: &[u8], root: &[u8]) -> Result<(), Refused> {
+    if message_tag(message)? == RECV_PACKET {
+        message_proof(message, 0)?.1.verify(root)?;
+    }
+    Ok(())
+}
+
 /// Ends a block, shows the other chain what stands, and takes what is owed to this one, turn by turn.
 fn drive(mut ledger: Ledger, to: &Sender<View>, from: &Receiver<View>) -> Result<Ledger, Failure> {
     for _ in 0..TURNS {
@@ -28,7 +39,9 @@ fn drive(mut ledger: Ledger, to: &Sender<View>, from: &Receiver<View>) -> Result
         sent.map_err(|_| "the other thread has ended")?;
         let mut theirs = from.recv()?;
         let mut mine = ledger.view()?;
+        let root = theirs.root()?;
         for message in theirs.plan_for(&mut mine)? {
+            judge(&message, &root)?;
             ledger.apply(&message)?;
         }
     }
