@@ -30,7 +30,7 @@ pub struct Height {
 }
 
 // So many nodes more than twice those of the last gathering stand before the next one.
-const SPARE: usize = 1024;
+const SPARE: usize = 32_768;
 
 /// The trees of committed heights, which share their nodes. Contracts see the pairs of the last commit, those of each
 /// kept height, and how many texts were hashed.

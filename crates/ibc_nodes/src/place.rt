@@ -10,20 +10,21 @@ ghost use Rattle.ibc_merkle.specs.Places.{key_at};
 ghost use Rattle.ibc_nodes.specs.Heights.{pairs_of, IsTreeOver};
 
 use crate::descent::entry_at;
+use crate::node::Below;
 use crate::nodes::Nodes;
+use ibc_merkle::split_of;
 use std::cmp::Ordering;
 
-// How the key at a place of a tree stands to a key.
-fn compare(nodes: &Nodes, root: usize, count: usize, index: usize, key: &[u8]) -> Ordering
-    requires over { IsTreeOver nodes.now root count }
-    requires there { index < count }
-    ensures { result ≡ text_cmp (key_at (pairs_of nodes.now root) index) key.now }
+// How the first key below a node stands to a key.
+fn compare_first(nodes: &Nodes, node: usize, count: usize, key: &[u8]) -> Ordering
+    requires over { IsTreeOver nodes.now node count }
+    ensures { result ≡ text_cmp (key_at (pairs_of nodes.now node) 0) key.now }
 {
-    entry_at(nodes, root, count, index).key().cmp(key)
+    entry_at(nodes, node, count, 0).key().cmp(key)
 }
 
 // The place of a key in a tree whose keys strictly rise in byte order: `Ok` with its index, or `Err` with the index where
-// it would stand.
+// it would stand. At each inner node the first key of its right child decides.
 pub(crate) fn place_in(nodes: &Nodes, root: usize, count: usize, key: &[u8]) -> Result<usize, usize>
     requires over { IsTreeOver nodes.now root count }
     requires sorted { IsTrue (is_sorted text_cmp (pairs_of nodes.now root)) }
@@ -32,15 +33,22 @@ pub(crate) fn place_in(nodes: &Nodes, root: usize, count: usize, key: &[u8]) -> 
     ensures within { IfErr result (λ index. index ≤ count) }
     ensures gap { IfErr result (IsPartitionPoint (λ entry. text_cmp entry.0 key.now ≡ Less) (λ entry. text_cmp entry.0 key.now ≡ Greater) (pairs_of nodes.now root)) }
 {
-    let mut from = 0;
-    let mut to = count;
-    while from < to {
-        let middle = from + (to - from) / 2;
-        match compare(nodes, root, count, middle, key) {
-            Ordering::Less => from = middle + 1,
-            Ordering::Equal => return Ok(middle),
-            Ordering::Greater => to = middle,
+    match nodes.below(root) {
+        Below::Record(_) => match compare_first(nodes, root, count, key) {
+            Ordering::Less => Err(1),
+            Ordering::Equal => Ok(0),
+            Ordering::Greater => Err(0),
+        },
+        Below::Children(left, right) => {
+            let split = split_of(count);
+            match compare_first(nodes, *right, count - split, key) {
+                Ordering::Less => match place_in(nodes, *right, count - split, key) {
+                    Ok(index) => Ok(split + index),
+                    Err(index) => Err(split + index),
+                },
+                Ordering::Equal => Ok(split),
+                Ordering::Greater => place_in(nodes, *left, split, key),
+            }
         }
     }
-    Err(from)
 }
