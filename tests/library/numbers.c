@@ -34,18 +34,19 @@ void *__wrap_malloc(size_t size) { return is_refused() ? NULL : __real_malloc(si
 
 void *__wrap_realloc(void *old, size_t size) { return is_refused() ? NULL : __real_realloc(old, size); }
 
-/* Makes a call again and again, each time with the next of its allocations refused, until none is. Then that is its answer. */
-#define WITH_REFUSALS(answer, call, what)                          \
-    do {                                                           \
-        for (long n = 0;; n++) {                                   \
-            granted = n;                                           \
-            refused = 0;                                           \
-            answer = call;                                         \
-            granted = -1;                                          \
-            if (!refused) break;                                   \
-            met[IBCW_NO_MEMORY] = 1;                               \
-            want(answer, IBCW_NO_MEMORY, what ": want of memory"); \
-        }                                                          \
+/* Makes a call again and again, each time with the next of its allocations refused, until it is answered otherwise than by want of memory: where
+   none was refused, or it did without. Want of memory is answered only where an allocation was refused. */
+#define WITH_REFUSALS(answer, call, what)                                   \
+    do {                                                                    \
+        for (long n = 0;; n++) {                                            \
+            granted = n;                                                    \
+            refused = 0;                                                    \
+            answer = call;                                                  \
+            granted = -1;                                                   \
+            if (answer != IBCW_NO_MEMORY) break;                            \
+            want((uint32_t)refused, 1, what ": want of memory from within"); \
+            met[IBCW_NO_MEMORY] = 1;                                        \
+        }                                                                   \
     } while (0)
 
 /* A call answers this. */

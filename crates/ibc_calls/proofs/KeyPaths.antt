@@ -60,4 +60,4 @@ are_ascii key.NextChannelSequence h = plain (codes "nextChannelSequence") refl
 
 -- bytes that are no UTF-8 are the path of no key
 pub none_has : (bytes : Text) → (IsUtf8 bytes → ⊥) → (k : Key) → HasPath bytes k → ⊥
-none_has bytes no k h = no (subst IsUtf8 h.1 (IsUtf8-from_ascii (path k) (are_ascii k h.0)))
+none_has bytes is_none k h = is_none (subst IsUtf8 h.1 (IsUtf8-from_ascii (path k) (are_ascii k h.0)))

@@ -1,8 +1,10 @@
 //! How a world begins, chain by chain.
 
-ghost use Rattle.std.specs.Prelude.{◌≡◌, ◌+◌, ◌*◌, ◌^◌, ◌++◌, ◌∷◌, [], Some, OnOk, OnErr};
+ghost use Rattle.std.specs.Prelude.{◌≡◌, ◌⊎◌, ◌+◌, ◌*◌, ◌^◌, ◌++◌, ◌∷◌, [], Some, IfOk, IfErr, OnOk, OnErr};
+ghost use Rattle.ibc_ids.specs.declared.refusal.Refusal.TheVariants.{BadName, NoMemory};
 ghost use Rattle.ibc_machine.specs.Genesis.{genesis_state};
-ghost use Rattle.ibc_calls.specs.Genesis.{AddsBalance, AddsChain, BalanceAdded, Begins, ChainAdded, GenesisGoesOn};
+ghost use Rattle.ibc_calls.specs.declared.answer.Refused.TheVariants.{Core};
+ghost use Rattle.ibc_calls.specs.Genesis.{AddsBalance, AddsChain, AreNames, BalanceAdded, Begins, ChainAdded, GenesisGoesOn};
 
 use crate::Refused;
 use crate::handles::put_new;
@@ -123,8 +125,7 @@ fn balance_added(
 ) -> Result<(), Refused>
     ensures { AddsBalance user.now denom.now amount (genesis_state genesis.old) (genesis_state genesis.new) result }
 {
-    let user = UserName::from_bytes(alloc, user)?;
-    let denom = Denom::from_bytes(alloc, denom)?;
+    let (user, denom) = names_of(alloc, user, denom)?;
     let Some(last) = genesis.chains.pop() else {
         return Err(Refused::NothingThere);
     };
@@ -135,6 +136,21 @@ fn balance_added(
         Ok(()) => Ok(()),
         Err(_) => Err(Refused::Core(Refusal::NoMemory)),
     }
+}
+
+/// The user and the denomination of these names. Refused: `Core(BadName)` exactly where one is no name of its kind;
+/// `Core(NoMemory)`.
+pub(crate) fn names_of(
+    alloc: Global,
+    user: &[u8],
+    denom: &[u8],
+) -> Result<(UserName, Denom), Refused>
+    ensures ok { IfOk result (λ names. (names.0 ≡ user.now) × (names.1 ≡ denom.now) × AreNames user.now denom.now) }
+    ensures err { IfErr result (λ refused. ((refused ≡ Core BadName) × ¬ AreNames user.now denom.now) ⊎ (refused ≡ Core NoMemory)) }
+{
+    let user = UserName::from_bytes(alloc, user)?;
+    let denom = Denom::from_bytes(alloc, denom)?;
+    Ok((user, denom))
 }
 
 // A user holds so much more at a chain. On an error nothing has changed.

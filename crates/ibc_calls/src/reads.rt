@@ -5,10 +5,11 @@ ghost use Rattle.ibc_calls.specs.Handles.{Finds};
 ghost use Rattle.ibc_calls.specs.Reads.{FindsMessage, FindsValue, IsBalance, IsSpelling, IsValueAt, TellsBalance, amount_of};
 
 use crate::Refused;
+use crate::genesis::names_of;
 use crate::handles::give;
 use crate::views::key_of;
 use ibc_held::{Handle, Held};
-use ibc_ids::{Account, Bytes, Denom, Refusal, UserName};
+use ibc_ids::{Account, Bytes, Refusal};
 use ibc_ledger::Ledger;
 use ibc_message_codec::encode;
 use ibc_wire::Message;
@@ -178,8 +179,7 @@ fn balance_of(
 ) -> Result<(), Refused>
     ensures { IsBalance user.now denom.now ledger.now.ledger amount.old amount.new result }
 {
-    let user = UserName::from_bytes(alloc, user)?;
-    let denom = Denom::from_bytes(alloc, denom)?;
+    let (user, denom) = names_of(alloc, user, denom)?;
     *amount = parts_of(ledger.balance(&Account::User(user), &denom));
     Ok(())
 }

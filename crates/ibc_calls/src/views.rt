@@ -204,7 +204,6 @@ fn proof_of(alloc: Global, view: &View, path: &[u8]) -> Result<Bytes, Refused>
 }
 
 /// The key that has this path. Refused: `BadName` exactly where none has it; `NoMemory`.
-#[tactic(auto, using(crate::proofs::KeyPaths::none_has))]
 pub(crate) fn key_of(alloc: Global, bytes: &[u8]) -> Result<Key, Refusal>
     ensures ok { IfOk result (HasPath bytes.now) }
     ensures err { IfErr result (λ refusal. ((refusal ≡ BadName) × ((key : AKey) → ¬ HasPath bytes.now key)) ⊎ (refusal ≡ NoMemory)) }
