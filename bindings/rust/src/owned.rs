@@ -32,22 +32,24 @@ impl Drop for Owned {
     }
 }
 
+/// The room that a call is given first: most messages and proofs have no more bytes. With too little a call would spell them twice.
+const ROOM: usize = 4096;
+
 /// The bytes that a call writes, with as much room as it asks for.
 pub(crate) fn bytes_of(
     mut write: impl FnMut(*mut u8, usize, *mut usize) -> u32,
 ) -> Result<Vec<u8>, Refused> {
-    let mut bytes = Vec::new();
-    loop {
-        let mut size = 0;
-        match Refused::check(write(bytes.as_mut_ptr(), bytes.len(), &mut size)) {
-            Ok(()) => {
-                bytes.truncate(size);
-                return Ok(bytes);
-            }
-            Err(Refused::TooShort) => bytes.resize(size, 0),
-            Err(refused) => return Err(refused),
-        }
+    let mut room = [0; ROOM];
+    let mut size = 0;
+    match Refused::check(write(room.as_mut_ptr(), ROOM, &mut size)) {
+        Ok(()) => return Ok(room[..size].to_vec()),
+        Err(Refused::TooShort) => (),
+        Err(refused) => return Err(refused),
     }
+    let mut bytes = vec![0; size];
+    Refused::check(write(bytes.as_mut_ptr(), bytes.len(), &mut size))?;
+    bytes.truncate(size);
+    Ok(bytes)
 }
 
 /// How many entries, messages, holdings or channels the value has.
