@@ -11,7 +11,7 @@ ghost use Rattle.ibc_nodes.specs.Gaps.{DifferIn};
 use crate::arena::Arena;
 use crate::gap::Gap;
 use crate::moving::{move_kept, move_rows};
-use crate::next_rows::next_rows;
+use crate::next_rows::turn_rows;
 use crate::proving::prove_in;
 use crate::shared_tree::SharedTree;
 use crate::working::{first_of, root_of};
@@ -139,13 +139,12 @@ impl Forest {
         ensures err { OnErr result (self.new ≡ self.old) }
     {
         self.gather();
+        self.kept.reserve(1)?;
         let alloc = *self.kept.allocator();
         self.arena.restart();
-        let rows = next_rows(alloc, &mut self.arena, self.rows.as_slice(), entries, gaps)?;
-        self.kept.reserve(1)?;
-        let root = root_of(&self.arena, rows.as_slice());
+        turn_rows(alloc, &mut self.arena, &mut self.rows, entries, gaps)?;
+        let root = root_of(&self.arena, self.rows.as_slice());
         let digest = self.arena.digest(root);
-        self.rows = rows;
         self.kept.push_back_reserved(Height {
             root,
             count: entries.len(),

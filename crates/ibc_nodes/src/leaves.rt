@@ -1,9 +1,9 @@
 //! Rows of leaves.
 
-ghost use Rattle.std.specs.Prelude.{◌≡◌, ◌+◌, ◌*◌, ◌<◌, ◌≤◌, ◌++◌, true, Ok, length, drop, map, slice_index_or, take, IsTrue, IfOk};
+ghost use Rattle.std.specs.Prelude.{◌≡◌, [], ◌+◌, ◌*◌, ◌<◌, ◌≤◌, ◌++◌, true, Ok, length, drop, map, slice_index_or, take, IsTrue, IfOk};
 ghost use Rattle.std.specs.FinMap.{is_sorted};
 ghost use Rattle.ibc_nodes.specs.Levels.{leaf_of, tree_at, trees_at};
-ghost use Rattle.ibc_nodes.specs.Leaves.{pair_at, row_pairs, AreLeaves, from_key, behind_key, begins_with, is_new, count_new, keys, differing};
+ghost use Rattle.ibc_nodes.specs.Leaves.{pair_at, row_pairs, AreLeaves, from_key, behind_key, begins_with, is_new, count_new, keys, unlike, differing};
 ghost use Rattle.ibc_nodes.specs.Gaps.{DifferIn, IsFoundFrom, HasFirst};
 ghost use Rattle.ibc_nodes.specs.Nodes.{Grows};
 ghost use Rattle.ibc_nodes.specs.Rows.{Stand};
@@ -140,6 +140,31 @@ fn add_leaves(
         at = place_behind(arena, old, found, entry.key());
     }
     Ok(at)
+}
+
+// The leaf of the pair at a place, in front of which the pairs are those of a row of leaves: the one of the row, if it is that of
+// the pair, and else a new one, for which two texts are hashed.
+pub(crate) fn other_leaf(
+    arena: &mut Arena,
+    old: &[usize],
+    entries: &[Entry],
+    index: usize,
+) -> Result<usize, AllocError>
+    requires leaves { AreLeaves arena.old.trees old.now }
+    requires sorted { IsTrue (is_sorted text_cmp entries.now) }
+    requires last { IsTrue (is_sorted text_cmp (row_pairs arena.old.trees old.now)) }
+    requires there { index < length old.now }
+    requires here { index < length entries.now }
+    requires front { take index entries.now ≡ take index (row_pairs arena.old.trees old.now) }
+    ensures leaf { IfOk result (λ leaf. tree_at arena.new.trees leaf ≡ leaf_of (slice_index_or entries.now index ([], []))) }
+    ensures there { IfOk result (λ leaf. leaf < length arena.new.trees) }
+    ensures grows { Grows arena.old.trees arena.new.trees }
+    ensures steps { arena.new.steps ≤ arena.old.steps + 2 * count_new (row_pairs arena.old.trees old.now) entries.now }
+    ensures same { let last = row_pairs arena.old.trees old.now in keys entries.now ≡ keys last → IfOk result (λ leaf. unlike leaf (slice_index_or old.now index 0) ≤ count_new last entries.now) }
+{
+    let entry = &entries[index];
+    let found = place_from(arena, old, index, entry.key());
+    leaf_for(arena, old, found, entry)
 }
 
 // Adds so many numbers of a row from a place on. Answers the place behind them, and where there are none the other one.
