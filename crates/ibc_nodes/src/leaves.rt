@@ -13,11 +13,11 @@ ghost use Rattle.ibc_merkle.specs.Proofs.{is_below};
 use crate::arena::Arena;
 use crate::gap::Gap;
 use crate::node::Below;
-use ibc_merkle::Entry;
+use crate::shared_entry::SharedEntry;
 use std::alloc::{AllocError, Global};
 
 // The pair of a leaf.
-fn leaf_at(arena: &Arena, node: usize) -> &Entry
+fn leaf_at(arena: &Arena, node: usize) -> &SharedEntry
     requires there { node < length arena.now.trees }
     requires leaf { tree_at arena.now.trees node ≡ leaf_of (pair_at arena.now.trees node) }
     ensures { tree_at arena.now.trees node ≡ leaf_of result.now }
@@ -74,7 +74,7 @@ fn place_behind(arena: &Arena, row: &[usize], at: usize, key: &[u8]) -> usize
 }
 
 // Whether the leaf of a pair stands at a place of a row of leaves.
-fn is_there(arena: &Arena, row: &[usize], at: usize, entry: &Entry) -> bool
+fn is_there(arena: &Arena, row: &[usize], at: usize, entry: &SharedEntry) -> bool
     requires leaves { AreLeaves arena.now.trees row.now }
     requires within { at ≤ length row.now }
     ensures { result ≡ begins_with entry.now (drop at (row_pairs arena.now.trees row.now)) }
@@ -88,7 +88,12 @@ fn is_there(arena: &Arena, row: &[usize], at: usize, entry: &Entry) -> bool
 
 // The leaf of a pair: the one at a place of a row, if it is that of the pair, and else a new one, for which two texts
 // are hashed.
-fn leaf_for(arena: &mut Arena, row: &[usize], at: usize, entry: &Entry) -> Result<usize, AllocError>
+fn leaf_for(
+    arena: &mut Arena,
+    row: &[usize],
+    at: usize,
+    entry: &SharedEntry,
+) -> Result<usize, AllocError>
     requires leaves { AreLeaves arena.old.trees row.now }
     requires within { at ≤ length row.now }
     ensures leaf { IfOk result (λ leaf. tree_at arena.new.trees leaf ≡ leaf_of entry.now) }
@@ -111,7 +116,7 @@ fn add_leaves(
     row: &mut Vec<usize>,
     old: &[usize],
     place: usize,
-    entries: &[Entry],
+    entries: &[SharedEntry],
     end: usize,
 ) -> Result<usize, AllocError>
     requires leaves { AreLeaves arena.old.trees old.now }
@@ -147,7 +152,7 @@ fn add_leaves(
 pub(crate) fn other_leaf(
     arena: &mut Arena,
     old: &[usize],
-    entries: &[Entry],
+    entries: &[SharedEntry],
     index: usize,
 ) -> Result<usize, AllocError>
     requires leaves { AreLeaves arena.old.trees old.now }
@@ -193,7 +198,7 @@ pub(crate) fn leaf_row(
     alloc: Global,
     arena: &mut Arena,
     old: &[usize],
-    entries: &[Entry],
+    entries: &[SharedEntry],
     gaps: &[Gap],
 ) -> Result<Vec<usize>, AllocError>
     requires leaves { AreLeaves arena.old.trees old.now }

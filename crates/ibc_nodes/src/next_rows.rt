@@ -13,8 +13,8 @@ ghost use Rattle.ibc_merkle.specs.Tree.{Pairs};
 use crate::arena::Arena;
 use crate::gap::Gap;
 use crate::leaves::{leaf_row, other_leaf};
+use crate::shared_entry::SharedEntry;
 use crate::working::{copied, count_differing, first_of, put_leaf, put_leaves, raised};
-use ibc_merkle::Entry;
 use std::alloc::{AllocError, Global};
 
 // Whether it takes fewer texts to put the other leaves into the tree than it has leaves.
@@ -95,7 +95,7 @@ fn next_rows(
     alloc: Global,
     arena: &mut Arena,
     rows: &[Vec<usize>],
-    entries: &[Entry],
+    entries: &[SharedEntry],
     gaps: &[Gap],
 ) -> Result<Vec<Vec<usize>>, AllocError>
     requires last { IsLast arena.old.trees (rows_of rows.now) }
@@ -133,7 +133,7 @@ fn put_other(
     alloc: Global,
     arena: &mut Arena,
     rows: &mut [Vec<usize>],
-    entries: &[Entry],
+    entries: &[SharedEntry],
     index: usize,
 ) -> Result<(), AllocError>
     requires last { IsLast arena.old.trees (rows_of rows.old) }
@@ -158,7 +158,7 @@ pub(crate) fn turn_rows(
     alloc: Global,
     arena: &mut Arena,
     rows: &mut Vec<Vec<usize>>,
-    entries: &[Entry],
+    entries: &[SharedEntry],
     gaps: &[Gap],
 ) -> Result<(), AllocError>
     requires last { IsLast arena.old.trees (rows_of rows.old.items) }
