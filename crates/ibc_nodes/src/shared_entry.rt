@@ -1,6 +1,7 @@
 //! Pairs that a map shares with its trees.
 
 ghost use Rattle.std.specs.Prelude.{◌≡◌, IfOk, IfErr};
+ghost use Rattle.std.specs.Arc.{arc_value};
 
 use ibc_ids::Bytes;
 use ibc_merkle::Entry;
@@ -66,18 +67,27 @@ impl SharedEntry {
             Hold::Own(entry) => entry.value(),
         }
     }
+
+    // The pair for one more to share, or a copy of it where one alone holds it.
+    fn shared(&self) -> Result<Arc<Entry>, AllocError>
+        ensures { IfOk result (λ shared. arc_value shared ≡ self.now) }
+    {
+        match &self.hold {
+            Hold::Shared(entry) => Arc::try_clone(entry),
+            Hold::Own(entry) => {
+                let copy = entry.as_ref().clone()?;
+                Ok(Arc::new(*Box::allocator(entry), copy)?)
+            }
+        }
+    }
 }
 
 impl Clone for SharedEntry {
     ghost is_clone = { λ entry copy. copy ≡ entry };
 
     fn clone(&self) -> Result<SharedEntry, AllocError> {
-        let shared = match &self.hold {
-            Hold::Shared(entry) => Arc::try_clone(entry)?,
-            Hold::Own(entry) => Arc::new(*Box::allocator(entry), entry.as_ref().clone()?)?,
-        };
         Ok(SharedEntry {
-            hold: Hold::Shared(shared),
+            hold: Hold::Shared(self.shared()?),
         })
     }
 }
