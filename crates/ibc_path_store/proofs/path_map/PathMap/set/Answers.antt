@@ -24,17 +24,17 @@ found_path c = c.as_slice.ensures ∙ c.from_vec-key.ensures ∙ ap (λ (bytes :
 found_sorted : (c : goal.After-touch) → is_sorted text_cmp c.args.self.now.pairs ≡ true
 found_sorted c = ap (is_sorted text_cmp) (sym (found_pairs c)) ∙ c.self.invariant
 
-found_entry : (c : goal.After-touch) → c.in_ok-entry.entry ≡ (c.as_slice.result.now, c.args.value)
-found_entry c = c.in_ok-entry.ensures.pair ∙ c.new.ensures ∙ ap (λ (key : Text). (key, c.args.value)) (sym c.as_slice.ensures)
+found_entry : (c : goal.After-touch) → c.in_ok-entry-in-Ok.entry ≡ (c.as_slice.result.now, c.args.value)
+found_entry c = c.in_ok-entry-in-Ok.ensures.pair ∙ c.new.ensures ∙ ap (λ (key : Text). (key, c.args.value)) (sym c.as_slice.ensures)
 
 found_items : (c : goal.After-touch)
-    → set c.self.inside.entries.items c.in-Ok.index c.in_ok-entry.entry ≡ set c.args.self.now.pairs c.in-Ok.index (c.as_slice.result.now, c.args.value)
+    → set c.self.inside.entries.items c.in-Ok.index c.in_ok-entry-in-Ok.entry ≡ set c.args.self.now.pairs c.in-Ok.index (c.as_slice.result.now, c.args.value)
 found_items c =
     ap (set c.self.inside.entries.items c.in-Ok.index) (found_entry c)
     ∙ ap (λ pairs. set pairs c.in-Ok.index (c.as_slice.result.now, c.args.value)) (found_pairs c)
 
-pub invariant_of-self-2 : goal.invariant_of-self-2
-invariant_of-self-2 c =
+pub invariant_of-self-in-Ok : goal.invariant_of-self-in-Ok
+invariant_of-self-in-Ok c =
     let pair : Text × Text = (c.as_slice.result.now, c.args.value) in
     ap (is_sorted text_cmp) (found_items c)
     ∙ replaced_sorted c.args.self.now.pairs c.in-Ok.index pair (found_sorted c) c.in-Ok.ensures.found (c.in-Ok.ensures.here pair)
@@ -50,8 +50,8 @@ pub returns-in_ok-entry-in-Ok-clause-shares : goal.returns-in_ok-entry-in-Ok-cla
 returns-in_ok-entry-in-Ok-clause-shares c = λ last shares.
     let pairs : Pairs = c.args.self.now.pairs in
     let i = c.in-Ok.index in
-    c.touch.ensures last pairs (set c.self.inside.entries.items i c.in_ok-entry.entry) (subst (λ gaps. Shares gaps last pairs) (sym (ap (λ (map : HeldMap). map.touched) c.self.view_is)) shares)
-    (replaced_value pairs (set c.self.inside.entries.items i c.in_ok-entry.entry) i (c.as_slice.result.now, c.args.value) c.in-Ok.ensures.found (found_items c))
+    c.touch.ensures last pairs (set c.self.inside.entries.items i c.in_ok-entry-in-Ok.entry) (subst (λ gaps. Shares gaps last pairs) (sym (ap (λ (map : HeldMap). map.touched) c.self.view_is)) shares)
+    (replaced_value pairs (set c.self.inside.entries.items i c.in_ok-entry-in-Ok.entry) i (c.as_slice.result.now, c.args.value) c.in-Ok.ensures.found (found_items c))
 
 -- ---- a new path
 
@@ -67,8 +67,8 @@ new_items c =
     ∙ ap (insert c.self.inside.entries.items c.in-Err.index) (c.in_ok-entry-in-Err.ensures.pair ∙ c.new-in-Err.ensures ∙ ap (λ (key : Text). (key, c.args.value)) (sym c.as_slice.ensures))
     ∙ ap (λ pairs. insert pairs c.in-Err.index (c.as_slice.result.now, c.args.value)) (new_pairs c)
 
-pub invariant_of-self-in-Err-2 : goal.invariant_of-self-in-Err-2
-invariant_of-self-in-Err-2 c =
+pub invariant_of-self-in-Err : goal.invariant_of-self-in-Err
+invariant_of-self-in-Err c =
     ap (is_sorted text_cmp) (new_items c)
     ∙ insert_is_sorted c.args.self.now.pairs c.as_slice.result.now c.args.value c.in-Err.index (ap (is_sorted text_cmp) (sym (new_pairs c)) ∙ c.self.invariant) c.in-Err.ensures.within c.in-Err.ensures.gap
 
