@@ -102,6 +102,33 @@ stepped last entries i place found behind entry last_rises rises l is within fro
           (there, omega arith);
     }
 
+-- the same of one pair alone
+pub record FoundOne (last entries : Pairs) (i found : ℕ) (entry : Text × Text) : Type 0 where
+  pub few : is_new entry (drop found last) ≤ count_new last entries
+  pub same : keys entries ≡ keys last → found ≡ i
+
+pub found_one : (last entries : Pairs) (i found : ℕ) (entry : Text × Text) → AreRising last → AreRising entries → i < length entries → entry ≡ get_or entries i entry
+    → found ≤ length last → IsFoundFrom last i (drop i entries) → drop found last ≡ from_key entry.0 (drop i last) → FoundOne last entries i found entry
+found_one last entries i found entry last_rises rises l is within from rest =
+    let opened : drop i entries ≡ entry ∷ drop (i + 1) entries = drop_more entries i entry l ∙ ap (λ (e : Text × Text). e ∷ drop (i + 1) entries) (sym is) in
+    let above = (subst AreRising opened (rising-drop i entries rises)).0 in
+    let all : drop found last ≡ from_key entry.0 last = rest ∙ subst (IsFoundFrom last i) opened from in
+    let count : count_new last (drop i entries) ≡ is_new entry (drop found last) + count_new last (drop (i + 1) entries) =
+    ap (count_new last) opened ∙ count_one last entry (drop (i + 1) entries) above ∙ ap (λ (found : Pairs). is_new entry found + count_new last (drop (i + 1) entries)) (sym all)
+    in
+    let fewer = count_fewer last entries i rises in
+    record {
+      few = omega arith;
+      same = λ same.
+          let k = same_key last entries i entry entry same l is in
+          let here : drop found last ≡ drop i last = all ∙ ap (λ key. from_key key last) (sym k.1) ∙ found_at last i entry last_rises k.0 in
+          let a = length-drop found last in
+          let b = length-drop i last in
+          let e = ap length here in
+          let there = k.0 in
+          omega arith;
+    }
+
 -- ---- pairs that stayed
 
 pub record Passed (last entries : Pairs) (from i kept : ℕ) : Type 0 where

@@ -15,3 +15,4 @@ pub mod Finding
 pub mod FirstLeaves
 pub mod OverGaps
 pub mod KnownRows
+pub mod OneLeaf

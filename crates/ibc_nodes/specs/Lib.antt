@@ -3,6 +3,7 @@ pub mod Forest
 pub mod HeldForest
 pub mod Gaps
 pub mod Heights
+pub mod Holds
 pub mod Leaves
 pub mod Levels
 pub mod Moving

@@ -7,7 +7,8 @@ ghost use Rattle.ibc_nodes.specs.Nodes.{built, ChildrenStand, IsRight, Grows};
 
 use crate::node::{ArenaNode, Below, Known};
 use crate::nodes::Nodes;
-use ibc_merkle::{Entry, Steps, hash_inner, hash_leaf, hash_value};
+use crate::shared_entry::SharedEntry;
+use ibc_merkle::{Steps, hash_inner, hash_leaf, hash_value};
 use std::alloc::{AllocError, Global};
 use std::marker::Model;
 
@@ -111,7 +112,7 @@ impl Arena {
     }
 
     /// Adds a leaf, whose pair is moved in: two texts are hashed.
-    pub fn leaf(&mut self, entry: Entry) -> Result<usize, AllocError>
+    pub fn leaf(&mut self, entry: SharedEntry) -> Result<usize, AllocError>
         ensures ok { OnOk result (self.new.trees ≡ self.old.trees ++ leaf_of entry ∷ []) }
         ensures number { IfOk result (λ number. number ≡ length self.old.trees) }
         ensures err { OnErr result (self.new.trees ≡ self.old.trees) }

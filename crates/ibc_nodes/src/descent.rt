@@ -11,12 +11,13 @@ ghost use Rattle.ibc_nodes.specs.Heights.{pairs_of, IsTreeOver};
 
 use crate::node::Below;
 use crate::nodes::Nodes;
+use crate::shared_entry::SharedEntry;
 use ibc_ids::Bytes;
-use ibc_merkle::{Entry, Operation, split_of};
+use ibc_merkle::{Operation, split_of};
 use std::alloc::{AllocError, Global};
 
 /// The pair at a place below a node.
-pub fn entry_at(nodes: &Nodes, node: usize, count: usize, index: usize) -> &Entry
+pub fn entry_at(nodes: &Nodes, node: usize, count: usize, index: usize) -> &SharedEntry
     requires over { IsTreeOver nodes.now node count }
     requires there { index < count }
     ensures { result.now ≡ slice_index_or (pairs_of nodes.now node) index result.now }

@@ -11,12 +11,13 @@ ghost use Rattle.ibc_nodes.specs.Gaps.{DifferIn};
 use crate::arena::Arena;
 use crate::gap::Gap;
 use crate::moving::{move_kept, move_rows};
-use crate::next_rows::next_rows;
+use crate::next_rows::turn_rows;
 use crate::proving::prove_in;
+use crate::shared_entry::SharedEntry;
 use crate::shared_tree::SharedTree;
 use crate::working::{first_of, root_of};
 use ibc_ids::Root;
-use ibc_merkle::{Entry, Proof};
+use ibc_merkle::Proof;
 use std::alloc::{AllocError, Global};
 use std::collections::VecDeque;
 use std::marker::Model;
@@ -101,7 +102,7 @@ impl Forest {
     /// tree. Of n pairs, of which the last
     /// commit doesn't have k, at most `2k + n - 1` texts are hashed, and where the keys are those of the last commit at
     /// most `2k + k * ceil(log2 n)`. A refusal leaves the forest.
-    pub fn commit(&mut self, entries: &[Entry], time: u64) -> Result<Root, AllocError>
+    pub fn commit(&mut self, entries: &[SharedEntry], time: u64) -> Result<Root, AllocError>
         requires some { 0 < length entries.now }
         requires sorted { IsTrue (is_sorted text_cmp entries.now) }
         ensures root { IfOk result (λ root. root ≡ tree_root entries.now) }
@@ -123,7 +124,7 @@ impl Forest {
     /// The same of pairs that differ in gaps alone from those of the last commit: no other pair is looked at.
     pub fn commit_gaps(
         &mut self,
-        entries: &[Entry],
+        entries: &[SharedEntry],
         time: u64,
         gaps: &[Gap],
     ) -> Result<Root, AllocError>
@@ -139,13 +140,12 @@ impl Forest {
         ensures err { OnErr result (self.new ≡ self.old) }
     {
         self.gather();
+        self.kept.reserve(1)?;
         let alloc = *self.kept.allocator();
         self.arena.restart();
-        let rows = next_rows(alloc, &mut self.arena, self.rows.as_slice(), entries, gaps)?;
-        self.kept.reserve(1)?;
-        let root = root_of(&self.arena, rows.as_slice());
+        turn_rows(alloc, &mut self.arena, &mut self.rows, entries, gaps)?;
+        let root = root_of(&self.arena, self.rows.as_slice());
         let digest = self.arena.digest(root);
-        self.rows = rows;
         self.kept.push_back_reserved(Height {
             root,
             count: entries.len(),

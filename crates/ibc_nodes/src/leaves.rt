@@ -1,9 +1,9 @@
 //! Rows of leaves.
 
-ghost use Rattle.std.specs.Prelude.{◌≡◌, ◌+◌, ◌*◌, ◌<◌, ◌≤◌, ◌++◌, true, Ok, length, drop, map, slice_index_or, take, IsTrue, IfOk};
+ghost use Rattle.std.specs.Prelude.{◌≡◌, [], ◌+◌, ◌*◌, ◌<◌, ◌≤◌, ◌++◌, true, Ok, length, drop, map, slice_index_or, take, IsTrue, IfOk};
 ghost use Rattle.std.specs.FinMap.{is_sorted};
 ghost use Rattle.ibc_nodes.specs.Levels.{leaf_of, tree_at, trees_at};
-ghost use Rattle.ibc_nodes.specs.Leaves.{pair_at, row_pairs, AreLeaves, from_key, behind_key, begins_with, is_new, count_new, keys, differing};
+ghost use Rattle.ibc_nodes.specs.Leaves.{pair_at, row_pairs, AreLeaves, from_key, behind_key, begins_with, is_new, count_new, keys, unlike, differing};
 ghost use Rattle.ibc_nodes.specs.Gaps.{DifferIn, IsFoundFrom, HasFirst};
 ghost use Rattle.ibc_nodes.specs.Nodes.{Grows};
 ghost use Rattle.ibc_nodes.specs.Rows.{Stand};
@@ -13,11 +13,11 @@ ghost use Rattle.ibc_merkle.specs.Proofs.{is_below};
 use crate::arena::Arena;
 use crate::gap::Gap;
 use crate::node::Below;
-use ibc_merkle::Entry;
+use crate::shared_entry::SharedEntry;
 use std::alloc::{AllocError, Global};
 
 // The pair of a leaf.
-fn leaf_at(arena: &Arena, node: usize) -> &Entry
+fn leaf_at(arena: &Arena, node: usize) -> &SharedEntry
     requires there { node < length arena.now.trees }
     requires leaf { tree_at arena.now.trees node ≡ leaf_of (pair_at arena.now.trees node) }
     ensures { tree_at arena.now.trees node ≡ leaf_of result.now }
@@ -74,7 +74,7 @@ fn place_behind(arena: &Arena, row: &[usize], at: usize, key: &[u8]) -> usize
 }
 
 // Whether the leaf of a pair stands at a place of a row of leaves.
-fn is_there(arena: &Arena, row: &[usize], at: usize, entry: &Entry) -> bool
+fn is_there(arena: &Arena, row: &[usize], at: usize, entry: &SharedEntry) -> bool
     requires leaves { AreLeaves arena.now.trees row.now }
     requires within { at ≤ length row.now }
     ensures { result ≡ begins_with entry.now (drop at (row_pairs arena.now.trees row.now)) }
@@ -88,7 +88,12 @@ fn is_there(arena: &Arena, row: &[usize], at: usize, entry: &Entry) -> bool
 
 // The leaf of a pair: the one at a place of a row, if it is that of the pair, and else a new one, for which two texts
 // are hashed.
-fn leaf_for(arena: &mut Arena, row: &[usize], at: usize, entry: &Entry) -> Result<usize, AllocError>
+fn leaf_for(
+    arena: &mut Arena,
+    row: &[usize],
+    at: usize,
+    entry: &SharedEntry,
+) -> Result<usize, AllocError>
     requires leaves { AreLeaves arena.old.trees row.now }
     requires within { at ≤ length row.now }
     ensures leaf { IfOk result (λ leaf. tree_at arena.new.trees leaf ≡ leaf_of entry.now) }
@@ -111,7 +116,7 @@ fn add_leaves(
     row: &mut Vec<usize>,
     old: &[usize],
     place: usize,
-    entries: &[Entry],
+    entries: &[SharedEntry],
     end: usize,
 ) -> Result<usize, AllocError>
     requires leaves { AreLeaves arena.old.trees old.now }
@@ -142,6 +147,31 @@ fn add_leaves(
     Ok(at)
 }
 
+// The leaf of the pair at a place, in front of which the pairs are those of a row of leaves: the one of the row, if it is that of
+// the pair, and else a new one, for which two texts are hashed.
+pub(crate) fn other_leaf(
+    arena: &mut Arena,
+    old: &[usize],
+    entries: &[SharedEntry],
+    index: usize,
+) -> Result<usize, AllocError>
+    requires leaves { AreLeaves arena.old.trees old.now }
+    requires sorted { IsTrue (is_sorted text_cmp entries.now) }
+    requires last { IsTrue (is_sorted text_cmp (row_pairs arena.old.trees old.now)) }
+    requires there { index < length old.now }
+    requires here { index < length entries.now }
+    requires front { take index entries.now ≡ take index (row_pairs arena.old.trees old.now) }
+    ensures leaf { IfOk result (λ leaf. tree_at arena.new.trees leaf ≡ leaf_of (slice_index_or entries.now index ([], []))) }
+    ensures there { IfOk result (λ leaf. leaf < length arena.new.trees) }
+    ensures grows { Grows arena.old.trees arena.new.trees }
+    ensures steps { arena.new.steps ≤ arena.old.steps + 2 * count_new (row_pairs arena.old.trees old.now) entries.now }
+    ensures same { let last = row_pairs arena.old.trees old.now in keys entries.now ≡ keys last → IfOk result (λ leaf. unlike leaf (slice_index_or old.now index 0) ≤ count_new last entries.now) }
+{
+    let entry = &entries[index];
+    let found = place_from(arena, old, index, entry.key());
+    leaf_for(arena, old, found, entry)
+}
+
 // Adds so many numbers of a row from a place on. Answers the place behind them, and where there are none the other one.
 fn add_kept(
     row: &mut Vec<usize>,
@@ -168,7 +198,7 @@ pub(crate) fn leaf_row(
     alloc: Global,
     arena: &mut Arena,
     old: &[usize],
-    entries: &[Entry],
+    entries: &[SharedEntry],
     gaps: &[Gap],
 ) -> Result<Vec<usize>, AllocError>
     requires leaves { AreLeaves arena.old.trees old.now }

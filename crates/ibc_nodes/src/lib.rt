@@ -14,10 +14,12 @@ mod nodes;
 mod place;
 mod proving;
 mod rows;
+mod shared_entry;
 mod shared_tree;
 mod shelf;
 mod working;
 
 pub use forest::Forest;
 pub use gap::Gap;
+pub use shared_entry::{SharedEntry, SpareEntry};
 pub use shared_tree::SharedTree;

@@ -1,19 +1,20 @@
 //! The rows of the tree over pairs, from the rows of the tree before.
 
-ghost use Rattle.std.specs.Prelude.{true, false, ◌≡◌, ◌+◌, ◌-◌, ◌*◌, ◌^◌, ◌<◌, ◌≤◌, ℕ, List, length, take, IsTrue, IfOk};
+ghost use Rattle.std.specs.Prelude.{true, false, ◌≡◌, ◌+◌, ◌-◌, ◌*◌, ◌^◌, ◌<◌, ◌≤◌, ℕ, List, length, take, IsTrue, IfOk, IfSome, OnOk, OnErr};
 ghost use Rattle.std.specs.FinMap.{is_sorted};
 ghost use Rattle.ibc_ids.specs.Texts.{text_cmp};
 ghost use Rattle.ibc_nodes.specs.Leaves.{row_pairs, count_new, keys, differing};
-ghost use Rattle.ibc_nodes.specs.Gaps.{DifferIn};
+ghost use Rattle.ibc_nodes.specs.Gaps.{DifferIn, IsOneOther};
 ghost use Rattle.ibc_nodes.specs.Nodes.{Grows};
 ghost use Rattle.ibc_nodes.specs.Rows.{Stand, IsPyramid, rows_of, first_row};
 ghost use Rattle.ibc_nodes.specs.Forest.{IsWorking, IsLast};
+ghost use Rattle.ibc_merkle.specs.Tree.{Pairs};
 
 use crate::arena::Arena;
 use crate::gap::Gap;
-use crate::leaves::leaf_row;
-use crate::working::{copied, count_differing, first_of, put_leaves, raised};
-use ibc_merkle::Entry;
+use crate::leaves::{leaf_row, other_leaf};
+use crate::shared_entry::SharedEntry;
+use crate::working::{copied, count_differing, first_of, put_leaf, put_leaves, raised};
 use std::alloc::{AllocError, Global};
 
 // Whether it takes fewer texts to put the other leaves into the tree than it has leaves.
@@ -90,11 +91,11 @@ fn rows_over(
 // The rows of the tree over pairs that differ in gaps from those before, from the rows before: at most two texts are hashed
 // for each new pair, and fewer over them than there are pairs; where the keys are the same, at most one for each new pair and
 // level above it.
-pub(crate) fn next_rows(
+fn next_rows(
     alloc: Global,
     arena: &mut Arena,
     rows: &[Vec<usize>],
-    entries: &[Entry],
+    entries: &[SharedEntry],
     gaps: &[Gap],
 ) -> Result<Vec<Vec<usize>>, AllocError>
     requires last { IsLast arena.old.trees (rows_of rows.now) }
@@ -110,4 +111,72 @@ pub(crate) fn next_rows(
 {
     let row = leaf_row(alloc, arena, first_of(rows), entries, gaps)?;
     rows_over(alloc, arena, rows, row, gaps)
+}
+
+// The place of the one pair that came in place of another, where pairs differ in one such gap alone.
+fn one_place(gaps: &[Gap]) -> Option<usize>
+    ensures { IfSome result (λ index. (last pairs : Pairs) → DifferIn gaps.now last pairs → IsOneOther index last pairs) }
+{
+    if gaps.len() != 1 {
+        return None;
+    }
+    let gap = gaps[0];
+    if gap.gone == 1 && gap.come == 1 {
+        return Some(gap.kept);
+    }
+    None
+}
+
+// Puts the leaf of the pair at a place, the only one that may be another, into the rows: at most two texts are hashed for it,
+// and one a row above it. A refusal leaves the rows.
+fn put_other(
+    alloc: Global,
+    arena: &mut Arena,
+    rows: &mut [Vec<usize>],
+    entries: &[SharedEntry],
+    index: usize,
+) -> Result<(), AllocError>
+    requires last { IsLast arena.old.trees (rows_of rows.old) }
+    requires sorted { IsTrue (is_sorted text_cmp entries.now) }
+    requires sorted_last { IsTrue (is_sorted text_cmp (row_pairs arena.old.trees (first_row (rows_of rows.old)))) }
+    requires other { IsOneOther index (row_pairs arena.old.trees (first_row (rows_of rows.old))) entries.now }
+    ensures working { IfOk result (λ _. IsWorking arena.new.trees (rows_of rows.new)) }
+    ensures pairs { IfOk result (λ _. row_pairs arena.new.trees (first_row (rows_of rows.new)) ≡ entries.now) }
+    ensures grows { Grows arena.old.trees arena.new.trees }
+    ensures steps { let new = count_new (row_pairs arena.old.trees (first_row (rows_of rows.old))) entries.now in IfOk result (λ _. arena.new.steps + 1 ≤ arena.old.steps + 2 * new + length entries.now) }
+    ensures same { let last = row_pairs arena.old.trees (first_row (rows_of rows.old)) in keys entries.now ≡ keys last → (log : ℕ) → length entries.now ≤ 2 ^ log → IfOk result (λ _. arena.new.steps ≤ arena.old.steps + count_new last entries.now * (2 + log)) }
+    ensures err { OnErr result (rows.new ≡ rows.old) }
+{
+    let leaf = other_leaf(arena, first_of(rows), entries, index)?;
+    let mut path = Vec::new(alloc);
+    put_leaf(arena, rows, &mut path, index, leaf)
+}
+
+// Turns the rows of the tree over pairs to those of the next one, whose pairs differ in gaps, within the bounds of `next_rows`.
+// Where one pair may be another, nothing that grows with the pairs is read or written. A refusal leaves the rows.
+pub(crate) fn turn_rows(
+    alloc: Global,
+    arena: &mut Arena,
+    rows: &mut Vec<Vec<usize>>,
+    entries: &[SharedEntry],
+    gaps: &[Gap],
+) -> Result<(), AllocError>
+    requires last { IsLast arena.old.trees (rows_of rows.old.items) }
+    requires some { 0 < length entries.now }
+    requires sorted { IsTrue (is_sorted text_cmp entries.now) }
+    requires sorted_last { IsTrue (is_sorted text_cmp (row_pairs arena.old.trees (first_row (rows_of rows.old.items)))) }
+    requires gaps { DifferIn gaps.now (row_pairs arena.old.trees (first_row (rows_of rows.old.items))) entries.now }
+    ensures working { IfOk result (λ _. IsWorking arena.new.trees (rows_of rows.new.items)) }
+    ensures pairs { IfOk result (λ _. row_pairs arena.new.trees (first_row (rows_of rows.new.items)) ≡ entries.now) }
+    ensures grows { Grows arena.old.trees arena.new.trees }
+    ensures steps { let new = count_new (row_pairs arena.old.trees (first_row (rows_of rows.old.items))) entries.now in IfOk result (λ _. arena.new.steps + 1 ≤ arena.old.steps + 2 * new + length entries.now) }
+    ensures same { let last = row_pairs arena.old.trees (first_row (rows_of rows.old.items)) in keys entries.now ≡ keys last → (log : ℕ) → length entries.now ≤ 2 ^ log → IfOk result (λ _. arena.new.steps ≤ arena.old.steps + count_new last entries.now * (2 + log)) }
+    ensures err { OnErr result (rows.new.items ≡ rows.old.items) }
+{
+    if let Some(index) = one_place(gaps) {
+        return put_other(alloc, arena, rows.as_mut_slice(), entries, index);
+    }
+    let next = next_rows(alloc, arena, rows.as_slice(), entries, gaps)?;
+    *rows = next;
+    Ok(())
 }

@@ -1,6 +1,6 @@
 //! The rows of a tree, and what a commit changes in them.
 
-ghost use Rattle.std.specs.Prelude.{◌≡◌, ◌+◌, ◌-◌, ◌*◌, ◌^◌, ◌<◌, ◌≤◌, ℕ, [], length, take, drop, slice_set, slice_index_or, IfOk};
+ghost use Rattle.std.specs.Prelude.{◌≡◌, ◌+◌, ◌-◌, ◌*◌, ◌^◌, ◌<◌, ◌≤◌, ℕ, [], length, take, drop, slice_set, slice_index_or, IfOk, OnErr};
 ghost use Rattle.ibc_nodes.specs.Levels.{over, tree_at, trees_at};
 ghost use Rattle.ibc_nodes.specs.Leaves.{row_pairs, count_new, keys, unlike, differing};
 ghost use Rattle.ibc_nodes.specs.Nodes.{Grows};
@@ -91,8 +91,9 @@ pub(crate) fn raised(
     Ok(rows)
 }
 
-// Puts another leaf at a place of the tree, if it is another one: at most one text is hashed a row above it.
-fn put_leaf(
+// Puts another leaf at a place of the tree, if it is another one: at most one text is hashed a row above it. A refusal leaves the
+// rows.
+pub(crate) fn put_leaf(
     arena: &mut Arena,
     rows: &mut [Vec<usize>],
     path: &mut Vec<usize>,
@@ -106,6 +107,7 @@ fn put_leaf(
     ensures row { IfOk result (λ _. first_row (rows_of rows.new) ≡ slice_set (first_row (rows_of rows.old)) index node) }
     ensures grows { Grows arena.old.trees arena.new.trees }
     ensures steps { arena.new.steps ≤ arena.old.steps + unlike node (slice_index_or (first_row (rows_of rows.old)) index 0) * (length rows.old - 1) }
+    ensures err { OnErr result (rows.new ≡ rows.old) }
 {
     if first_of(rows)[index] == node {
         return Ok(());

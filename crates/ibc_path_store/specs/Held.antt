@@ -3,7 +3,7 @@ use Rattle.std.specs.Prelude.{ℕ, ◌+◌, ◌-◌, ◌^◌, min, List, [], ◌
 use Rattle.ibc_merkle.specs.Tree.{Pairs}
 use Rattle.ibc_nodes.specs.declared.gap.Gap.{Gap}
 
--- the pairs of a map in the order of their keys, how many more fit without a growth, and the gaps in which the map was touched
+-- the pairs of a map in the order of their keys, how many paths more can be set without a refusal, and the gaps in which the map was touched
 -- since it was settled, if they are known
 pub record HeldMap : Type 0 where
   pub pairs : Pairs

@@ -10,22 +10,24 @@ ghost use Rattle.ibc_ids.specs.Maps.{at, with, without};
 ghost use Rattle.ibc_merkle.specs.Tree.{Pairs};
 ghost use Rattle.ibc_path_store.specs.Touching.{Shares};
 
+use crate::spare::Spare;
 use crate::touched::Touched;
 use ibc_ids::Bytes;
-use ibc_merkle::{Entry, place};
-use ibc_nodes::Gap;
+use ibc_merkle::Entry;
+use ibc_nodes::{Gap, SharedEntry};
 use std::alloc::{AllocError, Global};
 use std::marker::Model;
 
-/// A map from paths to values, in which room can be made beforehand.
+/// A map from paths to values, which shares its pairs with the trees over them, and in which room can be made beforehand.
 #[derive(Drop, Debug)]
 pub struct PathMap {
-    entries: Vec<Entry>,
+    entries: Vec<SharedEntry>,
+    spare: Spare,
     touched: Touched,
 }
 
 impl Model for PathMap {
-    ghost use Rattle.std.specs.Prelude.{◌-◌, IsTrue, vec_len, vec_capacity};
+    ghost use Rattle.std.specs.Prelude.{◌-◌, min, IsTrue, vec_len, vec_capacity};
     ghost use Rattle.std.specs.FinMap.{is_sorted};
     ghost use Rattle.ibc_ids.specs.Texts.{text_cmp};
     ghost use Rattle.ibc_path_store.specs.Held.{HeldMap};
@@ -34,7 +36,7 @@ impl Model for PathMap {
 
     ghost view = { λ map. record {
       pairs = map.entries.items;
-      room = vec_capacity map.entries - vec_len map.entries;
+      room = min (vec_capacity map.entries - vec_len map.entries) map.spare;
       touched = map.touched;
     } };
 
@@ -49,6 +51,7 @@ impl PathMap {
     {
         PathMap {
             entries: Vec::new(alloc),
+            spare: Spare::none(alloc),
             touched: Touched::none(alloc),
         }
     }
@@ -59,7 +62,8 @@ impl PathMap {
         ensures room { self.old.room ≤ self.new.room }
         ensures ok { OnOk result (paths ≤ self.new.room) }
     {
-        self.entries.reserve(paths)
+        self.entries.reserve(paths)?;
+        self.spare.fill(paths)
     }
 
     /// Sets the value of a path. With room it is not refused, and a refusal leaves the pairs.
@@ -73,12 +77,14 @@ impl PathMap {
         let key = Bytes::from_vec(path.into_bytes());
         match self.place(key.as_slice()) {
             Ok(index) => {
-                self.entries[index].set_value(value);
+                let entry = self.spare.share(Entry::new(key, value))?;
+                self.entries[index] = entry;
                 self.touched.touch(index, 1, 1);
                 Ok(())
             }
             Err(index) => {
-                self.entries.insert(index, Entry::new(key, value))?;
+                let entry = self.spare.share(Entry::new(key, value))?;
+                self.entries.insert(index, entry)?;
                 self.touched.touch(index, 0, 1);
                 Ok(())
             }
@@ -123,7 +129,7 @@ impl PathMap {
     }
 
     /// The pairs; their keys strictly rise in byte order.
-    pub fn entries(&self) -> &[Entry]
+    pub fn entries(&self) -> &[SharedEntry]
         ensures pairs { result.now ≡ self.now.pairs }
         ensures sorted { IsTrue (is_sorted text_cmp result.now) }
     {
@@ -137,6 +143,8 @@ impl PathMap {
         ensures within { IfErr result (λ index. index ≤ length self.now.pairs) }
         ensures gap { IfErr result (IsPartitionPoint (λ entry. text_cmp entry.0 path.now ≡ Less) (λ entry. text_cmp entry.0 path.now ≡ Greater) self.now.pairs) }
     {
-        place(self.entries.as_slice(), path)
+        self.entries
+            .as_slice()
+            .binary_search_by(|entry| entry.key().cmp(path))
     }
 }
