@@ -1,5 +1,5 @@
 -- Each proof of what a ledger has committed has a spelling, since its types promise what stands there.
-use Rattle.ibc_ledger.proofs.Common.{◌≡◌, ℕ, ◌^◌, ◌<◌, Bool, true, false, List, [], ◌∷◌, zero, suc, length, refl, sym, ap, ◌∙◌, subst, Option, Some, None, option_map, unwrap_or, slice_get, inl, inr, arith, ⊤, ltb, AllByRecursion, slice_get-map, Text, IsSomeAnd}
+use Rattle.ibc_ledger.proofs.Common.{◌≡◌, ℕ, ◌^◌, ◌<◌, Bool, true, false, List, [], ◌∷◌, zero, suc, length, sym, ap, ◌∙◌, subst, Option, Some, None, option_map, unwrap_or, slice_get, inl, inr, arith, ⊤, ltb, AllByRecursion, slice_get-map, Text, IsSomeAnd}
 use Rattle.ibc_ledger.proofs.Common.{Publication, Core, Block, Chain, image, GenesisState, starting_chain, LedgerState, StampedEntry, entry_answer, met_states, starting_state, empty_chain, Ledger, IsLedger, IsOwnEntry, state_of, written, path, provable, passed}
 use Rattle.ibc_ids.specs.Paths.{is_key}
 use Rattle.ibc_ids.specs.declared.key.Key.{Key}
