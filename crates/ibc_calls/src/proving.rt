@@ -39,12 +39,7 @@ pub fn prove(
 }
 
 #[tactic(auto, unfolding(crate::specs::Proved::FindsProved))]
-fn proved_in(
-    alloc: Global,
-    ledger: &mut Handle,
-    height: u64,
-    path: &[u8],
-) -> Result<Bytes, Refused>
+fn proved_in(alloc: Global, ledger: &mut Handle, height: u64, path: &[u8]) -> Result<Bytes, Refused>
     ensures kept { ledger.new.value ≡ ledger.old.value }
     ensures found { FindsProved height path.now ledger.old.value result }
 {
