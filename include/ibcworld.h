@@ -175,6 +175,13 @@ uint32_t ibcw_reply(ibcw_handle *ledger, uint64_t index, ibcw_told *told, uint8_
 uint32_t ibcw_query(ibcw_handle *ledger, const uint8_t *path, size_t path_size, uint8_t *value,
                     size_t room, size_t *size);
 
+/* Writes the bytes of the proof of what a committed height has at the path of a key (ICS 23): of its presence where it is there, of
+   its absence where not. The reply of the block tells the height's root (ibcw_reply). IBCW_EMPTY, IBCW_OTHER_KIND;
+   IBCW_BAD_NAME exactly where no key has the path; IBCW_NO_CONSENSUS exactly where the height isn't among the last ones that were
+   committed, as many as the window says; IBCW_TOO_SHORT. */
+uint32_t ibcw_prove(ibcw_handle *ledger, uint64_t height, const uint8_t *path, size_t path_size, uint8_t *proof,
+                    size_t room, size_t *size);
+
 /* high * 2^64 + low */
 typedef struct {
     uint64_t high;

@@ -388,6 +388,56 @@ static void refuse_notes(world *w)
 
 /* ---- blocks, and windows of heights */
 
+/* The root of the height that the ledger committed last, by the reply of its history. */
+static uint64_t last_root(ibcw_handle *ledger, uint8_t root[32])
+{
+    size_t size = 0;
+    ibcw_told told = {77, 77};
+    want(ibcw_reply(ledger, length_of(ledger) - 1, &told, root, 32, &size), IBCW_DONE, "a block's reply");
+    want((uint32_t)told.kind, IBCW_TOLD_BLOCK, "a block's reply");
+    return told.number;
+}
+
+/* Proofs at a height show under its root how many clients there are, and that a connection isn't there. */
+static void prove_there(ibcw_handle *ledger, uint64_t height, const uint8_t root[32], uint8_t clients)
+{
+    static text proof;
+    uint32_t found;
+    uint8_t count[8] = {0, 0, 0, 0, 0, 0, 0, clients};
+    WITH_REFUSALS(found, ibcw_prove(ledger, height, bytes("nextClientSequence"), 18, proof.data, ROOM, &proof.size), "a proof");
+    want(found, IBCW_DONE, "a proof of a height");
+    want(ibcw_verify_present(root, 32, bytes("nextClientSequence"), 18, count, 8, proof.data, proof.size), IBCW_DONE,
+         "a proof of a height");
+    want(ibcw_prove(ledger, height, bytes("clients"), 7, proof.data, ROOM, &proof.size), IBCW_BAD_NAME, "a path of no key");
+    want(ibcw_prove(ledger, height, bytes("connections/connection-7"), 24, proof.data, ROOM, &proof.size), IBCW_DONE,
+         "a proof of absence");
+    want(ibcw_verify_absent(root, 32, bytes("connections/connection-7"), 24, proof.data, proof.size), IBCW_DONE,
+         "a proof of absence");
+}
+
+/* Proofs are of the heights in the window alone, whatever was committed since. */
+static void prove_heights(void)
+{
+    static text message;
+    static uint8_t roots[4][32];
+    size_t size = 77;
+    world w = begin_world(8, 2, 4);
+    create_client(&message, 1);
+    meet(ibcw_prove(&w.x, 0, bytes("nextClientSequence"), 18, NULL, 0, &size), IBCW_NO_CONSENSUS, "a proof of height 0");
+    for (int n = 1; n <= 3; n++) {
+        meet(ibcw_prove(&w.x, (uint64_t)n, bytes("nextClientSequence"), 18, NULL, 0, &size), IBCW_NO_CONSENSUS, "a height to come");
+        end_block(&w.x);
+        want((uint32_t)last_root(&w.x, roots[n]), (uint32_t)n, "a height");
+        answer(&w.x, &message, IBCW_DONE, "a client");
+    }
+    meet(ibcw_prove(&w.x, 1, bytes("nextClientSequence"), 18, NULL, 0, &size), IBCW_NO_CONSENSUS, "a height that is gone");
+    want((uint32_t)size, 77, "what isn't told");
+    meet(ibcw_prove(&w.x, 2, bytes("nextClientSequence"), 18, NULL, 0, &size), IBCW_TOO_SHORT, "a proof with no room");
+    prove_there(&w.x, 2, roots[2], 1);
+    prove_there(&w.x, 3, roots[3], 2);
+    free_world(&w);
+}
+
 static void refuse_blocks(void)
 {
     static text message, old;
@@ -465,6 +515,7 @@ static uint32_t ask_reply(ibcw_handle *h)
     return ibcw_reply(h, 0, &told, NULL, 0, &written);
 }
 static uint32_t ask_query(ibcw_handle *h) { return ibcw_query(h, bytes("nextClientSequence"), 18, NULL, 0, &written); }
+static uint32_t ask_prove(ibcw_handle *h) { return ibcw_prove(h, 1, bytes("connections/c"), 13, NULL, 0, &written); }
 static uint32_t ask_balance(ibcw_handle *h)
 {
     ibcw_amount amount;
@@ -503,6 +554,7 @@ static const asking CALLS[] = {
     {"ibcw_event", ask_event, 1 << LEDGER},
     {"ibcw_reply", ask_reply, 1 << LEDGER},
     {"ibcw_query", ask_query, 1 << LEDGER},
+    {"ibcw_prove", ask_prove, 1 << LEDGER},
     {"ibcw_balance", ask_balance, 1 << LEDGER},
     {"ibcw_make_balances", ask_make_balances, 1 << LEDGER},
     {"ibcw_holding", ask_holding, OF_HOLDINGS},
@@ -599,6 +651,7 @@ int main(void)
     refuse_timeouts(&w);
     refuse_notes(&w);
     refuse_blocks();
+    prove_heights();
     refuse_texts(&w);
     refuse_handles(&w);
     for (int n = IBCW_NO_MEMORY; n <= IBCW_OTHER_WORLD; n++) {

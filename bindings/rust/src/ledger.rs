@@ -1,7 +1,7 @@
 //! Ledgers.
 use crate::lists::{holdings, notes, ChannelNotes, Holding};
 use crate::owned::{bytes_of, length_of, Owned};
-use crate::{sys, Refused, View};
+use crate::{sys, Proof, Refused, View};
 
 /// What a ledger was asked.
 #[derive(Clone, Debug, PartialEq, Eq)]
@@ -110,6 +110,24 @@ impl Ledger {
             Err(Refused::NothingThere) => Ok(None),
             Err(refused) => Err(refused),
         }
+    }
+
+    /// The proof of what a committed height has at the path of a key. `BadName` where no key has the path, `NoConsensus` where the
+    /// height isn't among the last ones that were committed, as many as the window says.
+    pub fn prove(&mut self, height: u64, path: &str) -> Result<Proof, Refused> {
+        // SAFETY: as in `apply`.
+        let bytes = bytes_of(|at, room, size| unsafe {
+            sys::ibcw_prove(
+                self.owned.handle(),
+                height,
+                path.as_ptr(),
+                path.len(),
+                at,
+                room,
+                size,
+            )
+        })?;
+        Ok(Proof { bytes })
     }
 
     /// What a user holds of a denomination in the working block.

@@ -81,6 +81,15 @@ extern "C" {
         room: usize,
         size: *mut usize,
     ) -> u32;
+    pub fn ibcw_prove(
+        ledger: *mut Handle,
+        height: u64,
+        path: *const u8,
+        path_size: usize,
+        proof: *mut u8,
+        room: usize,
+        size: *mut usize,
+    ) -> u32;
     pub fn ibcw_balance(
         ledger: *mut Handle,
         user: *const u8,

@@ -5,6 +5,7 @@ ghost use Rattle.ibc_calls.specs.Answers.{Numbered};
 ghost use Rattle.ibc_calls.specs.Handles.{Finds};
 ghost use Rattle.ibc_calls.specs.Holdings.{FindsHolding, MakesBalances, TellsHolding};
 ghost use Rattle.ibc_calls.specs.History.{TellsEvent, TellsLength, TellsReply};
+ghost use Rattle.ibc_calls.specs.Proved.{FindsProved};
 ghost use Rattle.ibc_calls.specs.Reads.{FindsValue, TellsBalance};
 
 use ibc_calls::{Amount, Asked, Told, number};
@@ -65,6 +66,22 @@ pub extern "C" fn ibcw_query(
     ensures found { Numbered (Finds (FindsValue path.now ledger.old.value) value.old value.new size.old size.new) result }
 {
     number(ibc_calls::query(alloc, ledger, path, value, size))
+}
+
+/// Writes the bytes of the proof of what a committed height of a ledger has at the path of a key. As `prove` of `ibc_calls`.
+#[unsafe(no_mangle)]
+pub extern "C" fn ibcw_prove(
+    alloc: Global,
+    ledger: &mut Handle,
+    height: u64,
+    path: &[u8],
+    proof: &mut [u8],
+    size: &mut usize,
+) -> u32
+    ensures kept { ledger.new.value ≡ ledger.old.value }
+    ensures found { Numbered (Finds (FindsProved height path.now ledger.old.value) proof.old proof.new size.old size.new) result }
+{
+    number(ibc_calls::prove(alloc, ledger, height, path, proof, size))
 }
 
 /// Makes the list of what accounts hold in an empty handle. As `make_balances` of `ibc_calls`.

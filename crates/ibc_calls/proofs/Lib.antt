@@ -1,1 +1,2 @@
 pub mod KeyPaths
+pub mod Spelled

@@ -7,6 +7,7 @@ pub mod Handles
 pub mod History
 pub mod Holdings
 pub mod Notes
+pub mod Proved
 pub mod Reads
 pub mod Views
 pub mod Worlds

@@ -19,7 +19,7 @@ use Rattle.ibc_view.specs.Proved.{HasSpellings}
 use Rattle.ibc_ledger_steps.proofs.Growing.{all_last}
 use Rattle.ibc_ledger.specs.Standing.{last_block}
 
-abbrev AreTyped : List Block → Type 0
+abbrev pub AreTyped : List Block → Type 0
 AreTyped = AllByRecursion (λ (block : Block). IsTyped block.records.core)
 
 -- all blocks of a history are typed
@@ -43,12 +43,12 @@ starts genesis k low =
     let first : slice_get (start genesis) k ≡ Some (starting_chain c.0) = slice_get-map starting_chain genesis.chains k ∙ ap (option_map starting_chain) c.1 in
     subst (λ (x : Chain). IsTyped x.records.core × AreTyped x.committed) (sym (ap (λ o. unwrap_or o empty_chain) first)) (typed_start, tt)
 
-committed_typed : (ledger : Ledger) → IsLedger ledger → AreTyped (state_of ledger).chain.committed
+pub committed_typed : (ledger : Ledger) → IsLedger ledger → AreTyped (state_of ledger).chain.committed
 committed_typed ledger is =
     let s = starts ledger.genesis ledger.chain is.number in
     replay_typed ledger ledger.genesis ledger.chain ledger.seen (starting_state ledger.genesis ledger.chain) ledger.history s.0 s.1 is.entries
 
-spelled : (core : Core) → IsTyped core → length (image core) < 2 ^ 64 → HasSpellings core
+pub spelled : (core : Core) → IsTyped core → length (image core) < 2 ^ 64 → HasSpellings core
 spelled core typed small k named =
     let fit = fit_from (λ (x : Text). ⊤) core typed (λ x i. tt) small (λ x i. tt) in
     written_has_form (image core) _ (all_of_image FitsPair core fit.fit) (omega (arith, small)) (path_fits k named)

@@ -11,6 +11,9 @@ const TIME: u64 = 100;
 /// The tag of a message that brings a packet.
 const RECV_PACKET: u8 = 15;
 
+/// The connection of both chains, as its path.
+const CONNECTION: &str = "connections/connection-0";
+
 /// How often each chain ends its block and is told of the other.
 const TURNS: usize = 4;
 
@@ -31,7 +34,8 @@ fn judge(message: &[u8], root: &[u8]) -> Result<(), Refused> {
     Ok(())
 }
 
-/// Ends a block, shows the other chain what stands, and takes what is owed to this one, turn by turn.
+/// Ends a block, shows the other chain what stands, proves the connection under the root of the block, and takes what is owed to this
+/// chain, turn by turn.
 fn drive(mut ledger: Ledger, to: &Sender<View>, from: &Receiver<View>) -> Result<Ledger, Failure> {
     for _ in 0..TURNS {
         ledger.end_block(TIME)?;
@@ -39,6 +43,8 @@ fn drive(mut ledger: Ledger, to: &Sender<View>, from: &Receiver<View>) -> Result
         sent.map_err(|_| "the other thread has ended")?;
         let mut theirs = from.recv()?;
         let mut mine = ledger.view()?;
+        let proof = ledger.prove(mine.heights()?.height, CONNECTION)?;
+        proof.verify(&mine.root()?)?;
         let root = theirs.root()?;
         for message in theirs.plan_for(&mut mine)? {
             judge(&message, &root)?;
