@@ -85,7 +85,7 @@ told_height (reply.Ok (effect.Sent _)) e = absurd (cc)
 told_height (reply.Ok (effect.Ack _)) e = absurd (cc)
 told_height (reply.No _) e = absurd (cc)
 
-of_chain : (k : ℕ) (chain : Chain) → (view_of k chain).chain ≡ k
+pub of_chain : (k : ℕ) (chain : Chain) → (view_of k chain).chain ≡ k
 of_chain k chain = by_last (last_or None chain.committed)
   where
     by_last : (o : Option Block) → (view_at k chain o).chain ≡ k
