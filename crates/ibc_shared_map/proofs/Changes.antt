@@ -87,11 +87,12 @@ module _ {K V : Type 0} {order : K → K → Ordering} (total : IsTotalOrder ord
   none-take : (q : K) (cs : Map K (Option V)) (i : ℕ) → at order q cs ≡ None → at order q (take i cs) ≡ None
   none-take q cs zero none = refl
   none-take q [] (suc i) none = refl
-  none-take q (c ∷ cs) (suc i) none = go (is_eq (order q c.0)) none
+  none-take q (c ∷ cs) (suc i) none = go (none-take q cs i) (is_eq (order q c.0)) none
     where
-      go : (b : Bool) → ◌≡◌ {A = Option (Option V)} (cond b (Some c.1) (at order q cs)) None → ◌≡◌ {A = Option (Option V)} (cond b (Some c.1) (at order q (take i cs))) None
-      go true none = absurd (cc none)
-      go false none = none-take q cs i none
+      go : (at order q cs ≡ None → at order q (take i cs) ≡ None) → (b : Bool)
+          → ◌≡◌ {A = Option (Option V)} (cond b (Some c.1) (at order q cs)) None → ◌≡◌ {A = Option (Option V)} (cond b (Some c.1) (at order q (take i cs))) None
+      go rest true none = absurd (cc none)
+      go rest false none = rest none
 
   -- changes of which some were made already
   pub changed-again : CmpEqualImpliesEq order → (cs : Map K (Option V)) (i : ℕ) (m : Map K V) → is_sorted order cs ≡ true → is_sorted order m ≡ true
