@@ -241,7 +241,10 @@ fn reserve_receive(
 {
     store.reserve(2)?;
     let path = packet_path(alloc, "acks", &name.0, &name.1, sequence)?;
-    Ok((path, received_entry(alloc, &name.0, &name.1, channel, sequence)?))
+    Ok((
+        path,
+        received_entry(alloc, &name.0, &name.1, channel, sequence)?,
+    ))
 }
 
 // A channel that is there receives a packet.
