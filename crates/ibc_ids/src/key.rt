@@ -79,7 +79,7 @@ pub fn client_path(alloc: Global, id: &ClientId) -> Result<String, Refusal>
 {
     let id = id.as_str();
     let room = id.len() + "clients//clientState".len();
-    written(alloc, room, format_args!("clients/{id}/clientState"))
+    Ok(written(alloc, room, format_args!("clients/{id}/clientState"))?)
 }
 
 /// The path of an end of a connection (ICS 24, "Path-space"), `connections/{id}`. Refused: `NoMemory`.
@@ -90,7 +90,7 @@ pub fn connection_path(alloc: Global, id: &ConnectionId) -> Result<String, Refus
 {
     let id = id.as_str();
     let room = id.len() + "connections/".len();
-    written(alloc, room, format_args!("connections/{id}"))
+    Ok(written(alloc, room, format_args!("connections/{id}"))?)
 }
 
 /// The path of a channel's one record of a kind (ICS 24, "Path-space"), `{kind}/ports/{port}/channels/{channel}`. The
@@ -108,11 +108,11 @@ pub fn channel_path(
     let port = port.as_str();
     let channel = channel.as_str();
     let room = kind.len() + port.len() + channel.len() + "/ports//channels/".len();
-    written(
+    Ok(written(
         alloc,
         room,
         format_args!("{kind}/ports/{port}/channels/{channel}"),
-    )
+    )?)
 }
 
 /// The path of a packet's record of a kind (ICS 24, "Path-space"), by its end of the channel and its sequence,
@@ -133,11 +133,11 @@ pub fn sequence_path(
     let port = port.as_str();
     let channel = channel.as_str();
     let room = kind.len() + port.len() + channel.len() + "/ports//channels//sequences/".len();
-    written(
+    Ok(written(
         alloc,
         room + MOST_DIGITS,
         format_args!("{kind}/ports/{port}/channels/{channel}/sequences/{sequence}"),
-    )
+    )?)
 }
 
 /// Different keys have different paths (ICS 24, "Path-space").

@@ -3,5 +3,6 @@ use Rattle.ibc_ids.proofs.key.sequence_path.Goals as goal
 
 pub returns-clause-ok : goal.returns-clause-ok
 returns-clause-ok c =
-    let made = rw (c.as_str-port.ensures.text, c.as_str-channel.ensures.text) at c.written.ensures.ok in
-    simp append_assoc (simp append_assoc at made)
+    let port = c.as_str-port.ensures.text in
+    let channel = c.as_str-channel.ensures.text in
+    rw (c.in_ok-written.ensures, port, channel) (simp append_assoc)
