@@ -1,7 +1,7 @@
 -- A hop before a denomination, and a denomination without its first hop, are denominations.
-use Rattle.std.proofs.Common.{◌≡◌, ◌≢◌, ◌≤◌, ◌+◌, true, false, ◌&&◌, nat_le, refl, subst, codes, List, [], ◌∷◌, ◌++◌, length, drop, Option, Some, None, Bor, ap, ⊎_elim, sym, ◌∙◌, arith, le-leb, leb-true, length-append, append_assoc}
+use Rattle.std.proofs.Common.{◌≡◌, ◌≢◌, ◌≤◌, ◌+◌, true, false, ◌&&◌, nat_le, refl, codes, List, ◌∷◌, ◌++◌, length, drop, Option, Some, None, Bor, ap, ⊎_elim, sym, ◌∙◌, arith, le-leb, leb-true, length-append, append_assoc}
 use Rattle.std.specs.Prelude.{IsTrue, MatchOption}
-use Rattle.std.specs.List.{slice_split, starts_with}
+use Rattle.std.specs.List.{slice_split}
 use Rattle.std.proofs.lemmas.Bool.{and_parts, and_from, cases_Bool}
 use Rattle.std.proofs.lemmas.Bool.Decides.{Decides-eqb}
 use Rattle.std.proofs.lemmas.Slice.Eq.{starts_is}
