@@ -25,8 +25,8 @@ use crate::maps::{
     take,
 };
 use crate::plain::PlainRecords;
-use crate::values::{client_path, client_value, counter, set_reserved};
-use ibc_ids::{ClientId, Key, Refusal, Root};
+use crate::values::{client_value, counter, set_reserved};
+use ibc_ids::{ClientId, Key, Refusal, Root, client_path};
 use ibc_merkle::Proof;
 use ibc_path_store::{Store, Tree};
 use ibc_wire::ClientState;

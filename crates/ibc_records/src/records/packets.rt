@@ -21,10 +21,10 @@ use crate::channel::Channel;
 use crate::commitment::Commitment;
 use crate::maps::{Channels, put, take};
 use crate::packet_entries::{acknowledged_entry, closed_entry, received_entry, settle};
-use crate::packet_values::{channel_counter, commitment_value, packet_path};
+use crate::packet_values::{channel_counter, commitment_value};
 use crate::values::set_reserved;
 use ibc_app_port::{App, Nobody, Pays};
-use ibc_ids::{Bytes, ChannelId, PortId, Refusal};
+use ibc_ids::{Bytes, ChannelId, PortId, Refusal, sequence_path};
 use ibc_path_store::Store;
 use ibc_wire::Packet;
 use std::alloc::Global;
@@ -195,7 +195,7 @@ fn reserve_send(
     ensures err { IfErr result (λ refusal. refusal ≡ NoMemory) }
 {
     store.reserve(2)?;
-    let path = packet_path(alloc, "commitments", &name.0, &name.1, sequence)?;
+    let path = sequence_path(alloc, "commitments", &name.0, &name.1, sequence)?;
     let value = commitment_value(alloc, commitment)?;
     let next = sequence + 1;
     let counter = channel_counter(alloc, "nextSequenceSend", &name.0, &name.1, next)?;
@@ -240,7 +240,7 @@ fn reserve_receive(
     ensures err { IfErr result (λ refusal. refusal ≡ NoMemory) }
 {
     store.reserve(2)?;
-    let path = packet_path(alloc, "acks", &name.0, &name.1, sequence)?;
+    let path = sequence_path(alloc, "acks", &name.0, &name.1, sequence)?;
     Ok((
         path,
         received_entry(alloc, &name.0, &name.1, channel, sequence)?,
@@ -288,7 +288,7 @@ fn reserve_acknowledged(
     ensures err { IfErr result (λ refusal. refusal ≡ NoMemory) }
 {
     store.reserve(1)?;
-    let path = packet_path(alloc, "commitments", &name.0, &name.1, sequence)?;
+    let path = sequence_path(alloc, "commitments", &name.0, &name.1, sequence)?;
     Ok((path, acknowledged_entry(alloc, &name.0, &name.1, channel)?))
 }
 
@@ -329,7 +329,7 @@ fn reserve_timed_out(
     ensures err { IfErr result (λ refusal. refusal ≡ NoMemory) }
 {
     store.reserve(1)?;
-    let path = packet_path(alloc, "commitments", &name.0, &name.1, sequence)?;
+    let path = sequence_path(alloc, "commitments", &name.0, &name.1, sequence)?;
     Ok((path, closed_entry(alloc, &name.0, &name.1, channel)?))
 }
 
