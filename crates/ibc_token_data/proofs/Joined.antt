@@ -1,11 +1,11 @@
 -- What is written piece by piece is the one spelling.
-use Rattle.std.proofs.Common.{◌≡◌, ℕ, ◌+◌, ◌<◌, Bool, true, false, List, [], ◌∷◌, ◌++◌, length, map, take, get_or, codes, decimal, append_assoc, append-nil, refl, sym, ap, ◌∙◌, if◌then◌else◌}
+use Rattle.std.proofs.Common.{◌≡◌, ℕ, ◌+◌, ◌<◌, Bool, true, false, List, [], ◌∷◌, ◌++◌, length, take, get_or, codes, decimal, append_assoc, append-nil, refl, sym, ap, ◌∙◌, if◌then◌else◌}
 use Rattle.std.proofs.lemmas.List.{take_more}
 use Rattle.std.specs.List.{join_with_byte}
 use Rattle.ibc_ids.specs.Texts.{Text}
 use Rattle.ibc_wire.specs.declared.token.Token.{Token}
 use Rattle.ibc_machine.specs.TokenData.{Data, member, object, token_members, party_members, members_of_first, tokens_member, has_several, data_text}
-use Rattle.ibc_token_data.specs.Spelling.{memo_front, parties_text, token_text, first_front, objects_text, behind_text, members_text}
+use Rattle.ibc_token_data.specs.Spelling.{memo_front, parties_text, token_text, objects_text, behind_text, members_text}
 
 abbrev one_object : Token → Text
 one_object token = object (token_members token)
