@@ -47,7 +47,7 @@ fn presence_at(
     ensures { IfOk result (λ presence. presence_of (pairs_of nodes.now root) (slice_get (pairs_of nodes.now root) index) ≡ Some presence) }
 {
     let entry = entry_at(nodes, root, count, index);
-    let mut operations = Vec::new(alloc);
+    let mut operations = Vec::with_capacity(alloc, count.ilog2() as usize + 1)?;
     add_operations(alloc, &mut operations, nodes, root, count, index)?;
     Ok(Presence {
         key: Bytes::copy_of(alloc, entry.key())?,
