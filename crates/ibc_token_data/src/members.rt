@@ -28,6 +28,7 @@ pub(crate) fn parsed<'t>(
     match Value::from_slice(alloc, bytes, scratch) {
         Ok(value) => Ok(value),
         Err(Error::Invalid) => Err(Fault::NotData),
+        // It is out of memory: the other errors come of other calls.
         Err(_) => Err(Fault::NoMemory),
     }
 }
