@@ -9,56 +9,32 @@ use ibc_records::{ConsensusState, Records};
 use ibc_root_table::{Pass, RootTable};
 use ibc_wire::{CreateClient, Header, UpdateClient};
 use std::alloc::Global;
+use std::process::Abort;
 
-type Answer = Result<(), Refusal>;
+fn new_records(rt: &impl Abort, alloc: Global) -> Records {
+    Records::new(alloc, 2, 100).expect(rt, "memory")
+}
 
 // Whether the client that chain 0 of two makes of a chain has this identifier.
 fn is_made(alloc: Global, records: &mut Records, chain: u8, id: &str) -> Result<bool, Refusal> {
-    Ok(create(alloc, records, 0, 2, &CreateClient { chain })?.as_str() == id)
+    let made = create(alloc, records, 0, 2, &CreateClient { chain })?;
+    let is_same = made.as_str() == id;
+    drop(made);
+    Ok(is_same)
 }
 
-// Two clients of the other chain, one of the own and one of no chain.
-fn made(alloc: Global) -> Result<[Result<bool, Refusal>; 4], Refusal> {
-    let mut records = Records::new(alloc, 2, 100)?;
-    let made = [
-        is_made(alloc, &mut records, 1, "inprocess-0"),
-        is_made(alloc, &mut records, 1, "inprocess-1"),
-        is_made(alloc, &mut records, 0, "inprocess-2"),
-        is_made(alloc, &mut records, 2, "inprocess-2"),
-    ];
-    drop(records);
-    Ok(made)
+fn check_made(rt: &impl Abort, alloc: Global, records: &mut Records) {
+    assert!(rt; is_made(alloc, records, 1, "inprocess-0") == Ok(true));
+    assert!(rt; is_made(alloc, records, 1, "inprocess-1") == Ok(true));
+    assert!(rt; is_made(alloc, records, 0, "inprocess-2") == Err(Refusal::OwnChain));
+    assert!(rt; is_made(alloc, records, 2, "inprocess-2") == Err(Refusal::UnknownChain));
 }
 
 #[test]
 fn clients_are_made_of_other_chains(rt: HostRuntime) {
-    let own = Err(Refusal::OwnChain);
-    let unknown = Err(Refusal::UnknownChain);
-    assert!(rt; made(rt.alloc()) == Ok([Ok(true), Ok(true), own, unknown]));
-}
-
-// What a client answers to a header of height 1 with this root and time.
-fn tell(
-    records: &mut Records,
-    table: &RootTable,
-    pass: &mut Pass,
-    client: &ClientId,
-    known: ConsensusState,
-) -> Answer
-    requires { pass.old.table ≡ table.now }
-    ensures { pass.new.table ≡ pass.old.table }
-{
-    let header = Header {
-        chain: 1,
-        height: 1,
-        time: known.time,
-        root: known.root,
-    };
-    let message = UpdateClient {
-        client: client.clone()?,
-        header,
-    };
-    update(records, table, pass, &message).result
+    let mut records = new_records(&rt, rt.alloc());
+    check_made(&rt, rt.alloc(), &mut records);
+    drop(records);
 }
 
 // What was published of height 1.
@@ -69,75 +45,133 @@ fn published() -> ConsensusState {
     }
 }
 
-// What it answers to another time, to another root, and to what was published.
-fn tell_each(
-    records: &mut Records,
-    table: &RootTable,
-    pass: &mut Pass,
-    client: &ClientId,
-) -> [Answer; 3]
-    requires { pass.old.table ≡ table.now }
-    ensures { pass.new.table ≡ pass.old.table }
-{
-    let mut late = published();
-    late.time = 101;
-    let mut other = published();
-    other.root = Root::from_bytes([7; 32]);
-    [
-        tell(records, table, pass, client, late),
-        tell(records, table, pass, client, other),
-        tell(records, table, pass, client, published()),
-    ]
+// What tells a client of height 1 of chain 1, with this root and time.
+fn header(rt: &impl Abort, alloc: Global, client: &str, known: ConsensusState) -> UpdateClient {
+    UpdateClient {
+        client: ClientId::parse(alloc, client).expect(rt, "a name"),
+        header: Header {
+            chain: 1,
+            height: 1,
+            time: known.time,
+            root: known.root,
+        },
+    }
 }
 
-// Whether the client knows of height 1 what was published.
-fn knows_it(records: &Records, client: &ClientId) -> bool {
-    match records.client(client) {
+// What was published, but a later time.
+fn late() -> ConsensusState {
+    let mut late = published();
+    late.time = 101;
+    late
+}
+
+// What was published, but another root.
+fn other() -> ConsensusState {
+    let mut other = published();
+    other.root = Root::from_bytes([7; 32]);
+    other
+}
+
+// Whether a client knows of height 1 what was published.
+fn knows_it(records: &Records, id: &ClientId) -> bool {
+    match records.client(id) {
         Some(client) => client.consensus_state(1) == Some(published()),
         None => false,
     }
 }
 
-// What a client of chain 1 answers once that chain has published its first height, whether it has learned, and what is
-// answered where there is no client.
-type Told = ([Answer; 3], bool, Answer);
+// What is answered to a header.
+fn tell(
+    records: &mut Records,
+    table: &RootTable,
+    pass: &mut Pass,
+    message: &UpdateClient,
+) -> Result<(), Refusal>
+    requires { pass.old.table ≡ table.now }
+    ensures { pass.new.table ≡ pass.old.table }
+{
+    update(records, table, pass, message).result
+}
 
-fn publish_and_tell(
+// This is answered to a header, and the client knows then whether it was published.
+fn check_told(
+    rt: &impl Abort,
+    records: &mut Records,
+    table: &RootTable,
+    pass: &mut Pass,
+    message: &UpdateClient,
+    due: Result<(), Refusal>,
+)
+    requires { pass.old.table ≡ table.now }
+    ensures { pass.new.table ≡ pass.old.table }
+{
+    assert!(rt; tell(records, table, pass, message) == due);
+    assert!(rt; knows_it(records, &message.client) == due.is_ok());
+}
+
+// What is answered of a header of height 1 with this root and time.
+fn tell_of(
+    rt: &impl Abort,
+    records: &mut Records,
+    table: &RootTable,
+    pass: &mut Pass,
+    told: UpdateClient,
+    due: Result<(), Refusal>,
+)
+    requires { pass.old.table ≡ table.now }
+    ensures { pass.new.table ≡ pass.old.table }
+{
+    check_told(rt, records, table, pass, &told, due);
+    drop(told);
+}
+
+// What is answered to another time, to another root, to what was published, and where there is no client.
+fn tell_each(
+    rt: &impl Abort,
     alloc: Global,
     records: &mut Records,
     table: &RootTable,
     pass: &mut Pass,
-) -> Result<Told, Refusal>
+)
+    requires { pass.old.table ≡ table.now }
+{
+    let wrong = Err(Refusal::WrongHeader);
+    let told = header(rt, alloc, "inprocess-0", late());
+    tell_of(rt, records, table, pass, told, wrong);
+    let told = header(rt, alloc, "inprocess-0", other());
+    tell_of(rt, records, table, pass, told, wrong);
+    let told = header(rt, alloc, "inprocess-0", published());
+    tell_of(rt, records, table, pass, told, Ok(()));
+    let told = header(rt, alloc, "inprocess-1", published());
+    tell_of(rt, records, table, pass, told, Err(Refusal::UnknownClient));
+}
+
+// A client of chain 1 is made, that chain publishes its first height, and the client is told.
+fn make_and_tell(
+    rt: &impl Abort,
+    alloc: Global,
+    records: &mut Records,
+    table: &RootTable,
+    pass: &mut Pass,
+)
     requires table { pass.old.table ≡ table.now }
     requires own { IsSome pass.old.own }
 {
-    let nobody = ClientId::parse(alloc, "inprocess-1")?;
-    let client = create(alloc, records, 0, 2, &CreateClient { chain: 1 })?;
-    table.publish(pass, Root::from_bytes(GENESIS_ROOT), 100)?;
-    let answers = tell_each(records, table, pass, &client);
-    let has_learned = knows_it(records, &client);
-    Ok((
-        answers,
-        has_learned,
-        tell(records, table, pass, &nobody, published()),
-    ))
-}
-
-// The same in new records, by the pass of chain 1.
-fn told(alloc: Global) -> Result<Told, Refusal> {
-    let (table, mut passes) = RootTable::new(alloc, 2, 0, 2, 4)?;
-    let Some(mut pass) = passes.pop() else {
-        return Err(Refusal::UnknownChain);
-    };
-    let mut records = Records::new(alloc, 2, 100)?;
-    let told = publish_and_tell(alloc, &mut records, &table, &mut pass);
-    drop(records);
-    told
+    assert!(rt; is_made(alloc, records, 1, "inprocess-0") == Ok(true));
+    table
+        .publish(pass, Root::from_bytes(GENESIS_ROOT), 100)
+        .expect(rt, "a row");
+    tell_each(rt, alloc, records, table, pass);
 }
 
 #[test]
 fn the_published_header_is_accepted(rt: HostRuntime) {
-    let wrong = Err(Refusal::WrongHeader);
-    let unknown = Err(Refusal::UnknownClient);
-    assert!(rt; told(rt.alloc()) == Ok(([wrong, wrong, Ok(())], true, unknown)));
+    let (table, mut passes) = RootTable::new(rt.alloc(), 2, 0, 2, 4).expect(&rt, "memory");
+    let mut pass = passes.pop().expect(&rt, "a pass");
+    drop(passes);
+    let mut records = new_records(&rt, rt.alloc());
+    make_and_tell(&rt, rt.alloc(), &mut records, &table, &mut pass);
+    drop(records);
+    drop(pass);
+    drop(table);
 }

@@ -1,67 +1,43 @@
 //! What is planned between two chains of which one has ended no block.
 
-use crate::world::{block, create, genesis};
-use ibc_ids::Refusal;
+use crate::world::{block, create, new_world};
 use ibc_relayer::plan;
 use ibc_view::View;
 use ibc_world_core::World;
 use std::alloc::Global;
+use std::process::Abort;
 
 // The view of a chain of a world.
-fn view_of(world: &World, chain: u8) -> Result<View, Refusal> {
-    match world.ledger(chain) {
-        Some(ledger) => ledger.view(),
-        None => Err(Refusal::UnknownChain),
-    }
+fn view_of(rt: &impl Abort, world: &World, chain: u8) -> View {
+    let ledger = world.ledger(chain).expect(rt, "a chain");
+    ledger.view().expect(rt, "memory")
 }
 
 // How many messages are planned for the second of two chains.
-fn planned(alloc: Global, first: &View, second: &View) -> Result<usize, Refusal> {
-    let messages = plan(alloc, first, second)?;
+fn planned(rt: &impl Abort, alloc: Global, first: &View, second: &View) -> usize {
+    let messages = plan(alloc, first, second).expect(rt, "memory");
     let count = messages.len();
     drop(messages);
-    Ok(count)
+    count
 }
 
-/// The last heights of two chains, and how many messages are planned for the second and for the first.
-type Planned = ([u64; 2], [Result<usize, Refusal>; 2]);
-
-fn planned_between(alloc: Global, first: Result<View, Refusal>, second: View) -> Option<Planned> {
-    match first {
-        Ok(first) => Some((
-            [first.height(), second.height()],
-            [
-                planned(alloc, &first, &second),
-                planned(alloc, &second, &first),
-            ],
-        )),
-        Err(_) => {
-            drop(second);
-            None
-        }
-    }
+fn check_planned(rt: &impl Abort, alloc: Global, first: &View, second: &View) {
+    assert!(rt; first.height() == 0);
+    assert!(rt; second.height() == 1);
+    assert!(rt; planned(rt, alloc, first, second) == 0);
+    assert!(rt; planned(rt, alloc, second, first) == 0);
 }
 
-// What is planned where the first chain has a client of the second, and the second alone has ended a block.
-fn planned_in(alloc: Global, world: &mut World) -> Option<Planned> {
-    drop(world.step(create()));
-    drop(world.step(block(1, 100)));
-    match view_of(world, 1) {
-        Ok(second) => planned_between(alloc, view_of(world, 0), second),
-        Err(_) => None,
-    }
-}
-
-fn planned_before_a_block(alloc: Global) -> Result<Option<Planned>, Refusal> {
-    let genesis = genesis(alloc)?;
-    let mut world = World::new(alloc, &genesis)?;
-    let planned = planned_in(alloc, &mut world);
-    drop(world);
-    Ok(planned)
-}
-
+// The first chain has a client of the second, and the second alone has ended a block.
 #[test]
 fn nothing_is_planned_before_the_first_block(rt: HostRuntime) {
-    let planned = planned_before_a_block(rt.alloc());
-    assert!(rt; planned == Ok(Some(([0, 1], [Ok(0), Ok(0)]))));
+    let mut world = new_world(&rt, rt.alloc());
+    drop(world.step(create()));
+    drop(world.step(block(1, 100)));
+    let first = view_of(&rt, &world, 0);
+    let second = view_of(&rt, &world, 1);
+    drop(world);
+    check_planned(&rt, rt.alloc(), &first, &second);
+    drop(first);
+    drop(second);
 }

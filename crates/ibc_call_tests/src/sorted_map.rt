@@ -1,50 +1,48 @@
 //! A map with numbers as keys.
 
 use ibc_sorted_map::SortedMap;
-use std::alloc::{AllocError, Global};
+use std::alloc::Global;
+use std::process::Abort;
 
-// Three keys, of which one gets another value twice.
-fn fill(map: &mut SortedMap<u64, u64>) -> Result<(), AllocError> {
-    map.reserve(3)?;
-    map.set(300, 3)?;
-    map.set(2, 2)?;
-    map.set(41, 4)?;
-    map.set(2, 20)?;
+// A map of three keys, of which one got another value twice.
+fn filled(rt: &impl Abort, alloc: Global) -> SortedMap<u64, u64> {
+    let mut map = SortedMap::new(alloc);
+    map.reserve(3).expect(rt, "memory");
+    map.set(300, 3).expect(rt, "memory");
+    map.set(2, 2).expect(rt, "memory");
+    map.set(41, 4).expect(rt, "memory");
+    map.set(2, 20).expect(rt, "memory");
     if let Some(value) = map.get_mut(&300) {
         *value = 30;
     }
-    Ok(())
+    map
 }
 
-// What is removed under a key, twice, and what the next key has then.
-fn remove(map: &mut SortedMap<u64, u64>) -> [Option<u64>; 3] {
-    [map.remove(&41), map.remove(&41), map.get(&300).copied()]
-}
-
-// Whether the entries stand in the order of their keys, and what is removed then.
-fn kept(alloc: Global) -> Result<(bool, [Option<u64>; 3], usize), AllocError> {
-    let mut map = SortedMap::new(alloc);
-    fill(&mut map)?;
-    let are_in_order = map.entries() == [(2, 20), (41, 4), (300, 30)].as_slice();
-    let removed = remove(&mut map);
-    Ok((are_in_order, removed, map.len()))
+fn check_order(rt: &impl Abort, map: &mut SortedMap<u64, u64>) {
+    assert!(rt; map.entries() == [(2, 20), (41, 4), (300, 30)].as_slice());
+    assert!(rt; map.remove(&41) == Some(4));
+    assert!(rt; map.remove(&41).is_none());
+    assert!(rt; map.get(&300) == Some(&30));
+    assert!(rt; map.len() == 2);
 }
 
 #[test]
 fn numbers_in_their_order(rt: HostRuntime) {
-    assert!(rt; kept(rt.alloc()) == Ok((true, [Some(4), None, Some(30)], 2)));
+    let mut map = filled(&rt, rt.alloc());
+    check_order(&rt, &mut map);
+    drop(map);
 }
 
-// Whether a copy has the entries, and keeps them when the map goes on.
-fn is_copied(alloc: Global) -> Result<bool, AllocError> {
-    let mut map = SortedMap::new(alloc);
-    fill(&mut map)?;
-    let copy = map.copy()?;
-    let _removed = remove(&mut map);
-    Ok(copy.entries() == [(2, 20), (41, 4), (300, 30)].as_slice())
+fn check_copy(rt: &impl Abort, copy: &SortedMap<u64, u64>) {
+    assert!(rt; copy.entries() == [(2, 20), (41, 4), (300, 30)].as_slice());
 }
 
 #[test]
 fn a_copy_is_a_map_of_its_own(rt: HostRuntime) {
-    assert!(rt; is_copied(rt.alloc()) == Ok(true));
+    let mut map = filled(&rt, rt.alloc());
+    let copy = map.copy().expect(&rt, "memory");
+    let _removed = map.remove(&41);
+    check_copy(&rt, &copy);
+    drop(copy);
+    drop(map);
 }

@@ -1,8 +1,9 @@
 //! The data of packets of tokens, and texts that are none.
 
-use ibc_ids::{Name, Refusal, Version};
+use ibc_ids::{Name, Version};
 use ibc_token_data::TokenData;
 use std::alloc::Global;
+use std::process::Abort;
 
 // Data of one token and of several, worked out apart from this code.
 const ONE: &[u8] = br#"{"amount":"100","denom":"atom","receiver":"bob","sender":"alice"}"#;
@@ -50,6 +51,11 @@ const NOT_SEVERAL: [&[u8]; 7] = [
     br#"{"amount":"100","denom":"atom","receiver":"bob","sender":"alice"}"#,
 ];
 
+// What is read of a channel of this version, or none.
+fn read(rt: &impl Abort, alloc: Global, version: &Version, payload: &[u8]) -> Option<TokenData> {
+    TokenData::read(alloc, version, payload).expect(rt, "memory")
+}
+
 // Whether the place has so much of the denomination.
 fn holds(told: &TokenData, place: usize, denom: &str, amount: u128) -> bool {
     match told.tokens.as_slice().get(place) {
@@ -64,47 +70,60 @@ fn goes_to_bob(told: &TokenData) -> bool {
 }
 
 // Whether the data goes from alice to bob, and has 100 atom and then 7 gold.
-fn told(alloc: Global, version: &str, payload: &[u8]) -> Result<[bool; 3], Refusal> {
-    let version: Version = Name::parse(alloc, version)?;
-    match TokenData::read(alloc, &version, payload)? {
-        Some(told) => Ok([
-            goes_to_bob(&told),
-            holds(&told, 0, "atom", 100),
-            holds(&told, 1, "gold", 7),
-        ]),
-        None => Ok([false; 3]),
-    }
+fn told(rt: &impl Abort, alloc: Global, version: &str, payload: &[u8]) -> [bool; 3] {
+    let version = Name::parse(alloc, version).expect(rt, "a version");
+    let told = read(rt, alloc, &version, payload).expect(rt, "data");
+    drop(version);
+    let found = [
+        goes_to_bob(&told),
+        holds(&told, 0, "atom", 100),
+        holds(&told, 1, "gold", 7),
+    ];
+    drop(told);
+    found
 }
 
 #[test]
 fn reads_tokens(rt: HostRuntime) {
-    assert!(rt; told(rt.alloc(), "ics20-1", ONE) == Ok([true, true, false]));
-    assert!(rt; told(rt.alloc(), "ics20-own-2", SEVERAL) == Ok([true, true, true]));
+    assert!(rt; told(&rt, rt.alloc(), "ics20-1", ONE) == [true, true, false]);
+    assert!(rt; told(&rt, rt.alloc(), "ics20-own-2", SEVERAL) == [true, true, true]);
 }
 
-// Whether the data is read and is written so, or none is read.
-fn is_written_so(alloc: Global, version: &str, payload: &[u8]) -> Result<Option<bool>, Refusal> {
-    let version: Version = Name::parse(alloc, version)?;
-    match TokenData::read(alloc, &version, payload)? {
-        Some(told) => Ok(Some(told.write(alloc, &version)?.as_slice() == payload)),
-        None => Ok(None),
-    }
+// Whether the data is read, and is written so.
+fn is_written_so(rt: &impl Abort, alloc: Global, version: &str, payload: &[u8]) -> bool {
+    let version = Name::parse(alloc, version).expect(rt, "a version");
+    let told = read(rt, alloc, &version, payload).expect(rt, "data");
+    let written = told.write(alloc, &version).expect(rt, "memory");
+    drop(told);
+    drop(version);
+    let is_same = written.as_slice() == payload;
+    drop(written);
+    is_same
 }
 
 #[test]
 fn writes_what_it_reads(rt: HostRuntime) {
-    let alloc = rt.alloc();
-    assert!(rt; is_written_so(alloc, "ics20-1", ONE) == Ok(Some(true)));
-    assert!(rt; is_written_so(alloc, "ics20-1", GREATEST) == Ok(Some(true)));
-    assert!(rt; is_written_so(alloc, "ics20-own-2", SEVERAL) == Ok(Some(true)));
-    assert!(rt; is_written_so(alloc, "ics20-own-2", LISTED) == Ok(Some(true)));
+    assert!(rt; is_written_so(&rt, rt.alloc(), "ics20-1", ONE));
+    assert!(rt; is_written_so(&rt, rt.alloc(), "ics20-1", GREATEST));
+    assert!(rt; is_written_so(&rt, rt.alloc(), "ics20-own-2", SEVERAL));
+    assert!(rt; is_written_so(&rt, rt.alloc(), "ics20-own-2", LISTED));
+}
+
+// Whether no data is read.
+fn is_none(rt: &impl Abort, alloc: Global, version: &str, payload: &[u8]) -> bool {
+    let version = Name::parse(alloc, version).expect(rt, "a version");
+    let told = read(rt, alloc, &version, payload);
+    drop(version);
+    let is_none = told.is_none();
+    drop(told);
+    is_none
 }
 
 #[test]
 fn takes_no_other_spelling(rt: HostRuntime) {
     for place in 0..NOT_ONE.len() {
         assert!(rt;
-            is_written_so(rt.alloc(), "ics20-1", NOT_ONE[place]) == Ok(None),
+            is_none(&rt, rt.alloc(), "ics20-1", NOT_ONE[place]),
             "at {place}"
         );
     }
@@ -114,7 +133,7 @@ fn takes_no_other_spelling(rt: HostRuntime) {
 fn takes_no_other_list(rt: HostRuntime) {
     for place in 0..NOT_SEVERAL.len() {
         assert!(rt;
-            is_written_so(rt.alloc(), "ics20-own-2", NOT_SEVERAL[place]) == Ok(None),
+            is_none(&rt, rt.alloc(), "ics20-own-2", NOT_SEVERAL[place]),
             "at {place}"
         );
     }

@@ -7,6 +7,7 @@ use ibc_machine::ChainStart;
 use ibc_transfer::Transfers;
 use ibc_wire::Packet;
 use std::alloc::Global;
+use std::process::Abort;
 
 // A packet of port `transfer` from `channel-7` to `channel-0` without data, as it is spelled.
 const PACKET: &[u8] =
@@ -24,96 +25,84 @@ const HOME: &[u8] =
     br#"{"amount":"1","denom":"transfer/channel-7/gold","receiver":"bob","sender":"alice"}"#;
 
 // The packet with this data.
-fn packet(alloc: Global, payload: &[u8]) -> Result<Packet, Refusal> {
-    let payload = Bytes::copy_of(alloc, payload)?;
-    let mut packet: Packet = decode(alloc, PACKET)?;
-    packet.payload = payload;
-    Ok(packet)
+fn packet(rt: &impl Abort, alloc: Global, payload: &[u8]) -> Packet {
+    let mut packet: Packet = decode(alloc, PACKET).expect(rt, "a packet");
+    packet.payload = Bytes::copy_of(alloc, payload).expect(rt, "memory");
+    packet
 }
 
-// Whether the packet with this data is acknowledged so.
-fn is_acked<A: App>(
-    alloc: Global,
-    app: &mut A,
-    version: &Version,
-    payload: &[u8],
-    due: &[u8],
-) -> Result<bool, Refusal> {
-    let packet = packet(alloc, payload)?;
-    let ack = app.on_recv(version, &packet);
-    drop(packet);
-    Ok(ack?.as_slice() == due)
-}
-
-// Whether the packets are acknowledged as they are due.
-fn are_acked<A: App>(alloc: Global, app: &mut A) -> Result<[bool; 4], Refusal> {
-    let version = Name::parse(alloc, "ics20-1")?;
-    Ok([
-        is_acked(alloc, app, &version, ATOMS, br#"{"result":"AQ=="}"#)?,
-        is_acked(
-            alloc,
-            app,
-            &version,
-            NO_USER,
-            br#"{"error":"bad receiver"}"#,
-        )?,
-        is_acked(alloc, app, &version, NO_DATA, br#"{"error":"bad data"}"#)?,
-        is_acked(alloc, app, &version, HOME, br#"{"error":"over limit"}"#)?,
-    ])
-}
-
-// What is answered where a packet that was never sent is acknowledged as a failure, and where it is late.
-fn refunded<A: App>(alloc: Global, app: &mut A) -> Result<[Result<(), Refusal>; 2], Refusal> {
-    let version = Name::parse(alloc, "ics20-1")?;
-    let packet = packet(alloc, ATOMS)?;
-    let answers = [
-        app.on_ack(&version, &packet, br#"{"error":"no"}"#),
-        app.on_timeout(&version, &packet),
-    ];
-    drop(packet);
-    Ok(answers)
-}
-
-// What bob has of `atom` with a hop over `channel-0`.
-fn atoms_of_bob(alloc: Global, app: &Transfers) -> Result<u128, Refusal> {
-    let denom: Denom = Name::parse(alloc, "transfer/channel-0/atom")?;
-    let bob = Account::User(Name::parse(alloc, "bob")?);
-    Ok(app.bank().balance(&bob, &denom))
+fn version(rt: &impl Abort, alloc: Global) -> Version {
+    Name::parse(alloc, "ics20-1").expect(rt, "a version")
 }
 
 // An application that holds nothing.
-fn empty(alloc: Global) -> Result<Transfers, Refusal> {
+fn empty(rt: &impl Abort, alloc: Global) -> Transfers {
     let start = ChainStart {
         time: 100,
         balances: Vec::new(alloc),
     };
-    Ok(Transfers::from_start(alloc, &start)?)
+    let app = Transfers::from_start(alloc, &start).expect(rt, "memory");
+    drop(start);
+    app
 }
 
-// What comes of the packets where nothing was held, and what bob has then.
-fn taken(alloc: Global) -> Result<([bool; 4], u128), Refusal> {
-    let mut app = empty(alloc)?;
-    let are_acked = are_acked(alloc, &mut app);
-    let atoms = atoms_of_bob(alloc, &app);
-    drop(app);
-    Ok((are_acked?, atoms?))
+// Whether the packet with this data is acknowledged so.
+fn is_acked<A: App>(
+    rt: &impl Abort,
+    alloc: Global,
+    app: &mut A,
+    payload: &[u8],
+    due: &[u8],
+) -> bool {
+    let version = version(rt, alloc);
+    let packet = packet(rt, alloc, payload);
+    let ack = app.on_recv(&version, &packet).expect(rt, "memory");
+    drop(packet);
+    drop(version);
+    let is_due = ack.as_slice() == due;
+    drop(ack);
+    is_due
+}
+
+// What bob has of `atom` with a hop over `channel-0`.
+fn atoms_of_bob(rt: &impl Abort, alloc: Global, app: &Transfers) -> u128 {
+    let denom: Denom = Name::parse(alloc, "transfer/channel-0/atom").expect(rt, "a denomination");
+    let bob = Account::User(Name::parse(alloc, "bob").expect(rt, "a name"));
+    let atoms = app.bank().balance(&bob, &denom);
+    drop(bob);
+    drop(denom);
+    atoms
+}
+
+fn check_taken(rt: &impl Abort, alloc: Global, app: &mut Transfers) {
+    assert!(rt; is_acked(rt, alloc, app, ATOMS, br#"{"result":"AQ=="}"#));
+    assert!(rt; is_acked(rt, alloc, app, NO_USER, br#"{"error":"bad receiver"}"#));
+    assert!(rt; is_acked(rt, alloc, app, NO_DATA, br#"{"error":"bad data"}"#));
+    assert!(rt; is_acked(rt, alloc, app, HOME, br#"{"error":"over limit"}"#));
+    assert!(rt; atoms_of_bob(rt, alloc, app) == 100);
 }
 
 #[test]
 fn tokens_are_taken_or_not(rt: HostRuntime) {
-    assert!(rt; taken(rt.alloc()) == Ok(([true; 4], 100)));
+    let mut app = empty(&rt, rt.alloc());
+    check_taken(&rt, rt.alloc(), &mut app);
+    drop(app);
 }
 
-// What comes of refunds where nothing was held.
-fn never_sent(alloc: Global) -> Result<[Result<(), Refusal>; 2], Refusal> {
-    let mut app = empty(alloc)?;
-    let refunded = refunded(alloc, &mut app);
-    drop(app);
-    refunded
+// A packet that was never sent isn't refunded where it is acknowledged as a failure, or late.
+fn check_refused<A: App>(rt: &impl Abort, app: &mut A, version: &Version, packet: &Packet) {
+    let poor = Err(Refusal::Poor);
+    assert!(rt; app.on_ack(version, packet, br#"{"error":"no"}"#) == poor);
+    assert!(rt; app.on_timeout(version, packet) == poor);
 }
 
 #[test]
 fn what_was_not_sent_is_not_refunded(rt: HostRuntime) {
-    let poor = Err(Refusal::Poor);
-    assert!(rt; never_sent(rt.alloc()) == Ok([poor, poor]));
+    let version = version(&rt, rt.alloc());
+    let packet = packet(&rt, rt.alloc(), ATOMS);
+    let mut app = empty(&rt, rt.alloc());
+    check_refused(&rt, &mut app, &version, &packet);
+    drop(app);
+    drop(packet);
+    drop(version);
 }

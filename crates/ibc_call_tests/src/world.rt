@@ -6,6 +6,7 @@ use ibc_machine::{ChainStart, Effect, Event, Genesis, Reply};
 use ibc_wire::{CreateClient, Message};
 use ibc_world_core::{Audit, World, audit};
 use std::alloc::Global;
+use std::process::Abort;
 
 // A chain on which no one holds anything.
 fn start(alloc: Global) -> ChainStart {
@@ -15,13 +16,21 @@ fn start(alloc: Global) -> ChainStart {
     }
 }
 
-/// The beginning of two chains.
-pub fn genesis(alloc: Global) -> Result<Genesis, Refusal> {
-    Ok(Genesis {
+// A world of two chains, on the first of which no one holds anything.
+fn world_of(rt: &impl Abort, alloc: Global, second: ChainStart) -> World {
+    let genesis = Genesis {
         capacity: 64,
         window: 4,
-        chains: vec![in alloc; start(alloc), start(alloc)]?,
-    })
+        chains: vec![in alloc; start(alloc), second].expect(rt, "memory"),
+    };
+    let world = World::new(alloc, &genesis).expect(rt, "a world");
+    drop(genesis);
+    world
+}
+
+/// The world of two chains on which no one holds anything.
+pub fn new_world(rt: &impl Abort, alloc: Global) -> World {
+    world_of(rt, alloc, start(alloc))
 }
 
 /// Chain 0 makes a client of chain 1.
@@ -55,11 +64,18 @@ fn is_first_block(replies: &[Reply], place: usize) -> bool {
 
 // Whether it is this refusal.
 fn is_refused(replies: &[Reply], place: usize, refusal: Refusal) -> bool {
-    replies.get(place) == Some(&Reply::No(refusal))
+    match replies.get(place) {
+        Some(Reply::No(given)) => *given == refusal,
+        _ => false,
+    }
 }
 
-// Whether the replies are due: to a client, to a block of no chain, to one of the second chain, and to one whose time
-// goes back.
+// What a world answers to a list of events.
+fn replies(rt: &impl Abort, world: &mut World, events: Vec<Event>) -> Vec<Reply> {
+    world.run(events).ok().expect(rt, "memory")
+}
+
+// Whether they are due: to a client, to a block of no chain, to one of the second chain, and to one whose time goes back.
 fn are_due(replies: &[Reply]) -> bool {
     replies.len() == 4
         && is_client(replies, 0, "inprocess-0")
@@ -68,46 +84,31 @@ fn are_due(replies: &[Reply]) -> bool {
         && is_refused(replies, 3, Refusal::TimeBack)
 }
 
-// Whether a world gives these replies.
-fn replies(alloc: Global, world: &mut World) -> Result<bool, Refusal> {
-    let events = vec![in alloc; create(), block(2, 100), block(1, 100), block(0, 99)]?;
-    match world.run(events) {
-        Ok(replies) => Ok(are_due(replies.as_slice())),
-        Err(_) => Err(Refusal::NoMemory),
-    }
-}
-
-// Whether a new world gives them.
-fn run(alloc: Global) -> Result<bool, Refusal> {
-    let genesis = genesis(alloc)?;
-    let mut world = World::new(alloc, &genesis)?;
-    let replies = replies(alloc, &mut world);
-    drop(world);
-    replies
-}
-
 #[test]
 fn events_are_answered_in_their_order(rt: HostRuntime) {
-    assert!(rt; run(rt.alloc()) == Ok(true));
+    let alloc = rt.alloc();
+    let mut world = new_world(&rt, alloc);
+    let events = vec![in alloc; create(), block(2, 100), block(1, 100), block(0, 99)];
+    let replies = replies(&rt, &mut world, events.expect(&rt, "memory"));
+    drop(world);
+    let are_due = are_due(replies.as_slice());
+    drop(replies);
+    assert!(rt; are_due);
 }
 
 // A chain on which alice holds 1000 atom.
-fn alices(alloc: Global) -> Result<ChainStart, Refusal> {
-    let alice = UserName::parse(alloc, "alice")?;
-    let atom = Denom::parse(alloc, "atom")?;
-    Ok(ChainStart {
+fn alices(rt: &impl Abort, alloc: Global) -> ChainStart {
+    let alice = UserName::parse(alloc, "alice").expect(rt, "a name");
+    let atom = Denom::parse(alloc, "atom").expect(rt, "a denomination");
+    ChainStart {
         time: 100,
-        balances: vec![in alloc; (alice, atom, 1000)]?,
-    })
+        balances: vec![in alloc; (alice, atom, 1000)].expect(rt, "memory"),
+    }
 }
 
-// The beginning of two chains, on the second of which alice holds 1000 atom.
-fn holding(alloc: Global) -> Result<Genesis, Refusal> {
-    Ok(Genesis {
-        capacity: 64,
-        window: 4,
-        chains: vec![in alloc; start(alloc), alices(alloc)?]?,
-    })
+// The world of two chains, on the second of which alice holds 1000 atom.
+fn holding(rt: &impl Abort, alloc: Global) -> World {
+    world_of(rt, alloc, alices(rt, alloc))
 }
 
 // Whether they are alice's 1000 atom.
@@ -120,50 +121,60 @@ fn are_alices(list: &[(Account, Denom, u128)]) -> bool {
     }
 }
 
-// Whether it tells that the first chain has nothing and the second alice's atom, and that there are no notes.
-fn is_due(audit: &Audit) -> bool {
-    let balances = match audit.balances.as_slice() {
+// Whether the first chain has nothing, and the second alice's atom.
+fn has_alices_alone(audit: &Audit) -> bool {
+    match audit.balances.as_slice() {
         [first, second] => first.is_empty() && are_alices(second.as_slice()),
         _ => false,
-    };
-    let notes = match audit.notes.as_slice() {
-        [first, second] => first.is_empty() && second.is_empty(),
-        _ => false,
-    };
-    balances && notes
+    }
 }
 
-// Whether the ledgers of a world that was asked for some events are told of so.
-fn gathered(alloc: Global) -> Result<bool, Refusal> {
-    let mut world = World::new(alloc, &holding(alloc)?)?;
-    let events = vec![in alloc; create(), block(1, 100), block(0, 99)]?;
-    if world.run(events).is_err() {
-        return Err(Refusal::NoMemory);
+// Whether there are no notes on two chains.
+fn has_no_notes(audit: &Audit) -> bool {
+    match audit.notes.as_slice() {
+        [first, second] => first.is_empty() && second.is_empty(),
+        _ => false,
     }
-    Ok(is_due(&audit(alloc, world.into_ledgers())?))
+}
+
+// What the ledgers of a world hold.
+fn audit_of(rt: &impl Abort, alloc: Global, world: World) -> Audit {
+    audit(alloc, world.into_ledgers()).expect(rt, "told")
 }
 
 #[test]
 fn ledgers_are_gathered_and_audited(rt: HostRuntime) {
-    assert!(rt; gathered(rt.alloc()) == Ok(true));
+    let alloc = rt.alloc();
+    let mut world = holding(&rt, alloc);
+    let events = vec![in alloc; create(), block(1, 100), block(0, 99)];
+    drop(replies(&rt, &mut world, events.expect(&rt, "memory")));
+    let audit = audit_of(&rt, alloc, world);
+    let is_due = has_alices_alone(&audit) && has_no_notes(&audit);
+    drop(audit);
+    assert!(rt; is_due);
 }
 
-// What is answered where there are no ledgers, and where the second chain's is missing.
-fn not_gathered(alloc: Global) -> Result<[bool; 2], Refusal> {
-    let mut ledgers = World::new(alloc, &holding(alloc)?)?.into_ledgers();
+// Whether it is refused, where there are no ledgers, and where the second chain's is missing.
+fn are_not_gathered(alloc: Global, world: World) -> bool {
+    let mut ledgers = world.into_ledgers();
     let last = ledgers.pop();
     drop(last);
     let none = audit(alloc, Vec::new(alloc));
     let one = audit(alloc, ledgers);
-    Ok([is_bad(&none), is_bad(&one)])
+    let is_none_bad = is_bad(none);
+    let is_one_bad = is_bad(one);
+    is_none_bad && is_one_bad
 }
 
 // Whether it is the refusal that a chain is missing or twice.
-fn is_bad(answer: &Result<Audit, Refusal>) -> bool {
-    matches!(answer, Err(Refusal::BadMessage))
+fn is_bad(answer: Result<Audit, Refusal>) -> bool {
+    let is_bad = matches!(&answer, Err(Refusal::BadMessage));
+    drop(answer);
+    is_bad
 }
 
 #[test]
 fn worlds_with_a_chain_missing_are_refused(rt: HostRuntime) {
-    assert!(rt; not_gathered(rt.alloc()) == Ok([true, true]));
+    let world = holding(&rt, rt.alloc());
+    assert!(rt; are_not_gathered(rt.alloc(), world));
 }

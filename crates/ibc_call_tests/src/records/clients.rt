@@ -1,32 +1,27 @@
 //! Blocks, and clients that learn of heights.
 
-use super::has;
+use super::{has, new_records};
 use crate::genesis::GENESIS_ROOT;
 use ibc_client::check_number;
-use ibc_ids::{ClientId, Refusal, Root};
+use ibc_ids::{ClientId, Root};
 use ibc_records::{ConsensusState, NextNumbers, Records};
 use ibc_wire::ClientState;
 use std::alloc::Global;
+use std::process::Abort;
 
-// Commits two heights: whether the first has the genesis root, and the clock then.
-fn commit_twice(records: &mut Records) -> Result<(bool, [u64; 2]), Refusal> {
-    let root = records.commit(100)?;
-    records.commit(101)?;
-    let clock = [records.height(), records.time()];
-    Ok((root.bytes() == &GENESIS_ROOT, clock))
-}
-
-// What came of two heights of new records.
-fn committed(alloc: Global) -> Result<(bool, [u64; 2]), Refusal> {
-    let mut records = Records::new(alloc, 2, 100)?;
-    let committed = commit_twice(&mut records);
-    drop(records);
-    committed
+fn check_blocks(rt: &impl Abort, records: &mut Records) {
+    let root = records.commit(100).expect(rt, "a height");
+    records.commit(101).expect(rt, "a height");
+    assert!(rt; root.bytes() == &GENESIS_ROOT);
+    assert!(rt; records.height() == 2);
+    assert!(rt; records.time() == 101);
 }
 
 #[test]
 fn blocks_follow(rt: HostRuntime) {
-    assert!(rt; committed(rt.alloc()) == Ok((true, [2, 101])));
+    let mut records = new_records(&rt, rt.alloc());
+    check_blocks(&rt, &mut records);
+    drop(records);
 }
 
 // What the client is told of a height.
@@ -37,14 +32,18 @@ fn known() -> ConsensusState {
     }
 }
 
-// A client of chain 1 comes, and learns of the heights 3 and 2: whether it has learned.
-fn add_and_tell(alloc: Global, records: &mut Records) -> Result<bool, Refusal> {
-    let id = ClientId::parse(alloc, "inprocess-0")?;
-    check_number(records.next_client())?;
-    records.add_client(id.clone()?, 1)?;
-    records.update_client(&id, 3, known())?;
-    records.update_client(&id, 2, known())?;
-    Ok(has_learned(records, &id))
+// Adds a client of chain 1.
+fn add_client(rt: &impl Abort, records: &mut Records, id: &ClientId) {
+    let id = id.clone().expect(rt, "memory");
+    check_number(records.next_client()).expect(rt, "a number");
+    records.add_client(id, 1).expect(rt, "memory");
+}
+
+// Tells the client of a height.
+fn tell(rt: &impl Abort, records: &mut Records, id: &ClientId, height: u64) {
+    records
+        .update_client(id, height, known())
+        .expect(rt, "memory");
 }
 
 // Whether the client tracks chain 1 up to height 3, and knows of height 2 and not of 1.
@@ -61,39 +60,43 @@ fn has_learned(records: &Records, id: &ClientId) -> bool {
     }
 }
 
-// Whether a client of new records has learned, and the next client's number then.
-fn told(alloc: Global) -> Result<(bool, u64), Refusal> {
-    let mut records = Records::new(alloc, 2, 100)?;
-    let has_learned = add_and_tell(alloc, &mut records);
-    let next = records.next_client();
-    drop(records);
-    Ok((has_learned?, next))
+fn check_client(rt: &impl Abort, records: &mut Records, id: &ClientId) {
+    add_client(rt, records, id);
+    tell(rt, records, id, 3);
+    tell(rt, records, id, 2);
+    assert!(rt; has_learned(records, id));
+    assert!(rt; records.next_client() == 1);
 }
 
 #[test]
 fn clients_come_and_learn(rt: HostRuntime) {
-    assert!(rt; told(rt.alloc()) == Ok((true, 1)));
+    let mut records = new_records(&rt, rt.alloc());
+    let id = ClientId::parse(rt.alloc(), "inprocess-0").expect(&rt, "a name");
+    check_client(&rt, &mut records, &id);
+    drop(id);
+    drop(records);
 }
 
-// The counters of records that don't begin at 0, and whether the next channel's stands at its path.
-fn begun(alloc: Global) -> Result<([u64; 3], bool), Refusal> {
+// Records that don't begin at 0.
+fn counting_on(rt: &impl Abort, alloc: Global) -> Records {
     let next = NextNumbers {
         client: 7,
         connection: u64::MAX,
         channel: 256,
     };
-    let records = Records::counting_from(alloc, 2, 100, next)?;
-    let numbers = [
-        records.next_client(),
-        records.next_connection(),
-        records.next_channel(),
-    ];
-    let stands = has(&records, "nextChannelSequence", &[0, 0, 0, 0, 0, 0, 1, 0]);
-    drop(records);
-    Ok((numbers, stands))
+    Records::counting_from(alloc, 2, 100, next).expect(rt, "memory")
+}
+
+fn check_counters(rt: &impl Abort, records: &Records) {
+    assert!(rt; records.next_client() == 7);
+    assert!(rt; records.next_connection() == u64::MAX);
+    assert!(rt; records.next_channel() == 256);
+    assert!(rt; has(records, "nextChannelSequence", &[0, 0, 0, 0, 0, 0, 1, 0]));
 }
 
 #[test]
 fn counters_begin_anywhere(rt: HostRuntime) {
-    assert!(rt; begun(rt.alloc()) == Ok(([7, u64::MAX, 256], true)));
+    let records = counting_on(&rt, rt.alloc());
+    check_counters(&rt, &records);
+    drop(records);
 }

@@ -6,7 +6,7 @@ ghost use Rattle.ibc_machine.specs.Records.{channel_at};
 ghost use Rattle.ibc_records.specs.Held.{core_of};
 
 use super::channels::{END, add_channel};
-use super::has;
+use super::{has, new_records};
 use ibc_client::check_number;
 use ibc_codec::decode;
 use ibc_ids::{Bytes, ChannelId, PortId, Refusal};
@@ -14,6 +14,7 @@ use ibc_note::Notes;
 use ibc_records::{Commitment, Records};
 use ibc_wire::Packet;
 use std::alloc::Global;
+use std::process::Abort;
 
 // The channel with `hello` in packet 1 to itself, which is late at height 12, as they are spelled.
 const ORDERED: &[u8] = b"\x03\x02\0\x04note\0\x09channel-0\0\x0cconnection-0\0\x06note-1";
@@ -52,41 +53,49 @@ fn check_counters(records: &Records, port: &PortId, id: &ChannelId) -> Result<()
 }
 
 // The channel sends the packet.
-fn send(alloc: Global, records: &mut Records, packet: &Packet) -> Result<u64, Refusal> {
+fn send(rt: &impl Abort, alloc: Global, records: &mut Records, packet: &Packet) {
     let commitment = Commitment {
-        payload: Bytes::copy_of(alloc, b"hello")?,
+        payload: Bytes::copy_of(alloc, b"hello").expect(rt, "memory"),
         timeout_height: 12,
         timeout_time: 0,
     };
-    check_counters(records, &packet.source_port, &packet.source_channel)?;
-    records.send(&packet.source_port, &packet.source_channel, commitment)
+    let port = &packet.source_port;
+    let channel = &packet.source_channel;
+    check_counters(records, port, channel).expect(rt, "a channel");
+    records.send(port, channel, commitment).expect(rt, "sent");
 }
 
 // The channel receives the packet.
-fn receive(alloc: Global, records: &mut Records, packet: &Packet) -> Result<(), Refusal> {
+fn receive(rt: &impl Abort, alloc: Global, records: &mut Records, packet: &Packet) {
     let mut notes = Notes::new(alloc);
-    check_counters(
-        records,
-        &packet.destination_port,
-        &packet.destination_channel,
-    )?;
-    let acks = records.receive(&mut notes, packet)?;
-    drop(acks);
-    Ok(())
+    let port = &packet.destination_port;
+    let channel = &packet.destination_channel;
+    check_counters(records, port, channel).expect(rt, "a channel");
+    let ack = records.receive(&mut notes, packet).expect(rt, "received");
+    drop(ack);
+    drop(notes);
 }
 
 // The packet is acknowledged.
-fn acknowledge(alloc: Global, records: &mut Records, packet: &Packet) -> Result<(), Refusal> {
+fn acknowledge(rt: &impl Abort, alloc: Global, records: &mut Records, packet: &Packet) {
     let mut notes = Notes::new(alloc);
-    check_counters(records, &packet.source_port, &packet.source_channel)?;
-    records.acknowledge(&mut notes, packet, br#"{"result":"AQ=="}"#)
+    let port = &packet.source_port;
+    let channel = &packet.source_channel;
+    check_counters(records, port, channel).expect(rt, "a channel");
+    records
+        .acknowledge(&mut notes, packet, br#"{"result":"AQ=="}"#)
+        .expect(rt, "acknowledged");
+    drop(notes);
 }
 
 // The packet is too late.
-fn time_out(alloc: Global, records: &mut Records, packet: &Packet) -> Result<(), Refusal> {
+fn time_out(rt: &impl Abort, alloc: Global, records: &mut Records, packet: &Packet) {
     let mut notes = Notes::new(alloc);
-    check_counters(records, &packet.source_port, &packet.source_channel)?;
-    records.time_out(&mut notes, packet)
+    let port = &packet.source_port;
+    let channel = &packet.source_channel;
+    check_counters(records, port, channel).expect(rt, "a channel");
+    records.time_out(&mut notes, packet).expect(rt, "late");
+    drop(notes);
 }
 
 // What stands of packet 1: its commitment, its acknowledgement and its receipt.
@@ -132,80 +141,92 @@ fn counters(records: &Records) -> [bool; 3] {
     ]
 }
 
-// What stands of the packet once it is sent, received and acknowledged, and of the counters then.
-type Relayed = ([[bool; 3]; 3], [bool; 3]);
-
-fn relay(alloc: Global, records: &mut Records, packet: &Packet) -> Result<Relayed, Refusal> {
-    send(alloc, records, packet)?;
-    let sent = values(records);
-    receive(alloc, records, packet)?;
-    let received = values(records);
-    acknowledge(alloc, records, packet)?;
-    Ok(([sent, received, values(records)], counters(records)))
+fn packet(rt: &impl Abort, alloc: Global) -> Packet {
+    decode(alloc, PACKET).expect(rt, "a packet")
 }
 
-// The same of the packet of a channel that comes with this end.
-fn relay_over(alloc: Global, records: &mut Records, end: &[u8]) -> Result<Relayed, Refusal> {
-    add_channel(alloc, records, end)?;
-    let packet = decode(alloc, PACKET)?;
-    let relayed = relay(alloc, records, &packet);
-    drop(packet);
-    relayed
+// What stands of the packet once it is received and acknowledged, and whether the sequences of sending, receiving and
+// acknowledging are 2.
+type Due = [[bool; 3]; 3];
+
+const IN_ORDER: Due = [
+    [true, true, false],
+    [false, true, false],
+    [true, true, true],
+];
+
+const IN_ANY_ORDER: Due = [
+    [true, true, true],
+    [false, true, true],
+    [true, false, false],
+];
+
+// The packet of a channel that comes with this end is sent, received and acknowledged.
+fn relay(
+    rt: &impl Abort,
+    alloc: Global,
+    records: &mut Records,
+    packet: &Packet,
+    end: &[u8],
+    due: &Due,
+) {
+    add_channel(rt, alloc, records, end);
+    send(rt, alloc, records, packet);
+    assert!(rt; values(records) == [true, false, false]);
+    receive(rt, alloc, records, packet);
+    assert!(rt; values(records) == due[0]);
+    acknowledge(rt, alloc, records, packet);
+    assert!(rt; values(records) == due[1]);
+    assert!(rt; counters(records) == due[2]);
 }
 
 // The same in new records.
-fn relayed(alloc: Global, end: &[u8]) -> Result<Relayed, Refusal> {
-    let mut records = Records::new(alloc, 2, 100)?;
-    let relayed = relay_over(alloc, &mut records, end);
+fn relay_over(rt: &impl Abort, alloc: Global, end: &[u8], due: &Due) {
+    let mut records = new_records(rt, alloc);
+    let packet = packet(rt, alloc);
+    relay(rt, alloc, &mut records, &packet, end, due);
+    drop(packet);
     drop(records);
-    relayed
 }
 
 #[test]
 fn packets_in_order(rt: HostRuntime) {
-    let sent = [true, false, false];
-    let received = [true, true, false];
-    let acknowledged = [false, true, false];
-    let due = ([sent, received, acknowledged], [true, true, true]);
-    assert!(rt; relayed(rt.alloc(), ORDERED) == Ok(due));
+    relay_over(&rt, rt.alloc(), ORDERED, &IN_ORDER);
 }
 
 #[test]
 fn packets_in_any_order(rt: HostRuntime) {
-    let sent = [true, false, false];
-    let received = [true, true, true];
-    let acknowledged = [false, true, true];
-    let due = ([sent, received, acknowledged], [true, false, false]);
-    assert!(rt; relayed(rt.alloc(), UNORDERED) == Ok(due));
+    relay_over(&rt, rt.alloc(), UNORDERED, &IN_ANY_ORDER);
 }
 
-// The packet is sent, and is too late.
-fn send_late(alloc: Global, records: &mut Records, packet: &Packet) -> Result<(), Refusal> {
-    send(alloc, records, packet)?;
-    time_out(alloc, records, packet)
+// The packet of a channel that comes with the first end is too late: its commitment is gone, and the channel's end is then
+// the second one.
+fn be_late(
+    rt: &impl Abort,
+    alloc: Global,
+    records: &mut Records,
+    packet: &Packet,
+    before: &[u8],
+    after: &[u8],
+) {
+    add_channel(rt, alloc, records, before);
+    send(rt, alloc, records, packet);
+    time_out(rt, alloc, records, packet);
+    assert!(rt; !values(records)[0]);
+    assert!(rt; has(records, END, after));
 }
 
-// Whether the commitment of the packet of a channel that comes with this end stands once it is late.
-fn is_pending_late(alloc: Global, records: &mut Records, end: &[u8]) -> Result<bool, Refusal> {
-    add_channel(alloc, records, end)?;
-    let packet = decode(alloc, PACKET)?;
-    let late = send_late(alloc, records, &packet);
+// The same in new records.
+fn late_over(rt: &impl Abort, alloc: Global, before: &[u8], after: &[u8]) {
+    let mut records = new_records(rt, alloc);
+    let packet = packet(rt, alloc);
+    be_late(rt, alloc, &mut records, &packet, before, after);
     drop(packet);
-    late?;
-    Ok(values(records)[0])
-}
-
-// The same in new records, and whether the channel's end is then the second one.
-fn timed_out(alloc: Global, before: &[u8], after: &[u8]) -> Result<[bool; 2], Refusal> {
-    let mut records = Records::new(alloc, 2, 100)?;
-    let is_pending = is_pending_late(alloc, &mut records, before);
-    let has_end = has(&records, END, after);
     drop(records);
-    Ok([is_pending?, has_end])
 }
 
 #[test]
 fn a_late_packet_closes_what_is_ordered(rt: HostRuntime) {
-    assert!(rt; timed_out(rt.alloc(), ORDERED, CLOSED) == Ok([false, true]));
-    assert!(rt; timed_out(rt.alloc(), UNORDERED, UNORDERED) == Ok([false, true]));
+    late_over(&rt, rt.alloc(), ORDERED, CLOSED);
+    late_over(&rt, rt.alloc(), UNORDERED, UNORDERED);
 }
