@@ -1,5 +1,5 @@
 -- Copies share what they have.
-use Rattle.std.proofs.Common.{◌≡◌, ◌++◌, sym, ap, ap₂, ◌∙◌, subst}
+use Rattle.std.proofs.Common.{◌++◌, sym, ap, ap₂, ◌∙◌, subst}
 use Rattle.ibc_nodes.specs.Shelves.{joined, AreFull}
 use Rattle.ibc_nodes.proofs.InChunks.{same_chunks, same_groups}
 use Rattle.ibc_nodes.proofs.chunks.Chunks.snapshot.Goals as goal
