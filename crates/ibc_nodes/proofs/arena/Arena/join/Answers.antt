@@ -1,5 +1,5 @@
 -- What is remembered from now on.
-use Rattle.std.proofs.Common.{◌<◌, ap, arith, length}
+use Rattle.std.proofs.Common.{ap, arith, length}
 use Rattle.ibc_nodes.specs.Codes.{HeldArena}
 use Rattle.ibc_nodes.proofs.Arenas.{new_pair}
 use Rattle.ibc_nodes.proofs.arena.Arena.join.Goals as goal

@@ -1,5 +1,5 @@
 -- The first leaf that a node names.
-use Rattle.std.proofs.Common.{◌≡◌, ◌<◌, ap, arith, length, subst}
+use Rattle.std.proofs.Common.{◌≡◌, ap, arith, length, subst}
 use Rattle.ibc_nodes.specs.Levels.{leaf_of, tree_at}
 use Rattle.ibc_nodes.specs.Nodes.{first_pair}
 use Rattle.ibc_nodes.proofs.Arenas.{length-trees_of, reads}
