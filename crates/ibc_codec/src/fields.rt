@@ -8,6 +8,7 @@ ghost use Rattle.ibc_wire.specs.Reading.{byte_at_front, bytes_at_front, str_at_f
 ghost use Rattle.ibc_wire.specs.Fronts.{Gives, Writes, number_at_front, amount_at_front, name_at_front, peer_at_front};
 
 use ibc_ids::{Bytes, Kind, Name, Refusal, Root};
+use ibc_merkle::Affix;
 use std::alloc::Global;
 
 /// One byte, and what stands behind it.
@@ -124,6 +125,22 @@ pub fn write_str(out: &mut Vec<u8>, bytes: &Bytes, limit: u16) -> Result<(), Ref
     ensures { Writes (str_up_to limit bytes.now ∷ []) out.old.items result out.new.items }
 {
     write_text(out, bytes.as_slice(), limit)
+}
+
+/// A copy of a prefix or a suffix of at most so many bytes behind its length, and what stands behind it. A copy of at
+/// most 33 bytes takes no memory.
+pub fn read_affix(alloc: Global, bytes: &[u8], limit: u16) -> Result<(Affix, &[u8]), Refusal>
+    ensures { Gives (λ x. (x.0, x.1.now)) result (str_at_front limit bytes.now) }
+{
+    let (text, rest) = read_text(bytes, limit)?;
+    Ok((Affix::copy_of(alloc, text)?, rest))
+}
+
+/// Writes a prefix or a suffix, at most so many bytes, behind its length.
+pub fn write_affix(out: &mut Vec<u8>, affix: &Affix, limit: u16) -> Result<(), Refusal>
+    ensures { Writes (str_up_to limit affix.now ∷ []) out.old.items result out.new.items }
+{
+    write_text(out, affix.as_slice(), limit)
 }
 
 /// A name behind its length, and what stands behind it.

@@ -17,6 +17,9 @@ mod tokens;
 use ibc_ids::Refusal;
 use std::alloc::Global;
 
+/// Room for most values, so that writing one seldom grows.
+const ROOM: usize = 512;
+
 /// A type whose values are spelled as fields in their order.
 pub trait Wire: Sized {
     ghost fields: { Self → List Field };
@@ -43,8 +46,9 @@ pub fn encode<T: Wire>(alloc: Global, value: &T) -> Result<Vec<u8>, Refusal>
     ensures memory { IsTrue (have_form (T.fields value.now)) → IsOkUnless result Refusal.NoMemory }
     ensures errors { IfErr result (λ e. (e ≡ Refusal.BadMessage) ⊎ (e ≡ Refusal.NoMemory)) }
 {
-    let mut bytes = Vec::new(alloc);
+    let mut bytes = Vec::with_capacity(alloc, ROOM)?;
     value.write(&mut bytes)?;
+    bytes.shrink_to_fit();
     Ok(bytes)
 }
 

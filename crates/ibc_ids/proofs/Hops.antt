@@ -1,12 +1,11 @@
 -- A hop before a denomination, and a denomination without its first hop, are denominations.
-use Rattle.std.proofs.Common.{◌≡◌, ◌≤◌, ◌+◌, true, false, ◌&&◌, nat_le, eqb, None, refl, subst, codes, List, [], ◌∷◌, ◌++◌, length, drop, ap, sym, ◌∙◌, arith, le-leb, leb-true, length-append, append_assoc}
-use Rattle.std.specs.Prelude.{IsTrue}
-use Rattle.std.specs.List.{slice_split, starts_with}
-use Rattle.std.specs.Str.Pattern.{FindsTextPrefix, StripsPrefix}
-use Rattle.std.proofs.lemmas.Bool.{and_parts, and_from}
+use Rattle.std.proofs.Common.{◌≡◌, ◌≢◌, ◌≤◌, ◌+◌, true, false, ◌&&◌, nat_le, refl, codes, List, ◌∷◌, ◌++◌, length, drop, Option, Some, None, Bor, ap, ⊎_elim, sym, ◌∙◌, arith, le-leb, leb-true, length-append, append_assoc}
+use Rattle.std.specs.Prelude.{IsTrue, MatchOption}
+use Rattle.std.specs.List.{slice_split}
+use Rattle.std.proofs.lemmas.Bool.{and_parts, and_from, cases_Bool}
 use Rattle.std.proofs.lemmas.Bool.Decides.{Decides-eqb}
 use Rattle.std.proofs.lemmas.Slice.Eq.{starts_is}
-use Rattle.std.proofs.lemmas.Str.Pattern.{starts_text}
+use Rattle.std.proofs.lemmas.List.{append_cancel_left}
 use Rattle.ibc_ids.specs.Texts.{Text}
 use Rattle.ibc_ids.specs.Names.{is_port, is_channel, is_slash, are_hops_and_base, is_denom, hop, came_over}
 use Rattle.ibc_ids.proofs.Paths.{port_clear, channel_clear}
@@ -55,19 +54,22 @@ pub came_over_by : (port channel rest : Text) → came_over port channel (hop po
 came_over_by port channel rest =
     (starts_is Decides-eqb (hop port channel ++ rest) (hop port channel) (came_over port channel (hop port channel ++ rest)) refl).1 rest refl
 
--- ---- what `strip_prefix` says
+pub not_over : (port channel denom : Text) → ((rest : Text) → denom ≢ hop port channel ++ rest) → came_over port channel denom ≡ false
+not_over port channel denom never = ⊎_elim (λ e. absurd (never _ (came_over_is port channel denom e))) (λ e. e) (cases_Bool (came_over port channel denom))
 
-hop_text : (port channel : Text) → hop port channel ≡ port ++ 47 ∷ (channel ++ 47 ∷ [])
-hop_text port channel = append_assoc (port ++ codes "/") channel (codes "/") ∙ append_assoc port (codes "/") (channel ++ 47 ∷ [])
+-- ---- what stands behind a name and a slash, and behind a port and a channel
 
-pub not_over : (port channel denom front : Text) → front ≡ port ++ 47 ∷ (channel ++ 47 ∷ []) → FindsTextPrefix front denom None → came_over port channel denom ≡ false
-not_over port channel denom front is none =
-    ap (λ (t : Text). starts_with eqb denom t) (hop_text port channel ∙ sym is) ∙ sym (starts_text false front denom none)
+pub behind_slash : (text front rest : Text) (r : Option (Bor Text)) → text ≡ front ++ rest → MatchOption r ((last : Text) → rest ≢ 47 ∷ last) (λ x. rest ≡ 47 ∷ x.now)
+    → MatchOption r ((last : Text) → text ≢ front ++ 47 ∷ last) (λ x. text ≡ front ++ 47 ∷ x.now)
+behind_slash text front rest None is never = λ last e. never last (append_cancel_left front rest (47 ∷ last) (sym is ∙ e))
+behind_slash text front rest (Some x) is found = is ∙ ap (λ (t : Text). front ++ t) found
 
--- what is behind the hop
-pub stripped_is_one : (port channel denom front rest : Text) → IsTrue (is_port port) → IsTrue (is_channel channel) → IsTrue (is_denom denom) → front ≡ port ++ 47 ∷ (channel ++ 47 ∷ [])
-    → StripsPrefix (FindsTextPrefix front) denom rest → IsTrue (is_denom rest)
-stripped_is_one port channel denom front rest p c d is found =
-    let whole : denom ≡ front ++ rest = found.1.1 ∙ ap (λ (t : Text). front ++ t) (sym found.2) in
-    let hopped : denom ≡ hop port channel ++ rest = whole ∙ ap (λ (t : Text). t ++ rest) (is ∙ sym (hop_text port channel)) in
-    rest_is_one port channel rest p c (subst (λ (t : Text). IsTrue (is_denom t)) hopped d)
+pub behind_both : (denom port channel rest : Text) (r : Option (Bor Text)) → denom ≡ port ++ 47 ∷ rest → MatchOption r ((last : Text) → rest ≢ channel ++ 47 ∷ last) (λ x. rest ≡ channel ++ 47 ∷ x.now)
+    → MatchOption r (came_over port channel denom ≡ false) (λ x. denom ≡ hop port channel ++ x.now)
+behind_both denom port channel rest None is never = not_over port channel denom step where
+  step : (last : Text) → denom ≢ hop port channel ++ last
+  step last e =
+      let longer : 47 ∷ rest ≡ 47 ∷ (channel ++ 47 ∷ last) = append_cancel_left port _ _ (sym is ∙ e ∙ hop_parts port channel last) in
+      let same : rest ≡ channel ++ 47 ∷ last = cc in
+      never last same
+behind_both denom port channel rest (Some x) is found = is ∙ ap (λ (t : Text). port ++ 47 ∷ t) found ∙ sym (hop_parts port channel x.now)

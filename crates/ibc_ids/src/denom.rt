@@ -1,12 +1,13 @@
 //! What a denomination tells, and its hops.
 
-ghost use Rattle.std.specs.Prelude.{◌≡◌, ◌↔◌, ◌≤◌, ◌<◌, ◌++◌, false, length, IfOk, IfErr, IsErrOf, IsOkUnless, MatchOption};
+ghost use Rattle.std.specs.Prelude.{◌≡◌, ◌↔◌, ◌≤◌, ◌<◌, ◌++◌, ◌∷◌, ◌≢◌, ℕ, List, false, length, IfOk, IfErr, IsErrOf, IsOkUnless, MatchOption};
 ghost use Rattle.ibc_ids.specs.Names.{is_base_denom, hop, came_over};
 ghost use Rattle.ibc_ids.specs.declared.refusal.Refusal.TheVariants.{NoMemory};
 
 use crate::forms::is_word;
 use crate::kinds::DenomKind;
 use crate::name::Name;
+use crate::written::written;
 use crate::{ChannelId, Denom, PortId, Refusal};
 use std::alloc::Global;
 
@@ -29,11 +30,12 @@ impl Name<DenomKind> {
         let port = port.as_str();
         let channel = channel.as_str();
         let denom = self.as_str();
-        if port.len() + channel.len() + denom.len() + 2 > 256 {
+        let length = port.len() + channel.len() + denom.len() + 2;
+        if length > 256 {
             return Err(Refusal::TooLarge);
         }
-        let text = format!(in alloc; "{port}/{channel}/{denom}")?;
-        Name::parse(alloc, text.as_str())
+        let text = written(alloc, length, format_args!("{port}/{channel}/{denom}"))?;
+        Name::from_text(text)
     }
 
     /// The denomination without the channel's hop before it, or none where it didn't come over the channel (ICS 20).
@@ -48,12 +50,24 @@ impl Name<DenomKind> {
         ensures ok { IfOk result (λ rest. MatchOption rest (came_over port.now channel.now self.now ≡ false) (λ denom. self.now ≡ hop port.now channel.now ++ denom)) }
         ensures memory { IfErr result (λ e. e ≡ NoMemory) }
     {
-        let port = port.as_str();
-        let channel = channel.as_str();
-        let hop = format!(in alloc; "{port}/{channel}/")?;
-        match self.as_str().strip_prefix(hop.as_str()) {
+        match behind_hop(self.as_str(), port.as_str(), channel.as_str()) {
             Some(denom) => Ok(Some(Name::parse(alloc, denom)?)),
             None => Ok(None),
         }
     }
+}
+
+/// What stands behind the channel's hop, where the denomination begins with it.
+#[tactic(auto, using(crate::proofs::Hops::hop_parts, crate::proofs::Hops::not_over))]
+fn behind_hop<'a>(denom: &'a str, port: &str, channel: &str) -> Option<&'a str>
+    ensures { MatchOption result (came_over port.now channel.now denom.now ≡ false) (λ rest. denom.now ≡ hop port.now channel.now ++ rest.now) }
+{
+    behind(behind(denom, port)?, channel)
+}
+
+/// What stands behind the front and a slash, where the text begins with them.
+fn behind<'a>(text: &'a str, front: &str) -> Option<&'a str>
+    ensures { MatchOption result ((rest : List ℕ) → text.now ≢ front.now ++ 47 ∷ rest) (λ rest. text.now ≡ front.now ++ 47 ∷ rest.now) }
+{
+    text.strip_prefix(front)?.strip_prefix('/')
 }

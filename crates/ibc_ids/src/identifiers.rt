@@ -4,6 +4,7 @@ ghost use Rattle.std.specs.Prelude.{◌≡◌, IfOk, IfErr};
 ghost use Rattle.ibc_ids.specs.Paths.{nth_client, nth_connection, nth_channel};
 ghost use Rattle.ibc_ids.specs.declared.refusal.Refusal.TheVariants.{NoMemory};
 
+use crate::written::{MOST_DIGITS, written};
 use crate::{ChannelId, ClientId, ConnectionId, Name, Refusal};
 use std::alloc::Global;
 
@@ -13,8 +14,8 @@ pub fn nth_client(alloc: Global, number: u64) -> Result<ClientId, Refusal>
     ensures ok { IfOk result (λ id. id ≡ nth_client number) }
     ensures memory { IfErr result (λ e. e ≡ NoMemory) }
 {
-    let text = format!(in alloc; "inprocess-{number}")?;
-    Name::parse(alloc, text.as_str())
+    let room = "inprocess-".len() + MOST_DIGITS;
+    Name::from_text(written(alloc, room, format_args!("inprocess-{number}"))?)
 }
 
 /// The identifier of a chain's connection with this number, counted from 0. Refused: `NoMemory`.
@@ -23,8 +24,8 @@ pub fn nth_connection(alloc: Global, number: u64) -> Result<ConnectionId, Refusa
     ensures ok { IfOk result (λ id. id ≡ nth_connection number) }
     ensures memory { IfErr result (λ e. e ≡ NoMemory) }
 {
-    let text = format!(in alloc; "connection-{number}")?;
-    Name::parse(alloc, text.as_str())
+    let room = "connection-".len() + MOST_DIGITS;
+    Name::from_text(written(alloc, room, format_args!("connection-{number}"))?)
 }
 
 /// The identifier of a chain's channel with this number, counted from 0. Refused: `NoMemory`.
@@ -33,6 +34,6 @@ pub fn nth_channel(alloc: Global, number: u64) -> Result<ChannelId, Refusal>
     ensures ok { IfOk result (λ id. id ≡ nth_channel number) }
     ensures memory { IfErr result (λ e. e ≡ NoMemory) }
 {
-    let text = format!(in alloc; "channel-{number}")?;
-    Name::parse(alloc, text.as_str())
+    let room = "channel-".len() + MOST_DIGITS;
+    Name::from_text(written(alloc, room, format_args!("channel-{number}"))?)
 }

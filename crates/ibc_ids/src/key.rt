@@ -1,8 +1,11 @@
 //! The keys of the records that a chain proves to others.
-ghost use Rattle.std.specs.Prelude.{◌≡◌, ◌++◌, string_bytes, IfOk, IfErr};
+ghost use Rattle.std.specs.Prelude.{◌≡◌, ◌++◌, ◌&&◌, ◌<◌, ◌^◌, string_bytes, IfOk, IfErr, IsTrue};
+ghost use Rattle.ibc_ids.specs.Names.{is_client, is_connection, is_port, is_channel};
 ghost use Rattle.ibc_ids.specs.Paths.{path, channel_path, sequence_path, DifferentPaths};
+ghost use Rattle.ibc_ids.specs.declared.key.Key.TheVariants as key;
 ghost use Rattle.ibc_ids.specs.declared.refusal.Refusal.TheVariants.{NoMemory};
 
+use crate::written::{MOST_DIGITS, written};
 use crate::{ChannelId, ClientId, ConnectionId, PortId, Refusal};
 use std::alloc::Global;
 
@@ -42,14 +45,8 @@ impl Key {
         ensures memory { IfErr result (λ e. e ≡ NoMemory) }
     {
         match self {
-            Key::ClientState(id) => {
-                let id = id.as_str();
-                Ok(format!(in alloc; "clients/{id}/clientState")?)
-            }
-            Key::Connection(id) => {
-                let id = id.as_str();
-                Ok(format!(in alloc; "connections/{id}")?)
-            }
+            Key::ClientState(id) => client_path(alloc, id),
+            Key::Connection(id) => connection_path(alloc, id),
             Key::ChannelEnd(port, channel) => channel_path(alloc, "channelEnds", port, channel),
             Key::NextSequenceSend(port, channel) => {
                 channel_path(alloc, "nextSequenceSend", port, channel)
@@ -74,23 +71,54 @@ impl Key {
     }
 }
 
-/// The path of a channel's record of this kind.
-fn channel_path(
+/// The path of a client's state (ICS 24, "Path-space"), `clients/{id}/clientState`. Refused: `NoMemory`.
+pub fn client_path(alloc: Global, id: &ClientId) -> Result<String, Refusal>
+    ensures ok { IfOk result (λ text. string_bytes text ≡ path (key.ClientState id.now)) }
+    ensures named { IsTrue (is_client id.now) }
+    ensures memory { IfErr result (λ e. e ≡ NoMemory) }
+{
+    let id = id.as_str();
+    let room = id.len() + "clients//clientState".len();
+    Ok(written(alloc, room, format_args!("clients/{id}/clientState"))?)
+}
+
+/// The path of an end of a connection (ICS 24, "Path-space"), `connections/{id}`. Refused: `NoMemory`.
+pub fn connection_path(alloc: Global, id: &ConnectionId) -> Result<String, Refusal>
+    ensures ok { IfOk result (λ text. string_bytes text ≡ path (key.Connection id.now)) }
+    ensures named { IsTrue (is_connection id.now) }
+    ensures memory { IfErr result (λ e. e ≡ NoMemory) }
+{
+    let id = id.as_str();
+    let room = id.len() + "connections/".len();
+    Ok(written(alloc, room, format_args!("connections/{id}"))?)
+}
+
+/// The path of a channel's one record of a kind (ICS 24, "Path-space"), `{kind}/ports/{port}/channels/{channel}`. The
+/// kinds are `channelEnds`, `nextSequenceSend`, `nextSequenceRecv` and `nextSequenceAck`. Refused: `NoMemory`.
+pub fn channel_path(
     alloc: Global,
     kind: &str,
     port: &PortId,
     channel: &ChannelId,
 ) -> Result<String, Refusal>
     ensures ok { IfOk result (λ text. string_bytes text ≡ kind.now ++ channel_path port.now channel.now) }
+    ensures named { IsTrue (is_port port.now && is_channel channel.now) }
     ensures memory { IfErr result (λ e. e ≡ NoMemory) }
 {
     let port = port.as_str();
     let channel = channel.as_str();
-    Ok(format!(in alloc; "{kind}/ports/{port}/channels/{channel}")?)
+    let room = kind.len() + port.len() + channel.len() + "/ports//channels/".len();
+    Ok(written(
+        alloc,
+        room,
+        format_args!("{kind}/ports/{port}/channels/{channel}"),
+    )?)
 }
 
-/// The path of a record of this kind at a sequence of a channel.
-fn sequence_path(
+/// The path of a packet's record of a kind (ICS 24, "Path-space"), by its end of the channel and its sequence,
+/// `{kind}/ports/{port}/channels/{channel}/sequences/{sequence}`. The kinds are `commitments`, `receipts` and `acks`.
+/// Refused: `NoMemory`.
+pub fn sequence_path(
     alloc: Global,
     kind: &str,
     port: &PortId,
@@ -98,11 +126,18 @@ fn sequence_path(
     sequence: u64,
 ) -> Result<String, Refusal>
     ensures ok { IfOk result (λ text. string_bytes text ≡ kind.now ++ sequence_path port.now channel.now sequence) }
+    ensures named { IsTrue (is_port port.now && is_channel channel.now) }
+    ensures fits { sequence < 2 ^ 64 }
     ensures memory { IfErr result (λ e. e ≡ NoMemory) }
 {
     let port = port.as_str();
     let channel = channel.as_str();
-    Ok(format!(in alloc; "{kind}/ports/{port}/channels/{channel}/sequences/{sequence}")?)
+    let room = kind.len() + port.len() + channel.len() + "/ports//channels//sequences/".len();
+    Ok(written(
+        alloc,
+        room + MOST_DIGITS,
+        format_args!("{kind}/ports/{port}/channels/{channel}/sequences/{sequence}"),
+    )?)
 }
 
 /// Different keys have different paths (ICS 24, "Path-space").

@@ -13,11 +13,15 @@ mod name;
 mod path;
 mod publication;
 mod refusal;
+mod written;
 
 pub use account::Account;
 pub use bytes::Bytes;
 pub use identifiers::{nth_channel, nth_client, nth_connection};
-pub use key::{Key, different_keys_have_different_paths};
+pub use key::{
+    Key, channel_path, client_path, connection_path, different_keys_have_different_paths,
+    sequence_path,
+};
 pub use kinds::{
     ChannelId, ChannelKind, ClientId, ClientKind, ConnectionId, ConnectionKind, Denom, DenomKind,
     Kind, Memo, MemoKind, PortId, PortKind, Receiver, ReceiverKind, UserKind, UserName, Version,

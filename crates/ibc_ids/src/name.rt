@@ -1,6 +1,6 @@
 //! Texts of one kind.
 
-ghost use Rattle.std.specs.Prelude.{◌≡◌, ◌↔◌, List, ℕ, Some, refl, bytes_eq, string_bytes, IsTrue, IfOk, IsErrOf, IsOkUnless};
+ghost use Rattle.std.specs.Prelude.{◌≡◌, ◌↔◌, List, ℕ, Some, refl, bytes_eq, string_bytes, IsTrue, IfOk, IfErr, IsErrOf, IsOkUnless};
 ghost use Rattle.std.specs.Ordering.{nat_cmp};
 ghost use Rattle.std.specs.Cmp.{on_equiv, on_total, on_po, on_per, partial_equiv_from_equiv};
 ghost use Rattle.std.specs.Cmp.Lexicographic.{slice_cmp, nat_list_eq_equiv, nat_list_cmp_total, texts_ties, texts_po};
@@ -39,6 +39,21 @@ impl<K: Kind> Name<K> {
             text: String::from_str(alloc, text)?,
             kind: PhantomData,
         })
+    }
+
+    /// The name with this text, which is moved in. Refused: `BadName` exactly where the text hasn't the form of the kind.
+    pub(crate) fn from_text(text: String) -> Result<Name<K>, Refusal>
+        ensures ok { IfOk result (λ name. (name ≡ string_bytes text) × IsTrue (K.form (string_bytes text))) }
+        ensures err { IfErr result (λ e. (e ≡ Refusal.BadName) × ¬ IsTrue (K.form (string_bytes text))) }
+    {
+        if K::has_form(text.as_bytes()) {
+            Ok(Name {
+                text,
+                kind: PhantomData,
+            })
+        } else {
+            Err(Refusal::BadName)
+        }
     }
 
     /// The name with these bytes. Refused as by `parse`.

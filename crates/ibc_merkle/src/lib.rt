@@ -1,6 +1,7 @@
 //! Trees over a chain's provable records, and proofs of presence and absence (ICS 23).
 #![tactic(auto)]
 
+mod affix;
 mod entry;
 mod hashing;
 mod laws;
@@ -10,6 +11,7 @@ mod steps;
 mod tree;
 mod writing;
 
+pub use affix::Affix;
 pub use entry::Entry;
 pub use hashing::{hash_inner, hash_leaf, hash_value};
 pub use laws::{accepted_is_written, written_is_accepted};

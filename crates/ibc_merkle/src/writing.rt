@@ -8,9 +8,10 @@ ghost use Rattle.ibc_ids.specs.Maps.{at};
 ghost use Rattle.ibc_ids.specs.declared.refusal.Refusal.TheVariants.{NoMemory};
 ghost use Rattle.ibc_merkle.specs.Tree.{tree};
 ghost use Rattle.ibc_merkle.specs.Kept.{digests_of};
-ghost use Rattle.ibc_merkle.specs.Written.{operations_to, left_child, right_child, presence_of, written};
+ghost use Rattle.ibc_merkle.specs.Written.{operations_to, presence_of, written};
 ghost use Rattle.ibc_merkle.specs.Places.{key_at, pair_before};
 
+use crate::affix::Affix;
 use crate::entry::Entry;
 use crate::proof::{Absence, Operation, Operations, Presence, Proof};
 use crate::search::place;
@@ -82,18 +83,17 @@ fn presence_at(
 {
     let entry = &entries[index];
     let mut operations = Vec::new(alloc);
-    add_operations(alloc, &mut operations, entries, digests, index)?;
+    add_operations(&mut operations, entries, digests, index)?;
     Ok(Presence {
         key: Bytes::copy_of(alloc, entry.key())?,
         value: Bytes::copy_of(alloc, entry.value())?,
-        leaf_prefix: Bytes::copy_of(alloc, [0u8].as_slice())?,
+        leaf_prefix: Affix::short([0u8].as_slice()),
         operations: Operations::from_vec(operations),
     })
 }
 
 // Adds the operations from the leaf at the index up to the root.
 fn add_operations(
-    alloc: Global,
     operations: &mut Vec<Operation>,
     entries: &[Entry],
     digests: &[[u8; 32]],
@@ -112,36 +112,13 @@ fn add_operations(
     let (left_digests, rest) = digests.split_at(2 * split - 1);
     let right_digests = &rest[..rest.len() - 1];
     if index < split {
-        add_operations(alloc, operations, left, left_digests, index)?;
-        operations.push(on_left_child(alloc, &right_digests[right_digests.len() - 1])?)?;
+        add_operations(operations, left, left_digests, index)?;
+        operations.push(Operation::on_left_child(&right_digests[right_digests.len() - 1]))?;
     } else {
-        add_operations(alloc, operations, right, right_digests, index - split)?;
-        operations.push(on_right_child(alloc, &left_digests[left_digests.len() - 1])?)?;
+        add_operations(operations, right, right_digests, index - split)?;
+        operations.push(Operation::on_right_child(&left_digests[left_digests.len() - 1]))?;
     }
     Ok(())
-}
-
-// The operation on a left child beside this sibling.
-fn on_left_child(alloc: Global, sibling: &[u8; 32]) -> Result<Operation, AllocError>
-    ensures { IfOk result (λ operation. operation ≡ left_child sibling.now) }
-{
-    Ok(Operation {
-        prefix: Bytes::copy_of(alloc, [1u8].as_slice())?,
-        suffix: Bytes::copy_of(alloc, sibling.as_slice())?,
-    })
-}
-
-// The operation on a right child beside this sibling.
-fn on_right_child(alloc: Global, sibling: &[u8; 32]) -> Result<Operation, AllocError>
-    ensures { IfOk result (λ operation. operation ≡ right_child sibling.now) }
-{
-    let mut prefix = Vec::with_capacity(alloc, 33)?;
-    prefix.push(1)?;
-    prefix.extend_from_slice(sibling.as_slice())?;
-    Ok(Operation {
-        prefix: Bytes::from_vec(prefix),
-        suffix: Bytes::from_vec(Vec::new(alloc)),
-    })
 }
 
 // The proof that a key isn't there, which would stand at the index.

@@ -2,13 +2,14 @@
 use Rattle.std.proofs.Common.{◌≡◌, ℕ, zero, suc, ◌+◌, ◌<◌, ◌≤◌, List, [], ◌∷◌, ◌++◌, length, get_or, set, refl, sym, ap, ap₂, ◌∙◌, subst, arith, length-append, inl, inr, get_or-set_same, get_or-set_other}
 use Rattle.std.proofs.lemmas.List.{get_or_append_left, get_or_push, length_push, length-set}
 use Rattle.std.proofs.lemmas.Bool.{cases_eq, cases_lt}
+use Rattle.ibc_ids.specs.Texts.{Text}
 use Rattle.ibc_merkle.specs.Tree.{Tree, Leaf, Node, root}
-use Rattle.ibc_nodes.specs.Levels.{tree_at}
+use Rattle.ibc_nodes.specs.Levels.{leaf_of, tree_at}
 use Rattle.ibc_nodes.specs.declared.node.ArenaNode.{ArenaNode}
 use Rattle.ibc_nodes.specs.declared.node.Below.{Below}
 use Rattle.ibc_nodes.specs.declared.node.Below.TheVariants.{Record, Children}
 use Rattle.ibc_nodes.specs.declared.node.Known.{Known}
-use Rattle.ibc_nodes.specs.Nodes.{built, ChildrenStand, IsRight, AreRight, trees_after, trees_of, Remembers, AllRemember}
+use Rattle.ibc_nodes.specs.Nodes.{built, ChildrenStand, first_pair, IsRight, AreRight, trees_after, trees_of, Remembers, AllRemember}
 
 pub length-trees_after : (trees : List Tree) (nodes : List ArenaNode) → length (trees_after trees nodes) ≡ length trees + length nodes
 length-trees_after trees [] = omega arith
@@ -52,6 +53,8 @@ pub record Reads (trees : List Tree) (i : ℕ) (node : ArenaNode) : Type 0 where
   pub tree : tree_at trees i ≡ built trees node.below
   pub stand : ChildrenStand trees node.below
   pub digest : node.digest ≡ root (tree_at trees i)
+  pub first_there : node.first < length trees
+  pub first_leaf : tree_at trees node.first ≡ leaf_of (first_pair (tree_at trees i))
 
 reads_after : (trees : List Tree) (nodes : List ArenaNode) (i : ℕ) (node : ArenaNode) → AreRight trees nodes → i < length nodes → node ≡ get_or nodes i node
     → Reads (trees_after trees nodes) (length trees + i) node
@@ -65,7 +68,15 @@ reads_after trees (first ∷ nodes) zero node right l is =
     let kept = built-stays trees after first.below (omega arith) (λ i l. stays behind nodes i (omega arith) ∙ tree_at-append trees (tree ∷ []) i l) right.0.0 in
     let at : tree_at after (length trees) ≡ tree = stays behind nodes (length trees) (omega arith) ∙ get_or_push trees tree (Leaf [] []) (length trees) refl in
     let place : length trees + 0 ≡ length trees = omega arith in
-    let its : Reads after (length trees) first = record { tree = at ∙ sym kept.0; stand = kept.1; digest = right.0.1 ∙ ap root (sym at) } in
+    let leaf : tree_at after first.first ≡ leaf_of (first_pair tree) = stays behind nodes first.first (let l = right.0.2.0 in omega arith) ∙ right.0.2.1 in
+    let its : Reads after (length trees) first = record {
+      tree = at ∙ sym kept.0;
+      stand = kept.1;
+      digest = right.0.1 ∙ ap root (sym at);
+      first_there = let l = right.0.2.0 in omega arith;
+      first_leaf = leaf ∙ ap (λ t. leaf_of (first_pair t)) (sym at);
+    }
+    in
     subst (λ n. Reads after n node) (sym place) (subst (Reads after (length trees)) (sym is) its)
 reads_after trees (first ∷ nodes) (suc i) node right l is =
     let tree = built trees first.below in
@@ -128,8 +139,9 @@ pub remembered : (trees : List Tree) (known : List Known) (left : ℕ) (k : Know
 remembered trees known left k all l is some = subst (Remembers trees left) (sym is) (all left k l) some
 
 pub new_pair : (before after : List Tree) (left right parent : ℕ) → after ≡ before ++ Node (tree_at before left) (tree_at before right) ∷ [] → parent ≡ length before
-    → left < length before → right < length before → Remembers after left (record { right = right; parent = parent })
-new_pair before after left right parent made number l r some =
+    → left < length before → right < length before
+    → (right < length after) × (parent < length after) × (tree_at after parent ≡ Node (tree_at after left) (tree_at after right))
+new_pair before after left right parent made number l r =
     let pair = Node (tree_at before left) (tree_at before right) in
     let counted = ap length made ∙ length_push before pair in
     let stays : (i : ℕ) → i < length before → tree_at after i ≡ tree_at before i = λ i l. ap (λ trees. tree_at trees i) made ∙ tree_at-append before (pair ∷ []) i l in (
@@ -137,3 +149,13 @@ new_pair before after left right parent made number l r some =
       omega arith,
       ap (λ trees. tree_at trees parent) made ∙ get_or_push before pair (Leaf [] []) parent (sym number) ∙ sym (ap₂ Node (stays left l) (stays right r)),
     )
+
+-- ---- the first leaf
+
+pub first_own : (trees : List Tree) (key value : Text) (number : ℕ) → number ≡ length trees
+    → (number ≤ length trees) × (tree_at (trees ++ Leaf key value ∷ []) number ≡ Leaf key value)
+first_own trees key value number is = (omega arith, get_or_push trees (Leaf key value) (Leaf [] []) number (sym is))
+
+pub first_left : (trees : List Tree) (left right first : ℕ) → first < length trees → tree_at trees first ≡ leaf_of (first_pair (tree_at trees left))
+    → (first ≤ length trees) × (tree_at (trees ++ Node (tree_at trees left) (tree_at trees right) ∷ []) first ≡ leaf_of (first_pair (tree_at trees left)))
+first_left trees left right first l is = (omega arith, tree_at-append trees (Node (tree_at trees left) (tree_at trees right) ∷ []) first l ∙ is)

@@ -5,7 +5,7 @@ pub mod Descents
 pub mod Climbing
 pub mod Workings
 pub mod Committing
-pub mod Chunks
+pub mod InChunks
 pub mod LeafRows
 pub mod Putting
 pub mod Turning

@@ -12,6 +12,9 @@ use ibc_merkle::{Steps, hash_inner, hash_leaf, hash_value};
 use std::alloc::{AllocError, Global};
 use std::marker::Model;
 
+// The largest number that is remembered.
+const MOST: usize = u32::MAX as usize;
+
 /// The nodes of trees, by their numbers. Contracts see the tree of each node, and how many texts were hashed.
 #[derive(Drop, Debug)]
 pub struct Arena {
@@ -112,6 +115,7 @@ impl Arena {
     }
 
     /// Adds a leaf, whose pair is moved in: two texts are hashed.
+    #[tactic(auto, using(crate::proofs::Arenas::first_own))]
     pub fn leaf(&mut self, entry: SharedEntry) -> Result<usize, AllocError>
         ensures ok { OnOk result (self.new.trees ≡ self.old.trees ++ leaf_of entry ∷ []) }
         ensures number { IfOk result (λ number. number ≡ length self.old.trees) }
@@ -120,13 +124,16 @@ impl Arena {
     {
         let value = hash_value(entry.value(), &mut self.steps);
         let digest = hash_leaf(entry.key(), &value, &mut self.steps);
+        let first = self.count();
         self.add(ArenaNode {
             digest,
+            first,
             below: Below::Record(entry),
         })
     }
 
     /// The node over two nodes: the one that the left one remembers, or a new one, for which one text is hashed.
+    #[inline]
     pub fn pair(&mut self, left: usize, right: usize) -> Result<usize, AllocError>
         requires left { left < length self.old.trees }
         requires right { right < length self.old.trees }
@@ -148,13 +155,15 @@ impl Arena {
         ensures there { IfSome result (λ number. number < length self.now.trees) }
     {
         let known = self.known[left];
-        if known.parent > 0 && known.right == right {
-            return Some(known.parent);
+        if known.parent > 0 && known.right as usize == right {
+            return Some(known.parent as usize);
         }
         None
     }
 
     // A new node over two nodes, which the left one remembers: one text is hashed.
+    #[inline(never)]
+    #[tactic(auto, using(crate::proofs::Arenas::first_left))]
     fn join(&mut self, left: usize, right: usize) -> Result<usize, AllocError>
         requires left { left < length self.old.trees }
         requires right { right < length self.old.trees }
@@ -165,12 +174,30 @@ impl Arena {
     {
         let (left_digest, right_digest) = (self.digest(left), self.digest(right));
         let digest = hash_inner(&left_digest, &right_digest, &mut self.steps);
+        let first = self.nodes.first(left);
         let parent = self.add(ArenaNode {
             digest,
+            first,
             below: Below::Children(left, right),
         })?;
-        self.known[left] = Known { right, parent };
+        self.note(left, right, parent);
         Ok(parent)
+    }
+
+    // Lets the left one of two nodes remember the node over them, if their numbers are small enough.
+    fn note(&mut self, left: usize, right: usize, parent: usize)
+        requires left { left < length self.old.trees }
+        requires right { right < length self.old.trees }
+        requires parent { parent < length self.old.trees }
+        requires pair { tree_at self.old.trees parent ≡ Node (tree_at self.old.trees left) (tree_at self.old.trees right) }
+        ensures { self.new ≡ self.old }
+    {
+        if right <= MOST && parent <= MOST {
+            self.known[left] = Known {
+                right: right as u32,
+                parent: parent as u32,
+            };
+        }
     }
 
     /// Lets the left one of two nodes remember the node over them, if it remembers none.
@@ -182,7 +209,7 @@ impl Arena {
         ensures { self.new ≡ self.old }
     {
         if self.known[left].parent == 0 {
-            self.known[left] = Known { right, parent };
+            self.note(left, right, parent);
         }
     }
 }

@@ -1,18 +1,17 @@
 //! Proofs, read off a tree from its root down.
 
-ghost use Rattle.std.specs.Prelude.{◌≡◌, ◌<◌, ◌++◌, length, slice_index_or, IsTrue, IfOk};
+ghost use Rattle.std.specs.Prelude.{◌≡◌, ◌+◌, ◌^◌, ◌<◌, ◌≤◌, vec_len, vec_capacity, slice_index_or, IsTrue, IfOk};
 ghost use Rattle.std.specs.Option.{IsSomeAnd};
 ghost use Rattle.std.specs.FinMap.{is_sorted};
 ghost use Rattle.ibc_ids.specs.Texts.{text_cmp};
 ghost use Rattle.ibc_merkle.specs.Tree.{tree};
-ghost use Rattle.ibc_merkle.specs.Written.{operations_to, left_child, right_child};
+ghost use Rattle.ibc_merkle.specs.Written.{operations_to};
 ghost use Rattle.ibc_merkle.specs.Places.{key_at};
 ghost use Rattle.ibc_nodes.specs.Heights.{pairs_of, IsTreeOver};
 
 use crate::node::Below;
 use crate::nodes::Nodes;
 use crate::shared_entry::SharedEntry;
-use ibc_ids::Bytes;
 use ibc_merkle::{Operation, split_of};
 use std::alloc::{AllocError, Global};
 
@@ -35,62 +34,43 @@ pub fn entry_at(nodes: &Nodes, node: usize, count: usize, index: usize) -> &Shar
     }
 }
 
-/// Adds the operations from the leaf at a place up to a node. Nothing is hashed.
-pub fn add_operations(
+/// The operations from the leaf at a place up to a node, in a vector with room for so many more. Nothing is hashed, and
+/// memory is asked for once.
+pub fn operations_from(
     alloc: Global,
-    operations: &mut Vec<Operation>,
     nodes: &Nodes,
     node: usize,
     count: usize,
     index: usize,
-) -> Result<(), AllocError>
+    above: usize,
+) -> Result<Vec<Operation>, AllocError>
     requires over { IsTreeOver nodes.now node count }
     requires sorted { IsTrue (is_sorted text_cmp (pairs_of nodes.now node)) }
     requires there { index < count }
-    ensures { let pairs = pairs_of nodes.now node in IfOk result (λ _. IsSomeAnd (operations_to (key_at pairs index) (tree pairs)) (λ added. operations.new.items ≡ operations.old.items ++ added)) }
+    requires few { above + count < 2 ^ 64 }
+    ensures operations { let pairs = pairs_of nodes.now node in IfOk result (λ operations. IsSomeAnd (operations_to (key_at pairs index) (tree pairs)) (λ found. operations.items ≡ found)) }
+    ensures room { IfOk result (λ operations. vec_len operations + above ≤ vec_capacity operations) }
 {
     match nodes.below(node) {
-        Below::Record(_) => Ok(()),
+        Below::Record(_) => Vec::with_capacity(alloc, above),
         Below::Children(left, right) => {
             let split = split_of(count);
             if index < split {
-                add_operations(alloc, operations, nodes, *left, split, index)?;
-                operations.push(on_left_child(alloc, &nodes.digest(*right))?)?;
+                let mut operations = operations_from(alloc, nodes, *left, split, index, above + 1)?;
+                operations.push_reserved(Operation::on_left_child(&nodes.digest(*right)));
+                Ok(operations)
             } else {
-                add_operations(
+                let mut operations = operations_from(
                     alloc,
-                    operations,
                     nodes,
                     *right,
                     count - split,
                     index - split,
+                    above + 1,
                 )?;
-                operations.push(on_right_child(alloc, &nodes.digest(*left))?)?;
+                operations.push_reserved(Operation::on_right_child(&nodes.digest(*left)));
+                Ok(operations)
             }
-            Ok(())
         }
     }
-}
-
-// The operation on a left child beside this sibling.
-fn on_left_child(alloc: Global, sibling: &[u8; 32]) -> Result<Operation, AllocError>
-    ensures { IfOk result (λ operation. operation ≡ left_child sibling.now) }
-{
-    Ok(Operation {
-        prefix: Bytes::copy_of(alloc, [1u8].as_slice())?,
-        suffix: Bytes::copy_of(alloc, sibling.as_slice())?,
-    })
-}
-
-// The operation on a right child beside this sibling.
-fn on_right_child(alloc: Global, sibling: &[u8; 32]) -> Result<Operation, AllocError>
-    ensures { IfOk result (λ operation. operation ≡ right_child sibling.now) }
-{
-    let mut prefix = Vec::with_capacity(alloc, 33)?;
-    prefix.push(1)?;
-    prefix.extend_from_slice(sibling.as_slice())?;
-    Ok(Operation {
-        prefix: Bytes::from_vec(prefix),
-        suffix: Bytes::from_vec(Vec::new(alloc)),
-    })
 }

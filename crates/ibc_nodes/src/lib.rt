@@ -3,6 +3,7 @@
 
 mod arena;
 mod ascent;
+mod chunks;
 mod descent;
 mod forest;
 mod gap;

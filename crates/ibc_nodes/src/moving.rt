@@ -38,6 +38,7 @@ fn add_moved(
 }
 
 // Moves a node and those below it, where they weren't moved, and answers its number. A pair of moved nodes is remembered.
+#[tactic(auto, using(crate::proofs::Arenas::first_own, crate::proofs::Arenas::first_left))]
 fn move_node(
     old: &Nodes,
     new: &mut Arena,
@@ -60,13 +61,22 @@ fn move_node(
     match old.below(number) {
         Below::Record(entry) => {
             let below = Below::Record(entry.clone()?);
-            add_moved(old, new, moved, number, ArenaNode { digest, below })
+            let node = ArenaNode {
+                digest,
+                first: new.count(),
+                below,
+            };
+            add_moved(old, new, moved, number, node)
         }
         Below::Children(left, right) => {
             let left = move_node(old, new, moved, *left)?;
             let right = move_node(old, new, moved, *right)?;
-            let below = Below::Children(left, right);
-            let copy = add_moved(old, new, moved, number, ArenaNode { digest, below })?;
+            let node = ArenaNode {
+                digest,
+                first: new.nodes().first(left),
+                below: Below::Children(left, right),
+            };
+            let copy = add_moved(old, new, moved, number, node)?;
             new.remember(left, right, copy);
             Ok(copy)
         }

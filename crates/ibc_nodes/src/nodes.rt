@@ -2,10 +2,11 @@
 
 ghost use Rattle.std.specs.Prelude.{◌≡◌, ◌<◌, ◌∷◌, ◌++◌, [], length, OnOk, OnErr, IfOk};
 ghost use Rattle.ibc_merkle.specs.Tree.{root};
-ghost use Rattle.ibc_nodes.specs.Levels.{tree_at};
-ghost use Rattle.ibc_nodes.specs.Nodes.{built, ChildrenStand, IsRight};
+ghost use Rattle.ibc_nodes.specs.Levels.{leaf_of, tree_at};
+ghost use Rattle.ibc_nodes.specs.Nodes.{built, ChildrenStand, IsRight, first_pair};
 
 use crate::node::{ArenaNode, Below};
+use crate::shared_entry::SharedEntry;
 use crate::shelf::Shelf;
 use std::alloc::{AllocError, Global};
 use std::marker::Model;
@@ -57,6 +58,26 @@ impl Nodes {
         ensures stand { ChildrenStand self.now result.now }
     {
         &self.shelf.node(number).below
+    }
+
+    /// The number of the first leaf below a node.
+    pub fn first(&self, number: usize) -> usize
+        requires { number < length self.now }
+        ensures there { result < length self.now }
+        ensures leaf { tree_at self.now result ≡ leaf_of (first_pair (tree_at self.now number)) }
+    {
+        self.shelf.node(number).first
+    }
+
+    /// The pair of the first leaf below a node. No other node is read than these two.
+    pub fn first_entry(&self, number: usize) -> &SharedEntry
+        requires { number < length self.now }
+        ensures { result.now ≡ first_pair (tree_at self.now number) }
+    {
+        match self.below(self.first(number)) {
+            Below::Record(entry) => entry,
+            Below::Children(_, _) => unreachable!(),
+        }
     }
 
     /// Adds a node with its digest.

@@ -1,6 +1,6 @@
 //! The place of a key in a tree.
 
-ghost use Rattle.std.specs.Prelude.{◌≡◌, ◌<◌, ◌≤◌, IsTrue, IfOk, IfErr};
+ghost use Rattle.std.specs.Prelude.{◌≡◌, ◌<◌, ◌≤◌, length, IsTrue, IfOk, IfErr};
 ghost use Rattle.std.specs.List.{HoldsAt};
 ghost use Rattle.std.specs.List.Sorted.{IsPartitionPoint};
 ghost use Rattle.std.specs.FinMap.{is_sorted};
@@ -9,18 +9,18 @@ ghost use Rattle.ibc_ids.specs.Texts.{text_cmp};
 ghost use Rattle.ibc_merkle.specs.Places.{key_at};
 ghost use Rattle.ibc_nodes.specs.Heights.{pairs_of, IsTreeOver};
 
-use crate::descent::entry_at;
 use crate::node::Below;
 use crate::nodes::Nodes;
 use ibc_merkle::split_of;
 use std::cmp::Ordering;
 
 // How the first key below a node stands to a key.
-fn compare_first(nodes: &Nodes, node: usize, count: usize, key: &[u8]) -> Ordering
-    requires over { IsTreeOver nodes.now node count }
+#[tactic(auto, using(crate::proofs::Descents::first_key))]
+fn compare_first(nodes: &Nodes, node: usize, key: &[u8]) -> Ordering
+    requires { node < length nodes.now }
     ensures { result ≡ text_cmp (key_at (pairs_of nodes.now node) 0) key.now }
 {
-    entry_at(nodes, node, count, 0).key().cmp(key)
+    nodes.first_entry(node).key().cmp(key)
 }
 
 // The place of a key in a tree whose keys strictly rise in byte order: `Ok` with its index, or `Err` with the index where
@@ -34,14 +34,14 @@ pub(crate) fn place_in(nodes: &Nodes, root: usize, count: usize, key: &[u8]) -> 
     ensures gap { IfErr result (IsPartitionPoint (λ entry. text_cmp entry.0 key.now ≡ Less) (λ entry. text_cmp entry.0 key.now ≡ Greater) (pairs_of nodes.now root)) }
 {
     match nodes.below(root) {
-        Below::Record(_) => match compare_first(nodes, root, count, key) {
+        Below::Record(_) => match compare_first(nodes, root, key) {
             Ordering::Less => Err(1),
             Ordering::Equal => Ok(0),
             Ordering::Greater => Err(0),
         },
         Below::Children(left, right) => {
             let split = split_of(count);
-            match compare_first(nodes, *right, count - split, key) {
+            match compare_first(nodes, *right, key) {
                 Ordering::Less => match place_in(nodes, *right, count - split, key) {
                     Ok(index) => Ok(split + index),
                     Err(index) => Err(split + index),

@@ -7,11 +7,11 @@ ghost use Rattle.ibc_merkle.specs.Places.{pair_before};
 ghost use Rattle.ibc_merkle.specs.Written.{presence_of, written};
 ghost use Rattle.ibc_nodes.specs.Heights.{pairs_of, IsTreeOver};
 
-use crate::descent::{add_operations, entry_at};
+use crate::descent::{entry_at, operations_from};
 use crate::nodes::Nodes;
 use crate::place::place_in;
 use ibc_ids::Bytes;
-use ibc_merkle::{Absence, Operations, Presence, Proof};
+use ibc_merkle::{Absence, Affix, Operations, Presence, Proof};
 use std::alloc::{AllocError, Global};
 
 // The proof of what a tree has at a key: of its presence where it is among the pairs, and of its absence where not. The
@@ -47,12 +47,11 @@ fn presence_at(
     ensures { IfOk result (λ presence. presence_of (pairs_of nodes.now root) (slice_get (pairs_of nodes.now root) index) ≡ Some presence) }
 {
     let entry = entry_at(nodes, root, count, index);
-    let mut operations = Vec::new(alloc);
-    add_operations(alloc, &mut operations, nodes, root, count, index)?;
+    let operations = operations_from(alloc, nodes, root, count, index, 0)?;
     Ok(Presence {
         key: Bytes::copy_of(alloc, entry.key())?,
         value: Bytes::copy_of(alloc, entry.value())?,
-        leaf_prefix: Bytes::copy_of(alloc, [0u8].as_slice())?,
+        leaf_prefix: Affix::short([0u8].as_slice()),
         operations: Operations::from_vec(operations),
     })
 }

@@ -173,10 +173,10 @@ impl Channel {
         &mut self,
         app: &mut A,
         packet: &Packet,
-        room: AckRoom,
+        room: &mut AckRoom,
     ) -> Result<AckCopies, Refusal>
         requires counter { is_ordered self.old ≡ true → self.old.next_recv < 2 ^ 64 - 1 }
-        requires room { 1024 ≤ room }
+        requires room { 1024 ≤ room.old }
         ensures answer { IfOk result (λ acks. (acks.reply, app.new) ≡ A.receives app.old self.old.end.version packet.now) }
         ensures copy { IfOk result (λ acks. acks.copy ≡ acks.reply) }
         ensures value { IfOk result (λ acks. acks.value ≡ value_bytes (AckIs acks.reply)) }

@@ -6,8 +6,8 @@ ghost use Rattle.ibc_ids.specs.declared.refusal.Refusal.TheVariants.{NoMemory};
 ghost use Rattle.ibc_records.specs.Entries.{with_all, new_entries};
 
 use crate::packet_values::channel_counter;
-use crate::values::{channel_path, channel_value, counter, set_reserved};
-use ibc_ids::{Bytes, ChannelId, Key, PortId, Refusal};
+use crate::values::{channel_value, counter, set_reserved};
+use ibc_ids::{Bytes, ChannelId, Key, PortId, Refusal, channel_path};
 use ibc_path_store::Store;
 use ibc_wire::ChannelEnd;
 use std::alloc::Global;

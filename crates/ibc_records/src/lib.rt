@@ -17,7 +17,7 @@ pub use channel::Channel;
 pub use client::{Client, ConsensusState};
 pub use commitment::Commitment;
 pub use maps::{Channels, Clients, Connections};
-pub use packet_values::{ack_value, commitment_value, packet_path};
+pub use packet_values::{ack_value, commitment_value};
 pub use plain::PlainRecords;
 pub use records::{NextNumbers, Records};
 pub use values::{channel_value, client_value, connection_value};

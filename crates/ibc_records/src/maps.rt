@@ -1,8 +1,8 @@
 //! The maps of a chain's records, whose copies share what is the same in both.
 
-ghost use Rattle.std.specs.Prelude.{◌≡◌, ◌<◌, [], Some, is_some, IsSome, IfOk, OnOk, OnErr};
-ghost use Rattle.ibc_ids.specs.Texts.{pair_cmp};
-ghost use Rattle.ibc_ids.specs.Maps.{at, with};
+ghost use Rattle.std.specs.Prelude.{◌≡◌, ◌<◌, [], Some, is_some, IsSome, IsTrue, IfOk, OnOk, OnErr};
+ghost use Rattle.std.specs.FinMap.{is_sorted};
+ghost use Rattle.ibc_ids.specs.Maps.{at, with, without};
 
 use crate::channel::Channel;
 use crate::client::Client;
@@ -55,34 +55,44 @@ pub(crate) fn insert<K: Ord + Clone + Drop, V: Clone + Drop>(
     map.set(key, value)
 }
 
-/// Whether there is such a channel.
-pub(crate) fn contains(channels: &Channels, name: &(PortId, ChannelId)) -> bool
-    ensures { result ≡ is_some (at pair_cmp name.now channels.now.pairs) }
+/// Whether a key is there.
+pub(crate) fn contains<K: Ord + Clone + Drop, V: Clone + Drop>(
+    map: &SharedMap<K, V>,
+    key: &K,
+) -> bool
+    ensures { result ≡ is_some (at K.cmp key.now map.now.pairs) }
 {
-    channels.get(name).is_some()
+    map.get(key).is_some()
 }
 
-/// A copy of a channel that is there, and room to set it. Refused only where a growth is; the pairs stay.
-pub(crate) fn own(
-    channels: &mut Channels,
-    name: &(PortId, ChannelId),
-) -> Result<Channel, AllocError>
-    requires { IsSome (at pair_cmp name.now channels.old.pairs) }
-    ensures ok { IfOk result (λ own. at pair_cmp name.now channels.old.pairs ≡ Some own) }
-    ensures room { OnOk result (0 < channels.new.room) }
-    ensures same { channels.new.pairs ≡ channels.old.pairs }
+/// Takes the value of a key that is there out, with room to put it back. Refused only where a growth is; the pairs then
+/// stay.
+pub(crate) fn take<K: Ord + Clone + Drop, V: Clone + Drop>(
+    map: &mut SharedMap<K, V>,
+    key: &K,
+) -> Result<V, AllocError>
+    requires { IsSome (at K.cmp key.now map.old.pairs) }
+    ensures value { IfOk result (λ value. at K.cmp key.now map.old.pairs ≡ Some value) }
+    ensures ok { OnOk result (map.new.pairs ≡ without K.cmp key.now map.old.pairs) }
+    ensures room { OnOk result (0 < map.new.room) }
+    ensures sorted { IsTrue (is_sorted K.cmp map.old.pairs) }
+    ensures err { OnErr result (map.new.pairs ≡ map.old.pairs) }
 {
-    channels.reserve(1)?;
-    match channels.get(name) {
-        Some(channel) => channel.clone(),
+    map.are_in_order();
+    match map.take(key)? {
+        Some(value) => Ok(value),
         None => unreachable!(),
     }
 }
 
-/// Sets a channel for which there is room.
-pub(crate) fn put(channels: &mut Channels, name: (PortId, ChannelId), channel: Channel)
-    requires { 0 < channels.old.room }
-    ensures { channels.new.pairs ≡ with pair_cmp name channel channels.old.pairs }
+/// Sets the value of a key for which there is room.
+pub(crate) fn put<K: Ord + Clone + Drop, V: Clone + Drop>(
+    map: &mut SharedMap<K, V>,
+    key: K,
+    value: V,
+)
+    requires { 0 < map.old.room }
+    ensures { map.new.pairs ≡ with K.cmp key value map.old.pairs }
 {
-    let _ = channels.set(name, channel);
+    let _ = map.set(key, value);
 }

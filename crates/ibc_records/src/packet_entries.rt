@@ -10,9 +10,9 @@ ghost use Rattle.ibc_machine.proofs.PacketChanges.{received, acknowledged, timed
 ghost use Rattle.ibc_records.specs.Entries.{with_entry};
 
 use crate::channel::Channel;
-use crate::packet_values::{channel_counter, packet_path};
-use crate::values::{channel_path, channel_value, set_reserved};
-use ibc_ids::{Bytes, ChannelId, PortId, Refusal};
+use crate::packet_values::channel_counter;
+use crate::values::{channel_value, set_reserved};
+use ibc_ids::{Bytes, ChannelId, PortId, Refusal, channel_path, sequence_path};
 use ibc_path_store::Store;
 use ibc_wire::ChannelState;
 use std::alloc::Global;
@@ -32,7 +32,7 @@ pub fn received_entry(
     if channel.is_ordered() {
         channel_counter(alloc, "nextSequenceRecv", port, id, channel.next_recv() + 1)
     } else {
-        let path = packet_path(alloc, "receipts", port, id, sequence)?;
+        let path = sequence_path(alloc, "receipts", port, id, sequence)?;
         Ok((path, Bytes::copy_of(alloc, &[1])?))
     }
 }

@@ -1,35 +1,14 @@
 //! Paths and values of packets as they stand in the store.
 
-ghost use Rattle.std.specs.Prelude.{◌≡◌, ◌++◌, ◌&&◌, ◌<◌, ◌^◌, IfOk, IfErr, IsTrue, string_bytes};
-ghost use Rattle.ibc_ids.specs.Names.{is_port, is_channel};
-ghost use Rattle.ibc_ids.specs.Paths.{channel_path as path_of_channel, sequence_path};
+ghost use Rattle.std.specs.Prelude.{◌≡◌, ◌++◌, IfOk, IfErr, string_bytes};
+ghost use Rattle.ibc_ids.specs.Paths.{channel_path as path_of_channel};
 ghost use Rattle.ibc_ids.specs.declared.refusal.Refusal.TheVariants.{NoMemory};
 ghost use Rattle.ibc_machine.specs.Values.{value_bytes, AckIs, CommitmentIs, NumberIs};
 
 use crate::commitment::Commitment;
-use crate::values::channel_path;
-use ibc_ids::{Bytes, ChannelId, PortId, Refusal};
+use ibc_ids::{Bytes, ChannelId, PortId, Refusal, channel_path};
 use ibc_merkle::{Steps, hash_value};
 use std::alloc::Global;
-
-/// The path of a packet's record of this kind, by the end of the channel and the packet's sequence (ICS 24,
-/// "Path-space"). The kinds are `commitments`, `receipts` and `acks`.
-pub fn packet_path(
-    alloc: Global,
-    kind: &str,
-    port: &PortId,
-    id: &ChannelId,
-    sequence: u64,
-) -> Result<String, Refusal>
-    ensures ok { IfOk result (λ text. string_bytes text ≡ kind.now ++ sequence_path port.now id.now sequence) }
-    ensures named { IsTrue (is_port port.now && is_channel id.now) }
-    ensures fits { sequence < 2 ^ 64 }
-    ensures err { IfErr result (λ refusal. refusal ≡ NoMemory) }
-{
-    let port = port.as_str();
-    let id = id.as_str();
-    Ok(format!(in alloc; "{kind}/ports/{port}/channels/{id}/sequences/{sequence}")?)
-}
 
 /// The bytes of what is committed of a packet (ICS 4, "Packet commitment"): the hash of its timeouts, each in 8 bytes, of
 /// the revision 0 and of its payload's hash. `NoMemory` where a growth is refused.

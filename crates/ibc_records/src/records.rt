@@ -18,13 +18,15 @@ mod channels;
 mod connections;
 mod packets;
 
+use crate::acknowledgement::AckRoom;
 use crate::client::{Client, ConsensusState};
 use crate::maps::{
-    Channels, Clients, Connections, insert, no_channels, no_clients, no_connections,
+    Channels, Clients, Connections, contains, insert, no_channels, no_clients, no_connections, put,
+    take,
 };
 use crate::plain::PlainRecords;
-use crate::values::{client_path, client_value, counter, set_reserved};
-use ibc_ids::{ClientId, Key, Refusal, Root};
+use crate::values::{client_value, counter, set_reserved};
+use ibc_ids::{ClientId, Key, Refusal, Root, client_path};
 use ibc_merkle::Proof;
 use ibc_path_store::{Store, Tree};
 use ibc_wire::ClientState;
@@ -52,6 +54,7 @@ pub struct Records {
     store: Store,
     last: Arc<PlainRecords, Global>,
     last_time: u64,
+    ack_room: AckRoom,
     alloc: Global,
 }
 
@@ -111,6 +114,7 @@ impl Records {
             store,
             last,
             last_time: 0,
+            ack_room: AckRoom::none(alloc),
             alloc,
         })
     }
@@ -318,21 +322,12 @@ fn learn(
     ensures known { IsSome (at text_cmp id.now clients.old.pairs) → IfErr result (λ refusal. refusal ≡ NoMemory) }
     ensures unchanged { OnErr result (clients.new.pairs ≡ clients.old.pairs) }
 {
-    let Some(client) = clients.get(id) else {
+    if !contains(clients, id) {
         return Err(Refusal::UnknownClient);
-    };
-    let client = learned(client, height, known)?;
-    let id = id.clone()?;
-    insert(clients, id, client)?;
-    Ok(())
-}
-
-// The client once it knows a height more.
-fn learned(client: &Client, height: u64, known: ConsensusState) -> Result<Client, Refusal>
-    ensures ok { IfOk result (λ learned. learned ≡ with_height height known client.now) }
-    ensures err { IfErr result (λ refusal. refusal ≡ NoMemory) }
-{
-    let mut learned = client.clone()?;
-    learned.learn(height, known)?;
-    Ok(learned)
+    }
+    let name = id.clone()?;
+    let mut client = take(clients, id)?;
+    let learned = client.learn(height, known);
+    put(clients, name, client);
+    learned
 }

@@ -1,55 +1,19 @@
 //! Paths and values as they stand in the store.
 
-ghost use Rattle.std.specs.Prelude.{◌≡◌, ◌<◌, ◌≤◌, ◌+◌, ◌++◌, ◌&&◌, IfOk, IfErr, OnOk, IsTrue, string_bytes};
+ghost use Rattle.std.specs.Prelude.{◌≡◌, ◌<◌, ◌≤◌, ◌+◌, ◌++◌, IfOk, IfErr, OnOk, string_bytes};
 ghost use Rattle.ibc_ids.specs.Texts.{text_cmp};
 ghost use Rattle.ibc_ids.specs.Maps.{with};
-ghost use Rattle.ibc_ids.specs.Names.{is_client, is_connection, is_port, is_channel};
-ghost use Rattle.ibc_ids.specs.Paths.{path, channel_path as path_of_channel};
-ghost use Rattle.ibc_ids.specs.declared.key.Key.TheVariants as key;
+ghost use Rattle.ibc_ids.specs.Paths.{path};
 ghost use Rattle.ibc_ids.specs.declared.refusal.Refusal.TheVariants.{NoMemory};
 ghost use Rattle.ibc_wire.specs.Spelling.{connection_end_bytes, channel_end_bytes};
 ghost use Rattle.ibc_machine.specs.Values.{value_bytes, NumberIs, ClientIs, ConnectionIs, ChannelIs};
 
 use ibc_codec::fields::{write_name, write_peer, write_text};
 use ibc_codec::{Wire, encode};
-use ibc_ids::{Bytes, ChannelId, ClientId, ConnectionId, Key, PortId, Refusal};
+use ibc_ids::{Bytes, Key, Refusal};
 use ibc_path_store::Store;
 use ibc_wire::{ChannelEnd, ChannelState, ClientState, ConnectionEnd, ConnectionState};
 use std::alloc::Global;
-
-/// The path of a client's state.
-pub fn client_path(alloc: Global, id: &ClientId) -> Result<String, Refusal>
-    ensures ok { IfOk result (λ text. string_bytes text ≡ path (key.ClientState id.now)) }
-    ensures named { IsTrue (is_client id.now) }
-    ensures err { IfErr result (λ refusal. refusal ≡ NoMemory) }
-{
-    Ok(format!(in alloc; "clients/{}/clientState", id.as_str())?)
-}
-
-/// The path of an end of a connection.
-pub fn connection_path(alloc: Global, id: &ConnectionId) -> Result<String, Refusal>
-    ensures ok { IfOk result (λ text. string_bytes text ≡ path (key.Connection id.now)) }
-    ensures named { IsTrue (is_connection id.now) }
-    ensures err { IfErr result (λ refusal. refusal ≡ NoMemory) }
-{
-    Ok(format!(in alloc; "connections/{}", id.as_str())?)
-}
-
-/// The path of a channel's record of this kind.
-pub fn channel_path(
-    alloc: Global,
-    kind: &str,
-    port: &PortId,
-    id: &ChannelId,
-) -> Result<String, Refusal>
-    ensures ok { IfOk result (λ text. string_bytes text ≡ kind.now ++ path_of_channel port.now id.now) }
-    ensures named { IsTrue (is_port port.now && is_channel id.now) }
-    ensures err { IfErr result (λ refusal. refusal ≡ NoMemory) }
-{
-    let port = port.as_str();
-    let id = id.as_str();
-    Ok(format!(in alloc; "{kind}/ports/{port}/channels/{id}")?)
-}
 
 /// Sets the value of a path, for which there is room.
 pub fn set_reserved(store: &mut Store, path: String, value: Bytes)

@@ -1,12 +1,12 @@
 -- Pairs after changes: what is found, and one change more.
-use Rattle.std.proofs.Common.{◌≡◌, ℕ, ◌+◌, ◌<◌, Bool, true, false, Option, Some, None, List, [], ◌∷◌, ◌++◌, length, get_or, take, refl, sym, ap, ◌∙◌, Ordering, Less, Equal, Greater, cond, is_eq}
+use Rattle.std.proofs.Common.{◌≡◌, ℕ, zero, suc, ◌+◌, ◌<◌, Bool, true, false, Option, Some, None, List, [], ◌∷◌, ◌++◌, length, get_or, take, refl, sym, ap, ◌∙◌, Ordering, Less, Equal, Greater, cond, is_eq}
 use Rattle.std.specs.Option.{unwrap_or}
 use Rattle.std.specs.Cmp.{IsTotalOrder}
 use Rattle.std.specs.FinMap.{is_sorted}
 use Rattle.std.proofs.lemmas.Map.Lookups.{CmpEqualImpliesEq}
 use Rattle.ibc_ids.specs.Maps.{Map, at, with}
 use Rattle.ibc_sorted_map.proofs.Sorted.{AreRising, rising_from_sorted, at-none}
-use Rattle.ibc_sorted_map.proofs.Edits.{sorted_from_rising}
+use Rattle.ibc_sorted_map.proofs.Edits.{sorted_from_rising, part_is_sorted}
 use Rattle.ibc_shared_map.specs.Changes.{written, changed}
 use Rattle.ibc_shared_map.proofs.Orders.{above-tied, rising-with, rising-without, at-with, at-without, same_pairs}
 use Rattle.ibc_shared_map.proofs.Rows.{one_more, take_more}
@@ -83,6 +83,41 @@ module _ {K V : Type 0} {order : K → K → Ordering} (total : IsTotalOrder ord
       ∙ ap (written order c.0 c.1) so_far
       ∙ sym (changed-push (take i cs) c m)
       ∙ ap (λ xs. changed order xs m) (sym (take_one_more cs i c l is))
+
+  none-take : (q : K) (cs : Map K (Option V)) (i : ℕ) → at order q cs ≡ None → at order q (take i cs) ≡ None
+  none-take q cs zero none = refl
+  none-take q [] (suc i) none = refl
+  none-take q (c ∷ cs) (suc i) none = go (none-take q cs i) (is_eq (order q c.0)) none
+    where
+      go : (at order q cs ≡ None → at order q (take i cs) ≡ None) → (b : Bool)
+          → ◌≡◌ {A = Option (Option V)} (cond b (Some c.1) (at order q cs)) None → ◌≡◌ {A = Option (Option V)} (cond b (Some c.1) (at order q (take i cs))) None
+      go rest true none = absurd (cc none)
+      go rest false none = rest none
+
+  -- changes of which some were made already
+  pub changed-again : CmpEqualImpliesEq order → (cs : Map K (Option V)) (i : ℕ) (m : Map K V) → is_sorted order cs ≡ true → is_sorted order m ≡ true
+      → changed order cs (changed order (take i cs) m) ≡ changed order cs m
+  changed-again exact cs i m sorted_cs sorted_m =
+      same_pairs total exact (changed order cs some) (changed order cs m) (rising-changed cs some hs) (rising-changed cs m hm)
+      (λ q. found_changed q cs some hc hs ∙ by q (at order q cs) refl ∙ sym (found_changed q cs m hc hm))
+    where
+      some : Map K V
+      some = changed order (take i cs) m
+
+      hc : AreRising order cs
+      hc = rising_from_sorted order cs sorted_cs
+
+      hm : AreRising order m
+      hm = rising_from_sorted order m sorted_m
+
+      hs : AreRising order some
+      hs = rising-changed (take i cs) m hm
+
+      by : (q : K) (o : Option (Option V)) → at order q cs ≡ o → unwrap_or o (at order q some) ≡ unwrap_or o (at order q m)
+      by q (Some c) is = refl
+      by q None is =
+          found_changed q (take i cs) m (rising_from_sorted order (take i cs) (part_is_sorted order cs 0 i sorted_cs)) hm
+          ∙ ap (λ o. unwrap_or o (at order q m)) (none-take q cs i is)
 
   -- ---- what is found under a key
 

@@ -3,3 +3,4 @@ pub mod Rows
 pub mod Places
 pub mod Changes
 pub mod Merging
+pub mod Taking

@@ -1,5 +1,5 @@
 -- Pairs in chunks, cut at a chunk, and a chunk changed.
-use Rattle.std.proofs.Common.{◌≡◌, ℕ, zero, suc, ◌+◌, ◌<◌, Result, Ok, Err, OnOk, OnErr, List, [], ◌∷◌, ◌++◌, length, get_or, set, take, drop, refl, sym, ap, ap₂, ◌∙◌, subst, arith, append_assoc}
+use Rattle.std.proofs.Common.{◌≡◌, ℕ, zero, suc, ◌+◌, ◌<◌, Result, Ok, Err, IsOk, OnOk, OnErr, List, [], ◌∷◌, ◌++◌, length, get_or, set, take, drop, refl, sym, ap, ap₂, ◌∙◌, subst, arith, append_assoc}
 use Rattle.std.specs.Arc.{arc_value}
 use Rattle.std.specs.List.{AllByRecursion, insert, remove}
 use Rattle.ibc_ids.specs.Maps.{Map}
@@ -21,6 +21,11 @@ on_err (Err e) p f = f p
 pub if_err : {T E P : Type 0} (r : Result T E) → P → OnErr r P
 if_err (Ok x) p = tt
 if_err (Err e) p = p
+
+-- what a call says where it isn't refused
+pub when_ok : {T E P : Type 0} (r : Result T E) → IsOk r → OnOk r P → P
+when_ok (Ok x) is p = p
+when_ok (Err e) is p = absurd (cc)
 
 -- by both ends of a call
 pub either : {T E P Q X : Type 0} (r : Result T E) → OnOk r P → OnErr r Q → (P → X) → (Q → X) → X

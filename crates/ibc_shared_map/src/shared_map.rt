@@ -2,11 +2,12 @@
 
 ghost use Rattle.std.specs.Prelude.{◌≡◌, ◌+◌, ◌≤◌, ◌<◌, [], IsTrue, IsOk, OnOk, OnErr, IfOk, option_copied};
 ghost use Rattle.std.proofs.lemmas.Map.Lookups.{CmpEqualImpliesEq};
+ghost use Rattle.std.specs.Arc.{arc_value};
 ghost use Rattle.std.specs.FinMap.{is_sorted};
 ghost use Rattle.ibc_ids.specs.Maps.{at, with, without};
 ghost use Rattle.ibc_shared_map.specs.Chunks.{CopiesAreSame};
 ghost use Rattle.ibc_shared_map.specs.Changes.{written, changed};
-ghost use Rattle.ibc_shared_map.specs.Settled.{settled_pairs};
+ghost use Rattle.ibc_shared_map.specs.Settled.{settled_pairs, AreSorted};
 
 use crate::pairs::{ChunkPairs, Pairs};
 use crate::row::Row;
@@ -140,8 +141,29 @@ impl<K: Ord + Clone, V: Clone> SharedMap<K, V> {
         self.changes.set(key, None)
     }
 
-    /// Settles the changes that wait, so that a copy made afterwards shares them too. Refused only where a growth is, and then
-    /// nothing changes.
+    /// Takes the value of a key out, or gives none where the key isn't there. The key can be set then without a growth. A value
+    /// that copies share is copied. Refused only where a growth is; the pairs then stay.
+    pub fn take(&mut self, key: &K) -> Result<Option<V>, AllocError>
+    where
+        K: Drop,
+        V: Drop,
+        ensures value { IfOk result (λ value. value ≡ at K.cmp key.now self.old.pairs) }
+        ensures ok { OnOk result (self.new.pairs ≡ without K.cmp key.now self.old.pairs) }
+        ensures room { OnOk result (0 < self.new.room) }
+        ensures err { OnErr result (self.new.pairs ≡ self.old.pairs) }
+    {
+        self.reserve(2)?;
+        if let Some(change) = self.changes.get_mut(key) {
+            return Ok(change.take());
+        }
+        let removed = key.clone()?;
+        let value = settled_value(&self.settled, key)?;
+        let _ = self.changes.set(removed, None);
+        Ok(value)
+    }
+
+    /// Settles the changes that wait, so that a copy made afterwards shares them too. What no copy shares is changed where it
+    /// stands. Refused only where a growth is, and then nothing changes.
     pub fn settle(&mut self) -> Result<(), AllocError>
     where
         K: Drop,
@@ -150,8 +172,7 @@ impl<K: Ord + Clone, V: Clone> SharedMap<K, V> {
         ensures room { self.old.room ≤ self.new.room }
         ensures err { OnErr result (self.new ≡ self.old) }
     {
-        let settled = settled_with(self.alloc, &self.settled, self.changes.entries())?;
-        self.settled = settled;
+        write_settled(self.alloc, &mut self.settled, self.changes.entries())?;
         self.changes.clear();
         Ok(())
     }
@@ -185,29 +206,6 @@ impl<K: Ord + Clone, V: Clone> SharedMap<K, V> {
     }
 }
 
-// What is settled once the changes are.
-fn settled_with<K: Ord + Clone + Drop, V: Clone + Drop>(
-    alloc: Global,
-    settled: &Settled<K, V>,
-    changes: &[(K, Option<V>)],
-) -> Result<Settled<K, V>, AllocError>
-    requires keys { CopiesAreSame K.is_clone }
-    requires values { CopiesAreSame V.is_clone }
-    ensures { IfOk result (λ after. settled_pairs after ≡ changed K.cmp changes.now (settled_pairs settled.now)) }
-{
-    if changes.is_empty() {
-        return another(settled);
-    }
-    let mut row = own_row(alloc, settled)?;
-    match write_all(&mut row, changes) {
-        Ok(()) => Ok(Some(Arc::new(alloc, row)?)),
-        Err(refused) => {
-            drop(row);
-            Err(refused)
-        }
-    }
-}
-
 // The same, shared once more.
 fn another<K: Ord + Clone + Drop, V: Clone + Drop>(
     settled: &Settled<K, V>,
@@ -220,29 +218,110 @@ fn another<K: Ord + Clone + Drop, V: Clone + Drop>(
     }
 }
 
-// A row of its own with what is settled.
-fn own_row<K: Ord + Clone + Drop, V: Clone + Drop>(
-    alloc: Global,
+// A copy of the value of a key that is settled, or none.
+fn settled_value<K: Ord + Clone + Drop, V: Clone + Drop>(
     settled: &Settled<K, V>,
-) -> Result<Row<K, V>, AllocError>
-    requires keys { CopiesAreSame K.is_clone }
-    requires values { CopiesAreSame V.is_clone }
-    ensures { IfOk result (λ row. row ≡ settled_pairs settled.now) }
+    key: &K,
+) -> Result<Option<V>, AllocError>
+    requires { CopiesAreSame V.is_clone }
+    ensures { IfOk result (λ value. value ≡ at K.cmp key.now (settled_pairs settled.now)) }
 {
-    match settled {
-        Some(row) => row.copy(),
-        None => Ok(Row::new(alloc)),
+    let Some(row) = settled else {
+        return Ok(None);
+    };
+    match row.get(key) {
+        Some(value) => Ok(Some(value.clone()?)),
+        None => Ok(None),
     }
 }
 
-// Writes changes to a row, one after another.
+// Writes changes to what is settled. After a refusal the same changes still come to the same.
+fn write_settled<K: Ord + Clone + Drop, V: Clone + Drop>(
+    alloc: Global,
+    settled: &mut Settled<K, V>,
+    changes: &[(K, Option<V>)],
+) -> Result<(), AllocError>
+    requires keys { CopiesAreSame K.is_clone }
+    requires values { CopiesAreSame V.is_clone }
+    requires order { CmpEqualImpliesEq K.cmp }
+    requires sorted { AreSorted K.cmp changes.now (settled_pairs settled.old) }
+    ensures ok { OnOk result (settled_pairs settled.new ≡ changed K.cmp changes.now (settled_pairs settled.old)) }
+    ensures again { OnErr result (changed K.cmp changes.now (settled_pairs settled.new) ≡ changed K.cmp changes.now (settled_pairs settled.old)) }
+    ensures sorted { OnErr result (IsTrue (is_sorted K.cmp (settled_pairs settled.new))) }
+{
+    match settled {
+        Some(shared) => write_shared(alloc, shared, changes),
+        None => {
+            *settled = Some(first_row(alloc, changes)?);
+            Ok(())
+        }
+    }
+}
+
+// A row with changes to no pair.
+fn first_row<K: Ord + Clone + Drop, V: Clone + Drop>(
+    alloc: Global,
+    changes: &[(K, Option<V>)],
+) -> Result<Arc<Row<K, V>, Global>, AllocError>
+    requires keys { CopiesAreSame K.is_clone }
+    requires values { CopiesAreSame V.is_clone }
+    requires order { CmpEqualImpliesEq K.cmp }
+    requires sorted { IsTrue (is_sorted K.cmp changes.now) }
+    ensures { IfOk result (λ row. arc_value row ≡ changed K.cmp changes.now []) }
+{
+    let mut row = Row::new(alloc);
+    match write_all(&mut row, changes) {
+        Ok(()) => Ok(Arc::new(alloc, row)?),
+        Err(refused) => {
+            drop(row);
+            Err(refused)
+        }
+    }
+}
+
+// Writes changes to a row, which is copied first where others share it. After a refusal the same changes still come to the
+// same.
+fn write_shared<K: Ord + Clone + Drop, V: Clone + Drop>(
+    alloc: Global,
+    shared: &mut Arc<Row<K, V>, Global>,
+    changes: &[(K, Option<V>)],
+) -> Result<(), AllocError>
+    requires keys { CopiesAreSame K.is_clone }
+    requires values { CopiesAreSame V.is_clone }
+    requires order { CmpEqualImpliesEq K.cmp }
+    requires sorted { AreSorted K.cmp changes.now (arc_value shared.old) }
+    ensures ok { OnOk result (arc_value shared.new ≡ changed K.cmp changes.now (arc_value shared.old)) }
+    ensures again { OnErr result (changed K.cmp changes.now (arc_value shared.new) ≡ changed K.cmp changes.now (arc_value shared.old)) }
+    ensures sorted { OnErr result (IsTrue (is_sorted K.cmp (arc_value shared.new))) }
+{
+    if let Some(own) = Arc::get_mut(shared) {
+        return write_all(own, changes);
+    }
+    let mut own = shared.copy()?;
+    match write_all(&mut own, changes) {
+        Ok(()) => {
+            *shared = Arc::new(alloc, own)?;
+            Ok(())
+        }
+        Err(refused) => {
+            drop(own);
+            Err(refused)
+        }
+    }
+}
+
+// Writes changes to a row, one after another. After a refusal the same changes still come to the same.
 fn write_all<K: Ord + Clone + Drop, V: Clone + Drop>(
     row: &mut Row<K, V>,
     changes: &[(K, Option<V>)],
 ) -> Result<(), AllocError>
     requires keys { CopiesAreSame K.is_clone }
     requires values { CopiesAreSame V.is_clone }
-    ensures { OnOk result (row.new ≡ changed K.cmp changes.now row.old) }
+    requires order { CmpEqualImpliesEq K.cmp }
+    requires sorted { AreSorted K.cmp changes.now row.old }
+    ensures ok { OnOk result (row.new ≡ changed K.cmp changes.now row.old) }
+    ensures again { OnErr result (changed K.cmp changes.now row.new ≡ changed K.cmp changes.now row.old) }
+    ensures sorted { OnErr result (IsTrue (is_sorted K.cmp row.new)) }
 {
     for change in changes {
         write(row, &change.0, &change.1)?;
@@ -250,7 +329,7 @@ fn write_all<K: Ord + Clone + Drop, V: Clone + Drop>(
     Ok(())
 }
 
-// Writes one change to a row.
+// Writes one change to a row. A refusal leaves the row.
 fn write<K: Ord + Clone + Drop, V: Clone + Drop>(
     row: &mut Row<K, V>,
     key: &K,
@@ -258,7 +337,8 @@ fn write<K: Ord + Clone + Drop, V: Clone + Drop>(
 ) -> Result<(), AllocError>
     requires keys { CopiesAreSame K.is_clone }
     requires values { CopiesAreSame V.is_clone }
-    ensures { OnOk result (row.new ≡ written K.cmp key.now change.now row.old) }
+    ensures ok { OnOk result (row.new ≡ written K.cmp key.now change.now row.old) }
+    ensures err { OnErr result (row.new ≡ row.old) }
 {
     match change {
         Some(value) => row.set(key.clone()?, value.clone()?),

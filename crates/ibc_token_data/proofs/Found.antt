@@ -1,15 +1,15 @@
 -- What data's JSON value has, by its members.
-use Rattle.std.proofs.Common.{◌≡◌, ℕ, ◌+◌, ◌<◌, zero, suc, Bool, true, false, ◌==◌, List, [], ◌∷◌, ◌++◌, length, map, take, get_or, Some, codes, decimal, unwrap_or, refl, sym, ap, ap₂, ◌∙◌, arith, eqb-true}
+use Rattle.std.proofs.Common.{◌≡◌, Global, ℕ, ◌+◌, ◌<◌, zero, suc, Bool, true, false, ◌==◌, List, [], ◌∷◌, ◌++◌, length, map, take, get_or, Some, codes, decimal, unwrap_or, refl, sym, ap, ap₂, ◌∙◌, arith, eqb-true}
 use Rattle.std.proofs.lemmas.Bool.{and_parts}
 use Rattle.std.specs.List.{list_all}
 use Rattle.ibc_ids.specs.Texts.{Text}
 use Rattle.ibc_ids.specs.Names.{is_memo, is_receiver, is_user}
 use Rattle.ibc_wire.specs.declared.token.Token.{Token}
 use Rattle.ibc_machine.specs.TokenData.{Data, is_token, is_list_for, is_data}
-use Rattle.serde_json.specs.Data as json
-use Rattle.serde_json.specs.Find.{get}
-use Rattle.serde_json.specs.View.{items_of, view}
-use Rattle.serde_json.specs.declared.value.Value.{Value}
+use Rattle.json.specs.Json as json
+use Rattle.json.specs.Find.{get}
+use Rattle.json.specs.Value.{items_of, value_view}
+use Rattle.json.specs.declared.value.Value.{Value}
 use Rattle.ibc_token_data.specs.Json.{token_json, tokens_json, data_json}
 use Rattle.ibc_token_data.specs.Members.{text_at}
 
@@ -32,7 +32,7 @@ good_parts version d e =
 
 -- ---- parties
 
-pub record HasParties (d : Data) (value : json.Data) : Type 0 where
+pub record HasParties (d : Data) (value : json.Json) : Type 0 where
   pub memo : unwrap_or (text_at (codes "memo") value) [] ≡ d.memo
   pub receiver : text_at (codes "receiver") value ≡ Some d.receiver
   pub sender : text_at (codes "sender") value ≡ Some d.sender
@@ -59,7 +59,7 @@ list_by tokens (c ∷ cs) receiver sender = refl
 pub has_list : (d : Data) → get (codes "tokens") (data_json true d) ≡ Some (tokens_json d.tokens)
 has_list d = list_by d.tokens d.memo d.receiver d.sender
 
-pub record HasToken (token : Token) (value : json.Data) : Type 0 where
+pub record HasToken (token : Token) (value : json.Json) : Type 0 where
   pub amount : text_at (codes "amount") value ≡ Some (decimal token.amount)
   pub denom : text_at (codes "denom") value ≡ Some token.denom
 
@@ -82,7 +82,7 @@ has_one d one = go d.tokens one
 
 -- ---- lists of values
 
-pub items_same : (xs ys : List json.Data) → items_of xs ≡ items_of ys → xs ≡ ys
+pub items_same : (xs ys : List json.Json) → items_of xs ≡ items_of ys → xs ≡ ys
 items_same [] [] e = refl
 items_same [] (y ∷ ys) e = absurd (cc e)
 items_same (x ∷ xs) [] e = absurd (cc e)
@@ -93,16 +93,16 @@ items_same (x ∷ xs) (y ∷ ys) e =
     λ i. head i ∷ tail i
 
 -- the token of the value at a place
-pub token_at_place : (values : List Value) (tokens : List Token) (i : ℕ) (value : Value) → map view values ≡ map token_json tokens → list_all is_token tokens ≡ true → i < length values → value ≡ get_or values i value
-    → (token : Token) × (view value ≡ token_json token) × (is_token token ≡ true) × (take (i + 1) tokens ≡ take i tokens ++ token ∷ [])
+pub token_at_place : (values : List (Value Global)) (tokens : List Token) (i : ℕ) (value : Value Global) → map value_view values ≡ map token_json tokens → list_all is_token tokens ≡ true → i < length values → value ≡ get_or values i value
+    → (token : Token) × (value_view value ≡ token_json token) × (is_token token ≡ true) × (take (i + 1) tokens ≡ take i tokens ++ token ∷ [])
 token_at_place [] tokens i value same good inside is = absurd (omega arith)
 token_at_place (v ∷ values) [] i value same good inside is = absurd (cc same)
 token_at_place (v ∷ values) (token ∷ tokens) zero value same good inside is =
-    let head : view v ≡ token_json token = cc same in
-    (token, ap view is ∙ head, (and_parts (is_token token) _ good).0, refl)
+    let head : value_view v ≡ token_json token = cc same in
+    (token, ap value_view is ∙ head, (and_parts (is_token token) _ good).0, refl)
 token_at_place (v ∷ values) (token ∷ tokens) (suc i) value same good inside is =
     let next : suc i + 1 ≡ suc (i + 1) = omega arith in
-    let rest : map view values ≡ map token_json tokens = cc same in
+    let rest : map value_view values ≡ map token_json tokens = cc same in
     let found = token_at_place values tokens i value rest (and_parts (is_token token) _ good).1 (omega arith) is in
     (found.0, found.1, found.2, ap (λ n. take n (token ∷ tokens)) next ∙ ap (λ l. token ∷ l) found.3)
 

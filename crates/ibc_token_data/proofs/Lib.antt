@@ -1,6 +1,8 @@
 pub mod Amounts
 pub mod PlainTexts
+pub mod Typed
 pub mod AsciiTexts
+pub mod Joined
 pub mod Spelled
 pub mod Read
 pub mod Found

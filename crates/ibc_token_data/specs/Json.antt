@@ -1,48 +1,40 @@
--- The data of a packet as a JSON value, whose members stand in the order of their names.
-use Rattle.std.specs.Prelude.{◌^◌, nat_lt, Bool, ◌&&◌, codes, decimal, List, [], ◌∷◌, map, if◌then◌else◌}
-use Rattle.std.specs.List.{list_all}
+-- The data of a packet as a JSON value, whose members stand in the order in which they are written.
+use Rattle.std.specs.Prelude.{Bool, codes, decimal, List, [], ◌∷◌, map, if◌then◌else◌}
 use Rattle.ibc_ids.specs.Texts.{Text}
-use Rattle.ibc_ids.specs.Names.{is_denom, is_memo, is_receiver, is_user}
 use Rattle.ibc_wire.specs.declared.token.Token.{Token}
 use Rattle.ibc_machine.specs.TokenData.{Data}
-use Rattle.serde_json.specs.Data as json
-use Rattle.serde_json.specs.Data.{Members, no_members, put}
-use Rattle.serde_json.specs.View.{items_of}
+use Rattle.json.specs.Json as json
+use Rattle.json.specs.Json.{Members, no_members}
+use Rattle.json.specs.Value.{items_of}
 
+-- a member whose value is a text, before others
 abbrev pub with_text : Text → Text → Members → Members
-with_text name text members = put name (json.string text) members
+with_text name text others = json.member name (json.string text) others
 
 abbrev pub with_token : Token → Members → Members
-with_token token members =
-    with_text (codes "denom") token.denom (with_text (codes "amount") (decimal token.amount) members)
+with_token token others =
+    with_text (codes "amount") (decimal token.amount) (with_text (codes "denom") token.denom others)
 
 abbrev pub with_memo : Text → Members → Members
-with_memo [] members = members
-with_memo (c ∷ cs) members = with_text (codes "memo") (c ∷ cs) members
+with_memo [] others = others
+with_memo (c ∷ cs) others = with_text (codes "memo") (c ∷ cs) others
 
-abbrev pub party_members : Data → Members
-party_members d =
-    with_text (codes "sender") d.sender (with_text (codes "receiver") d.receiver (with_memo d.memo no_members))
+abbrev pub with_parties : Data → Members → Members
+with_parties d others =
+    with_memo d.memo (with_text (codes "receiver") d.receiver (with_text (codes "sender") d.sender others))
 
 abbrev pub with_first : List Token → Members → Members
-with_first [] members = members
-with_first (token ∷ tokens) members = with_token token members
+with_first [] others = others
+with_first (token ∷ tokens) others = with_token token others
 
-abbrev pub token_json : Token → json.Data
+abbrev pub token_json : Token → json.Json
 token_json token = json.object (with_token token no_members)
 
-abbrev pub tokens_json : List Token → json.Data
+abbrev pub tokens_json : List Token → json.Json
 tokens_json tokens = json.array (items_of (map token_json tokens))
 
 -- with a list of tokens, or with the members of the first one
-abbrev pub data_json : Bool → Data → json.Data
+abbrev pub data_json : Bool → Data → json.Json
 data_json several d =
-    if several then json.object (put (codes "tokens") (tokens_json d.tokens) (party_members d))
-    else json.object (with_first d.tokens (party_members d))
-
-abbrev pub is_typed_token : Token → Bool
-is_typed_token token = nat_lt token.amount (2 ^ 128) && is_denom token.denom
-
--- amounts and names are what their types promise
-abbrev pub is_typed : Data → Bool
-is_typed d = list_all is_typed_token d.tokens && is_memo d.memo && is_receiver d.receiver && is_user d.sender
+    if several then json.object (with_parties d (json.member (codes "tokens") (tokens_json d.tokens) no_members))
+    else json.object (with_first d.tokens (with_parties d no_members))

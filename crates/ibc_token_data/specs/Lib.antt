@@ -1,3 +1,4 @@
 pub mod Plain
 pub mod Json
+pub mod Spelling
 pub mod Members

@@ -2,17 +2,17 @@
 use Rattle.std.specs.Prelude.{◌≡◌, MatchResult, Option, Result}
 use Rattle.std.specs.Option.{option_and_then}
 use Rattle.ibc_ids.specs.Texts.{Text}
-use Rattle.serde_json.specs.Data as json
-use Rattle.serde_json.specs.Find.{get, as_array, as_str}
+use Rattle.json.specs.Json as json
+use Rattle.json.specs.Find.{get, as_array, as_str}
 use Rattle.ibc_token_data.specs.declared.fault.Fault.{Fault}
 use Rattle.ibc_token_data.specs.declared.fault.Fault.TheVariants.{NoMemory}
 
 -- the text of a member
-abbrev pub text_at : Text → json.Data → Option Text
+abbrev pub text_at : Text → json.Json → Option Text
 text_at name value = option_and_then as_str (get name value)
 
 -- the items of a member
-abbrev pub list_at : Text → json.Data → Option json.Items
+abbrev pub list_at : Text → json.Json → Option json.Items
 list_at name value = option_and_then as_array (get name value)
 
 -- it is what was found, unless a growth was refused

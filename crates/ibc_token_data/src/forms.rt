@@ -1,11 +1,10 @@
 //! Which data a packet of tokens may have.
 
-ghost use Rattle.std.specs.Prelude.{◌≡◌, ◌&&◌, IsTrue};
+ghost use Rattle.std.specs.Prelude.{◌≡◌, ◌&&◌};
 ghost use Rattle.std.specs.List.{list_all};
 ghost use Rattle.ibc_wire.specs.Tokens.{is_rising, is_short};
 ghost use Rattle.ibc_machine.specs.TokenData.{has_several, is_token, is_list_for, is_data};
 ghost use Rattle.ibc_token_data.specs.Plain.{plain_data};
-ghost use Rattle.ibc_token_data.specs.Json.{is_typed};
 
 use crate::TokenData;
 use ibc_ids::Version;
@@ -58,17 +57,4 @@ pub(crate) fn is_data(version: &Version, told: &TokenData) -> bool
     let _sender = told.sender.as_str();
     let tokens = told.tokens.as_slice();
     is_list_for(version, tokens) && are_tokens(tokens)
-}
-
-/// Data is what its type promises.
-pub(crate) fn is_typed(told: &TokenData)
-    ensures { IsTrue (is_typed (plain_data told.now)) }
-{
-    let _memo = told.memo.as_str();
-    let _receiver = told.receiver.as_str();
-    let _sender = told.sender.as_str();
-    for token in &told.tokens {
-        let _amount = token.amount;
-        let _denom = token.denom.as_str();
-    }
 }

@@ -4,8 +4,8 @@ ghost use Rattle.std.specs.Prelude.{◌≡◌, Some, List, [], ◌∷◌, map, c
 ghost use Rattle.std.specs.List.{list_all};
 ghost use Rattle.ibc_wire.specs.declared.token.Token.{Token};
 ghost use Rattle.ibc_machine.specs.TokenData.{Data, has_several, is_token, is_data};
-ghost use Rattle.serde_json.specs.Find.{get};
-ghost use Rattle.serde_json.specs.View.{view};
+ghost use Rattle.json.specs.Find.{get};
+ghost use Rattle.json.specs.Value.{value_view};
 ghost use Rattle.ibc_token_data.specs.Members.{text_at};
 ghost use Rattle.ibc_token_data.specs.declared.fault.Fault.TheVariants.{NoMemory};
 ghost use Rattle.ibc_token_data.specs.Json.{data_json, token_json, tokens_json};
@@ -17,11 +17,11 @@ use crate::forms::has_several;
 use crate::members::{list_at, memo_at, name_at, token_at};
 use ibc_ids::Version;
 use ibc_wire::Token;
-use serde_json::Value;
+use json::Value;
 use std::alloc::Global;
 
-fn tokens_in(alloc: Global, values: &[Value]) -> Result<Vec<Token>, Fault>
-    ensures { (tokens : List Token) → map view values.now ≡ map token_json tokens → IsTrue (list_all is_token tokens) → MatchResult result (λ found. found.items ≡ tokens) (λ fault. fault ≡ NoMemory) }
+fn tokens_in(alloc: Global, values: &[Value<'_>]) -> Result<Vec<Token>, Fault>
+    ensures { (tokens : List Token) → map value_view values.now ≡ map token_json tokens → IsTrue (list_all is_token tokens) → MatchResult result (λ found. found.items ≡ tokens) (λ fault. fault ≡ NoMemory) }
 {
     let mut tokens = Vec::new(alloc);
     for value in values {
@@ -30,17 +30,17 @@ fn tokens_in(alloc: Global, values: &[Value]) -> Result<Vec<Token>, Fault>
     Ok(tokens)
 }
 
-fn listed_tokens(alloc: Global, value: &Value) -> Result<Vec<Token>, Fault>
-    ensures { (tokens : List Token) → get (codes "tokens") (view value.now) ≡ Some (tokens_json tokens) → IsTrue (list_all is_token tokens) → MatchResult result (λ found. found.items ≡ tokens) (λ fault. fault ≡ NoMemory) }
+fn listed_tokens(alloc: Global, value: &Value<'_>) -> Result<Vec<Token>, Fault>
+    ensures { (tokens : List Token) → get (codes "tokens") (value_view value.now) ≡ Some (tokens_json tokens) → IsTrue (list_all is_token tokens) → MatchResult result (λ found. found.items ≡ tokens) (λ fault. fault ≡ NoMemory) }
 {
     match list_at(value, "tokens") {
-        Some(values) => tokens_in(alloc, values.as_slice()),
+        Some(values) => tokens_in(alloc, values),
         None => Err(Fault::NotData),
     }
 }
 
-fn one_token(alloc: Global, value: &Value) -> Result<Vec<Token>, Fault>
-    ensures { (token : Token) → text_at (codes "amount") (view value.now) ≡ Some (decimal token.amount) → text_at (codes "denom") (view value.now) ≡ Some token.denom → IsTrue (is_token token) → MatchResult result (λ found. found.items ≡ token ∷ []) (λ fault. fault ≡ NoMemory) }
+fn one_token(alloc: Global, value: &Value<'_>) -> Result<Vec<Token>, Fault>
+    ensures { (token : Token) → text_at (codes "amount") (value_view value.now) ≡ Some (decimal token.amount) → text_at (codes "denom") (value_view value.now) ≡ Some token.denom → IsTrue (is_token token) → MatchResult result (λ found. found.items ≡ token ∷ []) (λ fault. fault ≡ NoMemory) }
 {
     let mut tokens = Vec::new(alloc);
     tokens.push(token_at(alloc, value)?)?;
@@ -48,8 +48,8 @@ fn one_token(alloc: Global, value: &Value) -> Result<Vec<Token>, Fault>
 }
 
 /// The tokens that the value says over a channel of the version. Faults: `NotData` where it says none; `NoMemory`.
-fn all_tokens(alloc: Global, version: &Version, value: &Value) -> Result<Vec<Token>, Fault>
-    ensures { (d : Data) → view value.now ≡ data_json (has_several version.now) d → IsTrue (is_data version.now d) → MatchResult result (λ found. found.items ≡ d.tokens) (λ fault. fault ≡ NoMemory) }
+fn all_tokens(alloc: Global, version: &Version, value: &Value<'_>) -> Result<Vec<Token>, Fault>
+    ensures { (d : Data) → value_view value.now ≡ data_json (has_several version.now) d → IsTrue (is_data version.now d) → MatchResult result (λ found. found.items ≡ d.tokens) (λ fault. fault ≡ NoMemory) }
 {
     if has_several(version) {
         listed_tokens(alloc, value)
@@ -59,8 +59,12 @@ fn all_tokens(alloc: Global, version: &Version, value: &Value) -> Result<Vec<Tok
 }
 
 /// The data that the value says over a channel of the version. Faults: `NotData` where it says none; `NoMemory`.
-pub(crate) fn data_in(alloc: Global, version: &Version, value: &Value) -> Result<TokenData, Fault>
-    ensures { (d : Data) → view value.now ≡ data_json (has_several version.now) d → IsTrue (is_data version.now d) → MatchResult result (λ found. plain_data found ≡ d) (λ fault. fault ≡ NoMemory) }
+pub(crate) fn data_in(
+    alloc: Global,
+    version: &Version,
+    value: &Value<'_>,
+) -> Result<TokenData, Fault>
+    ensures { (d : Data) → value_view value.now ≡ data_json (has_several version.now) d → IsTrue (is_data version.now d) → MatchResult result (λ found. plain_data found ≡ d) (λ fault. fault ≡ NoMemory) }
 {
     Ok(TokenData {
         tokens: all_tokens(alloc, version, value)?,

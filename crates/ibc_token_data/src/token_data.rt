@@ -8,12 +8,13 @@ ghost use Rattle.ibc_token_data.specs.declared.fault.Fault.TheVariants as fault;
 ghost use Rattle.ibc_token_data.specs.Plain.{plain_data};
 
 use crate::fault::Fault;
-use crate::forms::{has_several, is_data, is_typed};
+use crate::forms::is_data;
 use crate::members::parsed;
 use crate::reading::data_in;
-use crate::writing::data_json;
+use crate::writing::{likely_length, spelling};
 use ibc_ids::{Bytes, Denom, Memo, Receiver, Refusal, UserName, Version};
 use ibc_wire::{Token, Transfer, TransferMany};
+use json::Scratch;
 use std::alloc::{AllocError, Global};
 
 /// What a packet of tokens says (ICS 20, "FungibleTokenPacketData"): the tokens, a memo, who receives them and who sends
@@ -78,7 +79,8 @@ impl TokenData {
         ensures ok { IfOk result (λ text. text ≡ data_text version.now (plain_data self.now)) }
         ensures err { IfErr result (λ refusal. refusal ≡ NoMemory) }
     {
-        Ok(Bytes::from_vec(spelling(alloc, version, self)?))
+        let text = spelling(alloc, version, self, likely_length(self))?;
+        Ok(Bytes::from_vec(text.into_bytes()))
     }
 
     /// How much of a denomination the packet has, or `None` where that is more than 2^128 - 1.
@@ -105,18 +107,12 @@ fn amount_in(tokens: &[Token], denom: &Denom) -> Option<u128>
     Some(amount)
 }
 
-fn spelling(alloc: Global, version: &Version, told: &TokenData) -> Result<Vec<u8>, AllocError>
-    ensures { IfOk result (λ text. text.items ≡ data_text version.now (plain_data told.now)) }
-{
-    is_typed(told);
-    data_json(alloc, has_several(version), told)?.to_vec(alloc)
-}
-
 // The data that the bytes may spell: if they spell any, it is this.
 fn told_by(alloc: Global, version: &Version, payload: &[u8]) -> Result<TokenData, Fault>
     ensures { (d : Data) → data_of version.now payload.now ≡ Some d → MatchResult result (λ told. plain_data told ≡ d) (λ e. e ≡ fault.NoMemory) }
 {
-    let value = parsed(alloc, payload)?;
+    let mut scratch = Scratch::new(alloc);
+    let value = parsed(alloc, payload, &mut scratch)?;
     data_in(alloc, version, &value)
 }
 
@@ -138,8 +134,8 @@ fn is_spelled_by(
     if !is_data(version, told) {
         return Ok(false);
     }
-    let text = spelling(alloc, version, told)?;
-    Ok(is_same(text.as_slice(), payload))
+    let text = spelling(alloc, version, told, payload.len())?;
+    Ok(is_same(text.as_bytes(), payload))
 }
 
 fn spelled_data(alloc: Global, version: &Version, payload: &[u8]) -> Result<TokenData, Fault>

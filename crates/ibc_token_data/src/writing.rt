@@ -1,88 +1,163 @@
-//! Data as a JSON value.
+//! The one spelling of data.
 
-ghost use Rattle.std.specs.Prelude.{◌≡◌, [], map, codes, IfOk, OnOk};
-ghost use Rattle.serde_json.specs.Data.{put as with_member, string, object, array, no_members};
-ghost use Rattle.serde_json.specs.View.{view, members_view};
-ghost use Rattle.ibc_token_data.specs.Json.{with_text, with_token, with_memo, with_first, party_members, token_json, tokens_json, data_json};
+ghost use Rattle.std.specs.Prelude.{◌≡◌, ◌++◌, ◌∷◌, true, false, string_bytes, IfOk, OnOk};
+ghost use Rattle.ibc_machine.specs.TokenData.{member, object, token_members, has_several, data_text};
 ghost use Rattle.ibc_token_data.specs.Plain.{plain_data};
+ghost use Rattle.ibc_token_data.specs.Spelling.{memo_front, parties_text, token_text, first_front, objects_text, behind_text, members_text};
 
 use crate::TokenData;
-use ibc_ids::Memo;
+use crate::forms::has_several;
+use ibc_ids::{Memo, Version};
 use ibc_wire::Token;
-use serde_json::{Map, Value, put};
 use std::alloc::{AllocError, Global};
 
-fn put_text(
-    members: &mut Map<String, Value>,
+/// The one spelling of the data over a channel of the version, in a text with room for this many bytes.
+pub(crate) fn spelling(
     alloc: Global,
-    name: &str,
-    text: &str,
-) -> Result<(), AllocError>
-    ensures { OnOk result (members_view members.new.entries ≡ with_text name.now text.now (members_view members.old.entries)) }
+    version: &Version,
+    told: &TokenData,
+    room: usize,
+) -> Result<String, AllocError>
+    ensures { IfOk result (λ text. string_bytes text ≡ data_text version.now (plain_data told.now)) }
 {
-    put(members, alloc, name, Value::try_from_str(alloc, text)?)
+    let mut text = String::with_capacity(alloc, room)?;
+    text.push_str("{")?;
+    push_members(&mut text, version, told)?;
+    text.push_str("}")?;
+    Ok(text)
 }
 
-fn put_token(
-    members: &mut Map<String, Value>,
-    alloc: Global,
-    token: &Token,
-) -> Result<(), AllocError>
-    ensures { OnOk result (members_view members.new.entries ≡ with_token token.now (members_view members.old.entries)) }
-{
-    let amount = token.amount.to_string(alloc)?;
-    put_text(members, alloc, "amount", amount.as_str())?;
-    put_text(members, alloc, "denom", token.denom.as_str())
+/// How many bytes the spelling is likely to have: 64 around the names of the parties, 64 around and in the digits of each
+/// token, and the names.
+pub(crate) fn likely_length(told: &TokenData) -> usize {
+    let mut length = told
+        .memo
+        .as_str()
+        .len()
+        .saturating_add(told.receiver.as_str().len())
+        .saturating_add(told.sender.as_str().len())
+        .saturating_add(64);
+    for token in &told.tokens {
+        length = length
+            .saturating_add(64)
+            .saturating_add(token.denom.as_str().len());
+    }
+    length
 }
 
-fn put_memo(members: &mut Map<String, Value>, alloc: Global, memo: &Memo) -> Result<(), AllocError>
-    ensures { OnOk result (members_view members.new.entries ≡ with_memo memo.now (members_view members.old.entries)) }
+fn push_members(text: &mut String, version: &Version, told: &TokenData) -> Result<(), AllocError>
+    ensures { OnOk result (string_bytes text.new ≡ string_bytes text.old ++ members_text (has_several version.now) (plain_data told.now)) }
+{
+    if has_several(version) {
+        push_with_list(text, told)
+    } else {
+        push_with_first(text, told)
+    }
+}
+
+// The members with the list of tokens.
+fn push_with_list(text: &mut String, told: &TokenData) -> Result<(), AllocError>
+    ensures { OnOk result (string_bytes text.new ≡ string_bytes text.old ++ members_text true (plain_data told.now)) }
+{
+    push_parties(text, told)?;
+    text.push_str(",\"tokens\":[")?;
+    push_objects(text, told.tokens.as_slice())?;
+    text.push_str("]")
+}
+
+// The members with those of the first token.
+fn push_with_first(text: &mut String, told: &TokenData) -> Result<(), AllocError>
+    ensures { OnOk result (string_bytes text.new ≡ string_bytes text.old ++ members_text false (plain_data told.now)) }
+{
+    push_first(text, told.tokens.as_slice())?;
+    push_parties(text, told)
+}
+
+// The first token and the comma behind it; nothing where there is none.
+fn push_first(text: &mut String, tokens: &[Token]) -> Result<(), AllocError>
+    ensures { OnOk result (string_bytes text.new ≡ string_bytes text.old ++ first_front tokens.now) }
+{
+    let Some(token) = tokens.first() else {
+        return Ok(());
+    };
+    push_token(text, token)?;
+    text.push_str(",")
+}
+
+// Memo, receiver and sender.
+fn push_parties(text: &mut String, told: &TokenData) -> Result<(), AllocError>
+    ensures { OnOk result (string_bytes text.new ≡ string_bytes text.old ++ parties_text (plain_data told.now)) }
+{
+    push_memo(text, &told.memo)?;
+    push_member(text, "receiver", told.receiver.as_str())?;
+    text.push_str(",")?;
+    push_member(text, "sender", told.sender.as_str())
+}
+
+// The memo and the comma behind it; nothing where there is none.
+fn push_memo(text: &mut String, memo: &Memo) -> Result<(), AllocError>
+    ensures { OnOk result (string_bytes text.new ≡ string_bytes text.old ++ memo_front memo.now) }
 {
     let memo = memo.as_str();
     if memo.is_empty() {
         return Ok(());
     }
-    put_text(members, alloc, "memo", memo)
+    push_member(text, "memo", memo)?;
+    text.push_str(",")
 }
 
-fn party_members(alloc: Global, told: &TokenData) -> Result<Map<String, Value>, AllocError>
-    ensures { IfOk result (λ members. members_view members.entries ≡ party_members (plain_data told.now)) }
+// The tokens, each as an object.
+fn push_objects(text: &mut String, tokens: &[Token]) -> Result<(), AllocError>
+    ensures { OnOk result (string_bytes text.new ≡ string_bytes text.old ++ objects_text tokens.now) }
 {
-    let mut members = Map::new(alloc);
-    put_memo(&mut members, alloc, &told.memo)?;
-    put_text(&mut members, alloc, "receiver", told.receiver.as_str())?;
-    put_text(&mut members, alloc, "sender", told.sender.as_str())?;
-    Ok(members)
+    match tokens.split_first() {
+        Some((first, others)) => push_row(text, first, others),
+        None => Ok(()),
+    }
 }
 
-fn token_json(alloc: Global, token: &Token) -> Result<Value, AllocError>
-    ensures { IfOk result (λ value. view value ≡ token_json token.now) }
+fn push_row(text: &mut String, first: &Token, others: &[Token]) -> Result<(), AllocError>
+    ensures { OnOk result (string_bytes text.new ≡ string_bytes text.old ++ objects_text (first.now ∷ others.now)) }
 {
-    let mut members = Map::new(alloc);
-    put_token(&mut members, alloc, token)?;
-    Ok(Value::Object(members))
+    push_object(text, first)?;
+    push_behind(text, others)
 }
 
-fn tokens_json(alloc: Global, tokens: &[Token]) -> Result<Value, AllocError>
-    ensures { IfOk result (λ value. view value ≡ tokens_json tokens.now) }
+// The tokens, each as an object with a comma before it.
+fn push_behind(text: &mut String, tokens: &[Token]) -> Result<(), AllocError>
+    ensures { OnOk result (string_bytes text.new ≡ string_bytes text.old ++ behind_text tokens.now) }
 {
-    let mut values = Vec::new(alloc);
     for token in tokens {
-        values.push(token_json(alloc, token)?)?;
+        text.push_str(",")?;
+        push_object(text, token)?;
     }
-    Ok(Value::Array(values))
+    Ok(())
 }
 
-/// The JSON value of the data, with its list of tokens or with the members of its first token.
-pub(crate) fn data_json(alloc: Global, several: bool, told: &TokenData) -> Result<Value, AllocError>
-    ensures { IfOk result (λ value. view value ≡ data_json several (plain_data told.now)) }
+fn push_object(text: &mut String, token: &Token) -> Result<(), AllocError>
+    ensures { OnOk result (string_bytes text.new ≡ string_bytes text.old ++ object (token_members token.now)) }
 {
-    let mut members = party_members(alloc, told)?;
-    if several {
-        let tokens = tokens_json(alloc, told.tokens.as_slice())?;
-        put(&mut members, alloc, "tokens", tokens)?;
-    } else if let Some(token) = told.tokens.first() {
-        put_token(&mut members, alloc, token)?;
-    }
-    Ok(Value::Object(members))
+    text.push_str("{")?;
+    push_token(text, token)?;
+    text.push_str("}")
+}
+
+// Amount and denomination of a token.
+fn push_token(text: &mut String, token: &Token) -> Result<(), AllocError>
+    ensures { OnOk result (string_bytes text.new ≡ string_bytes text.old ++ token_text token.now) }
+{
+    text.push_str("\"amount\":\"")?;
+    write!(text, "{}", token.amount)?;
+    text.push_str("\",")?;
+    push_member(text, "denom", token.denom.as_str())
+}
+
+fn push_member(text: &mut String, name: &str, value: &str) -> Result<(), AllocError>
+    ensures { OnOk result (string_bytes text.new ≡ string_bytes text.old ++ member name.now value.now) }
+{
+    text.push_str("\"")?;
+    text.push_str(name)?;
+    text.push_str("\":\"")?;
+    text.push_str(value)?;
+    text.push_str("\"")
 }

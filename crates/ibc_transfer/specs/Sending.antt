@@ -1,5 +1,5 @@
 -- What the two messages of port `transfer` send, and what they check from their channel on.
-use Rattle.std.specs.Prelude.{◌==◌, ◌&&◌, not, Bool, List, Ok}
+use Rattle.std.specs.Prelude.{◌==◌, ◌&&◌, ⊤, ℕ, not, Bool, List, Ok}
 use Rattle.std.specs.List.{list_any}
 use Rattle.ibc_ids.specs.Texts.{Text, same_text}
 use Rattle.ibc_ids.specs.declared.refusal.Refusal.TheVariants.{WrongVersion, TooLarge}
@@ -50,18 +50,20 @@ many_parcel m =
       commitment = c;
     }
 
--- the checks from the channel on, and the end that sends
-abbrev pub may_send : BankState → Text → PlainParcel → Evidence → Host → Core → Checked Channel
-may_send bank channel parcel evidence host core = do
+-- the checks from the channel on that come before the payment, and the end that sends
+abbrev pub may_leave : Text → PlainParcel → Evidence → Host → Core → Checked Channel
+may_leave channel parcel evidence host core = do
   mine ← sending_end core transfer_port channel
   require (same_text mine.end.version parcel.version) WrongVersion
   require parcel.fits TooLarge
   require_timeouts evidence core mine parcel.commitment
-  after ← moved_all parcel.moves bank
-  require_number mine.next_send
   Ok mine
 
--- the same checks, and the effect
+-- the checks that are left: the moves can be made, and there is a next sequence
+abbrev pub may_go : BankState → List Move → ℕ → Checked ⊤
+may_go bank moves next_send = moved_all moves bank >>= λ (after : BankState). require_number next_send
+
+-- all checks, and the effect
 abbrev pub sends : Text → PlainParcel → Handler BankState
 sends channel parcel evidence host core bank = do
   mine ← sending_end core transfer_port channel

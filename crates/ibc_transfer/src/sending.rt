@@ -1,20 +1,22 @@
 //! Sending tokens.
 
-ghost use Rattle.std.specs.Prelude.{◌≡◌, ◌-◌, ◌^◌, ◌<◌, ℕ, Some, IfOk};
+ghost use Rattle.std.specs.Prelude.{◌≡◌, ◌⊎◌, ◌-◌, ◌^◌, ◌<◌, ℕ, Some, Ok, Err, IfOk, IfErr, OnOk};
 ghost use Rattle.ibc_ids.specs.Texts.{same_text};
+ghost use Rattle.ibc_ids.specs.declared.refusal.Refusal.TheVariants.{NoMemory};
 ghost use Rattle.ibc_machine.specs.declared.reply.Effect.TheVariants as effect;
+ghost use Rattle.ibc_machine.specs.Evidence.{require_number};
 ghost use Rattle.ibc_machine.specs.Records.{channel_at};
 ghost use Rattle.ibc_machine.specs.Transfers as transfer;
 ghost use Rattle.ibc_records.specs.Held.{core_of};
 ghost use Rattle.ibc_records.specs.Taking.{IsHandledWith};
 ghost use Rattle.ibc_client.specs.Judging.{IsJudged};
 ghost use Rattle.ibc_transfer.specs.Sent.{bank_transfer, bank_transfer_many};
-ghost use Rattle.ibc_transfer.specs.Sending.{plain_parcel, may_send, sends};
+ghost use Rattle.ibc_transfer.specs.Sending.{plain_parcel, may_leave, may_go, sends};
 
 use crate::names::transfer_port;
 use crate::parcels::Parcel;
 use crate::transfers::Transfers;
-use ibc_bank::Bank;
+use ibc_bank::{Bank, Move};
 use ibc_client::check_number;
 use ibc_ids::{ChannelId, PortId, Refusal, Version};
 use ibc_packet::{check_timeouts, sending_end};
@@ -67,7 +69,8 @@ pub fn send_transfer_many(
     send_parcel(alloc, records, transfers, &message.channel, parcel)
 }
 
-// The checks from the channel on; then the tokens leave, and the packet is committed to.
+// The checks from the channel on; then the tokens leave, and the packet is committed to. The bank works out the moves as it
+// pays.
 fn send_parcel(
     alloc: Global,
     records: &mut Records,
@@ -78,23 +81,22 @@ fn send_parcel(
     ensures { (chain chains : ℕ) → IsHandledWith effect.Sent (sends channel.now (plain_parcel parcel)) chain chains records.old transfers.old result records.new transfers.new }
 {
     let port = transfer_port(alloc)?;
-    judge_parcel(records, transfers.bank(), &port, channel, &parcel)?;
+    let mine = leaving_end(records, &port, channel, &parcel)?;
+    check_next(transfers.bank(), mine, parcel.moves.as_slice())?;
     let commitment = parcel.commitment;
     records.send_paid(transfers, &parcel.moves, &port, channel, commitment)
 }
 
-// The checks from the channel on, in their order, and the end that sends.
-fn judge_parcel<'a>(
+// The checks from the channel on that come before the payment, in their order, and the end that sends.
+fn leaving_end<'a>(
     records: &'a Records,
-    bank: &Bank,
     port: &PortId,
     channel: &ChannelId,
     parcel: &Parcel,
 ) -> Result<&'a Channel, Refusal>
     requires { port.now ≡ transfer.transfer_port }
-    ensures judged { (chain chains : ℕ) → IsJudged (may_send bank.now channel.now (plain_parcel parcel.now)) chain chains records.now (λ mine. mine.now) result }
+    ensures judged { (chain chains : ℕ) → IsJudged (may_leave channel.now (plain_parcel parcel.now)) chain chains records.now (λ mine. mine.now) result }
     ensures there { IfOk result (λ mine. channel_at (core_of records.now) port.now channel.now ≡ Some mine.now) }
-    ensures free { IfOk result (λ mine. mine.now.next_send < 2 ^ 64 - 1) }
 {
     let mine = sending_end(records, port, channel)?;
     if !has_version(mine, &parcel.version) {
@@ -110,9 +112,22 @@ fn judge_parcel<'a>(
         commitment.timeout_height,
         commitment.timeout_time,
     )?;
-    bank.check(parcel.moves.as_slice())?;
-    check_number(mine.next_send())?;
     Ok(mine)
+}
+
+// Whether an end has a next sequence. Where it has none the refusal is the bank's, if it refuses the moves.
+fn check_next(bank: &Bank, mine: &Channel, moves: &[Move]) -> Result<(), Refusal>
+    ensures ok { OnOk result (require_number mine.now.next_send ≡ Ok tt) }
+    ensures free { OnOk result (mine.now.next_send < 2 ^ 64 - 1) }
+    ensures err { IfErr result (λ e. (e ≡ NoMemory) ⊎ (may_go bank.now moves.now mine.now.next_send ≡ Err e)) }
+{
+    match check_number(mine.next_send()) {
+        Ok(()) => Ok(()),
+        Err(full) => {
+            bank.check(moves)?;
+            Err(full)
+        }
+    }
 }
 
 // Whether an end has a version.

@@ -10,7 +10,7 @@ use crate::fields::write_u8;
 use ibc_ids::Refusal;
 use std::alloc::Global;
 
-/// So many values, and what stands behind them.
+/// So many values, and what stands behind them. Room for all of them is made first, but for no more than there are bytes.
 pub fn read_many<T: Wire + Drop>(
     alloc: Global,
     bytes: &[u8],
@@ -18,7 +18,7 @@ pub fn read_many<T: Wire + Drop>(
 ) -> Result<(Vec<T>, &[u8]), Refusal>
     ensures { Gives (λ x. (x.0.items, x.1.now)) result (many_at_front T.front count bytes.now) }
 {
-    let mut values = Vec::new(alloc);
+    let mut values = Vec::with_capacity(alloc, usize::from(count).min(bytes.len()))?;
     let mut rest = bytes;
     for _ in 0..count {
         let (value, behind) = T::read(alloc, rest)?;

@@ -10,7 +10,7 @@ ghost use Rattle.ibc_wire.specs.RecordFronts.{absence_fields, absence_at_front, 
 
 use super::many::{read_many, write_many, write_tagged};
 use crate::Wire;
-use crate::fields::{read_str, read_u8, write_count, write_str, write_u8};
+use crate::fields::{read_affix, read_str, read_u8, write_affix, write_count, write_str, write_u8};
 use ibc_ids::Refusal;
 use ibc_merkle::{Absence, Operation, Operations, Presence, Proof};
 use std::alloc::Global;
@@ -33,14 +33,14 @@ impl Wire for Operation {
     ghost front = { operation_at_front };
 
     fn read(alloc: Global, bytes: &[u8]) -> Result<(Operation, &[u8]), Refusal> {
-        let (prefix, rest) = read_str(alloc, bytes, MOST_AFFIX)?;
-        let (suffix, rest) = read_str(alloc, rest, MOST_AFFIX)?;
+        let (prefix, rest) = read_affix(alloc, bytes, MOST_AFFIX)?;
+        let (suffix, rest) = read_affix(alloc, rest, MOST_AFFIX)?;
         Ok((Operation { prefix, suffix }, rest))
     }
 
     fn write(&self, out: &mut Vec<u8>) -> Result<(), Refusal> {
-        write_str(out, &self.prefix, MOST_AFFIX)?;
-        write_str(out, &self.suffix, MOST_AFFIX)
+        write_affix(out, &self.prefix, MOST_AFFIX)?;
+        write_affix(out, &self.suffix, MOST_AFFIX)
     }
 
     #[tactic(auto, using(ibc_wire::proofs::ProofReaders::operation_reader))]
@@ -73,7 +73,7 @@ impl Wire for Presence {
     fn read(alloc: Global, bytes: &[u8]) -> Result<(Presence, &[u8]), Refusal> {
         let (key, rest) = read_str(alloc, bytes, MOST_KEY)?;
         let (value, rest) = read_str(alloc, rest, MOST_VALUE)?;
-        let (leaf_prefix, rest) = read_str(alloc, rest, MOST_AFFIX)?;
+        let (leaf_prefix, rest) = read_affix(alloc, rest, MOST_AFFIX)?;
         let (count, rest) = read_u8(rest)?;
         if count > MOST_OPERATIONS {
             return Err(Refusal::BadMessage);
@@ -93,7 +93,7 @@ impl Wire for Presence {
     fn write(&self, out: &mut Vec<u8>) -> Result<(), Refusal> {
         write_str(out, &self.key, MOST_KEY)?;
         write_str(out, &self.value, MOST_VALUE)?;
-        write_str(out, &self.leaf_prefix, MOST_AFFIX)?;
+        write_affix(out, &self.leaf_prefix, MOST_AFFIX)?;
         write_operations(out, &self.operations)
     }
 

@@ -13,9 +13,9 @@ ghost use Rattle.ibc_records.specs.Held.{AddsChannel, SetsChannelEnd, IsUnchange
 use crate::Records;
 use crate::channel::Channel;
 use crate::channel_entries::{reserve_entries, set_entries};
-use crate::maps::{Channels, contains, insert, own, put};
-use crate::values::{channel_path, channel_value, set_reserved};
-use ibc_ids::{Bytes, ChannelId, PortId, Refusal};
+use crate::maps::{Channels, contains, insert, put, take};
+use crate::values::{channel_value, set_reserved};
+use ibc_ids::{Bytes, ChannelId, PortId, Refusal, channel_path};
 use ibc_path_store::Store;
 use ibc_wire::ChannelEnd;
 use std::alloc::Global;
@@ -130,7 +130,7 @@ fn set_end(
     ensures err { IfErr result (λ refusal. refusal ≡ NoMemory) }
     ensures unchanged { OnErr result (channels.new.pairs ≡ channels.old.pairs) }
 {
-    let mut channel = own(channels, &name)?;
+    let mut channel = take(channels, &name)?;
     channel.set_end(end);
     put(channels, name, channel);
     Ok(())

@@ -8,8 +8,8 @@ ghost use Rattle.ibc_records.specs.Held.{AddsConnection, SetsConnection, IsUncha
 
 use crate::Records;
 use crate::maps::insert;
-use crate::values::{connection_path, connection_value, counter, set_reserved};
-use ibc_ids::{ConnectionId, Key, Refusal};
+use crate::values::{connection_value, counter, set_reserved};
+use ibc_ids::{ConnectionId, Key, Refusal, connection_path};
 use ibc_wire::ConnectionEnd;
 
 impl Records {

@@ -19,12 +19,12 @@ use crate::Records;
 use crate::acknowledgement::{AckCopies, AckRoom};
 use crate::channel::Channel;
 use crate::commitment::Commitment;
-use crate::maps::{Channels, own, put};
+use crate::maps::{Channels, put, take};
 use crate::packet_entries::{acknowledged_entry, closed_entry, received_entry, settle};
-use crate::packet_values::{channel_counter, commitment_value, packet_path};
+use crate::packet_values::{channel_counter, commitment_value};
 use crate::values::set_reserved;
 use ibc_app_port::{App, Nobody, Pays};
-use ibc_ids::{Bytes, ChannelId, PortId, Refusal};
+use ibc_ids::{Bytes, ChannelId, PortId, Refusal, sequence_path};
 use ibc_path_store::Store;
 use ibc_wire::Packet;
 use std::alloc::Global;
@@ -94,18 +94,19 @@ impl Records {
         ensures err { IfErr result (λ refusal. refusal ≡ NoMemory) }
         ensures unchanged { OnErr result (IsUnchanged self.old self.new × (app.new ≡ app.old)) }
     {
+        self.ack_room.reserve()?;
         let name = name_of(&packet.destination_port, &packet.destination_channel)?;
         let Some(channel) = self.channels.get(&name) else {
             return Err(Refusal::UnknownChannel);
         };
-        let (path, (other_path, other), room) = reserve_receive(
+        let (path, (other_path, other)) = reserve_receive(
             self.alloc,
             &mut self.store,
             &name,
             channel,
             packet.sequence,
         )?;
-        let acks = receive_on(&mut self.channels, name, app, packet, room)?;
+        let acks = receive_on(&mut self.channels, name, app, packet, &mut self.ack_room)?;
         set_reserved(&mut self.store, path, acks.value);
         set_reserved(&mut self.store, other_path, other);
         Ok((acks.reply, acks.copy))
@@ -194,7 +195,7 @@ fn reserve_send(
     ensures err { IfErr result (λ refusal. refusal ≡ NoMemory) }
 {
     store.reserve(2)?;
-    let path = packet_path(alloc, "commitments", &name.0, &name.1, sequence)?;
+    let path = sequence_path(alloc, "commitments", &name.0, &name.1, sequence)?;
     let value = commitment_value(alloc, commitment)?;
     let next = sequence + 1;
     let counter = channel_counter(alloc, "nextSequenceSend", &name.0, &name.1, next)?;
@@ -215,32 +216,23 @@ fn send_on<Bill, P: Pays<Bill>>(
     ensures err { IfErr result (λ refusal. (refusal ≡ NoMemory) ⊎ (P.pays payer.old bill.now ≡ Err refusal)) }
     ensures unchanged { OnErr result ((channels.new.pairs ≡ channels.old.pairs) × (payer.new ≡ payer.old)) }
 {
-    let mut channel = own(channels, &name)?;
-    match channel.send(payer, bill, commitment) {
-        Ok(()) => {
-            put(channels, name, channel);
-            Ok(())
-        }
-        Err(refusal) => {
-            drop(channel);
-            Err(refusal)
-        }
-    }
+    let mut channel = take(channels, &name)?;
+    let sent = channel.send(payer, bill, commitment);
+    put(channels, name, channel);
+    sent
 }
 
-// Makes room for a packet that is received, the path of its acknowledgement, what is set beside it, and room for the
-// acknowledgement.
+// Makes room for a packet that is received, the path of its acknowledgement, and what is set beside it.
 fn reserve_receive(
     alloc: Global,
     store: &mut Store,
     name: &(PortId, ChannelId),
     channel: &Channel,
     sequence: u64,
-) -> Result<(String, (String, Bytes), AckRoom), Refusal>
+) -> Result<(String, (String, Bytes)), Refusal>
     requires { is_ordered channel.now ≡ true → channel.now.next_recv < 2 ^ 64 - 1 }
     ensures path { IfOk result (λ made. string_bytes made.0 ≡ path (key.Acknowledgement name.now.0 name.now.1 sequence)) }
     ensures other { IfOk result (λ made. (string_bytes made.1.0, made.1.1) ≡ entry_of name.now.0 name.now.1 (received sequence channel.now)) }
-    ensures longest { IfOk result (λ made. 1024 ≤ made.2) }
     ensures named { OnOk result (IsTrue (is_port name.now.0 && is_channel name.now.1)) }
     ensures fits { sequence < 2 ^ 64 }
     ensures room { OnOk result (2 ≤ store.new.room) }
@@ -248,9 +240,11 @@ fn reserve_receive(
     ensures err { IfErr result (λ refusal. refusal ≡ NoMemory) }
 {
     store.reserve(2)?;
-    let path = packet_path(alloc, "acks", &name.0, &name.1, sequence)?;
-    let other = received_entry(alloc, &name.0, &name.1, channel, sequence)?;
-    Ok((path, other, AckRoom::new(alloc)?))
+    let path = sequence_path(alloc, "acks", &name.0, &name.1, sequence)?;
+    Ok((
+        path,
+        received_entry(alloc, &name.0, &name.1, channel, sequence)?,
+    ))
 }
 
 // A channel that is there receives a packet.
@@ -259,10 +253,10 @@ fn receive_on<A: App>(
     name: (PortId, ChannelId),
     app: &mut A,
     packet: &Packet,
-    room: AckRoom,
+    room: &mut AckRoom,
 ) -> Result<AckCopies, Refusal>
     requires some { IsSomeAnd (at pair_cmp name channels.old.pairs) (λ mine. is_ordered mine ≡ true → mine.next_recv < 2 ^ 64 - 1) }
-    requires room { 1024 ≤ room }
+    requires room { 1024 ≤ room.old }
     ensures answer { IfOk result (λ acks. IfSome (at pair_cmp name channels.old.pairs) (λ mine. (acks.reply, app.new) ≡ A.receives app.old mine.end.version packet.now)) }
     ensures copy { IfOk result (λ acks. acks.copy ≡ acks.reply) }
     ensures value { IfOk result (λ acks. acks.value ≡ value_bytes (AckIs acks.reply)) }
@@ -270,17 +264,10 @@ fn receive_on<A: App>(
     ensures err { IfErr result (λ refusal. refusal ≡ NoMemory) }
     ensures unchanged { OnErr result ((channels.new.pairs ≡ channels.old.pairs) × (app.new ≡ app.old)) }
 {
-    let mut channel = own(channels, &name)?;
-    match channel.receive(app, packet, room) {
-        Ok(acks) => {
-            put(channels, name, channel);
-            Ok(acks)
-        }
-        Err(refusal) => {
-            drop(channel);
-            Err(refusal)
-        }
-    }
+    let mut channel = take(channels, &name)?;
+    let received = channel.receive(app, packet, room);
+    put(channels, name, channel);
+    received
 }
 
 // Makes room for a packet that is acknowledged, the path of its commitment, and what is set beside it.
@@ -301,7 +288,7 @@ fn reserve_acknowledged(
     ensures err { IfErr result (λ refusal. refusal ≡ NoMemory) }
 {
     store.reserve(1)?;
-    let path = packet_path(alloc, "commitments", &name.0, &name.1, sequence)?;
+    let path = sequence_path(alloc, "commitments", &name.0, &name.1, sequence)?;
     Ok((path, acknowledged_entry(alloc, &name.0, &name.1, channel)?))
 }
 
@@ -319,17 +306,10 @@ fn acknowledge_on<A: App>(
     ensures err { IfErr result (λ refusal. (refusal ≡ NoMemory) ⊎ IfSome (at pair_cmp name channels.old.pairs) (λ mine. A.is_acknowledged app.old mine.end.version packet.now ack.now ≡ Err refusal)) }
     ensures unchanged { OnErr result ((channels.new.pairs ≡ channels.old.pairs) × (app.new ≡ app.old)) }
 {
-    let mut channel = own(channels, &name)?;
-    match channel.acknowledge(app, packet, ack) {
-        Ok(()) => {
-            put(channels, name, channel);
-            Ok(())
-        }
-        Err(refusal) => {
-            drop(channel);
-            Err(refusal)
-        }
-    }
+    let mut channel = take(channels, &name)?;
+    let settled = channel.acknowledge(app, packet, ack);
+    put(channels, name, channel);
+    settled
 }
 
 // Makes room for a packet that won't be received any more, the path of its commitment, and what is set beside it.
@@ -349,7 +329,7 @@ fn reserve_timed_out(
     ensures err { IfErr result (λ refusal. refusal ≡ NoMemory) }
 {
     store.reserve(1)?;
-    let path = packet_path(alloc, "commitments", &name.0, &name.1, sequence)?;
+    let path = sequence_path(alloc, "commitments", &name.0, &name.1, sequence)?;
     Ok((path, closed_entry(alloc, &name.0, &name.1, channel)?))
 }
 
@@ -366,15 +346,8 @@ fn time_out_on<A: App>(
     ensures err { IfErr result (λ refusal. (refusal ≡ NoMemory) ⊎ IfSome (at pair_cmp name channels.old.pairs) (λ mine. A.times_out app.old mine.end.version packet.now ≡ Err refusal)) }
     ensures unchanged { OnErr result ((channels.new.pairs ≡ channels.old.pairs) × (app.new ≡ app.old)) }
 {
-    let mut channel = own(channels, &name)?;
-    match channel.time_out(app, packet) {
-        Ok(()) => {
-            put(channels, name, channel);
-            Ok(())
-        }
-        Err(refusal) => {
-            drop(channel);
-            Err(refusal)
-        }
-    }
+    let mut channel = take(channels, &name)?;
+    let settled = channel.time_out(app, packet);
+    put(channels, name, channel);
+    settled
 }

@@ -5,4 +5,4 @@ pub returns-clause-ok : goal.returns-clause-ok
 returns-clause-ok c =
     let port = c.as_str-port.ensures.text in
     let channel = c.as_str-channel.ensures.text in
-    rw (c.in_ok-format.ensures.ok, port, channel) (simp append_assoc)
+    rw (c.in_ok-written.ensures, port, channel) (simp append_assoc)

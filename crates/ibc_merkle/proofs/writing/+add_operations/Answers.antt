@@ -72,7 +72,7 @@ returns-in_ok-push t c =
     let half = c.add_operations.new.operations.items in
     let added = subst (λ left. AddsTo (key_at left index) left old half) c.split_at.ensures.front c.in_ok-add_operations.ensures in
     let right = right_digests c.args.entries.now c.split_of-split.result c.args.digests.now _ c.split_of-split.ensures.some c.split_of-split.ensures.below c.split_of-split.ensures.power c.requires.digests c.split_at-2.ensures.back in
-    let sibling = c.in_ok-on_left_child.ensures ∙ ap left_child (last_of_right entries split _ c.split_of-split.ensures.below right) in
+    let sibling = c.on_left_child.ensures ∙ ap left_child (last_of_right entries split _ c.split_of-split.ensures.below right) in
     let items = c.in_ok-push.ensures.items ∙ ap (λ operation. half ++ operation ∷ []) sibling in
     subst (AddsTo (key_at entries index) entries old) (sym items)
     (adds_on_left entries split index old half (omega arith) c.split_of-split.ensures.power c.if-index-split.true added)
@@ -86,7 +86,7 @@ returns-in_ok-push-2 t c =
     let half = c.add_operations-else-index-split.new.operations.items in
     let added = subst (λ right. AddsTo (key_at right (index - split)) right old half) c.split_at.ensures.back c.in_ok-add_operations-2.ensures in
     let left = left_digests c.args.entries.now c.split_of-split.result c.args.digests.now _ c.split_of-split.ensures.some c.split_of-split.ensures.below c.split_of-split.ensures.power c.requires.digests c.split_at-2.ensures.front in
-    let sibling = c.in_ok-on_right_child.ensures ∙ ap right_child (last_of_left entries split _ c.split_of-split.ensures.some c.split_of-split.ensures.below left) in
+    let sibling = c.on_right_child.ensures ∙ ap right_child (last_of_left entries split _ c.split_of-split.ensures.some c.split_of-split.ensures.below left) in
     let items = c.in_ok-push-2.ensures.items ∙ ap (λ operation. half ++ operation ∷ []) sibling in
     subst (AddsTo (key_at entries index) entries old) (sym items)
     (adds_on_right entries split index old half c.requires.sorted c.split_of-split.ensures.some (omega arith) c.split_of-split.ensures.power c.if-index-split.false c.requires.there added)

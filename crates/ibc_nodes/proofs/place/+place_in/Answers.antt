@@ -14,7 +14,7 @@ use Rattle.ibc_nodes.proofs.place.+place_in.Goals as goal
 pub compare_first-requires-in-Children : goal.compare_first-requires-in-Children
 compare_first-requires-in-Children t c =
     let h = halved_below c.args.nodes.now c.args.root c.args.count c.below.result.now c.in-Children.left c.in-Children.right c.split_of-split.result c.requires.over c.below.ensures.built c.below.ensures.stand c.in-Children.is c.split_of-split.ensures.power in
-    record { over = h.on_right }
+    h.on_right.there
 
 pub place_in-requires : goal.place_in-requires
 place_in-requires t c =

@@ -12,5 +12,5 @@ pub returns : goal.returns
 returns c =
     let law = reads_data c.args.version.now c.args.payload.now (plain_data c.args.told.now) in
     let good = sym c.is_data.ensures ∙ c.if-not-is_data.false in
-    let written = c.as_slice.ensures.value ∙ c.in_ok-text.ensures in
+    let written = c.as_bytes.ensures.value ∙ c.in_ok-text.ensures in
     (λ same. law.1 (good, sym (c.is_same.ensures.0 same) ∙ written), λ e. c.is_same.ensures.1 (written ∙ sym (law.0 e).1))

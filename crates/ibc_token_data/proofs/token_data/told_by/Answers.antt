@@ -1,7 +1,7 @@
 use Rattle.std.proofs.Common.{◌≡◌, Err, Some, None, ap, sym, ◌∙◌}
 use Rattle.std.proofs.lemmas.Result.{err_from_is_err_and}
 use Rattle.ibc_machine.specs.TokenData.{has_several}
-use Rattle.serde_json.specs.View.{view}
+use Rattle.json.specs.Value.{value_view}
 use Rattle.ibc_token_data.specs.Json.{data_json}
 use Rattle.ibc_token_data.proofs.Read.{told, only_memory}
 use Rattle.ibc_token_data.proofs.token_data.told_by.Goals as goal
@@ -18,6 +18,6 @@ returns-in_err-value c = λ d e.
 pub returns : goal.returns
 returns c = λ d e.
     let t = told c.args.version.now c.args.payload.now d e in
-    let both : Some (view c.in_ok-value.value) ≡ Some (data_json (has_several c.args.version.now) d) = sym c.in_ok-value.ensures.ok ∙ t.json in
-    let same : view c.in_ok-value.value ≡ data_json (has_several c.args.version.now) d = cc both in
+    let both : Some (value_view c.in_ok-value.value) ≡ Some (data_json (has_several c.args.version.now) d) = sym c.in_ok-value.ensures.ok ∙ t.json in
+    let same : value_view c.in_ok-value.value ≡ data_json (has_several c.args.version.now) d = cc both in
     c.data_in.ensures d same t.good

@@ -6,7 +6,7 @@ use Rattle.ibc_codec.proofs.wire.many.read_many.Goals as goal
 pub returns-in_err-value : goal.returns-in_err-value
 returns-in_err-value g c =
     let front = g.T.Wire.front in
-    let p = err_from_is_err_and c.from_residual.result c.from_residual.ensures.1 in
+    let p = err_from_is_err_and c.from_residual-in_err-value.result c.from_residual-in_err-value.ensures.1 in
     rw (p.1, p.2) (ends front c.in_err-value.field-0.0 c.loop.values.items c.args.count c.loop.counter c.loop.rest.now (many_at_front front c.args.count c.args.bytes.now) c.loop-test.true c.in_err-value.ensures c.loop.invariant)
 
 pub loop-preserved : goal.loop-preserved

@@ -14,7 +14,7 @@ use Rattle.ibc_nodes.specs.Nodes.{Grows}
 use Rattle.ibc_nodes.specs.Rows.{rows_of, first_row}
 use Rattle.ibc_nodes.specs.Forest.{kept_pairs, IsLast, IsKept, AreKept}
 use Rattle.ibc_nodes.specs.declared.forest.Height.{Height}
-use Rattle.ibc_nodes.proofs.Chunks.{on_err}
+use Rattle.ibc_nodes.proofs.InChunks.{on_err}
 use Rattle.ibc_nodes.proofs.LeafRows.{length-row_pairs}
 use Rattle.ibc_nodes.proofs.Committing.{Committed, committed}
 use Rattle.ibc_nodes.proofs.Turning.{last-grows, last_pairs-grows, working_last, kept-grows, kept_pairs-grows}

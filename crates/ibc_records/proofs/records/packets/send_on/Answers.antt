@@ -1,19 +1,30 @@
--- What became of the copy of the channel is set in place of what stood.
+-- The channel is taken out, changed, and put back.
 use Rattle.std.proofs.Common.{◌-◌, ◌^◌, ◌<◌}
 use Rattle.ibc_ids.specs.Texts.{pair_cmp}
 use Rattle.ibc_ids.specs.Maps.{at}
 use Rattle.ibc_machine.specs.Records.{Channel}
 use Rattle.ibc_machine.specs.Packets.{after_send}
-use Rattle.ibc_records.proofs.Learning.{replaced, is_there, asked_of}
+use Rattle.ibc_machine.proofs.FiniteMaps.{by_pair, pair_cmp_total}
+use Rattle.ibc_records.proofs.Learning.{replaced, put_back, is_there, asked_of, on_ok, on_err}
 use Rattle.ibc_records.proofs.records.packets.send_on.Goals as goal
 
-pub own-requires : goal.own-requires
-own-requires g c = is_there (at pair_cmp c.args.name c.args.channels.now.pairs) (λ (mine : Channel). mine.next_send < 2 ^ 64 - 1) c.requires
+pub take-requires : goal.take-requires
+take-requires g c = is_there (at pair_cmp c.args.name c.args.channels.now.pairs) (λ (mine : Channel). mine.next_send < 2 ^ 64 - 1) c.requires
 
-pub send-requires : goal.send-requires
-send-requires g c = asked_of (at pair_cmp c.args.name c.args.channels.now.pairs) (λ (mine : Channel). mine.next_send < 2 ^ 64 - 1) c.in_ok-channel.channel c.in_ok-channel.ensures.ok c.requires
+pub send-sent-requires : goal.send-sent-requires
+send-sent-requires g c = asked_of (at pair_cmp c.args.name c.args.channels.now.pairs) (λ (mine : Channel). mine.next_send < 2 ^ 64 - 1) c.in_ok-channel.channel c.in_ok-channel.ensures.value c.requires
 
-pub returns-in-Ok-clause-ok : goal.returns-in-Ok-clause-ok
-returns-in-Ok-clause-ok g c =
-    replaced pair_cmp c.args.channels.now.pairs c.own.new.channels.pairs c.put.new.channels.pairs c.args.name c.in_ok-channel.channel c.send.new.self c.in_ok-channel.ensures.ok c.in_ok-channel.ensures.same c.put.ensures
-    (after_send c.args.commitment) c.in-Ok.ensures.ok
+pub returns-clause-ok : goal.returns-clause-ok
+returns-clause-ok g c =
+    on_ok c.send-sent.result c.send-sent.ensures.ok
+    (replaced pair_cmp_total by_pair.exact c.args.channels.now.pairs c.take.new.map.pairs c.put.new.map.pairs c.args.name c.in_ok-channel.channel c.send-sent.new.self c.in_ok-channel.ensures.value c.take.ensures.sorted c.in_ok-channel.ensures.ok c.put.ensures
+    (after_send c.args.commitment))
+
+pub returns-clause-unchanged : goal.returns-clause-unchanged
+returns-clause-unchanged g c =
+    on_err c.send-sent.result c.send-sent.ensures.unchanged
+    (λ same. (
+      put_back pair_cmp_total by_pair.exact c.args.channels.now.pairs c.take.new.map.pairs c.put.new.map.pairs c.args.name c.in_ok-channel.channel c.send-sent.new.self c.in_ok-channel.ensures.value c.take.ensures.sorted c.in_ok-channel.ensures.ok c.put.ensures
+          same.0,
+      same.1,
+    ))

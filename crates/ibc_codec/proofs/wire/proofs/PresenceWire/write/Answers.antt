@@ -13,5 +13,5 @@ returns c =
     let end = c.write_operations.new.out.items in
     behind (str_up_to 256 p.key ∷ []) (str_up_to 512 p.value ∷ str_up_to 64 p.leaf_prefix ∷ operations) c.args.out.now.items c.write_str.new.out.items end r c.in_ok-write_str.ensures (
     behind (str_up_to 512 p.value ∷ []) (str_up_to 64 p.leaf_prefix ∷ operations) c.write_str.new.out.items c.write_str-2.new.out.items end r c.in_ok-write_str-2.ensures (
-    behind (str_up_to 64 p.leaf_prefix ∷ []) operations c.write_str-2.new.out.items c.write_str-3.new.out.items end r c.in_ok-write_str-3.ensures
+    behind (str_up_to 64 p.leaf_prefix ∷ []) operations c.write_str-2.new.out.items c.write_affix.new.out.items end r c.in_ok-write_affix.ensures
     c.write_operations.ensures))
