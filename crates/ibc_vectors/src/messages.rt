@@ -1,9 +1,9 @@
 //! Messages beside their spellings.
 
 use crate::records::{NINE, tokens_of};
-use ibc_ids::{ChannelId, Memo, Name, Receiver, Refusal, UserName};
+use ibc_ids::{Bytes, ChannelId, Memo, Name, Receiver, Refusal, UserName};
 use ibc_message_codec::{decode, encode};
-use ibc_wire::{Message, Token, Tokens, Transfer, TransferMany};
+use ibc_wire::{Message, SendNote, Token, Tokens, Transfer, TransferMany};
 use std::alloc::Global;
 
 // What a message of each kind is spelled as, by its tag.
@@ -100,6 +100,34 @@ fn are_spelled_so(alloc: Global, bytes: Result<Vec<u8>, Refusal>) -> Result<bool
 #[test]
 fn the_longest_note(rt: HostRuntime) {
     assert!(rt; are_spelled_so(rt.alloc(), greatest_note(rt.alloc())) == Ok(true));
+}
+
+// Sends a note over a channel, with no timeout.
+fn sending(channel: ChannelId, payload: Vec<u8>) -> Message {
+    Message::SendNote(SendNote {
+        channel,
+        payload: Bytes::from_vec(payload),
+        timeout_height: 0,
+        timeout_time: 0,
+    })
+}
+
+// How long the spelling is of a message that sends a note of so many bytes.
+fn length_of_a_note(alloc: Global, length: u32) -> Result<usize, Refusal> {
+    let mut payload = Vec::new(alloc);
+    for _ in 0..length {
+        payload.push(b'n')?;
+    }
+    let message = sending(Name::parse(alloc, "channel-12")?, payload);
+    let spelled = encode(alloc, &message);
+    drop(message);
+    Ok(spelled?.len())
+}
+
+#[test]
+fn a_note_that_is_too_long(rt: HostRuntime) {
+    assert!(rt; length_of_a_note(rt.alloc(), 65_535) == Ok(65_566));
+    assert!(rt; length_of_a_note(rt.alloc(), 65_536) == Err(Refusal::BadMessage));
 }
 
 // Whether the names in the transfer are those of the vector.

@@ -122,13 +122,15 @@ fn the_root_of_a_new_chain(rt: HostRuntime) {
 // Whether a new chain proves from its pairs alone that it counts clients.
 fn proves_a_value(alloc: Global) -> Result<bool, Refusal> {
     let entries = new_chain(alloc)?;
-    Ok(prove_present(alloc, entries.as_slice(), b"nextClientSequence".as_slice()).is_ok())
+    let proof = prove_present(alloc, entries.as_slice(), b"nextClientSequence".as_slice());
+    Ok(matches!(proof, Ok(Proof::Present(_))))
 }
 
 // Whether it proves from them that nothing stands at the beginning of that key.
 fn proves_an_absence(alloc: Global) -> Result<bool, Refusal> {
     let entries = new_chain(alloc)?;
-    Ok(prove_absent(alloc, entries.as_slice(), b"nextClient".as_slice()).is_ok())
+    let proof = prove_absent(alloc, entries.as_slice(), b"nextClient".as_slice());
+    Ok(matches!(proof, Ok(Proof::Absent(_))))
 }
 
 #[test]
