@@ -7,7 +7,7 @@ ghost use Rattle.ibc_script_worlds.specs.Relaying.{seen};
 
 use ibc_ids::Refusal;
 use ibc_ledger::Ledger;
-use ibc_relayer::plan;
+use ibc_relay::plans;
 use ibc_wire::Message;
 use std::alloc::Global;
 
@@ -24,6 +24,5 @@ pub fn plans_between(
 {
     let first = first.view()?;
     let second = second.view()?;
-    let for_second = plan(alloc, &first, &second)?;
-    Ok((for_second, plan(alloc, &second, &first)?))
+    plans(alloc, &first, &second)
 }
