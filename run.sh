@@ -32,5 +32,5 @@ if [ "$proved" = no ]; then
     [ "$status" -eq 0 ] || cat "$log" >&2
     exit "$status"
 fi
-echo "run.sh: proving and building what isn't yet; from nothing that takes about half an hour" >&2
+echo "run.sh: proving and building what isn't yet; from nothing that takes up to an hour" >&2
 exec rt run -- run <"$script"
