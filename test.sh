@@ -55,14 +55,14 @@ clock() {
 run() {
     local files=$1
     shift
-    TIMEFORMAT='%0R %0U %0S'
+    TIMEFORMAT='%R %U %S'
     { time "$@" 2>&1; } 2>"$files.time"
     echo $? >"$files.status"
 }
 
 # Notes what a part came to whose output stands in a file. Where the part said nothing of it, that is a failure, which the file then says too.
 note() {
-    local title=$1 files=$2 left=$3 told wall user system
+    local title=$1 files=$2 left=$3 told wall used
     if ! grep -qE '^[0-9]+ passed, [0-9]+ failed' "$files.said"; then
         echo "0 passed, 1 failed" | tee -a "$files.said"
     fi
@@ -72,11 +72,11 @@ note() {
     if [ "$wrong" -eq 0 ] && { [ "$well" -eq 0 ] || [ "$(cat "$files.status")" -ne 0 ]; }; then
         wrong=1
     fi
-    read -r wall user system < <(tail -n 1 "$files.time")
+    read -r wall used < <(awk 'END { printf "%.0f %.0f\n", $1, $2 + $3 }' "$files.time")
     passed=$((passed + well))
     failed=$((failed + wrong))
-    processor=$((processor + user + system))
-    rows+=("| \`$title\` | $well | $wrong | $(clock "$wall") | $((user + system)) |")
+    processor=$((processor + used))
+    rows+=("| \`$title\` | $well | $wrong | $(clock "$wall") | $used |")
     echo "test.sh: $title: $well passed, $wrong failed, in $(clock "$wall") minutes; left: ${left:-nothing}"
 }
 
