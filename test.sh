@@ -1,38 +1,164 @@
 #!/usr/bin/env bash
-# All that is proved and tested: the gate, then the library for C and Rust with its examples (docs/LIBRARY.md), and the built programs in hostile
-# surroundings (docs/HOSTILE.md). What each part says is printed, and in the end how much passed and failed in all. The status is 0
-# where nothing failed. Nothing is installed: gcc or clang, g++ and cargo have to be there.
+# All that is proved and tested.
+#
+#   ./test.sh              the gate: every proof, every wrong body, every test, and the built programs in hostile surroundings
+#   ./test.sh --quick      proves what changed, and runs the tests and the stored runs. It is not the gate
+#   ./test.sh --unproved   runs every test, case and example, and proves nothing
+#
+# What a part says is printed, then how it went and which parts are left, and in the end a table of all parts. The last line says how much
+# passed and failed in all, and the status is 0 where nothing failed. A part that isn't there, or that passed nothing, is a failure.
+# Nothing is installed: gcc or clang, g++ and cargo have to be there.
 set -u
 cd "$(dirname "$0")"
+top=$PWD
 
+parts=(
+    "tools/statements"
+    "rt ci"
+    "tools/build_library --gated"
+    "tools/refuse_growths"
+    "tools/refuse_by_call"
+    "tools/broken_streams"
+    "tools/wrong_bytes --count 100000"
+)
+# What goes on beside `rt ci` and the parts behind it, with the time that these leave. It reads along what `rt ci` says, and tries a
+# crate's wrong bodies once the crate is proved.
+beside="tools/try_edits"
+quick_parts=(
+    "tools/statements"
+    "rt ci"
+)
+
+work=$(mktemp -d)
+follower=""
+behind=""
 passed=0
 failed=0
-log=$(mktemp)
-trap 'rm -f "$log"' EXIT
+processor=0
+begun=$SECONDS
+rows=()
 
-# Runs a part, and adds what its last line says. A part that says nothing, or fails without saying so, is one failure.
-part() {
-    echo "test.sh: $*" >&2
-    "$@" 2>&1 | tee "$log"
-    local status=${PIPESTATUS[0]}
-    local told
-    told=$(grep -Eo '^[0-9]+ passed, [0-9]+ failed' "$log" | tail -n 1)
-    if [ -z "$told" ]; then
-        told="0 passed, 1 failed"
-    elif [ "$status" -ne 0 ] && [ "${told##*, }" = "0 failed" ]; then
-        told="${told%%,*}, 1 failed"
-    fi
-    passed=$((passed + ${told%% *}))
-    told=${told##*, }
-    failed=$((failed + ${told%% *}))
+# Ends what goes on beside the parts.
+clean() {
+    [ -z "$follower" ] || kill -- "-$follower" 2>/dev/null
+    rm -rf "$work"
+}
+trap clean EXIT
+trap 'exit 130' INT
+trap 'exit 143' TERM HUP
+
+clock() {
+    printf '%d:%02d' $(($1 / 60)) $(($1 % 60))
 }
 
-part rt ci
-part tools/build_library --gated
-part tools/refuse_growths
-part tools/refuse_by_call
-part tools/broken_streams
-part tools/wrong_bytes --count 100000
+# Runs a command, and leaves in files its status, its seconds, and those of processor.
+run() {
+    local files=$1
+    shift
+    TIMEFORMAT='%R %U %S'
+    { time "$@" 2>&1; } 2>"$files.time"
+    echo $? >"$files.status"
+}
 
-echo "$passed passed, $failed failed"
+# Notes what a part came to whose output stands in a file. Where the part said nothing of it, that is a failure, which the file then says too.
+note() {
+    local title=$1 files=$2 left=$3 told wall used
+    if ! grep -qE '^[0-9]+ passed, [0-9]+ failed' "$files.said"; then
+        echo "0 passed, 1 failed" | tee -a "$files.said"
+    fi
+    told=$(grep -oE '^[0-9]+ passed, [0-9]+ failed' "$files.said" | tail -n 1)
+    local well=${told%% *} wrong=${told##*, }
+    wrong=${wrong%% *}
+    if [ "$wrong" -eq 0 ] && { [ "$well" -eq 0 ] || [ "$(cat "$files.status")" -ne 0 ]; }; then
+        wrong=1
+    fi
+    read -r wall used < <(awk 'END { printf "%.0f %.0f\n", $1, $2 + $3 }' "$files.time")
+    passed=$((passed + well))
+    failed=$((failed + wrong))
+    processor=$((processor + used))
+    rows+=("| \`$title\` | $well | $wrong | $(clock "$wall") | $used |")
+    echo "test.sh: $title: $well passed, $wrong failed, in $(clock "$wall") minutes; left: ${left:-nothing}"
+}
+
+is_there() {
+    command -v "${1%% *}" >/dev/null && return
+    echo "test.sh: ${1%% *} isn't there"
+    echo "0 0 0" >"$2.time"
+    echo 127 >"$2.status"
+    return 1
+}
+
+# Runs a part. What begins with it is told where it writes.
+part() {
+    local title=$1 files="$work/part-$2" left=$3 words
+    read -ra words <<<"$title"
+    echo "test.sh: $title"
+    : >"$files.said"
+    [ "$title" != "rt ci" ] || follow "$files.said"
+    if is_there "$title" "$files"; then
+        run "$files" "${words[@]}" | tee -a "$files.said"
+    fi
+    note "$title" "$files" "$left"
+}
+
+# Begins what goes on beside, in a group of processes of its own.
+follow() {
+    [ -n "$beside" ] && is_there "$beside" "$work/beside" || return
+    set -m
+    run "$work/beside" nice -n 10 "$beside" --follow "$1" >"$work/beside.said" &
+    follower=$!
+    set +m
+}
+
+# Waits for what goes on beside, and prints what it said.
+join() {
+    [ -n "$beside" ] || return
+    [ -z "$follower" ] || wait "$follower"
+    follower=""
+    touch "$work/beside.said"
+    cat "$work/beside.said"
+    note "$beside" "$work/beside" ""
+}
+
+# The repository without what is built and without the edits that `rt ci` tries. What it proves in it is kept for every copy.
+copy() {
+    mkdir -p "$work/copy/.git"
+    tar -c --exclude=./.git --exclude=out --exclude=target --exclude=must-fail . | tar -x -C "$work/copy"
+    cd "$work/copy"
+}
+
+# What programs wrote in the copy, where a stored run failed and names it, is left where it would lie without the copy.
+copy_back() {
+    local it
+    for it in crates/*/out/stdout*; do
+        [ -f "$it" ] && mkdir -p "$top/${it%/*}" && cp "$it" "$top/$it"
+    done
+}
+
+case "$#${1-}" in
+    0) ;;
+    1--quick)
+        parts=("${quick_parts[@]}")
+        beside=""
+        behind="; this is not the gate: no wrong body was tried, and nothing in hostile surroundings"
+        copy
+        ;;
+    1--unproved) exec tools/test_unproved ;;
+    *)
+        echo "usage: ./test.sh [--quick | --unproved]" >&2
+        exit 2
+        ;;
+esac
+
+for number in "${!parts[@]}"; do
+    left=$(printf '%s, ' "${parts[@]:number+1}" $beside)
+    part "${parts[number]}" "$number" "${left%, }"
+done
+join
+[ "$PWD" = "$top" ] || copy_back
+
+printf '\n| part | passed | failed | minutes | processor seconds |\n|---|---|---|---|---|\n'
+printf '%s\n' "${rows[@]}"
+printf '| all | %d | %d | %s | %d |\n\n' "$passed" "$failed" "$(clock $((SECONDS - begun)))" "$processor"
+echo "$passed passed, $failed failed$behind"
 [ "$failed" -eq 0 ]

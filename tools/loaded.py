@@ -7,6 +7,8 @@ import sys
 
 TOOLS = os.path.dirname(os.path.abspath(__file__))
 SECONDS = 60
+# How many runs go on at once.
+JOBS = len(os.sched_getaffinity(0))
 
 # How a run ended: the status, none where it didn't end, and what stood on standard output and standard error.
 Ended = collections.namedtuple("Ended", "status out err")
@@ -35,9 +37,11 @@ class Program:
         return Ended(it.returncode, it.stdout, it.stderr)
 
     def allocations(self, words, text=b""):
-        """How many allocations a run takes, by refuse_nth.c."""
+        """How many allocations a run takes, by refuse_nth.c: none where the program has an allocator of its own."""
         path = os.path.join(self.folder, "count")
         self.run(words, text, REFUSE_COUNT=path)
+        if not os.path.exists(path):
+            return 0
         with open(path, "rb") as file:
             return int.from_bytes(file.read(), sys.byteorder)
 
@@ -45,3 +49,13 @@ class Program:
 def far_apart(count, most):
     """The numbers from 1 to a count, or so many of them that lie as far from each other as they can."""
     return range(1, count + 1) if not most or count <= most else [1 + n * count // most for n in range(most)]
+
+
+def verdict(passed, failed, behind=""):
+    """Prints how many runs ended as they must and how many not, and gives the status. Where none passed something failed: a tool
+    that tried nothing has shown nothing."""
+    if not passed and not failed:
+        print("nothing was tried")
+        failed = 1
+    print(f"{passed} passed, {failed} failed{behind}")
+    return 1 if failed or not passed else 0
