@@ -10,6 +10,8 @@ mod connection;
 #[cfg(test)]
 mod genesis;
 #[cfg(test)]
+mod listed_tokens;
+#[cfg(test)]
 mod pair;
 #[cfg(test)]
 mod path_store;

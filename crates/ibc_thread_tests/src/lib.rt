@@ -5,6 +5,8 @@
 #[cfg(test)]
 mod asked;
 #[cfg(test)]
+mod committing;
+#[cfg(test)]
 mod gathered;
 #[cfg(test)]
 mod handing;
@@ -12,8 +14,6 @@ mod handing;
 mod histories;
 #[cfg(test)]
 mod holding;
-#[cfg(test)]
-mod kept;
 #[cfg(test)]
 mod list_tests;
 #[cfg(test)]
@@ -32,3 +32,5 @@ mod spelled;
 mod tests;
 #[cfg(test)]
 mod trial;
+#[cfg(test)]
+mod turns;
