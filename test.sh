@@ -20,6 +20,7 @@ parts=(
     "tools/refuse_by_call"
     "tools/broken_streams"
     "tools/wrong_bytes --count 100000"
+    "tools/test_try_edits"
 )
 # What goes on beside `rt ci` and the parts behind it, with the time that these leave. It reads along what `rt ci` says, and tries a
 # crate's wrong bodies once the crate is proved.
