@@ -81,6 +81,7 @@ note() {
     echo "test.sh: $title: $well passed, $wrong failed, in $(clock "$wall") minutes; left: ${left:-nothing}"
 }
 
+# Whether the program of a part is there. Where it isn't, that is what the part says.
 is_there() {
     command -v "${1%% *}" >/dev/null && return
     echo "test.sh: ${1%% *} isn't there"
