@@ -3,3 +3,4 @@ pub mod steps
 pub mod peers
 pub mod packets
 pub mod tokens
+pub mod wrong

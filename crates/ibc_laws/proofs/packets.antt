@@ -1,4 +1,5 @@
--- The second and the third law: each packet is handled once, and in order on ordered channels.
+-- The second and the third law: each packet is handled once, and in order on ordered channels. And that what is
+-- received was sent, and what is taken as an acknowledgement was written.
 pub mod ReceivedOnce
 pub mod SettledOnce
 pub mod AcknowledgedReceived
@@ -9,3 +10,5 @@ pub mod SecondLaw
 pub mod SentInOrder
 pub mod ReceivedInOrder
 pub mod ThirdLaw
+pub mod ReceivedWasSent
+pub mod TakenAsWritten

@@ -9,11 +9,13 @@ pub mod ChannelsPassed
 pub mod SendsPassed
 pub mod PacketsPassed
 pub mod MessagesPassed
+pub mod Paid
 pub mod EndSteps
 pub mod EndKeeps
 pub mod CoreShape
 pub mod Worlds
 pub mod Steps
 pub mod Induction
+pub mod Moments
 pub mod AtEnds
 pub mod Happenings

@@ -18,6 +18,9 @@ pub mod PairSteps
 pub mod FourthLaw
 pub mod EscrowsHold
 pub mod NeverShort
+pub mod BalancesMoved
+pub mod Supplies
+pub mod WhoPays
 pub mod RefusedAsPoor
 pub mod NeverPoor
 pub mod BalancedTotals

@@ -4,6 +4,10 @@
 
 ghost use Rattle.ibc_machine.specs.Laws.{Conserved, ExactlyOnce, InOrder, NeverPoor, NeverShort, OnePeer};
 ghost use Rattle.ibc_machine.specs.TokenData.{ReadsData};
+ghost use Rattle.ibc_laws.specs.Moments.{EachMoment};
+ghost use Rattle.ibc_laws.specs.Packets.{ReceivedWasSent, TakenAsWritten};
+ghost use Rattle.ibc_laws.specs.Tokens.{NoVoucherWithoutEscrow, SupplyStays, WasNeverShort, WhoPays};
+ghost use Rattle.ibc_laws.specs.WrongMachines.{WrongMachines};
 
 /// Each end of a channel that is OPEN or CLOSED has exactly one peer, and no end has two.
 pub fn each_end_has_one_peer()
@@ -36,6 +40,46 @@ pub fn no_refund_is_refused()
 /// its tokens that comes home.
 pub fn no_escrow_is_short()
     ensures { NeverShort }
+{}
+
+/// Each event of the past came between two worlds, the one just before it and the one just after.
+pub fn lemma_each_event_has_its_moment()
+    ensures { EachMoment }
+{}
+
+/// Whatever an end received, on any channel, its peer sent, equal in every field.
+pub fn lemma_what_is_received_was_sent()
+    ensures { ReceivedWasSent }
+{}
+
+/// The acknowledgement that an end takes of a packet is the one that the packet's receiver wrote.
+pub fn lemma_acknowledgements_are_taken_as_written()
+    ensures { TakenAsWritten }
+{}
+
+/// The supply of a base denomination on a chain, escrows included, stays what the genesis gave.
+pub fn lemma_the_supply_at_home_stays()
+    ensures { SupplyStays }
+{}
+
+/// What else a chain holds came over one of its channels, and that channel's peer holds as much of it in escrow.
+pub fn lemma_no_voucher_is_without_escrow()
+    ensures { NoVoucherWithoutEscrow }
+{}
+
+/// A user's balance falls only by an accepted transfer of that user, and by no more than it sends.
+pub fn lemma_only_the_sender_pays()
+    ensures { WhoPays }
+{}
+
+/// No escrow held too little at any receive of the past.
+pub fn lemma_no_escrow_was_short()
+    ensures { WasNeverShort }
+{}
+
+/// Four machines that are wrong have runs of which the first six of these laws hold, and one of the others doesn't.
+pub fn lemma_the_further_laws_refuse_more()
+    ensures { WrongMachines }
 {}
 
 /// The data that a packet of tokens is read as is the good data that its payload spells, and good data is read back

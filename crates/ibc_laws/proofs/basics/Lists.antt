@@ -1,5 +1,5 @@
--- Lists of numbers, with one number more.
-use Rattle.std.proofs.Common.{◌≡◌, ℕ, zero, suc, ◌<◌, Bool, true, false, refl, ap, sym, List, [], ◌∷◌, ◌++◌, length, Option, Some, None, ◌⊎◌, inl, inr, arith, ◌||◌, ◌==◌, cond, filter, filter_map, nat_eq, Contains, eqb-true}
+-- Lists with one element more, and lists of numbers.
+use Rattle.std.proofs.Common.{◌≡◌, ℕ, zero, suc, ◌<◌, Bool, true, false, refl, ap, sym, List, [], ◌∷◌, ◌++◌, length, Option, Some, None, ◌⊎◌, inl, inr, arith, ◌||◌, ◌==◌, cond, filter, filter_map, nat_eq, Contains, eqb-true, slice_get}
 use Rattle.std.specs.List.{IsDistinct, AllByRecursion, cons_option}
 use Rattle.ibc_machine.specs.Records.{is_one_of}
 use Rattle.ibc_laws.proofs.basics.PassedTests.{either}
@@ -83,6 +83,17 @@ among-contains (x ∷ xs) n (suc k, lt, e) =
     go : (b : Bool) → is_one_of xs n ≡ true → (b || is_one_of xs n) ≡ true
     go true e = refl
     go false e = e
+
+-- an element of a list of one
+pub lemma_contains_one : {A : Type 0} (x y : A) → Contains (x ∷ []) y → x ≡ y
+lemma_contains_one x y (zero, lt, e) = e
+lemma_contains_one x y (suc k, lt, e) = absurd (omega arith)
+
+-- what is at a place is an element
+pub lemma_got_contains : {A : Type 0} (xs : List A) (i : ℕ) (x : A) → slice_get xs i ≡ Some x → Contains xs x
+lemma_got_contains [] i x e = absurd (cc e)
+lemma_got_contains (y ∷ xs) zero x e = (0, omega arith, cc e)
+lemma_got_contains (y ∷ xs) (suc i) x e = let h = lemma_got_contains xs i x e in (suc h.0, (let lt = h.1 in omega arith), h.2)
 
 -- ---- no number twice
 

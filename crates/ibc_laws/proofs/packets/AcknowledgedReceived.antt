@@ -53,7 +53,7 @@ module _ (chains : ℕ) (w : World) (hs : List Happened) (h : Happened) (v : Wor
   written_after f k stands n ack is (received_one p a m was now r told more) =
       elim (acks_of_receive p.sequence a m n ack (ap (λ (x : Channel). at nat_cmp n x.acks) (stands_same f _ k now stands) ∙ is)) [
         | inl new ↦ subst (λ l. is_one_of l n ≡ true) (sym (ap sequences more ∙ sequences-push (received f hs) p))
-            (subst (λ i. is_one_of (sequences (received f hs) ++ p.sequence ∷ []) i ≡ true) (sym new) (among-last (sequences (received f hs)) p.sequence))
+            (subst (λ i. is_one_of (sequences (received f hs) ++ p.sequence ∷ []) i ≡ true) (sym new.0) (among-last (sequences (received f hs)) p.sequence))
         | inr old ↦ still_received f n (acks.written f m was n ack old)
       ]
 

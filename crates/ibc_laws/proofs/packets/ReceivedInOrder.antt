@@ -14,6 +14,7 @@ use Rattle.ibc_machine.specs.Histories.{Happened, End, packet_from, sent, receiv
 use Rattle.ibc_machine.specs.Laws.{IsBeginning}
 use Rattle.ibc_laws.proofs.steps.CoreSteps.{Receives}
 use Rattle.ibc_laws.proofs.steps.EndSteps.{the_next, taken}
+use Rattle.ibc_laws.proofs.steps.Worlds.{WorldGrows}
 use Rattle.ibc_laws.proofs.steps.Steps.{Stepped}
 use Rattle.ibc_laws.proofs.peers.Invariant.{Inv, stepped_grows}
 use Rattle.ibc_laws.proofs.peers.Peers.{Stands, Peers, stands_same, stands_on, one_peer_only, peers_on}
@@ -22,7 +23,7 @@ use Rattle.ibc_laws.proofs.steps.AtEnds.{at_end}
 use Rattle.ibc_laws.proofs.steps.EndKeeps.{SameReceiving, StoodBefore, was_there, is_new}
 use Rattle.ibc_laws.proofs.steps.Happenings.{Receiving, received_nothing, received_one, receiving, Sending, sent_nothing, sent_one, sending}
 use Rattle.ibc_laws.proofs.packets.ReceiptsAndTimeouts.{sender_seen}
-use Rattle.ibc_laws.proofs.packets.SentInOrder.{SentInOrder, longer_by_one}
+use Rattle.ibc_laws.proofs.packets.SentInOrder.{IsNth, SentInOrder, longer_by_one}
 
 -- an end whose peer is f; of an end, what was sent depends on no more
 abbrev pub toward : End → Channel
@@ -37,6 +38,32 @@ pub record ReceivedInOrder (hs : List Happened) (w : World) (f : End) : Type 0 w
   pub none : ((m : Channel) → Stands w f m → ⊥) → received f hs ≡ []
   pub counts : (m : Channel) → Stands w f m → is_ordered m ≡ true → length (received f hs) + 1 ≡ m.next_recv
   pub from_peer : (m : Channel) → Stands w f m → is_ordered m ≡ true → (received f hs ≡ []) ⊎ FromPeer hs w f
+
+-- ---- a packet that is received is the one that the peer sent under its number, in every field
+
+pub lemma_sent_so : (w v : World) (inv : Inv w) (grows : WorldGrows w v) (hs : List Happened) → ((e : End) → SentInOrder hs w e)
+    → (chains : ℕ) (f : End) (m : Channel) (stood : Stands w f m) (p : Packet)
+    → (r : Receives w (host_of chains f.chain stood.chain) stood.chain.records.core f.port f.channel m p)
+    → IsNth (sent (sender_seen w v inv grows chains f m stood p r).peer.other (toward f) hs) p.sequence p
+lemma_sent_so w v inv grows hs all_sent chains f m stood p r =
+    let seen = sender_seen w v inv grows chains f m stood p r in
+    let e : End = seen.peer.other in
+    let had = r.sees.had in
+    let there : channel_at r.sees.block.records.core e.port e.channel ≡ Some had.0 =
+    subst (λ i. channel_at r.sees.block.records.core i e.channel ≡ Some had.0) seen.port_is
+    (subst (λ i. channel_at r.sees.block.records.core p.source_port i ≡ Some had.0) seen.channel_is had.1) in
+    let nth = (all_sent e).blocks seen.peer.there.chain seen.peer.there.there r.height r.sees.block seen.stood had.0 there p.sequence (commitment_of p) had.2 (toward f) in
+    let same : packet_from e (toward f) p.sequence (commitment_of p) ≡ p = (λ i. record {
+      sequence = p.sequence;
+      timeout_height = p.timeout_height;
+      timeout_time = p.timeout_time;
+      source_port = sym seen.port_is i;
+      source_channel = sym seen.channel_is i;
+      destination_port = sym r.to_port i;
+      destination_channel = sym r.to_channel i;
+      payload = p.payload;
+    }) in
+    record { index = nth.index; number = nth.number; got = nth.got ∙ ap Some same }
 
 -- ---- beginnings
 
@@ -87,27 +114,12 @@ module _ (chains : ℕ) (w : World) (hs : List Happened) (h : Happened) (v : Wor
     -- the packet is the peer's next one
     is_next : is_ordered m ≡ true → slice_get (sent (sender_seen w v inv (stepped_grows chains w h v inv step) chains f m stood p r).peer.other (toward f) hs) (length (received f hs)) ≡ Some p
     is_next ordered =
-        let seen = sender_seen w v inv (stepped_grows chains w h v inv step) chains f m stood p r in
-        let e : End = seen.peer.other in
-        let had = r.sees.had in
-        let there : channel_at r.sees.block.records.core e.port e.channel ≡ Some had.0 =
-        subst (λ i. channel_at r.sees.block.records.core i e.channel ≡ Some had.0) seen.port_is
-        (subst (λ i. channel_at r.sees.block.records.core p.source_port i ≡ Some had.0) seen.channel_is had.1) in
-        let nth = (all_sent e).blocks seen.peer.there.chain seen.peer.there.there r.height r.sees.block seen.stood had.0 there p.sequence (commitment_of p) had.2 (toward f) in
+        let e : End = (sender_seen w v inv (stepped_grows chains w h v inv step) chains f m stood p r).peer.other in
+        let nth = lemma_sent_so w v inv (stepped_grows chains w h v inv step) hs all_sent chains f m stood p r in
         let count = was.counts m stood ordered in
         let next = the_next m p.sequence r.fresh r.in_order ordered in
         let index : nth.index ≡ length (received f hs) = (let a = nth.number in omega arith) in
-        let same : packet_from e (toward f) p.sequence (commitment_of p) ≡ p = (λ i. record {
-          sequence = p.sequence;
-          timeout_height = p.timeout_height;
-          timeout_time = p.timeout_time;
-          source_port = sym seen.port_is i;
-          source_channel = sym seen.channel_is i;
-          destination_port = sym r.to_port i;
-          destination_channel = sym r.to_channel i;
-          payload = p.payload;
-        }) in
-        subst (λ i. slice_get (sent e (toward f) hs) i ≡ Some p) index (nth.got ∙ ap Some same)
+        subst (λ i. slice_get (sent e (toward f) hs) i ≡ Some p) index nth.got
 
     now_from_peer : is_ordered m ≡ true → received f (hs ++ h ∷ []) ≡ received f hs ++ p ∷ [] → FromPeer (hs ++ h ∷ []) v f
     now_from_peer ordered more =

@@ -22,7 +22,7 @@ pub record IsNth {A : Type 0} (xs : List A) (n : ℕ) (x : A) : Type 0 where
   pub number : n ≡ suc index
   pub got : slice_get xs index ≡ Some x
 
-got_in_longer : {A : Type 0} (xs ys : List A) (i : ℕ) (x : A) → slice_get xs i ≡ Some x → slice_get (xs ++ ys) i ≡ Some x
+pub got_in_longer : {A : Type 0} (xs ys : List A) (i : ℕ) (x : A) → slice_get xs i ≡ Some x → slice_get (xs ++ ys) i ≡ Some x
 got_in_longer [] ys i x e = absurd (cc e)
 got_in_longer (y ∷ xs) ys zero x e = e
 got_in_longer (y ∷ xs) ys (suc i) x e = got_in_longer xs ys i x e

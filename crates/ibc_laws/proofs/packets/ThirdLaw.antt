@@ -11,6 +11,7 @@ use Rattle.ibc_machine.specs.Packets.{is_ordered}
 use Rattle.ibc_machine.specs.Genesis.{GenesisState, start}
 use Rattle.ibc_machine.specs.Machine.{World}
 use Rattle.ibc_machine.specs.Histories.{Happened, End, sent, received, history_of}
+use Rattle.ibc_machine.specs.Peers.{end_at}
 use Rattle.ibc_machine.specs.Laws.{InOrder, IsPast, IsBeginning}
 use Rattle.ibc_laws.proofs.basics.PassedTests.{either}
 use Rattle.ibc_laws.proofs.steps.Told.{Told, Quiet, Sent, Received, Acknowledged, TimedOut, told_of, is_told, sent_in}
@@ -65,8 +66,8 @@ sent_toward_in e f mine port channel (Sent p q n c) =
     ap (λ (x : Text × Text). sent_in e (record (toward f) { end = record (toward f).end { peer_port = x.0; peer_channel = Some x.1 } }) (Sent p q n c))
     (λ i. (port i, channel i))
 sent_toward_in e f mine port channel Quiet = refl
-sent_toward_in e f mine port channel (Received p) = refl
-sent_toward_in e f mine port channel (Acknowledged p) = refl
+sent_toward_in e f mine port channel (Received p ack) = refl
+sent_toward_in e f mine port channel (Acknowledged p ack) = refl
 sent_toward_in e f mine port channel (TimedOut p) = refl
 
 sent_toward : (e f : End) (mine : Channel) → mine.end.peer_port ≡ f.port → mine.end.peer_channel ≡ Some f.channel
@@ -76,6 +77,13 @@ sent_toward e f mine port channel hs =
     (λ i h. ((is_told h).sent e mine
     ∙ sent_toward_in e f mine port (ap (λ (o : Option Text). unwrap_or o []) channel) (told_of h)
     ∙ sym ((is_told h).sent e (toward f))) i)
+
+-- what an end's own record says of its peer is all that counts
+pub lemma_sent_to_peer : (w : World) (e f : End) → Peers w e f → (mine : Channel) → end_at w e ≡ Some mine → (hs : List Happened)
+    → sent e mine hs ≡ sent e (toward f) hs
+lemma_sent_to_peer w e f p mine is hs =
+    let same : p.mine ≡ mine = stands_same e p.mine mine p.here (stands w e mine is) in
+    ap (λ (c : Channel). sent e c hs) (sym same) ∙ sent_toward e f p.mine (sym p.names_them.port) p.names_them.channel hs
 
 -- ---- peers are of one order
 
@@ -99,8 +107,7 @@ in_order genesis happened world e f past are_peers mine is ordered =
     let same : p.mine ≡ mine = stands_same e p.mine mine p.here (stands world e mine is) in
     let ours : is_ordered p.mine ≡ true = ap (λ (c : Channel). is_ordered c) same ∙ ordered in
     let theirs : is_ordered p.theirs ≡ true = ap (λ o. same_order o Ordered) (same_order_as world all.inv e f p) ∙ ours in
-    let toward_f : sent e mine happened ≡ sent e (toward f) happened =
-    ap (λ (c : Channel). sent e c happened) (sym same) ∙ sent_toward e f p.mine (sym p.names_them.port) p.names_them.channel happened in
+    let toward_f = lemma_sent_to_peer world e f p mine is happened in
     subst (IsBeginning (received f happened)) (sym toward_f)
     (elim ((all.received f).from_peer p.theirs p.there theirs) [
       | inl nothing ↦ (sent e (toward f) happened, ap (λ ps. ps ++ sent e (toward f) happened) nothing)

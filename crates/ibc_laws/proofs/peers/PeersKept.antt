@@ -134,9 +134,9 @@ module _ (w : World) (host : Host) (core : Core) (all : Shaped w) (shaped : Core
       ChannelPeer-grows port id m n (WorldGrows-refl w) (Grows-refl core) (connected w host.chain core shaped h) grows
       (inl (not_init m.end.state ranks)) (λ _. settled m (shaped.channels port id m there) ranks) (h.channels port id m there)
 
-  step_peer : (told : Told) (port id : Text) (m n : Channel) → channel_at core port id ≡ Some m
+  step_peer : (port id : Text) (m : Channel) (told : Told) (n : Channel) → channel_at core port id ≡ Some m
       → ChannelStep w host core port id m told n → ChannelGrows m n → ChannelPeer w core port id n
-  step_peer told port id m n there (answers peer s) grows =
+  step_peer port id m told n there (answers peer s) grows =
       let old = h.channels port id m there in
       record {
         connection = old.connection;
@@ -146,7 +146,7 @@ module _ (w : World) (host : Host) (core : Core) (all : Shaped w) (shaped : Core
             subst (λ i. At w tracked.state.chain (ChannelTo port id m i over)) (some_is refl named)
             (peer_shown m port id peer chan.TryOpen s.height s.sees old.connection old.there over back tracked there);
       }
-  step_peer told port id m n there (follows state s) grows =
+  step_peer port id m told n there (follows state s) grows =
       let old = h.channels port id m there in
       record {
         connection = old.connection;
@@ -156,14 +156,14 @@ module _ (w : World) (host : Host) (core : Core) (all : Shaped w) (shaped : Core
             subst (λ i. At w tracked.state.chain (ChannelTo port id m i over)) (ap (λ (o : Option Text). unwrap_or o []) named)
             (peer_shown m port id (peer_channel_of m.end) state s.height s.sees old.connection old.there over back tracked there);
       }
-  step_peer told port id m n there (closes s may) grows =
+  step_peer port id m told n there (closes s may) grows =
       carried port id m n there grows (let z = open_rank m.end.state s in omega arith)
-  step_peer told port id m n there (sends c s) grows =
+  step_peer port id m told n there (sends c s) grows =
       carried port id m n there grows (let z = open_rank m.end.state s in omega arith)
-  step_peer told port id m n there (receives p ack r) grows =
+  step_peer port id m told n there (receives p ack r) grows =
       carried port id m n there grows (let z = open_rank m.end.state r.state in omega arith)
-  step_peer told port id m n there (acknowledges p s) grows = carried port id m n there grows s.settles.settled
-  step_peer told port id m n there (times_out p s) grows = carried port id m n there grows s.settles.settled
+  step_peer port id m told n there (acknowledges p s) grows = carried port id m n there grows s.settles.settled
+  step_peer port id m told n there (times_out p s) grows = carried port id m n there grows s.settles.settled
 
   with_channel_peer : (port id : Text) (d : Channel) → ChannelPeer w core port id d → (p q : Text) (m : Channel)
       → channel_at (record core { channels = with pair_cmp (port, id) d core.channels }) p q ≡ Some m → ChannelPeer w core p q m
@@ -189,5 +189,5 @@ module _ (w : World) (host : Host) (core : Core) (all : Shaped w) (shaped : Core
         back = λ ranks p over named back t there. let z = s.unopened in absurd (omega arith);
       }) p q m is
   channel_peer _ after (changes_channel told port id mine now there s) p q m is =
-      with_channel_peer port id now (step_peer told port id mine now there s
+      with_channel_peer port id now (step_peer port id mine told now there s
       (end_grows w host core port id mine (shaped.channels port id mine there) told now s)) p q m is

@@ -180,9 +180,9 @@ pub data ChannelStep (w : World) (host : Host) (core : Core) (port id : Text) (m
   sends : (c : Commitment) → mine.end.state ≡ chan.Open
       → ChannelStep w host core port id mine (Sent port id mine.next_send c) (after_send c mine)
   receives : (p : Packet) (ack : Text) → Receives w host core port id mine p
-      → ChannelStep w host core port id mine (Received p) (after_receive p.sequence ack mine)
-  acknowledges : (p : Packet) → Acks w core port id mine p
-      → ChannelStep w host core port id mine (Acknowledged p) (after_ack p.sequence mine)
+      → ChannelStep w host core port id mine (Received p (Some ack)) (after_receive p.sequence ack mine)
+  acknowledges : (p : Packet) → (s : Acks w core port id mine p)
+      → ChannelStep w host core port id mine (Acknowledged p s.ack) (after_ack p.sequence mine)
   times_out : (p : Packet) → TimesOut w core port id mine p
       → ChannelStep w host core port id mine (TimedOut p) (after_timeout p.sequence mine)
 

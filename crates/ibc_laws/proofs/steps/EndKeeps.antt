@@ -78,12 +78,12 @@ sending-taken n ack m false = sending-same m (taken false n ack m) refl refl
 
 module _ (w : World) (host : Host) (core : Core) (port id : Text) (m : Channel) where
   pub keeps_receiving : (told : Told) (n : Channel) → ChannelStep w host core port id m told n
-      → ((p : Packet) → told ≡ Received p → ⊥) → SameReceiving m n
+      → ((p : Packet) (ack : Text) → told ≡ Received p (Some ack) → ⊥) → SameReceiving m n
   keeps_receiving told n (answers peer s) other = record { order = refl; next = refl; acks = refl }
   keeps_receiving told n (follows state s) other = record { order = refl; next = refl; acks = refl }
   keeps_receiving told n (closes s may) other = record { order = refl; next = refl; acks = refl }
   keeps_receiving told n (sends c s) other = record { order = refl; next = refl; acks = refl }
-  keeps_receiving told n (receives p ack s) other = absurd (other p refl)
+  keeps_receiving told n (receives p ack s) other = absurd (other p ack refl)
   keeps_receiving told n (acknowledges p s) other = receiving-acked p.sequence m (is_ordered m)
   keeps_receiving told n (times_out p s) other = receiving-over p.sequence m (is_ordered m)
 

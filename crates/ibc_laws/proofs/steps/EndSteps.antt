@@ -117,12 +117,12 @@ the_next m n fresh in_order is =
 
 -- an acknowledgement is the one written now, or stood before
 pub acks_of_receive : (n : ℕ) (ack : Text) (m : Channel) (k : ℕ) (a : Text) → at nat_cmp k (after_receive n ack m).acks ≡ Some a
-    → (k ≡ n) ⊎ (at nat_cmp k m.acks ≡ Some a)
+    → ((k ≡ n) × (ack ≡ a)) ⊎ (at nat_cmp k m.acks ≡ Some a)
 acks_of_receive n ack m k a e = go (is_ordered m) e
   where
-    go : (b : Bool) → at nat_cmp k (taken b n ack m).acks ≡ Some a → (k ≡ n) ⊎ (at nat_cmp k m.acks ≡ Some a)
-    go true e = elim (found_in_with by_number n k ack a m.acks e) [ inl f ↦ inl f.0 | inr f ↦ inr f ]
-    go false e = elim (found_in_with by_number n k ack a m.acks e) [ inl f ↦ inl f.0 | inr f ↦ inr f ]
+    go : (b : Bool) → at nat_cmp k (taken b n ack m).acks ≡ Some a → ((k ≡ n) × (ack ≡ a)) ⊎ (at nat_cmp k m.acks ≡ Some a)
+    go true e = found_in_with by_number n k ack a m.acks e
+    go false e = found_in_with by_number n k ack a m.acks e
 
 module _ (n : ℕ) (ack : Text) (m : Channel) (next : is_ordered m ≡ true → n ≡ m.next_recv) where
   pub received_now : (k : ℕ) → (k ≡ n) ⊎ (has_received m k ≡ true) → has_received (after_receive n ack m) k ≡ true

@@ -1,5 +1,5 @@
 -- What an event adds to the histories of an end: nothing, or the one packet that the step of the end is about.
-use Rattle.std.proofs.Common.{◌≡◌, ℕ, Bool, true, false, refl, ap, ◌∙◌, subst, List, [], ◌∷◌, ◌++◌, Option, Some, None, ◌==◌, cond, filter_map, append-nil, eqb-true}
+use Rattle.std.proofs.Common.{◌≡◌, ℕ, Bool, true, false, refl, ap, ◌∙◌, subst, List, [], ◌∷◌, ◌++◌, Option, Some, None, ◌==◌, cond, filter_map, append-nil, eqb-true, Contains, arith}
 use Rattle.std.specs.List.{cons_option}
 use Rattle.ibc_ids.specs.Texts.{Text, same_text}
 use Rattle.ibc_ids.proofs.Texts.{same_text_itself}
@@ -13,7 +13,7 @@ use Rattle.ibc_machine.specs.Machine.{World}
 use Rattle.ibc_machine.specs.Ledgers.{chain_of}
 use Rattle.ibc_machine.specs.Histories.{Happened, End, is_end, packet_if, packet_from, sent_by, received_by, acknowledged_by, timed_out_by, sent, received, acknowledged, timed_out, history_of, sequences}
 use Rattle.ibc_laws.proofs.basics.PassedTests.{and_true, number-self}
-use Rattle.ibc_laws.proofs.basics.Lists.{filter-append, filter_map-append}
+use Rattle.ibc_laws.proofs.basics.Lists.{filter-append, filter_map-append, lemma_contains_one}
 use Rattle.ibc_laws.proofs.steps.Told.{Told, Sent, Received, TimedOut, told_of, is_told, sent_in, received_in, acknowledged_in, timed_out_in}
 use Rattle.ibc_laws.proofs.steps.CoreSteps.{ChannelStep, answers, follows, closes, sends, receives, acknowledges, times_out, Receives, Acks, TimesOut}
 use Rattle.ibc_laws.proofs.steps.EndKeeps.{SameGone, gone-same, gone-sent, gone-taken, SameSending, SameReceiving, StoodBefore, was_there, is_new, keeps_sending, keeps_receiving, same_sending, same_receiving}
@@ -23,26 +23,34 @@ use Rattle.ibc_laws.proofs.peers.Peers.{Stands, stands_same}
 
 -- ---- one event more
 
-abbrev about : (Happened → Option Packet) → ℕ → List Happened → List Packet
+abbrev pub about : {A : Type 0} → (Happened → Option A) → ℕ → List Happened → List A
 about by x hs = filter_map by (history_of x hs)
 
-module _ (by : Happened → Option Packet) (x : ℕ) (hs : List Happened) (h : Happened) where
-  about-append : about by x (hs ++ h ∷ []) ≡ about by x hs ++ about by x (h ∷ [])
+module _ {A : Type 0} (by : Happened → Option A) (x : ℕ) (hs : List Happened) (h : Happened) where
+  pub about-append : about by x (hs ++ h ∷ []) ≡ about by x hs ++ about by x (h ∷ [])
   about-append = ap (λ zs. filter_map by zs) (filter-append (λ (h : Happened). chain_of h.0 == x) hs (h ∷ []))
       ∙ filter_map-append by (history_of x hs) (history_of x (h ∷ []))
 
-  about-more : (p : Packet) → chain_of h.0 ≡ x → by h ≡ Some p → about by x (hs ++ h ∷ []) ≡ about by x hs ++ p ∷ []
+  pub about-more : (p : A) → chain_of h.0 ≡ x → by h ≡ Some p → about by x (hs ++ h ∷ []) ≡ about by x hs ++ p ∷ []
   about-more p chain is =
       let test : (chain_of h.0 == x) ≡ true = subst (λ y. (chain_of h.0 == y) ≡ true) chain (number-self (chain_of h.0)) in
       about-append ∙ ap (λ zs. about by x hs ++ zs)
       (ap (λ b. filter_map by (cond b (h ∷ []) [])) test ∙ ap (λ o. cons_option o []) is)
 
-  about-same : (chain_of h.0 ≡ x → by h ≡ None) → about by x (hs ++ h ∷ []) ≡ about by x hs
+  pub about-same : (chain_of h.0 ≡ x → by h ≡ None) → about by x (hs ++ h ∷ []) ≡ about by x hs
   about-same none = about-append ∙ ap (λ zs. about by x hs ++ zs) (go (chain_of h.0 == x) refl) ∙ append-nil (about by x hs)
     where
       go : (b : Bool) → (chain_of h.0 == x) ≡ b → about by x (h ∷ []) ≡ []
       go true is = ap (λ b. filter_map by (cond b (h ∷ []) [])) is ∙ ap (λ o. cons_option o []) (none (eqb-true (chain_of h.0) x is))
       go false is = ap (λ b. filter_map by (cond b (h ∷ []) [])) is
+
+  -- what one event adds is what it tells
+  pub lemma_only_one : (p q : A) → by h ≡ Some p → Contains (about by x (h ∷ [])) q → p ≡ q
+  lemma_only_one p q is has = go (chain_of h.0 == x) has
+    where
+      go : (b : Bool) → Contains (filter_map by (cond b (h ∷ []) [])) q → p ≡ q
+      go true has = lemma_contains_one p q (subst (λ o. Contains (cons_option o []) q) is has)
+      go false has = absurd (let lt = has.1 in omega arith)
 
 sequences-append : (ps qs : List Packet) → sequences (ps ++ qs) ≡ sequences ps ++ sequences qs
 sequences-append [] qs = refl
@@ -53,11 +61,14 @@ sequences-push ps p = sequences-append ps (p ∷ [])
 
 -- ---- at an end
 
+pub lemma_is_at_itself : (e : End) (port channel : Text) → port ≡ e.port → channel ≡ e.channel → is_end e port channel ≡ true
+lemma_is_at_itself e port channel is_port is_channel = and_true
+    (subst (λ x. same_text port x ≡ true) is_port (same_text_itself port))
+    (subst (λ x. same_text channel x ≡ true) is_channel (same_text_itself channel))
+
 at_itself : (e : End) (port channel : Text) (p : Packet) → port ≡ e.port → channel ≡ e.channel
     → packet_if (is_end e port channel) p ≡ Some p
-at_itself e port channel p is_port is_channel = ap (λ b. packet_if b p) (and_true
-    (subst (λ x. same_text port x ≡ true) is_port (same_text_itself port))
-    (subst (λ x. same_text channel x ≡ true) is_channel (same_text_itself channel)))
+at_itself e port channel p is_port is_channel = ap (λ b. packet_if b p) (lemma_is_at_itself e port channel is_port is_channel)
 
 module _ (chains : ℕ) (w : World) (hs : List Happened) (h : Happened) (v : World) (e : End) where
   -- the packets that the end has sent
@@ -73,7 +84,7 @@ module _ (chains : ℕ) (w : World) (hs : List Happened) (h : Happened) (v : Wor
         → ((n : Channel) → Stands v e n → StoodBefore w e SameReceiving n) → Receiving
     received_one : (p : Packet) (ack : Text) (m : Channel) (was : Stands w e m) → Stands v e (after_receive p.sequence ack m)
         → Receives w (host_of chains e.chain was.chain) was.chain.records.core e.port e.channel m p
-        → told_of h ≡ Received p → received e (hs ++ h ∷ []) ≡ received e hs ++ p ∷ [] → Receiving
+        → told_of h ≡ Received p (Some ack) → received e (hs ++ h ∷ []) ≡ received e hs ++ p ∷ [] → Receiving
 
   -- its packets that were acknowledged, and that timed out
   pub data Settling : Type 0 where
@@ -145,7 +156,7 @@ module _ (chains : ℕ) (w : World) (hs : List Happened) (h : Happened) (v : Wor
     where
       silent : (told : Told) → told_of h ≡ told → (n : Channel) → Stands v e n
           → ChannelStep w (host_of chains e.chain was.chain) was.chain.records.core e.port e.channel m told n
-          → ((p : Packet) → told ≡ Received p → ⊥) → received_in e told ≡ None → Receiving
+          → ((p : Packet) (ack : Text) → told ≡ Received p (Some ack) → ⊥) → received_in e told ≡ None → Receiving
       silent told is n now step other none =
           received_nothing (no_received (λ chain. ap (λ t. received_in e t) is ∙ none))
           (stepped_end SameReceiving m was n now (keeps_receiving w (host_of chains e.chain was.chain) was.chain.records.core e.port e.channel m told n step other))
@@ -154,12 +165,12 @@ module _ (chains : ℕ) (w : World) (hs : List Happened) (h : Happened) (v : Wor
           → ChannelStep w (host_of chains e.chain was.chain) was.chain.records.core e.port e.channel m told n → Receiving
       go told is n now (receives p ack s) = received_one p ack m was now s is (about-more (received_by e) e.chain hs h p chain
           ((is_told h).received e ∙ ap (λ t. received_in e t) is ∙ at_itself e p.destination_port p.destination_channel p s.to_port s.to_channel))
-      go told is n now (answers peer s) = silent told is n now (answers peer s) (λ p e. absurd (cc e)) refl
-      go told is n now (follows state s) = silent told is n now (follows state s) (λ p e. absurd (cc e)) refl
-      go told is n now (closes s may) = silent told is n now (closes s may) (λ p e. absurd (cc e)) refl
-      go told is n now (sends c s) = silent told is n now (sends c s) (λ p e. absurd (cc e)) refl
-      go told is n now (acknowledges p s) = silent told is n now (acknowledges p s) (λ p e. absurd (cc e)) refl
-      go told is n now (times_out p s) = silent told is n now (times_out p s) (λ p e. absurd (cc e)) refl
+      go told is n now (answers peer s) = silent told is n now (answers peer s) (λ p ack e. absurd (cc e)) refl
+      go told is n now (follows state s) = silent told is n now (follows state s) (λ p ack e. absurd (cc e)) refl
+      go told is n now (closes s may) = silent told is n now (closes s may) (λ p ack e. absurd (cc e)) refl
+      go told is n now (sends c s) = silent told is n now (sends c s) (λ p ack e. absurd (cc e)) refl
+      go told is n now (acknowledges p s) = silent told is n now (acknowledges p s) (λ p ack e. absurd (cc e)) refl
+      go told is n now (times_out p s) = silent told is n now (times_out p s) (λ p ack e. absurd (cc e)) refl
 
   no_settled : (chain_of h.0 ≡ e.chain → acknowledged_in e (told_of h) ≡ None) → (chain_of h.0 ≡ e.chain → timed_out_in e (told_of h) ≡ None)
       → ((n : Channel) → Stands v e n → StoodBefore w e SameGone n) → Settling

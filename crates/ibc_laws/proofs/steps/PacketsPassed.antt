@@ -3,6 +3,8 @@ use Rattle.std.proofs.Common.{◌≡◌, ℕ, ◌≤◌, Bool, true, false, refl
 use Rattle.std.specs.Option.{option_map_or, option_and_then}
 use Rattle.ibc_ids.specs.declared.key.Key.TheVariants as key
 use Rattle.ibc_ids.specs.Texts.{Text}
+use Rattle.ibc_wire.specs.Fields.{are_typed}
+use Rattle.ibc_wire.specs.Messages.{message_fields}
 use Rattle.ibc_wire.specs.declared.packet.Packet.{Packet}
 use Rattle.ibc_wire.specs.declared.records.ChannelState.TheVariants as chan
 use Rattle.ibc_wire.specs.declared.records.ChannelState.{ChannelState}
@@ -11,11 +13,11 @@ use Rattle.ibc_wire.specs.declared.messages.RecvPacket.{RecvPacket}
 use Rattle.ibc_wire.specs.declared.messages.AckPacket.{AckPacket}
 use Rattle.ibc_wire.specs.declared.messages.Timeout.{Timeout}
 use Rattle.ibc_wire.specs.declared.messages.TimeoutOnClose.{TimeoutOnClose}
-use Rattle.ibc_machine.specs.Records.{Core, Apps, Records, Block, Client, Channel, Commitment, channel_at, is_one_of, commitment_of}
+use Rattle.ibc_machine.specs.Records.{Core, Apps, Records, Block, Client, Channel, Commitment, channel_at, with_channel, is_one_of, commitment_of}
 use Rattle.ibc_machine.specs.Values.{NumberIs, has, lacks}
 use Rattle.ibc_machine.specs.Evidence.{Host, Evidence}
 use Rattle.ibc_machine.specs.Channels.{is_in_state, is_established, client_of}
-use Rattle.ibc_machine.specs.Packets.{recv_checked, recv_packet, ack_checked, ack_packet, timeout_checked, timeout, timeout_on_close_checked, timeout_on_close, is_ordered, is_timed_out, not_received, waits_for}
+use Rattle.ibc_machine.specs.Packets.{recv_checked, recv_packet, ack_checked, ack_packet, timeout_checked, timeout, timeout_on_close_checked, timeout_on_close, is_ordered, is_timed_out, after_ack, not_received, waits_for}
 use Rattle.ibc_machine.specs.Applications.{on_recv, on_ack, on_timeout}
 use Rattle.ibc_machine.specs.Machine.{World, block_at}
 use Rattle.ibc_laws.proofs.basics.Places.{some_is}
@@ -24,8 +26,9 @@ use Rattle.ibc_machine.proofs.PassedRows.{Gives, gives_ok, gives_bind}
 use Rattle.ibc_machine.proofs.SameValues.{same_channel_state_is}
 use Rattle.ibc_laws.proofs.basics.PassedTests.{either, no_longer}
 use Rattle.ibc_laws.proofs.steps.Seen.{Sees, Sees-map, Sees-both, seeing, shown_channel, shown_next_recv, shown_commitment, shown_ack, shown_no_receipt}
-use Rattle.ibc_laws.proofs.steps.CoreSteps.{rank, their_end, HadNotReceived, Receives, Settles, Acks, TimesOut, changes_channel, receives, acknowledges, times_out}
-use Rattle.ibc_laws.proofs.steps.AppSteps.{DidBoth}
+use Rattle.ibc_laws.proofs.steps.Told.{Acknowledged}
+use Rattle.ibc_laws.proofs.steps.CoreSteps.{rank, their_end, HadNotReceived, Receives, Settles, Acks, TimesOut, CoreStep, changes_channel, receives, acknowledges, times_out}
+use Rattle.ibc_laws.proofs.steps.AppSteps.{AppsOf, GoodOf, DidBoth}
 
 open_rank : (s : ChannelState) → s ≡ chan.Open → 1 ≤ rank s
 open_rank s e = let z : rank s ≡ 1 = ap rank e in omega arith
@@ -186,11 +189,15 @@ module _ (window : ℕ) (oldest : Bool) (w : World) (host : Host) (records : Rec
       gives_bind _ _ λ (mine : Channel) checked. gives_bind _ _ λ (left : Apps) answered.
       let p : Packet = m.packet in
       let passed = acking window oldest w host records.core m mine checked in
-      gives_ok (DidBoth w host records (message.AckPacket m)) _ (
+      let after : Core = with_channel p.source_port p.source_channel (after_ack p.sequence mine) records.core in
+      gives_ok (DidBoth w host records (message.AckPacket m)) _
+      (subst (λ ack. (did : CoreStep w host records.core (Acknowledged p ack) after)
+      × (apps : AppsOf w host records left (Acknowledged p ack) after did)
+      × (are_typed (message_fields (message.AckPacket m)) ≡ true → GoodOf w host records left (Acknowledged p ack) after did apps)) passed.2 (
         changes_channel _ p.source_port p.source_channel mine _ passed.0 (acknowledges p passed.1),
         subst (λ ack. on_ack p.source_port records.apps mine.end.version p ack ≡ Ok left) (sym passed.2) answered,
         λ typed. tt,
-      )
+      ))
 
   pub timeout_did : (m : Timeout) → Gives (DidBoth w host records (message.Timeout m))
       (timeout (on_timeout m.packet.source_port) m evidence host records.core records.apps)

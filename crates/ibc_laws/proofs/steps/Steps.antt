@@ -21,6 +21,7 @@ use Rattle.ibc_laws.proofs.basics.Places.{set-same}
 use Rattle.ibc_laws.proofs.steps.Seen.{seeing}
 use Rattle.ibc_laws.proofs.steps.Told.{Quiet, told_of}
 use Rattle.ibc_laws.proofs.steps.MessagesPassed.{message_did}
+use Rattle.ibc_laws.proofs.steps.Paid.{PaidOf, lemma_message_paid}
 use Rattle.ibc_laws.proofs.steps.Worlds.{ChainStep, acts, ends, GoodStep, next_chain}
 
 -- the chain of the event moves
@@ -32,6 +33,7 @@ pub record Moves (chains : ℕ) (w : World) (h : Happened) (v : World) : Type 0 
   pub chain_is : chain_of h.0 ≡ k
   pub step : ChainStep chains w k before (told_of h) now
   pub good : is_typed h.0 ≡ true → GoodStep chains w k before (told_of h) now step
+  pub paid : PaidOf h before now
   pub after : v ≡ slice_set w k now
 
 pub data Stepped (chains : ℕ) (w : World) (h : Happened) (v : World) : Type 0 where
@@ -52,9 +54,9 @@ module _ (genesis : GenesisState) (oldest : Bool) (w : World) where
 
   accepting : (h : Happened) (k : ℕ) (c d : Chain) (r : Reply) (v : World) → slice_get w k ≡ Some c → chain_of h.0 ≡ k
       → (step : ChainStep (length genesis.chains) w k c (told_of h) d) → (is_typed h.0 ≡ true → GoodStep (length genesis.chains) w k c (told_of h) d step)
-      → ◌≡◌ {A = Reply × World} (h.1, slice_set w k d) (r, v)
+      → PaidOf h c d → ◌≡◌ {A = Reply × World} (h.1, slice_set w k d) (r, v)
       → Stepped (length genesis.chains) w (h.0, r) v
-  accepting h k c d r v there chain step good is =
+  accepting h k c d r v there chain step good paid is =
       subst (λ (x : Reply × World). Stepped (length genesis.chains) w (h.0, x.0) x.1) is (moves (record {
         k = k;
         before = c;
@@ -63,6 +65,7 @@ module _ (genesis : GenesisState) (oldest : Bool) (w : World) where
         chain_is = chain;
         step = step;
         good = good;
+        paid = paid;
         after = refl;
       }))
 
@@ -73,7 +76,8 @@ module _ (genesis : GenesisState) (oldest : Bool) (w : World) where
   of_message k c there m r v (Ok y) is e =
       let did = (message_did genesis.window oldest w (host_of (length genesis.chains) k c) c.records m).gives y is in
       let after : Records = record { core = y.1; apps = y.2 } in
-      accepting (event.Message k m, reply.Ok y.0) k c (record c { records = after }) r v there refl (acts _ after did.0 did.1) did.2 e
+      accepting (event.Message k m, reply.Ok y.0) k c (record c { records = after }) r v there refl (acts _ after did.0 did.1) did.2
+      ((lemma_message_paid (seeing genesis.window oldest w c.records.core) (host_of (length genesis.chains) k c) c.records.core c.records.apps m).gives y is) e
   of_message k c there m r v (Err why) is e =
       refusing (event.Message k m) why r v (ap (λ x. (reply.No why, x)) (sym (set-same w k c there)) ∙ e)
 
@@ -82,7 +86,7 @@ module _ (genesis : GenesisState) (oldest : Bool) (w : World) where
       → Stepped (length genesis.chains) w (event.Block k t, r) v
   of_block k c there t r v (Ok tt) is e =
       accepting (event.Block k t, _) k c (next_chain c t) r v there refl
-      (ends t (leb-true c.time t (require_passed (nat_le c.time t) _ _ is).0)) (λ typed. tt) e
+      (ends t (leb-true c.time t (require_passed (nat_le c.time t) _ _ is).0)) (λ typed. tt) tt e
   of_block k c there t r v (Err why) is e =
       refusing (event.Block k t) why r v (ap (λ x. (reply.No why, x)) (sym (set-same w k c there)) ∙ e)
 

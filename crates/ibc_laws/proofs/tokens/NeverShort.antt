@@ -18,8 +18,9 @@ use Rattle.ibc_machine.specs.Machine.{World}
 use Rattle.ibc_machine.specs.Ledgers.{chain_of}
 use Rattle.ibc_machine.specs.Histories.{Happened, End, packet_if, is_destination}
 use Rattle.ibc_machine.specs.Laws.{NeverShort}
+use Rattle.ibc_laws.specs.Tokens.{WasNeverShort}
 use Rattle.ibc_laws.proofs.basics.PassedTests.{and_true}
-use Rattle.ibc_laws.proofs.steps.Told.{Told, Received, told_of, received_in}
+use Rattle.ibc_laws.proofs.steps.Told.{Told, Received, ack_of, told_of, received_in}
 use Rattle.ibc_laws.proofs.steps.CoreSteps.{rank, ChannelStep, answers, follows, closes, sends, receives, acknowledges, times_out, Receives}
 use Rattle.ibc_laws.proofs.steps.EndSteps.{open_rank}
 use Rattle.ibc_laws.proofs.steps.Steps.{stepped as did_step}
@@ -41,8 +42,8 @@ record Receiver (chains : ℕ) (w : World) (e : End) (q : Packet) : Type 0 where
   was : Stands w e mine
   receives : Receives w (host_of chains e.chain was.chain) was.chain.records.core e.port e.channel mine q
 
-module _ (chains : ℕ) (w : World) (h : Happened) (v : World) (e : End) (q : Packet) (told : told_of h ≡ Received q) where
-  of_label : (mine : Channel) (was : Stands w e mine) (t : Told) (n : Channel) → t ≡ Received q
+module _ (chains : ℕ) (w : World) (h : Happened) (v : World) (e : End) (q : Packet) (ack : Option Text) (told : told_of h ≡ Received q ack) where
+  of_label : (mine : Channel) (was : Stands w e mine) (t : Told) (n : Channel) → t ≡ Received q ack
       → ChannelStep w (host_of chains e.chain was.chain) was.chain.records.core e.port e.channel mine t n → Receiver chains w e q
   of_label mine was t n is (answers peer s) = absurd (cc is)
   of_label mine was t n is (follows state s) = absurd (cc is)
@@ -93,8 +94,13 @@ never_short genesis happened world after chain m given mine d token past typed s
     let e : End = record { chain = chain; port = transfer_port; channel = m.packet.destination_channel } in
     let here = and_true (subst (λ q. same_text m.packet.destination_port q ≡ true) port (same_text_itself m.packet.destination_port)) (same_text_itself m.packet.destination_channel) in
     let did = did_step genesis world (event.Message chain (message.RecvPacket m), reply.Ok given) after step in
-    let r = receiver chains world (event.Message chain (message.RecvPacket m), reply.Ok given) after e m.packet refl refl here (at_end chains world _ after all.known.once.inv did e) in
+    let r = receiver chains world (event.Message chain (message.RecvPacket m), reply.Ok given) after e m.packet (ack_of given) refl refl here (at_end chains world _ after all.known.once.inv did e) in
     let same : mine ≡ r.mine = stands_same e mine r.mine (stands world e mine is) r.was in
     let held = comes_home happened world all chains e refl m.packet r d token (subst (λ (c : Channel). data_of c.end.version m.packet.payload ≡ Some d) same read) has came in
     subst (λ (o : Option Chain). token.amount ≤ balance (option_map_or (λ (c : Chain). c.records.apps.balances) o []) (escrow m.packet.destination_channel) (without_hop m.packet token).denom)
     (sym r.was.there) held
+
+-- nor did one at any receive of the past
+pub lemma_was_never_short : WasNeverShort
+lemma_was_never_short genesis happened world before chain m given old new token moment brings =
+    never_short genesis before old new chain m given brings.1 brings.3 token moment.past moment.typed moment.step brings.0 brings.2 brings.4 brings.5

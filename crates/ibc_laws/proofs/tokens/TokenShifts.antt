@@ -47,7 +47,7 @@ choose_same : (p : Bool) (n : ℕ) → p ≡ true → (if p then 0 else n) ≡ 0
 choose_same true n e = refl
 choose_same false n e = absurd (cc e)
 
-nothing_kept : (port channel : Text) (token : Token) (n : ℕ) → n ≡ 0 → unless_burnt port channel token n ≡ 0
+pub nothing_kept : (port channel : Text) (token : Token) (n : ℕ) → n ≡ 0 → unless_burnt port channel token n ≡ 0
 nothing_kept port channel token n e = go (came_over port channel token.denom)
   where
     go : (p : Bool) → (if p then 0 else n) ≡ 0

@@ -125,7 +125,7 @@ unopened_step chains w h v inv kinds typed (moves s) was x c is =
 -- ---- the start: users hold base denominations
 
 -- a test that no user passes with a base denomination
-abbrev NoUsers : Test → Type 0
+abbrev pub NoUsers : Test → Type 0
 NoUsers test = (user denom : Text) → is_user user ≡ true → is_base_denom denom ≡ true → test (user, denom) ≡ false
 
 no_escrow : (name denom : Text) → NoUsers (escrowed_as name denom)
@@ -136,7 +136,7 @@ no_voucher : (name denom : Text) → NoUsers (of_denom (hop transfer_port name +
 no_voucher name denom user base is is_base = differ base (hop transfer_port name ++ denom)
     (λ e. absurd (cc (subst HasNoSlash e (base_has_no_slash base is_base))))
 
-held_at_start : (test : Test) → NoUsers test → (all holdings : List Holding) → list_all (is_fair all) holdings ≡ true → (b : Balances) → IsSorted b
+pub held_at_start : (test : Test) → NoUsers test → (all holdings : List Holding) → list_all (is_fair all) holdings ≡ true → (b : Balances) → IsSorted b
     → measure test b ≡ 0 → measure test (fold (λ balances (h : Holding). with_balance h.0 h.1 h.2 balances) b holdings) ≡ 0
 held_at_start test none all [] fair b sorted zero_ = zero_
 held_at_start test none all (h ∷ holdings) fair b sorted zero_ =
@@ -169,7 +169,14 @@ fair_at [] fair x c e = absurd (cc e)
 fair_at (s ∷ starts) fair zero c e = (s, some_is refl e, (both (list_all (is_fair s.balances) s.balances) _ fair).0)
 fair_at (s ∷ starts) fair (suc x) c e = fair_at starts (both (list_all (is_fair s.balances) s.balances) _ fair).1 x c e
 
+-- each chain begins with the balances of its own part of an allowed genesis, which are fair
+abbrev pub StartsFairly : Chain → Type 0
+StartsFairly c = (s : ChainState) × (starting_chain s ≡ c) × (list_all (is_fair s.balances) s.balances ≡ true)
+
+pub lemma_starts_fairly : (genesis : GenesisState) → is_allowed genesis ≡ true → (x : ℕ) (c : Chain) → slice_get (start genesis) x ≡ Some c → StartsFairly c
+lemma_starts_fairly genesis allowed = fair_at genesis.chains (fair_chains genesis allowed)
+
 pub unopened_start : (genesis : GenesisState) → is_allowed genesis ≡ true → (x : ℕ) (c : Chain) → slice_get (start genesis) x ≡ Some c → Unopened c.records
 unopened_start genesis allowed x c is =
-    let s = fair_at genesis.chains (fair_chains genesis allowed) x c is in
+    let s = lemma_starts_fairly genesis allowed x c is in
     subst (λ (z : Chain). Unopened z.records) s.1 (unopened_start_of s.0 s.2)

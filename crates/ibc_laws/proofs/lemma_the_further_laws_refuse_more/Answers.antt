@@ -1,0 +1,8 @@
+use Rattle.ibc_laws.proofs.wrong.Forged.{lemma_forged}
+use Rattle.ibc_laws.proofs.wrong.Unwritten.{lemma_unwritten}
+use Rattle.ibc_laws.proofs.wrong.Gifts.{lemma_gifts}
+use Rattle.ibc_laws.proofs.wrong.Robbed.{lemma_robbed}
+use Rattle.ibc_laws.proofs.lemma_the_further_laws_refuse_more.Goals as goal
+
+pub returns : goal.returns
+returns c = record { forged = lemma_forged; unwritten = lemma_unwritten; gifts = lemma_gifts; robbed = lemma_robbed }

@@ -1,0 +1,100 @@
+-- A packet is received with another receiver than alice wrote, who gets the tokens.
+use Rattle.std.proofs.Common.{◌≡◌, ◌+◌, true, refl, ap, sym, subst, List, [], ◌∷◌, ◌++◌, arith, Contains, Some, false, if◌then◌else◌}
+use Rattle.std.specs.Prelude.{IsTrue}
+use Rattle.ibc_wire.specs.declared.packet.Packet.{Packet}
+use Rattle.ibc_ids.specs.Texts.{same_text}
+use Rattle.ibc_machine.specs.declared.event.Event.{Event}
+use Rattle.ibc_machine.specs.Genesis.{start, is_allowed}
+use Rattle.ibc_machine.specs.Machine.{World}
+use Rattle.ibc_machine.specs.Histories.{Happened, End, sent, received}
+use Rattle.ibc_machine.specs.Peers.{end_at}
+use Rattle.ibc_machine.specs.Totals.{escrowed, vouchers, flight, hopped}
+use Rattle.ibc_machine.specs.Laws.{IsExactlyOnce}
+use Rattle.ibc_machine.proofs.Computing.{computing}
+use Rattle.ibc_machine.specs.Peers.{are_peers}
+use Rattle.ibc_machine.proofs.Scripts.{a, b, alice, bob, carol, atom, a_and_b, for_tokens, block, update}
+use Rattle.ibc_machine.proofs.Openings.{opening}
+use Rattle.ibc_machine.proofs.PacketScripts.{send, recv, tokens, there}
+use Rattle.ibc_laws.specs.Tokens.{transfer_end}
+use Rattle.ibc_laws.specs.WrongMachines.{Machine, HasRun, FirstLaws, ReceivesWhatWasNotSent, steps_by, happened_by, world_by, machine_comparing, alike_in_tokens}
+use Rattle.ibc_laws.proofs.basics.Lists.{distinct-none, lemma_contains_one}
+use Rattle.ibc_laws.proofs.wrong.TwoEnds.{IsConserved, chain_in, mine_in, lemma_entry_of, lemma_distinct_one, lemma_once_by, lemma_laws_of}
+
+abbrev machine : Machine
+machine = machine_comparing alike_in_tokens a_and_b
+
+-- alice's 100 atom, for carol
+abbrev for_carol : Packet
+for_carol = tokens a b 1 alice 100 atom carol
+
+abbrev events : List Event
+events = opening a b for_tokens 0 0 ++ send a alice 100 atom bob ∷ block a ∷ update b a 4 ∷ recv b for_carol 4 ∷ []
+
+abbrev happened : List Happened
+happened = happened_by machine (start a_and_b) events
+
+abbrev world : World
+world = world_by machine (start a_and_b) events
+
+abbrev here : End
+here = transfer_end 0 a.channel
+
+abbrev there_ : End
+there_ = transfer_end 1 b.channel
+
+lemma_conserved : IsConserved world here there_
+unfolding computing machine_comparing
+lemma_conserved denom over =
+    let held : escrowed world here denom ≡ (if same_text atom denom then 100 else 0) = lemma_entry_of denom atom 100 in
+    let made : vouchers world there_ denom ≡ 0 + (if same_text atom denom then 100 else 0) = refl in
+    let out : flight world here there_ denom ≡ 0 = refl in
+    let back : flight world there_ here (hopped there_ denom) ≡ 0 = refl in
+    omega arith
+
+lemma_conserved_back : IsConserved world there_ here
+unfolding computing machine_comparing
+lemma_conserved_back denom over = refl
+
+lemma_once : IsExactlyOnce happened here there_
+unfolding computing machine_comparing
+lemma_once = lemma_once_by happened here there_ refl (lemma_distinct_one 1) distinct-none (λ n has. absurd (let lt = has.1 in omega arith))
+
+lemma_laws : FirstLaws (steps_by machine (start a_and_b) events) happened world
+unfolding computing machine_comparing
+lemma_laws = lemma_laws_of world (chain_in world 0) (chain_in world 1) a.channel (mine_in world here) (mine_in world there_) refl refl refl
+    refl refl refl refl _ happened lemma_once (lemma_once_by happened there_ here refl distinct-none distinct-none (λ n has. has))
+    refl refl lemma_conserved lemma_conserved_back refl refl
+
+lemma_peers : IsTrue (are_peers world here there_)
+unfolding computing machine_comparing
+lemma_peers = refl
+
+lemma_own : end_at world here ≡ Some (mine_in world here)
+unfolding computing machine_comparing
+lemma_own = refl
+
+lemma_received_it : Contains (received there_ happened) for_carol
+unfolding computing machine_comparing
+lemma_received_it = let one : received there_ happened ≡ for_carol ∷ [] = refl in subst (λ ps. Contains ps for_carol) (sym one) (0, omega arith, refl)
+
+lemma_not_sent : ¬ (Contains (sent here (mine_in world here) happened) for_carol)
+unfolding computing machine_comparing
+lemma_not_sent has =
+    let one : sent here (mine_in world here) happened ≡ there ∷ [] = refl in
+    let same : there ≡ for_carol = lemma_contains_one there for_carol (subst (λ ps. Contains ps for_carol) one has) in
+    let differ : same_text there.payload for_carol.payload ≡ false = refl in
+    let alike : same_text there.payload there.payload ≡ true = refl in
+    absurd (cc (differ, alike, ap (λ (p : Packet). same_text there.payload p.payload) same))
+
+lemma_allowed : IsTrue (is_allowed a_and_b)
+unfolding computing
+lemma_allowed = refl
+
+pub lemma_forged : HasRun (machine_comparing alike_in_tokens) ReceivesWhatWasNotSent
+lemma_forged = record {
+  genesis = a_and_b;
+  allowed = lemma_allowed;
+  events = events;
+  first_laws = lemma_laws;
+  but = record { e = here; f = there_; mine = mine_in world here; packet = for_carol; peers = lemma_peers; own = lemma_own; received_it = lemma_received_it; not_sent = lemma_not_sent };
+}

@@ -1,0 +1,16 @@
+-- All laws of every run of the machine.
+use Rattle.ibc_machine.specs.Laws.{Laws}
+use Rattle.ibc_laws.specs.Moments.{EachMoment}
+use Rattle.ibc_laws.specs.Packets.{ReceivedWasSent, TakenAsWritten}
+use Rattle.ibc_laws.specs.Tokens.{SupplyStays, NoVoucherWithoutEscrow, WhoPays, WasNeverShort}
+
+-- the four laws with what follows from the fourth, and four more
+pub record EveryLaw : Type 0 where
+  pub laws : Laws
+  pub each_moment : EachMoment
+  pub received_was_sent : ReceivedWasSent
+  pub taken_as_written : TakenAsWritten
+  pub supply_stays : SupplyStays
+  pub no_voucher_without_escrow : NoVoucherWithoutEscrow
+  pub who_pays : WhoPays
+  pub was_never_short : WasNeverShort

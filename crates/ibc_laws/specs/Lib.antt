@@ -1,0 +1,5 @@
+pub mod Moments
+pub mod Packets
+pub mod Tokens
+pub mod EveryLaw
+pub mod WrongMachines

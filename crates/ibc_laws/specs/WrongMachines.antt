@@ -1,0 +1,220 @@
+-- Four machines that are wrong, each in one place. Of a run of each the four laws hold, with what follows from the
+-- fourth, and one of the further laws fails: so that law says more than those.
+use Rattle.std.specs.Prelude.{◌≡◌, ◌<◌, ℕ, ◌+◌, ◌==◌, ◌&&◌, ◌||◌, not, Bool, true, false, nat_le, codes, List, [], ◌∷◌, map, length, Option, Some, slice_get, slice_set, IsTrue, if◌then◌else◌}
+use Rattle.std.specs.List.{Contains, list_all}
+use Rattle.std.specs.Option.{option_map_or}
+use Rattle.ibc_ids.specs.Texts.{Text, same_text}
+use Rattle.ibc_ids.specs.Names.{is_user, is_base_denom}
+use Rattle.ibc_ids.specs.declared.refusal.Refusal.TheVariants.{Poor}
+use Rattle.ibc_wire.specs.declared.packet.Packet.{Packet}
+use Rattle.ibc_wire.specs.declared.token.Token.{Token}
+use Rattle.ibc_wire.specs.declared.messages.Message.TheVariants as message
+use Rattle.ibc_machine.specs.declared.event.Event.{Event}
+use Rattle.ibc_machine.specs.declared.event.Event.TheVariants as event
+use Rattle.ibc_machine.specs.declared.reply.Reply.{Reply}
+use Rattle.ibc_machine.specs.declared.reply.Reply.TheVariants as reply
+use Rattle.ibc_machine.specs.Records.{Core, Chain, Channel}
+use Rattle.ibc_machine.specs.Values.{Value, CommitmentIs, AckIs, look, same_value}
+use Rattle.ibc_machine.specs.Evidence.{Evidence}
+use Rattle.ibc_machine.specs.Packets.{is_ordered}
+use Rattle.ibc_machine.specs.TokenData.{one_token, tokens_of, success}
+use Rattle.ibc_machine.specs.Bank.{balance, escrow, give}
+use Rattle.ibc_machine.specs.Transfers.{transfer_port, came_over, without_hop}
+use Rattle.ibc_machine.specs.Genesis.{GenesisState, start, is_allowed}
+use Rattle.ibc_machine.specs.Handlers.{message_answer, block_answer}
+use Rattle.ibc_machine.specs.Machine.{World, Marks, looks, block_seen, at_chain}
+use Rattle.ibc_machine.specs.Histories.{Happened, End, sent, received, ack_written}
+use Rattle.ibc_machine.specs.Peers.{end_at, are_peers}
+use Rattle.ibc_machine.specs.Totals.{balances_of, escrowed, vouchers, flight, hopped}
+use Rattle.ibc_machine.specs.Laws.{HasOnePeer, IsExactlyOnce, IsBeginning, settles}
+use Rattle.ibc_laws.specs.Packets.{taken}
+use Rattle.ibc_laws.specs.Tokens.{supply_at, balance_at, paid_by}
+
+-- ---- machines, and what happens where one is asked events in turn
+
+-- the reply to an event, and the world after it
+abbrev pub Machine : Type 0
+Machine = World → Event → Reply × World
+
+abbrev pub world_by : Machine → World → List Event → World
+world_by machine world [] = world
+world_by machine world (e ∷ events) = world_by machine (machine world e).1 events
+
+-- a step: the world before it, what happened, and the world after it
+abbrev pub Taken : Type 0
+Taken = World × Happened × World
+
+abbrev pub steps_by : Machine → World → List Event → List Taken
+steps_by machine world [] = []
+steps_by machine world (e ∷ events) =
+    let (given, after) = machine world e in (world, (e, given), after) ∷ steps_by machine after events
+
+abbrev pub happened_by : Machine → World → List Event → List Happened
+happened_by machine world events = map (λ (step : Taken). step.1) (steps_by machine world events)
+
+-- ---- the laws that stood first, of a run
+
+-- what a packet of one token brings home is in the escrow
+abbrev pub is_held : World → ℕ → Packet → Token → Bool
+is_held world chain p token =
+    not (came_over p.source_port p.source_channel token.denom)
+    || nat_le token.amount
+    (balance (balances_of world chain) (escrow p.destination_channel) (without_hop p token).denom)
+
+-- it is at each receive
+abbrev pub holds_enough : Taken → Bool
+holds_enough (old, (event.Message k (message.RecvPacket m), reply.Ok given), new) =
+    list_all (is_held old k m.packet) (tokens_of one_token (record {
+      payload = m.packet.payload;
+      timeout_height = m.packet.timeout_height;
+      timeout_time = m.packet.timeout_time;
+    }))
+holds_enough _ = true
+
+pub record FirstLaws (steps : List Taken) (happened : List Happened) (world : World) : Type 0 where
+  pub one_peer : HasOnePeer world
+  pub exactly_once : (e f : End) → IsTrue (are_peers world e f) → IsExactlyOnce happened e f
+  pub in_order : (e f : End) (mine : Channel) → IsTrue (are_peers world e f) → end_at world e ≡ Some mine
+      → IsTrue (is_ordered mine) → IsBeginning (received f happened) (sent e mine happened)
+  pub conserved : (e f : End) (denom : Text) → IsTrue (are_peers world e f) → e.port ≡ transfer_port
+      → came_over e.port e.channel denom ≡ false
+      → escrowed world e denom ≡ vouchers world f denom + flight world e f denom + flight world f e (hopped f denom)
+  pub never_poor : (event : Event) → IsTrue (settles event) → ¬ (Contains happened (event, reply.No Poor))
+  pub never_short : IsTrue (list_all holds_enough steps)
+
+-- the machine has a run of which they hold, and this
+pub record HasRun (machine : GenesisState → Machine) (P : GenesisState → List Taken → World → Type 0) : Type 0 where
+  pub genesis : GenesisState
+  pub allowed : IsTrue (is_allowed genesis)
+  pub events : List Event
+  pub first_laws : FirstLaws (steps_by (machine genesis) (start genesis) events)
+      (happened_by (machine genesis) (start genesis) events) (world_by (machine genesis) (start genesis) events)
+  pub but : P genesis (steps_by (machine genesis) (start genesis) events)
+      (world_by (machine genesis) (start genesis) events)
+
+abbrev pub all_of : List Taken → List Happened
+all_of steps = map (λ (step : Taken). step.1) steps
+
+-- ---- looking in another way
+
+-- roots and proofs are taken to be what they claim: values alone are looked at
+abbrev pub plain_marks : Marks
+plain_marks = record { is_root = λ core root. true; is_proof = λ bytes. true; is_written = λ core key bytes. true }
+
+-- two values are taken for the same
+abbrev pub Likeness : Type 0
+Likeness = Option Value → Option Value → Bool
+
+-- a chain that compares so
+abbrev pub comparing : Likeness → ℕ → World → Core → Evidence
+comparing alike window world core = record (looks plain_marks window true world core) {
+  shows = λ client height claim proof.
+      option_map_or (λ block. alike (look block.records.core claim.key) claim.value)
+      (block_seen world core client height) false;
+}
+
+-- the machine, but for how its chains compare
+unfoldable pub machine_comparing : Likeness → GenesisState → Machine
+machine_comparing alike genesis world (event.Message k m) =
+    at_chain world k
+    (λ chain. message_answer (comparing alike genesis.window world chain.records.core)
+    (length genesis.chains) k chain m)
+    (slice_get world k)
+machine_comparing alike genesis world (event.Block k next_time) =
+    at_chain world k (λ chain. block_answer genesis.capacity chain next_time) (slice_get world k)
+
+-- ---- 1. one that compares of a packet's data amount and denomination only
+
+abbrev pub same_token : Token → Token → Bool
+same_token a b = same_text a.denom b.denom && (a.amount == b.amount)
+
+abbrev pub same_tokens : List Token → List Token → Bool
+same_tokens [] [] = true
+same_tokens (a ∷ rest) (b ∷ others) = same_token a b && same_tokens rest others
+same_tokens _ _ = false
+
+abbrev pub alike_in_tokens : Likeness
+alike_in_tokens (Some (CommitmentIs a)) (Some (CommitmentIs b)) =
+    same_tokens (tokens_of one_token a) (tokens_of one_token b) && (a.timeout_height == b.timeout_height)
+    && (a.timeout_time == b.timeout_time)
+alike_in_tokens a b = same_value a b
+
+-- so a packet is received that was never sent
+pub record ReceivesWhatWasNotSent (genesis : GenesisState) (steps : List Taken) (world : World) : Type 0 where
+  pub e : End
+  pub f : End
+  pub mine : Channel
+  pub packet : Packet
+  pub peers : IsTrue (are_peers world e f)
+  pub own : end_at world e ≡ Some mine
+  pub received_it : Contains (received f (all_of steps)) packet
+  pub not_sent : ¬ (Contains (sent e mine (all_of steps)) packet)
+
+-- ---- 2. one that takes any acknowledgement of the same outcome for the one that was written
+
+abbrev pub alike_in_outcome : Likeness
+alike_in_outcome (Some (AckIs a)) (Some (AckIs b)) = if same_text a success then same_text b success else not (same_text b success)
+alike_in_outcome a b = same_value a b
+
+-- so an acknowledgement is taken that was never written
+pub record TakesWhatWasNotWritten (genesis : GenesisState) (steps : List Taken) (world : World) : Type 0 where
+  pub e : End
+  pub f : End
+  pub packet : Packet
+  pub ack : Text
+  pub peers : IsTrue (are_peers world e f)
+  pub took_it : Contains (taken e (all_of steps)) (packet, ack)
+  pub not_written : ¬ (ack_written f (all_of steps) packet.sequence ≡ Some ack)
+
+-- ---- 3. one that gives alice an atom at each block
+
+abbrev pub gift : Chain → Chain
+gift chain = record chain {
+  records = record chain.records {
+    apps = record chain.records.apps {
+      balances = give (codes "alice") (record { denom = codes "atom"; amount = 1 }) chain.records.apps.balances;
+    };
+  };
+}
+
+abbrev pub with_gift : ℕ → Reply × World → Reply × World
+with_gift k (reply.Ok given, world) =
+    (reply.Ok given, option_map_or (λ chain. slice_set world k (gift chain)) (slice_get world k) world)
+with_gift k (reply.No why, world) = (reply.No why, world)
+
+unfoldable pub machine_with_gifts : GenesisState → Machine
+machine_with_gifts genesis world (event.Block k next_time) =
+    with_gift k (machine_comparing same_value genesis world (event.Block k next_time))
+machine_with_gifts genesis world e = machine_comparing same_value genesis world e
+
+-- so a supply grows
+pub record SupplyGrew (genesis : GenesisState) (steps : List Taken) (world : World) : Type 0 where
+  pub chain : ℕ
+  pub denom : Text
+  pub base : IsTrue (is_base_denom denom)
+  pub grew : supply_at (start genesis) chain denom < supply_at world chain denom
+
+-- ---- 4. one that takes a transfer from alice, whoever sends it
+
+unfoldable pub machine_robbing_alice : GenesisState → Machine
+machine_robbing_alice genesis world (event.Message k (message.Transfer m)) =
+    machine_comparing same_value genesis world (event.Message k (message.Transfer (record m { user = codes "alice" })))
+machine_robbing_alice genesis world e = machine_comparing same_value genesis world e
+
+-- so a user loses what the user didn't send
+pub record AnotherPays (genesis : GenesisState) (steps : List Taken) (world : World) : Type 0 where
+  pub step : Taken
+  pub among : Contains steps step
+  pub chain : ℕ
+  pub user : Text
+  pub denom : Text
+  pub is_one : IsTrue (is_user user)
+  pub lost : balance_at step.2 chain user denom + paid_by chain user denom step.1 < balance_at step.0 chain user denom
+
+-- ---- all four
+
+pub record WrongMachines : Type 0 where
+  pub forged : HasRun (machine_comparing alike_in_tokens) ReceivesWhatWasNotSent
+  pub unwritten : HasRun (machine_comparing alike_in_outcome) TakesWhatWasNotWritten
+  pub gifts : HasRun machine_with_gifts SupplyGrew
+  pub robbed : HasRun machine_robbing_alice AnotherPays
