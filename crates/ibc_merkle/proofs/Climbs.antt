@@ -5,11 +5,11 @@ use Rattle.std.specs.FinMap.{is_sorted}
 use Rattle.std.proofs.lemmas.List.{get_or-take, get_or-drop, get_or_default}
 use Rattle.ibc_ids.specs.Texts.{Text, text_cmp}
 use Rattle.ibc_ids.proofs.Texts.{same_text_itself}
-use Rattle.ibc_merkle.specs.Tree.{Pairs, tree, tree_root, largest_power_below}
+use Rattle.ibc_merkle.specs.Tree.{Pairs, tree, tree_root, largest_power_below, leaves}
 use Rattle.ibc_merkle.specs.Written.{left_child, right_child, found_below, operations_to}
 use Rattle.ibc_merkle.specs.Places.{key_at}
 use Rattle.ibc_merkle.specs.declared.proof.Operation.{Operation}
-use Rattle.ibc_merkle.proofs.Trees.{leaves, leaves-tree, tree-halves}
+use Rattle.ibc_merkle.proofs.Trees.{leaves-tree, tree-halves}
 use Rattle.ibc_merkle.proofs.Sorted.{AreRising, AllBelow, rising_from_sorted, before_is_below}
 use Rattle.ibc_merkle.proofs.Found.{IsNone, below_some, none_from_below, finds_none, all_below-left}
 use Rattle.ibc_merkle.proofs.Places.{parts_at}

@@ -2,9 +2,9 @@
 use Rattle.std.proofs.Common.{◌≡◌, ℕ, ◌+◌, ◌-◌, ◌*◌, ◌<◌, List, [], ◌∷◌, ◌++◌, length, take, drop, get_or, refl, sym, ap, ap₂, ◌∙◌, arith, length-take, length-drop, length-append, append_assoc}
 use Rattle.std.proofs.lemmas.List.{take_at, drop_at, get_or_at}
 use Rattle.ibc_ids.specs.Texts.{Text}
-use Rattle.ibc_merkle.specs.Tree.{Pairs, Tree, Leaf, Node, tree, root, tree_root, largest_power_below}
+use Rattle.ibc_merkle.specs.Tree.{Pairs, Tree, Leaf, Node, tree, root, tree_root, largest_power_below, leaves}
 use Rattle.ibc_merkle.specs.Kept.{node_digests, digests_of}
-use Rattle.ibc_merkle.proofs.Trees.{leaves, leaves-tree, tree-halves}
+use Rattle.ibc_merkle.proofs.Trees.{leaves-tree, tree-halves}
 
 -- ---- of a tree
 

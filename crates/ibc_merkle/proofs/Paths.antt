@@ -5,12 +5,11 @@ use Rattle.std.specs.List.{list_all}
 use Rattle.std.proofs.lemmas.Bool.{and_parts, and_from, false≢true}
 use Rattle.ibc_ids.specs.Texts.{Text, same_text}
 use Rattle.ibc_merkle.specs.Hash.{hash, leaf_text, leaf_mark}
-use Rattle.ibc_merkle.specs.Tree.{Pairs, Tree, Leaf, Node, root}
+use Rattle.ibc_merkle.specs.Tree.{Pairs, Tree, Leaf, Node, root, leaves}
 use Rattle.ibc_merkle.specs.Proofs.{goes_left, goes_right, is_inner, operation_text, only_left, only_right, are_adjacent}
 use Rattle.ibc_merkle.specs.Written.{left_child, right_child}
 use Rattle.ibc_merkle.specs.declared.proof.Operation.{Operation}
 use Rattle.ibc_merkle.proofs.Digests.{length-root}
-use Rattle.ibc_merkle.proofs.Trees.{leaves}
 
 abbrev pub leaf_at : Tree → List Bool → Option (Text × Text)
 leaf_at (Leaf key value) [] = Some (key, value)

@@ -1,8 +1,8 @@
 -- What a commit keeps, and what changes of leaves do one after another.
 use Rattle.std.proofs.Common.{◌≡◌, ℕ, ◌<◌, List, [], ◌∷◌, length, sym, ap, ◌∙◌, arith}
 use Rattle.std.proofs.lemmas.List.{length-map}
-use Rattle.ibc_merkle.specs.Tree.{Pairs, Tree, tree, tree_root, root}
-use Rattle.ibc_merkle.proofs.Trees.{leaves, leaves-tree}
+use Rattle.ibc_merkle.specs.Tree.{Pairs, Tree, tree, tree_root, root, leaves}
+use Rattle.ibc_merkle.proofs.Trees.{leaves-tree}
 use Rattle.ibc_nodes.specs.Levels.{over, tree_at, trees_at}
 use Rattle.ibc_nodes.specs.Heights.{pairs_of, IsTreeOver}
 use Rattle.ibc_nodes.specs.Rows.{IsPyramid, first_row}

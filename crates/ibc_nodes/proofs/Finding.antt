@@ -8,8 +8,9 @@ use Rattle.ibc_merkle.specs.Tree.{Pairs}
 use Rattle.ibc_merkle.specs.Proofs.{is_below}
 use Rattle.ibc_merkle.proofs.Sorted.{AreRising, AllAbove}
 use Rattle.ibc_nodes.specs.Leaves.{from_key, behind_key, is_new, count_new, keys}
-use Rattle.ibc_nodes.specs.Gaps.{IsFoundFrom}
+use Rattle.ibc_nodes.specs.Gaps.{IsFoundFrom, IsOneOther}
 use Rattle.ibc_nodes.proofs.LeafRows.{passes, stops, leaves_behind, leaves_none, same_key}
+use Rattle.ibc_nodes.proofs.NewPairs.{lacks, new_one, new_found, new_past, new_one_other}
 
 pub rising-drop : (n : ℕ) (pairs : Pairs) → AreRising pairs → AreRising (drop n pairs)
 rising-drop zero pairs rising = rising
@@ -58,23 +59,6 @@ pub first_found : (last pairs : Pairs) → IsFoundFrom last 0 pairs
 first_found last [] = tt
 first_found last (pair ∷ pairs) = refl
 
--- ---- how many are new
-
-count_one : (last : Pairs) (pair : Text × Text) (pairs : Pairs) → AllAbove pair.0 pairs
-    → count_new last (pair ∷ pairs) ≡ is_new pair (from_key pair.0 last) + count_new last pairs
-count_one last pair [] above = refl
-count_one last pair (next ∷ pairs) above =
-    let rest = from_key pair.0 last in
-    ap (λ (found : Pairs). is_new pair rest + (is_new next found + count_new (behind_key next.0 found) pairs)) (found_behind last pair.0 next.0 above.0)
-
-count_fewer : (last pairs : Pairs) (n : ℕ) → AreRising pairs → count_new last (drop n pairs) ≤ count_new last pairs
-count_fewer last pairs zero rising = omega arith
-count_fewer last [] (suc n) rising = omega arith
-count_fewer last (pair ∷ pairs) (suc n) rising =
-    let one = count_one last pair pairs rising.0 in
-    let rest = count_fewer last pairs n rising.1 in
-    omega arith
-
 -- ---- one pair that is looked for
 
 pub record Stepped (last entries : Pairs) (i found behind : ℕ) (entry : Text × Text) : Type 0 where
@@ -90,7 +74,11 @@ stepped last entries i place found behind entry last_rises rises l is within fro
     let above = (subst AreRising opened (rising-drop i entries rises)).0 in
     let all : drop found last ≡ from_key entry.0 last = rest ∙ subst (IsFoundFrom last place) opened from in
     record {
-      count = ap (count_new last) opened ∙ count_one last entry (drop (i + 1) entries) above ∙ ap (λ (found : Pairs). is_new entry found + count_new last (drop (i + 1) entries)) (sym all);
+      count =
+          let one = new_one last entry (drop (i + 1) entries) in
+          let new : is_new entry (drop found last) ≡ lacks last entry = ap (is_new entry) all ∙ new_found last entry last_rises in
+          let first = ap (count_new last) opened in
+          omega arith;
       next = next_found last behind entry (drop (i + 1) entries) above (past ∙ ap (behind_key entry.0) all);
       same = λ same.
           let k = same_key last entries i entry entry same l is in
@@ -104,21 +92,18 @@ stepped last entries i place found behind entry last_rises rises l is within fro
 
 -- the same of one pair alone
 pub record FoundOne (last entries : Pairs) (i found : ℕ) (entry : Text × Text) : Type 0 where
-  pub few : is_new entry (drop found last) ≤ count_new last entries
+  pub count : count_new last entries ≡ is_new entry (drop found last)
   pub same : keys entries ≡ keys last → found ≡ i
 
-pub found_one : (last entries : Pairs) (i found : ℕ) (entry : Text × Text) → AreRising last → AreRising entries → i < length entries → entry ≡ get_or entries i entry
+pub found_one : (last entries : Pairs) (i found : ℕ) (entry : Text × Text) → AreRising last → IsOneOther i last entries → entry ≡ get_or entries i entry
     → found ≤ length last → IsFoundFrom last i (drop i entries) → drop found last ≡ from_key entry.0 (drop i last) → FoundOne last entries i found entry
-found_one last entries i found entry last_rises rises l is within from rest =
+found_one last entries i found entry last_rises other is within from rest =
+    let l = other.here in
     let opened : drop i entries ≡ entry ∷ drop (i + 1) entries = drop_more entries i entry l ∙ ap (λ (e : Text × Text). e ∷ drop (i + 1) entries) (sym is) in
-    let above = (subst AreRising opened (rising-drop i entries rises)).0 in
     let all : drop found last ≡ from_key entry.0 last = rest ∙ subst (IsFoundFrom last i) opened from in
-    let count : count_new last (drop i entries) ≡ is_new entry (drop found last) + count_new last (drop (i + 1) entries) =
-    ap (count_new last) opened ∙ count_one last entry (drop (i + 1) entries) above ∙ ap (λ (found : Pairs). is_new entry found + count_new last (drop (i + 1) entries)) (sym all)
-    in
-    let fewer = count_fewer last entries i rises in
+    let here : get_or entries i ([], []) ≡ entry = get_or_default entries i ([], []) entry l ∙ sym is in
     record {
-      few = omega arith;
+      count = new_one_other last entries i other ∙ ap (lacks last) here ∙ sym (ap (is_new entry) all ∙ new_found last entry last_rises);
       same = λ same.
           let k = same_key last entries i entry entry same l is in
           let here : drop found last ≡ drop i last = all ∙ ap (λ key. from_key key last) (sym k.1) ∙ found_at last i entry last_rises k.0 in
@@ -132,7 +117,7 @@ found_one last entries i found entry last_rises rises l is within from rest =
 -- ---- pairs that stayed
 
 pub record Passed (last entries : Pairs) (from i kept : ℕ) : Type 0 where
-  pub fewer : count_new last (drop (i + kept) entries) ≤ count_new last (drop i entries)
+  pub count : count_new last (drop (i + kept) entries) ≡ count_new last (drop i entries)
   pub next : 0 < kept → IsFoundFrom last (from + kept) (drop (i + kept) entries)
   pub same : keys entries ≡ keys last → 0 < kept → from ≡ i
 
@@ -149,7 +134,7 @@ passed last entries from i kept last_rises rises there within same =
     ∙ get_or-drop from last j d
     in
     record {
-      fewer = subst (λ (pairs : Pairs). count_new last pairs ≤ count_new last (drop i entries)) (drop-drop kept i entries) (count_fewer last (drop i entries) kept (rising-drop i entries rises));
+      count = new_past last entries from i kept same;
       next = λ some.
           let j : ℕ = kept - 1 in
           let e = get_or last (from + j) d in

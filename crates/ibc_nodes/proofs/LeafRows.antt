@@ -96,7 +96,7 @@ pub unlike_not : (number other : ℕ) → number ≡ other → unlike number oth
 unfolding unlike
 unlike_not number other same = ap (λ (b : Bool). elim b [ true ↦ 0 | false ↦ 1 ]) (eq-eqb number other same)
 
-one_at_most : (same : Bool) → elim same [ true ↦ 0 | false ↦ 1 ] ≤ 1
+pub one_at_most : (same : Bool) → elim same [ true ↦ 0 | false ↦ 1 ] ≤ 1
 one_at_most true = omega arith
 one_at_most false = omega arith
 

@@ -5,8 +5,10 @@ pub mod Descents
 pub mod Climbing
 pub mod Workings
 pub mod Committing
+pub mod Counting
 pub mod InChunks
 pub mod LeafRows
+pub mod NewPairs
 pub mod Putting
 pub mod Turning
 pub mod Places

@@ -6,8 +6,7 @@ use Rattle.std.proofs.lemmas.List.Elements.{All-head, All-tail, All-push, All-we
 use Rattle.std.specs.declared.alloc.Global.{Global}
 use Rattle.std.specs.FinMap.{is_sorted}
 use Rattle.ibc_ids.specs.Texts.{text_cmp}
-use Rattle.ibc_merkle.specs.Tree.{Pairs, Tree, Leaf, tree}
-use Rattle.ibc_merkle.proofs.Trees.{leaves}
+use Rattle.ibc_merkle.specs.Tree.{Pairs, Tree, Leaf, tree, leaves}
 use Rattle.ibc_nodes.specs.Levels.{pair_up, tree_at, trees_at, leaf_of}
 use Rattle.ibc_nodes.specs.Moving.{IsMoved, AreMoved, AllStand}
 use Rattle.ibc_nodes.specs.Nodes.{Grows}

@@ -6,12 +6,13 @@ use Rattle.ibc_merkle.specs.Tree.{Pairs, Tree}
 use Rattle.ibc_merkle.proofs.Sorted.{AreRising}
 use Rattle.ibc_nodes.specs.Levels.{leaf_of, trees_at}
 use Rattle.ibc_nodes.specs.Rows.{Stand}
-use Rattle.ibc_nodes.specs.Leaves.{row_pairs, AreLeaves, keys, differing}
+use Rattle.ibc_nodes.specs.Leaves.{row_pairs, AreLeaves, count_new, keys, differing}
 use Rattle.ibc_nodes.specs.Gaps.{DifferIn, HasFirst, IsFoundFrom}
 use Rattle.ibc_nodes.specs.declared.gap.Gap.{Gap}
 use Rattle.ibc_nodes.proofs.LeafRows.{length-row_pairs}
 use Rattle.ibc_nodes.proofs.Finding.{Passed, passed}
 use Rattle.ibc_nodes.proofs.FirstLeaves.{first_kept, differing-kept}
+use Rattle.ibc_nodes.proofs.NewPairs.{new_rest}
 use Rattle.ibc_nodes.proofs.Turning.{same_keys_count}
 
 -- all of the last pairs in one gap
@@ -90,6 +91,7 @@ differing_past last entries old row from kept past same there =
 pub record Whole (trees : List Tree) (last entries : Pairs) (old row all : List ℕ) : Type 0 where
   pub leaves : trees_at trees all ≡ map leaf_of entries
   pub stand : Stand trees all
+  pub none : count_new last (drop (length row) entries) ≡ 0
   pub same : keys entries ≡ keys last → differing all old ≤ differing row old
 
 pub whole : (trees : List Tree) (last entries : Pairs) (old row all : List ℕ) (gaps : List Gap) (i from : ℕ) → AreLeaves trees old → row_pairs trees old ≡ last
@@ -109,6 +111,7 @@ whole trees last entries old row all gaps i from leaves held first there past di
     record {
       leaves = ap (trees_at trees) items ∙ first_all.leaves ∙ ap (map leaf_of) (take_all (length (row ++ take kept (drop from old))) entries (omega arith));
       stand = subst (Stand trees) (sym items) first_all.stand;
+      none = ap (count_new last) rest ∙ new_rest last from;
       same = λ same.
           let n = same_keys_count entries last same in
           let here : from ≡ length row = omega arith in

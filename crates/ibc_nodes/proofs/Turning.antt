@@ -6,8 +6,7 @@ use Rattle.std.proofs.lemmas.List.Elements.{All-weaker, All-head, All-tail}
 use Rattle.std.specs.declared.alloc.Global.{Global}
 use Rattle.std.specs.FinMap.{is_sorted}
 use Rattle.ibc_ids.specs.Texts.{Text, text_cmp}
-use Rattle.ibc_merkle.specs.Tree.{Pairs, Tree, tree}
-use Rattle.ibc_merkle.proofs.Trees.{leaves}
+use Rattle.ibc_merkle.specs.Tree.{Pairs, Tree, tree, leaves}
 use Rattle.ibc_nodes.specs.Levels.{leaf_of, tree_at, trees_at}
 use Rattle.ibc_nodes.specs.Leaves.{pair_of, row_pairs, AreLeaves, keys}
 use Rattle.ibc_nodes.specs.Heights.{pairs_of, IsTreeOver}

@@ -1,5 +1,6 @@
--- Rows of leaves, and how sorted pairs differ from others.
-use Rattle.std.specs.Prelude.{◌≡◌, ℕ, ◌+◌, Bool, true, false, ◌&&◌, ◌==◌, List, [], ◌∷◌, map}
+-- Rows of leaves, and how pairs differ from others.
+use Rattle.std.specs.Prelude.{◌≡◌, ℕ, ◌+◌, Bool, true, false, not, ◌&&◌, ◌==◌, List, [], ◌∷◌, length, map, filter}
+use Rattle.std.specs.List.{list_any}
 use Rattle.ibc_ids.specs.Texts.{Text, same_text}
 use Rattle.ibc_merkle.specs.Tree.{Pairs, Tree, Leaf, Node}
 use Rattle.ibc_merkle.specs.Proofs.{is_below}
@@ -44,11 +45,13 @@ begins_with pair (first ∷ pairs) = same_pair first pair
 abbrev pub is_new : Text × Text → Pairs → ℕ
 is_new pair pairs = elim (begins_with pair pairs) [ true ↦ 0 | false ↦ 1 ]
 
--- how many of the second sorted pairs aren't among the first
-abbrev pub count_new : Pairs → Pairs → ℕ
-count_new before [] = 0
-count_new before (pair ∷ pairs) =
-    let rest = from_key pair.0 before in is_new pair rest + count_new (behind_key pair.0 rest) pairs
+-- whether a pair is among pairs, with its value
+abbrev pub is_among : Pairs → Text × Text → Bool
+is_among pairs pair = list_any (λ (other : Text × Text). same_pair other pair) pairs
+
+-- how many of the second pairs have no equal one among the first
+unfoldable pub count_new : Pairs → Pairs → ℕ
+count_new last pairs = length (filter (λ (pair : Text × Text). not (is_among last pair)) pairs)
 
 abbrev pub keys : Pairs → List Text
 keys pairs = map (λ (pair : Text × Text). pair.0) pairs

@@ -1,4 +1,5 @@
 pub mod Codes
+pub mod Counts
 pub mod Forest
 pub mod HeldForest
 pub mod Gaps
@@ -7,6 +8,7 @@ pub mod Holds
 pub mod Leaves
 pub mod Levels
 pub mod Moving
+pub mod NewPairs
 pub mod Nodes
 pub mod Rows
 pub mod Shelves

@@ -1,7 +1,9 @@
 //! The nodes of a store's trees, and which pairs of them were hashed.
 
 ghost use Rattle.std.specs.Prelude.{◌≡◌, ◌+◌, ◌<◌, ◌≤◌, ◌∷◌, ◌++◌, [], length, OnOk, OnErr, IfSome, IfOk};
+ghost use Rattle.ibc_merkle.specs.Hash.{one_more};
 ghost use Rattle.ibc_merkle.specs.Tree.{Node, root};
+ghost use Rattle.ibc_nodes.specs.Counts.{CountsAtLeast};
 ghost use Rattle.ibc_nodes.specs.Levels.{leaf_of, tree_at};
 ghost use Rattle.ibc_nodes.specs.Nodes.{built, ChildrenStand, IsRight, Grows};
 
@@ -120,7 +122,7 @@ impl Arena {
         ensures ok { OnOk result (self.new.trees ≡ self.old.trees ++ leaf_of entry ∷ []) }
         ensures number { IfOk result (λ number. number ≡ length self.old.trees) }
         ensures err { OnErr result (self.new.trees ≡ self.old.trees) }
-        ensures steps { self.new.steps ≤ self.old.steps + 2 }
+        ensures steps { self.new.steps ≡ one_more (one_more self.old.steps) }
     {
         let value = hash_value(entry.value(), &mut self.steps);
         let digest = hash_leaf(entry.key(), &value, &mut self.steps);
@@ -140,7 +142,11 @@ impl Arena {
         ensures made { IfOk result (λ number. tree_at self.new.trees number ≡ Node (tree_at self.old.trees left) (tree_at self.old.trees right)) }
         ensures there { IfOk result (λ number. number < length self.new.trees) }
         ensures grows { Grows self.old.trees self.new.trees }
-        ensures steps { self.new.steps ≤ self.old.steps + 1 }
+        ensures known { IfOk result (λ number. number < length self.old.trees → self.new ≡ self.old) }
+        ensures hashed { IfOk result (λ number. length self.old.trees ≤ number → self.new.steps ≡ one_more self.old.steps) }
+        ensures err { OnErr result (self.new.steps ≡ one_more self.old.steps) }
+        ensures most { self.new.steps ≤ self.old.steps + 1 }
+        ensures least { CountsAtLeast 0 self.old.steps self.new.steps }
     {
         match self.remembered(left, right) {
             Some(parent) => Ok(parent),
@@ -169,8 +175,9 @@ impl Arena {
         requires right { right < length self.old.trees }
         ensures made { IfOk result (λ number. tree_at self.new.trees number ≡ Node (tree_at self.old.trees left) (tree_at self.old.trees right)) }
         ensures there { IfOk result (λ number. number < length self.new.trees) }
+        ensures number { IfOk result (λ number. number ≡ length self.old.trees) }
         ensures grows { Grows self.old.trees self.new.trees }
-        ensures steps { self.new.steps ≤ self.old.steps + 1 }
+        ensures steps { self.new.steps ≡ one_more self.old.steps }
     {
         let (left_digest, right_digest) = (self.digest(left), self.digest(right));
         let digest = hash_inner(&left_digest, &right_digest, &mut self.steps);

@@ -5,6 +5,7 @@ ghost use Rattle.std.specs.FinMap.{is_sorted};
 ghost use Rattle.ibc_ids.specs.Texts.{text_cmp};
 ghost use Rattle.ibc_merkle.specs.Tree.{tree_root};
 ghost use Rattle.ibc_merkle.specs.Written.{written};
+ghost use Rattle.ibc_nodes.specs.Counts.{CountsEachNewLeaf};
 ghost use Rattle.ibc_nodes.specs.Leaves.{count_new, keys};
 ghost use Rattle.ibc_nodes.specs.Gaps.{DifferIn};
 
@@ -98,10 +99,16 @@ impl Forest {
         self.kept.len()
     }
 
+    /// The keys of the last commit strictly rise in byte order.
+    pub fn lemma_last_sorted(&self)
+        ensures { IsTrue (is_sorted text_cmp self.now.last) }
+    {
+        let _rows = &self.rows;
+    }
+
     /// Commits pairs, whose keys strictly rise in byte order, with a time as the next height, and answers the root of their
-    /// tree. Of n pairs, of which the last
-    /// commit doesn't have k, at most `2k + n - 1` texts are hashed, and where the keys are those of the last commit at
-    /// most `2k + k * ceil(log2 n)`. A refusal leaves the forest.
+    /// tree. Of n pairs, of which the last commit doesn't have k, at least `2k` texts are counted and at most `2k + n - 1`, and
+    /// where the keys are those of the last commit at most `2k + k * ceil(log2 n)`. A refusal leaves the forest.
     pub fn commit(&mut self, entries: &[SharedEntry], time: u64) -> Result<Root, AllocError>
         requires some { 0 < length entries.now }
         requires sorted { IsTrue (is_sorted text_cmp entries.now) }
@@ -109,6 +116,7 @@ impl Forest {
         ensures last { OnOk result (self.new.last ≡ entries.now) }
         ensures kept { OnOk result (self.new.kept ≡ self.old.kept ++ (entries.now, time) ∷ []) }
         ensures more { self.old.digests ≤ self.new.digests }
+        ensures counts { OnOk result (CountsEachNewLeaf self.old.last entries.now self.old.digests self.new.digests) }
         ensures few { OnOk result (self.new.digests + 1 ≤ self.old.digests + 2 * count_new self.old.last entries.now + length entries.now) }
         ensures same { keys entries.now ≡ keys self.old.last → (log : ℕ) → length entries.now ≤ 2 ^ log → OnOk result (self.new.digests ≤ self.old.digests + count_new self.old.last entries.now * (2 + log)) }
         ensures err { OnErr result (self.new ≡ self.old) }
@@ -135,6 +143,7 @@ impl Forest {
         ensures last { OnOk result (self.new.last ≡ entries.now) }
         ensures kept { OnOk result (self.new.kept ≡ self.old.kept ++ (entries.now, time) ∷ []) }
         ensures more { self.old.digests ≤ self.new.digests }
+        ensures counts { OnOk result (CountsEachNewLeaf self.old.last entries.now self.old.digests self.new.digests) }
         ensures few { OnOk result (self.new.digests + 1 ≤ self.old.digests + 2 * count_new self.old.last entries.now + length entries.now) }
         ensures same { keys entries.now ≡ keys self.old.last → (log : ℕ) → length entries.now ≤ 2 ^ log → OnOk result (self.new.digests ≤ self.old.digests + count_new self.old.last entries.now * (2 + log)) }
         ensures err { OnErr result (self.new ≡ self.old) }

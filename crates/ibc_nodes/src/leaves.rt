@@ -1,10 +1,11 @@
 //! Rows of leaves.
 
-ghost use Rattle.std.specs.Prelude.{◌≡◌, [], ◌+◌, ◌*◌, ◌<◌, ◌≤◌, ◌++◌, true, Ok, length, drop, map, slice_index_or, take, IsTrue, IfOk};
+ghost use Rattle.std.specs.Prelude.{◌≡◌, [], ◌+◌, ◌*◌, ◌<◌, ◌≤◌, ◌++◌, true, Ok, length, drop, map, slice_index_or, take, IsTrue, IfOk, OnOk};
 ghost use Rattle.std.specs.FinMap.{is_sorted};
 ghost use Rattle.ibc_nodes.specs.Levels.{leaf_of, tree_at, trees_at};
 ghost use Rattle.ibc_nodes.specs.Leaves.{pair_at, row_pairs, AreLeaves, from_key, behind_key, begins_with, is_new, count_new, keys, unlike, differing};
-ghost use Rattle.ibc_nodes.specs.Gaps.{DifferIn, IsFoundFrom, HasFirst};
+ghost use Rattle.ibc_nodes.specs.Counts.{CountsAtLeast, CountsEachNewLeaf};
+ghost use Rattle.ibc_nodes.specs.Gaps.{DifferIn, IsFoundFrom, IsOneOther, HasFirst};
 ghost use Rattle.ibc_nodes.specs.Nodes.{Grows};
 ghost use Rattle.ibc_nodes.specs.Rows.{Stand};
 ghost use Rattle.ibc_ids.specs.Texts.{same_text, text_cmp};
@@ -100,6 +101,7 @@ fn leaf_for(
     ensures there { IfOk result (λ leaf. leaf < length arena.new.trees) }
     ensures grows { Grows arena.old.trees arena.new.trees }
     ensures steps { arena.new.steps ≤ arena.old.steps + 2 * is_new entry.now (drop at (row_pairs arena.old.trees row.now)) }
+    ensures least { OnOk result (CountsAtLeast (2 * is_new entry.now (drop at (row_pairs arena.old.trees row.now))) arena.old.steps arena.new.steps) }
     ensures kept { is_new entry.now (drop at (row_pairs arena.old.trees row.now)) ≡ 0 → result ≡ Ok (slice_index_or row.now at 0) }
 {
     if is_there(arena, row, at, entry) {
@@ -134,6 +136,7 @@ fn add_leaves(
     ensures found { IfOk result (λ next. IsFoundFrom (row_pairs arena.old.trees old.now) next (drop end entries.now)) }
     ensures grows { Grows arena.old.trees arena.new.trees }
     ensures steps { let last = row_pairs arena.old.trees old.now in IfOk result (λ _. arena.new.steps + 2 * count_new last (drop end entries.now) ≤ arena.old.steps + 2 * count_new last (drop (length row.old.items) entries.now)) }
+    ensures least { let last = row_pairs arena.old.trees old.now in OnOk result (CountsAtLeast (2 * count_new last (drop (length row.old.items) entries.now)) arena.old.steps (arena.new.steps + 2 * count_new last (drop end entries.now))) }
     ensures same { let last = row_pairs arena.old.trees old.now in keys entries.now ≡ keys last → IfOk result (λ _. differing row.new.items old.now + count_new last (drop end entries.now) ≤ differing row.old.items old.now + count_new last (drop (length row.old.items) entries.now)) }
 {
     let mut at = place;
@@ -147,8 +150,8 @@ fn add_leaves(
     Ok(at)
 }
 
-// The leaf of the pair at a place, in front of which the pairs are those of a row of leaves: the one of the row, if it is that of
-// the pair, and else a new one, for which two texts are hashed.
+// The leaf of the pair at a place, the only one that may be another than in a row of leaves: the one of the row, if it is that
+// of the pair, and else a new one, for which two texts are hashed.
 pub(crate) fn other_leaf(
     arena: &mut Arena,
     old: &[usize],
@@ -158,13 +161,12 @@ pub(crate) fn other_leaf(
     requires leaves { AreLeaves arena.old.trees old.now }
     requires sorted { IsTrue (is_sorted text_cmp entries.now) }
     requires last { IsTrue (is_sorted text_cmp (row_pairs arena.old.trees old.now)) }
-    requires there { index < length old.now }
-    requires here { index < length entries.now }
-    requires front { take index entries.now ≡ take index (row_pairs arena.old.trees old.now) }
+    requires other { IsOneOther index (row_pairs arena.old.trees old.now) entries.now }
     ensures leaf { IfOk result (λ leaf. tree_at arena.new.trees leaf ≡ leaf_of (slice_index_or entries.now index ([], []))) }
     ensures there { IfOk result (λ leaf. leaf < length arena.new.trees) }
     ensures grows { Grows arena.old.trees arena.new.trees }
     ensures steps { arena.new.steps ≤ arena.old.steps + 2 * count_new (row_pairs arena.old.trees old.now) entries.now }
+    ensures least { OnOk result (CountsEachNewLeaf (row_pairs arena.old.trees old.now) entries.now arena.old.steps arena.new.steps) }
     ensures same { let last = row_pairs arena.old.trees old.now in keys entries.now ≡ keys last → IfOk result (λ leaf. unlike leaf (slice_index_or old.now index 0) ≤ count_new last entries.now) }
 {
     let entry = &entries[index];
@@ -209,6 +211,7 @@ pub(crate) fn leaf_row(
     ensures stand { IfOk result (λ row. Stand arena.new.trees row.items) }
     ensures grows { Grows arena.old.trees arena.new.trees }
     ensures steps { IfOk result (λ row. arena.new.steps ≤ arena.old.steps + 2 * count_new (row_pairs arena.old.trees old.now) entries.now) }
+    ensures least { OnOk result (CountsEachNewLeaf (row_pairs arena.old.trees old.now) entries.now arena.old.steps arena.new.steps) }
     ensures same { keys entries.now ≡ keys (row_pairs arena.old.trees old.now) → IfOk result (λ row. differing row.items old.now ≤ count_new (row_pairs arena.old.trees old.now) entries.now) }
     ensures gaps { IfOk result (λ row. DifferIn gaps.now old.now row.items) }
 {

@@ -7,6 +7,7 @@ mod chunks;
 mod descent;
 mod forest;
 mod gap;
+mod laws;
 mod leaves;
 mod moving;
 mod next_rows;
@@ -22,5 +23,6 @@ mod working;
 
 pub use forest::Forest;
 pub use gap::Gap;
+pub use laws::{lemma_removal_adds_none, lemma_set_adds_one_at_most, lemma_unchanged_is_none};
 pub use shared_entry::{SharedEntry, SpareEntry};
 pub use shared_tree::SharedTree;

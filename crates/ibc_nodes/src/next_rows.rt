@@ -3,6 +3,7 @@
 ghost use Rattle.std.specs.Prelude.{true, false, ◌≡◌, ◌+◌, ◌-◌, ◌*◌, ◌^◌, ◌<◌, ◌≤◌, ℕ, List, length, take, IsTrue, IfOk, IfSome, OnOk, OnErr};
 ghost use Rattle.std.specs.FinMap.{is_sorted};
 ghost use Rattle.ibc_ids.specs.Texts.{text_cmp};
+ghost use Rattle.ibc_nodes.specs.Counts.{CountsAtLeast, CountsEachNewLeaf};
 ghost use Rattle.ibc_nodes.specs.Leaves.{row_pairs, count_new, keys, differing};
 ghost use Rattle.ibc_nodes.specs.Gaps.{DifferIn, IsOneOther};
 ghost use Rattle.ibc_nodes.specs.Nodes.{Grows};
@@ -44,6 +45,7 @@ fn changed(
     ensures row { IfOk result (λ next. first_row (rows_of next.items) ≡ row.now) }
     ensures grows { Grows arena.old.trees arena.new.trees }
     ensures steps { IfOk result (λ _. arena.new.steps ≤ arena.old.steps + differing row.now (first_row (rows_of rows.now)) * (length rows.now - 1)) }
+    ensures least { OnOk result (CountsAtLeast 0 arena.old.steps arena.new.steps) }
 {
     let mut next = copied(alloc, rows)?;
     let mut path = Vec::new(alloc);
@@ -79,6 +81,7 @@ fn rows_over(
     ensures row { IfOk result (λ next. first_row (rows_of next.items) ≡ row.items) }
     ensures grows { Grows arena.old.trees arena.new.trees }
     ensures steps { IfOk result (λ _. arena.new.steps + 1 ≤ arena.old.steps + length row.items) }
+    ensures least { OnOk result (CountsAtLeast 0 arena.old.steps arena.new.steps) }
     ensures few { length row.items ≡ length (first_row (rows_of rows.now)) → IfOk result (λ _. arena.new.steps ≤ arena.old.steps + differing row.items (first_row (rows_of rows.now)) * (length rows.now - 1)) }
 {
     if are_few(rows, row.as_slice()) {
@@ -107,6 +110,7 @@ fn next_rows(
     ensures pairs { IfOk result (λ next. row_pairs arena.new.trees (first_row (rows_of next.items)) ≡ entries.now) }
     ensures grows { Grows arena.old.trees arena.new.trees }
     ensures steps { let new = count_new (row_pairs arena.old.trees (first_row (rows_of rows.now))) entries.now in IfOk result (λ _. arena.new.steps + 1 ≤ arena.old.steps + 2 * new + length entries.now) }
+    ensures least { OnOk result (CountsEachNewLeaf (row_pairs arena.old.trees (first_row (rows_of rows.now))) entries.now arena.old.steps arena.new.steps) }
     ensures same { let last = row_pairs arena.old.trees (first_row (rows_of rows.now)) in keys entries.now ≡ keys last → (log : ℕ) → length entries.now ≤ 2 ^ log → IfOk result (λ _. arena.new.steps ≤ arena.old.steps + count_new last entries.now * (2 + log)) }
 {
     let row = leaf_row(alloc, arena, first_of(rows), entries, gaps)?;
@@ -144,6 +148,7 @@ fn put_other(
     ensures pairs { IfOk result (λ _. row_pairs arena.new.trees (first_row (rows_of rows.new)) ≡ entries.now) }
     ensures grows { Grows arena.old.trees arena.new.trees }
     ensures steps { let new = count_new (row_pairs arena.old.trees (first_row (rows_of rows.old))) entries.now in IfOk result (λ _. arena.new.steps + 1 ≤ arena.old.steps + 2 * new + length entries.now) }
+    ensures least { OnOk result (CountsEachNewLeaf (row_pairs arena.old.trees (first_row (rows_of rows.old))) entries.now arena.old.steps arena.new.steps) }
     ensures same { let last = row_pairs arena.old.trees (first_row (rows_of rows.old)) in keys entries.now ≡ keys last → (log : ℕ) → length entries.now ≤ 2 ^ log → IfOk result (λ _. arena.new.steps ≤ arena.old.steps + count_new last entries.now * (2 + log)) }
     ensures err { OnErr result (rows.new ≡ rows.old) }
 {
@@ -170,6 +175,7 @@ pub(crate) fn turn_rows(
     ensures pairs { IfOk result (λ _. row_pairs arena.new.trees (first_row (rows_of rows.new.items)) ≡ entries.now) }
     ensures grows { Grows arena.old.trees arena.new.trees }
     ensures steps { let new = count_new (row_pairs arena.old.trees (first_row (rows_of rows.old.items))) entries.now in IfOk result (λ _. arena.new.steps + 1 ≤ arena.old.steps + 2 * new + length entries.now) }
+    ensures least { OnOk result (CountsEachNewLeaf (row_pairs arena.old.trees (first_row (rows_of rows.old.items))) entries.now arena.old.steps arena.new.steps) }
     ensures same { let last = row_pairs arena.old.trees (first_row (rows_of rows.old.items)) in keys entries.now ≡ keys last → (log : ℕ) → length entries.now ≤ 2 ^ log → IfOk result (λ _. arena.new.steps ≤ arena.old.steps + count_new last entries.now * (2 + log)) }
     ensures err { OnErr result (rows.new.items ≡ rows.old.items) }
 {

@@ -1,6 +1,7 @@
 //! Rows of nodes: the levels of a tree.
 
-ghost use Rattle.std.specs.Prelude.{◌≡◌, ◌+◌, ◌*◌, ◌<◌, ◌≤◌, length, take, IfOk};
+ghost use Rattle.std.specs.Prelude.{◌≡◌, ◌+◌, ◌*◌, ◌<◌, ◌≤◌, length, take, IfOk, OnOk};
+ghost use Rattle.ibc_nodes.specs.Counts.{CountsAtLeast};
 ghost use Rattle.ibc_nodes.specs.Levels.{pair_up, trees_at};
 ghost use Rattle.ibc_nodes.specs.Nodes.{Grows};
 ghost use Rattle.ibc_nodes.specs.Rows.{Stand};
@@ -24,6 +25,7 @@ pub(crate) fn row_above(
     ensures stand { IfOk result (λ above. Stand arena.new.trees above.items) }
     ensures grows { Grows arena.old.trees arena.new.trees }
     ensures steps { IfOk result (λ above. arena.new.steps + length above.items ≤ arena.old.steps + length row.now) }
+    ensures least { OnOk result (CountsAtLeast 0 arena.old.steps arena.new.steps) }
     ensures half { IfOk result (λ above. length above.items + length above.items ≤ length row.now + 1) }
     ensures front { IfOk result (λ above. take (length known.now) above.items ≡ known.now) }
     ensures longer { IfOk result (λ above. length known.now ≤ length above.items) }

@@ -1,6 +1,7 @@
 //! The rows of a tree, and what a commit changes in them.
 
-ghost use Rattle.std.specs.Prelude.{◌≡◌, ◌+◌, ◌-◌, ◌*◌, ◌^◌, ◌<◌, ◌≤◌, ℕ, [], length, take, drop, slice_set, slice_index_or, IfOk, OnErr};
+ghost use Rattle.std.specs.Prelude.{◌≡◌, ◌+◌, ◌-◌, ◌*◌, ◌^◌, ◌<◌, ◌≤◌, ℕ, [], length, take, drop, slice_set, slice_index_or, IfOk, OnOk, OnErr};
+ghost use Rattle.ibc_nodes.specs.Counts.{CountsAtLeast};
 ghost use Rattle.ibc_nodes.specs.Levels.{over, tree_at, trees_at};
 ghost use Rattle.ibc_nodes.specs.Leaves.{row_pairs, count_new, keys, unlike, differing};
 ghost use Rattle.ibc_nodes.specs.Nodes.{Grows};
@@ -55,6 +56,7 @@ fn add_levels(
     ensures levels { IfOk result (λ _. Raised arena.new.trees rows.old.items row.items rows.new.items) }
     ensures grows { Grows arena.old.trees arena.new.trees }
     ensures steps { IfOk result (λ _. arena.new.steps + 1 ≤ arena.old.steps + length row.items) }
+    ensures least { OnOk result (CountsAtLeast 0 arena.old.steps arena.new.steps) }
 {
     if row.len() == 1 {
         rows.push(row)?;
@@ -85,6 +87,7 @@ pub(crate) fn raised(
     ensures row { IfOk result (λ rows. first_row (rows_of rows.items) ≡ row.items) }
     ensures grows { Grows arena.old.trees arena.new.trees }
     ensures steps { IfOk result (λ _. arena.new.steps + 1 ≤ arena.old.steps + length row.items) }
+    ensures least { OnOk result (CountsAtLeast 0 arena.old.steps arena.new.steps) }
 {
     let mut rows = Vec::new(alloc);
     add_levels(alloc, arena, &mut rows, row, before, front)?;
@@ -107,6 +110,7 @@ pub(crate) fn put_leaf(
     ensures row { IfOk result (λ _. first_row (rows_of rows.new) ≡ slice_set (first_row (rows_of rows.old)) index node) }
     ensures grows { Grows arena.old.trees arena.new.trees }
     ensures steps { arena.new.steps ≤ arena.old.steps + unlike node (slice_index_or (first_row (rows_of rows.old)) index 0) * (length rows.old - 1) }
+    ensures least { OnOk result (CountsAtLeast 0 arena.old.steps arena.new.steps) }
     ensures err { OnErr result (rows.new ≡ rows.old) }
 {
     if first_of(rows)[index] == node {
@@ -142,6 +146,7 @@ pub(crate) fn put_leaves(
     ensures row { IfOk result (λ _. first_row (rows_of rows.new) ≡ row.now) }
     ensures grows { Grows arena.old.trees arena.new.trees }
     ensures steps { IfOk result (λ _. arena.new.steps ≤ arena.old.steps + differing row.now (first_row (rows_of rows.old)) * (length rows.old - 1)) }
+    ensures least { OnOk result (CountsAtLeast 0 arena.old.steps arena.new.steps) }
 {
     for i in 0..row.len() {
         put_leaf(arena, rows, path, i, row[i])?;

@@ -56,6 +56,13 @@ impl PathMap {
         }
     }
 
+    /// The paths strictly rise in byte order.
+    pub fn lemma_pairs_sorted(&self)
+        ensures { IsTrue (is_sorted text_cmp self.now.pairs) }
+    {
+        let _entries = &self.entries;
+    }
+
     /// Makes room for this many paths more.
     pub fn reserve(&mut self, paths: usize) -> Result<(), AllocError>
         ensures same { self.new ≡ record self.old { room = self.new.room } }

@@ -8,6 +8,8 @@ ghost use Rattle.ibc_ids.specs.Paths.{path};
 ghost use Rattle.ibc_ids.specs.declared.refusal.Refusal.TheVariants.{NoMemory, NoConsensus, TimeBack};
 ghost use Rattle.ibc_merkle.specs.Tree.{tree_root};
 ghost use Rattle.ibc_merkle.specs.Written.{written};
+ghost use Rattle.std.specs.FinMap.{is_sorted};
+ghost use Rattle.ibc_nodes.specs.Counts.{CountsEachNewLeaf};
 ghost use Rattle.ibc_nodes.specs.Leaves.{count_new, keys};
 ghost use Rattle.ibc_path_store.specs.Held.{committed, height_of, kept_at};
 ghost use Rattle.ibc_path_store.specs.Touching.{Shares};
@@ -79,7 +81,7 @@ impl Store {
         self.gone.saturating_add(self.forest.heights() as u64)
     }
 
-    /// How many texts were hashed for all accepted commits, and never above 2^64 - 1. A refused commit doesn't count, nor does
+    /// How many texts were counted for all accepted commits, and never above 2^64 - 1. A refused commit doesn't count, nor does
     /// anything else.
     pub fn digests(&self) -> u64
         ensures { result ≡ self.now.hashed.digests }
@@ -92,6 +94,15 @@ impl Store {
         ensures { result ≡ self.now.time }
     {
         self.time
+    }
+
+    /// The paths strictly rise in byte order, and so do those of the last commit.
+    pub fn lemma_pairs_sorted(&self)
+        ensures pairs { IsTrue (is_sorted text_cmp self.now.pairs) }
+        ensures last { IsTrue (is_sorted text_cmp self.now.hashed.last) }
+    {
+        self.map.lemma_pairs_sorted();
+        self.forest.lemma_last_sorted();
     }
 
     /// Makes room for so many paths more: as many `set`s are not refused. `NoMemory` where a growth is refused.
@@ -134,13 +145,15 @@ impl Store {
     /// Commits the working map and the working time as the next height, answers the root of the map's tree (ICS 23,
     /// "CommitmentRoot"), and begins a block of the time `next_time`. `TimeBack` where `next_time` is below the working
     /// time; `NoMemory` where a growth is refused. A refusal leaves the store. Of n pairs, of which the last commit doesn't have k,
-    /// at most `2k + n - 1` texts are hashed, and where the keys are those of the last commit at most `2k + k * ceil(log2 n)`.
+    /// at least `2k` texts are counted and at most `2k + n - 1`, and where the keys are those of the last commit at most
+    /// `2k + k * ceil(log2 n)`.
     pub fn commit(&mut self, next_time: u64) -> Result<Root, Refusal>
         requires { 0 < length self.old.pairs }
         ensures root { IfOk result (λ root. root ≡ tree_root self.old.pairs) }
         ensures ok { OnOk result (self.new ≡ record (committed self.old next_time) { hashed = self.new.hashed }) }
         ensures last { OnOk result (self.new.hashed.last ≡ self.old.pairs) }
         ensures more { self.old.hashed.digests ≤ self.new.hashed.digests }
+        ensures counts { OnOk result (CountsEachNewLeaf self.old.hashed.last self.old.pairs self.old.hashed.digests self.new.hashed.digests) }
         ensures few { OnOk result (self.new.hashed.digests + 1 ≤ self.old.hashed.digests + 2 * count_new self.old.hashed.last self.old.pairs + length self.old.pairs) }
         ensures same { keys self.old.pairs ≡ keys self.old.hashed.last → (log : ℕ) → length self.old.pairs ≤ 2 ^ log → OnOk result (self.new.hashed.digests ≤ self.old.hashed.digests + count_new self.old.hashed.last self.old.pairs * (2 + log)) }
         ensures size { OnOk result (length self.old.pairs < 2 ^ 64) }
@@ -213,6 +226,7 @@ fn commit_map(forest: &mut Forest, map: &PathMap, time: u64) -> Result<Root, All
     ensures last { OnOk result (forest.new.last ≡ map.now.pairs) }
     ensures kept { OnOk result (forest.new.kept ≡ forest.old.kept ++ (map.now.pairs, time) ∷ []) }
     ensures more { forest.old.digests ≤ forest.new.digests }
+    ensures counts { OnOk result (CountsEachNewLeaf forest.old.last map.now.pairs forest.old.digests forest.new.digests) }
     ensures few { OnOk result (forest.new.digests + 1 ≤ forest.old.digests + 2 * count_new forest.old.last map.now.pairs + length map.now.pairs) }
     ensures same { keys map.now.pairs ≡ keys forest.old.last → (log : ℕ) → length map.now.pairs ≤ 2 ^ log → OnOk result (forest.new.digests ≤ forest.old.digests + count_new forest.old.last map.now.pairs * (2 + log)) }
     ensures size { OnOk result (length map.now.pairs < 2 ^ 64) }

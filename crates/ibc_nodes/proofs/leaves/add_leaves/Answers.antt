@@ -5,7 +5,9 @@ use Rattle.std.specs.declared.alloc.AllocError.{AllocError}
 use Rattle.ibc_merkle.specs.Tree.{Pairs}
 use Rattle.ibc_merkle.proofs.Sorted.{rising_from_sorted}
 use Rattle.ibc_nodes.specs.Leaves.{row_pairs, from_key, behind_key, is_new, count_new, differing}
+use Rattle.ibc_nodes.specs.Counts.{CountsAtLeast}
 use Rattle.ibc_nodes.specs.Gaps.{HasFirst, IsFoundFrom}
+use Rattle.ibc_nodes.proofs.Counting.{least_on, least_kept}
 use Rattle.ibc_nodes.proofs.Finding.{stepped}
 use Rattle.ibc_nodes.proofs.FirstLeaves.{first_more}
 use Rattle.ibc_nodes.proofs.Pairing.{grows_on, grows_not}
@@ -62,6 +64,10 @@ loop-i-preserved c =
     subst (λ (ps : Pairs). c.leaf_for.new.arena.steps ≤ c.loop-i.arena.steps + 2 * is_new entry (drop found ps)) held c.leaf_for.ensures.steps
     in
     let so_far = c.loop-i.invariant.steps in
+    let least : CountsAtLeast (2 * is_new entry (drop found last)) c.loop-i.arena.steps c.leaf_for.new.arena.steps =
+    subst (λ (ps : Pairs). CountsAtLeast (2 * is_new entry (drop found ps)) c.loop-i.arena.steps c.leaf_for.new.arena.steps) held c.in_ok-leaf.ensures.least
+    in
+    let all_steps : ℕ = 2 * count_new last (drop (length c.args.row.now.items) entries) in
     let counted = c.loop-i.invariant.counted in
     let items = c.in_ok-push.ensures.items in
     let longer = ap length items ∙ length_push row leaf in
@@ -78,6 +84,9 @@ loop-i-preserved c =
       place = c.place_behind-at.ensures.within;
       found = step.next;
       steps = omega arith;
+      least =
+          least_on all_steps (2 * is_new entry (drop found last)) (2 * count_new last (drop i entries)) (2 * count_new last (drop (i + 1) entries)) c.args.arena.now.steps c.loop-i.arena.steps
+          c.leaf_for.new.arena.steps (omega arith) least c.loop-i.invariant.least;
       same = λ same.
           let now = c.loop-i.invariant.same same in
           let w = step.same same in
@@ -109,5 +118,6 @@ loop-i-init c =
       place = c.requires.place;
       found = subst (λ n. IsFoundFrom last c.args.place (drop n entries)) n c.requires.found;
       steps = omega arith;
+      least = least_kept (2 * count_new last (drop (length row) entries)) (2 * count_new last (drop c.len-i.result entries)) c.args.arena.now.steps (omega arith);
       same = λ same. omega arith;
     }

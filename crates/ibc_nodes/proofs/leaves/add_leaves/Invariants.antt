@@ -1,4 +1,5 @@
 use Rattle.std.proofs.Common.{◌≡◌, ◌+◌, ◌*◌, ◌≤◌, length, take, drop}
+use Rattle.ibc_nodes.specs.Counts.{CountsAtLeast}
 use Rattle.ibc_nodes.specs.Gaps.{HasFirst, IsFoundFrom}
 use Rattle.ibc_nodes.specs.Leaves.{row_pairs, count_new, keys, differing}
 use Rattle.ibc_nodes.specs.Nodes.{Grows}
@@ -16,5 +17,6 @@ invariant-loop-i l =
       place : l.at ≤ length l.old;
       found : IsFoundFrom last l.at (drop l.i l.entries);
       steps : l.arena.steps + 2 * count_new last (drop l.i l.entries) ≤ l.initial.arena.steps + 2 * all;
+      least : CountsAtLeast (2 * all) l.initial.arena.steps (l.arena.steps + 2 * count_new last (drop l.i l.entries));
       same : keys l.entries ≡ keys last → differing l.row.items l.old + count_new last (drop l.i l.entries) ≤ differing l.initial.row.items l.old + all;
     }

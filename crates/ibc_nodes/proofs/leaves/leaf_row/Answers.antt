@@ -6,8 +6,10 @@ use Rattle.ibc_ids.specs.Texts.{text_cmp}
 use Rattle.ibc_merkle.specs.Tree.{Pairs}
 use Rattle.ibc_merkle.proofs.Sorted.{rising_from_sorted}
 use Rattle.ibc_nodes.specs.Leaves.{row_pairs, count_new, keys, differing}
+use Rattle.ibc_nodes.specs.Counts.{CountsAtLeast}
 use Rattle.ibc_nodes.specs.Gaps.{DifferIn, HasFirst, IsFoundFrom}
 use Rattle.ibc_nodes.specs.declared.gap.Gap.{Gap}
+use Rattle.ibc_nodes.proofs.Counting.{least_turn, least_kept, least_end}
 use Rattle.ibc_nodes.proofs.FirstLeaves.{first_none}
 use Rattle.ibc_nodes.proofs.Finding.{first_found}
 use Rattle.ibc_nodes.proofs.OverGaps.{Opened, opened, found_past, differing_past, Whole, whole, splice_next, splice_end}
@@ -90,7 +92,13 @@ loop-i-preserved c =
     (subst (λ n. c.add_leaves.new.arena.steps + 2 * count_new (row_pairs trees old) (drop n entries) ≤ c.loop-i.arena.steps + 2 * count_new (row_pairs trees old) (drop (length kept) entries)) end_is
     c.in_ok-place.ensures.steps))
     in
-    let fewer = its.past.fewer in
+    let least : CountsAtLeast (2 * count_new last (drop (length row + gap.kept) entries)) c.loop-i.arena.steps (c.add_leaves.new.arena.steps + 2 * count_new last (drop (length next) entries)) =
+    subst (λ (pairs : Pairs). CountsAtLeast (2 * count_new pairs (drop (length row + gap.kept) entries)) c.loop-i.arena.steps (c.add_leaves.new.arena.steps + 2 * count_new pairs (drop (length next) entries))) held
+    (subst (λ n. CountsAtLeast (2 * count_new (row_pairs trees old) (drop n entries)) c.loop-i.arena.steps (c.add_leaves.new.arena.steps + 2 * count_new (row_pairs trees old) (drop (length next) entries))) counted
+    (subst (λ n. CountsAtLeast (2 * count_new (row_pairs trees old) (drop (length kept) entries)) c.loop-i.arena.steps (c.add_leaves.new.arena.steps + 2 * count_new (row_pairs trees old) (drop n entries))) end_is
+    c.in_ok-place.ensures.least))
+    in
+    let stayed : count_new last (drop (length row + gap.kept) entries) ≡ count_new last (drop (length row) entries) = its.past.count in
     let so_far = c.loop-i.invariant.steps in
     record {
       first = c.in_ok-place.ensures.first;
@@ -103,6 +111,9 @@ loop-i-preserved c =
           splice_next c.args.gaps.now c.loop-i.i from none old row next c.loop-i-test.true within end
           (ap (λ n. take n next) (sym counted) ∙ c.in_ok-place.ensures.front ∙ c.in_ok-behind.ensures.row) c.loop-i.invariant.splice;
       steps = omega arith;
+      least =
+          least_turn (2 * count_new last entries) (2 * count_new last (drop (length row + gap.kept) entries)) (2 * count_new last (drop (length row) entries)) (2 * count_new last (drop (length next) entries))
+          c.args.arena.now.steps c.loop-i.arena.steps c.add_leaves.new.arena.steps (omega arith) least c.loop-i.invariant.least;
       same = λ same.
           let now = c.loop-i.invariant.same same in
           let more : differing next old + count_new last (drop (length next) entries) ≤ differing kept old + count_new last (drop (length row + gap.kept) entries) =
@@ -132,6 +143,9 @@ returns-clause-leaves c = (all c).leaves
 pub returns-clause-stand : goal.returns-clause-stand
 returns-clause-stand c = (all c).stand
 
+pub returns-clause-least : goal.returns-clause-least
+returns-clause-least c = let none = (all c).none in least_end _ _ c.args.arena.now.steps c.loop-i.arena.steps (omega arith) c.loop-i.invariant.least
+
 pub returns-clause-same : goal.returns-clause-same
 returns-clause-same c = λ same. let most = (all c).same same in let few = c.loop-i.invariant.same same in omega arith
 
@@ -157,5 +171,6 @@ loop-i-init c =
       gaps = subst (λ (xs : List ℕ). DifferIn c.args.gaps.now last (drop (length xs) entries)) (sym items) c.requires.gaps;
       splice = λ others differ. subst (λ (xs : List ℕ). DifferIn c.args.gaps.now old (xs ++ others)) (sym items) differ;
       steps = omega arith;
+      least = least_kept (2 * count_new last entries) (2 * count_new last (drop (length row) entries)) c.args.arena.now.steps (omega arith);
       same = λ same. let none = ap (λ (xs : List ℕ). differing xs old) items in omega arith;
     }

@@ -1,4 +1,5 @@
 use Rattle.std.proofs.Common.{◌≡◌, ◌+◌, ◌*◌, ◌≤◌, ◌++◌, ℕ, List, length, drop}
+use Rattle.ibc_nodes.specs.Counts.{CountsAtLeast}
 use Rattle.ibc_nodes.specs.Gaps.{DifferIn, HasFirst, IsFoundFrom}
 use Rattle.ibc_nodes.specs.Leaves.{row_pairs, count_new, keys, differing}
 use Rattle.ibc_nodes.specs.Nodes.{Grows}
@@ -17,5 +18,6 @@ invariant-loop-i l =
       gaps : DifferIn (drop l.i l.gaps) (drop l.from last) rest;
       splice : (others : List ℕ) → DifferIn (drop l.i l.gaps) (drop l.from l.old) others → DifferIn l.gaps l.old (l.row.items ++ others);
       steps : l.arena.steps + 2 * count_new last rest ≤ l.initial.arena.steps + 2 * count_new last l.entries;
+      least : CountsAtLeast (2 * count_new last l.entries) l.initial.arena.steps (l.arena.steps + 2 * count_new last rest);
       same : keys l.entries ≡ keys last → differing l.row.items l.old + count_new last rest ≤ count_new last l.entries;
     }

@@ -1,7 +1,8 @@
 -- The pair is looked for from its place on.
-use Rattle.std.proofs.Common.{◌≡◌, ◌≤◌, Ok, get_or, length, drop, ap, ◌∙◌, arith}
+use Rattle.std.proofs.Common.{◌≡◌, ◌*◌, ◌≤◌, Ok, get_or, length, drop, sym, ap, ◌∙◌, subst, arith, OnOk}
 use Rattle.ibc_merkle.specs.Tree.{Pairs}
 use Rattle.ibc_merkle.proofs.Sorted.{rising_from_sorted}
+use Rattle.ibc_nodes.specs.Counts.{CountsAtLeast}
 use Rattle.ibc_nodes.specs.Leaves.{row_pairs, from_key}
 use Rattle.ibc_nodes.proofs.Finding.{FoundOne, found_one}
 use Rattle.ibc_nodes.proofs.LeafRows.{length-row_pairs}
@@ -19,14 +20,19 @@ found c =
     let within : c.place_from-found.result ≤ length last = let w = c.place_from-found.ensures.within in omega arith in
     let last_rises = rising_from_sorted last c.requires.last in
     let rises = rising_from_sorted entries c.requires.sorted in
-    let there = c.requires.there in
-    found_one last entries index c.place_from-found.result entry last_rises rises c.requires.here c.index-entries-index.is within
-    (found_here last entries index last_rises rises (omega arith) c.requires.here c.requires.front) rest
+    let other = c.requires.other in
+    found_one last entries index c.place_from-found.result entry last_rises other c.index-entries-index.is within
+    (found_here last entries index last_rises rises other.there other.here other.front) rest
 
 pub returns-clause-steps : goal.returns-clause-steps
-returns-clause-steps c = let few = (found c).few in let steps = c.leaf_for.ensures.steps in omega arith
+returns-clause-steps c = let few = (found c).count in let steps = c.leaf_for.ensures.steps in omega arith
+
+pub returns-clause-least : goal.returns-clause-least
+returns-clause-least c =
+    subst (λ n. OnOk c.leaf_for.result (CountsAtLeast (2 * n) c.args.arena.now.steps c.leaf_for.new.arena.steps)) (sym (found c).count) c.leaf_for.ensures.least
 
 pub returns-clause-same : goal.returns-clause-same
 returns-clause-same c = λ same.
-    kept_or_new c.leaf_for.result _ _ _ (found c).few
+    let count = (found c).count in
+    kept_or_new c.leaf_for.result _ _ _ (omega arith)
     (λ none. c.leaf_for.ensures.kept none ∙ ap (λ n. Ok (get_or c.args.old.now n 0)) ((found c).same same))

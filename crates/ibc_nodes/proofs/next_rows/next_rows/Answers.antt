@@ -1,9 +1,11 @@
 -- The rows over the leaves of the pairs.
-use Rattle.std.proofs.Common.{◌≡◌, ◌+◌, ◌-◌, ◌*◌, ◌≤◌, length, subst, arith}
+use Rattle.std.proofs.Common.{◌≡◌, ℕ, List, ◌+◌, ◌-◌, ◌*◌, ◌≤◌, length, subst, arith}
 use Rattle.ibc_merkle.specs.Tree.{Pairs}
+use Rattle.ibc_nodes.specs.Counts.{CountsEachNewLeaf}
 use Rattle.ibc_nodes.specs.Leaves.{row_pairs, keys, count_new, differing}
 use Rattle.ibc_nodes.specs.Rows.{rows_of, first_row}
 use Rattle.ibc_nodes.proofs.Climbing.{if_ok, if_both}
+use Rattle.ibc_nodes.proofs.Counting.{least_more}
 use Rattle.ibc_nodes.proofs.LeafRows.{length-row_pairs}
 use Rattle.ibc_nodes.proofs.Turning.{last-grows, over_pairs, row_count, same_keys_count, levels_few, all_texts}
 use Rattle.ibc_nodes.proofs.next_rows.next_rows.Goals as goal
@@ -22,6 +24,16 @@ returns-clause-pairs c =
     if_both c.rows_over.result _ _ _
     (λ next levels row. (over_pairs c.leaf_row.new.arena.trees c.rows_over.new.arena.trees c.in_ok-row.row.items (rows_of next.items) c.args.entries.now c.in_ok-row.ensures.leaves c.in_ok-row.ensures.stand c.rows_over.ensures.grows levels row).1)
     c.rows_over.ensures.levels c.rows_over.ensures.row
+
+pub returns-clause-least : goal.returns-clause-least
+returns-clause-least c =
+    let entries : Pairs = c.args.entries.now in
+    let before = c.args.arena.now in
+    let after = c.leaf_row.new.arena.steps in
+    let leaves : CountsEachNewLeaf (row_pairs before.trees (first_row (rows_of c.args.rows.now))) entries before.steps after =
+    subst (λ (row : List ℕ). CountsEachNewLeaf (row_pairs before.trees row) entries before.steps after) c.first_of.ensures c.in_ok-row.ensures.least
+    in
+    if_ok c.rows_over.result _ _ (λ _ more. least_more _ before.steps after c.rows_over.new.arena.steps leaves more) c.rows_over.ensures.least
 
 pub returns-clause-same : goal.returns-clause-same
 returns-clause-same c = λ same log few.

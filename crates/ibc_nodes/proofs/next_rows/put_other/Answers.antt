@@ -2,9 +2,11 @@
 use Rattle.std.proofs.Common.{◌≡◌, ℕ, ◌+◌, ◌-◌, ◌*◌, ◌≤◌, List, [], length, get_or, set, ap, ◌∙◌, subst, arith}
 use Rattle.std.proofs.lemmas.List.{length-set}
 use Rattle.ibc_merkle.specs.Tree.{Pairs}
+use Rattle.ibc_nodes.specs.Counts.{CountsEachNewLeaf}
 use Rattle.ibc_nodes.specs.Leaves.{row_pairs, keys, count_new, unlike}
 use Rattle.ibc_nodes.specs.Rows.{rows_of, first_row}
 use Rattle.ibc_nodes.proofs.Climbing.{if_ok, if_both}
+use Rattle.ibc_nodes.proofs.Counting.{least_more}
 use Rattle.ibc_nodes.proofs.LeafRows.{length-row_pairs, unlike_most}
 use Rattle.ibc_nodes.proofs.OneLeaf.{other_leaves, rows_few, few_texts, last_some}
 use Rattle.ibc_nodes.proofs.Turning.{last_leaves, over_pairs, levels_few, all_texts}
@@ -56,6 +58,16 @@ returns-clause-steps c =
     (λ _ _. few_texts new c.args.arena.now.steps middle c.put_leaf.new.arena.steps (unlike c.in_ok-leaf.leaf (get_or old c.args.index 0)) (length c.args.rows.now - 1) (length entries) leaf c.put_leaf.ensures.steps
     (unlike_most c.in_ok-leaf.leaf (get_or old c.args.index 0)) (omega arith))
     c.put_leaf.ensures.levels
+
+pub returns-clause-least : goal.returns-clause-least
+returns-clause-least c =
+    let entries : Pairs = c.args.entries.now in
+    let before = c.args.arena.now in
+    let after = c.other_leaf.new.arena.steps in
+    let leaf : CountsEachNewLeaf (row_pairs before.trees (first_row (rows_of c.args.rows.now))) entries before.steps after =
+    subst (λ (row : List ℕ). CountsEachNewLeaf (row_pairs before.trees row) entries before.steps after) c.first_of.ensures c.in_ok-leaf.ensures.least
+    in
+    if_ok c.put_leaf.result _ _ (λ _ more. least_more _ before.steps after c.put_leaf.new.arena.steps leaf more) c.put_leaf.ensures.least
 
 pub returns-clause-same : goal.returns-clause-same
 returns-clause-same c = λ same log few.

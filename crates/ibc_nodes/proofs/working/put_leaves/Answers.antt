@@ -2,6 +2,7 @@
 use Rattle.std.proofs.Common.{◌≡◌, ◌-◌, ◌*◌, ◌∙◌, ap₂, arith, get_or, length}
 use Rattle.ibc_nodes.specs.Leaves.{unlike}
 use Rattle.ibc_nodes.specs.Rows.{rows_of, first_row}
+use Rattle.ibc_nodes.proofs.Counting.{least_more}
 use Rattle.ibc_nodes.proofs.Pairing.{grows_on}
 use Rattle.ibc_nodes.proofs.Putting.{put_one, differing_more_times}
 use Rattle.ibc_nodes.proofs.working.put_leaves.Goals as goal
@@ -25,5 +26,6 @@ loop-i-preserved c =
       levels = c.in_ok-put_leaf.ensures.levels;
       row = c.in_ok-put_leaf.ensures.row ∙ w.2;
       grows = grows_on c.args.arena.now.trees c.loop-i.arena.trees c.put_leaf.new.arena.trees c.loop-i.invariant.grows c.put_leaf.ensures.grows;
+      least = least_more 0 c.args.arena.now.steps c.loop-i.arena.steps c.put_leaf.new.arena.steps c.loop-i.invariant.least c.in_ok-put_leaf.ensures.least;
       steps = omega arith;
     }

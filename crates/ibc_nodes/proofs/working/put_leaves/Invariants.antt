@@ -1,4 +1,5 @@
 use Rattle.std.proofs.Common.{◌≡◌, ◌+◌, ◌-◌, ◌*◌, ◌≤◌, ◌++◌, length, take, drop}
+use Rattle.ibc_nodes.specs.Counts.{CountsAtLeast}
 use Rattle.ibc_nodes.specs.Leaves.{differing}
 use Rattle.ibc_nodes.specs.Nodes.{Grows}
 use Rattle.ibc_nodes.specs.Rows.{IsPyramid, rows_of, first_row}
@@ -12,5 +13,6 @@ invariant-loop-i l =
       levels : IsPyramid l.arena.trees (rows_of l.rows);
       row : first_row (rows_of l.rows) ≡ take l.i l.row ++ drop l.i old;
       grows : Grows l.initial.arena.trees l.arena.trees;
+      least : CountsAtLeast 0 l.initial.arena.steps l.arena.steps;
       steps : l.arena.steps + differing (drop l.i l.row) (drop l.i old) * above ≤ l.initial.arena.steps + differing l.row old * above;
     }
