@@ -286,7 +286,7 @@ static void refuse_sending(world *w)
     transfer(&message, "channel-0", "alice", "atom", 1001, "bob", "", 1000);
     answer(&w->x, &message, IBCW_POOR, "a transfer of more than one holds");
     transfer_many(&message, "channel-0", "alice", denoms, 2, 1, "bob", "", 1000);
-    answer(&w->x, &message, IBCW_POOR, "a transfer of what one doesn't hold");
+    answer(&w->x, &message, IBCW_WRONG_VERSION, "several tokens over a channel whose packets have one");
     chan_close_init(&message, "transfer", "channel-0");
     answer(&w->x, &message, IBCW_CLOSE_REFUSED, "a channel of tokens is closed");
 }
