@@ -1,6 +1,6 @@
 /* Each number of include/ibcworld.h is met once, at least: what the core refuses, wrong use of the calls, and want of memory: of each
    message and block, and of most other calls, each allocation is refused in turn. Where a call is refused, the ledger's history is as
-   long as the header says. One number has no call here: IBCW_NUMBER_FULL is answered where a number has reached 2^64 - 1, which as many
+   long as the header says. What it was asked is read back from it, bytes and all, once at least of each kind of message. One number has no call here: IBCW_NUMBER_FULL is answered where a number has reached 2^64 - 1, which as many
    messages would have to count up to.
 
    Link it with -Wl,--wrap=malloc,--wrap=realloc. */
@@ -9,6 +9,11 @@
 enum { TIME = 100 };
 
 static int met[128];
+
+/* The kinds of events that were read back: those of messages by their tags, and the end of a block. */
+enum { EVENTS = 20 };
+
+static int read_back[EVENTS];
 
 /* ---- allocations that are refused */
 
@@ -75,6 +80,10 @@ static void answer(ibcw_handle *ledger, const text *message, uint32_t wanted, co
     WITH_REFUSALS(found, ibcw_apply(ledger, message->data, message->size), "a message");
     meet(found, wanted, what);
     want((uint32_t)(length_of(ledger) - before), (uint32_t)adds, what);
+    if (adds) {
+        want_event(ledger, before, message);
+        read_back[tag] = 1;
+    }
     if (adds && wanted != IBCW_DONE) {
         want(ibcw_reply(ledger, before, &told, NULL, 0, &size), IBCW_DONE, what);
         want((uint32_t)told.kind, IBCW_TOLD_REFUSAL, what);
@@ -89,6 +98,8 @@ static void end_block(ibcw_handle *ledger)
     WITH_REFUSALS(found, ibcw_end_block(ledger, TIME), "a block");
     want(found, IBCW_DONE, "a block");
     want((uint32_t)(length_of(ledger) - before), 1, "a block");
+    want_block(ledger, before, TIME);
+    read_back[IBCW_ASKED_BLOCK] = 1;
 }
 
 /* ---- a world of two chains */
@@ -264,6 +275,7 @@ static void first_owed(ibcw_handle *from, ibcw_handle *to, text *out)
 
 static void refuse_sending(world *w)
 {
+    static const char *const denoms[] = {"atom", "gold"};
     static text message;
     transfer(&message, "channel-9", "alice", "atom", 1, "bob", "", 1000);
     answer(&w->x, &message, IBCW_UNKNOWN_CHANNEL, "a transfer over no channel");
@@ -273,6 +285,8 @@ static void refuse_sending(world *w)
     answer(&w->x, &message, IBCW_TOO_LARGE, "a transfer of nothing");
     transfer(&message, "channel-0", "alice", "atom", 1001, "bob", "", 1000);
     answer(&w->x, &message, IBCW_POOR, "a transfer of more than one holds");
+    transfer_many(&message, "channel-0", "alice", denoms, 2, 1, "bob", "", 1000);
+    answer(&w->x, &message, IBCW_WRONG_VERSION, "several tokens over a channel whose packets have one");
     chan_close_init(&message, "transfer", "channel-0");
     answer(&w->x, &message, IBCW_CLOSE_REFUSED, "a channel of tokens is closed");
 }
@@ -328,6 +342,9 @@ static void refuse_timeouts(world *w)
     update(&w->x, &w->y);
     timeout_of(&timeout, &message, &w->y, 2);
     answer(&w->x, &timeout, IBCW_DONE, "a timeout");
+    timeout.data[0] = 18;
+    put_proof(&timeout, &w->y, channel_end("transfer", "channel-0"));
+    answer(&w->x, &timeout, IBCW_NO_COMMITMENT, "a timeout again, as on a closed channel");
 }
 
 /* ---- notes */
@@ -386,6 +403,17 @@ static void refuse_notes(world *w)
     want(ibcw_free(&notes), IBCW_DONE, "free");
 }
 
+static void close_notes(world *w)
+{
+    static text message;
+    chan_close_init(&message, "note", "channel-1");
+    answer(&w->x, &message, IBCW_DONE, "a channel of notes is closed");
+    end_block(&w->x);
+    update(&w->y, &w->x);
+    chan_close_confirm(&message, "note", "channel-1", &w->x);
+    answer(&w->y, &message, IBCW_DONE, "a channel of notes is closed at the other end");
+}
+
 /* ---- blocks, and windows of heights */
 
 /* The root of the height that the ledger committed last, by the reply of its history. */
@@ -396,6 +424,22 @@ static uint64_t last_root(ibcw_handle *ledger, uint8_t root[32])
     want(ibcw_reply(ledger, length_of(ledger) - 1, &told, root, 32, &size), IBCW_DONE, "a block's reply");
     want((uint32_t)told.kind, IBCW_TOLD_BLOCK, "a block's reply");
     return told.number;
+}
+
+/* The proof tells that it shows the absence of this path, and no value. */
+static void want_told_absence(const text *proof, const char *path)
+{
+    static text key;
+    uint8_t kind = 0;
+    uint32_t found;
+    size_t size = 77;
+    want(ibcw_proof_kind(proof->data, proof->size, &kind), IBCW_DONE, "the kind of a proof of absence");
+    want(kind, IBCW_ABSENT, "the kind of a proof of absence");
+    WITH_REFUSALS(found, ibcw_proof_key(proof->data, proof->size, key.data, ROOM, &key.size), "the key of a proof of absence");
+    want(found, IBCW_DONE, "the key of a proof of absence");
+    want((uint32_t)key.size, (uint32_t)strlen(path), "the size of a key");
+    want((uint32_t)memcmp(key.data, path, key.size), 0, "the bytes of a key");
+    want(ibcw_proof_value(proof->data, proof->size, NULL, 0, &size), IBCW_NOTHING_THERE, "the value of a proof of absence");
 }
 
 /* Proofs at a height show under its root how many clients there are, and that a connection isn't there. */
@@ -413,6 +457,7 @@ static void prove_there(ibcw_handle *ledger, uint64_t height, const uint8_t root
          "a proof of absence");
     want(ibcw_verify_absent(root, 32, bytes("connections/connection-7"), 24, proof.data, proof.size), IBCW_DONE,
          "a proof of absence");
+    want_told_absence(&proof, "connections/connection-7");
 }
 
 /* Proofs are of the heights in the window alone, whatever was committed since. */
@@ -650,6 +695,7 @@ int main(void)
     refuse_packets(&w);
     refuse_timeouts(&w);
     refuse_notes(&w);
+    close_notes(&w);
     refuse_blocks();
     prove_heights();
     refuse_texts(&w);
@@ -659,6 +705,8 @@ int main(void)
         if (is_number && n != IBCW_NUMBER_FULL) want((uint32_t)met[n], 1, "a number is met");
         count += met[n];
     }
+    for (int k = 0; k < EVENTS; k++) want((uint32_t)read_back[k], 1, "a kind of event is read back");
     printf("%d numbers are met, and %d allocations were refused\n", count, refusals);
+    printf("%d kinds of events are read back\n", EVENTS);
     return 0;
 }

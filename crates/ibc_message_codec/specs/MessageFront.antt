@@ -1,5 +1,5 @@
 -- How messages are read: the tag tells the kind, and the fields stand behind it.
-use Rattle.std.specs.Prelude.{Some}
+use Rattle.std.specs.Prelude.{Option, Some}
 use Rattle.ibc_ids.specs.Texts.{Text}
 use Rattle.ibc_wire.specs.Kinds.{kind_of_tag}
 use Rattle.ibc_wire.specs.Reading.{◌>>=◌, Front, byte_at_front}
@@ -12,6 +12,12 @@ use Rattle.ibc_wire.specs.declared.messages.Message.{Message}
 use Rattle.ibc_wire.specs.declared.messages.Message.TheVariants as message
 use Rattle.ibc_wire.specs.declared.messages.MessageKind.{MessageKind}
 use Rattle.ibc_wire.specs.declared.messages.MessageKind.TheVariants as kind
+
+-- the kind of message that has the first byte for its tag
+abbrev pub told_kind : Text → Option MessageKind
+told_kind text = do
+  tag ← byte_at_front text
+  kind_of_tag tag.0
 
 abbrev pub message_behind : MessageKind → Text → Front Message
 message_behind kind.CreateClient text = do

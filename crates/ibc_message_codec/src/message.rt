@@ -1,13 +1,12 @@
 //! How messages are spelled: a tag, and the fields behind it.
 
-ghost use Rattle.std.specs.Prelude.{◌≡◌, ◌⊎◌, IsTrue, IfOk, IfErr, IsErrOf, IsOkUnless};
+ghost use Rattle.std.specs.Prelude.{◌≡◌, ◌⊎◌, None, Err, IsTrue, IfOk, IfErr, IsErrOf, IsOkUnless};
 ghost use Rattle.ibc_wire.specs.Fields.{Spells, HasOneValue, have_form};
 ghost use Rattle.ibc_wire.specs.Messages.{message_fields};
 ghost use Rattle.ibc_wire.specs.Fronts.{Gives, Writes, only};
-ghost use Rattle.ibc_message_codec.specs.MessageFront.{message_behind, message_at_front};
+ghost use Rattle.ibc_message_codec.specs.MessageFront.{message_behind, message_at_front, told_kind};
 
 use crate::payload::{Payload, write_tagged};
-use ibc_codec::fields::read_u8;
 use ibc_ids::Refusal;
 use ibc_wire::{
     AckPacket, ChanCloseConfirm, ChanCloseInit, ChanOpenAck, ChanOpenConfirm, ChanOpenInit,
@@ -55,10 +54,13 @@ fn read_behind(alloc: Global, kind: MessageKind, bytes: &[u8]) -> Result<(Messag
 /// The message at the front of the bytes, and what stands behind it.
 #[tactic(auto, unfolding(crate::specs::MessageFront::message_at_front))]
 fn read_message(alloc: Global, bytes: &[u8]) -> Result<(Message, &[u8]), Refusal>
-    ensures { Gives (λ x. (x.0, x.1.now)) result (message_at_front bytes.now) }
+    ensures message { Gives (λ x. (x.0, x.1.now)) result (message_at_front bytes.now) }
+    ensures unknown { told_kind bytes.now ≡ None → result ≡ Err Refusal.BadMessage }
 {
-    let (tag, rest) = read_u8(bytes)?;
-    match MessageKind::of_tag(tag) {
+    let [tag, rest @ ..] = bytes else {
+        return Err(Refusal::BadMessage);
+    };
+    match MessageKind::of_tag(*tag) {
         Some(kind) => read_behind(alloc, kind, rest),
         None => Err(Refusal::BadMessage),
     }
@@ -93,7 +95,8 @@ fn write_message(out: &mut Vec<u8>, message: &Message) -> Result<(), Refusal>
 
 /// The message at the front of the bytes, behind which nothing stands.
 fn read_all(alloc: Global, bytes: &[u8]) -> Result<Message, Refusal>
-    ensures { Gives (λ x. x) result (only (message_at_front bytes.now)) }
+    ensures message { Gives (λ x. x) result (only (message_at_front bytes.now)) }
+    ensures unknown { told_kind bytes.now ≡ None → result ≡ Err Refusal.BadMessage }
 {
     match read_message(alloc, bytes)? {
         (message, []) => Ok(message),
@@ -117,11 +120,14 @@ pub fn encode(alloc: Global, message: &Message) -> Result<Vec<u8>, Refusal>
     Ok(bytes)
 }
 
-/// The message that the bytes spell, all of them. Refused: `BadMessage` exactly where they spell none; `NoMemory`.
+/// The message that the bytes spell, all of them. Refused: `BadMessage` only where they spell none, and always where no kind of
+/// message has their first byte for its tag, or there is no byte; `NoMemory` where a growth is refused before anything else is
+/// found to be wrong.
 pub fn decode(alloc: Global, bytes: &[u8]) -> Result<Message, Refusal>
     ensures ok { IfOk result (λ message. Spells (message_fields message) bytes.now) }
     ensures bad { IsErrOf result Refusal.BadMessage → (message : Message) → ¬ Spells (message_fields message) bytes.now }
     ensures memory { (message : Message) → Spells (message_fields message) bytes.now → IsOkUnless result Refusal.NoMemory }
+    ensures unknown { told_kind bytes.now ≡ None → result ≡ Err Refusal.BadMessage }
     ensures errors { IfErr result (λ e. (e ≡ Refusal.BadMessage) ⊎ (e ≡ Refusal.NoMemory)) }
 {
     read_all(alloc, bytes)

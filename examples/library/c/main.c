@@ -33,17 +33,23 @@ static const char *const KINDS[] = {"",
 
 /* ---- lines */
 
+/* The number of the last entry of the history. */
+static uint64_t last_entry(chain *at)
+{
+    uint64_t count = 0;
+    want(ibcw_length(&at->ledger, &count), IBCW_DONE, "length");
+    return count - 1;
+}
+
 static void print_reply(chain *at, const char *kind, uint32_t answer)
 {
     static text bytes;
-    uint64_t count = 0;
     ibcw_told told = {0, 0};
     if (answer != IBCW_DONE) {
         printf("%s %s no %u\n", at->name, kind, (unsigned)answer);
         return;
     }
-    want(ibcw_length(&at->ledger, &count), IBCW_DONE, "length");
-    want(ibcw_reply(&at->ledger, count - 1, &told, bytes.data, ROOM, &bytes.size), IBCW_DONE, "reply");
+    want(ibcw_reply(&at->ledger, last_entry(at), &told, bytes.data, ROOM, &bytes.size), IBCW_DONE, "reply");
     printf("%s %s ok", at->name, kind);
     if (told.kind == IBCW_TOLD_SENT || told.kind == IBCW_TOLD_BLOCK)
         printf(" %llu", (unsigned long long)told.number);
@@ -52,38 +58,18 @@ static void print_reply(chain *at, const char *kind, uint32_t answer)
     putchar('\n');
 }
 
-/* The last entry of the history is this message. */
-static void read_back(chain *at, const text *message, uint8_t tag)
-{
-    static text event;
-    uint64_t count = 0;
-    ibcw_asked asked = {77, 77};
-    want(ibcw_length(&at->ledger, &count), IBCW_DONE, "length");
-    want(ibcw_event(&at->ledger, count - 1, &asked, event.data, ROOM, &event.size), IBCW_DONE, "an event");
-    want((uint32_t)asked.kind, tag, "the kind of an event");
-    want((uint32_t)event.size, (uint32_t)message->size, "the size of an event");
-    want((uint32_t)memcmp(event.data, message->data, event.size), 0, "the bytes of an event");
-}
-
 static void apply(chain *to, const text *message)
 {
     uint8_t tag = 0;
     want(ibcw_message_tag(message->data, message->size, &tag), IBCW_DONE, "a message has a tag");
     print_reply(to, KINDS[tag], ibcw_apply(&to->ledger, message->data, message->size));
-    read_back(to, message, tag);
+    want_event(&to->ledger, last_entry(to), message);
 }
 
 static void end_block(chain *at)
 {
-    uint64_t count = 0;
-    size_t size = 77;
-    ibcw_asked asked = {77, 77};
     print_reply(at, "Block", ibcw_end_block(&at->ledger, TIME));
-    want(ibcw_length(&at->ledger, &count), IBCW_DONE, "length");
-    want(ibcw_event(&at->ledger, count - 1, &asked, NULL, 0, &size), IBCW_DONE, "an event");
-    want((uint32_t)asked.kind, IBCW_ASKED_BLOCK, "the kind of an event");
-    want((uint32_t)asked.next_time, TIME, "the next time of an event");
-    want((uint32_t)size, 0, "the size of an event");
+    want_block(&at->ledger, last_entry(at), TIME);
 }
 
 /* ---- a connection, and a channel of port transfer over it */

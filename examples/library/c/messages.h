@@ -32,6 +32,32 @@ static inline void want(uint32_t answer, uint32_t wanted, const char *what)
     }
 }
 
+/* ---- what a ledger was asked, read back from its history */
+
+/* The entry is of this message, of the kind that its first byte tells. */
+static inline void want_event(ibcw_handle *ledger, uint64_t index, const text *message)
+{
+    static text event;
+    ibcw_asked asked = {77, 77};
+    memset(&event, 0, sizeof event);
+    want(ibcw_event(ledger, index, &asked, event.data, ROOM, &event.size), IBCW_DONE, "an event");
+    want((uint32_t)asked.kind, message->data[0], "the kind of an event");
+    want((uint32_t)asked.next_time, 0, "the next time of an event");
+    want((uint32_t)event.size, (uint32_t)message->size, "the size of an event");
+    want((uint32_t)memcmp(event.data, message->data, event.size), 0, "the bytes of an event");
+}
+
+/* The entry is of the end of a block, and the next one has this time. */
+static inline void want_block(ibcw_handle *ledger, uint64_t index, uint64_t next_time)
+{
+    size_t size = 77;
+    ibcw_asked asked = {77, 77};
+    want(ibcw_event(ledger, index, &asked, NULL, 0, &size), IBCW_DONE, "an event");
+    want((uint32_t)asked.kind, IBCW_ASKED_BLOCK, "the kind of an event");
+    want((uint32_t)asked.next_time, (uint32_t)next_time, "the next time of an event");
+    want((uint32_t)size, 0, "the size of an event");
+}
+
 /* ---- fields */
 
 static inline void put_bytes(text *out, const void *bytes, size_t size)
@@ -237,6 +263,14 @@ static inline void chan_close_init(text *out, const char *port, const char *chan
     put_name(out, channel);
 }
 
+static inline void chan_close_confirm(text *out, const char *port, const char *channel, ibcw_handle *from)
+{
+    begin(out, 12);
+    put_name(out, port);
+    put_name(out, channel);
+    put_proved(out, from, channel_end(port, channel));
+}
+
 /* ---- what users send (ICS 20, and notes). A timeout of 0 is none. */
 
 static inline void put_timeouts(text *out, uint64_t height, uint64_t time)
@@ -254,6 +288,24 @@ static inline void transfer(text *out, const char *channel, const char *user, co
     put_name(out, denom);
     put_number(out, 0, 8);
     put_number(out, amount, 8);
+    put_name(out, receiver);
+    put_name(out, memo);
+    put_timeouts(out, timeout_height, 0);
+}
+
+/* So much of each of several denominations, which rise in byte order. */
+static inline void transfer_many(text *out, const char *channel, const char *user, const char *const denoms[], int count,
+                                 uint64_t amount, const char *receiver, const char *memo, uint64_t timeout_height)
+{
+    begin(out, 19);
+    put_name(out, channel);
+    put_name(out, user);
+    put_number(out, (uint64_t)count, 1);
+    for (int k = 0; k < count; k++) {
+        put_name(out, denoms[k]);
+        put_number(out, 0, 8);
+        put_number(out, amount, 8);
+    }
     put_name(out, receiver);
     put_name(out, memo);
     put_timeouts(out, timeout_height, 0);
