@@ -4,6 +4,8 @@
 #[cfg(test)]
 mod bank;
 #[cfg(test)]
+mod bank_row;
+#[cfg(test)]
 mod client;
 #[cfg(test)]
 mod connection;

@@ -22,20 +22,32 @@ tested_in (Some proof) test = tested (test proof)
 abbrev pub judged : Text → Text → (Proof → Bool) → Checked ⊤
 judged root bytes test = if length root == 32 then tested_in (proof_of bytes) test else Err BadMessage
 
+-- what the proof shows
+abbrev pub kind_told : Proof → ProofKind
+kind_told (Present proof) = kind.Present
+kind_told (Absent proof) = kind.Absent
+
+-- the key of which the proof speaks: that of the pair that it shows, or that which isn't there
+abbrev pub key_told : Proof → Text
+key_told (Present proof) = proof.key
+key_told (Absent proof) = proof.key
+
+-- the value that it shows the key to have, or none where it shows that the key isn't there
+abbrev pub value_told : Proof → Option Text
+value_told (Present proof) = Some proof.value
+value_told (Absent proof) = None
+
 -- what the proof shows that was read
 abbrev pub kind_in : Option Proof → Checked ProofKind
 kind_in None = Err BadMessage
-kind_in (Some (Present proof)) = Ok kind.Present
-kind_in (Some (Absent proof)) = Ok kind.Absent
+kind_in (Some proof) = Ok (kind_told proof)
 
 -- the key of the proof that was read
 abbrev pub key_in : Option Proof → Checked Text
 key_in None = Err BadMessage
-key_in (Some (Present proof)) = Ok proof.key
-key_in (Some (Absent proof)) = Ok proof.key
+key_in (Some proof) = Ok (key_told proof)
 
--- the value that it shows the key to have, or none where it shows that the key isn't there
+-- the value that it shows the key to have
 abbrev pub value_in : Option Proof → Checked (Option Text)
 value_in None = Err BadMessage
-value_in (Some (Present proof)) = Ok (Some proof.value)
-value_in (Some (Absent proof)) = Ok None
+value_in (Some proof) = Ok (value_told proof)

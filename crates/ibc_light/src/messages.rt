@@ -1,11 +1,12 @@
 //! Messages as their bytes.
 
-ghost use Rattle.std.specs.Prelude.{◌≡◌, ◌⊎◌, None, Some, IfOk, IfErr, IsErrOf, MatchOption};
+ghost use Rattle.std.specs.Prelude.{◌≡◌, ◌⊎◌, None, Some, Err, IfOk, IfErr, IsErrOf, MatchOption};
 ghost use Rattle.ibc_ids.specs.declared.refusal.Refusal.TheVariants.{BadMessage, NoMemory};
 ghost use Rattle.ibc_wire.specs.Fields.{Spells};
 ghost use Rattle.ibc_wire.specs.Messages.{message_fields};
 ghost use Rattle.ibc_wire.specs.declared.messages.Message.{Message as AMessage};
 ghost use Rattle.ibc_wire.specs.Kinds.{kind_of, tag_of};
+ghost use Rattle.ibc_message_codec.specs.MessageFront.{told_kind};
 ghost use Rattle.ibc_light.specs.Carried.{carried_proof, first_in, height_in, proof_in, second_in};
 
 use ibc_ids::{Bytes, Refusal};
@@ -13,10 +14,12 @@ use ibc_message_codec::decode;
 use ibc_wire::Message;
 use std::alloc::Global;
 
-/// The tag, 1 to 19, of the message that the bytes spell. Refused: `BadMessage` exactly where they spell none; `NoMemory`.
+/// The tag, 1 to 19, of the message that the bytes spell. Refused as by `decode`: `BadMessage` only where they spell none, and
+/// always where they begin with the tag of no message; `NoMemory`.
 pub fn tag_of(alloc: Global, bytes: &[u8]) -> Result<u8, Refusal>
     ensures ok { IfOk result (λ tag. (message : AMessage) × Spells (message_fields message) bytes.now × (tag ≡ tag_of (kind_of message))) }
     ensures bad { IsErrOf result BadMessage → (message : AMessage) → ¬ Spells (message_fields message) bytes.now }
+    ensures unknown { told_kind bytes.now ≡ None → result ≡ Err BadMessage }
     ensures err { IfErr result (λ refusal. (refusal ≡ BadMessage) ⊎ (refusal ≡ NoMemory)) }
 {
     let message = decode(alloc, bytes)?;
@@ -34,11 +37,11 @@ pub struct Carried {
 
 /// The proof at an index, 0 or 1, of those that the message carries which the bytes spell, or none where it carries none there.
 /// ConnOpenTry and ConnOpenAck carry that of the end and that of the client, TimeoutOnClose that of the packet and that of the
-/// closed channel; each other message that needs the other chain's word carries one. Refused: `BadMessage` exactly where they
-/// spell no message; `NoMemory`.
+/// closed channel; each other message that needs the other chain's word carries one. Refused: as by `tag_of`.
 pub fn carried_proof(alloc: Global, bytes: &[u8], index: u64) -> Result<Option<Carried>, Refusal>
     ensures ok { IfOk result (λ found. (message : AMessage) × Spells (message_fields message) bytes.now × (found ≡ carried_proof index message)) }
     ensures bad { IsErrOf result BadMessage → (message : AMessage) → ¬ Spells (message_fields message) bytes.now }
+    ensures unknown { told_kind bytes.now ≡ None → result ≡ Err BadMessage }
     ensures err { IfErr result (λ refusal. (refusal ≡ BadMessage) ⊎ (refusal ≡ NoMemory)) }
 {
     let message = decode(alloc, bytes)?;

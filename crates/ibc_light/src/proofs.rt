@@ -4,7 +4,7 @@ ghost use Rattle.std.specs.Prelude.{◌≡◌, ◌≢◌, ◌⊎◌, Err, IfOk, 
 ghost use Rattle.ibc_ids.specs.declared.refusal.Refusal.TheVariants.{BadMessage, NoMemory};
 ghost use Rattle.ibc_merkle.specs.Proofs.{accepts_absent, accepts_present};
 ghost use Rattle.ibc_wire.specs.Reading.{proof_of};
-ghost use Rattle.ibc_light.specs.Judged.{judged, key_in, kind_in, tested, value_in};
+ghost use Rattle.ibc_light.specs.Judged.{judged, key_in, key_told, kind_in, kind_told, tested, value_in, value_told};
 
 use ibc_client::read_proof;
 use ibc_ics23_proof::{verify_absent, verify_present};
@@ -57,21 +57,35 @@ pub fn kind_of(alloc: Global, proof: &[u8]) -> Result<ProofKind, Refusal>
     ensures { (result ≡ Err NoMemory) ⊎ (result ≡ kind_in (proof_of proof.now)) }
 {
     let proof = read_proof(alloc, proof)?;
-    let kind = match &proof {
-        Proof::Present(_) => ProofKind::Present,
-        Proof::Absent(_) => ProofKind::Absent,
-    };
+    let kind = kind_told(&proof);
     drop(proof);
     Ok(kind)
+}
+
+// What the proof shows.
+fn kind_told(proof: &Proof) -> ProofKind
+    ensures { result ≡ kind_told proof.now }
+{
+    match proof {
+        Proof::Present(_) => ProofKind::Present,
+        Proof::Absent(_) => ProofKind::Absent,
+    }
 }
 
 /// The key of which the proof speaks that the bytes spell. Refused as by `kind_of`.
 pub fn key_of(alloc: Global, proof: &[u8]) -> Result<Bytes, Refusal>
     ensures { (result ≡ Err NoMemory) ⊎ (result ≡ key_in (proof_of proof.now)) }
 {
-    match read_proof(alloc, proof)? {
-        Proof::Present(shown) => Ok(shown.key),
-        Proof::Absent(shown) => Ok(shown.key),
+    Ok(key_told(read_proof(alloc, proof)?))
+}
+
+// The key of which the proof speaks.
+fn key_told(proof: Proof) -> Bytes
+    ensures { result ≡ key_told proof }
+{
+    match proof {
+        Proof::Present(shown) => shown.key,
+        Proof::Absent(shown) => shown.key,
     }
 }
 
@@ -80,9 +94,16 @@ pub fn key_of(alloc: Global, proof: &[u8]) -> Result<Bytes, Refusal>
 pub fn value_of(alloc: Global, proof: &[u8]) -> Result<Option<Bytes>, Refusal>
     ensures { (result ≡ Err NoMemory) ⊎ (result ≡ value_in (proof_of proof.now)) }
 {
-    match read_proof(alloc, proof)? {
-        Proof::Present(shown) => Ok(Some(shown.value)),
-        Proof::Absent(_) => Ok(None),
+    Ok(value_told(read_proof(alloc, proof)?))
+}
+
+// The value that the proof shows its key to have, or none where it shows that the key isn't there.
+fn value_told(proof: Proof) -> Option<Bytes>
+    ensures { result ≡ value_told proof }
+{
+    match proof {
+        Proof::Present(shown) => Some(shown.value),
+        Proof::Absent(_) => None,
     }
 }
 
