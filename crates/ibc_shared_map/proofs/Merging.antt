@@ -7,7 +7,8 @@ use Rattle.std.specs.Option.{MatchOption}
 use Rattle.std.specs.Iterator.{MakesProgress, item_count}
 use Rattle.std.proofs.lemmas.Map.Lookups.{CmpEqualImpliesEq}
 use Rattle.ibc_ids.specs.Maps.{Map, with, without}
-use Rattle.ibc_sorted_map.proofs.Sorted.{AreRising, AllAbove, rising_from_sorted, greater_from, less_from}
+use Rattle.ibc_sorted_map.specs.Sides.{AllAbove}
+use Rattle.ibc_sorted_map.proofs.Sorted.{AreRising, rising_from_sorted, greater_from, less_from}
 use Rattle.ibc_sorted_map.proofs.Edits.{without-above, sorted_from_rising}
 use Rattle.ibc_shared_map.specs.Changes.{written, changed}
 use Rattle.ibc_shared_map.specs.Settled.{AreSorted}

@@ -4,7 +4,8 @@ use Rattle.std.specs.Cmp.{IsTotalOrder, alike_right, tied_itself}
 use Rattle.std.specs.Ordering.{match_ordering, ordering_reverse}
 use Rattle.std.proofs.lemmas.Map.Lookups.{CmpEqualImpliesEq}
 use Rattle.ibc_ids.specs.Maps.{Map, at, with, without}
-use Rattle.ibc_sorted_map.proofs.Sorted.{AreRising, AllBelow, AllAbove, at-none}
+use Rattle.ibc_sorted_map.specs.Sides.{AllBelow, AllAbove}
+use Rattle.ibc_sorted_map.proofs.Sorted.{AreRising, at-none}
 
 equal : (o : Ordering) → is_eq o ≡ true → o ≡ Equal
 equal Equal e = refl

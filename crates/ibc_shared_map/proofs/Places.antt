@@ -6,7 +6,8 @@ use Rattle.std.specs.Ordering.{is_gt, match_ordering, ordering_reverse}
 use Rattle.std.specs.FinMap.{is_sorted}
 use Rattle.std.specs.List.{AllByRecursion}
 use Rattle.ibc_ids.specs.Maps.{Map, at, with, without}
-use Rattle.ibc_sorted_map.proofs.Sorted.{AreRising, AllBelow, AllAbove, rising_from_sorted, before_is_below, less_from, below_tied, at-behind, at-none}
+use Rattle.ibc_sorted_map.specs.Sides.{AllBelow, AllAbove}
+use Rattle.ibc_sorted_map.proofs.Sorted.{AreRising, rising_from_sorted, before_is_below, less_from, below_tied, at-behind, at-none}
 use Rattle.ibc_sorted_map.proofs.Edits.{with-step, without-step, without-above, sorted_from_rising}
 use Rattle.ibc_shared_map.specs.Chunks.{Chunk, joined, begins_above, HasPairs, IsRow}
 use Rattle.ibc_shared_map.proofs.Orders.{above-less, below-less, rising-right, rising-with, rising-without}

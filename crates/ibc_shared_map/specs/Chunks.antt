@@ -5,6 +5,7 @@ use Rattle.std.specs.Arc.{arc_value}
 use Rattle.std.specs.FinMap.{is_sorted}
 use Rattle.std.specs.Ordering.{is_gt}
 use Rattle.std.specs.declared.cmp.Ordering.{Ordering}
+use Rattle.std.specs.declared.cmp.Ordering.TheVariants.{Equal}
 use Rattle.std.specs.declared.alloc.Global.{Global}
 use Rattle.std.specs.declared.sync.Arc.{Arc}
 use Rattle.ibc_ids.specs.Maps.{Map}
@@ -13,6 +14,10 @@ use Rattle.ibc_sorted_map.specs.Held.{HeldMap}
 -- a copy of a value is the value
 abbrev pub CopiesAreSame : {T : Type 0} → (T → T → Type 0) → Type 0
 CopiesAreSame {T} is_clone = (value copy : T) → is_clone value copy → copy ≡ value
+
+-- keys that tie are the same
+abbrev pub TiesAreSame : {K : Type 0} → (K → K → Ordering) → Type 0
+TiesAreSame {K} order = (key other : K) → order key other ≡ Equal → key ≡ other
 
 abbrev pub Chunk : Type 0 → Type 0 → Type 0
 Chunk K V = Arc (HeldMap K V) Global

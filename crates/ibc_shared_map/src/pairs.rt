@@ -84,7 +84,7 @@ pub struct Pairs<'m, K: Ord, V> {
 }
 
 impl<'m, K: Ord, V> Model for Pairs<'m, K, V> {
-    ghost use Rattle.std.proofs.lemmas.Map.Lookups.{CmpEqualImpliesEq};
+    ghost use Rattle.ibc_shared_map.specs.Chunks.{TiesAreSame};
     ghost use Rattle.std.specs.Coded.{coded_list, coded×};
     ghost use Rattle.ibc_ids.specs.Maps.{Map};
     ghost use Rattle.ibc_shared_map.specs.Changes.{changed};
@@ -96,7 +96,7 @@ impl<'m, K: Ord, V> Model for Pairs<'m, K, V> {
 
     ghost view = { λ rest. changed K.cmp rest.changes.now rest.settled };
 
-    ghost invariant = { λ rest. AreSorted K.cmp rest.changes.now rest.settled × CmpEqualImpliesEq K.cmp };
+    ghost invariant = { λ rest. AreSorted K.cmp rest.changes.now rest.settled × TiesAreSame K.cmp };
 }
 
 impl<'m, K: Ord, V> Iterator for Pairs<'m, K, V> {

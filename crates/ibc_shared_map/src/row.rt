@@ -3,7 +3,7 @@
 ghost use Rattle.std.specs.Prelude.{◌≡◌, ◌<◌, ◌+◌, ◌∷◌, [], length, take, drop, OnOk, OnErr, IfOk, option_copied};
 ghost use Rattle.std.specs.Arc.{arc_value};
 ghost use Rattle.ibc_ids.specs.Maps.{at, with, without};
-ghost use Rattle.ibc_sorted_map.proofs.Sorted.{AllBelow, AllAbove};
+ghost use Rattle.ibc_sorted_map.specs.Sides.{AllBelow, AllAbove};
 ghost use Rattle.ibc_shared_map.specs.Chunks.{joined, begins_above, CopiesAreSame, IsRow};
 
 use crate::chunk::{Chunk, first_chunk, halves, remove_in, set_in};

@@ -1,11 +1,10 @@
 //! A map whose changes wait beside what its copies share.
 
 ghost use Rattle.std.specs.Prelude.{◌≡◌, ◌+◌, ◌≤◌, ◌<◌, [], IsTrue, IsOk, OnOk, OnErr, IfOk, option_copied};
-ghost use Rattle.std.proofs.lemmas.Map.Lookups.{CmpEqualImpliesEq};
 ghost use Rattle.std.specs.Arc.{arc_value};
 ghost use Rattle.std.specs.FinMap.{is_sorted};
 ghost use Rattle.ibc_ids.specs.Maps.{at, with, without};
-ghost use Rattle.ibc_shared_map.specs.Chunks.{CopiesAreSame};
+ghost use Rattle.ibc_shared_map.specs.Chunks.{CopiesAreSame, TiesAreSame};
 ghost use Rattle.ibc_shared_map.specs.Changes.{written, changed};
 ghost use Rattle.ibc_shared_map.specs.Settled.{settled_pairs, AreSorted};
 
@@ -34,9 +33,8 @@ pub struct SharedMap<K: Ord + Clone, V: Clone> {
 }
 
 impl<K: Ord + Clone, V: Clone> Model for SharedMap<K, V> {
-    ghost use Rattle.std.proofs.lemmas.Map.Lookups.{CmpEqualImpliesEq};
     ghost use Rattle.ibc_sorted_map.specs.Held.{HeldMap, held_code};
-    ghost use Rattle.ibc_shared_map.specs.Chunks.{CopiesAreSame};
+    ghost use Rattle.ibc_shared_map.specs.Chunks.{CopiesAreSame, TiesAreSame};
     ghost use Rattle.ibc_shared_map.specs.Changes.{changed};
     ghost use Rattle.ibc_shared_map.specs.Settled.{settled_pairs, AreSorted};
 
@@ -46,13 +44,13 @@ impl<K: Ord + Clone, V: Clone> Model for SharedMap<K, V> {
 
     ghost view = { λ map. record { pairs = changed K.cmp map.changes.pairs (settled_pairs map.settled); room = map.changes.room } };
 
-    ghost invariant = { λ map. AreSorted K.cmp map.changes.pairs (settled_pairs map.settled) × CmpEqualImpliesEq K.cmp × CopiesAreSame K.is_clone × CopiesAreSame V.is_clone };
+    ghost invariant = { λ map. AreSorted K.cmp map.changes.pairs (settled_pairs map.settled) × TiesAreSame K.cmp × CopiesAreSame K.is_clone × CopiesAreSame V.is_clone };
 }
 
 impl<K: Ord + Clone, V: Clone> SharedMap<K, V> {
     /// An empty map.
     pub fn new(alloc: Global) -> SharedMap<K, V>
-        requires order { CmpEqualImpliesEq K.cmp }
+        requires order { TiesAreSame K.cmp }
         requires keys { CopiesAreSame K.is_clone }
         requires values { CopiesAreSame V.is_clone }
         ensures { result.pairs ≡ [] }
@@ -243,7 +241,7 @@ fn write_settled<K: Ord + Clone + Drop, V: Clone + Drop>(
 ) -> Result<(), AllocError>
     requires keys { CopiesAreSame K.is_clone }
     requires values { CopiesAreSame V.is_clone }
-    requires order { CmpEqualImpliesEq K.cmp }
+    requires order { TiesAreSame K.cmp }
     requires sorted { AreSorted K.cmp changes.now (settled_pairs settled.old) }
     ensures ok { OnOk result (settled_pairs settled.new ≡ changed K.cmp changes.now (settled_pairs settled.old)) }
     ensures again { OnErr result (changed K.cmp changes.now (settled_pairs settled.new) ≡ changed K.cmp changes.now (settled_pairs settled.old)) }
@@ -265,7 +263,7 @@ fn first_row<K: Ord + Clone + Drop, V: Clone + Drop>(
 ) -> Result<Arc<Row<K, V>, Global>, AllocError>
     requires keys { CopiesAreSame K.is_clone }
     requires values { CopiesAreSame V.is_clone }
-    requires order { CmpEqualImpliesEq K.cmp }
+    requires order { TiesAreSame K.cmp }
     requires sorted { IsTrue (is_sorted K.cmp changes.now) }
     ensures { IfOk result (λ row. arc_value row ≡ changed K.cmp changes.now []) }
 {
@@ -288,7 +286,7 @@ fn write_shared<K: Ord + Clone + Drop, V: Clone + Drop>(
 ) -> Result<(), AllocError>
     requires keys { CopiesAreSame K.is_clone }
     requires values { CopiesAreSame V.is_clone }
-    requires order { CmpEqualImpliesEq K.cmp }
+    requires order { TiesAreSame K.cmp }
     requires sorted { AreSorted K.cmp changes.now (arc_value shared.old) }
     ensures ok { OnOk result (arc_value shared.new ≡ changed K.cmp changes.now (arc_value shared.old)) }
     ensures again { OnErr result (changed K.cmp changes.now (arc_value shared.new) ≡ changed K.cmp changes.now (arc_value shared.old)) }
@@ -317,7 +315,7 @@ fn write_all<K: Ord + Clone + Drop, V: Clone + Drop>(
 ) -> Result<(), AllocError>
     requires keys { CopiesAreSame K.is_clone }
     requires values { CopiesAreSame V.is_clone }
-    requires order { CmpEqualImpliesEq K.cmp }
+    requires order { TiesAreSame K.cmp }
     requires sorted { AreSorted K.cmp changes.now row.old }
     ensures ok { OnOk result (row.new ≡ changed K.cmp changes.now row.old) }
     ensures again { OnErr result (changed K.cmp changes.now row.new ≡ changed K.cmp changes.now row.old) }

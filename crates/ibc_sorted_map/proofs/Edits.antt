@@ -6,7 +6,8 @@ use Rattle.std.specs.FinMap.Entries.{below_all}
 use Rattle.std.specs.Ordering.{match_ordering}
 use Rattle.std.proofs.lemmas.Bool.{and_from}
 use Rattle.ibc_ids.specs.Maps.{Map, with, without}
-use Rattle.ibc_sorted_map.proofs.Sorted.{AreRising, AllBelow, AllAbove, rising_from_sorted, above-left, above-right, greater_from}
+use Rattle.ibc_sorted_map.specs.Sides.{AllBelow, AllAbove}
+use Rattle.ibc_sorted_map.proofs.Sorted.{AreRising, rising_from_sorted, above-left, above-right, greater_from}
 
 module _ {K V : Type 0} (order : K → K → Ordering) where
   -- ---- the test, and the same by recursion

@@ -7,7 +7,8 @@ use Rattle.std.specs.List.Sorted.{IsNonDecreasingBy, IsSortedBy, IsPartitionPoin
 use Rattle.std.specs.FinMap.{is_sorted}
 use Rattle.std.proofs.lemmas.List.Sorted.{searchable_from_sorted}
 use Rattle.ibc_ids.specs.Maps.{Map, at, with, without}
-use Rattle.ibc_sorted_map.proofs.Sorted.{AreRising, AllBelow, AllAbove, rising_from_sorted, before_is_below, greater_from, less_from, below_tied, at-behind, at-none}
+use Rattle.ibc_sorted_map.specs.Sides.{AllBelow, AllAbove}
+use Rattle.ibc_sorted_map.proofs.Sorted.{AreRising, rising_from_sorted, before_is_below, greater_from, less_from, below_tied, at-behind, at-none}
 use Rattle.ibc_sorted_map.proofs.Edits.{with-here, without-here, with-gap, without-gap, again_is_sorted, between_is_sorted, middle_is_sorted}
 
 -- ---- a list at an index

@@ -1,7 +1,6 @@
 -- Pairs in the order of their keys, cut at a key: what stands before and behind, and what is found there.
 use Rattle.std.proofs.Common.{◌≡◌, true, cond, [], ◌∷◌, ◌++◌, refl, ap, ◌∙◌, Ordering, Less, Equal, Greater, is_lt, is_eq, Some, None}
 use Rattle.std.specs.Prelude.{⊤}
-use Rattle.std.specs.List.{AllByRecursion}
 use Rattle.std.specs.Cmp.{IsTotalOrder, alike_right}
 use Rattle.std.specs.FinMap.{is_sorted}
 use Rattle.std.specs.FinMap.Entries.{below_all}
@@ -9,20 +8,14 @@ use Rattle.std.specs.Ordering.{ordering_reverse}
 use Rattle.std.proofs.lemmas.Bool.{and_parts}
 use Rattle.ibc_ids.specs.Maps.{Map, at}
 use Rattle.ibc_ids.proofs.Texts.{lt_is_less}
+use Rattle.ibc_sorted_map.specs.Sides.{AllBelow, AllAbove}
 
 module _ {K V : Type 0} (order : K → K → Ordering) where
-  -- every key is below this one, or above it
-  abbrev pub AllBelow : K → Map K V → Type 0
-  AllBelow key pairs = AllByRecursion (λ (e : K × V). order e.0 key ≡ Less) pairs
-
-  abbrev pub AllAbove : K → Map K V → Type 0
-  AllAbove key pairs = AllByRecursion (λ (e : K × V). order key e.0 ≡ Less) pairs
-
   abbrev pub AreRising : Map K V → Type 0
   AreRising [] = ⊤
-  AreRising (e ∷ es) = AllAbove e.0 es × AreRising es
+  AreRising (e ∷ es) = AllAbove order e.0 es × AreRising es
 
-  above_from_below_all : (key : K) (es : Map K V) → below_all order key es ≡ true → AllAbove key es
+  above_from_below_all : (key : K) (es : Map K V) → below_all order key es ≡ true → AllAbove order key es
   above_from_below_all key [] h = tt
   above_from_below_all key (e ∷ es) h =
       let parts = and_parts (is_lt (order key e.0)) (below_all order key es) h in
@@ -34,16 +27,16 @@ module _ {K V : Type 0} (order : K → K → Ordering) where
       let parts = and_parts (below_all order e.0 es) (is_sorted order es) h in
       (above_from_below_all e.0 es parts.0, rising_from_sorted es parts.1)
 
-  pub above-left : (key : K) (xs ys : Map K V) → AllAbove key (xs ++ ys) → AllAbove key xs
+  pub above-left : (key : K) (xs ys : Map K V) → AllAbove order key (xs ++ ys) → AllAbove order key xs
   above-left key [] ys h = tt
   above-left key (x ∷ xs) ys h = (h.0, above-left key xs ys h.1)
 
-  pub above-right : (key : K) (xs ys : Map K V) → AllAbove key (xs ++ ys) → AllAbove key ys
+  pub above-right : (key : K) (xs ys : Map K V) → AllAbove order key (xs ++ ys) → AllAbove order key ys
   above-right key [] ys h = h
   above-right key (x ∷ xs) ys h = above-right key xs ys h.1
 
   -- what stands before a pair is below it
-  pub before_is_below : (xs : Map K V) (y : K × V) (ys : Map K V) → AreRising (xs ++ y ∷ ys) → AllBelow y.0 xs
+  pub before_is_below : (xs : Map K V) (y : K × V) (ys : Map K V) → AreRising (xs ++ y ∷ ys) → AllBelow order y.0 xs
   before_is_below [] y ys h = tt
   before_is_below (x ∷ xs) y ys h = ((above-right x.0 xs (y ∷ ys) h.0).0, before_is_below xs y ys h.1)
 

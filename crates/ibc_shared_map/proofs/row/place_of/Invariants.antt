@@ -1,5 +1,5 @@
 use Rattle.std.proofs.Common.{◌-◌, ◌<◌, ◌≤◌, length, take, drop}
-use Rattle.ibc_sorted_map.proofs.Sorted.{AllBelow, AllAbove}
+use Rattle.ibc_sorted_map.specs.Sides.{AllBelow, AllAbove}
 use Rattle.ibc_shared_map.specs.Chunks.{joined}
 use Rattle.ibc_shared_map.proofs.row.place_of.Given as goal
 
