@@ -14,31 +14,13 @@ use Rattle.ibc_wire.specs.declared.records.ChannelState.TheVariants.{Closed}
 use Rattle.ibc_machine.specs.Records.{Core, Channel, Commitment, channel_at, with_channel, is_one_of, added}
 use Rattle.ibc_machine.specs.Channels.{in_state}
 use Rattle.ibc_machine.specs.Packets.{is_ordered, after_send, after_receive, without_commitment, after_ack, after_timeout}
-use Rattle.ibc_machine.specs.Values.{Value, ChannelIs, NumberIs, CommitmentIs, ReceiptIs, AckIs, look, receipt_if, value_bytes}
+use Rattle.ibc_machine.specs.Parts.{Part, End, NextSend, NextRecv, NextAck, CommitmentOf, ReceiptOf, AckOf, key_of, received, acknowledged, timed_out}
+use Rattle.ibc_machine.specs.Values.{Value, ChannelIs, NumberIs, CommitmentIs, ReceiptIs, AckIs, look, receipt_if}
 use Rattle.ibc_machine.proofs.FiniteMaps.{by_number, by_pair, at-with_same, at-with_split, named-with}
 use Rattle.ibc_machine.proofs.SortedMaps.{Sorted, at-without_same, at-without_other, is_one_of-added, added_there}
 use Rattle.ibc_machine.specs.Image.{IsKeyed}
 use Rattle.ibc_machine.proofs.ImageChanges.{Change, ChangesIn, IsApart}
 use Rattle.ibc_machine.proofs.ChannelChanges.{end_of, send_of, recv_of, ack_of, commitment_at, receipt_at, acknowledgement_at}
-
--- what a channel proves: its end, its counters, and by sequence what stands of its packets
-pub data Part : Type 0 where
-  End : Part
-  NextSend : Part
-  NextRecv : Part
-  NextAck : Part
-  CommitmentOf : ℕ → Part
-  ReceiptOf : ℕ → Part
-  AckOf : ℕ → Part
-
-abbrev pub key_of : Text → Text → Part → Key
-key_of port id End = key.ChannelEnd port id
-key_of port id NextSend = key.NextSequenceSend port id
-key_of port id NextRecv = key.NextSequenceRecv port id
-key_of port id NextAck = key.NextSequenceAck port id
-key_of port id (CommitmentOf n) = key.Commitment port id n
-key_of port id (ReceiptOf n) = key.Receipt port id n
-key_of port id (AckOf n) = key.Acknowledgement port id n
 
 -- what stands at a part of a channel, or of none
 abbrev pub part_of : Part → Option Channel → Option Value
@@ -157,28 +139,12 @@ module _ (core : Core) (port id : Text) (mine after : Channel) (edits : List Edi
 abbrev pub set_part : Part × Value → Edit
 set_part entry = (entry.0, Some entry.1)
 
--- its path with the bytes that stand there
-abbrev pub entry_of : Text → Text → Part × Value → Text × Text
-entry_of port id entry = (path (key_of port id entry.0), value_bytes entry.1)
-
 abbrev pub edits_of_send : Commitment → Channel → List Edit
 edits_of_send c mine =
     (CommitmentOf mine.next_send, Some (CommitmentIs c)) ∷ (NextSend, Some (NumberIs (mine.next_send + 1))) ∷ []
 
--- what is written beside the acknowledgement: the counter of an ordered channel, or a receipt
-abbrev pub received : ℕ → Channel → Part × Value
-received n mine = if is_ordered mine then (NextRecv, NumberIs (mine.next_recv + 1)) else (ReceiptOf n, ReceiptIs)
-
 abbrev pub edits_of_receive : ℕ → Text → Channel → List Edit
 edits_of_receive n ack mine = (AckOf n, Some (AckIs ack)) ∷ set_part (received n mine) ∷ []
-
--- what is written where the commitment is removed: the counter of an ordered channel
-abbrev pub acknowledged : Channel → Option (Part × Value)
-acknowledged mine = if is_ordered mine then Some (NextAck, NumberIs (mine.next_ack + 1)) else None
-
--- or its end
-abbrev pub timed_out : Channel → Option (Part × Value)
-timed_out mine = if is_ordered mine then Some (End, ChannelIs (record mine.end { state = Closed })) else None
 
 abbrev pub edits_of_settling : ℕ → Option (Part × Value) → List Edit
 edits_of_settling n None = (CommitmentOf n, None) ∷ []

@@ -7,6 +7,7 @@ pub mod Clients
 pub mod Connections
 pub mod Channels
 pub mod Packets
+pub mod Parts
 pub mod TokenData
 pub mod Bank
 pub mod Transfers

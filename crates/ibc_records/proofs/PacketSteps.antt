@@ -14,10 +14,11 @@ use Rattle.ibc_wire.specs.declared.records.ChannelEnd.{ChannelEnd}
 use Rattle.ibc_machine.specs.Checks.{Checked}
 use Rattle.ibc_machine.specs.Records.{Core, Channel, Commitment, channel_at, with_channel}
 use Rattle.ibc_machine.specs.Packets.{after_send, after_receive, after_ack, after_timeout}
+use Rattle.ibc_machine.specs.Parts.{Part, entry_of, received, acknowledged, timed_out}
 use Rattle.ibc_machine.specs.Values.{Value, CommitmentIs, NumberIs, AckIs, value_bytes}
 use Rattle.ibc_machine.proofs.SortedMaps.{Sorted, Sorted-from}
 use Rattle.ibc_machine.proofs.ImageChanges.{with_changes}
-use Rattle.ibc_machine.proofs.PacketChanges.{Part, Edit, EditsOf, change_of, entry_of, edits_of_send, edits_of_receive, edits_of_settling, received, acknowledged, timed_out, changes-with_edits, keyed-with_edits, edits-after_send, edits-after_receive, edits-after_ack, edits-after_timeout}
+use Rattle.ibc_machine.proofs.PacketChanges.{Edit, EditsOf, change_of, edits_of_send, edits_of_receive, edits_of_settling, changes-with_edits, keyed-with_edits, edits-after_send, edits-after_receive, edits-after_ack, edits-after_timeout}
 use Rattle.ibc_path_store.specs.Held.{HeldStore}
 use Rattle.ibc_flight.specs.Orderly.{IsOrderlyEnd}
 use Rattle.ibc_records.specs.Held.{HeldRecords, IsHeld, AreOrderly, core_of}

@@ -11,7 +11,7 @@ ghost use Rattle.ibc_ids.specs.declared.refusal.Refusal.TheVariants.{NoMemory};
 ghost use Rattle.ibc_machine.specs.Records.{channel_at};
 ghost use Rattle.ibc_machine.specs.Packets.{is_ordered, after_send, after_receive, after_ack, after_timeout};
 ghost use Rattle.ibc_machine.specs.Values.{value_bytes, AckIs, CommitmentIs, NumberIs};
-ghost use Rattle.ibc_machine.proofs.PacketChanges.{received, acknowledged, timed_out, entry_of};
+ghost use Rattle.ibc_machine.specs.Parts.{received, acknowledged, timed_out, entry_of};
 ghost use Rattle.ibc_records.specs.Held.{core_of, IsUnchanged};
 ghost use Rattle.ibc_records.specs.Packets.{SendsPacket, ReceivesPacket, AcknowledgesPacket, TimesOutPacket};
 
