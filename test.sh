@@ -15,6 +15,7 @@ top=$PWD
 parts=(
     "tools/statements"
     "rt ci"
+    "tools/check_statuses"
     "tools/build_library --gated"
     "tools/refuse_growths"
     "tools/refuse_by_call"
