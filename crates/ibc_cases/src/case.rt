@@ -31,6 +31,16 @@ fn print_forged<W: Write>(
     print_script(alloc, script, groups.as_slice(), output)
 }
 
+// What each part says.
+fn directives_of<'t>(alloc: Global, parts: &[Lines<'t>]) -> Result<Vec<Directive<'t>>, Stop> {
+    let mut directives = Vec::new(alloc);
+    for part in parts {
+        let directive = Directive::of(*part)?;
+        directives.push(directive)?;
+    }
+    Ok(directives)
+}
+
 // Prints what comes of each part in turn.
 fn print_parts<W: Write>(
     alloc: Global,
@@ -38,8 +48,8 @@ fn print_parts<W: Write>(
     parts: &[Lines<'_>],
     output: &mut W,
 ) -> Result<(), Stop> {
-    for part in parts {
-        let directive = Directive::of(*part)?;
+    let directives = directives_of(alloc, parts)?;
+    for directive in &directives {
         directive.print(alloc, script, output)?;
     }
     Ok(())
@@ -74,8 +84,8 @@ fn print_case<W: Write>(alloc: Global, case: Lines<'_>, output: &mut W) -> Resul
     }
 }
 
-/// Prints each case of a file: its title, and what comes of it. Errors: the first line with a mistake, behind what was printed
-/// of the cases before it; no memory, and an output that can't be written.
+/// Prints each case of a file: its title, and what comes of it. Errors: the first line with a mistake, behind the title of its
+/// case and what was printed of the cases before; no memory, and an output that can't be written.
 pub fn print_cases<W: Write>(alloc: Global, text: &[u8], output: &mut W) -> Result<(), Stop> {
     let texts: Vec<&[u8]> = text.split(|byte| *byte == b'\n').collect(alloc)?;
     let lines = Lines {
