@@ -32,6 +32,7 @@ part tools/build_library --gated
 part tools/refuse_growths
 part tools/refuse_by_call
 part tools/broken_streams
+part tools/check_cases
 part tools/wrong_bytes --count 100000
 
 echo "$passed passed, $failed failed"

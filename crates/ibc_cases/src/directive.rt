@@ -2,8 +2,8 @@
 
 use crate::lines::Lines;
 use crate::mistake::{Mistake, Wrong, number_of, size_of};
-use crate::runs::Run;
-use crate::texts::{Judged, judged_lines, long_script};
+use crate::runs::{Run, print_fault};
+use crate::texts::{Judged, judged_lines, long_script, print_number};
 use ibc_script::Fault;
 use std::alloc::Global;
 use std::io;
@@ -110,7 +110,8 @@ fn print_reads<W: Write>(
     output: &mut W,
 ) -> io::Result<()> {
     for reads in 0..most {
-        writeln!(output, "{reads} reads")?;
+        print_number(output, "", reads)?;
+        output.write_all(b" reads\n")?;
         let run = Run {
             reads,
             ..run_of(script)
@@ -128,7 +129,8 @@ fn print_writes<W: Write>(
     output: &mut W,
 ) -> io::Result<()> {
     for writes in 0..most {
-        writeln!(output, "{writes} writes")?;
+        print_number(output, "", writes)?;
+        output.write_all(b" writes\n")?;
         let run = Run {
             writes,
             ..run_of(script)
@@ -148,7 +150,9 @@ fn print_long<W: Write>(
     let script = long_script(alloc, steps, bytes)?;
     let mut judged = Judged::new();
     judged.judge(alloc, script.as_slice())?;
-    write!(output, "{steps} steps, {bytes} bytes or more; ")?;
+    print_number(output, "", steps as u64)?;
+    print_number(output, " steps, ", bytes as u64)?;
+    output.write_all(b" bytes or more; ")?;
     judged.print(output)
 }
 
@@ -161,7 +165,7 @@ fn print_faults<W: Write>(output: &mut W) -> io::Result<()> {
         Fault::CannotWrite,
         Fault::NoMemory,
     ] {
-        writeln!(output, "{fault}, status {}", fault.status())?;
+        print_fault(fault, output)?;
     }
     Ok(())
 }
@@ -173,7 +177,9 @@ fn print_word<W: Write>(
     word: &str,
     output: &mut W,
 ) -> io::Result<()> {
-    writeln!(output, "word {word}")?;
+    output.write_all(b"word ")?;
+    output.write_all(word.as_bytes())?;
+    output.write_all(b"\n")?;
     let run = Run {
         word,
         ..run_of(script)

@@ -1,6 +1,6 @@
 //! What comes of a run, kept beside it.
 
-use crate::counts::Counts;
+use crate::counts::{Counts, write_number};
 use crate::forgery::Group;
 use crate::mistake::Wrong;
 use ibc_ids::{Refusal, Root};
@@ -146,15 +146,14 @@ fn compared(is_same: bool) -> &'static str {
 
 impl fmt::Display for Beside {
     fn fmt<W: fmt::Write>(&self, f: &mut fmt::Formatter<W>) -> fmt::Result {
-        write!(
-            f,
-            "  {} of {} forgeries; without them {} lines, and {} roots of {} blocks",
-            self.sent,
-            self.groups,
-            compared(self.are_lines_same),
-            compared(self.are_roots_same),
-            self.blocks
-        )
+        write_number(f, "  ", self.sent as u64)?;
+        write_number(f, " of ", self.groups as u64)?;
+        f.write_str(" forgeries; without them ")?;
+        f.write_str(compared(self.are_lines_same))?;
+        f.write_str(" lines, and ")?;
+        f.write_str(compared(self.are_roots_same))?;
+        write_number(f, " roots of ", self.blocks as u64)?;
+        f.write_str(" blocks")
     }
 }
 

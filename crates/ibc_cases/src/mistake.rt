@@ -1,5 +1,6 @@
 //! What is wrong in files of cases.
 
+use crate::counts::write_number;
 use ibc_ids::Refusal;
 use std::alloc::{AllocError, AllocFailed};
 use std::{fmt, io};
@@ -76,7 +77,9 @@ impl Unmade {
 
 impl fmt::Display for Wrong {
     fn fmt<W: fmt::Write>(&self, f: &mut fmt::Formatter<W>) -> fmt::Result {
-        write!(f, "line {}: {}", self.line, self.mistake.text())
+        write_number(f, "line ", self.line as u64)?;
+        f.write_str(": ")?;
+        f.write_str(self.mistake.text())
     }
 }
 

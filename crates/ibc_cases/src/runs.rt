@@ -22,11 +22,16 @@ impl Races for NoRaces {
     }
 }
 
+/// Prints a fault, and the status with which the program ends by it.
+pub fn print_fault<W: Write>(fault: Fault, output: &mut W) -> io::Result<()> {
+    writeln!(output, "{fault}, status {}", fault.status())
+}
+
 // Prints why a run has stopped, if it has.
 fn print_end<W: Write>(driven: Result<(), Fault>, output: &mut W) -> io::Result<()> {
     match driven {
         Ok(()) => Ok(()),
-        Err(fault) => writeln!(output, "{fault}, status {}", fault.status()),
+        Err(fault) => print_fault(fault, output),
     }
 }
 
