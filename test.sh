@@ -16,6 +16,7 @@ parts=(
     "tools/statements"
     "rt ci"
     "tools/check_statuses"
+    "tools/check_cases"
     "tools/build_library --gated"
     "tools/refuse_growths"
     "tools/refuse_by_call"

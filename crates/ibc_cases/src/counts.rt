@@ -46,25 +46,37 @@ impl Counts {
     fn write_refused<W: fmt::Write>(&self, f: &mut fmt::Formatter<W>) -> fmt::Result {
         for (number, count) in self.refused.iter().enumerate() {
             if *count > 0 {
-                write!(f, "; no {number}: {count}")?;
+                write_number(f, "; no ", number as u64)?;
+                write_number(f, ": ", u64::from(*count))?;
             }
         }
         Ok(())
     }
 }
 
+/// Writes a text, and a number behind it. Texts of several parts are put together of these: each part of a `write!` is dear to
+/// prove.
+pub fn write_number<W: fmt::Write>(
+    f: &mut fmt::Formatter<W>,
+    before: &str,
+    number: u64,
+) -> fmt::Result {
+    f.write_str(before)?;
+    fmt::Display::fmt(&number, f)
+}
+
 // Writes how often this came, if it did.
-fn write_count<W: fmt::Write>(f: &mut fmt::Formatter<W>, what: &str, count: u32) -> fmt::Result {
+fn write_count<W: fmt::Write>(f: &mut fmt::Formatter<W>, before: &str, count: u32) -> fmt::Result {
     if count == 0 {
         return Ok(());
     }
-    write!(f, "; {what}: {count}")
+    write_number(f, before, u64::from(count))
 }
 
 impl fmt::Display for Counts {
     fn fmt<W: fmt::Write>(&self, f: &mut fmt::Formatter<W>) -> fmt::Result {
-        write_count(f, "ok", self.accepted)?;
+        write_count(f, "; ok: ", self.accepted)?;
         self.write_refused(f)?;
-        write_count(f, "no message", self.unmade)
+        write_count(f, "; no message: ", self.unmade)
     }
 }

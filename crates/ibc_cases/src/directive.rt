@@ -1,7 +1,9 @@
 //! What is done with a script beside running it.
 
-use crate::runs::Run;
-use crate::texts::{Judged, judged_lines, long_script};
+use crate::lines::Lines;
+use crate::mistake::{Mistake, Wrong, number_of, size_of};
+use crate::runs::{Run, print_fault};
+use crate::texts::{Judged, judged_lines, long_script, print_number};
 use ibc_script::Fault;
 use std::alloc::Global;
 use std::io;
@@ -20,52 +22,73 @@ pub enum Directive<'t> {
     Texts {
         front: &'t str,
         back: &'t str,
-        lines: &'t [&'t [u8]],
+        lines: Lines<'t>,
     },
     /// `> long STEPS BYTES`: a script of so many steps is judged, with blanks up to so many bytes.
     Long(usize, usize),
     /// `> faults`: the texts of the faults are printed.
     Faults,
-    /// Nothing that can be done.
-    Unknown,
+}
+
+// The first word behind a part's mark, and what stands behind it.
+fn head_of<'t>(head: &'t [u8]) -> (&'t str, &'t str) {
+    let head = str::from_utf8(head).unwrap_or("");
+    let words = head.strip_prefix("> ").unwrap_or("");
+    words.split_once(' ').unwrap_or((words, ""))
 }
 
 impl<'t> Directive<'t> {
-    /// What the first of these lines says.
-    pub fn of(part: &'t [&'t [u8]]) -> Directive<'t> {
-        let Some((head, lines)) = part.split_first() else {
-            return Directive::Unknown;
-        };
-        let head = str::from_utf8(head).unwrap_or("");
-        if head == "> faults" {
-            return Directive::Faults;
+    /// Whether the first line of a part means one: else it means forgeries.
+    pub fn is_meant(part: Lines<'_>) -> bool {
+        match part.split_first() {
+            Some((head, _)) => matches!(
+                head_of(head).0,
+                "word" | "reads" | "writes" | "texts" | "long" | "faults"
+            ),
+            None => false,
         }
-        match head
-            .strip_prefix("> ")
-            .and_then(|head| head.split_once(' '))
-        {
-            Some((verb, value)) => said(verb, value, lines).unwrap_or(Directive::Unknown),
-            None => Directive::Unknown,
+    }
+
+    /// What a part says. Error: its first line with a mistake.
+    pub fn of(part: Lines<'t>) -> Result<Directive<'t>, Wrong> {
+        let Some((head, lines)) = part.split_first() else {
+            return Err(Mistake::Kind.at(part.number));
+        };
+        let (verb, value) = head_of(head);
+        match said(verb, value, lines) {
+            Ok(directive) => directive.above(lines),
+            Err(mistake) => Err(mistake.at(part.number)),
+        }
+    }
+
+    // The same above these lines. Error: a line that it hasn't.
+    fn above(self, lines: Lines<'_>) -> Result<Directive<'t>, Wrong> {
+        let has_lines = matches!(self, Directive::Texts { .. });
+        match lines.texts.iter().position(|text| !text.is_empty()) {
+            Some(index) if !has_lines => {
+                Err(Mistake::Line.at(lines.number.saturating_add(index)))
+            }
+            _ => Ok(self),
         }
     }
 }
 
 // What a verb and the words behind it say.
-fn said<'t>(verb: &str, value: &'t str, lines: &'t [&'t [u8]]) -> Option<Directive<'t>> {
+fn said<'t>(verb: &str, value: &'t str, lines: Lines<'t>) -> Result<Directive<'t>, Mistake> {
     match verb {
-        "word" => Some(Directive::Word(value)),
-        "reads" => Some(Directive::Reads(value.parse::<u64>().ok()?)),
-        "writes" => Some(Directive::Writes(value.parse::<u64>().ok()?)),
-        "texts" => {
-            let (front, back) = value.split_once('~')?;
-            Some(Directive::Texts { front, back, lines })
-        }
-        "long" => {
-            let (steps, bytes) = value.split_once(' ')?;
-            let bytes = bytes.parse::<usize>().ok()?;
-            Some(Directive::Long(steps.parse::<usize>().ok()?, bytes))
-        }
-        _ => None,
+        "word" => Ok(Directive::Word(value)),
+        "reads" => Ok(Directive::Reads(number_of(value)?)),
+        "writes" => Ok(Directive::Writes(number_of(value)?)),
+        "texts" => match value.split_once('~') {
+            Some((front, back)) => Ok(Directive::Texts { front, back, lines }),
+            None => Err(Mistake::Kind),
+        },
+        "long" => match value.split_once(' ') {
+            Some((steps, bytes)) => Ok(Directive::Long(size_of(steps)?, size_of(bytes)?)),
+            None => Err(Mistake::Number),
+        },
+        "faults" => Ok(Directive::Faults),
+        _ => Err(Mistake::Kind),
     }
 }
 
@@ -87,7 +110,8 @@ fn print_reads<W: Write>(
     output: &mut W,
 ) -> io::Result<()> {
     for reads in 0..most {
-        writeln!(output, "{reads} reads")?;
+        print_number(output, "", reads)?;
+        output.write_all(b" reads\n")?;
         let run = Run {
             reads,
             ..run_of(script)
@@ -105,7 +129,8 @@ fn print_writes<W: Write>(
     output: &mut W,
 ) -> io::Result<()> {
     for writes in 0..most {
-        writeln!(output, "{writes} writes")?;
+        print_number(output, "", writes)?;
+        output.write_all(b" writes\n")?;
         let run = Run {
             writes,
             ..run_of(script)
@@ -125,7 +150,9 @@ fn print_long<W: Write>(
     let script = long_script(alloc, steps, bytes)?;
     let mut judged = Judged::new();
     judged.judge(alloc, script.as_slice())?;
-    write!(output, "{steps} steps, {bytes} bytes or more; ")?;
+    print_number(output, "", steps as u64)?;
+    print_number(output, " steps, ", bytes as u64)?;
+    output.write_all(b" bytes or more; ")?;
     judged.print(output)
 }
 
@@ -138,34 +165,40 @@ fn print_faults<W: Write>(output: &mut W) -> io::Result<()> {
         Fault::CannotWrite,
         Fault::NoMemory,
     ] {
-        writeln!(output, "{fault}, status {}", fault.status())?;
+        print_fault(fault, output)?;
     }
     Ok(())
 }
 
-/// Prints what comes of a script, or of the lines below it.
-pub fn print_directive<W: Write>(
+// Prints what comes of a word.
+fn print_word<W: Write>(
     alloc: Global,
     script: &[u8],
-    directive: &Directive<'_>,
+    word: &str,
     output: &mut W,
 ) -> io::Result<()> {
-    match directive {
-        Directive::Word(word) => {
-            writeln!(output, "word {word}")?;
-            let run = Run {
-                word,
-                ..run_of(script)
-            };
-            run.print(alloc, output)
+    output.write_all(b"word ")?;
+    output.write_all(word.as_bytes())?;
+    output.write_all(b"\n")?;
+    let run = Run {
+        word,
+        ..run_of(script)
+    };
+    run.print(alloc, output)
+}
+
+impl Directive<'_> {
+    /// Prints what comes of a script, or of the lines below.
+    pub fn print<W: Write>(&self, alloc: Global, script: &[u8], output: &mut W) -> io::Result<()> {
+        match self {
+            Directive::Word(word) => print_word(alloc, script, word, output),
+            Directive::Reads(most) => print_reads(alloc, script, *most, output),
+            Directive::Writes(most) => print_writes(alloc, script, *most, output),
+            Directive::Texts { front, back, lines } => {
+                judged_lines(alloc, front.as_bytes(), lines.texts, back.as_bytes())?.print(output)
+            }
+            Directive::Long(steps, bytes) => print_long(alloc, *steps, *bytes, output),
+            Directive::Faults => print_faults(output),
         }
-        Directive::Reads(most) => print_reads(alloc, script, *most, output),
-        Directive::Writes(most) => print_writes(alloc, script, *most, output),
-        Directive::Texts { front, back, lines } => {
-            judged_lines(alloc, front.as_bytes(), lines, back.as_bytes())?.print(output)
-        }
-        Directive::Long(steps, bytes) => print_long(alloc, *steps, *bytes, output),
-        Directive::Faults => print_faults(output),
-        Directive::Unknown => writeln!(output, "not understood"),
     }
 }

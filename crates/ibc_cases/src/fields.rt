@@ -1,25 +1,42 @@
 //! The fields of messages in the order in which they are spelled, behind the message's tag.
 
+use crate::mistake::{Unmade, byte_of, number_of};
 use ibc_wire::MessageKind;
+use std::alloc::Global;
 
 /// How a field is spelled.
 #[derive(Clone, Copy, Debug, PartialEq, Eq, Drop)]
 pub enum Form {
-    /// A number, of so many bytes.
-    Number(usize),
-    /// So many bytes.
-    Bytes(usize),
+    /// A number of one byte.
+    Byte,
+    /// A number of 8 bytes.
+    Number,
+    /// A root, 32 bytes.
+    Root,
     /// A text behind its length, in two bytes.
     Text,
+}
+
+impl Form {
+    /// What such a field contains that is said by a text: a number, 32 bytes of a number, or the text itself. Not made where
+    /// the text is no such number, or there is no memory.
+    pub fn content_of(self, alloc: Global, text: &str) -> Result<Vec<u8>, Unmade> {
+        match self {
+            Form::Byte => Ok([byte_of(text)?].to_vec(alloc)?),
+            Form::Number => Ok(number_of(text)?.to_be_bytes().to_vec(alloc)?),
+            Form::Root => Ok([byte_of(text)?; 32].to_vec(alloc)?),
+            Form::Text => Ok(text.as_bytes().to_vec(alloc)?),
+        }
+    }
 }
 
 /// A field: its name, and how it is spelled.
 pub type Field = (&'static str, Form);
 
 const PACKET: &[Field] = &[
-    ("sequence", Form::Number(8)),
-    ("timeout_height", Form::Number(8)),
-    ("timeout_time", Form::Number(8)),
+    ("sequence", Form::Number),
+    ("timeout_height", Form::Number),
+    ("timeout_time", Form::Number),
     ("source_port", Form::Text),
     ("source_channel", Form::Text),
     ("destination_port", Form::Text),
@@ -29,19 +46,19 @@ const PACKET: &[Field] = &[
 
 const UPDATE_CLIENT: &[Field] = &[
     ("client", Form::Text),
-    ("chain", Form::Number(1)),
-    ("height", Form::Number(8)),
-    ("time", Form::Number(8)),
-    ("root", Form::Bytes(32)),
+    ("chain", Form::Byte),
+    ("height", Form::Number),
+    ("time", Form::Number),
+    ("root", Form::Root),
 ];
 
 const CONN_OPEN_TRY: &[Field] = &[
     ("client", Form::Text),
     ("peer_client", Form::Text),
     ("peer_connection", Form::Text),
-    ("claimed_chain", Form::Number(1)),
-    ("claimed_height", Form::Number(8)),
-    ("height", Form::Number(8)),
+    ("claimed_chain", Form::Byte),
+    ("claimed_height", Form::Number),
+    ("height", Form::Number),
     ("proof_end", Form::Text),
     ("proof_client", Form::Text),
 ];
@@ -49,27 +66,27 @@ const CONN_OPEN_TRY: &[Field] = &[
 const CONN_OPEN_ACK: &[Field] = &[
     ("connection", Form::Text),
     ("peer_connection", Form::Text),
-    ("claimed_chain", Form::Number(1)),
-    ("claimed_height", Form::Number(8)),
-    ("height", Form::Number(8)),
+    ("claimed_chain", Form::Byte),
+    ("claimed_height", Form::Number),
+    ("height", Form::Number),
     ("proof_end", Form::Text),
     ("proof_client", Form::Text),
 ];
 
 const CONN_OPEN_CONFIRM: &[Field] = &[
     ("connection", Form::Text),
-    ("height", Form::Number(8)),
+    ("height", Form::Number),
     ("proof", Form::Text),
 ];
 
 const CHAN_OPEN_TRY: &[Field] = &[
     ("port", Form::Text),
-    ("order", Form::Number(1)),
+    ("order", Form::Byte),
     ("connection", Form::Text),
     ("peer_port", Form::Text),
     ("peer_channel", Form::Text),
     ("version", Form::Text),
-    ("height", Form::Number(8)),
+    ("height", Form::Number),
     ("proof", Form::Text),
 ];
 
@@ -77,34 +94,34 @@ const CHAN_OPEN_ACK: &[Field] = &[
     ("port", Form::Text),
     ("channel", Form::Text),
     ("peer_channel", Form::Text),
-    ("height", Form::Number(8)),
+    ("height", Form::Number),
     ("proof", Form::Text),
 ];
 
 const CHAN_CONFIRM: &[Field] = &[
     ("port", Form::Text),
     ("channel", Form::Text),
-    ("height", Form::Number(8)),
+    ("height", Form::Number),
     ("proof", Form::Text),
 ];
 
-const RECV_PACKET: &[Field] = &[("height", Form::Number(8)), ("proof", Form::Text)];
+const RECV_PACKET: &[Field] = &[("height", Form::Number), ("proof", Form::Text)];
 
 const ACK_PACKET: &[Field] = &[
     ("ack", Form::Text),
-    ("height", Form::Number(8)),
+    ("height", Form::Number),
     ("proof", Form::Text),
 ];
 
 const TIMEOUT: &[Field] = &[
-    ("next_recv", Form::Number(8)),
-    ("height", Form::Number(8)),
+    ("next_recv", Form::Number),
+    ("height", Form::Number),
     ("proof", Form::Text),
 ];
 
 const TIMEOUT_ON_CLOSE: &[Field] = &[
-    ("next_recv", Form::Number(8)),
-    ("height", Form::Number(8)),
+    ("next_recv", Form::Number),
+    ("height", Form::Number),
     ("proof", Form::Text),
     ("proof_close", Form::Text),
 ];

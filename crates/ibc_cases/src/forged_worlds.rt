@@ -3,6 +3,7 @@
 use crate::counts::Counts;
 use crate::forgery::{Group, forged, with_byte};
 use crate::log::Log;
+use crate::mistake::Unmade;
 use crate::spelled::Spelled;
 use crate::wrong_bytes::{Numbers, WrongBytes};
 use ibc_ids::{Account, Bytes, ChannelId, ClientId, ConnectionId, Denom, Key, PortId, Refusal};
@@ -46,29 +47,26 @@ impl<'l> Worlds for ForgedWorlds<'l> {
     }
 }
 
+// Why a message can't be sent: want of memory, or nothing but that it was spelled so.
+fn judge_unread(refusal: Refusal, counts: &mut Counts) -> Result<(), Refusal> {
+    if refusal == Refusal::NoMemory {
+        return Err(refusal);
+    }
+    counts.add_unmade();
+    Ok(())
+}
+
 impl<'l> ForgedChains<'l> {
-    // Sends a message if it could be made, and counts the reply.
-    fn send(
-        &mut self,
-        chain: u8,
-        made: Option<Spelled>,
-        counts: &mut Counts,
-    ) -> Result<(), Refusal> {
-        let message = match made {
-            Some(spelled) => spelled.message(self.alloc),
-            None => Err(Refusal::BadMessage),
-        };
-        match message {
+    // Sends a message, and counts the reply, or that its bytes are no message.
+    fn send(&mut self, chain: u8, made: &Spelled, counts: &mut Counts) -> Result<(), Refusal> {
+        match made.message(self.alloc) {
             Ok(message) => {
                 let reply = self.ledgers.ask(Event::Message { chain, message })?;
                 counts.add(&reply);
+                drop(reply);
                 Ok(())
             }
-            Err(Refusal::NoMemory) => Err(Refusal::NoMemory),
-            Err(_) => {
-                counts.add_unmade();
-                Ok(())
-            }
+            Err(refusal) => judge_unread(refusal, counts),
         }
     }
 
@@ -80,16 +78,14 @@ impl<'l> ForgedChains<'l> {
         field: &str,
         place: usize,
         counts: &mut Counts,
-    ) -> Result<(), Refusal> {
-        let old = honest.content(field).unwrap_or(&[]);
-        match with_byte(self.alloc, old, place)? {
-            Some(content) => {
-                let made = honest.with(self.alloc, field, content.as_slice());
-                drop(content);
-                self.send(chain, made?, counts)
-            }
-            None => self.send(chain, None, counts),
-        }
+    ) -> Result<(), Unmade> {
+        let content = with_byte(self.alloc, honest.content(field)?, place)?;
+        let made = honest.with(self.alloc, field, content.as_slice());
+        drop(content);
+        let made = made?;
+        let sent = self.send(chain, &made, counts);
+        drop(made);
+        Ok(sent?)
     }
 
     // Sends a message with each byte of a field changed in turn.
@@ -99,12 +95,33 @@ impl<'l> ForgedChains<'l> {
         honest: &Spelled,
         field: &str,
         counts: &mut Counts,
-    ) -> Result<(), Refusal> {
-        let size = honest.content(field).unwrap_or(&[]).len();
+    ) -> Result<(), Unmade> {
+        let size = honest.content(field)?.len();
         for place in 0..size {
             self.send_with_byte(chain, honest, field, place, counts)?;
         }
         Ok(())
+    }
+
+    // Sends a message with wrong bytes, and counts it where the bytes are the right ones again.
+    fn send_spoilt(
+        &mut self,
+        chain: u8,
+        honest: &Spelled,
+        numbers: &mut Numbers,
+        counts: &mut Counts,
+    ) -> Result<(), Refusal> {
+        match honest.spoilt(self.alloc, numbers)? {
+            Some(made) => {
+                let sent = self.send(chain, &made, counts);
+                drop(made);
+                sent
+            }
+            None => {
+                counts.add_unmade();
+                Ok(())
+            }
+        }
     }
 
     // Sends so many messages with wrong bytes.
@@ -117,27 +134,23 @@ impl<'l> ForgedChains<'l> {
     ) -> Result<(), Refusal> {
         let mut numbers = Numbers::new(wrong.seed);
         for _ in 0..wrong.count {
-            let made = honest.spoilt(self.alloc, &mut numbers)?;
-            self.send(chain, made, counts)?;
+            self.send_spoilt(chain, honest, &mut numbers, counts)?;
         }
         Ok(())
     }
 
-    // Sends what a line forges by the change of fields.
-    fn send_forged(
+    // Sends the message that a line forges by changes of fields.
+    fn send_changed(
         &mut self,
         chain: u8,
         honest: &Spelled,
         line: &str,
         counts: &mut Counts,
-    ) -> Result<(), Refusal> {
-        match line.strip_suffix(" each byte") {
-            Some(field) => self.send_with_each_byte(chain, honest, field, counts),
-            None => {
-                let made = forged(self.alloc, &self.ledgers, honest, line)?;
-                self.send(chain, made, counts)
-            }
-        }
+    ) -> Result<(), Unmade> {
+        let made = forged(self.alloc, &self.ledgers, honest, line)?;
+        let sent = self.send(chain, &made, counts);
+        drop(made);
+        Ok(sent?)
     }
 
     // Sends what a line forges.
@@ -147,14 +160,39 @@ impl<'l> ForgedChains<'l> {
         honest: &Spelled,
         line: &str,
         counts: &mut Counts,
-    ) -> Result<(), Refusal> {
-        match WrongBytes::of(line) {
-            Some(wrong) => self.send_wrong(chain, honest, wrong, counts),
-            None => self.send_forged(chain, honest, line, counts),
+    ) -> Result<(), Unmade> {
+        if let Some(wrong) = line.strip_prefix("wrong bytes ") {
+            return Ok(self.send_wrong(chain, honest, WrongBytes::of(wrong)?, counts)?);
+        }
+        match line.strip_suffix(" each byte") {
+            Some(field) => self.send_with_each_byte(chain, honest, field, counts),
+            None => self.send_changed(chain, honest, line, counts),
         }
     }
 
-    // Sends what each line of a group forges, but for empty lines, and keeps the answers.
+    // Sends what a line forges that has this number; an empty line forges nothing. A mistake in it is kept.
+    fn send_numbered(
+        &mut self,
+        chain: u8,
+        honest: &Spelled,
+        (number, line): (usize, &[u8]),
+        counts: &mut Counts,
+    ) -> Result<(), Refusal> {
+        if line.is_empty() {
+            return Ok(());
+        }
+        let text = str::from_utf8(line).unwrap_or("?");
+        match self.send_line(chain, honest, text, counts) {
+            Ok(()) => Ok(()),
+            Err(Unmade::Refusal(refusal)) => Err(refusal),
+            Err(Unmade::Mistake(mistake)) => {
+                self.log.note_wrong(mistake.at(number));
+                Ok(())
+            }
+        }
+    }
+
+    // Sends what each line of a group forges, and keeps the answers.
     fn send_group(
         &mut self,
         chain: u8,
@@ -162,11 +200,9 @@ impl<'l> ForgedChains<'l> {
         group: &Group<'l>,
     ) -> Result<(), Refusal> {
         let mut counts = Counts::new();
-        for line in group.lines {
-            let text = str::from_utf8(line).unwrap_or("?");
-            if !text.is_empty() {
-                self.send_line(chain, honest, text, &mut counts)?;
-            }
+        for (index, line) in group.lines.texts.iter().enumerate() {
+            let number = group.lines.number.saturating_add(index);
+            self.send_numbered(chain, honest, (number, line), &mut counts)?;
         }
         self.log.note_forged(group.title, &counts)
     }

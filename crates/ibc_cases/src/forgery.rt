@@ -2,6 +2,8 @@
 //! that is forged, by its kind and its number among those of that kind. Each line below is one forged message: changes with
 //! `; ` between them, each `FIELD HOW`. A line `FIELD each byte` is a forged message for each byte of the field.
 
+use crate::lines::Lines;
+use crate::mistake::{Mistake, Unmade, Wrong, number_of, size_of};
 use crate::spelled::Spelled;
 use ibc_codec::encode;
 use ibc_ids::{Key, Refusal};
@@ -12,31 +14,63 @@ use std::alloc::{AllocError, Global};
 /// Forgeries of one message.
 #[derive(Clone, Copy, Drop)]
 pub struct Group<'t> {
-    kind: &'t str,
+    kind: MessageKind,
     number: usize,
     pub title: &'t str,
-    pub lines: &'t [&'t [u8]],
+    pub lines: Lines<'t>,
+}
+
+// The kind of messages that has this name.
+fn kind_of(name: &str) -> Option<MessageKind> {
+    for tag in 1..=u8::MAX {
+        let kind = MessageKind::of_tag(tag)?;
+        if kind.name() == name {
+            return Some(kind);
+        }
+    }
+    None
+}
+
+// What `> KIND NUMBER: TITLE` says, above these lines.
+fn headed<'t>(head: &'t [u8], lines: Lines<'t>) -> Result<Group<'t>, Mistake> {
+    let head = str::from_utf8(head).unwrap_or("");
+    let words = head.strip_prefix("> ").unwrap_or("");
+    let (name, rest) = words.split_once(' ').unwrap_or((words, ""));
+    let Some(kind) = kind_of(name) else {
+        return Err(Mistake::Kind);
+    };
+    let Some((number, title)) = rest.split_once(": ") else {
+        return Err(Mistake::Number);
+    };
+    let number = size_of(number)?;
+    Ok(Group {
+        kind,
+        number,
+        title,
+        lines,
+    })
 }
 
 impl<'t> Group<'t> {
-    /// The group that stands in these lines, `None` where there is none.
-    pub fn of(part: &'t [&'t [u8]]) -> Option<Group<'t>> {
-        let (head, lines) = part.split_first()?;
-        let head = str::from_utf8(head).ok()?.strip_prefix("> ")?;
-        let (message, title) = head.split_once(": ")?;
-        let (kind, number) = message.split_once(' ')?;
-        let number = number.parse::<usize>().ok()?;
-        Some(Group {
-            kind,
-            number,
-            title,
-            lines,
-        })
+    /// The group that is a part. Error: the mistake of its first line.
+    pub fn of(part: Lines<'t>) -> Result<Group<'t>, Wrong> {
+        let Some((head, lines)) = part.split_first() else {
+            return Err(Mistake::Kind.at(part.number));
+        };
+        match headed(head, lines) {
+            Ok(group) => Ok(group),
+            Err(mistake) => Err(mistake.at(part.number)),
+        }
     }
 
     /// Whether it forges the message of this kind that has this number.
     pub fn is_of(&self, kind: MessageKind, number: usize) -> bool {
-        self.kind == kind.name() && self.number == number
+        self.kind == kind && self.number == number
+    }
+
+    /// The mistake that its message was never sent.
+    pub fn unsent(&self) -> Wrong {
+        Mistake::Unsent.at(self.lines.number.saturating_sub(1))
     }
 }
 
@@ -49,73 +83,61 @@ struct Proved {
 }
 
 impl Proved {
-    // What `CHAIN HEIGHT PATH` says, where chains are called by letters from `a` on; `None` where it says nothing.
-    fn of(alloc: Global, text: &str) -> Result<Option<Proved>, Refusal> {
+    // What `CHAIN HEIGHT PATH` says, where chains are called by letters from `a` on.
+    fn of(alloc: Global, text: &str) -> Result<Proved, Unmade> {
         let Some((chain, rest)) = text.split_once(' ') else {
-            return Ok(None);
+            return Err(Unmade::Mistake(Mistake::Change));
         };
         let Some((height, path)) = rest.split_once(' ') else {
-            return Ok(None);
+            return Err(Unmade::Mistake(Mistake::Change));
         };
-        match (chain_of(chain), height.parse::<u64>()) {
-            (Some(chain), Ok(height)) => proved_at(alloc, chain, height, path),
-            _ => Ok(None),
+        let (chain, height) = (chain_of(chain)?, number_of(height)?);
+        match Key::parse(alloc, path) {
+            Ok(key) => Ok(Proved { chain, height, key }),
+            Err(refusal) => Err(Unmade::of_text(refusal)),
         }
     }
 
-    // The bytes of the proof, `None` where the chain has none.
-    fn bytes<C: Chains>(&self, alloc: Global, chains: &C) -> Result<Option<Vec<u8>>, Refusal> {
+    // The bytes of the proof. Not made where the chain has none.
+    fn bytes<C: Chains>(&self, alloc: Global, chains: &C) -> Result<Vec<u8>, Unmade> {
         match chains.proof(self.chain, self.height, &self.key)? {
             Some(proof) => {
                 let bytes = encode(alloc, &proof);
                 drop(proof);
-                Ok(Some(bytes?))
+                Ok(bytes?)
             }
-            None => Ok(None),
+            None => Err(Unmade::Mistake(Mistake::Change)),
         }
-    }
-}
-
-// What a chain has at a path at a height, `None` where there is no such path.
-fn proved_at(alloc: Global, chain: u8, height: u64, path: &str) -> Result<Option<Proved>, Refusal> {
-    match Key::parse(alloc, path) {
-        Ok(key) => Ok(Some(Proved { chain, height, key })),
-        Err(Refusal::NoMemory) => Err(Refusal::NoMemory),
-        Err(_) => Ok(None),
     }
 }
 
 // The number of a chain that is called by its letter.
-fn chain_of(name: &str) -> Option<u8> {
+fn chain_of(name: &str) -> Result<u8, Mistake> {
     match name {
-        "a" => Some(0),
-        "b" => Some(1),
-        "c" => Some(2),
-        _ => None,
+        "a" => Ok(0),
+        "b" => Ok(1),
+        "c" => Ok(2),
+        _ => Err(Mistake::Change),
     }
 }
 
-// The bytes of the proof that is asked for, `None` where there is none.
-fn proof<C: Chains>(alloc: Global, chains: &C, asked: &str) -> Result<Option<Vec<u8>>, Refusal> {
-    match Proved::of(alloc, asked)? {
-        Some(proved) => {
-            let bytes = proved.bytes(alloc, chains);
-            drop(proved);
-            bytes
-        }
-        None => Ok(None),
-    }
+// The bytes of the proof that is asked for.
+fn proof<C: Chains>(alloc: Global, chains: &C, asked: &str) -> Result<Vec<u8>, Unmade> {
+    let proved = Proved::of(alloc, asked)?;
+    let bytes = proved.bytes(alloc, chains);
+    drop(proved);
+    bytes
 }
 
-/// The bytes, of which the one at a place is another. `None` where there is no such place. Error: no memory.
-pub fn with_byte(alloc: Global, bytes: &[u8], place: usize) -> Result<Option<Vec<u8>>, AllocError> {
+/// The bytes, of which the one at a place is another. Not made where there is no such place, or no memory.
+pub fn with_byte(alloc: Global, bytes: &[u8], place: usize) -> Result<Vec<u8>, Unmade> {
     let mut changed = bytes.to_vec(alloc)?;
     match changed.get_mut(place) {
         Some(byte) => {
             *byte ^= 1;
-            Ok(Some(changed))
+            Ok(changed)
         }
-        None => Ok(None),
+        None => Err(Unmade::Mistake(Mistake::Number)),
     }
 }
 
@@ -126,91 +148,61 @@ fn longer(alloc: Global, bytes: &[u8]) -> Result<Vec<u8>, AllocError> {
     Ok(longer)
 }
 
-// So many bytes.
-fn sized(alloc: Global, size: &str) -> Result<Option<Vec<u8>>, AllocError> {
-    match size.parse::<usize>() {
-        Ok(size) => Ok(Some(vec![in alloc; 7; size]?)),
-        Err(_) => Ok(None),
-    }
-}
-
-// What a field contains that is changed in this way, by its own bytes; `None` where there is no such way.
-fn edited(alloc: Global, old: &[u8], how: &str) -> Result<Option<Vec<u8>>, AllocError> {
-    match how {
-        "empty" => Ok(Some(Vec::new(alloc))),
-        "longer" => Ok(Some(longer(alloc, old)?)),
-        "shorter" => match old.split_last() {
-            Some((_, front)) => Ok(Some(front.to_vec(alloc)?)),
-            None => Ok(None),
-        },
-        _ => match how
-            .strip_prefix("byte ")
-            .and_then(|place| place.parse::<usize>().ok())
-        {
-            Some(place) => with_byte(alloc, old, place),
-            None => Ok(None),
-        },
+// What a field contains that is changed in this way, by its own bytes.
+fn edited(alloc: Global, old: &[u8], how: &str) -> Result<Vec<u8>, Unmade> {
+    match (how, old.split_last()) {
+        ("empty", _) => Ok(Vec::new(alloc)),
+        ("longer", _) => Ok(longer(alloc, old)?),
+        ("shorter", Some((_, front))) => Ok(front.to_vec(alloc)?),
+        _ => Err(Unmade::Mistake(Mistake::Change)),
     }
 }
 
 // What a field contains that is changed in this way: `is VALUE`, `proves CHAIN HEIGHT PATH`, `as FIELD`, `size NUMBER`, `byte
-// NUMBER`, `longer`, `shorter` or `empty`. `None` where there is nothing such.
+// NUMBER`, `longer`, `shorter` or `empty`.
 fn content<C: Chains>(
     alloc: Global,
     chains: &C,
     honest: &Spelled,
     field: &str,
     how: &str,
-) -> Result<Option<Vec<u8>>, Refusal> {
-    let Some(old) = honest.content(field) else {
-        return Ok(None);
-    };
+) -> Result<Vec<u8>, Unmade> {
+    let old = honest.content(field)?;
     match how.split_once(' ') {
-        Some(("is", value)) => Ok(honest.content_of(alloc, field, value)?),
+        Some(("is", value)) => honest.content_of(alloc, field, value),
         Some(("proves", asked)) => proof(alloc, chains, asked),
-        Some(("size", size)) => Ok(sized(alloc, size)?),
-        Some(("as", other)) => match honest.content(other) {
-            Some(content) => Ok(Some(content.to_vec(alloc)?)),
-            None => Ok(None),
-        },
-        _ => Ok(edited(alloc, old, how)?),
+        Some(("size", size)) => Ok(vec![in alloc; 7; size_of(size)?]?),
+        Some(("byte", place)) => with_byte(alloc, old, size_of(place)?),
+        Some(("as", other)) => Ok(honest.content(other)?.to_vec(alloc)?),
+        _ => edited(alloc, old, how),
     }
 }
 
-// A message with one change, `FIELD HOW`; `None` where it can't be made.
+// A message with one change, `FIELD HOW`.
 fn with_change<C: Chains>(
     alloc: Global,
     chains: &C,
     honest: &Spelled,
     forged: &Spelled,
     change: &str,
-) -> Result<Option<Spelled>, Refusal> {
-    let Some((field, how)) = change.split_once(' ') else {
-        return Ok(None);
-    };
-    match content(alloc, chains, honest, field, how)? {
-        Some(content) => {
-            let made = forged.with(alloc, field, content.as_slice());
-            drop(content);
-            Ok(made?)
-        }
-        None => Ok(None),
-    }
+) -> Result<Spelled, Unmade> {
+    let (field, how) = change.split_once(' ').unwrap_or((change, ""));
+    let content = content(alloc, chains, honest, field, how)?;
+    let made = forged.with(alloc, field, content.as_slice());
+    drop(content);
+    made
 }
 
-/// A message with all changes of a line, `None` where it can't be made. Refused: `NoMemory`.
+/// A message with all changes of a line. Not made where one of them can't be, or there is no memory.
 pub fn forged<C: Chains>(
     alloc: Global,
     chains: &C,
     honest: &Spelled,
     line: &str,
-) -> Result<Option<Spelled>, Refusal> {
+) -> Result<Spelled, Unmade> {
     let mut forged = honest.copy()?;
     for change in line.split("; ") {
-        match with_change(alloc, chains, honest, &forged, change)? {
-            Some(made) => forged = made,
-            None => return Ok(None),
-        }
+        forged = with_change(alloc, chains, honest, &forged, change)?;
     }
-    Ok(Some(forged))
+    Ok(forged)
 }

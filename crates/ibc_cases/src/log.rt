@@ -1,11 +1,13 @@
 //! What comes of a run, kept beside it.
 
-use crate::counts::Counts;
+use crate::counts::{Counts, write_number};
+use crate::forgery::Group;
+use crate::mistake::Wrong;
 use ibc_ids::{Refusal, Root};
 use std::alloc::{AllocError, Global};
-use std::cell::RefCell;
-use std::io;
+use std::cell::{Cell, RefCell};
 use std::io::Write;
+use std::{fmt, io};
 
 /// What came of a run so far: all lines, those of the script alone, the roots of the blocks, and how many groups of forgeries
 /// were sent.
@@ -17,11 +19,22 @@ struct Kept {
     sent: usize,
 }
 
-/// What came of a run so far, for all who add to it.
+/// What came of a run so far, for all who add to it, and the first line of the forgeries that has a mistake.
 #[derive(Drop)]
 pub struct Log {
     alloc: Global,
     kept: RefCell<Kept>,
+    wrong: Cell<Option<Wrong>>,
+}
+
+/// What came of a run beside one without forgeries.
+#[derive(Clone, Copy, Drop)]
+pub struct Beside {
+    sent: usize,
+    groups: usize,
+    are_lines_same: bool,
+    are_roots_same: bool,
+    blocks: usize,
 }
 
 /// Writes the lines of a script into a log.
@@ -57,6 +70,22 @@ impl Log {
         Log {
             alloc,
             kept: RefCell::new(kept),
+            wrong: Cell::new(None),
+        }
+    }
+
+    /// Keeps a line with a mistake, if none is kept.
+    pub fn note_wrong(&self, wrong: Wrong) {
+        if self.wrong.get().is_none() {
+            self.wrong.set(Some(wrong));
+        }
+    }
+
+    /// The first line with a mistake, or else the first of these groups that wasn't sent; none where each line is right.
+    pub fn wrong(&self, groups: &[Group<'_>]) -> Option<Wrong> {
+        match self.wrong.get() {
+            Some(wrong) => Some(wrong),
+            None => Some(groups.get(self.sent())?.unsent()),
         }
     }
 
@@ -95,30 +124,37 @@ impl Log {
         }
     }
 
-    /// Prints how many of so many groups were sent, and how the lines of the script and the roots are beside those of a run
-    /// without forgeries.
-    pub fn print_beside<W: Write>(
-        &self,
-        spared: &Log,
-        groups: usize,
-        output: &mut W,
-    ) -> io::Result<()> {
-        let (Ok(kept), Ok(spared)) = (self.kept.try_borrow(), spared.kept.try_borrow()) else {
-            return Err(io::Error::from(io::ErrorKind::Other));
-        };
-        let sent = kept.sent;
-        let count = kept.roots.len();
-        let lines = compared(kept.own == spared.own);
-        let roots = compared(kept.roots == spared.roots);
-        writeln!(
-            output,
-            "  {sent} of {groups} forgeries; without them {lines} lines, and {roots} roots of {count} blocks"
-        )
+    /// How many of so many groups were sent, and how the lines of the script and the roots are beside those of a run without
+    /// forgeries.
+    pub fn beside(&self, spared: &Log, groups: usize) -> Option<Beside> {
+        match (self.kept.try_borrow(), spared.kept.try_borrow()) {
+            (Ok(kept), Ok(spared)) => Some(Beside {
+                sent: kept.sent,
+                groups,
+                are_lines_same: kept.own == spared.own,
+                are_roots_same: kept.roots == spared.roots,
+                blocks: kept.roots.len(),
+            }),
+            _ => None,
+        }
     }
 }
 
 fn compared(is_same: bool) -> &'static str {
     if is_same { "the same" } else { "other" }
+}
+
+impl fmt::Display for Beside {
+    fn fmt<W: fmt::Write>(&self, f: &mut fmt::Formatter<W>) -> fmt::Result {
+        write_number(f, "  ", self.sent as u64)?;
+        write_number(f, " of ", self.groups as u64)?;
+        f.write_str(" forgeries; without them ")?;
+        f.write_str(compared(self.are_lines_same))?;
+        f.write_str(" lines, and ")?;
+        f.write_str(compared(self.are_roots_same))?;
+        write_number(f, " roots of ", self.blocks as u64)?;
+        f.write_str(" blocks")
+    }
 }
 
 impl Write for LogWriter<'_> {

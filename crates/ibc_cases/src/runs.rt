@@ -3,6 +3,7 @@
 use crate::forged_worlds::ForgedWorlds;
 use crate::forgery::Group;
 use crate::log::{Log, LogWriter};
+use crate::mistake::Stop;
 use crate::streams::{SlowReader, SlowWriter};
 use ibc_script::Fault;
 use ibc_script_cli::{Audited, Race, Races, drive};
@@ -21,11 +22,16 @@ impl Races for NoRaces {
     }
 }
 
+/// Prints a fault, and the status with which the program ends by it.
+pub fn print_fault<W: Write>(fault: Fault, output: &mut W) -> io::Result<()> {
+    writeln!(output, "{fault}, status {}", fault.status())
+}
+
 // Prints why a run has stopped, if it has.
 fn print_end<W: Write>(driven: Result<(), Fault>, output: &mut W) -> io::Result<()> {
     match driven {
         Ok(()) => Ok(()),
-        Err(fault) => writeln!(output, "{fault}, status {}", fault.status()),
+        Err(fault) => print_fault(fault, output),
     }
 }
 
@@ -37,28 +43,70 @@ fn keep_run(alloc: Global, script: &[u8], groups: &[Group<'_>], log: &Log) -> io
     print_end(driven, &mut output)
 }
 
-// What comes of a script with groups of forgeries.
-fn log_of(alloc: Global, script: &[u8], groups: &[Group<'_>]) -> io::Result<Log> {
-    let log = Log::new(alloc);
-    keep_run(alloc, script, groups, &log)?;
-    Ok(log)
+// Runs a script without forgeries, which is kept in an empty log, and prints how a run with so many groups of them is beside it.
+fn print_beside<W: Write>(
+    alloc: Global,
+    script: &[u8],
+    (log, spared): (&Log, &Log),
+    groups: usize,
+    output: &mut W,
+) -> io::Result<()> {
+    keep_run(alloc, script, &[], spared)?;
+    match log.beside(spared, groups) {
+        Some(beside) => writeln!(output, "{beside}"),
+        None => Err(io::Error::from(io::ErrorKind::Other)),
+    }
+}
+
+// Prints how a run with so many groups of forgeries is beside one without them; nothing where there are none.
+fn print_compared<W: Write>(
+    alloc: Global,
+    script: &[u8],
+    log: &Log,
+    groups: usize,
+    output: &mut W,
+) -> Result<(), Stop> {
+    if groups == 0 {
+        return Ok(());
+    }
+    let spared = Log::new(alloc);
+    let printed = print_beside(alloc, script, (log, &spared), groups, output);
+    drop(spared);
+    Ok(printed?)
+}
+
+// Runs a script with groups of forgeries or none, which is kept in an empty log, and prints what comes. Error: the first line of the
+// forgeries that has a mistake.
+fn print_run<W: Write>(
+    alloc: Global,
+    script: &[u8],
+    groups: &[Group<'_>],
+    log: &Log,
+    output: &mut W,
+) -> Result<(), Stop> {
+    keep_run(alloc, script, groups, log)?;
+    match log.wrong(groups) {
+        Some(wrong) => Err(Stop::Wrong(wrong)),
+        None => Ok(log.print(output)?),
+    }
 }
 
 /// Runs a script, with groups of forgeries or none, and prints what comes; where there are some, also how that is beside a run
-/// without them.
+/// without them. Errors: the first line of the forgeries that has a mistake, before anything is printed; no memory, and an output
+/// that can't be written.
 pub fn print_script<W: Write>(
     alloc: Global,
     script: &[u8],
     groups: &[Group<'_>],
     output: &mut W,
-) -> io::Result<()> {
-    let log = log_of(alloc, script, groups)?;
-    log.print(output)?;
-    if groups.is_empty() {
-        return Ok(());
-    }
-    let spared = log_of(alloc, script, &[])?;
-    log.print_beside(&spared, groups.len(), output)
+) -> Result<(), Stop> {
+    let log = Log::new(alloc);
+    let printed = match print_run(alloc, script, groups, &log, output) {
+        Ok(()) => print_compared(alloc, script, &log, groups.len(), output),
+        stop => stop,
+    };
+    drop(log);
+    printed
 }
 
 /// A run of the program: its word, its input, and how many reads and writes don't fail.

@@ -1,6 +1,7 @@
 //! The bytes of messages, of which fields are read and changed.
 
 use crate::fields::{Form, fields_of};
+use crate::mistake::{Mistake, Unmade};
 use crate::wrong_bytes::Numbers;
 use ibc_ids::Refusal;
 use ibc_message_codec::{decode, encode};
@@ -26,7 +27,9 @@ struct Place {
 // The place of a field of this form that begins here.
 fn place_at(bytes: &[u8], form: Form, start: usize) -> Place {
     let (front, size) = match form {
-        Form::Number(size) | Form::Bytes(size) => (0, size),
+        Form::Byte => (0, 1),
+        Form::Number => (0, 8),
+        Form::Root => (0, 32),
         Form::Text => (2, length_at(bytes, start)),
     };
     let content = start.saturating_add(front);
@@ -43,18 +46,6 @@ fn length_at(bytes: &[u8], start: usize) -> usize {
     match (bytes.get(start), bytes.get(start.saturating_add(1))) {
         (Some(high), Some(low)) => usize::from(u16::from_be_bytes([*high, *low])),
         _ => 0,
-    }
-}
-
-// The number in so many bytes, 1 or 8; nothing where it doesn't fit.
-fn number_in(alloc: Global, size: usize, text: &str) -> Result<Option<Vec<u8>>, AllocError> {
-    let Ok(number) = text.parse::<u64>() else {
-        return Ok(None);
-    };
-    let bytes = number.to_be_bytes();
-    match bytes.get(8usize.saturating_sub(size)..) {
-        Some(last) => Ok(Some(last.to_vec(alloc)?)),
-        None => Ok(None),
     }
 }
 
@@ -94,41 +85,29 @@ impl Spelled {
         None
     }
 
-    /// The content of a field, `None` where there is no such field.
-    pub fn content(&self, field: &str) -> Option<&[u8]> {
-        let place = self.place(field)?;
-        self.bytes.get(place.content..place.end)
-    }
-
-    /// What a field contains that is said by a text: a number, or so many bytes of that number, or the text. `None` where
-    /// there is no such field, or it contains no such thing. Error: no memory.
-    pub fn content_of(
-        &self,
-        alloc: Global,
-        field: &str,
-        text: &str,
-    ) -> Result<Option<Vec<u8>>, AllocError> {
-        match self.place(field).map(|place| place.form) {
-            Some(Form::Number(size)) => number_in(alloc, size, text),
-            Some(Form::Bytes(size)) => match text.parse::<u8>() {
-                Ok(byte) => Ok(Some(vec![in alloc; byte; size]?)),
-                Err(_) => Ok(None),
-            },
-            Some(Form::Text) => Ok(Some(text.as_bytes().to_vec(alloc)?)),
-            None => Ok(None),
+    /// The content of a field. Error: there is no such field.
+    pub fn content(&self, field: &str) -> Result<&[u8], Mistake> {
+        match self.place(field) {
+            Some(place) => Ok(self.bytes.get(place.content..place.end).unwrap_or(&[])),
+            None => Err(Mistake::Field),
         }
     }
 
-    /// The same with another content of a field, `None` where there is no such field. Error: no memory.
-    pub fn with(
-        &self,
-        alloc: Global,
-        field: &str,
-        content: &[u8],
-    ) -> Result<Option<Spelled>, AllocError> {
+    /// What a field contains that is said by a text. Not made where there is no such field, or it contains no such thing, or there
+    /// is no memory.
+    pub fn content_of(&self, alloc: Global, field: &str, text: &str) -> Result<Vec<u8>, Unmade> {
         match self.place(field) {
-            Some(place) => Ok(self.with_at(alloc, place, content)?),
-            None => Ok(None),
+            Some(place) => place.form.content_of(alloc, text),
+            None => Err(Unmade::Mistake(Mistake::Field)),
+        }
+    }
+
+    /// The same with another content of a field. Not made where there is no such field, or the content is too long for a text,
+    /// or there is no memory.
+    pub fn with(&self, alloc: Global, field: &str, content: &[u8]) -> Result<Spelled, Unmade> {
+        match self.place(field) {
+            Some(place) => self.with_at(alloc, place, content),
+            None => Err(Unmade::Mistake(Mistake::Field)),
         }
     }
 
@@ -147,29 +126,34 @@ impl Spelled {
         }
     }
 
-    // The same with another content at a place, `None` where it doesn't lie in the bytes.
-    fn with_at(
-        &self,
-        alloc: Global,
-        place: Place,
-        content: &[u8],
-    ) -> Result<Option<Spelled>, AllocError> {
-        let (Some(front), Some(back)) = (self.bytes.get(..place.start), self.bytes.get(place.end..))
-        else {
-            return Ok(None);
+    // The same with another content at a place.
+    fn with_at(&self, alloc: Global, place: Place, content: &[u8]) -> Result<Spelled, Unmade> {
+        let front = self.bytes.get(..place.start).unwrap_or(&[]);
+        let back = self.bytes.get(place.end..).unwrap_or(&[]);
+        let bytes = match place.form {
+            Form::Text => joined(alloc, &[front, &length_of(content)?, content, back])?,
+            Form::Byte | Form::Number | Form::Root => joined(alloc, &[front, content, back])?,
         };
-        let mut bytes = front.to_vec(alloc)?;
-        if place.form == Form::Text {
-            let Ok(length) = u16::try_from(content.len()) else {
-                return Ok(None);
-            };
-            bytes.extend_from_slice(&length.to_be_bytes())?;
-        }
-        bytes.extend_from_slice(content)?;
-        bytes.extend_from_slice(back)?;
-        Ok(Some(Spelled {
+        Ok(Spelled {
             kind: self.kind,
             bytes,
-        }))
+        })
     }
+}
+
+// The length that stands before a text.
+fn length_of(content: &[u8]) -> Result<[u8; 2], Mistake> {
+    match u16::try_from(content.len()) {
+        Ok(length) => Ok(length.to_be_bytes()),
+        Err(_) => Err(Mistake::Number),
+    }
+}
+
+// These parts, one behind another.
+fn joined(alloc: Global, parts: &[&[u8]]) -> Result<Vec<u8>, AllocError> {
+    let mut bytes = Vec::new(alloc);
+    for part in parts {
+        bytes.extend_from_slice(part)?;
+    }
+    Ok(bytes)
 }

@@ -33,8 +33,15 @@ impl Judged {
 
     /// Prints how many texts are scripts, and how many are none.
     pub fn print<W: Write>(&self, output: &mut W) -> io::Result<()> {
-        writeln!(output, "scripts: {}, others: {}", self.scripts, self.others)
+        print_number(output, "scripts: ", u64::from(self.scripts))?;
+        print_number(output, ", others: ", u64::from(self.others))?;
+        output.write_all(b"\n")
     }
+}
+
+/// Prints a text, and a number behind it.
+pub fn print_number<W: Write>(output: &mut W, before: &str, number: u64) -> io::Result<()> {
+    write!(output, "{before}{number}")
 }
 
 // A text between two others.

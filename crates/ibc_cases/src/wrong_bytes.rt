@@ -1,5 +1,6 @@
 //! Messages of which bytes are wrong. Which ones are is told by numbers that look random, and that are the same in each run.
 
+use crate::mistake::{Mistake, number_of};
 use std::alloc::{AllocError, Global};
 
 /// Numbers that look random: the upper bits of x, 6364136223846793005 x + 1442695040888963407 modulo 2^64, and so on.
@@ -16,12 +17,12 @@ pub struct WrongBytes {
 }
 
 impl WrongBytes {
-    /// What `wrong bytes SEED COUNT` means, `None` where a line says something else.
-    pub fn of(line: &str) -> Option<WrongBytes> {
-        let (seed, count) = line.strip_prefix("wrong bytes ")?.split_once(' ')?;
-        Some(WrongBytes {
-            seed: seed.parse::<u64>().ok()?,
-            count: count.parse::<u64>().ok()?,
+    /// What `SEED COUNT` means. Error: one of them is no number.
+    pub fn of(text: &str) -> Result<WrongBytes, Mistake> {
+        let (seed, count) = text.split_once(' ').unwrap_or((text, ""));
+        Ok(WrongBytes {
+            seed: number_of(seed)?,
+            count: number_of(count)?,
         })
     }
 }
