@@ -5,6 +5,8 @@
 #[cfg(test)]
 mod asked;
 #[cfg(test)]
+mod committing;
+#[cfg(test)]
 mod gathered;
 #[cfg(test)]
 mod handing;
@@ -32,3 +34,5 @@ mod spelled;
 mod tests;
 #[cfg(test)]
 mod trial;
+#[cfg(test)]
+mod turns;

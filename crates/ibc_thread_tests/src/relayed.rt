@@ -31,22 +31,6 @@ pub fn eight_race<R: Threads + Wait + Sync, G: Gate>(
     )
 }
 
-/// Whether a relayer between two chains has two messages accepted, of which the second receives a packet, and two more once
-/// the acknowledgement is committed. Refused: `NoMemory`.
-pub fn two_and_two<R: Threads + Wait + Sync, G: Gate>(
-    rt: &R,
-    alloc: Global,
-    gates: &[G],
-) -> Result<bool, Refusal> {
-    let [a, b] = gates else {
-        return Ok(false);
-    };
-    let to_b = relay_all(rt, alloc, a, b, 1, 1)?;
-    drop(b.produce(rt, b.view().working_time()));
-    let to_a = relay_all(rt, alloc, a, b, 1, 1)?;
-    Ok(to_b == 2 && to_a == 2)
-}
-
 // Two relayers relay for five turns, between the first two of three chains or between the last two. Whether they could.
 fn pair_relays<R: Threads + Wait + Sync, G: Gate>(
     rt: &R,

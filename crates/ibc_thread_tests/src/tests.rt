@@ -29,9 +29,9 @@ balance a escrow/transfer/channel-0 atom 50
 balance b bob transfer/channel-0/atom 50
 ";
 
-// Has the steps of a script taken by these calls. The result is what is printed of the chains, or nothing where these didn't do
-// what they must.
-fn tried<R: Threads + Wait + Sync>(
+/// Has the steps of a script taken by these calls. The result is what is printed of the chains, or nothing where these didn't do
+/// what they must.
+pub fn tried<R: Threads + Wait + Sync>(
     rt: &R,
     alloc: Global,
     calls: Calls,
@@ -64,8 +64,8 @@ fn tried<R: Threads + Wait + Sync>(
     }
 }
 
-// Whether what is printed is this.
-fn is_printed(tried: Result<Option<Vec<u8>>, Fault>, text: &str) -> bool {
+/// Whether what is printed is this.
+pub fn is_printed(tried: Result<Option<Vec<u8>>, Fault>, text: &str) -> bool {
     match &tried {
         Ok(Some(output)) => output.as_slice() == text.as_bytes(),
         Ok(None) | Err(_) => false,
@@ -156,29 +156,6 @@ fn pairs_of_relayers_share_a_chain(rt: HostRuntime) {
     let tried = tried(&rt, rt.alloc(), Calls::Own, Deed::RelayInPairs, IN_A_ROW);
     assert!(rt; matches!(&tried, Ok(Some(output)) if output.starts_with(AWAY.as_bytes())));
     drop(tried);
-}
-
-/// One relayer has two messages accepted for a packet, and two for its acknowledgement.
-#[test]
-fn a_relayer_counts_what_is_accepted(rt: HostRuntime) -> Result<(), Fail> {
-    let alloc = rt.alloc();
-    let script = opened(
-        alloc,
-        &[
-            Steps {
-                text: SENT,
-                times: 1,
-            },
-            Steps {
-                text: BLOCKS,
-                times: 1,
-            },
-        ],
-    )?;
-    let tried = tried(&rt, alloc, Calls::Own, Deed::Relay, script.as_str());
-    assert!(rt; matches!(&tried, Ok(Some(_))));
-    drop(tried);
-    Ok(())
 }
 
 /// A race prints what the audit finds, whatever came first.

@@ -8,7 +8,8 @@ use crate::asked::{Answer, take_steps};
 use crate::histories::{Told, are_told};
 use crate::kept::{Kept, answers_of};
 use crate::looks::{received_thirty, take_steps_watched};
-use crate::relayed::{eight_race, two_and_two, two_pairs_relay};
+use crate::relayed::{eight_race, two_pairs_relay};
+use crate::turns::{blocks_end, sent_again, there_and_back, two_turns};
 use ibc_ids::Refusal;
 use ibc_ledger::Ledger;
 use ibc_ledger_lock::{Chain, Gate, Opened, Receipt, World};
@@ -43,8 +44,14 @@ pub enum Deed {
     HaveThirty,
     /// Eight relayers race between them.
     Race,
-    /// One relayer relays a packet and its acknowledgement.
+    /// Blocks of both end while relayers work.
+    EndBlocks,
+    /// A relayer's turn relays a packet, and another its acknowledgement.
     Relay,
+    /// A relayer of two turns relays both.
+    TakeTurns,
+    /// A relayer sends a packet twice.
+    SendAgain,
     /// Two relayers relay between the first two, and two between the last two.
     RelayInPairs,
 }
@@ -174,7 +181,10 @@ fn is_done<R: Threads + Wait + Sync, G: Gate>(
         Deed::Tell(told) => are_told(rt, alloc, gates, answers, told),
         Deed::HaveThirty => received_thirty(rt, alloc, gates),
         Deed::Race => eight_race(rt, alloc, gates),
-        Deed::Relay => two_and_two(rt, alloc, gates),
+        Deed::EndBlocks => blocks_end(rt, alloc, gates),
+        Deed::Relay => there_and_back(rt, alloc, gates),
+        Deed::TakeTurns => two_turns(rt, alloc, gates),
+        Deed::SendAgain => sent_again(rt, alloc, gates),
         Deed::RelayInPairs => two_pairs_relay(rt, alloc, gates),
     }
 }
