@@ -10,7 +10,7 @@ ghost use Rattle.ibc_script_worlds.specs.Racing.{IsRaceOf};
 
 use crate::sharing::Shared;
 use ibc_ledger::Ledger;
-use ibc_ledger_lock::{Chain, Opened, Receipt, World};
+use ibc_ledger_lock::{Chain, Opened, World};
 use ibc_script::{Fault, Step};
 use ibc_script_cli::{Audited, Race, Races, Runner};
 use ibc_shared_world::{audit_chains, begin, share};
@@ -85,11 +85,11 @@ fn race_on<R: Threads + Wait + Sync, W: World + Send + Sync>(
             return Err(Fault::of_refusal(refusal));
         }
     };
-    let (mut runner, steps) = race.begin(Shared::new(rt, alloc, chains));
+    let (mut runner, steps) = race.begin(Shared { rt, alloc, chains });
     match take_each(relayers, &mut runner, steps) {
         Ok(()) => {
-            let (chains, receipts) = runner.into_chains().into_parts();
-            audited(alloc, chains, receipts)
+            let Shared { chains, .. } = runner.into_chains();
+            audited(alloc, chains)
         }
         Err(fault) => {
             drop(runner);
@@ -166,15 +166,12 @@ fn relay_at_once<R: Threads + Wait + Sync, W: World + Send + Sync>(
     Ok(kept_too?)
 }
 
-// What chains of the world come to, which the receipts are of.
-fn audited<W: World>(
-    alloc: Global,
-    chains: Vec<Chain<W>>,
-    mut receipts: Vec<Receipt<W>>,
-) -> Result<Audited, Fault>
+// What chains of the world come to.
+fn audited<W: World>(alloc: Global, chains: Vec<Chain<W>>) -> Result<Audited, Fault>
     ensures raced { IfOk result (IsRaceOf W.genesis) }
     ensures faults { IfErr result JudgesScript }
 {
+    let mut receipts = Vec::new(alloc);
     match audit_chains::<W>(alloc, chains, receipts.as_mut_slice()) {
         Ok(audit) => Ok(told(audit)),
         Err(refusal) => Err(Fault::of_refusal(refusal)),

@@ -1,13 +1,13 @@
 //! Chains that threads share, as the steps of a script see them.
 
-ghost use Rattle.std.specs.Prelude.{◌≡◌, ◌≤◌, ◌++◌, ◌∷◌, [], IfErr, IfOk, OnOk};
+ghost use Rattle.std.specs.Prelude.{◌≡◌, ◌≤◌, IfErr};
 ghost use Rattle.ibc_ids.specs.declared.refusal.Refusal.TheVariants.{NoMemory};
 
 use crate::worlds::decoded;
 use ibc_codec::Wire;
 use ibc_ids::{Bytes, ChannelId, ClientId, ConnectionId, Key, PortId, Refusal};
 use ibc_ledger::StampedEntry;
-use ibc_ledger_lock::{Chain, Receipt, World};
+use ibc_ledger_lock::{Chain, World};
 use ibc_machine::{Effect, Entry, Event, Reply};
 use ibc_merkle::Proof;
 use ibc_relay::{plans, relay_all};
@@ -17,55 +17,15 @@ use std::alloc::{AllocError, Global};
 use std::sync::Wait;
 use std::thread::Threads;
 
-/// Chains that threads share, as the steps of a script see them, with the receipts of what these asked, in its order.
+/// Chains that threads share, as the steps of a script see them.
 #[derive(Drop)]
 pub struct Shared<'r, R: Wait, W: World> {
-    rt: &'r R,
-    alloc: Global,
-    chains: Vec<Chain<W>>,
-    receipts: Vec<Receipt<W>>,
-}
-
-impl<'r, R: Wait, W: World> Shared<'r, R, W> {
-    /// Chains that were asked nothing yet.
-    pub fn new(rt: &'r R, alloc: Global, chains: Vec<Chain<W>>) -> Shared<'r, R, W>
-        ensures chains { result.chains ≡ chains }
-        ensures receipts { result.receipts.items ≡ [] }
-    {
-        Shared {
-            rt,
-            alloc,
-            chains,
-            receipts: Vec::new(alloc),
-        }
-    }
-
-    /// The chains, and the receipts of what they were asked.
-    pub fn into_parts(self) -> (Vec<Chain<W>>, Vec<Receipt<W>>)
-        ensures { (result.0 ≡ self.chains) × (result.1 ≡ self.receipts) }
-    {
-        (self.chains, self.receipts)
-    }
+    pub rt: &'r R,
+    pub alloc: Global,
+    pub chains: Vec<Chain<W>>,
 }
 
 impl<R: Wait, W: World> Shared<'_, R, W> {
-    // Keeps a receipt, and tells its reply.
-    fn keep(&mut self, receipt: Receipt<W>) -> Result<Reply, Refusal>
-        ensures same { self.new.chains ≡ self.old.chains }
-        ensures kept { OnOk result (self.new.receipts.items ≡ self.old.receipts.items ++ receipt ∷ []) }
-        ensures told { IfOk result (λ reply. reply ≡ receipt.reply) }
-        ensures err { IfErr result (λ refusal. refusal ≡ NoMemory) }
-    {
-        let reply: Result<Reply, AllocError> = receipt.reply().clone();
-        match self.receipts.push(receipt) {
-            Ok(()) => Ok(reply?),
-            Err(error) => {
-                drop(reply);
-                Err(Refusal::from(error))
-            }
-        }
-    }
-
     // The chain of a number, or none.
     fn chain(&self, chain: u8) -> Option<&Chain<W>> {
         self.chains.get(usize::from(chain))
@@ -169,7 +129,7 @@ impl<R: Wait, W: World> Chains for Shared<'_, R, W> {
             Event::Message { message, .. } => chain.submit(self.rt, message),
             Event::Block { next_time, .. } => chain.produce(self.rt, next_time),
         };
-        self.keep(receipt)
+        Ok(receipt.into_reply())
     }
 
     fn client_state(&self, chain: u8, client: &ClientId) -> Result<Option<ClientState>, Refusal> {

@@ -2,7 +2,7 @@
 
 use ibc_codec::{Wire, decode};
 use ibc_ids::{Bytes, ChannelId, ClientId, ConnectionId, Key, PortId, Refusal};
-use ibc_ledger_lock::{Gate, Receipt, World};
+use ibc_ledger_lock::Gate;
 use ibc_machine::{Event, Reply};
 use ibc_merkle::Proof;
 use ibc_relay::plans;
@@ -42,22 +42,6 @@ pub fn take_steps<R: Wait, G: Gate>(
         answers: Vec::new(alloc),
     };
     let Asked { answers, .. } = race.run_on(asked)?;
-    Ok(answers)
-}
-
-/// What receipts tell. Refused: `NoMemory`.
-pub fn answers_of<W: World>(
-    alloc: Global,
-    receipts: &[Receipt<W>],
-) -> Result<Vec<Answer>, Refusal> {
-    let mut answers = Vec::with_capacity(alloc, receipts.len())?;
-    for receipt in receipts {
-        let reply = receipt.reply().clone()?;
-        answers.push(Answer {
-            chain: receipt.chain(),
-            reply,
-        })?;
-    }
     Ok(answers)
 }
 
