@@ -1,5 +1,5 @@
 -- What the receipt of a call claims.
-use Rattle.std.proofs.Common.{◌≡◌, ◌∙◌, ℕ, List, [], ◌-◌, ◌×◌, Option, Some, None, refl, ap, sym, subst, length, ⊎_elim, inl, inr, true}
+use Rattle.std.proofs.Common.{◌≡◌, ◌∙◌, ℕ, List, [], ◌-◌, Option, Some, None, refl, ap, sym, subst, length, ⊎_elim, inl, inr, true}
 use Rattle.std.specs.Prelude.{◌⊎◌, IfSome, IsNone, IsSome, slice_get}
 use Rattle.std.specs.List.{last_or}
 use Rattle.std.specs.Option.{IsSomeAnd, option_and_then, option_map}
@@ -53,11 +53,11 @@ module _ (old new : Ledger) (event : Event) (given : Reply) (chain : ℕ) (book 
       let w = last_is old new event given adds in
       let e = w.0 in
       let claim : claims o ≡ Some (record { place = length new.history - 1; event = e.entry.event }) =
-          ap claims some ∙ ap (λ (k : Known). claim_of k.history) part_is
-          ∙ ap (option_map (λ (x : StampedEntry). record { place = length new.history - 1; event = x.entry.event })) w.1.last in
+      ap claims some ∙ ap (λ (k : Known). claim_of k.history) part_is
+      ∙ ap (option_map (λ (x : StampedEntry). record { place = length new.history - 1; event = x.entry.event })) w.1.last in
       let last : IsSomeAnd (last_or None seat.me.0.part.history) (λ x. x.entry.reply ≡ given) =
-          subst (λ (k : Known). IsSomeAnd (last_or None k.history) (λ x. x.entry.reply ≡ given)) (sym part_is)
-          (subst (λ (p : Option StampedEntry). IsSomeAnd p (λ x. x.entry.reply ≡ given)) (sym w.1.last) w.1.answered) in (
+      subst (λ (k : Known). IsSomeAnd (last_or None k.history) (λ x. x.entry.reply ≡ given)) (sym part_is)
+      (subst (λ (p : Option StampedEntry). IsSomeAnd p (λ x. x.entry.reply ≡ given)) (sym w.1.last) w.1.answered) in (
         inr (answered, subst (λ (p : Option Claim). IsSomeAnd p (λ c. c.event ≡ event)) (sym claim) w.1.asked),
         subst (λ (p : Option Claim). IfSome p (λ c. c.place ≡ length old.history)) (sym claim) w.1.place,
         subst (IsReceipt book given) (sym some)
@@ -82,16 +82,11 @@ found ledger chain given part begins last = by_last (last_or None part.history) 
     by_last None is replied = absurd replied
     by_last (Some e) is replied =
         let claim : claim_of part.history ≡ Some (record { place = length part.history - 1; event = e.entry.event }) =
-            ap (option_map (λ (x : StampedEntry). record { place = length part.history - 1; event = x.entry.event })) is in
+        ap (option_map (λ (x : StampedEntry). record { place = length part.history - 1; event = x.entry.event })) is in
         subst (λ (c : Option Claim). Holds ledger (record { chain = chain; reply = given; claim = c })) (sym claim)
         (stands ledger part e begins is ∙ ap (λ (r : Reply). Some (e.entry.event, r)) replied)
 
--- but for want of memory something is claimed
-pub claimed : (book : TableId) (given : Reply) (o : Option Claiming) → IsReceipt book given o → (given ≡ reply.No NoMemory) ⊎ IsSome (claims o)
-claimed book given None (kept, seat) = elim kept [ inl no ↦ inl no.0 | inr yes ↦ absurd (cc (yes.1)) ]
-claimed book given (Some c) (kept, seat) = inr (by_last (last_or None c.me.0.part.history) refl seat.2)
-  where
-    by_last : (o : Option StampedEntry) → last_or None c.me.0.part.history ≡ o → IsSomeAnd o (λ e. e.entry.reply ≡ given) → IsSome (claim_of c.me.0.part.history)
-    by_last None is replied = absurd replied
-    by_last (Some e) is replied =
-        subst (λ (p : Option StampedEntry). IsSome (option_map (λ (x : StampedEntry). record { place = length c.me.0.part.history - 1; event = x.entry.event }) p)) (sym is) refl
+pub holds_found : (ledger : Ledger) (chain : ℕ) (book : TableId) (given : Reply) (o : Option Claiming) → IsReceipt book given o
+    → ((c : Claiming) → o ≡ Some c → IsBeginning c.me.0.part (known_of ledger)) → Holds ledger (record { chain = chain; reply = given; claim = claims o })
+holds_found ledger chain book given None is begins = tt
+holds_found ledger chain book given (Some c) is begins = found ledger chain given c.me.0.part (begins c refl) is.1.2

@@ -17,8 +17,10 @@ use Rattle.ibc_machine.specs.Genesis.{GenesisState}
 use Rattle.ibc_ledger.specs.Adding.{AddsOrNot}
 use Rattle.ibc_ledger.specs.Held.{HeldLedger}
 use Rattle.ibc_ledger.specs.SentPackets.{happened_of, happened_on}
+use Rattle.atomic_table.specs.Table.{Me}
 use Rattle.ibc_ledger_lock.specs.Accounts.{Known}
-use Rattle.ibc_ledger_lock.specs.Books.{IsBeginning}
+use Rattle.ibc_ledger_lock.specs.Books.{IsBeginning, keeper, reader}
+use Rattle.ibc_ledger_lock.specs.declared.book.Knowledge.{Knowledge}
 use Rattle.ibc_ledger_lock.specs.Worlds.{IsEarlier, WasOnce, known_of, ledger_as, state_after}
 
 -- ---- what a call adds
@@ -61,6 +63,17 @@ last_is old new event given (e, more, asked, answered, is, _, _) = (
   },
 )
 
+-- ---- seats
+
+pub keeps_whole : (me : Me (Unit {0}) Knowledge) (all : Known) → me ≡ (keeper all, []) → me ≡ (keeper me.0.whole, [])
+keeps_whole me all is = is ∙ ap (λ (k : Known). (keeper k, [])) (sym (ap (λ m. m.0.whole) is))
+
+pub reads_part : (me : Me (Unit {0}) Knowledge) (part : Known) → me ≡ (reader part, []) → me ≡ (reader me.0.part, [])
+reads_part me part is = is ∙ ap (λ (k : Known). (reader k, [])) (sym (ap (λ m. m.0.part) is))
+
+pub later_of : (me : Me (Unit {0}) Knowledge) (all now : Known) → me ≡ (keeper all, []) → IsBeginning all now → IsBeginning me.0.whole now
+later_of me all now is begins = subst (λ (k : Known). IsBeginning k now) (sym (ap (λ m. m.0.whole) is)) begins
+
 -- ---- what was so once
 
 pub mapped_at : {X Y : Type 0} (f : X → Y) (xs : List X) (k : ℕ) (x : X) → slice_get xs k ≡ Some x → slice_get (map f xs) k ≡ Some (f x)
@@ -76,7 +89,9 @@ last_after d e (x ∷ xs) is = last_after x e xs is
 
 last_at : (e : StampedEntry) (xs : List StampedEntry) → last_or None xs ≡ Some e → slice_get xs (length xs - 1) ≡ Some e
 last_at e [] is = absurd cc
-last_at e (x ∷ xs) is = last_after x e xs is
+last_at e (x ∷ xs) is =
+    let less : length (x ∷ xs) - 1 ≡ length xs = omega arith in
+    ap (λ k. slice_get (x ∷ xs) k) less ∙ last_after x e xs is
 
 -- the last entry of a beginning stands in the history
 pub stands : (ledger : Ledger) (part : Known) (e : StampedEntry) → IsBeginning part (known_of ledger) → last_or None part.history ≡ Some e

@@ -3,8 +3,10 @@
 ghost use Rattle.std.specs.Prelude.{◌≡◌, ◌<◌, []};
 ghost use Rattle.ibc_ledger_lock.specs.Accounts.{nothing_known};
 ghost use Rattle.ibc_ledger_lock.specs.Books.{IsBeginning, keeper, reader};
+ghost use Rattle.ibc_ledger_lock.specs.Worlds.{known_of};
 
 use atomic_table::{Join, Play, Seat, Split, Table, TableRule};
+use ibc_ledger::Ledger;
 use std::alloc::{AllocError, Global};
 use std::marker::{Brand, Model, PhantomData};
 
@@ -128,7 +130,8 @@ impl Opened {
 }
 
 /// The keeper knows a ledger that has gone on, and the new seat knows it as it is now.
-pub(crate) fn note<X: Tells>(book: &Book, seat: &mut Place) -> Place
+pub(crate) fn note<X: Tells>(book: &Book, seat: &mut Place, ledger: &Ledger) -> Place
+    requires told { known_of ledger.now.ledger ≡ X.account }
     requires book { (seat.old.table_id ≡ book.now.shared.table_id) × (0 < book.now.shared.table_id.words) }
     requires keeps { seat.old.me ≡ (keeper seat.old.me.0.whole, []) }
     requires later { IsBeginning seat.old.me.0.whole X.account }

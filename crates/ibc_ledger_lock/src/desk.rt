@@ -240,7 +240,7 @@ fn noted(book: &Book, seat: &mut Place, ledger: &Ledger) -> Place
     ensures seat { (seat.new.table_id ≡ seat.old.table_id) × (seat.new.me ≡ (keeper (known_of ledger.now.ledger), [])) }
     ensures reader { (result.table_id ≡ seat.old.table_id) × (result.me ≡ (reader (known_of ledger.now.ledger), [])) }
 {
-    note::<Brand>(book, seat)
+    note::<Brand>(book, seat, ledger)
 }
 
 // What a call's receipt claims by: nothing where the call added no entry.
