@@ -51,8 +51,8 @@ module _ (table : TableName) (genesis : GenesisState) (receipts claims : List To
       λ P all one. All-append P ledgers (held ∷ []) all (All-cons P held [] one (All-nil P)) in
       subst (AreGathered table genesis receipts readings) (sym pushed) (
         with_one (IsOfWorld table genesis) before.0 world,
-        with_one Claimed before.1.0 (subst (All (HoldsIfOf held)) same_claims holds),
-        with_one Read before.1.1 (subst (All (WasOnce held)) same_reads once),
+        with_one Claimed before.1 (subst (All (HoldsIfOf held)) same_claims holds),
+        with_one Read before.2 (subst (All (WasOnce held)) same_reads once),
       )
 
 pub audited : (table : TableName) (genesis : GenesisState) (n : ℕ) (receipts : List Told) (readings ledgers : List HeldLedger) (answer : Result Audit Refusal)
