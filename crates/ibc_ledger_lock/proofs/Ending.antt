@@ -110,4 +110,4 @@ module _ (table : TableName) (genesis : GenesisState) (old : Ledger) (new : Held
   -- what is seen after the end of a block may be posted
   pub looked : (o : Option View) → IfSome o (λ view. view ≡ seen) → IfSome o (λ view. IsViewOf table genesis view × ShowsEnd told view)
   looked None e = tt
-  looked (Some view) e = ((new, world, is, e), subst (ShowsEnd told) (sym e) shows)
+  looked (Some view) e = ((new, (world, is), e), subst (ShowsEnd told) (sym e) shows)

@@ -1,3 +1,4 @@
+pub mod Claims
 pub mod Ending
 pub mod Moves
 pub mod Noting

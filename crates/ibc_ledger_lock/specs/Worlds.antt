@@ -1,6 +1,8 @@
--- What is of a world, and what receipts tell.
-use Rattle.std.specs.Prelude.{◌≡◌, ◌⊎◌, ℕ, [], Option, Some, None, slice_get, IfSome}
-use Rattle.std.specs.Option.{IsSomeAnd}
+-- What is of a world, what receipts tell, and what was read.
+use Rattle.std.specs.Prelude.{◌≡◌, ◌⊎◌, ◌++◌, ◌-◌, ℕ, List, [], length, take, Option, Some, None, slice_get, IfSome}
+use Rattle.std.specs.List.{last_or}
+use Rattle.std.specs.Option.{IsSomeAnd, option_map}
+use Rattle.ibc_ids.specs.declared.publication.Publication.{Publication}
 use Rattle.ibc_ids.specs.Texts.{Text}
 use Rattle.ibc_machine.specs.declared.event.Event.{Event}
 use Rattle.ibc_machine.specs.declared.reply.Reply.{Reply}
@@ -10,15 +12,21 @@ use Rattle.ibc_machine.specs.Genesis.{GenesisState}
 use Rattle.ibc_machine.specs.declared.reply.Effect.TheVariants as effect
 use Rattle.ibc_machine.specs.Ledgers.{Ledger, IsLedger, state_of}
 use Rattle.ibc_machine.specs.Relay.{View, view_of}
+use Rattle.ibc_machine.specs.Replay.{LedgerState, StampedEntry}
 use Rattle.ibc_root_table.specs.Passes.{TableName}
 use Rattle.ibc_ledger.specs.Held.{HeldLedger}
 use Rattle.ibc_ledger.specs.SentPackets.{happened_on}
+use Rattle.ibc_ledger_lock.specs.Accounts.{Known}
 use Rattle.ibc_ledger_lock.specs.Books.{no_book}
 
 -- what a receipt claims of the history of its chain: that the event stands at the place
 pub record Claim : Type 0 where
   pub place : ℕ
   pub event : Event
+
+-- the claim that the last entry of a history stands at its place
+abbrev pub claim_of : List StampedEntry → Option Claim
+claim_of history = option_map (λ e. record { place = length history - 1; event = e.entry.event }) (last_or None history)
 
 -- what a receipt tells: the chain's number, the reply, and what it claims, nothing where the call added no entry
 pub record Told : Type 0 where
@@ -40,13 +48,42 @@ IsToldOf event told =
 abbrev pub IsOfWorld : TableName → GenesisState → HeldLedger → Type 0
 IsOfWorld table genesis held = (held.table ≡ table) × (held.ledger.genesis ≡ genesis)
 
--- so it is on some ledger of this table and this genesis
-abbrev pub OnALedger : TableName → GenesisState → (Ledger → Type 0) → Type 0
-OnALedger table genesis Says = (held : HeldLedger) × IsOfWorld table genesis held × IsLedger held.ledger × Says held.ledger
+-- it is a ledger, of this table and this genesis
+abbrev pub IsLedgerOf : TableName → GenesisState → HeldLedger → Type 0
+IsLedgerOf table genesis held = IsOfWorld table genesis held × IsLedger held.ledger
+
+-- what is known of a ledger as it is
+abbrev pub known_of : Ledger → Known
+known_of ledger = record { history = ledger.history; seen = ledger.seen }
+
+-- the ledger of a chain's number, of this table and this genesis, of which so much is known
+abbrev pub ledger_as : TableName → GenesisState → ℕ → Known → HeldLedger
+ledger_as table genesis chain known = record {
+  ledger = record { genesis = genesis; chain = chain; history = known.history; seen = known.seen };
+  table = table;
+}
+
+-- A ledger as it was once: its history has gone on since, its pass has seen more, and nothing else has changed.
+abbrev pub IsEarlier : Ledger → Ledger → Type 0
+IsEarlier old new = (entries : List StampedEntry) × (more : List Publication)
+    × (new ≡ record old { history = old.history ++ entries; seen = old.seen ++ more })
+
+-- what the receipt claims stands in the ledger's history, if it is of that chain
+abbrev pub HoldsIfOf : HeldLedger → Told → Type 0
+HoldsIfOf held told = told.chain ≡ held.ledger.chain → Holds held.ledger told
+
+-- the state that the first n entries of a ledger leave
+abbrev pub state_after : ℕ → Ledger → LedgerState
+state_after n ledger = state_of (record ledger { history = take n ledger.history })
+
+-- the ledger was once as it was read, if that was read of its chain
+abbrev pub WasOnce : HeldLedger → HeldLedger → Type 0
+WasOnce held read = read.ledger.chain ≡ held.ledger.chain → IsEarlier read.ledger held.ledger
 
 -- the view of a ledger of this table and this genesis (ICS 18, "Relayer algorithm")
 abbrev pub IsViewOf : TableName → GenesisState → View → Type 0
-IsViewOf table genesis view = OnALedger table genesis (λ ledger. view ≡ view_of ledger.chain (state_of ledger).chain)
+IsViewOf table genesis view = (held : HeldLedger) × IsLedgerOf table genesis held
+    × (view ≡ view_of held.ledger.chain (state_of held.ledger).chain)
 
 -- the reply tells that a block of this height was ended
 abbrev pub IsEndOf : Reply → ℕ → Type 0

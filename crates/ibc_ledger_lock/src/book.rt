@@ -1,105 +1,86 @@
-//! The book of a chain: the history that its keeper knows whole, and claims that know one place each. It exists in proofs
+//! The book of a chain: its keeper knows the ledger as it is, and others each know it as it was once. It exists in proofs
 //! alone, but for one word.
-ghost use Rattle.std.specs.Prelude.{◌≡◌, ◌<◌, [], Some, length, map, slice_get};
-ghost use Rattle.ibc_ledger.specs.Held.{plain_entry};
-ghost use Rattle.ibc_ledger.specs.SentPackets.{happened_of};
-ghost use Rattle.ibc_ledger_lock.specs.Books.{added, claim, keeper};
+ghost use Rattle.std.specs.Prelude.{◌≡◌, ◌<◌, []};
+ghost use Rattle.ibc_ledger_lock.specs.Accounts.{nothing_known};
+ghost use Rattle.ibc_ledger_lock.specs.Books.{IsBeginning, keeper, reader};
+ghost use Rattle.ibc_ledger_lock.specs.Worlds.{known_of};
 
 use atomic_table::{Join, Play, Seat, Split, Table, TableRule};
-use ibc_ledger::StampedEntry;
-use ibc_machine::{Event, Reply};
+use ibc_ledger::Ledger;
 use std::alloc::{AllocError, Global};
-use std::collections::LinkedList;
 use std::marker::{Brand, Model, PhantomData};
-use std::snapshot::Snapshot;
 
-/// What a seat knows: the keeper the whole history, and a claim an entry and its place. No value of it is made.
-pub struct Knowledge {
-    pub keeps: bool,
-    pub all: LinkedList<(Event, Reply)>,
-    pub claims: bool,
-    pub place: u64,
-    pub entry: (Event, Reply),
+/// What is known of a ledger. No value of it is made.
+pub struct Account;
+
+impl Model for Account {
+    ghost use Rattle.ibc_ledger_lock.specs.Accounts.{Known, nothing_known};
+
+    ghost Value = { Known };
+
+    ghost view = { λ _. nothing_known };
 }
 
-/// There is one keeper, and each claim is so.
+/// What a seat knows: the keeper all, and another a beginning. No value of it is made.
+pub struct Knowledge {
+    pub keeps: bool,
+    pub whole: Account,
+    pub claims: bool,
+    pub part: Account,
+}
+
+/// There is one keeper, and what others know is a beginning of what it knows.
 pub struct OneHistory;
 
 impl TableRule<(), Knowledge, ()> for OneHistory {
-    ghost use Rattle.std.specs.Prelude.{[]};
+    ghost use Rattle.ibc_ledger_lock.specs.Accounts.{nothing_known};
     ghost use Rattle.ibc_ledger_lock.specs.Books.{keeper, IsKept};
 
     ghost holds = { λ _ s. IsKept s };
 
-    ghost first = { λ _. keeper [] };
+    ghost first = { λ _. keeper nothing_known };
 }
 
 pub type Book = Table<(), Knowledge, (), OneHistory, Global>;
 
 pub type Place = Seat<(), Knowledge>;
 
-/// An entry that a proof picks.
-pub trait Says {
-    ghost use Rattle.ibc_machine.specs.Histories.{Happened};
-
-    ghost entry: { Happened };
-}
-
-impl Says for Brand {
-    ghost use Rattle.ibc_ledger_lock.specs.Books.{no_entry};
-
-    ghost entry = { no_entry };
-}
-
-/// A history that a proof picks.
+/// What is known of a ledger that a proof picks.
 pub trait Tells {
-    ghost use Rattle.std.specs.Prelude.{List};
-    ghost use Rattle.ibc_machine.specs.Histories.{Happened};
+    ghost use Rattle.ibc_ledger_lock.specs.Accounts.{Known};
 
-    ghost log: { List Happened };
+    ghost account: { Known };
 }
 
 impl Tells for Brand {
-    ghost use Rattle.std.specs.Prelude.{[]};
+    ghost use Rattle.ibc_ledger_lock.specs.Accounts.{nothing_known};
 
-    ghost log = { [] };
+    ghost account = { nothing_known };
 }
 
-/// The keeper begins with a history.
-struct Begins<X: Tells>(PhantomData<X>);
+/// The keeper knows more, and the new seat knows as much.
+struct Grows<X: Tells>(PhantomData<X>);
 
-impl<X: Tells> Split<Knowledge> for Begins<X> {
-    ghost use Rattle.ibc_ledger_lock.specs.Books.{keeper, nobody};
+impl<X: Tells> Split<Knowledge> for Grows<X> {
+    ghost use Rattle.ibc_ledger_lock.specs.Books.{keeper, reader};
 
-    ghost left = { λ v. keeper X.log };
+    ghost left = { λ v. keeper X.account };
 
-    ghost right = { λ v. nobody };
+    ghost right = { λ v. reader X.account };
 }
 
-/// The keeper adds an entry, and the new seat claims it.
-struct Adds<X: Says>(PhantomData<X>);
-
-impl<X: Says> Split<Knowledge> for Adds<X> {
-    ghost use Rattle.std.specs.Prelude.{length};
-    ghost use Rattle.ibc_ledger_lock.specs.Books.{added, claim};
-
-    ghost left = { λ v. added v X.entry };
-
-    ghost right = { λ v. claim (length v.all) X.entry };
-}
-
-/// A claim once more.
+/// What is claimed once more.
 struct Again;
 
 impl Split<Knowledge> for Again {
-    ghost use Rattle.ibc_ledger_lock.specs.Books.{claim};
+    ghost use Rattle.ibc_ledger_lock.specs.Books.{reader};
 
     ghost left = { λ v. v };
 
-    ghost right = { λ v. claim v.place v.entry };
+    ghost right = { λ v. reader v.part };
 }
 
-/// The keeper is shown a claim.
+/// The keeper is shown a beginning.
 struct Shows;
 
 impl Join<Knowledge> for Shows {
@@ -110,7 +91,7 @@ impl Join<Knowledge> for Shows {
     ghost spent = { nobody };
 }
 
-/// The keeper finds that the claim is so.
+/// The keeper finds that the beginning is one.
 struct Checks;
 
 impl Play<(), Knowledge> for Checks {
@@ -119,7 +100,7 @@ impl Play<(), Knowledge> for Checks {
     ghost then = { λ st m found m'. Checked m m' };
 }
 
-/// A book with an empty history, for one chain. Contracts see its name.
+/// A book in which nothing is known yet, for one chain. Contracts see its name.
 #[derive(Drop)]
 pub struct Opened {
     pub(crate) book: Book,
@@ -129,13 +110,14 @@ pub struct Opened {
 impl Model for Opened {
     ghost use Rattle.std.specs.Prelude.{◌≡◌, ◌<◌, []};
     ghost use Rattle.atomic_table.specs.Seated.{TableId};
+    ghost use Rattle.ibc_ledger_lock.specs.Accounts.{nothing_known};
     ghost use Rattle.ibc_ledger_lock.specs.Books.{keeper};
 
     ghost Value = { TableId };
 
     ghost view = { λ o. o.book.shared.table_id };
 
-    ghost invariant = { λ o. (o.seat.table_id ≡ o.book.shared.table_id) × (0 < o.book.shared.table_id.words) × (o.seat.me ≡ (keeper [], [])) };
+    ghost invariant = { λ o. (o.seat.table_id ≡ o.book.shared.table_id) × (0 < o.book.shared.table_id.words) × (o.seat.me ≡ (keeper nothing_known, [])) };
 }
 
 impl Opened {
@@ -147,40 +129,26 @@ impl Opened {
     }
 }
 
-/// The keeper begins with a history.
-pub(crate) fn begin<X: Tells>(book: &Book, seat: &mut Place, log: &[StampedEntry])
-    requires log { map happened_of (map plain_entry log.now) ≡ X.log }
+/// The keeper knows a ledger that has gone on, and the new seat knows it as it is now.
+pub(crate) fn note<X: Tells>(book: &Book, seat: &mut Place, ledger: &Ledger) -> Place
+    requires told { known_of ledger.now.ledger ≡ X.account }
     requires book { (seat.old.table_id ≡ book.now.shared.table_id) × (0 < book.now.shared.table_id.words) }
-    requires first { seat.old.me ≡ (keeper [], []) }
-    ensures { (seat.new.table_id ≡ seat.old.table_id) × (seat.new.me ≡ (keeper X.log, [])) }
+    requires keeps { seat.old.me ≡ (keeper seat.old.me.0.whole, []) }
+    requires later { IsBeginning seat.old.me.0.whole X.account }
+    ensures seat { (seat.new.table_id ≡ seat.old.table_id) × (seat.new.me ≡ (keeper X.account, [])) }
+    ensures reader { (result.table_id ≡ seat.old.table_id) × (result.me ≡ (reader X.account, [])) }
 {
-    book.shared.split_seat::<Begins<X>>(seat);
+    book.shared.split_seat::<Grows<X>>(seat)
 }
 
-/// The keeper adds an entry, and the claim of it.
-pub(crate) fn add<X: Says>(
-    book: &Book,
-    seat: &mut Place,
-    event: &Snapshot<Event>,
-    reply: &Reply,
-) -> Place
-    requires entry { (event.now.value, reply.now) ≡ X.entry }
-    requires book { (seat.old.table_id ≡ book.now.shared.table_id) × (0 < book.now.shared.table_id.words) }
-    requires keeps { seat.old.me ≡ (keeper seat.old.me.0.all, []) }
-    ensures seat { (seat.new.table_id ≡ seat.old.table_id) × (seat.new.me ≡ (added seat.old.me.0 X.entry, [])) }
-    ensures claim { (result.table_id ≡ seat.old.table_id) × (result.me ≡ (claim (length seat.old.me.0.all) X.entry, [])) }
-{
-    book.shared.split_seat::<Adds<X>>(seat)
-}
-
-/// What is claimed stands in the history.
+/// What is claimed is a beginning of what the keeper knows.
 pub(crate) fn check(book: &Book, seat: &mut Place, claimed: &mut Place)
     requires book { (seat.old.table_id ≡ book.now.shared.table_id) × (0 < book.now.shared.table_id.words) }
-    requires keeps { seat.old.me ≡ (keeper seat.old.me.0.all, []) }
-    requires claims { (claimed.old.table_id ≡ book.now.shared.table_id) × (claimed.old.me ≡ (claim claimed.old.me.0.place claimed.old.me.0.entry, [])) }
+    requires keeps { seat.old.me ≡ (keeper seat.old.me.0.whole, []) }
+    requires claims { (claimed.old.table_id ≡ book.now.shared.table_id) × (claimed.old.me ≡ (reader claimed.old.me.0.part, [])) }
     ensures seat { (seat.new.table_id ≡ seat.old.table_id) × (seat.new.me ≡ seat.old.me) }
     ensures claimed { (claimed.new.table_id ≡ claimed.old.table_id) × (claimed.new.me ≡ claimed.old.me) }
-    ensures found { slice_get seat.old.me.0.all claimed.old.me.0.place ≡ Some claimed.old.me.0.entry }
+    ensures found { IsBeginning claimed.old.me.0.part seat.old.me.0.whole }
 {
     let copy = book.shared.split_seat::<Again>(claimed);
     book.shared.join_seat::<Shows>(seat, copy);

@@ -1,6 +1,6 @@
 //! A ledger under a lock.
 
-ghost use Rattle.std.specs.Prelude.{◌≡◌, ◌⊎◌, ◌↔◌, All, Err, IfErr, IfOk, IsNone, List, drop, map};
+ghost use Rattle.std.specs.Prelude.{◌≡◌, ◌⊎◌, ◌↔◌, All, Err, IfErr, IfOk, IsNone, IsOkUnless, List, drop, map};
 ghost use Rattle.std.specs.Fn.{FnOnceReturnsAt};
 ghost use Rattle.std.specs.Option.{IsSomeAnd};
 ghost use Rattle.ibc_ids.specs.Maps.{at};
@@ -11,16 +11,18 @@ ghost use Rattle.ibc_merkle.specs.Written.{written};
 ghost use Rattle.ibc_machine.specs.declared.event.Event.TheVariants as event_of;
 ghost use Rattle.ibc_machine.specs.Image.{image};
 ghost use Rattle.ibc_machine.specs.Ledgers.{state_of};
+ghost use Rattle.ibc_machine.specs.Relay.{view_of};
 ghost use Rattle.ibc_ledger.specs.declared.entry.StampedEntry.{StampedEntry as KeptEntry};
 ghost use Rattle.ibc_ledger.specs.Held.{plain_entry};
 ghost use Rattle.ibc_ledger.specs.SentPackets.{ack_on, packet_on};
 ghost use Rattle.ibc_ledger.specs.Standing.{provable};
-ghost use Rattle.ibc_ledger_lock.specs.Worlds.{Holds, IsOfWorld, IsToldOf, IsViewOf, OnALedger};
+ghost use Rattle.ibc_ledger_lock.specs.Worlds.{HoldsIfOf, IsLedgerOf, IsOfWorld, IsToldOf, IsViewOf, WasOnce};
 
 use crate::board::Board;
 use crate::book::Opened;
 use crate::desk::Desk;
 use crate::gate::Gate;
+use crate::reading::Reading;
 use crate::receipt::Receipt;
 use crate::world::World;
 use ibc_ids::{Bytes, ChannelId, Key, PortId, Refusal};
@@ -54,8 +56,9 @@ impl<W: World> Model for Chain<W> {
 }
 
 impl<W: World> Chain<W> {
-    /// The chain of a ledger of the world, with an unused book that is the world's for its number; its views are posted on
-    /// the board, that of the ledger as it stands first. `NoMemory` where a growth is refused: the ledger comes back then.
+    /// The chain of a ledger of the world, with an unused book that is the world's for its number. It posts its views on the
+    /// board; that of the ledger as it stands is posted now, unless a growth is refused for it there, and the chain has it in
+    /// any case. `NoMemory` where another growth is refused: the ledger comes back then.
     pub fn new<R: Wait>(
         rt: &R,
         ledger: Ledger,
@@ -118,77 +121,113 @@ impl<W: World> Chain<W> {
         }
     }
 
-    /// The value of a key in the ledger's working block, as its `query` gives it.
-    pub fn query<R: Wait>(&self, rt: &R, key: &Key) -> Result<Option<Bytes>, Refusal>
-        ensures ok { OnALedger W.table W.genesis (λ ledger. IfOk result (λ value. value ≡ at text_cmp (path key.now) (image (state_of ledger).chain.records.core))) }
-        ensures err { IfErr result (λ refusal. refusal ≡ NoMemory) }
+    /// The view of the ledger as it stands, as its `view` gives it, and the reading of that ledger. Unlike `view` it takes the
+    /// lock. Refused: `NoMemory`.
+    pub fn look<R: Wait>(&self, rt: &R) -> (Result<View, Refusal>, Reading<W>)
+        ensures is { IsLedgerOf W.table W.genesis result.1 }
+        ensures ok { IfOk result.0 (λ view. view ≡ view_of result.1.ledger.chain (state_of result.1.ledger).chain) }
+        ensures err { IsOkUnless result.0 NoMemory }
     {
-        self.desk.lock(rt).ledger().query(key)
+        let mut desk = self.desk.lock(rt);
+        let reading = desk.read();
+        (desk.ledger().view(), reading)
     }
 
-    /// The proof of what a committed height has at a key, as the ledger's `query_proof` gives it.
-    pub fn query_proof<R: Wait>(&self, rt: &R, height: u64, key: &Key) -> Result<Proof, Refusal>
-        ensures ok { OnALedger W.table W.genesis (λ ledger. (IfOk result (λ proof. IsSomeAnd (provable ledger.genesis.window (state_of ledger).chain.committed height) (λ block. proof ≡ written (image block.records.core) (path key.now)))) × ((result ≡ Err NoConsensus) ↔ IsNone (provable ledger.genesis.window (state_of ledger).chain.committed height))) }
-        ensures err { IfErr result (λ refusal. (refusal ≡ NoConsensus) ⊎ (refusal ≡ NoMemory)) }
+    /// The value of a key in the ledger's working block, as its `query` gives it, and the reading of that ledger. Refused:
+    /// `NoMemory`.
+    pub fn query<R: Wait>(&self, rt: &R, key: &Key) -> (Result<Option<Bytes>, Refusal>, Reading<W>)
+        ensures is { IsLedgerOf W.table W.genesis result.1 }
+        ensures ok { IfOk result.0 (λ value. value ≡ at text_cmp (path key.now) (image (state_of result.1.ledger).chain.records.core)) }
+        ensures err { IsOkUnless result.0 NoMemory }
     {
-        self.desk.lock(rt).ledger().query_proof(height, key)
+        let mut desk = self.desk.lock(rt);
+        let reading = desk.read();
+        (desk.ledger().query(key), reading)
     }
 
-    /// The packet that was sent from an end of a channel under a sequence, as the ledger's `packet` gives it.
+    /// The proof of what a committed height has at a key, as the ledger's `query_proof` gives it, and the reading of that
+    /// ledger. Refused: `NoConsensus`, `NoMemory`.
+    pub fn query_proof<R: Wait>(
+        &self,
+        rt: &R,
+        height: u64,
+        key: &Key,
+    ) -> (Result<Proof, Refusal>, Reading<W>)
+        ensures is { IsLedgerOf W.table W.genesis result.1 }
+        ensures ok { IfOk result.0 (λ proof. IsSomeAnd (provable result.1.ledger.genesis.window (state_of result.1.ledger).chain.committed height) (λ block. proof ≡ written (image block.records.core) (path key.now))) }
+        ensures unknown { (result.0 ≡ Err NoConsensus) ↔ IsNone (provable result.1.ledger.genesis.window (state_of result.1.ledger).chain.committed height) }
+        ensures err { IfErr result.0 (λ refusal. (refusal ≡ NoConsensus) ⊎ (refusal ≡ NoMemory)) }
+    {
+        let mut desk = self.desk.lock(rt);
+        let reading = desk.read();
+        (desk.ledger().query_proof(height, key), reading)
+    }
+
+    /// The packet that was sent from an end of a channel under a sequence, as the ledger's `packet` gives it, and the reading
+    /// of that ledger. Refused: `NoMemory`.
     pub fn packet<R: Wait>(
         &self,
         rt: &R,
         port: &PortId,
         channel: &ChannelId,
         sequence: u64,
-    ) -> Result<Option<Packet>, Refusal>
-        ensures ok { OnALedger W.table W.genesis (λ ledger. IfOk result (λ packet. packet ≡ packet_on ledger port.now channel.now sequence)) }
-        ensures err { IfErr result (λ refusal. refusal ≡ NoMemory) }
+    ) -> (Result<Option<Packet>, Refusal>, Reading<W>)
+        ensures is { IsLedgerOf W.table W.genesis result.1 }
+        ensures ok { IfOk result.0 (λ packet. packet ≡ packet_on result.1.ledger port.now channel.now sequence) }
+        ensures err { IsOkUnless result.0 NoMemory }
     {
-        self.desk.lock(rt).ledger().packet(port, channel, sequence)
+        let mut desk = self.desk.lock(rt);
+        let reading = desk.read();
+        (desk.ledger().packet(port, channel, sequence), reading)
     }
 
-    /// The acknowledgement that was written at an end of a channel for a sequence, as the ledger's `ack` gives it.
+    /// The acknowledgement that was written at an end of a channel for a sequence, as the ledger's `ack` gives it, and the
+    /// reading of that ledger. Refused: `NoMemory`.
     pub fn ack<R: Wait>(
         &self,
         rt: &R,
         port: &PortId,
         channel: &ChannelId,
         sequence: u64,
-    ) -> Result<Option<Bytes>, Refusal>
-        ensures ok { OnALedger W.table W.genesis (λ ledger. IfOk result (λ ack. ack ≡ ack_on ledger port.now channel.now sequence)) }
-        ensures err { IfErr result (λ refusal. refusal ≡ NoMemory) }
+    ) -> (Result<Option<Bytes>, Refusal>, Reading<W>)
+        ensures is { IsLedgerOf W.table W.genesis result.1 }
+        ensures ok { IfOk result.0 (λ ack. ack ≡ ack_on result.1.ledger port.now channel.now sequence) }
+        ensures err { IsOkUnless result.0 NoMemory }
     {
-        self.desk.lock(rt).ledger().ack(port, channel, sequence)
+        let mut desk = self.desk.lock(rt);
+        let reading = desk.read();
+        (desk.ledger().ack(port, channel, sequence), reading)
     }
 
     /// Lends the entries of the ledger's history from a place on to `read`, none where the history ends before it, and gives
-    /// what it gives. The lock is held meanwhile.
+    /// what it gives, and the reading of that ledger. The lock is held meanwhile.
     pub fn events_from<R: Wait, T, F: FnOnce(&[StampedEntry]) -> T>(
         &self,
         rt: &R,
         place: usize,
         read: F,
-    ) -> T
+    ) -> (T, Reading<W>)
         requires { F.IsAlwaysCallable read }
-        ensures { OnALedger W.table W.genesis (λ ledger. (entries : List KeptEntry) × (map plain_entry entries ≡ drop place ledger.history) × FnOnceReturnsAt F.FnOnce read entries result) }
+        ensures is { IsLedgerOf W.table W.genesis result.1 }
+        ensures given { (entries : List KeptEntry) × (map plain_entry entries ≡ drop place result.1.ledger.history) × FnOnceReturnsAt F.FnOnce read entries result.0 }
     {
-        let guard = self.desk.lock(rt);
-        guard.ledger();
-        read(guard.entries_from(place))
+        let mut desk = self.desk.lock(rt);
+        let reading = desk.read();
+        desk.ledger();
+        (read(desk.entries_from(place)), reading)
     }
 
-    /// The ledger, which is of the world's table and genesis. What each receipt of its chain's number claims
-    /// is so: it has that event with that reply at the place.
-    pub fn into_ledger(self, receipts: &mut [Receipt<W>]) -> Ledger
+    /// The ledger, which is of the world's table and genesis. What each receipt of its chain's number claims is so: it has
+    /// that event with that reply at the place. And it was once as each reading of its chain's number has it.
+    pub fn into_ledger(self, receipts: &mut [Receipt<W>], readings: &mut [Reading<W>]) -> Ledger
         ensures world { IsOfWorld W.table W.genesis result }
-        ensures receipts { receipts.new ≡ receipts.old }
-        ensures held { All (λ r. r.chain ≡ result.ledger.chain → Holds result.ledger r) receipts.old }
+        ensures same { (receipts.new ≡ receipts.old) × (readings.new ≡ readings.old) }
+        ensures held { All (HoldsIfOf result) receipts.old }
+        ensures once { All (WasOnce result) readings.old }
     {
         let mut desk = self.desk.into_inner();
-        for k in 0..receipts.len() {
-            desk.find(&mut receipts[k]);
-        }
+        desk.find_all(receipts);
+        desk.recall_all(readings);
         desk.into_ledger()
     }
 }
@@ -207,11 +246,11 @@ impl<W: World + Send + Sync> Gate for Chain<W> {
     }
 
     fn query<R: Wait>(&self, rt: &R, key: &Key) -> Result<Option<Bytes>, Refusal> {
-        Chain::query(self, rt, key)
+        Chain::query(self, rt, key).0
     }
 
     fn query_proof<R: Wait>(&self, rt: &R, height: u64, key: &Key) -> Result<Proof, Refusal> {
-        Chain::query_proof(self, rt, height, key)
+        Chain::query_proof(self, rt, height, key).0
     }
 
     fn packet<R: Wait>(
@@ -221,7 +260,7 @@ impl<W: World + Send + Sync> Gate for Chain<W> {
         channel: &ChannelId,
         sequence: u64,
     ) -> Result<Option<Packet>, Refusal> {
-        Chain::packet(self, rt, port, channel, sequence)
+        Chain::packet(self, rt, port, channel, sequence).0
     }
 
     fn ack<R: Wait>(
@@ -231,7 +270,7 @@ impl<W: World + Send + Sync> Gate for Chain<W> {
         channel: &ChannelId,
         sequence: u64,
     ) -> Result<Option<Bytes>, Refusal> {
-        Chain::ack(self, rt, port, channel, sequence)
+        Chain::ack(self, rt, port, channel, sequence).0
     }
 
     fn events_from<R: Wait, T, F: FnOnce(&[StampedEntry]) -> T>(
@@ -240,6 +279,6 @@ impl<W: World + Send + Sync> Gate for Chain<W> {
         place: usize,
         read: F,
     ) -> T {
-        Chain::events_from(self, rt, place, read)
+        Chain::events_from(self, rt, place, read).0
     }
 }

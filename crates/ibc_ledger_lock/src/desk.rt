@@ -1,6 +1,6 @@
-//! What lies under a lock: a ledger, and the book's seat that knows its history.
+//! What lies under a lock: a ledger, and the book's seat that knows it as it is.
 
-ghost use Rattle.std.specs.Prelude.{◌≡◌, ◌<◌, ◌++◌, ◌∷◌, [], IfSome, IsNone, IsSome, drop, length, map, true};
+ghost use Rattle.std.specs.Prelude.{◌≡◌, ◌<◌, [], All, IfSome, None, Some, drop, length, map, true};
 ghost use Rattle.ibc_ids.specs.declared.refusal.Refusal.TheVariants.{NoMemory};
 ghost use Rattle.ibc_machine.specs.declared.event.Event.TheVariants as event_of;
 ghost use Rattle.ibc_machine.specs.declared.reply.Reply.TheVariants as reply_of;
@@ -8,20 +8,20 @@ ghost use Rattle.ibc_machine.specs.Ledgers.{IsLedger, is_block_reply, state_of};
 ghost use Rattle.ibc_machine.specs.Relay.{view_of};
 ghost use Rattle.ibc_ledger.specs.Adding.{AddsOrNot};
 ghost use Rattle.ibc_ledger.specs.Held.{plain_entry};
-ghost use Rattle.ibc_ledger.specs.SentPackets.{happened_of};
-ghost use Rattle.ibc_ledger_lock.specs.Books.{claim, keeper};
-ghost use Rattle.ibc_ledger_lock.specs.Worlds.{Holds, IsOfWorld, IsToldOf, IsViewOf, ShowsEnd};
+ghost use Rattle.ibc_ledger_lock.specs.Accounts.{nothing_known};
+ghost use Rattle.ibc_ledger_lock.specs.Books.{IsBeginning, keeper, reader};
+ghost use Rattle.ibc_ledger_lock.specs.Worlds.{HoldsIfOf, IsOfWorld, IsToldOf, IsViewOf, ShowsEnd, WasOnce, known_of};
 
-use crate::book::{Book, Opened, Place, add, begin, check};
+use crate::book::{Book, Opened, Place, check, note};
+use crate::reading::Reading;
 use crate::receipt::Receipt;
 use crate::world::World;
 use ibc_ids::Refusal;
 use ibc_ledger::{Ledger, StampedEntry};
-use ibc_machine::{Effect, Event, Reply};
+use ibc_machine::{Effect, Reply};
 use ibc_view::View;
 use ibc_wire::Message;
 use std::marker::{Brand, Model, PhantomData};
-use std::snapshot::Snapshot;
 
 /// A ledger of the world, with the book of its chain. Contracts see the ledger.
 #[derive(Drop)]
@@ -35,8 +35,8 @@ pub struct Desk<W: World> {
 impl<W: World> Model for Desk<W> {
     ghost use Rattle.std.specs.Prelude.{◌≡◌, ◌<◌, []};
     ghost use Rattle.ibc_ledger.specs.Held.{HeldLedger};
-    ghost use Rattle.ibc_ledger.specs.SentPackets.{happened_on};
     ghost use Rattle.ibc_ledger_lock.specs.Books.{keeper};
+    ghost use Rattle.ibc_ledger_lock.specs.Worlds.{known_of};
 
     ghost Value = { HeldLedger };
 
@@ -44,7 +44,7 @@ impl<W: World> Model for Desk<W> {
 
     ghost invariant = { λ d. (d.ledger.table ≡ W.table) × (d.ledger.ledger.genesis ≡ W.genesis)
         × (d.book.shared.table_id ≡ W.book d.ledger.ledger.chain) × (0 < d.book.shared.table_id.words)
-        × (d.seat.table_id ≡ W.book d.ledger.ledger.chain) × (d.seat.me ≡ (keeper (happened_on d.ledger.ledger), [])) };
+        × (d.seat.table_id ≡ W.book d.ledger.ledger.chain) × (d.seat.me ≡ (keeper (known_of d.ledger.ledger), [])) };
 }
 
 impl<W: World> Desk<W> {
@@ -56,7 +56,7 @@ impl<W: World> Desk<W> {
     {
         let Opened { book, seat } = opened;
         let mut seat = seat;
-        started(&book, &mut seat, ledger.history());
+        started(&book, &mut seat, &ledger);
         Desk {
             ledger,
             book,
@@ -74,17 +74,12 @@ impl<W: World> Desk<W> {
         ensures place { IfSome result.claim (λ c. c.place ≡ length self.old.ledger.history) }
     {
         let chain = self.ledger.chain();
-        let event = Event::Message { chain, message };
-        let told = Snapshot::of(&event);
-        let Event::Message { message, .. } = event else {
-            unreachable!();
-        };
         let reply = self.ledger.apply(message);
-        let seat = noted(&self.book, &mut self.seat, &told, &reply);
+        let seat = noted(&self.book, &mut self.seat, &self.ledger);
         Receipt {
             chain,
+            seat: claimed(seat, &reply),
             reply,
-            seat,
             of: PhantomData,
         }
     }
@@ -98,13 +93,24 @@ impl<W: World> Desk<W> {
         ensures place { IfSome result.claim (λ c. c.place ≡ length self.old.ledger.history) }
     {
         let chain = self.ledger.chain();
-        let told = end_of(chain, next_time);
         let reply = ended(&mut self.ledger, next_time);
-        let seat = noted(&self.book, &mut self.seat, &told, &reply);
+        let seat = noted(&self.book, &mut self.seat, &self.ledger);
         Receipt {
             chain,
+            seat: claimed(seat, &reply),
             reply,
-            seat,
+            of: PhantomData,
+        }
+    }
+
+    /// What may be claimed later of the ledger as it is now.
+    pub fn read(&mut self) -> Reading<W>
+        ensures same { self.new ≡ self.old }
+        ensures now { result ≡ self.old }
+    {
+        Reading {
+            chain: self.ledger.chain(),
+            seat: noted(&self.book, &mut self.seat, &self.ledger),
             of: PhantomData,
         }
     }
@@ -160,13 +166,43 @@ impl<W: World> Desk<W> {
     /// What a receipt of this chain claims stands in the history.
     pub fn find(&mut self, receipt: &mut Receipt<W>)
         ensures same { (self.new ≡ self.old) × (receipt.new ≡ receipt.old) }
-        ensures holds { receipt.old.chain ≡ self.old.ledger.chain → Holds self.old.ledger receipt.old }
+        ensures holds { HoldsIfOf self.old receipt.old }
     {
         if receipt.chain != self.ledger.chain() {
             return;
         }
         if let Some(seat) = &mut receipt.seat {
             check(&self.book, &mut self.seat, seat);
+        }
+    }
+
+    /// What the receipts of this chain claim stands in the history.
+    pub fn find_all(&mut self, receipts: &mut [Receipt<W>])
+        ensures same { (self.new ≡ self.old) × (receipts.new ≡ receipts.old) }
+        ensures hold { All (HoldsIfOf self.old) receipts.old }
+    {
+        for k in 0..receipts.len() {
+            self.find(&mut receipts[k]);
+        }
+    }
+
+    /// The ledger was once as it was read, if that was read of its chain.
+    pub fn recall(&mut self, reading: &mut Reading<W>)
+        ensures same { (self.new ≡ self.old) × (reading.new ≡ reading.old) }
+        ensures once { WasOnce self.old reading.old }
+    {
+        if reading.chain == self.ledger.chain() {
+            check(&self.book, &mut self.seat, &mut reading.seat);
+        }
+    }
+
+    /// The ledger was once as each reading of its chain has it.
+    pub fn recall_all(&mut self, readings: &mut [Reading<W>])
+        ensures same { (self.new ≡ self.old) × (readings.new ≡ readings.old) }
+        ensures once { All (WasOnce self.old) readings.old }
+    {
+        for k in 0..readings.len() {
+            self.recall(&mut readings[k]);
         }
     }
 
@@ -179,16 +215,6 @@ impl<W: World> Desk<W> {
     }
 }
 
-// The end of a chain's working block, of which proofs alone speak.
-fn end_of(chain: u8, next_time: u64) -> Snapshot<Event>
-    ensures { result.value ≡ event_of.Block chain next_time }
-{
-    let event = Event::Block { chain, next_time };
-    let told = Snapshot::of(&event);
-    drop(event);
-    told
-}
-
 // Ends the ledger's working block.
 fn ended(ledger: &mut Ledger, next_time: u64) -> Reply
     ensures table { ledger.new.table ≡ ledger.old.table }
@@ -197,36 +223,35 @@ fn ended(ledger: &mut Ledger, next_time: u64) -> Reply
     ledger.end_block(next_time)
 }
 
-// The keeper begins with a history.
-fn started(book: &Book, seat: &mut Place, log: &[StampedEntry])
+// The keeper begins to know a ledger.
+fn started(book: &Book, seat: &mut Place, ledger: &Ledger)
     requires book { (seat.old.table_id ≡ book.now.shared.table_id) × (0 < book.now.shared.table_id.words) }
-    requires first { seat.old.me ≡ (keeper [], []) }
-    ensures { (seat.new.table_id ≡ seat.old.table_id) × (seat.new.me ≡ (keeper (map happened_of (map plain_entry log.now)), [])) }
+    requires first { seat.old.me ≡ (keeper nothing_known, []) }
+    ensures { (seat.new.table_id ≡ seat.old.table_id) × (seat.new.me ≡ (keeper (known_of ledger.now.ledger), [])) }
 {
-    begin::<Brand>(book, seat, log);
+    noted(book, seat, ledger);
 }
 
-// The keeper notes an event and its reply, and the new seat claims them; a reply `NoMemory` is no entry.
-fn noted(book: &Book, seat: &mut Place, event: &Snapshot<Event>, reply: &Reply) -> Option<Place>
+// The keeper knows the ledger as it is now, which has gone on, and the new seat knows it too.
+fn noted(book: &Book, seat: &mut Place, ledger: &Ledger) -> Place
     requires book { (seat.old.table_id ≡ book.now.shared.table_id) × (0 < book.now.shared.table_id.words) }
-    requires keeps { seat.old.me ≡ (keeper seat.old.me.0.all, []) }
-    ensures table { seat.new.table_id ≡ seat.old.table_id }
-    ensures nothing { reply.now ≡ reply_of.No NoMemory → (seat.new.me ≡ seat.old.me) × IsNone result }
-    ensures one { (reply.now ≡ reply_of.No NoMemory → ⊥) → (seat.new.me ≡ (keeper (seat.old.me.0.all ++ (event.now.value, reply.now) ∷ []), [])) × IsSome result }
-    ensures claim { IfSome result (λ c. (c.table_id ≡ seat.old.table_id) × (c.me ≡ (claim (length seat.old.me.0.all) (event.now.value, reply.now), []))) }
+    requires keeps { seat.old.me ≡ (keeper seat.old.me.0.whole, []) }
+    requires later { IsBeginning seat.old.me.0.whole (known_of ledger.now.ledger) }
+    ensures seat { (seat.new.table_id ≡ seat.old.table_id) × (seat.new.me ≡ (keeper (known_of ledger.now.ledger), [])) }
+    ensures reader { (result.table_id ≡ seat.old.table_id) × (result.me ≡ (reader (known_of ledger.now.ledger), [])) }
 {
-    if is_refused_for_memory(reply) {
-        return None;
+    note::<Brand>(book, seat, ledger)
+}
+
+// What a call's receipt claims by: nothing where the call added no entry.
+fn claimed(seat: Place, reply: &Reply) -> Option<Place>
+    ensures nothing { reply.now ≡ reply_of.No NoMemory → result ≡ None }
+    ensures one { (reply.now ≡ reply_of.No NoMemory → ⊥) → result ≡ Some seat }
+{
+    match reply {
+        Reply::No(Refusal::NoMemory) => None,
+        _ => Some(seat),
     }
-    Some(add::<Brand>(book, seat, event, reply))
-}
-
-// Whether the call added no entry, since memory ran out.
-fn is_refused_for_memory(reply: &Reply) -> bool
-    ensures no { result ≡ true → reply.now ≡ reply_of.No NoMemory }
-    ensures yes { reply.now ≡ reply_of.No NoMemory → result ≡ true }
-{
-    matches!(reply, Reply::No(Refusal::NoMemory))
 }
 
 // Whether a block was ended.

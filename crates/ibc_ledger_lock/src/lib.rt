@@ -1,5 +1,5 @@
-//! Ledgers that threads share: each under a lock, with receipts of what was answered, and a board of views that is read
-//! without a lock.
+//! Ledgers that threads share: each under a lock, with receipts of what was answered and readings of what was seen, and a
+//! board of views that is read without a lock.
 #![tactic(auto)]
 
 mod board;
@@ -7,6 +7,7 @@ mod book;
 mod chain;
 mod desk;
 mod gate;
+mod reading;
 mod receipt;
 mod world;
 
@@ -14,5 +15,6 @@ pub use board::Board;
 pub use book::Opened;
 pub use chain::Chain;
 pub use gate::Gate;
+pub use reading::{Reading, lemma_had_then};
 pub use receipt::Receipt;
 pub use world::World;

@@ -19,19 +19,20 @@ pub struct Receipt<W: World> {
 }
 
 impl<W: World> Model for Receipt<W> {
-    ghost use Rattle.std.specs.Prelude.{◌≡◌, ◌⊎◌, [], IfSome, IsNone, IsSome};
-    ghost use Rattle.std.specs.Option.{option_map};
+    ghost use Rattle.std.specs.Prelude.{◌≡◌, ◌⊎◌, [], None, IfSome, IsNone, IsSome};
+    ghost use Rattle.std.specs.List.{last_or};
+    ghost use Rattle.std.specs.Option.{IsSomeAnd, option_and_then};
     ghost use Rattle.ibc_ids.specs.declared.refusal.Refusal.TheVariants.{NoMemory};
     ghost use Rattle.ibc_machine.specs.declared.reply.Reply.TheVariants as answer;
-    ghost use Rattle.ibc_ledger_lock.specs.Books.{claim};
-    ghost use Rattle.ibc_ledger_lock.specs.Worlds.{Told};
+    ghost use Rattle.ibc_ledger_lock.specs.Books.{reader};
+    ghost use Rattle.ibc_ledger_lock.specs.Worlds.{Told, claim_of};
 
     ghost Value = { Told };
 
-    ghost view = { λ r. record { chain = r.chain; reply = r.reply; claim = option_map (λ c. record { place = c.me.0.place; event = c.me.0.entry.0 }) r.seat } };
+    ghost view = { λ r. record { chain = r.chain; reply = r.reply; claim = option_and_then (λ c. claim_of c.me.0.part.history) r.seat } };
 
     ghost invariant = { λ r. (((r.reply ≡ answer.No NoMemory) × IsNone r.seat) ⊎ ((r.reply ≡ answer.No NoMemory → ⊥) × IsSome r.seat))
-        × IfSome r.seat (λ c. (c.table_id ≡ W.book r.chain) × (c.me ≡ (claim c.me.0.place (c.me.0.entry.0, r.reply), []))) };
+        × IfSome r.seat (λ c. (c.table_id ≡ W.book r.chain) × (c.me ≡ (reader c.me.0.part, [])) × IsSomeAnd (last_or None c.me.0.part.history) (λ e. e.entry.reply ≡ r.reply)) };
 }
 
 impl<W: World> Receipt<W> {

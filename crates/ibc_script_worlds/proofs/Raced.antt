@@ -2,6 +2,7 @@
 use Rattle.std.proofs.Common.{◌≡◌, ℕ, List, sym, subst}
 use Rattle.ibc_machine.specs.Genesis.{GenesisState}
 use Rattle.ibc_root_table.specs.Passes.{TableName}
+use Rattle.ibc_ledger.specs.Held.{HeldLedger}
 use Rattle.ibc_ledger_lock.specs.Worlds.{Told}
 use Rattle.ibc_world_core.specs.declared.holdings.Audit.{Audit}
 use Rattle.ibc_every_world.specs.EveryAudit.{AreLawful}
@@ -9,9 +10,9 @@ use Rattle.ibc_shared_world.specs.SharedWorlds.{IsAuditOf}
 use Rattle.ibc_script_cli.specs.declared.racing.Audited.{Audited}
 use Rattle.ibc_script_worlds.specs.Racing.{IsRaceOf}
 
-pub raced : (table : TableName) (genesis : GenesisState) (n : ℕ) (receipts : List Told) (audit : Audit) (told : Audited)
-    → IsAuditOf table genesis n receipts audit → told.balances ≡ audit.balances → told.notes ≡ audit.notes → IsRaceOf genesis told
-raced table genesis n receipts audit told is balances notes =
+pub raced : (table : TableName) (genesis : GenesisState) (n : ℕ) (receipts : List Told) (readings : List HeldLedger) (audit : Audit) (told : Audited)
+    → IsAuditOf table genesis n receipts readings audit → told.balances ≡ audit.balances → told.notes ≡ audit.notes → IsRaceOf genesis told
+raced table genesis n receipts readings audit told is balances notes =
     let same : audit ≡ record { balances = told.balances; notes = told.notes } = λ i. record { balances = sym balances i; notes = sym notes i } in (
       is.0,
       (λ k d within. (is.2.0 k d within).1),

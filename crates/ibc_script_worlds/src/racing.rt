@@ -172,7 +172,13 @@ fn audited<W: World>(alloc: Global, chains: Vec<Chain<W>>) -> Result<Audited, Fa
     ensures faults { IfErr result JudgesScript }
 {
     let mut receipts = Vec::new(alloc);
-    match audit_chains::<W>(alloc, chains, receipts.as_mut_slice()) {
+    let mut readings = Vec::new(alloc);
+    match audit_chains::<W>(
+        alloc,
+        chains,
+        receipts.as_mut_slice(),
+        readings.as_mut_slice(),
+    ) {
         Ok(audit) => Ok(told(audit)),
         Err(refusal) => Err(Fault::of_refusal(refusal)),
     }

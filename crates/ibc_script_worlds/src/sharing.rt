@@ -41,20 +41,22 @@ impl<R: Wait, W: World> Shared<'_, R, W> {
     // The bytes that a chain has at a key.
     fn value(&self, chain: u8, key: &Key) -> Result<Option<Bytes>, Refusal> {
         match self.chain(chain) {
-            Some(chain) => chain.query(self.rt, key),
+            Some(chain) => chain.query(self.rt, key).0,
             None => Ok(None),
         }
     }
 
     // How many entries the history of a chain has.
     fn entries(&self, chain: &Chain<W>) -> usize {
-        chain.events_from(self.rt, 0, |entries| entries.len())
+        chain.events_from(self.rt, 0, |entries| entries.len()).0
     }
 
     // The blocks that a chain ended from a place of its history on.
     fn ended(&self, chain: &Chain<W>, place: usize) -> Result<Vec<EndedBlock>, AllocError> {
         let alloc = self.alloc;
-        chain.events_from(self.rt, place, |entries| ended_in(alloc, entries))
+        chain
+            .events_from(self.rt, place, |entries| ended_in(alloc, entries))
+            .0
     }
 }
 
@@ -162,7 +164,7 @@ impl<R: Wait, W: World> Chains for Shared<'_, R, W> {
         sequence: u64,
     ) -> Result<Option<Packet>, Refusal> {
         match self.chain(chain) {
-            Some(chain) => chain.packet(self.rt, port, channel, sequence),
+            Some(chain) => chain.packet(self.rt, port, channel, sequence).0,
             None => Ok(None),
         }
     }
@@ -175,7 +177,7 @@ impl<R: Wait, W: World> Chains for Shared<'_, R, W> {
         sequence: u64,
     ) -> Result<Option<Bytes>, Refusal> {
         match self.chain(chain) {
-            Some(chain) => chain.ack(self.rt, port, channel, sequence),
+            Some(chain) => chain.ack(self.rt, port, channel, sequence).0,
             None => Ok(None),
         }
     }
@@ -184,7 +186,7 @@ impl<R: Wait, W: World> Chains for Shared<'_, R, W> {
         let Some(chain) = self.chain(chain) else {
             return Ok(None);
         };
-        match chain.query_proof(self.rt, height, key) {
+        match chain.query_proof(self.rt, height, key).0 {
             Ok(proof) => Ok(Some(proof)),
             Err(Refusal::NoConsensus) => Ok(None),
             Err(refusal) => Err(refusal),

@@ -7,6 +7,7 @@ use Rattle.atomic_table.specs.Seated.{TableId}
 use Rattle.ibc_machine.specs.Genesis.{GenesisState}
 use Rattle.ibc_machine.specs.Ledgers.{Ledger}
 use Rattle.ibc_ledger.specs.Held.{HeldLedger}
+use Rattle.ibc_ledger_lock.proofs.Noting.{mapped_at}
 use Rattle.ibc_ledger_lock.specs.Books.{no_book}
 use Rattle.ibc_world_steps.specs.World.{AreNew, new_ledger}
 use Rattle.ibc_world_core.specs.Audits.{AreOfOneWorld}
@@ -26,13 +27,6 @@ module _ {X : Type 0} (P : X → Type 0) where
       let same : y ≡ x = cc in
       subst P same (All-head P y ys all)
   at_place (y ∷ ys) (suc k) x all at = at_place ys k x (All-tail P y ys all) at
-
-mapped_at : {X Y : Type 0} (f : X → Y) (xs : List X) (k : ℕ) (x : X) → slice_get xs k ≡ Some x → slice_get (map f xs) k ≡ Some (f x)
-mapped_at f [] k x at = absurd cc
-mapped_at f (y ∷ ys) zero x at =
-    let same : y ≡ x = cc in
-    ap (λ z. Some (f z)) same
-mapped_at f (y ∷ ys) (suc k) x at = mapped_at f ys k x at
 
 -- ---- new ledgers
 

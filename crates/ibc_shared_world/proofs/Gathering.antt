@@ -1,5 +1,5 @@
 -- Ledgers that are put into chains, and taken out of them with what receipts claim.
-use Rattle.std.proofs.Common.{◌≡◌, ◌∙◌, ℕ, false, List, [], ◌∷◌, ◌++◌, append_assoc, ◌+◌, length, length-append, map, Result, Ok, Err, IfOk, ap, sym, subst, arith}
+use Rattle.std.proofs.Common.{◌≡◌, ◌∙◌, ℕ, List, [], ◌∷◌, ◌++◌, append_assoc, ◌+◌, length, length-append, map, Result, Ok, Err, IfOk, ap, sym, subst, arith}
 use Rattle.std.specs.List.{All}
 use Rattle.std.proofs.lemmas.List.{append-nil}
 use Rattle.std.proofs.lemmas.List.Elements.{All-append, All-cons, All-nil}
@@ -7,12 +7,12 @@ use Rattle.ibc_ids.specs.declared.refusal.Refusal.{Refusal}
 use Rattle.ibc_machine.specs.Genesis.{GenesisState}
 use Rattle.ibc_root_table.specs.Passes.{TableName}
 use Rattle.ibc_ledger.specs.Held.{HeldLedger}
-use Rattle.ibc_ledger_lock.specs.Worlds.{IsOfWorld, Told}
-use Rattle.ibc_world_core.specs.Audits.{AreOfOneWorld, IsAudit, is_whole}
+use Rattle.ibc_ledger_lock.specs.Worlds.{HoldsIfOf, IsOfWorld, Told, WasOnce}
+use Rattle.ibc_world_core.specs.Audits.{AreOfOneWorld, IsAudit}
 use Rattle.ibc_world_core.specs.declared.holdings.Audit.{Audit}
 use Rattle.ibc_every_world.specs.EveryAudit.{AreLawful}
 use Rattle.ibc_shared_world.proofs.Booked.{Booked, at_place}
-use Rattle.ibc_shared_world.specs.SharedWorlds.{AreGathered, HoldsIfOf, IsAuditOf, IsBroken}
+use Rattle.ibc_shared_world.specs.SharedWorlds.{AreGathered, IsAuditOf}
 
 -- one chain more is made
 pub one_more_made : (f : Booked → ℕ) (made after : List ℕ) (left rest all : List Booked) (x : Booked) (n : ℕ) → after ≡ made ++ n ∷ [] → n ≡ f x
@@ -40,23 +40,23 @@ as_many before after x left rest y n pushed next many =
     omega arith
 
 -- one ledger more is taken out
-pub gathered : (table : TableName) (genesis : GenesisState) (receipts now : List Told) (ledgers after : List HeldLedger) (held : HeldLedger)
-    → now ≡ receipts → after ≡ ledgers ++ held ∷ [] → AreGathered table genesis receipts ledgers → IsOfWorld table genesis held
-    → All (HoldsIfOf held) now → AreGathered table genesis receipts after
-gathered table genesis receipts now ledgers after held same pushed before world holds =
-    let Claimed : HeldLedger → Type 0 = λ h. All (HoldsIfOf h) receipts in
-    let claims : Claimed held = subst (All (HoldsIfOf held)) same holds in
-    subst (AreGathered table genesis receipts) (sym pushed) (
-      All-append (IsOfWorld table genesis) ledgers (held ∷ []) before.0 (All-cons (IsOfWorld table genesis) held [] world (All-nil (IsOfWorld table genesis))),
-      All-append Claimed ledgers (held ∷ []) before.1 (All-cons Claimed held [] claims (All-nil Claimed)),
-    )
+module _ (table : TableName) (genesis : GenesisState) (receipts claims : List Told) (readings reads : List HeldLedger) where
+  pub gathered : (ledgers after : List HeldLedger) (held : HeldLedger) → claims ≡ receipts → reads ≡ readings → after ≡ ledgers ++ held ∷ []
+      → AreGathered table genesis receipts readings ledgers → IsOfWorld table genesis held
+      → All (HoldsIfOf held) claims → All (WasOnce held) reads → AreGathered table genesis receipts readings after
+  gathered ledgers after held same_claims same_reads pushed before world holds once =
+      let Claimed : HeldLedger → Type 0 = λ h. All (HoldsIfOf h) receipts in
+      let Read : HeldLedger → Type 0 = λ h. All (WasOnce h) readings in
+      let with_one : (P : HeldLedger → Type 0) → All P ledgers → P held → All P (ledgers ++ held ∷ []) =
+      λ P all one. All-append P ledgers (held ∷ []) all (All-cons P held [] one (All-nil P)) in
+      subst (AreGathered table genesis receipts readings) (sym pushed) (
+        with_one (IsOfWorld table genesis) before.0 world,
+        with_one Claimed before.1 (subst (All (HoldsIfOf held)) same_claims holds),
+        with_one Read before.2 (subst (All (WasOnce held)) same_reads once),
+      )
 
-pub audited : (table : TableName) (genesis : GenesisState) (n : ℕ) (receipts : List Told) (ledgers : List HeldLedger) (answer : Result Audit Refusal)
-    → length ledgers ≡ n → AreGathered table genesis receipts ledgers → IfOk answer (IsAudit ledgers) → IfOk answer (AreLawful ledgers)
-    → IfOk answer (IsAuditOf table genesis n receipts)
-audited table genesis n receipts ledgers (Ok audit) many are is lawful = (ledgers, many, are, is, lawful)
-audited table genesis n receipts ledgers (Err refusal) many are is lawful = tt
-
-pub broken : (table : TableName) (genesis : GenesisState) (n : ℕ) (receipts : List Told) (ledgers : List HeldLedger)
-    → length ledgers ≡ n → AreGathered table genesis receipts ledgers → is_whole ledgers ≡ false → IsBroken table genesis n receipts
-broken table genesis n receipts ledgers many are lacks = (ledgers, many, are, lacks)
+pub audited : (table : TableName) (genesis : GenesisState) (n : ℕ) (receipts : List Told) (readings ledgers : List HeldLedger) (answer : Result Audit Refusal)
+    → length ledgers ≡ n → AreGathered table genesis receipts readings ledgers → IfOk answer (IsAudit ledgers) → IfOk answer (AreLawful ledgers)
+    → IfOk answer (IsAuditOf table genesis n receipts readings)
+audited table genesis n receipts readings ledgers (Ok audit) many are is lawful = (ledgers, many, are, is, lawful)
+audited table genesis n receipts readings ledgers (Err refusal) many are is lawful = tt

@@ -1,18 +1,18 @@
 //! The ledgers of one world as chains that threads share, and what they come to once no thread holds them any more.
 #![tactic(auto)]
 
-ghost use Rattle.std.specs.Prelude.{◌≡◌, ◌⊎◌, ◌↔◌, All, Err, IfErr, IfOk, IsErrOf, false, length, map};
+ghost use Rattle.std.specs.Prelude.{◌≡◌, ◌⊎◌, ◌↔◌, All, Err, IfErr, IfOk, IsOkUnless, false, length, map};
 ghost use Rattle.ibc_ids.specs.declared.refusal.Refusal.TheVariants.{BadMessage, NoMemory};
 ghost use Rattle.ibc_machine.specs.Genesis.{genesis_state, is_allowed};
 ghost use Rattle.ibc_ledger_lock.specs.Worlds.{IsOfWorld};
 ghost use Rattle.ibc_world_steps.specs.World.{AreNew};
 ghost use Rattle.ibc_world_core.specs.Held.{plain};
-ghost use Rattle.ibc_shared_world.specs.SharedWorlds.{AreGathered, HasItsBook, IsAuditOf, IsBroken, book_of, table_of};
+ghost use Rattle.ibc_shared_world.specs.SharedWorlds.{AreGathered, HasItsBook, IsAuditOf, book_of, table_of};
 
 use ibc_every_world::lawful_audit;
 use ibc_ids::Refusal;
 use ibc_ledger::Ledger;
-use ibc_ledger_lock::{Board, Chain, Opened, Receipt, World};
+use ibc_ledger_lock::{Board, Chain, Opened, Reading, Receipt, World};
 use ibc_machine::Genesis;
 use ibc_world_core::{Audit, World as OneWorld};
 use std::alloc::Global;
@@ -104,36 +104,38 @@ fn refusal_of(back: (Refusal, Ledger)) -> Refusal
 
 /// What the chains of a world hold, once the threads that drove them are done, in any order. To be answered is to know that
 /// there are ledgers of the world which together did one run of the machine, of which the laws hold (where no two different
-/// texts that were hashed share a digest), that these hold what is told, and that each receipt's event stands with its reply at
-/// its place in the history of each ledger of its chain's number. Refused: `BadMessage` only where a chain of the genesis is
-/// missing among them or twice; `NoMemory`.
+/// texts that were hashed share a digest), that these hold what is told, that each receipt's event stands with its reply at
+/// its place in the history of each ledger of its chain's number, and that each such ledger was once as each reading of its
+/// number has it. Refused: `BadMessage`, of which no clause says when it comes; `NoMemory`.
 pub fn audit_chains<W: World>(
     alloc: Global,
     chains: Vec<Chain<W>>,
     receipts: &mut [Receipt<W>],
+    readings: &mut [Reading<W>],
 ) -> Result<Audit, Refusal>
-    ensures audited { IfOk result (IsAuditOf W.table W.genesis (length chains.items) receipts.old) }
-    ensures bad { IsErrOf result BadMessage → IsBroken W.table W.genesis (length chains.items) receipts.old }
-    ensures receipts { receipts.new ≡ receipts.old }
+    ensures audited { IfOk result (IsAuditOf W.table W.genesis (length chains.items) receipts.old readings.old) }
+    ensures same { (receipts.new ≡ receipts.old) × (readings.new ≡ readings.old) }
     ensures err { IfErr result (λ refusal. (refusal ≡ BadMessage) ⊎ (refusal ≡ NoMemory)) }
 {
-    lawful_audit(alloc, ledgers_of(alloc, chains, receipts)?)
+    lawful_audit(alloc, ledgers_of(alloc, chains, receipts, readings)?)
 }
 
-// The ledgers of chains, taken out. What each receipt claims is so in those of its chain's number.
+// The ledgers of chains, taken out. What each receipt claims is so in those of its chain's number, and each was once as each
+// reading of its number has it.
 fn ledgers_of<W: World>(
     alloc: Global,
     chains: Vec<Chain<W>>,
     receipts: &mut [Receipt<W>],
+    readings: &mut [Reading<W>],
 ) -> Result<Vec<Ledger>, Refusal>
     ensures as_many { IfOk result (λ ledgers. length ledgers.items ≡ length chains.items) }
-    ensures gathered { IfOk result (λ ledgers. AreGathered W.table W.genesis receipts.old ledgers.items) }
-    ensures receipts { receipts.new ≡ receipts.old }
-    ensures err { IfErr result (λ refusal. refusal ≡ NoMemory) }
+    ensures gathered { IfOk result (λ ledgers. AreGathered W.table W.genesis receipts.old readings.old ledgers.items) }
+    ensures same { (receipts.new ≡ receipts.old) × (readings.new ≡ readings.old) }
+    ensures err { IsOkUnless result NoMemory }
 {
     let mut ledgers = Vec::with_capacity(alloc, chains.len())?;
     for chain in chains {
-        ledgers.push(chain.into_ledger(receipts))?;
+        ledgers.push(chain.into_ledger(receipts, readings))?;
     }
     Ok(ledgers)
 }

@@ -125,7 +125,10 @@ fn made_and_taken<R: Wait, W: World>(
     requires { HasItsBook W.table W.genesis W.book (ledger, opened) }
 {
     match Chain::new(rt, ledger, opened, board) {
-        Ok(chain) => chain.into_ledger(Vec::new(alloc).as_mut_slice()),
+        Ok(chain) => {
+            let mut readings = Vec::new(alloc);
+            chain.into_ledger(Vec::new(alloc).as_mut_slice(), readings.as_mut_slice())
+        }
         Err((_, ledger)) => ledger,
     }
 }

@@ -191,7 +191,13 @@ fn audited<R: Threads + Wait + Sync, W: World>(
     done: Result<bool, Refusal>,
 ) -> Result<Audited, Fault> {
     trial.is_done.set(done == Ok(true));
-    match audit_chains(trial.alloc, chains, receipts.as_mut_slice()) {
+    let mut readings = Vec::new(trial.alloc);
+    match audit_chains(
+        trial.alloc,
+        chains,
+        receipts.as_mut_slice(),
+        readings.as_mut_slice(),
+    ) {
         Ok(Audit { balances, notes }) => Ok(Audited { balances, notes }),
         Err(refusal) => Err(Fault::of_refusal(refusal)),
     }

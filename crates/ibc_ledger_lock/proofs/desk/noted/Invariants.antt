@@ -1,4 +1,5 @@
+use Rattle.ibc_ledger_lock.specs.Worlds.{known_of}
 use Rattle.ibc_ledger_lock.proofs.desk.noted.Given as goal
 
-abbrev pub ghosts-add : goal.ghosts-add
-ghosts-add a = record { entry = (a.event.now.value, a.reply.now) }
+abbrev pub ghosts-note : goal.ghosts-note
+ghosts-note a = record { account = known_of a.ledger.now.ledger }

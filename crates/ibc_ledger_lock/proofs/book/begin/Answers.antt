@@ -1,6 +1,0 @@
-use Rattle.std.proofs.Common.{ap}
-use Rattle.ibc_ledger_lock.proofs.Moves.{begins}
-use Rattle.ibc_ledger_lock.proofs.book.begin.Goals as goal
-
-pub split_seat-requires : goal.split_seat-requires
-split_seat-requires g c = (c.requires.book.0, c.requires.book.1, begins _ c.args.seat.now.me.0 g.X.Tells.log (ap (λ m. m.0) c.requires.first))

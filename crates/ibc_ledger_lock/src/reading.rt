@@ -1,0 +1,44 @@
+//! What was read of a shared ledger.
+
+ghost use Rattle.std.specs.Prelude.{◌≡◌, length};
+ghost use Rattle.ibc_machine.specs.Ledgers.{Ledger, IsLedger, state_of};
+ghost use Rattle.ibc_ledger_lock.specs.Worlds.{IsEarlier, state_after};
+
+use crate::book::Place;
+use crate::world::World;
+use std::marker::{Model, PhantomData};
+
+/// That a chain of the world was read, which may be compared with its ledger later. Contracts see the ledger as it was read.
+#[derive(Drop)]
+pub struct Reading<W: World> {
+    pub(crate) chain: u8,
+    pub(crate) seat: Place,
+    pub(crate) of: PhantomData<W>,
+}
+
+impl<W: World> Model for Reading<W> {
+    ghost use Rattle.std.specs.Prelude.{◌≡◌, []};
+    ghost use Rattle.ibc_ledger.specs.Held.{HeldLedger};
+    ghost use Rattle.ibc_ledger_lock.specs.Books.{reader};
+    ghost use Rattle.ibc_ledger_lock.specs.Worlds.{ledger_as};
+
+    ghost Value = { HeldLedger };
+
+    ghost view = { λ r. ledger_as W.table W.genesis r.chain r.seat.me.0.part };
+
+    ghost invariant = { λ r. (r.seat.table_id ≡ W.book r.chain) × (r.seat.me ≡ (reader r.seat.me.0.part, [])) };
+}
+
+impl<W: World> Reading<W> {
+    /// The number of the chain that was read.
+    pub fn chain(&self) -> u8
+        ensures { result ≡ self.now.ledger.chain }
+    {
+        self.chain
+    }
+}
+
+/// What a ledger had once is what the first entries of its history leave, as many as it had then.
+pub fn lemma_had_then()
+    ensures { (old new : Ledger) → IsLedger old → IsEarlier old new → state_of old ≡ state_after (length old.history) new }
+{}
