@@ -15,6 +15,8 @@ mod histories;
 #[cfg(test)]
 mod holding;
 #[cfg(test)]
+mod kept;
+#[cfg(test)]
 mod list_tests;
 #[cfg(test)]
 mod lists;

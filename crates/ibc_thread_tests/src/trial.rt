@@ -4,8 +4,9 @@ ghost use denote.Param.Send.{IsSync};
 ghost use Rattle.std.specs.Prelude.{All};
 ghost use Rattle.ibc_shared_world.specs.SharedWorlds.{HasItsBook};
 
-use crate::asked::{Answer, answers_of, take_steps};
+use crate::asked::{Answer, take_steps};
 use crate::histories::{Told, are_told};
+use crate::kept::{Kept, answers_of};
 use crate::looks::{received_thirty, take_steps_watched};
 use crate::relayed::{eight_race, two_pairs_relay};
 use crate::turns::{blocks_end, sent_again, there_and_back, two_turns};
@@ -119,8 +120,13 @@ fn try_own_calls<R: Threads + Wait + Sync, W: World + Send + Sync>(
     race: Race,
 ) -> Result<Audited, Fault> {
     let (rt, alloc) = (trial.rt, trial.alloc);
-    let shared = race.run_on(Shared::new(rt, alloc, chains))?;
-    let (chains, receipts) = shared.into_parts();
+    let shared = Shared { rt, alloc, chains };
+    let kept = Kept {
+        shared,
+        receipts: Vec::new(alloc),
+    };
+    let Kept { shared, receipts } = race.run_on(kept)?;
+    let Shared { chains, .. } = shared;
     let done = is_done_by_receipts(trial, chains.as_slice(), receipts.as_slice());
     audited(trial, chains, receipts, done)
 }
