@@ -186,7 +186,8 @@ impl<R: Wait, W: World> Chains for Shared<'_, R, W> {
         let Some(chain) = self.chain(chain) else {
             return Ok(None);
         };
-        match chain.query_proof(self.rt, height, key).0 {
+        let answer = chain.query_proof(self.rt, height, key).0;
+        match answer {
             Ok(proof) => Ok(Some(proof)),
             Err(Refusal::NoConsensus) => Ok(None),
             Err(refusal) => Err(refusal),
