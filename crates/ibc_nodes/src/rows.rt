@@ -1,6 +1,6 @@
 //! Rows of nodes: the levels of a tree.
 
-ghost use Rattle.std.specs.Prelude.{◌≡◌, ◌+◌, ◌*◌, ◌<◌, ◌≤◌, length, take, IfOk, OnOk};
+ghost use Rattle.std.specs.Prelude.{◌≡◌, ◌+◌, ◌*◌, ◌/◌, ◌<◌, ◌≤◌, ◌++◌, length, take, drop, IfOk, OnOk};
 ghost use Rattle.ibc_nodes.specs.Counts.{CountsAtLeast};
 ghost use Rattle.ibc_nodes.specs.Levels.{pair_up, trees_at};
 ghost use Rattle.ibc_nodes.specs.Nodes.{Grows};
@@ -8,6 +8,17 @@ ghost use Rattle.ibc_nodes.specs.Rows.{Stand};
 
 use crate::arena::Arena;
 use std::alloc::{AllocError, Global};
+
+// Adds the last node of a row of an odd number of nodes.
+fn add_odd(above: &mut Vec<usize>, row: &[usize]) -> Result<(), AllocError>
+    ensures { OnOk result (above.new.items ≡ above.old.items ++ drop (2 * (length row.now / 2)) row.now) }
+{
+    if row.len() % 2 == 0 {
+        return Ok(());
+    }
+    above.push(row[row.len() - 1])?;
+    Ok(())
+}
 
 // The row one level above a row, whose first so many nodes are known. Each other pair is hashed that its left node doesn't
 // remember.
@@ -37,8 +48,6 @@ pub(crate) fn row_above(
         let parent = arena.pair(row[2 * i], row[2 * i + 1])?;
         above.push(parent)?;
     }
-    if row.len() % 2 == 1 {
-        above.push(row[row.len() - 1])?;
-    }
+    add_odd(&mut above, row)?;
     Ok(above)
 }
