@@ -1,6 +1,6 @@
 -- One node more.
-use Rattle.std.proofs.Common.{◌<◌, ◌∷◌, ◌++◌, [], length, get_or, take, sym, ap, ap₂, ◌∙◌, subst}
-use Rattle.std.proofs.lemmas.List.{map_push, take_more}
+use Rattle.std.proofs.Common.{◌<◌, ◌∷◌, ◌++◌, [], length, get_or, take, sym, ap, ap₂, ◌∙◌, subst, arith}
+use Rattle.std.proofs.lemmas.List.{map_push, take_all, take_more}
 use Rattle.std.proofs.lemmas.List.Elements.{All-push}
 use Rattle.ibc_nodes.specs.Levels.{tree_at, trees_at}
 use Rattle.ibc_nodes.specs.Rows.{Stand}
@@ -29,3 +29,12 @@ loop-i-preserved c =
       grows = grows_on c.args.new.now.trees before after c.loop-i.invariant.grows g;
       steps = c.move_node.ensures.steps ∙ c.loop-i.invariant.steps;
     }
+
+pub returns-clause-same : goal.returns-clause-same
+returns-clause-same c = c.loop-i.invariant.same ∙ ap (trees_at c.args.old.now) (take_all c.loop-i.i c.args.row.now (omega arith))
+
+pub returns-in_err-copy-clause-grows : goal.returns-in_err-copy-clause-grows
+returns-in_err-copy-clause-grows c = grows_on c.args.new.now.trees c.loop-i.new.trees c.move_node.new.new.trees c.loop-i.invariant.grows c.move_node.ensures.grows
+
+pub returns-in_err-push-clause-grows : goal.returns-in_err-push-clause-grows
+returns-in_err-push-clause-grows c = grows_on c.args.new.now.trees c.loop-i.new.trees c.move_node.new.new.trees c.loop-i.invariant.grows c.move_node.ensures.grows

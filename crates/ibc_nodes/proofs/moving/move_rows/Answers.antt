@@ -21,3 +21,9 @@ loop-i-preserved c =
       grows = grows_on c.args.new.now.trees before after c.loop-i.invariant.grows g;
       steps = c.move_row.ensures.steps ∙ c.loop-i.invariant.steps;
     }
+
+pub returns-in_err-row-clause-grows : goal.returns-in_err-row-clause-grows
+returns-in_err-row-clause-grows c = grows_on c.args.new.now.trees c.loop-i.new.trees c.move_row.new.new.trees c.loop-i.invariant.grows c.move_row.ensures.grows
+
+pub returns-in_err-push-clause-grows : goal.returns-in_err-push-clause-grows
+returns-in_err-push-clause-grows c = grows_on c.args.new.now.trees c.loop-i.new.trees c.move_row.new.new.trees c.loop-i.invariant.grows c.move_row.ensures.grows
