@@ -60,7 +60,11 @@ fn keep(answers: &mut Vec<Answer>, chain: u8, reply: Reply) -> Result<Reply, Ref
 // The record that bytes spell. Refused: `NoMemory`.
 fn read<T: Wire + Drop>(alloc: Global, bytes: Option<Bytes>) -> Result<Option<T>, Refusal> {
     match bytes {
-        Some(bytes) => Ok(Some(decode(alloc, bytes.as_slice())?)),
+        Some(bytes) => {
+            let record = decode(alloc, bytes.as_slice());
+            drop(bytes);
+            Ok(Some(record?))
+        }
         None => Ok(None),
     }
 }

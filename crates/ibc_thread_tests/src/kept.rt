@@ -36,14 +36,26 @@ pub fn answers_of<W: World>(
     receipts: &[Receipt<W>],
 ) -> Result<Vec<Answer>, Refusal> {
     let mut answers = Vec::with_capacity(alloc, receipts.len())?;
-    for receipt in receipts {
-        let reply = receipt.reply().clone()?;
-        answers.push(Answer {
-            chain: receipt.chain(),
-            reply,
-        })?;
+    match push_answers(&mut answers, receipts) {
+        Ok(()) => Ok(answers),
+        Err(refusal) => {
+            drop(answers);
+            Err(refusal)
+        }
     }
-    Ok(answers)
+}
+
+// Adds what receipts tell to other answers.
+fn push_answers<W: World>(
+    answers: &mut Vec<Answer>,
+    receipts: &[Receipt<W>],
+) -> Result<(), Refusal> {
+    for receipt in receipts {
+        let chain = receipt.chain();
+        let reply = receipt.reply().clone()?;
+        answers.push(Answer { chain, reply })?;
+    }
+    Ok(())
 }
 
 impl<R: Wait, W: World> Chains for Kept<'_, R, W> {

@@ -7,6 +7,8 @@ mod asked;
 #[cfg(test)]
 mod committing;
 #[cfg(test)]
+mod equal;
+#[cfg(test)]
 mod gathered;
 #[cfg(test)]
 mod handing;

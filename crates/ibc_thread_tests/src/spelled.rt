@@ -7,7 +7,7 @@ use ibc_wire::{Message, Packet};
 use std::alloc::Global;
 
 /// An event, with its message as it is spelled.
-#[derive(Debug, PartialEq, Eq, Drop)]
+#[derive(PartialEq, Eq, Drop)]
 pub enum Spelled {
     Message { chain: u8, bytes: Vec<u8> },
     Block { chain: u8, next_time: u64 },
@@ -64,12 +64,28 @@ pub fn is_no_memory(reply: &Reply) -> bool {
 /// The events of a list but for those that were answered `NoMemory`. Refused: `NoMemory`.
 pub fn answered(alloc: Global, list: &[Spelled], replies: &[Reply]) -> Result<Vec<Event>, Refusal> {
     let mut events = Vec::with_capacity(alloc, list.len())?;
+    match push_answered(alloc, &mut events, list, replies) {
+        Ok(()) => Ok(events),
+        Err(refusal) => {
+            drop(events);
+            Err(refusal)
+        }
+    }
+}
+
+// Adds those events to others.
+fn push_answered(
+    alloc: Global,
+    events: &mut Vec<Event>,
+    list: &[Spelled],
+    replies: &[Reply],
+) -> Result<(), Refusal> {
     for (spelled, reply) in list.iter().zip(replies) {
         if !is_no_memory(reply) {
             events.push(spelled.event(alloc)?)?;
         }
     }
-    Ok(events)
+    Ok(())
 }
 
 // The packet that a message carries, if it does.
@@ -86,8 +102,12 @@ fn packet_of(message: &Message) -> Option<&Packet> {
 // Whether a packet is spelled so that the same is read back. Refused: `NoMemory`.
 fn packet_comes_back(alloc: Global, packet: &Packet) -> Result<bool, Refusal> {
     let bytes = ibc_codec::encode(alloc, packet)?;
-    let back: Packet = ibc_codec::decode(alloc, bytes.as_slice())?;
-    Ok(back == *packet)
+    let back: Result<Packet, Refusal> = ibc_codec::decode(alloc, bytes.as_slice());
+    drop(bytes);
+    let back = back?;
+    let is_same = back == *packet;
+    drop(back);
+    Ok(is_same)
 }
 
 // Whether the message that bytes spell is spelled by these bytes, and so is the packet that it carries. Refused: `NoMemory`.

@@ -138,7 +138,9 @@ fn is_done_by_receipts<R: Threads + Wait + Sync, W: World + Send + Sync>(
     receipts: &[Receipt<W>],
 ) -> Result<bool, Refusal> {
     let answers = answers_of(trial.alloc, receipts)?;
-    is_done(trial, chains, answers.as_slice())
+    let done = is_done(trial, chains, answers.as_slice());
+    drop(answers);
+    done
 }
 
 // Takes the steps by the calls of `Gate`.
@@ -166,8 +168,12 @@ fn is_done_by_gates<R: Threads + Wait + Sync, G: Gate>(
         Calls::Watched => take_steps_watched(trial.rt, trial.alloc, gates, race)?,
         Calls::Own | Calls::OfGates => (take_steps(trial.rt, trial.alloc, gates, race)?, true),
     };
-    let done = is_done(trial, gates, answers.as_slice()).map_err(Fault::of_refusal)?;
-    Ok(done && saw)
+    let done = is_done(trial, gates, answers.as_slice());
+    drop(answers);
+    match done {
+        Ok(done) => Ok(done && saw),
+        Err(refusal) => Err(Fault::of_refusal(refusal)),
+    }
 }
 
 // Whether the chains do what they must once they have given the answers. Refused: `NoMemory`.
