@@ -2,7 +2,7 @@
 use Rattle.std.specs.Prelude.{◌≡◌, ◌⊎◌, Bool, true, false, Ok, ⊤, IfErr, refl}
 use Rattle.std.proofs.Common.{inl, inr}
 use Rattle.ibc_ids.specs.declared.refusal.Refusal.TheVariants.{WrongOrder, WrongVersion}
-use Rattle.ibc_machine.specs.Checks.{Checked, require, and_then}
+use Rattle.ibc_machine.specs.chain.Checks.{Checked, require, and_then}
 
 abbrev pub order_then_version : Bool → Bool → Checked ⊤
 order_then_version order version = and_then (require order WrongOrder) (and_then (require version WrongVersion) (Ok tt))

@@ -5,8 +5,8 @@ ghost use Rattle.ibc_ids.specs.Texts.{Text};
 ghost use Rattle.ibc_ids.specs.declared.refusal.Refusal.TheVariants.{NoMemory, WrongOrder, WrongVersion, Poor, CloseRefused};
 ghost use Rattle.ibc_wire.specs.declared.packet.Packet.{Packet};
 ghost use Rattle.ibc_wire.specs.declared.records.Order.{Order};
-ghost use Rattle.ibc_machine.specs.Checks.{Checked};
-ghost use Rattle.ibc_machine.specs.Packets.{has_size};
+ghost use Rattle.ibc_machine.specs.chain.Checks.{Checked};
+ghost use Rattle.ibc_machine.specs.ics04.Packets.{has_size};
 
 use ibc_ids::{Bytes, Refusal, Version};
 use ibc_wire::{Order, Packet};

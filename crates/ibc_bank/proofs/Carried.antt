@@ -4,8 +4,8 @@ use Rattle.std.specs.Borrow.{Bor}
 use Rattle.ibc_ids.specs.Texts.{Text}
 use Rattle.ibc_ids.specs.declared.refusal.Refusal.TheVariants.{Poor}
 use Rattle.ibc_wire.specs.declared.token.Token.{Token}
-use Rattle.ibc_machine.specs.Bank.{Balances, give, pay}
-use Rattle.ibc_machine.specs.Checks.{expect}
+use Rattle.ibc_machine.specs.ics20.Bank.{Balances, give, pay}
+use Rattle.ibc_machine.specs.chain.Checks.{expect}
 use Rattle.ibc_bank.specs.Parties.{party_text}
 use Rattle.ibc_bank.specs.Moves.{BankState, token_of, with_balances, moved}
 use Rattle.ibc_bank.specs.Places.{put_after, carried}

@@ -3,7 +3,7 @@ use Rattle.std.proofs.Common.{◌≡◌, ℕ, ap, sym, ◌∙◌, subst, List, [
 use Rattle.std.proofs.lemmas.List.Sums.{fold_push}
 use Rattle.ibc_ids.specs.Texts.{Text, text_cmp, pair_cmp}
 use Rattle.ibc_ids.specs.Maps.{Map}
-use Rattle.ibc_machine.specs.Bank.{with_balance}
+use Rattle.ibc_machine.specs.ics20.Bank.{with_balance}
 use Rattle.ibc_bank.specs.Amounts.{with_amount, written}
 use Rattle.ibc_bank.specs.Moves.{BankState, with_burnt, with_balances}
 use Rattle.ibc_bank.specs.Books.{IsBalanced, after, totals_after}

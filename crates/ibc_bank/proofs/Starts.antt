@@ -6,8 +6,8 @@ use Rattle.std.proofs.lemmas.Bool.{and_parts}
 use Rattle.std.proofs.lemmas.List.Sums.{sum_by-cons}
 use Rattle.ibc_ids.specs.Texts.{Text, same_text, pair_cmp}
 use Rattle.ibc_ids.specs.Names.{is_user, is_base_denom}
-use Rattle.ibc_machine.specs.Bank.{Balances, with_balance, supply}
-use Rattle.ibc_machine.specs.Genesis.{Holding, starting_balances, is_fair, is_same_holding, total_of}
+use Rattle.ibc_machine.specs.ics20.Bank.{Balances, with_balance, supply}
+use Rattle.ibc_machine.specs.chain.Genesis.{Holding, starting_balances, is_fair, is_same_holding, total_of}
 use Rattle.ibc_machine.proofs.SortedMaps.{Sorted-from, Sorted-to}
 use Rattle.ibc_machine.proofs.Measures.{sorted-with_balance}
 use Rattle.ibc_bank.proofs.Tallies.{supply-with_balance}

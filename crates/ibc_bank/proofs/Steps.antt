@@ -2,7 +2,7 @@
 use Rattle.std.proofs.Common.{◌≡◌, ℕ, zero, suc, ◌<◌, refl, ap, sym, ◌∙◌, List, [], ◌∷◌, length, get_or, take, Ok, Err, ◌⊎◌, inl, inr, arith}
 use Rattle.ibc_ids.specs.declared.refusal.Refusal.{Refusal}
 use Rattle.ibc_ids.specs.declared.refusal.Refusal.TheVariants.{NoMemory}
-use Rattle.ibc_machine.specs.Checks.{Checked, go_on}
+use Rattle.ibc_machine.specs.chain.Checks.{Checked, go_on}
 use Rattle.ibc_bank.specs.Moves.{BankState, moved, moved_all}
 use Rattle.ibc_bank.specs.declared.moves.Move.{Move}
 

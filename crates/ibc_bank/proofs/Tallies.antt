@@ -4,7 +4,7 @@ use Rattle.std.specs.FinMap.{is_sorted}
 use Rattle.ibc_ids.specs.Texts.{Text, same_text, text_cmp, pair_cmp}
 use Rattle.ibc_ids.specs.Maps.{Map}
 use Rattle.ibc_ids.proofs.Texts.{same_text_itself, text_cmp_total}
-use Rattle.ibc_machine.specs.Bank.{Balances, balance, with_balance, supply, give, pay}
+use Rattle.ibc_machine.specs.ics20.Bank.{Balances, balance, with_balance, supply, give, pay}
 use Rattle.ibc_machine.proofs.FiniteMaps.{by_text, by_pair, pair_cmp_total}
 use Rattle.ibc_machine.proofs.SortedMaps.{Sorted-from}
 use Rattle.ibc_machine.proofs.Measures.{Test, measure-with_balance, given, paid}

@@ -3,7 +3,7 @@ use Rattle.std.specs.Prelude.{◌≡◌, ℕ, ◌+◌, ◌<◌, ◌^◌, if◌th
 use Rattle.ibc_ids.specs.Texts.{Text, same_text, text_cmp, pair_cmp}
 use Rattle.ibc_ids.specs.Maps.{Map}
 use Rattle.ibc_wire.specs.declared.token.Token.{Token}
-use Rattle.ibc_machine.specs.Bank.{supply}
+use Rattle.ibc_machine.specs.ics20.Bank.{supply}
 use Rattle.ibc_bank.specs.Amounts.{AreKept, amount_at, written}
 use Rattle.ibc_bank.specs.Moves.{BankState, burnt_of}
 use Rattle.ibc_bank.specs.declared.books.Books.{Books}

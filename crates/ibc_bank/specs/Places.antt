@@ -3,8 +3,8 @@ use Rattle.std.specs.Prelude.{◌+◌, ◌-◌, nat_lt, Ok, Err, if◌then◌els
 use Rattle.std.specs.Option.{option_map}
 use Rattle.ibc_ids.specs.declared.refusal.Refusal.TheVariants.{Poor, TooLarge}
 use Rattle.ibc_wire.specs.declared.token.Token.{Token}
-use Rattle.ibc_machine.specs.Bank.{give, pay, supply, is_bounded}
-use Rattle.ibc_machine.specs.Checks.{Checked, expect}
+use Rattle.ibc_machine.specs.ics20.Bank.{give, pay, supply, is_bounded}
+use Rattle.ibc_machine.specs.chain.Checks.{Checked, expect}
 use Rattle.ibc_bank.specs.Moves.{BankState, burnt_of, with_burnt, with_balances}
 use Rattle.ibc_bank.specs.Parties.{party_text}
 use Rattle.ibc_bank.specs.declared.place.Place.{Place}

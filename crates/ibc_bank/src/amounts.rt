@@ -6,7 +6,7 @@ ghost use Rattle.ibc_ids.specs.Texts.{text_cmp};
 ghost use Rattle.ibc_bank.specs.Amounts.{amount_at, with_amount, written};
 
 use ibc_ids::Denom;
-use ibc_sorted_map::SortedMap;
+use ibc_maps::SortedMap;
 use std::alloc::{AllocError, Global};
 use std::cmp::Ord;
 use std::marker::Model;
@@ -21,7 +21,7 @@ pub(crate) struct Amounts<K: Ord> {
 impl<K: Ord> Model for Amounts<K> {
     ghost use Rattle.std.specs.Prelude.{ℕ};
     ghost use Rattle.std.specs.Coded.{coded_ℕ};
-    ghost use Rattle.ibc_sorted_map.specs.Held.{HeldMap, held_code};
+    ghost use Rattle.ibc_maps.specs.Held.{HeldMap, held_code};
 
     ghost Value = { HeldMap K ℕ };
 

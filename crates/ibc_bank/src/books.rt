@@ -1,7 +1,7 @@
 //! The maps of a bank.
 
 ghost use Rattle.std.specs.Prelude.{◌≡◌, ◌+◌, ◌<◌, ◌^◌, OnOk, OnErr};
-ghost use Rattle.ibc_machine.specs.Bank.{balance, with_balance, supply};
+ghost use Rattle.ibc_machine.specs.ics20.Bank.{balance, with_balance, supply};
 ghost use Rattle.ibc_bank.specs.Books.{IsBalanced, after, nothing, state_of, totals_after};
 ghost use Rattle.ibc_bank.specs.Moves.{burnt_of, with_balances};
 ghost use Rattle.ibc_bank.specs.Parties.{party_text};

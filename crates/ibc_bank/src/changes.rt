@@ -1,7 +1,7 @@
 //! What moves change, beside the bank.
 
 ghost use Rattle.std.specs.Prelude.{◌≡◌, ◌⊎◌, ◌++◌, ◌∷◌, [], Some, None, Ok, Err, OnOk, IfOk, IfErr, IsErrOf};
-ghost use Rattle.ibc_machine.specs.Bank.{balance};
+ghost use Rattle.ibc_machine.specs.ics20.Bank.{balance};
 ghost use Rattle.ibc_bank.specs.Parties.{party_text};
 ghost use Rattle.ibc_bank.specs.Moves.{token_of, moved, moved_all, refunded, settled};
 ghost use Rattle.ibc_bank.specs.Places.{taken, put_in, carried};

@@ -1,1 +1,16 @@
+pub mod Carried
+pub mod Judged
+pub mod Answers
+pub mod Events
+pub mod Evidence
+pub mod Gathering
+pub mod Genesis
+pub mod Handles
+pub mod History
+pub mod Holdings
+pub mod Notes
+pub mod Proved
+pub mod Reads
+pub mod Views
+pub mod Worlds
 pub mod Codes

@@ -1,10 +1,37 @@
-//! The calls of this library for programs that are not Rattle's: C's by `include/ibcworld.h`, Rust's by `bindings/rust`. Each
-//! calls one function of `ibc_calls`, and says again what that function says. Each answers a number: 0, or
-//! that of why it was refused.
+//! The calls of this library for programs that are not Rattle's, by handles and bytes, and what a verifier asks that has no ledger: whether bytes are a
+//! message or a proof, and what a proof shows under a root. `exports` has them as C's by `include/ibcworld.h` and Rust's by `bindings/rust`: each export calls
+//! one function of this crate, and says again what that function says. It answers a number: 0, or that of why it was refused.
 #![tactic(auto)]
 
-mod light;
+mod answer;
+mod events;
+mod evidence;
+mod exports;
+mod gathering;
+mod genesis;
+mod handles;
+mod history;
+mod holdings;
+mod messages;
 mod notes;
+mod proofs;
+mod proving;
 mod reads;
 mod views;
 mod worlds;
+
+pub use answer::{Refused, number};
+pub use events::{apply, end_block};
+pub use evidence::{message_proof, proof_key, proof_value};
+pub use gathering::{audit, join_ledger};
+pub use genesis::{add_balance, add_chain, make_genesis};
+pub use handles::free;
+pub use history::{Asked, Told, history_event, history_reply, length};
+pub use holdings::{holding, holding_amount, make_balances};
+pub use messages::{Carried, carried_proof, tag_of};
+pub use notes::{make_notes, note, note_channel, note_count};
+pub use proofs::{ProofKind, key_of, kind_of, show_absent, show_present, value_of};
+pub use proving::prove;
+pub use reads::{Amount, balance, plan_message, query};
+pub use views::{Heights, make_plan, make_view, view_heights, view_proof, view_root};
+pub use worlds::{make_ledgers, take_ledger};

@@ -1,144 +1,194 @@
-//! What is read of ledgers.
+//! What is read of ledgers and of plans.
 
-ghost use Rattle.std.specs.Prelude.{◌≡◌};
-ghost use Rattle.ibc_calls.specs.Answers.{Numbered};
-ghost use Rattle.ibc_calls.specs.Handles.{Finds};
-ghost use Rattle.ibc_calls.specs.Holdings.{FindsHolding, MakesBalances, TellsHolding};
-ghost use Rattle.ibc_calls.specs.History.{TellsEvent, TellsLength, TellsReply};
-ghost use Rattle.ibc_calls.specs.Proved.{FindsProved};
-ghost use Rattle.ibc_calls.specs.Reads.{FindsValue, TellsBalance};
+ghost use Rattle.std.specs.Prelude.{◌≡◌, Some};
+ghost use Rattle.ibc_c.specs.Handles.{Finds};
+ghost use Rattle.ibc_c.specs.Reads.{FindsMessage, FindsValue, IsBalance, IsSpelling, IsValueAt, TellsBalance, amount_of};
 
-use ibc_calls::{Amount, Asked, Told, number};
-use ibc_held::Handle;
+use crate::Refused;
+use crate::genesis::names_of;
+use crate::handles::give;
+use crate::views::key_of;
+use ibc_handle::{Handle, Held};
+use ibc_ids::{Account, Bytes, Refusal};
+use ibc_ledger::Ledger;
+use ibc_message_codec::encode;
+use ibc_wire::Message;
 use std::alloc::Global;
 
-/// Tells how many entries a ledger's history has, or a plan, a list of balances or one of notes. As `length` of `ibc_calls`.
-#[unsafe(no_mangle)]
-pub extern "C" fn ibcw_length(alloc: Global, handle: &mut Handle, count: &mut u64) -> u32
-    ensures kept { handle.new.value ≡ handle.old.value }
-    ensures told { Numbered (TellsLength handle.old.value count.old count.new) result }
-{
-    number(ibc_calls::length(alloc, handle, count))
+/// An amount: `high` times 2^64 and `low`.
+#[repr(C)]
+#[derive(Clone, Copy, Debug, PartialEq, Eq, Drop)]
+pub struct Amount {
+    pub high: u64,
+    pub low: u64,
 }
 
-/// Tells the reply of an entry of a ledger's history. As `history_reply` of `ibc_calls`.
-#[unsafe(no_mangle)]
-pub extern "C" fn ibcw_reply(
-    alloc: Global,
-    ledger: &mut Handle,
-    index: u64,
-    told: &mut Told,
-    bytes: &mut [u8],
-    size: &mut usize,
-) -> u32
-    ensures kept { ledger.new.value ≡ ledger.old.value }
-    ensures told { Numbered (TellsReply index ledger.old.value (record { told = told.old; bytes = bytes.old; size = size.old }) (record { told = told.new; bytes = bytes.new; size = size.new })) result }
-{
-    number(ibc_calls::history_reply(alloc, ledger, index, told, bytes, size))
-}
-
-/// Tells what a ledger was asked by an entry of its history. As `history_event` of `ibc_calls`.
-#[unsafe(no_mangle)]
-pub extern "C" fn ibcw_event(
-    alloc: Global,
-    ledger: &mut Handle,
-    index: u64,
-    asked: &mut Asked,
-    bytes: &mut [u8],
-    size: &mut usize,
-) -> u32
-    ensures kept { ledger.new.value ≡ ledger.old.value }
-    ensures told { Numbered (TellsEvent index ledger.old.value (record { asked = asked.old; bytes = bytes.old; size = size.old }) (record { asked = asked.new; bytes = bytes.new; size = size.new })) result }
-{
-    number(ibc_calls::history_event(alloc, ledger, index, asked, bytes, size))
-}
-
-/// Writes the value at the path of a key in the working block of a ledger. As `query` of `ibc_calls`.
-#[unsafe(no_mangle)]
-pub extern "C" fn ibcw_query(
+/// Writes the value at the path of a key in the working block of a ledger (ICS 24). Refused: `Empty`; `OtherKind`;
+/// `Core(BadName)` exactly where no key has the path; `NothingThere` where the key has no value; `TooShort`; `Core(NoMemory)`.
+#[tactic(auto, unfolding(crate::specs::Handles::Finds))]
+pub fn query(
     alloc: Global,
     ledger: &mut Handle,
     path: &[u8],
     value: &mut [u8],
     size: &mut usize,
-) -> u32
+) -> Result<(), Refused>
     ensures kept { ledger.new.value ≡ ledger.old.value }
-    ensures found { Numbered (Finds (FindsValue path.now ledger.old.value) value.old value.new size.old size.new) result }
+    ensures found { Finds (FindsValue path.now ledger.old.value) value.old value.new size.old size.new result }
 {
-    number(ibc_calls::query(alloc, ledger, path, value, size))
+    give(value_in(alloc, ledger, path), value, size)
 }
 
-/// Writes the bytes of the proof of what a committed height of a ledger has at the path of a key. As `prove` of `ibc_calls`.
-#[unsafe(no_mangle)]
-pub extern "C" fn ibcw_prove(
-    alloc: Global,
-    ledger: &mut Handle,
-    height: u64,
-    path: &[u8],
-    proof: &mut [u8],
-    size: &mut usize,
-) -> u32
+#[tactic(auto, unfolding(crate::specs::Reads::FindsValue))]
+fn value_in(alloc: Global, ledger: &mut Handle, path: &[u8]) -> Result<Bytes, Refused>
     ensures kept { ledger.new.value ≡ ledger.old.value }
-    ensures found { Numbered (Finds (FindsProved height path.now ledger.old.value) proof.old proof.new size.old size.new) result }
+    ensures found { FindsValue path.now ledger.old.value result }
 {
-    number(ibc_calls::prove(alloc, ledger, height, path, proof, size))
+    match ledger.take(alloc) {
+        None => Err(Refused::Empty),
+        Some(held) => {
+            let found = value_at(alloc, &held, path);
+            ledger.set(alloc, held);
+            found
+        }
+    }
 }
 
-/// Makes the list of what accounts hold in an empty handle. As `make_balances` of `ibc_calls`.
-#[unsafe(no_mangle)]
-pub extern "C" fn ibcw_make_balances(
-    alloc: Global,
-    ledger: &mut Handle,
-    balances: &mut Handle,
-) -> u32
-    ensures kept { ledger.new.value ≡ ledger.old.value }
-    ensures made { Numbered (MakesBalances ledger.old.value balances.old.value balances.new.value) result }
+#[tactic(auto, unfolding(crate::specs::Reads::FindsValue))]
+fn value_at(alloc: Global, held: &Held, path: &[u8]) -> Result<Bytes, Refused>
+    ensures { FindsValue path.now (Some held.now) result }
 {
-    number(ibc_calls::make_balances(alloc, ledger, balances))
+    match held {
+        Held::Ledger(member) => value_of(alloc, &member.ledger, path),
+        _ => Err(Refused::OtherKind),
+    }
 }
 
-/// Writes who holds what at an index. As `holding` of `ibc_calls`.
-#[unsafe(no_mangle)]
-pub extern "C" fn ibcw_holding(
+fn value_of(alloc: Global, ledger: &Ledger, path: &[u8]) -> Result<Bytes, Refused>
+    ensures { IsValueAt path.now ledger.now.ledger result }
+{
+    match key_of(alloc, path) {
+        Ok(key) => match ledger.query(&key) {
+            Ok(Some(value)) => Ok(value),
+            Ok(None) => Err(Refused::NothingThere),
+            Err(refusal) => Err(Refused::Core(refusal)),
+        },
+        Err(refusal) => Err(Refused::Core(refusal)),
+    }
+}
+
+/// Writes the bytes of a plan's message, which are numbered from 0. Refused: `Empty`; `OtherKind`; `NothingThere` where there is
+/// no such message; `Core(BadMessage)` where a message has no spelling; `TooShort`; `Core(NoMemory)`.
+#[tactic(auto, unfolding(crate::specs::Handles::Finds))]
+pub fn plan_message(
     alloc: Global,
-    balances: &mut Handle,
-    chain: u64,
+    plan: &mut Handle,
     index: u64,
-    text: &mut [u8],
+    message: &mut [u8],
     size: &mut usize,
-) -> u32
-    ensures kept { balances.new.value ≡ balances.old.value }
-    ensures found { Numbered (Finds (FindsHolding chain index balances.old.value) text.old text.new size.old size.new) result }
+) -> Result<(), Refused>
+    ensures kept { plan.new.value ≡ plan.old.value }
+    ensures found { Finds (FindsMessage index plan.old.value) message.old message.new size.old size.new result }
 {
-    number(ibc_calls::holding(alloc, balances, chain, index, text, size))
+    give(message_in(alloc, plan, index), message, size)
 }
 
-/// Tells how much is held at an index. As `holding_amount` of `ibc_calls`.
-#[unsafe(no_mangle)]
-pub extern "C" fn ibcw_holding_amount(
-    alloc: Global,
-    balances: &mut Handle,
-    chain: u64,
-    index: u64,
-    amount: &mut Amount,
-) -> u32
-    ensures kept { balances.new.value ≡ balances.old.value }
-    ensures told { Numbered (TellsHolding chain index balances.old.value amount.old amount.new) result }
+#[tactic(auto, unfolding(crate::specs::Reads::FindsMessage))]
+fn message_in(alloc: Global, plan: &mut Handle, index: u64) -> Result<Bytes, Refused>
+    ensures kept { plan.new.value ≡ plan.old.value }
+    ensures found { FindsMessage index plan.old.value result }
 {
-    number(ibc_calls::holding_amount(alloc, balances, chain, index, amount))
+    match plan.take(alloc) {
+        None => Err(Refused::Empty),
+        Some(held) => {
+            let found = message_at(alloc, &held, index);
+            plan.set(alloc, held);
+            found
+        }
+    }
 }
 
-/// Tells what a user holds of a denomination. As `balance` of `ibc_calls`.
-#[unsafe(no_mangle)]
-pub extern "C" fn ibcw_balance(
+#[tactic(auto, unfolding(crate::specs::Reads::FindsMessage))]
+fn message_at(alloc: Global, held: &Held, index: u64) -> Result<Bytes, Refused>
+    ensures { FindsMessage index (Some held.now) result }
+{
+    match held {
+        Held::Plan(messages) => match messages.get(index as usize) {
+            Some(message) => spelling_of(alloc, message),
+            None => Err(Refused::NothingThere),
+        },
+        _ => Err(Refused::OtherKind),
+    }
+}
+
+/// The bytes that spell a message. Refused: `Core(BadMessage)` where it has no spelling; `Core(NoMemory)`.
+pub(crate) fn spelling_of(alloc: Global, message: &Message) -> Result<Bytes, Refused>
+    ensures { IsSpelling (Some message.now) result }
+{
+    match encode(alloc, message) {
+        Ok(bytes) => Ok(Bytes::from_vec(bytes)),
+        Err(refusal) => Err(Refused::Core(refusal)),
+    }
+}
+
+/// Tells what a user holds of a denomination in the working block of a ledger. Refused: `Empty`; `OtherKind`; `Core(BadName)`
+/// exactly where a name is none of its kind; `Core(NoMemory)`. Then nothing is told.
+#[tactic(auto, unfolding(crate::specs::Reads::TellsBalance))]
+pub fn balance(
     alloc: Global,
     ledger: &mut Handle,
     user: &[u8],
     denom: &[u8],
     amount: &mut Amount,
-) -> u32
+) -> Result<(), Refused>
     ensures kept { ledger.new.value ≡ ledger.old.value }
-    ensures told { Numbered (TellsBalance user.now denom.now ledger.old.value amount.old amount.new) result }
+    ensures told { TellsBalance user.now denom.now ledger.old.value amount.old amount.new result }
 {
-    number(ibc_calls::balance(alloc, ledger, user, denom, amount))
+    match ledger.take(alloc) {
+        None => Err(Refused::Empty),
+        Some(held) => {
+            let answer = balance_at(alloc, &held, user, denom, amount);
+            ledger.set(alloc, held);
+            answer
+        }
+    }
+}
+
+#[tactic(auto, unfolding(crate::specs::Reads::TellsBalance))]
+fn balance_at(
+    alloc: Global,
+    held: &Held,
+    user: &[u8],
+    denom: &[u8],
+    amount: &mut Amount,
+) -> Result<(), Refused>
+    ensures { TellsBalance user.now denom.now (Some held.now) amount.old amount.new result }
+{
+    match held {
+        Held::Ledger(member) => balance_of(alloc, &member.ledger, user, denom, amount),
+        _ => Err(Refused::OtherKind),
+    }
+}
+
+fn balance_of(
+    alloc: Global,
+    ledger: &Ledger,
+    user: &[u8],
+    denom: &[u8],
+    amount: &mut Amount,
+) -> Result<(), Refused>
+    ensures { IsBalance user.now denom.now ledger.now.ledger amount.old amount.new result }
+{
+    let (user, denom) = names_of(alloc, user, denom)?;
+    *amount = parts_of(ledger.balance(&Account::User(user), &denom));
+    Ok(())
+}
+
+pub(crate) fn parts_of(amount: u128) -> Amount
+    ensures { amount_of result ≡ amount }
+{
+    Amount {
+        high: (amount / (1 << 64)) as u64,
+        low: (amount % (1 << 64)) as u64,
+    }
 }

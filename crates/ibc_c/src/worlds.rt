@@ -1,113 +1,114 @@
-//! How a world is made, and how its ledgers go on.
+//! The ledgers of a world.
 
-ghost use Rattle.std.specs.Prelude.{◌≡◌, ◌+◌, ◌*◌, ◌^◌, None};
-ghost use Rattle.ibc_calls.specs.Answers.{Numbered, answer_number};
-ghost use Rattle.ibc_calls.specs.Events.{Applies, Ends};
-ghost use Rattle.ibc_calls.specs.Gathering.{AreApart, Audits, JoinsLedger};
-ghost use Rattle.ibc_calls.specs.Genesis.{BalanceAdded, Begins, ChainAdded};
-ghost use Rattle.ibc_calls.specs.Handles.{freed};
-ghost use Rattle.ibc_calls.specs.Worlds.{MakesLedgers, TakesLedger};
+ghost use Rattle.std.specs.Prelude.{◌≡◌, None, Some};
+ghost use Rattle.ibc_machine.specs.chain.Genesis.{genesis_state, is_allowed};
+ghost use Rattle.ibc_c.specs.Worlds.{AreMadeOf, ByAllowed, IsTakenFrom, MakesLedgers, TakesFrom, TakesLedger};
 
-use ibc_calls::number;
-use ibc_held::Handle;
+use crate::Refused;
+use crate::handles::put_new;
+use ibc_handle::{Handle, Held, Ledgers, WorldLedger};
+use ibc_ids::Refusal;
+use ibc_machine::Genesis;
 use std::alloc::Global;
 
-/// Makes a genesis with no chains in an empty handle. As `make_genesis` of `ibc_calls`.
-#[unsafe(no_mangle)]
-pub extern "C" fn ibcw_make_genesis(
+/// Makes all ledgers of a genesis in a handle that holds nothing, under a number by which the caller tells worlds apart. The
+/// genesis stays. Refused, by the first check that fails: `Full` where the second handle holds something; `Empty` and
+/// `OtherKind` where the first holds no genesis; `Core(BadMessage)` exactly where no world begins so; `Core(NoMemory)`.
+#[tactic(auto, unfolding(crate::specs::Worlds::MakesLedgers))]
+pub fn make_ledgers(
     alloc: Global,
     genesis: &mut Handle,
-    capacity: u64,
-    window: u64,
-) -> u32
-    ensures { Numbered (Begins capacity window genesis.old.value genesis.new.value) result }
-{
-    number(ibc_calls::make_genesis(alloc, genesis, capacity, window))
-}
-
-/// Adds a chain to a genesis. As `add_chain` of `ibc_calls`.
-#[unsafe(no_mangle)]
-pub extern "C" fn ibcw_add_chain(alloc: Global, genesis: &mut Handle, time: u64) -> u32
-    ensures { Numbered (ChainAdded time genesis.old.value genesis.new.value) result }
-{
-    number(ibc_calls::add_chain(alloc, genesis, time))
-}
-
-/// Lets a user hold so much at the last chain of a genesis. As `add_balance` of `ibc_calls`.
-#[unsafe(no_mangle)]
-pub extern "C" fn ibcw_add_balance(
-    alloc: Global,
-    genesis: &mut Handle,
-    user: &[u8],
-    denom: &[u8],
-    high: u64,
-    low: u64,
-) -> u32
-    ensures { Numbered (BalanceAdded user.now denom.now (high * 2 ^ 64 + low) genesis.old.value genesis.new.value) result }
-{
-    number(ibc_calls::add_balance(alloc, genesis, user, denom, high, low))
-}
-
-/// Makes all ledgers of a genesis in an empty handle, under the number of their world. As `make_ledgers` of `ibc_calls`.
-#[unsafe(no_mangle)]
-pub extern "C" fn ibcw_make_ledgers(
-    alloc: Global,
-    genesis: &mut Handle,
-    world: u64,
+    number: u64,
     ledgers: &mut Handle,
-) -> u32
+) -> Result<(), Refused>
     ensures kept { genesis.new.value ≡ genesis.old.value }
-    ensures made { Numbered (MakesLedgers world genesis.old.value ledgers.old.value ledgers.new.value) result }
+    ensures made { MakesLedgers number genesis.old.value ledgers.old.value ledgers.new.value result }
 {
-    number(ibc_calls::make_ledgers(alloc, genesis, world, ledgers))
+    if !ledgers.is_empty(alloc) {
+        return Err(Refused::Full);
+    }
+    match genesis.take(alloc) {
+        None => Err(Refused::Empty),
+        Some(held) => {
+            let answer = make_at(alloc, &held, number, ledgers);
+            genesis.set(alloc, held);
+            answer
+        }
+    }
 }
 
-/// Moves the first of the ledgers to an empty handle. As `take_ledger` of `ibc_calls`.
-#[unsafe(no_mangle)]
-pub extern "C" fn ibcw_take_ledger(alloc: Global, ledgers: &mut Handle, ledger: &mut Handle) -> u32
-    ensures { Numbered (TakesLedger ledgers.old.value ledgers.new.value ledger.old.value ledger.new.value) result }
+fn make_at(alloc: Global, held: &Held, number: u64, ledgers: &mut Handle) -> Result<(), Refused>
+    requires { ledgers.old.value ≡ None }
+    ensures { AreMadeOf number (Some held.now) ledgers.new.value result }
 {
-    number(ibc_calls::take_ledger(alloc, ledgers, ledger))
+    match held {
+        Held::Genesis(genesis) => begin(alloc, genesis, number, ledgers),
+        _ => Err(Refused::OtherKind),
+    }
 }
 
-/// Moves a ledger to others of its world. The caller gave different worlds different numbers. As `join_ledger` of `ibc_calls`.
-#[unsafe(no_mangle)]
-pub extern "C" fn ibcw_join_ledger(alloc: Global, ledgers: &mut Handle, ledger: &mut Handle) -> u32
-    requires { AreApart ledgers.old.value ledger.old.value }
-    ensures { Numbered (JoinsLedger ledgers.old.value ledgers.new.value ledger.old.value ledger.new.value) result }
+fn begin(alloc: Global, genesis: &Genesis, number: u64, ledgers: &mut Handle) -> Result<(), Refused>
+    requires { ledgers.old.value ≡ None }
+    ensures { ByAllowed (is_allowed (genesis_state genesis.now)) (genesis_state genesis.now) number ledgers.new.value result }
 {
-    number(ibc_calls::join_ledger(alloc, ledgers, ledger))
+    match Ledgers::begin(alloc, genesis, number) {
+        Ok(all) => put_new(alloc, ledgers, Held::Ledgers(all)),
+        Err(refusal) => Err(Refused::Core(refusal)),
+    }
 }
 
-/// Audits the ledgers of a world, and puts what they hold into an empty handle. As `audit` of `ibc_calls`.
-#[unsafe(no_mangle)]
-pub extern "C" fn ibcw_audit(alloc: Global, ledgers: &mut Handle, audit: &mut Handle) -> u32
-    ensures { Numbered (Audits ledgers.old.value ledgers.new.value audit.old.value audit.new.value) result }
+/// Moves the first of the ledgers to a handle that holds nothing. Refused, by the first check that fails: `Full` where the
+/// second handle holds something; `Empty` and `OtherKind` where the first holds no ledgers; `Core(NoMemory)`; `NothingThere`
+/// where all were taken. Then nothing has changed.
+#[tactic(auto, unfolding(crate::specs::Worlds::TakesLedger))]
+pub fn take_ledger(alloc: Global, ledgers: &mut Handle, ledger: &mut Handle) -> Result<(), Refused>
+    ensures { TakesLedger ledgers.old.value ledgers.new.value ledger.old.value ledger.new.value result }
 {
-    number(ibc_calls::audit(alloc, ledgers, audit))
+    if !ledger.is_empty(alloc) {
+        return Err(Refused::Full);
+    }
+    match ledgers.take(alloc) {
+        None => Err(Refused::Empty),
+        Some(held) => {
+            let mut held = held;
+            let answer = take_at(alloc, &mut held, ledger);
+            ledgers.set(alloc, held);
+            answer
+        }
+    }
 }
 
-/// Applies the message that the bytes spell to a ledger. As `apply` of `ibc_calls`.
-#[unsafe(no_mangle)]
-pub extern "C" fn ibcw_apply(alloc: Global, ledger: &mut Handle, message: &[u8]) -> u32
-    ensures { Numbered (Applies message.now ledger.old.value ledger.new.value) result }
+fn take_at(alloc: Global, held: &mut Held, ledger: &mut Handle) -> Result<(), Refused>
+    requires { ledger.old.value ≡ None }
+    ensures { TakesFrom held.old held.new ledger.new.value result }
 {
-    number(ibc_calls::apply(alloc, ledger, message))
+    match held {
+        Held::Ledgers(all) => take_first(alloc, all, ledger),
+        _ => Err(Refused::OtherKind),
+    }
 }
 
-/// Ends the working block of a ledger. As `end_block` of `ibc_calls`.
-#[unsafe(no_mangle)]
-pub extern "C" fn ibcw_end_block(alloc: Global, ledger: &mut Handle, next_time: u64) -> u32
-    ensures { Numbered (Ends next_time ledger.old.value ledger.new.value) result }
+// The place of the ledger is made first, and holds an empty plan until the ledger is there.
+fn take_first(alloc: Global, all: &mut Ledgers, ledger: &mut Handle) -> Result<(), Refused>
+    requires { ledger.old.value ≡ None }
+    ensures { IsTakenFrom all.old all.new ledger.new.value result }
 {
-    number(ibc_calls::end_block(alloc, ledger, next_time))
-}
-
-/// Frees what a handle holds. As `free` of `ibc_calls`.
-#[unsafe(no_mangle)]
-pub extern "C" fn ibcw_free(alloc: Global, handle: &mut Handle) -> u32
-    ensures left { handle.new.value ≡ None }
-    ensures answer { result ≡ answer_number (freed handle.old.value) }
-{
-    number(ibc_calls::free(alloc, handle))
+    let Ok(()) = ledger.fill(alloc, Held::Plan(Vec::new(alloc))) else {
+        return Err(Refused::Core(Refusal::NoMemory));
+    };
+    let number = all.number();
+    match all.take_first() {
+        None => {
+            ledger.free(alloc);
+            Err(Refused::NothingThere)
+        }
+        Some(first) => {
+            let held = Held::Ledger(WorldLedger {
+                number,
+                ledger: first,
+            });
+            ledger.replace(alloc, held);
+            Ok(())
+        }
+    }
 }

@@ -5,10 +5,9 @@
 use crate::lines::Lines;
 use crate::mistake::{Mistake, Unmade, Wrong, number_of, size_of};
 use crate::spelled::Spelled;
-use ibc_codec::encode;
 use ibc_ids::{Key, Refusal};
 use ibc_script_cli::Chains;
-use ibc_wire::MessageKind;
+use ibc_wire::{MessageKind, encode};
 use std::alloc::{AllocError, Global};
 
 /// Forgeries of one message.

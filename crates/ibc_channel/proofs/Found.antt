@@ -12,10 +12,10 @@ use Rattle.ibc_wire.specs.declared.records.ChannelState.{ChannelState}
 use Rattle.ibc_wire.specs.declared.records.ChannelState.TheVariants.{Init}
 use Rattle.ibc_wire.specs.declared.records.Order.{Order}
 use Rattle.ibc_wire.specs.declared.records.ChannelEnd.{ChannelEnd}
-use Rattle.ibc_machine.specs.Records.{Core, Channel, connection_at, channel_at, with_channel}
-use Rattle.ibc_machine.specs.Values.{same_channel_state}
-use Rattle.ibc_machine.specs.Checks.{Checked, expect, go_on, ◌>>=◌}
-use Rattle.ibc_machine.specs.Channels.{channel_end}
+use Rattle.ibc_machine.specs.chain.Records.{Core, Channel, connection_at, channel_at, with_channel}
+use Rattle.ibc_machine.specs.ics24.Values.{same_channel_state}
+use Rattle.ibc_machine.specs.chain.Checks.{Checked, expect, go_on, ◌>>=◌}
+use Rattle.ibc_machine.specs.ics04.Channels.{channel_end}
 use Rattle.ibc_records.specs.Held.{HeldRecords, core_of, SetsChannelEnd}
 use Rattle.ibc_records.specs.Taking.{IsWritten}
 use Rattle.ibc_records.proofs.Written.{sets_channel_end_written}

@@ -19,12 +19,12 @@ use Rattle.ibc_wire.specs.declared.messages.ChanOpenAck.{ChanOpenAck}
 use Rattle.ibc_wire.specs.declared.messages.ChanCloseInit.{ChanCloseInit}
 use Rattle.ibc_machine.specs.declared.reply.Effect.{Effect}
 use Rattle.ibc_machine.specs.declared.reply.Effect.TheVariants as effect
-use Rattle.ibc_machine.specs.Records.{Core, Channel, connection_at, channel_at, with_channel}
-use Rattle.ibc_machine.specs.Replay.{LedgerState, proves}
-use Rattle.ibc_machine.specs.Values.{same_connection_state, same_channel_state}
-use Rattle.ibc_machine.specs.Checks.{Checked, require, expect, go_on, and_then, ◌>>=◌, ◌>>◌}
-use Rattle.ibc_machine.specs.Evidence.{Host, Evidence, require_number, require_known, require_proof}
-use Rattle.ibc_machine.specs.Channels.{client_of, peer_channel_of, counterpart, has_channel, chan_open_init, chan_open_try, chan_open_ack, chan_close_init}
+use Rattle.ibc_machine.specs.chain.Records.{Core, Channel, connection_at, channel_at, with_channel}
+use Rattle.ibc_machine.specs.ledger.Replay.{LedgerState, proves}
+use Rattle.ibc_machine.specs.ics24.Values.{same_connection_state, same_channel_state}
+use Rattle.ibc_machine.specs.chain.Checks.{Checked, require, expect, go_on, and_then, ◌>>=◌, ◌>>◌}
+use Rattle.ibc_machine.specs.ics24.Evidence.{Host, Evidence, require_number, require_known, require_proof}
+use Rattle.ibc_machine.specs.ics04.Channels.{client_of, peer_channel_of, counterpart, has_channel, chan_open_init, chan_open_try, chan_open_ack, chan_close_init}
 use Rattle.ibc_machine.proofs.PassedChecks.{pass, find, unused}
 use Rattle.ibc_channel.specs.Ends.{end_at, with_end, begun, inited, tried, acknowledged, moved, require_connection, require_open, begun_there, answered_there}
 use Rattle.ibc_channel.specs.Follows.{require_follows, follow_peer}

@@ -6,11 +6,11 @@ use Rattle.ibc_wire.specs.declared.records.ChannelState.{ChannelState}
 use Rattle.ibc_wire.specs.declared.records.ChannelState.TheVariants.{Init, TryOpen, Open, Closed}
 use Rattle.ibc_wire.specs.declared.records.ChannelEnd.{ChannelEnd}
 use Rattle.ibc_machine.specs.declared.reply.Effect.TheVariants as effect
-use Rattle.ibc_machine.specs.Records.{channel_at, with_channel}
-use Rattle.ibc_machine.specs.Values.{same_channel_state}
-use Rattle.ibc_machine.specs.Checks.{Checked, require, expect, ◌>>=◌, ◌>>◌}
-use Rattle.ibc_machine.specs.Evidence.{CoreHandler, require_known, require_proof}
-use Rattle.ibc_machine.specs.Channels.{client_of, peer_channel_of, counterpart, has_channel, in_state}
+use Rattle.ibc_machine.specs.chain.Records.{channel_at, with_channel}
+use Rattle.ibc_machine.specs.ics24.Values.{same_channel_state}
+use Rattle.ibc_machine.specs.chain.Checks.{Checked, require, expect, ◌>>=◌, ◌>>◌}
+use Rattle.ibc_machine.specs.ics24.Evidence.{CoreHandler, require_known, require_proof}
+use Rattle.ibc_machine.specs.ics04.Channels.{client_of, peer_channel_of, counterpart, has_channel, in_state}
 
 -- from TRYOPEN an end follows its peer, and from OPEN where the peer is closed
 abbrev pub may_follow : ChannelState → ChannelState → Bool

@@ -2,9 +2,9 @@
 
 ghost use Rattle.std.specs.Prelude.{◌≡◌, ◌-◌, ◌^◌, ◌<◌, IfOk};
 ghost use Rattle.ibc_ids.specs.declared.refusal.Refusal.TheVariants.{WrongState};
-ghost use Rattle.ibc_machine.specs.Checks.{require};
-ghost use Rattle.ibc_machine.specs.Evidence.{require_number};
-ghost use Rattle.ibc_machine.specs.Values.{same_channel_state};
+ghost use Rattle.ibc_machine.specs.chain.Checks.{require};
+ghost use Rattle.ibc_machine.specs.ics24.Evidence.{require_number};
+ghost use Rattle.ibc_machine.specs.ics24.Values.{same_channel_state};
 ghost use Rattle.ibc_records.specs.Held.{core_of};
 ghost use Rattle.ibc_channel.specs.Ends.{require_connection, require_open};
 

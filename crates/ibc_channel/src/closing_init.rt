@@ -2,7 +2,7 @@
 
 ghost use Rattle.std.specs.Prelude.{◌≡◌, ℕ, IsSome, IfOk};
 ghost use Rattle.ibc_machine.specs.declared.reply.Effect.TheVariants as effect;
-ghost use Rattle.ibc_machine.specs.Channels.{chan_close_init};
+ghost use Rattle.ibc_machine.specs.ics04.Channels.{chan_close_init};
 ghost use Rattle.ibc_records.specs.Held.{core_of};
 ghost use Rattle.ibc_records.specs.Taking.{IsHandled};
 ghost use Rattle.ibc_client.specs.Judging.{IsJudged};

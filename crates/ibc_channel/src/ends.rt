@@ -3,8 +3,8 @@
 ghost use Rattle.std.specs.Prelude.{◌≡◌, ◌⊎◌, ◌-◌, ◌^◌, ◌<◌, Some, Err, IsSome, IfOk, IfErr, OnOk, OnErr};
 ghost use Rattle.ibc_ids.specs.Paths.{nth_channel};
 ghost use Rattle.ibc_ids.specs.declared.refusal.Refusal.TheVariants.{NoMemory, UnknownChannel};
-ghost use Rattle.ibc_machine.specs.Channels.{channel_end, with_new_channel};
-ghost use Rattle.ibc_machine.specs.Checks.{expect};
+ghost use Rattle.ibc_machine.specs.ics04.Channels.{channel_end, with_new_channel};
+ghost use Rattle.ibc_machine.specs.chain.Checks.{expect};
 ghost use Rattle.ibc_records.specs.Held.{core_of, IsUnchanged};
 ghost use Rattle.ibc_records.specs.Taking.{IsWritten};
 ghost use Rattle.ibc_channel.specs.Ends.{end_at, moved, with_end};

@@ -4,7 +4,7 @@ ghost use Rattle.std.specs.Prelude.{◌≡◌, ℕ, false, Some, IsSome, IfOk};
 ghost use Rattle.ibc_ids.specs.Texts.{Text};
 ghost use Rattle.ibc_wire.specs.Reading.{proof_of};
 ghost use Rattle.ibc_machine.specs.declared.reply.Effect.TheVariants as effect;
-ghost use Rattle.ibc_machine.specs.Values.{same_channel_state};
+ghost use Rattle.ibc_machine.specs.ics24.Values.{same_channel_state};
 ghost use Rattle.ibc_records.specs.Held.{core_of};
 ghost use Rattle.ibc_records.specs.Taking.{IsHandled};
 ghost use Rattle.ibc_client.specs.Judging.{IsJudged};

@@ -3,8 +3,8 @@
 ghost use Rattle.std.specs.Prelude.{◌≡◌, ℕ, true, Some, IsSome, IfOk};
 ghost use Rattle.ibc_wire.specs.Reading.{proof_of};
 ghost use Rattle.ibc_machine.specs.declared.reply.Effect.TheVariants as effect;
-ghost use Rattle.ibc_machine.specs.Channels.{chan_open_ack};
-ghost use Rattle.ibc_machine.specs.Records.{connection_at, knows};
+ghost use Rattle.ibc_machine.specs.ics04.Channels.{chan_open_ack};
+ghost use Rattle.ibc_machine.specs.chain.Records.{connection_at, knows};
 ghost use Rattle.ibc_records.specs.Held.{core_of};
 ghost use Rattle.ibc_records.specs.Taking.{IsHandled};
 ghost use Rattle.ibc_client.specs.Judging.{IsJudged};

@@ -4,8 +4,8 @@ ghost use Rattle.std.specs.Prelude.{◌≡◌, ◌-◌, ◌^◌, ◌<◌, ℕ, i
 ghost use Rattle.ibc_ids.specs.Paths.{nth_channel};
 ghost use Rattle.ibc_ids.specs.declared.refusal.Refusal.TheVariants.{UnknownPort};
 ghost use Rattle.ibc_machine.specs.declared.reply.Effect.TheVariants as effect;
-ghost use Rattle.ibc_machine.specs.Channels.{chan_open_init};
-ghost use Rattle.ibc_machine.specs.Checks.{require};
+ghost use Rattle.ibc_machine.specs.ics04.Channels.{chan_open_init};
+ghost use Rattle.ibc_machine.specs.chain.Checks.{require};
 ghost use Rattle.ibc_records.specs.Held.{core_of};
 ghost use Rattle.ibc_records.specs.Taking.{IsHandled};
 ghost use Rattle.ibc_client.specs.Judging.{IsJudged};

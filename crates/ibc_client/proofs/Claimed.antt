@@ -12,9 +12,9 @@ use Rattle.ibc_wire.specs.Spelling.{channel_end_bytes}
 use Rattle.ibc_wire.specs.declared.records.ConnectionEnd.{ConnectionEnd}
 use Rattle.ibc_wire.specs.declared.records.ChannelState.{ChannelState}
 use Rattle.ibc_wire.specs.declared.records.ChannelEnd.{ChannelEnd}
-use Rattle.ibc_machine.specs.Records.{connection_at, knows}
-use Rattle.ibc_machine.specs.Values.{ChannelIs}
-use Rattle.ibc_machine.specs.Channels.{channel_end, counterpart, has_channel}
+use Rattle.ibc_machine.specs.chain.Records.{connection_at, knows}
+use Rattle.ibc_machine.specs.ics24.Values.{ChannelIs}
+use Rattle.ibc_machine.specs.ics04.Channels.{channel_end, counterpart, has_channel}
 use Rattle.ibc_records.specs.Held.{HeldRecords, core_of}
 use Rattle.ibc_client.specs.Claims.{shown}
 use Rattle.ibc_client.specs.Judging.{IsShown}

@@ -12,11 +12,11 @@ use Rattle.ibc_ids.specs.declared.refusal.Refusal.TheVariants.{UnknownClient, No
 use Rattle.ibc_merkle.specs.Proofs.{accepts, accepts_present, accepts_absent}
 use Rattle.ibc_merkle.specs.declared.proof.Proof.{Proof}
 use Rattle.ibc_wire.specs.Reading.{proof_of}
-use Rattle.ibc_machine.specs.Checks.{Checked, require, expect, go_on, ◌>>=◌}
-use Rattle.ibc_machine.specs.Evidence.{require_proof}
-use Rattle.ibc_machine.specs.Records.{knows}
-use Rattle.ibc_machine.specs.Replay.{LedgerState, Consensus, proves, is_shown}
-use Rattle.ibc_machine.specs.Values.{Value, Claim, has, lacks, value_bytes}
+use Rattle.ibc_machine.specs.chain.Checks.{Checked, require, expect, go_on, ◌>>=◌}
+use Rattle.ibc_machine.specs.ics24.Evidence.{require_proof}
+use Rattle.ibc_machine.specs.chain.Records.{knows}
+use Rattle.ibc_machine.specs.ledger.Replay.{LedgerState, Consensus, proves, is_shown}
+use Rattle.ibc_machine.specs.ics24.Values.{Value, Claim, has, lacks, value_bytes}
 use Rattle.ibc_records.specs.declared.client.ConsensusState.{ConsensusState}
 use Rattle.ibc_records.specs.HeldClients.{HeldClient}
 use Rattle.ibc_records.specs.Held.{HeldRecords, core_of, consensus_in}

@@ -7,12 +7,12 @@ use Rattle.ibc_ids.specs.Names.{is_client}
 use Rattle.ibc_ids.specs.declared.key.Key.TheVariants as key
 use Rattle.ibc_ids.specs.declared.refusal.Refusal.TheVariants.{NoConsensus}
 use Rattle.ibc_wire.specs.declared.records.ConnectionEnd.{ConnectionEnd}
-use Rattle.ibc_machine.specs.Records.{Core, Client, client_at, connection_at, is_one_of}
-use Rattle.ibc_machine.specs.Values.{ClientIs}
-use Rattle.ibc_machine.specs.Checks.{require}
-use Rattle.ibc_machine.specs.Evidence.{require_known}
-use Rattle.ibc_machine.specs.Channels.{client_of}
-use Rattle.ibc_machine.specs.Image.{IsKeyed}
+use Rattle.ibc_machine.specs.chain.Records.{Core, Client, client_at, connection_at, is_one_of}
+use Rattle.ibc_machine.specs.ics24.Values.{ClientIs}
+use Rattle.ibc_machine.specs.chain.Checks.{require}
+use Rattle.ibc_machine.specs.ics24.Evidence.{require_known}
+use Rattle.ibc_machine.specs.ics04.Channels.{client_of}
+use Rattle.ibc_machine.specs.ics24.Image.{IsKeyed}
 
 module _ (core : Core) (id : Text) where
   -- the client under a connection that is there is asked

@@ -6,10 +6,10 @@ use Rattle.ibc_ids.specs.declared.refusal.Refusal.{Refusal}
 use Rattle.ibc_ids.specs.declared.refusal.Refusal.TheVariants.{NoMemory, UnknownChain, OwnChain, NumberFull}
 use Rattle.ibc_wire.specs.declared.messages.CreateClient.{CreateClient}
 use Rattle.ibc_machine.specs.declared.reply.Effect.TheVariants as effect
-use Rattle.ibc_machine.specs.Records.{Core, with_client}
-use Rattle.ibc_machine.specs.Checks.{and_then}
-use Rattle.ibc_machine.specs.Evidence.{Host, Evidence}
-use Rattle.ibc_machine.specs.Clients.{create_client, new_client}
+use Rattle.ibc_machine.specs.chain.Records.{Core, with_client}
+use Rattle.ibc_machine.specs.chain.Checks.{and_then}
+use Rattle.ibc_machine.specs.ics24.Evidence.{Host, Evidence}
+use Rattle.ibc_machine.specs.ics02.Clients.{create_client, new_client}
 use Rattle.ibc_records.specs.Held.{HeldRecords, core_of, AddsClient, IsUnchanged}
 use Rattle.ibc_client.specs.Answers.{IsCreated}
 

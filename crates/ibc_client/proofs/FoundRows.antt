@@ -9,10 +9,10 @@ use Rattle.ibc_ids.specs.Publications.{row_at}
 use Rattle.ibc_ids.specs.declared.publication.Publication.{Publication}
 use Rattle.ibc_ids.specs.declared.refusal.Refusal.TheVariants.{NotPublished, WrongHeader}
 use Rattle.ibc_wire.specs.declared.header.Header.{Header}
-use Rattle.ibc_machine.specs.Checks.{Checked, and_then}
-use Rattle.ibc_machine.specs.Evidence.{require_row}
-use Rattle.ibc_machine.specs.Machine.{row_if}
-use Rattle.ibc_machine.specs.Replay.{is_published_as}
+use Rattle.ibc_machine.specs.chain.Checks.{Checked, and_then}
+use Rattle.ibc_machine.specs.ics24.Evidence.{require_row}
+use Rattle.ibc_machine.specs.chain.Machine.{row_if}
+use Rattle.ibc_machine.specs.ledger.Replay.{is_published_as}
 use Rattle.ibc_root_table.specs.Publications.{publication}
 use Rattle.ibc_client.specs.Looks.{require_published, row_found}
 

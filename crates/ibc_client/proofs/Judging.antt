@@ -12,8 +12,8 @@ use Rattle.ibc_wire.specs.Spelling.{proof_fields}
 use Rattle.ibc_wire.specs.Reading.{proof_of, ReadsWhatIsSpelled}
 use Rattle.ibc_machine.specs.declared.reply.Effect.{Effect}
 use Rattle.ibc_machine.specs.declared.reply.Effect.TheVariants as effect
-use Rattle.ibc_machine.specs.Records.{Core, Client}
-use Rattle.ibc_machine.specs.Checks.{Checked, require, expect, go_on, ◌>>=◌, ◌>>◌}
+use Rattle.ibc_machine.specs.chain.Records.{Core, Client}
+use Rattle.ibc_machine.specs.chain.Checks.{Checked, require, expect, go_on, ◌>>=◌, ◌>>◌}
 use Rattle.ibc_machine.proofs.PassedChecks.{pass, fail, miss}
 use Rattle.ibc_records.specs.HeldClients.{HeldClient, plain_client}
 use Rattle.ibc_records.specs.Held.{HeldRecords, core_of, IsUnchanged}

@@ -8,8 +8,8 @@ use Rattle.ibc_ids.specs.declared.refusal.Refusal.{Refusal}
 use Rattle.ibc_ids.specs.declared.refusal.Refusal.TheVariants.{NoMemory}
 use Rattle.ibc_merkle.specs.Proofs.{accepts_present, accepts_absent}
 use Rattle.ibc_merkle.specs.declared.proof.Proof.{Proof}
-use Rattle.ibc_machine.specs.Records.{knows}
-use Rattle.ibc_machine.specs.Values.{Value, has, lacks, value_bytes}
+use Rattle.ibc_machine.specs.chain.Records.{knows}
+use Rattle.ibc_machine.specs.ics24.Values.{Value, has, lacks, value_bytes}
 use Rattle.ibc_records.specs.Held.{HeldRecords, core_of}
 use Rattle.ibc_client.specs.Claims.{shown}
 use Rattle.ibc_client.specs.Judging.{IsShown}

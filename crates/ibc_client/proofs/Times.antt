@@ -3,7 +3,7 @@ use Rattle.std.proofs.Common.{◌≡◌, ℕ, List, Option, Some, None, refl, ap
 use Rattle.std.specs.Option.{option_map_or}
 use Rattle.ibc_ids.specs.Texts.{Text}
 use Rattle.ibc_ids.specs.declared.publication.Publication.{Publication}
-use Rattle.ibc_machine.specs.Replay.{LedgerState, Consensus, consensus_at, proves}
+use Rattle.ibc_machine.specs.ledger.Replay.{LedgerState, Consensus, consensus_at, proves}
 use Rattle.ibc_records.specs.declared.client.ConsensusState.{ConsensusState}
 use Rattle.ibc_records.specs.Held.{HeldRecords, consensus_in}
 use Rattle.ibc_records.specs.Knowledge.{Knows}

@@ -12,12 +12,12 @@ use Rattle.ibc_ids.specs.declared.refusal.Refusal.TheVariants.{UnknownClient, Wr
 use Rattle.ibc_wire.specs.declared.messages.UpdateClient.{UpdateClient}
 use Rattle.ibc_machine.specs.declared.entry.Reading.{Reading}
 use Rattle.ibc_machine.specs.declared.reply.Effect.TheVariants as effect
-use Rattle.ibc_machine.specs.Records.{Core, Client, client_at, with_client}
-use Rattle.ibc_machine.specs.Checks.{Checked, require, expect, go_on, and_then, ◌>>=◌, ◌>>◌}
-use Rattle.ibc_machine.specs.Evidence.{Host, Evidence, require_row}
+use Rattle.ibc_machine.specs.chain.Records.{Core, Client, client_at, with_client}
+use Rattle.ibc_machine.specs.chain.Checks.{Checked, require, expect, go_on, and_then, ◌>>=◌, ◌>>◌}
+use Rattle.ibc_machine.specs.ics24.Evidence.{Host, Evidence, require_row}
 use Rattle.ibc_machine.proofs.PassedChecks.{grouped}
-use Rattle.ibc_machine.specs.Clients.{update_client, updated, is_of_client}
-use Rattle.ibc_machine.specs.Replay.{LedgerState, proves, row_read}
+use Rattle.ibc_machine.specs.ics02.Clients.{update_client, updated, is_of_client}
+use Rattle.ibc_machine.specs.ledger.Replay.{LedgerState, proves, row_read}
 use Rattle.ibc_records.specs.HeldClients.{HeldClient, plain_client}
 use Rattle.ibc_records.specs.Held.{HeldRecords, core_of}
 use Rattle.ibc_client.specs.Looks.{require_tracked, require_published, looks_up}

@@ -5,7 +5,7 @@ use Rattle.ibc_ids.specs.Texts.{Text, text_cmp}
 use Rattle.ibc_ids.specs.Maps.{at}
 use Rattle.ibc_ids.specs.declared.refusal.Refusal.{Refusal}
 use Rattle.ibc_ids.specs.declared.refusal.Refusal.TheVariants.{UnknownClient, NoConsensus, BadProof}
-use Rattle.ibc_machine.specs.Checks.{Checked, require, expect, ◌>>=◌}
+use Rattle.ibc_machine.specs.chain.Checks.{Checked, require, expect, ◌>>=◌}
 use Rattle.ibc_records.specs.declared.client.ConsensusState.{ConsensusState}
 use Rattle.ibc_records.specs.Held.{HeldRecords}
 

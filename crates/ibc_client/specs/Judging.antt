@@ -6,11 +6,11 @@ use Rattle.ibc_ids.specs.declared.refusal.Refusal.{Refusal}
 use Rattle.ibc_ids.specs.declared.refusal.Refusal.TheVariants.{NoMemory, UnknownClient}
 use Rattle.ibc_merkle.specs.declared.proof.Proof.{Proof}
 use Rattle.ibc_wire.specs.Reading.{proof_of}
-use Rattle.ibc_machine.specs.Records.{Core, Client, client_at}
-use Rattle.ibc_machine.specs.Checks.{Checked, expect, ◌>>=◌}
-use Rattle.ibc_machine.specs.Values.{Claim}
-use Rattle.ibc_machine.specs.Evidence.{Host, Evidence, require_proof}
-use Rattle.ibc_machine.specs.Replay.{LedgerState, proves}
+use Rattle.ibc_machine.specs.chain.Records.{Core, Client, client_at}
+use Rattle.ibc_machine.specs.chain.Checks.{Checked, expect, ◌>>=◌}
+use Rattle.ibc_machine.specs.ics24.Values.{Claim}
+use Rattle.ibc_machine.specs.ics24.Evidence.{Host, Evidence, require_proof}
+use Rattle.ibc_machine.specs.ledger.Replay.{LedgerState, proves}
 use Rattle.ibc_records.specs.Held.{HeldRecords, core_of}
 use Rattle.ibc_records.specs.Knowledge.{Knows}
 use Rattle.ibc_records.specs.Taking.{host_with}

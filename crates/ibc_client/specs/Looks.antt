@@ -7,12 +7,12 @@ use Rattle.ibc_ids.specs.declared.refusal.Refusal.TheVariants.{UnknownClient, Wr
 use Rattle.ibc_wire.specs.declared.header.Header.{Header}
 use Rattle.ibc_wire.specs.declared.messages.UpdateClient.{UpdateClient}
 use Rattle.ibc_machine.specs.declared.entry.Reading.{Reading}
-use Rattle.ibc_machine.specs.Records.{Core, Client, client_at}
-use Rattle.ibc_machine.specs.Checks.{Checked, require, expect, ◌>>=◌, ◌>>◌}
-use Rattle.ibc_machine.specs.Evidence.{Row, Gone, require_row}
-use Rattle.ibc_machine.specs.Clients.{is_of_client}
-use Rattle.ibc_machine.specs.Machine.{row_if}
-use Rattle.ibc_machine.specs.Replay.{row_read}
+use Rattle.ibc_machine.specs.chain.Records.{Core, Client, client_at}
+use Rattle.ibc_machine.specs.chain.Checks.{Checked, require, expect, ◌>>=◌, ◌>>◌}
+use Rattle.ibc_machine.specs.ics24.Evidence.{Row, Gone, require_row}
+use Rattle.ibc_machine.specs.ics02.Clients.{is_of_client}
+use Rattle.ibc_machine.specs.chain.Machine.{row_if}
+use Rattle.ibc_machine.specs.ledger.Replay.{row_read}
 
 -- the client is there and tracks the header's chain, and the height isn't 0
 abbrev pub require_tracked : Core → UpdateClient → Checked ⊤

@@ -9,7 +9,7 @@ use Rattle.ibc_wire.specs.declared.records.ChannelState.{ChannelState}
 use Rattle.ibc_wire.specs.declared.records.ChannelEnd.{ChannelEnd}
 use Rattle.ibc_wire.specs.declared.records.Order.{Order}
 use Rattle.ibc_merkle.specs.declared.proof.Proof.{Proof}
-use Rattle.ibc_machine.specs.Channels.{client_of, has_channel}
+use Rattle.ibc_machine.specs.ics04.Channels.{client_of, has_channel}
 use Rattle.ibc_records.specs.Held.{HeldRecords, core_of}
 use Rattle.ibc_client.specs.Judging.{IsShown}
 

@@ -1,19 +1,18 @@
 //! Checks that the messages of connections, channels and packets share.
 
 ghost use Rattle.std.specs.Prelude.{◌≡◌, ◌⊎◌, ◌-◌, ◌^◌, ◌<◌, true, false, Some, Ok, Err, is_some, IfOk, IfErr, IsErrOf};
-ghost use Rattle.ibc_machine.specs.Channels.{client_of};
-ghost use Rattle.ibc_machine.specs.Evidence.{require_known, require_number};
-ghost use Rattle.ibc_machine.specs.Records as plain;
+ghost use Rattle.ibc_machine.specs.ics04.Channels.{client_of};
+ghost use Rattle.ibc_machine.specs.ics24.Evidence.{require_known, require_number};
+ghost use Rattle.ibc_machine.specs.chain.Records as plain;
 ghost use Rattle.ibc_wire.specs.Reading.{proof_of};
 ghost use Rattle.ibc_records.specs.Held.{core_of};
 ghost use Rattle.ibc_client.specs.Judging.{require_client};
 
 use crate::knows;
-use ibc_codec::decode;
 use ibc_ids::{ClientId, ConnectionId, Refusal};
 use ibc_merkle::Proof;
 use ibc_records::Records;
-use ibc_wire::{ConnectionEnd, proofs_are_read_as_they_are_spelled};
+use ibc_wire::{ConnectionEnd, decode, proofs_are_read_as_they_are_spelled};
 use std::alloc::Global;
 
 /// The proof that the bytes spell. Refused: `BadMessage` exactly where they spell none; `NoMemory`.

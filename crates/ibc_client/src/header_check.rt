@@ -3,8 +3,8 @@
 ghost use Rattle.std.specs.Prelude.{◌≡◌, ◌<◌, true};
 ghost use mathlib.Core.List.{IsPrefix};
 ghost use Rattle.ibc_ids.specs.Publications.{height_of};
-ghost use Rattle.ibc_machine.specs.Evidence.{require_row};
-ghost use Rattle.ibc_machine.specs.Ledgers.{IsReadBetween, reading_fits};
+ghost use Rattle.ibc_machine.specs.ics24.Evidence.{require_row};
+ghost use Rattle.ibc_machine.specs.ledger.Ledgers.{IsReadBetween, reading_fits};
 ghost use Rattle.ibc_root_table.specs.Passes.{SamePass, KeepsOwn};
 ghost use Rattle.ibc_client.specs.Looks.{require_published, row_found};
 

@@ -9,12 +9,11 @@ ghost use Rattle.ibc_client.specs.Claims.{shown};
 ghost use Rattle.ibc_client.specs.Peers.{end_bytes, text_of};
 
 use crate::check_path;
-use ibc_codec::Wire;
-use ibc_codec::fields::{write_name, write_text};
 use ibc_ids::{Bytes, ClientId, Kind, Name, PortId, Refusal, Version};
 use ibc_merkle::Proof;
 use ibc_records::Records;
-use ibc_wire::{ChannelEnd, ChannelState, ConnectionEnd, Order};
+use ibc_wire::fields::{write_name, write_text};
+use ibc_wire::{ChannelEnd, ChannelState, ConnectionEnd, Order, Wire};
 use std::alloc::Global;
 
 /// A claim of the peer's end: the path where it stands, and its bytes.

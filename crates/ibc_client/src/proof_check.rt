@@ -4,8 +4,8 @@ ghost use Rattle.std.specs.Prelude.{◌≡◌, ◌⊎◌, option_map};
 ghost use Rattle.ibc_ids.specs.Paths.{path};
 ghost use Rattle.ibc_ids.specs.declared.refusal.Refusal.TheVariants.{NoMemory, BadProof};
 ghost use Rattle.ibc_merkle.specs.Proofs.{accepts_present, accepts_absent};
-ghost use Rattle.ibc_machine.specs.Checks.{require};
-ghost use Rattle.ibc_machine.specs.Records as plain;
+ghost use Rattle.ibc_machine.specs.chain.Checks.{require};
+ghost use Rattle.ibc_machine.specs.chain.Records as plain;
 ghost use Rattle.ibc_records.specs.Held.{core_of, consensus_in};
 ghost use Rattle.ibc_client.specs.Claims.{shown, IsKnown};
 

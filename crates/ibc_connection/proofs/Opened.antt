@@ -8,9 +8,9 @@ use Rattle.ibc_ids.specs.declared.refusal.Refusal.TheVariants.{NoMemory}
 use Rattle.ibc_wire.specs.declared.records.ConnectionEnd.{ConnectionEnd}
 use Rattle.ibc_machine.specs.declared.reply.Effect.{Effect}
 use Rattle.ibc_machine.specs.declared.reply.Effect.TheVariants as effect
-use Rattle.ibc_machine.specs.Records.{Core, with_connection}
-use Rattle.ibc_machine.specs.Checks.{Checked}
-use Rattle.ibc_machine.specs.Connections.{with_new_connection}
+use Rattle.ibc_machine.specs.chain.Records.{Core, with_connection}
+use Rattle.ibc_machine.specs.chain.Checks.{Checked}
+use Rattle.ibc_machine.specs.ics03.Connections.{with_new_connection}
 use Rattle.ibc_records.specs.Held.{HeldRecords, core_of, IsUnchanged, SetsConnection}
 use Rattle.ibc_records.specs.Taking.{IsTaken, IsWritten}
 use Rattle.ibc_records.proofs.Written.{sets_connection_written}

@@ -12,8 +12,8 @@ use Rattle.ibc_wire.specs.Reading.{proof_of}
 use Rattle.ibc_connection.specs.declared.claims.Proofs.{Proofs}
 use Rattle.ibc_machine.specs.declared.reply.Effect.{Effect}
 use Rattle.ibc_machine.specs.declared.reply.Effect.TheVariants as effect
-use Rattle.ibc_machine.specs.Records.{Core}
-use Rattle.ibc_machine.specs.Connections.{connection_end, with_new_connection}
+use Rattle.ibc_machine.specs.chain.Records.{Core}
+use Rattle.ibc_machine.specs.ics03.Connections.{connection_end, with_new_connection}
 
 -- ---- ends of this chain
 

@@ -3,10 +3,10 @@
 ghost use Rattle.std.specs.Prelude.{◌≡◌, ◌==◌, ◌&&◌, ◌+◌, ◌-◌, ◌^◌, ◌<◌, nat_lt, IfOk, IfErr, OnErr};
 ghost use Rattle.ibc_ids.specs.Paths.{nth_connection};
 ghost use Rattle.ibc_ids.specs.declared.refusal.Refusal.TheVariants.{NoMemory, WrongState};
-ghost use Rattle.ibc_machine.specs.Checks.{require};
-ghost use Rattle.ibc_machine.specs.Connections.{with_new_connection};
-ghost use Rattle.ibc_machine.specs.Evidence.{require_number};
-ghost use Rattle.ibc_machine.specs.Values.{same_connection_state};
+ghost use Rattle.ibc_machine.specs.chain.Checks.{require};
+ghost use Rattle.ibc_machine.specs.ics03.Connections.{with_new_connection};
+ghost use Rattle.ibc_machine.specs.ics24.Evidence.{require_number};
+ghost use Rattle.ibc_machine.specs.ics24.Values.{same_connection_state};
 ghost use Rattle.ibc_path_store.specs.Held.{height_of};
 ghost use Rattle.ibc_records.specs.Held.{core_of, IsUnchanged};
 ghost use Rattle.ibc_records.specs.Taking.{IsWritten};

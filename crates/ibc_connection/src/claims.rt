@@ -1,8 +1,8 @@
 //! What messages claim of the peer, and the proofs that they bring.
 
 ghost use Rattle.std.specs.Prelude.{◌≡◌, ◌&&◌, ◌⊎◌, true, false, Some, is_some, IfOk, IfErr, IsErrOf};
-ghost use Rattle.ibc_machine.specs.Connections.{has_connection, has_client};
-ghost use Rattle.ibc_machine.specs.Records.{knows};
+ghost use Rattle.ibc_machine.specs.ics03.Connections.{has_connection, has_client};
+ghost use Rattle.ibc_machine.specs.chain.Records.{knows};
 ghost use Rattle.ibc_wire.specs.Reading.{proof_of};
 ghost use Rattle.ibc_records.specs.Held.{core_of};
 ghost use Rattle.ibc_client.specs.Judging.{IsShown};

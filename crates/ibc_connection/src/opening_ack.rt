@@ -2,9 +2,9 @@
 
 ghost use Rattle.std.specs.Prelude.{◌≡◌, ℕ, Some, true, IfOk};
 ghost use Rattle.ibc_machine.specs.declared.reply.Effect.TheVariants as effect;
-ghost use Rattle.ibc_machine.specs.Connections.{conn_open_ack, has_connection, may_conn_ack};
-ghost use Rattle.ibc_machine.specs.Records as plain;
-ghost use Rattle.ibc_machine.specs.Records.{connection_at, with_connection};
+ghost use Rattle.ibc_machine.specs.ics03.Connections.{conn_open_ack, has_connection, may_conn_ack};
+ghost use Rattle.ibc_machine.specs.chain.Records as plain;
+ghost use Rattle.ibc_machine.specs.chain.Records.{connection_at, with_connection};
 ghost use Rattle.ibc_records.specs.Held.{core_of};
 ghost use Rattle.ibc_records.specs.Taking.{IsHandled, host_with};
 ghost use Rattle.ibc_client.specs.Judging.{IsJudged, IsShown};
@@ -88,7 +88,7 @@ fn check_ack(
 }
 
 // The checks that need no proof, in their order.
-#[tactic(auto, unfolding(ibc_machine::specs::Checks::and_then))]
+#[tactic(auto, unfolding(ibc_machine::specs::chain::Checks::and_then))]
 fn may_ack(
     records: &Records,
     chain: u8,

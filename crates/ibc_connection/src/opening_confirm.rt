@@ -2,8 +2,8 @@
 
 ghost use Rattle.std.specs.Prelude.{◌≡◌, ℕ, Some, true};
 ghost use Rattle.ibc_machine.specs.declared.reply.Effect.TheVariants as effect;
-ghost use Rattle.ibc_machine.specs.Connections.{conn_open_confirm, has_connection};
-ghost use Rattle.ibc_machine.specs.Records.{knows, with_connection};
+ghost use Rattle.ibc_machine.specs.ics03.Connections.{conn_open_confirm, has_connection};
+ghost use Rattle.ibc_machine.specs.chain.Records.{knows, with_connection};
 ghost use Rattle.ibc_records.specs.Held.{core_of};
 ghost use Rattle.ibc_records.specs.Taking.{IsHandled};
 ghost use Rattle.ibc_client.specs.Judging.{IsJudged, IsShown};

@@ -3,7 +3,7 @@
 ghost use Rattle.std.specs.Prelude.{◌≡◌, ℕ, IfOk};
 ghost use Rattle.ibc_ids.specs.Paths.{nth_connection};
 ghost use Rattle.ibc_machine.specs.declared.reply.Effect.TheVariants as effect;
-ghost use Rattle.ibc_machine.specs.Connections.{conn_open_init};
+ghost use Rattle.ibc_machine.specs.ics03.Connections.{conn_open_init};
 ghost use Rattle.ibc_records.specs.Taking.{IsHandled};
 
 use crate::checks::{add_connection, check_number};

@@ -3,8 +3,8 @@
 ghost use Rattle.std.specs.Prelude.{◌≡◌, ◌-◌, ◌^◌, ◌<◌, ℕ, true, IfOk};
 ghost use Rattle.ibc_ids.specs.Paths.{nth_connection};
 ghost use Rattle.ibc_machine.specs.declared.reply.Effect.TheVariants as effect;
-ghost use Rattle.ibc_machine.specs.Connections.{conn_open_try, has_connection, may_conn_try};
-ghost use Rattle.ibc_machine.specs.Records.{knows};
+ghost use Rattle.ibc_machine.specs.ics03.Connections.{conn_open_try, has_connection, may_conn_try};
+ghost use Rattle.ibc_machine.specs.chain.Records.{knows};
 ghost use Rattle.ibc_records.specs.Held.{core_of};
 ghost use Rattle.ibc_records.specs.Taking.{IsHandled, host_with};
 ghost use Rattle.ibc_client.specs.Judging.{IsJudged, IsShown};

@@ -1,5 +1,5 @@
 -- All laws of every run of the machine.
-use Rattle.ibc_machine.specs.Laws.{Laws}
+use Rattle.ibc_machine.specs.promises.Laws.{Laws}
 use Rattle.ibc_laws.specs.Moments.{EachMoment}
 use Rattle.ibc_laws.specs.Packets.{ReceivedWasSent, TakenAsWritten}
 use Rattle.ibc_laws.specs.Tokens.{SupplyStays, NoVoucherWithoutEscrow, WhoPays, WasNeverShort}

@@ -1,10 +1,10 @@
 -- The moments of a past: each event of it, between the world just before it and the world just after.
 use Rattle.std.specs.Prelude.{◌≡◌, List, ◌∷◌, ◌++◌, map, IsTrue}
-use Rattle.ibc_machine.specs.Genesis.{GenesisState}
-use Rattle.ibc_machine.specs.Machine.{World, Step, IsRun}
-use Rattle.ibc_machine.specs.Ledgers.{is_typed}
-use Rattle.ibc_machine.specs.Histories.{Happened}
-use Rattle.ibc_machine.specs.Laws.{IsPast}
+use Rattle.ibc_machine.specs.chain.Genesis.{GenesisState}
+use Rattle.ibc_machine.specs.chain.Machine.{World, Step, IsRun}
+use Rattle.ibc_machine.specs.ledger.Ledgers.{is_typed}
+use Rattle.ibc_machine.specs.promises.Histories.{Happened}
+use Rattle.ibc_machine.specs.promises.Laws.{IsPast}
 
 -- Of all that happened, this event came behind these. The world stood at old before it, at new behind it, and
 -- went on from there to what it is now.

@@ -7,10 +7,10 @@ use Rattle.ibc_wire.specs.declared.packet.Packet.{Packet}
 use Rattle.ibc_wire.specs.declared.messages.Message.TheVariants as message
 use Rattle.ibc_machine.specs.declared.event.Event.TheVariants as event
 use Rattle.ibc_machine.specs.declared.reply.Reply.TheVariants as reply
-use Rattle.ibc_machine.specs.Records.{Channel}
-use Rattle.ibc_machine.specs.Histories.{Happened, End, is_source, sent, received, history_of, ack_written}
-use Rattle.ibc_machine.specs.Peers.{end_at}
-use Rattle.ibc_machine.specs.Laws.{OfPeers}
+use Rattle.ibc_machine.specs.chain.Records.{Channel}
+use Rattle.ibc_machine.specs.promises.Histories.{Happened, End, is_source, sent, received, history_of, ack_written}
+use Rattle.ibc_machine.specs.promises.Peers.{end_at}
+use Rattle.ibc_machine.specs.promises.Laws.{OfPeers}
 
 -- ---- whatever an end received, its peer sent, equal in every field; on any channel
 

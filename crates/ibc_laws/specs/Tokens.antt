@@ -10,16 +10,16 @@ use Rattle.ibc_wire.specs.declared.messages.Message.TheVariants as message
 use Rattle.ibc_machine.specs.declared.event.Event.TheVariants as event
 use Rattle.ibc_machine.specs.declared.reply.Effect.{Effect}
 use Rattle.ibc_machine.specs.declared.reply.Reply.TheVariants as reply
-use Rattle.ibc_machine.specs.Records.{Channel}
-use Rattle.ibc_machine.specs.TokenData.{Data, data_of, amount_of}
-use Rattle.ibc_machine.specs.Bank.{balance, supply}
-use Rattle.ibc_machine.specs.Transfers.{transfer_port, transfer_data, transfer_many_data}
-use Rattle.ibc_machine.specs.Genesis.{GenesisState, start}
-use Rattle.ibc_machine.specs.Machine.{World}
-use Rattle.ibc_machine.specs.Histories.{Happened, End}
-use Rattle.ibc_machine.specs.Peers.{end_at, are_peers}
-use Rattle.ibc_machine.specs.Totals.{balances_of, hopped, escrowed}
-use Rattle.ibc_machine.specs.Laws.{IsPast, IsEscrowed}
+use Rattle.ibc_machine.specs.chain.Records.{Channel}
+use Rattle.ibc_machine.specs.ics20.TokenData.{Data, data_of, amount_of}
+use Rattle.ibc_machine.specs.ics20.Bank.{balance, supply}
+use Rattle.ibc_machine.specs.ics20.Transfers.{transfer_port, transfer_data, transfer_many_data}
+use Rattle.ibc_machine.specs.chain.Genesis.{GenesisState, start}
+use Rattle.ibc_machine.specs.chain.Machine.{World}
+use Rattle.ibc_machine.specs.promises.Histories.{Happened, End}
+use Rattle.ibc_machine.specs.promises.Peers.{end_at, are_peers}
+use Rattle.ibc_machine.specs.promises.Totals.{balances_of, hopped, escrowed}
+use Rattle.ibc_machine.specs.promises.Laws.{IsPast, IsEscrowed}
 use Rattle.ibc_laws.specs.Moments.{IsMoment}
 
 -- ---- a base denomination is only at home, and its supply there, escrows included, stays what the genesis gave

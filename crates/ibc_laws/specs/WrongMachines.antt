@@ -13,20 +13,20 @@ use Rattle.ibc_machine.specs.declared.event.Event.{Event}
 use Rattle.ibc_machine.specs.declared.event.Event.TheVariants as event
 use Rattle.ibc_machine.specs.declared.reply.Reply.{Reply}
 use Rattle.ibc_machine.specs.declared.reply.Reply.TheVariants as reply
-use Rattle.ibc_machine.specs.Records.{Core, Chain, Channel}
-use Rattle.ibc_machine.specs.Values.{Value, CommitmentIs, AckIs, look, same_value}
-use Rattle.ibc_machine.specs.Evidence.{Evidence}
-use Rattle.ibc_machine.specs.Packets.{is_ordered}
-use Rattle.ibc_machine.specs.TokenData.{one_token, tokens_of, success}
-use Rattle.ibc_machine.specs.Bank.{balance, escrow, give}
-use Rattle.ibc_machine.specs.Transfers.{transfer_port, came_over, without_hop}
-use Rattle.ibc_machine.specs.Genesis.{GenesisState, start, is_allowed}
-use Rattle.ibc_machine.specs.Handlers.{message_answer, block_answer}
-use Rattle.ibc_machine.specs.Machine.{World, Marks, looks, block_seen, at_chain}
-use Rattle.ibc_machine.specs.Histories.{Happened, End, sent, received, ack_written}
-use Rattle.ibc_machine.specs.Peers.{end_at, are_peers}
-use Rattle.ibc_machine.specs.Totals.{balances_of, escrowed, vouchers, flight, hopped}
-use Rattle.ibc_machine.specs.Laws.{HasOnePeer, IsExactlyOnce, IsBeginning, settles}
+use Rattle.ibc_machine.specs.chain.Records.{Core, Chain, Channel}
+use Rattle.ibc_machine.specs.ics24.Values.{Value, CommitmentIs, AckIs, look, same_value}
+use Rattle.ibc_machine.specs.ics24.Evidence.{Evidence}
+use Rattle.ibc_machine.specs.ics04.Packets.{is_ordered}
+use Rattle.ibc_machine.specs.ics20.TokenData.{one_token, tokens_of, success}
+use Rattle.ibc_machine.specs.ics20.Bank.{balance, escrow, give}
+use Rattle.ibc_machine.specs.ics20.Transfers.{transfer_port, came_over, without_hop}
+use Rattle.ibc_machine.specs.chain.Genesis.{GenesisState, start, is_allowed}
+use Rattle.ibc_machine.specs.chain.Handlers.{message_answer, block_answer}
+use Rattle.ibc_machine.specs.chain.Machine.{World, Marks, looks, block_seen, at_chain}
+use Rattle.ibc_machine.specs.promises.Histories.{Happened, End, sent, received, ack_written}
+use Rattle.ibc_machine.specs.promises.Peers.{end_at, are_peers}
+use Rattle.ibc_machine.specs.promises.Totals.{balances_of, escrowed, vouchers, flight, hopped}
+use Rattle.ibc_machine.specs.promises.Laws.{HasOnePeer, IsExactlyOnce, IsBeginning, settles}
 use Rattle.ibc_laws.specs.Packets.{taken}
 use Rattle.ibc_laws.specs.Tokens.{supply_at, balance_at, paid_by}
 

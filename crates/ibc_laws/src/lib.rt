@@ -2,8 +2,8 @@
 //! contract of a function that does nothing: to call it is to cite the law.
 #![tactic(auto)]
 
-ghost use Rattle.ibc_machine.specs.Laws.{Conserved, ExactlyOnce, InOrder, NeverPoor, NeverShort, OnePeer};
-ghost use Rattle.ibc_machine.specs.TokenData.{ReadsData};
+ghost use Rattle.ibc_machine.specs.promises.Laws.{Conserved, ExactlyOnce, InOrder, NeverPoor, NeverShort, OnePeer};
+ghost use Rattle.ibc_machine.specs.ics20.TokenData.{ReadsData};
 ghost use Rattle.ibc_laws.specs.Moments.{EachMoment};
 ghost use Rattle.ibc_laws.specs.Packets.{ReceivedWasSent, TakenAsWritten};
 ghost use Rattle.ibc_laws.specs.Tokens.{NoVoucherWithoutEscrow, SupplyStays, WasNeverShort, WhoPays};

@@ -4,8 +4,8 @@ use Rattle.ibc_ledger.proofs.Common.{IsErrAnd, ◌∙◌, ◌≡◌, ℕ, false,
 use Rattle.ibc_ledger.proofs.Common.{Evidence, CoreHandler, Handler, on_core, handle, is_block_reply, LedgerState, proves, Channel, recv_packet, recv_checked, with_received, HeldRecords, core_of, IsTaken, IsTakenWith, IsHandled}
 use Rattle.ibc_ledger.proofs.Common.{IsHandledWith, host_with, IsInFlight, same_flight, Applications, Node, Effects, plain_apps, told_by, IsReady, IsAnswered}
 use Rattle.std.proofs.lemmas.Result.{err_from_is_err_and}
-use Rattle.ibc_flight.specs.OfCore.{IsOfCore}
-use Rattle.ibc_flight.proofs.CoreMessages.{core_message_burns_nothing}
+use Rattle.ibc_machine.specs.chain.OfCore.{IsOfCore}
+use Rattle.ibc_machine.proofs.flight.CoreMessages.{core_message_burns_nothing}
 use Rattle.ibc_records.proofs.KnownStates.{knowing}
 use Rattle.ibc_machine.specs.declared.reply.Reply.TheVariants as reply
 use Rattle.ibc_machine.specs.declared.reply.Effect.TheVariants as effect

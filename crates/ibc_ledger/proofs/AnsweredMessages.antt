@@ -6,7 +6,7 @@ use Rattle.ibc_ledger.proofs.Common.{told_reply, seeing_more, with_entry, entry_
 use Rattle.ibc_wire.specs.declared.messages.Message.TheVariants as message
 use Rattle.ibc_machine.specs.declared.event.Event.TheVariants as event
 use Rattle.ibc_machine.specs.declared.reply.Effect.TheVariants as effect
-use Rattle.ibc_ledger_steps.proofs.Growing.{ledgers_see_more, answer_next, message_commits}
+use Rattle.ibc_refinement.proofs.Growing.{ledgers_see_more, answer_next, message_commits}
 use Rattle.ibc_ledger.proofs.Holding.{stands_next, with_records, unchanged_holds, written_holds, updated_holds}
 
 -- no client is told of a height

@@ -10,12 +10,12 @@ use Rattle.ibc_transfer.specs.Banked.{bank_receives, bank_acknowledged, bank_tim
 use Rattle.ibc_transfer.specs.Sent.{bank_transfer, bank_transfer_many}
 use Rattle.ibc_wire.specs.declared.messages.Transfer.{Transfer}
 use Rattle.ibc_wire.specs.declared.messages.TransferMany.{TransferMany}
-use Rattle.ibc_machine.specs.Bank.{Balances}
+use Rattle.ibc_machine.specs.ics20.Bank.{Balances}
 use Rattle.ibc_bank.specs.Moves.{BankState, burnt_of}
-use Rattle.ibc_flight.specs.Returned.{SameBurnt, returned}
+use Rattle.ibc_machine.specs.ics20.Returned.{SameBurnt, returned}
 use Rattle.ibc_machine.proofs.PassedChecks.{bind_bind}
-use Rattle.ibc_flight.proofs.PacketSteps.{recv_packet_burnt, ack_packet_burnt, timeout_burnt, timeout_on_close_burnt}
-use Rattle.ibc_flight.proofs.UnsettledPackets.{ack_covered, timeout_covered, timeout_on_close_covered}
+use Rattle.ibc_machine.proofs.flight.PacketSteps.{recv_packet_burnt, ack_packet_burnt, timeout_burnt, timeout_on_close_burnt}
+use Rattle.ibc_machine.proofs.flight.UnsettledPackets.{ack_covered, timeout_covered, timeout_on_close_covered}
 use Rattle.ibc_transfer.proofs.ByBank.{transfer_by_bank, transfer_many_by_bank, acknowledged_by_bank, timed_out_by_bank}
 use Rattle.ibc_wire.specs.declared.messages.Message.TheVariants as message
 use Rattle.ibc_ledger.proofs.Answered.{put_in, put_last, settling, settled, recv_put, IsPart}

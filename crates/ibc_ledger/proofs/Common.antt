@@ -25,27 +25,27 @@ pub use Rattle.ibc_wire.specs.declared.messages.Message.{Message}
 pub use Rattle.ibc_wire.specs.declared.messages.RecvPacket.{RecvPacket}
 pub use Rattle.ibc_wire.specs.declared.messages.UpdateClient.{UpdateClient}
 pub use Rattle.ibc_wire.specs.declared.packet.Packet.{Packet}
-pub use Rattle.ibc_machine.specs.Applications.{on_recv, on_ack, on_timeout, with_balances, require_application, on_open, on_close}
-pub use Rattle.ibc_machine.specs.Channels.{chan_close_init, chan_open_init, chan_open_try}
-pub use Rattle.ibc_machine.specs.Checks.{Checked, ◌>>=◌, require}
-unfoldable pub use Rattle.ibc_machine.specs.Checks.{go_on, and_then}
-pub use Rattle.ibc_machine.specs.Clients.{update_client, create_client}
-pub use Rattle.ibc_machine.specs.Evidence.{Host, Evidence, CoreHandler, Handler, on_core}
-pub use Rattle.ibc_machine.specs.Genesis.{GenesisState, ChainState, starting_chain, genesis_state, chain_state, Holding, is_same_holding, is_fair, has_limits, total_of}
-unfoldable pub use Rattle.ibc_machine.specs.Genesis.{is_allowed}
-pub use Rattle.ibc_machine.specs.Handlers.{host_of, after_message, may_commit, working_height}
-unfoldable pub use Rattle.ibc_machine.specs.Handlers.{handle}
-pub use Rattle.ibc_machine.specs.Histories.{Happened, End, sent_by, packet_sent}
-pub use Rattle.ibc_machine.specs.Image.{image, core_root}
-pub use Rattle.ibc_machine.specs.Ledgers.{is_block_reply, Ledger, state_of, is_typed, is_looking, published_as, IsOwnEntry, chain_of, IsLedger, reading_fits, ReadsThen, IsReadBetween}
-pub use Rattle.ibc_machine.specs.Notes.{receive_note, note_port, opens_for_notes, closes_for_notes}
-pub use Rattle.ibc_machine.specs.Packets.{recv_checked, with_received, ack_checked, timeout_checked, timeout_on_close_checked}
-unfoldable pub use Rattle.ibc_machine.specs.Packets.{recv_packet, ack_packet, timeout, timeout_on_close}
-pub use Rattle.ibc_machine.specs.Records.{Core, Apps, Channel, commitment_of, Chain, Block, Commitment, channel_at, Records}
-pub use Rattle.ibc_machine.specs.Replay.{LedgerState, proves, after_answer, Consensus, with_consensus, StampedEntry, empty_chain, entry_answer, met_states, starting_state, consensus_cmp, consensus_at}
-unfoldable pub use Rattle.ibc_machine.specs.Replay.{ledger_answer}
-pub use Rattle.ibc_machine.specs.TokenData.{tokens_of}
-pub use Rattle.ibc_machine.specs.Transfers.{transfer_port, burnt, receive_transfer, acknowledge_transfer, refund_transfer, opens_for_transfers, closes_for_transfers}
+pub use Rattle.ibc_machine.specs.chain.Applications.{on_recv, on_ack, on_timeout, with_balances, require_application, on_open, on_close}
+pub use Rattle.ibc_machine.specs.ics04.Channels.{chan_close_init, chan_open_init, chan_open_try}
+pub use Rattle.ibc_machine.specs.chain.Checks.{Checked, ◌>>=◌, require}
+unfoldable pub use Rattle.ibc_machine.specs.chain.Checks.{go_on, and_then}
+pub use Rattle.ibc_machine.specs.ics02.Clients.{update_client, create_client}
+pub use Rattle.ibc_machine.specs.ics24.Evidence.{Host, Evidence, CoreHandler, Handler, on_core}
+pub use Rattle.ibc_machine.specs.chain.Genesis.{GenesisState, ChainState, starting_chain, genesis_state, chain_state, Holding, is_same_holding, is_fair, has_limits, total_of}
+unfoldable pub use Rattle.ibc_machine.specs.chain.Genesis.{is_allowed}
+pub use Rattle.ibc_machine.specs.chain.Handlers.{host_of, after_message, may_commit, working_height}
+unfoldable pub use Rattle.ibc_machine.specs.chain.Handlers.{handle}
+pub use Rattle.ibc_machine.specs.promises.Histories.{Happened, End, sent_by, packet_sent}
+pub use Rattle.ibc_machine.specs.ics24.Image.{image, core_root}
+pub use Rattle.ibc_machine.specs.ledger.Ledgers.{is_block_reply, Ledger, state_of, is_typed, is_looking, published_as, IsOwnEntry, chain_of, IsLedger, reading_fits, ReadsThen, IsReadBetween}
+pub use Rattle.ibc_machine.specs.chain.Notes.{receive_note, note_port, opens_for_notes, closes_for_notes}
+pub use Rattle.ibc_machine.specs.ics04.Packets.{recv_checked, with_received, ack_checked, timeout_checked, timeout_on_close_checked}
+unfoldable pub use Rattle.ibc_machine.specs.ics04.Packets.{recv_packet, ack_packet, timeout, timeout_on_close}
+pub use Rattle.ibc_machine.specs.chain.Records.{Core, Apps, Channel, commitment_of, Chain, Block, Commitment, channel_at, Records}
+pub use Rattle.ibc_machine.specs.ledger.Replay.{LedgerState, proves, after_answer, Consensus, with_consensus, StampedEntry, empty_chain, entry_answer, met_states, starting_state, consensus_cmp, consensus_at}
+unfoldable pub use Rattle.ibc_machine.specs.ledger.Replay.{ledger_answer}
+pub use Rattle.ibc_machine.specs.ics20.TokenData.{tokens_of}
+pub use Rattle.ibc_machine.specs.ics20.Transfers.{transfer_port, burnt, receive_transfer, acknowledge_transfer, refund_transfer, opens_for_transfers, closes_for_transfers}
 pub use Rattle.ibc_machine.specs.declared.entry.Reading.{Reading}
 pub use Rattle.ibc_machine.specs.declared.event.Event.{Event}
 pub use Rattle.ibc_machine.specs.declared.genesis.ChainStart.{ChainStart}
@@ -63,10 +63,10 @@ pub use Rattle.ibc_transfer.proofs.Flight.{same_flight, transfer_keeps_flight, t
 pub use Rattle.ibc_transfer.specs.InFlight.{IsInFlight}
 pub use Rattle.ibc_ledger.specs.Adding.{AddsOrNot}
 pub use Rattle.ibc_ledger.specs.Answering.{told_by, IsReady, IsAnswered, told_reply, kept_reply, IsUpdateAnswer, IsAnswer}
-pub use Rattle.ibc_ledger_steps.specs.Growing.{seeing_more, with_entry, entry_of, stamp_if, Reads, working_block, state_with, IsNext}
+pub use Rattle.ibc_refinement.specs.Growing.{seeing_more, with_entry, entry_of, stamp_if, Reads, working_block, state_with, IsNext}
 pub use Rattle.ibc_ledger.specs.Held.{plain_entry, HeldLedger, shape_of}
 pub use Rattle.ibc_ledger.specs.Inside.{genesis_of, ledger_of, IsHeld, held_of}
-pub use Rattle.ibc_sent_packets.specs.Sent.{commitment_in, packet_to, SentName, sent_cmp, is_named, Places, AreFirst, sent_name, with_first, sender_of, sent_as}
+pub use Rattle.ibc_ledger.specs.Sent.{commitment_in, packet_to, SentName, sent_cmp, is_named, Places, AreFirst, sent_name, with_first, sender_of, sent_as}
 pub use Rattle.ibc_ledger.specs.SentPackets.{happened_of, happened_on, packet_on}
 pub use Rattle.ibc_ledger.specs.Standing.{plain_apps, IsStateOf, Stands, passed, kept_of, starting_apps, KeepsBlocks, provable}
 pub use Rattle.ibc_ledger.specs.declared.applications.Applications.{Applications}

@@ -13,7 +13,7 @@ use Rattle.ibc_machine.specs.declared.reply.Reply.TheVariants as reply
 use Rattle.ibc_ledger.proofs.HeldLedgers.{IsEntry}
 use Rattle.ibc_ledger.proofs.Windows.{some_window, small_capacity}
 use Rattle.ibc_ledger.proofs.Holding.{stands_next, drop_none, committed_holds}
-use Rattle.ibc_ledger_steps.proofs.Growing.{answer_next, refused_block, ended_block_next, block_answer-by}
+use Rattle.ibc_refinement.proofs.Growing.{answer_next, refused_block, ended_block_next, block_answer-by}
 
 -- ---- whether a block may be ended
 

@@ -3,7 +3,7 @@ use Rattle.ibc_ledger.proofs.Common.{◌≡◌, ◌<◌, ℕ, true, List, [], �
 use Rattle.ibc_ledger.proofs.Common.{Text, pair_cmp, at, Packet, Core, Channel, channel_at, Happened, End, sent_by, packet_sent, LedgerState, StampedEntry, entry_answer, met_states, starting_state, Ledger, IsOwnEntry, chain_of}
 use Rattle.ibc_ledger.proofs.Common.{is_typed, KeptEntry, Inside, plain_entry, ledger_of, IsHeld, happened_of, happened_on, packet_on, commitment_in, packet_to, SentName, sent_cmp, is_named}
 use Rattle.std.specs.Option.{unwrap_or}
-use Rattle.ibc_sent_packets.proofs.Found.{sent_at, stands_at, named_packet}
+use Rattle.ibc_ledger.proofs.Found.{sent_at, stands_at, named_packet}
 
 -- the events of a ledger are of its chain
 own_events : (ledger : Ledger) (state : LedgerState) (history : List StampedEntry) → AllByRecursion (IsOwnEntry ledger) (met_states ledger.genesis ledger.chain ledger.seen state history)

@@ -4,7 +4,7 @@ use Rattle.ibc_ledger.proofs.Common.{IfOk, ⊤, IsPrefix, NoMemory, published_by
 use Rattle.ibc_ledger.proofs.Common.{state_of, is_typed, is_looking, is_block_reply, reading_fits, IsReadBetween, Apps, Sight, SamePass, KeepsOwn, TableName, core_of, IsUnchanged, host_with, IsUpdated, IsInFlight, same_flight, AddsOrNot}
 use Rattle.ibc_ledger.proofs.Common.{held_of, HeldLedger, Node, plain_apps, KeptEntry, Inside, with_entry, Stands, plain_entry, happened_of, happened_on, Places, AreFirst, sent_name, with_first, genesis_of, ledger_of, IsHeld, Applications}
 use Rattle.ibc_ledger.proofs.Common.{Effects, told_by, told_reply, kept_reply, entry_of, stamp_if, Reads, IsAnswered, IsUpdateAnswer, IsAnswer}
-use Rattle.ibc_flight.proofs.UnchangedChannels.{update_client_burnt}
+use Rattle.ibc_machine.proofs.flight.UnchangedChannels.{update_client_burnt}
 use Rattle.ibc_root_table.specs.declared.shape.Shape.{Shape}
 use Rattle.ibc_client.specs.Looks.{looks_up}
 use Rattle.ibc_ledger.specs.declared.outcome.Outcome.{Outcome}
@@ -12,7 +12,7 @@ use Rattle.ibc_machine.specs.declared.reply.Reply.TheVariants as reply
 use Rattle.ibc_wire.specs.declared.messages.Message.TheVariants as message
 use Rattle.ibc_machine.specs.declared.event.Event.TheVariants as event
 use Rattle.ibc_machine.specs.declared.reply.Effect.TheVariants as effect
-use Rattle.ibc_sent_packets.proofs.Found.{first_more}
+use Rattle.ibc_ledger.proofs.Found.{first_more}
 use Rattle.ibc_ledger.proofs.AnsweredMessages.{stands_unchanged, TellsNothing, Leaves, stands_left, unread_leaves, update_leaves}
 
 -- a step changes the records, the applications, the pass, the history and the places in it, and nothing else

@@ -5,7 +5,7 @@ use Rattle.ibc_ledger.proofs.Common.{length-drop, nat_cmp, ordering_then, is_som
 use Rattle.ibc_ledger.proofs.Common.{map-append, slice_get-map, Text, text_cmp, at, text_cmp_total, text_tied, Refusal, NoConsensus, written, UpdateClient, Message, Records, Core, Apps, LedgerState, consensus_cmp, consensus_at}
 use Rattle.ibc_ledger.proofs.Common.{with_consensus, Block, Chain, image, HeldStore, committed, kept_at, excess, gone_after, IsStored, ConsensusState, HeldClient, with_height, HeldRecords, core_of, consensus_in, IsUnchanged, UpdatesClient}
 use Rattle.ibc_ledger.proofs.Common.{IsWritten, consensus_of, working_block, IsStateOf, KeepsBlocks, passed, provable, kept_of, Ledger, IsLedger, StampedEntry, IsNext, state_with, with_entry, Stands, Publication}
-use Rattle.ibc_ledger_steps.proofs.Growing.{ledgers_go_on}
+use Rattle.ibc_refinement.proofs.Growing.{ledgers_go_on}
 use Rattle.ibc_path_store.specs.Held.{height_of, Hashed}
 use Rattle.ibc_records.specs.Held.{after_commit}
 use Rattle.ibc_ledger.specs.Standing.{last_block}
@@ -17,7 +17,7 @@ use Rattle.std.proofs.Common.{nat_lt}
 use Rattle.ibc_merkle.specs.Tree.{Pairs}
 use Rattle.ibc_merkle.proofs.Sorted.{last-push}
 use Rattle.ibc_merkle.specs.declared.proof.Proof.{Proof}
-use Rattle.ibc_machine.specs.Machine.{block_of}
+use Rattle.ibc_machine.specs.chain.Machine.{block_of}
 use Rattle.ibc_wire.specs.declared.messages.Message.TheVariants as message
 
 -- ---- lists without their front

@@ -6,14 +6,14 @@ use Rattle.std.specs.Prelude.{min, IsSome}
 use Rattle.std.specs.List.{last_or}
 use Rattle.ibc_ids.specs.Publications.{height_of as height_in}
 use Rattle.ibc_merkle.specs.Tree.{Pairs}
-use Rattle.ibc_machine.specs.Image.{IsKeyed}
-use Rattle.ibc_machine.specs.Machine.{block_of}
-use Rattle.ibc_machine.specs.Relay.{View, view_at, view_of}
+use Rattle.ibc_machine.specs.ics24.Image.{IsKeyed}
+use Rattle.ibc_machine.specs.chain.Machine.{block_of}
+use Rattle.ibc_machine.specs.ics18.Relay.{View, view_at, view_of}
 use Rattle.ibc_path_store.specs.Held.{height_of}
 use Rattle.ibc_records.specs.Held.{LastBlock}
 use Rattle.ibc_root_table.specs.Publications.{IsWithin}
 use Rattle.ibc_root_table.specs.declared.shape.Shape.{Shape}
-use Rattle.ibc_view.specs.Proved.{HasSpellings, IsProved}
+use Rattle.ibc_ledger.specs.Proved.{HasSpellings, IsProved}
 use Rattle.ibc_ledger.specs.Standing.{last_block}
 use Rattle.ibc_ledger.proofs.Holding.{kept_block}
 use Rattle.ibc_ledger.proofs.Windows.{small_capacity}

@@ -13,3 +13,4 @@ pub mod FoundPackets
 pub mod NamedEnds
 pub mod LastBlocks
 pub mod Spelled
+pub mod Found

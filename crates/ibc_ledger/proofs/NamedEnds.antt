@@ -4,10 +4,10 @@ use Rattle.std.specs.Option.{option_map_or}
 use Rattle.ibc_ids.specs.Names.{is_port, is_channel}
 use Rattle.ibc_ids.specs.declared.key.Key.TheVariants as key
 use Rattle.ibc_wire.specs.declared.records.ConnectionEnd.{ConnectionEnd}
-use Rattle.ibc_machine.specs.Records.{Client, client_at, connection_at}
-use Rattle.ibc_machine.specs.Values.{ChannelIs}
-use Rattle.ibc_machine.specs.Channels.{client_of}
-use Rattle.ibc_machine.specs.Image.{IsKeyed}
+use Rattle.ibc_machine.specs.chain.Records.{Client, client_at, connection_at}
+use Rattle.ibc_machine.specs.ics24.Values.{ChannelIs}
+use Rattle.ibc_machine.specs.ics04.Channels.{client_of}
+use Rattle.ibc_machine.specs.ics24.Image.{IsKeyed}
 use Rattle.ibc_records.specs.HeldClients.{plain_client}
 use Rattle.ibc_client.proofs.Updating.{client_at-held}
 

@@ -2,9 +2,9 @@
 use Rattle.ibc_ledger.proofs.Common.{◌≡◌, ℕ, ◌^◌, ◌<◌, List, [], ◌∷◌, length, refl, sym, ap, ◌∙◌, subst, Option, Some, None, option_map, unwrap_or, slice_get, inl, inr, arith, ⊤, AllByRecursion, slice_get-map, Text}
 use Rattle.ibc_ledger.proofs.Common.{Publication, Core, Block, Chain, image, GenesisState, starting_chain, LedgerState, StampedEntry, entry_answer, met_states, starting_state, empty_chain, Ledger, IsLedger, IsOwnEntry, state_of}
 use Rattle.std.specs.List.{last_or}
-use Rattle.ibc_machine.specs.Image.{IsKeyed}
-use Rattle.ibc_machine.specs.Genesis.{start}
-use Rattle.ibc_machine.specs.Replay.{replay}
+use Rattle.ibc_machine.specs.ics24.Image.{IsKeyed}
+use Rattle.ibc_machine.specs.chain.Genesis.{start}
+use Rattle.ibc_machine.specs.ledger.Replay.{replay}
 use Rattle.ibc_refinement.proofs.Places.{get_there}
 use Rattle.ibc_refinement.proofs.Typed.{IsTyped}
 use Rattle.ibc_refinement.proofs.TypedLook.{stands, fit_from}
@@ -15,8 +15,8 @@ use Rattle.ibc_refinement.proofs.Clear.{all_of_image}
 use Rattle.ibc_refinement.proofs.EntrySteps.{working, answer_commits, own_typed}
 use Rattle.ibc_refinement.proofs.MergedRun.{typed_start}
 use Rattle.ibc_records.proofs.NewRecords.{keyed-counters}
-use Rattle.ibc_view.specs.Proved.{HasSpellings}
-use Rattle.ibc_ledger_steps.proofs.Growing.{all_last}
+use Rattle.ibc_ledger.specs.Proved.{HasSpellings}
+use Rattle.ibc_refinement.proofs.Growing.{all_last}
 use Rattle.ibc_ledger.specs.Standing.{last_block}
 
 abbrev pub AreTyped : List Block → Type 0

@@ -4,7 +4,7 @@ use Rattle.ibc_ids.specs.declared.refusal.Refusal.TheVariants.{NoMemory}
 use Rattle.ibc_machine.specs.declared.event.Event.{Event}
 use Rattle.ibc_machine.specs.declared.reply.Reply.{Reply}
 use Rattle.ibc_machine.specs.declared.reply.Reply.TheVariants as reply
-use Rattle.ibc_machine.specs.Ledgers.{Ledger, SeesMore, AddsNext}
+use Rattle.ibc_machine.specs.ledger.Ledgers.{Ledger, SeesMore, AddsNext}
 
 -- memory ran out and nothing was added, or there is one entry more
 abbrev pub AddsOrNot : Ledger → Event → Reply → Ledger → Type 0

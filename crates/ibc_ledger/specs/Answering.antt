@@ -9,11 +9,11 @@ use Rattle.ibc_wire.specs.declared.messages.Message.TheVariants as message
 use Rattle.ibc_wire.specs.declared.messages.UpdateClient.{UpdateClient}
 use Rattle.ibc_machine.specs.declared.reply.Effect.TheVariants as effect
 use Rattle.ibc_machine.specs.declared.reply.Reply.TheVariants as reply
-use Rattle.ibc_machine.specs.Clients.{update_client}
-use Rattle.ibc_machine.specs.Handlers.{handle}
-use Rattle.ibc_machine.specs.Ledgers.{is_block_reply, reading_fits, IsReadBetween}
-use Rattle.ibc_machine.specs.Replay.{LedgerState, proves}
-use Rattle.ibc_flight.specs.Orderly.{IsOrderly}
+use Rattle.ibc_machine.specs.ics02.Clients.{update_client}
+use Rattle.ibc_machine.specs.chain.Handlers.{handle}
+use Rattle.ibc_machine.specs.ledger.Ledgers.{is_block_reply, reading_fits, IsReadBetween}
+use Rattle.ibc_machine.specs.ledger.Replay.{LedgerState, proves}
+use Rattle.ibc_machine.specs.chain.Orderly.{IsOrderly}
 use Rattle.ibc_records.specs.Held.{core_of}
 use Rattle.ibc_records.specs.Taking.{IsHandledWith, host_with}
 use Rattle.ibc_root_table.specs.Passes.{Sight}

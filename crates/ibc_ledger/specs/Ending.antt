@@ -5,7 +5,7 @@ use Rattle.ibc_ids.specs.Publications.{published_by, height_of as published_heig
 use Rattle.ibc_ids.specs.declared.publication.Publication.{Publication}
 use Rattle.ibc_ids.specs.declared.refusal.Refusal.{Refusal}
 use Rattle.ibc_ids.specs.declared.refusal.Refusal.TheVariants.{NoMemory, TimeBack, TableFull}
-use Rattle.ibc_machine.specs.Image.{image, core_root}
+use Rattle.ibc_machine.specs.ics24.Image.{image, core_root}
 use Rattle.ibc_path_store.specs.Held.{height_of}
 use Rattle.ibc_records.specs.Held.{HeldRecords, core_of, after_commit}
 use Rattle.ibc_root_table.specs.Passes.{Sight, SamePass, Publishes, own_chain}

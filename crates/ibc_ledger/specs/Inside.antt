@@ -1,13 +1,13 @@
 -- What a ledger keeps, and the ledger that it is.
 use Rattle.std.specs.Prelude.{◌≡◌, map, length, Some, IsTrue}
-use Rattle.ibc_machine.specs.Genesis.{GenesisState, genesis_state, is_allowed}
-use Rattle.ibc_machine.specs.Ledgers.{Ledger}
+use Rattle.ibc_machine.specs.chain.Genesis.{GenesisState, genesis_state, is_allowed}
+use Rattle.ibc_machine.specs.ledger.Ledgers.{Ledger}
 use Rattle.ibc_records.specs.Held.{core_of}
 use Rattle.ibc_transfer.specs.InFlight.{IsInFlight}
 use Rattle.ibc_ledger.specs.Standing.{plain_apps}
 use Rattle.ibc_ledger.specs.Standing.{Stands}
 use Rattle.ibc_ledger.specs.Held.{HeldLedger, plain_entry, shape_of}
-use Rattle.ibc_sent_packets.specs.Sent.{AreFirst}
+use Rattle.ibc_ledger.specs.Sent.{AreFirst}
 use Rattle.ibc_ledger.specs.SentPackets.{happened_on}
 use Rattle.ibc_ledger.specs.declared.ledger.Ledger.TheInside.{Inside}
 

@@ -5,3 +5,5 @@ pub mod Inside
 pub mod Ending
 pub mod Answering
 pub mod Adding
+pub mod Proved
+pub mod Sent

@@ -5,10 +5,10 @@ use Rattle.std.specs.Ordering.{nat_cmp}
 use Rattle.ibc_ids.specs.Texts.{Text}
 use Rattle.ibc_ids.specs.Maps.{at}
 use Rattle.ibc_wire.specs.declared.packet.Packet.{Packet}
-use Rattle.ibc_machine.specs.Records.{Channel, channel_at}
-use Rattle.ibc_machine.specs.Histories.{Happened, End, packet_sent}
-use Rattle.ibc_machine.specs.Replay.{StampedEntry}
-use Rattle.ibc_machine.specs.Ledgers.{Ledger, state_of}
+use Rattle.ibc_machine.specs.chain.Records.{Channel, channel_at}
+use Rattle.ibc_machine.specs.promises.Histories.{Happened, End, packet_sent}
+use Rattle.ibc_machine.specs.ledger.Replay.{StampedEntry}
+use Rattle.ibc_machine.specs.ledger.Ledgers.{Ledger, state_of}
 
 abbrev pub happened_of : StampedEntry → Happened
 happened_of e = (e.entry.event, e.entry.reply)

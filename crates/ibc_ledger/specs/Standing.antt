@@ -2,16 +2,16 @@
 -- says it is; of which committed blocks it gives proofs (ICS 23, "CommitmentProof"; ICS 24, "Provable store").
 use Rattle.std.specs.Prelude.{◌≡◌, ℕ, length, ◌-◌, true, false, nat_lt, List, drop, map, Option, Some, None, []}
 use Rattle.std.specs.List.{last_or}
-use Rattle.ibc_machine.specs.Records.{Apps, Block, Chain}
-use Rattle.ibc_machine.specs.Replay.{LedgerState}
-use Rattle.ibc_machine.specs.Ledgers.{Ledger, IsLedger, state_of}
+use Rattle.ibc_machine.specs.chain.Records.{Apps, Block, Chain}
+use Rattle.ibc_machine.specs.ledger.Replay.{LedgerState}
+use Rattle.ibc_machine.specs.ledger.Ledgers.{Ledger, IsLedger, state_of}
 use Rattle.ibc_path_store.specs.Held.{height_of, HeldStore}
 use Rattle.ibc_records.specs.Held.{HeldRecords, LastBlock, no_block, core_of}
 use Rattle.ibc_records.specs.Knowledge.{Knows}
 use Rattle.ibc_merkle.specs.Tree.{Pairs}
-use Rattle.ibc_machine.specs.Image.{image}
-use Rattle.ibc_machine.specs.Machine.{block_of}
-use Rattle.ibc_machine.specs.Genesis.{Holding, starting_balances}
+use Rattle.ibc_machine.specs.ics24.Image.{image}
+use Rattle.ibc_machine.specs.chain.Machine.{block_of}
+use Rattle.ibc_machine.specs.chain.Genesis.{Holding, starting_balances}
 use Rattle.ibc_ledger.specs.declared.applications.Applications.{Applications}
 
 -- what the definitions say that applications keep: the bank also knows what is burnt in flight

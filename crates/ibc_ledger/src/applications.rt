@@ -3,8 +3,8 @@
 ghost use Rattle.std.specs.Prelude.{◌≡◌, IfOk, IsTrue, is_some};
 ghost use Rattle.std.specs.List.{list_all};
 ghost use Rattle.ibc_ids.specs.Texts.{same_text};
-ghost use Rattle.ibc_machine.specs.Genesis.{is_fair};
-ghost use Rattle.ibc_machine.specs.Notes.{note_port};
+ghost use Rattle.ibc_machine.specs.chain.Genesis.{is_fair};
+ghost use Rattle.ibc_machine.specs.chain.Notes.{note_port};
 ghost use Rattle.ibc_ledger.specs.Standing.{starting_apps};
 
 use ibc_ids::PortId;

@@ -4,8 +4,8 @@ ghost use Rattle.std.specs.Prelude.{◌≡◌, ℕ, IfOk};
 ghost use Rattle.ibc_ids.specs.Paths as paths;
 ghost use Rattle.ibc_wire.specs.declared.messages.Message.TheVariants as message_of;
 ghost use Rattle.ibc_machine.specs.declared.reply.Effect.TheVariants as effect;
-ghost use Rattle.ibc_machine.specs.Applications.{require_application, on_open, on_close};
-ghost use Rattle.ibc_machine.specs.Channels.{chan_open_init, chan_open_try, chan_close_init};
+ghost use Rattle.ibc_machine.specs.chain.Applications.{require_application, on_open, on_close};
+ghost use Rattle.ibc_machine.specs.ics04.Channels.{chan_open_init, chan_open_try, chan_close_init};
 ghost use Rattle.ibc_records.specs.Taking.{IsHandled};
 ghost use Rattle.ibc_ledger.specs.Answering.{IsReady, IsAnswered};
 

@@ -2,7 +2,7 @@
 
 ghost use Rattle.std.specs.Prelude.{◌≡◌, ◌+◌, ◌^◌, nat_lt};
 ghost use Rattle.std.specs.List.{list_all, count_by};
-ghost use Rattle.ibc_machine.specs.Genesis.{genesis_state, chain_state, has_limits, is_same_holding, is_fair, is_allowed, total_of};
+ghost use Rattle.ibc_machine.specs.chain.Genesis.{genesis_state, chain_state, has_limits, is_same_holding, is_fair, is_allowed, total_of};
 
 use ibc_ids::{Denom, UserName};
 use ibc_machine::{ChainStart, Genesis};
@@ -10,7 +10,7 @@ use ibc_machine::{ChainStart, Genesis};
 /// Whether a genesis is allowed: 2 to 8 chains; a capacity of 1 to 1,000,000 and a window of 1 to 4,096, at most the
 /// capacity; of each chain, balances of base denominations only, no user and denomination twice, and of no denomination
 /// more than 2^128 - 1 together.
-#[tactic(auto, unfolding(ibc_machine::specs::Genesis::is_allowed))]
+#[tactic(auto, unfolding(ibc_machine::specs::chain::Genesis::is_allowed))]
 pub fn is_allowed(genesis: &Genesis) -> bool
     ensures { result ≡ is_allowed (genesis_state genesis.now) }
 {

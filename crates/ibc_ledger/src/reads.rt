@@ -5,10 +5,10 @@ ghost use Rattle.std.specs.List.{list_all};
 ghost use Rattle.ibc_ids.specs.Names.{is_denom};
 ghost use Rattle.ibc_ids.specs.Paths.{account_text};
 ghost use Rattle.ibc_ids.specs.declared.refusal.Refusal.TheVariants.{NoMemory};
-ghost use Rattle.ibc_machine.specs.Records.{client_at, channel_at};
-ghost use Rattle.ibc_machine.specs.Channels.{client_of, peer_channel_of};
-ghost use Rattle.ibc_machine.specs.Bank.{balance, supply};
-ghost use Rattle.ibc_machine.specs.Ledgers.{state_of};
+ghost use Rattle.ibc_machine.specs.chain.Records.{client_at, channel_at};
+ghost use Rattle.ibc_machine.specs.ics04.Channels.{client_of, peer_channel_of};
+ghost use Rattle.ibc_machine.specs.ics20.Bank.{balance, supply};
+ghost use Rattle.ibc_machine.specs.ledger.Ledgers.{state_of};
 ghost use Rattle.ibc_records.specs.Held.{core_of};
 
 use crate::Ledger;

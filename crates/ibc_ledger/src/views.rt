@@ -2,15 +2,14 @@
 
 ghost use Rattle.std.specs.Prelude.{◌≡◌, ◌<◌, IsSome, IfOk, IfErr, option_map};
 ghost use Rattle.ibc_ids.specs.declared.refusal.Refusal.TheVariants.{NoMemory};
-ghost use Rattle.ibc_machine.specs.Ledgers.{state_of};
-ghost use Rattle.ibc_machine.specs.Relay.{view_of};
+ghost use Rattle.ibc_machine.specs.ledger.Ledgers.{state_of};
+ghost use Rattle.ibc_machine.specs.ics18.Relay.{view_of};
 ghost use Rattle.ibc_path_store.specs.Held.{kept_at};
 
-use crate::Ledger;
+use crate::{Ledger, View};
 use ibc_ids::Refusal;
 use ibc_path_store::Tree;
 use ibc_records::Records;
-use ibc_view::View;
 
 impl Ledger {
     /// What the chain proves as it stands at its last committed height, with the time of the working block (ICS 18, "Relayer

@@ -9,8 +9,8 @@ use Rattle.ibc_ids.specs.declared.refusal.Refusal.TheVariants.{NoMemory}
 use Rattle.ibc_machine.specs.declared.event.Event.{Event}
 use Rattle.ibc_machine.specs.declared.reply.Reply.{Reply}
 use Rattle.ibc_machine.specs.declared.reply.Reply.TheVariants as reply
-use Rattle.ibc_machine.specs.Ledgers.{Ledger, SeesMore, AddsNext}
-use Rattle.ibc_machine.specs.Replay.{StampedEntry}
+use Rattle.ibc_machine.specs.ledger.Ledgers.{Ledger, SeesMore, AddsNext}
+use Rattle.ibc_machine.specs.ledger.Replay.{StampedEntry}
 use Rattle.ibc_ledger.specs.Adding.{AddsOrNot}
 use Rattle.ibc_ledger_lock.specs.Accounts.{Known}
 use Rattle.ibc_ledger_lock.specs.Books.{IsBeginning, reader}

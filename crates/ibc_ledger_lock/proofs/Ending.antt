@@ -3,19 +3,19 @@ use Rattle.std.proofs.Common.{◌≡◌, ◌∙◌, ◌++◌, ◌∷◌, ◌+◌
 use Rattle.std.specs.Prelude.{⊤, IfSome, true}
 use Rattle.std.specs.List.{AllByRecursion, last_or}
 use Rattle.ibc_ids.specs.Texts.{Text}
-use Rattle.ibc_machine.specs.Checks.{Checked}
+use Rattle.ibc_machine.specs.chain.Checks.{Checked}
 use Rattle.ibc_ids.specs.declared.publication.Publication.{Publication}
 use Rattle.ibc_ids.specs.declared.refusal.Refusal.TheVariants.{NoMemory}
 use Rattle.ibc_machine.specs.declared.event.Event.TheVariants as event
 use Rattle.ibc_machine.specs.declared.reply.Effect.TheVariants as effect
 use Rattle.ibc_machine.specs.declared.reply.Reply.{Reply}
 use Rattle.ibc_machine.specs.declared.reply.Reply.TheVariants as reply
-use Rattle.ibc_machine.specs.Genesis.{GenesisState}
-use Rattle.ibc_machine.specs.Handlers.{after_block, block_answer}
-use Rattle.ibc_machine.specs.Ledgers.{Ledger, IsLedger, IsOwnEntry, SeesMore, AddsNext, is_block_reply, state_of}
-use Rattle.ibc_machine.specs.Records.{Block, Chain}
-use Rattle.ibc_machine.specs.Relay.{View, view_at, view_of}
-use Rattle.ibc_machine.specs.Replay.{LedgerState, StampedEntry, entry_answer, ledger_answer, met_states, replay, starting_state, with_chain}
+use Rattle.ibc_machine.specs.chain.Genesis.{GenesisState}
+use Rattle.ibc_machine.specs.chain.Handlers.{after_block, block_answer}
+use Rattle.ibc_machine.specs.ledger.Ledgers.{Ledger, IsLedger, IsOwnEntry, SeesMore, AddsNext, is_block_reply, state_of}
+use Rattle.ibc_machine.specs.chain.Records.{Block, Chain}
+use Rattle.ibc_machine.specs.ics18.Relay.{View, view_at, view_of}
+use Rattle.ibc_machine.specs.ledger.Replay.{LedgerState, StampedEntry, entry_answer, ledger_answer, met_states, replay, starting_state, with_chain}
 use Rattle.ibc_merkle.proofs.Sorted.{last-push}
 use Rattle.ibc_root_table.specs.Passes.{TableName}
 use Rattle.ibc_refinement.proofs.EntrySteps.{replay_more}

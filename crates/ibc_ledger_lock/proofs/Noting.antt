@@ -7,13 +7,13 @@ use Rattle.ibc_ids.specs.declared.refusal.Refusal.TheVariants.{NoMemory}
 use Rattle.ibc_machine.specs.declared.event.Event.{Event}
 use Rattle.ibc_machine.specs.declared.reply.Reply.{Reply}
 use Rattle.ibc_machine.specs.declared.reply.Reply.TheVariants as reply
-use Rattle.ibc_machine.specs.Ledgers.{Ledger, IsLedger, SeesMore, AddsNext, state_of}
-use Rattle.ibc_machine.specs.Replay.{StampedEntry, replay, starting_state}
+use Rattle.ibc_machine.specs.ledger.Ledgers.{Ledger, IsLedger, SeesMore, AddsNext, state_of}
+use Rattle.ibc_machine.specs.ledger.Replay.{StampedEntry, replay, starting_state}
 use Rattle.ibc_merkle.proofs.Sorted.{last-push}
 use Rattle.ibc_refinement.proofs.SeenMore.{replay_stays}
 use Rattle.ibc_root_table.proofs.Beginnings.{prefix_get, take-prefix_whole}
 use Rattle.ibc_root_table.specs.Passes.{TableName}
-use Rattle.ibc_machine.specs.Genesis.{GenesisState}
+use Rattle.ibc_machine.specs.chain.Genesis.{GenesisState}
 use Rattle.ibc_ledger.specs.Adding.{AddsOrNot}
 use Rattle.ibc_ledger.specs.Held.{HeldLedger}
 use Rattle.ibc_ledger.specs.SentPackets.{happened_of, happened_on}

@@ -1,7 +1,7 @@
 -- What is known of a ledger as it was.
 use Rattle.std.specs.Prelude.{List, []}
 use Rattle.ibc_ids.specs.declared.publication.Publication.{Publication}
-use Rattle.ibc_machine.specs.Replay.{StampedEntry}
+use Rattle.ibc_machine.specs.ledger.Replay.{StampedEntry}
 
 -- its history, and what its pass had seen
 pub record Known : Type 0 where

@@ -8,11 +8,11 @@ use Rattle.ibc_machine.specs.declared.event.Event.{Event}
 use Rattle.ibc_machine.specs.declared.reply.Reply.{Reply}
 use Rattle.ibc_machine.specs.declared.reply.Reply.TheVariants as reply
 use Rattle.ibc_ids.specs.declared.refusal.Refusal.TheVariants.{NoMemory}
-use Rattle.ibc_machine.specs.Genesis.{GenesisState}
+use Rattle.ibc_machine.specs.chain.Genesis.{GenesisState}
 use Rattle.ibc_machine.specs.declared.reply.Effect.TheVariants as effect
-use Rattle.ibc_machine.specs.Ledgers.{Ledger, IsLedger, state_of}
-use Rattle.ibc_machine.specs.Relay.{View, view_of}
-use Rattle.ibc_machine.specs.Replay.{LedgerState, StampedEntry}
+use Rattle.ibc_machine.specs.ledger.Ledgers.{Ledger, IsLedger, state_of}
+use Rattle.ibc_machine.specs.ics18.Relay.{View, view_of}
+use Rattle.ibc_machine.specs.ledger.Replay.{LedgerState, StampedEntry}
 use Rattle.ibc_root_table.specs.Passes.{TableName}
 use Rattle.ibc_ledger.specs.Held.{HeldLedger}
 use Rattle.ibc_ledger.specs.SentPackets.{happened_on}

@@ -9,7 +9,7 @@ use crate::world::World;
 use boxcar::Keeps;
 use boxcar::tag::Tag;
 use ibc_ids::Refusal;
-use ibc_view::View;
+use ibc_ledger::View;
 use std::alloc::Global;
 use std::marker::PhantomData;
 use std::sync::Wait;

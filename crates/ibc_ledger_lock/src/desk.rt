@@ -4,8 +4,8 @@ ghost use Rattle.std.specs.Prelude.{◌≡◌, ◌<◌, [], All, IfSome, None, S
 ghost use Rattle.ibc_ids.specs.declared.refusal.Refusal.TheVariants.{NoMemory};
 ghost use Rattle.ibc_machine.specs.declared.event.Event.TheVariants as event_of;
 ghost use Rattle.ibc_machine.specs.declared.reply.Reply.TheVariants as reply_of;
-ghost use Rattle.ibc_machine.specs.Ledgers.{IsLedger, is_block_reply, state_of};
-ghost use Rattle.ibc_machine.specs.Relay.{view_of};
+ghost use Rattle.ibc_machine.specs.ledger.Ledgers.{IsLedger, is_block_reply, state_of};
+ghost use Rattle.ibc_machine.specs.ics18.Relay.{view_of};
 ghost use Rattle.ibc_ledger.specs.Adding.{AddsOrNot};
 ghost use Rattle.ibc_ledger.specs.Held.{plain_entry};
 ghost use Rattle.ibc_ledger_lock.specs.Accounts.{nothing_known};
@@ -17,9 +17,8 @@ use crate::reading::Reading;
 use crate::receipt::Receipt;
 use crate::world::World;
 use ibc_ids::Refusal;
-use ibc_ledger::{Ledger, StampedEntry};
+use ibc_ledger::{Ledger, StampedEntry, View};
 use ibc_machine::{Effect, Reply};
-use ibc_view::View;
 use ibc_wire::Message;
 use std::marker::{Brand, Model, PhantomData};
 

@@ -1,10 +1,9 @@
 //! A chain as relayers work with it.
 
 use ibc_ids::{Bytes, ChannelId, Key, PortId, Refusal};
-use ibc_ledger::StampedEntry;
+use ibc_ledger::{StampedEntry, View};
 use ibc_machine::Reply;
 use ibc_merkle::Proof;
-use ibc_view::View;
 use ibc_wire::{Message, Packet};
 use std::sync::Wait;
 

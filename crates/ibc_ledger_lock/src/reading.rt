@@ -1,7 +1,7 @@
 //! What was read of a shared ledger.
 
 ghost use Rattle.std.specs.Prelude.{◌≡◌, length};
-ghost use Rattle.ibc_machine.specs.Ledgers.{Ledger, IsLedger, state_of};
+ghost use Rattle.ibc_machine.specs.ledger.Ledgers.{Ledger, IsLedger, state_of};
 ghost use Rattle.ibc_ledger_lock.specs.Worlds.{IsEarlier, state_after};
 
 use crate::book::Place;

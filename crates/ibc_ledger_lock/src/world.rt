@@ -5,7 +5,7 @@ use std::marker::Brand;
 pub trait World {
     ghost use Rattle.std.specs.Prelude.{ℕ};
     ghost use Rattle.atomic_table.specs.Seated.{TableId};
-    ghost use Rattle.ibc_machine.specs.Genesis.{GenesisState};
+    ghost use Rattle.ibc_machine.specs.chain.Genesis.{GenesisState};
     ghost use Rattle.ibc_root_table.specs.Passes.{TableName};
 
     ghost table: { TableName };

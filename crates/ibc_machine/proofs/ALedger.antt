@@ -8,10 +8,10 @@ use Rattle.ibc_wire.specs.declared.messages.Message.TheVariants as message
 use Rattle.ibc_machine.specs.declared.event.Event.TheVariants as event
 use Rattle.ibc_machine.specs.declared.reply.Effect.TheVariants as effect
 use Rattle.ibc_machine.specs.declared.reply.Reply.TheVariants as reply
-use Rattle.ibc_machine.specs.Image.{core_root}
-use Rattle.ibc_machine.specs.Genesis.{empty_core}
-use Rattle.ibc_machine.specs.Replay.{StampedEntry}
-use Rattle.ibc_machine.specs.Ledgers.{Ledger, IsLedger}
+use Rattle.ibc_machine.specs.ics24.Image.{core_root}
+use Rattle.ibc_machine.specs.chain.Genesis.{empty_core}
+use Rattle.ibc_machine.specs.ledger.Replay.{StampedEntry}
+use Rattle.ibc_machine.specs.ledger.Ledgers.{Ledger, IsLedger}
 use Rattle.ibc_machine.proofs.Computing.{computing, hashing}
 use Rattle.ibc_machine.proofs.Scripts.{a, b, first, a_and_b, create, block, new_client, done, no}
 

@@ -1,6 +1,6 @@
 -- Which beginnings of a world are allowed.
 use Rattle.std.proofs.Common.{◌≡◌, ℕ, Bool, ◌^◌, ◌-◌, true, false, codes, ◌∷◌, List, [], refl, map, replicate}
-use Rattle.ibc_machine.specs.Genesis.{GenesisState, Holding, start, is_allowed}
+use Rattle.ibc_machine.specs.chain.Genesis.{GenesisState, Holding, start, is_allowed}
 use Rattle.ibc_machine.proofs.Computing.{computing}
 use Rattle.ibc_machine.proofs.Scripts.{alice, bob, atom, gold, atom_from_a, escrow_0, holds, a_and_b, chain_with, balances}
 

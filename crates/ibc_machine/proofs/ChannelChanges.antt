@@ -9,11 +9,11 @@ use Rattle.ibc_ids.specs.Paths.{path, is_key}
 use Rattle.ibc_ids.specs.declared.key.Key.{Key}
 use Rattle.ibc_ids.specs.declared.key.Key.TheVariants as key
 use Rattle.ibc_wire.specs.declared.records.ChannelEnd.{ChannelEnd}
-use Rattle.ibc_machine.specs.Records.{Core, Channel, channel_at, with_channel, is_one_of}
-use Rattle.ibc_machine.specs.Channels.{new_channel}
-use Rattle.ibc_machine.specs.Values.{Value, ChannelIs, NumberIs, CommitmentIs, AckIs, look, receipt_if}
+use Rattle.ibc_machine.specs.chain.Records.{Core, Channel, channel_at, with_channel, is_one_of}
+use Rattle.ibc_machine.specs.ics04.Channels.{new_channel}
+use Rattle.ibc_machine.specs.ics24.Values.{Value, ChannelIs, NumberIs, CommitmentIs, AckIs, look, receipt_if}
 use Rattle.ibc_machine.proofs.FiniteMaps.{by_pair, at-with_same, at-with_other, named-with, told-with}
-use Rattle.ibc_machine.specs.Image.{IsKeyed}
+use Rattle.ibc_machine.specs.ics24.Image.{IsKeyed}
 use Rattle.ibc_machine.proofs.ImageChanges.{Change, ChangesAt, ChangesIn, IsApart}
 
 -- what a channel tells, by the kind of the key

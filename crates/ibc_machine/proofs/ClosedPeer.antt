@@ -2,8 +2,8 @@
 use Rattle.std.proofs.Common.{◌≡◌, codes, ◌∷◌, [], refl}
 use Rattle.ibc_ids.specs.Texts.{Text}
 use Rattle.ibc_ids.specs.declared.refusal.Refusal.TheVariants.{WrongState, NoConsensus, BadProof, NoCommitment, NotTimedOut}
-use Rattle.ibc_machine.specs.Machine.{World}
-use Rattle.ibc_machine.specs.TokenData.{success}
+use Rattle.ibc_machine.specs.chain.Machine.{World}
+use Rattle.ibc_machine.specs.ics20.TokenData.{success}
 use Rattle.ibc_machine.proofs.Computing.{computing}
 use Rattle.ibc_machine.proofs.Scripts.{a, b, a_and_b, for_notes, replies, world_after, update, block, blocked, done, no, sent, acked}
 use Rattle.ibc_machine.proofs.Openings.{with_notes, close_channel}

@@ -3,22 +3,22 @@ use Rattle.std.specs.Prelude.{⊤}
 use Rattle.std.specs.Fmt.{digits}
 use Rattle.ibc_wire.specs.Reading.{proof_of}
 use Rattle.ibc_merkle.specs.Written.{written}
-use Rattle.ibc_machine.specs.Checks.{go_on, and_then}
-use Rattle.ibc_machine.specs.Clients.{create_client, update_client}
-use Rattle.ibc_machine.specs.Connections.{conn_open_init, conn_open_try, conn_open_ack, conn_open_confirm}
-use Rattle.ibc_machine.specs.Channels.{chan_open_init, chan_open_try, chan_open_ack, chan_open_confirm, chan_close_init, chan_close_confirm}
-use Rattle.ibc_machine.specs.Packets.{sending_end, require_timeouts, recv_checked, recv_packet, ack_checked, ack_packet, timeout_checked, timeout, timeout_on_close_checked, timeout_on_close}
-use Rattle.ibc_machine.specs.TokenData.{data_text, data_of}
-use Rattle.ibc_machine.specs.Transfers.{receive_transfer, refund_transfer, acknowledge_transfer, send_tokens, transfer, transfer_many}
-use Rattle.ibc_machine.specs.Notes.{receive_note, send_note}
-use Rattle.ibc_machine.specs.Handlers.{handle}
-use Rattle.ibc_machine.specs.Image.{image}
-use Rattle.ibc_machine.specs.Genesis.{is_allowed}
-use Rattle.ibc_machine.specs.Machine.{answer}
-use Rattle.ibc_machine.specs.Replay.{ledger_answer}
-use Rattle.ibc_machine.specs.Peers.{are_peers}
-use Rattle.ibc_machine.specs.Totals.{totals}
-use Rattle.ibc_machine.specs.Relay.{pending, plan}
+use Rattle.ibc_machine.specs.chain.Checks.{go_on, and_then}
+use Rattle.ibc_machine.specs.ics02.Clients.{create_client, update_client}
+use Rattle.ibc_machine.specs.ics03.Connections.{conn_open_init, conn_open_try, conn_open_ack, conn_open_confirm}
+use Rattle.ibc_machine.specs.ics04.Channels.{chan_open_init, chan_open_try, chan_open_ack, chan_open_confirm, chan_close_init, chan_close_confirm}
+use Rattle.ibc_machine.specs.ics04.Packets.{sending_end, require_timeouts, recv_checked, recv_packet, ack_checked, ack_packet, timeout_checked, timeout, timeout_on_close_checked, timeout_on_close}
+use Rattle.ibc_machine.specs.ics20.TokenData.{data_text, data_of}
+use Rattle.ibc_machine.specs.ics20.Transfers.{receive_transfer, refund_transfer, acknowledge_transfer, send_tokens, transfer, transfer_many}
+use Rattle.ibc_machine.specs.chain.Notes.{receive_note, send_note}
+use Rattle.ibc_machine.specs.chain.Handlers.{handle}
+use Rattle.ibc_machine.specs.ics24.Image.{image}
+use Rattle.ibc_machine.specs.chain.Genesis.{is_allowed}
+use Rattle.ibc_machine.specs.chain.Machine.{answer}
+use Rattle.ibc_machine.specs.ledger.Replay.{ledger_answer}
+use Rattle.ibc_machine.specs.promises.Peers.{are_peers}
+use Rattle.ibc_machine.specs.promises.Totals.{totals}
+use Rattle.ibc_machine.specs.ics18.Relay.{pending, plan}
 use Rattle.sha2.specs.Sha256.{sha256, digest_bytes, hash_after, compress, rounds, schedule, first_words}
 
 -- all but the hashing

@@ -4,10 +4,10 @@ use Rattle.ibc_wire.specs.declared.records.ConnectionState.TheVariants.{Init}
 use Rattle.ibc_wire.specs.declared.records.ConnectionEnd.{ConnectionEnd}
 use Rattle.ibc_wire.specs.declared.messages.ConnOpenTry.{ConnOpenTry}
 use Rattle.ibc_wire.specs.declared.messages.ConnOpenAck.{ConnOpenAck}
-use Rattle.ibc_machine.specs.Records.{Core, Client, client_at, knows}
-use Rattle.ibc_machine.specs.Values.{same_connection_state}
-use Rattle.ibc_machine.specs.Evidence.{Host}
-use Rattle.ibc_machine.specs.Connections.{names_host, may_conn_try, may_conn_ack}
+use Rattle.ibc_machine.specs.chain.Records.{Core, Client, client_at, knows}
+use Rattle.ibc_machine.specs.ics24.Values.{same_connection_state}
+use Rattle.ibc_machine.specs.ics24.Evidence.{Host}
+use Rattle.ibc_machine.specs.ics03.Connections.{names_host, may_conn_try, may_conn_ack}
 use Rattle.ibc_machine.proofs.PassedRows.{require_passed, require_holds, bind_passed, expect_passed}
 
 pub record MayConnTry (host : Host) (core : Core) (m : ConnOpenTry) : Type 0 where

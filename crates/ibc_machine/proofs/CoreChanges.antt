@@ -7,10 +7,10 @@ use Rattle.ibc_ids.specs.Paths.{path, is_key}
 use Rattle.ibc_ids.specs.declared.key.Key.{Key}
 use Rattle.ibc_ids.specs.declared.key.Key.TheVariants as key
 use Rattle.ibc_wire.specs.declared.records.ConnectionEnd.{ConnectionEnd}
-use Rattle.ibc_machine.specs.Records.{Core, Client, with_client, with_connection}
-use Rattle.ibc_machine.specs.Values.{Value, ClientIs, ConnectionIs, NumberIs, look}
+use Rattle.ibc_machine.specs.chain.Records.{Core, Client, with_client, with_connection}
+use Rattle.ibc_machine.specs.ics24.Values.{Value, ClientIs, ConnectionIs, NumberIs, look}
 use Rattle.ibc_machine.proofs.FiniteMaps.{by_text, at-with_same, at-with_other, named-with}
-use Rattle.ibc_machine.specs.Image.{IsKeyed}
+use Rattle.ibc_machine.specs.ics24.Image.{IsKeyed}
 use Rattle.ibc_machine.proofs.ImageChanges.{ChangesAt}
 
 -- ---- a client

@@ -2,8 +2,8 @@
 -- track each other (ICS 3, "validateSelfClient").
 use Rattle.std.proofs.Common.{◌≡◌, ◌∷◌, [], refl}
 use Rattle.ibc_ids.specs.declared.refusal.Refusal.TheVariants.{BadProof, WrongSelfClient}
-use Rattle.ibc_machine.specs.Genesis.{start}
-use Rattle.ibc_machine.specs.Machine.{World}
+use Rattle.ibc_machine.specs.chain.Genesis.{start}
+use Rattle.ibc_machine.specs.chain.Machine.{World}
 use Rattle.ibc_machine.proofs.Computing.{computing}
 use Rattle.ibc_machine.proofs.Scripts.{a, b, c, a_b_and_c, replies, world_after, create, update, block, done, no}
 use Rattle.ibc_machine.proofs.Openings.{begin_connection, try_connection, ack_connection}

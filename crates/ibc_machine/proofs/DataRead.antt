@@ -6,7 +6,7 @@ use Rattle.ibc_ids.specs.Texts.{Text, same_text}
 use Rattle.ibc_ids.specs.Names.{is_denom, is_memo, is_receiver, is_user}
 use Rattle.ibc_wire.specs.Tokens.{is_short, is_rising}
 use Rattle.ibc_wire.specs.declared.token.Token.{Token}
-use Rattle.ibc_machine.specs.TokenData.{Data, quoted, member, object, token_members, memo_member, party_members, members_of_first, tokens_member, data_text, is_amount, is_token, is_list_for, is_data, number_of, tokens_in, parties_in, one_token_in, tokens_behind, data_in, data_if, data_of, has_several, ReadsData}
+use Rattle.ibc_machine.specs.ics20.TokenData.{Data, quoted, member, object, token_members, memo_member, party_members, members_of_first, tokens_member, data_text, is_amount, is_token, is_list_for, is_data, number_of, tokens_in, parties_in, one_token_in, tokens_behind, data_in, data_if, data_of, has_several, ReadsData}
 use Rattle.ibc_machine.proofs.QuotedTexts.{both, and_true, Clear, clear_made, clear_denom, clear_decimal, number_read, between, Spells, spells-clear, spells-quoted, spells-both, spelled, spells-member, spells-next, spells-object}
 
 -- ---- the parts of data

@@ -2,8 +2,8 @@
 use Rattle.std.proofs.Common.{take, ◌≡◌, codes, ◌∷◌, [], refl}
 use Rattle.ibc_ids.specs.declared.refusal.Refusal.TheVariants.{UnknownClient, UnknownConnection, WrongState, NoConsensus, BadProof, UnknownPort, UnknownChannel, WrongOrder, WrongVersion, CloseRefused, UnknownChain}
 use Rattle.ibc_wire.specs.declared.records.Order.TheVariants.{Unordered, Ordered}
-use Rattle.ibc_machine.specs.Genesis.{start}
-use Rattle.ibc_machine.specs.Machine.{World}
+use Rattle.ibc_machine.specs.chain.Genesis.{start}
+use Rattle.ibc_machine.specs.chain.Machine.{World}
 use Rattle.ibc_machine.proofs.Computing.{computing}
 use Rattle.ibc_machine.proofs.Scripts.{a, b, c, first, second, a_and_b, for_tokens, for_several, for_notes, replies, world_after, create, update, block, new_client, new_connection, new_channel, blocked, done, no}
 use Rattle.ibc_machine.proofs.Openings.{opening, begin_connection, try_connection, ack_connection, confirm_connection, begin_channel, try_channel, ack_channel, confirm_channel, close_channel, confirm_close, with_notes, with_tokens}

@@ -2,8 +2,8 @@
 use Rattle.std.proofs.Common.{◌≡◌, ℕ, ◌^◌, ◌-◌, codes, ◌∷◌, [], refl, map}
 use Rattle.ibc_ids.specs.Texts.{Text}
 use Rattle.ibc_ids.specs.declared.refusal.Refusal.TheVariants.{Poor, NumberFull}
-use Rattle.ibc_machine.specs.Records.{Chain, Core, Channel}
-use Rattle.ibc_machine.specs.Machine.{World}
+use Rattle.ibc_machine.specs.chain.Records.{Chain, Core, Channel}
+use Rattle.ibc_machine.specs.chain.Machine.{World}
 use Rattle.ibc_machine.proofs.Computing.{computing}
 use Rattle.ibc_machine.proofs.Scripts.{a, b, alice, bob, atom, alice_has_all, a_and_b, for_tokens, replies, balances, world_after, create, no, sent}
 use Rattle.ibc_machine.proofs.Openings.{with_tokens, with_notes, begin_channel}

@@ -7,9 +7,9 @@ use Rattle.ibc_ids.specs.declared.key.Key.TheVariants as key
 use Rattle.ibc_merkle.specs.Hash.{hash}
 use Rattle.ibc_merkle.specs.Written.{written}
 use Rattle.ibc_wire.specs.Spelling.{proof_bytes}
-use Rattle.ibc_machine.specs.Values.{commitment_text, value_bytes, CommitmentIs, ReceiptIs, AckIs}
-use Rattle.ibc_machine.specs.Image.{image, core_root}
-use Rattle.ibc_machine.specs.Genesis.{empty_core}
+use Rattle.ibc_machine.specs.ics24.Values.{commitment_text, value_bytes, CommitmentIs, ReceiptIs, AckIs}
+use Rattle.ibc_machine.specs.ics24.Image.{image, core_root}
+use Rattle.ibc_machine.specs.chain.Genesis.{empty_core}
 use Rattle.ibc_machine.proofs.Computing.{computing, hashing}
 
 abbrev zeros : Text

@@ -11,8 +11,8 @@ use Rattle.ibc_wire.specs.declared.token.Token.{Token}
 use Rattle.ibc_wire.specs.declared.messages.Message.TheVariants as message
 use Rattle.ibc_wire.specs.declared.messages.Transfer.{Transfer}
 use Rattle.ibc_wire.specs.declared.messages.TransferMany.{TransferMany}
-use Rattle.ibc_machine.specs.TokenData.{one_token, several_tokens, is_token, is_data}
-use Rattle.ibc_machine.specs.Transfers.{transfer_data, transfer_many_data, is_zero}
+use Rattle.ibc_machine.specs.ics20.TokenData.{one_token, several_tokens, is_token, is_data}
+use Rattle.ibc_machine.specs.ics20.Transfers.{transfer_data, transfer_many_data, is_zero}
 use Rattle.ibc_machine.proofs.QuotedTexts.{both, and_true}
 
 not_zero : (n : ℕ) → not (n == 0) ≡ true → nat_le 1 n ≡ true

@@ -1,7 +1,7 @@
 -- Clients, connections and channels are opened between two chains.
 use Rattle.std.proofs.Common.{◌≡◌, ◌∷◌, [], refl}
 use Rattle.ibc_ids.specs.declared.refusal.Refusal.TheVariants.{WrongState}
-use Rattle.ibc_machine.specs.Genesis.{start}
+use Rattle.ibc_machine.specs.chain.Genesis.{start}
 use Rattle.ibc_machine.proofs.Computing.{computing}
 use Rattle.ibc_machine.proofs.Scripts.{a, b, a_and_b, for_tokens, for_several, for_notes, replies, no}
 use Rattle.ibc_machine.proofs.Openings.{opening, opened, with_tokens, ack_connection, confirm_connection, ack_channel, confirm_channel}

@@ -12,9 +12,9 @@ use Rattle.ibc_ids.specs.declared.key.Key.{Key}
 use Rattle.ibc_ids.proofs.Texts.{text_cmp_total, text_tied, text_ties}
 use Rattle.ibc_ids.proofs.Paths.{different_paths}
 use Rattle.ibc_merkle.specs.Tree.{Pairs}
-use Rattle.ibc_machine.specs.Records.{Core}
-use Rattle.ibc_machine.specs.Values.{Value, look, value_bytes}
-use Rattle.ibc_machine.specs.Image.{image, IsKeyed}
+use Rattle.ibc_machine.specs.chain.Records.{Core}
+use Rattle.ibc_machine.specs.ics24.Values.{Value, look, value_bytes}
+use Rattle.ibc_machine.specs.ics24.Image.{image, IsKeyed}
 use Rattle.ibc_machine.proofs.FiniteMaps.{by_text, same_key, at-with, at-with_same}
 use Rattle.ibc_machine.proofs.SortedMaps.{Sorted-from, Sorted-to, Sorted-without, at-without_same, at-without_other}
 use Rattle.ibc_machine.proofs.Images.{image_sorted, image_at, image_from, sorted-with, at_is_find}

@@ -17,9 +17,9 @@ use Rattle.ibc_ids.specs.declared.key.Key.{Key}
 use Rattle.ibc_ids.specs.declared.key.Key.TheVariants as key
 use Rattle.ibc_ids.proofs.Texts.{text_cmp_total, text_tied, text_ties}
 use Rattle.ibc_merkle.specs.Tree.{Pairs, AreSorted}
-use Rattle.ibc_machine.specs.Records.{Core, Channel, client_at, connection_at, channel_at, is_one_of}
-use Rattle.ibc_machine.specs.Values.{Value, NumberIs, look, value_bytes, receipt_if}
-use Rattle.ibc_machine.specs.Image.{channel_keys, keys, pair_at, image}
+use Rattle.ibc_machine.specs.chain.Records.{Core, Channel, client_at, connection_at, channel_at, is_one_of}
+use Rattle.ibc_machine.specs.ics24.Values.{Value, NumberIs, look, value_bytes, receipt_if}
+use Rattle.ibc_machine.specs.ics24.Image.{channel_keys, keys, pair_at, image}
 use Rattle.ibc_machine.proofs.Members.{Is_in, in_left, in_right, in_map, in_flat_map, in_filter_map, in_filter_map_from, in_numbers, at_in, in_keys}
 
 -- ---- pairs put one after another

@@ -49,3 +49,4 @@ pub mod PassedChecks
 pub mod SameValues
 pub mod ConnectionChecks
 pub mod PacketChecks
+pub mod flight

@@ -6,9 +6,9 @@ use Rattle.ibc_ids.specs.declared.refusal.Refusal.TheVariants.{UnknownChannel, T
 use Rattle.ibc_wire.specs.declared.token.Token.{Token}
 use Rattle.ibc_machine.specs.declared.event.Event.{Event}
 use Rattle.ibc_machine.specs.declared.reply.Reply.{Reply}
-use Rattle.ibc_machine.specs.Genesis.{start}
-use Rattle.ibc_machine.specs.Machine.{World}
-use Rattle.ibc_machine.specs.TokenData.{Data, data_text, data_of}
+use Rattle.ibc_machine.specs.chain.Genesis.{start}
+use Rattle.ibc_machine.specs.chain.Machine.{World}
+use Rattle.ibc_machine.specs.ics20.TokenData.{Data, data_text, data_of}
 use Rattle.ibc_machine.proofs.Computing.{computing}
 use Rattle.ibc_machine.proofs.Scripts.{a, alice, bob, atom, gold, a_and_b, for_tokens, for_several, replies, no, sent}
 use Rattle.ibc_machine.proofs.Openings.{joined_for}

@@ -10,8 +10,8 @@ use Rattle.std.proofs.lemmas.List.Sums.{sum_by-cons}
 use Rattle.ibc_ids.specs.Texts.{Text, pair_cmp}
 use Rattle.ibc_ids.specs.Maps.{Map, at, with, without}
 use Rattle.ibc_wire.specs.declared.token.Token.{Token}
-use Rattle.ibc_machine.specs.Bank.{Balances, balance, with_balance, give, pay}
-use Rattle.ibc_machine.specs.Transfers.{each_token}
+use Rattle.ibc_machine.specs.ics20.Bank.{Balances, balance, with_balance, give, pay}
+use Rattle.ibc_machine.specs.ics20.Transfers.{each_token}
 use Rattle.ibc_machine.proofs.FiniteMaps.{TellsApart, is_equal, by_pair, pair_cmp_total}
 use Rattle.ibc_machine.proofs.SortedMaps.{Below-less, Sorted, at-below, Sorted-with, Sorted-without}
 

@@ -4,8 +4,8 @@ use Rattle.ibc_ids.specs.Texts.{Text}
 use Rattle.ibc_ids.specs.declared.refusal.Refusal.TheVariants.{WrongState, BadProof, TimeoutPassed, OutOfOrder, NoCommitment, NotTimedOut}
 use Rattle.ibc_wire.specs.declared.packet.Packet.{Packet}
 use Rattle.ibc_machine.specs.declared.event.Event.{Event}
-use Rattle.ibc_machine.specs.Machine.{World}
-use Rattle.ibc_machine.specs.TokenData.{success}
+use Rattle.ibc_machine.specs.chain.Machine.{World}
+use Rattle.ibc_machine.specs.ics20.TokenData.{success}
 use Rattle.ibc_machine.proofs.Computing.{computing}
 use Rattle.ibc_machine.proofs.Scripts.{a, b, a_and_b, for_notes, replies, notes, world_after, update, update_at, block, block_at, blocked, done, no, sent, acked}
 use Rattle.ibc_machine.proofs.Openings.{with_notes, confirm_close}

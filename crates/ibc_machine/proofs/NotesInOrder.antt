@@ -2,8 +2,8 @@
 use Rattle.std.proofs.Common.{◌≡◌, codes, ◌∷◌, [], refl}
 use Rattle.ibc_ids.specs.Texts.{Text}
 use Rattle.ibc_ids.specs.declared.refusal.Refusal.TheVariants.{BadProof, AlreadyReceived, OutOfOrder, NoCommitment}
-use Rattle.ibc_machine.specs.Machine.{World}
-use Rattle.ibc_machine.specs.TokenData.{success, error}
+use Rattle.ibc_machine.specs.chain.Machine.{World}
+use Rattle.ibc_machine.specs.ics20.TokenData.{success, error}
 use Rattle.ibc_machine.proofs.Computing.{computing}
 use Rattle.ibc_machine.proofs.Scripts.{a, b, a_and_b, replies, notes, world_after, update, block, blocked, done, no, acked}
 use Rattle.ibc_machine.proofs.Openings.{with_notes}

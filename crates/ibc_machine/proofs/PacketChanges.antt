@@ -11,14 +11,14 @@ use Rattle.ibc_ids.specs.Paths.{path, is_key}
 use Rattle.ibc_ids.specs.declared.key.Key.{Key}
 use Rattle.ibc_ids.specs.declared.key.Key.TheVariants as key
 use Rattle.ibc_wire.specs.declared.records.ChannelState.TheVariants.{Closed}
-use Rattle.ibc_machine.specs.Records.{Core, Channel, Commitment, channel_at, with_channel, is_one_of, added}
-use Rattle.ibc_machine.specs.Channels.{in_state}
-use Rattle.ibc_machine.specs.Packets.{is_ordered, after_send, after_receive, without_commitment, after_ack, after_timeout}
-use Rattle.ibc_machine.specs.Parts.{Part, End, NextSend, NextRecv, NextAck, CommitmentOf, ReceiptOf, AckOf, key_of, received, acknowledged, timed_out}
-use Rattle.ibc_machine.specs.Values.{Value, ChannelIs, NumberIs, CommitmentIs, ReceiptIs, AckIs, look, receipt_if}
+use Rattle.ibc_machine.specs.chain.Records.{Core, Channel, Commitment, channel_at, with_channel, is_one_of, added}
+use Rattle.ibc_machine.specs.ics04.Channels.{in_state}
+use Rattle.ibc_machine.specs.ics04.Packets.{is_ordered, after_send, after_receive, without_commitment, after_ack, after_timeout}
+use Rattle.ibc_machine.specs.ics04.Parts.{Part, End, NextSend, NextRecv, NextAck, CommitmentOf, ReceiptOf, AckOf, key_of, received, acknowledged, timed_out}
+use Rattle.ibc_machine.specs.ics24.Values.{Value, ChannelIs, NumberIs, CommitmentIs, ReceiptIs, AckIs, look, receipt_if}
 use Rattle.ibc_machine.proofs.FiniteMaps.{by_number, by_pair, at-with_same, at-with_split, named-with}
 use Rattle.ibc_machine.proofs.SortedMaps.{Sorted, at-without_same, at-without_other, is_one_of-added, added_there}
-use Rattle.ibc_machine.specs.Image.{IsKeyed}
+use Rattle.ibc_machine.specs.ics24.Image.{IsKeyed}
 use Rattle.ibc_machine.proofs.ImageChanges.{Change, ChangesIn, IsApart}
 use Rattle.ibc_machine.proofs.ChannelChanges.{end_of, send_of, recv_of, ack_of, commitment_at, receipt_at, acknowledgement_at}
 

@@ -12,12 +12,12 @@ use Rattle.ibc_wire.specs.declared.messages.RecvPacket.{RecvPacket}
 use Rattle.ibc_wire.specs.declared.messages.AckPacket.{AckPacket}
 use Rattle.ibc_wire.specs.declared.messages.Timeout.{Timeout}
 use Rattle.ibc_wire.specs.declared.messages.TimeoutOnClose.{TimeoutOnClose}
-use Rattle.ibc_machine.specs.Records.{Core, Channel, Commitment, channel_at, commitment_of, is_one_of}
-use Rattle.ibc_machine.specs.Values.{Claim, same_commitment}
-use Rattle.ibc_machine.specs.Evidence.{Host, Evidence}
-use Rattle.ibc_machine.specs.Channels.{is_in_state, is_established, client_of, counterpart, has_channel}
-use Rattle.ibc_machine.specs.Checks.{expect}
-use Rattle.ibc_machine.specs.Packets.{has_size, has_form, has_peer, is_ordered, is_timed_out, is_committed, has_received, was_sent, was_acknowledged, not_received, waits_for, sending_end, may_receive, is_pending, recv_checked, ack_checked, timeout_checked, timeout_on_close_checked}
+use Rattle.ibc_machine.specs.chain.Records.{Core, Channel, Commitment, channel_at, commitment_of, is_one_of}
+use Rattle.ibc_machine.specs.ics24.Values.{Claim, same_commitment}
+use Rattle.ibc_machine.specs.ics24.Evidence.{Host, Evidence}
+use Rattle.ibc_machine.specs.ics04.Channels.{is_in_state, is_established, client_of, counterpart, has_channel}
+use Rattle.ibc_machine.specs.chain.Checks.{expect}
+use Rattle.ibc_machine.specs.ics04.Packets.{has_size, has_form, has_peer, is_ordered, is_timed_out, is_committed, has_received, was_sent, was_acknowledged, not_received, waits_for, sending_end, may_receive, is_pending, recv_checked, ack_checked, timeout_checked, timeout_on_close_checked}
 use Rattle.ibc_machine.proofs.SameValues.{same_commitment_is}
 use Rattle.ibc_machine.proofs.PassedRows.{require_passed, require_holds, bind_passed, then_passed, expect_passed, ok_same}
 

@@ -8,7 +8,7 @@ use Rattle.ibc_wire.specs.declared.messages.Message.TheVariants as message
 use Rattle.ibc_machine.specs.declared.event.Event.{Event}
 use Rattle.ibc_machine.specs.declared.event.Event.TheVariants as event
 use Rattle.ibc_machine.specs.declared.reply.Reply.{Reply}
-use Rattle.ibc_machine.specs.TokenData.{Data, data_text, success}
+use Rattle.ibc_machine.specs.ics20.TokenData.{Data, data_text, success}
 use Rattle.ibc_machine.proofs.Scripts.{Side, Use, for_tokens, for_several, for_notes, a, b, alice, bob, atom, atom_from_a, block, update, blocked, done, acked}
 
 -- ---- packets

@@ -1,10 +1,10 @@
 -- What a handler gives, with what applications keep beside it: `on_core` and `on_balances`.
 use Rattle.std.proofs.Common.{Ok}
 use Rattle.ibc_machine.specs.declared.reply.Effect.{Effect}
-use Rattle.ibc_machine.specs.Records.{Core, Apps}
-use Rattle.ibc_machine.specs.Checks.{Checked, ◌>>=◌}
-use Rattle.ibc_machine.specs.Bank.{Balances}
-use Rattle.ibc_machine.specs.Applications.{with_balances}
+use Rattle.ibc_machine.specs.chain.Records.{Core, Apps}
+use Rattle.ibc_machine.specs.chain.Checks.{Checked, ◌>>=◌}
+use Rattle.ibc_machine.specs.ics20.Bank.{Balances}
+use Rattle.ibc_machine.specs.chain.Applications.{with_balances}
 use Rattle.ibc_machine.proofs.PassedRows.{Gives, gives_ok, gives_bind}
 
 pub gives_on_core : {A : Type 0} (P : Effect × Core × A → Type 0) (given : Checked (Effect × Core)) (app : A) → Gives (λ (w : Effect × Core). P (w.0, w.1, app)) given

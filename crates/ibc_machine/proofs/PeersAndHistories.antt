@@ -4,13 +4,13 @@ use Rattle.std.specs.List.{zip}
 use Rattle.ibc_ids.specs.Texts.{Text}
 use Rattle.ibc_wire.specs.declared.packet.Packet.{Packet}
 use Rattle.ibc_machine.specs.declared.event.Event.{Event}
-use Rattle.ibc_machine.specs.Records.{Channel}
-use Rattle.ibc_machine.specs.Genesis.{start}
-use Rattle.ibc_machine.specs.Machine.{World}
-use Rattle.ibc_machine.specs.TokenData.{success}
-use Rattle.ibc_machine.specs.Peers.{are_peers, end_at}
-use Rattle.ibc_machine.specs.Histories as history
-use Rattle.ibc_machine.specs.Histories.{End, Happened, received, acknowledged, timed_out, sequences}
+use Rattle.ibc_machine.specs.chain.Records.{Channel}
+use Rattle.ibc_machine.specs.chain.Genesis.{start}
+use Rattle.ibc_machine.specs.chain.Machine.{World}
+use Rattle.ibc_machine.specs.ics20.TokenData.{success}
+use Rattle.ibc_machine.specs.promises.Peers.{are_peers, end_at}
+use Rattle.ibc_machine.specs.promises.Histories as history
+use Rattle.ibc_machine.specs.promises.Histories.{End, Happened, received, acknowledged, timed_out, sequences}
 use Rattle.ibc_machine.proofs.Computing.{computing}
 use Rattle.ibc_machine.proofs.Scripts.{Side, Use, a, b, c, second, a_and_b, for_tokens, for_notes, replies, world_after, update, block}
 use Rattle.ibc_machine.proofs.Openings.{opening, with_tokens, with_notes}

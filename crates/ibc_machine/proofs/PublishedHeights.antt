@@ -2,7 +2,7 @@
 -- heights than the capacity, and goes on otherwise.
 use Rattle.std.proofs.Common.{◌≡◌, ◌∷◌, [], refl}
 use Rattle.ibc_ids.specs.declared.refusal.Refusal.TheVariants.{UnknownChain, OwnChain, UnknownClient, NotPublished, WrongHeader, TimeBack, TableFull}
-use Rattle.ibc_machine.specs.Genesis.{start}
+use Rattle.ibc_machine.specs.chain.Genesis.{start}
 use Rattle.ibc_machine.proofs.Computing.{computing}
 use Rattle.ibc_machine.proofs.Scripts.{a, b, c, second, a_and_b, a_b_and_c, replies, create, update, update_at, block, block_at, new_client, blocked, done, no}
 

@@ -3,8 +3,8 @@ use Rattle.std.proofs.Common.{◌≡◌, codes, ◌∷◌, ◌++◌, [], refl}
 use Rattle.ibc_ids.specs.Texts.{Text}
 use Rattle.ibc_ids.specs.declared.refusal.Refusal.TheVariants.{BadProof, NoCommitment}
 use Rattle.ibc_wire.specs.declared.packet.Packet.{Packet}
-use Rattle.ibc_machine.specs.Machine.{World}
-use Rattle.ibc_machine.specs.TokenData.{success, error}
+use Rattle.ibc_machine.specs.chain.Machine.{World}
+use Rattle.ibc_machine.specs.ics20.TokenData.{success, error}
 use Rattle.ibc_machine.proofs.Computing.{computing}
 use Rattle.ibc_machine.proofs.Scripts.{a, b, alice, bob, atom, atom_from_a, escrow_0, holds, alice_has_all, a_and_b, replies, balances, world_after, update, block, blocked, done, no, sent, acked}
 use Rattle.ibc_machine.proofs.Openings.{with_tokens}

@@ -5,8 +5,8 @@ use Rattle.ibc_wire.specs.declared.records.Order.TheVariants.{Ordered}
 use Rattle.ibc_wire.specs.declared.packet.Packet.{Packet}
 use Rattle.ibc_machine.specs.declared.event.Event.{Event}
 use Rattle.ibc_machine.specs.declared.reply.Reply.{Reply}
-use Rattle.ibc_machine.specs.Machine.{World}
-use Rattle.ibc_machine.specs.TokenData.{success}
+use Rattle.ibc_machine.specs.chain.Machine.{World}
+use Rattle.ibc_machine.specs.ics20.TokenData.{success}
 use Rattle.ibc_machine.proofs.Computing.{computing}
 use Rattle.ibc_machine.proofs.Scripts.{a, b, second, alice, bob, atom, a_and_b, for_tokens, replies, world_after, update, block, block_at, blocked, done, no, sent, acked}
 use Rattle.ibc_machine.proofs.Openings.{with_tokens, begin_channel, close_channel}

@@ -7,10 +7,10 @@ use Rattle.ibc_wire.specs.declared.packet.Packet.{Packet}
 use Rattle.ibc_wire.specs.declared.messages.Message.TheVariants as message
 use Rattle.ibc_machine.specs.declared.event.Event.{Event}
 use Rattle.ibc_machine.specs.declared.event.Event.TheVariants as event
-use Rattle.ibc_machine.specs.Machine.{World, true_marks}
-use Rattle.ibc_machine.specs.Replay.{empty_chain}
-use Rattle.ibc_machine.specs.Relay.{View, Receive, Acknowledge, TimeOut, TimeOutClosed, Kind, Pending, view_of, pending, plan, proof_at}
-use Rattle.ibc_machine.specs.TokenData.{success}
+use Rattle.ibc_machine.specs.chain.Machine.{World, true_marks}
+use Rattle.ibc_machine.specs.ledger.Replay.{empty_chain}
+use Rattle.ibc_machine.specs.ics18.Relay.{View, Receive, Acknowledge, TimeOut, TimeOutClosed, Kind, Pending, view_of, pending, plan, proof_at}
+use Rattle.ibc_machine.specs.ics20.TokenData.{success}
 use Rattle.ibc_machine.proofs.Computing.{computing, hashing}
 use Rattle.ibc_machine.proofs.Scripts.{Side, Use, a, b, alice, bob, atom, a_and_b, for_tokens, for_notes, replies_by, world_after, update, block, done, no, acked}
 use Rattle.ibc_machine.proofs.Openings.{with_tokens, with_notes, close_channel}

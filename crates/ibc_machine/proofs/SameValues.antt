@@ -13,8 +13,8 @@ use Rattle.ibc_wire.specs.declared.records.Order.TheVariants.{Unordered, Ordered
 use Rattle.ibc_wire.specs.declared.records.ConnectionEnd.{ConnectionEnd}
 use Rattle.ibc_wire.specs.declared.records.ChannelEnd.{ChannelEnd}
 use Rattle.ibc_wire.specs.declared.records.ClientState.{ClientState}
-use Rattle.ibc_machine.specs.Records.{Commitment}
-use Rattle.ibc_machine.specs.Values.{same_optional, same_connection, same_channel, same_client, same_commitment}
+use Rattle.ibc_machine.specs.chain.Records.{Commitment}
+use Rattle.ibc_machine.specs.ics24.Values.{same_optional, same_connection, same_channel, same_client, same_commitment}
 
 -- ---- by their numbers
 

@@ -12,10 +12,10 @@ use Rattle.ibc_machine.specs.declared.event.Event.TheVariants as event
 use Rattle.ibc_machine.specs.declared.reply.Effect.TheVariants as effect
 use Rattle.ibc_machine.specs.declared.reply.Reply.{Reply}
 use Rattle.ibc_machine.specs.declared.reply.Reply.TheVariants as reply
-use Rattle.ibc_machine.specs.Records.{Chain}
-use Rattle.ibc_machine.specs.Bank.{Balances}
-use Rattle.ibc_machine.specs.Genesis.{GenesisState, ChainState, Holding}
-use Rattle.ibc_machine.specs.Machine.{World, Marks, answer}
+use Rattle.ibc_machine.specs.chain.Records.{Chain}
+use Rattle.ibc_machine.specs.ics20.Bank.{Balances}
+use Rattle.ibc_machine.specs.chain.Genesis.{GenesisState, ChainState, Holding}
+use Rattle.ibc_machine.specs.chain.Machine.{World, Marks, answer}
 
 -- every root is true, and every proof is the written one
 abbrev pub honest : Marks

@@ -11,17 +11,17 @@ use Rattle.ibc_wire.specs.declared.messages.Message.{Message}
 use Rattle.ibc_wire.specs.declared.messages.Message.TheVariants as message
 use Rattle.ibc_machine.specs.declared.event.Event.TheVariants as event
 use Rattle.ibc_machine.specs.declared.entry.Reading.{Reading}
-use Rattle.ibc_machine.specs.Genesis.{GenesisState}
-use Rattle.ibc_machine.specs.Handlers.{handle, message_answer}
-use Rattle.ibc_machine.specs.Machine.{row_if}
-use Rattle.ibc_machine.specs.Clients.{create_client, update_client}
-use Rattle.ibc_machine.specs.Connections.{conn_open_init, conn_open_try, conn_open_ack, conn_open_confirm}
-use Rattle.ibc_machine.specs.Channels.{chan_open_init, chan_open_try, chan_open_ack, chan_open_confirm, chan_close_init, chan_close_confirm}
-use Rattle.ibc_machine.specs.Packets.{require_timeouts, recv_checked, recv_packet, ack_checked, ack_packet, timeout_checked, timeout, timeout_on_close_checked, timeout_on_close}
-use Rattle.ibc_machine.specs.Transfers.{send_tokens, transfer, transfer_many}
-use Rattle.ibc_machine.specs.Notes.{send_note}
-use Rattle.ibc_machine.specs.Replay.{LedgerState, StampedEntry, is_published_as, row_read, proves, after_answer, ledger_answer, entry_answer}
-use Rattle.ibc_machine.specs.Ledgers.{IsReading, header_in, fits, reading_fits}
+use Rattle.ibc_machine.specs.chain.Genesis.{GenesisState}
+use Rattle.ibc_machine.specs.chain.Handlers.{handle, message_answer}
+use Rattle.ibc_machine.specs.chain.Machine.{row_if}
+use Rattle.ibc_machine.specs.ics02.Clients.{create_client, update_client}
+use Rattle.ibc_machine.specs.ics03.Connections.{conn_open_init, conn_open_try, conn_open_ack, conn_open_confirm}
+use Rattle.ibc_machine.specs.ics04.Channels.{chan_open_init, chan_open_try, chan_open_ack, chan_open_confirm, chan_close_init, chan_close_confirm}
+use Rattle.ibc_machine.specs.ics04.Packets.{require_timeouts, recv_checked, recv_packet, ack_checked, ack_packet, timeout_checked, timeout, timeout_on_close_checked, timeout_on_close}
+use Rattle.ibc_machine.specs.ics20.Transfers.{send_tokens, transfer, transfer_many}
+use Rattle.ibc_machine.specs.chain.Notes.{send_note}
+use Rattle.ibc_machine.specs.ledger.Replay.{LedgerState, StampedEntry, is_published_as, row_read, proves, after_answer, ledger_answer, entry_answer}
+use Rattle.ibc_machine.specs.ledger.Ledgers.{IsReading, header_in, fits, reading_fits}
 use Rattle.ibc_machine.proofs.Members.{get_left}
 
 -- ---- rows

@@ -6,9 +6,9 @@ use Rattle.ibc_ids.specs.Names.{hop}
 use Rattle.ibc_ids.specs.declared.refusal.Refusal.TheVariants.{NoConsensus, BadProof, NoCommitment, TooLarge, BadMessage}
 use Rattle.ibc_wire.specs.declared.packet.Packet.{Packet}
 use Rattle.ibc_machine.specs.declared.event.Event.{Event}
-use Rattle.ibc_machine.specs.Genesis.{GenesisState, start}
-use Rattle.ibc_machine.specs.Transfers.{receive_transfer}
-use Rattle.ibc_machine.specs.TokenData.{success, error}
+use Rattle.ibc_machine.specs.chain.Genesis.{GenesisState, start}
+use Rattle.ibc_machine.specs.ics20.Transfers.{receive_transfer}
+use Rattle.ibc_machine.specs.ics20.TokenData.{success, error}
 use Rattle.ibc_machine.proofs.Computing.{computing}
 use Rattle.ibc_machine.proofs.Scripts.{a, b, second, alice, bob, atom, atom_from_a, escrow_0, holds, a_and_b, chain_with, for_tokens, replies, balances, world_after, update, block, blocked, done, no, sent, acked}
 use Rattle.ibc_machine.proofs.Openings.{opening, with_tokens, with_notes}

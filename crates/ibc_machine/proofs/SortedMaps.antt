@@ -9,7 +9,7 @@ use Rattle.std.specs.FinMap.Entries.{below_all}
 use Rattle.std.proofs.lemmas.Bool.{and_parts, and_from}
 use Rattle.ibc_ids.proofs.Texts.{lt_is_less}
 use Rattle.ibc_ids.specs.Maps.{Map, at, with, without}
-use Rattle.ibc_machine.specs.Records.{is_one_of, added}
+use Rattle.ibc_machine.specs.chain.Records.{is_one_of, added}
 use Rattle.ibc_machine.proofs.FiniteMaps.{TellsApart, is_equal, by_number}
 
 -- the key is below all others

@@ -2,8 +2,8 @@
 use Rattle.std.proofs.Common.{◌≡◌, ℕ, ◌∷◌, ◌++◌, [], refl}
 use Rattle.ibc_ids.specs.declared.refusal.Refusal.TheVariants.{NoTimeout, TimeoutPassed, NoCommitment, NotTimedOut}
 use Rattle.ibc_wire.specs.declared.packet.Packet.{Packet}
-use Rattle.ibc_machine.specs.Machine.{World}
-use Rattle.ibc_machine.specs.TokenData.{success}
+use Rattle.ibc_machine.specs.chain.Machine.{World}
+use Rattle.ibc_machine.specs.ics20.TokenData.{success}
 use Rattle.ibc_machine.proofs.Computing.{computing}
 use Rattle.ibc_machine.proofs.Scripts.{a, b, alice, bob, atom, a_and_b, replies, world_after, update, update_at, block, block_at, blocked, done, no, sent, acked}
 use Rattle.ibc_machine.proofs.Openings.{with_tokens}

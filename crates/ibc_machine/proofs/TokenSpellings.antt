@@ -1,8 +1,8 @@
 -- The data of a packet of tokens has one spelling; any other is bad data.
 use Rattle.std.proofs.Common.{◌≡◌, ◌^◌, ◌-◌, codes, ◌∷◌, [], refl, map, replicate, length, Some, None, Option}
 use Rattle.ibc_ids.specs.Texts.{Text}
-use Rattle.ibc_machine.specs.TokenData.{Data, success, data_text, data_of}
-use Rattle.ibc_machine.specs.Transfers.{receive_transfer}
+use Rattle.ibc_machine.specs.ics20.TokenData.{Data, success, data_text, data_of}
+use Rattle.ibc_machine.specs.ics20.Transfers.{receive_transfer}
 use Rattle.ibc_machine.proofs.Computing.{computing}
 use Rattle.ibc_machine.proofs.Scripts.{alice, bob, atom, for_tokens}
 use Rattle.ibc_machine.proofs.PacketScripts.{there, token_data}

@@ -1,8 +1,8 @@
 -- Tokens go from a to b and on to c, with one hop more in their names each time, and come all the way home.
 use Rattle.std.proofs.Common.{◌≡◌, ◌∷◌, ◌++◌, List, [], refl}
 use Rattle.ibc_machine.specs.declared.event.Event.{Event}
-use Rattle.ibc_machine.specs.Genesis.{start}
-use Rattle.ibc_machine.specs.Machine.{World}
+use Rattle.ibc_machine.specs.chain.Genesis.{start}
+use Rattle.ibc_machine.specs.chain.Machine.{World}
 use Rattle.ibc_machine.proofs.Computing.{computing}
 use Rattle.ibc_machine.proofs.Scripts.{Side, a, b, c, second, alice, bob, carol, atom, atom_from_a, atom_over_b, escrow_0, escrow_1, holds, a_b_and_c, for_tokens, replies, balances, world_after, sent}
 use Rattle.ibc_machine.proofs.Openings.{opening, opened}

@@ -2,8 +2,8 @@
 use Rattle.std.proofs.Common.{◌≡◌, ◌∷◌, List, [], refl}
 use Rattle.ibc_ids.specs.declared.refusal.Refusal.TheVariants.{AlreadyReceived, NoCommitment}
 use Rattle.ibc_machine.specs.declared.event.Event.{Event}
-use Rattle.ibc_machine.specs.Machine.{World}
-use Rattle.ibc_machine.specs.TokenData.{success}
+use Rattle.ibc_machine.specs.chain.Machine.{World}
+use Rattle.ibc_machine.specs.ics20.TokenData.{success}
 use Rattle.ibc_machine.proofs.Computing.{computing}
 use Rattle.ibc_machine.proofs.Scripts.{a, b, alice, bob, atom, atom_from_a, escrow_0, holds, alice_has_all, a_and_b, replies, balances, world_after, update, block, blocked, done, no, sent, acked}
 use Rattle.ibc_machine.proofs.Openings.{with_tokens}

@@ -3,10 +3,10 @@
 use Rattle.std.proofs.Common.{◌≡◌, ℕ, codes, ◌∷◌, [], refl, Ok, Err}
 use Rattle.ibc_ids.specs.declared.refusal.Refusal.TheVariants.{UnknownChain, UnknownChannel, WrongState, BadMessage}
 use Rattle.ibc_wire.specs.declared.packet.Packet.{Packet}
-use Rattle.ibc_machine.specs.Checks.{Checked}
-use Rattle.ibc_machine.specs.Machine.{World}
-use Rattle.ibc_machine.specs.TokenData.{success, error}
-use Rattle.ibc_machine.specs.Totals.{Totals, totals}
+use Rattle.ibc_machine.specs.chain.Checks.{Checked}
+use Rattle.ibc_machine.specs.chain.Machine.{World}
+use Rattle.ibc_machine.specs.ics20.TokenData.{success, error}
+use Rattle.ibc_machine.specs.promises.Totals.{Totals, totals}
 use Rattle.ibc_machine.proofs.Computing.{computing}
 use Rattle.ibc_machine.proofs.Scripts.{a, b, second, alice, bob, atom, atom_from_a, escrow_0, a_and_b, for_tokens, world_after, update, block}
 use Rattle.ibc_machine.proofs.Openings.{with_tokens, begin_channel}

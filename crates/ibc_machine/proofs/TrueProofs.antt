@@ -14,11 +14,11 @@ use Rattle.ibc_machine.specs.declared.entry.Reading.{Reading}
 use Rattle.ibc_machine.specs.declared.event.Event.{Event}
 use Rattle.ibc_machine.specs.declared.event.Event.TheVariants as event
 use Rattle.ibc_machine.specs.declared.reply.Reply.{Reply}
-use Rattle.ibc_machine.specs.Records.{Core}
-use Rattle.ibc_machine.specs.Image.{image, core_root}
-use Rattle.ibc_machine.specs.Genesis.{start}
-use Rattle.ibc_machine.specs.Machine.{World, true_marks}
-use Rattle.ibc_machine.specs.Replay.{StampedEntry, LedgerState, empty_chain, starting_state, entry_answer, met_states}
+use Rattle.ibc_machine.specs.chain.Records.{Core}
+use Rattle.ibc_machine.specs.ics24.Image.{image, core_root}
+use Rattle.ibc_machine.specs.chain.Genesis.{start}
+use Rattle.ibc_machine.specs.chain.Machine.{World, true_marks}
+use Rattle.ibc_machine.specs.ledger.Replay.{StampedEntry, LedgerState, empty_chain, starting_state, entry_answer, met_states}
 use Rattle.ibc_machine.proofs.Computing.{computing, hashing}
 use Rattle.ibc_machine.proofs.Scripts.{a, b, a_and_b, replies_by, world_after, create, block, shown, new_client, new_connection, done, no}
 use Rattle.ibc_machine.proofs.Openings.{begin_connection}

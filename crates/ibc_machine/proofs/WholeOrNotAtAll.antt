@@ -5,9 +5,9 @@ use Rattle.ibc_ids.specs.Texts.{Text}
 use Rattle.ibc_wire.specs.declared.packet.Packet.{Packet}
 use Rattle.ibc_wire.specs.declared.token.Token.{Token}
 use Rattle.ibc_machine.specs.declared.event.Event.{Event}
-use Rattle.ibc_machine.specs.Genesis.{GenesisState, start}
-use Rattle.ibc_machine.specs.Machine.{World}
-use Rattle.ibc_machine.specs.TokenData.{success, error}
+use Rattle.ibc_machine.specs.chain.Genesis.{GenesisState, start}
+use Rattle.ibc_machine.specs.chain.Machine.{World}
+use Rattle.ibc_machine.specs.ics20.TokenData.{success, error}
 use Rattle.ibc_machine.proofs.Computing.{computing}
 use Rattle.ibc_machine.proofs.Scripts.{a, b, alice, bob, atom, gold, gold_from_a, escrow_0, holds, a_and_b, chain_with, for_several, replies, balances, world_after, update, block, blocked, done, sent, acked}
 use Rattle.ibc_machine.proofs.Openings.{opening}

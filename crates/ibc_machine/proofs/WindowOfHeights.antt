@@ -3,8 +3,8 @@
 use Rattle.std.proofs.Common.{◌≡◌, ℕ, true, false, ◌∷◌, [], refl, map}
 use Rattle.ibc_ids.specs.declared.refusal.Refusal.TheVariants.{NotPublished, Pruned}
 use Rattle.ibc_machine.specs.declared.reply.Reply.{Reply}
-use Rattle.ibc_machine.specs.Genesis.{GenesisState, start}
-use Rattle.ibc_machine.specs.Machine.{answer, is_gone}
+use Rattle.ibc_machine.specs.chain.Genesis.{GenesisState, start}
+use Rattle.ibc_machine.specs.chain.Machine.{answer, is_gone}
 use Rattle.ibc_machine.proofs.Computing.{computing}
 use Rattle.ibc_machine.proofs.Scripts.{a, b, a_and_b, honest, shown, replies, world_after, create, update, block, new_client, blocked, done, no}
 

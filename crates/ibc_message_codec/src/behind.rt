@@ -5,9 +5,9 @@ ghost use Rattle.std.specs.Int.{w64};
 ghost use Rattle.ibc_wire.specs.Reading.{str_at_front};
 ghost use Rattle.ibc_wire.specs.Fronts.{Gives, number_at_front, amount_at_front, name_at_front};
 
-use ibc_codec::Wire;
-use ibc_codec::fields::{read_n8, read_n16, read_name, read_str};
 use ibc_ids::{Bytes, Kind, Name, Refusal};
+use ibc_wire::Wire;
+use ibc_wire::fields::{read_n8, read_n16, read_name, read_str};
 use std::alloc::Global;
 
 /// A whole number of 8 bytes behind what was read before.

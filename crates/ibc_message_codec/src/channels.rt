@@ -10,11 +10,11 @@ ghost use Rattle.ibc_message_codec.specs.ChannelFronts.{chan_open_init_fields, c
 use crate::behind::{n8_behind, name_behind, str_behind, value_behind};
 use crate::parts::write_proof;
 use crate::payload::Payload;
-use ibc_codec::Wire;
-use ibc_codec::fields::{read_name, write_name};
 use ibc_ids::{ConnectionId, PortId, Refusal};
+use ibc_wire::fields::{read_name, write_name};
 use ibc_wire::{
-    ChanCloseConfirm, ChanCloseInit, ChanOpenAck, ChanOpenConfirm, ChanOpenInit, ChanOpenTry, Order,
+    ChanCloseConfirm, ChanCloseInit, ChanOpenAck, ChanOpenConfirm, ChanOpenInit, ChanOpenTry,
+    Order, Wire,
 };
 use std::alloc::Global;
 

@@ -3,10 +3,9 @@
 ghost use Rattle.ibc_message_codec.specs.ClientFronts.{create_client_fields, update_client_fields, create_client_at_front, update_client_at_front};
 
 use crate::payload::Payload;
-use ibc_codec::Wire;
-use ibc_codec::fields::{read_name, read_u8, write_name, write_u8};
 use ibc_ids::Refusal;
-use ibc_wire::{CreateClient, Header, UpdateClient};
+use ibc_wire::fields::{read_name, read_u8, write_name, write_u8};
+use ibc_wire::{CreateClient, Header, UpdateClient, Wire};
 use std::alloc::Global;
 
 impl Payload for CreateClient {

@@ -5,10 +5,9 @@ ghost use Rattle.ibc_message_codec.specs.ConnectionFronts.{conn_open_init_fields
 use crate::behind::{n8_behind, name_behind, str_behind, value_behind};
 use crate::parts::{write_proof, write_proofs};
 use crate::payload::Payload;
-use ibc_codec::Wire;
-use ibc_codec::fields::{read_name, write_name};
 use ibc_ids::Refusal;
-use ibc_wire::{ClientState, ConnOpenAck, ConnOpenConfirm, ConnOpenInit, ConnOpenTry};
+use ibc_wire::fields::{read_name, write_name};
+use ibc_wire::{ClientState, ConnOpenAck, ConnOpenConfirm, ConnOpenInit, ConnOpenTry, Wire};
 use std::alloc::Global;
 
 impl Payload for ConnOpenInit {

@@ -8,10 +8,9 @@ ghost use Rattle.ibc_message_codec.specs.PacketFronts.{recv_packet_fields, ack_p
 use crate::behind::{n8_behind, str_behind};
 use crate::parts::{write_proof, write_proofs};
 use crate::payload::Payload;
-use ibc_codec::Wire;
-use ibc_codec::fields::{write_n8, write_str};
 use ibc_ids::{Bytes, Refusal};
-use ibc_wire::{AckPacket, Packet, RecvPacket, Timeout, TimeoutOnClose};
+use ibc_wire::fields::{write_n8, write_str};
+use ibc_wire::{AckPacket, Packet, RecvPacket, Timeout, TimeoutOnClose, Wire};
 use std::alloc::Global;
 
 impl Payload for RecvPacket {

@@ -6,8 +6,8 @@ ghost use Rattle.ibc_ids.specs.Names.{is_memo, is_receiver};
 ghost use Rattle.ibc_wire.specs.Fields.{n8, str, name as a_name};
 ghost use Rattle.ibc_wire.specs.Fronts.{Writes};
 
-use ibc_codec::fields::{write_n8, write_name, write_str};
 use ibc_ids::{Bytes, Memo, Receiver, Refusal};
+use ibc_wire::fields::{write_n8, write_name, write_str};
 
 /// Writes a height of the peer, and what proves a record of it.
 pub fn write_proof(out: &mut Vec<u8>, height: u64, proof: &Bytes) -> Result<(), Refusal>

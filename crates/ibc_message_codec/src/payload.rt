@@ -6,8 +6,8 @@ ghost use Rattle.ibc_wire.specs.Fields.{Field, u8};
 ghost use Rattle.ibc_wire.specs.Reading.{Front};
 ghost use Rattle.ibc_wire.specs.Fronts.{Gives, Writes};
 
-use ibc_codec::fields::write_u8;
 use ibc_ids::Refusal;
+use ibc_wire::fields::write_u8;
 use std::alloc::Global;
 
 /// A kind of message, whose values are spelled as fields in their order.

@@ -5,10 +5,9 @@ ghost use Rattle.ibc_message_codec.specs.TransferFronts.{transfer_fields, send_n
 use crate::behind::{n8_behind, n16_behind, name_behind, str_behind, value_behind};
 use crate::parts::write_delivery;
 use crate::payload::Payload;
-use ibc_codec::Wire;
-use ibc_codec::fields::{read_name, write_n8, write_n16, write_name, write_str};
 use ibc_ids::Refusal;
-use ibc_wire::{SendNote, Tokens, Transfer, TransferMany};
+use ibc_wire::fields::{read_name, write_n8, write_n16, write_name, write_str};
+use ibc_wire::{SendNote, Tokens, Transfer, TransferMany, Wire};
 use std::alloc::Global;
 
 impl Payload for Transfer {

@@ -6,9 +6,9 @@ use Rattle.ibc_ids.specs.declared.refusal.Refusal.TheVariants.{WrongOrder, Wrong
 use Rattle.ibc_wire.specs.declared.records.Order.{Order}
 use Rattle.ibc_wire.specs.declared.records.Order.TheVariants.{Ordered}
 use Rattle.ibc_wire.specs.declared.packet.Packet.{Packet}
-use Rattle.ibc_machine.specs.Values.{same_order}
-use Rattle.ibc_machine.specs.Packets.{has_size}
-use Rattle.ibc_machine.specs.Notes.{opens_for_notes, receive_note}
+use Rattle.ibc_machine.specs.ics24.Values.{same_order}
+use Rattle.ibc_machine.specs.ics04.Packets.{has_size}
+use Rattle.ibc_machine.specs.chain.Notes.{opens_for_notes, receive_note}
 use Rattle.ibc_app_port.specs.Openings.{order_or_version}
 
 -- an opening is refused for the order or the version alone

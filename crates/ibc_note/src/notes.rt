@@ -5,7 +5,7 @@ ghost use Rattle.std.specs.Option.{unwrap_or};
 ghost use Rattle.ibc_ids.specs.Texts.{Text, same_text, text_cmp};
 ghost use Rattle.ibc_ids.specs.Maps.{at, with};
 ghost use Rattle.ibc_ids.specs.declared.refusal.Refusal.TheVariants.{NoMemory};
-ghost use Rattle.ibc_machine.specs.Notes.{note_port, opens_for_notes, closes_for_notes, receive_note};
+ghost use Rattle.ibc_machine.specs.chain.Notes.{note_port, opens_for_notes, closes_for_notes, receive_note};
 ghost use Rattle.ibc_note.specs.Laws.{notes_open_or_refuse, notes_write_sized_acks};
 ghost use Rattle.ibc_note.specs.Plain.{plain_notes};
 
@@ -93,7 +93,7 @@ impl App for Notes {
 
     ghost times_out = { λ notes version packet. Ok notes };
 
-    #[tactic(auto, unfolding(ibc_machine::specs::Checks::and_then))]
+    #[tactic(auto, unfolding(ibc_machine::specs::chain::Checks::and_then))]
     fn on_open(&self, order: Order, version: &Version) -> Result<(), Refusal> {
         if order != Order::Ordered {
             return Err(Refusal::WrongOrder);

@@ -3,10 +3,10 @@
 ghost use Rattle.std.specs.Prelude.{◌≡◌, ◌-◌, ◌^◌, ◌<◌, ℕ, Some, IfOk, IfErr};
 ghost use Rattle.ibc_ids.specs.declared.refusal.Refusal.TheVariants.{NoMemory};
 ghost use Rattle.ibc_machine.specs.declared.reply.Effect.TheVariants as effect;
-ghost use Rattle.ibc_machine.specs.Notes as notes;
-ghost use Rattle.ibc_machine.specs.Notes.{note_commitment};
-ghost use Rattle.ibc_machine.specs.Packets.{with_sent};
-ghost use Rattle.ibc_machine.specs.Records.{channel_at};
+ghost use Rattle.ibc_machine.specs.chain.Notes as notes;
+ghost use Rattle.ibc_machine.specs.chain.Notes.{note_commitment};
+ghost use Rattle.ibc_machine.specs.ics04.Packets.{with_sent};
+ghost use Rattle.ibc_machine.specs.chain.Records.{channel_at};
 ghost use Rattle.ibc_records.specs.Held.{core_of};
 ghost use Rattle.ibc_records.specs.Taking.{IsHandled};
 ghost use Rattle.ibc_client.specs.Judging.{IsJudged};

@@ -6,12 +6,12 @@ use Rattle.ibc_ids.specs.Maps.{at}
 use Rattle.ibc_ids.specs.declared.publication.Publication.{Publication}
 use Rattle.ibc_wire.specs.declared.records.ConnectionEnd.{ConnectionEnd}
 use Rattle.ibc_ids.specs.declared.refusal.Refusal.TheVariants.{NoTimeout, TimeoutPassed}
-use Rattle.ibc_machine.specs.Checks.{require, and_then, ◌>>◌}
-use Rattle.ibc_machine.specs.Evidence.{Evidence}
-use Rattle.ibc_machine.specs.Records.{Core, Client, Channel, Commitment, client_at, connection_at, knows}
-use Rattle.ibc_machine.specs.Replay.{LedgerState, proves}
-use Rattle.ibc_machine.specs.Packets.{is_reached, has_passed, require_timeouts}
-use Rattle.ibc_machine.specs.Image.{IsKeyed}
+use Rattle.ibc_machine.specs.chain.Checks.{require, and_then, ◌>>◌}
+use Rattle.ibc_machine.specs.ics24.Evidence.{Evidence}
+use Rattle.ibc_machine.specs.chain.Records.{Core, Client, Channel, Commitment, client_at, connection_at, knows}
+use Rattle.ibc_machine.specs.ledger.Replay.{LedgerState, proves}
+use Rattle.ibc_machine.specs.ics04.Packets.{is_reached, has_passed, require_timeouts}
+use Rattle.ibc_machine.specs.ics24.Image.{IsKeyed}
 use Rattle.ibc_records.specs.declared.client.ConsensusState.{ConsensusState}
 use Rattle.ibc_records.specs.HeldClients.{HeldClient, plain_client}
 use Rattle.ibc_records.specs.Held.{HeldRecords, core_of, consensus_in}

@@ -5,9 +5,9 @@ use Rattle.ibc_ids.specs.Texts.{Text, same_text}
 use Rattle.ibc_ids.specs.declared.key.Key.TheVariants as key
 use Rattle.ibc_wire.specs.declared.packet.Packet.{Packet}
 use Rattle.ibc_wire.specs.declared.records.ChannelEnd.{ChannelEnd}
-use Rattle.ibc_machine.specs.Records.{Channel, Commitment}
-use Rattle.ibc_machine.specs.Values.{NumberIs, has, lacks, same_optional, same_commitment}
-use Rattle.ibc_machine.specs.Packets.{has_peer, is_ordered, not_received}
+use Rattle.ibc_machine.specs.chain.Records.{Channel, Commitment}
+use Rattle.ibc_machine.specs.ics24.Values.{NumberIs, has, lacks, same_optional, same_commitment}
+use Rattle.ibc_machine.specs.ics04.Packets.{has_peer, is_ordered, not_received}
 use Rattle.ibc_client.proofs.FoundRows.{bytes_eq-same}
 
 pub peer_named : (mine : Channel) (port channel : Text) (end : ChannelEnd) (peer : Text) → end ≡ mine.end → end.peer_channel ≡ Some peer

@@ -10,12 +10,12 @@ use Rattle.ibc_wire.specs.declared.messages.RecvPacket.{RecvPacket}
 use Rattle.ibc_wire.specs.declared.messages.AckPacket.{AckPacket}
 use Rattle.ibc_wire.specs.declared.messages.Timeout.{Timeout}
 use Rattle.ibc_wire.specs.declared.messages.TimeoutOnClose.{TimeoutOnClose}
-use Rattle.ibc_machine.specs.Records.{Core, Channel, channel_at}
-use Rattle.ibc_machine.specs.Replay.{LedgerState, proves}
-use Rattle.ibc_machine.specs.Checks.{Checked, require, expect, ◌>>=◌, ◌>>◌}
-use Rattle.ibc_machine.specs.Evidence.{Host, Evidence, require_known, require_proof}
-use Rattle.ibc_machine.specs.Channels.{client_of, has_channel, is_in_state}
-use Rattle.ibc_machine.specs.Packets.{sending_end, has_size, has_form, may_receive, may_acknowledge, is_pending, was_sent, was_acknowledged, not_received, waits_for, recv_checked, ack_checked, timeout_checked, timeout_on_close_checked}
+use Rattle.ibc_machine.specs.chain.Records.{Core, Channel, channel_at}
+use Rattle.ibc_machine.specs.ledger.Replay.{LedgerState, proves}
+use Rattle.ibc_machine.specs.chain.Checks.{Checked, require, expect, ◌>>=◌, ◌>>◌}
+use Rattle.ibc_machine.specs.ics24.Evidence.{Host, Evidence, require_known, require_proof}
+use Rattle.ibc_machine.specs.ics04.Channels.{client_of, has_channel, is_in_state}
+use Rattle.ibc_machine.specs.ics04.Packets.{sending_end, has_size, has_form, may_receive, may_acknowledge, is_pending, was_sent, was_acknowledged, not_received, waits_for, recv_checked, ack_checked, timeout_checked, timeout_on_close_checked}
 use Rattle.ibc_machine.proofs.PassedChecks.{pass, find}
 use Rattle.ibc_packet.specs.Passing.{require_timed_out, closed_there}
 

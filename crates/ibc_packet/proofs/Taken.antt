@@ -16,13 +16,13 @@ use Rattle.ibc_wire.specs.declared.messages.Timeout.{Timeout}
 use Rattle.ibc_wire.specs.declared.messages.TimeoutOnClose.{TimeoutOnClose}
 use Rattle.ibc_machine.specs.declared.reply.Effect.{Effect}
 use Rattle.ibc_machine.specs.declared.reply.Effect.TheVariants as effect
-use Rattle.ibc_machine.specs.Records.{Core, Channel, connection_at, channel_at, with_channel}
-use Rattle.ibc_machine.specs.Values.{Claim}
-use Rattle.ibc_machine.specs.Checks.{Checked, require, ◌>>=◌}
-use Rattle.ibc_machine.specs.Evidence.{Host, Evidence, require_proof}
-use Rattle.ibc_machine.specs.Channels.{client_of}
-use Rattle.ibc_machine.specs.Packets.{with_received, after_receive, after_ack, after_timeout, with_timed_out, recv_checked, recv_packet, ack_checked, ack_packet, timeout_checked, timeout, timeout_on_close_checked, timeout_on_close}
-use Rattle.ibc_machine.specs.Replay.{LedgerState, proves}
+use Rattle.ibc_machine.specs.chain.Records.{Core, Channel, connection_at, channel_at, with_channel}
+use Rattle.ibc_machine.specs.ics24.Values.{Claim}
+use Rattle.ibc_machine.specs.chain.Checks.{Checked, require, ◌>>=◌}
+use Rattle.ibc_machine.specs.ics24.Evidence.{Host, Evidence, require_proof}
+use Rattle.ibc_machine.specs.ics04.Channels.{client_of}
+use Rattle.ibc_machine.specs.ics04.Packets.{with_received, after_receive, after_ack, after_timeout, with_timed_out, recv_checked, recv_packet, ack_checked, ack_packet, timeout_checked, timeout, timeout_on_close_checked, timeout_on_close}
+use Rattle.ibc_machine.specs.ledger.Replay.{LedgerState, proves}
 use Rattle.ibc_machine.proofs.PassedChecks.{find, miss}
 use Rattle.ibc_records.specs.Held.{HeldRecords, core_of, IsUnchanged}
 use Rattle.ibc_records.specs.Knowledge.{Knows}

@@ -6,11 +6,11 @@ use Rattle.ibc_ids.specs.declared.refusal.Refusal.TheVariants.{NotTimedOut}
 use Rattle.ibc_wire.specs.declared.records.ChannelState.TheVariants.{Closed}
 use Rattle.ibc_wire.specs.declared.records.ChannelEnd.{ChannelEnd}
 use Rattle.ibc_wire.specs.declared.packet.Packet.{Packet}
-use Rattle.ibc_machine.specs.Records.{Core, Channel, Commitment, client_at, commitment_of}
-use Rattle.ibc_machine.specs.Checks.{Checked, require}
-use Rattle.ibc_machine.specs.Evidence.{Evidence}
-use Rattle.ibc_machine.specs.Channels.{client_of, counterpart}
-use Rattle.ibc_machine.specs.Packets.{has_passed, is_timed_out}
+use Rattle.ibc_machine.specs.chain.Records.{Core, Channel, Commitment, client_at, commitment_of}
+use Rattle.ibc_machine.specs.chain.Checks.{Checked, require}
+use Rattle.ibc_machine.specs.ics24.Evidence.{Evidence}
+use Rattle.ibc_machine.specs.ics04.Channels.{client_of, counterpart}
+use Rattle.ibc_machine.specs.ics04.Packets.{has_passed, is_timed_out}
 
 -- what is committed of a packet with these timeouts
 abbrev pub with_timeouts : Text → ℕ → ℕ → Commitment

@@ -3,9 +3,9 @@
 ghost use Rattle.std.specs.Prelude.{◌≡◌, ◌&&◌, ◌-◌, ◌^◌, ◌<◌, ℕ, true, Some, IfOk};
 ghost use Rattle.ibc_wire.specs.Reading.{proof_of};
 ghost use Rattle.ibc_machine.specs.declared.reply.Effect.TheVariants as effect;
-ghost use Rattle.ibc_machine.specs.Packets as plain;
-ghost use Rattle.ibc_machine.specs.Packets.{is_ordered, may_acknowledge, ack_checked, ack_packet};
-ghost use Rattle.ibc_machine.specs.Records.{channel_at};
+ghost use Rattle.ibc_machine.specs.ics04.Packets as plain;
+ghost use Rattle.ibc_machine.specs.ics04.Packets.{is_ordered, may_acknowledge, ack_checked, ack_packet};
+ghost use Rattle.ibc_machine.specs.chain.Records.{channel_at};
 ghost use Rattle.ibc_records.specs.Held.{core_of};
 ghost use Rattle.ibc_records.specs.Taking.{IsHandledWith};
 ghost use Rattle.ibc_client.specs.Judging.{IsJudged};
@@ -73,7 +73,7 @@ fn judge_ack<'a>(
 }
 
 // The end may take the packet's acknowledgement.
-#[tactic(auto, unfolding(ibc_machine::specs::Checks::and_then))]
+#[tactic(auto, unfolding(ibc_machine::specs::chain::Checks::and_then))]
 fn check_acknowledgeable(mine: &Channel, packet: &Packet) -> Result<(), Refusal>
     ensures checked { result ≡ may_acknowledge mine.now packet.now }
     ensures next { IfOk result (λ _. is_ordered mine.now ≡ true → mine.now.next_ack ≡ packet.now.sequence) }

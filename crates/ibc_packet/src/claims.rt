@@ -2,9 +2,9 @@
 
 ghost use Rattle.std.specs.Prelude.{◌≡◌, ℕ, true, Some, IfOk, IfErr};
 ghost use Rattle.ibc_ids.specs.declared.refusal.Refusal.TheVariants.{NoMemory};
-ghost use Rattle.ibc_machine.specs.Packets.{not_received, was_acknowledged, was_sent};
-ghost use Rattle.ibc_machine.specs.Records.{commitment_of, connection_at, knows};
-ghost use Rattle.ibc_machine.specs.Values.{value_bytes, CommitmentIs};
+ghost use Rattle.ibc_machine.specs.ics04.Packets.{not_received, was_acknowledged, was_sent};
+ghost use Rattle.ibc_machine.specs.chain.Records.{commitment_of, connection_at, knows};
+ghost use Rattle.ibc_machine.specs.ics24.Values.{value_bytes, CommitmentIs};
 ghost use Rattle.ibc_records.specs.Held.{core_of};
 ghost use Rattle.ibc_client.specs.Judging.{IsShown};
 ghost use Rattle.ibc_client.specs.Peers.{IsPeerShown};

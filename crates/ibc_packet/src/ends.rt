@@ -2,12 +2,12 @@
 
 ghost use Rattle.std.specs.Prelude.{◌≡◌, ◌⊎◌, ◌&&◌, ◌==◌, nat_lt, true, Some, Ok, Err, IfOk, IfErr};
 ghost use Rattle.ibc_ids.specs.declared.refusal.Refusal.TheVariants.{NoMemory, UnknownChannel};
-ghost use Rattle.ibc_machine.specs.Channels as channels;
-ghost use Rattle.ibc_machine.specs.Checks.{expect};
-ghost use Rattle.ibc_machine.specs.Evidence.{require_known};
-ghost use Rattle.ibc_machine.specs.Packets as plain;
-ghost use Rattle.ibc_machine.specs.Records.{channel_at, commitment_of, connection_at, knows};
-ghost use Rattle.ibc_machine.specs.Values.{same_commitment};
+ghost use Rattle.ibc_machine.specs.ics04.Channels as channels;
+ghost use Rattle.ibc_machine.specs.chain.Checks.{expect};
+ghost use Rattle.ibc_machine.specs.ics24.Evidence.{require_known};
+ghost use Rattle.ibc_machine.specs.ics04.Packets as plain;
+ghost use Rattle.ibc_machine.specs.chain.Records.{channel_at, commitment_of, connection_at, knows};
+ghost use Rattle.ibc_machine.specs.ics24.Values.{same_commitment};
 ghost use Rattle.ibc_records.specs.Held.{core_of};
 
 use ibc_client::known_connection;
@@ -96,7 +96,7 @@ fn has_timeouts(found: &Commitment, packet: &Packet) -> bool
 /// The end sent the packet, which isn't settled. Refused, by the first check that fails: `WrongState` where the end is
 /// neither in `Open` nor in `Closed`; `WrongPeer` where its peer isn't the packet's destination; `NoCommitment` where the
 /// packet's own commitment doesn't stand.
-#[tactic(auto, unfolding(ibc_machine::specs::Checks::and_then))]
+#[tactic(auto, unfolding(ibc_machine::specs::chain::Checks::and_then))]
 pub fn check_pending(mine: &Channel, packet: &Packet) -> Result<(), Refusal>
     ensures { result ≡ plain.is_pending mine.now packet.now }
 {

@@ -3,8 +3,8 @@
 ghost use Rattle.std.specs.Prelude.{◌≡◌, ◌⊎◌, ◌&&◌, ◌-◌, ◌^◌, ◌<◌, true, Some, Err, is_some, IfOk, IfErr};
 ghost use Rattle.ibc_ids.specs.declared.refusal.Refusal.TheVariants.{BadMessage, NoMemory};
 ghost use Rattle.ibc_wire.specs.Reading.{proof_of};
-ghost use Rattle.ibc_machine.specs.Checks.{require};
-ghost use Rattle.ibc_machine.specs.Packets as plain;
+ghost use Rattle.ibc_machine.specs.chain.Checks.{require};
+ghost use Rattle.ibc_machine.specs.ics04.Packets as plain;
 
 use ibc_client::read_proof;
 use ibc_ids::Refusal;

@@ -3,9 +3,9 @@
 ghost use Rattle.std.specs.Prelude.{◌≡◌, ◌≤◌, ℕ, true, Some, IfOk};
 ghost use Rattle.ibc_wire.specs.Reading.{proof_of};
 ghost use Rattle.ibc_machine.specs.declared.reply.Effect.TheVariants as effect;
-ghost use Rattle.ibc_machine.specs.Packets as plain;
-ghost use Rattle.ibc_machine.specs.Packets.{is_ordered, may_receive, recv_checked, recv_packet};
-ghost use Rattle.ibc_machine.specs.Records.{channel_at};
+ghost use Rattle.ibc_machine.specs.ics04.Packets as plain;
+ghost use Rattle.ibc_machine.specs.ics04.Packets.{is_ordered, may_receive, recv_checked, recv_packet};
+ghost use Rattle.ibc_machine.specs.chain.Records.{channel_at};
 ghost use Rattle.ibc_records.specs.Held.{core_of};
 ghost use Rattle.ibc_records.specs.Taking.{host_with, IsHandledWith};
 ghost use Rattle.ibc_client.specs.Judging.{IsJudged};
@@ -71,7 +71,7 @@ fn judge_recv<'a>(
 }
 
 // The end may receive the packet in the working block.
-#[tactic(auto, unfolding(ibc_machine::specs::Checks::and_then))]
+#[tactic(auto, unfolding(ibc_machine::specs::chain::Checks::and_then))]
 fn check_receivable(records: &Records, mine: &Channel, packet: &Packet) -> Result<(), Refusal>
     ensures checked { (chain chains : ℕ) → result ≡ may_receive (host_with chain chains records.now) mine.now packet.now }
     ensures next { IfOk result (λ _. is_ordered mine.now ≡ true → mine.now.next_recv ≤ packet.now.sequence) }

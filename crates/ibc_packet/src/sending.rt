@@ -2,8 +2,8 @@
 
 ghost use Rattle.std.specs.Prelude.{◌≡◌, ◌&&◌, ◌==◌, Some, IfOk};
 ghost use Rattle.ibc_ids.specs.Texts.{Text};
-ghost use Rattle.ibc_machine.specs.Packets as plain;
-ghost use Rattle.ibc_machine.specs.Records.{channel_at, knows};
+ghost use Rattle.ibc_machine.specs.ics04.Packets as plain;
+ghost use Rattle.ibc_machine.specs.chain.Records.{channel_at, knows};
 ghost use Rattle.ibc_records.specs.Held.{core_of};
 ghost use Rattle.ibc_client.specs.Judging.{IsEvident, IsPassed};
 ghost use Rattle.ibc_packet.specs.Passing.{is_passed_over, with_timeouts};

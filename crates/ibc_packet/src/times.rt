@@ -1,8 +1,8 @@
 //! When packets are too late.
 
 ghost use Rattle.std.specs.Prelude.{◌≡◌, ◌+◌, ◌-◌, ◌^◌, min};
-ghost use Rattle.ibc_machine.specs.Packets as plain;
-ghost use Rattle.ibc_machine.specs.Records.{commitment_of};
+ghost use Rattle.ibc_machine.specs.ics04.Packets as plain;
+ghost use Rattle.ibc_machine.specs.chain.Records.{commitment_of};
 ghost use Rattle.ibc_path_store.specs.Held.{height_of};
 
 use ibc_records::Records;

@@ -3,9 +3,9 @@
 ghost use Rattle.std.specs.Prelude.{◌≡◌, ℕ, true, Some, IfOk};
 ghost use Rattle.ibc_wire.specs.Reading.{proof_of};
 ghost use Rattle.ibc_machine.specs.declared.reply.Effect.TheVariants as effect;
-ghost use Rattle.ibc_machine.specs.Packets as plain;
-ghost use Rattle.ibc_machine.specs.Packets.{timeout_on_close_checked};
-ghost use Rattle.ibc_machine.specs.Records.{channel_at};
+ghost use Rattle.ibc_machine.specs.ics04.Packets as plain;
+ghost use Rattle.ibc_machine.specs.ics04.Packets.{timeout_on_close_checked};
+ghost use Rattle.ibc_machine.specs.chain.Records.{channel_at};
 ghost use Rattle.ibc_records.specs.Held.{core_of};
 ghost use Rattle.ibc_records.specs.Taking.{IsHandledWith};
 ghost use Rattle.ibc_client.specs.Judging.{IsJudged};

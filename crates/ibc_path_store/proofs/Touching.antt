@@ -6,8 +6,8 @@ use Rattle.std.proofs.Math.Seq.{drop-append-add}
 use Rattle.std.specs.List.{insert, remove}
 use Rattle.ibc_ids.specs.Texts.{Text}
 use Rattle.ibc_merkle.specs.Tree.{Pairs}
-use Rattle.ibc_nodes.specs.Gaps.{DifferIn}
-use Rattle.ibc_nodes.specs.declared.gap.Gap.{Gap}
+use Rattle.ibc_forest.specs.Gaps.{DifferIn}
+use Rattle.ibc_forest.specs.declared.gap.Gap.{Gap}
 use Rattle.ibc_path_store.specs.Touching.{Shares, IsReplaced, no_gap, shrunk, touched}
 
 abbrev own : ℕ → ℕ → ℕ → Gap

@@ -1,7 +1,7 @@
 -- What a store holds, and what it keeps of each height.
 use Rattle.std.specs.Prelude.{ℕ, ◌+◌, ◌-◌, ◌^◌, min, List, [], ◌∷◌, ◌++◌, length, drop, slice_get, nat_lt, true, false, Option, None}
 use Rattle.ibc_merkle.specs.Tree.{Pairs}
-use Rattle.ibc_nodes.specs.declared.gap.Gap.{Gap}
+use Rattle.ibc_forest.specs.declared.gap.Gap.{Gap}
 
 -- the pairs of a map in the order of their keys, how many paths more can be set without a refusal, and the gaps in which the map was touched
 -- since it was settled, if they are known

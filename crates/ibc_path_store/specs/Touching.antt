@@ -1,8 +1,8 @@
 -- What of a map stayed since it was settled.
 use Rattle.std.specs.Prelude.{◌≡◌, ℕ, ◌+◌, ◌-◌, ◌≤◌, cond, List, [], ◌∷◌, length, take, drop, nat_lt, nat_le, Option, Some, None, ⊤}
 use Rattle.ibc_merkle.specs.Tree.{Pairs}
-use Rattle.ibc_nodes.specs.Gaps.{DifferIn}
-use Rattle.ibc_nodes.specs.declared.gap.Gap.{Gap}
+use Rattle.ibc_forest.specs.Gaps.{DifferIn}
+use Rattle.ibc_forest.specs.declared.gap.Gap.{Gap}
 
 -- the pairs are the last ones but in the gaps, if these are known
 abbrev pub Shares : Option (List Gap) → Pairs → Pairs → Type 0

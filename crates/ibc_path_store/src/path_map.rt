@@ -12,9 +12,9 @@ ghost use Rattle.ibc_path_store.specs.Touching.{Shares};
 
 use crate::spare::Spare;
 use crate::touched::Touched;
+use ibc_forest::{Gap, SharedEntry};
 use ibc_ids::Bytes;
 use ibc_merkle::Entry;
-use ibc_nodes::{Gap, SharedEntry};
 use std::alloc::{AllocError, Global};
 use std::marker::Model;
 

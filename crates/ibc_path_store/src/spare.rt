@@ -2,8 +2,8 @@
 
 ghost use Rattle.std.specs.Prelude.{◌≡◌, ◌+◌, ◌≤◌, ◌<◌, IfOk, IsOk, OnOk, vec_len};
 
+use ibc_forest::{SharedEntry, SpareEntry};
 use ibc_merkle::Entry;
-use ibc_nodes::{SharedEntry, SpareEntry};
 use std::alloc::{AllocError, Global};
 use std::marker::Model;
 

@@ -9,16 +9,16 @@ ghost use Rattle.ibc_ids.specs.declared.refusal.Refusal.TheVariants.{NoMemory, N
 ghost use Rattle.ibc_merkle.specs.Tree.{tree_root};
 ghost use Rattle.ibc_merkle.specs.Written.{written};
 ghost use Rattle.std.specs.FinMap.{is_sorted};
-ghost use Rattle.ibc_nodes.specs.Counts.{CountsEachNewLeaf};
-ghost use Rattle.ibc_nodes.specs.Leaves.{count_new, keys};
+ghost use Rattle.ibc_forest.specs.Counts.{CountsEachNewLeaf};
+ghost use Rattle.ibc_forest.specs.Leaves.{count_new, keys};
 ghost use Rattle.ibc_path_store.specs.Held.{committed, height_of, kept_at};
 ghost use Rattle.ibc_path_store.specs.Touching.{Shares};
 
 use crate::path_map::PathMap;
 use crate::tree::Tree;
+use ibc_forest::Forest;
 use ibc_ids::{Bytes, Key, Refusal, Root};
 use ibc_merkle::Proof;
-use ibc_nodes::Forest;
 use std::alloc::{AllocError, Global};
 use std::marker::Model;
 

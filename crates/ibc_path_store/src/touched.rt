@@ -4,7 +4,7 @@ ghost use Rattle.std.specs.Prelude.{◌≡◌, ◌+◌, ◌-◌, ◌<◌, ◌≤
 ghost use Rattle.ibc_merkle.specs.Tree.{Pairs};
 ghost use Rattle.ibc_path_store.specs.Touching.{Shares, IsReplaced, no_gap, shrunk, touched};
 
-use ibc_nodes::Gap;
+use ibc_forest::Gap;
 use std::alloc::Global;
 use std::marker::Model;
 
@@ -18,7 +18,7 @@ pub struct Touched {
 
 impl Model for Touched {
     ghost use Rattle.std.specs.Prelude.{Option, Some, None, List, true, false};
-    ghost use Rattle.ibc_nodes.specs.declared.gap.Gap.{Gap};
+    ghost use Rattle.ibc_forest.specs.declared.gap.Gap.{Gap};
 
     ghost Value = { Option (List Gap) };
 

@@ -5,9 +5,9 @@ ghost use Rattle.ibc_ids.specs.declared.refusal.Refusal.TheVariants.{NoMemory};
 ghost use Rattle.ibc_merkle.specs.Tree.{tree_root};
 ghost use Rattle.ibc_merkle.specs.Written.{written};
 
+use ibc_forest::SharedTree;
 use ibc_ids::{Refusal, Root};
 use ibc_merkle::Proof;
-use ibc_nodes::SharedTree;
 use std::alloc::Global;
 use std::marker::Model;
 

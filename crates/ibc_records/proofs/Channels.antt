@@ -8,9 +8,9 @@ use Rattle.ibc_ids.specs.Paths.{path, nth_channel}
 use Rattle.ibc_ids.specs.declared.key.Key.TheVariants as key
 use Rattle.ibc_merkle.specs.Tree.{Pairs}
 use Rattle.ibc_wire.specs.declared.records.ChannelEnd.{ChannelEnd}
-use Rattle.ibc_machine.specs.Records.{Core, Channel, with_channel}
-use Rattle.ibc_machine.specs.Channels.{new_channel, with_new_channel}
-use Rattle.ibc_machine.specs.Values.{ChannelIs, NumberIs, value_bytes}
+use Rattle.ibc_machine.specs.chain.Records.{Core, Channel, with_channel}
+use Rattle.ibc_machine.specs.ics04.Channels.{new_channel, with_new_channel}
+use Rattle.ibc_machine.specs.ics24.Values.{ChannelIs, NumberIs, value_bytes}
 use Rattle.ibc_machine.proofs.CoreChanges.{changes-next_channel, keyed-next_channel}
 use Rattle.ibc_machine.proofs.ChannelChanges.{HasNoPackets, new_channel_at, changes-with_new_channel, keyed-with_new_channel, changes-with_channel_end, keyed-with_channel_end}
 use Rattle.ibc_path_store.specs.Held.{HeldStore}

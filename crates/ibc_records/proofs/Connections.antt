@@ -8,9 +8,9 @@ use Rattle.ibc_ids.specs.Paths.{path}
 use Rattle.ibc_ids.specs.declared.key.Key.TheVariants as key
 use Rattle.ibc_merkle.specs.Tree.{Pairs}
 use Rattle.ibc_wire.specs.declared.records.ConnectionEnd.{ConnectionEnd}
-use Rattle.ibc_machine.specs.Records.{Core, with_connection}
-use Rattle.ibc_machine.specs.Connections.{with_new_connection}
-use Rattle.ibc_machine.specs.Values.{ConnectionIs, NumberIs, value_bytes}
+use Rattle.ibc_machine.specs.chain.Records.{Core, with_connection}
+use Rattle.ibc_machine.specs.ics03.Connections.{with_new_connection}
+use Rattle.ibc_machine.specs.ics24.Values.{ConnectionIs, NumberIs, value_bytes}
 use Rattle.ibc_machine.proofs.CoreChanges.{changes-with_connection, keyed-with_connection, changes-next_connection, keyed-next_connection}
 use Rattle.ibc_path_store.specs.Held.{HeldStore}
 use Rattle.ibc_records.specs.Held.{HeldRecords, IsHeld, AddsConnection, SetsConnection, core_of}

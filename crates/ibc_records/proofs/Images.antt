@@ -5,9 +5,9 @@ use Rattle.ibc_ids.specs.Maps.{with}
 use Rattle.ibc_ids.specs.Paths.{path}
 use Rattle.ibc_ids.specs.declared.key.Key.{Key}
 use Rattle.ibc_merkle.specs.Tree.{Pairs}
-use Rattle.ibc_machine.specs.Records.{Core}
-use Rattle.ibc_machine.specs.Values.{Value, value_bytes}
-use Rattle.ibc_machine.specs.Image.{image, IsKeyed}
+use Rattle.ibc_machine.specs.chain.Records.{Core}
+use Rattle.ibc_machine.specs.ics24.Values.{Value, value_bytes}
+use Rattle.ibc_machine.specs.ics24.Image.{image, IsKeyed}
 use Rattle.ibc_machine.proofs.ImageChanges.{Change, ChangesAt, ChangesIn, with_changes, image_changes_in, one_change}
 use Rattle.ibc_records.specs.Held.{HeldRecords, IsHeld, AreOrderly, IsStored, core_of}
 use Rattle.ibc_records.proofs.Stores.{Becomes}

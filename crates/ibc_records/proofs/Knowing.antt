@@ -8,7 +8,7 @@ use Rattle.std.proofs.lemmas.Map.Lookups.{exact_unsigned}
 use Rattle.ibc_ids.specs.Texts.{Text, text_cmp}
 use Rattle.ibc_ids.specs.Maps.{Map, at}
 use Rattle.ibc_ids.proofs.Maps.{at-map_values}
-use Rattle.ibc_machine.specs.Records.{Client, knows, is_one_of}
+use Rattle.ibc_machine.specs.chain.Records.{Client, knows, is_one_of}
 use Rattle.ibc_records.specs.HeldClients.{HeldClient, plain_client}
 use Rattle.ibc_records.specs.Held.{HeldRecords, core_of, consensus_in}
 

@@ -3,7 +3,7 @@ use Rattle.std.proofs.Common.{◌≡◌, ℕ, false, cond, is_eq, Ordering, Less
 use Rattle.std.specs.Ordering.{nat_cmp}
 use Rattle.ibc_ids.specs.Texts.{Text, text_cmp}
 use Rattle.ibc_ids.specs.Maps.{Map, at}
-use Rattle.ibc_machine.specs.Replay.{LedgerState, Consensus, consensus_cmp, empty_chain}
+use Rattle.ibc_machine.specs.ledger.Replay.{LedgerState, Consensus, consensus_cmp, empty_chain}
 use Rattle.ibc_records.specs.declared.client.ConsensusState.{ConsensusState}
 use Rattle.ibc_records.specs.HeldClients.{HeldClient}
 use Rattle.ibc_records.specs.Held.{HeldRecords}

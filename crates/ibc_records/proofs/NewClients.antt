@@ -8,9 +8,9 @@ use Rattle.ibc_ids.specs.Paths.{path}
 use Rattle.ibc_ids.specs.declared.key.Key.TheVariants as key
 use Rattle.ibc_ids.proofs.Maps.{map_values-with}
 use Rattle.ibc_merkle.specs.Tree.{Pairs}
-use Rattle.ibc_machine.specs.Records.{Core, with_client}
-use Rattle.ibc_machine.specs.Clients.{new_client}
-use Rattle.ibc_machine.specs.Values.{ClientIs, NumberIs, value_bytes}
+use Rattle.ibc_machine.specs.chain.Records.{Core, with_client}
+use Rattle.ibc_machine.specs.ics02.Clients.{new_client}
+use Rattle.ibc_machine.specs.ics24.Values.{ClientIs, NumberIs, value_bytes}
 use Rattle.ibc_machine.proofs.CoreChanges.{changes-with_client, keyed-with_client, changes-next_client, keyed-next_client}
 use Rattle.ibc_path_store.specs.Held.{HeldStore}
 use Rattle.ibc_records.specs.HeldClients.{HeldClient, plain_client, new_held}

@@ -7,9 +7,9 @@ use Rattle.ibc_ids.specs.Paths.{path, is_key}
 use Rattle.ibc_ids.specs.declared.key.Key.{Key}
 use Rattle.ibc_ids.specs.declared.key.Key.TheVariants as key
 use Rattle.ibc_wire.specs.declared.records.ConnectionEnd.{ConnectionEnd}
-use Rattle.ibc_machine.specs.Records.{Channel}
-use Rattle.ibc_machine.specs.Values.{Value, NumberIs, look, value_bytes}
-use Rattle.ibc_machine.specs.Image.{image, IsKeyed}
+use Rattle.ibc_machine.specs.chain.Records.{Channel}
+use Rattle.ibc_machine.specs.ics24.Values.{Value, NumberIs, look, value_bytes}
+use Rattle.ibc_machine.specs.ics24.Image.{image, IsKeyed}
 use Rattle.ibc_path_store.specs.Held.{HeldStore}
 use Rattle.ibc_records.specs.HeldClients.{HeldClient}
 use Rattle.ibc_records.specs.declared.records.NextNumbers.{NextNumbers}

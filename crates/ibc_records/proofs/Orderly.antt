@@ -10,13 +10,13 @@ use Rattle.ibc_ids.specs.Maps.{at, with, without}
 use Rattle.ibc_ids.specs.Paths.{nth_channel}
 use Rattle.ibc_wire.specs.declared.records.ChannelEnd.{ChannelEnd}
 use Rattle.ibc_wire.specs.declared.records.ChannelState.TheVariants.{Closed}
-use Rattle.ibc_machine.specs.Records.{Channel, Commitment, added}
-use Rattle.ibc_machine.specs.Channels.{new_channel, in_state}
-use Rattle.ibc_machine.specs.Packets.{is_ordered, after_send, after_receive, without_commitment, after_ack, after_timeout}
+use Rattle.ibc_machine.specs.chain.Records.{Channel, Commitment, added}
+use Rattle.ibc_machine.specs.ics04.Channels.{new_channel, in_state}
+use Rattle.ibc_machine.specs.ics04.Packets.{is_ordered, after_send, after_receive, without_commitment, after_ack, after_timeout}
 use Rattle.ibc_machine.proofs.FiniteMaps.{by_number, by_pair, pair_cmp_total, at-with_other, found_in_with}
 use Rattle.ibc_machine.proofs.SortedMaps.{Sorted-from, Sorted-to, Sorted-with, Sorted-without, at-without_same, at-without_other}
 use Rattle.ibc_machine.proofs.Identifiers.{nth_channel_same}
-use Rattle.ibc_flight.specs.Orderly.{IsOrderly, IsOrderlyEnd}
+use Rattle.ibc_machine.specs.chain.Orderly.{IsOrderly, IsOrderlyEnd}
 use Rattle.ibc_records.specs.Held.{HeldRecords, IsHeld, AreNumbered, AreOrderly, core_of}
 
 -- ---- an end, step by step

@@ -11,16 +11,16 @@ use Rattle.ibc_ids.specs.declared.key.Key.TheVariants as key
 use Rattle.ibc_ids.specs.declared.refusal.Refusal.{Refusal}
 use Rattle.ibc_ids.specs.declared.refusal.Refusal.TheVariants.{NoMemory}
 use Rattle.ibc_wire.specs.declared.records.ChannelEnd.{ChannelEnd}
-use Rattle.ibc_machine.specs.Checks.{Checked}
-use Rattle.ibc_machine.specs.Records.{Core, Channel, Commitment, channel_at, with_channel}
-use Rattle.ibc_machine.specs.Packets.{after_send, after_receive, after_ack, after_timeout}
-use Rattle.ibc_machine.specs.Parts.{Part, entry_of, received, acknowledged, timed_out}
-use Rattle.ibc_machine.specs.Values.{Value, CommitmentIs, NumberIs, AckIs, value_bytes}
+use Rattle.ibc_machine.specs.chain.Checks.{Checked}
+use Rattle.ibc_machine.specs.chain.Records.{Core, Channel, Commitment, channel_at, with_channel}
+use Rattle.ibc_machine.specs.ics04.Packets.{after_send, after_receive, after_ack, after_timeout}
+use Rattle.ibc_machine.specs.ics04.Parts.{Part, entry_of, received, acknowledged, timed_out}
+use Rattle.ibc_machine.specs.ics24.Values.{Value, CommitmentIs, NumberIs, AckIs, value_bytes}
 use Rattle.ibc_machine.proofs.SortedMaps.{Sorted, Sorted-from}
 use Rattle.ibc_machine.proofs.ImageChanges.{with_changes}
 use Rattle.ibc_machine.proofs.PacketChanges.{Edit, EditsOf, change_of, edits_of_send, edits_of_receive, edits_of_settling, changes-with_edits, keyed-with_edits, edits-after_send, edits-after_receive, edits-after_ack, edits-after_timeout}
 use Rattle.ibc_path_store.specs.Held.{HeldStore}
-use Rattle.ibc_flight.specs.Orderly.{IsOrderlyEnd}
+use Rattle.ibc_machine.specs.chain.Orderly.{IsOrderlyEnd}
 use Rattle.ibc_records.specs.Held.{HeldRecords, IsHeld, AreOrderly, core_of}
 use Rattle.ibc_records.specs.Taking.{IsWritten}
 use Rattle.ibc_records.proofs.Orderly.{Channels, still_there, orderly_sent, orderly_received, orderly_acknowledged, orderly_timed_out}

@@ -3,8 +3,8 @@ use Rattle.std.proofs.Common.{◌≡◌, ℕ, ◌+◌, Bool, true, false, sym, a
 use Rattle.std.specs.Prelude.{OnOk, IsOk, if◌then◌else◌}
 use Rattle.ibc_ids.specs.Texts.{Text}
 use Rattle.ibc_ids.specs.Maps.{Map, with}
-use Rattle.ibc_machine.specs.Records.{Channel, added}
-use Rattle.ibc_machine.specs.Packets.{is_ordered, after_receive}
+use Rattle.ibc_machine.specs.chain.Records.{Channel, added}
+use Rattle.ibc_machine.specs.ics04.Packets.{is_ordered, after_receive}
 
 -- what a call says where it isn't refused
 pub where_ok : {T E : Type 0} (r : Result T E) (P : Type 0) → IsOk r → OnOk r P → P

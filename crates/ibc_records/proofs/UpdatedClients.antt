@@ -8,9 +8,9 @@ use Rattle.ibc_ids.specs.Names.{is_client}
 use Rattle.ibc_ids.specs.Paths.{path}
 use Rattle.ibc_ids.specs.declared.key.Key.TheVariants as key
 use Rattle.ibc_ids.proofs.Maps.{map_values-with, keys_of-with}
-use Rattle.ibc_machine.specs.Records.{with_client}
-use Rattle.ibc_machine.specs.Clients.{updated}
-use Rattle.ibc_machine.specs.Values.{ClientIs, value_bytes}
+use Rattle.ibc_machine.specs.chain.Records.{with_client}
+use Rattle.ibc_machine.specs.ics02.Clients.{updated}
+use Rattle.ibc_machine.specs.ics24.Values.{ClientIs, value_bytes}
 use Rattle.ibc_machine.proofs.CoreChanges.{changes-with_client, keyed-with_client}
 use Rattle.ibc_path_store.specs.Held.{HeldStore}
 use Rattle.ibc_records.specs.declared.client.ConsensusState.{ConsensusState}

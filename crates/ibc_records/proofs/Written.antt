@@ -6,10 +6,10 @@ use Rattle.ibc_ids.specs.Maps.{at}
 use Rattle.ibc_ids.proofs.Texts.{text_cmp_total}
 use Rattle.ibc_wire.specs.declared.records.ConnectionEnd.{ConnectionEnd}
 use Rattle.ibc_wire.specs.declared.records.ChannelEnd.{ChannelEnd}
-use Rattle.ibc_machine.specs.Records.{with_client, with_connection, with_channel}
-use Rattle.ibc_machine.specs.Clients.{new_client}
-use Rattle.ibc_machine.specs.Connections.{with_new_connection}
-use Rattle.ibc_machine.specs.Channels.{with_new_channel}
+use Rattle.ibc_machine.specs.chain.Records.{with_client, with_connection, with_channel}
+use Rattle.ibc_machine.specs.ics02.Clients.{new_client}
+use Rattle.ibc_machine.specs.ics03.Connections.{with_new_connection}
+use Rattle.ibc_machine.specs.ics04.Channels.{with_new_channel}
 use Rattle.ibc_machine.proofs.Images.{at-with}
 use Rattle.ibc_records.specs.HeldClients.{HeldClient, new_held}
 use Rattle.ibc_records.specs.Held.{HeldRecords, core_of, consensus_in, AddsClient, AddsConnection, SetsConnection, AddsChannel, SetsChannelEnd}

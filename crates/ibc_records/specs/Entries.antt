@@ -6,7 +6,7 @@ use Rattle.ibc_ids.specs.Paths.{path}
 use Rattle.ibc_ids.specs.declared.key.Key.TheVariants as key
 use Rattle.ibc_merkle.specs.Tree.{Pairs}
 use Rattle.ibc_wire.specs.declared.records.ChannelEnd.{ChannelEnd}
-use Rattle.ibc_machine.specs.Values.{ChannelIs, NumberIs, value_bytes}
+use Rattle.ibc_machine.specs.ics24.Values.{ChannelIs, NumberIs, value_bytes}
 
 -- with these values at these paths, one after another
 abbrev pub with_all : Pairs → Pairs → Pairs

@@ -8,14 +8,14 @@ use Rattle.ibc_ids.specs.Maps.{Map, at, with}
 use Rattle.ibc_ids.specs.Paths.{nth_channel}
 use Rattle.ibc_wire.specs.declared.records.ConnectionEnd.{ConnectionEnd}
 use Rattle.ibc_wire.specs.declared.records.ChannelEnd.{ChannelEnd}
-use Rattle.ibc_machine.specs.Records.{Core, Client, Channel, with_client, with_connection, with_channel}
-use Rattle.ibc_machine.specs.Connections.{with_new_connection}
-use Rattle.ibc_machine.specs.Channels.{new_channel, with_new_channel}
-use Rattle.ibc_machine.specs.Genesis.{empty_core}
-use Rattle.ibc_machine.specs.Image.{image, IsKeyed}
-use Rattle.ibc_machine.specs.Clients.{new_client, updated}
+use Rattle.ibc_machine.specs.chain.Records.{Core, Client, Channel, with_client, with_connection, with_channel}
+use Rattle.ibc_machine.specs.ics03.Connections.{with_new_connection}
+use Rattle.ibc_machine.specs.ics04.Channels.{new_channel, with_new_channel}
+use Rattle.ibc_machine.specs.chain.Genesis.{empty_core}
+use Rattle.ibc_machine.specs.ics24.Image.{image, IsKeyed}
+use Rattle.ibc_machine.specs.ics02.Clients.{new_client, updated}
 use Rattle.ibc_path_store.specs.Held.{HeldStore, Hashed, committed}
-use Rattle.ibc_flight.specs.Orderly.{IsOrderlyEnd}
+use Rattle.ibc_machine.specs.chain.Orderly.{IsOrderlyEnd}
 use Rattle.ibc_records.specs.declared.client.ConsensusState.{ConsensusState}
 use Rattle.ibc_records.specs.declared.records.NextNumbers.{NextNumbers}
 use Rattle.ibc_records.specs.HeldClients.{HeldClient, plain_client, new_held, with_height}

@@ -4,7 +4,7 @@ use Rattle.std.specs.Map.{keys_of}
 use Rattle.std.specs.Ordering.{nat_cmp}
 use Rattle.ibc_ids.specs.Maps.{Map, with}
 use Rattle.ibc_wire.specs.declared.records.ClientState.{ClientState}
-use Rattle.ibc_machine.specs.Records.{Client}
+use Rattle.ibc_machine.specs.chain.Records.{Client}
 use Rattle.ibc_records.specs.declared.client.ConsensusState.{ConsensusState}
 
 -- the client's state, and the consensus states by height

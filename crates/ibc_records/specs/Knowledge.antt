@@ -1,7 +1,7 @@
 -- What clients know, beside the ledger's state that its history leaves.
 use Rattle.std.specs.Prelude.{◌≡◌, ℕ, Some}
 use Rattle.ibc_ids.specs.Texts.{Text}
-use Rattle.ibc_machine.specs.Replay.{LedgerState, Consensus, consensus_at}
+use Rattle.ibc_machine.specs.ledger.Replay.{LedgerState, Consensus, consensus_at}
 use Rattle.ibc_records.specs.declared.client.ConsensusState.{ConsensusState}
 use Rattle.ibc_records.specs.Held.{HeldRecords, consensus_in}
 

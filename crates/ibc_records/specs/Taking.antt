@@ -4,10 +4,10 @@ use Rattle.ibc_ids.specs.declared.publication.Publication.{Publication}
 use Rattle.ibc_ids.specs.declared.refusal.Refusal.{Refusal}
 use Rattle.ibc_ids.specs.declared.refusal.Refusal.TheVariants.{NoMemory}
 use Rattle.ibc_machine.specs.declared.reply.Effect.{Effect}
-use Rattle.ibc_machine.specs.Records.{Core}
-use Rattle.ibc_machine.specs.Checks.{Checked}
-use Rattle.ibc_machine.specs.Evidence.{Host, CoreHandler, Handler}
-use Rattle.ibc_machine.specs.Replay.{LedgerState, proves}
+use Rattle.ibc_machine.specs.chain.Records.{Core}
+use Rattle.ibc_machine.specs.chain.Checks.{Checked}
+use Rattle.ibc_machine.specs.ics24.Evidence.{Host, CoreHandler, Handler}
+use Rattle.ibc_machine.specs.ledger.Replay.{LedgerState, proves}
 use Rattle.ibc_path_store.specs.Held.{height_of}
 use Rattle.ibc_records.specs.Held.{HeldRecords, core_of, IsStored, IsUnchanged}
 use Rattle.ibc_records.specs.Knowledge.{Knows, KnowsNoMore}

@@ -1,7 +1,7 @@
 //! Acknowledgements, for which room is made before they are known.
 
 ghost use Rattle.std.specs.Prelude.{◌≡◌, ◌≤◌, length, vec_len, vec_capacity, OnOk};
-ghost use Rattle.ibc_machine.specs.Values.{value_bytes, AckIs};
+ghost use Rattle.ibc_machine.specs.ics24.Values.{value_bytes, AckIs};
 
 use ibc_ids::Bytes;
 use ibc_merkle::{Steps, hash_value};

@@ -5,16 +5,16 @@ ghost use Rattle.std.specs.FinMap.{is_sorted};
 ghost use Rattle.std.specs.Ordering.{nat_cmp};
 ghost use Rattle.ibc_ids.specs.Maps.{at, without};
 ghost use Rattle.ibc_ids.specs.declared.refusal.Refusal.TheVariants.{NoMemory};
-ghost use Rattle.ibc_machine.specs.Records.{is_one_of};
-ghost use Rattle.ibc_machine.specs.Channels.{new_channel};
-ghost use Rattle.ibc_machine.specs.Packets.{is_ordered, after_send, after_receive, after_ack, after_timeout};
-ghost use Rattle.ibc_machine.specs.Values.{value_bytes, AckIs};
+ghost use Rattle.ibc_machine.specs.chain.Records.{is_one_of};
+ghost use Rattle.ibc_machine.specs.ics04.Channels.{new_channel};
+ghost use Rattle.ibc_machine.specs.ics04.Packets.{is_ordered, after_send, after_receive, after_ack, after_timeout};
+ghost use Rattle.ibc_machine.specs.ics24.Values.{value_bytes, AckIs};
 
 use crate::acknowledgement::{AckCopies, AckRoom};
 use crate::commitment::Commitment;
 use ibc_app_port::{App, Pays};
 use ibc_ids::{Bytes, Refusal};
-use ibc_shared_map::{Pairs, SharedMap};
+use ibc_maps::{Pairs, SharedMap};
 use ibc_wire::{ChannelEnd, ChannelState, Order, Packet};
 use std::alloc::{AllocError, Global};
 use std::marker::Model;
@@ -36,7 +36,7 @@ pub struct Channel {
 
 impl Model for Channel {
     ghost use Rattle.std.specs.Map.{keys_of};
-    ghost use Rattle.ibc_machine.specs.Records.{Channel as PlainChannel};
+    ghost use Rattle.ibc_machine.specs.chain.Records.{Channel as PlainChannel};
 
     ghost Value = { PlainChannel };
 

@@ -7,7 +7,7 @@ ghost use Rattle.ibc_ids.specs.declared.refusal.Refusal.TheVariants.{NoMemory};
 ghost use Rattle.ibc_records.specs.HeldClients.{new_held, with_height};
 
 use ibc_ids::{Refusal, Root};
-use ibc_shared_map::SharedMap;
+use ibc_maps::SharedMap;
 use ibc_wire::ClientState;
 use std::alloc::{AllocError, Global};
 use std::marker::Model;

@@ -16,7 +16,7 @@ pub struct Commitment {
 }
 
 impl Model for Commitment {
-    ghost use Rattle.ibc_machine.specs.Records.{Commitment as PlainCommitment};
+    ghost use Rattle.ibc_machine.specs.chain.Records.{Commitment as PlainCommitment};
 
     ghost Value = { PlainCommitment };
 

@@ -7,7 +7,7 @@ ghost use Rattle.ibc_ids.specs.Maps.{at, with, without};
 use crate::channel::Channel;
 use crate::client::Client;
 use ibc_ids::{ChannelId, ClientId, ConnectionId, PortId};
-use ibc_shared_map::SharedMap;
+use ibc_maps::SharedMap;
 use ibc_wire::ConnectionEnd;
 use std::alloc::{AllocError, Global};
 use std::cmp::Ord;

@@ -4,9 +4,9 @@ ghost use Rattle.std.specs.Prelude.{◌≡◌, ◌-◌, ◌^◌, ◌<◌, true, 
 ghost use Rattle.ibc_ids.specs.Texts.{text_cmp};
 ghost use Rattle.ibc_ids.specs.Maps.{without};
 ghost use Rattle.ibc_ids.specs.declared.refusal.Refusal.TheVariants.{NoMemory};
-ghost use Rattle.ibc_machine.specs.Packets.{is_ordered};
-ghost use Rattle.ibc_machine.specs.Values.{value_bytes};
-ghost use Rattle.ibc_machine.specs.Parts.{received, acknowledged, timed_out, entry_of};
+ghost use Rattle.ibc_machine.specs.ics04.Packets.{is_ordered};
+ghost use Rattle.ibc_machine.specs.ics24.Values.{value_bytes};
+ghost use Rattle.ibc_machine.specs.ics04.Parts.{received, acknowledged, timed_out, entry_of};
 ghost use Rattle.ibc_records.specs.Entries.{with_entry};
 
 use crate::channel::Channel;

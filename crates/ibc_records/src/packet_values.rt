@@ -3,7 +3,7 @@
 ghost use Rattle.std.specs.Prelude.{◌≡◌, ◌++◌, IfOk, IfErr, string_bytes};
 ghost use Rattle.ibc_ids.specs.Paths.{channel_path as path_of_channel};
 ghost use Rattle.ibc_ids.specs.declared.refusal.Refusal.TheVariants.{NoMemory};
-ghost use Rattle.ibc_machine.specs.Values.{value_bytes, AckIs, CommitmentIs, NumberIs};
+ghost use Rattle.ibc_machine.specs.ics24.Values.{value_bytes, AckIs, CommitmentIs, NumberIs};
 
 use crate::commitment::Commitment;
 use ibc_ids::{Bytes, ChannelId, PortId, Refusal, channel_path};

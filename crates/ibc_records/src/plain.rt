@@ -4,7 +4,7 @@ ghost use Rattle.std.specs.Prelude.{◌≡◌, map, IfOk};
 ghost use Rattle.ibc_ids.specs.Texts.{text_cmp, pair_cmp};
 ghost use Rattle.ibc_ids.specs.Maps.{at};
 ghost use Rattle.ibc_ids.specs.declared.refusal.Refusal.TheVariants.{NoMemory};
-ghost use Rattle.ibc_machine.specs.Genesis.{empty_core};
+ghost use Rattle.ibc_machine.specs.chain.Genesis.{empty_core};
 ghost use Rattle.ibc_records.specs.Held.{plain_entry, core_from};
 ghost use Rattle.ibc_records.specs.HeldClients.{plain_client};
 
@@ -25,7 +25,7 @@ pub struct PlainRecords {
 
 impl Model for PlainRecords {
     ghost use Rattle.std.specs.Prelude.{map};
-    ghost use Rattle.ibc_machine.specs.Records.{Core};
+    ghost use Rattle.ibc_machine.specs.chain.Records.{Core};
     ghost use Rattle.ibc_records.specs.Held.{plain_entry};
 
     ghost Value = { Core };

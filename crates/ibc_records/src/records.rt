@@ -8,9 +8,9 @@ ghost use Rattle.std.specs.Option.{IsSomeAnd};
 ghost use Rattle.ibc_ids.specs.declared.refusal.Refusal.TheVariants.{NoConsensus, NoMemory, TimeBack, UnknownClient};
 ghost use Rattle.ibc_merkle.specs.Written.{written};
 ghost use Rattle.ibc_records.specs.Held.{core_of, after_commit, IsNew, IsCountingFrom, AddsClient, UpdatesClient, IsUnchanged};
-ghost use Rattle.ibc_machine.specs.Genesis.{empty_core};
-ghost use Rattle.ibc_machine.specs.Image.{image, core_root, IsKeyed};
-ghost use Rattle.ibc_flight.specs.Orderly.{IsOrderly};
+ghost use Rattle.ibc_machine.specs.chain.Genesis.{empty_core};
+ghost use Rattle.ibc_machine.specs.ics24.Image.{image, core_root, IsKeyed};
+ghost use Rattle.ibc_machine.specs.chain.Orderly.{IsOrderly};
 ghost use Rattle.ibc_records.specs.HeldClients.{with_height};
 ghost use Rattle.ibc_path_store.specs.Held.{height_of, kept_at};
 

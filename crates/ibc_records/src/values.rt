@@ -6,13 +6,14 @@ ghost use Rattle.ibc_ids.specs.Maps.{with};
 ghost use Rattle.ibc_ids.specs.Paths.{path};
 ghost use Rattle.ibc_ids.specs.declared.refusal.Refusal.TheVariants.{NoMemory};
 ghost use Rattle.ibc_wire.specs.Spelling.{connection_end_bytes, channel_end_bytes};
-ghost use Rattle.ibc_machine.specs.Values.{value_bytes, NumberIs, ClientIs, ConnectionIs, ChannelIs};
+ghost use Rattle.ibc_machine.specs.ics24.Values.{value_bytes, NumberIs, ClientIs, ConnectionIs, ChannelIs};
 
-use ibc_codec::fields::{write_name, write_peer, write_text};
-use ibc_codec::{Wire, encode};
 use ibc_ids::{Bytes, Key, Refusal};
 use ibc_path_store::Store;
-use ibc_wire::{ChannelEnd, ChannelState, ClientState, ConnectionEnd, ConnectionState};
+use ibc_wire::fields::{write_name, write_peer, write_text};
+use ibc_wire::{
+    ChannelEnd, ChannelState, ClientState, ConnectionEnd, ConnectionState, Wire, encode,
+};
 use std::alloc::Global;
 
 /// Sets the value of a path, for which there is room.

@@ -3,10 +3,10 @@ use Rattle.std.proofs.Common.{◌≡◌, ℕ, true, ◌&&◌, nat_le, ap, ap₂}
 use Rattle.ibc_ids.specs.Texts.{Text}
 use Rattle.ibc_ids.specs.declared.refusal.Refusal.TheVariants as refusal
 use Rattle.ibc_wire.specs.declared.header.Header.{Header}
-use Rattle.ibc_machine.specs.Values.{Claim}
-use Rattle.ibc_machine.specs.Records.{Core, knows}
-use Rattle.ibc_machine.specs.Checks.{require}
-use Rattle.ibc_machine.specs.Evidence.{Evidence}
+use Rattle.ibc_machine.specs.ics24.Values.{Claim}
+use Rattle.ibc_machine.specs.chain.Records.{Core, knows}
+use Rattle.ibc_machine.specs.chain.Checks.{require}
+use Rattle.ibc_machine.specs.ics24.Evidence.{Evidence}
 
 -- a claim that a message makes, with the bytes of its proof
 abbrev pub Asked : Type 1

@@ -8,10 +8,10 @@ use Rattle.ibc_ids.specs.declared.publication.Publication.{Publication}
 use Rattle.ibc_machine.specs.declared.event.Event.{Event}
 use Rattle.ibc_machine.specs.declared.reply.Reply.{Reply}
 use Rattle.ibc_machine.specs.declared.entry.Entry.{Entry}
-use Rattle.ibc_machine.specs.Replay.{StampedEntry}
-use Rattle.ibc_machine.specs.Ledgers.{Ledger, SeesMore, AddsEntry, Adds, chain_of}
-use Rattle.ibc_machine.specs.Merge.{is_of}
-use Rattle.ibc_machine.specs.Worlds.{AppliesIf, Applies, AppliesEach, entries}
+use Rattle.ibc_machine.specs.ledger.Replay.{StampedEntry}
+use Rattle.ibc_machine.specs.ledger.Ledgers.{Ledger, SeesMore, AddsEntry, Adds, chain_of}
+use Rattle.ibc_machine.specs.ledger.Merge.{is_of}
+use Rattle.ibc_machine.specs.promises.Worlds.{AppliesIf, Applies, AppliesEach, entries}
 use Rattle.ibc_refinement.specs.Refinement.{GivesNothing, AreAnswered, GoesOn, Gave, AppliedIsRun}
 use Rattle.ibc_refinement.proofs.Places.{get_there, get_within}
 use Rattle.ibc_refinement.proofs.RunNext.{own_first, other_first}

@@ -4,10 +4,10 @@ use Rattle.std.specs.List.{list_all, list_any, flat_map, range_with_len}
 use Rattle.std.proofs.lemmas.Bool.{and_parts, and_from, or_left, or_right}
 use Rattle.ibc_ids.specs.Texts.{Text}
 use Rattle.ibc_ids.specs.declared.publication.Publication.{Publication}
-use Rattle.ibc_machine.specs.Genesis.{GenesisState}
-use Rattle.ibc_machine.specs.Ledgers.{Ledger}
-use Rattle.ibc_machine.specs.HashedTexts.{ledger_texts, HasNoClash}
-use Rattle.ibc_machine.specs.Worlds.{AreLedgersOf, AreOfOneTable, of_chain, by_number, is_complete}
+use Rattle.ibc_machine.specs.chain.Genesis.{GenesisState}
+use Rattle.ibc_machine.specs.ledger.Ledgers.{Ledger}
+use Rattle.ibc_machine.specs.ics23.HashedTexts.{ledger_texts, HasNoClash}
+use Rattle.ibc_machine.specs.promises.Worlds.{AreLedgersOf, AreOfOneTable, of_chain, by_number, is_complete}
 use Rattle.ibc_machine.proofs.Members.{Is_in, in_flat_map, in_flat_map_from, contains_in, in_contains}
 use Rattle.ibc_refinement.specs.Stamps.{merged_by_stamps}
 use Rattle.ibc_refinement.specs.Audits.{AreOfGenesis, AuditIsRun}

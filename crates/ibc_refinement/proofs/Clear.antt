@@ -11,10 +11,10 @@ use Rattle.ibc_ids.proofs.Paths.{different_paths}
 use Rattle.ibc_ids.specs.declared.key.Key.{Key}
 use Rattle.ibc_merkle.specs.Tree.{Pairs, tree}
 use Rattle.ibc_merkle.specs.Clashes.{tree_texts}
-use Rattle.ibc_machine.specs.Records.{Core}
-use Rattle.ibc_machine.specs.Values.{Value, Claim, look, value_bytes}
-use Rattle.ibc_machine.specs.Image.{image, keys, pair_at}
-use Rattle.ibc_machine.specs.HashedTexts.{delivered}
+use Rattle.ibc_machine.specs.chain.Records.{Core}
+use Rattle.ibc_machine.specs.ics24.Values.{Value, Claim, look, value_bytes}
+use Rattle.ibc_machine.specs.ics24.Image.{image, keys, pair_at}
+use Rattle.ibc_machine.specs.ics23.HashedTexts.{delivered}
 use Rattle.ibc_ids.proofs.Texts.{text_tied}
 use Rattle.ibc_refinement.proofs.ShortTexts.{AreBytes}
 use Rattle.ibc_merkle.proofs.Accepted.{IsClear}

@@ -4,7 +4,7 @@ use Rattle.std.specs.List.{AllByRecursion, list_any}
 use Rattle.std.specs.Ordering.{match_ordering, nat_cmp}
 use Rattle.std.proofs.lemmas.Bool.{or_cases, false≢true}
 use Rattle.ibc_ids.specs.Maps.{at, with, without}
-use Rattle.ibc_machine.specs.Records.{is_one_of, added}
+use Rattle.ibc_machine.specs.chain.Records.{is_one_of, added}
 
 module _ {K V : Type 0} (order : K → K → Ordering) (P : K × V → Type 0) where
   pub all_with : ((x y : K) → order x y ≡ Equal → x ≡ y) → (k : K) (v : V) (es : List (K × V)) → P (k, v) → AllByRecursion P es → AllByRecursion P (with order k v es)

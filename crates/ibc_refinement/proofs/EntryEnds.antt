@@ -12,14 +12,14 @@ use Rattle.ibc_machine.specs.declared.reply.Effect.TheVariants as effect
 use Rattle.ibc_machine.specs.declared.reply.Reply.{Reply}
 use Rattle.ibc_machine.specs.declared.reply.Reply.TheVariants as reply
 use Rattle.ibc_machine.specs.declared.entry.Reading.{Reading}
-use Rattle.ibc_machine.specs.Records.{Core, Apps, Chain}
-use Rattle.ibc_machine.specs.Image.{core_root}
-use Rattle.ibc_machine.specs.Checks.{Checked}
-use Rattle.ibc_machine.specs.Genesis.{GenesisState}
-use Rattle.ibc_machine.specs.Handlers.{working_height, host_of, after_message, may_commit, after_block}
-use Rattle.ibc_machine.specs.Replay.{LedgerState, StampedEntry, proves, after_answer, with_chain, ledger_answer, entry_answer, replay, met_states}
-use Rattle.ibc_machine.specs.Ledgers.{Ledger, IsOwnEntry, is_typed, chain_of, is_block_reply}
-use Rattle.ibc_machine.specs.Merge.{published_next}
+use Rattle.ibc_machine.specs.chain.Records.{Core, Apps, Chain}
+use Rattle.ibc_machine.specs.ics24.Image.{core_root}
+use Rattle.ibc_machine.specs.chain.Checks.{Checked}
+use Rattle.ibc_machine.specs.chain.Genesis.{GenesisState}
+use Rattle.ibc_machine.specs.chain.Handlers.{working_height, host_of, after_message, may_commit, after_block}
+use Rattle.ibc_machine.specs.ledger.Replay.{LedgerState, StampedEntry, proves, after_answer, with_chain, ledger_answer, entry_answer, replay, met_states}
+use Rattle.ibc_machine.specs.ledger.Ledgers.{Ledger, IsOwnEntry, is_typed, chain_of, is_block_reply}
+use Rattle.ibc_machine.specs.ledger.Merge.{published_next}
 use Rattle.ibc_machine.proofs.PassedRows.{Gives}
 use Rattle.ibc_refinement.proofs.Typed.{IsTyped}
 use Rattle.ibc_refinement.proofs.TypedMessages.{message_typed}

@@ -17,12 +17,12 @@ use Rattle.ibc_wire.specs.declared.records.ConnectionState.TheVariants as conn
 use Rattle.ibc_wire.specs.declared.records.ChannelEnd.{ChannelEnd}
 use Rattle.ibc_wire.specs.declared.records.ChannelState.{ChannelState}
 use Rattle.ibc_wire.specs.declared.records.ChannelState.TheVariants.{Init, TryOpen, Open, Closed}
-use Rattle.ibc_machine.specs.Records.{Core, Channel, connection_at, commitment_of}
-use Rattle.ibc_machine.specs.Values.{Value, ClientIs, ConnectionIs, ChannelIs, NumberIs, CommitmentIs, AckIs, has, lacks, commitment_text}
-use Rattle.ibc_machine.specs.Connections.{connection_end}
-use Rattle.ibc_machine.specs.Channels.{is_in_state, counterpart, has_channel, peer_channel_of, peer_connection_of, channel_end}
-use Rattle.ibc_machine.specs.Packets.{is_ordered, not_received}
-use Rattle.ibc_machine.specs.HashedTexts.{delivered, packet_texts, message_texts}
+use Rattle.ibc_machine.specs.chain.Records.{Core, Channel, connection_at, commitment_of}
+use Rattle.ibc_machine.specs.ics24.Values.{Value, ClientIs, ConnectionIs, ChannelIs, NumberIs, CommitmentIs, AckIs, has, lacks, commitment_text}
+use Rattle.ibc_machine.specs.ics03.Connections.{connection_end}
+use Rattle.ibc_machine.specs.ics04.Channels.{is_in_state, counterpart, has_channel, peer_channel_of, peer_connection_of, channel_end}
+use Rattle.ibc_machine.specs.ics04.Packets.{is_ordered, not_received}
+use Rattle.ibc_machine.specs.ics23.HashedTexts.{delivered, packet_texts, message_texts}
 use Rattle.ibc_refinement.proofs.ShortTexts.{AreBytes}
 use Rattle.ibc_refinement.proofs.SameSpellings.{IsShort, IsPeer, IsPlainChannel}
 use Rattle.ibc_machine.proofs.Members.{Is_in, in_left, in_right}

@@ -6,12 +6,12 @@ use Rattle.ibc_wire.specs.declared.messages.Message.{Message}
 use Rattle.ibc_wire.specs.declared.messages.Message.TheVariants as message
 use Rattle.ibc_machine.specs.declared.event.Event.TheVariants as event
 use Rattle.ibc_machine.specs.declared.entry.Reading.{Reading}
-use Rattle.ibc_machine.specs.Genesis.{GenesisState}
-use Rattle.ibc_machine.specs.Records.{Core, Block}
-use Rattle.ibc_machine.specs.Values.{Claim}
-use Rattle.ibc_machine.specs.Machine.{World, answer, block_at, true_marks}
-use Rattle.ibc_machine.specs.Replay.{LedgerState, ledger_answer}
-use Rattle.ibc_machine.specs.HashedTexts.{message_texts}
+use Rattle.ibc_machine.specs.chain.Genesis.{GenesisState}
+use Rattle.ibc_machine.specs.chain.Records.{Core, Block}
+use Rattle.ibc_machine.specs.ics24.Values.{Claim}
+use Rattle.ibc_machine.specs.chain.Machine.{World, answer, block_at, true_marks}
+use Rattle.ibc_machine.specs.ledger.Replay.{LedgerState, ledger_answer}
+use Rattle.ibc_machine.specs.ics23.HashedTexts.{message_texts}
 use Rattle.ibc_merkle.proofs.Accepted.{IsClear}
 use Rattle.ibc_refinement.proofs.Agreeing.{Asked}
 use Rattle.ibc_refinement.proofs.SameAnswers.{AllAsked}

@@ -3,11 +3,11 @@ use Rattle.std.proofs.Common.{ℕ, List, [], ◌∷◌, ◌++◌, ap, inl, inr}
 use Rattle.std.specs.List.{flat_map}
 use Rattle.ibc_ids.specs.Texts.{Text}
 use Rattle.ibc_ids.specs.declared.publication.Publication.{Publication}
-use Rattle.ibc_machine.specs.Records.{Block}
-use Rattle.ibc_machine.specs.Genesis.{GenesisState}
-use Rattle.ibc_machine.specs.Replay.{LedgerState, StampedEntry, entry_answer, met_states}
-use Rattle.ibc_machine.specs.Ledgers.{Ledger, met_by, state_of}
-use Rattle.ibc_machine.specs.HashedTexts.{state_texts, block_texts, event_texts, ledger_texts, HasNoClash}
+use Rattle.ibc_machine.specs.chain.Records.{Block}
+use Rattle.ibc_machine.specs.chain.Genesis.{GenesisState}
+use Rattle.ibc_machine.specs.ledger.Replay.{LedgerState, StampedEntry, entry_answer, met_states}
+use Rattle.ibc_machine.specs.ledger.Ledgers.{Ledger, met_by, state_of}
+use Rattle.ibc_machine.specs.ics23.HashedTexts.{state_texts, block_texts, event_texts, ledger_texts, HasNoClash}
 use Rattle.ibc_merkle.proofs.Accepted.{IsClear}
 use Rattle.ibc_machine.proofs.Members.{Is_in, in_left, in_right, in_flat_map, contains_in}
 

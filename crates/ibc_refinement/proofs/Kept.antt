@@ -5,8 +5,8 @@ use Rattle.ibc_ids.specs.Texts.{Text, text_cmp, pair_cmp}
 use Rattle.ibc_wire.specs.declared.records.ConnectionEnd.{ConnectionEnd}
 use Rattle.ibc_machine.specs.declared.reply.Effect.{Effect}
 use Rattle.ibc_machine.specs.declared.reply.Reply.TheVariants as reply
-use Rattle.ibc_machine.specs.Records.{Core, Client, Channel, with_client, with_connection, with_channel}
-use Rattle.ibc_machine.specs.Ledgers.{is_block_reply}
+use Rattle.ibc_machine.specs.chain.Records.{Core, Client, Channel, with_client, with_connection, with_channel}
+use Rattle.ibc_machine.specs.ledger.Ledgers.{is_block_reply}
 use Rattle.ibc_ids.proofs.Texts.{text_tied}
 use Rattle.ibc_machine.proofs.Images.{pair_tied}
 use Rattle.ibc_refinement.proofs.Entries.{all_with}

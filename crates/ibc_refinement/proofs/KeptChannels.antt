@@ -19,10 +19,10 @@ use Rattle.ibc_wire.specs.declared.records.ChannelState.{ChannelState}
 use Rattle.ibc_wire.specs.declared.records.ChannelState.TheVariants.{Init, TryOpen, Open, Closed}
 use Rattle.ibc_wire.specs.declared.records.Order.{Order}
 use Rattle.ibc_machine.specs.declared.reply.Effect.TheVariants as effect
-use Rattle.ibc_machine.specs.Records.{Core, Channel, channel_at, with_channel}
-use Rattle.ibc_machine.specs.Checks.{Checked}
-use Rattle.ibc_machine.specs.Evidence.{Host, Evidence}
-use Rattle.ibc_machine.specs.Channels.{is_in_state, in_state, new_channel, with_new_channel, channel_end, chan_open_init, chan_open_try, chan_open_ack, chan_open_confirm, chan_close_init, chan_close_confirm}
+use Rattle.ibc_machine.specs.chain.Records.{Core, Channel, channel_at, with_channel}
+use Rattle.ibc_machine.specs.chain.Checks.{Checked}
+use Rattle.ibc_machine.specs.ics24.Evidence.{Host, Evidence}
+use Rattle.ibc_machine.specs.ics04.Channels.{is_in_state, in_state, new_channel, with_new_channel, channel_end, chan_open_init, chan_open_try, chan_open_ack, chan_open_confirm, chan_close_init, chan_close_confirm}
 use Rattle.ibc_machine.proofs.PassedRows.{Gives, gives_ok, gives_then, gives_require, gives_bind, gives_expect}
 use Rattle.ibc_refinement.proofs.Fitting.{nth_channel_is}
 use Rattle.ibc_refinement.proofs.Typed.{IsNamedPeer, IsTypedEnd, IsTypedChannel, IsTyped}

@@ -15,11 +15,11 @@ use Rattle.ibc_wire.specs.declared.records.ConnectionState.TheVariants as conn
 use Rattle.ibc_machine.specs.declared.reply.Effect.{Effect}
 use Rattle.ibc_machine.specs.declared.reply.Effect.TheVariants as effect
 use Rattle.ibc_machine.specs.declared.reply.Reply.TheVariants as reply
-use Rattle.ibc_machine.specs.Ledgers.{is_block_reply}
-use Rattle.ibc_machine.specs.Records.{Core, Client, connection_at, with_client, with_connection}
-use Rattle.ibc_machine.specs.Evidence.{Host, Evidence}
-use Rattle.ibc_machine.specs.Clients.{create_client, update_client, new_client, updated}
-use Rattle.ibc_machine.specs.Connections.{connection_end, with_new_connection, conn_open_init, conn_open_try, conn_open_ack, conn_open_confirm}
+use Rattle.ibc_machine.specs.ledger.Ledgers.{is_block_reply}
+use Rattle.ibc_machine.specs.chain.Records.{Core, Client, connection_at, with_client, with_connection}
+use Rattle.ibc_machine.specs.ics24.Evidence.{Host, Evidence}
+use Rattle.ibc_machine.specs.ics02.Clients.{create_client, update_client, new_client, updated}
+use Rattle.ibc_machine.specs.ics03.Connections.{connection_end, with_new_connection, conn_open_init, conn_open_try, conn_open_ack, conn_open_confirm}
 use Rattle.ibc_machine.proofs.PassedRows.{Gives, gives_ok, gives_then, gives_require, gives_bind, gives_expect}
 use Rattle.ibc_machine.proofs.ConnectionChecks.{conn_tryable}
 use Rattle.ibc_refinement.proofs.Fitting.{nth_client_is, nth_connection_is}

@@ -11,11 +11,11 @@ use Rattle.ibc_wire.specs.declared.messages.TimeoutOnClose.{TimeoutOnClose}
 use Rattle.ibc_wire.specs.declared.packet.Packet.{Packet}
 use Rattle.ibc_wire.specs.declared.records.ChannelState.TheVariants.{Open, Closed}
 use Rattle.ibc_machine.specs.declared.reply.Effect.TheVariants as effect
-use Rattle.ibc_machine.specs.Records.{Core, Channel, Commitment, channel_at, with_channel, is_one_of}
-use Rattle.ibc_machine.specs.Checks.{Checked}
-use Rattle.ibc_machine.specs.Evidence.{Host, Evidence}
-use Rattle.ibc_machine.specs.Channels.{is_in_state, is_established}
-use Rattle.ibc_machine.specs.Packets.{has_form, has_size, is_ordered, after_send, with_sent, after_receive, recv_packet, without_commitment, after_ack, ack_packet, after_timeout, timeout, timeout_on_close}
+use Rattle.ibc_machine.specs.chain.Records.{Core, Channel, Commitment, channel_at, with_channel, is_one_of}
+use Rattle.ibc_machine.specs.chain.Checks.{Checked}
+use Rattle.ibc_machine.specs.ics24.Evidence.{Host, Evidence}
+use Rattle.ibc_machine.specs.ics04.Channels.{is_in_state, is_established}
+use Rattle.ibc_machine.specs.ics04.Packets.{has_form, has_size, is_ordered, after_send, with_sent, after_receive, recv_packet, without_commitment, after_ack, ack_packet, after_timeout, timeout, timeout_on_close}
 use Rattle.ibc_machine.proofs.PassedRows.{Gives, gives_ok, gives_bind}
 use Rattle.ibc_machine.proofs.PacketChecks.{IsUnsettled, PassedRecv, recv_passed, PassedAck, ack_passed, timeout_passed, timeout_on_close_passed}
 use Rattle.ibc_refinement.proofs.Entries.{all_with, all_without, all_added}

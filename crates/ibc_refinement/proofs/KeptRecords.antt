@@ -8,15 +8,15 @@ use Rattle.ibc_wire.specs.declared.messages.SendNote.{SendNote}
 use Rattle.ibc_wire.specs.declared.messages.Message.{Message}
 use Rattle.ibc_wire.specs.declared.messages.Message.TheVariants as message
 use Rattle.ibc_machine.specs.declared.reply.Effect.{Effect}
-use Rattle.ibc_machine.specs.Records.{Core, Apps, Channel, Commitment}
-use Rattle.ibc_machine.specs.Checks.{Checked, ◌>>=◌}
-use Rattle.ibc_machine.specs.Evidence.{Host, Evidence}
-use Rattle.ibc_machine.specs.TokenData.{Data}
-use Rattle.ibc_machine.specs.Bank.{Balances}
-use Rattle.ibc_machine.specs.Packets.{sending_end}
-use Rattle.ibc_machine.specs.Transfers.{transfer_port, transfer, transfer_many, send_tokens}
-use Rattle.ibc_machine.specs.Notes.{note_port, note_commitment, send_note}
-use Rattle.ibc_machine.specs.Handlers.{handle}
+use Rattle.ibc_machine.specs.chain.Records.{Core, Apps, Channel, Commitment}
+use Rattle.ibc_machine.specs.chain.Checks.{Checked, ◌>>=◌}
+use Rattle.ibc_machine.specs.ics24.Evidence.{Host, Evidence}
+use Rattle.ibc_machine.specs.ics20.TokenData.{Data}
+use Rattle.ibc_machine.specs.ics20.Bank.{Balances}
+use Rattle.ibc_machine.specs.ics04.Packets.{sending_end}
+use Rattle.ibc_machine.specs.ics20.Transfers.{transfer_port, transfer, transfer_many, send_tokens}
+use Rattle.ibc_machine.specs.chain.Notes.{note_port, note_commitment, send_note}
+use Rattle.ibc_machine.specs.chain.Handlers.{handle}
 use Rattle.ibc_machine.proofs.PassedRows.{Gives, gives_ok, gives_then, gives_require, gives_bind}
 use Rattle.ibc_machine.proofs.PacketChecks.{sending_passed}
 use Rattle.ibc_machine.proofs.PassedHandlers.{gives_on_core, gives_on_balances}

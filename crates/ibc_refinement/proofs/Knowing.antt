@@ -9,10 +9,10 @@ use Rattle.std.proofs.lemmas.Cmp.{nat_cmp_total, then_total, on_total, tied_itse
 use Rattle.std.proofs.lemmas.Bool.{false≢true, or_cases, or_right}
 use Rattle.ibc_ids.specs.Texts.{Text, text_cmp}
 use Rattle.ibc_ids.specs.Maps.{Map, at, with}
-use Rattle.ibc_machine.specs.Records.{Core, Client, Block, is_one_of, added, client_at, with_client, knows}
-use Rattle.ibc_machine.specs.Clients.{new_client, updated}
-use Rattle.ibc_machine.specs.Machine.{World, block_at, block_seen}
-use Rattle.ibc_machine.specs.Replay.{Consensus, consensus_cmp}
+use Rattle.ibc_machine.specs.chain.Records.{Core, Client, Block, is_one_of, added, client_at, with_client, knows}
+use Rattle.ibc_machine.specs.ics02.Clients.{new_client, updated}
+use Rattle.ibc_machine.specs.chain.Machine.{World, block_at, block_seen}
+use Rattle.ibc_machine.specs.ledger.Replay.{Consensus, consensus_cmp}
 use Rattle.ibc_ids.proofs.Texts.{text_cmp_total, text_tied}
 use Rattle.ibc_machine.proofs.Images.{at-with}
 use Rattle.ibc_refinement.proofs.Steps.{Knows, consensus_of}

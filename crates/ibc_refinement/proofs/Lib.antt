@@ -51,3 +51,5 @@ pub mod PlacedLedgers
 pub mod PublishedAlong
 pub mod StampsMerged
 pub mod Audited
+pub mod Growing
+pub mod world

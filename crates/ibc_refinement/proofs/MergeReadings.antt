@@ -11,9 +11,9 @@ use Rattle.ibc_ids.specs.Publications.{height_among}
 use Rattle.ibc_ids.specs.declared.publication.Publication.{Publication}
 use Rattle.ibc_machine.specs.declared.entry.Entry.{Entry}
 use Rattle.ibc_machine.specs.declared.entry.Reading.{Reading}
-use Rattle.ibc_machine.specs.Replay.{StampedEntry}
-use Rattle.ibc_machine.specs.Ledgers.{chain_of, header_in, is_accepted_block, reading_fits}
-use Rattle.ibc_machine.specs.Merge.{is_of, blocks_of, ReadsWhatIsBefore, EachAfter}
+use Rattle.ibc_machine.specs.ledger.Replay.{StampedEntry}
+use Rattle.ibc_machine.specs.ledger.Ledgers.{chain_of, header_in, is_accepted_block, reading_fits}
+use Rattle.ibc_machine.specs.ledger.Merge.{is_of, blocks_of, ReadsWhatIsBefore, EachAfter}
 use Rattle.ibc_refinement.specs.Stamps.{until, since, first, next_block, left_after, by_stamps}
 use Rattle.ibc_refinement.proofs.RunStep.{blocks_more}
 use Rattle.ibc_refinement.proofs.Stages.{StandsBy, splits, publishes}

@@ -5,9 +5,9 @@ use Rattle.std.specs.List.{AllByRecursion, flat_map}
 use Rattle.std.proofs.lemmas.List.Elements.{filter-append}
 use Rattle.ibc_ids.specs.declared.publication.Publication.{Publication}
 use Rattle.ibc_machine.specs.declared.entry.Entry.{Entry}
-use Rattle.ibc_machine.specs.Replay.{StampedEntry}
-use Rattle.ibc_machine.specs.Ledgers.{chain_of}
-use Rattle.ibc_machine.specs.Merge.{is_of}
+use Rattle.ibc_machine.specs.ledger.Replay.{StampedEntry}
+use Rattle.ibc_machine.specs.ledger.Ledgers.{chain_of}
+use Rattle.ibc_machine.specs.ledger.Merge.{is_of}
 use Rattle.ibc_refinement.specs.Stamps.{is_by, until, since, first, later, next_block, left_after, by_stamps}
 use Rattle.ibc_refinement.proofs.Placed.{IsPlaced, IsStaged}
 use Rattle.ibc_refinement.proofs.Stages.{IsAbove, splits, publishes, stays}

@@ -8,14 +8,14 @@ use Rattle.ibc_ids.specs.declared.publication.Publication.{Publication}
 use Rattle.ibc_machine.specs.declared.event.Event.{Event}
 use Rattle.ibc_machine.specs.declared.reply.Reply.{Reply}
 use Rattle.ibc_machine.specs.declared.entry.Entry.{Entry}
-use Rattle.ibc_machine.specs.Records.{Chain, Block, knows}
-use Rattle.ibc_machine.specs.Genesis.{GenesisState, start, starting_chain, empty_core}
-use Rattle.ibc_machine.specs.Machine.{World, IsRun, block_of}
-use Rattle.ibc_machine.specs.Replay.{LedgerState, StampedEntry, replay, starting_state, empty_chain}
-use Rattle.ibc_machine.specs.Ledgers.{Ledger, chain_of, machine_of, state_of}
-use Rattle.ibc_machine.specs.HashedTexts.{HasNoClash}
-use Rattle.ibc_machine.specs.Merge.{ReadsWhatIsBefore, EachAfter, Merges}
-use Rattle.ibc_machine.specs.Worlds.{entries}
+use Rattle.ibc_machine.specs.chain.Records.{Chain, Block, knows}
+use Rattle.ibc_machine.specs.chain.Genesis.{GenesisState, start, starting_chain, empty_core}
+use Rattle.ibc_machine.specs.chain.Machine.{World, IsRun, block_of}
+use Rattle.ibc_machine.specs.ledger.Replay.{LedgerState, StampedEntry, replay, starting_state, empty_chain}
+use Rattle.ibc_machine.specs.ledger.Ledgers.{Ledger, chain_of, machine_of, state_of}
+use Rattle.ibc_machine.specs.ics23.HashedTexts.{HasNoClash}
+use Rattle.ibc_machine.specs.ledger.Merge.{ReadsWhatIsBefore, EachAfter, Merges}
+use Rattle.ibc_machine.specs.promises.Worlds.{entries}
 use Rattle.ibc_refinement.proofs.Places.{get_there, get_within, same_places}
 use Rattle.ibc_refinement.proofs.Typed.{IsTyped}
 use Rattle.ibc_refinement.proofs.EntrySteps.{ledger_of}

@@ -15,16 +15,16 @@ use Rattle.ibc_wire.specs.declared.messages.Message.TheVariants as message
 use Rattle.ibc_machine.specs.declared.event.Event.TheVariants as event
 use Rattle.ibc_machine.specs.declared.entry.Reading.{Reading}
 use Rattle.ibc_machine.specs.declared.reply.Effect.{Effect}
-use Rattle.ibc_machine.specs.Records.{Core, Apps, Client, Block, client_at, with_client}
-use Rattle.ibc_machine.specs.Image.{core_root}
-use Rattle.ibc_machine.specs.Checks.{Checked}
-use Rattle.ibc_machine.specs.Evidence.{Host, Evidence, require_row}
-use Rattle.ibc_machine.specs.Clients.{create_client, update_client, new_client, updated, is_of_client}
-use Rattle.ibc_machine.specs.Genesis.{GenesisState}
-use Rattle.ibc_machine.specs.Handlers.{handle, after_message, host_of}
-use Rattle.ibc_machine.specs.Machine.{World, block_at, row_if}
-use Rattle.ibc_machine.specs.Replay.{Consensus, LedgerState, consensus_cmp, is_published_as, row_read, proves, with_consensus, after_answer, ledger_answer}
-use Rattle.ibc_machine.specs.Ledgers.{published_as}
+use Rattle.ibc_machine.specs.chain.Records.{Core, Apps, Client, Block, client_at, with_client}
+use Rattle.ibc_machine.specs.ics24.Image.{core_root}
+use Rattle.ibc_machine.specs.chain.Checks.{Checked}
+use Rattle.ibc_machine.specs.ics24.Evidence.{Host, Evidence, require_row}
+use Rattle.ibc_machine.specs.ics02.Clients.{create_client, update_client, new_client, updated, is_of_client}
+use Rattle.ibc_machine.specs.chain.Genesis.{GenesisState}
+use Rattle.ibc_machine.specs.chain.Handlers.{handle, after_message, host_of}
+use Rattle.ibc_machine.specs.chain.Machine.{World, block_at, row_if}
+use Rattle.ibc_machine.specs.ledger.Replay.{Consensus, LedgerState, consensus_cmp, is_published_as, row_read, proves, with_consensus, after_answer, ledger_answer}
+use Rattle.ibc_machine.specs.ledger.Ledgers.{published_as}
 use Rattle.ibc_ids.proofs.Texts.{text_same}
 use Rattle.ibc_machine.proofs.PassedRows.{Gives, gives_ok, gives_then, gives_require, gives_expect}
 use Rattle.ibc_machine.proofs.PassedHandlers.{gives_on_core}

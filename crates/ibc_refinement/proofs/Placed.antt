@@ -7,8 +7,8 @@ use Rattle.ibc_ids.specs.Publications.{published_by, height_among}
 use Rattle.ibc_ids.specs.declared.publication.Publication.{Publication}
 use Rattle.ibc_wire.specs.declared.header.Header.{Header}
 use Rattle.ibc_machine.specs.declared.entry.Reading.{Reading}
-use Rattle.ibc_machine.specs.Replay.{StampedEntry}
-use Rattle.ibc_machine.specs.Ledgers.{AreRising, chain_of, header_in, is_accepted_block, reading_fits}
+use Rattle.ibc_machine.specs.ledger.Replay.{StampedEntry}
+use Rattle.ibc_machine.specs.ledger.Ledgers.{AreRising, chain_of, header_in, is_accepted_block, reading_fits}
 
 -- an entry of chain k, and the publications that its stamp speaks of
 pub record IsPlaced (window : ℕ) (publications : List Publication) (k : ℕ) (e : StampedEntry) : Type 0 where

@@ -9,10 +9,10 @@ use Rattle.ibc_ids.specs.Publications.{published_by, height_among}
 use Rattle.ibc_ids.specs.declared.publication.Publication.{Publication}
 use Rattle.ibc_wire.specs.declared.header.Header.{Header}
 use Rattle.ibc_machine.specs.declared.entry.Reading.{Reading}
-use Rattle.ibc_machine.specs.Records.{Chain}
-use Rattle.ibc_machine.specs.Genesis.{GenesisState, start, starting_chain}
-use Rattle.ibc_machine.specs.Replay.{LedgerState, StampedEntry, entry_answer, met_states, starting_state, empty_chain}
-use Rattle.ibc_machine.specs.Ledgers.{Ledger, IsOwnEntry, IsReading, chain_of, header_in, is_looking, is_typed, is_block_reply, is_accepted_block, reading_fits, published_as, state_of}
+use Rattle.ibc_machine.specs.chain.Records.{Chain}
+use Rattle.ibc_machine.specs.chain.Genesis.{GenesisState, start, starting_chain}
+use Rattle.ibc_machine.specs.ledger.Replay.{LedgerState, StampedEntry, entry_answer, met_states, starting_state, empty_chain}
+use Rattle.ibc_machine.specs.ledger.Ledgers.{Ledger, IsOwnEntry, IsReading, chain_of, header_in, is_looking, is_typed, is_block_reply, is_accepted_block, reading_fits, published_as, state_of}
 use Rattle.ibc_refinement.proofs.Places.{get_more, get_within, get_there}
 use Rattle.ibc_refinement.proofs.Typed.{IsTyped}
 use Rattle.ibc_refinement.proofs.EntrySteps.{ledger_of, own_typed, answer_commits}

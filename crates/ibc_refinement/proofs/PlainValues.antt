@@ -12,8 +12,8 @@ use Rattle.ibc_merkle.specs.Hash.{hash}
 use Rattle.ibc_merkle.proofs.Digests.{length-hash}
 use Rattle.ibc_merkle.proofs.Accepted.{IsClear}
 use Rattle.ibc_refinement.proofs.SameSpellings.{numbers_same, client_states_same, IsPlainConnection, connection_ends_same, IsPlainChannel, channel_ends_same}
-use Rattle.ibc_machine.specs.Records.{Core, Channel, Commitment, client_at, connection_at, channel_at, is_one_of}
-use Rattle.ibc_machine.specs.Values.{Value, ClientIs, ConnectionIs, ChannelIs, NumberIs, CommitmentIs, ReceiptIs, AckIs, Claim, look, receipt_if, commitment_text, value_bytes}
+use Rattle.ibc_machine.specs.chain.Records.{Core, Channel, Commitment, client_at, connection_at, channel_at, is_one_of}
+use Rattle.ibc_machine.specs.ics24.Values.{Value, ClientIs, ConnectionIs, ChannelIs, NumberIs, CommitmentIs, ReceiptIs, AckIs, Claim, look, receipt_if, commitment_text, value_bytes}
 use Rattle.ibc_machine.proofs.Images.{TellsKey}
 
 -- its numbers fit, its texts are short, and what it hashes is among these texts

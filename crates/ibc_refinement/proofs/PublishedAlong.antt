@@ -7,11 +7,11 @@ use Rattle.std.proofs.lemmas.Option.{get_or_from_slice_get}
 use Rattle.ibc_ids.specs.Publications.{published_by}
 use Rattle.ibc_ids.specs.declared.publication.Publication.{Publication}
 use Rattle.ibc_machine.specs.declared.entry.Entry.{Entry}
-use Rattle.ibc_machine.specs.Image.{core_root}
-use Rattle.ibc_machine.specs.Genesis.{GenesisState}
-use Rattle.ibc_machine.specs.Replay.{LedgerState, StampedEntry, entry_answer, replay, met_states}
-use Rattle.ibc_machine.specs.Ledgers.{Ledger, IsOwnEntry, chain_of, is_block_reply, is_accepted_block, published_as, state_of}
-use Rattle.ibc_machine.specs.Merge.{is_of, published_along}
+use Rattle.ibc_machine.specs.ics24.Image.{core_root}
+use Rattle.ibc_machine.specs.chain.Genesis.{GenesisState}
+use Rattle.ibc_machine.specs.ledger.Replay.{LedgerState, StampedEntry, entry_answer, replay, met_states}
+use Rattle.ibc_machine.specs.ledger.Ledgers.{Ledger, IsOwnEntry, chain_of, is_block_reply, is_accepted_block, published_as, state_of}
+use Rattle.ibc_machine.specs.ledger.Merge.{is_of, published_along}
 use Rattle.ibc_refinement.proofs.Places.{get_set, get_set_other, get_within}
 use Rattle.ibc_refinement.proofs.Typed.{IsTyped}
 use Rattle.ibc_refinement.proofs.EntrySteps.{ledger_of, own_typed, working, answer_commits, replay_grows}

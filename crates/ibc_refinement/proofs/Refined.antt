@@ -8,14 +8,14 @@ use Rattle.ibc_ids.specs.declared.publication.Publication.{Publication}
 use Rattle.ibc_machine.specs.declared.event.Event.{Event}
 use Rattle.ibc_machine.specs.declared.reply.Reply.{Reply}
 use Rattle.ibc_machine.specs.declared.entry.Entry.{Entry}
-use Rattle.ibc_machine.specs.Records.{Chain}
-use Rattle.ibc_machine.specs.Genesis.{GenesisState, start}
-use Rattle.ibc_machine.specs.Machine.{IsRun}
-use Rattle.ibc_machine.specs.Replay.{LedgerState, StampedEntry, entry_answer, met_states, starting_state}
-use Rattle.ibc_machine.specs.Ledgers.{Ledger, IsOwnEntry, chain_of, is_typed, machine_of}
-use Rattle.ibc_machine.specs.Histories.{Happened}
-use Rattle.ibc_machine.specs.Merge.{is_of, Merges}
-use Rattle.ibc_machine.specs.Worlds.{entries, interleaved}
+use Rattle.ibc_machine.specs.chain.Records.{Chain}
+use Rattle.ibc_machine.specs.chain.Genesis.{GenesisState, start}
+use Rattle.ibc_machine.specs.chain.Machine.{IsRun}
+use Rattle.ibc_machine.specs.ledger.Replay.{LedgerState, StampedEntry, entry_answer, met_states, starting_state}
+use Rattle.ibc_machine.specs.ledger.Ledgers.{Ledger, IsOwnEntry, chain_of, is_typed, machine_of}
+use Rattle.ibc_machine.specs.promises.Histories.{Happened}
+use Rattle.ibc_machine.specs.ledger.Merge.{is_of, Merges}
+use Rattle.ibc_machine.specs.promises.Worlds.{entries, interleaved}
 use Rattle.ibc_refinement.specs.Refinement.{MergedIsRun, KeptOrderIsRun}
 use Rattle.ibc_machine.proofs.Members.{Is_in}
 use Rattle.ibc_refinement.proofs.EntrySteps.{ledger_of, own_typed}

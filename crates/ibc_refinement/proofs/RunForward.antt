@@ -5,12 +5,12 @@ use Rattle.std.specs.List.{AllByRecursion}
 use Rattle.std.proofs.lemmas.Bool.{false≢true}
 use Rattle.ibc_ids.specs.declared.publication.Publication.{Publication}
 use Rattle.ibc_machine.specs.declared.entry.Entry.{Entry}
-use Rattle.ibc_machine.specs.Genesis.{GenesisState}
-use Rattle.ibc_machine.specs.Machine.{World, Answers}
-use Rattle.ibc_machine.specs.Replay.{LedgerState, StampedEntry, entry_answer, replay, met_states, starting_state}
-use Rattle.ibc_machine.specs.Ledgers.{Ledger, IsOwnEntry, chain_of, met_by, state_of}
-use Rattle.ibc_machine.specs.HashedTexts.{HasNoClash}
-use Rattle.ibc_machine.specs.Merge.{is_of, ReadsWhatIsBefore}
+use Rattle.ibc_machine.specs.chain.Genesis.{GenesisState}
+use Rattle.ibc_machine.specs.chain.Machine.{World, Answers}
+use Rattle.ibc_machine.specs.ledger.Replay.{LedgerState, StampedEntry, entry_answer, replay, met_states, starting_state}
+use Rattle.ibc_machine.specs.ledger.Ledgers.{Ledger, IsOwnEntry, chain_of, met_by, state_of}
+use Rattle.ibc_machine.specs.ics23.HashedTexts.{HasNoClash}
+use Rattle.ibc_machine.specs.ledger.Merge.{is_of, ReadsWhatIsBefore}
 use Rattle.ibc_machine.proofs.Members.{Is_in}
 use Rattle.ibc_refinement.proofs.Places.{get_set, get_set_other, get_within, length_set}
 use Rattle.ibc_refinement.proofs.Steps.{oldest_of}

@@ -9,13 +9,13 @@ use Rattle.ibc_ids.specs.declared.publication.Publication.{Publication}
 use Rattle.ibc_machine.specs.declared.event.Event.{Event}
 use Rattle.ibc_machine.specs.declared.event.Event.TheVariants as event
 use Rattle.ibc_machine.specs.declared.entry.Reading.{Reading}
-use Rattle.ibc_machine.specs.Records.{Core, Chain, Block, Client, client_at}
-use Rattle.ibc_machine.specs.Checks.{Checked}
-use Rattle.ibc_machine.specs.Genesis.{GenesisState}
-use Rattle.ibc_machine.specs.Handlers.{may_commit, after_block}
-use Rattle.ibc_machine.specs.Machine.{World, block_of, block_at}
-use Rattle.ibc_machine.specs.Replay.{LedgerState, Consensus, with_chain, ledger_answer}
-use Rattle.ibc_machine.specs.Ledgers.{is_typed}
+use Rattle.ibc_machine.specs.chain.Records.{Core, Chain, Block, Client, client_at}
+use Rattle.ibc_machine.specs.chain.Checks.{Checked}
+use Rattle.ibc_machine.specs.chain.Genesis.{GenesisState}
+use Rattle.ibc_machine.specs.chain.Handlers.{may_commit, after_block}
+use Rattle.ibc_machine.specs.chain.Machine.{World, block_of, block_at}
+use Rattle.ibc_machine.specs.ledger.Replay.{LedgerState, Consensus, with_chain, ledger_answer}
+use Rattle.ibc_machine.specs.ledger.Ledgers.{is_typed}
 use Rattle.ibc_refinement.proofs.Places.{get_set, get_set_other, get_more, get_within}
 use Rattle.ibc_refinement.proofs.Steps.{Knows, KnowsBlocks, SeesForMessage}
 use Rattle.ibc_refinement.proofs.Typed.{IsTyped}

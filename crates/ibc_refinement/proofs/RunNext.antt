@@ -6,14 +6,14 @@ use Rattle.std.proofs.lemmas.List.Elements.{filter-append}
 use Rattle.ibc_ids.specs.Texts.{Text}
 use Rattle.ibc_ids.specs.declared.publication.Publication.{Publication}
 use Rattle.ibc_machine.specs.declared.entry.Entry.{Entry}
-use Rattle.ibc_machine.specs.Records.{Block}
-use Rattle.ibc_machine.specs.Image.{image}
-use Rattle.ibc_machine.specs.Genesis.{GenesisState}
-use Rattle.ibc_machine.specs.Machine.{World, block_of}
-use Rattle.ibc_machine.specs.Replay.{LedgerState, StampedEntry, entry_answer, replay, met_states, starting_state}
-use Rattle.ibc_machine.specs.Ledgers.{Ledger, IsOwnEntry, is_block_reply, is_accepted_block, met_by, state_of}
-use Rattle.ibc_machine.specs.HashedTexts.{event_texts, ledger_texts, HasNoClash}
-use Rattle.ibc_machine.specs.Merge.{is_of, blocks_of}
+use Rattle.ibc_machine.specs.chain.Records.{Block}
+use Rattle.ibc_machine.specs.ics24.Image.{image}
+use Rattle.ibc_machine.specs.chain.Genesis.{GenesisState}
+use Rattle.ibc_machine.specs.chain.Machine.{World, block_of}
+use Rattle.ibc_machine.specs.ledger.Replay.{LedgerState, StampedEntry, entry_answer, replay, met_states, starting_state}
+use Rattle.ibc_machine.specs.ledger.Ledgers.{Ledger, IsOwnEntry, is_block_reply, is_accepted_block, met_by, state_of}
+use Rattle.ibc_machine.specs.ics23.HashedTexts.{event_texts, ledger_texts, HasNoClash}
+use Rattle.ibc_machine.specs.ledger.Merge.{is_of, blocks_of}
 use Rattle.ibc_machine.proofs.Members.{Is_in, in_left, in_right, in_flat_map}
 use Rattle.ibc_refinement.proofs.Places.{get_cases, get_in, all_in}
 use Rattle.ibc_refinement.proofs.Clear.{AreFit}

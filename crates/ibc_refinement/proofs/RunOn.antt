@@ -11,15 +11,15 @@ use Rattle.ibc_machine.specs.declared.event.Event.TheVariants as event
 use Rattle.ibc_machine.specs.declared.reply.Reply.{Reply}
 use Rattle.ibc_machine.specs.declared.reply.Reply.TheVariants as reply
 use Rattle.ibc_machine.specs.declared.entry.Entry.{Entry}
-use Rattle.ibc_machine.specs.Records.{Chain}
-use Rattle.ibc_machine.specs.Genesis.{GenesisState, start}
-use Rattle.ibc_machine.specs.Handlers.{message_answer, block_answer}
-use Rattle.ibc_machine.specs.Machine.{World, Step, IsRun, answer, at_chain, looks, true_marks}
-use Rattle.ibc_machine.specs.Replay.{LedgerState, StampedEntry, replay, starting_state}
-use Rattle.ibc_machine.specs.Ledgers.{Ledger, chain_of, machine_of, state_of}
-use Rattle.ibc_machine.specs.HashedTexts.{HasNoClash}
-use Rattle.ibc_machine.specs.Merge.{is_of, ReadsWhatIsBefore, EachAfter}
-use Rattle.ibc_machine.specs.Worlds.{AreLedgersOf, entries}
+use Rattle.ibc_machine.specs.chain.Records.{Chain}
+use Rattle.ibc_machine.specs.chain.Genesis.{GenesisState, start}
+use Rattle.ibc_machine.specs.chain.Handlers.{message_answer, block_answer}
+use Rattle.ibc_machine.specs.chain.Machine.{World, Step, IsRun, answer, at_chain, looks, true_marks}
+use Rattle.ibc_machine.specs.ledger.Replay.{LedgerState, StampedEntry, replay, starting_state}
+use Rattle.ibc_machine.specs.ledger.Ledgers.{Ledger, chain_of, machine_of, state_of}
+use Rattle.ibc_machine.specs.ics23.HashedTexts.{HasNoClash}
+use Rattle.ibc_machine.specs.ledger.Merge.{is_of, ReadsWhatIsBefore, EachAfter}
+use Rattle.ibc_machine.specs.promises.Worlds.{AreLedgersOf, entries}
 use Rattle.ibc_refinement.specs.Refinement.{GivesNothing, AreAnswered, GoesOn, GoingOnIsRun}
 use Rattle.ibc_refinement.proofs.Places.{get_within, same_places}
 use Rattle.ibc_refinement.proofs.EntrySteps.{ledger_of}

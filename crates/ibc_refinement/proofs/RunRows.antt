@@ -9,11 +9,11 @@ use Rattle.ibc_ids.specs.declared.publication.Publication.{Publication}
 use Rattle.ibc_wire.specs.declared.header.Header.{Header}
 use Rattle.ibc_machine.specs.declared.entry.Entry.{Entry}
 use Rattle.ibc_machine.specs.declared.entry.Reading.{Reading}
-use Rattle.ibc_machine.specs.Records.{Chain}
-use Rattle.ibc_machine.specs.Genesis.{GenesisState}
-use Rattle.ibc_machine.specs.Machine.{World, block_at, committed_of}
-use Rattle.ibc_machine.specs.Ledgers.{Ledger, published_as, fits, reading_fits}
-use Rattle.ibc_machine.specs.Merge.{blocks_of}
+use Rattle.ibc_machine.specs.chain.Records.{Chain}
+use Rattle.ibc_machine.specs.chain.Genesis.{GenesisState}
+use Rattle.ibc_machine.specs.chain.Machine.{World, block_at, committed_of}
+use Rattle.ibc_machine.specs.ledger.Ledgers.{Ledger, published_as, fits, reading_fits}
+use Rattle.ibc_machine.specs.ledger.Merge.{blocks_of}
 use Rattle.ibc_machine.proofs.Members.{get_left}
 use Rattle.ibc_machine.proofs.SeenMore.{height_grows}
 use Rattle.ibc_refinement.proofs.Steps.{SeesRow}

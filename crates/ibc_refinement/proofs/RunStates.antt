@@ -4,13 +4,13 @@ use Rattle.std.specs.List.{AllByRecursion}
 use Rattle.ibc_ids.specs.Texts.{Text}
 use Rattle.ibc_ids.specs.declared.publication.Publication.{Publication}
 use Rattle.ibc_machine.specs.declared.entry.Entry.{Entry}
-use Rattle.ibc_machine.specs.Records.{Block}
-use Rattle.ibc_machine.specs.Genesis.{GenesisState}
-use Rattle.ibc_machine.specs.Machine.{World, block_of}
-use Rattle.ibc_machine.specs.Replay.{LedgerState, StampedEntry, replay, met_states, starting_state}
-use Rattle.ibc_machine.specs.Ledgers.{Ledger, IsOwnEntry, IsLedger, met_by, state_of}
-use Rattle.ibc_machine.specs.Merge.{is_of, blocks_of}
-use Rattle.ibc_machine.specs.Worlds.{AreLedgersOf, AreOfOneTable}
+use Rattle.ibc_machine.specs.chain.Records.{Block}
+use Rattle.ibc_machine.specs.chain.Genesis.{GenesisState}
+use Rattle.ibc_machine.specs.chain.Machine.{World, block_of}
+use Rattle.ibc_machine.specs.ledger.Replay.{LedgerState, StampedEntry, replay, met_states, starting_state}
+use Rattle.ibc_machine.specs.ledger.Ledgers.{Ledger, IsOwnEntry, IsLedger, met_by, state_of}
+use Rattle.ibc_machine.specs.ledger.Merge.{is_of, blocks_of}
+use Rattle.ibc_machine.specs.promises.Worlds.{AreLedgersOf, AreOfOneTable}
 use Rattle.ibc_machine.proofs.Members.{Is_in}
 use Rattle.ibc_refinement.proofs.Places.{get_there}
 use Rattle.ibc_refinement.proofs.Clear.{AreFit}

@@ -14,14 +14,14 @@ use Rattle.ibc_machine.specs.declared.event.Event.{Event}
 use Rattle.ibc_machine.specs.declared.event.Event.TheVariants as event
 use Rattle.ibc_machine.specs.declared.entry.Entry.{Entry}
 use Rattle.ibc_machine.specs.declared.entry.Reading.{Reading}
-use Rattle.ibc_machine.specs.Records.{Chain, Client}
-use Rattle.ibc_machine.specs.Clients.{is_of_client}
-use Rattle.ibc_machine.specs.Genesis.{GenesisState}
-use Rattle.ibc_machine.specs.Machine.{World, answer, block_of, true_marks}
-use Rattle.ibc_machine.specs.Replay.{LedgerState, StampedEntry, ledger_answer}
-use Rattle.ibc_machine.specs.Ledgers.{Ledger, IsReading, is_looking, header_in, is_typed, chain_of, is_accepted_block, reading_fits}
-use Rattle.ibc_machine.specs.HashedTexts.{event_texts, HasNoClash}
-use Rattle.ibc_machine.specs.Merge.{is_of, blocks_of, ReadsWhatIsBefore}
+use Rattle.ibc_machine.specs.chain.Records.{Chain, Client}
+use Rattle.ibc_machine.specs.ics02.Clients.{is_of_client}
+use Rattle.ibc_machine.specs.chain.Genesis.{GenesisState}
+use Rattle.ibc_machine.specs.chain.Machine.{World, answer, block_of, true_marks}
+use Rattle.ibc_machine.specs.ledger.Replay.{LedgerState, StampedEntry, ledger_answer}
+use Rattle.ibc_machine.specs.ledger.Ledgers.{Ledger, IsReading, is_looking, header_in, is_typed, chain_of, is_accepted_block, reading_fits}
+use Rattle.ibc_machine.specs.ics23.HashedTexts.{event_texts, HasNoClash}
+use Rattle.ibc_machine.specs.ledger.Merge.{is_of, blocks_of, ReadsWhatIsBefore}
 use Rattle.ibc_machine.proofs.Members.{Is_in}
 use Rattle.ibc_refinement.proofs.Steps.{KnowsBlocks, oldest_of, block_step}
 use Rattle.ibc_refinement.proofs.Typed.{IsTyped}

@@ -7,13 +7,13 @@ use Rattle.ibc_wire.specs.declared.messages.Message.TheVariants as message
 use Rattle.ibc_wire.specs.declared.records.ConnectionEnd.{ConnectionEnd}
 use Rattle.ibc_wire.specs.declared.records.ConnectionState.TheVariants as conn
 use Rattle.ibc_wire.specs.declared.records.ChannelState.TheVariants.{Init, TryOpen, Open, Closed}
-use Rattle.ibc_machine.specs.Records.{Core, Apps, Client, Channel, client_at, connection_at, channel_at}
-use Rattle.ibc_machine.specs.Evidence.{Host, Evidence}
-use Rattle.ibc_machine.specs.Clients.{create_client, is_of_client}
-use Rattle.ibc_machine.specs.Connections.{conn_open_init, connection_end, has_connection, has_client}
-use Rattle.ibc_machine.specs.Channels.{chan_open_init, chan_close_init, is_in_state, counterpart, has_channel, peer_channel_of, channel_end}
-use Rattle.ibc_machine.specs.Packets.{was_sent, was_acknowledged, not_received}
-use Rattle.ibc_machine.specs.Handlers.{handle}
+use Rattle.ibc_machine.specs.chain.Records.{Core, Apps, Client, Channel, client_at, connection_at, channel_at}
+use Rattle.ibc_machine.specs.ics24.Evidence.{Host, Evidence}
+use Rattle.ibc_machine.specs.ics02.Clients.{create_client, is_of_client}
+use Rattle.ibc_machine.specs.ics03.Connections.{conn_open_init, connection_end, has_connection, has_client}
+use Rattle.ibc_machine.specs.ics04.Channels.{chan_open_init, chan_close_init, is_in_state, counterpart, has_channel, peer_channel_of, channel_end}
+use Rattle.ibc_machine.specs.ics04.Packets.{was_sent, was_acknowledged, not_received}
+use Rattle.ibc_machine.specs.chain.Handlers.{handle}
 use Rattle.ibc_refinement.proofs.Checked.{bind_front_same}
 use Rattle.ibc_refinement.proofs.Agreeing.{Asked, Agree, AgreeOn}
 use Rattle.ibc_refinement.proofs.SameConnections.{update_client_same, conn_open_try_same, conn_open_ack_same, conn_open_confirm_same}

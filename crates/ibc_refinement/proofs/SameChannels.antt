@@ -10,10 +10,10 @@ use Rattle.ibc_wire.specs.declared.messages.ChanCloseConfirm.{ChanCloseConfirm}
 use Rattle.ibc_wire.specs.declared.records.ConnectionEnd.{ConnectionEnd}
 use Rattle.ibc_wire.specs.declared.records.Order.{Order}
 use Rattle.ibc_wire.specs.declared.records.ChannelState.TheVariants.{Init, TryOpen, Open, Closed}
-use Rattle.ibc_machine.specs.Records.{Core, Channel, channel_at}
-use Rattle.ibc_machine.specs.Checks.{Checked}
-use Rattle.ibc_machine.specs.Evidence.{Host, Evidence}
-use Rattle.ibc_machine.specs.Channels.{is_in_state, client_of, counterpart, has_channel, peer_channel_of, channel_end, chan_open_try, chan_open_ack, chan_open_confirm, chan_close_confirm}
+use Rattle.ibc_machine.specs.chain.Records.{Core, Channel, channel_at}
+use Rattle.ibc_machine.specs.chain.Checks.{Checked}
+use Rattle.ibc_machine.specs.ics24.Evidence.{Host, Evidence}
+use Rattle.ibc_machine.specs.ics04.Channels.{is_in_state, client_of, counterpart, has_channel, peer_channel_of, channel_end, chan_open_try, chan_open_ack, chan_open_confirm, chan_close_confirm}
 use Rattle.ibc_machine.proofs.PassedRows.{require_holds, expect_passed}
 use Rattle.ibc_refinement.proofs.Checked.{then_same, bind_same}
 use Rattle.ibc_refinement.proofs.Agreeing.{Asked, Agree, proof_same, shows_same}

@@ -8,11 +8,11 @@ use Rattle.ibc_wire.specs.declared.messages.ConnOpenAck.{ConnOpenAck}
 use Rattle.ibc_wire.specs.declared.messages.ConnOpenConfirm.{ConnOpenConfirm}
 use Rattle.ibc_wire.specs.declared.records.ConnectionEnd.{ConnectionEnd}
 use Rattle.ibc_wire.specs.declared.records.ConnectionState.TheVariants as conn
-use Rattle.ibc_machine.specs.Records.{Core, Client, client_at, connection_at}
-use Rattle.ibc_machine.specs.Checks.{require}
-use Rattle.ibc_machine.specs.Evidence.{Host, Evidence, require_row}
-use Rattle.ibc_machine.specs.Clients.{update_client, is_of_client}
-use Rattle.ibc_machine.specs.Connections.{connection_end, has_connection, has_client, conn_open_try, conn_open_ack, conn_open_confirm}
+use Rattle.ibc_machine.specs.chain.Records.{Core, Client, client_at, connection_at}
+use Rattle.ibc_machine.specs.chain.Checks.{require}
+use Rattle.ibc_machine.specs.ics24.Evidence.{Host, Evidence, require_row}
+use Rattle.ibc_machine.specs.ics02.Clients.{update_client, is_of_client}
+use Rattle.ibc_machine.specs.ics03.Connections.{connection_end, has_connection, has_client, conn_open_try, conn_open_ack, conn_open_confirm}
 use Rattle.ibc_machine.proofs.ConnectionChecks.{conn_tryable, conn_ackable}
 use Rattle.ibc_machine.proofs.PassedRows.{require_holds, expect_passed}
 use Rattle.ibc_refinement.proofs.Checked.{then_same, bind_same}

@@ -12,15 +12,15 @@ use Rattle.ibc_wire.specs.declared.messages.Timeout.{Timeout}
 use Rattle.ibc_wire.specs.declared.messages.TimeoutOnClose.{TimeoutOnClose}
 use Rattle.ibc_wire.specs.declared.packet.Packet.{Packet}
 use Rattle.ibc_wire.specs.declared.records.ChannelState.TheVariants.{Closed}
-use Rattle.ibc_machine.specs.Records.{Core, Client, Channel, Commitment, client_at, channel_at, knows, commitment_of}
-use Rattle.ibc_machine.specs.Checks.{Checked, require}
-use Rattle.ibc_machine.specs.Evidence.{Host, Evidence}
-use Rattle.ibc_machine.specs.Channels.{client_of, counterpart, has_channel}
-use Rattle.ibc_machine.specs.TokenData.{Data}
-use Rattle.ibc_machine.specs.Packets.{has_form, has_size, is_timed_out, is_reached, has_passed, require_timeouts, recv_checked, recv_packet, ack_checked, ack_packet, timeout_checked, timeout, timeout_on_close_checked, timeout_on_close, was_sent, was_acknowledged, not_received}
-use Rattle.ibc_machine.specs.Bank.{Balances}
-use Rattle.ibc_machine.specs.Transfers.{transfer, transfer_many, send_tokens}
-use Rattle.ibc_machine.specs.Notes.{send_note, note_commitment}
+use Rattle.ibc_machine.specs.chain.Records.{Core, Client, Channel, Commitment, client_at, channel_at, knows, commitment_of}
+use Rattle.ibc_machine.specs.chain.Checks.{Checked, require}
+use Rattle.ibc_machine.specs.ics24.Evidence.{Host, Evidence}
+use Rattle.ibc_machine.specs.ics04.Channels.{client_of, counterpart, has_channel}
+use Rattle.ibc_machine.specs.ics20.TokenData.{Data}
+use Rattle.ibc_machine.specs.ics04.Packets.{has_form, has_size, is_timed_out, is_reached, has_passed, require_timeouts, recv_checked, recv_packet, ack_checked, ack_packet, timeout_checked, timeout, timeout_on_close_checked, timeout_on_close, was_sent, was_acknowledged, not_received}
+use Rattle.ibc_machine.specs.ics20.Bank.{Balances}
+use Rattle.ibc_machine.specs.ics20.Transfers.{transfer, transfer_many, send_tokens}
+use Rattle.ibc_machine.specs.chain.Notes.{send_note, note_commitment}
 use Rattle.ibc_machine.proofs.PassedRows.{require_holds, expect_passed}
 use Rattle.ibc_refinement.proofs.Checked.{then_same, bind_same, bind_front_same}
 use Rattle.ibc_refinement.proofs.Agreeing.{Asked, Agree, shows_same}

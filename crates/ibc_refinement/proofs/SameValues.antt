@@ -5,7 +5,7 @@ use Rattle.ibc_ids.specs.Texts.{Text}
 use Rattle.ibc_ids.proofs.Texts.{text_same, same_text_itself}
 use Rattle.ibc_wire.specs.Spelling.{connection_state_number, channel_state_number, order_number}
 use Rattle.ibc_machine.proofs.SameValues.{same_client_is, same_connection_is, same_channel_is, same_commitment_is}
-use Rattle.ibc_machine.specs.Values.{Value, ClientIs, ConnectionIs, ChannelIs, NumberIs, CommitmentIs, ReceiptIs, AckIs, same_optional, same_value}
+use Rattle.ibc_machine.specs.ics24.Values.{Value, ClientIs, ConnectionIs, ChannelIs, NumberIs, CommitmentIs, ReceiptIs, AckIs, same_optional, same_value}
 
 pub value_same : (a b : Option Value) → same_value a b ≡ true → a ≡ b
 value_same (Some (ClientIs a)) (Some (ClientIs b)) e = ap (λ x. Some (ClientIs x)) (same_client_is a b e)

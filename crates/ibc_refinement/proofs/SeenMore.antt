@@ -3,8 +3,8 @@ use Rattle.std.proofs.Common.{◌≡◌, ℕ, List, [], ◌∷◌, ◌++◌, ref
 use Rattle.std.specs.List.{AllByRecursion}
 use Rattle.ibc_ids.specs.declared.publication.Publication.{Publication}
 use Rattle.ibc_machine.specs.declared.reply.Reply.{Reply}
-use Rattle.ibc_machine.specs.Replay.{LedgerState, StampedEntry, entry_answer, replay, met_states}
-use Rattle.ibc_machine.specs.Ledgers.{Ledger, IsOwnEntry}
+use Rattle.ibc_machine.specs.ledger.Replay.{LedgerState, StampedEntry, entry_answer, replay, met_states}
+use Rattle.ibc_machine.specs.ledger.Ledgers.{Ledger, IsOwnEntry}
 use Rattle.ibc_machine.proofs.SeenMore.{entry_stays}
 
 pub replay_stays : (ledger : Ledger) (k : ℕ) (more : List Publication) (state : LedgerState) (history : List StampedEntry)

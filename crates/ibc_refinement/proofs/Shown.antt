@@ -19,13 +19,13 @@ use Rattle.ibc_wire.specs.Spelling.{proof_fields, proof_bytes}
 use Rattle.ibc_wire.specs.Reading.{proof_of}
 use Rattle.ibc_refinement.proofs.ShortTexts.{each_byte}
 use Rattle.ibc_refinement.proofs.ShortTexts.{AreBytes}
-use Rattle.ibc_machine.specs.Records.{Core}
-use Rattle.ibc_machine.specs.Values.{Value, Claim, look, value_bytes, same_value}
-use Rattle.ibc_machine.specs.Image.{image, core_root}
-use Rattle.ibc_machine.specs.Machine.{true_marks, shows_in}
-use Rattle.ibc_machine.specs.Replay.{is_shown}
-use Rattle.ibc_machine.specs.Records.{Block}
-use Rattle.ibc_machine.specs.HashedTexts.{delivered}
+use Rattle.ibc_machine.specs.chain.Records.{Core}
+use Rattle.ibc_machine.specs.ics24.Values.{Value, Claim, look, value_bytes, same_value}
+use Rattle.ibc_machine.specs.ics24.Image.{image, core_root}
+use Rattle.ibc_machine.specs.chain.Machine.{true_marks, shows_in}
+use Rattle.ibc_machine.specs.ledger.Replay.{is_shown}
+use Rattle.ibc_machine.specs.chain.Records.{Block}
+use Rattle.ibc_machine.specs.ics23.HashedTexts.{delivered}
 use Rattle.ibc_machine.proofs.Images.{TellsKey, image_at, image_sorted}
 use Rattle.ibc_refinement.proofs.SameValues.{value_same, value_itself}
 

@@ -3,8 +3,8 @@ use Rattle.std.proofs.Common.{◌≡◌, ℕ, suc, ◌<◌, true, false, cond, e
 use Rattle.std.specs.List.{AllByRecursion, flat_map}
 use Rattle.std.proofs.lemmas.Bool.{false≢true}
 use Rattle.std.proofs.lemmas.List.Elements.{filter-append}
-use Rattle.ibc_machine.specs.Replay.{StampedEntry}
-use Rattle.ibc_machine.specs.Merge.{is_of}
+use Rattle.ibc_machine.specs.ledger.Replay.{StampedEntry}
+use Rattle.ibc_machine.specs.ledger.Merge.{is_of}
 use Rattle.ibc_refinement.specs.Stamps.{since, first, later, next_block, left_after}
 
 abbrev pub Histories : Type 0

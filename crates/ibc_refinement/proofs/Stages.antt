@@ -6,8 +6,8 @@ use Rattle.std.specs.Option.{option_map_or}
 use Rattle.std.proofs.lemmas.Bool.{false≢true, cases_lt}
 use Rattle.ibc_ids.specs.Publications.{published_by}
 use Rattle.ibc_ids.specs.declared.publication.Publication.{Publication}
-use Rattle.ibc_machine.specs.Replay.{StampedEntry}
-use Rattle.ibc_machine.specs.Ledgers.{AreRising, is_accepted_block}
+use Rattle.ibc_machine.specs.ledger.Replay.{StampedEntry}
+use Rattle.ibc_machine.specs.ledger.Ledgers.{AreRising, is_accepted_block}
 use Rattle.ibc_refinement.specs.Stamps.{is_by, until, since}
 use Rattle.ibc_refinement.proofs.Placed.{IsPlaced, IsStaged, blocks, few_blocks, left_own, left_other, fewer_after}
 

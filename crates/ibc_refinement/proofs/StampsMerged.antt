@@ -6,12 +6,12 @@ use Rattle.std.proofs.lemmas.List.{length-map}
 use Rattle.std.proofs.lemmas.Option.{slice_get-map}
 use Rattle.ibc_ids.specs.declared.publication.Publication.{Publication}
 use Rattle.ibc_machine.specs.declared.entry.Entry.{Entry}
-use Rattle.ibc_machine.specs.Records.{Chain}
-use Rattle.ibc_machine.specs.Genesis.{GenesisState, start, starting_chain}
-use Rattle.ibc_machine.specs.Replay.{StampedEntry, starting_state, empty_chain}
-use Rattle.ibc_machine.specs.Ledgers.{Ledger, chain_of, published_as, state_of}
-use Rattle.ibc_machine.specs.Merge.{is_of, published_along, Merges}
-use Rattle.ibc_machine.specs.Worlds.{entries}
+use Rattle.ibc_machine.specs.chain.Records.{Chain}
+use Rattle.ibc_machine.specs.chain.Genesis.{GenesisState, start, starting_chain}
+use Rattle.ibc_machine.specs.ledger.Replay.{StampedEntry, starting_state, empty_chain}
+use Rattle.ibc_machine.specs.ledger.Ledgers.{Ledger, chain_of, published_as, state_of}
+use Rattle.ibc_machine.specs.ledger.Merge.{is_of, published_along, Merges}
+use Rattle.ibc_machine.specs.promises.Worlds.{entries}
 use Rattle.ibc_refinement.specs.Stamps.{by_stamps, merged_by_stamps, StampsMerge, StampedIsRun}
 use Rattle.ibc_refinement.proofs.Places.{get_within, get_there}
 use Rattle.ibc_refinement.proofs.EntrySteps.{ledger_of}

@@ -14,15 +14,15 @@ use Rattle.ibc_machine.specs.declared.event.Event.TheVariants as event
 use Rattle.ibc_machine.specs.declared.reply.Reply.{Reply}
 use Rattle.ibc_machine.specs.declared.reply.Reply.TheVariants as reply
 use Rattle.ibc_machine.specs.declared.entry.Reading.{Reading}
-use Rattle.ibc_machine.specs.Genesis.{GenesisState}
-use Rattle.ibc_machine.specs.Records.{Core, Block, Chain, Client, client_at, knows}
-use Rattle.ibc_machine.specs.Image.{core_root}
-use Rattle.ibc_machine.specs.Evidence.{Gone}
-use Rattle.ibc_machine.specs.Handlers.{after_message, message_answer, block_answer, host_of}
-use Rattle.ibc_machine.specs.Clients.{is_of_client}
-use Rattle.ibc_machine.specs.Machine.{World, answer, at_chain, block_at, block_seen, committed_of, looks, true_marks, is_gone, row_if, is_header_of, shows_in}
-use Rattle.ibc_machine.specs.Replay.{Consensus, LedgerState, consensus_cmp, is_published_as, is_shown, proves, after_answer, ledger_answer}
-use Rattle.ibc_machine.specs.Ledgers.{published_as, fits, reading_fits}
+use Rattle.ibc_machine.specs.chain.Genesis.{GenesisState}
+use Rattle.ibc_machine.specs.chain.Records.{Core, Block, Chain, Client, client_at, knows}
+use Rattle.ibc_machine.specs.ics24.Image.{core_root}
+use Rattle.ibc_machine.specs.ics24.Evidence.{Gone}
+use Rattle.ibc_machine.specs.chain.Handlers.{after_message, message_answer, block_answer, host_of}
+use Rattle.ibc_machine.specs.ics02.Clients.{is_of_client}
+use Rattle.ibc_machine.specs.chain.Machine.{World, answer, at_chain, block_at, block_seen, committed_of, looks, true_marks, is_gone, row_if, is_header_of, shows_in}
+use Rattle.ibc_machine.specs.ledger.Replay.{Consensus, LedgerState, consensus_cmp, is_published_as, is_shown, proves, after_answer, ledger_answer}
+use Rattle.ibc_machine.specs.ledger.Ledgers.{published_as, fits, reading_fits}
 use Rattle.ibc_refinement.proofs.Agreeing.{Asked, Agree, AgreeOn}
 use Rattle.ibc_refinement.proofs.SameAnswers.{AgreeOnHeader, AllAsked, handle_same}
 use Rattle.ibc_refinement.proofs.Shown.{AreClear, shown_same}

@@ -7,7 +7,7 @@ use Rattle.ibc_ids.specs.Names.{is_client, is_connection, is_channel, is_port, i
 use Rattle.ibc_wire.specs.Spelling.{connection_state_number, channel_state_number}
 use Rattle.ibc_wire.specs.declared.records.ConnectionEnd.{ConnectionEnd}
 use Rattle.ibc_wire.specs.declared.records.ChannelEnd.{ChannelEnd}
-use Rattle.ibc_machine.specs.Records.{Core, Client, Channel, Commitment}
+use Rattle.ibc_machine.specs.chain.Records.{Core, Client, Channel, Commitment}
 
 pub record IsTypedClient (e : Text × Client) : Type 0 where
   pub name : is_client e.0 ≡ true

@@ -15,10 +15,10 @@ use Rattle.ibc_wire.specs.Spelling.{connection_state_number, channel_state_numbe
 use Rattle.ibc_wire.specs.declared.records.ConnectionEnd.{ConnectionEnd}
 use Rattle.ibc_merkle.specs.Tree.{tree}
 use Rattle.ibc_merkle.specs.Clashes.{tree_texts}
-use Rattle.ibc_machine.specs.Records.{Core, Client, Channel, client_at, connection_at, channel_at, is_one_of}
-use Rattle.ibc_machine.specs.Values.{Value, ClientIs, ConnectionIs, ChannelIs, NumberIs, CommitmentIs, ReceiptIs, AckIs, look, receipt_if, commitment_text}
-use Rattle.ibc_machine.specs.Image.{image}
-use Rattle.ibc_machine.specs.HashedTexts.{commitment_texts, channel_texts, core_texts}
+use Rattle.ibc_machine.specs.chain.Records.{Core, Client, Channel, client_at, connection_at, channel_at, is_one_of}
+use Rattle.ibc_machine.specs.ics24.Values.{Value, ClientIs, ConnectionIs, ChannelIs, NumberIs, CommitmentIs, ReceiptIs, AckIs, look, receipt_if, commitment_text}
+use Rattle.ibc_machine.specs.ics24.Image.{image}
+use Rattle.ibc_machine.specs.ics23.HashedTexts.{commitment_texts, channel_texts, core_texts}
 use Rattle.ibc_ids.proofs.Texts.{text_tied}
 use Rattle.ibc_refinement.proofs.ShortTexts.{FitsText}
 use Rattle.ibc_refinement.proofs.SameSpellings.{IsShort, IsPeer}

@@ -18,7 +18,7 @@ use Rattle.ibc_wire.specs.declared.records.ChannelState.TheVariants as chan
 use Rattle.ibc_wire.specs.declared.records.Order.{Order}
 use Rattle.ibc_wire.specs.declared.records.Order.TheVariants.{Unordered, Ordered}
 use Rattle.ibc_merkle.specs.Hash.{hash}
-use Rattle.ibc_machine.specs.Values.{Value, ClientIs, ConnectionIs, ChannelIs, NumberIs, CommitmentIs, ReceiptIs, AckIs, commitment_text, value_bytes}
+use Rattle.ibc_machine.specs.ics24.Values.{Value, ClientIs, ConnectionIs, ChannelIs, NumberIs, CommitmentIs, ReceiptIs, AckIs, commitment_text, value_bytes}
 use Rattle.ibc_merkle.proofs.Digests.{length-hash}
 use Rattle.ibc_merkle.proofs.Depths.{bytes-hash}
 use Rattle.ibc_refinement.proofs.ShortTexts.{FitsText}

@@ -1,10 +1,10 @@
 -- An audit takes ledgers in any order, with no chain missing or twice.
 use Rattle.std.specs.Prelude.{◌≡◌, ℕ, List, map, Some, slice_get, IsTrue}
 use Rattle.ibc_ids.specs.declared.publication.Publication.{Publication}
-use Rattle.ibc_machine.specs.Records.{Chain}
-use Rattle.ibc_machine.specs.Genesis.{GenesisState}
-use Rattle.ibc_machine.specs.Ledgers.{Ledger, IsLedger, machine_of}
-use Rattle.ibc_machine.specs.Worlds.{AreOfOneTable, by_number, is_complete, IsAudited}
+use Rattle.ibc_machine.specs.chain.Records.{Chain}
+use Rattle.ibc_machine.specs.chain.Genesis.{GenesisState}
+use Rattle.ibc_machine.specs.ledger.Ledgers.{Ledger, IsLedger, machine_of}
+use Rattle.ibc_machine.specs.promises.Worlds.{AreOfOneTable, by_number, is_complete, IsAudited}
 
 -- ledgers of this genesis
 abbrev pub AreOfGenesis : GenesisState → List Ledger → Type 0

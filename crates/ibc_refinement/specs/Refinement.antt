@@ -6,13 +6,13 @@ use Rattle.ibc_machine.specs.declared.event.Event.{Event}
 use Rattle.ibc_machine.specs.declared.reply.Reply.{Reply}
 use Rattle.ibc_machine.specs.declared.reply.Reply.TheVariants as reply
 use Rattle.ibc_machine.specs.declared.entry.Entry.{Entry}
-use Rattle.ibc_machine.specs.Records.{Chain}
-use Rattle.ibc_machine.specs.Genesis.{GenesisState, start, is_allowed}
-use Rattle.ibc_machine.specs.Replay.{StampedEntry}
-use Rattle.ibc_machine.specs.Ledgers.{Ledger, chain_of}
-use Rattle.ibc_machine.specs.HashedTexts.{HasNoClash}
-use Rattle.ibc_machine.specs.Merge.{is_of, Merges}
-use Rattle.ibc_machine.specs.Worlds.{AreLedgersOf, AreOfOneTable, AppliesEach, entries, interleaved, IsWorldHistory, Refines, SinceGenesis}
+use Rattle.ibc_machine.specs.chain.Records.{Chain}
+use Rattle.ibc_machine.specs.chain.Genesis.{GenesisState, start, is_allowed}
+use Rattle.ibc_machine.specs.ledger.Replay.{StampedEntry}
+use Rattle.ibc_machine.specs.ledger.Ledgers.{Ledger, chain_of}
+use Rattle.ibc_machine.specs.ics23.HashedTexts.{HasNoClash}
+use Rattle.ibc_machine.specs.ledger.Merge.{is_of, Merges}
+use Rattle.ibc_machine.specs.promises.Worlds.{AreLedgersOf, AreOfOneTable, AppliesEach, entries, interleaved, IsWorldHistory, Refines, SinceGenesis}
 
 -- Every list that merges the histories of the ledgers of a genesis along one list of publications is a run of
 -- the machine since genesis to the ledgers' states, where no two texts that are hashed clash.

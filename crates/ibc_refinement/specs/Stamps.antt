@@ -5,13 +5,13 @@ use Rattle.std.specs.List.{flat_map}
 use Rattle.std.specs.Option.{option_map_or}
 use Rattle.ibc_ids.specs.declared.publication.Publication.{Publication}
 use Rattle.ibc_machine.specs.declared.entry.Entry.{Entry}
-use Rattle.ibc_machine.specs.Records.{Chain}
-use Rattle.ibc_machine.specs.Genesis.{GenesisState, start, is_allowed}
-use Rattle.ibc_machine.specs.Replay.{StampedEntry}
-use Rattle.ibc_machine.specs.Ledgers.{Ledger}
-use Rattle.ibc_machine.specs.HashedTexts.{HasNoClash}
-use Rattle.ibc_machine.specs.Merge.{Merges}
-use Rattle.ibc_machine.specs.Worlds.{AreLedgersOf, AreOfOneTable, entries, IsWorldHistory}
+use Rattle.ibc_machine.specs.chain.Records.{Chain}
+use Rattle.ibc_machine.specs.chain.Genesis.{GenesisState, start, is_allowed}
+use Rattle.ibc_machine.specs.ledger.Replay.{StampedEntry}
+use Rattle.ibc_machine.specs.ledger.Ledgers.{Ledger}
+use Rattle.ibc_machine.specs.ics23.HashedTexts.{HasNoClash}
+use Rattle.ibc_machine.specs.ledger.Merge.{Merges}
+use Rattle.ibc_machine.specs.promises.Worlds.{AreLedgersOf, AreOfOneTable, entries, IsWorldHistory}
 
 -- the entry may stand where so many are published
 abbrev pub is_by : ℕ → StampedEntry → Bool

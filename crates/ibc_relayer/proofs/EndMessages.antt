@@ -13,13 +13,13 @@ use Rattle.ibc_ids.proofs.Texts.{text_same}
 use Rattle.ibc_ids.specs.declared.key.Key.TheVariants as key
 use Rattle.ibc_wire.specs.declared.messages.Message.{Message}
 use Rattle.ibc_wire.specs.declared.records.ChannelState.TheVariants.{Open, Closed}
-use Rattle.ibc_machine.specs.Records.{Channel, Commitment, channel_at}
-use Rattle.ibc_machine.specs.Values.{same_optional}
-use Rattle.ibc_machine.specs.Channels.{is_in_state, client_of, peer_channel_of}
-use Rattle.ibc_machine.specs.Packets.{has_peer, has_received, is_timed_out}
-use Rattle.ibc_machine.specs.Histories.{packet_from}
-use Rattle.ibc_machine.specs.Proving.{recv_message, ack_message}
-use Rattle.ibc_machine.specs.Relay.{View, Kind, Receive, Acknowledge, TimeOut, TimeOutClosed, Pending, pending_of, is_to_receive, to_receive, is_acknowledged, to_acknowledge, timeout_kind, to_time_out, tracks, when, end_pending, if_names, theirs_of, pending_at, proof_at, end_of, message_of, packet_of, ack_of, message_for, pending_message, client_used}
+use Rattle.ibc_machine.specs.chain.Records.{Channel, Commitment, channel_at}
+use Rattle.ibc_machine.specs.ics24.Values.{same_optional}
+use Rattle.ibc_machine.specs.ics04.Channels.{is_in_state, client_of, peer_channel_of}
+use Rattle.ibc_machine.specs.ics04.Packets.{has_peer, has_received, is_timed_out}
+use Rattle.ibc_machine.specs.promises.Histories.{packet_from}
+use Rattle.ibc_machine.specs.ics04.Proving.{recv_message, ack_message}
+use Rattle.ibc_machine.specs.ics18.Relay.{View, Kind, Receive, Acknowledge, TimeOut, TimeOutClosed, Pending, pending_of, is_to_receive, to_receive, is_acknowledged, to_acknowledge, timeout_kind, to_time_out, tracks, when, end_pending, if_names, theirs_of, pending_at, proof_at, end_of, message_of, packet_of, ack_of, message_for, pending_message, client_used}
 use Rattle.ibc_relayer.specs.Ends.{packet_between, peer_of, message_if, received_at, acked_at, timed_out_at, messages_if, end_messages}
 use Rattle.ibc_relayer.specs.Used.{goes_over, has_any}
 use Rattle.ibc_relayer.proofs.Lists.{filter_map_on, kept_if, map_filter, all_filter_map, all_append, each_at}

@@ -10,8 +10,8 @@ use Rattle.ibc_ids.specs.Texts.{Text, same_text, text_cmp}
 use Rattle.ibc_ids.specs.Maps.{Map, at, with}
 use Rattle.ibc_ids.proofs.Texts.{text_same, text_tied, text_ties, text_cmp_total, same_text_from}
 use Rattle.ibc_wire.specs.declared.messages.Message.{Message}
-use Rattle.ibc_machine.specs.Records.{Client, Channel, is_one_of}
-use Rattle.ibc_machine.specs.Relay.{View, Pending, pending, pending_at, pending_message, client_used, needs_update, update_of, plan, when}
+use Rattle.ibc_machine.specs.chain.Records.{Client, Channel, is_one_of}
+use Rattle.ibc_machine.specs.ics18.Relay.{View, Pending, pending, pending_at, pending_message, client_used, needs_update, update_of, plan, when}
 use Rattle.ibc_machine.proofs.Images.{at-with}
 use Rattle.ibc_machine.proofs.SortedMaps.{Below, Sorted}
 use Rattle.ibc_relayer.specs.declared.ends.Ends.{Ends}

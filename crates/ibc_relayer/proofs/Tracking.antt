@@ -9,12 +9,12 @@ use Rattle.ibc_ids.proofs.Maps.{at-map_values}
 use Rattle.ibc_ids.specs.Names.{is_port, is_channel}
 use Rattle.ibc_ids.specs.declared.key.Key.TheVariants as key
 use Rattle.ibc_wire.specs.declared.records.ConnectionEnd.{ConnectionEnd}
-use Rattle.ibc_machine.specs.Records.{Channel, client_at, connection_at, channel_at}
-use Rattle.ibc_machine.specs.Values.{ChannelIs}
-use Rattle.ibc_machine.specs.Image.{IsKeyed}
-use Rattle.ibc_machine.specs.Channels.{client_of, peer_channel_of}
-use Rattle.ibc_machine.specs.Packets.{has_peer}
-use Rattle.ibc_machine.specs.Relay.{View, tracks, theirs_of, if_names, end_pending, pending_at, when}
+use Rattle.ibc_machine.specs.chain.Records.{Channel, client_at, connection_at, channel_at}
+use Rattle.ibc_machine.specs.ics24.Values.{ChannelIs}
+use Rattle.ibc_machine.specs.ics24.Image.{IsKeyed}
+use Rattle.ibc_machine.specs.ics04.Channels.{client_of, peer_channel_of}
+use Rattle.ibc_machine.specs.ics04.Packets.{has_peer}
+use Rattle.ibc_machine.specs.ics18.Relay.{View, tracks, theirs_of, if_names, end_pending, pending_at, when}
 use Rattle.ibc_records.specs.HeldClients.{HeldClient, plain_client}
 use Rattle.ibc_records.specs.Held.{plain_entry}
 use Rattle.ibc_client.proofs.Connections.{client_nowhere}

@@ -11,11 +11,11 @@ use Rattle.ibc_ids.specs.declared.key.Key.TheVariants as key
 use Rattle.ibc_wire.specs.declared.records.ChannelState.TheVariants.{Open, Closed}
 use Rattle.ibc_wire.specs.declared.packet.Packet.{Packet}
 use Rattle.ibc_wire.specs.declared.messages.Message.{Message}
-use Rattle.ibc_machine.specs.Records.{Channel, Commitment}
-use Rattle.ibc_machine.specs.Channels.{is_in_state, peer_channel_of}
-use Rattle.ibc_machine.specs.Packets.{is_ordered}
-use Rattle.ibc_machine.specs.Proving.{commitment_key, ack_key, recv_message, ack_message}
-use Rattle.ibc_machine.specs.Relay.{View, is_to_receive, timeout_kind, proof_at, message_of}
+use Rattle.ibc_machine.specs.chain.Records.{Channel, Commitment}
+use Rattle.ibc_machine.specs.ics04.Channels.{is_in_state, peer_channel_of}
+use Rattle.ibc_machine.specs.ics04.Packets.{is_ordered}
+use Rattle.ibc_machine.specs.ics04.Proving.{commitment_key, ack_key, recv_message, ack_message}
+use Rattle.ibc_machine.specs.ics18.Relay.{View, is_to_receive, timeout_kind, proof_at, message_of}
 
 -- an end by its port and its name
 abbrev pub Place : Type 0

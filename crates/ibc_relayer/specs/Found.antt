@@ -2,9 +2,9 @@
 use Rattle.std.specs.Prelude.{◌≡◌, ◌==◌, ℕ, Bool, true, false, [], Option, Some, None}
 use Rattle.std.specs.Option.{option_map_or}
 use Rattle.ibc_ids.specs.Texts.{Text}
-use Rattle.ibc_machine.specs.Records.{Channel, Client}
-use Rattle.ibc_machine.specs.Channels.{client_of}
-use Rattle.ibc_machine.specs.Relay.{View, tracks, theirs_of, pending_at}
+use Rattle.ibc_machine.specs.chain.Records.{Channel, Client}
+use Rattle.ibc_machine.specs.ics04.Channels.{client_of}
+use Rattle.ibc_machine.specs.ics18.Relay.{View, tracks, theirs_of, pending_at}
 use Rattle.ibc_relayer.specs.declared.ends.Ends.{Ends}
 
 -- there is a client, and it tracks the chain

@@ -4,8 +4,8 @@ use Rattle.std.specs.List.{list_any}
 use Rattle.ibc_ids.specs.Texts.{Text, same_text, text_cmp}
 use Rattle.ibc_ids.specs.Maps.{Map, at}
 use Rattle.ibc_wire.specs.declared.messages.Message.{Message}
-use Rattle.ibc_machine.specs.Records.{Client, is_one_of}
-use Rattle.ibc_machine.specs.Relay.{View, Pending, client_used}
+use Rattle.ibc_machine.specs.chain.Records.{Client, is_one_of}
+use Rattle.ibc_machine.specs.ics18.Relay.{View, Pending, client_used}
 
 -- whether a message goes over the client
 abbrev pub goes_over : View → Text → List Pending → Bool

@@ -1,12 +1,12 @@
 //! Which packets are due.
 
 ghost use Rattle.std.specs.Prelude.{◌≡◌, ◌+◌, ◌-◌, ◌^◌, min};
-ghost use Rattle.ibc_machine.specs.Packets as plain;
-ghost use Rattle.ibc_machine.specs.Relay as relay;
+ghost use Rattle.ibc_machine.specs.ics04.Packets as plain;
+ghost use Rattle.ibc_machine.specs.ics18.Relay as relay;
 
 use ibc_ids::{ChannelId, PortId};
+use ibc_ledger::View;
 use ibc_records::{Channel, Commitment};
-use ibc_view::View;
 
 /// Whether a packet that the peer sent is to be received at an end: the end hasn't received it, and the chain's working block
 /// hasn't reached its timeouts.

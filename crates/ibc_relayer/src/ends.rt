@@ -5,16 +5,16 @@ ghost use Rattle.std.specs.FinMap.{is_sorted};
 ghost use Rattle.std.specs.Ordering.{nat_cmp};
 ghost use Rattle.std.specs.List.{filter_map, cons_option};
 ghost use Rattle.ibc_ids.specs.declared.refusal.Refusal.TheVariants.{NoMemory};
-ghost use Rattle.ibc_machine.specs.Channels.{client_of};
-ghost use Rattle.ibc_machine.specs.Records.{client_at, connection_at};
-ghost use Rattle.ibc_machine.specs.Relay as relay;
+ghost use Rattle.ibc_machine.specs.ics04.Channels.{client_of};
+ghost use Rattle.ibc_machine.specs.chain.Records.{client_at, connection_at};
+ghost use Rattle.ibc_machine.specs.ics18.Relay as relay;
 ghost use Rattle.ibc_relayer.specs.Ends.{received_at, acked_at, timed_out_at, end_messages};
 ghost use Rattle.ibc_relayer.specs.Found.{AreEnds, tracks_chain};
 
 use crate::due::has_peer;
 use ibc_ids::{ChannelId, ClientId, PortId, Refusal};
+use ibc_ledger::View;
 use ibc_records::Channel;
-use ibc_view::View;
 use ibc_wire::{ChannelState, ConnectionEnd, Message};
 use std::alloc::{AllocError, Global};
 

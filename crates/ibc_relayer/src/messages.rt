@@ -3,9 +3,9 @@
 ghost use Rattle.std.specs.Prelude.{◌≡◌, ◌<◌, Some, IfOk, IfErr, IfSome};
 ghost use Rattle.ibc_ids.specs.declared.refusal.Refusal.TheVariants.{NoMemory};
 ghost use Rattle.ibc_ids.specs.declared.key.Key.TheVariants as key;
-ghost use Rattle.ibc_machine.specs.Channels.{peer_channel_of};
-ghost use Rattle.ibc_machine.specs.Proving.{commitment_key, ack_key, destination_key, recv_message, ack_message, timeout_message, timeout_on_close_message};
-ghost use Rattle.ibc_machine.specs.Relay.{proof_at, unreceived_key, next_recv};
+ghost use Rattle.ibc_machine.specs.ics04.Channels.{peer_channel_of};
+ghost use Rattle.ibc_machine.specs.ics04.Proving.{commitment_key, ack_key, destination_key, recv_message, ack_message, timeout_message, timeout_on_close_message};
+ghost use Rattle.ibc_machine.specs.ics18.Relay.{proof_at, unreceived_key, next_recv};
 ghost use Rattle.ibc_relayer.specs.Ends.{packet_between, peer_of, unreceived_at, received_at, acked_at, timed_out_at};
 
 use crate::due::{has_received, is_timed_out, is_to_receive};

@@ -19,7 +19,7 @@ use Rattle.ibc_script.specs.declared.draft.Draft.{Draft}
 use Rattle.ibc_script.specs.declared.draft.Draft.TheVariants as draft
 use Rattle.ibc_script.specs.declared.draft.Origin.{Origin}
 use Rattle.ibc_script_cli.specs.Answers.{Answers}
-use Rattle.ibc_machine.specs.Proving.{recv_message, timeout_message}
+use Rattle.ibc_machine.specs.ics04.Proving.{recv_message, timeout_message}
 use Rattle.ibc_script_cli.specs.Completing.{connection_message, channel_message, acknowledged_message, closed_message, MakesHandled, MakesOfFound, MakesMessage}
 use Rattle.ibc_script_cli.specs.declared.completing.Claim.{Claim}
 use Rattle.ibc_script_cli.specs.declared.completing.packets.Handling.{Handling}

@@ -4,7 +4,7 @@ use Rattle.std.specs.Int.{w64, from_be_bytes}
 use Rattle.ibc_ids.specs.Texts.{Text}
 use Rattle.ibc_ids.specs.declared.key.Key.{Key}
 use Rattle.ibc_ids.specs.declared.key.Key.TheVariants as key
-use Rattle.ibc_machine.specs.Proving.{commitment_key, ack_key, receipt_key, next_recv_key, destination_key, recv_message, ack_message, timeout_message, timeout_on_close_message}
+use Rattle.ibc_machine.specs.ics04.Proving.{commitment_key, ack_key, receipt_key, next_recv_key, destination_key, recv_message, ack_message, timeout_message, timeout_on_close_message}
 use Rattle.ibc_merkle.specs.declared.proof.Proof.{Proof}
 use Rattle.ibc_merkle.specs.declared.proof.Proof.TheVariants.{Present, Absent}
 use Rattle.ibc_wire.specs.Fields.{Spells, have_form}

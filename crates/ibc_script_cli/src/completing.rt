@@ -13,11 +13,10 @@ mod packets;
 
 use crate::Chains;
 use crate::heights::Heights;
-use ibc_codec::{decode, encode};
 use ibc_ids::{Bytes, ClientId, Key, Refusal};
 use ibc_merkle::{Presence, Proof};
 use ibc_script::{Draft, Fault, Origin};
-use ibc_wire::{ClientState, Message};
+use ibc_wire::{ClientState, Message, decode, encode};
 use std::alloc::Global;
 
 /// What completes the messages of a script: the heights that its chains have committed, and the chains.

@@ -13,12 +13,12 @@ use Rattle.atomic_table.proofs.owned.Table.TheSendSync as table
 use Rattle.ibc_machine.proofs.entry.Entry.TheSendSync as entry
 use Rattle.ibc_root_table.proofs.table.RootTable.TheSendSync as root_table
 use Rattle.ibc_root_table.proofs.table.Pass.TheSendSync as pass
-use Rattle.ibc_view.proofs.view.View.TheSendSync as view
+use Rattle.ibc_ledger.proofs.view.View.TheSendSync as view
 use Rattle.ibc_ledger.proofs.node.Node.TheSendSync as node
 use Rattle.ibc_ledger.specs.contracts.entry.StampedEntry as StampedEntry
 use Rattle.ibc_ledger.specs.contracts.ledger.Ledger as Ledger
 use Rattle.ibc_ledger.specs.contracts.ledger.Ledger.TheInside as InLedger
-use Rattle.ibc_sent_packets.proofs.places.SentPackets.TheSendSync as sent
+use Rattle.ibc_ledger.proofs.places.SentPackets.TheSendSync as sent
 use Rattle.ibc_ledger_lock.proofs.board.Board.TheSendSync as board
 use Rattle.ibc_ledger_lock.specs.declared.world.World.{Ghosts}
 use Rattle.ibc_ledger_lock.specs.contracts.book.Knowledge as Knowledge

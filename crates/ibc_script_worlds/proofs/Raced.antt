@@ -1,12 +1,12 @@
 -- What an audit of shared chains says of what a race tells.
 use Rattle.std.proofs.Common.{◌≡◌, ℕ, List, sym, subst}
-use Rattle.ibc_machine.specs.Genesis.{GenesisState}
+use Rattle.ibc_machine.specs.chain.Genesis.{GenesisState}
 use Rattle.ibc_root_table.specs.Passes.{TableName}
 use Rattle.ibc_ledger.specs.Held.{HeldLedger}
 use Rattle.ibc_ledger_lock.specs.Worlds.{Told}
 use Rattle.ibc_world_core.specs.declared.holdings.Audit.{Audit}
-use Rattle.ibc_every_world.specs.EveryAudit.{AreLawful}
-use Rattle.ibc_shared_world.specs.SharedWorlds.{IsAuditOf}
+use Rattle.ibc_theorem.specs.EveryAudit.{AreLawful}
+use Rattle.ibc_race.specs.SharedWorlds.{IsAuditOf}
 use Rattle.ibc_script_cli.specs.declared.racing.Audited.{Audited}
 use Rattle.ibc_script_worlds.specs.Racing.{IsRaceOf}
 

@@ -1,9 +1,9 @@
 -- What a race comes to.
 use Rattle.std.specs.Prelude.{◌≡◌, List}
 use Rattle.std.specs.List.{All}
-use Rattle.ibc_machine.specs.Genesis.{GenesisState}
+use Rattle.ibc_machine.specs.chain.Genesis.{GenesisState}
 use Rattle.ibc_ledger.specs.Held.{HeldLedger}
-use Rattle.ibc_every_world.specs.EveryAudit.{AreLawful}
+use Rattle.ibc_theorem.specs.EveryAudit.{AreLawful}
 use Rattle.ibc_script_cli.specs.declared.racing.Audited.{Audited}
 
 -- There are ledgers of the genesis that together did a lawful run of the machine, and hold what is told.

@@ -4,16 +4,16 @@ ghost use Rattle.std.specs.Prelude.{◌≡◌, ◌⊎◌, ◌<◌, ◌≤◌, le
 ghost use denote.Param.Send.{IsSync};
 ghost use Rattle.ibc_script.specs.Faults.{JudgesScript, StopsRun};
 ghost use Rattle.ibc_script.specs.Scripts.{IsAmong};
-ghost use Rattle.ibc_machine.specs.Genesis.{genesis_state};
-ghost use Rattle.ibc_shared_world.specs.SharedWorlds.{HasItsBook};
+ghost use Rattle.ibc_machine.specs.chain.Genesis.{genesis_state};
+ghost use Rattle.ibc_race.specs.SharedWorlds.{HasItsBook};
 ghost use Rattle.ibc_script_worlds.specs.Racing.{IsRaceOf};
 
 use crate::sharing::Shared;
 use ibc_ledger::Ledger;
 use ibc_ledger_lock::{Chain, Opened, World};
+use ibc_race::{audit_chains, begin, share};
 use ibc_script::{Fault, Step};
 use ibc_script_cli::{Audited, Race, Races, Runner};
-use ibc_shared_world::{audit_chains, begin, share};
 use ibc_world_core::Audit;
 use std::alloc::Global;
 use std::io;

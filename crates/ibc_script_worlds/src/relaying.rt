@@ -2,12 +2,12 @@
 
 ghost use Rattle.std.specs.Prelude.{◌≡◌, IfOk, IfErr};
 ghost use Rattle.ibc_ids.specs.declared.refusal.Refusal.TheVariants.{NoMemory};
-ghost use Rattle.ibc_machine.specs.Relay as relay;
+ghost use Rattle.ibc_machine.specs.ics18.Relay as relay;
 ghost use Rattle.ibc_script_worlds.specs.Relaying.{seen};
 
 use ibc_ids::Refusal;
 use ibc_ledger::Ledger;
-use ibc_relay::plans;
+use ibc_relayer::plans;
 use ibc_wire::Message;
 use std::alloc::Global;
 

@@ -4,15 +4,14 @@ ghost use Rattle.std.specs.Prelude.{◌≡◌, ◌≤◌, IfErr};
 ghost use Rattle.ibc_ids.specs.declared.refusal.Refusal.TheVariants.{NoMemory};
 
 use crate::worlds::decoded;
-use ibc_codec::Wire;
 use ibc_ids::{Bytes, ChannelId, ClientId, ConnectionId, Key, PortId, Refusal};
 use ibc_ledger::StampedEntry;
 use ibc_ledger_lock::{Chain, World};
 use ibc_machine::{Effect, Entry, Event, Reply};
 use ibc_merkle::Proof;
-use ibc_relay::{plans, relay_all};
+use ibc_relayer::{plans, relay_all};
 use ibc_script_cli::{Chains, EndedBlock};
-use ibc_wire::{ChannelEnd, ClientState, ConnectionEnd, Message, Packet};
+use ibc_wire::{ChannelEnd, ClientState, ConnectionEnd, Message, Packet, Wire};
 use std::alloc::{AllocError, Global};
 use std::sync::Wait;
 use std::thread::Threads;

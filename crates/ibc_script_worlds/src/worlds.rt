@@ -1,12 +1,11 @@
 //! Worlds, as the steps of a script see them.
 
 use crate::relaying::plans_between;
-use ibc_codec::{Wire, decode};
 use ibc_ids::{Account, Bytes, ChannelId, ClientId, ConnectionId, Denom, Key, PortId, Refusal};
 use ibc_machine::{Event, Genesis, Reply, Totals};
 use ibc_merkle::Proof;
 use ibc_script_cli::{Chains, Tells, Worlds};
-use ibc_wire::{ChannelEnd, ClientState, ConnectionEnd, Message, Packet};
+use ibc_wire::{ChannelEnd, ClientState, ConnectionEnd, Message, Packet, Wire, decode};
 use ibc_world_core::World;
 use std::alloc::Global;
 

@@ -1,14 +1,13 @@
 //! Chains that are asked by the calls of `Gate`.
 
-use ibc_codec::{Wire, decode};
 use ibc_ids::{Bytes, ChannelId, ClientId, ConnectionId, Key, PortId, Refusal};
 use ibc_ledger_lock::Gate;
 use ibc_machine::{Event, Reply};
 use ibc_merkle::Proof;
-use ibc_relay::plans;
+use ibc_relayer::plans;
 use ibc_script::Fault;
 use ibc_script_cli::{Chains, Race};
-use ibc_wire::{ChannelEnd, ClientState, ConnectionEnd, Message, Packet};
+use ibc_wire::{ChannelEnd, ClientState, ConnectionEnd, Message, Packet, Wire, decode};
 use std::alloc::{AllocError, Global};
 use std::sync::Wait;
 

@@ -1,11 +1,10 @@
 //! A chain that ends a block behind each message.
 
 use ibc_ids::{Bytes, ChannelId, Key, PortId, Refusal};
-use ibc_ledger::StampedEntry;
+use ibc_ledger::{StampedEntry, View};
 use ibc_ledger_lock::Gate;
 use ibc_machine::Reply;
 use ibc_merkle::Proof;
-use ibc_view::View;
 use ibc_wire::{Message, Packet};
 use std::sync::Wait;
 

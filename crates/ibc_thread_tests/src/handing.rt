@@ -2,15 +2,15 @@
 
 ghost use denote.Param.Send.{IsSync};
 ghost use Rattle.std.specs.Prelude.{◌≡◌, All};
-ghost use Rattle.ibc_shared_world.specs.SharedWorlds.{HasItsBook};
+ghost use Rattle.ibc_race.specs.SharedWorlds.{HasItsBook};
 
 use crate::equal::are_equal;
 use ibc_ids::Refusal;
 use ibc_ledger::Ledger;
 use ibc_ledger_lock::{Board, Chain, Opened, World};
+use ibc_race::begin;
 use ibc_script::Fault;
 use ibc_script_cli::{Audited, Race, Races};
-use ibc_shared_world::begin;
 use ibc_wire::{CreateClient, Message};
 use std::alloc::Global;
 use std::cell::Cell;

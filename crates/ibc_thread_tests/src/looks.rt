@@ -3,11 +3,11 @@
 use crate::asked::{Answer, take_steps};
 use crate::histories::history_of;
 use ibc_ids::Refusal;
+use ibc_ledger::View;
 use ibc_ledger_lock::Gate;
 use ibc_relayer::plan;
 use ibc_script::Fault;
 use ibc_script_cli::Race;
-use ibc_view::View;
 use std::alloc::Global;
 use std::sync::Wait;
 use std::thread;

@@ -4,7 +4,7 @@ use crate::histories::{accepted_in, received_in};
 use crate::holding::Holding;
 use ibc_ids::Refusal;
 use ibc_ledger_lock::Gate;
-use ibc_relay::relay_all;
+use ibc_relayer::relay_all;
 use std::alloc::Global;
 use std::sync::Wait;
 use std::thread;

@@ -101,8 +101,8 @@ fn packet_of(message: &Message) -> Option<&Packet> {
 
 // Whether a packet is spelled so that the same is read back. Refused: `NoMemory`.
 fn packet_comes_back(alloc: Global, packet: &Packet) -> Result<bool, Refusal> {
-    let bytes = ibc_codec::encode(alloc, packet)?;
-    let back: Result<Packet, Refusal> = ibc_codec::decode(alloc, bytes.as_slice());
+    let bytes = ibc_wire::encode(alloc, packet)?;
+    let back: Result<Packet, Refusal> = ibc_wire::decode(alloc, bytes.as_slice());
     drop(bytes);
     let back = back?;
     let is_same = back == *packet;

@@ -2,7 +2,7 @@
 
 ghost use denote.Param.Send.{IsSync};
 ghost use Rattle.std.specs.Prelude.{All};
-ghost use Rattle.ibc_shared_world.specs.SharedWorlds.{HasItsBook};
+ghost use Rattle.ibc_race.specs.SharedWorlds.{HasItsBook};
 
 use crate::asked::{Answer, take_steps};
 use crate::histories::{Told, are_told};
@@ -13,10 +13,10 @@ use crate::turns::{blocks_end, sent_again, there_and_back, two_turns};
 use ibc_ids::Refusal;
 use ibc_ledger::Ledger;
 use ibc_ledger_lock::{Chain, Gate, Opened, Receipt, World};
+use ibc_race::{audit_chains, begin, share};
 use ibc_script::Fault;
 use ibc_script_cli::{Audited, Race, Races};
 use ibc_script_worlds::Shared;
-use ibc_shared_world::{audit_chains, begin, share};
 use ibc_world_core::Audit;
 use std::alloc::Global;
 use std::cell::Cell;

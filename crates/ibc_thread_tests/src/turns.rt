@@ -9,7 +9,7 @@ use ibc_ids::Refusal;
 use ibc_ledger::StampedEntry;
 use ibc_ledger_lock::Gate;
 use ibc_machine::{Entry, Event, Reply};
-use ibc_relay::{relay, relay_all};
+use ibc_relayer::{relay, relay_all};
 use ibc_script_cli::drive;
 use ibc_script_worlds::{NewRaces, NewWorlds};
 use std::alloc::Global;

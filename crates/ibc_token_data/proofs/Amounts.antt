@@ -3,7 +3,7 @@ use Rattle.std.proofs.Common.{◌≡◌, ℕ, ◌<◌, ◌^◌, true, Result, Ok
 use Rattle.std.proofs.lemmas.Fmt.{parse-decimal_wide}
 use Rattle.std.specs.Str.Parse.{ParsesUnsigned}
 use Rattle.ibc_ids.specs.Texts.{Text}
-use Rattle.ibc_machine.specs.TokenData.{is_amount}
+use Rattle.ibc_machine.specs.ics20.TokenData.{is_amount}
 use Rattle.ibc_machine.proofs.QuotedTexts.{both, amount_small}
 
 pub amount_read : {E : Type 0} (amount : ℕ) (text : Text) (r : Result ℕ E) → is_amount amount ≡ true → text ≡ decimal amount → ParsesUnsigned 128 10 text r → r ≡ Ok amount

@@ -11,7 +11,7 @@ use Rattle.ibc_ids.specs.Texts.{Text}
 use Rattle.ibc_ids.specs.Names.{is_denom, is_memo, is_receiver, is_user}
 use Rattle.ibc_ids.proofs.Ascii.{users, receivers, memos, denominations}
 use Rattle.ibc_wire.specs.declared.token.Token.{Token}
-use Rattle.ibc_machine.specs.TokenData.{Data, quoted, member, object, token_members, memo_member, party_members, members_of_first, tokens_member, has_several, data_text}
+use Rattle.ibc_machine.specs.ics20.TokenData.{Data, quoted, member, object, token_members, memo_member, party_members, members_of_first, tokens_member, has_several, data_text}
 use Rattle.ibc_token_data.proofs.Typed.{is_typed_token, is_typed}
 
 -- ---- texts of parts

@@ -5,7 +5,7 @@ use Rattle.std.specs.List.{list_all}
 use Rattle.ibc_ids.specs.Texts.{Text}
 use Rattle.ibc_ids.specs.Names.{is_memo, is_receiver, is_user}
 use Rattle.ibc_wire.specs.declared.token.Token.{Token}
-use Rattle.ibc_machine.specs.TokenData.{Data, is_token, is_list_for, is_data}
+use Rattle.ibc_machine.specs.ics20.TokenData.{Data, is_token, is_list_for, is_data}
 use Rattle.json.specs.Json as json
 use Rattle.json.specs.Find.{get}
 use Rattle.json.specs.Value.{items_of, value_view}

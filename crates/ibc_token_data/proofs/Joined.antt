@@ -4,7 +4,7 @@ use Rattle.std.proofs.lemmas.List.{take_more}
 use Rattle.std.specs.List.{join_with_byte}
 use Rattle.ibc_ids.specs.Texts.{Text}
 use Rattle.ibc_wire.specs.declared.token.Token.{Token}
-use Rattle.ibc_machine.specs.TokenData.{Data, member, object, token_members, party_members, members_of_first, tokens_member, has_several, data_text}
+use Rattle.ibc_machine.specs.ics20.TokenData.{Data, member, object, token_members, party_members, members_of_first, tokens_member, has_several, data_text}
 use Rattle.ibc_token_data.specs.Spelling.{memo_front, parties_text, token_text, objects_text, behind_text, members_text}
 
 abbrev one_object : Token → Text

@@ -11,7 +11,7 @@ use Rattle.std.specs.List.{list_all, join_with_byte, slice_split}
 use Rattle.std.specs.Str.Parse.{AllDigits}
 use Rattle.ibc_ids.specs.Texts.{Text}
 use Rattle.ibc_ids.specs.Names.{is_letter_or_digit, is_identifier_byte, is_plain_byte, is_made_of, is_port, is_channel, is_user, is_receiver, is_memo, is_slash, are_hops_and_base, is_denom}
-use Rattle.ibc_machine.specs.TokenData.{quoted}
+use Rattle.ibc_machine.specs.ics20.TokenData.{quoted}
 use Rattle.json.specs.Print as print
 use Rattle.json.proofs.Printed.Strings.{escape_byte_plain}
 

@@ -6,7 +6,7 @@ use Rattle.std.specs.List.{list_all}
 use Rattle.ibc_ids.specs.Texts.{Text}
 use Rattle.ibc_ids.specs.Names.{is_denom}
 use Rattle.ibc_wire.specs.declared.token.Token.{Token}
-use Rattle.ibc_machine.specs.TokenData.{Data, is_amount, is_token, is_data, has_several, data_text, data_of}
+use Rattle.ibc_machine.specs.ics20.TokenData.{Data, is_amount, is_token, is_data, has_several, data_text, data_of}
 use Rattle.ibc_machine.proofs.DataRead.{data_spelled}
 use Rattle.json.specs.Json as json
 use Rattle.json.specs.Json.{max_depth, document}

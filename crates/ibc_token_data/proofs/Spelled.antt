@@ -5,7 +5,7 @@ use Rattle.std.specs.List.{list_all, join_with_byte}
 use Rattle.ibc_ids.specs.Texts.{Text}
 use Rattle.ibc_ids.specs.Names.{is_denom, is_memo, is_receiver, is_user}
 use Rattle.ibc_wire.specs.declared.token.Token.{Token}
-use Rattle.ibc_machine.specs.TokenData.{Data, member, object, token_members, party_members, members_of_first, tokens_member, has_several, data_text}
+use Rattle.ibc_machine.specs.ics20.TokenData.{Data, member, object, token_members, party_members, members_of_first, tokens_member, has_several, data_text}
 use Rattle.json.specs.Token as mark
 use Rattle.json.specs.Tree.{json_tokens, items_tokens}
 use Rattle.json.specs.Print as print

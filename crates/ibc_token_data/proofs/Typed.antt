@@ -3,7 +3,7 @@ use Rattle.std.specs.Prelude.{◌^◌, nat_lt, Bool, ◌&&◌}
 use Rattle.std.specs.List.{list_all}
 use Rattle.ibc_ids.specs.Names.{is_denom, is_memo, is_receiver, is_user}
 use Rattle.ibc_wire.specs.declared.token.Token.{Token}
-use Rattle.ibc_machine.specs.TokenData.{Data}
+use Rattle.ibc_machine.specs.ics20.TokenData.{Data}
 
 abbrev pub is_typed_token : Token → Bool
 is_typed_token token = nat_lt token.amount (2 ^ 128) && is_denom token.denom

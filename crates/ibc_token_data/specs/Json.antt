@@ -2,7 +2,7 @@
 use Rattle.std.specs.Prelude.{Bool, codes, decimal, List, [], ◌∷◌, map, if◌then◌else◌}
 use Rattle.ibc_ids.specs.Texts.{Text}
 use Rattle.ibc_wire.specs.declared.token.Token.{Token}
-use Rattle.ibc_machine.specs.TokenData.{Data}
+use Rattle.ibc_machine.specs.ics20.TokenData.{Data}
 use Rattle.json.specs.Json as json
 use Rattle.json.specs.Json.{Members, no_members}
 use Rattle.json.specs.Value.{items_of}

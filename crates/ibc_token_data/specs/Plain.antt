@@ -1,5 +1,5 @@
 -- The data of a packet, in plain.
-use Rattle.ibc_machine.specs.TokenData.{Data}
+use Rattle.ibc_machine.specs.ics20.TokenData.{Data}
 use Rattle.ibc_token_data.specs.declared.token_data.TokenData.{TokenData}
 
 abbrev pub plain_data : TokenData → Data

@@ -3,7 +3,7 @@ use Rattle.std.specs.Prelude.{Bool, codes, List, [], ◌∷◌, ◌++◌, map, i
 use Rattle.std.specs.List.{join_with_byte}
 use Rattle.ibc_ids.specs.Texts.{Text}
 use Rattle.ibc_wire.specs.declared.token.Token.{Token}
-use Rattle.ibc_machine.specs.TokenData.{Data, member, object, token_members}
+use Rattle.ibc_machine.specs.ics20.TokenData.{Data, member, object, token_members}
 
 -- a memo and the comma behind it, where there is one
 abbrev pub memo_front : Text → Text

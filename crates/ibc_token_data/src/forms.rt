@@ -3,7 +3,7 @@
 ghost use Rattle.std.specs.Prelude.{◌≡◌, ◌&&◌};
 ghost use Rattle.std.specs.List.{list_all};
 ghost use Rattle.ibc_wire.specs.Tokens.{is_rising, is_short};
-ghost use Rattle.ibc_machine.specs.TokenData.{has_several, is_token, is_list_for, is_data};
+ghost use Rattle.ibc_machine.specs.ics20.TokenData.{has_several, is_token, is_list_for, is_data};
 ghost use Rattle.ibc_token_data.specs.Plain.{plain_data};
 
 use crate::TokenData;

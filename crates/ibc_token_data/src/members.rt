@@ -4,7 +4,7 @@ ghost use Rattle.std.specs.Prelude.{◌≡◌, IsTrue, IsErrOf, IsUtf8, IfOk, So
 ghost use Rattle.ibc_ids.specs.Texts.{Text};
 ghost use Rattle.ibc_ids.specs.Names.{is_memo};
 ghost use Rattle.ibc_wire.specs.declared.token.Token.{Token};
-ghost use Rattle.ibc_machine.specs.TokenData.{is_amount, is_token};
+ghost use Rattle.ibc_machine.specs.ics20.TokenData.{is_amount, is_token};
 ghost use Rattle.json.specs.Find.{as_array};
 ghost use Rattle.json.specs.Json.{document};
 ghost use Rattle.json.specs.Value.{value_view, items_view};

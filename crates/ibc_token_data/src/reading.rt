@@ -3,7 +3,7 @@
 ghost use Rattle.std.specs.Prelude.{◌≡◌, Some, List, [], ◌∷◌, map, codes, decimal, IsTrue, MatchResult};
 ghost use Rattle.std.specs.List.{list_all};
 ghost use Rattle.ibc_wire.specs.declared.token.Token.{Token};
-ghost use Rattle.ibc_machine.specs.TokenData.{Data, has_several, is_token, is_data};
+ghost use Rattle.ibc_machine.specs.ics20.TokenData.{Data, has_several, is_token, is_data};
 ghost use Rattle.json.specs.Find.{get};
 ghost use Rattle.json.specs.Value.{value_view};
 ghost use Rattle.ibc_token_data.specs.Members.{text_at};

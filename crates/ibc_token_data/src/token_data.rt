@@ -2,8 +2,8 @@
 
 ghost use Rattle.std.specs.Prelude.{◌≡◌, ◌↔◌, ◌<◌, ◌^◌, Some, None, IsTrue, IfOk, IfErr, IsErrOf, MatchResult, SomeIff, option_map};
 ghost use Rattle.ibc_ids.specs.declared.refusal.Refusal.TheVariants.{NoMemory};
-ghost use Rattle.ibc_machine.specs.TokenData.{Data, amount_of, data_of, data_text};
-ghost use Rattle.ibc_machine.specs.Transfers.{transfer_data, transfer_many_data};
+ghost use Rattle.ibc_machine.specs.ics20.TokenData.{Data, amount_of, data_of, data_text};
+ghost use Rattle.ibc_machine.specs.ics20.Transfers.{transfer_data, transfer_many_data};
 ghost use Rattle.ibc_token_data.specs.declared.fault.Fault.TheVariants as fault;
 ghost use Rattle.ibc_token_data.specs.Plain.{plain_data};
 

@@ -1,7 +1,7 @@
 //! The one spelling of data.
 
 ghost use Rattle.std.specs.Prelude.{◌≡◌, ◌++◌, ◌∷◌, true, false, string_bytes, IfOk, OnOk};
-ghost use Rattle.ibc_machine.specs.TokenData.{member, object, token_members, has_several, data_text};
+ghost use Rattle.ibc_machine.specs.ics20.TokenData.{member, object, token_members, has_several, data_text};
 ghost use Rattle.ibc_token_data.specs.Plain.{plain_data};
 ghost use Rattle.ibc_token_data.specs.Spelling.{memo_front, parties_text, token_text, first_front, objects_text, behind_text, members_text};
 

@@ -16,13 +16,13 @@ use Rattle.ibc_wire.specs.declared.messages.Transfer.{Transfer}
 use Rattle.ibc_wire.specs.declared.messages.TransferMany.{TransferMany}
 use Rattle.ibc_machine.specs.declared.reply.Effect.{Effect}
 use Rattle.ibc_machine.specs.declared.reply.Effect.TheVariants as effect
-use Rattle.ibc_machine.specs.Records.{Core, Channel, Commitment, commitment_of}
-use Rattle.ibc_machine.specs.Bank.{Balances}
-use Rattle.ibc_machine.specs.Checks.{Checked, require, expect, go_on, ◌>>=◌, ◌>>◌}
-use Rattle.ibc_machine.specs.Evidence.{Host, Evidence, require_number}
-use Rattle.ibc_machine.specs.Packets.{has_size, sending_end, require_timeouts, with_sent}
-use Rattle.ibc_machine.specs.TokenData.{Data, one_token, several_tokens, data_of, tokens_of, success}
-use Rattle.ibc_machine.specs.Transfers.{transfer_port, transfer_commitment, transfer_data, transfer_many_data, is_zero, refund_data, refund_transfer, acknowledge_transfer, with_tokens_sent, send_tokens, transfer, transfer_many}
+use Rattle.ibc_machine.specs.chain.Records.{Core, Channel, Commitment, commitment_of}
+use Rattle.ibc_machine.specs.ics20.Bank.{Balances}
+use Rattle.ibc_machine.specs.chain.Checks.{Checked, require, expect, go_on, ◌>>=◌, ◌>>◌}
+use Rattle.ibc_machine.specs.ics24.Evidence.{Host, Evidence, require_number}
+use Rattle.ibc_machine.specs.ics04.Packets.{has_size, sending_end, require_timeouts, with_sent}
+use Rattle.ibc_machine.specs.ics20.TokenData.{Data, one_token, several_tokens, data_of, tokens_of, success}
+use Rattle.ibc_machine.specs.ics20.Transfers.{transfer_port, transfer_commitment, transfer_data, transfer_many_data, is_zero, refund_data, refund_transfer, acknowledge_transfer, with_tokens_sent, send_tokens, transfer, transfer_many}
 use Rattle.ibc_machine.proofs.PassedChecks.{fail, bind_bind, then_bind}
 use Rattle.ibc_machine.proofs.PassedRows.{require_passed, then_passed, bind_passed, ok_same}
 use Rattle.ibc_records.specs.Held.{HeldRecords}

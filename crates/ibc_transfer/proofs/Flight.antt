@@ -14,16 +14,16 @@ use Rattle.ibc_wire.specs.declared.messages.AckPacket.{AckPacket}
 use Rattle.ibc_wire.specs.declared.messages.Timeout.{Timeout}
 use Rattle.ibc_wire.specs.declared.messages.TimeoutOnClose.{TimeoutOnClose}
 use Rattle.ibc_machine.specs.declared.reply.Effect.{Effect}
-use Rattle.ibc_machine.specs.Records.{Core, commitment_of}
-use Rattle.ibc_machine.specs.Evidence.{Host, Evidence}
-use Rattle.ibc_machine.specs.Packets.{ack_packet, timeout, timeout_on_close}
-use Rattle.ibc_machine.specs.TokenData.{Data, one_token, several_tokens, is_data, tokens_of}
-use Rattle.ibc_machine.specs.Transfers.{transfer_port, burnt, transfer_commitment, transfer_data, transfer_many_data}
+use Rattle.ibc_machine.specs.chain.Records.{Core, commitment_of}
+use Rattle.ibc_machine.specs.ics24.Evidence.{Host, Evidence}
+use Rattle.ibc_machine.specs.ics04.Packets.{ack_packet, timeout, timeout_on_close}
+use Rattle.ibc_machine.specs.ics20.TokenData.{Data, one_token, several_tokens, is_data, tokens_of}
+use Rattle.ibc_machine.specs.ics20.Transfers.{transfer_port, burnt, transfer_commitment, transfer_data, transfer_many_data}
 use Rattle.ibc_machine.proofs.GoodData.{transfer_good, transfer_many_good}
-use Rattle.ibc_flight.specs.Orderly.{IsOrderly}
-use Rattle.ibc_flight.specs.Returned.{SameBurnt, returned}
-use Rattle.ibc_flight.proofs.SendSteps.{tokens_sent_burnt}
-use Rattle.ibc_flight.proofs.PacketSteps.{Settles, ack_packet_settles, timeout_settles, timeout_on_close_settles}
+use Rattle.ibc_machine.specs.chain.Orderly.{IsOrderly}
+use Rattle.ibc_machine.specs.ics20.Returned.{SameBurnt, returned}
+use Rattle.ibc_machine.proofs.flight.SendSteps.{tokens_sent_burnt}
+use Rattle.ibc_machine.proofs.flight.PacketSteps.{Settles, ack_packet_settles, timeout_settles, timeout_on_close_settles}
 use Rattle.ibc_bank.specs.Amounts.{amount_at}
 use Rattle.ibc_bank.specs.Moves.{BankState}
 use Rattle.ibc_transfer.specs.Banked.{bank_acknowledged, bank_times_out}

@@ -10,14 +10,14 @@ use Rattle.ibc_ids.specs.declared.refusal.Refusal.TheVariants.{Poor}
 use Rattle.ibc_ids.specs.Maps.{Map}
 use Rattle.ibc_ids.proofs.Texts.{text_cmp_total, same_text_itself}
 use Rattle.ibc_wire.specs.declared.token.Token.{Token}
-use Rattle.ibc_machine.specs.Bank.{Balances, give, pay, into_escrow, out_of_escrow}
-use Rattle.ibc_machine.specs.Checks.{Checked, expect, go_on, ◌>>=◌}
-use Rattle.ibc_machine.specs.TokenData.{amount_of}
-use Rattle.ibc_machine.specs.Transfers.{transfer_port, came_over, each_token, send_token, refund_token}
+use Rattle.ibc_machine.specs.ics20.Bank.{Balances, give, pay, into_escrow, out_of_escrow}
+use Rattle.ibc_machine.specs.chain.Checks.{Checked, expect, go_on, ◌>>=◌}
+use Rattle.ibc_machine.specs.ics20.TokenData.{amount_of}
+use Rattle.ibc_machine.specs.ics20.Transfers.{transfer_port, came_over, each_token, send_token, refund_token}
 use Rattle.ibc_machine.proofs.FiniteMaps.{by_text}
 use Rattle.ibc_machine.proofs.SortedMaps.{Sorted-from, Sorted-to}
 use Rattle.ibc_machine.proofs.PassedRows.{bind_passed, ok_same}
-use Rattle.ibc_flight.specs.Returned.{returned}
+use Rattle.ibc_machine.specs.ics20.Returned.{returned}
 use Rattle.ibc_bank.specs.Amounts.{amount_at, with_amount}
 use Rattle.ibc_bank.specs.Moves.{BankState, burnt_of, with_burnt, with_balances, settled, moved, moved_all}
 use Rattle.ibc_bank.specs.declared.moves.Move.{Move}

@@ -10,10 +10,10 @@ use Rattle.ibc_ids.specs.declared.refusal.Refusal.TheVariants.{Poor, TooLarge}
 use Rattle.ibc_ids.proofs.Hops.{came_over_by}
 use Rattle.ibc_wire.specs.declared.packet.Packet.{Packet}
 use Rattle.ibc_wire.specs.declared.token.Token.{Token}
-use Rattle.ibc_machine.specs.Bank.{Balances, out_of_escrow, mint}
-use Rattle.ibc_machine.specs.Checks.{Checked, expect, go_on, ◌>>=◌}
-use Rattle.ibc_machine.specs.TokenData.{Data, data_of, success, error}
-use Rattle.ibc_machine.specs.Transfers.{without_hop, with_hop, each_token, receive_token, acknowledged_with, receive_data, receive_transfer}
+use Rattle.ibc_machine.specs.ics20.Bank.{Balances, out_of_escrow, mint}
+use Rattle.ibc_machine.specs.chain.Checks.{Checked, expect, go_on, ◌>>=◌}
+use Rattle.ibc_machine.specs.ics20.TokenData.{Data, data_of, success, error}
+use Rattle.ibc_machine.specs.ics20.Transfers.{without_hop, with_hop, each_token, receive_token, acknowledged_with, receive_data, receive_transfer}
 use Rattle.ibc_bank.specs.Moves.{BankState, burnt_of, with_balances, moved, moved_all}
 use Rattle.ibc_bank.specs.declared.moves.Move.{Move}
 use Rattle.ibc_bank.specs.declared.moves.Move.TheVariants as move

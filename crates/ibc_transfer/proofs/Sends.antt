@@ -10,11 +10,11 @@ use Rattle.ibc_wire.specs.declared.messages.Transfer.{Transfer}
 use Rattle.ibc_wire.specs.declared.messages.TransferMany.{TransferMany}
 use Rattle.ibc_machine.specs.declared.reply.Effect.{Effect}
 use Rattle.ibc_machine.specs.declared.reply.Effect.TheVariants as effect
-use Rattle.ibc_machine.specs.Records.{Core, Channel, channel_at, with_channel}
-use Rattle.ibc_machine.specs.Checks.{Checked, require, go_on, and_then, ◌>>=◌, ◌>>◌}
-use Rattle.ibc_machine.specs.Evidence.{Host, Evidence, require_number}
-use Rattle.ibc_machine.specs.Packets.{sending_end, require_timeouts, after_send}
-use Rattle.ibc_machine.specs.Transfers.{transfer_port}
+use Rattle.ibc_machine.specs.chain.Records.{Core, Channel, channel_at, with_channel}
+use Rattle.ibc_machine.specs.chain.Checks.{Checked, require, go_on, and_then, ◌>>=◌, ◌>>◌}
+use Rattle.ibc_machine.specs.ics24.Evidence.{Host, Evidence, require_number}
+use Rattle.ibc_machine.specs.ics04.Packets.{sending_end, require_timeouts, after_send}
+use Rattle.ibc_machine.specs.ics20.Transfers.{transfer_port}
 use Rattle.ibc_machine.proofs.PassedChecks.{find, miss, pass}
 use Rattle.ibc_records.specs.Held.{HeldRecords, core_of, IsUnchanged}
 use Rattle.ibc_records.specs.Taking.{IsTakenWith}

@@ -3,9 +3,9 @@ use Rattle.std.proofs.Common.{◌≡◌, Bool, true, false, cond, refl, List, []
 use Rattle.ibc_ids.specs.Texts.{Text, same_text}
 use Rattle.ibc_wire.specs.declared.packet.Packet.{Packet}
 use Rattle.ibc_wire.specs.declared.token.Token.{Token}
-use Rattle.ibc_machine.specs.Checks.{go_on}
-use Rattle.ibc_machine.specs.TokenData.{Data, data_of, success}
-use Rattle.ibc_machine.specs.Transfers.{transfer_port, came_over}
+use Rattle.ibc_machine.specs.chain.Checks.{go_on}
+use Rattle.ibc_machine.specs.ics20.TokenData.{Data, data_of, success}
+use Rattle.ibc_machine.specs.ics20.Transfers.{transfer_port, came_over}
 use Rattle.ibc_bank.specs.Moves.{BankState, settled, moved_all}
 use Rattle.ibc_bank.specs.declared.moves.Move.TheVariants as move
 use Rattle.ibc_transfer.specs.Banked.{settle_tokens, bank_settles, bank_refunds, bank_times_out, bank_acknowledged}

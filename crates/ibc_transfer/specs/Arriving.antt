@@ -6,9 +6,9 @@ use Rattle.ibc_ids.specs.Texts.{Text}
 use Rattle.ibc_ids.specs.Names.{is_user, came_over}
 use Rattle.ibc_wire.specs.declared.packet.Packet.{Packet}
 use Rattle.ibc_wire.specs.declared.token.Token.{Token}
-use Rattle.ibc_machine.specs.Checks.{Checked}
-use Rattle.ibc_machine.specs.TokenData.{Data, data_of, success, error}
-use Rattle.ibc_machine.specs.Transfers.{without_hop, with_hop}
+use Rattle.ibc_machine.specs.chain.Checks.{Checked}
+use Rattle.ibc_machine.specs.ics20.TokenData.{Data, data_of, success, error}
+use Rattle.ibc_machine.specs.ics20.Transfers.{without_hop, with_hop}
 use Rattle.ibc_bank.specs.Moves.{BankState, moved_all}
 use Rattle.ibc_bank.specs.declared.moves.Move.{Move}
 use Rattle.ibc_bank.specs.declared.moves.Move.TheVariants as move

@@ -4,9 +4,9 @@ use Rattle.std.specs.Prelude.{List, [], ◌∷◌, map, Option, Some, None, Ok, 
 use Rattle.ibc_ids.specs.Texts.{Text, same_text}
 use Rattle.ibc_wire.specs.declared.packet.Packet.{Packet}
 use Rattle.ibc_wire.specs.declared.token.Token.{Token}
-use Rattle.ibc_machine.specs.Checks.{Checked}
-use Rattle.ibc_machine.specs.TokenData.{Data, data_of, success}
-use Rattle.ibc_machine.specs.Transfers.{transfer_port, came_over, receive_transfer}
+use Rattle.ibc_machine.specs.chain.Checks.{Checked}
+use Rattle.ibc_machine.specs.ics20.TokenData.{Data, data_of, success}
+use Rattle.ibc_machine.specs.ics20.Transfers.{transfer_port, came_over, receive_transfer}
 use Rattle.ibc_bank.specs.Moves.{BankState, burnt_of, with_balances, settled, moved_all}
 use Rattle.ibc_bank.specs.declared.moves.Move.{Move}
 use Rattle.ibc_bank.specs.declared.moves.Move.TheVariants as move

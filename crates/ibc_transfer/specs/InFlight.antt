@@ -2,8 +2,8 @@
 use Rattle.std.specs.Prelude.{◌≡◌, IsTrue}
 use Rattle.std.specs.FinMap.{is_sorted}
 use Rattle.ibc_ids.specs.Texts.{Text, text_cmp}
-use Rattle.ibc_machine.specs.Records.{Core}
-use Rattle.ibc_machine.specs.Transfers.{burnt}
+use Rattle.ibc_machine.specs.chain.Records.{Core}
+use Rattle.ibc_machine.specs.ics20.Transfers.{burnt}
 use Rattle.ibc_bank.specs.Moves.{BankState, burnt_of}
 
 pub record IsInFlight (bank : BankState) (core : Core) : Type 0 where

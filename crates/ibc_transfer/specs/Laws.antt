@@ -8,12 +8,12 @@ use Rattle.ibc_wire.specs.declared.records.Order.{Order}
 use Rattle.ibc_wire.specs.declared.records.Order.TheVariants.{Unordered}
 use Rattle.ibc_wire.specs.declared.packet.Packet.{Packet}
 use Rattle.ibc_wire.specs.declared.token.Token.{Token}
-use Rattle.ibc_machine.specs.Values.{same_order}
-use Rattle.ibc_machine.specs.Packets.{has_size}
-use Rattle.ibc_machine.specs.Bank.{Balances}
-use Rattle.ibc_machine.specs.Checks.{Checked, expect, go_on, ◌>>=◌}
-use Rattle.ibc_machine.specs.TokenData.{Data, data_of, one_token, several_tokens, success}
-use Rattle.ibc_machine.specs.Transfers.{transfer_port, came_over, opens_for_transfers, acknowledged_with, each_token, receive_token, receive_data, receive_transfer}
+use Rattle.ibc_machine.specs.ics24.Values.{same_order}
+use Rattle.ibc_machine.specs.ics04.Packets.{has_size}
+use Rattle.ibc_machine.specs.ics20.Bank.{Balances}
+use Rattle.ibc_machine.specs.chain.Checks.{Checked, expect, go_on, ◌>>=◌}
+use Rattle.ibc_machine.specs.ics20.TokenData.{Data, data_of, one_token, several_tokens, success}
+use Rattle.ibc_machine.specs.ics20.Transfers.{transfer_port, came_over, opens_for_transfers, acknowledged_with, each_token, receive_token, receive_data, receive_transfer}
 use Rattle.ibc_app_port.specs.Openings.{order_or_version}
 use Rattle.ibc_bank.specs.declared.moves.Move.{Move}
 use Rattle.ibc_bank.specs.Moves.{BankState, burnt_of, moved, moved_all}

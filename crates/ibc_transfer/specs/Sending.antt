@@ -5,12 +5,12 @@ use Rattle.ibc_ids.specs.Texts.{Text, same_text}
 use Rattle.ibc_ids.specs.declared.refusal.Refusal.TheVariants.{WrongVersion, TooLarge}
 use Rattle.ibc_wire.specs.declared.messages.Transfer.{Transfer}
 use Rattle.ibc_wire.specs.declared.messages.TransferMany.{TransferMany}
-use Rattle.ibc_machine.specs.Records.{Core, Channel, Commitment}
-use Rattle.ibc_machine.specs.Checks.{Checked, require, ◌>>=◌, ◌>>◌}
-use Rattle.ibc_machine.specs.Evidence.{Host, Evidence, Handler, require_number}
-use Rattle.ibc_machine.specs.Packets.{has_size, sending_end, require_timeouts}
-use Rattle.ibc_machine.specs.TokenData.{one_token, several_tokens}
-use Rattle.ibc_machine.specs.Transfers.{transfer_port, transfer_commitment, transfer_data, transfer_many_data, is_zero}
+use Rattle.ibc_machine.specs.chain.Records.{Core, Channel, Commitment}
+use Rattle.ibc_machine.specs.chain.Checks.{Checked, require, ◌>>=◌, ◌>>◌}
+use Rattle.ibc_machine.specs.ics24.Evidence.{Host, Evidence, Handler, require_number}
+use Rattle.ibc_machine.specs.ics04.Packets.{has_size, sending_end, require_timeouts}
+use Rattle.ibc_machine.specs.ics20.TokenData.{one_token, several_tokens}
+use Rattle.ibc_machine.specs.ics20.Transfers.{transfer_port, transfer_commitment, transfer_data, transfer_many_data, is_zero}
 use Rattle.ibc_bank.specs.Moves.{BankState, moved_all}
 use Rattle.ibc_bank.specs.declared.moves.Move.{Move}
 use Rattle.ibc_transfer.specs.Sent.{send_moves, with_bank_sent}

@@ -8,12 +8,12 @@ use Rattle.ibc_wire.specs.declared.token.Token.{Token}
 use Rattle.ibc_wire.specs.declared.messages.Transfer.{Transfer}
 use Rattle.ibc_wire.specs.declared.messages.TransferMany.{TransferMany}
 use Rattle.ibc_machine.specs.declared.reply.Effect.{Effect}
-use Rattle.ibc_machine.specs.Records.{Core, Channel, Commitment}
-use Rattle.ibc_machine.specs.Checks.{require, ◌>>=◌, ◌>>◌}
-use Rattle.ibc_machine.specs.Evidence.{Handler, require_number}
-use Rattle.ibc_machine.specs.Packets.{has_size, sending_end, require_timeouts, with_sent}
-use Rattle.ibc_machine.specs.TokenData.{Data, one_token, several_tokens}
-use Rattle.ibc_machine.specs.Transfers.{transfer_port, came_over, transfer_commitment, transfer_data, transfer_many_data, is_zero}
+use Rattle.ibc_machine.specs.chain.Records.{Core, Channel, Commitment}
+use Rattle.ibc_machine.specs.chain.Checks.{require, ◌>>=◌, ◌>>◌}
+use Rattle.ibc_machine.specs.ics24.Evidence.{Handler, require_number}
+use Rattle.ibc_machine.specs.ics04.Packets.{has_size, sending_end, require_timeouts, with_sent}
+use Rattle.ibc_machine.specs.ics20.TokenData.{Data, one_token, several_tokens}
+use Rattle.ibc_machine.specs.ics20.Transfers.{transfer_port, came_over, transfer_commitment, transfer_data, transfer_many_data, is_zero}
 use Rattle.ibc_bank.specs.Moves.{BankState, moved_all}
 use Rattle.ibc_bank.specs.declared.moves.Move.{Move}
 use Rattle.ibc_bank.specs.declared.moves.Move.TheVariants as move

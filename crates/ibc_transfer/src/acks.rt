@@ -2,7 +2,7 @@
 
 ghost use Rattle.std.specs.Prelude.{◌≡◌, IfOk};
 ghost use Rattle.ibc_ids.specs.Texts.{same_text};
-ghost use Rattle.ibc_machine.specs.TokenData.{success};
+ghost use Rattle.ibc_machine.specs.ics20.TokenData.{success};
 ghost use Rattle.ibc_transfer.specs.Arriving.{failure_ack};
 
 use ibc_ids::Bytes;

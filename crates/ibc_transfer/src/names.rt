@@ -4,8 +4,8 @@ ghost use Rattle.std.specs.Prelude.{◌≡◌, [], ◌∷◌, IfOk, IfErr};
 ghost use Rattle.std.specs.List.{list_any};
 ghost use Rattle.ibc_ids.specs.Texts.{same_text};
 ghost use Rattle.ibc_ids.specs.declared.refusal.Refusal.TheVariants.{NoMemory};
-ghost use Rattle.ibc_machine.specs.TokenData as plain;
-ghost use Rattle.ibc_machine.specs.Transfers as transfers;
+ghost use Rattle.ibc_machine.specs.ics20.TokenData as plain;
+ghost use Rattle.ibc_machine.specs.ics20.Transfers as transfers;
 
 use ibc_ids::{ChannelId, Denom, PortId, Refusal, Version};
 use std::alloc::Global;

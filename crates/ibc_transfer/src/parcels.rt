@@ -3,7 +3,7 @@
 ghost use Rattle.std.specs.Prelude.{◌≡◌, not, IfOk, IfErr};
 ghost use Rattle.std.specs.List.{list_any};
 ghost use Rattle.ibc_ids.specs.declared.refusal.Refusal.TheVariants.{NoMemory};
-ghost use Rattle.ibc_machine.specs.Transfers.{is_zero};
+ghost use Rattle.ibc_machine.specs.ics20.Transfers.{is_zero};
 ghost use Rattle.ibc_transfer.specs.Sending.{plain_parcel, one_parcel, many_parcel};
 
 use crate::leaving::send_moves;

@@ -4,9 +4,9 @@ ghost use Rattle.std.specs.Prelude.{◌≡◌, ◌⊎◌, ◌-◌, ◌^◌, ◌<
 ghost use Rattle.ibc_ids.specs.Texts.{same_text};
 ghost use Rattle.ibc_ids.specs.declared.refusal.Refusal.TheVariants.{NoMemory};
 ghost use Rattle.ibc_machine.specs.declared.reply.Effect.TheVariants as effect;
-ghost use Rattle.ibc_machine.specs.Evidence.{require_number};
-ghost use Rattle.ibc_machine.specs.Records.{channel_at};
-ghost use Rattle.ibc_machine.specs.Transfers as transfer;
+ghost use Rattle.ibc_machine.specs.ics24.Evidence.{require_number};
+ghost use Rattle.ibc_machine.specs.chain.Records.{channel_at};
+ghost use Rattle.ibc_machine.specs.ics20.Transfers as transfer;
 ghost use Rattle.ibc_records.specs.Held.{core_of};
 ghost use Rattle.ibc_records.specs.Taking.{IsHandledWith};
 ghost use Rattle.ibc_client.specs.Judging.{IsJudged};

@@ -3,8 +3,8 @@
 ghost use Rattle.std.specs.Prelude.{◌≡◌, ◌⊎◌, [], refl, Ok, Err, IsTrue, IfOk, IfErr, OnOk, OnErr};
 ghost use Rattle.std.specs.List.{list_all};
 ghost use Rattle.ibc_ids.specs.declared.refusal.Refusal.TheVariants.{NoMemory};
-ghost use Rattle.ibc_machine.specs.Genesis.{starting_balances, is_fair};
-ghost use Rattle.ibc_machine.specs.Transfers.{opens_for_transfers, closes_for_transfers};
+ghost use Rattle.ibc_machine.specs.chain.Genesis.{starting_balances, is_fair};
+ghost use Rattle.ibc_machine.specs.ics20.Transfers.{opens_for_transfers, closes_for_transfers};
 ghost use Rattle.ibc_bank.specs.Moves.{BankState, moved_all};
 ghost use Rattle.ibc_transfer.specs.Arriving.{taken_or_not};
 ghost use Rattle.ibc_transfer.specs.Banked.{bank_receives, bank_acknowledged, bank_times_out};
@@ -83,7 +83,7 @@ impl App for Transfers {
 
     ghost times_out = { bank_times_out };
 
-    #[tactic(auto, unfolding(ibc_machine::specs::Checks::and_then))]
+    #[tactic(auto, unfolding(ibc_machine::specs::chain::Checks::and_then))]
     fn on_open(&self, order: Order, version: &Version) -> Result<(), Refusal> {
         if order != Order::Unordered {
             return Err(Refusal::WrongOrder);

@@ -2,7 +2,7 @@
 
 ghost use Rattle.std.specs.Prelude.{◌≡◌, ◌<◌, ◌^◌, Some, IfOk, IfErr, SomeIff};
 ghost use Rattle.ibc_ids.specs.declared.refusal.Refusal.TheVariants.{NoMemory};
-ghost use Rattle.ibc_machine.specs.Totals.{succeeded, amount_under_way, flight_between};
+ghost use Rattle.ibc_machine.specs.promises.Totals.{succeeded, amount_under_way, flight_between};
 
 use crate::acks::is_success;
 use ibc_ids::{Denom, Refusal, Version};

@@ -4,7 +4,7 @@ use Rattle.base64.proofs.OnLiterals.{base64_on_literals}
 use Rattle.base64.specs.Engines.{standard}
 use Rattle.base64.specs.GeneralPurpose.{encode_of}
 use Rattle.ibc_ids.specs.Texts.{Text}
-use Rattle.ibc_machine.specs.TokenData.{success, object, member}
+use Rattle.ibc_machine.specs.ics20.TokenData.{success, object, member}
 
 -- the text in base64, with the standard alphabet and padding
 abbrev in_base64 : Text → Text

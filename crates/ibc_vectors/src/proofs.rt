@@ -1,9 +1,9 @@
 //! The proof of the counter of clients in the tree of a new chain, and proofs of the greatest sizes.
 
-use ibc_codec::{decode, encode};
 use ibc_ics23_proof::{verify_absent, verify_present};
 use ibc_ids::{Refusal, Root};
 use ibc_merkle::Proof;
+use ibc_wire::{decode, encode};
 use std::alloc::Global;
 
 const KEY: &str = "nextClientSequence";

@@ -1,8 +1,9 @@
 //! Records, headers and tokens beside their spellings.
 
-use ibc_codec::{Wire, decode, encode};
 use ibc_ids::{Denom, Refusal};
-use ibc_wire::{ChannelEnd, ClientState, ConnectionEnd, Header, Packet, Token, Tokens};
+use ibc_wire::{
+    ChannelEnd, ClientState, ConnectionEnd, Header, Packet, Token, Tokens, Wire, decode, encode,
+};
 use std::alloc::Global;
 
 // Whether the bytes spell a value, and the value is spelled so.

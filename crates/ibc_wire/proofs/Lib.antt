@@ -8,3 +8,5 @@ pub mod TokenReaders
 pub mod ProofReaders
 pub mod TypedTokens
 pub mod Tags
+pub mod Writing
+pub mod Rows

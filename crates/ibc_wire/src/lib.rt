@@ -1,6 +1,7 @@
-//! What chains write and send: client states, ends, packets and messages, and how each is spelled.
+//! What crosses between chains: records, headers, packets and messages, and how they are spelled as bytes.
 #![tactic(auto)]
 
+pub mod fields;
 mod header;
 mod laws;
 mod messages;
@@ -8,6 +9,7 @@ mod packet;
 mod records;
 mod token;
 mod typed;
+mod wire;
 
 pub use header::Header;
 pub use laws::proofs_are_read_as_they_are_spelled;
@@ -20,3 +22,4 @@ pub use messages::{
 pub use packet::Packet;
 pub use records::{ChannelEnd, ChannelState, ClientState, ConnectionEnd, ConnectionState, Order};
 pub use token::{Token, Tokens, is_listed, is_rising};
+pub use wire::{Wire, a_text_spells_one_value, decode, encode};

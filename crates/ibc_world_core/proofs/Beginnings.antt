@@ -3,13 +3,13 @@ use Rattle.std.proofs.Common.{◌≡◌, ℕ, suc, ◌+◌, ◌<◌, ◌≤◌, 
 use Rattle.std.specs.Prelude.{IsTrue}
 use Rattle.std.specs.List.{list_all}
 use Rattle.std.proofs.lemmas.Bool.{cases_lt, and_parts, leb-true}
-use Rattle.ibc_machine.specs.Genesis.{GenesisState, ChainState, is_fair, has_limits, is_allowed}
+use Rattle.ibc_machine.specs.chain.Genesis.{GenesisState, ChainState, is_fair, has_limits, is_allowed}
 use Rattle.ibc_root_table.specs.Passes.{TableName, Sight, AreDealt, unused_pass}
 use Rattle.ibc_ledger.specs.Held.{HeldLedger}
 use Rattle.ibc_machine.proofs.Members.{get_left}
 use Rattle.ibc_refinement.proofs.Places.{get_last, get_within, get_there}
-use Rattle.ibc_world_steps.specs.World.{new_ledger, AreNew, IsWorld}
-use Rattle.ibc_world_steps.proofs.New.{new_is_world}
+use Rattle.ibc_refinement.specs.World.{new_ledger, AreNew, IsWorld}
+use Rattle.ibc_refinement.proofs.world.New.{new_is_world}
 use Rattle.ibc_world_core.specs.Held.{AreBegun, AllAt, plain}
 use Rattle.ibc_world_core.proofs.Rounds.{plain_get, plain_length}
 

@@ -8,16 +8,16 @@ use Rattle.ibc_ids.specs.Names.{hop}
 use Rattle.ibc_ids.specs.declared.refusal.Refusal.TheVariants.{NoMemory, UnknownChain, UnknownChannel, WrongState, WrongPeer, TooLarge, BadMessage}
 use Rattle.ibc_ids.specs.declared.refusal.Refusal.{Refusal}
 use Rattle.ibc_wire.specs.declared.records.ChannelEnd.{ChannelEnd}
-use Rattle.ibc_machine.specs.Records.{Core, Chain, Client, Channel, Records, client_at, channel_at}
-use Rattle.ibc_machine.specs.Channels.{is_established, client_of, peer_channel_of}
-use Rattle.ibc_machine.specs.Bank.{Balances, balance, supply, escrow}
-use Rattle.ibc_machine.specs.Checks.{Checked, require, go_on, and_then, ◌>>◌}
-use Rattle.ibc_machine.specs.Transfers.{transfer_port, came_over}
-use Rattle.ibc_machine.specs.Machine.{World}
-use Rattle.ibc_machine.specs.Histories.{End}
-use Rattle.ibc_machine.specs.Ledgers.{Ledger, state_of, machine_of}
-use Rattle.ibc_machine.specs.Peers.{records_of, end_at}
-use Rattle.ibc_machine.specs.Totals.{Totals, totals, totals_between, peer_at, are_bounded, balances_of, flight_between}
+use Rattle.ibc_machine.specs.chain.Records.{Core, Chain, Client, Channel, Records, client_at, channel_at}
+use Rattle.ibc_machine.specs.ics04.Channels.{is_established, client_of, peer_channel_of}
+use Rattle.ibc_machine.specs.ics20.Bank.{Balances, balance, supply, escrow}
+use Rattle.ibc_machine.specs.chain.Checks.{Checked, require, go_on, and_then, ◌>>◌}
+use Rattle.ibc_machine.specs.ics20.Transfers.{transfer_port, came_over}
+use Rattle.ibc_machine.specs.chain.Machine.{World}
+use Rattle.ibc_machine.specs.promises.Histories.{End}
+use Rattle.ibc_machine.specs.ledger.Ledgers.{Ledger, state_of, machine_of}
+use Rattle.ibc_machine.specs.promises.Peers.{records_of, end_at}
+use Rattle.ibc_machine.specs.promises.Totals.{Totals, totals, totals_between, peer_at, are_bounded, balances_of, flight_between}
 use Rattle.ibc_world_core.specs.Totals.{IsOwnEnd, IsPeerEnd, abroad}
 
 -- ---- what stands at a chain that is there

@@ -2,7 +2,7 @@
 use Rattle.std.proofs.Common.{◌≡◌, ℕ, zero, suc, ◌<◌, ◌-◌, true, false, List, [], ◌∷◌, length, take, drop, get_or, refl, sym, ap, ◌∙◌, subst, Some, slice_get, arith}
 use Rattle.std.proofs.lemmas.Bool.{false≢true}
 use Rattle.std.proofs.lemmas.List.{take_all}
-use Rattle.ibc_machine.specs.Worlds.{is_complete}
+use Rattle.ibc_machine.specs.promises.Worlds.{is_complete}
 use Rattle.ibc_ledger.specs.Held.{HeldLedger}
 use Rattle.ibc_world_core.specs.Held.{plain}
 use Rattle.ibc_world_core.specs.Audits.{is_whole}

@@ -1,16 +1,16 @@
 -- Ledgers of one world that are gathered, in any order, are audited.
 use Rattle.std.proofs.Common.{◌≡◌, ℕ, zero, suc, true, false, List, [], ◌∷◌, ◌++◌, length, map, refl, sym, ap, ◌∙◌, subst, Some, None, slice_get}
 use Rattle.std.proofs.lemmas.Bool.{false≢true}
-use Rattle.ibc_machine.specs.Records.{Chain}
-use Rattle.ibc_machine.specs.Genesis.{GenesisState}
-use Rattle.ibc_machine.specs.Ledgers.{Ledger, IsLedger, state_of, machine_of}
-use Rattle.ibc_machine.specs.Worlds.{IsAudited, by_number, is_complete}
+use Rattle.ibc_machine.specs.chain.Records.{Chain}
+use Rattle.ibc_machine.specs.chain.Genesis.{GenesisState}
+use Rattle.ibc_machine.specs.ledger.Ledgers.{Ledger, IsLedger, state_of, machine_of}
+use Rattle.ibc_machine.specs.promises.Worlds.{IsAudited, by_number, is_complete}
 use Rattle.ibc_refinement.specs.Audits.{AreOfGenesis}
 use Rattle.ibc_refinement.proofs.Places.{get_more}
 use Rattle.ibc_refinement.proofs.Audited.{audit_is_run}
 use Rattle.ibc_ledger.specs.Held.{HeldLedger}
-use Rattle.ibc_world_steps.specs.Meetings.{HaveMet}
-use Rattle.ibc_world_steps.proofs.Gathered.{as_many, one_table}
+use Rattle.ibc_refinement.specs.Meetings.{HaveMet}
+use Rattle.ibc_refinement.proofs.world.Gathered.{as_many, one_table}
 use Rattle.ibc_world_core.specs.declared.holdings.Audit.{Audit}
 use Rattle.ibc_world_core.specs.declared.world.World.TheInside.{Inside}
 use Rattle.ibc_world_core.specs.Inside.{IsHeld}

@@ -5,13 +5,13 @@ use Rattle.ibc_ids.specs.declared.refusal.Refusal.TheVariants.{NoMemory}
 use Rattle.ibc_machine.specs.declared.event.Event.{Event}
 use Rattle.ibc_machine.specs.declared.reply.Reply.{Reply}
 use Rattle.ibc_machine.specs.declared.reply.Reply.TheVariants as reply
-use Rattle.ibc_machine.specs.Genesis.{GenesisState}
-use Rattle.ibc_machine.specs.Ledgers.{Ledger, SeesMore, chain_of, AddsNext}
+use Rattle.ibc_machine.specs.chain.Genesis.{GenesisState}
+use Rattle.ibc_machine.specs.ledger.Ledgers.{Ledger, SeesMore, chain_of, AddsNext}
 use Rattle.ibc_ledger.specs.Held.{HeldLedger}
 use Rattle.ibc_refinement.proofs.Places.{get_within, get_set, get_set_other, length_set}
-use Rattle.ibc_world_steps.specs.Steps.{AddsIf, AllSeeMore, is_answered}
-use Rattle.ibc_world_steps.specs.Meetings.{IsPut}
-use Rattle.ibc_world_steps.proofs.Meetings.{same_one, sees_itself, all_see_themselves, all_see_with}
+use Rattle.ibc_refinement.specs.Steps.{AddsIf, AllSeeMore, is_answered}
+use Rattle.ibc_refinement.specs.Meetings.{IsPut}
+use Rattle.ibc_refinement.proofs.world.Meetings.{same_one, sees_itself, all_see_themselves, all_see_with}
 use Rattle.ibc_world_core.specs.Held.{plain, SameTables}
 use Rattle.ibc_world_core.proofs.Rounds.{plain_get, plain_set, plain_length}
 

@@ -5,15 +5,15 @@ use mathlib.Core.List.{IsPrefix}
 use Rattle.std.proofs.lemmas.Bool.{false≢true, cases_lt}
 use Rattle.std.proofs.lemmas.Option.{slice_get-map}
 use Rattle.ibc_ids.specs.declared.publication.Publication.{Publication}
-use Rattle.ibc_machine.specs.Ledgers.{Ledger, IsLedger, SeesMore}
+use Rattle.ibc_machine.specs.ledger.Ledgers.{Ledger, IsLedger, SeesMore}
 use Rattle.ibc_root_table.specs.Passes.{TableName}
 use Rattle.ibc_ledger.specs.Held.{HeldLedger}
 use Rattle.ibc_refinement.proofs.Places.{get_within, get_set, get_set_other, length_set}
-use Rattle.ibc_world_steps.specs.World.{AreOfFirst}
-use Rattle.ibc_world_steps.specs.Steps.{AllSeeMore}
-use Rattle.ibc_world_steps.specs.Meetings.{AreBehind, FirstSee, HaveMet}
-use Rattle.ibc_world_steps.proofs.Meetings.{all_see_both, all_see_with}
-use Rattle.ibc_world_steps.proofs.Leading.{behind_more, see_more, still_behind, all_meet_first}
+use Rattle.ibc_refinement.specs.World.{AreOfFirst}
+use Rattle.ibc_refinement.specs.Steps.{AllSeeMore}
+use Rattle.ibc_refinement.specs.Meetings.{AreBehind, FirstSee, HaveMet}
+use Rattle.ibc_refinement.proofs.world.Meetings.{all_see_both, all_see_with}
+use Rattle.ibc_refinement.proofs.world.Leading.{behind_more, see_more, still_behind, all_meet_first}
 use Rattle.ibc_world_core.specs.Held.{plain, AllAt, HaveSeenMore, FirstAre}
 
 -- ---- places

@@ -5,14 +5,14 @@ use Rattle.std.specs.List.{list_all}
 use Rattle.std.proofs.lemmas.Bool.{and_parts, leb-true}
 use Rattle.ibc_machine.specs.declared.event.Event.{Event}
 use Rattle.ibc_machine.specs.declared.reply.Reply.{Reply}
-use Rattle.ibc_machine.specs.Genesis.{GenesisState, ChainState, genesis_state, has_limits, is_fair, is_allowed}
-use Rattle.ibc_machine.specs.Ledgers.{Ledger, chain_of}
+use Rattle.ibc_machine.specs.chain.Genesis.{GenesisState, ChainState, genesis_state, has_limits, is_fair, is_allowed}
+use Rattle.ibc_machine.specs.ledger.Ledgers.{Ledger, chain_of}
 use Rattle.ibc_ledger.specs.Held.{HeldLedger}
 use Rattle.ibc_refinement.proofs.Places.{get_within, get_there}
-use Rattle.ibc_world_steps.specs.Steps.{AddsIf, IsStep, AddsNothing, AddsOne}
-use Rattle.ibc_world_steps.specs.Meetings.{IsPut, HaveMet}
-use Rattle.ibc_world_steps.proofs.Meetings.{meeting_ends_step}
-use Rattle.ibc_world_steps.proofs.Runs.{step_is_kept}
+use Rattle.ibc_refinement.specs.Steps.{AddsIf, IsStep, AddsNothing, AddsOne}
+use Rattle.ibc_refinement.specs.Meetings.{IsPut, HaveMet}
+use Rattle.ibc_refinement.proofs.world.Meetings.{meeting_ends_step}
+use Rattle.ibc_refinement.proofs.world.Runs.{step_is_kept}
 use Rattle.ibc_world_core.specs.declared.world.World.TheInside.{Inside}
 use Rattle.ibc_world_core.specs.Held.{plain, AllAt, AreNumbered, SameTables, IsPutTo}
 use Rattle.ibc_world_core.specs.Inside.{state_of, IsHeld}

@@ -2,10 +2,10 @@
 use Rattle.std.proofs.Common.{◌≡◌, [], ◌∷◌, ◌++◌, List, length, refl, sym, ap, subst, ◌∙◌, append_assoc, append-nil, arith}
 use Rattle.ibc_machine.specs.declared.event.Event.{Event}
 use Rattle.ibc_machine.specs.declared.reply.Reply.{Reply}
-use Rattle.ibc_world_steps.specs.World.{WorldState, IsWorld}
-use Rattle.ibc_world_steps.specs.Steps.{IsStep, AreSteps, GoesOnBy}
-use Rattle.ibc_world_steps.proofs.Meetings.{steps_go_on}
-use Rattle.ibc_world_steps.proofs.Runs.{steps_refine}
+use Rattle.ibc_refinement.specs.World.{WorldState, IsWorld}
+use Rattle.ibc_refinement.specs.Steps.{IsStep, AreSteps, GoesOnBy}
+use Rattle.ibc_refinement.proofs.world.Meetings.{steps_go_on}
+use Rattle.ibc_refinement.proofs.world.Runs.{steps_refine}
 
 -- so many events are done, and the others are left
 pub record HasRun (old : WorldState) (all done left : List Event) (replies : List Reply) (now : WorldState) : Type 0 where

@@ -2,10 +2,10 @@
 use Rattle.std.specs.Prelude.{◌≡◌, ℕ, Bool, false, List, [], ◌∷◌, map, Some, slice_get, IsTrue}
 use Rattle.ibc_ids.specs.Texts.{Text}
 use Rattle.ibc_ids.specs.Maps.{Map}
-use Rattle.ibc_machine.specs.Bank.{Balances}
-use Rattle.ibc_machine.specs.Genesis.{is_allowed}
-use Rattle.ibc_machine.specs.Ledgers.{Ledger, state_of}
-use Rattle.ibc_machine.specs.Worlds.{Audited, by_number, is_complete}
+use Rattle.ibc_machine.specs.ics20.Bank.{Balances}
+use Rattle.ibc_machine.specs.chain.Genesis.{is_allowed}
+use Rattle.ibc_machine.specs.ledger.Ledgers.{Ledger, state_of}
+use Rattle.ibc_machine.specs.promises.Worlds.{Audited, by_number, is_complete}
 use Rattle.ibc_bank.specs.Listed.{plain_holding}
 use Rattle.ibc_note.specs.Plain.{plain_notes}
 use Rattle.ibc_ledger.specs.Held.{HeldLedger}

@@ -1,14 +1,14 @@
 -- A world as its callers see it, and what its ledgers have in common.
 use Rattle.std.specs.Prelude.{◌≡◌, ◌<◌, ℕ, List, map, length, Some, slice_get, IsTrue}
-use Rattle.ibc_machine.specs.Ledgers.{Ledger, IsLedger}
+use Rattle.ibc_machine.specs.ledger.Ledgers.{Ledger, IsLedger}
 use Rattle.ibc_root_table.specs.Passes.{TableName}
 use Rattle.ibc_ledger.specs.Held.{HeldLedger}
-use Rattle.ibc_machine.specs.Genesis.{GenesisState, is_allowed}
+use Rattle.ibc_machine.specs.chain.Genesis.{GenesisState, is_allowed}
 use Rattle.ibc_machine.specs.declared.event.Event.{Event}
 use Rattle.ibc_machine.specs.declared.reply.Reply.{Reply}
-use Rattle.ibc_world_steps.specs.World.{new_ledger}
-use Rattle.ibc_world_steps.specs.Meetings.{IsPut}
-use Rattle.ibc_world_steps.specs.Steps.{AllSeeMore}
+use Rattle.ibc_refinement.specs.World.{new_ledger}
+use Rattle.ibc_refinement.specs.Meetings.{IsPut}
+use Rattle.ibc_refinement.specs.Steps.{AllSeeMore}
 
 -- the ledgers alone
 abbrev pub plain : List HeldLedger → List Ledger

@@ -1,8 +1,8 @@
 -- What a world keeps, and the world that it is.
 use Rattle.std.specs.Prelude.{◌≡◌, Some, slice_get}
-use Rattle.ibc_machine.specs.Genesis.{genesis_state}
+use Rattle.ibc_machine.specs.chain.Genesis.{genesis_state}
 use Rattle.ibc_ledger.specs.Held.{HeldLedger}
-use Rattle.ibc_world_steps.specs.World.{WorldState, IsWorld}
+use Rattle.ibc_refinement.specs.World.{WorldState, IsWorld}
 use Rattle.ibc_world_core.specs.declared.world.World.TheInside.{Inside}
 use Rattle.ibc_world_core.specs.Held.{plain, AllAt}
 

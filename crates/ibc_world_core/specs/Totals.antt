@@ -5,13 +5,13 @@ use Rattle.std.specs.Option.{option_map}
 use Rattle.ibc_ids.specs.Texts.{Text}
 use Rattle.ibc_ids.specs.Names.{hop, is_denom}
 use Rattle.ibc_machine.specs.declared.totals.Totals.{Totals as ToldTotals}
-use Rattle.ibc_machine.specs.Records.{Chain, Channel, Client, client_at, channel_at}
-use Rattle.ibc_machine.specs.Channels.{is_established, client_of}
-use Rattle.ibc_machine.specs.Bank.{supply}
-use Rattle.ibc_machine.specs.Transfers.{transfer_port, came_over}
-use Rattle.ibc_machine.specs.Machine.{World}
-use Rattle.ibc_machine.specs.Ledgers.{Ledger, state_of}
-use Rattle.ibc_machine.specs.Totals.{Totals, flight_between}
+use Rattle.ibc_machine.specs.chain.Records.{Chain, Channel, Client, client_at, channel_at}
+use Rattle.ibc_machine.specs.ics04.Channels.{is_established, client_of}
+use Rattle.ibc_machine.specs.ics20.Bank.{supply}
+use Rattle.ibc_machine.specs.ics20.Transfers.{transfer_port, came_over}
+use Rattle.ibc_machine.specs.chain.Machine.{World}
+use Rattle.ibc_machine.specs.ledger.Ledgers.{Ledger, state_of}
+use Rattle.ibc_machine.specs.promises.Totals.{Totals, flight_between}
 
 abbrev pub plain_totals : ToldTotals → Totals
 plain_totals t = record { escrow = t.escrow; vouchers = t.vouchers; out = t.out; back = t.back }

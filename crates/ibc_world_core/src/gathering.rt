@@ -3,7 +3,7 @@
 ghost use Rattle.std.specs.Prelude.{◌≡◌, ◌⊎◌, ◌↔◌, ◌≤◌, ◌+◌, ◌==◌, Err, false, length, IfOk, IfErr};
 ghost use Rattle.std.specs.List.{list_all, range_with_len};
 ghost use Rattle.ibc_ids.specs.declared.refusal.Refusal.TheVariants.{BadMessage, NoMemory};
-ghost use Rattle.ibc_machine.specs.Worlds.{of_chain};
+ghost use Rattle.ibc_machine.specs.promises.Worlds.{of_chain};
 ghost use Rattle.ibc_world_core.specs.Held.{plain, AreLedgers, AreAllowed};
 ghost use Rattle.ibc_world_core.specs.Audits.{is_whole, AreOfOneWorld, IsAudit};
 

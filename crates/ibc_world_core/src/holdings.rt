@@ -3,7 +3,7 @@
 ghost use Rattle.std.specs.Prelude.{◌≡◌, ◌≤◌, ◌<◌, ◌+◌, ◌++◌, ◌∷◌, [], length, map, IfOk, IfErr, OnOk};
 ghost use Rattle.std.specs.List.{flat_map, range_with_len};
 ghost use Rattle.ibc_ids.specs.declared.refusal.Refusal.TheVariants.{NoMemory};
-ghost use Rattle.ibc_machine.specs.Worlds.{of_chain};
+ghost use Rattle.ibc_machine.specs.promises.Worlds.{of_chain};
 ghost use Rattle.ibc_world_core.specs.Held.{plain};
 ghost use Rattle.ibc_world_core.specs.Audits.{balances_of, notes_of, balances_in, notes_in, TellsAll};
 

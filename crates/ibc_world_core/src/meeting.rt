@@ -1,9 +1,9 @@
 //! Ledgers meet, so that all have seen the same publications.
 
 ghost use Rattle.std.specs.Prelude.{◌≡◌, ◌<◌, ℕ, length, Some, slice_get};
-ghost use Rattle.ibc_machine.specs.Ledgers.{SeesMore};
+ghost use Rattle.ibc_machine.specs.ledger.Ledgers.{SeesMore};
 ghost use Rattle.ibc_ledger.specs.Held.{HeldLedger};
-ghost use Rattle.ibc_world_steps.specs.Meetings.{HaveMet, AreBehind, FirstSee};
+ghost use Rattle.ibc_refinement.specs.Meetings.{HaveMet, AreBehind, FirstSee};
 ghost use Rattle.ibc_world_core.specs.Held.{plain, AllAt, HaveSeenMore, FirstAre};
 
 use ibc_ledger::Ledger;

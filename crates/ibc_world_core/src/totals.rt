@@ -2,10 +2,10 @@
 
 ghost use Rattle.std.specs.Prelude.{◌≡◌, ◌≤◌, ◌^◌, ◌⊎◌, ◌<◌, length, Some, None, Ok, Err, IfOk, IfErr, MatchOption};
 ghost use Rattle.ibc_ids.specs.declared.refusal.Refusal.TheVariants.{NoMemory, TooLarge};
-ghost use Rattle.ibc_machine.specs.Bank.{balance, escrow};
-ghost use Rattle.ibc_machine.specs.Channels.{is_established};
-ghost use Rattle.ibc_machine.specs.Ledgers.{machine_of, state_of};
-ghost use Rattle.ibc_machine.specs.Totals.{totals, flight_between, peer_at};
+ghost use Rattle.ibc_machine.specs.ics20.Bank.{balance, escrow};
+ghost use Rattle.ibc_machine.specs.ics04.Channels.{is_established};
+ghost use Rattle.ibc_machine.specs.ledger.Ledgers.{machine_of, state_of};
+ghost use Rattle.ibc_machine.specs.promises.Totals.{totals, flight_between, peer_at};
 ghost use Rattle.ibc_world_core.specs.Held.{plain};
 ghost use Rattle.ibc_world_core.specs.Totals.{IsOwnEnd, IsPeerEnd, AllHold, FirstHold, abroad, plain_totals};
 

@@ -3,13 +3,13 @@
 ghost use Rattle.std.specs.Prelude.{◌≡◌, ◌⊎◌, ◌↔◌, ◌<◌, ◌++◌, ◌∷◌, ℕ, [], true, false, length, map, option_map, Some, slice_get, IfOk, IfErr, OnErr, IsTrue};
 ghost use Rattle.ibc_ids.specs.declared.refusal.Refusal.TheVariants.{NoMemory, BadMessage};
 ghost use Rattle.ibc_machine.specs.declared.reply.Reply.TheVariants as reply_of;
-ghost use Rattle.ibc_machine.specs.Genesis.{genesis_state, is_allowed};
-ghost use Rattle.ibc_machine.specs.Ledgers.{chain_of};
+ghost use Rattle.ibc_machine.specs.chain.Genesis.{genesis_state, is_allowed};
+ghost use Rattle.ibc_machine.specs.ledger.Ledgers.{chain_of};
 ghost use Rattle.ibc_root_table.specs.Passes.{TableName, AreDealt};
 ghost use Rattle.ibc_ledger.specs.Held.{HeldLedger, shape_of};
 ghost use Rattle.ibc_ledger.specs.Adding.{AddsOrNot};
-ghost use Rattle.ibc_world_steps.specs.World.{AreNew, HasItsPast, new_ledger};
-ghost use Rattle.ibc_world_steps.specs.Steps.{IsStep, GoesOnBy};
+ghost use Rattle.ibc_refinement.specs.World.{AreNew, HasItsPast, new_ledger};
+ghost use Rattle.ibc_refinement.specs.Steps.{IsStep, GoesOnBy};
 ghost use Rattle.ibc_world_core.specs.Held.{plain, AreBegun, AreNumbered, IsPutTo, SameTables};
 ghost use Rattle.ibc_world_core.specs.Audits.{AreOfOneWorld};
 
@@ -40,7 +40,7 @@ pub struct World {
 }
 
 impl Model for World {
-    ghost use Rattle.ibc_world_steps.specs.World.{WorldState};
+    ghost use Rattle.ibc_refinement.specs.World.{WorldState};
     ghost use Rattle.ibc_world_core.specs.Inside.{state_of, IsHeld};
 
     ghost Value = { WorldState };

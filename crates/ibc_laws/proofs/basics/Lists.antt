@@ -1,7 +1,7 @@
 -- Lists with one element more, and lists of numbers.
 use Rattle.std.proofs.Common.{◌≡◌, ℕ, zero, suc, ◌<◌, Bool, true, false, refl, ap, sym, List, [], ◌∷◌, ◌++◌, length, Option, Some, None, ◌⊎◌, inl, inr, arith, ◌||◌, ◌==◌, cond, filter, filter_map, nat_eq, Contains, eqb-true, slice_get}
 use Rattle.std.specs.List.{IsDistinct, AllByRecursion, cons_option}
-use Rattle.ibc_machine.specs.Records.{is_one_of}
+use Rattle.ibc_machine.specs.chain.Records.{is_one_of}
 use Rattle.ibc_laws.proofs.basics.PassedTests.{either}
 
 pub filter-append : {A : Type 0} (test : A → Bool) (xs ys : List A) → filter test (xs ++ ys) ≡ filter test xs ++ filter test ys

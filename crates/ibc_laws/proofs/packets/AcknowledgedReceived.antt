@@ -4,10 +4,10 @@ use Rattle.std.proofs.Common.{◌≡◌, ℕ, true, ap, sym, ◌∙◌, subst, L
 use Rattle.ibc_ids.specs.Texts.{Text}
 use Rattle.ibc_ids.specs.Maps.{at}
 use Rattle.ibc_wire.specs.declared.records.ChannelEnd.{ChannelEnd}
-use Rattle.ibc_machine.specs.Records.{Channel, is_one_of}
-use Rattle.ibc_machine.specs.Channels.{new_channel}
-use Rattle.ibc_machine.specs.Machine.{World}
-use Rattle.ibc_machine.specs.Histories.{Happened, End, received, acknowledged, sequences}
+use Rattle.ibc_machine.specs.chain.Records.{Channel, is_one_of}
+use Rattle.ibc_machine.specs.ics04.Channels.{new_channel}
+use Rattle.ibc_machine.specs.chain.Machine.{World}
+use Rattle.ibc_machine.specs.promises.Histories.{Happened, End, received, acknowledged, sequences}
 use Rattle.ibc_laws.proofs.basics.Lists.{among-last_or_before, among-last, among-kept}
 use Rattle.ibc_laws.proofs.steps.CoreSteps.{HadAck}
 use Rattle.ibc_laws.proofs.steps.EndSteps.{acks_of_receive}

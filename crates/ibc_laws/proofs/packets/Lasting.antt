@@ -2,11 +2,11 @@
 -- either end, which every step keeps.
 use Rattle.std.proofs.Common.{◌≡◌, ℕ, ◌≤◌, ◌<◌, Bool, true, false, refl, ap, sym, ◌∙◌, Some, ◌⊎◌, inl, inr, arith, nat_cmp, not, ◌==◌, nat_le, leb-true, le-leb}
 use Rattle.ibc_ids.specs.Maps.{at}
-use Rattle.ibc_machine.specs.Records.{Records, Block, Channel, Commitment, channel_at}
-use Rattle.ibc_machine.specs.Handlers.{working_height}
-use Rattle.ibc_machine.specs.Packets.{has_received, is_reached, is_timed_out}
-use Rattle.ibc_machine.specs.Machine.{World, block_of}
-use Rattle.ibc_machine.specs.Histories.{End}
+use Rattle.ibc_machine.specs.chain.Records.{Records, Block, Channel, Commitment, channel_at}
+use Rattle.ibc_machine.specs.chain.Handlers.{working_height}
+use Rattle.ibc_machine.specs.ics04.Packets.{has_received, is_reached, is_timed_out}
+use Rattle.ibc_machine.specs.chain.Machine.{World, block_of}
+use Rattle.ibc_machine.specs.promises.Histories.{End}
 use Rattle.ibc_laws.proofs.basics.PassedTests.{or_left, or_right, both, either, and_true}
 use Rattle.ibc_laws.proofs.basics.Places.{some_is}
 use Rattle.ibc_laws.proofs.steps.CoreSteps.{rank}

@@ -1,9 +1,9 @@
 -- No packet is both received and timed out.
 use Rattle.std.proofs.Common.{◌≡◌, ℕ, true, sym, subst, List, [], ◌∷◌, ◌++◌, inl, inr}
 use Rattle.ibc_wire.specs.declared.packet.Packet.{Packet}
-use Rattle.ibc_machine.specs.Records.{Channel, is_one_of}
-use Rattle.ibc_machine.specs.Machine.{World}
-use Rattle.ibc_machine.specs.Histories.{Happened, End, received, timed_out, sequences}
+use Rattle.ibc_machine.specs.chain.Records.{Channel, is_one_of}
+use Rattle.ibc_machine.specs.chain.Machine.{World}
+use Rattle.ibc_machine.specs.promises.Histories.{Happened, End, received, timed_out, sequences}
 use Rattle.ibc_laws.proofs.basics.Lists.{among-last_or_before}
 use Rattle.ibc_laws.proofs.steps.CoreSteps.{TimesOut}
 use Rattle.ibc_laws.proofs.steps.Worlds.{WorldGrows}

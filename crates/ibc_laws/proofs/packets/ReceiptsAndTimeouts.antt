@@ -5,12 +5,12 @@ use Rattle.ibc_ids.specs.Maps.{at}
 use Rattle.ibc_wire.specs.declared.packet.Packet.{Packet}
 use Rattle.ibc_wire.specs.declared.records.Order.TheVariants.{Ordered}
 use Rattle.ibc_wire.specs.declared.records.ChannelEnd.{ChannelEnd}
-use Rattle.ibc_machine.specs.Records.{Records, Block, Chain, Channel, Commitment, channel_at, commitment_of}
-use Rattle.ibc_machine.specs.Values.{same_order}
-use Rattle.ibc_machine.specs.Handlers.{host_of, working_height}
-use Rattle.ibc_machine.specs.Packets.{has_received, is_timed_out, after_receive, after_timeout}
-use Rattle.ibc_machine.specs.Machine.{World, block_of}
-use Rattle.ibc_machine.specs.Histories.{End}
+use Rattle.ibc_machine.specs.chain.Records.{Records, Block, Chain, Channel, Commitment, channel_at, commitment_of}
+use Rattle.ibc_machine.specs.ics24.Values.{same_order}
+use Rattle.ibc_machine.specs.chain.Handlers.{host_of, working_height}
+use Rattle.ibc_machine.specs.ics04.Packets.{has_received, is_timed_out, after_receive, after_timeout}
+use Rattle.ibc_machine.specs.chain.Machine.{World, block_of}
+use Rattle.ibc_machine.specs.promises.Histories.{End}
 use Rattle.ibc_laws.proofs.basics.Places.{some_is}
 use Rattle.ibc_laws.proofs.steps.CoreSteps.{rank, Receives, TimesOut, HadCommitment, HadNotReceived, WasOver}
 use Rattle.ibc_laws.proofs.steps.Growth.{ChannelGrows, ChannelGrows-trans}

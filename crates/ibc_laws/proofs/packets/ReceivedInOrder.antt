@@ -4,14 +4,14 @@ use Rattle.ibc_ids.specs.Texts.{Text}
 use Rattle.ibc_wire.specs.declared.packet.Packet.{Packet}
 use Rattle.ibc_wire.specs.declared.records.Order.TheVariants.{Ordered}
 use Rattle.ibc_wire.specs.declared.records.ChannelState.TheVariants as chan
-use Rattle.ibc_machine.specs.Records.{Channel, channel_at, commitment_of}
-use Rattle.ibc_machine.specs.Values.{same_order}
-use Rattle.ibc_machine.specs.Handlers.{host_of}
-use Rattle.ibc_machine.specs.Channels.{channel_end, new_channel}
-use Rattle.ibc_machine.specs.Packets.{is_ordered, after_receive}
-use Rattle.ibc_machine.specs.Machine.{World}
-use Rattle.ibc_machine.specs.Histories.{Happened, End, packet_from, sent, received}
-use Rattle.ibc_machine.specs.Laws.{IsBeginning}
+use Rattle.ibc_machine.specs.chain.Records.{Channel, channel_at, commitment_of}
+use Rattle.ibc_machine.specs.ics24.Values.{same_order}
+use Rattle.ibc_machine.specs.chain.Handlers.{host_of}
+use Rattle.ibc_machine.specs.ics04.Channels.{channel_end, new_channel}
+use Rattle.ibc_machine.specs.ics04.Packets.{is_ordered, after_receive}
+use Rattle.ibc_machine.specs.chain.Machine.{World}
+use Rattle.ibc_machine.specs.promises.Histories.{Happened, End, packet_from, sent, received}
+use Rattle.ibc_machine.specs.promises.Laws.{IsBeginning}
 use Rattle.ibc_laws.proofs.steps.CoreSteps.{Receives}
 use Rattle.ibc_laws.proofs.steps.EndSteps.{the_next, taken}
 use Rattle.ibc_laws.proofs.steps.Worlds.{WorldGrows}

@@ -3,11 +3,11 @@
 use Rattle.std.proofs.Common.{◌≡◌, ℕ, Bool, true, false, refl, ap, sym, ◌∙◌, subst, List, [], ◌∷◌, ◌++◌, inl, inr, arith, nat_eq, append-nil, if◌then◌else◌, nat_lt, ltb-true, lt-ltb, ◌<◌}
 use Rattle.std.specs.List.{IsDistinct}
 use Rattle.ibc_wire.specs.declared.records.Order.TheVariants.{Ordered}
-use Rattle.ibc_machine.specs.Records.{Channel, is_one_of}
-use Rattle.ibc_machine.specs.Values.{same_order}
-use Rattle.ibc_machine.specs.Packets.{is_ordered, has_received}
-use Rattle.ibc_machine.specs.Machine.{World}
-use Rattle.ibc_machine.specs.Histories.{Happened, End, received, sequences}
+use Rattle.ibc_machine.specs.chain.Records.{Channel, is_one_of}
+use Rattle.ibc_machine.specs.ics24.Values.{same_order}
+use Rattle.ibc_machine.specs.ics04.Packets.{is_ordered, has_received}
+use Rattle.ibc_machine.specs.chain.Machine.{World}
+use Rattle.ibc_machine.specs.promises.Histories.{Happened, End, received, sequences}
 use Rattle.ibc_laws.proofs.basics.Lists.{among-last_or_before, distinct-push}
 use Rattle.ibc_laws.proofs.steps.Growth.{ChannelGrows}
 use Rattle.ibc_laws.proofs.steps.EndSteps.{the_next, received_now}

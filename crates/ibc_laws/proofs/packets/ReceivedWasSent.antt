@@ -3,10 +3,10 @@
 use Rattle.std.proofs.Common.{◌≡◌, ℕ, sym, subst, List, [], ◌∷◌, ◌++◌, length, inl, inr, arith, Contains}
 use Rattle.std.proofs.lemmas.List.Elements.{Contains-append_cases, Contains-append_left}
 use Rattle.ibc_wire.specs.declared.packet.Packet.{Packet}
-use Rattle.ibc_machine.specs.Genesis.{GenesisState}
-use Rattle.ibc_machine.specs.Machine.{World}
-use Rattle.ibc_machine.specs.Histories.{Happened, End, sent, received}
-use Rattle.ibc_machine.specs.Laws.{IsPast}
+use Rattle.ibc_machine.specs.chain.Genesis.{GenesisState}
+use Rattle.ibc_machine.specs.chain.Machine.{World}
+use Rattle.ibc_machine.specs.promises.Histories.{Happened, End, sent, received}
+use Rattle.ibc_machine.specs.promises.Laws.{IsPast}
 use Rattle.ibc_laws.specs.Packets.{ReceivedWasSent}
 use Rattle.ibc_laws.proofs.basics.Lists.{lemma_contains_one, lemma_got_contains}
 use Rattle.ibc_laws.proofs.steps.Steps.{Stepped, stepped}

@@ -1,10 +1,10 @@
 -- No packet is both received and timed out; each is received at most once, and acknowledged or timed out at most
 -- once in all; one that was acknowledged was received.
 use Rattle.std.proofs.Common.{ℕ, List, [], ◌∷◌, ◌++◌, length, subst, ◌≡◌}
-use Rattle.ibc_machine.specs.Genesis.{GenesisState, start}
-use Rattle.ibc_machine.specs.Machine.{World}
-use Rattle.ibc_machine.specs.Histories.{Happened, End, received, acknowledged, timed_out, sequences}
-use Rattle.ibc_machine.specs.Laws.{ExactlyOnce, IsPast}
+use Rattle.ibc_machine.specs.chain.Genesis.{GenesisState, start}
+use Rattle.ibc_machine.specs.chain.Machine.{World}
+use Rattle.ibc_machine.specs.promises.Histories.{Happened, End, received, acknowledged, timed_out, sequences}
+use Rattle.ibc_machine.specs.promises.Laws.{ExactlyOnce, IsPast}
 use Rattle.ibc_laws.proofs.basics.Lists.{distinct-none, contains-among, among-contains}
 use Rattle.ibc_laws.proofs.steps.Steps.{Stepped, stepped}
 use Rattle.ibc_laws.proofs.peers.Invariant.{Inv, Inv-start, stepped_inv, starts_empty, no_channel}

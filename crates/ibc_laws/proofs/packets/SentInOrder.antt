@@ -4,10 +4,10 @@ use Rattle.std.proofs.Common.{◌≡◌, ℕ, zero, suc, ◌+◌, refl, ap, sym,
 use Rattle.ibc_ids.specs.Maps.{at}
 use Rattle.ibc_wire.specs.declared.packet.Packet.{Packet}
 use Rattle.ibc_wire.specs.declared.records.ChannelEnd.{ChannelEnd}
-use Rattle.ibc_machine.specs.Records.{Records, Block, Chain, Channel, Commitment, channel_at}
-use Rattle.ibc_machine.specs.Channels.{new_channel}
-use Rattle.ibc_machine.specs.Machine.{World, block_of}
-use Rattle.ibc_machine.specs.Histories.{Happened, End, packet_from, sent}
+use Rattle.ibc_machine.specs.chain.Records.{Records, Block, Chain, Channel, Commitment, channel_at}
+use Rattle.ibc_machine.specs.ics04.Channels.{new_channel}
+use Rattle.ibc_machine.specs.chain.Machine.{World, block_of}
+use Rattle.ibc_machine.specs.promises.Histories.{Happened, End, packet_from, sent}
 use Rattle.ibc_machine.proofs.FiniteMaps.{by_number, found_in_with}
 use Rattle.ibc_laws.proofs.steps.Steps.{Stepped}
 use Rattle.ibc_laws.proofs.peers.Invariant.{Inv, stepped_grows, stepped_back}

@@ -4,10 +4,10 @@ use Rattle.std.proofs.Common.{◌≡◌, ℕ, ◌<◌, Bool, true, false, refl, 
 use Rattle.std.specs.List.{IsDistinct}
 use Rattle.ibc_ids.specs.Maps.{at}
 use Rattle.ibc_wire.specs.declared.packet.Packet.{Packet}
-use Rattle.ibc_machine.specs.Records.{Channel, commitment_of, is_one_of}
-use Rattle.ibc_machine.specs.Packets.{is_ordered, without_commitment, after_ack, after_timeout}
-use Rattle.ibc_machine.specs.Machine.{World}
-use Rattle.ibc_machine.specs.Histories.{Happened, End, acknowledged, timed_out, sequences}
+use Rattle.ibc_machine.specs.chain.Records.{Channel, commitment_of, is_one_of}
+use Rattle.ibc_machine.specs.ics04.Packets.{is_ordered, without_commitment, after_ack, after_timeout}
+use Rattle.ibc_machine.specs.chain.Machine.{World}
+use Rattle.ibc_machine.specs.promises.Histories.{Happened, End, acknowledged, timed_out, sequences}
 use Rattle.ibc_laws.proofs.basics.Lists.{among-push, distinct-push}
 use Rattle.ibc_laws.proofs.steps.Growth.{ChannelGrows}
 use Rattle.ibc_laws.proofs.steps.CoreSteps.{Settles}

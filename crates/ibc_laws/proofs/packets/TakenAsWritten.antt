@@ -7,14 +7,14 @@ use Rattle.ibc_ids.specs.Texts.{Text}
 use Rattle.ibc_ids.specs.Maps.{at}
 use Rattle.ibc_wire.specs.declared.packet.Packet.{Packet}
 use Rattle.ibc_wire.specs.declared.records.ChannelEnd.{ChannelEnd}
-use Rattle.ibc_machine.specs.Records.{Channel, is_one_of}
-use Rattle.ibc_machine.specs.Channels.{new_channel}
-use Rattle.ibc_machine.specs.Genesis.{GenesisState, start}
-use Rattle.ibc_machine.specs.Handlers.{host_of}
-use Rattle.ibc_machine.specs.Machine.{World}
-use Rattle.ibc_machine.specs.Ledgers.{chain_of}
-use Rattle.ibc_machine.specs.Histories.{Happened, End, is_destination, is_source, packet_if, received_by, sequences, history_of, ack_by, ack_written}
-use Rattle.ibc_machine.specs.Laws.{IsPast}
+use Rattle.ibc_machine.specs.chain.Records.{Channel, is_one_of}
+use Rattle.ibc_machine.specs.ics04.Channels.{new_channel}
+use Rattle.ibc_machine.specs.chain.Genesis.{GenesisState, start}
+use Rattle.ibc_machine.specs.chain.Handlers.{host_of}
+use Rattle.ibc_machine.specs.chain.Machine.{World}
+use Rattle.ibc_machine.specs.ledger.Ledgers.{chain_of}
+use Rattle.ibc_machine.specs.promises.Histories.{Happened, End, is_destination, is_source, packet_if, received_by, sequences, history_of, ack_by, ack_written}
+use Rattle.ibc_machine.specs.promises.Laws.{IsPast}
 use Rattle.ibc_laws.specs.Packets.{TakenAsWritten, taken, taken_by, taken_if}
 use Rattle.ibc_laws.proofs.basics.PassedTests.{and_true, number-self}
 use Rattle.ibc_laws.proofs.steps.Told.{Told, Quiet, Sent, Received, Acknowledged, TimedOut, told_of, is_told, received_in, acknowledged_in, ack_in, taken_in}

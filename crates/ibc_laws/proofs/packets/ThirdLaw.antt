@@ -4,15 +4,15 @@ use Rattle.std.specs.Option.{unwrap_or}
 use Rattle.ibc_ids.specs.Texts.{Text}
 use Rattle.ibc_wire.specs.declared.packet.Packet.{Packet}
 use Rattle.ibc_wire.specs.declared.records.Order.TheVariants.{Ordered}
-use Rattle.ibc_machine.specs.Records.{Channel}
-use Rattle.ibc_machine.specs.Values.{same_order}
-use Rattle.ibc_machine.specs.Channels.{is_established, peer_channel_of}
-use Rattle.ibc_machine.specs.Packets.{is_ordered}
-use Rattle.ibc_machine.specs.Genesis.{GenesisState, start}
-use Rattle.ibc_machine.specs.Machine.{World}
-use Rattle.ibc_machine.specs.Histories.{Happened, End, sent, received, history_of}
-use Rattle.ibc_machine.specs.Peers.{end_at}
-use Rattle.ibc_machine.specs.Laws.{InOrder, IsPast, IsBeginning}
+use Rattle.ibc_machine.specs.chain.Records.{Channel}
+use Rattle.ibc_machine.specs.ics24.Values.{same_order}
+use Rattle.ibc_machine.specs.ics04.Channels.{is_established, peer_channel_of}
+use Rattle.ibc_machine.specs.ics04.Packets.{is_ordered}
+use Rattle.ibc_machine.specs.chain.Genesis.{GenesisState, start}
+use Rattle.ibc_machine.specs.chain.Machine.{World}
+use Rattle.ibc_machine.specs.promises.Histories.{Happened, End, sent, received, history_of}
+use Rattle.ibc_machine.specs.promises.Peers.{end_at}
+use Rattle.ibc_machine.specs.promises.Laws.{InOrder, IsPast, IsBeginning}
 use Rattle.ibc_laws.proofs.basics.PassedTests.{either}
 use Rattle.ibc_laws.proofs.steps.Told.{Told, Quiet, Sent, Received, Acknowledged, TimedOut, told_of, is_told, sent_in}
 use Rattle.ibc_laws.proofs.steps.Steps.{Stepped, stepped}

@@ -1,11 +1,11 @@
 -- Each end that is OPEN or CLOSED has exactly one peer, of its own order and version.
 use Rattle.std.proofs.Common.{◌≡◌, ◌≤◌, true, refl, ap, sym, ◌∙◌, subst, Some, ◌||◌}
 use Rattle.ibc_wire.specs.declared.records.ConnectionEnd.{ConnectionEnd}
-use Rattle.ibc_machine.specs.Records.{Core, Chain, Channel, client_at, connection_at}
-use Rattle.ibc_machine.specs.Channels.{is_established}
-use Rattle.ibc_machine.specs.Machine.{World}
-use Rattle.ibc_machine.specs.Histories.{End}
-use Rattle.ibc_machine.specs.Laws.{OnePeer}
+use Rattle.ibc_machine.specs.chain.Records.{Core, Chain, Channel, client_at, connection_at}
+use Rattle.ibc_machine.specs.ics04.Channels.{is_established}
+use Rattle.ibc_machine.specs.chain.Machine.{World}
+use Rattle.ibc_machine.specs.promises.Histories.{End}
+use Rattle.ibc_machine.specs.promises.Laws.{OnePeer}
 use Rattle.ibc_laws.proofs.basics.Places.{some_is}
 use Rattle.ibc_laws.proofs.steps.CoreSteps.{rank}
 use Rattle.ibc_laws.proofs.steps.EndSteps.{not_init}

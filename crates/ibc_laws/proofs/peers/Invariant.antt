@@ -3,12 +3,12 @@
 use Rattle.std.proofs.Common.{◌≡◌, ℕ, zero, suc, refl, sym, ◌∙◌, subst, List, [], ◌∷◌, map, length, Some, inl, inr, arith, slice_get, slice_set}
 use Rattle.ibc_ids.specs.Texts.{Text}
 use Rattle.ibc_wire.specs.declared.records.ConnectionEnd.{ConnectionEnd}
-use Rattle.ibc_machine.specs.Records.{Core, Block, Chain, Channel, connection_at, channel_at}
-use Rattle.ibc_machine.specs.Genesis.{GenesisState, ChainState, start, starting_chain, empty_core}
-use Rattle.ibc_machine.specs.Handlers.{host_of}
-use Rattle.ibc_machine.specs.Machine.{World, block_of}
-use Rattle.ibc_machine.specs.Histories.{Happened, End}
-use Rattle.ibc_machine.specs.Laws.{IsPast}
+use Rattle.ibc_machine.specs.chain.Records.{Core, Block, Chain, Channel, connection_at, channel_at}
+use Rattle.ibc_machine.specs.chain.Genesis.{GenesisState, ChainState, start, starting_chain, empty_core}
+use Rattle.ibc_machine.specs.chain.Handlers.{host_of}
+use Rattle.ibc_machine.specs.chain.Machine.{World, block_of}
+use Rattle.ibc_machine.specs.promises.Histories.{Happened, End}
+use Rattle.ibc_machine.specs.promises.Laws.{IsPast}
 use Rattle.ibc_laws.proofs.basics.Places.{some_is, same_or_not, placed, get-set_same, get-set_other}
 use Rattle.ibc_laws.proofs.steps.Told.{Told, told_of}
 use Rattle.ibc_laws.proofs.steps.Growth.{ChannelGrows-refl}

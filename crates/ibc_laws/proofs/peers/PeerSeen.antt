@@ -5,13 +5,13 @@ use Rattle.std.specs.Option.{option_map_or}
 use Rattle.ibc_ids.specs.Texts.{Text, same_text}
 use Rattle.ibc_ids.proofs.Texts.{text_same}
 use Rattle.ibc_wire.specs.declared.records.ConnectionEnd.{ConnectionEnd}
-use Rattle.ibc_machine.specs.Records.{Core, Block, Chain, Client, Channel, client_at, channel_at}
-use Rattle.ibc_machine.specs.Values.{same_optional}
-use Rattle.ibc_machine.specs.Handlers.{working_height}
-use Rattle.ibc_machine.specs.Channels.{client_of}
-use Rattle.ibc_machine.specs.Packets.{has_peer}
-use Rattle.ibc_machine.specs.Machine.{World, block_of}
-use Rattle.ibc_machine.specs.Histories.{End}
+use Rattle.ibc_machine.specs.chain.Records.{Core, Block, Chain, Client, Channel, client_at, channel_at}
+use Rattle.ibc_machine.specs.ics24.Values.{same_optional}
+use Rattle.ibc_machine.specs.chain.Handlers.{working_height}
+use Rattle.ibc_machine.specs.ics04.Channels.{client_of}
+use Rattle.ibc_machine.specs.ics04.Packets.{has_peer}
+use Rattle.ibc_machine.specs.chain.Machine.{World, block_of}
+use Rattle.ibc_machine.specs.promises.Histories.{End}
 use Rattle.ibc_machine.proofs.SameValues.{same_optional_is}
 use Rattle.ibc_laws.proofs.basics.PassedTests.{both}
 use Rattle.ibc_laws.proofs.basics.Places.{some_is}

@@ -7,13 +7,13 @@ use Rattle.ibc_ids.proofs.Texts.{text_same, same_text_itself}
 use Rattle.ibc_wire.specs.declared.records.ConnectionEnd.{ConnectionEnd}
 use Rattle.ibc_wire.specs.declared.records.ChannelState.TheVariants as chan
 use Rattle.ibc_wire.specs.declared.records.ChannelState.{ChannelState}
-use Rattle.ibc_machine.specs.Records.{Core, Records, Chain, Client, Channel, client_at, connection_at, channel_at}
-use Rattle.ibc_machine.specs.Values.{same_optional, same_channel_state}
-use Rattle.ibc_machine.specs.Channels.{is_established}
-use Rattle.ibc_machine.specs.Packets.{has_peer}
-use Rattle.ibc_machine.specs.Machine.{World}
-use Rattle.ibc_machine.specs.Histories.{End}
-use Rattle.ibc_machine.specs.Peers.{end_at, found_at, is_connected_to, names, are_paired_if, are_peers}
+use Rattle.ibc_machine.specs.chain.Records.{Core, Records, Chain, Client, Channel, client_at, connection_at, channel_at}
+use Rattle.ibc_machine.specs.ics24.Values.{same_optional, same_channel_state}
+use Rattle.ibc_machine.specs.ics04.Channels.{is_established}
+use Rattle.ibc_machine.specs.ics04.Packets.{has_peer}
+use Rattle.ibc_machine.specs.chain.Machine.{World}
+use Rattle.ibc_machine.specs.promises.Histories.{End}
+use Rattle.ibc_machine.specs.promises.Peers.{end_at, found_at, is_connected_to, names, are_paired_if, are_peers}
 use Rattle.ibc_machine.proofs.SameValues.{same_optional_is}
 use Rattle.ibc_laws.proofs.basics.PassedTests.{or_left, or_right, both, either, and_true, number-self}
 use Rattle.ibc_laws.proofs.basics.Places.{some_is}

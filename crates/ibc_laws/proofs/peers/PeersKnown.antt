@@ -4,8 +4,8 @@ use Rattle.ibc_ids.specs.Texts.{Text}
 use Rattle.ibc_wire.specs.declared.records.ConnectionState.TheVariants as conn
 use Rattle.ibc_wire.specs.declared.records.ChannelState.TheVariants as chan
 use Rattle.ibc_wire.specs.declared.records.ConnectionEnd.{ConnectionEnd}
-use Rattle.ibc_machine.specs.Records.{Core, Client, Channel, client_at, connection_at, channel_at}
-use Rattle.ibc_machine.specs.Machine.{World}
+use Rattle.ibc_machine.specs.chain.Records.{Core, Client, Channel, client_at, connection_at, channel_at}
+use Rattle.ibc_machine.specs.chain.Machine.{World}
 use Rattle.ibc_laws.proofs.basics.Places.{some_is}
 use Rattle.ibc_laws.proofs.steps.CoreSteps.{rank}
 use Rattle.ibc_laws.proofs.steps.Growth.{ChannelGrows, Grows}

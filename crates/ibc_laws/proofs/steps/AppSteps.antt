@@ -6,14 +6,14 @@ use Rattle.ibc_wire.specs.Fields.{are_typed}
 use Rattle.ibc_wire.specs.Messages.{message_fields}
 use Rattle.ibc_wire.specs.declared.messages.Message.{Message}
 use Rattle.ibc_machine.specs.declared.reply.Effect.{Effect}
-use Rattle.ibc_machine.specs.Records.{Core, Apps, Records, Channel, Commitment}
-use Rattle.ibc_machine.specs.Evidence.{Host}
-use Rattle.ibc_machine.specs.TokenData.{Data, data_text, is_data}
-use Rattle.ibc_machine.specs.Bank.{Balances}
-use Rattle.ibc_machine.specs.Transfers.{transfer_port, send_token, each_token}
-use Rattle.ibc_machine.specs.Notes.{note_port}
-use Rattle.ibc_machine.specs.Applications.{with_balances, on_recv, on_ack, on_timeout}
-use Rattle.ibc_machine.specs.Machine.{World}
+use Rattle.ibc_machine.specs.chain.Records.{Core, Apps, Records, Channel, Commitment}
+use Rattle.ibc_machine.specs.ics24.Evidence.{Host}
+use Rattle.ibc_machine.specs.ics20.TokenData.{Data, data_text, is_data}
+use Rattle.ibc_machine.specs.ics20.Bank.{Balances}
+use Rattle.ibc_machine.specs.ics20.Transfers.{transfer_port, send_token, each_token}
+use Rattle.ibc_machine.specs.chain.Notes.{note_port}
+use Rattle.ibc_machine.specs.chain.Applications.{with_balances, on_recv, on_ack, on_timeout}
+use Rattle.ibc_machine.specs.chain.Machine.{World}
 use Rattle.ibc_laws.proofs.steps.Told.{Told, Quiet, told_by}
 use Rattle.ibc_laws.proofs.steps.CoreSteps.{CoreStep, creates_client, updates_client, starts_connection, answers_connection, confirms_connection, opens_channel, changes_channel, ChannelStep, answers, follows, closes, sends, receives, acknowledges, times_out}
 

@@ -7,13 +7,13 @@ use Rattle.ibc_ids.specs.Paths.{nth_channel}
 use Rattle.ibc_ids.proofs.Texts.{text_same}
 use Rattle.ibc_wire.specs.declared.packet.Packet.{Packet}
 use Rattle.ibc_wire.specs.declared.records.ChannelEnd.{ChannelEnd}
-use Rattle.ibc_machine.specs.Records.{Core, Chain, Channel, channel_at}
-use Rattle.ibc_machine.specs.Evidence.{Host}
-use Rattle.ibc_machine.specs.Handlers.{host_of}
-use Rattle.ibc_machine.specs.Channels.{new_channel}
-use Rattle.ibc_machine.specs.Ledgers.{chain_of, is_typed}
-use Rattle.ibc_machine.specs.Machine.{World}
-use Rattle.ibc_machine.specs.Histories.{Happened, End, is_end, packet_if}
+use Rattle.ibc_machine.specs.chain.Records.{Core, Chain, Channel, channel_at}
+use Rattle.ibc_machine.specs.ics24.Evidence.{Host}
+use Rattle.ibc_machine.specs.chain.Handlers.{host_of}
+use Rattle.ibc_machine.specs.ics04.Channels.{new_channel}
+use Rattle.ibc_machine.specs.ledger.Ledgers.{chain_of, is_typed}
+use Rattle.ibc_machine.specs.chain.Machine.{World}
+use Rattle.ibc_machine.specs.promises.Histories.{Happened, End, is_end, packet_if}
 use Rattle.ibc_laws.proofs.basics.PassedTests.{both}
 use Rattle.ibc_machine.proofs.FiniteMaps.{by_pair, at-with_split}
 use Rattle.ibc_laws.proofs.basics.Places.{some_is, same_or_not, get-set_same, get-set_other}

@@ -11,11 +11,11 @@ use Rattle.ibc_wire.specs.declared.messages.ChanOpenAck.{ChanOpenAck}
 use Rattle.ibc_wire.specs.declared.messages.ChanOpenConfirm.{ChanOpenConfirm}
 use Rattle.ibc_wire.specs.declared.messages.ChanCloseInit.{ChanCloseInit}
 use Rattle.ibc_wire.specs.declared.messages.ChanCloseConfirm.{ChanCloseConfirm}
-use Rattle.ibc_machine.specs.Records.{Core, Channel}
-use Rattle.ibc_machine.specs.Evidence.{Host, Evidence}
-use Rattle.ibc_machine.specs.Channels.{chan_open_init, chan_open_try, chan_open_ack, chan_open_confirm, chan_close_init, chan_close_confirm, is_in_state, client_of, peer_channel_of, channel_end}
-use Rattle.ibc_machine.specs.Applications.{require_application, on_open, on_close}
-use Rattle.ibc_machine.specs.Machine.{World}
+use Rattle.ibc_machine.specs.chain.Records.{Core, Channel}
+use Rattle.ibc_machine.specs.ics24.Evidence.{Host, Evidence}
+use Rattle.ibc_machine.specs.ics04.Channels.{chan_open_init, chan_open_try, chan_open_ack, chan_open_confirm, chan_close_init, chan_close_confirm, is_in_state, client_of, peer_channel_of, channel_end}
+use Rattle.ibc_machine.specs.chain.Applications.{require_application, on_open, on_close}
+use Rattle.ibc_machine.specs.chain.Machine.{World}
 use Rattle.ibc_machine.proofs.PassedRows.{Gives, gives_ok, gives_then, gives_require, gives_expect}
 use Rattle.ibc_machine.proofs.SameValues.{same_connection_state_is, same_channel_state_is}
 use Rattle.ibc_laws.proofs.basics.PassedTests.{either}

@@ -11,11 +11,11 @@ use Rattle.ibc_wire.specs.declared.messages.ConnOpenInit.{ConnOpenInit}
 use Rattle.ibc_wire.specs.declared.messages.ConnOpenTry.{ConnOpenTry}
 use Rattle.ibc_wire.specs.declared.messages.ConnOpenAck.{ConnOpenAck}
 use Rattle.ibc_wire.specs.declared.messages.ConnOpenConfirm.{ConnOpenConfirm}
-use Rattle.ibc_machine.specs.Records.{Core, Block, Client, client_at}
-use Rattle.ibc_machine.specs.Evidence.{Host, Evidence}
-use Rattle.ibc_machine.specs.Clients.{create_client, update_client}
-use Rattle.ibc_machine.specs.Connections.{conn_open_init, conn_open_try, conn_open_ack, conn_open_confirm, names_host, connection_end}
-use Rattle.ibc_machine.specs.Machine.{World}
+use Rattle.ibc_machine.specs.chain.Records.{Core, Block, Client, client_at}
+use Rattle.ibc_machine.specs.ics24.Evidence.{Host, Evidence}
+use Rattle.ibc_machine.specs.ics02.Clients.{create_client, update_client}
+use Rattle.ibc_machine.specs.ics03.Connections.{conn_open_init, conn_open_try, conn_open_ack, conn_open_confirm, names_host, connection_end}
+use Rattle.ibc_machine.specs.chain.Machine.{World}
 use Rattle.ibc_machine.proofs.PassedRows.{Gives, gives_ok, gives_then, gives_require, gives_expect}
 use Rattle.ibc_machine.proofs.ConnectionChecks.{MayConnTry, MayConnAck, conn_tryable, conn_ackable}
 use Rattle.ibc_machine.proofs.SameValues.{same_connection_state_is}

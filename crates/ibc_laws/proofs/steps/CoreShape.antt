@@ -7,11 +7,11 @@ use Rattle.ibc_wire.specs.declared.records.ConnectionState.TheVariants as conn
 use Rattle.ibc_wire.specs.declared.records.ChannelState.TheVariants as chan
 use Rattle.ibc_wire.specs.declared.records.ConnectionEnd.{ConnectionEnd}
 use Rattle.ibc_wire.specs.declared.records.ChannelEnd.{ChannelEnd}
-use Rattle.ibc_machine.specs.Records.{Core, Client, Channel, client_at, connection_at, channel_at, with_client, with_connection, with_channel}
-use Rattle.ibc_machine.specs.Evidence.{Host}
-use Rattle.ibc_machine.specs.Clients.{new_client, updated}
-use Rattle.ibc_machine.specs.Channels.{new_channel}
-use Rattle.ibc_machine.specs.Machine.{World}
+use Rattle.ibc_machine.specs.chain.Records.{Core, Client, Channel, client_at, connection_at, channel_at, with_client, with_connection, with_channel}
+use Rattle.ibc_machine.specs.ics24.Evidence.{Host}
+use Rattle.ibc_machine.specs.ics02.Clients.{new_client, updated}
+use Rattle.ibc_machine.specs.ics04.Channels.{new_channel}
+use Rattle.ibc_machine.specs.chain.Machine.{World}
 use Rattle.ibc_laws.proofs.basics.Places.{some_is}
 use Rattle.ibc_machine.proofs.FiniteMaps.{by_text, by_pair, found_in_with}
 use Rattle.ibc_machine.proofs.Identifiers.{nth_client_same, nth_connection_same, nth_channel_same}

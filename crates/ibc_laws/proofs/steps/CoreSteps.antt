@@ -12,14 +12,14 @@ use Rattle.ibc_wire.specs.declared.records.ChannelState.TheVariants as chan
 use Rattle.ibc_wire.specs.declared.records.ChannelEnd.{ChannelEnd}
 use Rattle.ibc_wire.specs.declared.messages.Message.{Message}
 use Rattle.ibc_machine.specs.declared.reply.Effect.{Effect}
-use Rattle.ibc_machine.specs.Records.{Core, Block, Client, Channel, Commitment, client_at, connection_at, channel_at, with_client, with_connection, with_channel, commitment_of}
-use Rattle.ibc_machine.specs.Evidence.{Host}
-use Rattle.ibc_machine.specs.Clients.{new_client, updated}
-use Rattle.ibc_machine.specs.Connections.{with_new_connection}
-use Rattle.ibc_machine.specs.Channels.{is_open, client_of, peer_channel_of, counterpart, with_new_channel, in_state}
-use Rattle.ibc_machine.specs.Packets.{is_ordered, has_peer, has_received, is_timed_out, after_send, after_receive, after_ack, after_timeout}
-use Rattle.ibc_machine.specs.Applications.{require_application, on_open, on_close}
-use Rattle.ibc_machine.specs.Machine.{World}
+use Rattle.ibc_machine.specs.chain.Records.{Core, Block, Client, Channel, Commitment, client_at, connection_at, channel_at, with_client, with_connection, with_channel, commitment_of}
+use Rattle.ibc_machine.specs.ics24.Evidence.{Host}
+use Rattle.ibc_machine.specs.ics02.Clients.{new_client, updated}
+use Rattle.ibc_machine.specs.ics03.Connections.{with_new_connection}
+use Rattle.ibc_machine.specs.ics04.Channels.{is_open, client_of, peer_channel_of, counterpart, with_new_channel, in_state}
+use Rattle.ibc_machine.specs.ics04.Packets.{is_ordered, has_peer, has_received, is_timed_out, after_send, after_receive, after_ack, after_timeout}
+use Rattle.ibc_machine.specs.chain.Applications.{require_application, on_open, on_close}
+use Rattle.ibc_machine.specs.chain.Machine.{World}
 use Rattle.ibc_laws.proofs.steps.Seen.{Sees}
 use Rattle.ibc_laws.proofs.steps.Told.{Told, told_by, Quiet, Sent, Received, Acknowledged, TimedOut}
 

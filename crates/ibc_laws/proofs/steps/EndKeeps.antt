@@ -5,12 +5,12 @@ use Rattle.ibc_ids.specs.Texts.{Text}
 use Rattle.ibc_ids.specs.Maps.{at}
 use Rattle.ibc_wire.specs.declared.packet.Packet.{Packet}
 use Rattle.ibc_wire.specs.declared.records.ChannelEnd.{ChannelEnd}
-use Rattle.ibc_machine.specs.Records.{Core, Channel, Commitment}
-use Rattle.ibc_machine.specs.Evidence.{Host}
-use Rattle.ibc_machine.specs.Channels.{new_channel}
-use Rattle.ibc_machine.specs.Packets.{is_ordered, without_commitment, after_send, after_ack, after_timeout}
-use Rattle.ibc_machine.specs.Machine.{World}
-use Rattle.ibc_machine.specs.Histories.{End}
+use Rattle.ibc_machine.specs.chain.Records.{Core, Channel, Commitment}
+use Rattle.ibc_machine.specs.ics24.Evidence.{Host}
+use Rattle.ibc_machine.specs.ics04.Channels.{new_channel}
+use Rattle.ibc_machine.specs.ics04.Packets.{is_ordered, without_commitment, after_send, after_ack, after_timeout}
+use Rattle.ibc_machine.specs.chain.Machine.{World}
+use Rattle.ibc_machine.specs.promises.Histories.{End}
 use Rattle.std.specs.Cmp.{nat_cmp_total}
 use Rattle.ibc_laws.proofs.basics.Places.{same_or_not}
 use Rattle.ibc_machine.proofs.FiniteMaps.{by_number, at-with_split}

@@ -8,11 +8,11 @@ use Rattle.ibc_wire.specs.declared.packet.Packet.{Packet}
 use Rattle.ibc_wire.specs.declared.records.ChannelState.{ChannelState}
 use Rattle.ibc_wire.specs.declared.records.ChannelState.TheVariants as chan
 use Rattle.ibc_wire.specs.declared.records.ChannelEnd.{ChannelEnd}
-use Rattle.ibc_machine.specs.Records.{Core, Channel, Commitment, is_one_of, added}
-use Rattle.ibc_machine.specs.Evidence.{Host}
-use Rattle.ibc_machine.specs.Channels.{in_state}
-use Rattle.ibc_machine.specs.Packets.{is_ordered, has_received, after_send, after_receive, without_commitment}
-use Rattle.ibc_machine.specs.Machine.{World}
+use Rattle.ibc_machine.specs.chain.Records.{Core, Channel, Commitment, is_one_of, added}
+use Rattle.ibc_machine.specs.ics24.Evidence.{Host}
+use Rattle.ibc_machine.specs.ics04.Channels.{in_state}
+use Rattle.ibc_machine.specs.ics04.Packets.{is_ordered, has_received, after_send, after_receive, without_commitment}
+use Rattle.ibc_machine.specs.chain.Machine.{World}
 use Rattle.ibc_machine.proofs.FiniteMaps.{by_number, at-with_split, found_in_with}
 use Rattle.ibc_machine.proofs.SortedMaps.{Sorted, Sorted-with, Sorted-without, at-without_same, at-without_other, added_kept, added_there}
 use Rattle.ibc_laws.proofs.steps.Told.{Told}

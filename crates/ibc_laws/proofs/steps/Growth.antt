@@ -5,7 +5,7 @@ use Rattle.ibc_ids.specs.Maps.{Map, at}
 use Rattle.ibc_wire.specs.declared.records.ConnectionState.TheVariants as conn
 use Rattle.ibc_wire.specs.declared.records.ConnectionEnd.{ConnectionEnd}
 use Rattle.ibc_wire.specs.declared.records.ChannelEnd.{ChannelEnd}
-use Rattle.ibc_machine.specs.Records.{Core, Client, Channel, Commitment, client_at, connection_at, channel_at, with_client, with_connection, with_channel, is_one_of}
+use Rattle.ibc_machine.specs.chain.Records.{Core, Client, Channel, Commitment, client_at, connection_at, channel_at, with_client, with_connection, with_channel, is_one_of}
 use Rattle.ibc_laws.proofs.steps.CoreSteps.{rank}
 use Rattle.ibc_machine.proofs.FiniteMaps.{by_text, by_pair, kept_in_with}
 

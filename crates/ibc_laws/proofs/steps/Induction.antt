@@ -1,11 +1,11 @@
 -- What holds at the start and is kept by every step holds after each run.
 use Rattle.std.proofs.Common.{◌≡◌, true, sym, subst, List, [], ◌∷◌, ◌++◌, append_assoc, append-nil, map}
 use Rattle.std.specs.List.{list_all}
-use Rattle.ibc_machine.specs.Genesis.{GenesisState, start}
-use Rattle.ibc_machine.specs.Machine.{World, IsRun, Step}
-use Rattle.ibc_machine.specs.Ledgers.{is_typed}
-use Rattle.ibc_machine.specs.Histories.{Happened}
-use Rattle.ibc_machine.specs.Laws.{IsPast}
+use Rattle.ibc_machine.specs.chain.Genesis.{GenesisState, start}
+use Rattle.ibc_machine.specs.chain.Machine.{World, IsRun, Step}
+use Rattle.ibc_machine.specs.ledger.Ledgers.{is_typed}
+use Rattle.ibc_machine.specs.promises.Histories.{Happened}
+use Rattle.ibc_machine.specs.promises.Laws.{IsPast}
 use Rattle.ibc_laws.proofs.basics.PassedTests.{both}
 
 module _ (genesis : GenesisState) (P : List Happened → World → Type 0)

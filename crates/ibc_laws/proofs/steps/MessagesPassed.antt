@@ -3,11 +3,11 @@ use Rattle.std.proofs.Common.{◌≡◌, ℕ, Bool, refl, Ok}
 use Rattle.ibc_wire.specs.declared.messages.Message.{Message}
 use Rattle.ibc_wire.specs.declared.messages.Message.TheVariants as message
 use Rattle.ibc_machine.specs.declared.reply.Effect.{Effect}
-use Rattle.ibc_machine.specs.Records.{Core, Records}
-use Rattle.ibc_machine.specs.Checks.{Checked, ◌>>=◌}
-use Rattle.ibc_machine.specs.Evidence.{Host, Evidence}
-use Rattle.ibc_machine.specs.Handlers.{handle}
-use Rattle.ibc_machine.specs.Machine.{World}
+use Rattle.ibc_machine.specs.chain.Records.{Core, Records}
+use Rattle.ibc_machine.specs.chain.Checks.{Checked, ◌>>=◌}
+use Rattle.ibc_machine.specs.ics24.Evidence.{Host, Evidence}
+use Rattle.ibc_machine.specs.chain.Handlers.{handle}
+use Rattle.ibc_machine.specs.chain.Machine.{World}
 use Rattle.ibc_machine.proofs.PassedRows.{Gives}
 use Rattle.ibc_machine.proofs.PassedHandlers.{gives_on_core, gives_on_balances}
 use Rattle.ibc_laws.proofs.steps.Seen.{seeing}

@@ -1,10 +1,10 @@
 -- A run goes through each of its events: before it stood one world, and behind it another.
 use Rattle.std.proofs.Common.{◌≡◌, true, refl, subst, List, [], ◌∷◌, ◌++◌, map}
 use Rattle.std.specs.List.{list_all}
-use Rattle.ibc_machine.specs.Genesis.{GenesisState, start}
-use Rattle.ibc_machine.specs.Machine.{World, Step, IsRun}
-use Rattle.ibc_machine.specs.Ledgers.{is_typed}
-use Rattle.ibc_machine.specs.Histories.{Happened}
+use Rattle.ibc_machine.specs.chain.Genesis.{GenesisState, start}
+use Rattle.ibc_machine.specs.chain.Machine.{World, Step, IsRun}
+use Rattle.ibc_machine.specs.ledger.Ledgers.{is_typed}
+use Rattle.ibc_machine.specs.promises.Histories.{Happened}
 use Rattle.ibc_laws.specs.Moments.{EachMoment}
 use Rattle.ibc_laws.proofs.basics.PassedTests.{both, and_true}
 

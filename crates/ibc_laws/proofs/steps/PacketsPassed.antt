@@ -13,13 +13,13 @@ use Rattle.ibc_wire.specs.declared.messages.RecvPacket.{RecvPacket}
 use Rattle.ibc_wire.specs.declared.messages.AckPacket.{AckPacket}
 use Rattle.ibc_wire.specs.declared.messages.Timeout.{Timeout}
 use Rattle.ibc_wire.specs.declared.messages.TimeoutOnClose.{TimeoutOnClose}
-use Rattle.ibc_machine.specs.Records.{Core, Apps, Records, Block, Client, Channel, Commitment, channel_at, with_channel, is_one_of, commitment_of}
-use Rattle.ibc_machine.specs.Values.{NumberIs, has, lacks}
-use Rattle.ibc_machine.specs.Evidence.{Host, Evidence}
-use Rattle.ibc_machine.specs.Channels.{is_in_state, is_established, client_of}
-use Rattle.ibc_machine.specs.Packets.{recv_checked, recv_packet, ack_checked, ack_packet, timeout_checked, timeout, timeout_on_close_checked, timeout_on_close, is_ordered, is_timed_out, after_ack, not_received, waits_for}
-use Rattle.ibc_machine.specs.Applications.{on_recv, on_ack, on_timeout}
-use Rattle.ibc_machine.specs.Machine.{World, block_at}
+use Rattle.ibc_machine.specs.chain.Records.{Core, Apps, Records, Block, Client, Channel, Commitment, channel_at, with_channel, is_one_of, commitment_of}
+use Rattle.ibc_machine.specs.ics24.Values.{NumberIs, has, lacks}
+use Rattle.ibc_machine.specs.ics24.Evidence.{Host, Evidence}
+use Rattle.ibc_machine.specs.ics04.Channels.{is_in_state, is_established, client_of}
+use Rattle.ibc_machine.specs.ics04.Packets.{recv_checked, recv_packet, ack_checked, ack_packet, timeout_checked, timeout, timeout_on_close_checked, timeout_on_close, is_ordered, is_timed_out, after_ack, not_received, waits_for}
+use Rattle.ibc_machine.specs.chain.Applications.{on_recv, on_ack, on_timeout}
+use Rattle.ibc_machine.specs.chain.Machine.{World, block_at}
 use Rattle.ibc_laws.proofs.basics.Places.{some_is}
 use Rattle.ibc_machine.proofs.PacketChecks.{IsUnsettled, recv_passed, ack_passed, timeout_passed, timeout_on_close_passed}
 use Rattle.ibc_machine.proofs.PassedRows.{Gives, gives_ok, gives_bind}

@@ -7,13 +7,13 @@ use Rattle.ibc_wire.specs.declared.messages.Transfer.{Transfer}
 use Rattle.ibc_wire.specs.declared.messages.TransferMany.{TransferMany}
 use Rattle.ibc_machine.specs.declared.event.Event.TheVariants as event
 use Rattle.ibc_machine.specs.declared.reply.Effect.{Effect}
-use Rattle.ibc_machine.specs.Records.{Core, Apps, Chain, Channel, Commitment}
-use Rattle.ibc_machine.specs.Evidence.{Host, Evidence}
-use Rattle.ibc_machine.specs.Handlers.{handle}
-use Rattle.ibc_machine.specs.TokenData.{Data, one_token, several_tokens}
-use Rattle.ibc_machine.specs.Bank.{Balances}
-use Rattle.ibc_machine.specs.Transfers.{transfer, transfer_many, send_tokens, send_token, each_token, transfer_commitment, transfer_data, transfer_many_data}
-use Rattle.ibc_machine.specs.Histories.{Happened}
+use Rattle.ibc_machine.specs.chain.Records.{Core, Apps, Chain, Channel, Commitment}
+use Rattle.ibc_machine.specs.ics24.Evidence.{Host, Evidence}
+use Rattle.ibc_machine.specs.chain.Handlers.{handle}
+use Rattle.ibc_machine.specs.ics20.TokenData.{Data, one_token, several_tokens}
+use Rattle.ibc_machine.specs.ics20.Bank.{Balances}
+use Rattle.ibc_machine.specs.ics20.Transfers.{transfer, transfer_many, send_tokens, send_token, each_token, transfer_commitment, transfer_data, transfer_many_data}
+use Rattle.ibc_machine.specs.promises.Histories.{Happened}
 use Rattle.ibc_machine.proofs.PassedRows.{Gives, gives_ok, gives_then, gives_require, gives_bind, gives_expect}
 use Rattle.ibc_machine.proofs.PassedHandlers.{gives_on_balances}
 

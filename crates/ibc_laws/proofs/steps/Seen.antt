@@ -8,10 +8,10 @@ use Rattle.ibc_ids.proofs.Texts.{text_same}
 use Rattle.ibc_wire.specs.declared.records.ClientState.{ClientState}
 use Rattle.ibc_wire.specs.declared.records.ConnectionEnd.{ConnectionEnd}
 use Rattle.ibc_wire.specs.declared.records.ChannelEnd.{ChannelEnd}
-use Rattle.ibc_machine.specs.Records.{Core, Block, Client, Channel, Commitment, client_at, connection_at, channel_at, is_one_of}
-use Rattle.ibc_machine.specs.Values.{ClientIs, ConnectionIs, ChannelIs, NumberIs, CommitmentIs, AckIs, Claim, look, has, lacks, same_value, receipt_if}
-use Rattle.ibc_machine.specs.Evidence.{Evidence}
-use Rattle.ibc_machine.specs.Machine.{World, true_marks, looks, block_at, shows_in}
+use Rattle.ibc_machine.specs.chain.Records.{Core, Block, Client, Channel, Commitment, client_at, connection_at, channel_at, is_one_of}
+use Rattle.ibc_machine.specs.ics24.Values.{ClientIs, ConnectionIs, ChannelIs, NumberIs, CommitmentIs, AckIs, Claim, look, has, lacks, same_value, receipt_if}
+use Rattle.ibc_machine.specs.ics24.Evidence.{Evidence}
+use Rattle.ibc_machine.specs.chain.Machine.{World, true_marks, looks, block_at, shows_in}
 use Rattle.ibc_machine.proofs.SameValues.{same_connection_is, same_channel_is, same_client_is, same_commitment_is}
 use Rattle.ibc_laws.proofs.basics.PassedTests.{both}
 use Rattle.std.proofs.Common.{eqb-true}

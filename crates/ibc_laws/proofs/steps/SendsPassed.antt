@@ -12,15 +12,15 @@ use Rattle.ibc_wire.specs.declared.messages.SendNote.{SendNote}
 use Rattle.ibc_wire.specs.declared.messages.Message.{Message}
 use Rattle.ibc_machine.specs.declared.reply.Effect.{Effect}
 use Rattle.ibc_machine.specs.declared.reply.Effect.TheVariants as effect
-use Rattle.ibc_machine.specs.Records.{Core, Records, Channel, Commitment, with_channel}
-use Rattle.ibc_machine.specs.Evidence.{Host, Evidence}
-use Rattle.ibc_machine.specs.Packets.{sending_end, after_send}
-use Rattle.ibc_machine.specs.TokenData.{Data, one_token, several_tokens, data_text, is_data}
-use Rattle.ibc_machine.specs.Bank.{Balances}
-use Rattle.ibc_machine.specs.Transfers.{transfer_port, transfer, transfer_many, send_tokens, transfer_commitment, transfer_data, transfer_many_data}
-use Rattle.ibc_machine.specs.Notes.{note_port, note_commitment, send_note}
-use Rattle.ibc_machine.specs.Applications.{with_balances}
-use Rattle.ibc_machine.specs.Machine.{World}
+use Rattle.ibc_machine.specs.chain.Records.{Core, Records, Channel, Commitment, with_channel}
+use Rattle.ibc_machine.specs.ics24.Evidence.{Host, Evidence}
+use Rattle.ibc_machine.specs.ics04.Packets.{sending_end, after_send}
+use Rattle.ibc_machine.specs.ics20.TokenData.{Data, one_token, several_tokens, data_text, is_data}
+use Rattle.ibc_machine.specs.ics20.Bank.{Balances}
+use Rattle.ibc_machine.specs.ics20.Transfers.{transfer_port, transfer, transfer_many, send_tokens, transfer_commitment, transfer_data, transfer_many_data}
+use Rattle.ibc_machine.specs.chain.Notes.{note_port, note_commitment, send_note}
+use Rattle.ibc_machine.specs.chain.Applications.{with_balances}
+use Rattle.ibc_machine.specs.chain.Machine.{World}
 use Rattle.ibc_machine.proofs.PassedRows.{Gives, gives_ok, gives_then, gives_require, gives_bind, gives_expect}
 use Rattle.ibc_machine.proofs.PacketChecks.{sending_passed}
 use Rattle.ibc_machine.proofs.SameValues.{same_channel_state_is}

@@ -9,13 +9,13 @@ use Rattle.ibc_machine.specs.declared.event.Event.TheVariants as event
 use Rattle.ibc_machine.specs.declared.reply.Effect.{Effect}
 use Rattle.ibc_machine.specs.declared.reply.Reply.{Reply}
 use Rattle.ibc_machine.specs.declared.reply.Reply.TheVariants as reply
-use Rattle.ibc_machine.specs.Records.{Core, Apps, Records, Chain}
-use Rattle.ibc_machine.specs.Checks.{Checked}
-use Rattle.ibc_machine.specs.Genesis.{GenesisState}
-use Rattle.ibc_machine.specs.Handlers.{handle, host_of, after_message, message_answer, may_commit, after_block, block_answer}
-use Rattle.ibc_machine.specs.Machine.{World, looks, true_marks, answer, at_chain, Step}
-use Rattle.ibc_machine.specs.Ledgers.{chain_of, is_typed}
-use Rattle.ibc_machine.specs.Histories.{Happened}
+use Rattle.ibc_machine.specs.chain.Records.{Core, Apps, Records, Chain}
+use Rattle.ibc_machine.specs.chain.Checks.{Checked}
+use Rattle.ibc_machine.specs.chain.Genesis.{GenesisState}
+use Rattle.ibc_machine.specs.chain.Handlers.{handle, host_of, after_message, message_answer, may_commit, after_block, block_answer}
+use Rattle.ibc_machine.specs.chain.Machine.{World, looks, true_marks, answer, at_chain, Step}
+use Rattle.ibc_machine.specs.ledger.Ledgers.{chain_of, is_typed}
+use Rattle.ibc_machine.specs.promises.Histories.{Happened}
 use Rattle.ibc_machine.proofs.PassedRows.{require_passed}
 use Rattle.ibc_laws.proofs.basics.Places.{set-same}
 use Rattle.ibc_laws.proofs.steps.Seen.{seeing}

@@ -8,11 +8,11 @@ use Rattle.ibc_machine.specs.declared.event.Event.TheVariants as event
 use Rattle.ibc_machine.specs.declared.reply.Effect.{Effect}
 use Rattle.ibc_machine.specs.declared.reply.Effect.TheVariants as effect
 use Rattle.ibc_machine.specs.declared.reply.Reply.TheVariants as reply
-use Rattle.ibc_machine.specs.Records.{Channel, Commitment}
-use Rattle.ibc_machine.specs.TokenData.{one_token, several_tokens}
-use Rattle.ibc_machine.specs.Transfers.{transfer_port, transfer_commitment, transfer_data, transfer_many_data}
-use Rattle.ibc_machine.specs.Notes.{note_port, note_commitment}
-use Rattle.ibc_machine.specs.Histories.{Happened, End, is_end, is_source, is_destination, packet_if, packet_from, sent_by, received_by, acknowledged_by, timed_out_by, ack_by}
+use Rattle.ibc_machine.specs.chain.Records.{Channel, Commitment}
+use Rattle.ibc_machine.specs.ics20.TokenData.{one_token, several_tokens}
+use Rattle.ibc_machine.specs.ics20.Transfers.{transfer_port, transfer_commitment, transfer_data, transfer_many_data}
+use Rattle.ibc_machine.specs.chain.Notes.{note_port, note_commitment}
+use Rattle.ibc_machine.specs.promises.Histories.{Happened, End, is_end, is_source, is_destination, packet_if, packet_from, sent_by, received_by, acknowledged_by, timed_out_by, ack_by}
 use Rattle.ibc_laws.specs.Packets.{taken_by, taken_if}
 
 pub data Told : Type 0 where

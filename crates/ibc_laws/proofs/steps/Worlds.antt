@@ -2,9 +2,9 @@
 use Rattle.std.proofs.Common.{◌≡◌, ℕ, zero, suc, ◌+◌, ◌≤◌, ◌<◌, refl, ap, sym, subst, [], ◌∷◌, ◌++◌, length, Option, Some, None, ◌⊎◌, inl, inr, arith, slice_get, le_refl, List}
 use Rattle.std.specs.Option.{option_map_or}
 use Rattle.ibc_ids.specs.Texts.{Text}
-use Rattle.ibc_machine.specs.Records.{Core, Records, Block, Chain}
-use Rattle.ibc_machine.specs.Handlers.{working_height, host_of}
-use Rattle.ibc_machine.specs.Machine.{World, block_of}
+use Rattle.ibc_machine.specs.chain.Records.{Core, Records, Block, Chain}
+use Rattle.ibc_machine.specs.chain.Handlers.{working_height, host_of}
+use Rattle.ibc_machine.specs.chain.Machine.{World, block_of}
 use Rattle.ibc_laws.proofs.basics.Places.{last_or_before, got_below}
 use Rattle.ibc_laws.proofs.steps.Seen.{Sees}
 use Rattle.ibc_laws.proofs.steps.Told.{Told, Quiet}

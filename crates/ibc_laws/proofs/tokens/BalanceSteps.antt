@@ -6,14 +6,14 @@ use Rattle.ibc_ids.specs.Texts.{Text, same_text}
 use Rattle.ibc_ids.specs.Names.{is_user}
 use Rattle.ibc_ids.specs.declared.refusal.Refusal.TheVariants as refusal
 use Rattle.ibc_wire.specs.declared.packet.Packet.{Packet}
-use Rattle.ibc_machine.specs.Records.{Apps, Records}
-use Rattle.ibc_machine.specs.Checks.{Checked, ◌>>=◌}
-use Rattle.ibc_machine.specs.TokenData.{Data, data_of, success, error}
-use Rattle.ibc_machine.specs.Bank.{Balances, with_balance}
-use Rattle.ibc_machine.specs.Genesis.{Holding, starting_balances}
-use Rattle.ibc_machine.specs.Transfers.{transfer_port, burnt, each_token, receive_token, refund_token, receive_transfer, receive_data, acknowledged_with, refund_transfer, refund_data, acknowledge_transfer}
-use Rattle.ibc_machine.specs.Notes.{receive_note}
-use Rattle.ibc_machine.specs.Applications.{with_balances, on_recv, on_ack, on_timeout}
+use Rattle.ibc_machine.specs.chain.Records.{Apps, Records}
+use Rattle.ibc_machine.specs.chain.Checks.{Checked, ◌>>=◌}
+use Rattle.ibc_machine.specs.ics20.TokenData.{Data, data_of, success, error}
+use Rattle.ibc_machine.specs.ics20.Bank.{Balances, with_balance}
+use Rattle.ibc_machine.specs.chain.Genesis.{Holding, starting_balances}
+use Rattle.ibc_machine.specs.ics20.Transfers.{transfer_port, burnt, each_token, receive_token, refund_token, receive_transfer, receive_data, acknowledged_with, refund_transfer, refund_data, acknowledge_transfer}
+use Rattle.ibc_machine.specs.chain.Notes.{receive_note}
+use Rattle.ibc_machine.specs.chain.Applications.{with_balances, on_recv, on_ack, on_timeout}
 use Rattle.ibc_machine.proofs.PassedRows.{bind_passed, expect_passed, ok_same}
 use Rattle.ibc_machine.proofs.Measures.{IsSorted, sorted-with_balance}
 

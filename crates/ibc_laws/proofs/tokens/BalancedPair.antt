@@ -6,11 +6,11 @@ use Rattle.std.specs.Option.{option_map_or}
 use Rattle.ibc_ids.specs.Texts.{Text, same_text}
 use Rattle.ibc_ids.specs.Maps.{Map, at, with, without}
 use Rattle.ibc_ids.specs.Names.{hop}
-use Rattle.ibc_machine.specs.Records.{Channel, Commitment}
-use Rattle.ibc_machine.specs.TokenData.{amount_of, tokens_of, success}
-use Rattle.ibc_machine.specs.Bank.{Balances, balance, supply, escrow}
-use Rattle.ibc_machine.specs.Transfers.{transfer_port, came_over}
-use Rattle.ibc_machine.specs.Totals.{succeeded, amount_under_way}
+use Rattle.ibc_machine.specs.chain.Records.{Channel, Commitment}
+use Rattle.ibc_machine.specs.ics20.TokenData.{amount_of, tokens_of, success}
+use Rattle.ibc_machine.specs.ics20.Bank.{Balances, balance, supply, escrow}
+use Rattle.ibc_machine.specs.ics20.Transfers.{transfer_port, came_over}
+use Rattle.ibc_machine.specs.promises.Totals.{succeeded, amount_under_way}
 use Rattle.ibc_machine.proofs.SortedMaps.{Sorted}
 use Rattle.ibc_laws.proofs.tokens.FlightSums.{under_way-sent, under_way-settled, under_way-acknowledged}
 use Rattle.ibc_laws.proofs.tokens.TokenShifts.{Unshifted}

@@ -10,16 +10,16 @@ use Rattle.ibc_ids.specs.declared.refusal.Refusal.TheVariants.{UnknownChain, Unk
 use Rattle.ibc_ids.proofs.Texts.{text_same}
 use Rattle.ibc_wire.specs.declared.records.ConnectionEnd.{ConnectionEnd}
 use Rattle.ibc_wire.specs.declared.token.Token.{Token}
-use Rattle.ibc_machine.specs.Records.{Records, Chain, Client, Channel, Commitment, client_at, channel_at}
-use Rattle.ibc_machine.specs.Channels.{is_established, client_of, peer_channel_of}
-use Rattle.ibc_machine.specs.TokenData.{Data, is_data, is_token, is_amount, data_of, tokens_of, amount_of}
-use Rattle.ibc_machine.specs.Bank.{Balances, supply}
-use Rattle.ibc_machine.specs.Transfers.{transfer_port, came_over}
-use Rattle.ibc_machine.specs.Machine.{World}
-use Rattle.ibc_machine.specs.Histories.{End}
-use Rattle.ibc_machine.specs.Peers.{records_of, end_at, are_peers}
-use Rattle.ibc_machine.specs.Totals.{Totals, totals, totals_between, named_peer, peer_at, are_bounded, flight, flight_between, amount_under_way, succeeded, escrowed, vouchers, hopped}
-use Rattle.ibc_machine.specs.Laws.{HasOnePeer}
+use Rattle.ibc_machine.specs.chain.Records.{Records, Chain, Client, Channel, Commitment, client_at, channel_at}
+use Rattle.ibc_machine.specs.ics04.Channels.{is_established, client_of, peer_channel_of}
+use Rattle.ibc_machine.specs.ics20.TokenData.{Data, is_data, is_token, is_amount, data_of, tokens_of, amount_of}
+use Rattle.ibc_machine.specs.ics20.Bank.{Balances, supply}
+use Rattle.ibc_machine.specs.ics20.Transfers.{transfer_port, came_over}
+use Rattle.ibc_machine.specs.chain.Machine.{World}
+use Rattle.ibc_machine.specs.promises.Histories.{End}
+use Rattle.ibc_machine.specs.promises.Peers.{records_of, end_at, are_peers}
+use Rattle.ibc_machine.specs.promises.Totals.{Totals, totals, totals_between, named_peer, peer_at, are_bounded, flight, flight_between, amount_under_way, succeeded, escrowed, vouchers, hopped}
+use Rattle.ibc_machine.specs.promises.Laws.{HasOnePeer}
 use Rattle.ibc_machine.proofs.DataRead.{data_spelled}
 use Rattle.ibc_machine.proofs.PassedRows.{Gives, gives_expect, gives_require, gives_ok}
 use Rattle.ibc_laws.proofs.basics.PassedTests.{both, no_longer}

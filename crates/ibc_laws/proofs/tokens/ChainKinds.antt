@@ -4,17 +4,17 @@ use Rattle.std.proofs.Common.{◌≡◌, ℕ, true, ap, sym, ◌∙◌, subst, S
 use Rattle.ibc_ids.specs.Texts.{Text}
 use Rattle.ibc_ids.specs.Paths.{nth_client, nth_channel}
 use Rattle.ibc_wire.specs.declared.packet.Packet.{Packet}
-use Rattle.ibc_machine.specs.Records.{Core, Apps, Records, Chain, Client, Channel, client_at, channel_at}
-use Rattle.ibc_machine.specs.Evidence.{Host}
-use Rattle.ibc_machine.specs.Clients.{new_client, updated}
-use Rattle.ibc_machine.specs.Channels.{new_channel}
-use Rattle.ibc_machine.specs.Transfers.{burnt}
-use Rattle.ibc_machine.specs.Bank.{Balances}
-use Rattle.ibc_machine.specs.Applications.{on_open}
-use Rattle.ibc_machine.specs.Handlers.{host_of}
-use Rattle.ibc_machine.specs.Genesis.{GenesisState, ChainState, start, starting_chain}
-use Rattle.ibc_machine.specs.Machine.{World}
-use Rattle.ibc_machine.specs.Histories.{Happened}
+use Rattle.ibc_machine.specs.chain.Records.{Core, Apps, Records, Chain, Client, Channel, client_at, channel_at}
+use Rattle.ibc_machine.specs.ics24.Evidence.{Host}
+use Rattle.ibc_machine.specs.ics02.Clients.{new_client, updated}
+use Rattle.ibc_machine.specs.ics04.Channels.{new_channel}
+use Rattle.ibc_machine.specs.ics20.Transfers.{burnt}
+use Rattle.ibc_machine.specs.ics20.Bank.{Balances}
+use Rattle.ibc_machine.specs.chain.Applications.{on_open}
+use Rattle.ibc_machine.specs.chain.Handlers.{host_of}
+use Rattle.ibc_machine.specs.chain.Genesis.{GenesisState, ChainState, start, starting_chain}
+use Rattle.ibc_machine.specs.chain.Machine.{World}
+use Rattle.ibc_machine.specs.promises.Histories.{Happened}
 use Rattle.ibc_laws.proofs.basics.PassedTests.{number-self}
 use Rattle.ibc_machine.proofs.FiniteMaps.{by_text, by_pair, found_in_with}
 use Rattle.ibc_laws.proofs.basics.Places.{placed}

@@ -5,7 +5,7 @@ use Rattle.std.specs.Str.Parse.{AllDigits}
 use Rattle.std.proofs.lemmas.Fmt.{decimal_is_IsNumeral}
 use Rattle.ibc_ids.specs.Texts.{Text}
 use Rattle.ibc_ids.specs.Paths.{nth_channel}
-use Rattle.ibc_machine.specs.Records.{Core, Channel, channel_at}
+use Rattle.ibc_machine.specs.chain.Records.{Core, Channel, channel_at}
 use Rattle.ibc_laws.proofs.basics.PassedTests.{and_true}
 use Rattle.ibc_laws.proofs.steps.CoreShape.{CoreShaped}
 use Rattle.ibc_laws.proofs.tokens.Hops.{HasNoSlash}

@@ -8,13 +8,13 @@ use Rattle.ibc_ids.specs.Maps.{at}
 use Rattle.ibc_ids.specs.Names.{is_user, hop}
 use Rattle.ibc_ids.proofs.Texts.{same_text_itself}
 use Rattle.ibc_wire.specs.declared.token.Token.{Token}
-use Rattle.ibc_machine.specs.Records.{Commitment}
-use Rattle.ibc_machine.specs.TokenData.{amount_of, tokens_of}
-use Rattle.ibc_machine.specs.Bank.{Balances, balance, escrow, give, with_balance, out_of_escrow}
-use Rattle.ibc_machine.specs.Transfers.{transfer_port, came_over, each_token, refund_token}
-use Rattle.ibc_machine.specs.Totals.{succeeded}
-use Rattle.ibc_machine.specs.Machine.{World}
-use Rattle.ibc_machine.specs.Histories.{Happened, End}
+use Rattle.ibc_machine.specs.chain.Records.{Commitment}
+use Rattle.ibc_machine.specs.ics20.TokenData.{amount_of, tokens_of}
+use Rattle.ibc_machine.specs.ics20.Bank.{Balances, balance, escrow, give, with_balance, out_of_escrow}
+use Rattle.ibc_machine.specs.ics20.Transfers.{transfer_port, came_over, each_token, refund_token}
+use Rattle.ibc_machine.specs.promises.Totals.{succeeded}
+use Rattle.ibc_machine.specs.chain.Machine.{World}
+use Rattle.ibc_machine.specs.promises.Histories.{Happened, End}
 use Rattle.ibc_laws.proofs.peers.Peers.{Peers}
 use Rattle.ibc_machine.proofs.Measures.{Test, IsSorted}
 use Rattle.ibc_laws.proofs.tokens.TokenMoves.{refunded_tokens}

@@ -7,9 +7,9 @@ use Rattle.std.specs.Cmp.{nat_cmp_total}
 use Rattle.std.proofs.lemmas.List.Sums.{sum_by-cons}
 use Rattle.ibc_ids.specs.Texts.{Text, same_text}
 use Rattle.ibc_ids.specs.Maps.{Map, at, with, without}
-use Rattle.ibc_machine.specs.Records.{Channel, Commitment}
-use Rattle.ibc_machine.specs.TokenData.{amount_of, tokens_of, success}
-use Rattle.ibc_machine.specs.Totals.{amount_under_way}
+use Rattle.ibc_machine.specs.chain.Records.{Channel, Commitment}
+use Rattle.ibc_machine.specs.ics20.TokenData.{amount_of, tokens_of, success}
+use Rattle.ibc_machine.specs.promises.Totals.{amount_under_way}
 use Rattle.ibc_machine.proofs.FiniteMaps.{TellsApart, is_equal, by_number, at-with_split, at-with_same}
 use Rattle.ibc_machine.proofs.SortedMaps.{Below, Sorted}
 use Rattle.ibc_machine.proofs.Measures.{sum-with, sum-without}

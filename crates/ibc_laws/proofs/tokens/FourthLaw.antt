@@ -4,16 +4,16 @@ use Rattle.std.proofs.Common.{◌≡◌, ℕ, suc, zero, ◌≤◌, true, false,
 use Rattle.std.specs.Option.{option_map_or, option_and_then}
 use Rattle.std.specs.Prelude.{option_map}
 use Rattle.ibc_ids.specs.Names.{hop}
-use Rattle.ibc_machine.specs.Records.{Records, Chain, Channel, channel_at}
-use Rattle.ibc_machine.specs.Bank.{balance, supply, escrow}
-use Rattle.ibc_machine.specs.Transfers.{transfer_port, came_over}
-use Rattle.ibc_machine.specs.Genesis.{GenesisState, start, is_allowed}
-use Rattle.ibc_machine.specs.Machine.{World}
-use Rattle.ibc_machine.specs.Ledgers.{is_typed}
-use Rattle.ibc_machine.specs.Histories.{Happened, End}
-use Rattle.ibc_machine.specs.Peers.{end_at}
-use Rattle.ibc_machine.specs.Totals.{flight, flight_between, vouchers, escrowed, hopped}
-use Rattle.ibc_machine.specs.Laws.{Conserved, IsPast}
+use Rattle.ibc_machine.specs.chain.Records.{Records, Chain, Channel, channel_at}
+use Rattle.ibc_machine.specs.ics20.Bank.{balance, supply, escrow}
+use Rattle.ibc_machine.specs.ics20.Transfers.{transfer_port, came_over}
+use Rattle.ibc_machine.specs.chain.Genesis.{GenesisState, start, is_allowed}
+use Rattle.ibc_machine.specs.chain.Machine.{World}
+use Rattle.ibc_machine.specs.ledger.Ledgers.{is_typed}
+use Rattle.ibc_machine.specs.promises.Histories.{Happened, End}
+use Rattle.ibc_machine.specs.promises.Peers.{end_at}
+use Rattle.ibc_machine.specs.promises.Totals.{flight, flight_between, vouchers, escrowed, hopped}
+use Rattle.ibc_machine.specs.promises.Laws.{Conserved, IsPast}
 use Rattle.ibc_laws.proofs.basics.Places.{some_is, placed}
 use Rattle.ibc_laws.proofs.steps.Told.{told_of}
 use Rattle.ibc_laws.proofs.steps.CoreSteps.{rank}

@@ -2,9 +2,9 @@
 -- is among those that were acknowledged or among those that timed out.
 use Rattle.std.proofs.Common.{◌≡◌, ℕ, ◌≤◌, ◌<◌, true, ap, sym, ◌∙◌, subst, List, [], ◌∷◌, ◌++◌, None, inl, inr, ◌⊎◌, arith, nat_cmp}
 use Rattle.ibc_ids.specs.Maps.{at}
-use Rattle.ibc_machine.specs.Records.{Channel, is_one_of}
-use Rattle.ibc_machine.specs.Machine.{World}
-use Rattle.ibc_machine.specs.Histories.{Happened, End, acknowledged, timed_out, sequences}
+use Rattle.ibc_machine.specs.chain.Records.{Channel, is_one_of}
+use Rattle.ibc_machine.specs.chain.Machine.{World}
+use Rattle.ibc_machine.specs.promises.Histories.{Happened, End, acknowledged, timed_out, sequences}
 use Rattle.ibc_laws.proofs.basics.Lists.{among-last, among-kept}
 use Rattle.ibc_laws.proofs.peers.Peers.{Stands, stands_same}
 use Rattle.ibc_laws.proofs.steps.EndKeeps.{SameGone, StoodBefore, was_there, is_new, gone-acked, gone-over}

@@ -9,9 +9,9 @@ use Rattle.ibc_ids.specs.Texts.{Text, same_text, pair_cmp}
 use Rattle.ibc_ids.specs.Maps.{at}
 use Rattle.ibc_ids.specs.Names.{is_user, hop}
 use Rattle.ibc_wire.specs.declared.token.Token.{Token}
-use Rattle.ibc_machine.specs.TokenData.{amount_of}
-use Rattle.ibc_machine.specs.Bank.{Balances, balance, escrow}
-use Rattle.ibc_machine.specs.Transfers.{transfer_port, came_over}
+use Rattle.ibc_machine.specs.ics20.TokenData.{amount_of}
+use Rattle.ibc_machine.specs.ics20.Bank.{Balances, balance, escrow}
+use Rattle.ibc_machine.specs.ics20.Transfers.{transfer_port, came_over}
 use Rattle.ibc_laws.proofs.basics.PassedTests.{both, and_true}
 use Rattle.ibc_machine.proofs.FiniteMaps.{by_pair}
 use Rattle.ibc_machine.proofs.Measures.{Test, IsSorted, amount_in, measure, weigh}

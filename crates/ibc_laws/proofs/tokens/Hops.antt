@@ -5,8 +5,8 @@ use Rattle.std.specs.List.{list_all}
 use Rattle.ibc_ids.specs.Texts.{Text}
 use Rattle.ibc_ids.specs.Names.{is_letter_or_digit, is_user, is_base_denom, hop}
 use Rattle.ibc_ids.proofs.Hops.{hop_parts, came_over_is}
-use Rattle.ibc_machine.specs.Bank.{escrow}
-use Rattle.ibc_machine.specs.Transfers.{came_over}
+use Rattle.ibc_machine.specs.ics20.Bank.{escrow}
+use Rattle.ibc_machine.specs.ics20.Transfers.{came_over}
 use Rattle.ibc_laws.proofs.basics.PassedTests.{both, and_true}
 
 -- no slash in the text

@@ -5,12 +5,12 @@ use Rattle.ibc_ids.specs.Texts.{Text, pair_cmp}
 use Rattle.ibc_ids.specs.Maps.{at, with}
 use Rattle.ibc_ids.specs.Paths.{nth_channel}
 use Rattle.ibc_wire.specs.declared.records.ChannelEnd.{ChannelEnd}
-use Rattle.ibc_machine.specs.Records.{Core, Apps, Records, Chain, Channel, channel_at}
-use Rattle.ibc_machine.specs.Evidence.{Host}
-use Rattle.ibc_machine.specs.Handlers.{host_of}
-use Rattle.ibc_machine.specs.Channels.{new_channel}
-use Rattle.ibc_machine.specs.Transfers.{transfer_port}
-use Rattle.ibc_machine.specs.Machine.{World}
+use Rattle.ibc_machine.specs.chain.Records.{Core, Apps, Records, Chain, Channel, channel_at}
+use Rattle.ibc_machine.specs.ics24.Evidence.{Host}
+use Rattle.ibc_machine.specs.chain.Handlers.{host_of}
+use Rattle.ibc_machine.specs.ics04.Channels.{new_channel}
+use Rattle.ibc_machine.specs.ics20.Transfers.{transfer_port}
+use Rattle.ibc_machine.specs.chain.Machine.{World}
 use Rattle.ibc_machine.proofs.FiniteMaps.{by_pair, at-with_split}
 use Rattle.ibc_machine.proofs.Identifiers.{nth_channel_same}
 use Rattle.ibc_laws.proofs.steps.Told.{Told}

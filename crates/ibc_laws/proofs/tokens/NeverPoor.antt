@@ -15,19 +15,19 @@ use Rattle.ibc_machine.specs.declared.event.Event.TheVariants as event
 use Rattle.ibc_machine.specs.declared.reply.Effect.{Effect}
 use Rattle.ibc_machine.specs.declared.reply.Reply.{Reply}
 use Rattle.ibc_machine.specs.declared.reply.Reply.TheVariants as reply
-use Rattle.ibc_machine.specs.Records.{Core, Apps, Chain, Channel, channel_at, commitment_of}
-use Rattle.ibc_machine.specs.Checks.{Checked}
-use Rattle.ibc_machine.specs.Evidence.{Host, Evidence}
-use Rattle.ibc_machine.specs.Handlers.{handle, host_of, after_message, message_answer}
-use Rattle.ibc_machine.specs.Packets.{ack_checked, ack_packet, timeout_checked, timeout, timeout_on_close_checked, timeout_on_close}
-use Rattle.ibc_machine.specs.TokenData.{success}
-use Rattle.ibc_machine.specs.Transfers.{transfer_port, each_token, refund_token}
-use Rattle.ibc_machine.specs.Applications.{on_ack, on_timeout}
-use Rattle.ibc_machine.specs.Totals.{succeeded}
-use Rattle.ibc_machine.specs.Genesis.{GenesisState}
-use Rattle.ibc_machine.specs.Machine.{World, looks, true_marks, answer, at_chain, Step}
-use Rattle.ibc_machine.specs.Histories.{Happened, End}
-use Rattle.ibc_machine.specs.Laws.{NeverPoor, settles}
+use Rattle.ibc_machine.specs.chain.Records.{Core, Apps, Chain, Channel, channel_at, commitment_of}
+use Rattle.ibc_machine.specs.chain.Checks.{Checked}
+use Rattle.ibc_machine.specs.ics24.Evidence.{Host, Evidence}
+use Rattle.ibc_machine.specs.chain.Handlers.{handle, host_of, after_message, message_answer}
+use Rattle.ibc_machine.specs.ics04.Packets.{ack_checked, ack_packet, timeout_checked, timeout, timeout_on_close_checked, timeout_on_close}
+use Rattle.ibc_machine.specs.ics20.TokenData.{success}
+use Rattle.ibc_machine.specs.ics20.Transfers.{transfer_port, each_token, refund_token}
+use Rattle.ibc_machine.specs.chain.Applications.{on_ack, on_timeout}
+use Rattle.ibc_machine.specs.promises.Totals.{succeeded}
+use Rattle.ibc_machine.specs.chain.Genesis.{GenesisState}
+use Rattle.ibc_machine.specs.chain.Machine.{World, looks, true_marks, answer, at_chain, Step}
+use Rattle.ibc_machine.specs.promises.Histories.{Happened, End}
+use Rattle.ibc_machine.specs.promises.Laws.{NeverPoor, settles}
 use Rattle.ibc_laws.proofs.steps.Seen.{seeing}
 use Rattle.ibc_laws.proofs.steps.CoreSteps.{TimesOut, Settles}
 use Rattle.ibc_laws.proofs.steps.PacketsPassed.{acking, timing_out, timing_out_on_close}

@@ -9,15 +9,15 @@ use Rattle.ibc_wire.specs.declared.token.Token.{Token}
 use Rattle.ibc_wire.specs.declared.messages.Message.TheVariants as message
 use Rattle.ibc_machine.specs.declared.event.Event.TheVariants as event
 use Rattle.ibc_machine.specs.declared.reply.Reply.TheVariants as reply
-use Rattle.ibc_machine.specs.Records.{Chain, Channel, commitment_of}
-use Rattle.ibc_machine.specs.Handlers.{host_of}
-use Rattle.ibc_machine.specs.TokenData.{Data, data_of, amount_of, success}
-use Rattle.ibc_machine.specs.Bank.{balance, escrow}
-use Rattle.ibc_machine.specs.Transfers.{transfer_port, came_over, without_hop}
-use Rattle.ibc_machine.specs.Machine.{World}
-use Rattle.ibc_machine.specs.Ledgers.{chain_of}
-use Rattle.ibc_machine.specs.Histories.{Happened, End, packet_if, is_destination}
-use Rattle.ibc_machine.specs.Laws.{NeverShort}
+use Rattle.ibc_machine.specs.chain.Records.{Chain, Channel, commitment_of}
+use Rattle.ibc_machine.specs.chain.Handlers.{host_of}
+use Rattle.ibc_machine.specs.ics20.TokenData.{Data, data_of, amount_of, success}
+use Rattle.ibc_machine.specs.ics20.Bank.{balance, escrow}
+use Rattle.ibc_machine.specs.ics20.Transfers.{transfer_port, came_over, without_hop}
+use Rattle.ibc_machine.specs.chain.Machine.{World}
+use Rattle.ibc_machine.specs.ledger.Ledgers.{chain_of}
+use Rattle.ibc_machine.specs.promises.Histories.{Happened, End, packet_if, is_destination}
+use Rattle.ibc_machine.specs.promises.Laws.{NeverShort}
 use Rattle.ibc_laws.specs.Tokens.{WasNeverShort}
 use Rattle.ibc_laws.proofs.basics.PassedTests.{and_true}
 use Rattle.ibc_laws.proofs.steps.Told.{Told, Received, ack_of, told_of, received_in}

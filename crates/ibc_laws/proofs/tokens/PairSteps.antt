@@ -2,15 +2,15 @@
 -- two ends that become peers have moved nothing yet.
 use Rattle.std.proofs.Common.{◌≡◌, ℕ, true, refl, ap, sym, ◌∙◌, subst, List, Some, inl, inr, slice_get}
 use Rattle.ibc_ids.specs.Texts.{Text}
-use Rattle.ibc_machine.specs.Records.{Records, Chain, Channel, channel_at}
-use Rattle.ibc_machine.specs.Evidence.{Host}
-use Rattle.ibc_machine.specs.Handlers.{host_of}
-use Rattle.ibc_machine.specs.Channels.{is_established}
-use Rattle.ibc_machine.specs.Bank.{Balances}
-use Rattle.ibc_machine.specs.Transfers.{transfer_port}
-use Rattle.ibc_machine.specs.Machine.{World}
-use Rattle.ibc_machine.specs.Ledgers.{is_typed}
-use Rattle.ibc_machine.specs.Histories.{Happened, End}
+use Rattle.ibc_machine.specs.chain.Records.{Records, Chain, Channel, channel_at}
+use Rattle.ibc_machine.specs.ics24.Evidence.{Host}
+use Rattle.ibc_machine.specs.chain.Handlers.{host_of}
+use Rattle.ibc_machine.specs.ics04.Channels.{is_established}
+use Rattle.ibc_machine.specs.ics20.Bank.{Balances}
+use Rattle.ibc_machine.specs.ics20.Transfers.{transfer_port}
+use Rattle.ibc_machine.specs.chain.Machine.{World}
+use Rattle.ibc_machine.specs.ledger.Ledgers.{is_typed}
+use Rattle.ibc_machine.specs.promises.Histories.{Happened, End}
 use Rattle.ibc_laws.proofs.basics.PassedTests.{either}
 use Rattle.ibc_laws.proofs.basics.Places.{some_is, same_or_not, get-set_same, get-set_other}
 use Rattle.ibc_laws.proofs.steps.Told.{told_of}

@@ -5,15 +5,15 @@ use Rattle.std.specs.Option.{option_map_or}
 use Rattle.ibc_ids.specs.Texts.{Text, same_text}
 use Rattle.ibc_ids.specs.Maps.{at}
 use Rattle.ibc_wire.specs.declared.packet.Packet.{Packet}
-use Rattle.ibc_machine.specs.Records.{Channel, channel_at, commitment_of}
-use Rattle.ibc_machine.specs.Handlers.{host_of}
-use Rattle.ibc_machine.specs.Packets.{has_received}
-use Rattle.ibc_machine.specs.TokenData.{tokens_of, success}
-use Rattle.ibc_machine.specs.Bank.{Balances}
-use Rattle.ibc_machine.specs.Transfers.{transfer_port}
-use Rattle.ibc_machine.specs.Totals.{succeeded}
-use Rattle.ibc_machine.specs.Machine.{World}
-use Rattle.ibc_machine.specs.Histories.{Happened, End}
+use Rattle.ibc_machine.specs.chain.Records.{Channel, channel_at, commitment_of}
+use Rattle.ibc_machine.specs.chain.Handlers.{host_of}
+use Rattle.ibc_machine.specs.ics04.Packets.{has_received}
+use Rattle.ibc_machine.specs.ics20.TokenData.{tokens_of, success}
+use Rattle.ibc_machine.specs.ics20.Bank.{Balances}
+use Rattle.ibc_machine.specs.ics20.Transfers.{transfer_port}
+use Rattle.ibc_machine.specs.promises.Totals.{succeeded}
+use Rattle.ibc_machine.specs.chain.Machine.{World}
+use Rattle.ibc_machine.specs.promises.Histories.{Happened, End}
 use Rattle.ibc_laws.proofs.steps.CoreSteps.{Receives, Acks, TimesOut, HadAck}
 use Rattle.ibc_laws.proofs.steps.Worlds.{WorldGrows, WorldGrows-refl}
 use Rattle.ibc_laws.proofs.peers.Invariant.{Inv, shape_of}

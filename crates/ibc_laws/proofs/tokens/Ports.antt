@@ -6,12 +6,12 @@ use Rattle.ibc_ids.proofs.Texts.{text_same}
 use Rattle.ibc_wire.specs.declared.records.Order.{Order}
 use Rattle.ibc_wire.specs.declared.records.Order.TheVariants.{Unordered, Ordered}
 use Rattle.ibc_wire.specs.declared.records.ChannelEnd.{ChannelEnd}
-use Rattle.ibc_machine.specs.Checks.{require}
-use Rattle.ibc_machine.specs.Values.{same_order}
-use Rattle.ibc_machine.specs.Transfers.{transfer_port, opens_for_transfers}
-use Rattle.ibc_machine.specs.Notes.{note_port, opens_for_notes}
-use Rattle.ibc_machine.specs.Machine.{World}
-use Rattle.ibc_machine.specs.Histories.{End}
+use Rattle.ibc_machine.specs.chain.Checks.{require}
+use Rattle.ibc_machine.specs.ics24.Values.{same_order}
+use Rattle.ibc_machine.specs.ics20.Transfers.{transfer_port, opens_for_transfers}
+use Rattle.ibc_machine.specs.chain.Notes.{note_port, opens_for_notes}
+use Rattle.ibc_machine.specs.chain.Machine.{World}
+use Rattle.ibc_machine.specs.promises.Histories.{End}
 use Rattle.ibc_machine.proofs.PassedRows.{require_passed}
 use Rattle.ibc_machine.proofs.SameValues.{same_order_is}
 use Rattle.ibc_laws.proofs.steps.CoreSteps.{IsTaken}

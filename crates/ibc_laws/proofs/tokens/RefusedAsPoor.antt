@@ -10,14 +10,14 @@ use Rattle.ibc_wire.specs.declared.packet.Packet.{Packet}
 use Rattle.ibc_wire.specs.declared.messages.AckPacket.{AckPacket}
 use Rattle.ibc_wire.specs.declared.messages.Timeout.{Timeout}
 use Rattle.ibc_wire.specs.declared.messages.TimeoutOnClose.{TimeoutOnClose}
-use Rattle.ibc_machine.specs.Records.{Core, Apps, Channel}
-use Rattle.ibc_machine.specs.Checks.{Checked, require, expect, go_on, and_then, ◌>>=◌, ◌>>◌}
-use Rattle.ibc_machine.specs.Evidence.{Host, Evidence}
-use Rattle.ibc_machine.specs.Packets.{may_acknowledge, is_pending, ack_checked, timeout_checked, timeout_on_close_checked}
-use Rattle.ibc_machine.specs.TokenData.{Data, data_of, success}
-use Rattle.ibc_machine.specs.Bank.{Balances}
-use Rattle.ibc_machine.specs.Transfers.{transfer_port, each_token, refund_token, refund_data, refund_transfer, acknowledge_transfer}
-use Rattle.ibc_machine.specs.Applications.{on_ack, on_timeout, with_balances}
+use Rattle.ibc_machine.specs.chain.Records.{Core, Apps, Channel}
+use Rattle.ibc_machine.specs.chain.Checks.{Checked, require, expect, go_on, and_then, ◌>>=◌, ◌>>◌}
+use Rattle.ibc_machine.specs.ics24.Evidence.{Host, Evidence}
+use Rattle.ibc_machine.specs.ics04.Packets.{may_acknowledge, is_pending, ack_checked, timeout_checked, timeout_on_close_checked}
+use Rattle.ibc_machine.specs.ics20.TokenData.{Data, data_of, success}
+use Rattle.ibc_machine.specs.ics20.Bank.{Balances}
+use Rattle.ibc_machine.specs.ics20.Transfers.{transfer_port, each_token, refund_token, refund_data, refund_transfer, acknowledge_transfer}
+use Rattle.ibc_machine.specs.chain.Applications.{on_ack, on_timeout, with_balances}
 
 -- ---- checks that refuse otherwise
 

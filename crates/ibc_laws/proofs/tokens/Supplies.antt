@@ -8,16 +8,16 @@ use Rattle.ibc_ids.specs.Names.{is_base_denom, hop}
 use Rattle.ibc_ids.proofs.Hops.{came_over_is, came_over_by}
 use Rattle.ibc_wire.specs.declared.packet.Packet.{Packet}
 use Rattle.ibc_wire.specs.declared.token.Token.{Token}
-use Rattle.ibc_machine.specs.Records.{Core, Chain, Channel}
-use Rattle.ibc_machine.specs.TokenData.{amount_of}
-use Rattle.ibc_machine.specs.Bank.{Balances, supply, balance, escrow}
-use Rattle.ibc_machine.specs.Transfers.{transfer_port, came_over, without_hop}
-use Rattle.ibc_machine.specs.Genesis.{GenesisState, start, is_allowed, starting_balances}
-use Rattle.ibc_machine.specs.Machine.{World}
-use Rattle.ibc_machine.specs.Ledgers.{is_typed}
-use Rattle.ibc_machine.specs.Histories.{Happened, End}
-use Rattle.ibc_machine.specs.Totals.{balances_of, escrowed}
-use Rattle.ibc_machine.specs.Laws.{IsPast}
+use Rattle.ibc_machine.specs.chain.Records.{Core, Chain, Channel}
+use Rattle.ibc_machine.specs.ics20.TokenData.{amount_of}
+use Rattle.ibc_machine.specs.ics20.Bank.{Balances, supply, balance, escrow}
+use Rattle.ibc_machine.specs.ics20.Transfers.{transfer_port, came_over, without_hop}
+use Rattle.ibc_machine.specs.chain.Genesis.{GenesisState, start, is_allowed, starting_balances}
+use Rattle.ibc_machine.specs.chain.Machine.{World}
+use Rattle.ibc_machine.specs.ledger.Ledgers.{is_typed}
+use Rattle.ibc_machine.specs.promises.Histories.{Happened, End}
+use Rattle.ibc_machine.specs.promises.Totals.{balances_of, escrowed}
+use Rattle.ibc_machine.specs.promises.Laws.{IsPast}
 use Rattle.ibc_machine.proofs.Measures.{IsSorted, Moved, weigh}
 use Rattle.ibc_laws.specs.Tokens.{SupplyStays, NoVoucherWithoutEscrow, IsBacked, transfer_end, supply_at}
 use Rattle.ibc_laws.proofs.basics.Places.{some_is, placed, same_or_not, get-set_same, get-set_other}

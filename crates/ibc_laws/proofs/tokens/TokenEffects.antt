@@ -8,13 +8,13 @@ use Rattle.ibc_ids.proofs.Texts.{text_same}
 use Rattle.ibc_wire.specs.declared.packet.Packet.{Packet}
 use Rattle.ibc_wire.specs.declared.token.Token.{Token}
 use Rattle.ibc_wire.specs.declared.records.ChannelState.TheVariants as chan
-use Rattle.ibc_machine.specs.Records.{Core, Apps, Records, Channel, Commitment, commitment_of}
-use Rattle.ibc_machine.specs.Evidence.{Host}
-use Rattle.ibc_machine.specs.Packets.{is_ordered, after_receive, after_ack, after_timeout}
-use Rattle.ibc_machine.specs.TokenData.{Data, data_of, is_data, tokens_of, amount_of, success, error}
-use Rattle.ibc_machine.specs.Bank.{Balances, balance, escrow}
-use Rattle.ibc_machine.specs.Transfers.{transfer_port, came_over, burnt}
-use Rattle.ibc_machine.specs.Machine.{World}
+use Rattle.ibc_machine.specs.chain.Records.{Core, Apps, Records, Channel, Commitment, commitment_of}
+use Rattle.ibc_machine.specs.ics24.Evidence.{Host}
+use Rattle.ibc_machine.specs.ics04.Packets.{is_ordered, after_receive, after_ack, after_timeout}
+use Rattle.ibc_machine.specs.ics20.TokenData.{Data, data_of, is_data, tokens_of, amount_of, success, error}
+use Rattle.ibc_machine.specs.ics20.Bank.{Balances, balance, escrow}
+use Rattle.ibc_machine.specs.ics20.Transfers.{transfer_port, came_over, burnt}
+use Rattle.ibc_machine.specs.chain.Machine.{World}
 use Rattle.ibc_machine.proofs.DataRead.{data_read, data_spelled}
 use Rattle.ibc_laws.proofs.basics.PassedTests.{both}
 use Rattle.ibc_laws.proofs.steps.Told.{Told}

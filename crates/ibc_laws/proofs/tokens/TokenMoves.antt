@@ -6,8 +6,8 @@ use Rattle.ibc_ids.specs.Texts.{Text}
 use Rattle.ibc_ids.specs.Names.{hop}
 use Rattle.ibc_wire.specs.declared.packet.Packet.{Packet}
 use Rattle.ibc_wire.specs.declared.token.Token.{Token}
-use Rattle.ibc_machine.specs.Bank.{Balances, supply, escrow, give, pay, into_escrow, out_of_escrow, mint, is_bounded}
-use Rattle.ibc_machine.specs.Transfers.{transfer_port, came_over, each_token, send_token, refund_token, receive_token, without_hop, with_hop}
+use Rattle.ibc_machine.specs.ics20.Bank.{Balances, supply, escrow, give, pay, into_escrow, out_of_escrow, mint, is_bounded}
+use Rattle.ibc_machine.specs.ics20.Transfers.{transfer_port, came_over, each_token, send_token, refund_token, receive_token, without_hop, with_hop}
 use Rattle.ibc_laws.proofs.basics.Places.{some_is}
 use Rattle.ibc_machine.proofs.Measures.{Test, weigh, IsSorted, Moved, given, paid, moved_between, moved_each}
 

@@ -6,9 +6,9 @@ use Rattle.ibc_ids.specs.Texts.{Text}
 use Rattle.ibc_ids.specs.Names.{is_user, hop}
 use Rattle.ibc_wire.specs.declared.packet.Packet.{Packet}
 use Rattle.ibc_wire.specs.declared.token.Token.{Token}
-use Rattle.ibc_machine.specs.TokenData.{amount_of}
-use Rattle.ibc_machine.specs.Bank.{Balances, balance, supply, escrow}
-use Rattle.ibc_machine.specs.Transfers.{transfer_port, came_over, each_token, send_token, refund_token, receive_token, without_hop}
+use Rattle.ibc_machine.specs.ics20.TokenData.{amount_of}
+use Rattle.ibc_machine.specs.ics20.Bank.{Balances, balance, supply, escrow}
+use Rattle.ibc_machine.specs.ics20.Transfers.{transfer_port, came_over, each_token, send_token, refund_token, receive_token, without_hop}
 use Rattle.ibc_machine.proofs.Measures.{IsSorted, Moved, weigh}
 use Rattle.ibc_laws.proofs.tokens.TokenMoves.{unless_burnt, hopped_token, receive_out, receive_gain, sent_tokens, refunded_tokens, received_tokens}
 use Rattle.ibc_ids.proofs.Hops.{came_over_by}

@@ -4,16 +4,16 @@ use Rattle.std.proofs.Common.{◌≡◌, ℕ, zero, suc, true, false, ◌&&◌, 
 use Rattle.std.specs.List.{list_all, fold}
 use Rattle.ibc_ids.specs.Texts.{Text, same_text}
 use Rattle.ibc_ids.specs.Names.{is_user, is_base_denom, hop}
-use Rattle.ibc_machine.specs.Records.{Core, Records, Chain, Channel, channel_at}
-use Rattle.ibc_machine.specs.Evidence.{Host}
-use Rattle.ibc_machine.specs.Handlers.{host_of}
-use Rattle.ibc_machine.specs.Bank.{Balances, balance, with_balance, supply, escrow}
-use Rattle.ibc_machine.specs.Channels.{new_channel}
-use Rattle.ibc_machine.specs.Genesis.{GenesisState, ChainState, Holding, is_allowed, is_fair, start, starting_chain, starting_balances}
-use Rattle.ibc_machine.specs.Transfers.{transfer_port}
-use Rattle.ibc_machine.specs.Machine.{World}
-use Rattle.ibc_machine.specs.Ledgers.{is_typed}
-use Rattle.ibc_machine.specs.Histories.{Happened}
+use Rattle.ibc_machine.specs.chain.Records.{Core, Records, Chain, Channel, channel_at}
+use Rattle.ibc_machine.specs.ics24.Evidence.{Host}
+use Rattle.ibc_machine.specs.chain.Handlers.{host_of}
+use Rattle.ibc_machine.specs.ics20.Bank.{Balances, balance, with_balance, supply, escrow}
+use Rattle.ibc_machine.specs.ics04.Channels.{new_channel}
+use Rattle.ibc_machine.specs.chain.Genesis.{GenesisState, ChainState, Holding, is_allowed, is_fair, start, starting_chain, starting_balances}
+use Rattle.ibc_machine.specs.ics20.Transfers.{transfer_port}
+use Rattle.ibc_machine.specs.chain.Machine.{World}
+use Rattle.ibc_machine.specs.ledger.Ledgers.{is_typed}
+use Rattle.ibc_machine.specs.promises.Histories.{Happened}
 use Rattle.ibc_laws.proofs.basics.PassedTests.{both}
 use Rattle.ibc_laws.proofs.basics.Places.{placed, some_is}
 use Rattle.ibc_laws.proofs.steps.Told.{Told, told_of}

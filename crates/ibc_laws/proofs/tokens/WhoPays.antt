@@ -11,13 +11,13 @@ use Rattle.ibc_wire.specs.declared.messages.Message.TheVariants as message
 use Rattle.ibc_machine.specs.declared.event.Event.TheVariants as event
 use Rattle.ibc_machine.specs.declared.reply.Effect.TheVariants as effect
 use Rattle.ibc_machine.specs.declared.reply.Reply.TheVariants as reply
-use Rattle.ibc_machine.specs.Records.{Core, Chain, Commitment}
-use Rattle.ibc_machine.specs.TokenData.{Data}
-use Rattle.ibc_machine.specs.Bank.{Balances, balance, escrow}
-use Rattle.ibc_machine.specs.Transfers.{transfer_port, came_over, without_hop, transfer_data, transfer_many_data}
-use Rattle.ibc_machine.specs.Machine.{World}
-use Rattle.ibc_machine.specs.Ledgers.{chain_of}
-use Rattle.ibc_machine.specs.Histories.{Happened}
+use Rattle.ibc_machine.specs.chain.Records.{Core, Chain, Commitment}
+use Rattle.ibc_machine.specs.ics20.TokenData.{Data}
+use Rattle.ibc_machine.specs.ics20.Bank.{Balances, balance, escrow}
+use Rattle.ibc_machine.specs.ics20.Transfers.{transfer_port, came_over, without_hop, transfer_data, transfer_many_data}
+use Rattle.ibc_machine.specs.chain.Machine.{World}
+use Rattle.ibc_machine.specs.ledger.Ledgers.{chain_of}
+use Rattle.ibc_machine.specs.promises.Histories.{Happened}
 use Rattle.ibc_machine.proofs.Measures.{IsSorted, Moved, weigh}
 use Rattle.ibc_laws.specs.Tokens.{WhoPays, paid_by, own_sending, balance_at}
 use Rattle.ibc_laws.proofs.basics.PassedTests.{number-self}

@@ -3,10 +3,10 @@ use Rattle.std.proofs.Common.{◌≡◌, ◌<◌, ◌+◌, refl, List, [], ◌�
 use Rattle.std.specs.Prelude.{IsTrue}
 use Rattle.ibc_ids.specs.Texts.{same_text}
 use Rattle.ibc_machine.specs.declared.event.Event.{Event}
-use Rattle.ibc_machine.specs.Genesis.{start, is_allowed}
-use Rattle.ibc_machine.specs.Machine.{World}
-use Rattle.ibc_machine.specs.Histories.{Happened, End}
-use Rattle.ibc_machine.specs.Totals.{escrowed, vouchers, flight, hopped}
+use Rattle.ibc_machine.specs.chain.Genesis.{start, is_allowed}
+use Rattle.ibc_machine.specs.chain.Machine.{World}
+use Rattle.ibc_machine.specs.promises.Histories.{Happened, End}
+use Rattle.ibc_machine.specs.promises.Totals.{escrowed, vouchers, flight, hopped}
 use Rattle.ibc_machine.proofs.Computing.{computing}
 use Rattle.ibc_machine.proofs.Scripts.{a, b, alice, bob, atom, a_and_b, for_tokens}
 use Rattle.ibc_machine.proofs.Openings.{opening}

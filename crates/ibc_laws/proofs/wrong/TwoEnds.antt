@@ -7,19 +7,19 @@ use Rattle.ibc_ids.specs.Maps.{at}
 use Rattle.ibc_ids.specs.declared.refusal.Refusal.TheVariants.{Poor}
 use Rattle.ibc_machine.specs.declared.event.Event.{Event}
 use Rattle.ibc_machine.specs.declared.reply.Reply.TheVariants as reply
-use Rattle.ibc_machine.specs.Records.{Chain, Channel}
+use Rattle.ibc_machine.specs.chain.Records.{Chain, Channel}
 use Rattle.ibc_wire.specs.declared.records.Order.TheVariants.{Unordered}
 use Rattle.ibc_wire.specs.declared.records.ChannelState.TheVariants as chan
-use Rattle.ibc_machine.specs.Channels.{channel_end, new_channel}
-use Rattle.ibc_machine.specs.Machine.{World}
-use Rattle.ibc_machine.specs.Histories.{Happened, End, received, acknowledged, timed_out, sequences}
-use Rattle.ibc_machine.specs.Peers.{end_at, are_peers}
-use Rattle.ibc_machine.specs.Laws.{HasOnePeer, IsExactlyOnce, settles}
+use Rattle.ibc_machine.specs.ics04.Channels.{channel_end, new_channel}
+use Rattle.ibc_machine.specs.chain.Machine.{World}
+use Rattle.ibc_machine.specs.promises.Histories.{Happened, End, received, acknowledged, timed_out, sequences}
+use Rattle.ibc_machine.specs.promises.Peers.{end_at, are_peers}
+use Rattle.ibc_machine.specs.promises.Laws.{HasOnePeer, IsExactlyOnce, settles}
 use Rattle.ibc_machine.proofs.FiniteMaps.{by_pair, by_text, found_in_with, at-with_same}
-use Rattle.ibc_machine.specs.Packets.{is_ordered}
-use Rattle.ibc_machine.specs.Transfers.{transfer_port, came_over}
-use Rattle.ibc_machine.specs.Totals.{escrowed, vouchers, flight, hopped}
-use Rattle.ibc_machine.specs.Replay.{empty_chain}
+use Rattle.ibc_machine.specs.ics04.Packets.{is_ordered}
+use Rattle.ibc_machine.specs.ics20.Transfers.{transfer_port, came_over}
+use Rattle.ibc_machine.specs.promises.Totals.{escrowed, vouchers, flight, hopped}
+use Rattle.ibc_machine.specs.ledger.Replay.{empty_chain}
 use Rattle.ibc_laws.specs.Tokens.{transfer_end}
 use Rattle.ibc_laws.specs.WrongMachines.{Taken, FirstLaws, holds_enough}
 use Rattle.ibc_laws.proofs.basics.PassedTests.{both}

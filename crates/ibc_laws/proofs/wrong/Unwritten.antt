@@ -4,13 +4,13 @@ use Rattle.std.specs.Prelude.{IsTrue}
 use Rattle.ibc_wire.specs.declared.packet.Packet.{Packet}
 use Rattle.ibc_ids.specs.Texts.{Text, same_text}
 use Rattle.ibc_machine.specs.declared.event.Event.{Event}
-use Rattle.ibc_machine.specs.Genesis.{start, is_allowed}
-use Rattle.ibc_machine.specs.Machine.{World}
-use Rattle.ibc_machine.specs.Histories.{Happened, End, ack_written}
-use Rattle.ibc_machine.specs.Laws.{IsExactlyOnce}
+use Rattle.ibc_machine.specs.chain.Genesis.{start, is_allowed}
+use Rattle.ibc_machine.specs.chain.Machine.{World}
+use Rattle.ibc_machine.specs.promises.Histories.{Happened, End, ack_written}
+use Rattle.ibc_machine.specs.promises.Laws.{IsExactlyOnce}
 use Rattle.ibc_machine.proofs.Computing.{computing}
-use Rattle.ibc_machine.specs.TokenData.{error}
-use Rattle.ibc_machine.specs.Peers.{are_peers}
+use Rattle.ibc_machine.specs.ics20.TokenData.{error}
+use Rattle.ibc_machine.specs.promises.Peers.{are_peers}
 use Rattle.ibc_machine.proofs.Scripts.{a, b, alice, atom, a_and_b, for_tokens, block, update}
 use Rattle.ibc_machine.proofs.Openings.{opening}
 use Rattle.ibc_machine.proofs.PacketScripts.{send, recv, ack, tokens}

@@ -8,10 +8,10 @@ ghost use Rattle.ibc_ids.specs.Names.{is_port, is_channel};
 ghost use Rattle.ibc_ids.specs.Paths.{path};
 ghost use Rattle.ibc_ids.specs.declared.key.Key.TheVariants as key;
 ghost use Rattle.ibc_ids.specs.declared.refusal.Refusal.TheVariants.{NoMemory};
-ghost use Rattle.ibc_machine.specs.Records.{channel_at};
-ghost use Rattle.ibc_machine.specs.Packets.{is_ordered, after_send, after_receive, after_ack, after_timeout};
-ghost use Rattle.ibc_machine.specs.Values.{value_bytes, AckIs, CommitmentIs, NumberIs};
-ghost use Rattle.ibc_machine.specs.Parts.{received, acknowledged, timed_out, entry_of};
+ghost use Rattle.ibc_machine.specs.chain.Records.{channel_at};
+ghost use Rattle.ibc_machine.specs.ics04.Packets.{is_ordered, after_send, after_receive, after_ack, after_timeout};
+ghost use Rattle.ibc_machine.specs.ics24.Values.{value_bytes, AckIs, CommitmentIs, NumberIs};
+ghost use Rattle.ibc_machine.specs.ics04.Parts.{received, acknowledged, timed_out, entry_of};
 ghost use Rattle.ibc_records.specs.Held.{core_of, IsUnchanged};
 ghost use Rattle.ibc_records.specs.Packets.{SendsPacket, ReceivesPacket, AcknowledgesPacket, TimesOutPacket};
 

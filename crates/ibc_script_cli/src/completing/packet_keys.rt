@@ -1,7 +1,7 @@
 //! The keys of what the two chains keep of a packet (ICS 24, "Path-space").
 
 ghost use Rattle.std.specs.Prelude.{◌≡◌, IfOk};
-ghost use Rattle.ibc_machine.specs.Proving.{ack_key, commitment_key, destination_key, next_recv_key, receipt_key};
+ghost use Rattle.ibc_machine.specs.ics04.Proving.{ack_key, commitment_key, destination_key, next_recv_key, receipt_key};
 
 use ibc_ids::Key;
 use ibc_wire::Packet;

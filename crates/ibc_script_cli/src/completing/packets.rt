@@ -1,7 +1,7 @@
 //! Messages for packets.
 
 ghost use Rattle.std.specs.Prelude.{◌≡◌, Some, IfOk, IfErr};
-ghost use Rattle.ibc_machine.specs.Proving.{commitment_key, ack_key, destination_key};
+ghost use Rattle.ibc_machine.specs.ics04.Proving.{commitment_key, ack_key, destination_key};
 ghost use Rattle.ibc_wire.specs.declared.records.Order.TheVariants.{Unordered, Ordered};
 ghost use Rattle.ibc_script_cli.specs.Completing.{number_in, acknowledged_message, closed_message, IsProofAt, IsNextRecv, IsUnreceived, IsUnreceivedAt, MakesRecv, MakesAck, MakesTimeout, MakesTimeoutOnClose, MakesHandled, MakesOf, MakesPacketMessage};
 

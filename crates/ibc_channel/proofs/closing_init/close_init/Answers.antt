@@ -2,8 +2,8 @@
 use Rattle.std.proofs.Common.{None, refl}
 use Rattle.std.proofs.lemmas.Result.{err_from_is_err_and}
 use Rattle.ibc_machine.specs.declared.reply.Effect.TheVariants as effect
-use Rattle.ibc_machine.specs.Channels.{chan_close_init}
-use Rattle.ibc_machine.specs.Replay.{proves}
+use Rattle.ibc_machine.specs.ics04.Channels.{chan_close_init}
+use Rattle.ibc_machine.specs.ledger.Replay.{proves}
 use Rattle.ibc_records.specs.Held.{core_of}
 use Rattle.ibc_records.specs.Taking.{host_with}
 use Rattle.ibc_client.proofs.Judging.{untaken, set_taken}

@@ -3,8 +3,8 @@ use Rattle.std.proofs.Common.{None, Some, Ok, Err, sym, ap, ◌∙◌, inl, inr}
 use Rattle.std.proofs.lemmas.Result.{err_from_is_err_and}
 use Rattle.ibc_ids.specs.Paths.{path}
 use Rattle.ibc_ids.specs.declared.key.Key.TheVariants as key
-use Rattle.ibc_machine.specs.Channels.{peer_channel_of}
-use Rattle.ibc_machine.specs.Replay.{proves}
+use Rattle.ibc_machine.specs.ics04.Channels.{peer_channel_of}
+use Rattle.ibc_machine.specs.ledger.Replay.{proves}
 use Rattle.ibc_machine.proofs.PassedChecks.{pass, fail}
 use Rattle.ibc_records.specs.Held.{core_of}
 use Rattle.ibc_records.specs.Taking.{host_with}

@@ -4,9 +4,9 @@ use Rattle.std.proofs.lemmas.Result.{err_from_is_err_and}
 use Rattle.ibc_ids.specs.declared.refusal.Refusal.TheVariants.{BadMessage}
 use Rattle.ibc_wire.specs.Reading.{proof_of}
 use Rattle.ibc_machine.specs.declared.reply.Effect.TheVariants as effect
-use Rattle.ibc_machine.specs.Channels.{chan_open_ack}
-use Rattle.ibc_machine.specs.Checks.{require}
-use Rattle.ibc_machine.specs.Replay.{proves}
+use Rattle.ibc_machine.specs.ics04.Channels.{chan_open_ack}
+use Rattle.ibc_machine.specs.chain.Checks.{require}
+use Rattle.ibc_machine.specs.ledger.Replay.{proves}
 use Rattle.ibc_records.specs.Held.{core_of}
 use Rattle.ibc_records.specs.Taking.{host_with}
 use Rattle.ibc_client.proofs.Judging.{IsRefusedBy, stops, unread, untaken, set_taken}

@@ -5,10 +5,10 @@ use Rattle.ibc_ids.specs.Texts.{Text}
 use Rattle.ibc_ids.specs.declared.refusal.Refusal.TheVariants.{UnknownPort}
 use Rattle.ibc_wire.specs.declared.records.ChannelState.TheVariants.{TryOpen}
 use Rattle.ibc_wire.specs.declared.records.ChannelEnd.{ChannelEnd}
-use Rattle.ibc_machine.specs.Channels.{channel_end, chan_open_try}
-use Rattle.ibc_machine.specs.Checks.{require}
-use Rattle.ibc_machine.specs.Records.{connection_at}
-use Rattle.ibc_machine.specs.Replay.{proves}
+use Rattle.ibc_machine.specs.ics04.Channels.{channel_end, chan_open_try}
+use Rattle.ibc_machine.specs.chain.Checks.{require}
+use Rattle.ibc_machine.specs.chain.Records.{connection_at}
+use Rattle.ibc_machine.specs.ledger.Replay.{proves}
 use Rattle.ibc_machine.proofs.PassedChecks.{pass, fail}
 use Rattle.ibc_records.specs.Held.{core_of}
 use Rattle.ibc_records.specs.Taking.{host_with}

@@ -4,10 +4,10 @@ use Rattle.std.proofs.lemmas.Result.{err_from_is_err_and}
 use Rattle.ibc_ids.specs.declared.refusal.Refusal.TheVariants.{UnknownConnection}
 use Rattle.ibc_wire.specs.declared.records.ConnectionState.TheVariants.{Open}
 use Rattle.ibc_machine.specs.declared.reply.Effect.TheVariants as effect
-use Rattle.ibc_machine.specs.Records.{with_connection}
-use Rattle.ibc_machine.specs.Checks.{expect}
-use Rattle.ibc_machine.specs.Connections.{connection_end, conn_open_ack}
-use Rattle.ibc_machine.specs.Replay.{proves}
+use Rattle.ibc_machine.specs.chain.Records.{with_connection}
+use Rattle.ibc_machine.specs.chain.Checks.{expect}
+use Rattle.ibc_machine.specs.ics03.Connections.{connection_end, conn_open_ack}
+use Rattle.ibc_machine.specs.ledger.Replay.{proves}
 use Rattle.ibc_machine.proofs.PassedChecks.{miss}
 use Rattle.ibc_records.specs.Held.{core_of}
 use Rattle.ibc_records.specs.Taking.{host_with}

@@ -1,7 +1,7 @@
 -- The end that is built is the one that the peer must have.
 use Rattle.std.proofs.Common.{None, subst}
 use Rattle.ibc_wire.specs.declared.records.ConnectionState.TheVariants.{Init}
-use Rattle.ibc_machine.specs.Connections.{connection_end, has_connection}
+use Rattle.ibc_machine.specs.ics03.Connections.{connection_end, has_connection}
 use Rattle.ibc_client.specs.Judging.{IsShown}
 use Rattle.ibc_connection.proofs.opening_try.check_begun.Goals as goal
 

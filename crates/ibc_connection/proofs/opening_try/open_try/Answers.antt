@@ -7,10 +7,10 @@ use Rattle.ibc_wire.specs.declared.records.ConnectionState.TheVariants.{TryOpen}
 use Rattle.ibc_wire.specs.declared.messages.ConnOpenTry.{ConnOpenTry}
 use Rattle.ibc_machine.specs.declared.reply.Effect.{Effect}
 use Rattle.ibc_machine.specs.declared.reply.Effect.TheVariants as effect
-use Rattle.ibc_machine.specs.Records.{Core}
-use Rattle.ibc_machine.specs.Checks.{Checked}
-use Rattle.ibc_machine.specs.Connections.{connection_end, conn_open_try}
-use Rattle.ibc_machine.specs.Replay.{LedgerState, proves}
+use Rattle.ibc_machine.specs.chain.Records.{Core}
+use Rattle.ibc_machine.specs.chain.Checks.{Checked}
+use Rattle.ibc_machine.specs.ics03.Connections.{connection_end, conn_open_try}
+use Rattle.ibc_machine.specs.ledger.Replay.{LedgerState, proves}
 use Rattle.ibc_records.specs.Held.{HeldRecords, core_of}
 use Rattle.ibc_records.specs.Taking.{host_with}
 use Rattle.ibc_client.proofs.Judging.{stops, unread, untaken}

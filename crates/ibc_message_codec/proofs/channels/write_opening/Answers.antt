@@ -2,7 +2,7 @@ use Rattle.std.proofs.Common.{[], ◌∷◌}
 use Rattle.ibc_ids.specs.Names.{is_connection, is_port}
 use Rattle.ibc_wire.specs.Fields.{u8, name}
 use Rattle.ibc_wire.specs.Spelling.{order_number}
-use Rattle.ibc_codec.proofs.Writing.{behind}
+use Rattle.ibc_wire.proofs.Writing.{behind}
 use Rattle.ibc_message_codec.proofs.channels.write_opening.Goals as goal
 
 pub returns : goal.returns

@@ -1,6 +1,6 @@
 use Rattle.std.proofs.Common.{[], ◌∷◌}
 use Rattle.ibc_wire.specs.Fields.{n8, str}
-use Rattle.ibc_codec.proofs.Writing.{behind}
+use Rattle.ibc_wire.proofs.Writing.{behind}
 use Rattle.ibc_message_codec.proofs.packets.write_proven_ack.Goals as goal
 
 pub returns : goal.returns

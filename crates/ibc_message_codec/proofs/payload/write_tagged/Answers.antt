@@ -1,7 +1,7 @@
 use Rattle.std.proofs.Common.{◌∷◌, []}
 use Rattle.std.proofs.lemmas.Result.{err_from_is_err_and}
 use Rattle.ibc_wire.specs.Fields.{u8}
-use Rattle.ibc_codec.proofs.Writing.{refused, none_before, behind}
+use Rattle.ibc_wire.proofs.Writing.{refused, none_before, behind}
 use Rattle.ibc_message_codec.proofs.payload.write_tagged.Goals as goal
 
 pub returns-in_err-write_u8 : goal.returns-in_err-write_u8

@@ -2,11 +2,11 @@
 use Rattle.std.proofs.Common.{None, sym, ap, ◌∙◌, inl}
 use Rattle.std.proofs.lemmas.Result.{err_from_is_err_and}
 use Rattle.ibc_ids.specs.declared.refusal.Refusal.TheVariants.{TooLarge}
-use Rattle.ibc_machine.specs.Checks.{require}
-use Rattle.ibc_machine.specs.Evidence.{require_number}
-use Rattle.ibc_machine.specs.Notes.{send_note}
-use Rattle.ibc_machine.specs.Packets.{has_size}
-use Rattle.ibc_machine.specs.Replay.{proves}
+use Rattle.ibc_machine.specs.chain.Checks.{require}
+use Rattle.ibc_machine.specs.ics24.Evidence.{require_number}
+use Rattle.ibc_machine.specs.chain.Notes.{send_note}
+use Rattle.ibc_machine.specs.ics04.Packets.{has_size}
+use Rattle.ibc_machine.specs.ledger.Replay.{proves}
 use Rattle.ibc_machine.proofs.PassedChecks.{pass, fail}
 use Rattle.ibc_records.specs.Held.{core_of}
 use Rattle.ibc_records.specs.Taking.{host_with}

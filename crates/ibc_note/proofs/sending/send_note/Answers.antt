@@ -3,9 +3,9 @@ use Rattle.std.proofs.Common.{◌≡◌, None, refl, ap}
 use Rattle.std.proofs.lemmas.Result.{err_from_is_err_and}
 use Rattle.ibc_ids.specs.Texts.{Text}
 use Rattle.ibc_machine.specs.declared.reply.Effect.TheVariants as effect
-use Rattle.ibc_machine.specs.Notes.{note_commitment, send_note}
-use Rattle.ibc_machine.specs.Records.{Commitment}
-use Rattle.ibc_machine.specs.Replay.{proves}
+use Rattle.ibc_machine.specs.chain.Notes.{note_commitment, send_note}
+use Rattle.ibc_machine.specs.chain.Records.{Commitment}
+use Rattle.ibc_machine.specs.ledger.Replay.{proves}
 use Rattle.ibc_records.specs.Held.{core_of}
 use Rattle.ibc_records.specs.Taking.{host_with}
 use Rattle.ibc_client.proofs.Judging.{untaken}

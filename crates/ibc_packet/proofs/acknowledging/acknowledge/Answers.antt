@@ -4,9 +4,9 @@ use Rattle.std.specs.Prelude.{OnOk, IfErr, IfSome}
 use Rattle.std.proofs.lemmas.Result.{err_from_is_err_and}
 use Rattle.ibc_ids.specs.Texts.{Text}
 use Rattle.ibc_ids.specs.declared.refusal.Refusal.TheVariants.{NoMemory}
-use Rattle.ibc_machine.specs.Packets.{ack_packet}
-use Rattle.ibc_machine.specs.Records.{Channel, channel_at}
-use Rattle.ibc_machine.specs.Replay.{proves}
+use Rattle.ibc_machine.specs.ics04.Packets.{ack_packet}
+use Rattle.ibc_machine.specs.chain.Records.{Channel, channel_at}
+use Rattle.ibc_machine.specs.ledger.Replay.{proves}
 use Rattle.ibc_records.specs.Held.{core_of}
 use Rattle.ibc_records.specs.Taking.{host_with}
 use Rattle.ibc_records.specs.Packets.{AcknowledgesPacket}

@@ -2,7 +2,7 @@
 use Rattle.std.proofs.Common.{ap, ◌∙◌}
 use Rattle.ibc_ids.specs.Paths.{path}
 use Rattle.ibc_ids.specs.declared.key.Key.TheVariants as key
-use Rattle.ibc_machine.specs.Values.{AckIs, value_bytes}
+use Rattle.ibc_machine.specs.ics24.Values.{AckIs, value_bytes}
 use Rattle.ibc_client.proofs.Shown.{is_shown}
 use Rattle.ibc_packet.proofs.claims.check_acknowledged.Goals as goal
 

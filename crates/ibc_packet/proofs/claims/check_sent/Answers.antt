@@ -2,8 +2,8 @@
 use Rattle.std.proofs.Common.{◌∙◌}
 use Rattle.ibc_ids.specs.Paths.{path}
 use Rattle.ibc_ids.specs.declared.key.Key.TheVariants as key
-use Rattle.ibc_machine.specs.Records.{commitment_of}
-use Rattle.ibc_machine.specs.Values.{CommitmentIs}
+use Rattle.ibc_machine.specs.chain.Records.{commitment_of}
+use Rattle.ibc_machine.specs.ics24.Values.{CommitmentIs}
 use Rattle.ibc_client.proofs.Shown.{is_shown}
 use Rattle.ibc_packet.proofs.claims.check_sent.Goals as goal
 

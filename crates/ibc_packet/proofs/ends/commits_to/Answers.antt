@@ -1,7 +1,7 @@
 -- The test of two payloads is the definitions' own.
 use Rattle.std.proofs.Common.{◌&&◌, eqb, ap, ◌∙◌}
 use Rattle.std.specs.Str.{bytes_eq}
-use Rattle.ibc_machine.specs.Records.{Commitment, commitment_of}
+use Rattle.ibc_machine.specs.chain.Records.{Commitment, commitment_of}
 use Rattle.ibc_packet.proofs.OwnEnd.{same_payload}
 use Rattle.ibc_packet.proofs.ends.commits_to.Goals as goal
 

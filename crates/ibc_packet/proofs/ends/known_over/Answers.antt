@@ -2,9 +2,9 @@
 use Rattle.std.proofs.Common.{◌≡◌, Some, Ok, Err, subst}
 use Rattle.std.specs.Prelude.{IfOk, IfErr}
 use Rattle.ibc_wire.specs.declared.records.ChannelEnd.{ChannelEnd}
-use Rattle.ibc_machine.specs.Channels.{client_of}
-use Rattle.ibc_machine.specs.Evidence.{require_known}
-use Rattle.ibc_machine.specs.Records.{connection_at}
+use Rattle.ibc_machine.specs.ics04.Channels.{client_of}
+use Rattle.ibc_machine.specs.ics24.Evidence.{require_known}
+use Rattle.ibc_machine.specs.chain.Records.{connection_at}
 use Rattle.ibc_records.specs.Held.{core_of}
 use Rattle.ibc_packet.proofs.ends.known_over.Goals as goal
 

@@ -1,6 +1,6 @@
 -- Each check of the code is the definition's.
 use Rattle.std.proofs.Common.{None}
-use Rattle.ibc_machine.specs.Replay.{proves}
+use Rattle.ibc_machine.specs.ledger.Replay.{proves}
 use Rattle.ibc_records.specs.Held.{core_of}
 use Rattle.ibc_packet.specs.Passing.{with_timeouts}
 use Rattle.ibc_packet.proofs.Limits.{no_timeout, too_late, in_time}

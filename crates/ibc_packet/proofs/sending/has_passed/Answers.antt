@@ -2,9 +2,9 @@
 use Rattle.std.proofs.Common.{◌&&◌, ◌||◌, ap, ◌∙◌}
 use Rattle.ibc_wire.specs.declared.records.ClientState.{ClientState}
 use Rattle.ibc_wire.specs.declared.records.ChannelEnd.{ChannelEnd}
-use Rattle.ibc_machine.specs.Records.{connection_at, knows}
-use Rattle.ibc_machine.specs.Replay.{proves}
-use Rattle.ibc_machine.specs.Packets.{is_reached}
+use Rattle.ibc_machine.specs.chain.Records.{connection_at, knows}
+use Rattle.ibc_machine.specs.ledger.Replay.{proves}
+use Rattle.ibc_machine.specs.ics04.Packets.{is_reached}
 use Rattle.ibc_records.specs.Held.{core_of}
 use Rattle.ibc_packet.specs.Passing.{with_timeouts}
 use Rattle.ibc_packet.proofs.Limits.{no_connection, no_client, passed_over}

@@ -2,8 +2,8 @@
 use Rattle.std.proofs.Common.{sym, ap, inl}
 use Rattle.std.proofs.lemmas.Result.{err_from_is_err_and}
 use Rattle.ibc_ids.specs.declared.refusal.Refusal.TheVariants.{UnknownChannel, WrongState}
-use Rattle.ibc_machine.specs.Checks.{require, expect}
-use Rattle.ibc_machine.specs.Packets.{sending_end}
+use Rattle.ibc_machine.specs.chain.Checks.{require, expect}
+use Rattle.ibc_machine.specs.ics04.Packets.{sending_end}
 use Rattle.ibc_machine.proofs.PassedChecks.{pass, fail, find}
 use Rattle.ibc_records.specs.Held.{core_of}
 use Rattle.ibc_client.proofs.Judging.{stops_at, refuses}

@@ -1,8 +1,8 @@
 -- Each check of the code is the definition's.
 use Rattle.std.proofs.Common.{None, Ok, Err, sym, inl}
 use Rattle.std.proofs.lemmas.Result.{err_from_is_err_and}
-use Rattle.ibc_machine.specs.Packets.{not_received, timeout_checked}
-use Rattle.ibc_machine.specs.Replay.{proves}
+use Rattle.ibc_machine.specs.ics04.Packets.{not_received, timeout_checked}
+use Rattle.ibc_machine.specs.ledger.Replay.{proves}
 use Rattle.ibc_machine.proofs.PassedChecks.{pass, fail}
 use Rattle.ibc_records.specs.Held.{core_of}
 use Rattle.ibc_records.specs.Taking.{host_with}

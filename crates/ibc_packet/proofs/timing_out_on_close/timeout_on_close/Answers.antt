@@ -1,8 +1,8 @@
 -- What the checks and the application say is what becomes of the message.
 use Rattle.std.proofs.Common.{None, refl}
 use Rattle.std.proofs.lemmas.Result.{err_from_is_err_and}
-use Rattle.ibc_machine.specs.Packets.{timeout_on_close}
-use Rattle.ibc_machine.specs.Replay.{proves}
+use Rattle.ibc_machine.specs.ics04.Packets.{timeout_on_close}
+use Rattle.ibc_machine.specs.ledger.Replay.{proves}
 use Rattle.ibc_records.specs.Held.{core_of}
 use Rattle.ibc_records.specs.Taking.{host_with}
 use Rattle.ibc_packet.proofs.Taken.{untaken_with, close_refused, close_given, time_out_taken}

@@ -1,7 +1,7 @@
 -- A gap that is there becomes wider.
 use Rattle.std.proofs.Common.{◌≡◌, ℕ, ◌+◌, ◌-◌, ◌<◌, ◌≤◌, ◌++◌, List, length, get_or, take, drop, set, sym, ap, ◌∙◌, subst, arith}
 use Rattle.std.proofs.lemmas.List.{length-set, get_or_default}
-use Rattle.ibc_nodes.specs.declared.gap.Gap.{Gap}
+use Rattle.ibc_forest.specs.declared.gap.Gap.{Gap}
 use Rattle.ibc_path_store.specs.Touching.{no_gap, touched}
 use Rattle.ibc_path_store.proofs.Touching.{touched_wide, written_over}
 use Rattle.ibc_path_store.proofs.touched.touch_gaps.Goals as goal

@@ -1,8 +1,8 @@
 -- The text that is hashed is written part by part.
 use Rattle.std.proofs.Common.{ap, ◌∙◌, ◌++◌}
 use Rattle.ibc_merkle.specs.Hash.{hash}
-use Rattle.ibc_machine.specs.Records.{Commitment}
-use Rattle.ibc_machine.specs.Values.{value_bytes, CommitmentIs}
+use Rattle.ibc_machine.specs.chain.Records.{Commitment}
+use Rattle.ibc_machine.specs.ics24.Values.{value_bytes, CommitmentIs}
 use Rattle.ibc_records.proofs.packet_values.commitment_value.Goals as goal
 
 pub returns-clause-ok : goal.returns-clause-ok

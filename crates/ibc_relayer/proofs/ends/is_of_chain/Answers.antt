@@ -1,6 +1,6 @@
 -- The clients that are held are those of the view.
 use Rattle.std.proofs.Common.{◌∙◌, ap, nat_eq, Some, None}
-use Rattle.ibc_machine.specs.Records.{Core}
+use Rattle.ibc_machine.specs.chain.Records.{Core}
 use Rattle.ibc_wire.specs.declared.records.ClientState.{ClientState}
 use Rattle.ibc_relayer.proofs.Tracking.{tracked_there}
 use Rattle.ibc_relayer.proofs.ends.is_of_chain.Goals as goal

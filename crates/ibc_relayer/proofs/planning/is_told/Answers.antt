@@ -4,7 +4,7 @@ use Rattle.std.specs.Map.{keys_of}
 use Rattle.std.specs.Ordering.{nat_cmp}
 use Rattle.ibc_ids.specs.Texts.{text_cmp}
 use Rattle.ibc_ids.specs.Maps.{at}
-use Rattle.ibc_machine.specs.Records.{is_one_of}
+use Rattle.ibc_machine.specs.chain.Records.{is_one_of}
 use Rattle.ibc_records.proofs.Knowing.{is_key_of}
 use Rattle.ibc_relayer.proofs.Plans.{told}
 use Rattle.ibc_relayer.proofs.planning.is_told.Goals as goal

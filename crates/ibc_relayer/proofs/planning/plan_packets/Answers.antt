@@ -6,8 +6,8 @@ use Rattle.std.specs.List.{AllByRecursion, filter_map, flat_map}
 use Rattle.ibc_ids.specs.Texts.{Text, text_cmp, pair_cmp}
 use Rattle.ibc_ids.specs.Maps.{at}
 use Rattle.ibc_wire.specs.declared.messages.Message.{Message}
-use Rattle.ibc_machine.specs.Records.{Core, Channel}
-use Rattle.ibc_machine.specs.Relay.{pending_at, pending_message}
+use Rattle.ibc_machine.specs.chain.Records.{Core, Channel}
+use Rattle.ibc_machine.specs.ics18.Relay.{pending_at, pending_message}
 use Rattle.ibc_machine.proofs.FiniteMaps.{pair_cmp_total}
 use Rattle.ibc_machine.proofs.SortedMaps.{Sorted-from}
 use Rattle.ibc_relayer.specs.Found.{AreTheEnds, AreEnds}

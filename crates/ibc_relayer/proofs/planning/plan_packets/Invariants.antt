@@ -3,7 +3,7 @@ use Rattle.std.proofs.Common.{◌≡◌, ◌++◌, ◌||◌, Some, is_some}
 use Rattle.std.specs.List.{AllByRecursion, filter_map, flat_map}
 use Rattle.ibc_ids.specs.Texts.{Text, text_cmp, pair_cmp}
 use Rattle.ibc_ids.specs.Maps.{at}
-use Rattle.ibc_machine.specs.Relay.{pending_at, pending_message}
+use Rattle.ibc_machine.specs.ics18.Relay.{pending_at, pending_message}
 use Rattle.ibc_relayer.specs.Used.{goes_over}
 use Rattle.ibc_relayer.proofs.planning.plan_packets.Given as goal
 

@@ -1,6 +1,6 @@
 -- The updates so far, and those of the clients that the iterator has left, are all.
 use Rattle.std.proofs.Common.{◌≡◌, ◌++◌, map, filter}
-use Rattle.ibc_machine.specs.Relay.{update_of}
+use Rattle.ibc_machine.specs.ics18.Relay.{update_of}
 use Rattle.ibc_records.specs.Held.{plain_entry}
 use Rattle.ibc_relayer.specs.Used.{is_told}
 use Rattle.ibc_relayer.proofs.planning.updates.Given as goal

@@ -1,5 +1,5 @@
-use Rattle.ibc_machine.specs.Genesis.{genesis_state}
-use Rattle.ibc_shared_world.specs.SharedWorlds.{book_of, table_of}
+use Rattle.ibc_machine.specs.chain.Genesis.{genesis_state}
+use Rattle.ibc_race.specs.SharedWorlds.{book_of, table_of}
 use Rattle.ibc_script_worlds.proofs.racing.race_on_ledgers.Given as goal
 
 abbrev pub ghosts-race_on : goal.ghosts-race_on

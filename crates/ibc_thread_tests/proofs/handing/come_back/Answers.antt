@@ -1,7 +1,7 @@
 use Rattle.std.proofs.Common.{All, ap, arith, length, subst}
 use Rattle.std.proofs.lemmas.List.Elements.{All-head, All-tail}
 use Rattle.std.specs.Vec.Iter.{into_iter_items}
-use Rattle.ibc_shared_world.specs.SharedWorlds.{HasItsBook}
+use Rattle.ibc_race.specs.SharedWorlds.{HasItsBook}
 use Rattle.ibc_thread_tests.proofs.handing.come_back.Goals as goal
 
 pub comes_back-requires : goal.comes_back-requires

@@ -1,7 +1,7 @@
 use Rattle.std.proofs.Common.{◌≡◌, length}
 use Rattle.std.specs.List.{All}
 use Rattle.std.specs.Vec.Iter.{into_iter_items, into_iter_len}
-use Rattle.ibc_shared_world.specs.SharedWorlds.{HasItsBook}
+use Rattle.ibc_race.specs.SharedWorlds.{HasItsBook}
 use Rattle.ibc_thread_tests.proofs.handing.come_back.Given as goal
 
 abbrev pub invariant-loop-ledger : goal.invariant-loop-ledger

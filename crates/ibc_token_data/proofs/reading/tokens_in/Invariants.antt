@@ -2,7 +2,7 @@
 use Rattle.std.proofs.Common.{◌≡◌, List, map, take, IsTrue}
 use Rattle.std.specs.List.{list_all}
 use Rattle.ibc_wire.specs.declared.token.Token.{Token}
-use Rattle.ibc_machine.specs.TokenData.{is_token}
+use Rattle.ibc_machine.specs.ics20.TokenData.{is_token}
 use Rattle.json.specs.Value.{value_view}
 use Rattle.ibc_token_data.specs.Json.{token_json}
 use Rattle.ibc_token_data.proofs.reading.tokens_in.Given as goal

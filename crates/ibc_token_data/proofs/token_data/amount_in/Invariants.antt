@@ -1,6 +1,6 @@
 -- The amount so far is that of the tokens before the place.
 use Rattle.std.proofs.Common.{◌≡◌, ◌<◌, ◌^◌, take}
-use Rattle.ibc_machine.specs.TokenData.{amount_of}
+use Rattle.ibc_machine.specs.ics20.TokenData.{amount_of}
 use Rattle.ibc_token_data.proofs.token_data.amount_in.Given as goal
 
 abbrev pub invariant-loop-token : goal.invariant-loop-token

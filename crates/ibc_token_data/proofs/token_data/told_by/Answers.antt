@@ -1,6 +1,6 @@
 use Rattle.std.proofs.Common.{◌≡◌, Err, Some, None, ap, sym, ◌∙◌}
 use Rattle.std.proofs.lemmas.Result.{err_from_is_err_and}
-use Rattle.ibc_machine.specs.TokenData.{has_several}
+use Rattle.ibc_machine.specs.ics20.TokenData.{has_several}
 use Rattle.json.specs.Value.{value_view}
 use Rattle.ibc_token_data.specs.Json.{data_json}
 use Rattle.ibc_token_data.proofs.Read.{told, only_memory}

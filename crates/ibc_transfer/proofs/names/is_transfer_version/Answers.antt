@@ -2,7 +2,7 @@
 use Rattle.std.proofs.Common.{◌≡◌, ◌||◌, false, ap, sym, ◌∙◌}
 use Rattle.std.proofs.Math.Bool.{or-false}
 use Rattle.ibc_ids.specs.Texts.{Text, same_text}
-use Rattle.ibc_machine.specs.TokenData.{one_token, several_tokens}
+use Rattle.ibc_machine.specs.ics20.TokenData.{one_token, several_tokens}
 use Rattle.ibc_transfer.proofs.names.is_transfer_version.Goals as goal
 
 pub returns-else-eq : goal.returns-else-eq

@@ -2,7 +2,7 @@
 use Rattle.std.proofs.Common.{not, ap, rules, tests}
 use Rattle.std.proofs.lemmas.Iterator.{YieldsList-from_slice}
 use Rattle.std.proofs.lemmas.Iterator.Search.{any_from_yields_List}
-use Rattle.ibc_machine.specs.Transfers.{is_zero}
+use Rattle.ibc_machine.specs.ics20.Transfers.{is_zero}
 use Rattle.ibc_transfer.proofs.parcels.are_above_zero.Goals as goal
 
 pub returns : goal.returns

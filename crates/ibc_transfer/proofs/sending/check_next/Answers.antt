@@ -1,7 +1,7 @@
 -- A move that can't be made is refused before a number that is full.
 use Rattle.std.proofs.Common.{sym, ap, ◌∙◌}
 use Rattle.std.proofs.lemmas.Result.{err_from_is_err_and}
-use Rattle.ibc_machine.specs.Evidence.{require_number}
+use Rattle.ibc_machine.specs.ics24.Evidence.{require_number}
 use Rattle.ibc_bank.specs.Moves.{moved_all}
 use Rattle.ibc_transfer.proofs.Sends.{poor_first, full_next}
 use Rattle.ibc_transfer.proofs.sending.check_next.Goals as goal

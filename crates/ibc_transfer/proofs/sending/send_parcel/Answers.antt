@@ -2,7 +2,7 @@
 use Rattle.std.proofs.Common.{None, refl}
 use Rattle.std.proofs.lemmas.Result.{err_from_is_err_and}
 use Rattle.ibc_machine.specs.declared.reply.Effect.TheVariants as effect
-use Rattle.ibc_machine.specs.Replay.{proves}
+use Rattle.ibc_machine.specs.ledger.Replay.{proves}
 use Rattle.ibc_records.specs.Held.{core_of}
 use Rattle.ibc_records.specs.Taking.{host_with}
 use Rattle.ibc_packet.proofs.Taken.{untaken_with}

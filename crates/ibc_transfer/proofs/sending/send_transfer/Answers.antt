@@ -2,9 +2,9 @@
 use Rattle.std.proofs.Common.{None, sym, ap, subst, ◌∙◌}
 use Rattle.ibc_machine.specs.declared.reply.Effect.{Effect}
 use Rattle.ibc_machine.specs.declared.reply.Effect.TheVariants as effect
-use Rattle.ibc_machine.specs.Checks.{Checked}
-use Rattle.ibc_machine.specs.Records.{Core}
-use Rattle.ibc_machine.specs.Replay.{proves}
+use Rattle.ibc_machine.specs.chain.Checks.{Checked}
+use Rattle.ibc_machine.specs.chain.Records.{Core}
+use Rattle.ibc_machine.specs.ledger.Replay.{proves}
 use Rattle.ibc_bank.specs.Moves.{BankState}
 use Rattle.ibc_records.specs.Held.{core_of}
 use Rattle.ibc_records.specs.Taking.{IsTakenWith, host_with}

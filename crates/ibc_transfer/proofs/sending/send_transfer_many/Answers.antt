@@ -3,9 +3,9 @@ use Rattle.std.proofs.Common.{None, refl, sym, ap, subst, ◌∙◌, inl}
 use Rattle.ibc_ids.specs.declared.refusal.Refusal.TheVariants.{BadMessage}
 use Rattle.ibc_machine.specs.declared.reply.Effect.{Effect}
 use Rattle.ibc_machine.specs.declared.reply.Effect.TheVariants as effect
-use Rattle.ibc_machine.specs.Checks.{Checked, require}
-use Rattle.ibc_machine.specs.Records.{Core}
-use Rattle.ibc_machine.specs.Replay.{proves}
+use Rattle.ibc_machine.specs.chain.Checks.{Checked, require}
+use Rattle.ibc_machine.specs.chain.Records.{Core}
+use Rattle.ibc_machine.specs.ledger.Replay.{proves}
 use Rattle.ibc_machine.proofs.PassedChecks.{pass, fail}
 use Rattle.ibc_bank.specs.Moves.{BankState}
 use Rattle.ibc_records.specs.Held.{core_of}

@@ -1,6 +1,6 @@
 -- The sum so far and what the packets have that are left is the whole.
 use Rattle.std.proofs.Common.{◌≡◌, ◌+◌, ◌<◌, ◌^◌, sum_by}
-use Rattle.ibc_machine.specs.Totals.{amount_under_way}
+use Rattle.ibc_machine.specs.promises.Totals.{amount_under_way}
 use Rattle.ibc_transfer.proofs.under_way.in_flight.Given as goal
 
 abbrev pub invariant-loop-sequence : goal.invariant-loop-sequence

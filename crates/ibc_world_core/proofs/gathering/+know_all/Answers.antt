@@ -1,6 +1,6 @@
 -- The first, and each of the rest.
 use Rattle.std.proofs.Common.{arith}
-use Rattle.ibc_machine.specs.Ledgers.{IsLedger}
+use Rattle.ibc_machine.specs.ledger.Ledgers.{IsLedger}
 use Rattle.ibc_ledger.specs.Held.{HeldLedger}
 use Rattle.ibc_world_core.proofs.Firsts.{known_all}
 use Rattle.ibc_world_core.proofs.gathering.+know_all.Goals as goal

@@ -2,7 +2,7 @@
 use Rattle.std.proofs.Common.{arith, ap, subst, ◌∙◌, get_or}
 use Rattle.std.proofs.lemmas.List.{get_or-set_same}
 use Rattle.std.proofs.lemmas.Option.{slice_get-get_or}
-use Rattle.ibc_machine.specs.Ledgers.{IsLedger}
+use Rattle.ibc_machine.specs.ledger.Ledgers.{IsLedger}
 use Rattle.ibc_ledger.specs.Held.{HeldLedger}
 use Rattle.ibc_world_core.proofs.Rounds.{one_is_behind, follower_sees, one_sees_more, others_still_behind, one_more_sees, one_more_is}
 use Rattle.ibc_world_core.proofs.meeting.follow_each.Goals as goal

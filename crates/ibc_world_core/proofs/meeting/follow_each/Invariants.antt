@@ -1,5 +1,5 @@
 use Rattle.std.proofs.Common.{◌≡◌, length}
-use Rattle.ibc_world_steps.specs.Meetings.{AreBehind, FirstSee}
+use Rattle.ibc_refinement.specs.Meetings.{AreBehind, FirstSee}
 use Rattle.ibc_world_core.specs.Held.{plain, HaveSeenMore, FirstAre}
 use Rattle.ibc_world_core.proofs.meeting.follow_each.Given as goal
 

@@ -1,9 +1,9 @@
 -- The first ledger meets the others, and they take over what it has seen.
 use Rattle.std.proofs.Common.{◌∷◌, length, sym, subst}
-use Rattle.ibc_machine.specs.Ledgers.{IsLedger}
+use Rattle.ibc_machine.specs.ledger.Ledgers.{IsLedger}
 use Rattle.ibc_ledger.specs.Held.{HeldLedger}
-use Rattle.ibc_world_steps.specs.World.{AreOfFirst}
-use Rattle.ibc_world_steps.specs.Meetings.{HaveMet}
+use Rattle.ibc_refinement.specs.World.{AreOfFirst}
+use Rattle.ibc_refinement.specs.Meetings.{HaveMet}
 use Rattle.ibc_world_core.specs.Held.{plain}
 use Rattle.ibc_world_core.proofs.Rounds.{at_the_first, have_met}
 use Rattle.ibc_world_core.proofs.meeting.meet_all.Goals as goal

@@ -1,7 +1,7 @@
 -- The leader meets one more, which is then behind it.
 use Rattle.std.proofs.Common.{arith, get_or, ◌∙◌}
 use Rattle.std.proofs.lemmas.Option.{slice_get-get_or}
-use Rattle.ibc_world_steps.proofs.Meetings.{sees_both}
+use Rattle.ibc_refinement.proofs.world.Meetings.{sees_both}
 use Rattle.ibc_world_core.proofs.Rounds.{one_sees_more, one_more_behind}
 use Rattle.ibc_world_core.proofs.meeting.meet_each.Goals as goal
 

@@ -1,6 +1,6 @@
 use Rattle.std.proofs.Common.{◌≡◌}
-use Rattle.ibc_machine.specs.Ledgers.{SeesMore}
-use Rattle.ibc_world_steps.specs.Meetings.{AreBehind}
+use Rattle.ibc_machine.specs.ledger.Ledgers.{SeesMore}
+use Rattle.ibc_refinement.specs.Meetings.{AreBehind}
 use Rattle.ibc_world_core.specs.Held.{plain, HaveSeenMore}
 use Rattle.ibc_world_core.proofs.meeting.meet_each.Given as goal
 

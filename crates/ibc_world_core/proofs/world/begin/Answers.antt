@@ -3,11 +3,11 @@ use Rattle.std.proofs.Common.{◌≡◌, ◌∙◌, true, length, sym, ap, subst
 use Rattle.std.proofs.lemmas.Result.{err_from_is_err_and}
 use Rattle.std.specs.Vec.Iter.{into_iter_items}
 use Rattle.std.proofs.lemmas.List.{length-map}
-use Rattle.ibc_machine.specs.Genesis.{genesis_state, chain_state, is_allowed}
+use Rattle.ibc_machine.specs.chain.Genesis.{genesis_state, chain_state, is_allowed}
 use Rattle.ibc_ids.specs.Publications.{published_by}
 use Rattle.ibc_root_table.specs.Passes.{Sight}
 use Rattle.ibc_ledger.proofs.Windows.{few_chains}
-use Rattle.ibc_world_steps.specs.World.{new_ledger}
+use Rattle.ibc_refinement.specs.World.{new_ledger}
 use Rattle.ibc_world_core.proofs.Beginnings.{BegunSoFar, none_begun, one_is_left, next_pass, one_more_begun, all_begun}
 use Rattle.ibc_world_core.proofs.world.begin.Goals as goal
 

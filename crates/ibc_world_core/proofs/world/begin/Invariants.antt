@@ -1,6 +1,6 @@
 use Rattle.std.proofs.Common.{◌≡◌, length}
 use Rattle.std.specs.Vec.Iter.{into_iter_items, into_iter_len}
-use Rattle.ibc_machine.specs.Genesis.{genesis_state}
+use Rattle.ibc_machine.specs.chain.Genesis.{genesis_state}
 use Rattle.ibc_world_core.proofs.Beginnings.{BegunSoFar}
 use Rattle.ibc_world_core.proofs.world.begin.Given as goal
 

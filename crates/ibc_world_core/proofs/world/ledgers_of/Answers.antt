@@ -1,7 +1,7 @@
 -- An allowed genesis has few chains, and some.
 use Rattle.std.proofs.Common.{arith}
 use Rattle.std.proofs.lemmas.List.{length-map}
-use Rattle.ibc_machine.specs.Genesis.{genesis_state, chain_state}
+use Rattle.ibc_machine.specs.chain.Genesis.{genesis_state, chain_state}
 use Rattle.ibc_ledger.proofs.Windows.{few_chains, some_window}
 use Rattle.ibc_world_core.proofs.Beginnings.{some_chains}
 use Rattle.ibc_world_core.proofs.world.ledgers_of.Goals as goal

@@ -2,7 +2,7 @@
 use Rattle.std.proofs.Common.{◌≡◌, ap, sym, subst, true}
 use Rattle.std.specs.List.{list_all}
 use Rattle.ibc_ids.specs.Texts.{text_cmp}
-use Rattle.ibc_machine.specs.Genesis.{is_fair}
+use Rattle.ibc_machine.specs.chain.Genesis.{is_fair}
 use Rattle.ibc_bank.specs.Amounts.{amount_at}
 use Rattle.ibc_bank.proofs.Starts.{starting_fits, fits_alone}
 use Rattle.ibc_bank.proofs.bank.Bank.from_start.Goals as goal

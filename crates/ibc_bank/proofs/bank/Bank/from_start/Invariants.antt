@@ -1,6 +1,6 @@
 -- The balances so far are those of the holdings before the place, and the books fit together.
 use Rattle.std.proofs.Common.{◌≡◌, [], take}
-use Rattle.ibc_machine.specs.Genesis.{starting_balances}
+use Rattle.ibc_machine.specs.chain.Genesis.{starting_balances}
 use Rattle.ibc_bank.specs.Books.{IsBalanced, nothing, state_of}
 use Rattle.ibc_bank.proofs.bank.Bank.from_start.Given as goal
 

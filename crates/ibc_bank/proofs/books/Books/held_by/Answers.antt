@@ -3,9 +3,9 @@ use Rattle.std.proofs.Common.{rules, ℕ, ap, sym, ◌∙◌, unwrap_or, Option}
 use Rattle.std.specs.FinMap.{is_sorted}
 use Rattle.std.proofs.lemmas.Fn.{always_returns_same}
 use Rattle.ibc_ids.specs.Texts.{Text, pair_cmp}
-use Rattle.ibc_machine.specs.Bank.{balance}
+use Rattle.ibc_machine.specs.ics20.Bank.{balance}
 use Rattle.ibc_machine.proofs.FiniteMaps.{pair_cmp_total}
-use Rattle.ibc_sorted_map.proofs.Places.{searchable, found-at, gap-at}
+use Rattle.ibc_maps.proofs.SearchedKeys.{searchable, found-at, gap-at}
 use Rattle.ibc_bank.specs.Parties.{party_text}
 use Rattle.ibc_bank.proofs.books.Books.held_by.Goals as goal
 

@@ -1,7 +1,7 @@
 -- The total changes as the balance does.
 use Rattle.std.proofs.Common.{ℕ, refl, ◌≡◌, ◌-◌, ◌+◌, ap, ◌∙◌, arith}
 use Rattle.ibc_ids.specs.Texts.{Text, text_cmp}
-use Rattle.ibc_machine.specs.Bank.{Balances, balance, with_balance}
+use Rattle.ibc_machine.specs.ics20.Bank.{Balances, balance, with_balance}
 use Rattle.ibc_bank.specs.Amounts.{amount_at, with_amount}
 use Rattle.ibc_bank.specs.Moves.{with_balances}
 use Rattle.ibc_bank.specs.Books.{state_of, nothing}

@@ -1,7 +1,7 @@
 -- The amount is the one after the changes so far.
 use Rattle.std.proofs.Common.{◌≡◌, take}
 use Rattle.ibc_ids.specs.Texts.{pair_cmp}
-use Rattle.ibc_machine.specs.Bank.{balance}
+use Rattle.ibc_machine.specs.ics20.Bank.{balance}
 use Rattle.ibc_bank.specs.Amounts.{written}
 use Rattle.ibc_bank.specs.Parties.{party_text}
 use Rattle.ibc_bank.proofs.changes.Changes.held_by.Given as goal

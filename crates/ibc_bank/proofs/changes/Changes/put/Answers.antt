@@ -1,7 +1,7 @@
 -- What is in hand has room wherever it is put.
 use Rattle.std.proofs.Common.{◌≡◌, ◌+◌, ◌-◌, ap, sym, ◌∙◌, subst, arith}
 use Rattle.ibc_ids.specs.Texts.{text_cmp}
-use Rattle.ibc_machine.specs.Bank.{with_balance}
+use Rattle.ibc_machine.specs.ics20.Bank.{with_balance}
 use Rattle.ibc_bank.specs.Amounts.{amount_at, with_amount, written}
 use Rattle.ibc_bank.specs.Moves.{burnt_of, with_burnt, with_balances}
 use Rattle.ibc_bank.specs.Parties.{party_text}

@@ -1,7 +1,7 @@
 -- What is taken is in hand.
 use Rattle.std.proofs.Common.{◌≡◌, ◌+◌, ◌-◌, ◌<◌, ◌≤◌, ◌^◌, ap, sym, ◌∙◌, subst, arith}
 use Rattle.ibc_ids.specs.Texts.{text_cmp}
-use Rattle.ibc_machine.specs.Bank.{balance, with_balance}
+use Rattle.ibc_machine.specs.ics20.Bank.{balance, with_balance}
 use Rattle.ibc_bank.specs.Amounts.{amount_at, with_amount, written}
 use Rattle.ibc_bank.specs.Moves.{token_of, burnt_of, with_burnt, with_balances}
 use Rattle.ibc_bank.specs.Parties.{party_text}

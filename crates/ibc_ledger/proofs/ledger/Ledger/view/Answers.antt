@@ -1,7 +1,7 @@
 -- What the records keep of the last block is what the history says of it.
 use Rattle.ibc_ledger.proofs.Common.{◌∙◌, ap, subst, TableName, state_of, HeldLedger, genesis_of, ledger_of, plain_apps}
 use Rattle.ibc_root_table.specs.Publications.{IsWithin}
-use Rattle.ibc_machine.specs.Relay.{view_of}
+use Rattle.ibc_machine.specs.ics18.Relay.{view_of}
 use Rattle.ibc_ledger.proofs.Windows.{some_window}
 use Rattle.ibc_ledger.proofs.LastBlocks.{is_kept, proved, height_is, view_is}
 use Rattle.ibc_ledger.proofs.ledger.Ledger.view.Goals as goal

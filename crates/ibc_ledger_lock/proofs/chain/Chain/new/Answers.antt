@@ -1,7 +1,7 @@
 -- What the ledger shows as the chain is made is a view of a ledger of the world.
 use Rattle.std.proofs.Common.{◌∙◌, sym, ap}
-use Rattle.ibc_machine.specs.Ledgers.{state_of}
-use Rattle.ibc_machine.specs.Relay.{View}
+use Rattle.ibc_machine.specs.ledger.Ledgers.{state_of}
+use Rattle.ibc_machine.specs.ics18.Relay.{View}
 use Rattle.ibc_ledger_lock.proofs.Ending.{of_chain}
 use Rattle.ibc_ledger_lock.proofs.chain.Chain.new.Goals as goal
 

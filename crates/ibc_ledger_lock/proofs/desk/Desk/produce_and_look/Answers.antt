@@ -1,6 +1,6 @@
 use Rattle.std.proofs.Common.{◌≡◌, ◌∙◌, Option, true, IfSome, ap, sym, subst}
-use Rattle.ibc_machine.specs.Ledgers.{is_block_reply}
-use Rattle.ibc_machine.specs.Relay.{View}
+use Rattle.ibc_machine.specs.ledger.Ledgers.{is_block_reply}
+use Rattle.ibc_machine.specs.ics18.Relay.{View}
 use Rattle.ibc_ledger_lock.specs.Worlds.{IsViewOf, ShowsEnd}
 use Rattle.ibc_ledger_lock.proofs.Ending.{looked}
 use Rattle.ibc_ledger_lock.proofs.desk.Desk.produce_and_look.Goals as goal

@@ -3,7 +3,7 @@ use Rattle.std.proofs.lemmas.Result.{err_from_is_err_and}
 use Rattle.ibc_ids.specs.Names.{is_channel, is_connection, is_port, is_version}
 use Rattle.ibc_wire.specs.Fields.{u8, n8, str, name}
 use Rattle.ibc_wire.specs.Spelling.{order_number}
-use Rattle.ibc_codec.proofs.Writing.{refused, none_before, behind}
+use Rattle.ibc_wire.proofs.Writing.{refused, none_before, behind}
 use Rattle.ibc_message_codec.proofs.channels.ChanOpenTryPayload.write.Goals as goal
 
 pub returns : goal.returns

@@ -2,7 +2,7 @@ use Rattle.std.proofs.Common.{[], ◌∷◌}
 use Rattle.ibc_ids.specs.Names.{is_client}
 use Rattle.ibc_wire.specs.Fields.{name}
 use Rattle.ibc_wire.specs.RecordFronts.{header_fields}
-use Rattle.ibc_codec.proofs.Writing.{behind}
+use Rattle.ibc_wire.proofs.Writing.{behind}
 use Rattle.ibc_message_codec.proofs.clients.UpdateClientPayload.write.Goals as goal
 
 pub returns : goal.returns

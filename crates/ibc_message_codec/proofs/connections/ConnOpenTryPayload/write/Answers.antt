@@ -2,7 +2,7 @@ use Rattle.std.proofs.Common.{[], ◌∷◌, ◌++◌}
 use Rattle.ibc_ids.specs.Names.{is_client, is_connection}
 use Rattle.ibc_wire.specs.Fields.{n8, str, name}
 use Rattle.ibc_wire.specs.Spelling.{client_state_fields}
-use Rattle.ibc_codec.proofs.Writing.{behind}
+use Rattle.ibc_wire.proofs.Writing.{behind}
 use Rattle.ibc_message_codec.proofs.connections.ConnOpenTryPayload.write.Goals as goal
 
 pub returns : goal.returns

@@ -1,7 +1,7 @@
 use Rattle.std.proofs.Common.{[], ◌∷◌}
 use Rattle.ibc_wire.specs.Fields.{n8, str}
 use Rattle.ibc_wire.specs.Spelling.{packet_fields}
-use Rattle.ibc_codec.proofs.Writing.{behind}
+use Rattle.ibc_wire.proofs.Writing.{behind}
 use Rattle.ibc_message_codec.proofs.packets.AckPacketPayload.write.Goals as goal
 
 pub returns : goal.returns

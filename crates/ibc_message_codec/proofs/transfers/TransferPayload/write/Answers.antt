@@ -1,7 +1,7 @@
 use Rattle.std.proofs.Common.{[], ◌∷◌}
 use Rattle.ibc_ids.specs.Names.{is_channel, is_denom, is_memo, is_receiver, is_user}
 use Rattle.ibc_wire.specs.Fields.{n8, n16, name}
-use Rattle.ibc_codec.proofs.Writing.{behind}
+use Rattle.ibc_wire.proofs.Writing.{behind}
 use Rattle.ibc_message_codec.proofs.transfers.TransferPayload.write.Goals as goal
 
 pub returns : goal.returns

@@ -1,6 +1,6 @@
 -- The acknowledgement is the one of a success, and the packet's payload joins the notes.
 use Rattle.std.proofs.Common.{refl}
-use Rattle.ibc_machine.specs.Notes.{receive_note}
+use Rattle.ibc_machine.specs.chain.Notes.{receive_note}
 use Rattle.ibc_note.proofs.notes.NotesApp.on_recv.Goals as goal
 
 pub returns-clause-ok : goal.returns-clause-ok

@@ -1,6 +1,6 @@
 -- A number is one of the receipts just where the map has it.
 use Rattle.std.proofs.Common.{sym, ap, ◌∙◌, is_some}
-use Rattle.ibc_machine.specs.Records.{Channel, is_one_of}
+use Rattle.ibc_machine.specs.chain.Records.{Channel, is_one_of}
 use Rattle.ibc_records.proofs.Knowing.{is_key_of, is_some-copied}
 use Rattle.ibc_records.proofs.channel.Channel.has_receipt.Goals as goal
 

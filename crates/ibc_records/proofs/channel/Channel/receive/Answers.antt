@@ -4,8 +4,8 @@ use Rattle.std.specs.Prelude.{⊤}
 use Rattle.std.specs.Map.{keys_of}
 use Rattle.ibc_ids.specs.Maps.{with}
 use Rattle.ibc_ids.proofs.Maps.{keys_of-with}
-use Rattle.ibc_machine.specs.Records.{Channel, added}
-use Rattle.ibc_machine.specs.Packets.{is_ordered}
+use Rattle.ibc_machine.specs.chain.Records.{Channel, added}
+use Rattle.ibc_machine.specs.ics04.Packets.{is_ordered}
 use Rattle.ibc_records.proofs.Receiving.{where_ok, received_in_order, received_in_any}
 use Rattle.ibc_records.proofs.channel.Channel.receive.Goals.{then-in_order, else-in_order}
 use Rattle.ibc_records.proofs.channel.Channel.receive.Goals as goal

@@ -4,8 +4,8 @@ use Rattle.std.proofs.lemmas.Result.{err_from_is_err_and}
 use Rattle.ibc_ids.specs.Texts.{pair_cmp}
 use Rattle.ibc_ids.specs.Maps.{at, with}
 use Rattle.ibc_wire.specs.declared.records.ChannelEnd.{ChannelEnd}
-use Rattle.ibc_machine.specs.Records.{Channel}
-use Rattle.ibc_machine.specs.Packets.{is_ordered, after_ack}
+use Rattle.ibc_machine.specs.chain.Records.{Channel}
+use Rattle.ibc_machine.specs.ics04.Packets.{is_ordered, after_ack}
 use Rattle.ibc_records.specs.Held.{HeldRecords}
 use Rattle.ibc_records.specs.Inside.{held_of}
 use Rattle.ibc_records.proofs.Channels.{roomy}

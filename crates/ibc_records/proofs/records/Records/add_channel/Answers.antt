@@ -3,7 +3,7 @@ use Rattle.std.proofs.Common.{◌+◌, ◌-◌, ◌^◌, ◌<◌, sym, ap, ◌�
 use Rattle.ibc_ids.specs.Texts.{pair_cmp}
 use Rattle.ibc_ids.specs.Maps.{with}
 use Rattle.ibc_ids.specs.Paths.{nth_channel}
-use Rattle.ibc_machine.specs.Records.{Channel}
+use Rattle.ibc_machine.specs.chain.Records.{Channel}
 use Rattle.ibc_records.specs.Held.{HeldRecords, AddsChannel}
 use Rattle.ibc_records.specs.Inside.{held_of}
 use Rattle.ibc_records.proofs.Channels.{adds, roomy}

@@ -2,7 +2,7 @@
 use Rattle.std.proofs.Common.{◌+◌, ap, ◌∙◌, subst}
 use Rattle.ibc_ids.specs.Texts.{text_cmp}
 use Rattle.ibc_ids.specs.Maps.{with}
-use Rattle.ibc_machine.specs.Values.{ClientIs, value_bytes}
+use Rattle.ibc_machine.specs.ics24.Values.{ClientIs, value_bytes}
 use Rattle.ibc_records.specs.Held.{HeldRecords, AddsClient}
 use Rattle.ibc_records.specs.Inside.{held_of}
 use Rattle.ibc_records.proofs.NewClients.{added}

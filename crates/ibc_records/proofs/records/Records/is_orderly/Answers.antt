@@ -1,6 +1,6 @@
 -- Records are in order by what is kept of their channels.
 use Rattle.std.proofs.Common.{◌<◌, ◌^◌, arith, subst}
-use Rattle.ibc_flight.specs.Orderly.{IsOrderly}
+use Rattle.ibc_machine.specs.chain.Orderly.{IsOrderly}
 use Rattle.ibc_records.specs.Held.{HeldRecords, core_of}
 use Rattle.ibc_records.specs.Inside.{held_of}
 use Rattle.ibc_records.proofs.Orderly.{orderly_core}

@@ -2,8 +2,8 @@
 use Rattle.std.proofs.Common.{◌≡◌, ◌-◌, ◌^◌, ◌<◌, true, sym, Some}
 use Rattle.ibc_ids.specs.Texts.{pair_cmp}
 use Rattle.ibc_ids.specs.Maps.{at, with}
-use Rattle.ibc_machine.specs.Records.{Channel}
-use Rattle.ibc_machine.specs.Packets.{is_ordered, after_receive}
+use Rattle.ibc_machine.specs.chain.Records.{Channel}
+use Rattle.ibc_machine.specs.ics04.Packets.{is_ordered, after_receive}
 use Rattle.ibc_records.specs.Held.{HeldRecords}
 use Rattle.ibc_records.specs.Inside.{held_of}
 use Rattle.ibc_records.proofs.Channels.{roomy}

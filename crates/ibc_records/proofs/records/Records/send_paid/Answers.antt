@@ -4,9 +4,9 @@ use Rattle.ibc_ids.specs.Texts.{pair_cmp}
 use Rattle.ibc_ids.specs.Maps.{at, with}
 use Rattle.ibc_ids.specs.Paths.{path}
 use Rattle.ibc_ids.specs.declared.key.Key.TheVariants as key
-use Rattle.ibc_machine.specs.Records.{Channel}
-use Rattle.ibc_machine.specs.Packets.{after_send}
-use Rattle.ibc_machine.specs.Values.{value_bytes, NumberIs}
+use Rattle.ibc_machine.specs.chain.Records.{Channel}
+use Rattle.ibc_machine.specs.ics04.Packets.{after_send}
+use Rattle.ibc_machine.specs.ics24.Values.{value_bytes, NumberIs}
 use Rattle.ibc_records.specs.Held.{HeldRecords}
 use Rattle.ibc_records.specs.Inside.{held_of}
 use Rattle.ibc_records.proofs.Channels.{roomy}

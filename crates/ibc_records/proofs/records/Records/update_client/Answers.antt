@@ -3,7 +3,7 @@ use Rattle.std.proofs.Common.{◌≡◌, max, ap, ◌∙◌, sym, subst}
 use Rattle.std.specs.Prelude.{IfSome}
 use Rattle.ibc_ids.specs.Texts.{text_cmp}
 use Rattle.ibc_ids.specs.Maps.{with}
-use Rattle.ibc_machine.specs.Values.{ClientIs, value_bytes}
+use Rattle.ibc_machine.specs.ics24.Values.{ClientIs, value_bytes}
 use Rattle.ibc_records.specs.HeldClients.{with_height}
 use Rattle.ibc_records.specs.Held.{HeldRecords, UpdatesClient}
 use Rattle.ibc_records.specs.Inside.{held_of}

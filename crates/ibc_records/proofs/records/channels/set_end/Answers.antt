@@ -1,5 +1,5 @@
 -- The channel is taken out, has another end, and is put back.
-use Rattle.ibc_machine.specs.Records.{Channel}
+use Rattle.ibc_machine.specs.chain.Records.{Channel}
 use Rattle.ibc_machine.proofs.FiniteMaps.{by_pair, pair_cmp_total}
 use Rattle.ibc_records.proofs.Learning.{replaced}
 use Rattle.ibc_records.proofs.records.channels.set_end.Goals as goal

@@ -2,8 +2,8 @@
 use Rattle.std.proofs.Common.{◌-◌, ◌^◌, ◌<◌}
 use Rattle.ibc_ids.specs.Texts.{pair_cmp}
 use Rattle.ibc_ids.specs.Maps.{at}
-use Rattle.ibc_machine.specs.Records.{Channel}
-use Rattle.ibc_machine.specs.Packets.{after_send}
+use Rattle.ibc_machine.specs.chain.Records.{Channel}
+use Rattle.ibc_machine.specs.ics04.Packets.{after_send}
 use Rattle.ibc_machine.proofs.FiniteMaps.{by_pair, pair_cmp_total}
 use Rattle.ibc_records.proofs.Learning.{replaced, put_back, is_there, asked_of, on_ok, on_err}
 use Rattle.ibc_records.proofs.records.packets.send_on.Goals as goal

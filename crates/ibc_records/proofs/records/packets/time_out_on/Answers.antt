@@ -3,8 +3,8 @@ use Rattle.std.proofs.Common.{◌≡◌, inl, inr, Ok, Err}
 use Rattle.ibc_ids.specs.declared.refusal.Refusal.{Refusal}
 use Rattle.ibc_ids.specs.Texts.{pair_cmp}
 use Rattle.ibc_ids.specs.Maps.{at}
-use Rattle.ibc_machine.specs.Records.{Channel}
-use Rattle.ibc_machine.specs.Packets.{after_timeout}
+use Rattle.ibc_machine.specs.chain.Records.{Channel}
+use Rattle.ibc_machine.specs.ics04.Packets.{after_timeout}
 use Rattle.ibc_machine.proofs.FiniteMaps.{by_pair, pair_cmp_total}
 use Rattle.ibc_records.proofs.Learning.{replaced, put_back, said_of, on_ok, on_err, if_err}
 use Rattle.ibc_records.proofs.records.packets.time_out_on.Goals as goal

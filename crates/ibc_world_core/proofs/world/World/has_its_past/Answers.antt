@@ -1,6 +1,6 @@
 use Rattle.std.proofs.Common.{subst}
-use Rattle.ibc_world_steps.specs.World.{IsWorld}
-use Rattle.ibc_world_steps.proofs.Together.{order_is_run}
+use Rattle.ibc_refinement.specs.World.{IsWorld}
+use Rattle.ibc_refinement.proofs.world.Together.{order_is_run}
 use Rattle.ibc_world_core.proofs.world.World.has_its_past.Goals as goal
 
 pub returns : goal.returns

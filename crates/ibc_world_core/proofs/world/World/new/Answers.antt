@@ -1,8 +1,8 @@
 -- The ledgers that begin are a world.
 use Rattle.std.proofs.Common.{sym, subst, rules}
 use Rattle.std.specs.Prelude.{IsTrue}
-use Rattle.ibc_machine.specs.Genesis.{genesis_state, is_allowed}
-use Rattle.ibc_world_steps.specs.World.{IsWorld}
+use Rattle.ibc_machine.specs.chain.Genesis.{genesis_state, is_allowed}
+use Rattle.ibc_refinement.specs.World.{IsWorld}
 use Rattle.ibc_world_core.specs.Held.{plain}
 use Rattle.ibc_world_core.proofs.Beginnings.{begun_are_new, begun_is_world, begun_at_one_table}
 use Rattle.ibc_world_core.proofs.world.World.new.Goals as goal

@@ -1,7 +1,7 @@
 -- Each check that fails is the one that refuses, and those that are passed are what is said of the end.
 use Rattle.std.proofs.Common.{sym, ap, ◌∙◌, option_map, option_copied, inr, Bor}
-use Rattle.ibc_machine.specs.Records.{channel_at}
-use Rattle.ibc_machine.specs.Ledgers.{state_of, machine_of}
+use Rattle.ibc_machine.specs.chain.Records.{channel_at}
+use Rattle.ibc_machine.specs.ledger.Ledgers.{state_of, machine_of}
 use Rattle.ibc_ledger.specs.Held.{HeldLedger}
 use Rattle.ibc_world_core.proofs.CountedTotals.{chain_there, chain_gone, no_chain, no_channel, not_established, its_own}
 use Rattle.ibc_world_core.proofs.world.World.own_end.Goals as goal

@@ -2,9 +2,9 @@
 use Rattle.std.proofs.Common.{◌≡◌, sym, ap, ◌∙◌, subst, Some, None, option_map, Bor}
 use Rattle.ibc_ids.specs.Texts.{Text}
 use Rattle.ibc_wire.specs.declared.records.ChannelEnd.{ChannelEnd}
-use Rattle.ibc_machine.specs.Records.{Channel, channel_at}
-use Rattle.ibc_machine.specs.Channels.{peer_channel_of}
-use Rattle.ibc_machine.specs.Ledgers.{state_of, machine_of}
+use Rattle.ibc_machine.specs.chain.Records.{Channel, channel_at}
+use Rattle.ibc_machine.specs.ics04.Channels.{peer_channel_of}
+use Rattle.ibc_machine.specs.ledger.Ledgers.{state_of, machine_of}
 use Rattle.ibc_ledger.specs.Held.{HeldLedger}
 use Rattle.ibc_world_core.proofs.CountedTotals.{chain_there, chain_gone, its_end, tracked_as, untracked, not_there, no_end, said, said_none}
 use Rattle.ibc_world_core.proofs.world.World.peer_end.Goals as goal

@@ -1,8 +1,8 @@
 -- One event after another is a step.
 use Rattle.std.proofs.Common.{◌∙◌, length, sym, ap, subst, arith}
 use Rattle.std.specs.Vec.Iter.{into_iter_items}
-use Rattle.ibc_world_steps.specs.World.{IsWorld}
-use Rattle.ibc_world_steps.proofs.Together.{order_is_run}
+use Rattle.ibc_refinement.specs.World.{IsWorld}
+use Rattle.ibc_refinement.proofs.world.Together.{order_is_run}
 use Rattle.ibc_world_core.proofs.Turns.{none_has_run, one_more_has_run, all_have_run}
 use Rattle.ibc_world_core.proofs.world.World.run.Goals as goal
 

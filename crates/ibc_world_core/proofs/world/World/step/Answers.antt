@@ -4,15 +4,15 @@ use Rattle.std.specs.Vec.{with_items}
 use Rattle.std.proofs.lemmas.List.{with_items_is}
 use Rattle.ibc_world_core.specs.declared.world.World.TheInside.{Inside}
 use Rattle.ibc_world_core.proofs.Rounds.{plain_length}
-use Rattle.ibc_machine.specs.Genesis.{genesis_state}
+use Rattle.ibc_machine.specs.chain.Genesis.{genesis_state}
 use Rattle.ibc_world_core.specs.Inside.{state_of}
 use Rattle.ibc_ledger.specs.Held.{HeldLedger}
-use Rattle.ibc_world_steps.specs.World.{WorldState, IsWorld}
-use Rattle.ibc_world_steps.specs.Steps.{IsStep}
-use Rattle.ibc_world_steps.specs.Meetings.{HaveMet}
+use Rattle.ibc_refinement.specs.World.{WorldState, IsWorld}
+use Rattle.ibc_refinement.specs.Steps.{IsStep}
+use Rattle.ibc_refinement.specs.Meetings.{HaveMet}
 use Rattle.ibc_world_core.specs.Held.{plain, AllAt, AreNumbered, SameTables, IsPutTo}
-use Rattle.ibc_world_steps.proofs.Together.{order_is_run}
-use Rattle.ibc_world_steps.proofs.Runs.{steps_refine}
+use Rattle.ibc_refinement.proofs.world.Together.{order_is_run}
+use Rattle.ibc_refinement.proofs.world.Runs.{steps_refine}
 use Rattle.ibc_world_core.proofs.Stepping.{numbered, as_many, some_ledger, at_one_table, of_all_chains, stepped, still_held}
 use Rattle.ibc_world_core.proofs.world.World.step.Goals as goal
 

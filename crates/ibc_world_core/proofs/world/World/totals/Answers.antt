@@ -1,9 +1,9 @@
 -- The sums are those of the two ends.
 use Rattle.std.proofs.Common.{◌≡◌, ◌≤◌, ap, ◌∙◌, Some, None, ◌^◌, inr}
 use Rattle.std.proofs.lemmas.Result.{err_from_is_err_and}
-use Rattle.ibc_machine.specs.Bank.{balance, escrow}
-use Rattle.ibc_machine.specs.Ledgers.{state_of, machine_of}
-use Rattle.ibc_machine.specs.Totals.{totals, peer_at, flight_between}
+use Rattle.ibc_machine.specs.ics20.Bank.{balance, escrow}
+use Rattle.ibc_machine.specs.ledger.Ledgers.{state_of, machine_of}
+use Rattle.ibc_machine.specs.promises.Totals.{totals, peer_at, flight_between}
 use Rattle.ibc_world_core.specs.Totals.{IsPeerEnd, abroad}
 use Rattle.ibc_world_core.proofs.CountedTotals.{no_peer, too_much_out, too_much_back, too_large, answered, said, said_none}
 use Rattle.ibc_world_core.proofs.world.World.totals.Goals as goal

@@ -1,0 +1,50 @@
+-- What calls do to handles.
+use Rattle.std.specs.Prelude.{◌≡◌, ◌⊎◌, ◌≤◌, ◌<◌, ◌++◌, ℕ, length, drop, Option, Some, None, Result, Ok, Err}
+use Rattle.ibc_ids.specs.Texts.{Text}
+use Rattle.ibc_ids.specs.declared.refusal.Refusal.TheVariants.{NoMemory}
+use Rattle.ibc_handle.specs.declared.held.Held.{Held}
+use Rattle.ibc_c.specs.declared.answer.Refused.{Refused}
+use Rattle.ibc_c.specs.declared.answer.Refused.TheVariants.{Core, Empty, Full, OtherKind, TooShort}
+use Rattle.ibc_c.specs.Answers.{Answer}
+
+-- a handle that holds nothing is refused, and stays so
+abbrev pub AtHeld : (Held → Option Held → Answer → Type 0) → Option Held → Option Held → Answer → Type 0
+AtHeld does None new answer = (new ≡ None) × (answer ≡ Err Empty)
+AtHeld does (Some old) new answer = does old new answer
+
+-- A handle that holds something already is refused, and keeps it.
+abbrev pub AtEmpty : (Option Held → Answer → Type 0) → Option Held → Option Held → Answer → Type 0
+AtEmpty does (Some old) new answer = (new ≡ Some old) × (answer ≡ Err Full)
+AtEmpty does None new answer = does new answer
+
+-- a value was made, or memory ran out and the handle is empty
+abbrev pub IsMade : (Held → Type 0) → Option Held → Answer → Type 0
+IsMade is (Some value) answer = is value × (answer ≡ Ok tt)
+IsMade is None answer = answer ≡ Err (Core NoMemory)
+
+-- the handle stays empty, for this reason
+abbrev pub StaysEmpty : Refused → Option Held → Answer → Type 0
+StaysEmpty why new answer = (new ≡ None) × (answer ≡ Err why)
+
+-- a value is freed where there is one
+abbrev pub freed : Option Held → Answer
+freed None = Err Empty
+freed (Some value) = Ok tt
+
+-- ---- bytes that are handed out
+
+-- the bytes stand at the beginning of the place, or it is too short and stays; their number is told
+abbrev pub IsWritten : Text → Text → Text → ℕ → Answer → Type 0
+IsWritten bytes old new size answer =
+    (size ≡ length bytes)
+    × (((length bytes ≤ length old) × (answer ≡ Ok tt) × (new ≡ bytes ++ drop (length bytes) old))
+    ⊎ ((length old < length bytes) × (answer ≡ Err TooShort) × (new ≡ old)))
+
+-- the bytes that were found are written; where it was refused nothing is
+abbrev pub Gives : Result Text Refused → Text → Text → ℕ → ℕ → Answer → Type 0
+Gives (Ok bytes) old new size size' answer = IsWritten bytes old new size' answer
+Gives (Err why) old new size size' answer = (answer ≡ Err why) × (new ≡ old) × (size' ≡ size)
+
+-- what is so of what was found is written
+unfoldable pub Finds : (Result Text Refused → Type 0) → Text → Text → ℕ → ℕ → Answer → Type 0
+Finds is old new size size' answer = (found : Result Text Refused) × is found × Gives found old new size size' answer

@@ -1,0 +1,144 @@
+//! What is read of ledgers.
+
+ghost use Rattle.std.specs.Prelude.{◌≡◌};
+ghost use Rattle.ibc_c.specs.Answers.{Numbered};
+ghost use Rattle.ibc_c.specs.Handles.{Finds};
+ghost use Rattle.ibc_c.specs.Holdings.{FindsHolding, MakesBalances, TellsHolding};
+ghost use Rattle.ibc_c.specs.History.{TellsEvent, TellsLength, TellsReply};
+ghost use Rattle.ibc_c.specs.Proved.{FindsProved};
+ghost use Rattle.ibc_c.specs.Reads.{FindsValue, TellsBalance};
+
+use crate::{Amount, Asked, Told, number};
+use ibc_handle::Handle;
+use std::alloc::Global;
+
+/// Tells how many entries a ledger's history has, or a plan, a list of balances or one of notes. As `length`.
+#[unsafe(no_mangle)]
+pub extern "C" fn ibcw_length(alloc: Global, handle: &mut Handle, count: &mut u64) -> u32
+    ensures kept { handle.new.value ≡ handle.old.value }
+    ensures told { Numbered (TellsLength handle.old.value count.old count.new) result }
+{
+    number(crate::length(alloc, handle, count))
+}
+
+/// Tells the reply of an entry of a ledger's history. As `history_reply`.
+#[unsafe(no_mangle)]
+pub extern "C" fn ibcw_reply(
+    alloc: Global,
+    ledger: &mut Handle,
+    index: u64,
+    told: &mut Told,
+    bytes: &mut [u8],
+    size: &mut usize,
+) -> u32
+    ensures kept { ledger.new.value ≡ ledger.old.value }
+    ensures told { Numbered (TellsReply index ledger.old.value (record { told = told.old; bytes = bytes.old; size = size.old }) (record { told = told.new; bytes = bytes.new; size = size.new })) result }
+{
+    number(crate::history_reply(alloc, ledger, index, told, bytes, size))
+}
+
+/// Tells what a ledger was asked by an entry of its history. As `history_event`.
+#[unsafe(no_mangle)]
+pub extern "C" fn ibcw_event(
+    alloc: Global,
+    ledger: &mut Handle,
+    index: u64,
+    asked: &mut Asked,
+    bytes: &mut [u8],
+    size: &mut usize,
+) -> u32
+    ensures kept { ledger.new.value ≡ ledger.old.value }
+    ensures told { Numbered (TellsEvent index ledger.old.value (record { asked = asked.old; bytes = bytes.old; size = size.old }) (record { asked = asked.new; bytes = bytes.new; size = size.new })) result }
+{
+    number(crate::history_event(alloc, ledger, index, asked, bytes, size))
+}
+
+/// Writes the value at the path of a key in the working block of a ledger. As `query`.
+#[unsafe(no_mangle)]
+pub extern "C" fn ibcw_query(
+    alloc: Global,
+    ledger: &mut Handle,
+    path: &[u8],
+    value: &mut [u8],
+    size: &mut usize,
+) -> u32
+    ensures kept { ledger.new.value ≡ ledger.old.value }
+    ensures found { Numbered (Finds (FindsValue path.now ledger.old.value) value.old value.new size.old size.new) result }
+{
+    number(crate::query(alloc, ledger, path, value, size))
+}
+
+/// Writes the bytes of the proof of what a committed height of a ledger has at the path of a key. As `prove`.
+#[unsafe(no_mangle)]
+pub extern "C" fn ibcw_prove(
+    alloc: Global,
+    ledger: &mut Handle,
+    height: u64,
+    path: &[u8],
+    proof: &mut [u8],
+    size: &mut usize,
+) -> u32
+    ensures kept { ledger.new.value ≡ ledger.old.value }
+    ensures found { Numbered (Finds (FindsProved height path.now ledger.old.value) proof.old proof.new size.old size.new) result }
+{
+    number(crate::prove(alloc, ledger, height, path, proof, size))
+}
+
+/// Makes the list of what accounts hold in an empty handle. As `make_balances`.
+#[unsafe(no_mangle)]
+pub extern "C" fn ibcw_make_balances(
+    alloc: Global,
+    ledger: &mut Handle,
+    balances: &mut Handle,
+) -> u32
+    ensures kept { ledger.new.value ≡ ledger.old.value }
+    ensures made { Numbered (MakesBalances ledger.old.value balances.old.value balances.new.value) result }
+{
+    number(crate::make_balances(alloc, ledger, balances))
+}
+
+/// Writes who holds what at an index. As `holding`.
+#[unsafe(no_mangle)]
+pub extern "C" fn ibcw_holding(
+    alloc: Global,
+    balances: &mut Handle,
+    chain: u64,
+    index: u64,
+    text: &mut [u8],
+    size: &mut usize,
+) -> u32
+    ensures kept { balances.new.value ≡ balances.old.value }
+    ensures found { Numbered (Finds (FindsHolding chain index balances.old.value) text.old text.new size.old size.new) result }
+{
+    number(crate::holding(alloc, balances, chain, index, text, size))
+}
+
+/// Tells how much is held at an index. As `holding_amount`.
+#[unsafe(no_mangle)]
+pub extern "C" fn ibcw_holding_amount(
+    alloc: Global,
+    balances: &mut Handle,
+    chain: u64,
+    index: u64,
+    amount: &mut Amount,
+) -> u32
+    ensures kept { balances.new.value ≡ balances.old.value }
+    ensures told { Numbered (TellsHolding chain index balances.old.value amount.old amount.new) result }
+{
+    number(crate::holding_amount(alloc, balances, chain, index, amount))
+}
+
+/// Tells what a user holds of a denomination. As `balance`.
+#[unsafe(no_mangle)]
+pub extern "C" fn ibcw_balance(
+    alloc: Global,
+    ledger: &mut Handle,
+    user: &[u8],
+    denom: &[u8],
+    amount: &mut Amount,
+) -> u32
+    ensures kept { ledger.new.value ≡ ledger.old.value }
+    ensures told { Numbered (TellsBalance user.now denom.now ledger.old.value amount.old amount.new) result }
+{
+    number(crate::balance(alloc, ledger, user, denom, amount))
+}

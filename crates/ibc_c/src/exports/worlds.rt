@@ -1,0 +1,113 @@
+//! How a world is made, and how its ledgers go on.
+
+ghost use Rattle.std.specs.Prelude.{◌≡◌, ◌+◌, ◌*◌, ◌^◌, None};
+ghost use Rattle.ibc_c.specs.Answers.{Numbered, answer_number};
+ghost use Rattle.ibc_c.specs.Events.{Applies, Ends};
+ghost use Rattle.ibc_c.specs.Gathering.{AreApart, Audits, JoinsLedger};
+ghost use Rattle.ibc_c.specs.Genesis.{BalanceAdded, Begins, ChainAdded};
+ghost use Rattle.ibc_c.specs.Handles.{freed};
+ghost use Rattle.ibc_c.specs.Worlds.{MakesLedgers, TakesLedger};
+
+use crate::number;
+use ibc_handle::Handle;
+use std::alloc::Global;
+
+/// Makes a genesis with no chains in an empty handle. As `make_genesis`.
+#[unsafe(no_mangle)]
+pub extern "C" fn ibcw_make_genesis(
+    alloc: Global,
+    genesis: &mut Handle,
+    capacity: u64,
+    window: u64,
+) -> u32
+    ensures { Numbered (Begins capacity window genesis.old.value genesis.new.value) result }
+{
+    number(crate::make_genesis(alloc, genesis, capacity, window))
+}
+
+/// Adds a chain to a genesis. As `add_chain`.
+#[unsafe(no_mangle)]
+pub extern "C" fn ibcw_add_chain(alloc: Global, genesis: &mut Handle, time: u64) -> u32
+    ensures { Numbered (ChainAdded time genesis.old.value genesis.new.value) result }
+{
+    number(crate::add_chain(alloc, genesis, time))
+}
+
+/// Lets a user hold so much at the last chain of a genesis. As `add_balance`.
+#[unsafe(no_mangle)]
+pub extern "C" fn ibcw_add_balance(
+    alloc: Global,
+    genesis: &mut Handle,
+    user: &[u8],
+    denom: &[u8],
+    high: u64,
+    low: u64,
+) -> u32
+    ensures { Numbered (BalanceAdded user.now denom.now (high * 2 ^ 64 + low) genesis.old.value genesis.new.value) result }
+{
+    number(crate::add_balance(alloc, genesis, user, denom, high, low))
+}
+
+/// Makes all ledgers of a genesis in an empty handle, under the number of their world. As `make_ledgers`.
+#[unsafe(no_mangle)]
+pub extern "C" fn ibcw_make_ledgers(
+    alloc: Global,
+    genesis: &mut Handle,
+    world: u64,
+    ledgers: &mut Handle,
+) -> u32
+    ensures kept { genesis.new.value ≡ genesis.old.value }
+    ensures made { Numbered (MakesLedgers world genesis.old.value ledgers.old.value ledgers.new.value) result }
+{
+    number(crate::make_ledgers(alloc, genesis, world, ledgers))
+}
+
+/// Moves the first of the ledgers to an empty handle. As `take_ledger`.
+#[unsafe(no_mangle)]
+pub extern "C" fn ibcw_take_ledger(alloc: Global, ledgers: &mut Handle, ledger: &mut Handle) -> u32
+    ensures { Numbered (TakesLedger ledgers.old.value ledgers.new.value ledger.old.value ledger.new.value) result }
+{
+    number(crate::take_ledger(alloc, ledgers, ledger))
+}
+
+/// Moves a ledger to others of its world. The caller gave different worlds different numbers. As `join_ledger`.
+#[unsafe(no_mangle)]
+pub extern "C" fn ibcw_join_ledger(alloc: Global, ledgers: &mut Handle, ledger: &mut Handle) -> u32
+    requires { AreApart ledgers.old.value ledger.old.value }
+    ensures { Numbered (JoinsLedger ledgers.old.value ledgers.new.value ledger.old.value ledger.new.value) result }
+{
+    number(crate::join_ledger(alloc, ledgers, ledger))
+}
+
+/// Audits the ledgers of a world, and puts what they hold into an empty handle. As `audit`.
+#[unsafe(no_mangle)]
+pub extern "C" fn ibcw_audit(alloc: Global, ledgers: &mut Handle, audit: &mut Handle) -> u32
+    ensures { Numbered (Audits ledgers.old.value ledgers.new.value audit.old.value audit.new.value) result }
+{
+    number(crate::audit(alloc, ledgers, audit))
+}
+
+/// Applies the message that the bytes spell to a ledger. As `apply`.
+#[unsafe(no_mangle)]
+pub extern "C" fn ibcw_apply(alloc: Global, ledger: &mut Handle, message: &[u8]) -> u32
+    ensures { Numbered (Applies message.now ledger.old.value ledger.new.value) result }
+{
+    number(crate::apply(alloc, ledger, message))
+}
+
+/// Ends the working block of a ledger. As `end_block`.
+#[unsafe(no_mangle)]
+pub extern "C" fn ibcw_end_block(alloc: Global, ledger: &mut Handle, next_time: u64) -> u32
+    ensures { Numbered (Ends next_time ledger.old.value ledger.new.value) result }
+{
+    number(crate::end_block(alloc, ledger, next_time))
+}
+
+/// Frees what a handle holds. As `free`.
+#[unsafe(no_mangle)]
+pub extern "C" fn ibcw_free(alloc: Global, handle: &mut Handle) -> u32
+    ensures left { handle.new.value ≡ None }
+    ensures answer { result ≡ answer_number (freed handle.old.value) }
+{
+    number(crate::free(alloc, handle))
+}

@@ -1,8 +1,0 @@
-pub mod BurntSteps
-pub mod UnchangedChannels
-pub mod ChannelSteps
-pub mod SendSteps
-pub mod CoreMessages
-mod EndsKept
-pub mod UnsettledPackets
-pub mod PacketSteps

@@ -1,3 +1,0 @@
-pub mod OfCore
-pub mod Orderly
-pub mod Returned

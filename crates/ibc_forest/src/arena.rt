@@ -1,0 +1,222 @@
+//! The nodes of a store's trees, and which pairs of them were hashed.
+
+ghost use Rattle.std.specs.Prelude.{◌≡◌, ◌+◌, ◌<◌, ◌≤◌, ◌∷◌, ◌++◌, [], length, OnOk, OnErr, IfSome, IfOk};
+ghost use Rattle.ibc_merkle.specs.Hash.{one_more};
+ghost use Rattle.ibc_merkle.specs.Tree.{Node, root};
+ghost use Rattle.ibc_forest.specs.Counts.{CountsAtLeast};
+ghost use Rattle.ibc_forest.specs.Levels.{leaf_of, tree_at};
+ghost use Rattle.ibc_forest.specs.Nodes.{built, ChildrenStand, IsRight, Grows};
+
+use crate::node::{ArenaNode, Below, Known};
+use crate::nodes::Nodes;
+use crate::shared_entry::SharedEntry;
+use ibc_merkle::{Steps, hash_inner, hash_leaf, hash_value};
+use std::alloc::{AllocError, Global};
+use std::marker::Model;
+
+// The largest number that is remembered.
+const MOST: usize = u32::MAX as usize;
+
+/// The nodes of trees, by their numbers. Contracts see the tree of each node, and how many texts were hashed.
+#[derive(Drop, Debug)]
+pub struct Arena {
+    nodes: Nodes,
+    known: Vec<Known>,
+    steps: Steps,
+}
+
+impl Model for Arena {
+    ghost use Rattle.std.specs.Prelude.{◌≡◌, length};
+    ghost use Rattle.ibc_forest.specs.Codes.{HeldArena, arena_code};
+
+    ghost Value = { HeldArena };
+
+    ghost coded = { arena_code };
+
+    ghost use Rattle.ibc_forest.specs.Nodes.{AllRemember};
+
+    ghost view = { λ arena. record { trees = arena.nodes; steps = arena.steps } };
+
+    ghost invariant = { λ arena. (length arena.known.items ≡ length arena.nodes) × AllRemember arena.nodes arena.known.items };
+}
+
+impl Arena {
+    /// An arena with no node.
+    pub fn new(alloc: Global) -> Arena
+        ensures trees { result.trees ≡ [] }
+        ensures steps { result.steps ≡ 0 }
+    {
+        Arena {
+            nodes: Nodes::new(alloc),
+            known: Vec::new(alloc),
+            steps: Steps::new(),
+        }
+    }
+
+    /// How many texts were hashed, and never above 2^64 - 1.
+    pub fn steps(&self) -> u64
+        ensures { result ≡ self.now.steps }
+    {
+        self.steps.count()
+    }
+
+    /// Counts anew from no text on.
+    pub fn restart(&mut self)
+        ensures { self.new ≡ record self.old { steps = 0 } }
+    {
+        self.steps = Steps::new();
+    }
+
+    /// The nodes.
+    pub fn nodes(&self) -> &Nodes
+        ensures { result.now ≡ self.now.trees }
+    {
+        &self.nodes
+    }
+
+    /// How many nodes there are.
+    pub fn count(&self) -> usize
+        ensures { result ≡ length self.now.trees }
+    {
+        self.known.len()
+    }
+
+    /// The digest of a node.
+    pub fn digest(&self, node: usize) -> [u8; 32]
+        requires { node < length self.now.trees }
+        ensures { result ≡ root (tree_at self.now.trees node) }
+    {
+        self.nodes.digest(node)
+    }
+
+    /// What stands below a node.
+    pub fn below(&self, node: usize) -> &Below
+        requires { node < length self.now.trees }
+        ensures built { tree_at self.now.trees node ≡ built self.now.trees result.now }
+        ensures stand { ChildrenStand self.now.trees result.now }
+    {
+        self.nodes.below(node)
+    }
+
+    /// Adds a node with its digest. Nothing is hashed.
+    pub fn add(&mut self, node: ArenaNode) -> Result<usize, AllocError>
+        requires { IsRight self.old.trees node }
+        ensures ok { OnOk result (self.new.trees ≡ self.old.trees ++ built self.old.trees node.below ∷ []) }
+        ensures number { IfOk result (λ number. number ≡ length self.old.trees) }
+        ensures err { OnErr result (self.new.trees ≡ self.old.trees) }
+        ensures steps { self.new.steps ≡ self.old.steps }
+    {
+        let number = self.known.len();
+        self.known.reserve(1)?;
+        self.nodes.add(node)?;
+        self.known.push_reserved(Known {
+            right: 0,
+            parent: 0,
+        });
+        Ok(number)
+    }
+
+    /// Adds a leaf, whose pair is moved in: two texts are hashed.
+    #[tactic(auto, using(crate::proofs::Arenas::first_own))]
+    pub fn leaf(&mut self, entry: SharedEntry) -> Result<usize, AllocError>
+        ensures ok { OnOk result (self.new.trees ≡ self.old.trees ++ leaf_of entry ∷ []) }
+        ensures number { IfOk result (λ number. number ≡ length self.old.trees) }
+        ensures err { OnErr result (self.new.trees ≡ self.old.trees) }
+        ensures steps { self.new.steps ≡ one_more (one_more self.old.steps) }
+    {
+        let value = hash_value(entry.value(), &mut self.steps);
+        let digest = hash_leaf(entry.key(), &value, &mut self.steps);
+        let first = self.count();
+        self.add(ArenaNode {
+            digest,
+            first,
+            below: Below::Record(entry),
+        })
+    }
+
+    /// The node over two nodes: the one that the left one remembers, or a new one, for which one text is hashed.
+    #[inline]
+    pub fn pair(&mut self, left: usize, right: usize) -> Result<usize, AllocError>
+        requires left { left < length self.old.trees }
+        requires right { right < length self.old.trees }
+        ensures made { IfOk result (λ number. tree_at self.new.trees number ≡ Node (tree_at self.old.trees left) (tree_at self.old.trees right)) }
+        ensures there { IfOk result (λ number. number < length self.new.trees) }
+        ensures grows { Grows self.old.trees self.new.trees }
+        ensures known { IfOk result (λ number. number < length self.old.trees → self.new ≡ self.old) }
+        ensures hashed { IfOk result (λ number. length self.old.trees ≤ number → self.new.steps ≡ one_more self.old.steps) }
+        ensures err { OnErr result (self.new.steps ≡ one_more self.old.steps) }
+        ensures most { self.new.steps ≤ self.old.steps + 1 }
+        ensures least { CountsAtLeast 0 self.old.steps self.new.steps }
+    {
+        match self.remembered(left, right) {
+            Some(parent) => Ok(parent),
+            None => self.join(left, right),
+        }
+    }
+
+    // The node over two nodes that the left one remembers, if it does.
+    fn remembered(&self, left: usize, right: usize) -> Option<usize>
+        requires { left < length self.now.trees }
+        ensures made { IfSome result (λ number. tree_at self.now.trees number ≡ Node (tree_at self.now.trees left) (tree_at self.now.trees right)) }
+        ensures there { IfSome result (λ number. number < length self.now.trees) }
+    {
+        let known = self.known[left];
+        if known.parent > 0 && known.right as usize == right {
+            return Some(known.parent as usize);
+        }
+        None
+    }
+
+    // A new node over two nodes, which the left one remembers: one text is hashed.
+    #[inline(never)]
+    #[tactic(auto, using(crate::proofs::Arenas::first_left))]
+    fn join(&mut self, left: usize, right: usize) -> Result<usize, AllocError>
+        requires left { left < length self.old.trees }
+        requires right { right < length self.old.trees }
+        ensures made { IfOk result (λ number. tree_at self.new.trees number ≡ Node (tree_at self.old.trees left) (tree_at self.old.trees right)) }
+        ensures there { IfOk result (λ number. number < length self.new.trees) }
+        ensures number { IfOk result (λ number. number ≡ length self.old.trees) }
+        ensures grows { Grows self.old.trees self.new.trees }
+        ensures steps { self.new.steps ≡ one_more self.old.steps }
+    {
+        let (left_digest, right_digest) = (self.digest(left), self.digest(right));
+        let digest = hash_inner(&left_digest, &right_digest, &mut self.steps);
+        let first = self.nodes.first(left);
+        let parent = self.add(ArenaNode {
+            digest,
+            first,
+            below: Below::Children(left, right),
+        })?;
+        self.note(left, right, parent);
+        Ok(parent)
+    }
+
+    // Lets the left one of two nodes remember the node over them, if their numbers are small enough.
+    fn note(&mut self, left: usize, right: usize, parent: usize)
+        requires left { left < length self.old.trees }
+        requires right { right < length self.old.trees }
+        requires parent { parent < length self.old.trees }
+        requires pair { tree_at self.old.trees parent ≡ Node (tree_at self.old.trees left) (tree_at self.old.trees right) }
+        ensures { self.new ≡ self.old }
+    {
+        if right <= MOST && parent <= MOST {
+            self.known[left] = Known {
+                right: right as u32,
+                parent: parent as u32,
+            };
+        }
+    }
+
+    /// Lets the left one of two nodes remember the node over them, if it remembers none.
+    pub fn remember(&mut self, left: usize, right: usize, parent: usize)
+        requires left { left < length self.old.trees }
+        requires right { right < length self.old.trees }
+        requires parent { parent < length self.old.trees }
+        requires pair { tree_at self.old.trees parent ≡ Node (tree_at self.old.trees left) (tree_at self.old.trees right) }
+        ensures { self.new ≡ self.old }
+    {
+        if self.known[left].parent == 0 {
+            self.note(left, right, parent);
+        }
+    }
+}

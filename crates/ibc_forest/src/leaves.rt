@@ -1,0 +1,230 @@
+//! Rows of leaves.
+
+ghost use Rattle.std.specs.Prelude.{◌≡◌, [], ◌+◌, ◌*◌, ◌<◌, ◌≤◌, ◌++◌, true, Ok, length, drop, map, slice_index_or, take, IsTrue, IfOk, OnOk};
+ghost use Rattle.std.specs.FinMap.{is_sorted};
+ghost use Rattle.ibc_forest.specs.Levels.{leaf_of, tree_at, trees_at};
+ghost use Rattle.ibc_forest.specs.Leaves.{pair_at, row_pairs, AreLeaves, from_key, behind_key, begins_with, is_new, count_new, keys, unlike, differing};
+ghost use Rattle.ibc_forest.specs.Counts.{CountsAtLeast, CountsEachNewLeaf};
+ghost use Rattle.ibc_forest.specs.Gaps.{DifferIn, IsFoundFrom, IsOneOther, HasFirst};
+ghost use Rattle.ibc_forest.specs.Nodes.{Grows};
+ghost use Rattle.ibc_forest.specs.Rows.{Stand};
+ghost use Rattle.ibc_ids.specs.Texts.{same_text, text_cmp};
+ghost use Rattle.ibc_merkle.specs.Proofs.{is_below};
+
+use crate::arena::Arena;
+use crate::gap::Gap;
+use crate::node::Below;
+use crate::shared_entry::SharedEntry;
+use std::alloc::{AllocError, Global};
+
+// The pair of a leaf.
+fn leaf_at(arena: &Arena, node: usize) -> &SharedEntry
+    requires there { node < length arena.now.trees }
+    requires leaf { tree_at arena.now.trees node ≡ leaf_of (pair_at arena.now.trees node) }
+    ensures { tree_at arena.now.trees node ≡ leaf_of result.now }
+{
+    match arena.below(node) {
+        Below::Record(entry) => entry,
+        Below::Children(_, _) => unreachable!(),
+    }
+}
+
+// Whether these are the same bytes.
+fn is_same(a: &[u8], b: &[u8]) -> bool
+    ensures { result ≡ same_text a.now b.now }
+{
+    a == b
+}
+
+// Whether the first bytes stand below the second in byte order.
+fn stands_below(a: &[u8], b: &[u8]) -> bool
+    ensures { result ≡ is_below a.now b.now }
+{
+    a.cmp(b).is_lt()
+}
+
+// The place of a row of leaves, from a place on, where the keys aren't below this one any more.
+fn place_from(arena: &Arena, row: &[usize], from: usize, key: &[u8]) -> usize
+    requires leaves { AreLeaves arena.now.trees row.now }
+    requires from { from ≤ length row.now }
+    ensures rest { drop result (row_pairs arena.now.trees row.now) ≡ from_key key.now (drop from (row_pairs arena.now.trees row.now)) }
+    ensures within { result ≤ length row.now }
+{
+    for at in from..row.len() {
+        if !stands_below(leaf_at(arena, row[at]).key(), key) {
+            return at;
+        }
+    }
+    row.len()
+}
+
+// The place behind a place of a row of leaves, if a leaf of this key is there, and else the place.
+fn place_behind(arena: &Arena, row: &[usize], at: usize, key: &[u8]) -> usize
+    requires leaves { AreLeaves arena.now.trees row.now }
+    requires within { at ≤ length row.now }
+    ensures rest { drop result (row_pairs arena.now.trees row.now) ≡ behind_key key.now (drop at (row_pairs arena.now.trees row.now)) }
+    ensures within { result ≤ length row.now }
+{
+    if at == row.len() {
+        return at;
+    }
+    if is_same(leaf_at(arena, row[at]).key(), key) {
+        return at + 1;
+    }
+    at
+}
+
+// Whether the leaf of a pair stands at a place of a row of leaves.
+fn is_there(arena: &Arena, row: &[usize], at: usize, entry: &SharedEntry) -> bool
+    requires leaves { AreLeaves arena.now.trees row.now }
+    requires within { at ≤ length row.now }
+    ensures { result ≡ begins_with entry.now (drop at (row_pairs arena.now.trees row.now)) }
+{
+    if at == row.len() {
+        return false;
+    }
+    let leaf = leaf_at(arena, row[at]);
+    is_same(leaf.key(), entry.key()) && is_same(leaf.value(), entry.value())
+}
+
+// The leaf of a pair: the one at a place of a row, if it is that of the pair, and else a new one, for which two texts
+// are hashed.
+fn leaf_for(
+    arena: &mut Arena,
+    row: &[usize],
+    at: usize,
+    entry: &SharedEntry,
+) -> Result<usize, AllocError>
+    requires leaves { AreLeaves arena.old.trees row.now }
+    requires within { at ≤ length row.now }
+    ensures leaf { IfOk result (λ leaf. tree_at arena.new.trees leaf ≡ leaf_of entry.now) }
+    ensures there { IfOk result (λ leaf. leaf < length arena.new.trees) }
+    ensures grows { Grows arena.old.trees arena.new.trees }
+    ensures steps { arena.new.steps ≤ arena.old.steps + 2 * is_new entry.now (drop at (row_pairs arena.old.trees row.now)) }
+    ensures least { OnOk result (CountsAtLeast (2 * is_new entry.now (drop at (row_pairs arena.old.trees row.now))) arena.old.steps arena.new.steps) }
+    ensures kept { is_new entry.now (drop at (row_pairs arena.old.trees row.now)) ≡ 0 → result ≡ Ok (slice_index_or row.now at 0) }
+{
+    if is_there(arena, row, at, entry) {
+        return Ok(row[at]);
+    }
+    arena.leaf(entry.clone()?)
+}
+
+// Adds the leaves of pairs up to a place to those of the pairs before: those of a row where they have the same pairs, which are
+// looked for from a place of it on, and two texts are hashed for each other one. Answers the place from which the next one
+// is looked for.
+fn add_leaves(
+    arena: &mut Arena,
+    row: &mut Vec<usize>,
+    old: &[usize],
+    place: usize,
+    entries: &[SharedEntry],
+    end: usize,
+) -> Result<usize, AllocError>
+    requires leaves { AreLeaves arena.old.trees old.now }
+    requires sorted { IsTrue (is_sorted text_cmp entries.now) }
+    requires last { IsTrue (is_sorted text_cmp (row_pairs arena.old.trees old.now)) }
+    requires first { HasFirst arena.old.trees entries.now row.old.items }
+    requires place { place ≤ length old.now }
+    requires found { IsFoundFrom (row_pairs arena.old.trees old.now) place (drop (length row.old.items) entries.now) }
+    requires from { length row.old.items ≤ end }
+    requires end { end ≤ length entries.now }
+    ensures first { IfOk result (λ _. HasFirst arena.new.trees entries.now row.new.items) }
+    ensures front { IfOk result (λ _. take (length row.old.items) row.new.items ≡ row.old.items) }
+    ensures end { IfOk result (λ _. length row.new.items ≡ end) }
+    ensures place { IfOk result (λ next. next ≤ length old.now) }
+    ensures found { IfOk result (λ next. IsFoundFrom (row_pairs arena.old.trees old.now) next (drop end entries.now)) }
+    ensures grows { Grows arena.old.trees arena.new.trees }
+    ensures steps { let last = row_pairs arena.old.trees old.now in IfOk result (λ _. arena.new.steps + 2 * count_new last (drop end entries.now) ≤ arena.old.steps + 2 * count_new last (drop (length row.old.items) entries.now)) }
+    ensures least { let last = row_pairs arena.old.trees old.now in OnOk result (CountsAtLeast (2 * count_new last (drop (length row.old.items) entries.now)) arena.old.steps (arena.new.steps + 2 * count_new last (drop end entries.now))) }
+    ensures same { let last = row_pairs arena.old.trees old.now in keys entries.now ≡ keys last → IfOk result (λ _. differing row.new.items old.now + count_new last (drop end entries.now) ≤ differing row.old.items old.now + count_new last (drop (length row.old.items) entries.now)) }
+{
+    let mut at = place;
+    for i in row.len()..end {
+        let entry = &entries[i];
+        let found = place_from(arena, old, at, entry.key());
+        let leaf = leaf_for(arena, old, found, entry)?;
+        row.push(leaf)?;
+        at = place_behind(arena, old, found, entry.key());
+    }
+    Ok(at)
+}
+
+// The leaf of the pair at a place, the only one that may be another than in a row of leaves: the one of the row, if it is that
+// of the pair, and else a new one, for which two texts are hashed.
+pub(crate) fn other_leaf(
+    arena: &mut Arena,
+    old: &[usize],
+    entries: &[SharedEntry],
+    index: usize,
+) -> Result<usize, AllocError>
+    requires leaves { AreLeaves arena.old.trees old.now }
+    requires sorted { IsTrue (is_sorted text_cmp entries.now) }
+    requires last { IsTrue (is_sorted text_cmp (row_pairs arena.old.trees old.now)) }
+    requires other { IsOneOther index (row_pairs arena.old.trees old.now) entries.now }
+    ensures leaf { IfOk result (λ leaf. tree_at arena.new.trees leaf ≡ leaf_of (slice_index_or entries.now index ([], []))) }
+    ensures there { IfOk result (λ leaf. leaf < length arena.new.trees) }
+    ensures grows { Grows arena.old.trees arena.new.trees }
+    ensures steps { arena.new.steps ≤ arena.old.steps + 2 * count_new (row_pairs arena.old.trees old.now) entries.now }
+    ensures least { OnOk result (CountsEachNewLeaf (row_pairs arena.old.trees old.now) entries.now arena.old.steps arena.new.steps) }
+    ensures same { let last = row_pairs arena.old.trees old.now in keys entries.now ≡ keys last → IfOk result (λ leaf. unlike leaf (slice_index_or old.now index 0) ≤ count_new last entries.now) }
+{
+    let entry = &entries[index];
+    let found = place_from(arena, old, index, entry.key());
+    leaf_for(arena, old, found, entry)
+}
+
+// Adds so many numbers of a row from a place on. Answers the place behind them, and where there are none the other one.
+fn add_kept(
+    row: &mut Vec<usize>,
+    old: &[usize],
+    from: usize,
+    kept: usize,
+    place: usize,
+) -> Result<usize, AllocError>
+    requires there { from + kept ≤ length old.now }
+    ensures row { IfOk result (λ _. row.new.items ≡ row.old.items ++ take kept (drop from old.now)) }
+    ensures none { kept ≡ 0 → result ≡ Ok place }
+    ensures some { 0 < kept → IfOk result (λ next. next ≡ from + kept) }
+{
+    if kept == 0 {
+        return Ok(place);
+    }
+    row.extend_from_slice(&old[from..from + kept])?;
+    Ok(from + kept)
+}
+
+// The leaves of pairs that differ in gaps from those of a row of leaves: behind the gaps those of the row, and in them too
+// where they have the same pairs; two texts are hashed for each other one.
+pub(crate) fn leaf_row(
+    alloc: Global,
+    arena: &mut Arena,
+    old: &[usize],
+    entries: &[SharedEntry],
+    gaps: &[Gap],
+) -> Result<Vec<usize>, AllocError>
+    requires leaves { AreLeaves arena.old.trees old.now }
+    requires sorted { IsTrue (is_sorted text_cmp entries.now) }
+    requires last { IsTrue (is_sorted text_cmp (row_pairs arena.old.trees old.now)) }
+    requires gaps { DifferIn gaps.now (row_pairs arena.old.trees old.now) entries.now }
+    ensures leaves { IfOk result (λ row. trees_at arena.new.trees row.items ≡ map leaf_of entries.now) }
+    ensures stand { IfOk result (λ row. Stand arena.new.trees row.items) }
+    ensures grows { Grows arena.old.trees arena.new.trees }
+    ensures steps { IfOk result (λ row. arena.new.steps ≤ arena.old.steps + 2 * count_new (row_pairs arena.old.trees old.now) entries.now) }
+    ensures least { OnOk result (CountsEachNewLeaf (row_pairs arena.old.trees old.now) entries.now arena.old.steps arena.new.steps) }
+    ensures same { keys entries.now ≡ keys (row_pairs arena.old.trees old.now) → IfOk result (λ row. differing row.items old.now ≤ count_new (row_pairs arena.old.trees old.now) entries.now) }
+    ensures gaps { IfOk result (λ row. DifferIn gaps.now old.now row.items) }
+{
+    let mut row = Vec::with_capacity(alloc, entries.len())?;
+    let mut from = 0;
+    let mut place = 0;
+    for i in 0..gaps.len() {
+        let gap = gaps[i];
+        let behind = add_kept(&mut row, old, from, gap.kept, place)?;
+        let end = row.len() + gap.come;
+        place = add_leaves(arena, &mut row, old, behind, entries, end)?;
+        from += gap.kept + gap.gone;
+    }
+    row.extend_from_slice(&old[from..])?;
+    Ok(row)
+}

@@ -1,0 +1,188 @@
+//! The rows of the tree over pairs, from the rows of the tree before.
+
+ghost use Rattle.std.specs.Prelude.{true, false, ◌≡◌, ◌+◌, ◌-◌, ◌*◌, ◌^◌, ◌<◌, ◌≤◌, ℕ, List, length, take, IsTrue, IfOk, IfSome, OnOk, OnErr};
+ghost use Rattle.std.specs.FinMap.{is_sorted};
+ghost use Rattle.ibc_ids.specs.Texts.{text_cmp};
+ghost use Rattle.ibc_forest.specs.Counts.{CountsAtLeast, CountsEachNewLeaf};
+ghost use Rattle.ibc_forest.specs.Leaves.{row_pairs, count_new, keys, differing};
+ghost use Rattle.ibc_forest.specs.Gaps.{DifferIn, IsOneOther};
+ghost use Rattle.ibc_forest.specs.Nodes.{Grows};
+ghost use Rattle.ibc_forest.specs.Rows.{Stand, IsPyramid, rows_of, first_row};
+ghost use Rattle.ibc_forest.specs.Forest.{IsWorking, IsLast};
+ghost use Rattle.ibc_merkle.specs.Tree.{Pairs};
+
+use crate::arena::Arena;
+use crate::gap::Gap;
+use crate::leaves::{leaf_row, other_leaf};
+use crate::shared_entry::SharedEntry;
+use crate::working::{copied, count_differing, first_of, put_leaf, put_leaves, raised};
+use std::alloc::{AllocError, Global};
+
+// Whether it takes fewer texts to put the other leaves into the tree than it has leaves.
+fn are_few(rows: &[Vec<usize>], row: &[usize]) -> bool
+    ensures few { result ≡ true → (length row.now ≡ length (first_row (rows_of rows.now))) × (differing row.now (first_row (rows_of rows.now)) * (length rows.now - 1) < length row.now) }
+    ensures many { result ≡ false → length row.now ≡ length (first_row (rows_of rows.now)) → length row.now ≤ differing row.now (first_row (rows_of rows.now)) * (length rows.now - 1) }
+{
+    let old = first_of(rows);
+    if row.len() != old.len() {
+        return false;
+    }
+    let above = rows.len().saturating_sub(1);
+    count_differing(row, old).saturating_mul(above) < row.len()
+}
+
+// The rows with other leaves: at most one text is hashed for each other one and row above it.
+fn changed(
+    alloc: Global,
+    arena: &mut Arena,
+    rows: &[Vec<usize>],
+    row: &[usize],
+) -> Result<Vec<Vec<usize>>, AllocError>
+    requires levels { IsPyramid arena.old.trees (rows_of rows.now) }
+    requires stand { Stand arena.old.trees row.now }
+    requires counted { length row.now ≡ length (first_row (rows_of rows.now)) }
+    ensures levels { IfOk result (λ next. IsPyramid arena.new.trees (rows_of next.items)) }
+    ensures row { IfOk result (λ next. first_row (rows_of next.items) ≡ row.now) }
+    ensures grows { Grows arena.old.trees arena.new.trees }
+    ensures steps { IfOk result (λ _. arena.new.steps ≤ arena.old.steps + differing row.now (first_row (rows_of rows.now)) * (length rows.now - 1)) }
+    ensures least { OnOk result (CountsAtLeast 0 arena.old.steps arena.new.steps) }
+{
+    let mut next = copied(alloc, rows)?;
+    let mut path = Vec::new(alloc);
+    put_leaves(arena, next.as_mut_slice(), &mut path, row)?;
+    Ok(next)
+}
+
+// How many first numbers are the same in rows that differ in gaps, the first of which has so many.
+#[tactic(auto, using(crate::proofs::KnownRows::front_first, crate::proofs::KnownRows::front_all))]
+fn front_of(gaps: &[Gap], all: usize) -> usize
+    ensures { (old row : List ℕ) → length old ≡ all → DifferIn gaps.now old row → (result ≤ length row) × (take result row ≡ take result old) }
+{
+    if gaps.is_empty() {
+        return all;
+    }
+    gaps[0].kept
+}
+
+// The rows over a row of leaves that differs in gaps from the row before, from the rows before: fewer texts are hashed than
+// there are leaves, and of as many leaves as before at most one for each other leaf and row above it.
+fn rows_over(
+    alloc: Global,
+    arena: &mut Arena,
+    rows: &[Vec<usize>],
+    row: Vec<usize>,
+    gaps: &[Gap],
+) -> Result<Vec<Vec<usize>>, AllocError>
+    requires last { IsLast arena.old.trees (rows_of rows.now) }
+    requires stand { Stand arena.old.trees row.items }
+    requires some { 0 < length row.items }
+    requires gaps { DifferIn gaps.now (first_row (rows_of rows.now)) row.items }
+    ensures levels { IfOk result (λ next. IsPyramid arena.new.trees (rows_of next.items)) }
+    ensures row { IfOk result (λ next. first_row (rows_of next.items) ≡ row.items) }
+    ensures grows { Grows arena.old.trees arena.new.trees }
+    ensures steps { IfOk result (λ _. arena.new.steps + 1 ≤ arena.old.steps + length row.items) }
+    ensures least { OnOk result (CountsAtLeast 0 arena.old.steps arena.new.steps) }
+    ensures few { length row.items ≡ length (first_row (rows_of rows.now)) → IfOk result (λ _. arena.new.steps ≤ arena.old.steps + differing row.items (first_row (rows_of rows.now)) * (length rows.now - 1)) }
+{
+    if are_few(rows, row.as_slice()) {
+        return changed(alloc, arena, rows, row.as_slice());
+    }
+    let front = front_of(gaps, first_of(rows).len());
+    raised(alloc, arena, row, rows, front)
+}
+
+// The rows of the tree over pairs that differ in gaps from those before, from the rows before: at most two texts are hashed
+// for each new pair, and fewer over them than there are pairs; where the keys are the same, at most one for each new pair and
+// level above it.
+fn next_rows(
+    alloc: Global,
+    arena: &mut Arena,
+    rows: &[Vec<usize>],
+    entries: &[SharedEntry],
+    gaps: &[Gap],
+) -> Result<Vec<Vec<usize>>, AllocError>
+    requires last { IsLast arena.old.trees (rows_of rows.now) }
+    requires some { 0 < length entries.now }
+    requires sorted { IsTrue (is_sorted text_cmp entries.now) }
+    requires sorted_last { IsTrue (is_sorted text_cmp (row_pairs arena.old.trees (first_row (rows_of rows.now)))) }
+    requires gaps { DifferIn gaps.now (row_pairs arena.old.trees (first_row (rows_of rows.now))) entries.now }
+    ensures working { IfOk result (λ next. IsWorking arena.new.trees (rows_of next.items)) }
+    ensures pairs { IfOk result (λ next. row_pairs arena.new.trees (first_row (rows_of next.items)) ≡ entries.now) }
+    ensures grows { Grows arena.old.trees arena.new.trees }
+    ensures steps { let new = count_new (row_pairs arena.old.trees (first_row (rows_of rows.now))) entries.now in IfOk result (λ _. arena.new.steps + 1 ≤ arena.old.steps + 2 * new + length entries.now) }
+    ensures least { OnOk result (CountsEachNewLeaf (row_pairs arena.old.trees (first_row (rows_of rows.now))) entries.now arena.old.steps arena.new.steps) }
+    ensures same { let last = row_pairs arena.old.trees (first_row (rows_of rows.now)) in keys entries.now ≡ keys last → (log : ℕ) → length entries.now ≤ 2 ^ log → IfOk result (λ _. arena.new.steps ≤ arena.old.steps + count_new last entries.now * (2 + log)) }
+{
+    let row = leaf_row(alloc, arena, first_of(rows), entries, gaps)?;
+    rows_over(alloc, arena, rows, row, gaps)
+}
+
+// The place of the one pair that came in place of another, where pairs differ in one such gap alone.
+fn one_place(gaps: &[Gap]) -> Option<usize>
+    ensures { IfSome result (λ index. (last pairs : Pairs) → DifferIn gaps.now last pairs → IsOneOther index last pairs) }
+{
+    if gaps.len() != 1 {
+        return None;
+    }
+    let gap = gaps[0];
+    if gap.gone == 1 && gap.come == 1 {
+        return Some(gap.kept);
+    }
+    None
+}
+
+// Puts the leaf of the pair at a place, the only one that may be another, into the rows: at most two texts are hashed for it,
+// and one a row above it. A refusal leaves the rows.
+fn put_other(
+    alloc: Global,
+    arena: &mut Arena,
+    rows: &mut [Vec<usize>],
+    entries: &[SharedEntry],
+    index: usize,
+) -> Result<(), AllocError>
+    requires last { IsLast arena.old.trees (rows_of rows.old) }
+    requires sorted { IsTrue (is_sorted text_cmp entries.now) }
+    requires sorted_last { IsTrue (is_sorted text_cmp (row_pairs arena.old.trees (first_row (rows_of rows.old)))) }
+    requires other { IsOneOther index (row_pairs arena.old.trees (first_row (rows_of rows.old))) entries.now }
+    ensures working { IfOk result (λ _. IsWorking arena.new.trees (rows_of rows.new)) }
+    ensures pairs { IfOk result (λ _. row_pairs arena.new.trees (first_row (rows_of rows.new)) ≡ entries.now) }
+    ensures grows { Grows arena.old.trees arena.new.trees }
+    ensures steps { let new = count_new (row_pairs arena.old.trees (first_row (rows_of rows.old))) entries.now in IfOk result (λ _. arena.new.steps + 1 ≤ arena.old.steps + 2 * new + length entries.now) }
+    ensures least { OnOk result (CountsEachNewLeaf (row_pairs arena.old.trees (first_row (rows_of rows.old))) entries.now arena.old.steps arena.new.steps) }
+    ensures same { let last = row_pairs arena.old.trees (first_row (rows_of rows.old)) in keys entries.now ≡ keys last → (log : ℕ) → length entries.now ≤ 2 ^ log → IfOk result (λ _. arena.new.steps ≤ arena.old.steps + count_new last entries.now * (2 + log)) }
+    ensures err { OnErr result (rows.new ≡ rows.old) }
+{
+    let leaf = other_leaf(arena, first_of(rows), entries, index)?;
+    let mut path = Vec::new(alloc);
+    put_leaf(arena, rows, &mut path, index, leaf)
+}
+
+// Turns the rows of the tree over pairs to those of the next one, whose pairs differ in gaps, within the bounds of `next_rows`.
+// Where one pair may be another, nothing that grows with the pairs is read or written. A refusal leaves the rows.
+pub(crate) fn turn_rows(
+    alloc: Global,
+    arena: &mut Arena,
+    rows: &mut Vec<Vec<usize>>,
+    entries: &[SharedEntry],
+    gaps: &[Gap],
+) -> Result<(), AllocError>
+    requires last { IsLast arena.old.trees (rows_of rows.old.items) }
+    requires some { 0 < length entries.now }
+    requires sorted { IsTrue (is_sorted text_cmp entries.now) }
+    requires sorted_last { IsTrue (is_sorted text_cmp (row_pairs arena.old.trees (first_row (rows_of rows.old.items)))) }
+    requires gaps { DifferIn gaps.now (row_pairs arena.old.trees (first_row (rows_of rows.old.items))) entries.now }
+    ensures working { IfOk result (λ _. IsWorking arena.new.trees (rows_of rows.new.items)) }
+    ensures pairs { IfOk result (λ _. row_pairs arena.new.trees (first_row (rows_of rows.new.items)) ≡ entries.now) }
+    ensures grows { Grows arena.old.trees arena.new.trees }
+    ensures steps { let new = count_new (row_pairs arena.old.trees (first_row (rows_of rows.old.items))) entries.now in IfOk result (λ _. arena.new.steps + 1 ≤ arena.old.steps + 2 * new + length entries.now) }
+    ensures least { OnOk result (CountsEachNewLeaf (row_pairs arena.old.trees (first_row (rows_of rows.old.items))) entries.now arena.old.steps arena.new.steps) }
+    ensures same { let last = row_pairs arena.old.trees (first_row (rows_of rows.old.items)) in keys entries.now ≡ keys last → (log : ℕ) → length entries.now ≤ 2 ^ log → IfOk result (λ _. arena.new.steps ≤ arena.old.steps + count_new last entries.now * (2 + log)) }
+    ensures err { OnErr result (rows.new.items ≡ rows.old.items) }
+{
+    if let Some(index) = one_place(gaps) {
+        return put_other(alloc, arena, rows.as_mut_slice(), entries, index);
+    }
+    let next = next_rows(alloc, arena, rows.as_slice(), entries, gaps)?;
+    *rows = next;
+    Ok(())
+}

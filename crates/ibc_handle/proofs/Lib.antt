@@ -1,0 +1,4 @@
+pub mod Values
+pub mod Crossing
+pub mod Fields
+pub mod OneWorld

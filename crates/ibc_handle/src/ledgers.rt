@@ -1,0 +1,139 @@
+//! Ledgers of one world.
+
+ghost use Rattle.std.specs.Prelude.{◌≡◌, ◌≢◌, ◌⊎◌, ◌↔◌, ◌++◌, ◌∷◌, [], Err, false, length, IfOk, IfErr, MatchOption, OnOk, OnErr};
+ghost use Rattle.ibc_ids.specs.declared.refusal.Refusal.TheVariants.{BadMessage, NoMemory};
+ghost use Rattle.ibc_machine.specs.chain.Genesis.{genesis_state, is_allowed};
+ghost use Rattle.ibc_refinement.specs.World.{AreNew};
+ghost use Rattle.ibc_world_core.specs.Held.{plain};
+ghost use Rattle.ibc_world_core.specs.Audits.{IsAudit, is_whole};
+ghost use Rattle.ibc_theorem.specs.EveryAudit.{AreLawful};
+ghost use Rattle.ibc_handle.specs.Ledgers.{Joins};
+ghost use Rattle.ibc_handle.specs.Joining.{IsToldApart, with_member};
+ghost use Rattle.ibc_handle.specs.declared.ledgers.NotJoined.TheVariants.{OtherWorld, NoMemory as NoRoom};
+
+use crate::WorldLedger;
+use ibc_ids::Refusal;
+use ibc_ledger::Ledger;
+use ibc_machine::Genesis;
+use ibc_theorem::lawful_audit;
+use ibc_world_core::{Audit, World};
+use std::alloc::Global;
+use std::marker::Model;
+
+/// Why a ledger isn't moved to others.
+#[derive(Clone, Copy, Debug, PartialEq, Eq, Drop)]
+pub enum NotJoined {
+    /// There is no value.
+    Empty,
+    /// The value is no ledger.
+    OtherKind,
+    /// The ledger is of a world with another number.
+    OtherWorld,
+    /// A growth was refused.
+    NoMemory,
+}
+
+/// Ledgers of one world, under the number that the world's owner gave it. Contracts see them as a list.
+#[derive(Drop)]
+pub struct Ledgers {
+    number: u64,
+    ledgers: Vec<Ledger>,
+}
+
+impl Model for Ledgers {
+    ghost use Rattle.ibc_world_core.specs.Audits.{AreOfOneWorld};
+    ghost use Rattle.ibc_handle.specs.Ledgers.{HeldLedgers};
+
+    ghost Value = { HeldLedgers };
+
+    ghost view = { λ all. record { number = all.number; ledgers = all.ledgers.items } };
+
+    ghost invariant = { λ all. AreOfOneWorld all.ledgers.items };
+}
+
+impl Ledgers {
+    /// The ledgers of a genesis in the beginning, by the numbers of their chains. Refused: `BadMessage` exactly where the
+    /// genesis isn't allowed; `NoMemory`.
+    pub fn begin(alloc: Global, genesis: &Genesis, number: u64) -> Result<Ledgers, Refusal>
+        ensures number { IfOk result (λ all. all.number ≡ number) }
+        ensures new { IfOk result (λ all. AreNew (genesis_state genesis.now) (plain all.ledgers)) }
+        ensures bad { (result ≡ Err BadMessage) ↔ (is_allowed (genesis_state genesis.now) ≡ false) }
+        ensures err { IfErr result (λ refusal. (refusal ≡ BadMessage) ⊎ (refusal ≡ NoMemory)) }
+    {
+        match World::new(alloc, genesis) {
+            Ok(world) => Ok(Ledgers {
+                number,
+                ledgers: world.into_ledgers(),
+            }),
+            Err(refusal) => Err(refusal),
+        }
+    }
+
+    /// The number of the world.
+    pub fn number(&self) -> u64
+        ensures { result ≡ self.now.number }
+    {
+        self.number
+    }
+
+    /// How many ledgers there are.
+    pub fn len(&self) -> usize
+        ensures { result ≡ length self.now.ledgers }
+    {
+        self.ledgers.len()
+    }
+
+    /// Takes the first ledger out, or none where there is none.
+    pub fn take_first(&mut self) -> Option<Ledger>
+        ensures { MatchOption result ((self.old.ledgers ≡ []) × (self.new ≡ self.old)) (λ ledger. (self.old.ledgers ≡ ledger ∷ self.new.ledgers) × (self.new.number ≡ self.old.number)) }
+    {
+        if self.ledgers.is_empty() {
+            return None;
+        }
+        Some(self.ledgers.remove(0))
+    }
+
+    /// Adds a ledger, which is of the same world. Where a growth is refused it is handed back, and nothing has changed.
+    pub fn add(&mut self, ledger: Ledger) -> Result<(), Ledger>
+        requires { Joins ledger self.old.ledgers }
+        ensures ok { OnOk result (self.new ≡ record self.old { ledgers = self.old.ledgers ++ ledger ∷ [] }) }
+        ensures err { OnErr result (self.new ≡ self.old) }
+        ensures back { IfErr result (λ back. back ≡ ledger) }
+    {
+        let Ok(()) = self.ledgers.reserve(1) else {
+            return Err(ledger);
+        };
+        self.ledgers.push_reserved(ledger);
+        Ok(())
+    }
+
+    /// Adds the ledger, where it is of the world of this number. Else it is handed back with the reason, `OtherWorld` or
+    /// `NoMemory`, and nothing has changed.
+    pub fn join(&mut self, member: WorldLedger) -> Result<(), (NotJoined, WorldLedger)>
+        requires { IsToldApart self.old member }
+        ensures ok { OnOk result ((member.number ≡ self.old.number) × (self.new ≡ with_member self.old member)) }
+        ensures err { OnErr result (self.new ≡ self.old) }
+        ensures back { IfErr result (λ e. (e.1 ≡ member) × (((e.0 ≡ OtherWorld) × (member.number ≢ self.old.number)) ⊎ (e.0 ≡ NoRoom))) }
+    {
+        if member.number != self.number {
+            return Err((NotJoined::OtherWorld, member));
+        }
+        let WorldLedger { number, ledger } = member;
+        match self.add(ledger) {
+            Ok(()) => Ok(()),
+            Err(ledger) => Err((NotJoined::NoMemory, WorldLedger { number, ledger })),
+        }
+    }
+
+    /// What the ledgers hold, and that what they did together is lawful, where no two different texts that they hashed share a
+    /// digest. Refused: `BadMessage` exactly where a chain of their genesis is missing or twice, or there are none; `NoMemory`.
+    /// The ledgers are let go.
+    pub fn audit(self, alloc: Global) -> Result<Audit, Refusal>
+        ensures lawful { IfOk result (AreLawful self.ledgers) }
+        ensures audited { IfOk result (IsAudit self.ledgers) }
+        ensures bad { (result ≡ Err BadMessage) ↔ (is_whole self.ledgers ≡ false) }
+        ensures err { IfErr result (λ refusal. (refusal ≡ BadMessage) ⊎ (refusal ≡ NoMemory)) }
+    {
+        lawful_audit(alloc, self.ledgers)
+    }
+}

@@ -1,0 +1,2 @@
+-- Clients (ICS 2).
+pub mod Clients

@@ -1,0 +1,2 @@
+-- Connections (ICS 3).
+pub mod Connections

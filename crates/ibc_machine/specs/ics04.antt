@@ -1,0 +1,5 @@
+-- Channels and packets (ICS 4).
+pub mod Channels
+pub mod Packets
+pub mod Parts
+pub mod Proving

@@ -1,0 +1,2 @@
+-- Relayers (ICS 18).
+pub mod Relay

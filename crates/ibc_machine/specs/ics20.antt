@@ -1,0 +1,5 @@
+-- Transfers of tokens (ICS 20).
+pub mod TokenData
+pub mod Bank
+pub mod Transfers
+pub mod Returned

@@ -1,0 +1,10 @@
+pub mod Sorted
+pub mod Edits
+pub mod SearchedKeys
+pub mod Keys
+pub mod Orders
+pub mod Rows
+pub mod KeysAmongChunks
+pub mod Changes
+pub mod Merging
+pub mod Taking

@@ -1,0 +1,42 @@
+-- Pairs in chunks.
+use Rattle.std.specs.Prelude.{◌≡◌, ◌<◌, List, [], ◌∷◌, ◌++◌, length, Bool, true, false}
+use Rattle.std.specs.List.{AllByRecursion}
+use Rattle.std.specs.Arc.{arc_value}
+use Rattle.std.specs.FinMap.{is_sorted}
+use Rattle.std.specs.Ordering.{is_gt}
+use Rattle.std.specs.declared.cmp.Ordering.{Ordering}
+use Rattle.std.specs.declared.cmp.Ordering.TheVariants.{Equal}
+use Rattle.std.specs.declared.alloc.Global.{Global}
+use Rattle.std.specs.declared.sync.Arc.{Arc}
+use Rattle.ibc_ids.specs.Maps.{Map}
+use Rattle.ibc_maps.specs.Held.{HeldMap}
+
+-- a copy of a value is the value
+abbrev pub CopiesAreSame : {T : Type 0} → (T → T → Type 0) → Type 0
+CopiesAreSame {T} is_clone = (value copy : T) → is_clone value copy → copy ≡ value
+
+-- keys that tie are the same
+abbrev pub TiesAreSame : {K : Type 0} → (K → K → Ordering) → Type 0
+TiesAreSame {K} order = (key other : K) → order key other ≡ Equal → key ≡ other
+
+abbrev pub Chunk : Type 0 → Type 0 → Type 0
+Chunk K V = Arc (HeldMap K V) Global
+
+-- the pairs of chunks, one after another
+abbrev pub joined : {K V : Type 0} → List (Chunk K V) → Map K V
+joined [] = []
+joined (chunk ∷ chunks) = (arc_value chunk).pairs ++ joined chunks
+
+-- the first key is above this one
+abbrev pub begins_above : {K V : Type 0} → (K → K → Ordering) → K → Map K V → Bool
+begins_above order key [] = false
+begins_above order key (pair ∷ pairs) = is_gt (order pair.0 key)
+
+-- a chunk has some pairs
+abbrev pub HasPairs : {K V : Type 0} → Chunk K V → Type 0
+HasPairs chunk = 0 < length (arc_value chunk).pairs
+
+-- the pairs are in the order of their keys, and each chunk has some
+pub record IsRow {K V : Type 0} (order : K → K → Ordering) (chunks : List (Chunk K V)) : Type 0 where
+  pub sorted : is_sorted order (joined chunks) ≡ true
+  pub whole : AllByRecursion HasPairs chunks

@@ -1,5 +1,0 @@
-use Rattle.ibc_nodes.proofs.NewPairs.{new_without}
-use Rattle.ibc_nodes.proofs.laws.lemma_removal_adds_none.Goals as goal
-
-pub returns : goal.returns
-returns c = new_without

@@ -1,5 +1,0 @@
-use Rattle.ibc_nodes.proofs.NewPairs.{new_unchanged}
-use Rattle.ibc_nodes.proofs.laws.lemma_unchanged_is_none.Goals as goal
-
-pub returns : goal.returns
-returns c = new_unchanged

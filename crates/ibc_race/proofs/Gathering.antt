@@ -1,0 +1,62 @@
+-- Ledgers that are put into chains, and taken out of them with what receipts claim.
+use Rattle.std.proofs.Common.{◌≡◌, ◌∙◌, ℕ, List, [], ◌∷◌, ◌++◌, append_assoc, ◌+◌, length, length-append, map, Result, Ok, Err, IfOk, ap, sym, subst, arith}
+use Rattle.std.specs.List.{All}
+use Rattle.std.proofs.lemmas.List.{append-nil}
+use Rattle.std.proofs.lemmas.List.Elements.{All-append, All-cons, All-nil}
+use Rattle.ibc_ids.specs.declared.refusal.Refusal.{Refusal}
+use Rattle.ibc_machine.specs.chain.Genesis.{GenesisState}
+use Rattle.ibc_root_table.specs.Passes.{TableName}
+use Rattle.ibc_ledger.specs.Held.{HeldLedger}
+use Rattle.ibc_ledger_lock.specs.Worlds.{HoldsIfOf, IsOfWorld, Told, WasOnce}
+use Rattle.ibc_world_core.specs.Audits.{AreOfOneWorld, IsAudit}
+use Rattle.ibc_world_core.specs.declared.holdings.Audit.{Audit}
+use Rattle.ibc_theorem.specs.EveryAudit.{AreLawful}
+use Rattle.ibc_race.proofs.Booked.{Booked, at_place}
+use Rattle.ibc_race.specs.SharedWorlds.{AreGathered, IsAuditOf}
+
+-- one chain more is made
+pub one_more_made : (f : Booked → ℕ) (made after : List ℕ) (left rest all : List Booked) (x : Booked) (n : ℕ) → after ≡ made ++ n ∷ [] → n ≡ f x
+    → left ≡ x ∷ rest → made ++ map f left ≡ map f all → after ++ map f rest ≡ map f all
+one_more_made f made after left rest all x n pushed is next before =
+    ap (λ l. l ++ map f rest) pushed ∙ append_assoc made (n ∷ []) (map f rest) ∙ ap (λ m. made ++ m ∷ map f rest) is
+    ∙ ap (λ l. made ++ map f l) (sym next) ∙ before
+
+-- all chains are made
+pub all_made : (f : Booked → ℕ) (made : List ℕ) (left all : List Booked) → left ≡ [] → made ++ map f left ≡ map f all → made ≡ map f all
+all_made f made left all none before = sym (append-nil made) ∙ ap (λ l. made ++ map f l) (sym none) ∙ before
+
+pub one_world : (table : TableName) (genesis : GenesisState) (ledgers : List HeldLedger) → All (IsOfWorld table genesis) ledgers → AreOfOneWorld ledgers
+one_world table genesis ledgers all first at k h there =
+    let a = at_place (IsOfWorld table genesis) ledgers 0 first all at in
+    let b = at_place (IsOfWorld table genesis) ledgers k h all there in
+    (b.0 ∙ sym a.0, b.1 ∙ sym a.1)
+
+-- of so many one more is taken out, and one less is left
+pub as_many : {X Y : Type 0} (before after : List X) (x : X) (left rest : List Y) (y : Y) (n : ℕ) → after ≡ before ++ x ∷ [] → left ≡ y ∷ rest
+    → length before + length left ≡ n → length after + length rest ≡ n
+as_many before after x left rest y n pushed next many =
+    let long = ap length pushed ∙ length-append before (x ∷ []) in
+    let short = ap length next in
+    omega arith
+
+-- one ledger more is taken out
+module _ (table : TableName) (genesis : GenesisState) (receipts claims : List Told) (readings reads : List HeldLedger) where
+  pub gathered : (ledgers after : List HeldLedger) (held : HeldLedger) → claims ≡ receipts → reads ≡ readings → after ≡ ledgers ++ held ∷ []
+      → AreGathered table genesis receipts readings ledgers → IsOfWorld table genesis held
+      → All (HoldsIfOf held) claims → All (WasOnce held) reads → AreGathered table genesis receipts readings after
+  gathered ledgers after held same_claims same_reads pushed before world holds once =
+      let Claimed : HeldLedger → Type 0 = λ h. All (HoldsIfOf h) receipts in
+      let Read : HeldLedger → Type 0 = λ h. All (WasOnce h) readings in
+      let with_one : (P : HeldLedger → Type 0) → All P ledgers → P held → All P (ledgers ++ held ∷ []) =
+      λ P all one. All-append P ledgers (held ∷ []) all (All-cons P held [] one (All-nil P)) in
+      subst (AreGathered table genesis receipts readings) (sym pushed) (
+        with_one (IsOfWorld table genesis) before.0 world,
+        with_one Claimed before.1 (subst (All (HoldsIfOf held)) same_claims holds),
+        with_one Read before.2 (subst (All (WasOnce held)) same_reads once),
+      )
+
+pub audited : (table : TableName) (genesis : GenesisState) (n : ℕ) (receipts : List Told) (readings ledgers : List HeldLedger) (answer : Result Audit Refusal)
+    → length ledgers ≡ n → AreGathered table genesis receipts readings ledgers → IfOk answer (IsAudit ledgers) → IfOk answer (AreLawful ledgers)
+    → IfOk answer (IsAuditOf table genesis n receipts readings)
+audited table genesis n receipts readings ledgers (Ok audit) many are is lawful = (ledgers, many, are, is, lawful)
+audited table genesis n receipts readings ledgers (Err refusal) many are is lawful = tt

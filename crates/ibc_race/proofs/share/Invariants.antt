@@ -1,0 +1,12 @@
+use Rattle.std.proofs.Common.{◌≡◌, ◌++◌, length, map}
+use Rattle.std.specs.List.{All}
+use Rattle.std.specs.Vec.Iter.{into_iter_items, into_iter_len}
+use Rattle.ibc_race.specs.SharedWorlds.{HasItsBook}
+use Rattle.ibc_race.proofs.share.Given as goal
+
+abbrev pub invariant-loop-ledger : goal.invariant-loop-ledger
+invariant-loop-ledger g l = record {
+  left : All (HasItsBook g.W.World.table g.W.World.genesis g.W.World.book) (into_iter_items l.ledger-iterator);
+  counted : into_iter_len l.ledger-iterator ≡ length (into_iter_items l.ledger-iterator);
+  made : l.chains.items ++ map (λ p. p.0.ledger.chain) (into_iter_items l.ledger-iterator) ≡ map (λ p. p.0.ledger.chain) l.fn.ledgers.items;
+}

@@ -1,6 +1,0 @@
-use Rattle.std.proofs.Common.{◌≡◌, take}
-use Rattle.ibc_shared_map.specs.Changes.{changed}
-use Rattle.ibc_shared_map.proofs.shared_map.write_all.Given as goal
-
-abbrev pub invariant-loop-change : goal.invariant-loop-change
-invariant-loop-change g l = l.row ≡ changed g.K.Ord.cmp (take l.change-index l.changes) l.initial.row

@@ -1,4 +1,0 @@
-pub mod Chunks
-pub mod Changes
-pub mod Settled
-pub mod Merging

@@ -1,4 +1,0 @@
-pub mod Sorted
-pub mod Edits
-pub mod Places
-pub mod Keys

@@ -1,0 +1,25 @@
+//! The audit of ledgers that were driven apart, and the laws of what they did.
+
+ghost use Rattle.std.specs.Prelude.{◌≡◌, ◌⊎◌, ◌↔◌, Err, false, IfOk, IfErr};
+ghost use Rattle.ibc_ids.specs.declared.refusal.Refusal.TheVariants.{BadMessage, NoMemory};
+ghost use Rattle.ibc_world_core.specs.Audits.{AreOfOneWorld, IsAudit, is_whole};
+ghost use Rattle.ibc_theorem.specs.EveryAudit.{AreLawful};
+
+use crate::the_laws_hold;
+use ibc_ids::Refusal;
+use ibc_ledger::Ledger;
+use ibc_world_core::{Audit, audit};
+use std::alloc::Global;
+
+/// What `audit` answers. Where no two different texts that the chains hashed share a digest, what the ledgers did together is
+/// a run of the machine since genesis, of which the laws hold. Refused as `audit` says.
+pub fn lawful_audit(alloc: Global, ledgers: Vec<Ledger>) -> Result<Audit, Refusal>
+    requires { AreOfOneWorld ledgers.items }
+    ensures lawful { IfOk result (AreLawful ledgers.items) }
+    ensures audited { IfOk result (IsAudit ledgers.items) }
+    ensures bad { (result ≡ Err BadMessage) ↔ (is_whole ledgers.items ≡ false) }
+    ensures err { IfErr result (λ refusal. (refusal ≡ BadMessage) ⊎ (refusal ≡ NoMemory)) }
+{
+    the_laws_hold();
+    audit(alloc, ledgers)
+}
