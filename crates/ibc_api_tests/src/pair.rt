@@ -1,6 +1,6 @@
 //! Two chains with a channel of tokens between them, and what a relayer carries over it, by calls.
 
-use ibc_ids::{Bytes, ChannelId, Key, Kind, Memo, Name, Refusal};
+use ibc_ids::{Bytes, ChannelId, Key, Memo, Name, NameKind, Refusal};
 use ibc_ledger::View;
 use ibc_machine::{ChainStart, Event, Genesis, Reply};
 use ibc_wire::{
@@ -13,7 +13,7 @@ use std::alloc::Global;
 use std::process::Abort;
 
 /// The name or denomination that a text is.
-pub fn name<K: Kind>(rt: &impl Abort, alloc: Global, text: &str) -> Name<K> {
+pub fn name<K: NameKind>(rt: &impl Abort, alloc: Global, text: &str) -> Name<K> {
     Name::parse(alloc, text).expect(rt, "a name")
 }
 

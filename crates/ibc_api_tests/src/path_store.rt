@@ -5,7 +5,7 @@ ghost use Rattle.std.specs.Prelude.{◌≡◌, ◌<◌, length};
 use crate::genesis::GENESIS_ROOT;
 use ibc_ids::{Bytes, Key, Refusal};
 use ibc_merkle::Proof;
-use ibc_path_store::{Store, Tree};
+use ibc_path_store::{CommittedTree, Store};
 use std::alloc::Global;
 use std::process::Abort;
 
@@ -103,7 +103,7 @@ fn check_no_trees(rt: &impl Abort, store: &Store) {
 }
 
 // The tree of the second height of a new chain in a window of one, whose store is gone.
-fn second_tree(rt: &impl Abort, alloc: Global) -> Tree {
+fn second_tree(rt: &impl Abort, alloc: Global) -> CommittedTree {
     let mut store = new_store(rt, alloc, 1);
     commit_twice(rt, &mut store);
     check_no_trees(rt, &store);

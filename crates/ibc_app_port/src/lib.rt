@@ -5,4 +5,4 @@ mod application;
 mod payment;
 
 pub use application::App;
-pub use payment::{Nobody, Pays};
+pub use payment::{NoPayer, Pays};

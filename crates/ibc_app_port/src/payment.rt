@@ -20,9 +20,9 @@ pub trait Pays<Bill> {
 
 /// The payer of packets that cost nothing.
 #[derive(Clone, Copy, Debug, Drop)]
-pub struct Nobody;
+pub struct NoPayer;
 
-impl Pays<()> for Nobody {
+impl Pays<()> for NoPayer {
     ghost pays = { λ payer bill. Ok payer };
 
     fn pay(&mut self, _bill: &()) -> Result<(), Refusal> {

@@ -4,4 +4,4 @@ mod Tallies
 mod Carried
 mod Starts
 mod Changed
-mod Steps
+mod MoveSequences

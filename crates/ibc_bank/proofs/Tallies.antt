@@ -10,7 +10,7 @@ use Rattle.ibc_machine.proofs.SortedMaps.{Sorted-from}
 use Rattle.ibc_machine.proofs.Measures.{Test, measure-with_balance, given, paid}
 use Rattle.ibc_bank.specs.Amounts.{AreKept, amount_at, with_amount}
 use Rattle.ibc_bank.specs.Moves.{BankState, token_of, burnt_of, with_burnt, with_balances}
-use Rattle.ibc_bank.specs.Books.{IsBalanced, in_hand, nothing}
+use Rattle.ibc_bank.specs.BankModel.{IsBalanced, amount_in_transit, no_amount}
 use Rattle.ibc_bank.proofs.Writes.{by_denom, denom_amount, kept-with_amount}
 
 -- ---- supplies
@@ -42,7 +42,7 @@ amount_is_kept denom n m kept = kept-with_amount text_cmp_total by_text denom n 
 
 -- ---- what is in hand has room
 
-module _ (denom : Text) (amount : ℕ) (bank : BankState) (totals : Map Text ℕ) (b : IsBalanced (in_hand (token_of denom amount)) bank totals) where
+module _ (denom : Text) (amount : ℕ) (bank : BankState) (totals : Map Text ℕ) (b : IsBalanced (amount_in_transit (token_of denom amount)) bank totals) where
   whole : amount_at text_cmp denom totals ≡ supply bank.balances denom + burnt_of bank denom + amount
   whole =
       let t = b.tallied denom in
@@ -64,7 +64,7 @@ module _ (denom : Text) (amount : ℕ) (bank : BankState) (totals : Map Text ℕ
 
   -- ---- put into an account, burnt, or put outside
 
-  pub put_in_account : (holder : Text) → IsBalanced nothing (with_balances bank (give holder (token_of denom amount) bank.balances)) totals
+  pub put_in_account : (holder : Text) → IsBalanced no_amount (with_balances bank (give holder (token_of denom amount) bank.balances)) totals
   put_in_account holder = record {
     held_kept = balance_is_kept holder denom (balance bank.balances holder denom + amount) bank.balances b.held_kept;
     burnt_kept = b.burnt_kept;
@@ -76,7 +76,7 @@ module _ (denom : Text) (amount : ℕ) (bank : BankState) (totals : Map Text ℕ
     bounded = b.bounded;
   }
 
-  pub put_in_burnt : IsBalanced nothing (with_burnt denom (burnt_of bank denom + amount) bank) totals
+  pub put_in_burnt : IsBalanced no_amount (with_burnt denom (burnt_of bank denom + amount) bank) totals
   put_in_burnt = record {
     held_kept = b.held_kept;
     burnt_kept = amount_is_kept denom (burnt_of bank denom + amount) bank.burnt b.burnt_kept;
@@ -90,7 +90,7 @@ module _ (denom : Text) (amount : ℕ) (bank : BankState) (totals : Map Text ℕ
     bounded = b.bounded;
   }
 
-  pub put_outside : IsBalanced nothing bank (with_amount text_cmp denom (amount_at text_cmp denom totals - amount) totals)
+  pub put_outside : IsBalanced no_amount bank (with_amount text_cmp denom (amount_at text_cmp denom totals - amount) totals)
   put_outside = record {
     held_kept = b.held_kept;
     burnt_kept = b.burnt_kept;
@@ -122,9 +122,9 @@ paid_less holder denom amount b enough = go (nat_lt (balance b holder denom) amo
 
 -- ---- taken from an account, from what was burnt, or from outside
 
-module _ (denom : Text) (amount : ℕ) (bank : BankState) (totals : Map Text ℕ) (b : IsBalanced nothing bank totals) where
+module _ (denom : Text) (amount : ℕ) (bank : BankState) (totals : Map Text ℕ) (b : IsBalanced no_amount bank totals) where
   pub taken_from_account : (holder : Text) → amount ≤ balance bank.balances holder denom
-      → IsBalanced (in_hand (token_of denom amount)) (with_balances bank (with_balance holder denom (balance bank.balances holder denom - amount) bank.balances)) totals
+      → IsBalanced (amount_in_transit (token_of denom amount)) (with_balances bank (with_balance holder denom (balance bank.balances holder denom - amount) bank.balances)) totals
   taken_from_account holder enough =
       let left : ℕ = balance bank.balances holder denom - amount in
       let moved = λ (d : Text). paid (of_denom d) holder (token_of denom amount) bank.balances (with_balance holder denom (balance bank.balances holder denom - amount) bank.balances)
@@ -137,7 +137,7 @@ module _ (denom : Text) (amount : ℕ) (bank : BankState) (totals : Map Text ℕ
         bounded = b.bounded;
       }
 
-  pub taken_from_burnt : amount ≤ burnt_of bank denom → IsBalanced (in_hand (token_of denom amount)) (with_burnt denom (burnt_of bank denom - amount) bank) totals
+  pub taken_from_burnt : amount ≤ burnt_of bank denom → IsBalanced (amount_in_transit (token_of denom amount)) (with_burnt denom (burnt_of bank denom - amount) bank) totals
   taken_from_burnt enough = record {
     held_kept = b.held_kept;
     burnt_kept = amount_is_kept denom (burnt_of bank denom - amount) bank.burnt b.burnt_kept;
@@ -152,7 +152,7 @@ module _ (denom : Text) (amount : ℕ) (bank : BankState) (totals : Map Text ℕ
   }
 
   pub taken_from_outside : amount_at text_cmp denom totals + amount < 2 ^ 128
-      → IsBalanced (in_hand (token_of denom amount)) bank (with_amount text_cmp denom (amount_at text_cmp denom totals + amount) totals)
+      → IsBalanced (amount_in_transit (token_of denom amount)) bank (with_amount text_cmp denom (amount_at text_cmp denom totals + amount) totals)
   taken_from_outside fits = record {
     held_kept = b.held_kept;
     burnt_kept = b.burnt_kept;
@@ -174,20 +174,20 @@ module _ (denom : Text) (amount : ℕ) (bank : BankState) (totals : Map Text ℕ
 -- ---- what was burnt is settled
 
 pub settled_tally : (denom : Text) (amount : ℕ) (balances : Balances) (burnt totals burnt_then totals_then : Map Text ℕ)
-    → IsBalanced nothing (record { balances = balances; burnt = burnt }) totals → amount ≤ amount_at text_cmp denom burnt
+    → IsBalanced no_amount (record { balances = balances; burnt = burnt }) totals → amount ≤ amount_at text_cmp denom burnt
     → burnt_then ≡ with_amount text_cmp denom (amount_at text_cmp denom burnt - amount) burnt
     → totals_then ≡ with_amount text_cmp denom (amount_at text_cmp denom totals - amount) totals
-    → IsBalanced nothing (record { balances = balances; burnt = burnt_then }) totals_then
+    → IsBalanced no_amount (record { balances = balances; burnt = burnt_then }) totals_then
 settled_tally denom amount balances burnt totals burnt_then totals_then b enough less fewer =
     let bank : BankState = record { balances = balances; burnt = burnt } in
     let after : BankState = with_burnt denom (amount_at text_cmp denom burnt - amount) bank in
     let done = put_outside denom amount after totals (taken_from_burnt denom amount bank totals b enough) in
-    subst (λ m. IsBalanced nothing (record { balances = balances; burnt = burnt_then }) m) (sym fewer)
-    (subst (λ m. IsBalanced nothing (record { balances = balances; burnt = m }) (with_amount text_cmp denom (amount_at text_cmp denom totals - amount) totals)) (sym less) done)
+    subst (λ m. IsBalanced no_amount (record { balances = balances; burnt = burnt_then }) m) (sym fewer)
+    (subst (λ m. IsBalanced no_amount (record { balances = balances; burnt = m }) (with_amount text_cmp denom (amount_at text_cmp denom totals - amount) totals)) (sym less) done)
 
 -- ---- a balance is set
 
-module _ (user denom : Text) (amount : ℕ) (bank : BankState) (totals : Map Text ℕ) (b : IsBalanced nothing bank totals)
+module _ (user denom : Text) (amount : ℕ) (bank : BankState) (totals : Map Text ℕ) (b : IsBalanced no_amount bank totals)
     (fits : supply (with_balance user denom amount bank.balances) denom + burnt_of bank denom < 2 ^ 128) where
   pub held_within : balance bank.balances user denom ≤ amount_at text_cmp denom totals
   held_within =
@@ -210,7 +210,7 @@ module _ (user denom : Text) (amount : ℕ) (bank : BankState) (totals : Map Tex
       let s = set_supply in
       omega arith
 
-  pub held_tally : IsBalanced nothing (with_balances bank (with_balance user denom amount bank.balances))
+  pub held_tally : IsBalanced no_amount (with_balances bank (with_balance user denom amount bank.balances))
       (with_amount text_cmp denom (amount_at text_cmp denom totals - balance bank.balances user denom + amount) totals)
   held_tally =
       let total : ℕ = amount_at text_cmp denom totals - balance bank.balances user denom + amount in

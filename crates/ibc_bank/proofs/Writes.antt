@@ -16,7 +16,7 @@ use Rattle.ibc_ids.specs.Maps.{Map, at, with, without}
 use Rattle.ibc_ids.proofs.Texts.{text_same, same_text_from, text_cmp_total, text_ties, text_tied}
 use Rattle.ibc_machine.proofs.FiniteMaps.{TellsApart, is_equal, by_text, at-with}
 use Rattle.ibc_machine.proofs.SortedMaps.{Sorted, Sorted-from, Sorted-to, Sorted-with, Sorted-without, at-without_same, at-without_other}
-use Rattle.ibc_bank.specs.Amounts.{AreKept, amount_at, with_amount, written}
+use Rattle.ibc_bank.specs.Amounts.{AreKept, amount_at, with_amount, with_amounts}
 
 module _ {K : Type 0} {order : K → K → Ordering} (total : IsTotalOrder order) (o : TellsApart order) where
   -- ---- one write
@@ -63,16 +63,16 @@ module _ {K : Type 0} {order : K → K → Ordering} (total : IsTotalOrder order
 
   -- ---- one write after another
 
-  pub sorted-written : (changes : List (K × ℕ)) (m : Map K ℕ) → Sorted order m → Sorted order (written order changes m)
+  pub sorted-written : (changes : List (K × ℕ)) (m : Map K ℕ) → Sorted order m → Sorted order (with_amounts order changes m)
   sorted-written [] m sorted = sorted
   sorted-written (c ∷ cs) m sorted = sorted-written cs (with_amount order c.0 c.1 m) (sorted-with_amount c.0 c.1 m sorted)
 
   -- what is at a key after the changes up to a place and the one there
   pub after_more : (changes : List (K × ℕ)) (i : ℕ) (c : K × ℕ) → i < length changes → c ≡ get_or changes i c → (m : Map K ℕ) → is_sorted order m ≡ true
-      → (q : K) → amount_at order q (written order (take (i + 1) changes) m) ≡ cond (is_eq (order q c.0)) c.1 (amount_at order q (written order (take i changes) m))
+      → (q : K) → amount_at order q (with_amounts order (take (i + 1) changes) m) ≡ cond (is_eq (order q c.0)) c.1 (amount_at order q (with_amounts order (take i changes) m))
   after_more changes i c inside here m sorted q =
-      ap (amount_at order q) (fold_more (λ (a : Map K ℕ) (d : K × ℕ). with_amount order d.0 d.1 a) m changes i c inside ∙ ap (λ (d : K × ℕ). with_amount order d.0 d.1 (written order (take i changes) m)) (sym here))
-      ∙ amount_at-with_amount c.0 q c.1 (written order (take i changes) m) (sorted-written (take i changes) m (Sorted-from order m sorted))
+      ap (amount_at order q) (fold_more (λ (a : Map K ℕ) (d : K × ℕ). with_amount order d.0 d.1 a) m changes i c inside ∙ ap (λ (d : K × ℕ). with_amount order d.0 d.1 (with_amounts order (take i changes) m)) (sym here))
+      ∙ amount_at-with_amount c.0 q c.1 (with_amounts order (take i changes) m) (sorted-written (take i changes) m (Sorted-from order m sorted))
 
 -- ---- at denominations
 

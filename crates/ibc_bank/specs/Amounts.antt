@@ -17,8 +17,8 @@ with_amount order key amount amounts =
     if amount == 0 then without order key amounts else with order key amount amounts
 
 -- with each of these amounts, one after another
-abbrev pub written : {K : Type 0} → (K → K → Ordering) → List (K × ℕ) → Map K ℕ → Map K ℕ
-written {K} order changes amounts =
+abbrev pub with_amounts : {K : Type 0} → (K → K → Ordering) → List (K × ℕ) → Map K ℕ → Map K ℕ
+with_amounts {K} order changes amounts =
     fold (λ m (change : K × ℕ). with_amount order change.0 change.1 m) amounts changes
 
 -- in the order of the keys, and above 0

@@ -1,6 +1,6 @@
 pub mod Amounts
 pub mod Parties
 pub mod Moves
-pub mod Places
-pub mod Books
-pub mod Listed
+pub mod TokenPlaces
+pub mod BankModel
+pub mod ListedHoldings

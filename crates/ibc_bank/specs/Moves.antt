@@ -35,45 +35,45 @@ with_balances bank balances = record bank { balances = balances }
 -- ---- the six moves: None where one is refused
 
 -- from a user to the escrow of a channel
-abbrev pub escrowed : Text → Text → Token → BankState → Option BankState
-escrowed user channel token bank = option_map (with_balances bank) (into_escrow channel user token bank.balances)
+abbrev pub after_escrow : Text → Text → Token → BankState → Option BankState
+after_escrow user channel token bank = option_map (with_balances bank) (into_escrow channel user token bank.balances)
 
 -- from the escrow of a channel to a user
-abbrev pub released : Text → Text → Token → BankState → Option BankState
-released channel user token bank = option_map (with_balances bank) (out_of_escrow channel user token bank.balances)
+abbrev pub after_release : Text → Text → Token → BankState → Option BankState
+after_release channel user token bank = option_map (with_balances bank) (out_of_escrow channel user token bank.balances)
 
 -- a user's tokens are burnt, and may still be refunded
-abbrev pub burned : Text → Token → BankState → Option BankState
-burned user token bank =
+abbrev pub after_burn : Text → Token → BankState → Option BankState
+after_burn user token bank =
     option_map (λ balances. with_burnt token.denom (burnt_of bank token.denom + token.amount) (with_balances bank balances)) (pay user token bank.balances)
 
 -- new tokens for a user
-abbrev pub minted : Text → Token → BankState → Option BankState
-minted user token bank =
+abbrev pub after_mint : Text → Token → BankState → Option BankState
+after_mint user token bank =
     option_map (with_balances bank) (mint (burnt_of bank token.denom) user token bank.balances)
 
 -- back to a user out of the escrow, or minted again where they were burnt
-abbrev pub refunded : Text → Source → Token → BankState → Option BankState
-refunded user (source.Escrow channel) token bank = released channel user token bank
-refunded user source.Burnt token bank =
+abbrev pub after_refund : Text → Source → Token → BankState → Option BankState
+after_refund user (source.Escrow channel) token bank = after_release channel user token bank
+after_refund user source.Burnt token bank =
     if nat_lt (burnt_of bank token.denom) token.amount then None
     else Some (with_burnt token.denom (burnt_of bank token.denom - token.amount) (with_balances bank (give user token bank.balances)))
 
 -- what was burnt isn't refunded any more: the amount, or all where it is less
-abbrev pub settled : Token → BankState → BankState
-settled token bank = with_burnt token.denom (burnt_of bank token.denom - token.amount) bank
+abbrev pub after_settlement : Token → BankState → BankState
+after_settlement token bank = with_burnt token.denom (burnt_of bank token.denom - token.amount) bank
 
 -- ---- moves
 
-abbrev pub moved : Move → BankState → Checked BankState
-moved (move.Escrow user channel denom amount) bank = expect (escrowed user channel (token_of denom amount) bank) Poor
-moved (move.Release channel user denom amount) bank = expect (released channel user (token_of denom amount) bank) Poor
-moved (move.Burn user denom amount) bank = expect (burned user (token_of denom amount) bank) Poor
-moved (move.Mint user denom amount) bank = expect (minted user (token_of denom amount) bank) TooLarge
-moved (move.Refund user source denom amount) bank = expect (refunded user source (token_of denom amount) bank) Poor
-moved (move.Settle denom amount) bank = Ok (settled (token_of denom amount) bank)
+abbrev pub after_move : Move → BankState → Checked BankState
+after_move (move.Escrow user channel denom amount) bank = expect (after_escrow user channel (token_of denom amount) bank) Poor
+after_move (move.Release channel user denom amount) bank = expect (after_release channel user (token_of denom amount) bank) Poor
+after_move (move.Burn user denom amount) bank = expect (after_burn user (token_of denom amount) bank) Poor
+after_move (move.Mint user denom amount) bank = expect (after_mint user (token_of denom amount) bank) TooLarge
+after_move (move.Refund user source denom amount) bank = expect (after_refund user source (token_of denom amount) bank) Poor
+after_move (move.Settle denom amount) bank = Ok (after_settlement (token_of denom amount) bank)
 
 -- one move after another, or the refusal of the first that fails
-abbrev pub moved_all : List Move → BankState → Checked BankState
-moved_all [] bank = Ok bank
-moved_all (m ∷ moves) bank = moved m bank >>= moved_all moves
+abbrev pub after_moves : List Move → BankState → Checked BankState
+after_moves [] bank = Ok bank
+after_moves (m ∷ moves) bank = after_move m bank >>= after_moves moves

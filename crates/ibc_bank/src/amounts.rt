@@ -3,7 +3,7 @@
 ghost use Rattle.std.specs.Prelude.{◌≡◌, ◌-◌, ◌≤◌, ◌<◌, ◌+◌, [], length, IsOk, IsTrue, OnOk};
 ghost use Rattle.std.specs.FinMap.{is_sorted};
 ghost use Rattle.ibc_ids.specs.Texts.{text_cmp};
-ghost use Rattle.ibc_bank.specs.Amounts.{amount_at, with_amount, written};
+ghost use Rattle.ibc_bank.specs.Amounts.{amount_at, with_amount, with_amounts};
 
 use ibc_ids::Denom;
 use ibc_maps::SortedMap;
@@ -21,11 +21,11 @@ pub(crate) struct Amounts<K: Ord> {
 impl<K: Ord> Model for Amounts<K> {
     ghost use Rattle.std.specs.Prelude.{ℕ};
     ghost use Rattle.std.specs.Coded.{coded_ℕ};
-    ghost use Rattle.ibc_maps.specs.Held.{HeldMap, held_code};
+    ghost use Rattle.ibc_maps.specs.SortedMapModel.{SortedMapModel, sorted_map_code};
 
-    ghost Value = { HeldMap K ℕ };
+    ghost Value = { SortedMapModel K ℕ };
 
-    ghost coded = { held_code K.code coded_ℕ };
+    ghost coded = { sorted_map_code K.code coded_ℕ };
 
     ghost view = { λ amounts. amounts.map };
 }
@@ -57,7 +57,7 @@ impl<K: Ord> Amounts<K> {
     }
 
     /// The amounts are in the order of their keys.
-    pub(crate) fn are_in_order(&self)
+    pub(crate) fn lemma_in_order(&self)
         ensures { IsTrue (is_sorted K.cmp self.now.pairs) }
     {
         self.map.entries();
@@ -104,7 +104,7 @@ impl<K: Ord> Amounts<K> {
     pub(crate) fn write_all(&mut self, changes: Vec<(K, u128)>) -> Result<(), AllocError>
     where
         K: Drop,
-        ensures ok { OnOk result (self.new.pairs ≡ written K.cmp changes.items self.old.pairs) }
+        ensures ok { OnOk result (self.new.pairs ≡ with_amounts K.cmp changes.items self.old.pairs) }
         ensures reserved { length changes.items ≤ self.old.room → IsOk result }
     {
         for (key, amount) in changes {
@@ -117,9 +117,9 @@ impl<K: Ord> Amounts<K> {
 impl Amounts<Denom> {
     /// The amount of a denomination after changes.
     pub(crate) fn after(&self, changes: &[(Denom, u128)], denom: &Denom) -> u128
-        ensures { result ≡ amount_at text_cmp denom.now (written text_cmp changes.now self.now.pairs) }
+        ensures { result ≡ amount_at text_cmp denom.now (with_amounts text_cmp changes.now self.now.pairs) }
     {
-        self.are_in_order();
+        self.lemma_in_order();
         let mut amount = self.get(denom);
         for (changed, after) in changes {
             if changed == denom {

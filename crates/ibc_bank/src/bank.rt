@@ -8,17 +8,17 @@ ghost use Rattle.ibc_ids.specs.Paths.{account_text};
 ghost use Rattle.ibc_machine.specs.ics20.Bank.{balance, supply, is_bounded};
 ghost use Rattle.ibc_machine.specs.chain.Genesis.{starting_balances, is_fair};
 ghost use Rattle.ibc_bank.specs.Amounts.{AreKept};
-ghost use Rattle.ibc_bank.specs.Books.{IsBalanced, nothing, state_of};
-ghost use Rattle.ibc_bank.specs.Moves.{BankState, token_of, burnt_of, escrowed, released, burned, minted, refunded, settled, moved_all};
-ghost use Rattle.ibc_bank.specs.Places.{carried};
-ghost use Rattle.ibc_bank.specs.Listed.{plain_holding};
+ghost use Rattle.ibc_bank.specs.BankModel.{IsBalanced, no_amount, state_of};
+ghost use Rattle.ibc_bank.specs.Moves.{BankState, token_of, burnt_of, after_escrow, after_release, after_burn, after_mint, after_refund, after_settlement, after_moves};
+ghost use Rattle.ibc_bank.specs.TokenPlaces.{after_carrying};
+ghost use Rattle.ibc_bank.specs.ListedHoldings.{abstract_holding};
 ghost use Rattle.ibc_ids.specs.declared.refusal.Refusal.{Refusal};
 ghost use Rattle.ibc_ids.specs.declared.refusal.Refusal.TheVariants.{NoMemory};
 
 use crate::amounts::Amounts;
-use crate::books::Books;
+use crate::books::BankMaps;
 use crate::changes::Changes;
-use crate::holder::Party;
+use crate::holder::AccountRef;
 use crate::moves::{Move, Source};
 use crate::place::Place;
 use ibc_ids::{Account, ChannelId, Denom, Refusal, UserName};
@@ -31,7 +31,7 @@ use std::marker::Model;
 /// a refund is never too large. A refused move changes nothing.
 #[derive(Drop, Debug)]
 pub struct Bank {
-    books: Books,
+    books: BankMaps,
     alloc: Global,
 }
 
@@ -40,7 +40,7 @@ impl Model for Bank {
 
     ghost view = { λ bank. state_of bank.books };
 
-    ghost invariant = { λ bank. IsBalanced nothing (state_of bank.books) bank.books.totals.pairs };
+    ghost invariant = { λ bank. IsBalanced no_amount (state_of bank.books) bank.books.totals.pairs };
 }
 
 impl Bank {
@@ -50,7 +50,7 @@ impl Bank {
         ensures burnt { result.burnt ≡ [] }
     {
         Bank {
-            books: Books {
+            books: BankMaps {
                 held: Amounts::new(alloc),
                 burnt: Amounts::new(alloc),
                 totals: Amounts::new(alloc),
@@ -66,7 +66,7 @@ impl Bank {
         ensures balances { IfOk result (λ bank. bank.balances ≡ starting_balances start.now.balances.items) }
         ensures burnt { IfOk result (λ bank. bank.burnt ≡ []) }
     {
-        let mut books = Books {
+        let mut books = BankMaps {
             held: Amounts::new(alloc),
             burnt: Amounts::new(alloc),
             totals: Amounts::new(alloc),
@@ -82,8 +82,8 @@ impl Bank {
         ensures { result ≡ balance self.now.balances (account_text account.now) denom.now }
     {
         match account {
-            Account::User(name) => self.books.held_by(Party::User(name), denom),
-            Account::Escrow(channel) => self.books.held_by(Party::Escrow(channel), denom),
+            Account::User(name) => self.books.held_by(AccountRef::User(name), denom),
+            Account::Escrow(channel) => self.books.held_by(AccountRef::Escrow(channel), denom),
         }
     }
 
@@ -103,7 +103,7 @@ impl Bank {
     }
 
     /// Each denomination of which an account holds something has the form of one (ICS 20).
-    pub fn holds_denominations(&self)
+    pub fn lemma_holds_denominations(&self)
         ensures { list_all (λ entry. is_denom entry.0.1) self.now.balances ≡ true }
     {
         for entry in self.books.held.entries() {
@@ -120,9 +120,9 @@ impl Bank {
         denom: &Denom,
         amount: u128,
     ) -> Result<(), Refusal>
-        ensures ok { OnOk result (escrowed user.now channel.now (token_of denom.now amount) self.old ≡ Some self.new) }
-        ensures poor { IsErrOf result Refusal.Poor ↔ (escrowed user.now channel.now (token_of denom.now amount) self.old ≡ None) }
-        ensures memory { IsSome (escrowed user.now channel.now (token_of denom.now amount) self.old) → IsOkUnless result Refusal.NoMemory }
+        ensures ok { OnOk result (after_escrow user.now channel.now (token_of denom.now amount) self.old ≡ Some self.new) }
+        ensures poor { IsErrOf result Refusal.Poor ↔ (after_escrow user.now channel.now (token_of denom.now amount) self.old ≡ None) }
+        ensures memory { IsSome (after_escrow user.now channel.now (token_of denom.now amount) self.old) → IsOkUnless result Refusal.NoMemory }
         ensures err { OnErr result (self.new ≡ self.old) }
     {
         self.carry(Place::user(user), Place::escrow(channel), denom, amount)
@@ -137,9 +137,9 @@ impl Bank {
         denom: &Denom,
         amount: u128,
     ) -> Result<(), Refusal>
-        ensures ok { OnOk result (released channel.now user.now (token_of denom.now amount) self.old ≡ Some self.new) }
-        ensures poor { IsErrOf result Refusal.Poor ↔ (released channel.now user.now (token_of denom.now amount) self.old ≡ None) }
-        ensures memory { IsSome (released channel.now user.now (token_of denom.now amount) self.old) → IsOkUnless result Refusal.NoMemory }
+        ensures ok { OnOk result (after_release channel.now user.now (token_of denom.now amount) self.old ≡ Some self.new) }
+        ensures poor { IsErrOf result Refusal.Poor ↔ (after_release channel.now user.now (token_of denom.now amount) self.old ≡ None) }
+        ensures memory { IsSome (after_release channel.now user.now (token_of denom.now amount) self.old) → IsOkUnless result Refusal.NoMemory }
         ensures err { OnErr result (self.new ≡ self.old) }
     {
         self.carry(Place::escrow(channel), Place::user(user), denom, amount)
@@ -148,9 +148,9 @@ impl Bank {
     /// Burns a user's tokens, which may still be refunded. Refused: `Poor` exactly where the user holds less;
     /// `NoMemory`.
     pub fn burn(&mut self, user: &UserName, denom: &Denom, amount: u128) -> Result<(), Refusal>
-        ensures ok { OnOk result (burned user.now (token_of denom.now amount) self.old ≡ Some self.new) }
-        ensures poor { IsErrOf result Refusal.Poor ↔ (burned user.now (token_of denom.now amount) self.old ≡ None) }
-        ensures memory { IsSome (burned user.now (token_of denom.now amount) self.old) → IsOkUnless result Refusal.NoMemory }
+        ensures ok { OnOk result (after_burn user.now (token_of denom.now amount) self.old ≡ Some self.new) }
+        ensures poor { IsErrOf result Refusal.Poor ↔ (after_burn user.now (token_of denom.now amount) self.old ≡ None) }
+        ensures memory { IsSome (after_burn user.now (token_of denom.now amount) self.old) → IsOkUnless result Refusal.NoMemory }
         ensures err { OnErr result (self.new ≡ self.old) }
     {
         self.carry(Place::user(user), Place::Burnt, denom, amount)
@@ -159,9 +159,9 @@ impl Bank {
     /// Mints tokens for a user. Refused: `TooLarge` exactly where they wouldn't fit 128 bits together with all that is
     /// held of the denomination and what was burnt of it; `NoMemory`.
     pub fn mint(&mut self, user: &UserName, denom: &Denom, amount: u128) -> Result<(), Refusal>
-        ensures ok { OnOk result (minted user.now (token_of denom.now amount) self.old ≡ Some self.new) }
-        ensures too_large { IsErrOf result Refusal.TooLarge ↔ (minted user.now (token_of denom.now amount) self.old ≡ None) }
-        ensures memory { IsSome (minted user.now (token_of denom.now amount) self.old) → IsOkUnless result Refusal.NoMemory }
+        ensures ok { OnOk result (after_mint user.now (token_of denom.now amount) self.old ≡ Some self.new) }
+        ensures too_large { IsErrOf result Refusal.TooLarge ↔ (after_mint user.now (token_of denom.now amount) self.old ≡ None) }
+        ensures memory { IsSome (after_mint user.now (token_of denom.now amount) self.old) → IsOkUnless result Refusal.NoMemory }
         ensures err { OnErr result (self.new ≡ self.old) }
     {
         self.carry(Place::Outside, Place::user(user), denom, amount)
@@ -176,9 +176,9 @@ impl Bank {
         denom: &Denom,
         amount: u128,
     ) -> Result<(), Refusal>
-        ensures ok { OnOk result (refunded user.now source.now (token_of denom.now amount) self.old ≡ Some self.new) }
-        ensures poor { IsErrOf result Refusal.Poor ↔ (refunded user.now source.now (token_of denom.now amount) self.old ≡ None) }
-        ensures memory { IsSome (refunded user.now source.now (token_of denom.now amount) self.old) → IsOkUnless result Refusal.NoMemory }
+        ensures ok { OnOk result (after_refund user.now source.now (token_of denom.now amount) self.old ≡ Some self.new) }
+        ensures poor { IsErrOf result Refusal.Poor ↔ (after_refund user.now source.now (token_of denom.now amount) self.old ≡ None) }
+        ensures memory { IsSome (after_refund user.now source.now (token_of denom.now amount) self.old) → IsOkUnless result Refusal.NoMemory }
         ensures err { OnErr result (self.new ≡ self.old) }
     {
         match source {
@@ -189,7 +189,7 @@ impl Bank {
 
     /// What was burnt of a denomination falls by the amount, to 0 where it is less: no refund comes of it any more.
     pub fn settle(&mut self, denom: &Denom, amount: u128)
-        ensures { self.new ≡ settled (token_of denom.now amount) self.old }
+        ensures { self.new ≡ after_settlement (token_of denom.now amount) self.old }
     {
         let settled = amount.min(self.burnt(denom));
         self.books.burnt.lower(denom, settled);
@@ -198,8 +198,8 @@ impl Bank {
 
     /// Makes all the moves, one after another, or none. Refused as the first that is refused; `NoMemory`.
     pub fn apply_all(&mut self, moves: &[Move]) -> Result<(), Refusal>
-        ensures ok { OnOk result (moved_all moves.now self.old ≡ Ok self.new) }
-        ensures refused { IfErr result (λ e. (e ≡ NoMemory) ⊎ (moved_all moves.now self.old ≡ Err e)) }
+        ensures ok { OnOk result (after_moves moves.now self.old ≡ Ok self.new) }
+        ensures refused { IfErr result (λ e. (e ≡ NoMemory) ⊎ (after_moves moves.now self.old ≡ Err e)) }
         ensures err { OnErr result (self.new ≡ self.old) }
     {
         let changes = Changes::of_moves(self.alloc, &self.books, moves)?;
@@ -209,8 +209,8 @@ impl Bank {
     /// Whether all the moves can be made, one after another; it changes nothing. Refused as the first that is refused;
     /// `NoMemory`.
     pub fn check(&self, moves: &[Move]) -> Result<(), Refusal>
-        ensures ok { OnOk result (IsOk (moved_all moves.now self.now)) }
-        ensures refused { IfErr result (λ e. (e ≡ NoMemory) ⊎ (moved_all moves.now self.now ≡ Err e)) }
+        ensures ok { OnOk result (IsOk (after_moves moves.now self.now)) }
+        ensures refused { IfErr result (λ e. (e ≡ NoMemory) ⊎ (after_moves moves.now self.now ≡ Err e)) }
     {
         Changes::of_moves(self.alloc, &self.books, moves)?;
         Ok(())
@@ -219,7 +219,7 @@ impl Bank {
     /// Who holds how much of what: the amounts above 0, in the byte order of the accounts' texts and then of the
     /// denominations.
     pub fn list(&self, alloc: Global) -> Result<Vec<(Account, Denom, u128)>, AllocError>
-        ensures balances { IfOk result (λ list. map plain_holding list.items ≡ self.now.balances) }
+        ensures balances { IfOk result (λ list. map abstract_holding list.items ≡ self.now.balances) }
         ensures kept { AreKept pair_cmp self.now.balances }
     {
         let entries = self.books.held.entries();
@@ -238,9 +238,9 @@ impl Bank {
         denom: &Denom,
         amount: u128,
     ) -> Result<(), Refusal>
-        ensures ok { OnOk result (carried from.entry to.entry (token_of denom.now amount) self.old ≡ Ok self.new) }
-        ensures memory { IfErr result (λ e. (e ≡ NoMemory) ⊎ (carried from.entry to.entry (token_of denom.now amount) self.old ≡ Err e)) }
-        ensures refused { (e : Refusal) → carried from.entry to.entry (token_of denom.now amount) self.old ≡ Err e → IsErrOf result e }
+        ensures ok { OnOk result (after_carrying from.entry to.entry (token_of denom.now amount) self.old ≡ Ok self.new) }
+        ensures memory { IfErr result (λ e. (e ≡ NoMemory) ⊎ (after_carrying from.entry to.entry (token_of denom.now amount) self.old ≡ Err e)) }
+        ensures refused { (e : Refusal) → after_carrying from.entry to.entry (token_of denom.now amount) self.old ≡ Err e → IsErrOf result e }
         ensures err { OnErr result (self.new ≡ self.old) }
     {
         let mut changes = Changes::new(self.alloc);

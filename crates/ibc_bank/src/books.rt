@@ -2,30 +2,30 @@
 
 ghost use Rattle.std.specs.Prelude.{◌≡◌, ◌+◌, ◌<◌, ◌^◌, OnOk, OnErr};
 ghost use Rattle.ibc_machine.specs.ics20.Bank.{balance, with_balance, supply};
-ghost use Rattle.ibc_bank.specs.Books.{IsBalanced, after, nothing, state_of, totals_after};
+ghost use Rattle.ibc_bank.specs.BankModel.{IsBalanced, state_after_changes, no_amount, state_of, totals_after};
 ghost use Rattle.ibc_bank.specs.Moves.{burnt_of, with_balances};
 ghost use Rattle.ibc_bank.specs.Parties.{party_text};
 
 use crate::amounts::Amounts;
 use crate::changes::Changes;
-use crate::holder::{Holder, Party};
+use crate::holder::{AccountKey, AccountRef};
 use ibc_ids::{Denom, UserName};
 use std::alloc::AllocError;
 
 /// What a bank keeps.
 #[derive(Drop, Debug)]
-pub(crate) struct Books {
+pub(crate) struct BankMaps {
     /// By account and denomination, what the account holds.
-    pub(crate) held: Amounts<(Holder, Denom)>,
+    pub(crate) held: Amounts<(AccountKey, Denom)>,
     /// By denomination, what is burnt in flight.
     pub(crate) burnt: Amounts<Denom>,
     /// By denomination, all that is held and what is burnt in flight, together.
     pub(crate) totals: Amounts<Denom>,
 }
 
-impl Books {
+impl BankMaps {
     /// What an account holds of a denomination.
-    pub(crate) fn held_by(&self, party: Party<'_>, denom: &Denom) -> u128
+    pub(crate) fn held_by(&self, party: AccountRef<'_>, denom: &Denom) -> u128
         ensures { result ≡ balance self.now.held.pairs (party_text party.entry) denom.now }
     {
         let entries = self.held.entries();
@@ -46,12 +46,12 @@ impl Books {
         denom: &Denom,
         amount: u128,
     ) -> Result<(), AllocError>
-        requires balanced { IsBalanced nothing (state_of self.old) self.old.totals.pairs }
+        requires balanced { IsBalanced no_amount (state_of self.old) self.old.totals.pairs }
         requires fits { supply (with_balance user.now denom.now amount self.old.held.pairs) denom.now + burnt_of (state_of self.old) denom.now < 2 ^ 128 }
         ensures ok { OnOk result (state_of self.new ≡ with_balances (state_of self.old) (with_balance user.now denom.now amount self.old.held.pairs)) }
-        ensures balanced { OnOk result (IsBalanced nothing (state_of self.new) self.new.totals.pairs) }
+        ensures balanced { OnOk result (IsBalanced no_amount (state_of self.new) self.new.totals.pairs) }
     {
-        let holder = (Party::User(user).holder()?, denom.clone()?);
+        let holder = (AccountRef::User(user).holder()?, denom.clone()?);
         let total = self.totals.get(denom) - self.held.get(&holder) + amount;
         self.held.set(holder, amount)?;
         self.totals.set(denom.clone()?, total)
@@ -59,7 +59,7 @@ impl Books {
 
     /// Makes the changes, or none.
     pub(crate) fn commit(&mut self, changes: Changes) -> Result<(), AllocError>
-        ensures ok { OnOk result (state_of self.new ≡ after changes self.old) }
+        ensures ok { OnOk result (state_of self.new ≡ state_after_changes changes self.old) }
         ensures totals { OnOk result (self.new.totals.pairs ≡ totals_after changes self.old) }
         ensures err { OnErr result (state_of self.new ≡ state_of self.old) }
         ensures err_totals { OnErr result (self.new.totals.pairs ≡ self.old.totals.pairs) }

@@ -3,14 +3,14 @@
 ghost use Rattle.std.specs.Prelude.{◌≡◌, ◌⊎◌, ◌++◌, ◌∷◌, [], Some, None, Ok, Err, OnOk, IfOk, IfErr, IsErrOf};
 ghost use Rattle.ibc_machine.specs.ics20.Bank.{balance};
 ghost use Rattle.ibc_bank.specs.Parties.{party_text};
-ghost use Rattle.ibc_bank.specs.Moves.{token_of, moved, moved_all, refunded, settled};
-ghost use Rattle.ibc_bank.specs.Places.{taken, put_in, carried};
-ghost use Rattle.ibc_bank.specs.Books.{AreBalanced, IsBalanced, in_hand, nothing, state_of, after};
+ghost use Rattle.ibc_bank.specs.Moves.{token_of, after_move, after_moves, after_refund, after_settlement};
+ghost use Rattle.ibc_bank.specs.TokenPlaces.{after_taking, after_putting, after_carrying};
+ghost use Rattle.ibc_bank.specs.BankModel.{AreBalanced, IsBalanced, amount_in_transit, no_amount, state_of, state_after_changes};
 ghost use Rattle.ibc_ids.specs.declared.refusal.Refusal.{Refusal};
 ghost use Rattle.ibc_ids.specs.declared.refusal.Refusal.TheVariants.{NoMemory, Poor};
 
-use crate::books::Books;
-use crate::holder::{Holder, Party};
+use crate::books::BankMaps;
+use crate::holder::{AccountKey, AccountRef};
 use crate::moves::{Move, Source};
 use crate::place::Place;
 use ibc_ids::{Denom, Refusal, UserName};
@@ -19,7 +19,7 @@ use std::alloc::{AllocError, Global};
 /// What moves change in a bank, in their order: the new amounts. The bank itself is as before.
 #[derive(Drop, Debug)]
 pub(crate) struct Changes {
-    pub(crate) held: Vec<((Holder, Denom), u128)>,
+    pub(crate) held: Vec<((AccountKey, Denom), u128)>,
     pub(crate) burnt: Vec<(Denom, u128)>,
     pub(crate) totals: Vec<(Denom, u128)>,
 }
@@ -39,11 +39,15 @@ impl Changes {
     }
 
     /// What the moves change, one after another. Refused as the first that is refused; `NoMemory`.
-    pub(crate) fn of_moves(alloc: Global, books: &Books, moves: &[Move]) -> Result<Changes, Refusal>
-        requires { IsBalanced nothing (state_of books.now) books.now.totals.pairs }
-        ensures ok { IfOk result (λ changes. moved_all moves.now (state_of books.now) ≡ Ok (after changes books.now)) }
-        ensures balanced { IfOk result (λ changes. AreBalanced nothing changes books.now) }
-        ensures refused { IfErr result (λ e. (e ≡ NoMemory) ⊎ (moved_all moves.now (state_of books.now) ≡ Err e)) }
+    pub(crate) fn of_moves(
+        alloc: Global,
+        books: &BankMaps,
+        moves: &[Move],
+    ) -> Result<Changes, Refusal>
+        requires { IsBalanced no_amount (state_of books.now) books.now.totals.pairs }
+        ensures ok { IfOk result (λ changes. after_moves moves.now (state_of books.now) ≡ Ok (state_after_changes changes books.now)) }
+        ensures balanced { IfOk result (λ changes. AreBalanced no_amount changes books.now) }
+        ensures refused { IfErr result (λ e. (e ≡ NoMemory) ⊎ (after_moves moves.now (state_of books.now) ≡ Err e)) }
     {
         let mut changes = Changes::new(alloc);
         for step in moves {
@@ -53,11 +57,11 @@ impl Changes {
     }
 
     /// Makes a move. A refusal is that of the move, or `NoMemory`; the changes are of no use then.
-    pub(crate) fn apply(&mut self, books: &Books, step: &Move) -> Result<(), Refusal>
-        requires { AreBalanced nothing self.old books.now }
-        ensures ok { OnOk result (moved step.now (after self.old books.now) ≡ Ok (after self.new books.now)) }
-        ensures balanced { OnOk result (AreBalanced nothing self.new books.now) }
-        ensures err { IfErr result (λ e. (e ≡ NoMemory) ⊎ (moved step.now (after self.old books.now) ≡ Err e)) }
+    pub(crate) fn apply(&mut self, books: &BankMaps, step: &Move) -> Result<(), Refusal>
+        requires { AreBalanced no_amount self.old books.now }
+        ensures ok { OnOk result (after_move step.now (state_after_changes self.old books.now) ≡ Ok (state_after_changes self.new books.now)) }
+        ensures balanced { OnOk result (AreBalanced no_amount self.new books.now) }
+        ensures err { IfErr result (λ e. (e ≡ NoMemory) ⊎ (after_move step.now (state_after_changes self.old books.now) ≡ Err e)) }
     {
         match step {
             Move::Escrow {
@@ -107,17 +111,17 @@ impl Changes {
     // Back to a user.
     fn refund(
         &mut self,
-        books: &Books,
+        books: &BankMaps,
         user: &UserName,
         source: &Source,
         denom: &Denom,
         amount: u128,
     ) -> Result<(), Refusal>
-        requires { AreBalanced nothing self.old books.now }
-        ensures ok { OnOk result (refunded user.now source.now (token_of denom.now amount) (after self.old books.now) ≡ Some (after self.new books.now)) }
-        ensures balanced { OnOk result (AreBalanced nothing self.new books.now) }
-        ensures err { IfErr result (λ e. (e ≡ NoMemory) ⊎ ((e ≡ Poor) × (refunded user.now source.now (token_of denom.now amount) (after self.old books.now) ≡ None))) }
-        ensures refused { refunded user.now source.now (token_of denom.now amount) (after self.old books.now) ≡ None → IsErrOf result Refusal.Poor }
+        requires { AreBalanced no_amount self.old books.now }
+        ensures ok { OnOk result (after_refund user.now source.now (token_of denom.now amount) (state_after_changes self.old books.now) ≡ Some (state_after_changes self.new books.now)) }
+        ensures balanced { OnOk result (AreBalanced no_amount self.new books.now) }
+        ensures err { IfErr result (λ e. (e ≡ NoMemory) ⊎ ((e ≡ Poor) × (after_refund user.now source.now (token_of denom.now amount) (state_after_changes self.old books.now) ≡ None))) }
+        ensures refused { after_refund user.now source.now (token_of denom.now amount) (state_after_changes self.old books.now) ≡ None → IsErrOf result Refusal.Poor }
     {
         match source {
             Source::Escrow(channel) => self.carry(
@@ -132,10 +136,10 @@ impl Changes {
     }
 
     // What was burnt isn't refunded any more.
-    fn settle(&mut self, books: &Books, denom: &Denom, amount: u128) -> Result<(), Refusal>
-        requires { AreBalanced nothing self.old books.now }
-        ensures ok { OnOk result (after self.new books.now ≡ settled (token_of denom.now amount) (after self.old books.now)) }
-        ensures balanced { OnOk result (AreBalanced nothing self.new books.now) }
+    fn settle(&mut self, books: &BankMaps, denom: &Denom, amount: u128) -> Result<(), Refusal>
+        requires { AreBalanced no_amount self.old books.now }
+        ensures ok { OnOk result (state_after_changes self.new books.now ≡ after_settlement (token_of denom.now amount) (state_after_changes self.old books.now)) }
+        ensures balanced { OnOk result (AreBalanced no_amount self.new books.now) }
         ensures err { IfErr result (λ e. e ≡ NoMemory) }
     {
         let amount = amount.min(books.burnt.after(&self.burnt, denom));
@@ -145,17 +149,17 @@ impl Changes {
     /// Carries tokens from one place to another. A refusal is as by `take`; the changes are of no use then.
     pub(crate) fn carry(
         &mut self,
-        books: &Books,
+        books: &BankMaps,
         from: Place<'_>,
         to: Place<'_>,
         denom: &Denom,
         amount: u128,
     ) -> Result<(), Refusal>
-        requires { AreBalanced nothing self.old books.now }
-        ensures ok { OnOk result (carried from.entry to.entry (token_of denom.now amount) (after self.old books.now) ≡ Ok (after self.new books.now)) }
-        ensures balanced { OnOk result (AreBalanced nothing self.new books.now) }
-        ensures err { IfErr result (λ e. (e ≡ NoMemory) ⊎ (carried from.entry to.entry (token_of denom.now amount) (after self.old books.now) ≡ Err e)) }
-        ensures refused { (e : Refusal) → carried from.entry to.entry (token_of denom.now amount) (after self.old books.now) ≡ Err e → IsErrOf result e }
+        requires { AreBalanced no_amount self.old books.now }
+        ensures ok { OnOk result (after_carrying from.entry to.entry (token_of denom.now amount) (state_after_changes self.old books.now) ≡ Ok (state_after_changes self.new books.now)) }
+        ensures balanced { OnOk result (AreBalanced no_amount self.new books.now) }
+        ensures err { IfErr result (λ e. (e ≡ NoMemory) ⊎ (after_carrying from.entry to.entry (token_of denom.now amount) (state_after_changes self.old books.now) ≡ Err e)) }
+        ensures refused { (e : Refusal) → after_carrying from.entry to.entry (token_of denom.now amount) (state_after_changes self.old books.now) ≡ Err e → IsErrOf result e }
     {
         self.take(books, from, denom, amount)?;
         self.put(books, to, denom, amount)?;
@@ -166,16 +170,16 @@ impl Changes {
     // bits together with what is held and burnt; `NoMemory`.
     fn take(
         &mut self,
-        books: &Books,
+        books: &BankMaps,
         from: Place<'_>,
         denom: &Denom,
         amount: u128,
     ) -> Result<(), Refusal>
-        requires { AreBalanced nothing self.old books.now }
-        ensures ok { OnOk result (taken from.entry (token_of denom.now amount) (after self.old books.now) ≡ Ok (after self.new books.now)) }
-        ensures balanced { OnOk result (AreBalanced (in_hand (token_of denom.now amount)) self.new books.now) }
-        ensures err { IfErr result (λ e. (e ≡ NoMemory) ⊎ (taken from.entry (token_of denom.now amount) (after self.old books.now) ≡ Err e)) }
-        ensures refused { (e : Refusal) → taken from.entry (token_of denom.now amount) (after self.old books.now) ≡ Err e → IsErrOf result e }
+        requires { AreBalanced no_amount self.old books.now }
+        ensures ok { OnOk result (after_taking from.entry (token_of denom.now amount) (state_after_changes self.old books.now) ≡ Ok (state_after_changes self.new books.now)) }
+        ensures balanced { OnOk result (AreBalanced (amount_in_transit (token_of denom.now amount)) self.new books.now) }
+        ensures err { IfErr result (λ e. (e ≡ NoMemory) ⊎ (after_taking from.entry (token_of denom.now amount) (state_after_changes self.old books.now) ≡ Err e)) }
+        ensures refused { (e : Refusal) → after_taking from.entry (token_of denom.now amount) (state_after_changes self.old books.now) ≡ Err e → IsErrOf result e }
     {
         match from {
             Place::Account(party) => {
@@ -205,14 +209,14 @@ impl Changes {
     // Puts tokens that are in hand into a place.
     fn put(
         &mut self,
-        books: &Books,
+        books: &BankMaps,
         to: Place<'_>,
         denom: &Denom,
         amount: u128,
     ) -> Result<(), AllocError>
-        requires { AreBalanced (in_hand (token_of denom.now amount)) self.old books.now }
-        ensures ok { OnOk result (after self.new books.now ≡ put_in to.entry (token_of denom.now amount) (after self.old books.now)) }
-        ensures balanced { OnOk result (AreBalanced nothing self.new books.now) }
+        requires { AreBalanced (amount_in_transit (token_of denom.now amount)) self.old books.now }
+        ensures ok { OnOk result (state_after_changes self.new books.now ≡ after_putting to.entry (token_of denom.now amount) (state_after_changes self.old books.now)) }
+        ensures balanced { OnOk result (AreBalanced no_amount self.new books.now) }
     {
         match to {
             Place::Account(party) => {
@@ -231,10 +235,10 @@ impl Changes {
     }
 
     // What an account holds of a denomination after the changes.
-    fn held_by(&self, books: &Books, party: Party<'_>, denom: &Denom) -> u128
-        ensures { result ≡ balance (after self.now books.now).balances (party_text party.entry) denom.now }
+    fn held_by(&self, books: &BankMaps, party: AccountRef<'_>, denom: &Denom) -> u128
+        ensures { result ≡ balance (state_after_changes self.now books.now).balances (party_text party.entry) denom.now }
     {
-        books.held.are_in_order();
+        books.held.lemma_in_order();
         let mut amount = books.held_by(party, denom);
         for ((holder, changed), after) in &self.held {
             if holder.compare(party).is_eq() && changed == denom {
@@ -244,7 +248,12 @@ impl Changes {
         amount
     }
 
-    fn set_held(&mut self, party: Party<'_>, denom: &Denom, amount: u128) -> Result<(), AllocError>
+    fn set_held(
+        &mut self,
+        party: AccountRef<'_>,
+        denom: &Denom,
+        amount: u128,
+    ) -> Result<(), AllocError>
         ensures ok { OnOk result (self.new.held.items ≡ self.old.held.items ++ ((party_text party.entry, denom.now), amount) ∷ []) }
         ensures burnt { self.new.burnt.items ≡ self.old.burnt.items }
         ensures totals { self.new.totals.items ≡ self.old.totals.items }

@@ -18,33 +18,33 @@ const ESCROW: &str = "escrow/transfer/";
 
 /// Who holds tokens, by its name alone.
 #[derive(Clone, Copy, Debug)]
-pub(crate) enum Party<'a> {
+pub(crate) enum AccountRef<'a> {
     /// A user.
     User(&'a UserName),
     /// The escrow account of a channel.
     Escrow(&'a ChannelId),
 }
 
-impl<'a> Party<'a> {
+impl<'a> AccountRef<'a> {
     /// The account as a key.
-    pub(crate) fn holder(self) -> Result<Holder, AllocError>
+    pub(crate) fn holder(self) -> Result<AccountKey, AllocError>
         ensures { IfOk result (λ holder. holder ≡ party_text self.entry) }
     {
         let account = match self {
-            Party::User(name) => Account::User(name.clone()?),
-            Party::Escrow(channel) => Account::Escrow(channel.clone()?),
+            AccountRef::User(name) => Account::User(name.clone()?),
+            AccountRef::Escrow(channel) => Account::Escrow(channel.clone()?),
         };
-        Ok(Holder { account })
+        Ok(AccountKey { account })
     }
 }
 
 /// An account as a key. Contracts see it as its text, and keys are in the byte order of the texts.
 #[derive(Drop, Debug)]
-pub(crate) struct Holder {
+pub(crate) struct AccountKey {
     account: Account,
 }
 
-impl Model for Holder {
+impl Model for AccountKey {
     ghost use Rattle.std.specs.Prelude.{List, ℕ};
     ghost use Rattle.ibc_ids.specs.Paths.{account_text};
 
@@ -53,14 +53,14 @@ impl Model for Holder {
     ghost view = { λ holder. account_text holder.account };
 }
 
-impl Holder {
+impl AccountKey {
     /// The account's name.
-    pub(crate) fn party(&self) -> Party<'_>
+    pub(crate) fn party(&self) -> AccountRef<'_>
         ensures { party_text result ≡ self.now }
     {
         match &self.account {
-            Account::User(name) => Party::User(name),
-            Account::Escrow(channel) => Party::Escrow(channel),
+            Account::User(name) => AccountRef::User(name),
+            Account::Escrow(channel) => AccountRef::Escrow(channel),
         }
     }
 
@@ -72,43 +72,43 @@ impl Holder {
     }
 
     /// How the account's text stands to another's.
-    pub(crate) fn compare(&self, other: Party<'_>) -> Ordering
+    pub(crate) fn compare(&self, other: AccountRef<'_>) -> Ordering
         ensures { result ≡ text_cmp self.now (party_text other.entry) }
     {
         match (self.party(), other) {
-            (Party::User(mine), Party::User(theirs)) => mine.cmp(theirs),
-            (Party::Escrow(mine), Party::Escrow(theirs)) => mine.cmp(theirs),
-            (Party::User(mine), Party::Escrow(_)) => mine.as_str().cmp(ESCROW),
-            (Party::Escrow(_), Party::User(theirs)) => ESCROW.cmp(theirs.as_str()),
+            (AccountRef::User(mine), AccountRef::User(theirs)) => mine.cmp(theirs),
+            (AccountRef::Escrow(mine), AccountRef::Escrow(theirs)) => mine.cmp(theirs),
+            (AccountRef::User(mine), AccountRef::Escrow(_)) => mine.as_str().cmp(ESCROW),
+            (AccountRef::Escrow(_), AccountRef::User(theirs)) => ESCROW.cmp(theirs.as_str()),
         }
     }
 }
 
-impl PartialEq for Holder {
+impl PartialEq for AccountKey {
     ghost eq = { λ a b. bytes_eq a b };
 
     ghost laws = { on_per (λ a. a) (partial_equiv_from_equiv nat_list_eq_equiv) };
 
-    fn eq(&self, other: &Holder) -> bool {
+    fn eq(&self, other: &AccountKey) -> bool {
         self.cmp(other).is_eq()
     }
 }
 
-impl Eq for Holder {
+impl Eq for AccountKey {
     ghost laws = { on_equiv (λ a. a) nat_list_eq_equiv };
 }
 
-impl PartialOrd for Holder {
+impl PartialOrd for AccountKey {
     ghost partial_cmp = { λ a b. Some (slice_cmp nat_cmp a b) };
 
     ghost laws = { on_po (λ a. a) texts_po };
 
-    fn partial_cmp(&self, other: &Holder) -> Option<Ordering> {
+    fn partial_cmp(&self, other: &AccountKey) -> Option<Ordering> {
         Some(self.cmp(other))
     }
 }
 
-impl Ord for Holder {
+impl Ord for AccountKey {
     ghost cmp = { λ a b. slice_cmp nat_cmp a b };
 
     ghost total = { on_total (λ a. a) nat_list_cmp_total };
@@ -117,7 +117,7 @@ impl Ord for Holder {
 
     ghost matches_eq = { λ a b. texts_ties a b };
 
-    fn cmp(&self, other: &Holder) -> Ordering {
+    fn cmp(&self, other: &AccountKey) -> Ordering {
         self.compare(other.party())
     }
 }

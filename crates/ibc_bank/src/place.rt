@@ -2,14 +2,14 @@
 
 ghost use Rattle.std.specs.Prelude.{◌≡◌};
 
-use crate::holder::Party;
+use crate::holder::AccountRef;
 use ibc_ids::{ChannelId, UserName};
 
 /// Where tokens are, come from or go to.
 #[derive(Clone, Copy, Debug)]
 pub(crate) enum Place<'a> {
     /// An account.
-    Account(Party<'a>),
+    Account(AccountRef<'a>),
     /// Burnt in flight: they may still be refunded.
     Burnt,
     /// Outside the chain: new tokens come from there, and burnt ones go there once no refund can come.
@@ -19,15 +19,15 @@ pub(crate) enum Place<'a> {
 impl<'a> Place<'a> {
     /// A user's account.
     pub(crate) fn user(name: &'a UserName) -> Place<'a>
-        ensures { result ≡ Place.Account (Party.User name.entry) }
+        ensures { result ≡ Place.Account (AccountRef.User name.entry) }
     {
-        Place::Account(Party::User(name))
+        Place::Account(AccountRef::User(name))
     }
 
     /// The escrow account of a channel.
     pub(crate) fn escrow(channel: &'a ChannelId) -> Place<'a>
-        ensures { result ≡ Place.Account (Party.Escrow channel.entry) }
+        ensures { result ≡ Place.Account (AccountRef.Escrow channel.entry) }
     {
-        Place::Account(Party::Escrow(channel))
+        Place::Account(AccountRef::Escrow(channel))
     }
 }

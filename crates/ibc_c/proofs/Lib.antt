@@ -1,2 +1,2 @@
 pub mod KeyPaths
-pub mod Spelled
+pub mod SpelledViews

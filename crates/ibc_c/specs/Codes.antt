@@ -28,6 +28,6 @@ kind_number Present = 1
 kind_number Absent = 2
 
 -- the kind was read and is told, or there is none and nothing is told
-abbrev pub IsKindTold : Checked ProofKind → ℕ → ℕ → ℕ → Type 0
-IsKindTold (Ok kind) old new answer = (answer ≡ 0) × (new ≡ kind_number kind)
-IsKindTold (Err refusal) old new answer = (answer ≡ number_of refusal) × (new ≡ old)
+abbrev pub IsKindWritten : Checked ProofKind → ℕ → ℕ → ℕ → Type 0
+IsKindWritten (Ok kind) old new answer = (answer ≡ 0) × (new ≡ kind_number kind)
+IsKindWritten (Err refusal) old new answer = (answer ≡ number_of refusal) × (new ≡ old)

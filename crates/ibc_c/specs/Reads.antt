@@ -11,13 +11,13 @@ use Rattle.ibc_wire.specs.declared.messages.Message.{Message}
 use Rattle.ibc_machine.specs.ics24.Image.{image}
 use Rattle.ibc_machine.specs.ics20.Bank.{balance}
 use Rattle.ibc_machine.specs.ledger.Ledgers.{Ledger, state_of}
-use Rattle.ibc_handle.specs.declared.held.Held.{Held}
-use Rattle.ibc_handle.specs.declared.held.Held.TheVariants as held
+use Rattle.ibc_handle.specs.declared.handle_value.HandleValue.{HandleValue}
+use Rattle.ibc_handle.specs.declared.handle_value.HandleValue.TheVariants as held
 use Rattle.ibc_c.specs.declared.answer.Refused.{Refused}
 use Rattle.ibc_c.specs.declared.answer.Refused.TheVariants.{Core, Empty, OtherKind, NothingThere}
 use Rattle.ibc_c.specs.declared.reads.Amount.{Amount}
-use Rattle.ibc_c.specs.Answers.{Answer}
-use Rattle.ibc_c.specs.Genesis.{AreNames}
+use Rattle.ibc_c.specs.CallAnswers.{Answer}
+use Rattle.ibc_c.specs.GenesisHandles.{AreNames}
 use Rattle.ibc_c.specs.Views.{AtPath}
 
 -- ---- the value of a key
@@ -31,7 +31,7 @@ abbrev pub IsValueAt : Text → Ledger → Result Text Refused → Type 0
 IsValueAt bytes ledger =
     AtPath bytes (λ key found. found ≡ value_or (at text_cmp (path key) (image (state_of ledger).chain.records.core)))
 
-unfoldable pub FindsValue : Text → Option Held → Result Text Refused → Type 0
+unfoldable pub FindsValue : Text → Option HandleValue → Result Text Refused → Type 0
 FindsValue bytes None found = found ≡ Err Empty
 FindsValue bytes (Some (held.Ledger l)) found = IsValueAt bytes l.ledger.ledger found
 FindsValue bytes (Some other) found = found ≡ Err OtherKind
@@ -44,7 +44,7 @@ IsSpelling (Some m) (Ok bytes) = Spells (message_fields m) bytes
 IsSpelling (Some m) (Err why) = (why ≡ Core NoMemory) ⊎ ((why ≡ Core BadMessage) × (IsTrue (have_form (message_fields m)) → ⊥))
 
 -- the bytes of a plan's message
-unfoldable pub FindsMessage : ℕ → Option Held → Result Text Refused → Type 0
+unfoldable pub FindsMessage : ℕ → Option HandleValue → Result Text Refused → Type 0
 FindsMessage index None found = found ≡ Err Empty
 FindsMessage index (Some (held.Plan messages)) found = IsSpelling (slice_get messages.items index) found
 FindsMessage index (Some other) found = found ≡ Err OtherKind
@@ -61,7 +61,7 @@ IsBalance user denom ledger old new answer =
     × (amount_of new ≡ balance (state_of ledger).chain.records.apps.balances user denom))
     ⊎ ((new ≡ old) × (((answer ≡ Err (Core BadName)) × (AreNames user denom → ⊥)) ⊎ (answer ≡ Err (Core NoMemory))))
 
-unfoldable pub TellsBalance : Text → Text → Option Held → Amount → Amount → Answer → Type 0
+unfoldable pub TellsBalance : Text → Text → Option HandleValue → Amount → Amount → Answer → Type 0
 TellsBalance user denom None old new answer = (new ≡ old) × (answer ≡ Err Empty)
 TellsBalance user denom (Some (held.Ledger l)) old new answer = IsBalance user denom l.ledger.ledger old new answer
 TellsBalance user denom (Some other) old new answer = (new ≡ old) × (answer ≡ Err OtherKind)

@@ -1,7 +1,7 @@
 //! What a call answers, and its number.
 
 ghost use Rattle.std.specs.Prelude.{◌≡◌};
-ghost use Rattle.ibc_c.specs.Answers.{answer_number, answer_to};
+ghost use Rattle.ibc_c.specs.CallAnswers.{answer_number, answer_to};
 
 use ibc_ids::Refusal;
 use ibc_machine::Reply;

@@ -1,11 +1,11 @@
 //! Messages, and the ends of blocks.
 
 ghost use Rattle.std.specs.Prelude.{◌≡◌, Some};
-ghost use Rattle.ibc_c.specs.Events.{Applies, Ends, IsApplied, IsEnded, LedgerGoesOn};
+ghost use Rattle.ibc_c.specs.Events.{AppliesMessage, EndsBlock, IsApplied, IsBlockEnded, LedgerGoesOn};
 
 use crate::Refused;
 use crate::answer::answer_to;
-use ibc_handle::{Handle, Held};
+use ibc_handle::{Handle, HandleValue};
 use ibc_ledger::Ledger;
 use ibc_message_codec::decode;
 use std::alloc::Global;
@@ -13,9 +13,9 @@ use std::alloc::Global;
 /// Applies the message that the bytes spell to the working block of a ledger, which is asked for it as by `Ledger::apply`. Its
 /// reply is the last of its history, where it isn't `NoMemory`. Refused: `Empty`; `OtherKind`; `Core(BadMessage)` exactly where
 /// the bytes spell none; `Core(NoMemory)`; and where the reply is a refusal, `Core` of it. What is refused but by a reply changes nothing.
-#[tactic(auto, unfolding(crate::specs::Events::Applies))]
+#[tactic(auto, unfolding(crate::specs::Events::AppliesMessage))]
 pub fn apply(alloc: Global, ledger: &mut Handle, message: &[u8]) -> Result<(), Refused>
-    ensures { Applies message.now ledger.old.value ledger.new.value result }
+    ensures { AppliesMessage message.now ledger.old.value ledger.new.value result }
 {
     match ledger.take(alloc) {
         None => Err(Refused::Empty),
@@ -28,11 +28,11 @@ pub fn apply(alloc: Global, ledger: &mut Handle, message: &[u8]) -> Result<(), R
     }
 }
 
-fn apply_to(alloc: Global, held: &mut Held, message: &[u8]) -> Result<(), Refused>
+fn apply_to(alloc: Global, held: &mut HandleValue, message: &[u8]) -> Result<(), Refused>
     ensures { LedgerGoesOn (IsApplied message.now) held.old (Some held.new) result }
 {
     match held {
-        Held::Ledger(member) => apply_at(alloc, &mut member.ledger, message),
+        HandleValue::Ledger(member) => apply_at(alloc, &mut member.ledger, message),
         _ => Err(Refused::OtherKind),
     }
 }
@@ -49,9 +49,9 @@ fn apply_at(alloc: Global, ledger: &mut Ledger, message: &[u8]) -> Result<(), Re
 
 /// Ends the working block of a ledger, as `Ledger::end_block` does; the next one has this time. Refused: `Empty`; `OtherKind`;
 /// and `Core` of the reply: `TimeBack` where the time is below the working time, `TableFull`, `NoMemory`.
-#[tactic(auto, unfolding(crate::specs::Events::Ends))]
+#[tactic(auto, unfolding(crate::specs::Events::EndsBlock))]
 pub fn end_block(alloc: Global, ledger: &mut Handle, next_time: u64) -> Result<(), Refused>
-    ensures { Ends next_time ledger.old.value ledger.new.value result }
+    ensures { EndsBlock next_time ledger.old.value ledger.new.value result }
 {
     match ledger.take(alloc) {
         None => Err(Refused::Empty),
@@ -64,18 +64,18 @@ pub fn end_block(alloc: Global, ledger: &mut Handle, next_time: u64) -> Result<(
     }
 }
 
-fn end_of(held: &mut Held, next_time: u64) -> Result<(), Refused>
-    ensures { LedgerGoesOn (IsEnded next_time) held.old (Some held.new) result }
+fn end_of(held: &mut HandleValue, next_time: u64) -> Result<(), Refused>
+    ensures { LedgerGoesOn (IsBlockEnded next_time) held.old (Some held.new) result }
 {
     match held {
-        Held::Ledger(member) => end_at(&mut member.ledger, next_time),
+        HandleValue::Ledger(member) => end_at(&mut member.ledger, next_time),
         _ => Err(Refused::OtherKind),
     }
 }
 
-#[tactic(auto, unfolding(crate::specs::Events::IsEnded, crate::specs::Events::IsAsked))]
+#[tactic(auto, unfolding(crate::specs::Events::IsBlockEnded, crate::specs::Events::IsAsked))]
 fn end_at(ledger: &mut Ledger, next_time: u64) -> Result<(), Refused>
-    ensures { IsEnded next_time ledger.old ledger.new result }
+    ensures { IsBlockEnded next_time ledger.old ledger.new result }
 {
     answer_to(ledger.end_block(next_time))
 }

@@ -1,7 +1,7 @@
 //! What proofs and messages carry, with no ledger.
 
 ghost use Rattle.std.specs.Prelude.{◌≡◌};
-ghost use Rattle.ibc_c.specs.Evidence.{FindsKey, FindsShown, TellsProof};
+ghost use Rattle.ibc_c.specs.ProofReads.{FindsKey, FindsShown, TellsProof};
 ghost use Rattle.ibc_c.specs.Handles.{Finds};
 
 use crate::handles::{give, write_out};
@@ -61,7 +61,7 @@ fn value_found(alloc: Global, proof: &[u8]) -> Result<Bytes, Refused>
 /// other chain at which it is; which proofs they are `carried_proof` says. Refused: `Core(BadMessage)` exactly
 /// where they spell no message; `NothingThere` where it carries no such proof; `Core(NoMemory)`: then nothing is told.
 /// `TooShort`: then the numbers alone are told.
-#[tactic(auto, unfolding(crate::specs::Evidence::TellsProof))]
+#[tactic(auto, unfolding(crate::specs::ProofReads::TellsProof))]
 pub fn message_proof(
     alloc: Global,
     message: &[u8],

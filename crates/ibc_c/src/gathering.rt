@@ -1,12 +1,12 @@
 //! Ledgers that were driven apart are gathered, and audited.
 
 ghost use Rattle.std.specs.Prelude.{◌≡◌, None, Some};
-ghost use Rattle.ibc_world_core.specs.Audits.{is_whole};
-ghost use Rattle.ibc_c.specs.Gathering.{AreApart, Audits, ByWhole, JoinsLedger, JoinsTo, answer_of_join};
+ghost use Rattle.ibc_world_core.specs.WorldAudits.{is_whole};
+ghost use Rattle.ibc_c.specs.Gathering.{AreApart, Audits, MakesIfWhole, JoinsLedger, JoinsTo, answer_of_join};
 
 use crate::Refused;
 use crate::handles::put_new;
-use ibc_handle::{Handle, Held, Ledgers, NotJoined};
+use ibc_handle::{Handle, HandleValue, NotJoined, WorldLedgers};
 use ibc_ids::Refusal;
 use std::alloc::Global;
 
@@ -30,12 +30,12 @@ pub fn join_ledger(alloc: Global, ledgers: &mut Handle, ledger: &mut Handle) -> 
 }
 
 #[tactic(auto, unfolding(crate::specs::Gathering::AreApart))]
-fn join_at(alloc: Global, held: &mut Held, ledger: &mut Handle) -> Result<(), Refused>
+fn join_at(alloc: Global, held: &mut HandleValue, ledger: &mut Handle) -> Result<(), Refused>
     requires { AreApart (Some held.old) ledger.old.value }
     ensures { JoinsTo held.old held.new ledger.old.value ledger.new.value result }
 {
     match held {
-        Held::Ledgers(all) => answer_of_join(ledger.join(alloc, all)),
+        HandleValue::Ledgers(all) => answer_of_join(ledger.join(alloc, all)),
         _ => Err(Refused::OtherKind),
     }
 }
@@ -73,12 +73,12 @@ pub fn audit(alloc: Global, ledgers: &mut Handle, audit: &mut Handle) -> Result<
     }
 }
 
-fn audit_of(alloc: Global, all: Ledgers, audit: &mut Handle) -> Result<(), Refused>
+fn audit_of(alloc: Global, all: WorldLedgers, audit: &mut Handle) -> Result<(), Refused>
     requires { audit.old.value ≡ None }
-    ensures { ByWhole (is_whole all.ledgers) all audit.new.value result }
+    ensures { MakesIfWhole (is_whole all.ledgers) all audit.new.value result }
 {
     match all.audit(alloc) {
-        Ok(told) => put_new(alloc, audit, Held::Audit(told)),
+        Ok(told) => put_new(alloc, audit, HandleValue::Audit(told)),
         Err(refusal) => Err(Refused::Core(refusal)),
     }
 }

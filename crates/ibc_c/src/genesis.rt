@@ -4,25 +4,25 @@ ghost use Rattle.std.specs.Prelude.{◌≡◌, ◌⊎◌, ◌+◌, ◌*◌, ◌^
 ghost use Rattle.ibc_ids.specs.declared.refusal.Refusal.TheVariants.{BadName, NoMemory};
 ghost use Rattle.ibc_machine.specs.chain.Genesis.{genesis_state};
 ghost use Rattle.ibc_c.specs.declared.answer.Refused.TheVariants.{Core};
-ghost use Rattle.ibc_c.specs.Genesis.{AddsBalance, AddsChain, AreNames, BalanceAdded, Begins, ChainAdded, GenesisGoesOn};
+ghost use Rattle.ibc_c.specs.GenesisHandles.{AddsBalance, AddsChain, AreNames, BalanceAdded, BeginsGenesis, ChainAdded, GenesisGoesOn};
 
 use crate::Refused;
 use crate::handles::put_new;
-use ibc_handle::{Handle, Held};
+use ibc_handle::{Handle, HandleValue};
 use ibc_ids::{Denom, Refusal, UserName};
 use ibc_machine::{ChainStart, Genesis};
 use std::alloc::{AllocError, Global};
 
 /// Makes a genesis with no chains, of this capacity and window, in a handle that holds nothing. Refused: `Full`;
 /// `Core(NoMemory)`.
-#[tactic(auto, unfolding(crate::specs::Genesis::Begins))]
+#[tactic(auto, unfolding(crate::specs::GenesisHandles::BeginsGenesis))]
 pub fn make_genesis(
     alloc: Global,
     genesis: &mut Handle,
     capacity: u64,
     window: u64,
 ) -> Result<(), Refused>
-    ensures { Begins capacity window genesis.old.value genesis.new.value result }
+    ensures { BeginsGenesis capacity window genesis.old.value genesis.new.value result }
 {
     if !genesis.is_empty(alloc) {
         return Err(Refused::Full);
@@ -32,12 +32,12 @@ pub fn make_genesis(
         window,
         chains: Vec::new(alloc),
     };
-    put_new(alloc, genesis, Held::Genesis(made))
+    put_new(alloc, genesis, HandleValue::Genesis(made))
 }
 
 /// Adds a chain to a genesis, behind the others, whose first block has this time. Refused: `Empty`; `OtherKind`;
 /// `Core(NoMemory)`.
-#[tactic(auto, unfolding(crate::specs::Genesis::ChainAdded))]
+#[tactic(auto, unfolding(crate::specs::GenesisHandles::ChainAdded))]
 pub fn add_chain(alloc: Global, genesis: &mut Handle, time: u64) -> Result<(), Refused>
     ensures { ChainAdded time genesis.old.value genesis.new.value result }
 {
@@ -52,16 +52,16 @@ pub fn add_chain(alloc: Global, genesis: &mut Handle, time: u64) -> Result<(), R
     }
 }
 
-fn add_chain_to(alloc: Global, held: &mut Held, time: u64) -> Result<(), Refused>
+fn add_chain_to(alloc: Global, held: &mut HandleValue, time: u64) -> Result<(), Refused>
     ensures { GenesisGoesOn (AddsChain time) held.old (Some held.new) result }
 {
     match held {
-        Held::Genesis(genesis) => chain_added(alloc, genesis, time),
+        HandleValue::Genesis(genesis) => chain_added(alloc, genesis, time),
         _ => Err(Refused::OtherKind),
     }
 }
 
-#[tactic(auto, unfolding(crate::specs::Genesis::AddsChain))]
+#[tactic(auto, unfolding(crate::specs::GenesisHandles::AddsChain))]
 fn chain_added(alloc: Global, genesis: &mut Genesis, time: u64) -> Result<(), Refused>
     ensures { AddsChain time (genesis_state genesis.old) (genesis_state genesis.new) result }
 {
@@ -77,7 +77,7 @@ fn chain_added(alloc: Global, genesis: &mut Genesis, time: u64) -> Result<(), Re
 
 /// Lets a user hold so much of a denomination at the last chain of a genesis: `high` times 2^64 and `low`. Refused: `Empty`;
 /// `OtherKind`; `Core(BadName)` exactly where a name is none of its kind; `NothingThere` where there is no chain; `Core(NoMemory)`.
-#[tactic(auto, unfolding(crate::specs::Genesis::BalanceAdded))]
+#[tactic(auto, unfolding(crate::specs::GenesisHandles::BalanceAdded))]
 pub fn add_balance(
     alloc: Global,
     genesis: &mut Handle,
@@ -102,7 +102,7 @@ pub fn add_balance(
 
 fn add_balance_to(
     alloc: Global,
-    held: &mut Held,
+    held: &mut HandleValue,
     user: &[u8],
     denom: &[u8],
     amount: u128,
@@ -110,12 +110,12 @@ fn add_balance_to(
     ensures { GenesisGoesOn (AddsBalance user.now denom.now amount) held.old (Some held.new) result }
 {
     match held {
-        Held::Genesis(genesis) => balance_added(alloc, genesis, user, denom, amount),
+        HandleValue::Genesis(genesis) => balance_added(alloc, genesis, user, denom, amount),
         _ => Err(Refused::OtherKind),
     }
 }
 
-#[tactic(auto, unfolding(crate::specs::Genesis::AddsBalance))]
+#[tactic(auto, unfolding(crate::specs::GenesisHandles::AddsBalance))]
 fn balance_added(
     alloc: Global,
     genesis: &mut Genesis,

@@ -1,15 +1,15 @@
 //! What calls have in common at handles.
 
 ghost use Rattle.std.specs.Prelude.{◌≡◌, None};
-ghost use Rattle.ibc_c.specs.Handles.{Gives, IsMade, IsWritten, freed};
+ghost use Rattle.ibc_c.specs.Handles.{WritesFound, IsMade, IsWritten, freed};
 
 use crate::Refused;
-use ibc_handle::{Handle, Held};
+use ibc_handle::{Handle, HandleValue};
 use ibc_ids::{Bytes, Refusal};
 use std::alloc::Global;
 
 /// Puts a value into a handle that holds nothing. Refused: `Core(NoMemory)`, where a growth is refused.
-pub(crate) fn put_new(alloc: Global, handle: &mut Handle, value: Held) -> Result<(), Refused>
+pub(crate) fn put_new(alloc: Global, handle: &mut Handle, value: HandleValue) -> Result<(), Refused>
     requires { handle.old.value ≡ None }
     ensures { IsMade (λ made. made ≡ value) handle.new.value result }
 {
@@ -51,7 +51,7 @@ pub(crate) fn give(
     out: &mut [u8],
     size: &mut usize,
 ) -> Result<(), Refused>
-    ensures { Gives found out.old out.new size.old size.new result }
+    ensures { WritesFound found out.old out.new size.old size.new result }
 {
     match found {
         Ok(bytes) => write_out(bytes.as_slice(), out, size),

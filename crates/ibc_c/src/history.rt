@@ -2,12 +2,12 @@
 
 ghost use Rattle.std.specs.Prelude.{◌≡◌, Some};
 ghost use Rattle.ibc_c.specs.Handles.{IsWritten};
-ghost use Rattle.ibc_c.specs.History.{IsAskedText, IsToldOf, IsToldReply, TellsEvent, TellsLength, TellsReply, asked_of, text_of, told_of};
+ghost use Rattle.ibc_c.specs.History.{IsEventText, WritesSpelledEvent, WritesReply, TellsEvent, TellsLength, TellsReply, event_code, reply_bytes, reply_code};
 
 use crate::Refused;
 use crate::handles::write_out;
 use crate::reads::spelling_of;
-use ibc_handle::{Handle, Held};
+use ibc_handle::{Handle, HandleValue};
 use ibc_ids::Bytes;
 use ibc_ledger::StampedEntry;
 use ibc_machine::{Effect, Event, Reply};
@@ -19,7 +19,7 @@ use std::alloc::Global;
 /// whose root goes with it.
 #[repr(C)]
 #[derive(Clone, Copy, Debug, PartialEq, Eq, Drop)]
-pub struct Told {
+pub struct ReplyCode {
     pub kind: u64,
     pub number: u64,
 }
@@ -28,7 +28,7 @@ pub struct Told {
 /// of the next one is told, which else is 0.
 #[repr(C)]
 #[derive(Clone, Copy, Debug, PartialEq, Eq, Drop)]
-pub struct Asked {
+pub struct EventCode {
     pub kind: u64,
     pub next_time: u64,
 }
@@ -51,23 +51,23 @@ pub fn length(alloc: Global, handle: &mut Handle, length: &mut u64) -> Result<()
 }
 
 #[tactic(auto, unfolding(crate::specs::History::TellsLength))]
-fn length_of(held: &Held, length: &mut u64) -> Result<(), Refused>
+fn length_of(held: &HandleValue, length: &mut u64) -> Result<(), Refused>
     ensures { TellsLength (Some held.now) length.old length.new result }
 {
     match held {
-        Held::Ledger(member) => {
+        HandleValue::Ledger(member) => {
             *length = member.ledger.history().len() as u64;
             Ok(())
         }
-        Held::Plan(messages) => {
+        HandleValue::Plan(messages) => {
             *length = messages.len() as u64;
             Ok(())
         }
-        Held::Balances(list) => {
+        HandleValue::Balances(list) => {
             *length = list.len() as u64;
             Ok(())
         }
-        Held::Notes(list) => {
+        HandleValue::Notes(list) => {
             *length = list.len() as u64;
             Ok(())
         }
@@ -83,7 +83,7 @@ pub fn history_reply(
     alloc: Global,
     ledger: &mut Handle,
     index: u64,
-    told: &mut Told,
+    told: &mut ReplyCode,
     bytes: &mut [u8],
     size: &mut usize,
 ) -> Result<(), Refused>
@@ -102,16 +102,16 @@ pub fn history_reply(
 
 #[tactic(auto, unfolding(crate::specs::History::TellsReply))]
 fn reply_at(
-    held: &Held,
+    held: &HandleValue,
     index: u64,
-    told: &mut Told,
+    told: &mut ReplyCode,
     bytes: &mut [u8],
     size: &mut usize,
 ) -> Result<(), Refused>
     ensures { TellsReply index (Some held.now) (record { told = told.old; bytes = bytes.old; size = size.old }) (record { told = told.new; bytes = bytes.new; size = size.new }) result }
 {
     match held {
-        Held::Ledger(member) => match member.ledger.history().get(index as usize) {
+        HandleValue::Ledger(member) => match member.ledger.history().get(index as usize) {
             Some(entry) => tell(entry, told, bytes, size),
             None => Err(Refused::NothingThere),
         },
@@ -121,20 +121,20 @@ fn reply_at(
 
 fn tell(
     stamped: &StampedEntry,
-    told: &mut Told,
+    told: &mut ReplyCode,
     bytes: &mut [u8],
     size: &mut usize,
 ) -> Result<(), Refused>
-    ensures told { told.new ≡ told_of stamped.now.entry.reply }
-    ensures bytes { IsWritten (text_of stamped.now.entry.reply) bytes.old bytes.new size.new result }
+    ensures told { told.new ≡ reply_code stamped.now.entry.reply }
+    ensures bytes { IsWritten (reply_bytes stamped.now.entry.reply) bytes.old bytes.new size.new result }
 {
     let reply = &stamped.entry.reply;
     *told = told_of(reply);
     write_out(text_of(reply), bytes, size)
 }
 
-fn told_of(reply: &Reply) -> Told
-    ensures { result ≡ told_of reply.now }
+fn told_of(reply: &Reply) -> ReplyCode
+    ensures { result ≡ reply_code reply.now }
 {
     let (kind, number) = match reply {
         Reply::No(refusal) => (0, u64::from(refusal.number())),
@@ -146,11 +146,11 @@ fn told_of(reply: &Reply) -> Told
         Reply::Ok(Effect::Ack(_)) => (6, 0),
         Reply::Ok(Effect::Block(height, _)) => (7, *height),
     };
-    Told { kind, number }
+    ReplyCode { kind, number }
 }
 
 fn text_of(reply: &Reply) -> &[u8]
-    ensures { result.now ≡ text_of reply.now }
+    ensures { result.now ≡ reply_bytes reply.now }
 {
     match reply {
         Reply::Ok(Effect::Client(name)) => name.as_str().as_bytes(),
@@ -171,7 +171,7 @@ pub fn history_event(
     alloc: Global,
     ledger: &mut Handle,
     index: u64,
-    asked: &mut Asked,
+    asked: &mut EventCode,
     bytes: &mut [u8],
     size: &mut usize,
 ) -> Result<(), Refused>
@@ -191,16 +191,16 @@ pub fn history_event(
 #[tactic(auto, unfolding(crate::specs::History::TellsEvent))]
 fn event_at(
     alloc: Global,
-    held: &Held,
+    held: &HandleValue,
     index: u64,
-    asked: &mut Asked,
+    asked: &mut EventCode,
     bytes: &mut [u8],
     size: &mut usize,
 ) -> Result<(), Refused>
     ensures { TellsEvent index (Some held.now) (record { asked = asked.old; bytes = bytes.old; size = size.old }) (record { asked = asked.new; bytes = bytes.new; size = size.new }) result }
 {
     match held {
-        Held::Ledger(member) => match member.ledger.history().get(index as usize) {
+        HandleValue::Ledger(member) => match member.ledger.history().get(index as usize) {
             Some(stamped) => tell_event(alloc, &stamped.entry.event, asked, bytes, size),
             None => Err(Refused::NothingThere),
         },
@@ -211,11 +211,11 @@ fn event_at(
 fn tell_event(
     alloc: Global,
     event: &Event,
-    asked: &mut Asked,
+    asked: &mut EventCode,
     bytes: &mut [u8],
     size: &mut usize,
 ) -> Result<(), Refused>
-    ensures { IsToldOf event.now (record { asked = asked.old; bytes = bytes.old; size = size.old }) (record { asked = asked.new; bytes = bytes.new; size = size.new }) result }
+    ensures { WritesSpelledEvent event.now (record { asked = asked.old; bytes = bytes.old; size = size.old }) (record { asked = asked.new; bytes = bytes.new; size = size.new }) result }
 {
     match asked_text(alloc, event) {
         Ok(text) => {
@@ -228,7 +228,7 @@ fn tell_event(
 
 // The bytes that spell what was asked, none of the end of a block.
 fn asked_text(alloc: Global, event: &Event) -> Result<Bytes, Refused>
-    ensures { IsAskedText event.now result }
+    ensures { IsEventText event.now result }
 {
     match event {
         Event::Message { message, .. } => spelling_of(alloc, message),
@@ -236,12 +236,12 @@ fn asked_text(alloc: Global, event: &Event) -> Result<Bytes, Refused>
     }
 }
 
-fn asked_of(event: &Event) -> Asked
-    ensures { result ≡ asked_of event.now }
+fn asked_of(event: &Event) -> EventCode
+    ensures { result ≡ event_code event.now }
 {
     let (kind, next_time) = match event {
         Event::Message { message, .. } => (u64::from(message.kind().tag()), 0),
         Event::Block { next_time, .. } => (0, *next_time),
     };
-    Asked { kind, next_time }
+    EventCode { kind, next_time }
 }

@@ -8,7 +8,7 @@ ghost use Rattle.ibc_c.specs.Holdings.{AreBalancesOf, FindsHolding, IsHoldingTex
 use crate::Refused;
 use crate::handles::{give, put_new};
 use crate::reads::{Amount, parts_of};
-use ibc_handle::{Handle, Held};
+use ibc_handle::{Handle, HandleValue};
 use ibc_ids::{Account, Bytes, Denom, Refusal};
 use std::alloc::{AllocError, Global};
 
@@ -37,13 +37,13 @@ pub fn make_balances(
     }
 }
 
-fn balances_at(alloc: Global, held: &Held, balances: &mut Handle) -> Result<(), Refused>
+fn balances_at(alloc: Global, held: &HandleValue, balances: &mut Handle) -> Result<(), Refused>
     requires { balances.old.value ≡ None }
     ensures { AreBalancesOf (Some held.now) balances.new.value result }
 {
     match held {
-        Held::Ledger(member) => match member.ledger.balances() {
-            Ok(list) => put_new(alloc, balances, Held::Balances(list)),
+        HandleValue::Ledger(member) => match member.ledger.balances() {
+            Ok(list) => put_new(alloc, balances, HandleValue::Balances(list)),
             Err(refusal) => Err(Refused::Core(refusal)),
         },
         _ => Err(Refused::OtherKind),
@@ -84,7 +84,7 @@ fn text_in(alloc: Global, balances: &mut Handle, chain: u64, index: u64) -> Resu
     }
 }
 
-fn text_at(alloc: Global, held: &Held, chain: u64, index: u64) -> Result<Bytes, Refused>
+fn text_at(alloc: Global, held: &HandleValue, chain: u64, index: u64) -> Result<Bytes, Refused>
     ensures { IsHoldingText (holding_at chain index (Some held.now)) result }
 {
     match holding_in(held, chain, index) {
@@ -114,13 +114,17 @@ fn text_of(alloc: Global, holding: &(Account, Denom, u128)) -> Result<Vec<u8>, A
 
 // The holding at an index of a list of balances; of an audit, at an index of a chain's.
 #[tactic(auto, unfolding(crate::specs::Holdings::holding_at))]
-fn holding_in(held: &Held, chain: u64, index: u64) -> Result<&(Account, Denom, u128), Refused>
+fn holding_in(
+    held: &HandleValue,
+    chain: u64,
+    index: u64,
+) -> Result<&(Account, Denom, u128), Refused>
     ensures ok { IfOk result (λ holding. holding_at chain index (Some held.now) ≡ Ok holding.now) }
     ensures err { IfErr result (λ refused. holding_at chain index (Some held.now) ≡ Err refused) }
 {
     let list = match held {
-        Held::Balances(list) => list.as_slice(),
-        Held::Audit(audit) => match audit.balances.get(chain as usize) {
+        HandleValue::Balances(list) => list.as_slice(),
+        HandleValue::Audit(audit) => match audit.balances.get(chain as usize) {
             Some(list) => list.as_slice(),
             None => return Err(Refused::NothingThere),
         },
@@ -155,7 +159,7 @@ pub fn holding_amount(
 }
 
 #[tactic(auto, unfolding(crate::specs::Holdings::TellsHolding))]
-fn amount_at(held: &Held, chain: u64, index: u64, amount: &mut Amount) -> Result<(), Refused>
+fn amount_at(held: &HandleValue, chain: u64, index: u64, amount: &mut Amount) -> Result<(), Refused>
     ensures { TellsHolding chain index (Some held.now) amount.old amount.new result }
 {
     match holding_in(held, chain, index) {

@@ -6,8 +6,8 @@ ghost use Rattle.ibc_wire.specs.Fields.{Spells};
 ghost use Rattle.ibc_wire.specs.Messages.{message_fields};
 ghost use Rattle.ibc_wire.specs.declared.messages.Message.{Message as AMessage};
 ghost use Rattle.ibc_wire.specs.Kinds.{kind_of, tag_of};
-ghost use Rattle.ibc_message_codec.specs.MessageFront.{told_kind};
-ghost use Rattle.ibc_c.specs.Carried.{carried_proof, first_in, height_in, proof_in, second_in};
+ghost use Rattle.ibc_message_codec.specs.MessageFront.{kind_at_front};
+ghost use Rattle.ibc_c.specs.CarriedProofs.{carried_proof, first_in, height_in, proof_in, second_in};
 
 use ibc_ids::{Bytes, Refusal};
 use ibc_message_codec::decode;
@@ -19,7 +19,7 @@ use std::alloc::Global;
 pub fn tag_of(alloc: Global, bytes: &[u8]) -> Result<u8, Refusal>
     ensures ok { IfOk result (λ tag. (message : AMessage) × Spells (message_fields message) bytes.now × (tag ≡ tag_of (kind_of message))) }
     ensures bad { IsErrOf result BadMessage → (message : AMessage) → ¬ Spells (message_fields message) bytes.now }
-    ensures unknown { told_kind bytes.now ≡ None → result ≡ Err BadMessage }
+    ensures unknown { kind_at_front bytes.now ≡ None → result ≡ Err BadMessage }
     ensures err { IfErr result (λ refusal. (refusal ≡ BadMessage) ⊎ (refusal ≡ NoMemory)) }
 {
     let message = decode(alloc, bytes)?;
@@ -41,7 +41,7 @@ pub struct Carried {
 pub fn carried_proof(alloc: Global, bytes: &[u8], index: u64) -> Result<Option<Carried>, Refusal>
     ensures ok { IfOk result (λ found. (message : AMessage) × Spells (message_fields message) bytes.now × (found ≡ carried_proof index message)) }
     ensures bad { IsErrOf result BadMessage → (message : AMessage) → ¬ Spells (message_fields message) bytes.now }
-    ensures unknown { told_kind bytes.now ≡ None → result ≡ Err BadMessage }
+    ensures unknown { kind_at_front bytes.now ≡ None → result ≡ Err BadMessage }
     ensures err { IfErr result (λ refusal. (refusal ≡ BadMessage) ⊎ (refusal ≡ NoMemory)) }
 {
     let message = decode(alloc, bytes)?;

@@ -2,18 +2,18 @@
 
 ghost use Rattle.std.specs.Prelude.{◌≡◌, Ok, Err, None, Some, IfOk, IfErr};
 ghost use Rattle.ibc_c.specs.Handles.{Finds};
-ghost use Rattle.ibc_c.specs.Notes.{AreNotesOf, FindsChannel, FindsNote, IsFound, MakesNotes, TellsNoteCount, name_in, note_in, notes_at};
+ghost use Rattle.ibc_c.specs.NoteReads.{AreNotesOf, FindsChannel, FindsNote, IsFound, MakesNotes, TellsNoteCount, name_in, note_in, notes_at};
 
 use crate::Refused;
 use crate::handles::{give, put_new};
-use ibc_handle::{Handle, Held};
+use ibc_handle::{Handle, HandleValue};
 use ibc_ids::{Bytes, ChannelId, Refusal};
 use std::alloc::Global;
 
 /// Makes the list of the notes that came to a ledger, as its working block has them, in a handle that holds nothing: of each channel
 /// over which one came, the channels in the byte order of their names. Refused, by the first check that fails: `Full`; `Empty`
 /// and `OtherKind` where the first handle holds no ledger; `Core(NoMemory)`.
-#[tactic(auto, unfolding(crate::specs::Notes::MakesNotes))]
+#[tactic(auto, unfolding(crate::specs::NoteReads::MakesNotes))]
 pub fn make_notes(alloc: Global, ledger: &mut Handle, notes: &mut Handle) -> Result<(), Refused>
     ensures kept { ledger.new.value ≡ ledger.old.value }
     ensures made { MakesNotes ledger.old.value notes.old.value notes.new.value result }
@@ -31,13 +31,13 @@ pub fn make_notes(alloc: Global, ledger: &mut Handle, notes: &mut Handle) -> Res
     }
 }
 
-fn notes_of(alloc: Global, held: &Held, notes: &mut Handle) -> Result<(), Refused>
+fn notes_of(alloc: Global, held: &HandleValue, notes: &mut Handle) -> Result<(), Refused>
     requires { notes.old.value ≡ None }
     ensures { AreNotesOf (Some held.now) notes.new.value result }
 {
     match held {
-        Held::Ledger(member) => match member.ledger.all_notes() {
-            Ok(list) => put_new(alloc, notes, Held::Notes(list)),
+        HandleValue::Ledger(member) => match member.ledger.all_notes() {
+            Ok(list) => put_new(alloc, notes, HandleValue::Notes(list)),
             Err(refusal) => Err(Refused::Core(refusal)),
         },
         _ => Err(Refused::OtherKind),
@@ -62,7 +62,7 @@ pub fn note_channel(
     give(name_found(alloc, notes, chain, channel), name, size)
 }
 
-#[tactic(auto, unfolding(crate::specs::Notes::FindsChannel, crate::specs::Notes::notes_at))]
+#[tactic(auto, unfolding(crate::specs::NoteReads::FindsChannel, crate::specs::NoteReads::notes_at))]
 fn name_found(alloc: Global, notes: &mut Handle, chain: u64, channel: u64) -> Result<Bytes, Refused>
     ensures kept { notes.new.value ≡ notes.old.value }
     ensures found { FindsChannel chain channel notes.old.value result }
@@ -77,7 +77,7 @@ fn name_found(alloc: Global, notes: &mut Handle, chain: u64, channel: u64) -> Re
     }
 }
 
-fn name_at(alloc: Global, held: &Held, chain: u64, channel: u64) -> Result<Bytes, Refused>
+fn name_at(alloc: Global, held: &HandleValue, chain: u64, channel: u64) -> Result<Bytes, Refused>
     ensures { IsFound (name_in (notes_at chain channel (Some held.now))) result }
 {
     match notes_in(held, chain, channel) {
@@ -97,14 +97,18 @@ fn copy_of(alloc: Global, bytes: &[u8]) -> Result<Bytes, Refused>
 }
 
 // The channel at an index of a list of notes; of an audit, at an index of a chain's.
-#[tactic(auto, unfolding(crate::specs::Notes::notes_at))]
-fn notes_in(held: &Held, chain: u64, channel: u64) -> Result<&(ChannelId, Vec<Bytes>), Refused>
+#[tactic(auto, unfolding(crate::specs::NoteReads::notes_at))]
+fn notes_in(
+    held: &HandleValue,
+    chain: u64,
+    channel: u64,
+) -> Result<&(ChannelId, Vec<Bytes>), Refused>
     ensures ok { IfOk result (λ notes. notes_at chain channel (Some held.now) ≡ Ok notes.now) }
     ensures err { IfErr result (λ refused. notes_at chain channel (Some held.now) ≡ Err refused) }
 {
     let list = match held {
-        Held::Notes(list) => list.as_slice(),
-        Held::Audit(audit) => match audit.notes.get(chain as usize) {
+        HandleValue::Notes(list) => list.as_slice(),
+        HandleValue::Audit(audit) => match audit.notes.get(chain as usize) {
             Some(list) => list.as_slice(),
             None => return Err(Refused::NothingThere),
         },
@@ -118,7 +122,7 @@ fn notes_in(held: &Held, chain: u64, channel: u64) -> Result<&(ChannelId, Vec<By
 
 /// Tells how many notes came over a channel, which stands as `note_channel` says. Refused: `Empty`; `OtherKind`; `NothingThere`.
 /// Then nothing is told.
-#[tactic(auto, unfolding(crate::specs::Notes::TellsNoteCount, crate::specs::Notes::notes_at))]
+#[tactic(auto, unfolding(crate::specs::NoteReads::TellsNoteCount, crate::specs::NoteReads::notes_at))]
 pub fn note_count(
     alloc: Global,
     notes: &mut Handle,
@@ -139,8 +143,8 @@ pub fn note_count(
     }
 }
 
-#[tactic(auto, unfolding(crate::specs::Notes::TellsNoteCount))]
-fn count_at(held: &Held, chain: u64, channel: u64, count: &mut u64) -> Result<(), Refused>
+#[tactic(auto, unfolding(crate::specs::NoteReads::TellsNoteCount))]
+fn count_at(held: &HandleValue, chain: u64, channel: u64, count: &mut u64) -> Result<(), Refused>
     ensures { TellsNoteCount chain channel (Some held.now) count.old count.new result }
 {
     match notes_in(held, chain, channel) {
@@ -171,7 +175,7 @@ pub fn note(
     give(note_found(alloc, notes, chain, channel, index), text, size)
 }
 
-#[tactic(auto, unfolding(crate::specs::Notes::FindsNote, crate::specs::Notes::notes_at))]
+#[tactic(auto, unfolding(crate::specs::NoteReads::FindsNote, crate::specs::NoteReads::notes_at))]
 fn note_found(
     alloc: Global,
     notes: &mut Handle,
@@ -194,7 +198,7 @@ fn note_found(
 
 fn note_at(
     alloc: Global,
-    held: &Held,
+    held: &HandleValue,
     chain: u64,
     channel: u64,
     index: u64,

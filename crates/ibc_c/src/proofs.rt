@@ -4,7 +4,7 @@ ghost use Rattle.std.specs.Prelude.{◌≡◌, ◌≢◌, ◌⊎◌, Err, IfOk, 
 ghost use Rattle.ibc_ids.specs.declared.refusal.Refusal.TheVariants.{BadMessage, NoMemory};
 ghost use Rattle.ibc_merkle.specs.Proofs.{accepts_absent, accepts_present};
 ghost use Rattle.ibc_wire.specs.Reading.{proof_of};
-ghost use Rattle.ibc_c.specs.Judged.{judged, key_in, key_told, kind_in, kind_told, tested, value_in, value_told};
+ghost use Rattle.ibc_c.specs.JudgedProofs.{proof_verdict, key_in, shown_key, kind_in, shown_kind, test_passed, value_in, shown_value};
 
 use ibc_client::read_proof;
 use ibc_ics23_proof::{verify_absent, verify_present};
@@ -31,7 +31,7 @@ pub fn show_present(
     value: &[u8],
     proof: &[u8],
 ) -> Result<(), Refusal>
-    ensures { (result ≡ Err NoMemory) ⊎ (result ≡ judged root.now proof.now (λ p. accepts_present p root.now key.now value.now)) }
+    ensures { (result ≡ Err NoMemory) ⊎ (result ≡ proof_verdict root.now proof.now (λ p. accepts_present p root.now key.now value.now)) }
 {
     let root = read_root(root)?;
     let proof = read_proof(alloc, proof)?;
@@ -43,7 +43,7 @@ pub fn show_present(
 /// The bytes spell a proof that shows that the key isn't there under the root (ICS 23, "VerifyNonMembership"). Refused as by
 /// `show_present`.
 pub fn show_absent(alloc: Global, root: &[u8], key: &[u8], proof: &[u8]) -> Result<(), Refusal>
-    ensures { (result ≡ Err NoMemory) ⊎ (result ≡ judged root.now proof.now (λ p. accepts_absent p root.now key.now)) }
+    ensures { (result ≡ Err NoMemory) ⊎ (result ≡ proof_verdict root.now proof.now (λ p. accepts_absent p root.now key.now)) }
 {
     let root = read_root(root)?;
     let proof = read_proof(alloc, proof)?;
@@ -64,7 +64,7 @@ pub fn kind_of(alloc: Global, proof: &[u8]) -> Result<ProofKind, Refusal>
 
 // What the proof shows.
 fn kind_told(proof: &Proof) -> ProofKind
-    ensures { result ≡ kind_told proof.now }
+    ensures { result ≡ shown_kind proof.now }
 {
     match proof {
         Proof::Present(_) => ProofKind::Present,
@@ -81,7 +81,7 @@ pub fn key_of(alloc: Global, proof: &[u8]) -> Result<Bytes, Refusal>
 
 // The key of which the proof speaks.
 fn key_told(proof: Proof) -> Bytes
-    ensures { result ≡ key_told proof }
+    ensures { result ≡ shown_key proof }
 {
     match proof {
         Proof::Present(shown) => shown.key,
@@ -99,7 +99,7 @@ pub fn value_of(alloc: Global, proof: &[u8]) -> Result<Option<Bytes>, Refusal>
 
 // The value that the proof shows its key to have, or none where it shows that the key isn't there.
 fn value_told(proof: Proof) -> Option<Bytes>
-    ensures { result ≡ value_told proof }
+    ensures { result ≡ shown_value proof }
 {
     match proof {
         Proof::Present(shown) => Some(shown.value),
@@ -120,7 +120,7 @@ fn read_root(bytes: &[u8]) -> Result<Root, Refusal>
 
 // What is asked for is shown, or else `BadProof`.
 fn require_shown(is_shown: bool) -> Result<(), Refusal>
-    ensures { result ≡ tested is_shown }
+    ensures { result ≡ test_passed is_shown }
 {
     if is_shown {
         Ok(())

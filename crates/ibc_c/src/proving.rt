@@ -6,13 +6,13 @@ ghost use Rattle.ibc_ids.specs.declared.refusal.Refusal.TheVariants.{NoMemory};
 ghost use Rattle.ibc_wire.specs.Fields.{have_form};
 ghost use Rattle.ibc_wire.specs.Spelling.{proof_bytes, proof_fields};
 ghost use Rattle.ibc_c.specs.Handles.{Finds};
-ghost use Rattle.ibc_c.specs.Proved.{FindsProved, IsProofOf, IsProvedAt};
+ghost use Rattle.ibc_c.specs.ViewProofs.{FindsProved, IsProofOf, IsProvedAt};
 ghost use Rattle.ibc_c.specs.declared.answer.Refused.TheVariants.{Core};
 
 use crate::Refused;
 use crate::handles::give;
 use crate::views::key_of;
-use ibc_handle::{Handle, Held};
+use ibc_handle::{Handle, HandleValue};
 use ibc_ids::{Bytes, Key};
 use ibc_ledger::Ledger;
 use ibc_merkle::Proof;
@@ -38,7 +38,7 @@ pub fn prove(
     give(proved_in(alloc, ledger, height, path), proof, size)
 }
 
-#[tactic(auto, unfolding(crate::specs::Proved::FindsProved))]
+#[tactic(auto, unfolding(crate::specs::ViewProofs::FindsProved))]
 fn proved_in(alloc: Global, ledger: &mut Handle, height: u64, path: &[u8]) -> Result<Bytes, Refused>
     ensures kept { ledger.new.value ≡ ledger.old.value }
     ensures found { FindsProved height path.now ledger.old.value result }
@@ -53,12 +53,12 @@ fn proved_in(alloc: Global, ledger: &mut Handle, height: u64, path: &[u8]) -> Re
     }
 }
 
-#[tactic(auto, unfolding(crate::specs::Proved::FindsProved))]
-fn proved_at(alloc: Global, held: &Held, height: u64, path: &[u8]) -> Result<Bytes, Refused>
+#[tactic(auto, unfolding(crate::specs::ViewProofs::FindsProved))]
+fn proved_at(alloc: Global, held: &HandleValue, height: u64, path: &[u8]) -> Result<Bytes, Refused>
     ensures { FindsProved height path.now (Some held.now) result }
 {
     match held {
-        Held::Ledger(member) => proved_by(alloc, &member.ledger, height, path),
+        HandleValue::Ledger(member) => proved_by(alloc, &member.ledger, height, path),
         _ => Err(Refused::OtherKind),
     }
 }
@@ -76,7 +76,7 @@ fn proved_of(alloc: Global, ledger: &Ledger, height: u64, key: &Key) -> Result<B
     requires { IsTrue (is_key key.now) }
     ensures { IsProofOf height key.now ledger.now.ledger result }
 {
-    ledger.is_its_history();
+    ledger.lemma_is_its_history();
     match ledger.query_proof(height, key) {
         Ok(proof) => bytes_of(alloc, proof),
         Err(refusal) => Err(Refused::Core(refusal)),

@@ -8,7 +8,7 @@ use crate::Refused;
 use crate::genesis::names_of;
 use crate::handles::give;
 use crate::views::key_of;
-use ibc_handle::{Handle, Held};
+use ibc_handle::{Handle, HandleValue};
 use ibc_ids::{Account, Bytes, Refusal};
 use ibc_ledger::Ledger;
 use ibc_message_codec::encode;
@@ -55,11 +55,11 @@ fn value_in(alloc: Global, ledger: &mut Handle, path: &[u8]) -> Result<Bytes, Re
 }
 
 #[tactic(auto, unfolding(crate::specs::Reads::FindsValue))]
-fn value_at(alloc: Global, held: &Held, path: &[u8]) -> Result<Bytes, Refused>
+fn value_at(alloc: Global, held: &HandleValue, path: &[u8]) -> Result<Bytes, Refused>
     ensures { FindsValue path.now (Some held.now) result }
 {
     match held {
-        Held::Ledger(member) => value_of(alloc, &member.ledger, path),
+        HandleValue::Ledger(member) => value_of(alloc, &member.ledger, path),
         _ => Err(Refused::OtherKind),
     }
 }
@@ -109,11 +109,11 @@ fn message_in(alloc: Global, plan: &mut Handle, index: u64) -> Result<Bytes, Ref
 }
 
 #[tactic(auto, unfolding(crate::specs::Reads::FindsMessage))]
-fn message_at(alloc: Global, held: &Held, index: u64) -> Result<Bytes, Refused>
+fn message_at(alloc: Global, held: &HandleValue, index: u64) -> Result<Bytes, Refused>
     ensures { FindsMessage index (Some held.now) result }
 {
     match held {
-        Held::Plan(messages) => match messages.get(index as usize) {
+        HandleValue::Plan(messages) => match messages.get(index as usize) {
             Some(message) => spelling_of(alloc, message),
             None => Err(Refused::NothingThere),
         },
@@ -157,7 +157,7 @@ pub fn balance(
 #[tactic(auto, unfolding(crate::specs::Reads::TellsBalance))]
 fn balance_at(
     alloc: Global,
-    held: &Held,
+    held: &HandleValue,
     user: &[u8],
     denom: &[u8],
     amount: &mut Amount,
@@ -165,7 +165,7 @@ fn balance_at(
     ensures { TellsBalance user.now denom.now (Some held.now) amount.old amount.new result }
 {
     match held {
-        Held::Ledger(member) => balance_of(alloc, &member.ledger, user, denom, amount),
+        HandleValue::Ledger(member) => balance_of(alloc, &member.ledger, user, denom, amount),
         _ => Err(Refused::OtherKind),
     }
 }

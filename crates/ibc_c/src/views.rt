@@ -4,11 +4,11 @@ ghost use Rattle.std.specs.Prelude.{◌≡◌, ◌⊎◌, ◌<◌, None, Some, I
 ghost use Rattle.ibc_ids.specs.declared.key.Key.{Key as AKey};
 ghost use Rattle.ibc_ids.specs.declared.refusal.Refusal.TheVariants.{BadName, NoMemory};
 ghost use Rattle.ibc_c.specs.Handles.{Finds};
-ghost use Rattle.ibc_c.specs.Views.{FindsProof, FindsRoot, HasPath, InView, IsPlanFrom, IsPlanOf, IsProofAt, IsRoot, IsViewOf, MakesPlan, MakesView, TellsHeights, heights_of};
+ghost use Rattle.ibc_c.specs.Views.{FindsProof, FindsRoot, HasPath, InView, IsPlanFrom, IsPlanOf, IsProofAt, IsViewRoot, IsViewValue, MakesPlan, MakesView, TellsHeights, heights_of};
 
 use crate::Refused;
 use crate::handles::{give, put_new};
-use ibc_handle::{Handle, Held};
+use ibc_handle::{Handle, HandleValue};
 use ibc_ids::{Bytes, Key, Refusal};
 use ibc_ledger::View;
 use ibc_relayer::plan;
@@ -18,7 +18,7 @@ use std::alloc::Global;
 /// height and that of the working block.
 #[repr(C)]
 #[derive(Clone, Copy, Debug, PartialEq, Eq, Drop)]
-pub struct Heights {
+pub struct ViewHeights {
     pub chain: u64,
     pub height: u64,
     pub time: u64,
@@ -45,13 +45,13 @@ pub fn make_view(alloc: Global, ledger: &mut Handle, view: &mut Handle) -> Resul
     }
 }
 
-fn view_at(alloc: Global, held: &Held, view: &mut Handle) -> Result<(), Refused>
+fn view_at(alloc: Global, held: &HandleValue, view: &mut Handle) -> Result<(), Refused>
     requires { view.old.value ≡ None }
-    ensures { IsViewOf (Some held.now) view.new.value result }
+    ensures { IsViewValue (Some held.now) view.new.value result }
 {
     match held {
-        Held::Ledger(member) => match member.ledger.view() {
-            Ok(made) => put_new(alloc, view, Held::View(made)),
+        HandleValue::Ledger(member) => match member.ledger.view() {
+            Ok(made) => put_new(alloc, view, HandleValue::View(made)),
             Err(refusal) => Err(Refused::Core(refusal)),
         },
         _ => Err(Refused::OtherKind),
@@ -60,7 +60,11 @@ fn view_at(alloc: Global, held: &Held, view: &mut Handle) -> Result<(), Refused>
 
 /// Tells the number of a view's chain, its height and its times. Refused: `Empty`; `OtherKind`. Then nothing is told.
 #[tactic(auto, unfolding(crate::specs::Views::TellsHeights))]
-pub fn view_heights(alloc: Global, view: &mut Handle, heights: &mut Heights) -> Result<(), Refused>
+pub fn view_heights(
+    alloc: Global,
+    view: &mut Handle,
+    heights: &mut ViewHeights,
+) -> Result<(), Refused>
     ensures kept { view.new.value ≡ view.old.value }
     ensures told { TellsHeights view.old.value heights.old heights.new result }
 {
@@ -75,11 +79,11 @@ pub fn view_heights(alloc: Global, view: &mut Handle, heights: &mut Heights) -> 
 }
 
 #[tactic(auto, unfolding(crate::specs::Views::TellsHeights))]
-fn heights_at(held: &Held, heights: &mut Heights) -> Result<(), Refused>
+fn heights_at(held: &HandleValue, heights: &mut ViewHeights) -> Result<(), Refused>
     ensures { TellsHeights (Some held.now) heights.old heights.new result }
 {
     match held {
-        Held::View(view) => {
+        HandleValue::View(view) => {
             *heights = heights_of(view);
             Ok(())
         }
@@ -87,10 +91,10 @@ fn heights_at(held: &Held, heights: &mut Heights) -> Result<(), Refused>
     }
 }
 
-fn heights_of(view: &View) -> Heights
+fn heights_of(view: &View) -> ViewHeights
     ensures { result ≡ heights_of view.now }
 {
-    Heights {
+    ViewHeights {
         chain: u64::from(view.chain()),
         height: view.height(),
         time: view.time(),
@@ -128,19 +132,19 @@ fn root_in(alloc: Global, view: &mut Handle) -> Result<Bytes, Refused>
     }
 }
 
-fn root_at(alloc: Global, held: &Held) -> Result<Bytes, Refused>
-    ensures { InView IsRoot (Some held.now) result }
+fn root_at(alloc: Global, held: &HandleValue) -> Result<Bytes, Refused>
+    ensures { InView IsViewRoot (Some held.now) result }
 {
     match held {
-        Held::View(view) if view.height() > 0 => root_of(alloc, view),
-        Held::View(_) => Err(Refused::NothingThere),
+        HandleValue::View(view) if view.height() > 0 => root_of(alloc, view),
+        HandleValue::View(_) => Err(Refused::NothingThere),
         _ => Err(Refused::OtherKind),
     }
 }
 
 fn root_of(alloc: Global, view: &View) -> Result<Bytes, Refused>
     requires { 0 < view.now.height }
-    ensures { IsRoot view.now result }
+    ensures { IsViewRoot view.now result }
 {
     match Bytes::copy_of(alloc, view.root().bytes()) {
         Ok(root) => Ok(root),
@@ -180,12 +184,12 @@ fn proof_in(alloc: Global, view: &mut Handle, path: &[u8]) -> Result<Bytes, Refu
     }
 }
 
-fn proof_at(alloc: Global, held: &Held, path: &[u8]) -> Result<Bytes, Refused>
+fn proof_at(alloc: Global, held: &HandleValue, path: &[u8]) -> Result<Bytes, Refused>
     ensures { InView (IsProofAt path.now) (Some held.now) result }
 {
     match held {
-        Held::View(view) if view.height() > 0 => proof_of(alloc, view, path),
-        Held::View(_) => Err(Refused::NothingThere),
+        HandleValue::View(view) if view.height() > 0 => proof_of(alloc, view, path),
+        HandleValue::View(_) => Err(Refused::NothingThere),
         _ => Err(Refused::OtherKind),
     }
 }
@@ -241,13 +245,18 @@ pub fn make_plan(
     }
 }
 
-fn plan_at(alloc: Global, held: &Held, to: &mut Handle, plan: &mut Handle) -> Result<(), Refused>
+fn plan_at(
+    alloc: Global,
+    held: &HandleValue,
+    to: &mut Handle,
+    plan: &mut Handle,
+) -> Result<(), Refused>
     requires { plan.old.value ≡ None }
     ensures kept { to.new.value ≡ to.old.value }
     ensures made { IsPlanOf (Some held.now) to.old.value plan.new.value result }
 {
     match held {
-        Held::View(from) => plan_from(alloc, from, to, plan),
+        HandleValue::View(from) => plan_from(alloc, from, to, plan),
         _ => Err(Refused::OtherKind),
     }
 }
@@ -267,13 +276,18 @@ fn plan_from(alloc: Global, from: &View, to: &mut Handle, plan: &mut Handle) -> 
     }
 }
 
-fn plan_to(alloc: Global, from: &View, held: &Held, place: &mut Handle) -> Result<(), Refused>
+fn plan_to(
+    alloc: Global,
+    from: &View,
+    held: &HandleValue,
+    place: &mut Handle,
+) -> Result<(), Refused>
     requires { place.old.value ≡ None }
     ensures { IsPlanFrom from.now (Some held.now) place.new.value result }
 {
     match held {
-        Held::View(to) => match plan(alloc, from, to) {
-            Ok(messages) => put_new(alloc, place, Held::Plan(messages)),
+        HandleValue::View(to) => match plan(alloc, from, to) {
+            Ok(messages) => put_new(alloc, place, HandleValue::Plan(messages)),
             Err(refusal) => Err(Refused::Core(refusal)),
         },
         _ => Err(Refused::OtherKind),

@@ -2,11 +2,11 @@
 
 ghost use Rattle.std.specs.Prelude.{◌≡◌, None, Some};
 ghost use Rattle.ibc_machine.specs.chain.Genesis.{genesis_state, is_allowed};
-ghost use Rattle.ibc_c.specs.Worlds.{AreMadeOf, ByAllowed, IsTakenFrom, MakesLedgers, TakesFrom, TakesLedger};
+ghost use Rattle.ibc_c.specs.WorldHandles.{AreMadeOf, MakesIfAllowed, TakesFirstLedger, MakesLedgers, TakesFrom, TakesLedger};
 
 use crate::Refused;
 use crate::handles::put_new;
-use ibc_handle::{Handle, Held, Ledgers, WorldLedger};
+use ibc_handle::{Handle, HandleValue, WorldLedger, WorldLedgers};
 use ibc_ids::Refusal;
 use ibc_machine::Genesis;
 use std::alloc::Global;
@@ -14,7 +14,7 @@ use std::alloc::Global;
 /// Makes all ledgers of a genesis in a handle that holds nothing, under a number by which the caller tells worlds apart. The
 /// genesis stays. Refused, by the first check that fails: `Full` where the second handle holds something; `Empty` and
 /// `OtherKind` where the first holds no genesis; `Core(BadMessage)` exactly where no world begins so; `Core(NoMemory)`.
-#[tactic(auto, unfolding(crate::specs::Worlds::MakesLedgers))]
+#[tactic(auto, unfolding(crate::specs::WorldHandles::MakesLedgers))]
 pub fn make_ledgers(
     alloc: Global,
     genesis: &mut Handle,
@@ -37,22 +37,27 @@ pub fn make_ledgers(
     }
 }
 
-fn make_at(alloc: Global, held: &Held, number: u64, ledgers: &mut Handle) -> Result<(), Refused>
+fn make_at(
+    alloc: Global,
+    held: &HandleValue,
+    number: u64,
+    ledgers: &mut Handle,
+) -> Result<(), Refused>
     requires { ledgers.old.value ≡ None }
     ensures { AreMadeOf number (Some held.now) ledgers.new.value result }
 {
     match held {
-        Held::Genesis(genesis) => begin(alloc, genesis, number, ledgers),
+        HandleValue::Genesis(genesis) => begin(alloc, genesis, number, ledgers),
         _ => Err(Refused::OtherKind),
     }
 }
 
 fn begin(alloc: Global, genesis: &Genesis, number: u64, ledgers: &mut Handle) -> Result<(), Refused>
     requires { ledgers.old.value ≡ None }
-    ensures { ByAllowed (is_allowed (genesis_state genesis.now)) (genesis_state genesis.now) number ledgers.new.value result }
+    ensures { MakesIfAllowed (is_allowed (genesis_state genesis.now)) (genesis_state genesis.now) number ledgers.new.value result }
 {
-    match Ledgers::begin(alloc, genesis, number) {
-        Ok(all) => put_new(alloc, ledgers, Held::Ledgers(all)),
+    match WorldLedgers::begin(alloc, genesis, number) {
+        Ok(all) => put_new(alloc, ledgers, HandleValue::Ledgers(all)),
         Err(refusal) => Err(Refused::Core(refusal)),
     }
 }
@@ -60,7 +65,7 @@ fn begin(alloc: Global, genesis: &Genesis, number: u64, ledgers: &mut Handle) ->
 /// Moves the first of the ledgers to a handle that holds nothing. Refused, by the first check that fails: `Full` where the
 /// second handle holds something; `Empty` and `OtherKind` where the first holds no ledgers; `Core(NoMemory)`; `NothingThere`
 /// where all were taken. Then nothing has changed.
-#[tactic(auto, unfolding(crate::specs::Worlds::TakesLedger))]
+#[tactic(auto, unfolding(crate::specs::WorldHandles::TakesLedger))]
 pub fn take_ledger(alloc: Global, ledgers: &mut Handle, ledger: &mut Handle) -> Result<(), Refused>
     ensures { TakesLedger ledgers.old.value ledgers.new.value ledger.old.value ledger.new.value result }
 {
@@ -78,22 +83,22 @@ pub fn take_ledger(alloc: Global, ledgers: &mut Handle, ledger: &mut Handle) -> 
     }
 }
 
-fn take_at(alloc: Global, held: &mut Held, ledger: &mut Handle) -> Result<(), Refused>
+fn take_at(alloc: Global, held: &mut HandleValue, ledger: &mut Handle) -> Result<(), Refused>
     requires { ledger.old.value ≡ None }
     ensures { TakesFrom held.old held.new ledger.new.value result }
 {
     match held {
-        Held::Ledgers(all) => take_first(alloc, all, ledger),
+        HandleValue::Ledgers(all) => take_first(alloc, all, ledger),
         _ => Err(Refused::OtherKind),
     }
 }
 
 // The place of the ledger is made first, and holds an empty plan until the ledger is there.
-fn take_first(alloc: Global, all: &mut Ledgers, ledger: &mut Handle) -> Result<(), Refused>
+fn take_first(alloc: Global, all: &mut WorldLedgers, ledger: &mut Handle) -> Result<(), Refused>
     requires { ledger.old.value ≡ None }
-    ensures { IsTakenFrom all.old all.new ledger.new.value result }
+    ensures { TakesFirstLedger all.old all.new ledger.new.value result }
 {
-    let Ok(()) = ledger.fill(alloc, Held::Plan(Vec::new(alloc))) else {
+    let Ok(()) = ledger.fill(alloc, HandleValue::Plan(Vec::new(alloc))) else {
         return Err(Refused::Core(Refusal::NoMemory));
     };
     let number = all.number();
@@ -103,7 +108,7 @@ fn take_first(alloc: Global, all: &mut Ledgers, ledger: &mut Handle) -> Result<(
             Err(Refused::NothingThere)
         }
         Some(first) => {
-            let held = Held::Ledger(WorldLedger {
+            let held = HandleValue::Ledger(WorldLedger {
                 number,
                 ledger: first,
             });

@@ -31,9 +31,9 @@ impl Form {
 }
 
 /// A field: its name, and how it is spelled.
-pub type Field = (&'static str, Form);
+pub type FieldForm = (&'static str, Form);
 
-const PACKET: &[Field] = &[
+const PACKET: &[FieldForm] = &[
     ("sequence", Form::Number),
     ("timeout_height", Form::Number),
     ("timeout_time", Form::Number),
@@ -44,7 +44,7 @@ const PACKET: &[Field] = &[
     ("data", Form::Text),
 ];
 
-const UPDATE_CLIENT: &[Field] = &[
+const UPDATE_CLIENT: &[FieldForm] = &[
     ("client", Form::Text),
     ("chain", Form::Byte),
     ("height", Form::Number),
@@ -52,7 +52,7 @@ const UPDATE_CLIENT: &[Field] = &[
     ("root", Form::Root),
 ];
 
-const CONN_OPEN_TRY: &[Field] = &[
+const CONN_OPEN_TRY: &[FieldForm] = &[
     ("client", Form::Text),
     ("peer_client", Form::Text),
     ("peer_connection", Form::Text),
@@ -63,7 +63,7 @@ const CONN_OPEN_TRY: &[Field] = &[
     ("proof_client", Form::Text),
 ];
 
-const CONN_OPEN_ACK: &[Field] = &[
+const CONN_OPEN_ACK: &[FieldForm] = &[
     ("connection", Form::Text),
     ("peer_connection", Form::Text),
     ("claimed_chain", Form::Byte),
@@ -73,13 +73,13 @@ const CONN_OPEN_ACK: &[Field] = &[
     ("proof_client", Form::Text),
 ];
 
-const CONN_OPEN_CONFIRM: &[Field] = &[
+const CONN_OPEN_CONFIRM: &[FieldForm] = &[
     ("connection", Form::Text),
     ("height", Form::Number),
     ("proof", Form::Text),
 ];
 
-const CHAN_OPEN_TRY: &[Field] = &[
+const CHAN_OPEN_TRY: &[FieldForm] = &[
     ("port", Form::Text),
     ("order", Form::Byte),
     ("connection", Form::Text),
@@ -90,7 +90,7 @@ const CHAN_OPEN_TRY: &[Field] = &[
     ("proof", Form::Text),
 ];
 
-const CHAN_OPEN_ACK: &[Field] = &[
+const CHAN_OPEN_ACK: &[FieldForm] = &[
     ("port", Form::Text),
     ("channel", Form::Text),
     ("peer_channel", Form::Text),
@@ -98,28 +98,28 @@ const CHAN_OPEN_ACK: &[Field] = &[
     ("proof", Form::Text),
 ];
 
-const CHAN_CONFIRM: &[Field] = &[
+const CHAN_CONFIRM: &[FieldForm] = &[
     ("port", Form::Text),
     ("channel", Form::Text),
     ("height", Form::Number),
     ("proof", Form::Text),
 ];
 
-const RECV_PACKET: &[Field] = &[("height", Form::Number), ("proof", Form::Text)];
+const RECV_PACKET: &[FieldForm] = &[("height", Form::Number), ("proof", Form::Text)];
 
-const ACK_PACKET: &[Field] = &[
+const ACK_PACKET: &[FieldForm] = &[
     ("ack", Form::Text),
     ("height", Form::Number),
     ("proof", Form::Text),
 ];
 
-const TIMEOUT: &[Field] = &[
+const TIMEOUT: &[FieldForm] = &[
     ("next_recv", Form::Number),
     ("height", Form::Number),
     ("proof", Form::Text),
 ];
 
-const TIMEOUT_ON_CLOSE: &[Field] = &[
+const TIMEOUT_ON_CLOSE: &[FieldForm] = &[
     ("next_recv", Form::Number),
     ("height", Form::Number),
     ("proof", Form::Text),
@@ -128,7 +128,7 @@ const TIMEOUT_ON_CLOSE: &[Field] = &[
 
 /// The fields of a message of a packet are those of the packet, and these behind them; those of another message are these
 /// alone. There are none of messages without proofs, but of an `UpdateClient`.
-pub fn fields_of(kind: MessageKind) -> (&'static [Field], &'static [Field]) {
+pub fn fields_of(kind: MessageKind) -> (&'static [FieldForm], &'static [FieldForm]) {
     match kind {
         MessageKind::UpdateClient => (&[], UPDATE_CLIENT),
         MessageKind::ConnOpenTry => (&[], CONN_OPEN_TRY),

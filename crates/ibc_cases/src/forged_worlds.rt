@@ -4,13 +4,13 @@ use crate::counts::Counts;
 use crate::forgery::{Group, forged, with_byte};
 use crate::log::Log;
 use crate::mistake::Unmade;
-use crate::spelled::Spelled;
+use crate::spelled::SpelledMessage;
 use crate::wrong_bytes::{Numbers, WrongBytes};
 use ibc_ids::{Account, Bytes, ChannelId, ClientId, ConnectionId, Denom, Key, PortId, Refusal};
 use ibc_machine::{Effect, Event, Genesis, Reply, Totals};
 use ibc_merkle::Proof;
-use ibc_script_cli::{Chains, Tells, Worlds};
-use ibc_script_worlds::{Ledgers, NewWorlds};
+use ibc_script_cli::{Chains, Holdings, Worlds};
+use ibc_script_worlds::{ScriptWorld, WorldFactory};
 use ibc_wire::{ChannelEnd, ClientState, ConnectionEnd, Message, MessageKind, Packet};
 use std::alloc::{AllocError, Global};
 
@@ -30,7 +30,7 @@ pub struct ForgedChains<'l> {
     groups: &'l [Group<'l>],
     log: &'l Log,
     seen: Vec<MessageKind>,
-    ledgers: Ledgers,
+    ledgers: ScriptWorld,
 }
 
 impl<'l> Worlds for ForgedWorlds<'l> {
@@ -42,7 +42,7 @@ impl<'l> Worlds for ForgedWorlds<'l> {
             groups: self.groups,
             log: self.log,
             seen: Vec::new(self.alloc),
-            ledgers: NewWorlds::new(self.alloc).begin(genesis)?,
+            ledgers: WorldFactory::new(self.alloc).begin(genesis)?,
         })
     }
 }
@@ -58,7 +58,12 @@ fn judge_unread(refusal: Refusal, counts: &mut Counts) -> Result<(), Refusal> {
 
 impl<'l> ForgedChains<'l> {
     // Sends a message, and counts the reply, or that its bytes are no message.
-    fn send(&mut self, chain: u8, made: &Spelled, counts: &mut Counts) -> Result<(), Refusal> {
+    fn send(
+        &mut self,
+        chain: u8,
+        made: &SpelledMessage,
+        counts: &mut Counts,
+    ) -> Result<(), Refusal> {
         match made.message(self.alloc) {
             Ok(message) => {
                 let reply = self.ledgers.ask(Event::Message { chain, message })?;
@@ -74,7 +79,7 @@ impl<'l> ForgedChains<'l> {
     fn send_with_byte(
         &mut self,
         chain: u8,
-        honest: &Spelled,
+        honest: &SpelledMessage,
         field: &str,
         place: usize,
         counts: &mut Counts,
@@ -92,7 +97,7 @@ impl<'l> ForgedChains<'l> {
     fn send_with_each_byte(
         &mut self,
         chain: u8,
-        honest: &Spelled,
+        honest: &SpelledMessage,
         field: &str,
         counts: &mut Counts,
     ) -> Result<(), Unmade> {
@@ -107,7 +112,7 @@ impl<'l> ForgedChains<'l> {
     fn send_spoilt(
         &mut self,
         chain: u8,
-        honest: &Spelled,
+        honest: &SpelledMessage,
         numbers: &mut Numbers,
         counts: &mut Counts,
     ) -> Result<(), Refusal> {
@@ -128,7 +133,7 @@ impl<'l> ForgedChains<'l> {
     fn send_wrong(
         &mut self,
         chain: u8,
-        honest: &Spelled,
+        honest: &SpelledMessage,
         wrong: WrongBytes,
         counts: &mut Counts,
     ) -> Result<(), Refusal> {
@@ -143,7 +148,7 @@ impl<'l> ForgedChains<'l> {
     fn send_changed(
         &mut self,
         chain: u8,
-        honest: &Spelled,
+        honest: &SpelledMessage,
         line: &str,
         counts: &mut Counts,
     ) -> Result<(), Unmade> {
@@ -157,7 +162,7 @@ impl<'l> ForgedChains<'l> {
     fn send_line(
         &mut self,
         chain: u8,
-        honest: &Spelled,
+        honest: &SpelledMessage,
         line: &str,
         counts: &mut Counts,
     ) -> Result<(), Unmade> {
@@ -174,7 +179,7 @@ impl<'l> ForgedChains<'l> {
     fn send_numbered(
         &mut self,
         chain: u8,
-        honest: &Spelled,
+        honest: &SpelledMessage,
         (number, line): (usize, &[u8]),
         counts: &mut Counts,
     ) -> Result<(), Refusal> {
@@ -196,7 +201,7 @@ impl<'l> ForgedChains<'l> {
     fn send_group(
         &mut self,
         chain: u8,
-        honest: &Spelled,
+        honest: &SpelledMessage,
         group: &Group<'l>,
     ) -> Result<(), Refusal> {
         let mut counts = Counts::new();
@@ -214,7 +219,7 @@ impl<'l> ForgedChains<'l> {
         message: &Message,
         group: &Group<'l>,
     ) -> Result<(), Refusal> {
-        let honest = Spelled::of(self.alloc, message)?;
+        let honest = SpelledMessage::of(self.alloc, message)?;
         let sent = self.send_group(chain, &honest, group);
         drop(honest);
         sent
@@ -318,7 +323,7 @@ impl Chains for ForgedChains<'_> {
     }
 }
 
-impl Tells for ForgedChains<'_> {
+impl Holdings for ForgedChains<'_> {
     fn totals(&self, chain: u8, channel: &ChannelId, denom: &Denom) -> Result<Totals, Refusal> {
         self.ledgers.totals(chain, channel, denom)
     }

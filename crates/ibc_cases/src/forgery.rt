@@ -4,7 +4,7 @@
 
 use crate::lines::Lines;
 use crate::mistake::{Mistake, Unmade, Wrong, number_of, size_of};
-use crate::spelled::Spelled;
+use crate::spelled::SpelledMessage;
 use ibc_ids::{Key, Refusal};
 use ibc_script_cli::Chains;
 use ibc_wire::{MessageKind, encode};
@@ -162,7 +162,7 @@ fn edited(alloc: Global, old: &[u8], how: &str) -> Result<Vec<u8>, Unmade> {
 fn content<C: Chains>(
     alloc: Global,
     chains: &C,
-    honest: &Spelled,
+    honest: &SpelledMessage,
     field: &str,
     how: &str,
 ) -> Result<Vec<u8>, Unmade> {
@@ -181,10 +181,10 @@ fn content<C: Chains>(
 fn with_change<C: Chains>(
     alloc: Global,
     chains: &C,
-    honest: &Spelled,
-    forged: &Spelled,
+    honest: &SpelledMessage,
+    forged: &SpelledMessage,
     change: &str,
-) -> Result<Spelled, Unmade> {
+) -> Result<SpelledMessage, Unmade> {
     let (field, how) = change.split_once(' ').unwrap_or((change, ""));
     let content = content(alloc, chains, honest, field, how)?;
     let made = forged.with(alloc, field, content.as_slice());
@@ -196,9 +196,9 @@ fn with_change<C: Chains>(
 pub fn forged<C: Chains>(
     alloc: Global,
     chains: &C,
-    honest: &Spelled,
+    honest: &SpelledMessage,
     line: &str,
-) -> Result<Spelled, Unmade> {
+) -> Result<SpelledMessage, Unmade> {
     let mut forged = honest.copy()?;
     for change in line.split("; ") {
         forged = with_change(alloc, chains, honest, &forged, change)?;

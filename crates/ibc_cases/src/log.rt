@@ -12,7 +12,7 @@ use std::{fmt, io};
 /// What came of a run so far: all lines, those of the script alone, the roots of the blocks, and how many groups of forgeries
 /// were sent.
 #[derive(Drop)]
-struct Kept {
+struct RunLog {
     lines: Vec<u8>,
     own: Vec<u8>,
     roots: Vec<Root>,
@@ -23,7 +23,7 @@ struct Kept {
 #[derive(Drop)]
 pub struct Log {
     alloc: Global,
-    kept: RefCell<Kept>,
+    kept: RefCell<RunLog>,
     wrong: Cell<Option<Wrong>>,
 }
 
@@ -43,7 +43,7 @@ pub struct LogWriter<'l> {
     pub log: &'l Log,
 }
 
-impl Kept {
+impl RunLog {
     // Adds a line of what was answered to a group of forgeries.
     fn note_forged(&mut self, line: &str) -> Result<(), AllocError> {
         self.lines.extend_from_slice(line.as_bytes())?;
@@ -61,7 +61,7 @@ impl Kept {
 impl Log {
     /// Nothing has come yet.
     pub fn new(alloc: Global) -> Log {
-        let kept = Kept {
+        let kept = RunLog {
             lines: Vec::new(alloc),
             own: Vec::new(alloc),
             roots: Vec::new(alloc),

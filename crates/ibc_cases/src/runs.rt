@@ -6,8 +6,8 @@ use crate::log::{Log, LogWriter};
 use crate::mistake::Stop;
 use crate::streams::{SlowReader, SlowWriter};
 use ibc_script::Fault;
-use ibc_script_cli::{Audited, Race, Races, drive};
-use ibc_script_worlds::NewWorlds;
+use ibc_script_cli::{Race, RaceAudit, Races, drive};
+use ibc_script_worlds::WorldFactory;
 use std::alloc::Global;
 use std::io;
 use std::io::Write;
@@ -16,7 +16,7 @@ use std::io::Write;
 pub struct NoRaces;
 
 impl Races for NoRaces {
-    fn race(&self, _relayers: u8, race: Race) -> Result<Audited, Fault> {
+    fn race(&self, _relayers: u8, race: Race) -> Result<RaceAudit, Fault> {
         drop(race);
         Err(Fault::NoMemory)
     }
@@ -129,7 +129,7 @@ impl Run<'_> {
             taken: Vec::new(alloc),
             calls: self.writes,
         };
-        let worlds = NewWorlds::new(alloc);
+        let worlds = WorldFactory::new(alloc);
         let driven = drive(alloc, &worlds, &NoRaces, &[self.word], reader, &mut writer);
         output.write_all(writer.taken.as_slice())?;
         print_end(driven, output)

@@ -10,14 +10,14 @@ use std::alloc::{AllocError, Global};
 
 /// A message as it is spelled.
 #[derive(Drop)]
-pub struct Spelled {
+pub struct SpelledMessage {
     kind: MessageKind,
     bytes: Vec<u8>,
 }
 
 // Where a field stands: from its beginning, to its content, and to its end.
 #[derive(Clone, Copy, Drop)]
-struct Place {
+struct FieldSpan {
     form: Form,
     start: usize,
     content: usize,
@@ -25,7 +25,7 @@ struct Place {
 }
 
 // The place of a field of this form that begins here.
-fn place_at(bytes: &[u8], form: Form, start: usize) -> Place {
+fn place_at(bytes: &[u8], form: Form, start: usize) -> FieldSpan {
     let (front, size) = match form {
         Form::Byte => (0, 1),
         Form::Number => (0, 8),
@@ -33,7 +33,7 @@ fn place_at(bytes: &[u8], form: Form, start: usize) -> Place {
         Form::Text => (2, length_at(bytes, start)),
     };
     let content = start.saturating_add(front);
-    Place {
+    FieldSpan {
         form,
         start,
         content,
@@ -49,18 +49,18 @@ fn length_at(bytes: &[u8], start: usize) -> usize {
     }
 }
 
-impl Spelled {
+impl SpelledMessage {
     /// How a message is spelled. Refused: `NoMemory`, and `BadMessage` where it has no spelling.
-    pub fn of(alloc: Global, message: &Message) -> Result<Spelled, Refusal> {
-        Ok(Spelled {
+    pub fn of(alloc: Global, message: &Message) -> Result<SpelledMessage, Refusal> {
+        Ok(SpelledMessage {
             kind: message.kind(),
             bytes: encode(alloc, message)?,
         })
     }
 
     /// A copy. Refused: `NoMemory`.
-    pub fn copy(&self) -> Result<Spelled, Refusal> {
-        Ok(Spelled {
+    pub fn copy(&self) -> Result<SpelledMessage, Refusal> {
+        Ok(SpelledMessage {
             kind: self.kind,
             bytes: self.bytes.clone()?,
         })
@@ -72,7 +72,7 @@ impl Spelled {
     }
 
     // The place of a field, `None` where there is no such field.
-    fn place(&self, field: &str) -> Option<Place> {
+    fn place(&self, field: &str) -> Option<FieldSpan> {
         let (front, back) = fields_of(self.kind);
         let mut start = 1;
         for (name, form) in front.iter().chain(back) {
@@ -104,7 +104,12 @@ impl Spelled {
 
     /// The same with another content of a field. Not made where there is no such field, or the content is too long for a text,
     /// or there is no memory.
-    pub fn with(&self, alloc: Global, field: &str, content: &[u8]) -> Result<Spelled, Unmade> {
+    pub fn with(
+        &self,
+        alloc: Global,
+        field: &str,
+        content: &[u8],
+    ) -> Result<SpelledMessage, Unmade> {
         match self.place(field) {
             Some(place) => self.with_at(alloc, place, content),
             None => Err(Unmade::Mistake(Mistake::Field)),
@@ -116,9 +121,9 @@ impl Spelled {
         &self,
         alloc: Global,
         numbers: &mut Numbers,
-    ) -> Result<Option<Spelled>, AllocError> {
+    ) -> Result<Option<SpelledMessage>, AllocError> {
         match numbers.spoilt(alloc, self.bytes.as_slice())? {
-            Some(bytes) => Ok(Some(Spelled {
+            Some(bytes) => Ok(Some(SpelledMessage {
                 kind: self.kind,
                 bytes,
             })),
@@ -127,14 +132,19 @@ impl Spelled {
     }
 
     // The same with another content at a place.
-    fn with_at(&self, alloc: Global, place: Place, content: &[u8]) -> Result<Spelled, Unmade> {
+    fn with_at(
+        &self,
+        alloc: Global,
+        place: FieldSpan,
+        content: &[u8],
+    ) -> Result<SpelledMessage, Unmade> {
         let front = self.bytes.get(..place.start).unwrap_or(&[]);
         let back = self.bytes.get(place.end..).unwrap_or(&[]);
         let bytes = match place.form {
             Form::Text => joined(alloc, &[front, &length_of(content)?, content, back])?,
             Form::Byte | Form::Number | Form::Root => joined(alloc, &[front, content, back])?,
         };
-        Ok(Spelled {
+        Ok(SpelledMessage {
             kind: self.kind,
             bytes,
         })

@@ -20,14 +20,14 @@ use Rattle.ibc_wire.specs.declared.messages.ChanCloseInit.{ChanCloseInit}
 use Rattle.ibc_machine.specs.declared.reply.Effect.{Effect}
 use Rattle.ibc_machine.specs.declared.reply.Effect.TheVariants as effect
 use Rattle.ibc_machine.specs.chain.Records.{Core, Channel, connection_at, channel_at, with_channel}
-use Rattle.ibc_machine.specs.ledger.Replay.{LedgerState, proves}
+use Rattle.ibc_machine.specs.ledger.Replay.{LedgerState, proof_evidence}
 use Rattle.ibc_machine.specs.ics24.Values.{same_connection_state, same_channel_state}
 use Rattle.ibc_machine.specs.chain.Checks.{Checked, require, expect, go_on, and_then, ◌>>=◌, ◌>>◌}
 use Rattle.ibc_machine.specs.ics24.Evidence.{Host, Evidence, require_number, require_known, require_proof}
 use Rattle.ibc_machine.specs.ics04.Channels.{client_of, peer_channel_of, counterpart, has_channel, chan_open_init, chan_open_try, chan_open_ack, chan_close_init}
 use Rattle.ibc_machine.proofs.PassedChecks.{pass, find, unused}
-use Rattle.ibc_channel.specs.Ends.{end_at, with_end, begun, inited, tried, acknowledged, moved, require_connection, require_open, begun_there, answered_there}
-use Rattle.ibc_channel.specs.Follows.{require_follows, follow_peer}
+use Rattle.ibc_channel.specs.ChannelHandshake.{end_at, with_end, new_end, init_end, try_end, after_ack, end_in_state, require_connection, require_open, expected_init_end, expected_try_end}
+use Rattle.ibc_channel.specs.FollowedPeers.{require_follows, follow_peer}
 
 -- ---- a new channel
 
@@ -37,7 +37,7 @@ module _ (evidence : Evidence) (host : Host) (core : Core) (has_port : Checked �
       require_connection core m.connection
       >> (opens m.order m.version
       >> (require_number core.next_channel
-      >> Ok (begun m.port (inited m) core)))
+      >> Ok (new_end m.port (init_end m) core)))
 
   pub init_checks : (m : ChanOpenInit) → chan_open_init has_port opens m evidence host core ≡ (has_port >> init_after m)
   unfolding chan_open_init
@@ -49,8 +49,8 @@ module _ (evidence : Evidence) (host : Host) (core : Core) (has_port : Checked �
       opens m.order m.version
       >> (require_number core.next_channel
       >> (require_known core client m.height
-      >> (require_proof evidence client m.height (has_channel (tried m) m.peer_channel (begun_there core m (tried m))) m.proof
-      >> Ok (begun m.port (tried m) core))))
+      >> (require_proof evidence client m.height (has_channel (try_end m) m.peer_channel (expected_init_end core m (try_end m))) m.proof
+      >> Ok (new_end m.port (try_end m) core))))
 
   -- a connection that is found and open, and the client under it
   over_connection : (o : Option ConnectionEnd) (rest : Text → Checked (Effect × Core))
@@ -95,18 +95,18 @@ module _ (evidence : Evidence) (host : Host) (core : Core) where
       require (same_channel_state mine.state Init) WrongState
       >> (require_open core mine.connection
       >> (require_known core (client_of core mine.connection) m.height
-      >> (require_proof evidence (client_of core mine.connection) m.height (has_channel mine m.peer_channel (answered_there core m mine)) m.proof
+      >> (require_proof evidence (client_of core mine.connection) m.height (has_channel mine m.peer_channel (expected_try_end core m mine)) m.proof
       >> Ok (effect.None, set))))
 
   abbrev pub ack_after : ChanOpenAck → ChannelEnd → Checked (Effect × Core)
-  ack_after m mine = ack_sets m mine (with_end m.port m.channel (acknowledged m mine) core)
+  ack_after m mine = ack_sets m mine (with_end m.port m.channel (after_ack m mine) core)
 
   pub ack_checks : (m : ChanOpenAck)
       → chan_open_ack m evidence host core
       ≡ (require (evidence.is_proof m.proof) BadMessage >> (expect (end_at core m.port m.channel) UnknownChannel >>= ack_after m))
   unfolding chan_open_ack
   ack_checks m =
-      ap (λ rest. require (evidence.is_proof m.proof) BadMessage >> rest) (of_end core m.port m.channel (ack_sets m) (acknowledged m))
+      ap (λ rest. require (evidence.is_proof m.proof) BadMessage >> rest) (of_end core m.port m.channel (ack_sets m) (after_ack m))
 
   module _ (to : ChannelState) (port channel : Text) (height : ℕ) (proof : Text) where
     abbrev follow_sets : ChannelEnd → Core → Checked (Effect × Core)
@@ -117,12 +117,12 @@ module _ (evidence : Evidence) (host : Host) (core : Core) where
         >> Ok (effect.None, set)))
 
     abbrev pub follow_after : ChannelEnd → Checked (Effect × Core)
-    follow_after mine = follow_sets mine (with_end port channel (moved to mine) core)
+    follow_after mine = follow_sets mine (with_end port channel (end_in_state to mine) core)
 
     pub follow_checks : follow_peer to port channel height proof evidence host core
         ≡ (require (evidence.is_proof proof) BadMessage >> (expect (end_at core port channel) UnknownChannel >>= follow_after))
     unfolding follow_peer
-    follow_checks = ap (λ rest. require (evidence.is_proof proof) BadMessage >> rest) (of_end core port channel follow_sets (moved to))
+    follow_checks = ap (λ rest. require (evidence.is_proof proof) BadMessage >> rest) (of_end core port channel follow_sets (end_in_state to))
 
   module _ (closes : Checked ⊤) (m : ChanCloseInit) where
     abbrev close_init_sets : ChannelEnd → Core → Checked (Effect × Core)
@@ -130,17 +130,17 @@ module _ (evidence : Evidence) (host : Host) (core : Core) where
         require (same_channel_state mine.state Open) WrongState >> (closes >> Ok (effect.None, set))
 
     abbrev pub close_init_after : ChannelEnd → Checked (Effect × Core)
-    close_init_after mine = close_init_sets mine (with_end m.port m.channel (moved Closed mine) core)
+    close_init_after mine = close_init_sets mine (with_end m.port m.channel (end_in_state Closed mine) core)
 
     pub close_init_checks : chan_close_init closes m evidence host core ≡ (expect (end_at core m.port m.channel) UnknownChannel >>= close_init_after)
     unfolding chan_close_init
-    close_init_checks = of_end core m.port m.channel close_init_sets (moved Closed)
+    close_init_checks = of_end core m.port m.channel close_init_sets (end_in_state Closed)
 
 -- ---- behind the proof that was read, and behind the end that is there
 
 module _ (seen : List Publication) (state : LedgerState) (host : Host) (core : Core) where
   abbrev roots : Evidence
-  roots = proves seen None state
+  roots = proof_evidence seen None state
 
   module _ (has_port : Checked ⊤) (opens : Order → Text → Checked ⊤) (m : ChanOpenTry) (proof : Proof) (read : proof_of m.proof ≡ Some proof) where
     pub try_begun : chan_open_try has_port opens m roots host core ≡ (has_port >> try_after roots host core has_port opens m)

@@ -1,2 +1,2 @@
 pub mod Handshake
-pub mod Found
+pub mod FoundRecords

@@ -1,2 +1,2 @@
-pub mod Ends
-pub mod Follows
+pub mod ChannelHandshake
+pub mod FollowedPeers

@@ -5,8 +5,8 @@ ghost use Rattle.ibc_ids.specs.declared.refusal.Refusal.TheVariants.{WrongState}
 ghost use Rattle.ibc_machine.specs.chain.Checks.{require};
 ghost use Rattle.ibc_machine.specs.ics24.Evidence.{require_number};
 ghost use Rattle.ibc_machine.specs.ics24.Values.{same_channel_state};
-ghost use Rattle.ibc_records.specs.Held.{core_of};
-ghost use Rattle.ibc_channel.specs.Ends.{require_connection, require_open};
+ghost use Rattle.ibc_records.specs.RecordsModel.{core_of};
+ghost use Rattle.ibc_channel.specs.ChannelHandshake.{require_connection, require_open};
 
 use ibc_ids::{ConnectionId, Refusal};
 use ibc_records::Records;

@@ -3,7 +3,7 @@
 ghost use Rattle.std.specs.Prelude.{ℕ};
 ghost use Rattle.ibc_machine.specs.declared.reply.Effect.TheVariants as effect;
 ghost use Rattle.ibc_machine.specs.ics04.Channels.{chan_close_confirm};
-ghost use Rattle.ibc_records.specs.Taking.{IsHandled};
+ghost use Rattle.ibc_records.specs.HandlerContract.{IsHandled};
 
 use crate::following::follow_peer;
 use ibc_ids::Refusal;

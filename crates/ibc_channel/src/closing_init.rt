@@ -3,10 +3,10 @@
 ghost use Rattle.std.specs.Prelude.{◌≡◌, ℕ, IsSome, IfOk};
 ghost use Rattle.ibc_machine.specs.declared.reply.Effect.TheVariants as effect;
 ghost use Rattle.ibc_machine.specs.ics04.Channels.{chan_close_init};
-ghost use Rattle.ibc_records.specs.Held.{core_of};
-ghost use Rattle.ibc_records.specs.Taking.{IsHandled};
-ghost use Rattle.ibc_client.specs.Judging.{IsJudged};
-ghost use Rattle.ibc_channel.specs.Ends.{end_at, settled};
+ghost use Rattle.ibc_records.specs.RecordsModel.{core_of};
+ghost use Rattle.ibc_records.specs.HandlerContract.{IsHandled};
+ghost use Rattle.ibc_client.specs.ProofVerdicts.{IsJudged};
+ghost use Rattle.ibc_channel.specs.ChannelHandshake.{end_at, with_set_end};
 
 use crate::checks::check_state;
 use crate::ends::{find_end, move_end, set_end};
@@ -35,7 +35,7 @@ fn judge_close<A: App>(
     app: &A,
     message: &ChanCloseInit,
 ) -> Result<ChannelEnd, Refusal>
-    ensures judged { (chain chains : ℕ) → IsJudged (chan_close_init A.closes message.now) chain chains records.now (settled message.now.port message.now.channel (core_of records.now)) result }
+    ensures judged { (chain chains : ℕ) → IsJudged (chan_close_init A.closes message.now) chain chains records.now (with_set_end message.now.port message.now.channel (core_of records.now)) result }
     ensures there { IfOk result (λ _. IsSome (end_at (core_of records.now) message.now.port message.now.channel)) }
 {
     let mine = find_end(records, &message.port, &message.channel)?;

@@ -5,9 +5,9 @@ ghost use Rattle.ibc_ids.specs.Paths.{nth_channel};
 ghost use Rattle.ibc_ids.specs.declared.refusal.Refusal.TheVariants.{NoMemory, UnknownChannel};
 ghost use Rattle.ibc_machine.specs.ics04.Channels.{channel_end, with_new_channel};
 ghost use Rattle.ibc_machine.specs.chain.Checks.{expect};
-ghost use Rattle.ibc_records.specs.Held.{core_of, IsUnchanged};
-ghost use Rattle.ibc_records.specs.Taking.{IsWritten};
-ghost use Rattle.ibc_channel.specs.Ends.{end_at, moved, with_end};
+ghost use Rattle.ibc_records.specs.RecordsModel.{core_of, IsUnchanged};
+ghost use Rattle.ibc_records.specs.HandlerContract.{AreWrittenRecords};
+ghost use Rattle.ibc_channel.specs.ChannelHandshake.{end_at, end_in_state, with_end};
 
 use ibc_ids::{ChannelId, ConnectionId, PortId, Refusal, Version, nth_channel};
 use ibc_records::Records;
@@ -53,7 +53,7 @@ pub fn new_end(
 
 /// The end in another state. `NoMemory` where a growth is refused.
 pub fn move_end(end: &ChannelEnd, state: ChannelState) -> Result<ChannelEnd, Refusal>
-    ensures ok { IfOk result (λ after. after ≡ moved state end.now) }
+    ensures ok { IfOk result (λ after. after ≡ end_in_state state end.now) }
     ensures err { IfErr result (λ refusal. refusal ≡ NoMemory) }
 {
     let peer_channel = match &end.peer_channel {
@@ -78,7 +78,7 @@ pub fn add_channel(
     end: ChannelEnd,
 ) -> Result<ChannelId, Refusal>
     requires { records.old.next_channel < 2 ^ 64 - 1 }
-    ensures ok { IfOk result (λ id. (id ≡ nth_channel records.old.next_channel) × IsWritten (with_new_channel port.now id end (core_of records.old)) records.old records.new) }
+    ensures ok { IfOk result (λ id. (id ≡ nth_channel records.old.next_channel) × AreWrittenRecords (with_new_channel port.now id end (core_of records.old)) records.old records.new) }
     ensures err { IfErr result (λ refusal. refusal ≡ NoMemory) }
     ensures unchanged { OnErr result (IsUnchanged records.old records.new) }
 {
@@ -95,7 +95,7 @@ pub fn set_end(
     end: ChannelEnd,
 ) -> Result<(), Refusal>
     requires { IsSome (end_at (core_of records.old) port.now channel.now) }
-    ensures ok { OnOk result (IsWritten (with_end port.now channel.now end (core_of records.old)) records.old records.new) }
+    ensures ok { OnOk result (AreWrittenRecords (with_end port.now channel.now end (core_of records.old)) records.old records.new) }
     ensures err { IfErr result (λ refusal. refusal ≡ NoMemory) }
     ensures unchanged { OnErr result (IsUnchanged records.old records.new) }
 {

@@ -5,12 +5,12 @@ ghost use Rattle.ibc_ids.specs.Texts.{Text};
 ghost use Rattle.ibc_wire.specs.Reading.{proof_of};
 ghost use Rattle.ibc_machine.specs.declared.reply.Effect.TheVariants as effect;
 ghost use Rattle.ibc_machine.specs.ics24.Values.{same_channel_state};
-ghost use Rattle.ibc_records.specs.Held.{core_of};
-ghost use Rattle.ibc_records.specs.Taking.{IsHandled};
-ghost use Rattle.ibc_client.specs.Judging.{IsJudged};
-ghost use Rattle.ibc_channel.specs.Ends.{end_at, settled};
-ghost use Rattle.ibc_channel.specs.Follows as plain;
-ghost use Rattle.ibc_channel.specs.Follows.{require_follows};
+ghost use Rattle.ibc_records.specs.RecordsModel.{core_of};
+ghost use Rattle.ibc_records.specs.HandlerContract.{IsHandled};
+ghost use Rattle.ibc_client.specs.ProofVerdicts.{IsJudged};
+ghost use Rattle.ibc_channel.specs.ChannelHandshake.{end_at, with_set_end};
+ghost use Rattle.ibc_channel.specs.FollowedPeers as plain;
+ghost use Rattle.ibc_channel.specs.FollowedPeers.{require_follows};
 
 use crate::ends::{find_end, move_end, set_end};
 use ibc_client::{check_claim, claim_peer, known_connection, name_or_none, read_proof};
@@ -54,7 +54,7 @@ fn judge_following(
     proof: &Proof,
 ) -> Result<ChannelEnd, Refusal>
     requires { same_channel_state to ChannelState.Init ≡ false }
-    ensures judged { (chain chains : ℕ) (bytes : Text) → proof_of bytes ≡ Some proof.now → IsJudged (plain.follow_peer to port.now channel.now height bytes) chain chains records.now (settled port.now channel.now (core_of records.now)) result }
+    ensures judged { (chain chains : ℕ) (bytes : Text) → proof_of bytes ≡ Some proof.now → IsJudged (plain.follow_peer to port.now channel.now height bytes) chain chains records.now (with_set_end port.now channel.now (core_of records.now)) result }
     ensures there { IfOk result (λ _. IsSome (end_at (core_of records.now) port.now channel.now)) }
 {
     let mine = find_end(records, port, channel)?;
@@ -81,7 +81,7 @@ fn check_follows(mine: &ChannelEnd, to: ChannelState) -> Result<(), Refusal>
 
 // From `TryOpen` an end follows its peer, and from `Open` where the peer is closed.
 fn may_follow(from: ChannelState, to: ChannelState) -> bool
-    ensures { result ≡ plain.may_follow to from }
+    ensures { result ≡ plain.is_followed_from to from }
 {
     match to {
         ChannelState::Closed => from == ChannelState::TryOpen || from == ChannelState::Open,

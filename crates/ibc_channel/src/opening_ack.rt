@@ -4,12 +4,12 @@ ghost use Rattle.std.specs.Prelude.{◌≡◌, ℕ, true, Some, IsSome, IfOk};
 ghost use Rattle.ibc_wire.specs.Reading.{proof_of};
 ghost use Rattle.ibc_machine.specs.declared.reply.Effect.TheVariants as effect;
 ghost use Rattle.ibc_machine.specs.ics04.Channels.{chan_open_ack};
-ghost use Rattle.ibc_machine.specs.chain.Records.{connection_at, knows};
-ghost use Rattle.ibc_records.specs.Held.{core_of};
-ghost use Rattle.ibc_records.specs.Taking.{IsHandled};
-ghost use Rattle.ibc_client.specs.Judging.{IsJudged};
+ghost use Rattle.ibc_machine.specs.chain.Records.{connection_at, is_known_height};
+ghost use Rattle.ibc_records.specs.RecordsModel.{core_of};
+ghost use Rattle.ibc_records.specs.HandlerContract.{IsHandled};
+ghost use Rattle.ibc_client.specs.ProofVerdicts.{IsJudged};
 ghost use Rattle.ibc_client.specs.Peers.{IsPeerShown};
-ghost use Rattle.ibc_channel.specs.Ends.{answered_there, end_at, settled};
+ghost use Rattle.ibc_channel.specs.ChannelHandshake.{expected_try_end, end_at, with_set_end};
 
 use crate::checks::{check_open, check_state};
 use crate::ends::{find_end, new_end, set_end};
@@ -41,7 +41,7 @@ fn judge_ack(
     proof: &Proof,
 ) -> Result<ChannelEnd, Refusal>
     requires { proof_of message.now.proof ≡ Some proof.now }
-    ensures judged { (chain chains : ℕ) → IsJudged (chan_open_ack message.now) chain chains records.now (settled message.now.port message.now.channel (core_of records.now)) result }
+    ensures judged { (chain chains : ℕ) → IsJudged (chan_open_ack message.now) chain chains records.now (with_set_end message.now.port message.now.channel (core_of records.now)) result }
     ensures there { IfOk result (λ _. IsSome (end_at (core_of records.now) message.now.port message.now.channel)) }
 {
     let mine = find_end(records, &message.port, &message.channel)?;
@@ -69,8 +69,8 @@ fn check_answered(
     proof: &Proof,
 ) -> Result<(), Refusal>
     requires there { connection_at (core_of records.now) mine.now.connection ≡ Some connection.now }
-    requires known { knows (core_of records.now) connection.now.client message.now.height ≡ true }
-    ensures { IsPeerShown records.now mine.now message.now.height message.now.peer_channel (answered_there (core_of records.now) message.now mine.now) proof.now result }
+    requires known { is_known_height (core_of records.now) connection.now.client message.now.height ≡ true }
+    ensures { IsPeerShown records.now mine.now message.now.height message.now.peer_channel (expected_try_end (core_of records.now) message.now mine.now) proof.now result }
 {
     let peer = message.peer_channel.as_str();
     let port = &message.port;

@@ -6,10 +6,10 @@ ghost use Rattle.ibc_ids.specs.declared.refusal.Refusal.TheVariants.{UnknownPort
 ghost use Rattle.ibc_machine.specs.declared.reply.Effect.TheVariants as effect;
 ghost use Rattle.ibc_machine.specs.ics04.Channels.{chan_open_init};
 ghost use Rattle.ibc_machine.specs.chain.Checks.{require};
-ghost use Rattle.ibc_records.specs.Held.{core_of};
-ghost use Rattle.ibc_records.specs.Taking.{IsHandled};
-ghost use Rattle.ibc_client.specs.Judging.{IsJudged};
-ghost use Rattle.ibc_channel.specs.Ends.{begun, inited};
+ghost use Rattle.ibc_records.specs.RecordsModel.{core_of};
+ghost use Rattle.ibc_records.specs.HandlerContract.{IsHandled};
+ghost use Rattle.ibc_client.specs.ProofVerdicts.{IsJudged};
+ghost use Rattle.ibc_channel.specs.ChannelHandshake.{new_end, init_end};
 
 use crate::checks::{check_connection, check_number};
 use crate::ends::{add_channel, new_end};
@@ -50,7 +50,7 @@ fn check_init<A: App>(
     app: Option<&A>,
     message: &ChanOpenInit,
 ) -> Result<(), Refusal>
-    ensures judged { (chain chains : ℕ) → IsJudged (chan_open_init (require (is_some app.entry) UnknownPort) A.opens message.now) chain chains records.now (λ _. begun message.now.port (inited message.now) (core_of records.now)) result }
+    ensures judged { (chain chains : ℕ) → IsJudged (chan_open_init (require (is_some app.entry) UnknownPort) A.opens message.now) chain chains records.now (λ _. new_end message.now.port (init_end message.now) (core_of records.now)) result }
     ensures free { IfOk result (λ _. records.now.next_channel < 2 ^ 64 - 1) }
 {
     let Some(app) = app else {

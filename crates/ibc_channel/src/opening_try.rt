@@ -7,12 +7,12 @@ ghost use Rattle.ibc_wire.specs.Reading.{proof_of};
 ghost use Rattle.ibc_machine.specs.declared.reply.Effect.TheVariants as effect;
 ghost use Rattle.ibc_machine.specs.ics04.Channels.{chan_open_try};
 ghost use Rattle.ibc_machine.specs.chain.Checks.{require};
-ghost use Rattle.ibc_machine.specs.chain.Records.{connection_at, knows};
-ghost use Rattle.ibc_records.specs.Held.{core_of};
-ghost use Rattle.ibc_records.specs.Taking.{IsHandled};
-ghost use Rattle.ibc_client.specs.Judging.{IsJudged};
+ghost use Rattle.ibc_machine.specs.chain.Records.{connection_at, is_known_height};
+ghost use Rattle.ibc_records.specs.RecordsModel.{core_of};
+ghost use Rattle.ibc_records.specs.HandlerContract.{IsHandled};
+ghost use Rattle.ibc_client.specs.ProofVerdicts.{IsJudged};
 ghost use Rattle.ibc_client.specs.Peers.{IsPeerShown};
-ghost use Rattle.ibc_channel.specs.Ends.{begun, begun_there, tried};
+ghost use Rattle.ibc_channel.specs.ChannelHandshake.{new_end, expected_init_end, try_end};
 
 use crate::checks::{check_connection, check_number, check_open};
 use crate::ends::{add_channel, new_end};
@@ -54,7 +54,7 @@ fn judge_try<A: App>(
     proof: &Proof,
 ) -> Result<ChannelEnd, Refusal>
     requires { proof_of message.now.proof ≡ Some proof.now }
-    ensures judged { (chain chains : ℕ) → IsJudged (chan_open_try (require (is_some app.entry) UnknownPort) A.opens message.now) chain chains records.now (λ end. begun message.now.port end (core_of records.now)) result }
+    ensures judged { (chain chains : ℕ) → IsJudged (chan_open_try (require (is_some app.entry) UnknownPort) A.opens message.now) chain chains records.now (λ end. new_end message.now.port end (core_of records.now)) result }
     ensures free { IfOk result (λ _. records.now.next_channel < 2 ^ 64 - 1) }
 {
     let Some(app) = app else {
@@ -89,8 +89,8 @@ fn check_begun(
     proof: &Proof,
 ) -> Result<(), Refusal>
     requires there { connection_at (core_of records.now) mine.now.connection ≡ Some connection.now }
-    requires known { knows (core_of records.now) connection.now.client message.now.height ≡ true }
-    ensures { IsPeerShown records.now mine.now message.now.height message.now.peer_channel (begun_there (core_of records.now) message.now mine.now) proof.now result }
+    requires known { is_known_height (core_of records.now) connection.now.client message.now.height ≡ true }
+    ensures { IsPeerShown records.now mine.now message.now.height message.now.peer_channel (expected_init_end (core_of records.now) message.now mine.now) proof.now result }
 {
     let peer = message.peer_channel.as_str();
     let port = &message.port;

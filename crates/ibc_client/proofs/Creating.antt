@@ -10,8 +10,8 @@ use Rattle.ibc_machine.specs.chain.Records.{Core, with_client}
 use Rattle.ibc_machine.specs.chain.Checks.{and_then}
 use Rattle.ibc_machine.specs.ics24.Evidence.{Host, Evidence}
 use Rattle.ibc_machine.specs.ics02.Clients.{create_client, new_client}
-use Rattle.ibc_records.specs.Held.{HeldRecords, core_of, AddsClient, IsUnchanged}
-use Rattle.ibc_client.specs.Answers.{IsCreated}
+use Rattle.ibc_records.specs.RecordsModel.{RecordsModel, core_of, AddsClient, IsUnchanged}
+use Rattle.ibc_client.specs.ClientReplies.{IsCreated}
 
 abbrev pub LAST : ℕ
 LAST = 2 ^ 64 - 1
@@ -45,7 +45,7 @@ module _ (evidence : Evidence) (host : Host) (core : Core) (m : CreateClient) wh
       let g : eqb core.next_client LAST ≡ false = ne_eqb core.next_client LAST free in
       rw (e, f, g)
 
-module _ (evidence : Evidence) (host : Host) (old : HeldRecords) (m : CreateClient) where
+module _ (evidence : Evidence) (host : Host) (old : RecordsModel) (m : CreateClient) where
   pub refused_unknown : host.chains ≤ m.chain → IsCreated (create_client m evidence host (core_of old)) m old (Err UnknownChain) old
   refused_unknown past = (inl (create-unknown evidence host (core_of old) m past), refl)
 
@@ -55,14 +55,14 @@ module _ (evidence : Evidence) (host : Host) (old : HeldRecords) (m : CreateClie
   pub refused_full : m.chain < host.chains → (m.chain ≡ host.chain → ⊥) → old.next_client ≡ LAST → IsCreated (create_client m evidence host (core_of old)) m old (Err NumberFull) old
   refused_full there apart full = (inl (create-full evidence host (core_of old) m there apart full), refl)
 
-  pub no_memory : (new : HeldRecords) (result : Result Text Refusal) {refusal : Refusal} → result ≡ Err refusal → refusal ≡ NoMemory
+  pub no_memory : (new : RecordsModel) (result : Result Text Refusal) {refusal : Refusal} → result ≡ Err refusal → refusal ≡ NoMemory
       → m.chain < host.chains → (m.chain ≡ host.chain → ⊥) → (old.next_client ≡ LAST → ⊥) → IsUnchanged old new
       → IsCreated (create_client m evidence host (core_of old)) m old result new
   no_memory new result is memory there apart free same =
       subst (λ (r : Result Text Refusal). IsCreated (create_client m evidence host (core_of old)) m old r new) (sym is)
       (inr (memory, ap is_ok (create-made evidence host (core_of old) m there apart free)), same)
 
-  pub made : (new : HeldRecords) (id : Text) → m.chain < host.chains → (m.chain ≡ host.chain → ⊥) → (old.next_client ≡ LAST → ⊥) → id ≡ nth_client old.next_client
+  pub made : (new : RecordsModel) (id : Text) → m.chain < host.chains → (m.chain ≡ host.chain → ⊥) → (old.next_client ≡ LAST → ⊥) → id ≡ nth_client old.next_client
       → AddsClient old id m.chain new → IsCreated (create_client m evidence host (core_of old)) m old (Ok id) new
   made new id there apart free named adds = (
     create-made evidence host (core_of old) m there apart free

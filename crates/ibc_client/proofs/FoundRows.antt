@@ -14,7 +14,7 @@ use Rattle.ibc_machine.specs.ics24.Evidence.{require_row}
 use Rattle.ibc_machine.specs.chain.Machine.{row_if}
 use Rattle.ibc_machine.specs.ledger.Replay.{is_published_as}
 use Rattle.ibc_root_table.specs.Publications.{publication}
-use Rattle.ibc_client.specs.Looks.{require_published, row_found}
+use Rattle.ibc_client.specs.HeaderChecks.{require_published, row_found}
 
 module _ (seen : List Publication) (header : Header) (published : ℕ) where
   pub unpublished : published < header.height → Err NotPublished ≡ require_published seen (record { published = published; row_was_there = None }) header

@@ -15,10 +15,10 @@ use Rattle.ibc_machine.specs.declared.reply.Effect.TheVariants as effect
 use Rattle.ibc_machine.specs.chain.Records.{Core, Client}
 use Rattle.ibc_machine.specs.chain.Checks.{Checked, require, expect, go_on, ◌>>=◌, ◌>>◌}
 use Rattle.ibc_machine.proofs.PassedChecks.{pass, fail, miss}
-use Rattle.ibc_records.specs.HeldClients.{HeldClient, plain_client}
-use Rattle.ibc_records.specs.Held.{HeldRecords, core_of, IsUnchanged}
-use Rattle.ibc_records.specs.Taking.{IsTaken, IsWritten}
-use Rattle.ibc_client.specs.Judging.{require_client, IsUnlessMemory, IsPassed}
+use Rattle.ibc_records.specs.ClientModels.{ClientModel, abstract_client}
+use Rattle.ibc_records.specs.RecordsModel.{RecordsModel, core_of, IsUnchanged}
+use Rattle.ibc_records.specs.HandlerContract.{IsTakenMessage, AreWrittenRecords}
+use Rattle.ibc_client.specs.ProofVerdicts.{require_client, IsUnlessMemory, IsPassed}
 use Rattle.ibc_client.proofs.Updating.{client_at-held}
 
 -- a check's refusal, or want of memory
@@ -62,10 +62,10 @@ ends checked given (Ok tt) says is = pass (passed says) is
 ends checked given (Err r) says is = stops (Ok (given tt)) (failed says) is
 
 -- the result of a message that was refused
-pub untaken : {A : Type 0} (effect_of : A → Effect) (checked : Checked (Effect × Core)) (old : HeldRecords) (result : Result A Refusal) (new : HeldRecords) {e r : Refusal}
-    → result ≡ Err e → e ≡ r → IsRefusedBy checked r → IsUnchanged old new → IsTaken effect_of checked old result new
+pub untaken : {A : Type 0} (effect_of : A → Effect) (checked : Checked (Effect × Core)) (old : RecordsModel) (result : Result A Refusal) (new : RecordsModel) {e r : Refusal}
+    → result ≡ Err e → e ≡ r → IsRefusedBy checked r → IsUnchanged old new → IsTakenMessage effect_of checked old result new
 untaken effect_of checked old result new is same why unchanged =
-    subst (λ r. IsTaken effect_of checked old r new) (sym is) (subst (IsRefusedBy checked) (sym same) why, unchanged)
+    subst (λ r. IsTakenMessage effect_of checked old r new) (sym is) (subst (IsRefusedBy checked) (sym same) why, unchanged)
 
 -- the value of checks that passed, once it was made
 pub made : {A B : Type 0} (checked : Checked B) (given : A → B) (value : A) (result : Result A Refusal) → checked ≡ Ok (given value)
@@ -74,35 +74,35 @@ made checked given value (Ok x) is same memory = is ∙ ap (λ v. Ok (given v)) 
 made checked given value (Err refusal) is same memory = inr memory
 
 -- the result of a message that all checks let through
-module _ (checked : Checked (Effect × Core)) (old new : HeldRecords) where
+module _ (checked : Checked (Effect × Core)) (old new : RecordsModel) where
   -- what it added has this name
   pub added_taken : (effect_of : Text → Effect) (name : Text) (core_with : Text → Core) (result : Result Text Refusal) → checked ≡ Ok (effect_of name, core_with name)
-      → IfOk result (λ id. (id ≡ name) × IsWritten (core_with id) old new) → IfErr result (λ refusal. refusal ≡ NoMemory) → OnErr result (IsUnchanged old new)
-      → IsTaken effect_of checked old result new
+      → IfOk result (λ id. (id ≡ name) × AreWrittenRecords (core_with id) old new) → IfErr result (λ refusal. refusal ≡ NoMemory) → OnErr result (IsUnchanged old new)
+      → IsTakenMessage effect_of checked old result new
   added_taken effect_of name core_with (Ok id) is added err unchanged =
       (core_with id, is ∙ ap (λ n. Ok (effect_of n, core_with n)) (sym added.0), added.1)
   added_taken effect_of name core_with (Err refusal) is added err unchanged = (inr err, unchanged)
 
   -- it set something
   pub set_taken : (core : Core) (result : Result ⊤ Refusal) → checked ≡ Ok (effect.None, core)
-      → OnOk result (IsWritten core old new) → IfErr result (λ refusal. refusal ≡ NoMemory) → OnErr result (IsUnchanged old new)
-      → IsTaken (λ _. effect.None) checked old result new
+      → OnOk result (AreWrittenRecords core old new) → IfErr result (λ refusal. refusal ≡ NoMemory) → OnErr result (IsUnchanged old new)
+      → IsTakenMessage (λ _. effect.None) checked old result new
   set_taken core (Ok x) is written err unchanged = (core, is, written)
   set_taken core (Err refusal) is written err unchanged = (inr err, unchanged)
 
 -- ---- what the code finds
 
-module _ (held : HeldRecords) (id : Text) where
+module _ (held : RecordsModel) (id : Text) where
   judged : Option Client → Checked ⊤
   judged o = expect o UnknownClient >>= λ (c : Client). Ok tt
 
-  pub client_there : (found : HeldClient) → Some found ≡ at text_cmp id held.clients → Ok tt ≡ require_client (core_of held) id
+  pub client_there : (found : ClientModel) → Some found ≡ at text_cmp id held.clients → Ok tt ≡ require_client (core_of held) id
   unfolding go_on judged
-  client_there found some = ap judged (sym (client_at-held held id ∙ ap (λ o. option_map plain_client o) (sym some)))
+  client_there found some = ap judged (sym (client_at-held held id ∙ ap (λ o. option_map abstract_client o) (sym some)))
 
   pub client_gone : None ≡ at text_cmp id held.clients → Err UnknownClient ≡ require_client (core_of held) id
   unfolding go_on judged
-  client_gone none = ap judged (sym (client_at-held held id ∙ ap (λ o. option_map plain_client o) (sym none)))
+  client_gone none = ap judged (sym (client_at-held held id ∙ ap (λ o. option_map abstract_client o) (sym none)))
 
 module _ (reads : ReadsWhatIsSpelled) (text : Text) (bytes : (i : ℕ) → i < length text → slice_index text i < 256) (result : Result Proof Refusal) where
   pub proof_read : IfOk result (λ p. Spells (proof_fields p) text) → IfOk result (λ p. proof_of text ≡ Some p)

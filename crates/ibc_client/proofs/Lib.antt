@@ -4,7 +4,7 @@ pub mod Updating
 pub mod Claims
 pub mod Judging
 pub mod Shown
-pub mod Taking
+pub mod TakenUpdates
 pub mod Connections
 pub mod Claimed
 pub mod Times

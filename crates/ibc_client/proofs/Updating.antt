@@ -16,16 +16,16 @@ use Rattle.ibc_machine.specs.chain.Records.{Core, Client, client_at, with_client
 use Rattle.ibc_machine.specs.chain.Checks.{Checked, require, expect, go_on, and_then, ◌>>=◌, ◌>>◌}
 use Rattle.ibc_machine.specs.ics24.Evidence.{Host, Evidence, require_row}
 use Rattle.ibc_machine.proofs.PassedChecks.{grouped}
-use Rattle.ibc_machine.specs.ics02.Clients.{update_client, updated, is_of_client}
-use Rattle.ibc_machine.specs.ledger.Replay.{LedgerState, proves, row_read}
-use Rattle.ibc_records.specs.HeldClients.{HeldClient, plain_client}
-use Rattle.ibc_records.specs.Held.{HeldRecords, core_of}
-use Rattle.ibc_client.specs.Looks.{require_tracked, require_published, looks_up}
-use Rattle.ibc_client.specs.Answers.{IsUpdated, IsLearned}
+use Rattle.ibc_machine.specs.ics02.Clients.{update_client, with_known_height, is_of_client}
+use Rattle.ibc_machine.specs.ledger.Replay.{LedgerState, proof_evidence, row_read}
+use Rattle.ibc_records.specs.ClientModels.{ClientModel, abstract_client}
+use Rattle.ibc_records.specs.RecordsModel.{RecordsModel, core_of}
+use Rattle.ibc_client.specs.HeaderChecks.{require_tracked, require_published, is_reading_update}
+use Rattle.ibc_client.specs.ClientReplies.{IsUpdated, IsLearned}
 
 -- a client of the core is a client that is held, in plain
-pub client_at-held : (held : HeldRecords) (id : Text) → client_at (core_of held) id ≡ option_map plain_client (at text_cmp id held.clients)
-client_at-held held id = at-map_values text_cmp plain_client id held.clients
+pub client_at-held : (held : RecordsModel) (id : Text) → client_at (core_of held) id ≡ option_map abstract_client (at text_cmp id held.clients)
+client_at-held held id = at-map_values text_cmp abstract_client id held.clients
 
 -- ---- checks in a row
 
@@ -71,7 +71,7 @@ tests (Some c) test x e =
     ] e
 
 -- an update looks just where its client is tracked
-pub looks_up-tracked : (core : Core) (m : UpdateClient) (x : Checked ⊤) → require_tracked core m ≡ x → looks_up core m ≡ is_ok x
+pub looks_up-tracked : (core : Core) (m : UpdateClient) (x : Checked ⊤) → require_tracked core m ≡ x → is_reading_update core m ≡ is_ok x
 looks_up-tracked core m x e = tests (client_at core m.client) (λ c. is_of_client c m.header) x e
 
 -- ---- the message
@@ -85,26 +85,26 @@ module _ (core : Core) (m : UpdateClient) where
   -- the client is tracked: what was read decides
   update-tracked : (host : Host) (seen : List Publication) (reading : Reading) (state : LedgerState) (t : ⊤) → require_tracked core m ≡ Ok t
       → (c : Client) × (client_at core m.client ≡ Some c)
-      × (update_client m (proves seen (Some reading) state) host core ≡ (require_published seen reading m.header >> Ok (effect.None, with_client m.client (updated m.header.height c) core)))
+      × (update_client m (proof_evidence seen (Some reading) state) host core ≡ (require_published seen reading m.header >> Ok (effect.None, with_client m.client (with_known_height m.header.height c) core)))
   unfolding update_client
   update-tracked host seen reading state t e =
       let w = tracked (client_at core m.client) (λ c. is_of_client c m.header)
-      (λ c. require (nat_le m.header.height reading.published) NotPublished >> (require_row (row_read seen reading.row_was_there m.header) >> Ok (effect.None, with_client m.client (updated m.header.height c) core))) t e
+      (λ c. require (nat_le m.header.height reading.published) NotPublished >> (require_row (row_read seen reading.row_was_there m.header) >> Ok (effect.None, with_client m.client (with_known_height m.header.height c) core))) t e
       in
       (w.0, w.1, w.2 ∙ grouped (require (nat_le m.header.height reading.published) NotPublished) (require_row (row_read seen reading.row_was_there m.header)) _)
 
-module _ (held : HeldRecords) (m : UpdateClient) where
+module _ (held : RecordsModel) (m : UpdateClient) where
   -- whether the client is tracked, by what is held
   pub tracked-none : None ≡ at text_cmp m.client held.clients → Err UnknownClient ≡ require_tracked (core_of held) m
   unfolding go_on
-  tracked-none none = ap (λ o. expect o UnknownClient >>= λ (c : Client). require (is_of_client c m.header) WrongHeader) (sym (client_at-held held m.client ∙ ap (λ o. option_map plain_client o) (sym none)))
+  tracked-none none = ap (λ o. expect o UnknownClient >>= λ (c : Client). require (is_of_client c m.header) WrongHeader) (sym (client_at-held held m.client ∙ ap (λ o. option_map abstract_client o) (sym none)))
 
-  module _ (client : HeldClient) (some : Some client ≡ at text_cmp m.client held.clients) where
-    tracked-some : (b : Bool) → is_of_client (plain_client client) m.header ≡ b → require b WrongHeader ≡ require_tracked (core_of held) m
+  module _ (client : ClientModel) (some : Some client ≡ at text_cmp m.client held.clients) where
+    tracked-some : (b : Bool) → is_of_client (abstract_client client) m.header ≡ b → require b WrongHeader ≡ require_tracked (core_of held) m
     unfolding go_on
     tracked-some b e =
         ap (λ b. require b WrongHeader) (sym e)
-        ∙ ap (λ o. expect o UnknownClient >>= λ (c : Client). require (is_of_client c m.header) WrongHeader) (sym (client_at-held held m.client ∙ ap (λ o. option_map plain_client o) (sym some)))
+        ∙ ap (λ o. expect o UnknownClient >>= λ (c : Client). require (is_of_client c m.header) WrongHeader) (sym (client_at-held held m.client ∙ ap (λ o. option_map abstract_client o) (sym some)))
 
     pub tracks : m.header.chain ≡ client.state.chain → (m.header.height ≡ 0 → ⊥) → Ok tt ≡ require_tracked (core_of held) m
     tracks same high = tracked-some true (and_from (eqb m.header.chain client.state.chain) (not (eqb m.header.height 0)) (eq-eqb m.header.chain client.state.chain same) (ap not (ne_eqb m.header.height 0 high)))
@@ -116,8 +116,8 @@ module _ (held : HeldRecords) (m : UpdateClient) where
     at_none low = tracked-some false (and_right (eqb m.header.chain client.state.chain) (not (eqb m.header.height 0)) (ap not (eq-eqb m.header.height 0 low)))
 
   pub refused_untracked : (host : Host) (seen : List Publication) (state : LedgerState) (r : Refusal) → require_tracked (core_of held) m ≡ Err r
-      → IsUpdated (update_client m (proves seen None state) host (core_of held)) m held (Err r) held
-  refused_untracked host seen state r e = (inl (update-untracked (core_of held) m (proves seen None state) host r e), refl)
+      → IsUpdated (update_client m (proof_evidence seen None state) host (core_of held)) m held (Err r) held
+  refused_untracked host seen state r e = (inl (update-untracked (core_of held) m (proof_evidence seen None state) host r e), refl)
 
   module _ (t : ⊤) (tracks : require_tracked (core_of held) m ≡ Ok t) where
     -- a client that is tracked is held, and the header's height isn't 0
@@ -127,7 +127,7 @@ module _ (held : HeldRecords) (m : UpdateClient) where
     pub held_client : IsSome (at text_cmp m.client held.clients)
     held_client = of_map (at text_cmp m.client held.clients) found_client.0 (sym (client_at-held held m.client) ∙ found_client.1)
       where
-        of_map : (o : Option HeldClient) (c : Client) → option_map plain_client o ≡ Some c → IsSome o
+        of_map : (o : Option ClientModel) (c : Client) → option_map abstract_client o ≡ Some c → IsSome o
         of_map (Some x) c e = refl
         of_map None c e = absurd cc
 
@@ -138,21 +138,21 @@ module _ (held : HeldRecords) (m : UpdateClient) where
         omega arith
 
     -- what was learned once the header was checked is what the message gives
-    pub learned : (host : Host) (seen : List Publication) (reading : Reading) (state : LedgerState) (checked : Checked ⊤) (result : Checked ⊤) (new : HeldRecords) → checked ≡ require_published seen reading m.header
-        → IsLearned checked m held result new → IsUpdated (update_client m (proves seen (Some reading) state) host (core_of held)) m held result new
+    pub learned : (host : Host) (seen : List Publication) (reading : Reading) (state : LedgerState) (checked : Checked ⊤) (result : Checked ⊤) (new : RecordsModel) → checked ≡ require_published seen reading m.header
+        → IsLearned checked m held result new → IsUpdated (update_client m (proof_evidence seen (Some reading) state) host (core_of held)) m held result new
     learned host seen reading state (Err r) result new is (given, same) =
         let w = update-tracked (core_of held) m host seen reading state t tracks in
-        subst (λ (p : Checked ⊤ × HeldRecords). IsUpdated (update_client m (proves seen (Some reading) state) host (core_of held)) m held p.0 p.1) (λ i. (sym given i, sym same i))
+        subst (λ (p : Checked ⊤ × RecordsModel). IsUpdated (update_client m (proof_evidence seen (Some reading) state) host (core_of held)) m held p.0 p.1) (λ i. (sym given i, sym same i))
         (inl (w.2 ∙ refused_first (require_published seen reading m.header) _ r (sym is)), refl)
     learned host seen reading state (Ok u) (Err r) new is (memory, same) =
         let w = update-tracked (core_of held) m host seen reading state t tracks in
         (inr (memory, ap is_ok (w.2 ∙ passed_first (require_published seen reading m.header) _ (sym is))), same)
     learned host seen reading state (Ok u) (Ok v) new is updates =
         let w = update-tracked (core_of held) m host seen reading state t tracks in
-        let found : Some w.0 ≡ Some (plain_client updates.client) = sym w.1 ∙ client_at-held held m.client ∙ ap (λ o. option_map plain_client o) updates.stood in
-        let same : w.0 ≡ plain_client updates.client = cc (found) in (
+        let found : Some w.0 ≡ Some (abstract_client updates.client) = sym w.1 ∙ client_at-held held m.client ∙ ap (λ o. option_map abstract_client o) updates.stood in
+        let same : w.0 ≡ abstract_client updates.client = cc (found) in (
           w.2 ∙ passed_first (require_published seen reading m.header) _ (sym is)
-              ∙ ap (λ c. Ok (effect.None, with_client m.client (updated m.header.height c) (core_of held))) same
+              ∙ ap (λ c. Ok (effect.None, with_client m.client (with_known_height m.header.height c) (core_of held))) same
               ∙ ap (λ core. Ok (effect.None, core)) (sym updates.core),
           updates,
         )

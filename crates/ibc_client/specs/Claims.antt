@@ -7,16 +7,16 @@ use Rattle.ibc_ids.specs.declared.refusal.Refusal.{Refusal}
 use Rattle.ibc_ids.specs.declared.refusal.Refusal.TheVariants.{UnknownClient, NoConsensus, BadProof}
 use Rattle.ibc_machine.specs.chain.Checks.{Checked, require, expect, ◌>>=◌}
 use Rattle.ibc_records.specs.declared.client.ConsensusState.{ConsensusState}
-use Rattle.ibc_records.specs.Held.{HeldRecords}
+use Rattle.ibc_records.specs.RecordsModel.{RecordsModel}
 
 -- a proof is accepted under the root that the client knows of the height
-abbrev pub shown : HeldRecords → Text → ℕ → (Text → Bool) → Checked ⊤
-shown held client height accepts = do
+abbrev pub proof_checked : RecordsModel → Text → ℕ → (Text → Bool) → Checked ⊤
+proof_checked held client height accepts = do
   found ← expect (at text_cmp client held.clients) UnknownClient
   known ← expect (at nat_cmp height found.known) NoConsensus
   require (accepts known.root) BadProof
 
 -- what a client knows of the height, whose root decides what is shown, or why nothing is
-abbrev pub IsKnown : HeldRecords → Text → ℕ → Result ConsensusState Refusal → Type 0
-IsKnown held client height (Ok known) = (accepts : Text → Bool) → shown held client height accepts ≡ require (accepts known.root) BadProof
-IsKnown held client height (Err refusal) = (accepts : Text → Bool) → shown held client height accepts ≡ Err refusal
+abbrev pub IsKnown : RecordsModel → Text → ℕ → Result ConsensusState Refusal → Type 0
+IsKnown held client height (Ok known) = (accepts : Text → Bool) → proof_checked held client height accepts ≡ require (accepts known.root) BadProof
+IsKnown held client height (Err refusal) = (accepts : Text → Bool) → proof_checked held client height accepts ≡ Err refusal

@@ -1,5 +1,5 @@
-pub mod Answers
-pub mod Looks
+pub mod ClientReplies
+pub mod HeaderChecks
 pub mod Claims
-pub mod Judging
+pub mod ProofVerdicts
 pub mod Peers

@@ -4,8 +4,8 @@ ghost use Rattle.std.specs.Prelude.{◌≡◌, ℕ, ◌<◌, IfOk};
 ghost use Rattle.ibc_ids.specs.Paths.{nth_client};
 ghost use Rattle.ibc_machine.specs.ics02.Clients.{create_client};
 ghost use Rattle.ibc_machine.specs.ics24.Evidence.{Evidence};
-ghost use Rattle.ibc_records.specs.Held.{core_of};
-ghost use Rattle.ibc_client.specs.Answers.{IsCreated};
+ghost use Rattle.ibc_records.specs.RecordsModel.{core_of};
+ghost use Rattle.ibc_client.specs.ClientReplies.{IsCreated};
 
 use ibc_ids::{ClientId, Refusal, nth_client};
 use ibc_records::Records;

@@ -5,14 +5,14 @@ ghost use Rattle.ibc_machine.specs.ics04.Channels.{client_of};
 ghost use Rattle.ibc_machine.specs.ics24.Evidence.{require_known, require_number};
 ghost use Rattle.ibc_machine.specs.chain.Records as plain;
 ghost use Rattle.ibc_wire.specs.Reading.{proof_of};
-ghost use Rattle.ibc_records.specs.Held.{core_of};
-ghost use Rattle.ibc_client.specs.Judging.{require_client};
+ghost use Rattle.ibc_records.specs.RecordsModel.{core_of};
+ghost use Rattle.ibc_client.specs.ProofVerdicts.{require_client};
 
 use crate::knows;
 use ibc_ids::{ClientId, ConnectionId, Refusal};
 use ibc_merkle::Proof;
 use ibc_records::Records;
-use ibc_wire::{ConnectionEnd, decode, proofs_are_read_as_they_are_spelled};
+use ibc_wire::{ConnectionEnd, decode, lemma_proofs_are_read_as_they_are_spelled};
 use std::alloc::Global;
 
 /// The proof that the bytes spell. Refused: `BadMessage` exactly where they spell none; `NoMemory`.
@@ -21,7 +21,7 @@ pub fn read_proof(alloc: Global, bytes: &[u8]) -> Result<Proof, Refusal>
     ensures bad { IsErrOf result Refusal.BadMessage → is_some (proof_of bytes.now) ≡ false }
     ensures err { IfErr result (λ e. (e ≡ Refusal.BadMessage) ⊎ (e ≡ Refusal.NoMemory)) }
 {
-    proofs_are_read_as_they_are_spelled();
+    lemma_proofs_are_read_as_they_are_spelled();
     decode(alloc, bytes)
 }
 
@@ -54,11 +54,11 @@ pub fn known_connection<'a>(
     height: u64,
 ) -> Result<&'a ConnectionEnd, Refusal>
     ensures there { IfOk result (λ end. plain.connection_at (core_of records.now) connection.now ≡ Some end.now) }
-    ensures known { IfOk result (λ end. plain.knows (core_of records.now) end.now.client height ≡ true) }
+    ensures known { IfOk result (λ end. plain.is_known_height (core_of records.now) end.now.client height ≡ true) }
     ensures passed { IfOk result (λ _. require_known (core_of records.now) (client_of (core_of records.now) connection.now) height ≡ Ok tt) }
     ensures failed { IfErr result (λ refusal. require_known (core_of records.now) (client_of (core_of records.now) connection.now) height ≡ Err refusal) }
 {
-    records.names_are_names();
+    records.lemma_names_have_form();
     let Some(end) = records.connection(connection) else {
         return Err(Refusal::NoConsensus);
     };

@@ -6,7 +6,7 @@ ghost use Rattle.ibc_ids.specs.Publications.{height_of};
 ghost use Rattle.ibc_machine.specs.ics24.Evidence.{require_row};
 ghost use Rattle.ibc_machine.specs.ledger.Ledgers.{IsReadBetween, reading_fits};
 ghost use Rattle.ibc_root_table.specs.Passes.{SamePass, KeepsOwn};
-ghost use Rattle.ibc_client.specs.Looks.{require_published, row_found};
+ghost use Rattle.ibc_client.specs.HeaderChecks.{require_published, row_found};
 
 use ibc_ids::{Refusal, Root};
 use ibc_machine::Reading;

@@ -5,11 +5,11 @@ ghost use Rattle.ibc_ids.specs.Paths.{path};
 ghost use Rattle.ibc_ids.specs.declared.key.Key.TheVariants as key;
 ghost use Rattle.ibc_ids.specs.declared.refusal.Refusal.TheVariants.{NoMemory};
 ghost use Rattle.ibc_merkle.specs.Proofs.{accepts_present};
-ghost use Rattle.ibc_client.specs.Claims.{shown};
+ghost use Rattle.ibc_client.specs.Claims.{proof_checked};
 ghost use Rattle.ibc_client.specs.Peers.{end_bytes, text_of};
 
 use crate::check_path;
-use ibc_ids::{Bytes, ClientId, Kind, Name, PortId, Refusal, Version};
+use ibc_ids::{Bytes, ClientId, Name, NameKind, PortId, Refusal, Version};
 use ibc_merkle::Proof;
 use ibc_records::Records;
 use ibc_wire::fields::{write_name, write_text};
@@ -18,7 +18,7 @@ use std::alloc::Global;
 
 /// A claim of the peer's end: the path where it stands, and its bytes.
 #[derive(Drop)]
-pub struct Claim {
+pub struct PeerClaim {
     pub path: String,
     pub value: Bytes,
 }
@@ -34,7 +34,7 @@ pub fn claim_peer(
     port: &PortId,
     channel: &str,
     state: ChannelState,
-) -> Result<Claim, Refusal>
+) -> Result<PeerClaim, Refusal>
     ensures path { IfOk result (λ claim. string_bytes claim.path ≡ path (key.ChannelEnd mine.now.peer_port peer.now)) }
     ensures value { IfOk result (λ claim. claim.value ≡ end_bytes state mine.now.order port.now channel.now (text_of connection.now.peer_connection) mine.now.version) }
     ensures err { IfErr result (λ refusal. refusal ≡ NoMemory) }
@@ -42,7 +42,7 @@ pub fn claim_peer(
     let over = name_or_none(&connection.peer_connection);
     let value = end_value(alloc, state, mine.order, port, channel, over, &mine.version)?;
     let path = end_path(alloc, &mine.peer_port, peer)?;
-    Ok(Claim { path, value })
+    Ok(PeerClaim { path, value })
 }
 
 /// The chain that a client tracks had what is claimed at a height. Refused, by the first check that fails: `UnknownClient`;
@@ -51,10 +51,10 @@ pub fn check_claim(
     records: &Records,
     client: &ClientId,
     height: u64,
-    claim: &Claim,
+    claim: &PeerClaim,
     proof: &Proof,
 ) -> Result<(), Refusal>
-    ensures { result ≡ shown records.now client.now height (λ root. accepts_present proof.now root (string_bytes claim.now.path) claim.now.value) }
+    ensures { result ≡ proof_checked records.now client.now height (λ root. accepts_present proof.now root (string_bytes claim.now.path) claim.now.value) }
 {
     let path = claim.path.as_str();
     let value = claim.value.as_slice();
@@ -62,7 +62,7 @@ pub fn check_claim(
 }
 
 /// The text of a name, empty where there is none.
-pub fn name_or_none<K: Kind>(name: &Option<Name<K>>) -> &str
+pub fn name_or_none<K: NameKind>(name: &Option<Name<K>>) -> &str
     ensures { result.now ≡ text_of name.now }
 {
     match name {

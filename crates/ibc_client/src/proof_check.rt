@@ -6,8 +6,8 @@ ghost use Rattle.ibc_ids.specs.declared.refusal.Refusal.TheVariants.{NoMemory, B
 ghost use Rattle.ibc_merkle.specs.Proofs.{accepts_present, accepts_absent};
 ghost use Rattle.ibc_machine.specs.chain.Checks.{require};
 ghost use Rattle.ibc_machine.specs.chain.Records as plain;
-ghost use Rattle.ibc_records.specs.Held.{core_of, consensus_in};
-ghost use Rattle.ibc_client.specs.Claims.{shown, IsKnown};
+ghost use Rattle.ibc_records.specs.RecordsModel.{core_of, consensus_in};
+ghost use Rattle.ibc_client.specs.Claims.{proof_checked, IsKnown};
 
 use ibc_ics23_proof::{verify_absent, verify_present};
 use ibc_ids::{ClientId, Key, Refusal};
@@ -27,7 +27,7 @@ pub fn check_present(
     value: &[u8],
     proof: &Proof,
 ) -> Result<(), Refusal>
-    ensures { (result ≡ Err NoMemory) ⊎ (result ≡ shown records.now client.now height (λ root. accepts_present proof.now root (path key.now) value.now)) }
+    ensures { (result ≡ Err NoMemory) ⊎ (result ≡ proof_checked records.now client.now height (λ root. accepts_present proof.now root (path key.now) value.now)) }
 {
     let path = key.path(alloc)?;
     check_path(records, client, height, path.as_str(), value, proof)
@@ -43,7 +43,7 @@ pub fn check_path(
     value: &[u8],
     proof: &Proof,
 ) -> Result<(), Refusal>
-    ensures { result ≡ shown records.now client.now height (λ root. accepts_present proof.now root path.now value.now) }
+    ensures { result ≡ proof_checked records.now client.now height (λ root. accepts_present proof.now root path.now value.now) }
 {
     let known = known_at(records, client, height)?;
     accept(verify_present(proof, &known.root, path.as_bytes(), value))
@@ -59,7 +59,7 @@ pub fn check_absent(
     key: &Key,
     proof: &Proof,
 ) -> Result<(), Refusal>
-    ensures { (result ≡ Err NoMemory) ⊎ (result ≡ shown records.now client.now height (λ root. accepts_absent proof.now root (path key.now))) }
+    ensures { (result ≡ Err NoMemory) ⊎ (result ≡ proof_checked records.now client.now height (λ root. accepts_absent proof.now root (path key.now))) }
 {
     let known = known_at(records, client, height)?;
     let path = key.path(alloc)?;
@@ -68,7 +68,7 @@ pub fn check_absent(
 
 /// Whether a client knows a height (ICS 2, "Consensus state").
 pub fn knows(records: &Records, client: &ClientId, height: u64) -> bool
-    ensures { result ≡ plain.knows (core_of records.now) client.now height }
+    ensures { result ≡ plain.is_known_height (core_of records.now) client.now height }
 {
     match records.client(client) {
         Some(found) => found.consensus_state(height).is_some(),

@@ -8,11 +8,11 @@ ghost use Rattle.ibc_ids.specs.Publications.{height_of};
 ghost use Rattle.ibc_machine.specs.ics02.Clients.{update_client};
 ghost use Rattle.ibc_machine.specs.ics24.Evidence.{Host};
 ghost use Rattle.ibc_machine.specs.ledger.Ledgers.{IsReadBetween, reading_fits};
-ghost use Rattle.ibc_machine.specs.ledger.Replay.{LedgerState, proves};
+ghost use Rattle.ibc_machine.specs.ledger.Replay.{LedgerState, proof_evidence};
 ghost use Rattle.ibc_root_table.specs.Passes.{SamePass, KeepsOwn};
-ghost use Rattle.ibc_records.specs.Held.{core_of};
-ghost use Rattle.ibc_client.specs.Answers.{IsLearned, IsUpdated};
-ghost use Rattle.ibc_client.specs.Looks.{require_tracked, looks_up};
+ghost use Rattle.ibc_records.specs.RecordsModel.{core_of};
+ghost use Rattle.ibc_client.specs.ClientReplies.{IsLearned, IsUpdated};
+ghost use Rattle.ibc_client.specs.HeaderChecks.{require_tracked, is_reading_update};
 
 use crate::header_check::look;
 use ibc_ids::Refusal;
@@ -41,8 +41,8 @@ pub fn update(
     message: &UpdateClient,
 ) -> Updated
     requires table { pass.old.table ≡ table.now }
-    ensures answer { (host : Host) (state : LedgerState) → IsUpdated (update_client message.now (proves pass.new.seen result.reading state) host (core_of records.old)) message.now records.old result.result records.new }
-    ensures looks { is_some result.reading ≡ looks_up (core_of records.old) message.now }
+    ensures answer { (host : Host) (state : LedgerState) → IsUpdated (update_client message.now (proof_evidence pass.new.seen result.reading state) host (core_of records.old)) message.now records.old result.result records.new }
+    ensures looks { is_some result.reading ≡ is_reading_update (core_of records.old) message.now }
     ensures fits { IfSome result.reading (λ reading. reading_fits table.now.shape.window (height_of message.now.header.chain pass.new.seen) message.now.header.height reading ≡ true) }
     ensures read { IfSome result.reading (λ reading. IsReadBetween pass.old.seen pass.new.seen message.now.header.chain reading.published) }
     ensures pass { SamePass pass.old pass.new × IsPrefix pass.old.seen pass.new.seen × KeepsOwn pass.old pass.new }

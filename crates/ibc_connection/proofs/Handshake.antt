@@ -16,15 +16,15 @@ use Rattle.ibc_wire.specs.declared.messages.ConnOpenConfirm.{ConnOpenConfirm}
 use Rattle.ibc_machine.specs.declared.reply.Effect.{Effect}
 use Rattle.ibc_machine.specs.declared.reply.Effect.TheVariants as effect
 use Rattle.ibc_machine.specs.chain.Records.{Core, Client, client_at, connection_at, with_connection}
-use Rattle.ibc_machine.specs.ledger.Replay.{LedgerState, proves}
+use Rattle.ibc_machine.specs.ledger.Replay.{LedgerState, proof_evidence}
 use Rattle.ibc_machine.specs.ics24.Values.{same_connection_state}
 use Rattle.ibc_machine.specs.chain.Checks.{Checked, require, expect, ◌>>=◌, ◌>>◌}
 use Rattle.ibc_machine.specs.ics24.Evidence.{Host, Evidence, require_number, require_known, require_proof}
 use Rattle.ibc_machine.specs.ics03.Connections.{has_connection, has_client, may_conn_try, may_conn_ack, conn_open_init, conn_open_try, conn_open_ack, conn_open_confirm}
 use Rattle.ibc_machine.proofs.PassedChecks.{pass, fail, find, unused}
-use Rattle.ibc_client.specs.Judging.{require_client}
+use Rattle.ibc_client.specs.ProofVerdicts.{require_client}
 use Rattle.ibc_connection.specs.declared.claims.Proofs.{Proofs}
-use Rattle.ibc_connection.specs.Ends.{AreProofs, begun, inited, tried, acknowledged, confirmed, begun_there, answered_there, opened_there}
+use Rattle.ibc_connection.specs.ConnectionHandshake.{AreProofs, new_end, init_end, try_end, after_ack, after_confirm, expected_init_end, expected_try_end, expected_open_end}
 
 -- ---- the client is there, and no more is asked of it
 
@@ -39,16 +39,16 @@ module _ (core : Core) (client : Text) where
 
 module _ (evidence : Evidence) (host : Host) (core : Core) where
   pub init_checks : (m : ConnOpenInit)
-      → conn_open_init m evidence host core ≡ (require_client core m.client >> (require_number core.next_connection >> Ok (begun (inited m) core)))
+      → conn_open_init m evidence host core ≡ (require_client core m.client >> (require_number core.next_connection >> Ok (new_end (init_end m) core)))
   unfolding conn_open_init
   init_checks m = unused (client_at core m.client) UnknownClient _
 
   abbrev pub try_after : ConnOpenTry → Checked (Effect × Core)
   try_after m =
       may_conn_try host core m
-      >> (require_proof evidence m.client m.height (has_connection m.peer_connection (begun_there m)) m.proof_end
+      >> (require_proof evidence m.client m.height (has_connection m.peer_connection (expected_init_end m)) m.proof_end
       >> (require_proof evidence m.client m.height (has_client m.peer_client m.claim) m.proof_client
-      >> Ok (begun (tried m) core)))
+      >> Ok (new_end (try_end m) core)))
 
   pub try_checks : (m : ConnOpenTry)
       → conn_open_try m evidence host core ≡ (require (evidence.is_proof m.proof_end && evidence.is_proof m.proof_client) BadMessage >> try_after m)
@@ -58,9 +58,9 @@ module _ (evidence : Evidence) (host : Host) (core : Core) where
   abbrev pub ack_after : ConnOpenAck → ConnectionEnd → Checked (Effect × Core)
   ack_after m mine =
       may_conn_ack host core m mine
-      >> (require_proof evidence mine.client m.height (has_connection m.peer_connection (answered_there m mine)) m.proof_end
+      >> (require_proof evidence mine.client m.height (has_connection m.peer_connection (expected_try_end m mine)) m.proof_end
       >> (require_proof evidence mine.client m.height (has_client mine.peer_client m.claim) m.proof_client
-      >> Ok (effect.None, with_connection m.connection (acknowledged m mine) core)))
+      >> Ok (effect.None, with_connection m.connection (after_ack m mine) core)))
 
   pub ack_checks : (m : ConnOpenAck)
       → conn_open_ack m evidence host core
@@ -72,8 +72,8 @@ module _ (evidence : Evidence) (host : Host) (core : Core) where
   abbrev pub confirm_after : ConnOpenConfirm → ConnectionEnd → Text → Checked (Effect × Core)
   confirm_after m mine peer =
       require_known core mine.client m.height
-      >> (require_proof evidence mine.client m.height (has_connection peer (opened_there m mine)) m.proof
-      >> Ok (effect.None, with_connection m.connection (confirmed mine) core))
+      >> (require_proof evidence mine.client m.height (has_connection peer (expected_open_end m mine)) m.proof
+      >> Ok (effect.None, with_connection m.connection (after_confirm mine) core))
 
   abbrev pub confirm_rest : ConnOpenConfirm → ConnectionEnd → Checked (Effect × Core)
   confirm_rest m mine =
@@ -90,7 +90,7 @@ module _ (evidence : Evidence) (host : Host) (core : Core) where
 
 module _ (seen : List Publication) (state : LedgerState) (host : Host) (core : Core) where
   abbrev roots : Evidence
-  roots = proves seen None state
+  roots = proof_evidence seen None state
 
   pub try_begun : (m : ConnOpenTry) (proofs : Proofs) → AreProofs m.proof_end m.proof_client proofs → conn_open_try m roots host core ≡ try_after roots host core m
   try_begun m proofs read = pass (λ i. require (is_some (read.0 i) && is_some (read.1 i)) BadMessage) (try_checks roots host core m)

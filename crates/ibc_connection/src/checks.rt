@@ -7,9 +7,9 @@ ghost use Rattle.ibc_machine.specs.chain.Checks.{require};
 ghost use Rattle.ibc_machine.specs.ics03.Connections.{with_new_connection};
 ghost use Rattle.ibc_machine.specs.ics24.Evidence.{require_number};
 ghost use Rattle.ibc_machine.specs.ics24.Values.{same_connection_state};
-ghost use Rattle.ibc_path_store.specs.Held.{height_of};
-ghost use Rattle.ibc_records.specs.Held.{core_of, IsUnchanged};
-ghost use Rattle.ibc_records.specs.Taking.{IsWritten};
+ghost use Rattle.ibc_path_store.specs.StoreModel.{height_of};
+ghost use Rattle.ibc_records.specs.RecordsModel.{core_of, IsUnchanged};
+ghost use Rattle.ibc_records.specs.HandlerContract.{AreWrittenRecords};
 
 use ibc_ids::{ClientId, ConnectionId, Refusal, nth_connection};
 use ibc_records::Records;
@@ -57,7 +57,7 @@ pub fn add_connection(
     end: ConnectionEnd,
 ) -> Result<ConnectionId, Refusal>
     requires { records.old.next_connection < 2 ^ 64 - 1 }
-    ensures ok { IfOk result (λ id. (id ≡ nth_connection records.old.next_connection) × IsWritten (with_new_connection id end (core_of records.old)) records.old records.new) }
+    ensures ok { IfOk result (λ id. (id ≡ nth_connection records.old.next_connection) × AreWrittenRecords (with_new_connection id end (core_of records.old)) records.old records.new) }
     ensures err { IfErr result (λ refusal. refusal ≡ NoMemory) }
     ensures unchanged { OnErr result (IsUnchanged records.old records.new) }
 {

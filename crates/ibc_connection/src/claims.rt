@@ -2,11 +2,11 @@
 
 ghost use Rattle.std.specs.Prelude.{◌≡◌, ◌&&◌, ◌⊎◌, true, false, Some, is_some, IfOk, IfErr, IsErrOf};
 ghost use Rattle.ibc_machine.specs.ics03.Connections.{has_connection, has_client};
-ghost use Rattle.ibc_machine.specs.chain.Records.{knows};
+ghost use Rattle.ibc_machine.specs.chain.Records.{is_known_height};
 ghost use Rattle.ibc_wire.specs.Reading.{proof_of};
-ghost use Rattle.ibc_records.specs.Held.{core_of};
-ghost use Rattle.ibc_client.specs.Judging.{IsShown};
-ghost use Rattle.ibc_connection.specs.Ends.{AreProofs};
+ghost use Rattle.ibc_records.specs.RecordsModel.{core_of};
+ghost use Rattle.ibc_client.specs.ProofVerdicts.{IsShown};
+ghost use Rattle.ibc_connection.specs.ConnectionHandshake.{AreProofs};
 
 use ibc_client::{check_present, read_proof};
 use ibc_ids::{Bytes, ClientId, ConnectionId, Key, Refusal};
@@ -44,7 +44,7 @@ pub fn check_connection(
     end: &ConnectionEnd,
     proof: &Proof,
 ) -> Result<(), Refusal>
-    requires { knows (core_of records.now) client.now height ≡ true }
+    requires { is_known_height (core_of records.now) client.now height ≡ true }
     ensures { IsShown records.now client.now height (has_connection id.now end.now) proof.now result }
 {
     let value = connection_value(alloc, end)?;
@@ -71,7 +71,7 @@ pub fn check_client_state(
     state: ClientState,
     proof: &Proof,
 ) -> Result<(), Refusal>
-    requires { knows (core_of records.now) client.now height ≡ true }
+    requires { is_known_height (core_of records.now) client.now height ≡ true }
     ensures { IsShown records.now client.now height (has_client id.now state) proof.now result }
 {
     let value = client_value(alloc, state)?;

@@ -5,10 +5,10 @@ ghost use Rattle.ibc_machine.specs.declared.reply.Effect.TheVariants as effect;
 ghost use Rattle.ibc_machine.specs.ics03.Connections.{conn_open_ack, has_connection, may_conn_ack};
 ghost use Rattle.ibc_machine.specs.chain.Records as plain;
 ghost use Rattle.ibc_machine.specs.chain.Records.{connection_at, with_connection};
-ghost use Rattle.ibc_records.specs.Held.{core_of};
-ghost use Rattle.ibc_records.specs.Taking.{IsHandled, host_with};
-ghost use Rattle.ibc_client.specs.Judging.{IsJudged, IsShown};
-ghost use Rattle.ibc_connection.specs.Ends.{AreProofs, acknowledged, answered_there};
+ghost use Rattle.ibc_records.specs.RecordsModel.{core_of};
+ghost use Rattle.ibc_records.specs.HandlerContract.{IsHandled, host_with};
+ghost use Rattle.ibc_client.specs.ProofVerdicts.{IsJudged, IsShown};
+ghost use Rattle.ibc_connection.specs.ConnectionHandshake.{AreProofs, after_ack, expected_try_end};
 
 use crate::checks::{is_in_state, names_host};
 use crate::claims::{Proofs, check_client_state, check_connection, read_proofs};
@@ -72,7 +72,7 @@ fn check_ack(
 ) -> Result<(), Refusal>
     requires read { AreProofs message.now.proof_end message.now.proof_client proofs.now }
     requires found { connection_at (core_of records.now) message.now.connection ≡ Some mine.now }
-    ensures { (chains : ℕ) → IsJudged (conn_open_ack message.now) chain chains records.now (λ _. (effect.None, with_connection message.now.connection (acknowledged message.now mine.now) (core_of records.now))) result }
+    ensures { (chains : ℕ) → IsJudged (conn_open_ack message.now) chain chains records.now (λ _. (effect.None, with_connection message.now.connection (after_ack message.now mine.now) (core_of records.now))) result }
 {
     may_ack(records, chain, message, mine)?;
     check_answered(alloc, records, message, mine, &proofs.end)?;
@@ -96,7 +96,7 @@ fn may_ack(
     mine: &ConnectionEnd,
 ) -> Result<(), Refusal>
     ensures checked { (chains : ℕ) → result ≡ may_conn_ack (host_with chain chains records.now) (core_of records.now) message.now mine.now }
-    ensures known { IfOk result (λ _. plain.knows (core_of records.now) mine.now.client message.now.height ≡ true) }
+    ensures known { IfOk result (λ _. plain.is_known_height (core_of records.now) mine.now.client message.now.height ≡ true) }
 {
     if !is_in_state(mine, ConnectionState::Init) {
         return Err(Refusal::WrongState);
@@ -118,8 +118,8 @@ fn check_answered(
     mine: &ConnectionEnd,
     proof: &Proof,
 ) -> Result<(), Refusal>
-    requires { plain.knows (core_of records.now) mine.now.client message.now.height ≡ true }
-    ensures { IsShown records.now mine.now.client message.now.height (has_connection message.now.peer_connection (answered_there message.now mine.now)) proof.now result }
+    requires { plain.is_known_height (core_of records.now) mine.now.client message.now.height ≡ true }
+    ensures { IsShown records.now mine.now.client message.now.height (has_connection message.now.peer_connection (expected_try_end message.now mine.now)) proof.now result }
 {
     let theirs = ConnectionEnd {
         state: ConnectionState::TryOpen,

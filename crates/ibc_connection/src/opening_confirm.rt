@@ -3,12 +3,12 @@
 ghost use Rattle.std.specs.Prelude.{◌≡◌, ℕ, Some, true};
 ghost use Rattle.ibc_machine.specs.declared.reply.Effect.TheVariants as effect;
 ghost use Rattle.ibc_machine.specs.ics03.Connections.{conn_open_confirm, has_connection};
-ghost use Rattle.ibc_machine.specs.chain.Records.{knows, with_connection};
-ghost use Rattle.ibc_records.specs.Held.{core_of};
-ghost use Rattle.ibc_records.specs.Taking.{IsHandled};
-ghost use Rattle.ibc_client.specs.Judging.{IsJudged, IsShown};
+ghost use Rattle.ibc_machine.specs.chain.Records.{is_known_height, with_connection};
+ghost use Rattle.ibc_records.specs.RecordsModel.{core_of};
+ghost use Rattle.ibc_records.specs.HandlerContract.{IsHandled};
+ghost use Rattle.ibc_client.specs.ProofVerdicts.{IsJudged, IsShown};
 ghost use Rattle.ibc_wire.specs.Reading.{proof_of};
-ghost use Rattle.ibc_connection.specs.Ends.{opened_there};
+ghost use Rattle.ibc_connection.specs.ConnectionHandshake.{expected_open_end};
 
 use crate::checks::check_state;
 use crate::claims::check_connection;
@@ -72,8 +72,8 @@ fn check_opened(
     peer: &ConnectionId,
     proof: &Proof,
 ) -> Result<(), Refusal>
-    requires { knows (core_of records.now) mine.now.client message.now.height ≡ true }
-    ensures { IsShown records.now mine.now.client message.now.height (has_connection peer.now (opened_there message.now mine.now)) proof.now result }
+    requires { is_known_height (core_of records.now) mine.now.client message.now.height ≡ true }
+    ensures { IsShown records.now mine.now.client message.now.height (has_connection peer.now (expected_open_end message.now mine.now)) proof.now result }
 {
     let theirs = ConnectionEnd {
         state: ConnectionState::Open,

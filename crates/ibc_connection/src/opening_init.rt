@@ -4,7 +4,7 @@ ghost use Rattle.std.specs.Prelude.{◌≡◌, ℕ, IfOk};
 ghost use Rattle.ibc_ids.specs.Paths.{nth_connection};
 ghost use Rattle.ibc_machine.specs.declared.reply.Effect.TheVariants as effect;
 ghost use Rattle.ibc_machine.specs.ics03.Connections.{conn_open_init};
-ghost use Rattle.ibc_records.specs.Taking.{IsHandled};
+ghost use Rattle.ibc_records.specs.HandlerContract.{IsHandled};
 
 use crate::checks::{add_connection, check_number};
 use ibc_client::check_client;

@@ -4,11 +4,11 @@ ghost use Rattle.std.specs.Prelude.{◌≡◌, ◌-◌, ◌^◌, ◌<◌, ℕ, t
 ghost use Rattle.ibc_ids.specs.Paths.{nth_connection};
 ghost use Rattle.ibc_machine.specs.declared.reply.Effect.TheVariants as effect;
 ghost use Rattle.ibc_machine.specs.ics03.Connections.{conn_open_try, has_connection, may_conn_try};
-ghost use Rattle.ibc_machine.specs.chain.Records.{knows};
-ghost use Rattle.ibc_records.specs.Held.{core_of};
-ghost use Rattle.ibc_records.specs.Taking.{IsHandled, host_with};
-ghost use Rattle.ibc_client.specs.Judging.{IsJudged, IsShown};
-ghost use Rattle.ibc_connection.specs.Ends.{AreProofs, begun, begun_there, tried};
+ghost use Rattle.ibc_machine.specs.chain.Records.{is_known_height};
+ghost use Rattle.ibc_records.specs.RecordsModel.{core_of};
+ghost use Rattle.ibc_records.specs.HandlerContract.{IsHandled, host_with};
+ghost use Rattle.ibc_client.specs.ProofVerdicts.{IsJudged, IsShown};
+ghost use Rattle.ibc_connection.specs.ConnectionHandshake.{AreProofs, new_end, expected_init_end, try_end};
 
 use crate::checks::{add_connection, check_number, names_host};
 use crate::claims::{Proofs, check_client_state, check_connection, read_proofs};
@@ -55,7 +55,7 @@ fn check_try(
     proofs: &Proofs,
 ) -> Result<(), Refusal>
     requires { AreProofs message.now.proof_end message.now.proof_client proofs.now }
-    ensures judged { (chains : ℕ) → IsJudged (conn_open_try message.now) chain chains records.now (λ _. begun (tried message.now) (core_of records.now)) result }
+    ensures judged { (chains : ℕ) → IsJudged (conn_open_try message.now) chain chains records.now (λ _. new_end (try_end message.now) (core_of records.now)) result }
     ensures free { IfOk result (λ _. records.now.next_connection < 2 ^ 64 - 1) }
 {
     may_try(records, chain, message)?;
@@ -75,7 +75,7 @@ fn check_try(
 fn may_try(records: &Records, chain: u8, message: &ConnOpenTry) -> Result<(), Refusal>
     ensures checked { (chains : ℕ) → result ≡ may_conn_try (host_with chain chains records.now) (core_of records.now) message.now }
     ensures free { IfOk result (λ _. records.now.next_connection < 2 ^ 64 - 1) }
-    ensures known { IfOk result (λ _. knows (core_of records.now) message.now.client message.now.height ≡ true) }
+    ensures known { IfOk result (λ _. is_known_height (core_of records.now) message.now.client message.now.height ≡ true) }
 {
     check_client(records, &message.client)?;
     if !names_host(records, chain, message.claim) {
@@ -93,8 +93,8 @@ fn check_begun(
     message: &ConnOpenTry,
     proof: &Proof,
 ) -> Result<(), Refusal>
-    requires { knows (core_of records.now) message.now.client message.now.height ≡ true }
-    ensures { IsShown records.now message.now.client message.now.height (has_connection message.now.peer_connection (begun_there message.now)) proof.now result }
+    requires { is_known_height (core_of records.now) message.now.client message.now.height ≡ true }
+    ensures { IsShown records.now message.now.client message.now.height (has_connection message.now.peer_connection (expected_init_end message.now)) proof.now result }
 {
     let theirs = ConnectionEnd {
         state: ConnectionState::Init,

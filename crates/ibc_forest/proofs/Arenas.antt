@@ -8,28 +8,28 @@ use Rattle.ibc_forest.specs.Levels.{leaf_of, tree_at}
 use Rattle.ibc_forest.specs.declared.node.ArenaNode.{ArenaNode}
 use Rattle.ibc_forest.specs.declared.node.Below.{Below}
 use Rattle.ibc_forest.specs.declared.node.Below.TheVariants.{Record, Children}
-use Rattle.ibc_forest.specs.declared.node.Known.{Known}
-use Rattle.ibc_forest.specs.Nodes.{built, ChildrenStand, first_pair, IsRight, AreRight, trees_after, trees_of, Remembers, AllRemember}
+use Rattle.ibc_forest.specs.declared.node.KnownParent.{KnownParent}
+use Rattle.ibc_forest.specs.Nodes.{tree_of_node, ChildrenStand, first_pair, IsRight, AreRight, trees_after, trees_of, Remembers, AllRemember}
 
 pub length-trees_after : (trees : List Tree) (nodes : List ArenaNode) → length (trees_after trees nodes) ≡ length trees + length nodes
 length-trees_after trees [] = omega arith
 length-trees_after trees (node ∷ nodes) =
-    let h = length-trees_after (trees ++ built trees node.below ∷ []) nodes in
-    let more = length_push trees (built trees node.below) in
+    let h = length-trees_after (trees ++ tree_of_node trees node.below ∷ []) nodes in
+    let more = length_push trees (tree_of_node trees node.below) in
     omega arith
 
 pub length-trees_of : (nodes : List ArenaNode) → length (trees_of nodes) ≡ length nodes
 length-trees_of nodes = let h = length-trees_after [] nodes in omega arith
 
 pub trees_after-push : (trees : List Tree) (nodes : List ArenaNode) (node : ArenaNode)
-    → trees_after trees (nodes ++ node ∷ []) ≡ trees_after trees nodes ++ built (trees_after trees nodes) node.below ∷ []
+    → trees_after trees (nodes ++ node ∷ []) ≡ trees_after trees nodes ++ tree_of_node (trees_after trees nodes) node.below ∷ []
 trees_after-push trees [] node = refl
-trees_after-push trees (first ∷ nodes) node = trees_after-push (trees ++ built trees first.below ∷ []) nodes node
+trees_after-push trees (first ∷ nodes) node = trees_after-push (trees ++ tree_of_node trees first.below ∷ []) nodes node
 
 pub right-push : (trees : List Tree) (nodes : List ArenaNode) (node : ArenaNode) → AreRight trees nodes → IsRight (trees_after trees nodes) node
     → AreRight trees (nodes ++ node ∷ [])
 right-push trees [] node right last = (last, tt)
-right-push trees (first ∷ nodes) node right last = (right.0, right-push (trees ++ built trees first.below ∷ []) nodes node right.1 last)
+right-push trees (first ∷ nodes) node right last = (right.0, right-push (trees ++ tree_of_node trees first.below ∷ []) nodes node right.1 last)
 
 -- ---- what stands below stays
 
@@ -39,18 +39,18 @@ tree_at-append trees more i l = get_or_append_left trees more (Leaf [] []) i l
 stays : (trees : List Tree) (nodes : List ArenaNode) (i : ℕ) → i < length trees → tree_at (trees_after trees nodes) i ≡ tree_at trees i
 stays trees [] i l = refl
 stays trees (node ∷ nodes) i l =
-    let tree = built trees node.below in
+    let tree = tree_of_node trees node.below in
     let more = length_push trees tree in
     stays (trees ++ tree ∷ []) nodes i (omega arith) ∙ tree_at-append trees (tree ∷ []) i l
 
 built-stays : (trees after : List Tree) (below : Below) → length trees ≤ length after → ((i : ℕ) → i < length trees → tree_at after i ≡ tree_at trees i)
-    → ChildrenStand trees below → (built after below ≡ built trees below) × ChildrenStand after below
+    → ChildrenStand trees below → (tree_of_node after below ≡ tree_of_node trees below) × ChildrenStand after below
 built-stays trees after (Record entry) longer same stand = (refl, tt)
 built-stays trees after (Children left right) longer same stand = (ap₂ Node (same left stand.0) (same right stand.1), (omega (arith, stand.0), omega (arith, stand.1)))
 
 -- what is read of a node
 pub record Reads (trees : List Tree) (i : ℕ) (node : ArenaNode) : Type 0 where
-  pub tree : tree_at trees i ≡ built trees node.below
+  pub tree : tree_at trees i ≡ tree_of_node trees node.below
   pub stand : ChildrenStand trees node.below
   pub digest : node.digest ≡ root (tree_at trees i)
   pub first_there : node.first < length trees
@@ -60,7 +60,7 @@ reads_after : (trees : List Tree) (nodes : List ArenaNode) (i : ℕ) (node : Are
     → Reads (trees_after trees nodes) (length trees + i) node
 reads_after trees [] i node right l is = absurd (omega arith)
 reads_after trees (first ∷ nodes) zero node right l is =
-    let tree = built trees first.below in
+    let tree = tree_of_node trees first.below in
     let behind : List Tree = trees ++ tree ∷ [] in
     let after : List Tree = trees_after behind nodes in
     let more = length_push trees tree in
@@ -79,7 +79,7 @@ reads_after trees (first ∷ nodes) zero node right l is =
     in
     subst (λ n. Reads after n node) (sym place) (subst (Reads after (length trees)) (sym is) its)
 reads_after trees (first ∷ nodes) (suc i) node right l is =
-    let tree = built trees first.below in
+    let tree = tree_of_node trees first.below in
     let behind : List Tree = trees ++ tree ∷ [] in
     let more = length_push trees tree in
     let place : length behind + i ≡ length trees + suc i = omega arith in
@@ -94,7 +94,7 @@ reads nodes i node right l is =
 
 -- ---- what is remembered
 
-pub remembers-append : (trees more : List Tree) (left : ℕ) (known : Known) → left < length trees → Remembers trees left known → Remembers (trees ++ more) left known
+pub remembers-append : (trees more : List Tree) (left : ℕ) (known : KnownParent) → left < length trees → Remembers trees left known → Remembers (trees ++ more) left known
 remembers-append trees more left known l remembers some =
     let w = remembers some in
     let counted = length-append trees more in (
@@ -103,7 +103,7 @@ remembers-append trees more left known l remembers some =
       tree_at-append trees more known.parent w.1 ∙ w.2 ∙ sym (ap₂ Node (tree_at-append trees more left l) (tree_at-append trees more known.right w.0)),
     )
 
-pub remember-push : (trees : List Tree) (tree : Tree) (known : List Known) (last : Known) → length known ≡ length trees → last.parent ≡ 0 → AllRemember trees known
+pub remember-push : (trees : List Tree) (tree : Tree) (known : List KnownParent) (last : KnownParent) → length known ≡ length trees → last.parent ≡ 0 → AllRemember trees known
     → AllRemember (trees ++ tree ∷ []) (known ++ last ∷ [])
 remember-push trees tree known last same none all left d l =
     elim (cases_lt left (length known)) [
@@ -115,7 +115,7 @@ remember-push trees tree known last same none all left d l =
           subst (Remembers (trees ++ tree ∷ []) left) (sym (get_or_push known last d left (omega arith))) (λ some. absurd (omega arith))
     ]
 
-pub remember-set : (trees : List Tree) (known : List Known) (left : ℕ) (new : Known) → left < length known → Remembers trees left new → AllRemember trees known
+pub remember-set : (trees : List Tree) (known : List KnownParent) (left : ℕ) (new : KnownParent) → left < length known → Remembers trees left new → AllRemember trees known
     → AllRemember trees (set known left new)
 remember-set trees known left new there remembers all k d l =
     let counted = length-set known left new in
@@ -128,13 +128,13 @@ remember-set trees known left new there remembers all k d l =
 
 -- ---- as steps of the code
 
-pub trees_of-push : (nodes : List ArenaNode) (node : ArenaNode) → trees_of (nodes ++ node ∷ []) ≡ trees_of nodes ++ built (trees_of nodes) node.below ∷ []
+pub trees_of-push : (nodes : List ArenaNode) (node : ArenaNode) → trees_of (nodes ++ node ∷ []) ≡ trees_of nodes ++ tree_of_node (trees_of nodes) node.below ∷ []
 trees_of-push nodes node = trees_after-push [] nodes node
 
 pub right_after : (nodes : List ArenaNode) (node : ArenaNode) (after : List ArenaNode) → after ≡ nodes ++ node ∷ [] → AreRight [] nodes → IsRight (trees_of nodes) node → AreRight [] after
 right_after nodes node after is right last = subst (AreRight []) (sym is) (right-push [] nodes node right last)
 
-pub remembered : (trees : List Tree) (known : List Known) (left : ℕ) (k : Known) → AllRemember trees known → left < length known → k ≡ get_or known left k → 0 < k.parent
+pub remembered : (trees : List Tree) (known : List KnownParent) (left : ℕ) (k : KnownParent) → AllRemember trees known → left < length known → k ≡ get_or known left k → 0 < k.parent
     → (k.right < length trees) × (k.parent < length trees) × (tree_at trees k.parent ≡ Node (tree_at trees left) (tree_at trees k.right))
 remembered trees known left k all l is some = subst (Remembers trees left) (sym is) (all left k l) some
 

@@ -7,7 +7,7 @@ use Rattle.std.specs.declared.alloc.Global.{Global}
 use Rattle.ibc_merkle.specs.Tree.{Tree, Leaf, Node}
 use Rattle.ibc_forest.specs.Levels.{pair_up, tree_at, trees_at}
 use Rattle.ibc_forest.specs.Nodes.{Grows}
-use Rattle.ibc_forest.specs.Rows.{Stand, AreLevels, IsPyramid, replaced, rows_of, Climbs, IsCeilLog2, first_row}
+use Rattle.ibc_forest.specs.NodeLevels.{Stand, AreLevels, IsPyramid, with_replaced, rows_of, Climbs, IsCeilLog2, first_row}
 use Rattle.ibc_forest.proofs.Levels.{double, double-is, length-pair_up}
 use Rattle.ibc_forest.proofs.Pairing.{stand-grows, trees_at-grows, tree_at-grows, grows_on, grows_longer}
 
@@ -189,18 +189,18 @@ climbs_on trees middle after (row ∷ next ∷ rows) above index node parent sli
 
 pub put_more : (rows after : List (Vec ℕ Global)) (level place : ℕ) (path : List ℕ) (row new : Vec ℕ Global) → level < length rows → level < length path
     → row ≡ get_or rows level row → after ≡ set rows level new → new.items ≡ set row.items place (get_or path level 0)
-    → rows_of (take (level + 1) after) ++ replaced (rows_of (drop (level + 1) after)) (place / 2) (drop (level + 1) path)
-    ≡ rows_of (take level rows) ++ replaced (rows_of (drop level rows)) place (drop level path)
+    → rows_of (take (level + 1) after) ++ with_replaced (rows_of (drop (level + 1) after)) (place / 2) (drop (level + 1) path)
+    ≡ rows_of (take level rows) ++ with_replaced (rows_of (drop level rows)) place (drop level path)
 put_more rows after level place path row new l m is written its =
     let items = λ (row : Vec ℕ Global). row.items in
     let node = get_or path level 0 in
-    let rest = replaced (rows_of (drop (level + 1) rows)) (place / 2) (drop (level + 1) path) in
+    let rest = with_replaced (rows_of (drop (level + 1) rows)) (place / 2) (drop (level + 1) path) in
     let taken : take (level + 1) after ≡ take level rows ++ new ∷ [] = ap (take (level + 1)) written ∙ take_more_set rows level new l in
     let dropped : drop (level + 1) after ≡ drop (level + 1) rows = ap (drop (level + 1)) written ∙ drop-set-lt (level + 1) rows level new (omega arith) in
     let opened : drop level rows ≡ row ∷ drop (level + 1) rows = drop_more rows level row l ∙ ap (λ first. first ∷ drop (level + 1) rows) (sym is) in
     let path_opened : drop level path ≡ node ∷ drop (level + 1) path = drop_more path level 0 m in
-    ap₂ (λ a b. rows_of a ++ replaced (rows_of b) (place / 2) (drop (level + 1) path)) taken dropped
+    ap₂ (λ a b. rows_of a ++ with_replaced (rows_of b) (place / 2) (drop (level + 1) path)) taken dropped
     ∙ ap (λ xs. xs ++ rest) (map_push items (take level rows) new)
     ∙ append_assoc (rows_of (take level rows)) (new.items ∷ []) rest
     ∙ ap (λ first. rows_of (take level rows) ++ first ∷ rest) its
-    ∙ sym (ap₂ (λ a b. rows_of (take level rows) ++ replaced (rows_of a) place b) opened path_opened)
+    ∙ sym (ap₂ (λ a b. rows_of (take level rows) ++ with_replaced (rows_of a) place b) opened path_opened)

@@ -3,9 +3,9 @@ use Rattle.std.proofs.Common.{◌≡◌, ℕ, ◌<◌, List, [], ◌∷◌, leng
 use Rattle.std.proofs.lemmas.List.{length-map}
 use Rattle.ibc_merkle.specs.Tree.{Pairs, Tree, tree, tree_root, root, leaves}
 use Rattle.ibc_merkle.proofs.Trees.{leaves-tree}
-use Rattle.ibc_forest.specs.Levels.{over, tree_at, trees_at}
+use Rattle.ibc_forest.specs.Levels.{tree_over, tree_at, trees_at}
 use Rattle.ibc_forest.specs.Heights.{pairs_of, IsTreeOver}
-use Rattle.ibc_forest.specs.Rows.{IsPyramid, first_row}
+use Rattle.ibc_forest.specs.NodeLevels.{IsPyramid, first_row}
 use Rattle.ibc_forest.specs.Leaves.{row_pairs}
 use Rattle.ibc_forest.specs.Forest.{IsWorking}
 use Rattle.ibc_forest.proofs.Levels.{over-leaves}
@@ -21,14 +21,14 @@ pub record Committed (trees : List Tree) (node count : ℕ) (pairs : Pairs) : Ty
   pub same : pairs_of trees node ≡ pairs
   pub digest : root (tree_at trees node) ≡ tree_root pairs
 
-pub committed : (trees : List Tree) (rows : List (List ℕ)) (node count : ℕ) → IsWorking trees rows → tree_at trees node ≡ over (trees_at trees (first_row rows)) → node < length trees
+pub committed : (trees : List Tree) (rows : List (List ℕ)) (node count : ℕ) → IsWorking trees rows → tree_at trees node ≡ tree_over (trees_at trees (first_row rows)) → node < length trees
     → count ≡ length (first_row rows) → Committed trees node count (row_pairs trees (first_row rows))
 committed trees rows node count working over_row there counted =
     let row : List ℕ = first_row rows in
     let pairs : Pairs = row_pairs trees row in
     let some = row_some trees rows working.0 in
     let lengths : length pairs ≡ length row = length-map (trees_at trees row) _ ∙ length-trees_at trees row in
-    let is : tree_at trees node ≡ tree pairs = over_row ∙ ap over working.1 ∙ over-leaves pairs in
+    let is : tree_at trees node ≡ tree pairs = over_row ∙ ap tree_over working.1 ∙ over-leaves pairs in
     let same : pairs_of trees node ≡ pairs = ap leaves is ∙ leaves-tree pairs (omega arith) in
     record {
       is_tree = record { there = there; some = omega arith; counted = ap length same ∙ lengths ∙ sym counted; is = is ∙ ap tree (sym same) };

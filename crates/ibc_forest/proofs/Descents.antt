@@ -3,12 +3,12 @@ use Rattle.std.proofs.Common.{◌≡◌, ℕ, ◌+◌, ◌-◌, ◌<◌, ◌≤�
 use Rattle.std.proofs.lemmas.List.{get_or-take, get_or-drop, get_or_append_left}
 use Rattle.ibc_ids.specs.Texts.{Text}
 use Rattle.ibc_merkle.specs.Tree.{Pairs, Tree, Leaf, Node, tree, tree_root, root, largest_power_below, leaves}
-use Rattle.ibc_merkle.specs.Places.{key_at}
+use Rattle.ibc_merkle.specs.PairPlaces.{key_at}
 use Rattle.ibc_merkle.proofs.Trees.{leaves-tree, tree-halves, split_within}
 use Rattle.ibc_forest.specs.Levels.{leaf_of, tree_at}
 use Rattle.ibc_forest.specs.declared.node.Below.{Below}
 use Rattle.ibc_forest.specs.declared.node.Below.TheVariants.{Record, Children}
-use Rattle.ibc_forest.specs.Nodes.{built, ChildrenStand, first_pair}
+use Rattle.ibc_forest.specs.Nodes.{tree_of_node, ChildrenStand, first_pair}
 use Rattle.ibc_forest.specs.Heights.{pairs_of, IsTreeOver}
 
 -- a leaf has one pair
@@ -69,16 +69,16 @@ halved trees node count left right split over is l r power =
     let b = half trees right (count - split) (drop split pairs) r right_is (simp length-drop (omega arith)) (omega arith) in
     record { on_left = a.0; on_right = b.0; more = more; left_pairs = a.1; right_pairs = b.1; left_root = ap root left_is; right_root = ap root right_is }
 
-pub halved_below : (trees : List Tree) (node count : ℕ) (below : Below) (left right split : ℕ) → IsTreeOver trees node count → tree_at trees node ≡ built trees below
+pub halved_below : (trees : List Tree) (node count : ℕ) (below : Below) (left right split : ℕ) → IsTreeOver trees node count → tree_at trees node ≡ tree_of_node trees below
     → ChildrenStand trees below → below ≡ Children left right → split ≡ largest_power_below count → Halves trees node left right split count
 halved_below trees node count below left right split over is stand children power =
     let both = subst (ChildrenStand trees) children stand in
-    halved trees node count left right split over (is ∙ ap (built trees) children) both.0 both.1 power
+    halved trees node count left right split over (is ∙ ap (tree_of_node trees) children) both.0 both.1 power
 
-pub one_below : (trees : List Tree) (node count : ℕ) (below : Below) (entry : Text × Text) → IsTreeOver trees node count → tree_at trees node ≡ built trees below
+pub one_below : (trees : List Tree) (node count : ℕ) (below : Below) (entry : Text × Text) → IsTreeOver trees node count → tree_at trees node ≡ tree_of_node trees below
     → below ≡ Record entry → (pairs_of trees node ≡ entry ∷ []) × (count ≡ 1)
 one_below trees node count below entry over is children =
-    let one = leaf_pairs trees node entry (is ∙ ap (built trees) children) in
+    let one = leaf_pairs trees node entry (is ∙ ap (tree_of_node trees) children) in
     (one, sym over.counted ∙ ap length one)
 
 -- a pair of a half is a pair of the whole

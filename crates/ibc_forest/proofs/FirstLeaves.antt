@@ -7,7 +7,7 @@ use Rattle.ibc_ids.specs.Texts.{Text}
 use Rattle.ibc_merkle.specs.Tree.{Pairs, Tree}
 use Rattle.ibc_forest.specs.Levels.{leaf_of, tree_at, trees_at}
 use Rattle.ibc_forest.specs.Nodes.{Grows}
-use Rattle.ibc_forest.specs.Leaves.{row_pairs, AreLeaves, differing}
+use Rattle.ibc_forest.specs.Leaves.{row_pairs, AreLeaves, differing_count}
 use Rattle.ibc_forest.specs.Gaps.{HasFirst}
 use Rattle.ibc_forest.proofs.LeafRows.{unlike_not}
 use Rattle.ibc_forest.proofs.Pairing.{trees_at-grows, stand-grows}
@@ -74,7 +74,7 @@ first_kept trees old row pairs from kept leaves first there within same =
       counted,
     )
 
-differing-none : (n : ℕ) (old : List ℕ) → differing (take n old) old ≡ 0
+differing-none : (n : ℕ) (old : List ℕ) → differing_count (take n old) old ≡ 0
 differing-none zero old = refl
 differing-none (suc n) [] = refl
 differing-none (suc n) (number ∷ old) =
@@ -82,7 +82,7 @@ differing-none (suc n) (number ∷ old) =
     let rest = differing-none n old in
     omega arith
 
-pub differing-kept : (row old : List ℕ) (n : ℕ) → length row ≤ length old → differing (row ++ take n (drop (length row) old)) old ≤ differing row old
+pub differing-kept : (row old : List ℕ) (n : ℕ) → length row ≤ length old → differing_count (row ++ take n (drop (length row) old)) old ≤ differing_count row old
 differing-kept [] old n l = let none = differing-none n old in omega arith
 differing-kept (number ∷ row) [] n l = absurd (omega arith)
 differing-kept (number ∷ row) (other ∷ old) n l = let rest = differing-kept row old n (omega arith) in omega arith

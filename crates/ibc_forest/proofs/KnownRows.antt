@@ -8,7 +8,7 @@ use Rattle.ibc_forest.specs.Gaps.{DifferIn}
 use Rattle.ibc_forest.specs.declared.gap.Gap.{Gap}
 use Rattle.ibc_forest.specs.Levels.{pair_up, tree_at, trees_at}
 use Rattle.ibc_forest.specs.Nodes.{Grows}
-use Rattle.ibc_forest.specs.Rows.{Stand, AreKnown, rows_of, first_row}
+use Rattle.ibc_forest.specs.NodeLevels.{Stand, AreKnown, rows_of, first_row}
 use Rattle.ibc_forest.specs.Forest.{IsLast}
 use Rattle.ibc_forest.proofs.Climbing.{length-trees_at}
 use Rattle.ibc_forest.proofs.Pairing.{above_some, take-pair_up}

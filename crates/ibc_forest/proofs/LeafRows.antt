@@ -9,8 +9,8 @@ use Rattle.ibc_merkle.specs.Tree.{Pairs, Tree, Leaf}
 use Rattle.ibc_merkle.specs.Proofs.{is_below}
 use Rattle.ibc_forest.specs.Levels.{leaf_of, tree_at, trees_at}
 use Rattle.ibc_forest.specs.Nodes.{Grows}
-use Rattle.ibc_forest.specs.Rows.{Stand}
-use Rattle.ibc_forest.specs.Leaves.{pair_of, pair_at, row_pairs, AreLeaves, same_pair, from_key, behind_key, begins_with, is_new, keys, unlike, differing}
+use Rattle.ibc_forest.specs.NodeLevels.{Stand}
+use Rattle.ibc_forest.specs.Leaves.{pair_of, pair_at, row_pairs, AreLeaves, same_pair, from_key, behind_key, begins_with, is_new, keys, differ_count, differing_count}
 use Rattle.ibc_forest.proofs.Climbing.{row_tree, length-trees_at}
 use Rattle.ibc_forest.proofs.Pairing.{stand-grows, trees_at-grows}
 
@@ -92,20 +92,20 @@ same_key before entries i entry d same l is =
     let there : i < length before = omega arith in
     (there, sym (get_or-map key before i d [] there) ∙ sym (ap (λ (ks : List Text). get_or ks i []) same) ∙ get_or-map key entries i entry [] l ∙ sym (ap key is))
 
-pub unlike_not : (number other : ℕ) → number ≡ other → unlike number other ≡ 0
-unfolding unlike
+pub unlike_not : (number other : ℕ) → number ≡ other → differ_count number other ≡ 0
+unfolding differ_count
 unlike_not number other same = ap (λ (b : Bool). elim b [ true ↦ 0 | false ↦ 1 ]) (eq-eqb number other same)
 
 pub one_at_most : (same : Bool) → elim same [ true ↦ 0 | false ↦ 1 ] ≤ 1
 one_at_most true = omega arith
 one_at_most false = omega arith
 
-pub unlike_most : (number other : ℕ) → unlike number other ≤ 1
-unfolding unlike
+pub unlike_most : (number other : ℕ) → differ_count number other ≤ 1
+unfolding differ_count
 unlike_most number other = one_at_most (number == other)
 
 pub differing-push : (row old : List ℕ) (number new : ℕ) → length row < length old → (new ≡ 0 → number ≡ get_or old (length row) 0)
-    → differing (row ++ number ∷ []) old ≤ differing row old + new
+    → differing_count (row ++ number ∷ []) old ≤ differing_count row old + new
 differing-push [] [] number new l kept = absurd (omega arith)
 differing-push [] (first ∷ old) number new l kept =
     let most = unlike_most number first in

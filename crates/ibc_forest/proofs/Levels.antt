@@ -3,13 +3,13 @@ use Rattle.std.proofs.Common.{◌≡◌, ℕ, zero, suc, ◌+◌, ◌*◌, ◌^�
 use Rattle.std.proofs.lemmas.Bool.{cases_lt}
 use Rattle.std.proofs.lemmas.Nat.{pow_pos}
 use Rattle.std.proofs.lemmas.List.{take-map, drop-map, length-map}
-use Rattle.ibc_merkle.specs.Tree.{Pairs, Tree, Node, tree, tree_within, doubled, largest_power_below}
+use Rattle.ibc_merkle.specs.Tree.{Pairs, Tree, Node, tree, tree_within, doubled_below, largest_power_below}
 use Rattle.ibc_merkle.proofs.Trees.{split_within}
-use Rattle.ibc_forest.specs.Levels.{pair_up, over_within, over, leaf_of}
+use Rattle.ibc_forest.specs.Levels.{pair_up, tree_over_within, tree_over, leaf_of}
 
 -- ---- over leaves it is the tree over the pairs
 
-over_within-leaves : (depth : ℕ) (pairs : Pairs) → over_within depth (map leaf_of pairs) ≡ tree_within depth pairs
+over_within-leaves : (depth : ℕ) (pairs : Pairs) → tree_over_within depth (map leaf_of pairs) ≡ tree_within depth pairs
 over_within-leaves depth [] = refl
 over_within-leaves depth (pair ∷ []) = refl
 over_within-leaves zero (pair ∷ next ∷ pairs) = refl
@@ -17,19 +17,19 @@ over_within-leaves (suc depth) (pair ∷ next ∷ pairs) =
     let all : Pairs = pair ∷ next ∷ pairs in
     let split = largest_power_below (length all) in
     let counted : length (map leaf_of all) ≡ length all = length-map all leaf_of in
-    ap (λ n. Node (over_within depth (take (largest_power_below n) (map leaf_of all))) (over_within depth (drop (largest_power_below n) (map leaf_of all)))) counted
+    ap (λ n. Node (tree_over_within depth (take (largest_power_below n) (map leaf_of all))) (tree_over_within depth (drop (largest_power_below n) (map leaf_of all)))) counted
     ∙ ap₂ Node
-    (ap (over_within depth) (take-map leaf_of split all) ∙ over_within-leaves depth (take split all))
-    (ap (over_within depth) (drop-map leaf_of split all) ∙ over_within-leaves depth (drop split all))
+    (ap (tree_over_within depth) (take-map leaf_of split all) ∙ over_within-leaves depth (take split all))
+    (ap (tree_over_within depth) (drop-map leaf_of split all) ∙ over_within-leaves depth (drop split all))
 
-pub over-leaves : (pairs : Pairs) → over (map leaf_of pairs) ≡ tree pairs
+pub over-leaves : (pairs : Pairs) → tree_over (map leaf_of pairs) ≡ tree pairs
 over-leaves pairs =
-    ap (λ n. over_within n (map leaf_of pairs)) (let e : length (map leaf_of pairs) ≡ length pairs = length-map pairs leaf_of in e)
+    ap (λ n. tree_over_within n (map leaf_of pairs)) (let e : length (map leaf_of pairs) ≡ length pairs = length-map pairs leaf_of in e)
     ∙ over_within-leaves (length pairs) pairs
 
 -- ---- by its halves
 
-over_within-enough : (d e : ℕ) (trees : List Tree) → length trees ≤ d → length trees ≤ e → over_within d trees ≡ over_within e trees
+over_within-enough : (d e : ℕ) (trees : List Tree) → length trees ≤ d → length trees ≤ e → tree_over_within d trees ≡ tree_over_within e trees
 over_within-enough d e [] p q = refl
 over_within-enough d e (tree ∷ []) p q = refl
 over_within-enough zero e (tree ∷ next ∷ trees) p q = absurd (omega arith)
@@ -42,11 +42,11 @@ over_within-enough (suc d) (suc e) (tree ∷ next ∷ trees) p q =
     (over_within-enough d e (take split all) (simp length-take (omega arith)) (simp length-take (omega arith)))
     (over_within-enough d e (drop split all) (simp length-drop (omega arith)) (simp length-drop (omega arith)))
 
-over_within-half : (depth : ℕ) (trees : List Tree) → length trees ≤ depth → over_within depth trees ≡ over trees
+over_within-half : (depth : ℕ) (trees : List Tree) → length trees ≤ depth → tree_over_within depth trees ≡ tree_over trees
 over_within-half depth trees enough = over_within-enough depth (length trees) trees enough (omega arith)
 
 pub over-halves : (trees : List Tree) (split : ℕ) → 1 < length trees → split ≡ largest_power_below (length trees)
-    → over trees ≡ Node (over (take split trees)) (over (drop split trees))
+    → tree_over trees ≡ Node (tree_over (take split trees)) (tree_over (drop split trees))
 over-halves [] split more is = absurd (omega arith)
 over-halves (tree ∷ []) split more is = absurd (omega arith)
 over-halves (tree ∷ next ∷ trees) split more is =
@@ -56,7 +56,7 @@ over-halves (tree ∷ next ∷ trees) split more is =
     ap₂ Node
     (over_within-half (length (next ∷ trees)) (take power all) (simp length-take (omega arith)))
     (over_within-half (length (next ∷ trees)) (drop power all) (simp length-drop (omega arith)))
-    ∙ ap (λ split. Node (over (take split all)) (over (drop split all))) (sym is)
+    ∙ ap (λ split. Node (tree_over (take split all)) (tree_over (drop split all))) (sym is)
 
 -- ---- the split is the power of two that is below and whose double isn't
 
@@ -64,10 +64,10 @@ below_power : (n : ℕ) → n < 2 ^ n
 below_power zero = omega arith
 below_power (suc n) = let h = below_power n in rw pow-suc (omega arith)
 
-doubled_power : (times c n i : ℕ) → c ≡ 2 ^ i → c < n → n ≤ c * 2 ^ suc times → (j : ℕ) × (doubled times c n ≡ 2 ^ j) × (2 ^ j < n) × (n ≤ 2 * 2 ^ j)
+doubled_power : (times c n i : ℕ) → c ≡ 2 ^ i → c < n → n ≤ c * 2 ^ suc times → (j : ℕ) × (doubled_below times c n ≡ 2 ^ j) × (2 ^ j < n) × (n ≤ 2 * 2 ^ j)
 doubled_power zero c n i e low high = (i, e, subst (λ x. x < n) e low, let h : n ≤ c * 2 = high in subst (λ x. n ≤ 2 * x) e (omega arith))
 doubled_power (suc times) c n i e low high =
-    elim (nat_lt (2 * c) n) as (λ p. nat_lt (2 * c) n ≡ p → (j : ℕ) × ((elim p as (λ _. ℕ) [ true ↦ doubled times (2 * c) n | false ↦ c ]) ≡ 2 ^ j) × (2 ^ j < n) × (n ≤ 2 * 2 ^ j)) [
+    elim (nat_lt (2 * c) n) as (λ p. nat_lt (2 * c) n ≡ p → (j : ℕ) × ((elim p as (λ _. ℕ) [ true ↦ doubled_below times (2 * c) n | false ↦ c ]) ≡ 2 ^ j) × (2 ^ j < n) × (n ≤ 2 * 2 ^ j)) [
       | true ↦ λ p.
           let more : 2 * c ≡ 2 ^ suc i = rw pow-suc (omega (arith, e)) in
           let enough : n ≤ 2 * c * 2 ^ suc times = let h : n ≤ c * (2 ^ suc times * 2) = rw pow-suc at high in grind arith in
@@ -133,7 +133,7 @@ length-pair_up (left ∷ right ∷ trees) = let h = length-pair_up trees in (ome
 -- ---- pairing leaves the tree
 
 step : (trees : List Tree) (j : ℕ) → 3 ≤ length trees → largest_power_below (length trees) ≡ 2 ^ j → 2 ^ j < length trees → length trees ≤ 2 * 2 ^ j
-    → ((ts : List Tree) → length ts < length trees → 0 < length ts → over (pair_up ts) ≡ over ts) → over (pair_up trees) ≡ over trees
+    → ((ts : List Tree) → length ts < length trees → 0 < length ts → tree_over (pair_up ts) ≡ tree_over ts) → tree_over (pair_up trees) ≡ tree_over trees
 step trees zero more is low high shorter = absurd (omega arith)
 step trees (suc i) more is low high shorter =
     let h : ℕ = 2 ^ i in
@@ -143,14 +143,14 @@ step trees (suc i) more is low high shorter =
     let above : List Tree = pair_up trees in
     let counted = length-pair_up trees in
     let split : largest_power_below (length above) ≡ h = split_is (length above) i (omega arith) (omega arith) (omega arith) in
-    let left : over (pair_up (take (double h) trees)) ≡ over (take (double h) trees) = shorter (take (double h) trees) (simp length-take (omega arith)) (simp length-take (omega arith)) in
-    let right : over (pair_up (drop (double h) trees)) ≡ over (drop (double h) trees) = shorter (drop (double h) trees) (simp length-drop (omega arith)) (simp length-drop (omega arith)) in
+    let left : tree_over (pair_up (take (double h) trees)) ≡ tree_over (take (double h) trees) = shorter (take (double h) trees) (simp length-take (omega arith)) (simp length-take (omega arith)) in
+    let right : tree_over (pair_up (drop (double h) trees)) ≡ tree_over (drop (double h) trees) = shorter (drop (double h) trees) (simp length-drop (omega arith)) (simp length-drop (omega arith)) in
     over-halves above h (omega arith) (sym split)
-    ∙ ap₂ (λ l r. Node (over l) (over r)) (take-pair_up h trees) (drop-pair_up h trees)
+    ∙ ap₂ (λ l r. Node (tree_over l) (tree_over r)) (take-pair_up h trees) (drop-pair_up h trees)
     ∙ ap₂ Node left right
     ∙ sym (over-halves trees (double h) (omega arith) (let e : double h ≡ largest_power_below (length trees) = omega arith in e))
 
-raised : (fuel : ℕ) (trees : List Tree) → length trees ≤ fuel → 0 < length trees → over (pair_up trees) ≡ over trees
+raised : (fuel : ℕ) (trees : List Tree) → length trees ≤ fuel → 0 < length trees → tree_over (pair_up trees) ≡ tree_over trees
 raised zero trees few some = absurd (omega arith)
 raised (suc fuel) [] few some = absurd (omega arith)
 raised (suc fuel) (tree ∷ []) few some = refl
@@ -161,5 +161,5 @@ raised (suc fuel) (first ∷ second ∷ third ∷ trees) few some =
     step all w.0 (omega arith) w.1 w.2 w.3 (λ ts l s. raised fuel ts (omega arith) s)
 
 -- the tree over what is one level up is the same
-pub over-pair_up : (trees : List Tree) → 0 < length trees → over (pair_up trees) ≡ over trees
+pub over-pair_up : (trees : List Tree) → 0 < length trees → tree_over (pair_up trees) ≡ tree_over trees
 over-pair_up trees some = raised (length trees) trees (omega arith) some

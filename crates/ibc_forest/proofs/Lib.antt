@@ -11,7 +11,7 @@ pub mod LeafRows
 pub mod NewPairs
 pub mod Putting
 pub mod Turning
-pub mod Places
+pub mod KeysAroundPlaces
 pub mod Moved
 pub mod Finding
 pub mod FirstLeaves

@@ -8,12 +8,12 @@ use Rattle.std.specs.FinMap.{is_sorted}
 use Rattle.ibc_ids.specs.Texts.{text_cmp}
 use Rattle.ibc_merkle.specs.Tree.{Pairs, Tree, Leaf, tree, leaves}
 use Rattle.ibc_forest.specs.Levels.{pair_up, tree_at, trees_at, leaf_of}
-use Rattle.ibc_forest.specs.Moving.{IsMoved, AreMoved, AllStand}
+use Rattle.ibc_forest.specs.NodeMoves.{IsMoved, AreMoved, AllStand}
 use Rattle.ibc_forest.specs.Nodes.{Grows}
 use Rattle.ibc_forest.specs.Heights.{pairs_of}
-use Rattle.ibc_forest.specs.Rows.{Stand, AreLevels, rows_of, first_row}
+use Rattle.ibc_forest.specs.NodeLevels.{Stand, AreLevels, rows_of, first_row}
 use Rattle.ibc_forest.specs.Leaves.{pair_of, row_pairs}
-use Rattle.ibc_forest.specs.Forest.{IsLast, IsKept, AreKept, kept_pairs}
+use Rattle.ibc_forest.specs.Forest.{IsLast, IsSortedHeight, AreSortedHeights, kept_pairs}
 use Rattle.ibc_forest.specs.declared.forest.Height.{Height}
 use Rattle.ibc_forest.proofs.Climbing.{length-trees_at}
 use Rattle.ibc_forest.proofs.Pairing.{tree_at-grows, grows_longer, stand-grows, trees_at-grows}
@@ -160,7 +160,7 @@ last_moved_on old nodes middle after rows slice next is value same stand g last 
 -- ---- one height more
 
 pub height_is_moved : (old after : List Tree) (height copy : Height) → tree_at after copy.root ≡ tree_at old height.root → copy.root < length after → copy.count ≡ height.count
-    → IsKept old height → IsKept after copy
+    → IsSortedHeight old height → IsSortedHeight after copy
 height_is_moved old after height copy same there count kept =
     let pairs : pairs_of after copy.root ≡ pairs_of old height.root = ap leaves same in
     record {
@@ -180,7 +180,7 @@ abbrev held : List Tree → Height → Pairs × ℕ
 held trees height = (pairs_of trees height.root, height.time)
 
 pub kept_more : (old before after : List Tree) (kept next pushed : List Height) (i : ℕ) (height copy : Height) → i < length kept → height ≡ get_or kept i height
-    → tree_at after copy.root ≡ tree_at old height.root → copy.time ≡ height.time → Grows before after → AreKept before next → kept_pairs before next ≡ kept_pairs old (take i kept)
+    → tree_at after copy.root ≡ tree_at old height.root → copy.time ≡ height.time → Grows before after → AreSortedHeights before next → kept_pairs before next ≡ kept_pairs old (take i kept)
     → pushed ≡ next ++ copy ∷ [] → kept_pairs after pushed ≡ kept_pairs old (take (i + 1) kept)
 kept_more old before after kept next pushed i height copy l is same time g are so_far items =
     let opened : take (i + 1) kept ≡ take i kept ++ height ∷ [] = take_more kept i height l ∙ ap (λ (h : Height). take i kept ++ h ∷ []) (sym is) in

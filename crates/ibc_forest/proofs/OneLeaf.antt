@@ -10,10 +10,10 @@ use Rattle.ibc_ids.specs.Texts.{Text}
 use Rattle.ibc_merkle.specs.Tree.{Pairs, Tree}
 use Rattle.ibc_merkle.proofs.Sorted.{AreRising}
 use Rattle.ibc_forest.specs.Gaps.{DifferIn, IsOneOther, IsFoundFrom}
-use Rattle.ibc_forest.specs.Leaves.{row_pairs, AreLeaves, unlike}
+use Rattle.ibc_forest.specs.Leaves.{row_pairs, AreLeaves, differ_count}
 use Rattle.ibc_forest.specs.Levels.{leaf_of, tree_at, trees_at}
 use Rattle.ibc_forest.specs.Nodes.{Grows}
-use Rattle.ibc_forest.specs.Rows.{Stand, AreLevels, IsPyramid, rows_of, first_row}
+use Rattle.ibc_forest.specs.NodeLevels.{Stand, AreLevels, IsPyramid, rows_of, first_row}
 use Rattle.ibc_forest.specs.Forest.{IsWorking, IsLast}
 use Rattle.ibc_forest.specs.declared.gap.Gap.{Gap}
 use Rattle.ibc_forest.proofs.Climbing.{length-trees_at}
@@ -60,7 +60,7 @@ found_here last pairs index last_rises rises there here front =
     (found_past last pairs 0 0 index 0 index (passed last pairs 0 0 index last_rises rises (omega arith) (omega arith) front) (first_found last pairs) (λ none. none) (λ some. sym e))
 
 -- the leaf that is there, or one of a new pair
-pub kept_or_new : (r : Result ℕ AllocError) (new count old : ℕ) → new ≤ count → (new ≡ 0 → r ≡ Ok old) → IfOk r (λ leaf. unlike leaf old ≤ count)
+pub kept_or_new : (r : Result ℕ AllocError) (new count old : ℕ) → new ≤ count → (new ≡ 0 → r ≡ Ok old) → IfOk r (λ leaf. differ_count leaf old ≤ count)
 kept_or_new (Err e) new count old few kept = tt
 kept_or_new (Ok leaf) new count old few kept =
     elim (cases_eq new 0) [

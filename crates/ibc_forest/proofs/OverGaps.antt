@@ -5,8 +5,8 @@ use Rattle.std.proofs.lemmas.List.{append-nil, append_assoc, drop_at, drop_more,
 use Rattle.ibc_merkle.specs.Tree.{Pairs, Tree}
 use Rattle.ibc_merkle.proofs.Sorted.{AreRising}
 use Rattle.ibc_forest.specs.Levels.{leaf_of, trees_at}
-use Rattle.ibc_forest.specs.Rows.{Stand}
-use Rattle.ibc_forest.specs.Leaves.{row_pairs, AreLeaves, count_new, keys, differing}
+use Rattle.ibc_forest.specs.NodeLevels.{Stand}
+use Rattle.ibc_forest.specs.Leaves.{row_pairs, AreLeaves, count_new, keys, differing_count}
 use Rattle.ibc_forest.specs.Gaps.{DifferIn, HasFirst, IsFoundFrom}
 use Rattle.ibc_forest.specs.declared.gap.Gap.{Gap}
 use Rattle.ibc_forest.proofs.LeafRows.{length-row_pairs}
@@ -71,18 +71,18 @@ found_past last entries from i kept place behind past found none some =
     ]
 
 pub differing_past : (last entries : Pairs) (old row : List ℕ) (from kept : ℕ) → Passed last entries from (length row) kept → keys entries ≡ keys last → from + kept ≤ length old
-    → differing (row ++ take kept (drop from old)) old ≤ differing row old
+    → differing_count (row ++ take kept (drop from old)) old ≤ differing_count row old
 differing_past last entries old row from kept past same there =
     elim (cases_eq kept 0) [
       | inl is ↦
-          let none : differing (row ++ take kept (drop from old)) old ≡ differing row old =
-          ap (λ n. differing (row ++ take n (drop from old)) old) is ∙ ap (λ row. differing row old) (append-nil row)
+          let none : differing_count (row ++ take kept (drop from old)) old ≡ differing_count row old =
+          ap (λ n. differing_count (row ++ take n (drop from old)) old) is ∙ ap (λ row. differing_count row old) (append-nil row)
           in
           omega arith
       | inr more ↦
           let here : from ≡ length row = past.same same (omega arith) in
-          let at : differing (row ++ take kept (drop from old)) old ≡ differing (row ++ take kept (drop (length row) old)) old =
-          ap (λ n. differing (row ++ take kept (drop n old)) old) here
+          let at : differing_count (row ++ take kept (drop from old)) old ≡ differing_count (row ++ take kept (drop (length row) old)) old =
+          ap (λ n. differing_count (row ++ take kept (drop n old)) old) here
           in
           let most = differing-kept row old kept (omega arith) in
           omega arith
@@ -92,7 +92,7 @@ pub record Whole (trees : List Tree) (last entries : Pairs) (old row all : List 
   pub leaves : trees_at trees all ≡ map leaf_of entries
   pub stand : Stand trees all
   pub none : count_new last (drop (length row) entries) ≡ 0
-  pub same : keys entries ≡ keys last → differing all old ≤ differing row old
+  pub same : keys entries ≡ keys last → differing_count all old ≤ differing_count row old
 
 pub whole : (trees : List Tree) (last entries : Pairs) (old row all : List ℕ) (gaps : List Gap) (i from : ℕ) → AreLeaves trees old → row_pairs trees old ≡ last
     → HasFirst trees entries row → from ≤ length old → length gaps ≤ i → DifferIn (drop i gaps) (drop from last) (drop (length row) entries)
@@ -115,8 +115,8 @@ whole trees last entries old row all gaps i from leaves held first there past di
       same = λ same.
           let n = same_keys_count entries last same in
           let here : from ≡ length row = omega arith in
-          let at : differing all old ≡ differing (row ++ take kept (drop (length row) old)) old =
-          ap (λ row. differing row old) items ∙ ap (λ n. differing (row ++ take kept (drop n old)) old) here
+          let at : differing_count all old ≡ differing_count (row ++ take kept (drop (length row) old)) old =
+          ap (λ row. differing_count row old) items ∙ ap (λ n. differing_count (row ++ take kept (drop n old)) old) here
           in
           let most = differing-kept row old kept (omega arith) in
           omega arith;

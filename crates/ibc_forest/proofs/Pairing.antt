@@ -3,9 +3,9 @@ use Rattle.std.proofs.Common.{◌≡◌, ℕ, zero, suc, ◌+◌, ◌-◌, ◌*�
 use Rattle.std.proofs.lemmas.List.{length-map, length-drop, map-append, map_push, drop-map, drop_more, drop_all}
 use Rattle.std.proofs.lemmas.List.Elements.{All-head, All-tail, All-append, All-drop, All-push, All-weaker}
 use Rattle.ibc_merkle.specs.Tree.{Tree, Node}
-use Rattle.ibc_forest.specs.Levels.{pair_up, over, tree_at, trees_at}
+use Rattle.ibc_forest.specs.Levels.{pair_up, tree_over, tree_at, trees_at}
 use Rattle.ibc_forest.specs.Nodes.{Grows}
-use Rattle.ibc_forest.specs.Rows.{Stand}
+use Rattle.ibc_forest.specs.NodeLevels.{Stand}
 use Rattle.ibc_forest.proofs.Arenas.{tree_at-append}
 use Rattle.ibc_forest.proofs.Levels.{over-pair_up, length-pair_up}
 
@@ -141,14 +141,14 @@ paired_end before trees row above all i paired half grows stand is =
 
 -- ---- the tree over a row
 
-pub over_one : (trees : List Tree) (row : List ℕ) (number : ℕ) → length row ≡ 1 → number ≡ get_or row 0 number → tree_at trees number ≡ over (trees_at trees row)
+pub over_one : (trees : List Tree) (row : List ℕ) (number : ℕ) → length row ≡ 1 → number ≡ get_or row 0 number → tree_at trees number ≡ tree_over (trees_at trees row)
 over_one trees [] number one is = absurd (omega arith)
 over_one trees (only ∷ []) number one is = ap (tree_at trees) is
 over_one trees (only ∷ next ∷ row) number one is = absurd (omega arith)
 
-pub over_above : (before trees : List Tree) (row above : List ℕ) → trees_at trees above ≡ pair_up (trees_at before row) → 0 < length row → over (trees_at trees above) ≡ over (trees_at before row)
+pub over_above : (before trees : List Tree) (row above : List ℕ) → trees_at trees above ≡ pair_up (trees_at before row) → 0 < length row → tree_over (trees_at trees above) ≡ tree_over (trees_at before row)
 over_above before trees row above level some =
-    ap over level ∙ over-pair_up (trees_at before row) (let n : length (trees_at before row) ≡ length row = length-map row (tree_at before) in omega arith)
+    ap tree_over level ∙ over-pair_up (trees_at before row) (let n : length (trees_at before row) ≡ length row = length-map row (tree_at before) in omega arith)
 
 pub above_some : (before trees : List Tree) (row above : List ℕ) → trees_at trees above ≡ pair_up (trees_at before row) → length row ≤ 2 * length above
 above_some before trees row above level =

@@ -4,36 +4,36 @@ use Rattle.std.proofs.lemmas.Bool.{ne_eqb}
 use Rattle.std.proofs.lemmas.List.{drop_more, drop_all, take_more, map_push, get_or_at, set_at}
 use Rattle.std.specs.declared.alloc.Global.{Global}
 use Rattle.ibc_merkle.specs.Tree.{Tree}
-use Rattle.ibc_forest.specs.Leaves.{unlike, differing}
-use Rattle.ibc_forest.specs.Rows.{IsPyramid, replaced, rows_of, first_row, Raised}
+use Rattle.ibc_forest.specs.Leaves.{differ_count, differing_count}
+use Rattle.ibc_forest.specs.NodeLevels.{IsPyramid, with_replaced, rows_of, first_row, HasLevelsOver}
 use Rattle.ibc_forest.proofs.LeafRows.{unlike_not}
 
 pub first_replaced : (trees : List Tree) (rows : List (List ℕ)) (index node : ℕ) (above : List ℕ) → IsPyramid trees rows
-    → first_row (replaced rows index (node ∷ above)) ≡ set (first_row rows) index node
+    → first_row (with_replaced rows index (node ∷ above)) ≡ set (first_row rows) index node
 first_replaced trees [] index node above pyramid = absurd (omega arith)
 first_replaced trees (row ∷ rows) index node above pyramid = refl
 
-pub unlike_so : (number other : ℕ) → number ≢ other → unlike number other ≡ 1
-unfolding unlike
+pub unlike_so : (number other : ℕ) → number ≢ other → differ_count number other ≡ 1
+unfolding differ_count
 unlike_so number other different = ap (λ (b : Bool). elim b [ true ↦ 0 | false ↦ 1 ]) (ne_eqb number other different)
 
-pub no_times : (number other levels : ℕ) → number ≡ other → unlike number other * levels ≡ 0
+pub no_times : (number other levels : ℕ) → number ≡ other → differ_count number other * levels ≡ 0
 no_times number other levels same = ap (λ n. n * levels) (unlike_not number other same) ∙ (let e : 0 * levels ≡ 0 = omega arith in e)
 
-pub one_time : (number other levels : ℕ) → number ≢ other → unlike number other * levels ≡ levels
+pub one_time : (number other levels : ℕ) → number ≢ other → differ_count number other * levels ≡ levels
 one_time number other levels different = ap (λ n. n * levels) (unlike_so number other different) ∙ (let e : 1 * levels ≡ levels = omega arith in e)
 
 -- ---- one place more
 
 pub differing_more : (row old : List ℕ) (i : ℕ) → i < length row → length row ≡ length old
-    → differing (drop i row) (drop i old) ≡ unlike (get_or row i 0) (get_or old i 0) + differing (drop (i + 1) row) (drop (i + 1) old)
-differing_more row old i l same = ap₂ differing (drop_more row i 0 l) (drop_more old i 0 (omega arith))
+    → differing_count (drop i row) (drop i old) ≡ differ_count (get_or row i 0) (get_or old i 0) + differing_count (drop (i + 1) row) (drop (i + 1) old)
+differing_more row old i l same = ap₂ differing_count (drop_more row i 0 l) (drop_more old i 0 (omega arith))
 
 pub differing_more_times : (row old : List ℕ) (i levels : ℕ) → i < length row → length row ≡ length old
-    → differing (drop i row) (drop i old) * levels ≡ unlike (get_or row i 0) (get_or old i 0) * levels + differing (drop (i + 1) row) (drop (i + 1) old) * levels
+    → differing_count (drop i row) (drop i old) * levels ≡ differ_count (get_or row i 0) (get_or old i 0) * levels + differing_count (drop (i + 1) row) (drop (i + 1) old) * levels
 differing_more_times row old i levels l same =
     ap (λ n. n * levels) (differing_more row old i l same)
-    ∙ (let share : (a b : ℕ) → (a + b) * levels ≡ a * levels + b * levels = λ a b. omega arith in share (unlike (get_or row i 0) (get_or old i 0)) (differing (drop (i + 1) row) (drop (i + 1) old)))
+    ∙ (let share : (a b : ℕ) → (a + b) * levels ≡ a * levels + b * levels = λ a b. omega arith in share (differ_count (get_or row i 0) (get_or old i 0)) (differing_count (drop (i + 1) row) (drop (i + 1) old)))
 
 pub put_one : (row old now : List ℕ) (i : ℕ) → i < length row → length row ≡ length old → now ≡ take i row ++ drop i old
     → (length now ≡ length old) × (get_or now i 0 ≡ get_or old i 0) × (set now i (get_or row i 0) ≡ take (i + 1) row ++ drop (i + 1) old)
@@ -57,7 +57,7 @@ put_all row old now i past same is =
 
 -- ---- rows
 
-pub raised_none : (trees : List Tree) (none rows : List (Vec ℕ Global)) (row : List ℕ) → none ≡ [] → Raised trees none row rows → IsPyramid trees (rows_of rows) × (first_row (rows_of rows) ≡ row)
+pub raised_none : (trees : List Tree) (none rows : List (Vec ℕ Global)) (row : List ℕ) → none ≡ [] → HasLevelsOver trees none row rows → IsPyramid trees (rows_of rows) × (first_row (rows_of rows) ≡ row)
 raised_none trees none rows row is raised =
     let all : rows_of rows ≡ row ∷ rows_of raised.above = raised.added ∙ ap (λ none. rows_of none ++ row ∷ rows_of raised.above) is in
     (subst (IsPyramid trees) (sym all) raised.levels, ap first_row all)

@@ -11,8 +11,8 @@ use Rattle.ibc_forest.specs.Levels.{leaf_of, tree_at, trees_at}
 use Rattle.ibc_forest.specs.Leaves.{pair_of, row_pairs, AreLeaves, keys}
 use Rattle.ibc_forest.specs.Heights.{pairs_of, IsTreeOver}
 use Rattle.ibc_forest.specs.Nodes.{Grows}
-use Rattle.ibc_forest.specs.Rows.{Stand, IsPyramid, rows_of, first_row}
-use Rattle.ibc_forest.specs.Forest.{IsWorking, IsLast, IsKept, AreKept, kept_pairs}
+use Rattle.ibc_forest.specs.NodeLevels.{Stand, IsPyramid, rows_of, first_row}
+use Rattle.ibc_forest.specs.Forest.{IsWorking, IsLast, IsSortedHeight, AreSortedHeights, kept_pairs}
 use Rattle.ibc_forest.specs.declared.forest.Height.{Height}
 use Rattle.ibc_forest.proofs.Pairing.{trees_at-grows, tree_at-grows, grows_longer}
 use Rattle.ibc_forest.proofs.Climbing.{length-trees_at}
@@ -90,19 +90,19 @@ tree_over-grows a b node count g over =
     let longer = grows_longer a b g in
     record { there = let l = over.there in omega arith; some = over.some; counted = ap length pairs ∙ over.counted; is = same ∙ over.is ∙ ap tree (sym pairs) }
 
-kept_one-grows : (a b : List Tree) (height : Height) → Grows a b → IsKept a height → IsKept b height
+kept_one-grows : (a b : List Tree) (height : Height) → Grows a b → IsSortedHeight a height → IsSortedHeight b height
 kept_one-grows a b height g kept = record {
   over = tree_over-grows a b height.root height.count g kept.over;
   sorted = ap (λ (tree : Tree). is_sorted text_cmp (leaves tree)) (tree_at-grows a b height.root g kept.over.there) ∙ kept.sorted;
 }
 
-pub kept-grows : (a b : List Tree) (kept : List Height) → Grows a b → AreKept a kept → AreKept b kept
-kept-grows a b kept g all = All-weaker (IsKept a) (IsKept b) (λ h is. kept_one-grows a b h g is) kept all
+pub kept-grows : (a b : List Tree) (kept : List Height) → Grows a b → AreSortedHeights a kept → AreSortedHeights b kept
+kept-grows a b kept g all = All-weaker (IsSortedHeight a) (IsSortedHeight b) (λ h is. kept_one-grows a b h g is) kept all
 
-pub kept_pairs-grows : (a b : List Tree) (kept : List Height) → Grows a b → AreKept a kept → kept_pairs b kept ≡ kept_pairs a kept
+pub kept_pairs-grows : (a b : List Tree) (kept : List Height) → Grows a b → AreSortedHeights a kept → kept_pairs b kept ≡ kept_pairs a kept
 kept_pairs-grows a b [] g all = refl
 kept_pairs-grows a b (height ∷ kept) g all =
-    let is : IsKept a height = All-head (IsKept a) height kept all in
+    let is : IsSortedHeight a height = All-head (IsSortedHeight a) height kept all in
     ap₂ (λ (pairs : Pairs) (rest : List (Pairs × ℕ)). (pairs, height.time) ∷ rest)
     (ap leaves (tree_at-grows a b height.root g is.over.there))
-    (kept_pairs-grows a b kept g (All-tail (IsKept a) height kept all))
+    (kept_pairs-grows a b kept g (All-tail (IsSortedHeight a) height kept all))

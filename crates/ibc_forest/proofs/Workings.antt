@@ -3,9 +3,9 @@ use Rattle.std.proofs.Common.{◌≡◌, ℕ, ◌+◌, ◌-◌, ◌^◌, ◌<◌
 use Rattle.std.proofs.lemmas.List.{length-map, map_push}
 use Rattle.std.specs.declared.alloc.Global.{Global}
 use Rattle.ibc_merkle.specs.Tree.{Tree}
-use Rattle.ibc_forest.specs.Levels.{pair_up, over, tree_at, trees_at}
+use Rattle.ibc_forest.specs.Levels.{pair_up, tree_over, tree_at, trees_at}
 use Rattle.ibc_forest.specs.Nodes.{Grows}
-use Rattle.ibc_forest.specs.Rows.{Stand, AreLevels, IsPyramid, rows_of, first_row, Raised}
+use Rattle.ibc_forest.specs.NodeLevels.{Stand, AreLevels, IsPyramid, rows_of, first_row, HasLevelsOver}
 use Rattle.ibc_forest.proofs.Pairing.{stand-grows, trees_at-grows, grows_on, over_one, over_above}
 use Rattle.ibc_forest.proofs.Climbing.{levels-grows, levels_log}
 
@@ -13,7 +13,7 @@ use Rattle.ibc_forest.proofs.Climbing.{levels-grows, levels_log}
 
 abbrev IsTop : List Tree → List ℕ → Vec ℕ Global → Type 0
 IsTop trees row last =
-    (length last.items ≡ 1) × ((number : ℕ) → number ≡ get_or last.items 0 number → (number < length trees) × (tree_at trees number ≡ over (trees_at trees row)))
+    (length last.items ≡ 1) × ((number : ℕ) → number ≡ get_or last.items 0 number → (number < length trees) × (tree_at trees number ≡ tree_over (trees_at trees row)))
 
 top_of : (trees : List Tree) (row : Vec ℕ Global) (rows : List (Vec ℕ Global)) (last : Vec ℕ Global) → Stand trees row.items → AreLevels trees row.items (rows_of rows)
     → last ≡ get_or (row ∷ rows) (length rows) last → IsTop trees row.items last
@@ -27,7 +27,7 @@ top_of trees row (next ∷ rows) last stand levels is =
     (w.0, λ number there. let v = w.1 number there in (v.0, v.1 ∙ same))
 
 pub top : (trees : List Tree) (rows : List (Vec ℕ Global)) (last : Vec ℕ Global) → IsPyramid trees (rows_of rows) → last ≡ get_or rows (length rows - 1) last
-    → (length last.items ≡ 1) × ((number : ℕ) → number ≡ get_or last.items 0 number → (number < length trees) × (tree_at trees number ≡ over (trees_at trees (first_row (rows_of rows)))))
+    → (length last.items ≡ 1) × ((number : ℕ) → number ≡ get_or last.items 0 number → (number < length trees) × (tree_at trees number ≡ tree_over (trees_at trees (first_row (rows_of rows)))))
 top trees [] last pyramid is = absurd (omega arith)
 top trees (row ∷ rows) last pyramid is =
     let place : length (row ∷ rows) - 1 ≡ length rows = omega arith in
@@ -50,7 +50,7 @@ few_levels trees (row ∷ rows) log pyramid few =
 
 pub raised_more : (trees middle after : List Tree) (row above : Vec ℕ Global) (slice : List ℕ) (old pushed final : List (Vec ℕ Global)) → Stand trees row.items → slice ≡ row.items
     → 1 < length row.items → trees_at middle above.items ≡ pair_up (trees_at trees slice) → Stand middle above.items → Grows trees middle → Grows middle after
-    → pushed ≡ old ++ row ∷ [] → Raised after pushed above.items final → Raised after old row.items final
+    → pushed ≡ old ++ row ∷ [] → HasLevelsOver after pushed above.items final → HasLevelsOver after old row.items final
 raised_more trees middle after row above slice old pushed final stand same more level there g h added raised =
     let items = λ (row : Vec ℕ Global). row.items in
     let all = grows_on trees middle after g h in

@@ -34,10 +34,10 @@ abbrev pub trees_code : Coded (List Tree)
 trees_code = coded_list tree_code
 
 -- An arena: the trees that its nodes are, each by the node's number, and how many texts were hashed for them.
-pub record HeldArena : Type 0 where
+pub record ArenaModel : Type 0 where
   pub trees : List Tree
   pub steps : ℕ
 
-abbrev pub arena_code : Coded HeldArena
+abbrev pub arena_code : Coded ArenaModel
 arena_code =
     code_by (List Tree × ℕ) (coded× (coded_list tree_code) coded_ℕ) (λ arena. (arena.trees, arena.steps)) (λ p. record { trees = p.0; steps = p.1 }) (λ _. refl)

@@ -7,7 +7,7 @@ use Rattle.ibc_merkle.specs.Tree.{Pairs, Tree}
 use Rattle.ibc_forest.specs.Levels.{leaf_of, trees_at}
 use Rattle.ibc_forest.specs.Heights.{pairs_of, IsTreeOver}
 use Rattle.ibc_forest.specs.Leaves.{row_pairs}
-use Rattle.ibc_forest.specs.Rows.{IsPyramid, first_row}
+use Rattle.ibc_forest.specs.NodeLevels.{IsPyramid, first_row}
 use Rattle.ibc_forest.specs.declared.forest.Height.{Height}
 
 abbrev pub kept_pairs : List Tree → List Height → List (Pairs × ℕ)
@@ -24,9 +24,9 @@ IsLast trees [] = ⊤
 IsLast trees (row ∷ rows) = IsWorking trees (row ∷ rows)
 
 -- the root of a height is that of the tree over sorted pairs
-pub record IsKept (trees : List Tree) (height : Height) : Type 0 where
+pub record IsSortedHeight (trees : List Tree) (height : Height) : Type 0 where
   pub over : IsTreeOver trees height.root height.count
   pub sorted : IsTrue (is_sorted text_cmp (pairs_of trees height.root))
 
-abbrev pub AreKept : List Tree → List Height → Type 0
-AreKept trees kept = All (IsKept trees) kept
+abbrev pub AreSortedHeights : List Tree → List Height → Type 0
+AreSortedHeights trees kept = All (IsSortedHeight trees) kept

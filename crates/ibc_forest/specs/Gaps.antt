@@ -3,7 +3,7 @@ use Rattle.std.specs.Prelude.{◌≡◌, ℕ, ◌+◌, ◌<◌, ◌≤◌, List,
 use Rattle.ibc_merkle.specs.Tree.{Pairs, Tree}
 use Rattle.ibc_forest.specs.Leaves.{from_key}
 use Rattle.ibc_forest.specs.Levels.{leaf_of, trees_at}
-use Rattle.ibc_forest.specs.Rows.{Stand}
+use Rattle.ibc_forest.specs.NodeLevels.{Stand}
 use Rattle.ibc_forest.specs.declared.gap.Gap.{Gap}
 
 -- the pairs are the last ones but in the gaps; so it is said of other lists too

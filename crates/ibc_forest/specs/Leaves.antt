@@ -5,7 +5,7 @@ use Rattle.ibc_ids.specs.Texts.{Text, same_text}
 use Rattle.ibc_merkle.specs.Tree.{Pairs, Tree, Leaf, Node}
 use Rattle.ibc_merkle.specs.Proofs.{is_below}
 use Rattle.ibc_forest.specs.Levels.{leaf_of, tree_at, trees_at}
-use Rattle.ibc_forest.specs.Rows.{Stand}
+use Rattle.ibc_forest.specs.NodeLevels.{Stand}
 
 -- the pair of a leaf
 abbrev pub pair_of : Tree → Text × Text
@@ -57,11 +57,11 @@ abbrev pub keys : Pairs → List Text
 keys pairs = map (λ (pair : Text × Text). pair.0) pairs
 
 -- 0 for the same number, and else 1
-unfoldable pub unlike : ℕ → ℕ → ℕ
-unlike number other = elim (number == other) [ true ↦ 0 | false ↦ 1 ]
+unfoldable pub differ_count : ℕ → ℕ → ℕ
+differ_count number other = elim (number == other) [ true ↦ 0 | false ↦ 1 ]
 
 -- at how many places the first row has another number than the second
-abbrev pub differing : List ℕ → List ℕ → ℕ
-differing [] other = 0
-differing (number ∷ row) [] = 1 + differing row []
-differing (number ∷ row) (old ∷ other) = unlike number old + differing row other
+abbrev pub differing_count : List ℕ → List ℕ → ℕ
+differing_count [] other = 0
+differing_count (number ∷ row) [] = 1 + differing_count row []
+differing_count (number ∷ row) (old ∷ other) = differ_count number old + differing_count row other

@@ -6,12 +6,12 @@ use Rattle.ibc_forest.specs.Levels.{leaf_of, tree_at}
 use Rattle.ibc_forest.specs.declared.node.ArenaNode.{ArenaNode}
 use Rattle.ibc_forest.specs.declared.node.Below.{Below}
 use Rattle.ibc_forest.specs.declared.node.Below.TheVariants.{Record, Children}
-use Rattle.ibc_forest.specs.declared.node.Known.{Known}
+use Rattle.ibc_forest.specs.declared.node.KnownParent.{KnownParent}
 
 -- the tree of a node, by the trees of the nodes before it
-abbrev pub built : List Tree → Below → Tree
-built trees (Record entry) = leaf_of entry
-built trees (Children left right) = Node (tree_at trees left) (tree_at trees right)
+abbrev pub tree_of_node : List Tree → Below → Tree
+tree_of_node trees (Record entry) = leaf_of entry
+tree_of_node trees (Children left right) = Node (tree_at trees left) (tree_at trees right)
 
 -- a node's children are there
 abbrev pub ChildrenStand : List Tree → Below → Type 0
@@ -26,33 +26,33 @@ first_pair (Node left right) = first_pair left
 -- the number is that of the first leaf below the node, which comes behind the others
 abbrev pub IsFirst : List Tree → ArenaNode → Type 0
 IsFirst trees node =
-    (node.first ≤ length trees) × (tree_at (trees ++ built trees node.below ∷ []) node.first ≡ leaf_of (first_pair (built trees node.below)))
+    (node.first ≤ length trees) × (tree_at (trees ++ tree_of_node trees node.below ∷ []) node.first ≡ leaf_of (first_pair (tree_of_node trees node.below)))
 
 -- the children are there, the digest is that of the tree, and the first leaf is its own
 abbrev pub IsRight : List Tree → ArenaNode → Type 0
-IsRight trees node = ChildrenStand trees node.below × (node.digest ≡ root (built trees node.below)) × IsFirst trees node
+IsRight trees node = ChildrenStand trees node.below × (node.digest ≡ root (tree_of_node trees node.below)) × IsFirst trees node
 
 abbrev pub AreRight : List Tree → List ArenaNode → Type 0
 AreRight trees [] = ⊤
-AreRight trees (node ∷ nodes) = IsRight trees node × AreRight (trees ++ built trees node.below ∷ []) nodes
+AreRight trees (node ∷ nodes) = IsRight trees node × AreRight (trees ++ tree_of_node trees node.below ∷ []) nodes
 
 -- the trees of nodes, behind the trees of those before them
 abbrev pub trees_after : List Tree → List ArenaNode → List Tree
 trees_after trees [] = trees
-trees_after trees (node ∷ nodes) = trees_after (trees ++ built trees node.below ∷ []) nodes
+trees_after trees (node ∷ nodes) = trees_after (trees ++ tree_of_node trees node.below ∷ []) nodes
 
 abbrev pub trees_of : List ArenaNode → List Tree
 trees_of nodes = trees_after [] nodes
 
 -- What a node remembers: the right partner with which it was last paired, and the parent that came of it. A parent
 -- of number 0 stands for none.
-abbrev pub Remembers : List Tree → ℕ → Known → Type 0
+abbrev pub Remembers : List Tree → ℕ → KnownParent → Type 0
 Remembers trees left known =
     0 < known.parent → (known.right < length trees) × (known.parent < length trees)
     × (tree_at trees known.parent ≡ Node (tree_at trees left) (tree_at trees known.right))
 
-abbrev pub AllRemember : List Tree → List Known → Type 0
-AllRemember trees known = (left : ℕ) (d : Known) → left < length known → Remembers trees left (slice_index_or known left d)
+abbrev pub AllRemember : List Tree → List KnownParent → Type 0
+AllRemember trees known = (left : ℕ) (d : KnownParent) → left < length known → Remembers trees left (slice_index_or known left d)
 
 -- all trees stay, and more come behind them
 abbrev pub Grows : List Tree → List Tree → Type 0

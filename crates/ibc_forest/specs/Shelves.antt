@@ -11,13 +11,13 @@ abbrev pub chunk_items : {A : Type 0} → List (Arc (Vec A Global) Global) → L
 chunk_items {A} chunks = map (λ (chunk : Arc (Vec A Global) Global). (arc_value chunk).items) chunks
 
 -- what the chunks of each group have
-abbrev pub grouped : List (Arc (Vec (Arc (Vec ArenaNode Global) Global) Global) Global) → List (List (List ArenaNode))
-grouped groups = map (λ (group : Arc (Vec (Arc (Vec ArenaNode Global) Global) Global) Global). chunk_items (arc_value group).items) groups
+abbrev pub groups_items : List (Arc (Vec (Arc (Vec ArenaNode Global) Global) Global) Global) → List (List (List ArenaNode))
+groups_items groups = map (λ (group : Arc (Vec (Arc (Vec ArenaNode Global) Global) Global) Global). chunk_items (arc_value group).items) groups
 
 -- one after another
-abbrev pub joined : {A : Type 0} → List (List A) → List A
-joined [] = []
-joined (chunk ∷ chunks) = chunk ++ joined chunks
+abbrev pub concatenated : {A : Type 0} → List (List A) → List A
+concatenated [] = []
+concatenated (chunk ∷ chunks) = chunk ++ concatenated chunks
 
 abbrev pub AreFull : {A : Type 0} → List (List A) → Type 0
 AreFull {A} chunks = All (λ (chunk : List A). length chunk ≡ 128) chunks

@@ -5,9 +5,9 @@ ghost use Rattle.ibc_merkle.specs.Hash.{one_more};
 ghost use Rattle.ibc_merkle.specs.Tree.{Node, root};
 ghost use Rattle.ibc_forest.specs.Counts.{CountsAtLeast};
 ghost use Rattle.ibc_forest.specs.Levels.{leaf_of, tree_at};
-ghost use Rattle.ibc_forest.specs.Nodes.{built, ChildrenStand, IsRight, Grows};
+ghost use Rattle.ibc_forest.specs.Nodes.{tree_of_node, ChildrenStand, IsRight, Grows};
 
-use crate::node::{ArenaNode, Below, Known};
+use crate::node::{ArenaNode, Below, KnownParent};
 use crate::nodes::Nodes;
 use crate::shared_entry::SharedEntry;
 use ibc_merkle::{Steps, hash_inner, hash_leaf, hash_value};
@@ -21,15 +21,15 @@ const MOST: usize = u32::MAX as usize;
 #[derive(Drop, Debug)]
 pub struct Arena {
     nodes: Nodes,
-    known: Vec<Known>,
+    known: Vec<KnownParent>,
     steps: Steps,
 }
 
 impl Model for Arena {
     ghost use Rattle.std.specs.Prelude.{◌≡◌, length};
-    ghost use Rattle.ibc_forest.specs.Codes.{HeldArena, arena_code};
+    ghost use Rattle.ibc_forest.specs.Codes.{ArenaModel, arena_code};
 
-    ghost Value = { HeldArena };
+    ghost Value = { ArenaModel };
 
     ghost coded = { arena_code };
 
@@ -92,7 +92,7 @@ impl Arena {
     /// What stands below a node.
     pub fn below(&self, node: usize) -> &Below
         requires { node < length self.now.trees }
-        ensures built { tree_at self.now.trees node ≡ built self.now.trees result.now }
+        ensures built { tree_at self.now.trees node ≡ tree_of_node self.now.trees result.now }
         ensures stand { ChildrenStand self.now.trees result.now }
     {
         self.nodes.below(node)
@@ -101,7 +101,7 @@ impl Arena {
     /// Adds a node with its digest. Nothing is hashed.
     pub fn add(&mut self, node: ArenaNode) -> Result<usize, AllocError>
         requires { IsRight self.old.trees node }
-        ensures ok { OnOk result (self.new.trees ≡ self.old.trees ++ built self.old.trees node.below ∷ []) }
+        ensures ok { OnOk result (self.new.trees ≡ self.old.trees ++ tree_of_node self.old.trees node.below ∷ []) }
         ensures number { IfOk result (λ number. number ≡ length self.old.trees) }
         ensures err { OnErr result (self.new.trees ≡ self.old.trees) }
         ensures steps { self.new.steps ≡ self.old.steps }
@@ -109,7 +109,7 @@ impl Arena {
         let number = self.known.len();
         self.known.reserve(1)?;
         self.nodes.add(node)?;
-        self.known.push_reserved(Known {
+        self.known.push_reserved(KnownParent {
             right: 0,
             parent: 0,
         });
@@ -200,7 +200,7 @@ impl Arena {
         ensures { self.new ≡ self.old }
     {
         if right <= MOST && parent <= MOST {
-            self.known[left] = Known {
+            self.known[left] = KnownParent {
                 right: right as u32,
                 parent: parent as u32,
             };

@@ -4,7 +4,7 @@ ghost use Rattle.std.specs.Prelude.{◌≡◌, ◌+◌, ◌/◌, ◌<◌, ◌≤
 ghost use Rattle.ibc_forest.specs.Counts.{CountsAtLeast};
 ghost use Rattle.ibc_forest.specs.Levels.{pair_up, tree_at, trees_at};
 ghost use Rattle.ibc_forest.specs.Nodes.{Grows};
-ghost use Rattle.ibc_forest.specs.Rows.{Stand, IsPyramid, Climbs, rows_of, first_row, replaced};
+ghost use Rattle.ibc_forest.specs.NodeLevels.{Stand, IsPyramid, Climbs, rows_of, first_row, with_replaced};
 
 use crate::arena::Arena;
 use std::alloc::AllocError;
@@ -62,7 +62,7 @@ pub fn climb(
 /// Puts the nodes of a path into the rows, one a row, at a place and above it.
 pub fn put_path(rows: &mut [Vec<usize>], index: usize, path: &[usize])
     requires { length path.now ≡ length rows.old }
-    ensures { rows_of rows.new ≡ replaced (rows_of rows.old) index path.now }
+    ensures { rows_of rows.new ≡ with_replaced (rows_of rows.old) index path.now }
 {
     let mut place = index;
     for level in 0..rows.len() {

@@ -22,13 +22,13 @@ pub struct Chunks {
 impl Model for Chunks {
     ghost use Rattle.std.specs.Prelude.{◌++◌, List};
     ghost use Rattle.ibc_forest.specs.declared.node.ArenaNode.{ArenaNode};
-    ghost use Rattle.ibc_forest.specs.Shelves.{chunk_items, grouped, joined, AreFull};
+    ghost use Rattle.ibc_forest.specs.Shelves.{chunk_items, groups_items, concatenated, AreFull};
 
     ghost Value = { List (List ArenaNode) };
 
-    ghost view = { λ chunks. joined (grouped chunks.groups.items) ++ chunk_items chunks.begun.items };
+    ghost view = { λ chunks. concatenated (groups_items chunks.groups.items) ++ chunk_items chunks.begun.items };
 
-    ghost invariant = { λ chunks. AreFull (grouped chunks.groups.items) };
+    ghost invariant = { λ chunks. AreFull (groups_items chunks.groups.items) };
 }
 
 impl Chunks {

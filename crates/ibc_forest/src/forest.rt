@@ -4,7 +4,7 @@ ghost use Rattle.std.specs.Prelude.{◌≡◌, ◌+◌, ◌-◌, ◌*◌, ◌^�
 ghost use Rattle.std.specs.FinMap.{is_sorted};
 ghost use Rattle.ibc_ids.specs.Texts.{text_cmp};
 ghost use Rattle.ibc_merkle.specs.Tree.{tree_root};
-ghost use Rattle.ibc_merkle.specs.Written.{written};
+ghost use Rattle.ibc_merkle.specs.Written.{written_proof};
 ghost use Rattle.ibc_forest.specs.Counts.{CountsEachNewLeaf};
 ghost use Rattle.ibc_forest.specs.Leaves.{count_new, keys};
 ghost use Rattle.ibc_forest.specs.Gaps.{DifferIn};
@@ -49,13 +49,13 @@ impl Model for Forest {
     ghost use Rattle.std.specs.Prelude.{IsTrue};
     ghost use Rattle.std.specs.FinMap.{is_sorted};
     ghost use Rattle.ibc_ids.specs.Texts.{text_cmp};
-    ghost use Rattle.ibc_forest.specs.HeldForest.{HeldForest};
+    ghost use Rattle.ibc_forest.specs.ForestModel.{ForestModel};
 
-    ghost Value = { HeldForest };
+    ghost Value = { ForestModel };
 
-    ghost use Rattle.ibc_forest.specs.Rows.{rows_of, first_row};
+    ghost use Rattle.ibc_forest.specs.NodeLevels.{rows_of, first_row};
     ghost use Rattle.ibc_forest.specs.Leaves.{row_pairs};
-    ghost use Rattle.ibc_forest.specs.Forest.{kept_pairs, IsLast, AreKept};
+    ghost use Rattle.ibc_forest.specs.Forest.{kept_pairs, IsLast, AreSortedHeights};
 
     ghost view = { λ forest. record {
       last = row_pairs forest.arena.trees (first_row (rows_of forest.rows.items));
@@ -63,7 +63,7 @@ impl Model for Forest {
       digests = forest.digests;
     } };
 
-    ghost invariant = { λ forest. IsLast forest.arena.trees (rows_of forest.rows.items) × AreKept forest.arena.trees forest.kept.items × IsTrue (is_sorted text_cmp (row_pairs forest.arena.trees (first_row (rows_of forest.rows.items)))) };
+    ghost invariant = { λ forest. IsLast forest.arena.trees (rows_of forest.rows.items) × AreSortedHeights forest.arena.trees forest.kept.items × IsTrue (is_sorted text_cmp (row_pairs forest.arena.trees (first_row (rows_of forest.rows.items)))) };
 }
 
 impl Forest {
@@ -167,7 +167,7 @@ impl Forest {
     /// The proof of what a kept height has at a key; the first of them is number 0. Nothing is hashed for it.
     pub fn prove(&self, alloc: Global, index: usize, key: &[u8]) -> Result<Proof, AllocError>
         requires { index < length self.now.kept }
-        ensures { IfOk result (λ proof. proof ≡ written (slice_index_or self.now.kept index ([], 0)).0 key.now) }
+        ensures { IfOk result (λ proof. proof ≡ written_proof (slice_index_or self.now.kept index ([], 0)).0 key.now) }
     {
         let height = self.kept[index];
         prove_in(alloc, self.arena.nodes(), height.root, height.count, key)

@@ -3,11 +3,11 @@
 ghost use Rattle.std.specs.Prelude.{◌≡◌, [], ◌+◌, ◌*◌, ◌<◌, ◌≤◌, ◌++◌, true, Ok, length, drop, map, slice_index_or, take, IsTrue, IfOk, OnOk};
 ghost use Rattle.std.specs.FinMap.{is_sorted};
 ghost use Rattle.ibc_forest.specs.Levels.{leaf_of, tree_at, trees_at};
-ghost use Rattle.ibc_forest.specs.Leaves.{pair_at, row_pairs, AreLeaves, from_key, behind_key, begins_with, is_new, count_new, keys, unlike, differing};
+ghost use Rattle.ibc_forest.specs.Leaves.{pair_at, row_pairs, AreLeaves, from_key, behind_key, begins_with, is_new, count_new, keys, differ_count, differing_count};
 ghost use Rattle.ibc_forest.specs.Counts.{CountsAtLeast, CountsEachNewLeaf};
 ghost use Rattle.ibc_forest.specs.Gaps.{DifferIn, IsFoundFrom, IsOneOther, HasFirst};
 ghost use Rattle.ibc_forest.specs.Nodes.{Grows};
-ghost use Rattle.ibc_forest.specs.Rows.{Stand};
+ghost use Rattle.ibc_forest.specs.NodeLevels.{Stand};
 ghost use Rattle.ibc_ids.specs.Texts.{same_text, text_cmp};
 ghost use Rattle.ibc_merkle.specs.Proofs.{is_below};
 
@@ -137,7 +137,7 @@ fn add_leaves(
     ensures grows { Grows arena.old.trees arena.new.trees }
     ensures steps { let last = row_pairs arena.old.trees old.now in IfOk result (λ _. arena.new.steps + 2 * count_new last (drop end entries.now) ≤ arena.old.steps + 2 * count_new last (drop (length row.old.items) entries.now)) }
     ensures least { let last = row_pairs arena.old.trees old.now in OnOk result (CountsAtLeast (2 * count_new last (drop (length row.old.items) entries.now)) arena.old.steps (arena.new.steps + 2 * count_new last (drop end entries.now))) }
-    ensures same { let last = row_pairs arena.old.trees old.now in keys entries.now ≡ keys last → IfOk result (λ _. differing row.new.items old.now + count_new last (drop end entries.now) ≤ differing row.old.items old.now + count_new last (drop (length row.old.items) entries.now)) }
+    ensures same { let last = row_pairs arena.old.trees old.now in keys entries.now ≡ keys last → IfOk result (λ _. differing_count row.new.items old.now + count_new last (drop end entries.now) ≤ differing_count row.old.items old.now + count_new last (drop (length row.old.items) entries.now)) }
 {
     let mut at = place;
     for i in row.len()..end {
@@ -167,7 +167,7 @@ pub(crate) fn other_leaf(
     ensures grows { Grows arena.old.trees arena.new.trees }
     ensures steps { arena.new.steps ≤ arena.old.steps + 2 * count_new (row_pairs arena.old.trees old.now) entries.now }
     ensures least { OnOk result (CountsEachNewLeaf (row_pairs arena.old.trees old.now) entries.now arena.old.steps arena.new.steps) }
-    ensures same { let last = row_pairs arena.old.trees old.now in keys entries.now ≡ keys last → IfOk result (λ leaf. unlike leaf (slice_index_or old.now index 0) ≤ count_new last entries.now) }
+    ensures same { let last = row_pairs arena.old.trees old.now in keys entries.now ≡ keys last → IfOk result (λ leaf. differ_count leaf (slice_index_or old.now index 0) ≤ count_new last entries.now) }
 {
     let entry = &entries[index];
     let found = place_from(arena, old, index, entry.key());
@@ -212,7 +212,7 @@ pub(crate) fn leaf_row(
     ensures grows { Grows arena.old.trees arena.new.trees }
     ensures steps { IfOk result (λ row. arena.new.steps ≤ arena.old.steps + 2 * count_new (row_pairs arena.old.trees old.now) entries.now) }
     ensures least { OnOk result (CountsEachNewLeaf (row_pairs arena.old.trees old.now) entries.now arena.old.steps arena.new.steps) }
-    ensures same { keys entries.now ≡ keys (row_pairs arena.old.trees old.now) → IfOk result (λ row. differing row.items old.now ≤ count_new (row_pairs arena.old.trees old.now) entries.now) }
+    ensures same { keys entries.now ≡ keys (row_pairs arena.old.trees old.now) → IfOk result (λ row. differing_count row.items old.now ≤ count_new (row_pairs arena.old.trees old.now) entries.now) }
     ensures gaps { IfOk result (λ row. DifferIn gaps.now old.now row.items) }
 {
     let mut row = Vec::with_capacity(alloc, entries.len())?;

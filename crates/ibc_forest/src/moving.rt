@@ -1,11 +1,11 @@
 //! Nodes that are moved to another arena, so that the others are given back. Nothing is hashed.
 
 ghost use Rattle.std.specs.Prelude.{◌≡◌, ◌<◌, ◌++◌, length, map, IfOk};
-ghost use Rattle.ibc_forest.specs.Forest.{AreKept, kept_pairs};
+ghost use Rattle.ibc_forest.specs.Forest.{AreSortedHeights, kept_pairs};
 ghost use Rattle.ibc_forest.specs.Levels.{tree_at, trees_at};
-ghost use Rattle.ibc_forest.specs.Moving.{AreMoved, AllStand};
-ghost use Rattle.ibc_forest.specs.Nodes.{built, Grows, IsRight};
-ghost use Rattle.ibc_forest.specs.Rows.{Stand, rows_of};
+ghost use Rattle.ibc_forest.specs.NodeMoves.{AreMoved, AllStand};
+ghost use Rattle.ibc_forest.specs.Nodes.{tree_of_node, Grows, IsRight};
+ghost use Rattle.ibc_forest.specs.NodeLevels.{Stand, rows_of};
 
 use crate::arena::Arena;
 use crate::forest::Height;
@@ -24,7 +24,7 @@ fn add_moved(
 ) -> Result<usize, AllocError>
     requires there { number < length moved.old }
     requires right { IsRight new.old.trees node }
-    requires same { built new.old.trees node.below ≡ tree_at old.now number }
+    requires same { tree_of_node new.old.trees node.below ≡ tree_at old.now number }
     requires moved { AreMoved old.now new.old.trees moved.old }
     ensures same { IfOk result (λ copy. tree_at new.new.trees copy ≡ tree_at old.now number) }
     ensures there { IfOk result (λ copy. copy < length new.new.trees) }
@@ -141,11 +141,11 @@ pub(crate) fn move_kept(
     moved: &mut [Option<usize>],
     kept: &VecDeque<Height>,
 ) -> Result<VecDeque<Height>, AllocError>
-    requires kept { AreKept old.now kept.now.items }
+    requires kept { AreSortedHeights old.now kept.now.items }
     requires counted { length moved.old ≡ length old.now }
     requires moved { AreMoved old.now new.old.trees moved.old }
     ensures same { IfOk result (λ next. kept_pairs new.new.trees next.items ≡ kept_pairs old.now kept.now.items) }
-    ensures kept { IfOk result (λ next. AreKept new.new.trees next.items) }
+    ensures kept { IfOk result (λ next. AreSortedHeights new.new.trees next.items) }
     ensures grows { Grows new.old.trees new.new.trees }
     ensures steps { new.new.steps ≡ new.old.steps }
 {

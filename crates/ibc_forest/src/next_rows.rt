@@ -4,10 +4,10 @@ ghost use Rattle.std.specs.Prelude.{true, false, ◌≡◌, ◌+◌, ◌-◌, �
 ghost use Rattle.std.specs.FinMap.{is_sorted};
 ghost use Rattle.ibc_ids.specs.Texts.{text_cmp};
 ghost use Rattle.ibc_forest.specs.Counts.{CountsAtLeast, CountsEachNewLeaf};
-ghost use Rattle.ibc_forest.specs.Leaves.{row_pairs, count_new, keys, differing};
+ghost use Rattle.ibc_forest.specs.Leaves.{row_pairs, count_new, keys, differing_count};
 ghost use Rattle.ibc_forest.specs.Gaps.{DifferIn, IsOneOther};
 ghost use Rattle.ibc_forest.specs.Nodes.{Grows};
-ghost use Rattle.ibc_forest.specs.Rows.{Stand, IsPyramid, rows_of, first_row};
+ghost use Rattle.ibc_forest.specs.NodeLevels.{Stand, IsPyramid, rows_of, first_row};
 ghost use Rattle.ibc_forest.specs.Forest.{IsWorking, IsLast};
 ghost use Rattle.ibc_merkle.specs.Tree.{Pairs};
 
@@ -20,8 +20,8 @@ use std::alloc::{AllocError, Global};
 
 // Whether it takes fewer texts to put the other leaves into the tree than it has leaves.
 fn are_few(rows: &[Vec<usize>], row: &[usize]) -> bool
-    ensures few { result ≡ true → (length row.now ≡ length (first_row (rows_of rows.now))) × (differing row.now (first_row (rows_of rows.now)) * (length rows.now - 1) < length row.now) }
-    ensures many { result ≡ false → length row.now ≡ length (first_row (rows_of rows.now)) → length row.now ≤ differing row.now (first_row (rows_of rows.now)) * (length rows.now - 1) }
+    ensures few { result ≡ true → (length row.now ≡ length (first_row (rows_of rows.now))) × (differing_count row.now (first_row (rows_of rows.now)) * (length rows.now - 1) < length row.now) }
+    ensures many { result ≡ false → length row.now ≡ length (first_row (rows_of rows.now)) → length row.now ≤ differing_count row.now (first_row (rows_of rows.now)) * (length rows.now - 1) }
 {
     let old = first_of(rows);
     if row.len() != old.len() {
@@ -44,7 +44,7 @@ fn changed(
     ensures levels { IfOk result (λ next. IsPyramid arena.new.trees (rows_of next.items)) }
     ensures row { IfOk result (λ next. first_row (rows_of next.items) ≡ row.now) }
     ensures grows { Grows arena.old.trees arena.new.trees }
-    ensures steps { IfOk result (λ _. arena.new.steps ≤ arena.old.steps + differing row.now (first_row (rows_of rows.now)) * (length rows.now - 1)) }
+    ensures steps { IfOk result (λ _. arena.new.steps ≤ arena.old.steps + differing_count row.now (first_row (rows_of rows.now)) * (length rows.now - 1)) }
     ensures least { OnOk result (CountsAtLeast 0 arena.old.steps arena.new.steps) }
 {
     let mut next = copied(alloc, rows)?;
@@ -82,7 +82,7 @@ fn rows_over(
     ensures grows { Grows arena.old.trees arena.new.trees }
     ensures steps { IfOk result (λ _. arena.new.steps + 1 ≤ arena.old.steps + length row.items) }
     ensures least { OnOk result (CountsAtLeast 0 arena.old.steps arena.new.steps) }
-    ensures few { length row.items ≡ length (first_row (rows_of rows.now)) → IfOk result (λ _. arena.new.steps ≤ arena.old.steps + differing row.items (first_row (rows_of rows.now)) * (length rows.now - 1)) }
+    ensures few { length row.items ≡ length (first_row (rows_of rows.now)) → IfOk result (λ _. arena.new.steps ≤ arena.old.steps + differing_count row.items (first_row (rows_of rows.now)) * (length rows.now - 1)) }
 {
     if are_few(rows, row.as_slice()) {
         return changed(alloc, arena, rows, row.as_slice());

@@ -3,7 +3,7 @@
 ghost use Rattle.std.specs.Prelude.{◌≡◌, ◌<◌, ◌∷◌, ◌++◌, [], length, OnOk, OnErr, IfOk};
 ghost use Rattle.ibc_merkle.specs.Tree.{root};
 ghost use Rattle.ibc_forest.specs.Levels.{leaf_of, tree_at};
-ghost use Rattle.ibc_forest.specs.Nodes.{built, ChildrenStand, IsRight, first_pair};
+ghost use Rattle.ibc_forest.specs.Nodes.{tree_of_node, ChildrenStand, IsRight, first_pair};
 
 use crate::node::{ArenaNode, Below};
 use crate::shared_entry::SharedEntry;
@@ -54,7 +54,7 @@ impl Nodes {
     /// What stands below a node.
     pub fn below(&self, number: usize) -> &Below
         requires { number < length self.now }
-        ensures built { tree_at self.now number ≡ built self.now result.now }
+        ensures built { tree_at self.now number ≡ tree_of_node self.now result.now }
         ensures stand { ChildrenStand self.now result.now }
     {
         &self.shelf.node(number).below
@@ -83,7 +83,7 @@ impl Nodes {
     /// Adds a node with its digest.
     pub fn add(&mut self, node: ArenaNode) -> Result<(), AllocError>
         requires { IsRight self.old node }
-        ensures ok { OnOk result (self.new ≡ self.old ++ built self.old node.below ∷ []) }
+        ensures ok { OnOk result (self.new ≡ self.old ++ tree_of_node self.old node.below ∷ []) }
         ensures err { OnErr result (self.new ≡ self.old) }
     {
         self.shelf.push(node)?;

@@ -6,7 +6,7 @@ ghost use Rattle.std.specs.List.Sorted.{IsPartitionPoint};
 ghost use Rattle.std.specs.FinMap.{is_sorted};
 ghost use Rattle.std.specs.declared.cmp.Ordering.TheVariants.{Less, Equal, Greater};
 ghost use Rattle.ibc_ids.specs.Texts.{text_cmp};
-ghost use Rattle.ibc_merkle.specs.Places.{key_at};
+ghost use Rattle.ibc_merkle.specs.PairPlaces.{key_at};
 ghost use Rattle.ibc_forest.specs.Heights.{pairs_of, IsTreeOver};
 
 use crate::node::Below;

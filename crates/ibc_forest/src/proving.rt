@@ -3,8 +3,8 @@
 ghost use Rattle.std.specs.Prelude.{◌≡◌, ◌<◌, ◌≤◌, Some, slice_get, IsTrue, IfOk};
 ghost use Rattle.std.specs.FinMap.{is_sorted};
 ghost use Rattle.ibc_ids.specs.Texts.{text_cmp};
-ghost use Rattle.ibc_merkle.specs.Places.{pair_before};
-ghost use Rattle.ibc_merkle.specs.Written.{presence_of, written};
+ghost use Rattle.ibc_merkle.specs.PairPlaces.{pair_before};
+ghost use Rattle.ibc_merkle.specs.Written.{presence_of, written_proof};
 ghost use Rattle.ibc_forest.specs.Heights.{pairs_of, IsTreeOver};
 
 use crate::descent::{entry_at, operations_from};
@@ -25,7 +25,7 @@ pub(crate) fn prove_in(
 ) -> Result<Proof, AllocError>
     requires over { IsTreeOver nodes.now root count }
     requires sorted { IsTrue (is_sorted text_cmp (pairs_of nodes.now root)) }
-    ensures { IfOk result (λ proof. proof ≡ written (pairs_of nodes.now root) key.now) }
+    ensures { IfOk result (λ proof. proof ≡ written_proof (pairs_of nodes.now root) key.now) }
 {
     match place_in(nodes, root, count, key) {
         Ok(index) => Ok(Proof::Present(presence_at(alloc, nodes, root, count, index)?)),

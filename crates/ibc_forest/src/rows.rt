@@ -4,7 +4,7 @@ ghost use Rattle.std.specs.Prelude.{◌≡◌, ◌+◌, ◌*◌, ◌/◌, ◌<�
 ghost use Rattle.ibc_forest.specs.Counts.{CountsAtLeast};
 ghost use Rattle.ibc_forest.specs.Levels.{pair_up, trees_at};
 ghost use Rattle.ibc_forest.specs.Nodes.{Grows};
-ghost use Rattle.ibc_forest.specs.Rows.{Stand};
+ghost use Rattle.ibc_forest.specs.NodeLevels.{Stand};
 
 use crate::arena::Arena;
 use std::alloc::{AllocError, Global};

@@ -4,7 +4,7 @@ ghost use Rattle.std.specs.Prelude.{◌≡◌, IfOk, IfErr};
 ghost use Rattle.std.specs.Arc.{arc_value};
 
 use ibc_ids::Bytes;
-use ibc_merkle::Entry;
+use ibc_merkle::KeyValue;
 use std::alloc::{AllocError, Global};
 use std::marker::Model;
 use std::sync::Arc;
@@ -13,9 +13,9 @@ use std::sync::Arc;
 #[derive(Drop, Debug)]
 pub enum Hold {
     /// by all that share it
-    Shared(Arc<Entry>),
+    Shared(Arc<KeyValue>),
     /// by one alone
-    Own(Box<Entry>),
+    Own(Box<KeyValue>),
 }
 
 /// A pair of a key and its value, which has its memory in common with its clones. Only in memory that was made beforehand
@@ -27,16 +27,16 @@ pub struct SharedEntry {
 
 impl Model for SharedEntry {
     ghost use Rattle.std.specs.Prelude.{ℕ, List};
-    ghost use Rattle.ibc_forest.specs.Holds.{held_pair};
+    ghost use Rattle.ibc_forest.specs.StoredPairs.{stored_pair};
 
     ghost Value = { List ℕ × List ℕ };
 
-    ghost view = { λ entry. held_pair entry.hold };
+    ghost view = { λ entry. stored_pair entry.hold };
 }
 
 impl SharedEntry {
     /// A pair that can be shared. Where memory is refused, the pair is handed back.
-    pub fn new(alloc: Global, entry: Entry) -> Result<SharedEntry, Entry>
+    pub fn new(alloc: Global, entry: KeyValue) -> Result<SharedEntry, KeyValue>
         ensures ok { IfOk result (λ shared. shared ≡ entry) }
         ensures err { IfErr result (λ back. back ≡ entry) }
     {
@@ -69,7 +69,7 @@ impl SharedEntry {
     }
 
     // The pair for one more to share, or a copy of it where one alone holds it.
-    fn shared(&self) -> Result<Arc<Entry>, AllocError>
+    fn shared(&self) -> Result<Arc<KeyValue>, AllocError>
         ensures { IfOk result (λ shared. arc_value shared ≡ self.now) }
     {
         match &self.hold {
@@ -95,7 +95,7 @@ impl Clone for SharedEntry {
 /// Memory for a pair, made before there is one.
 #[derive(Drop, Debug)]
 pub struct SpareEntry {
-    place: Box<Entry>,
+    place: Box<KeyValue>,
 }
 
 impl SpareEntry {
@@ -103,12 +103,12 @@ impl SpareEntry {
     pub fn new(alloc: Global) -> Result<SpareEntry, AllocError> {
         let key = Bytes::from_vec(Vec::new(alloc));
         let value = Bytes::from_vec(Vec::new(alloc));
-        let place = Box::new(alloc, Entry::new(key, value))?;
+        let place = Box::new(alloc, KeyValue::new(key, value))?;
         Ok(SpareEntry { place })
     }
 
     /// A pair in this memory, which no other one has in common with it.
-    pub fn filled(self, entry: Entry) -> SharedEntry
+    pub fn filled(self, entry: KeyValue) -> SharedEntry
         ensures { result ≡ entry }
     {
         let mut place = self.place;

@@ -5,7 +5,7 @@ ghost use Rattle.std.specs.FinMap.{is_sorted};
 ghost use Rattle.ibc_ids.specs.Texts.{text_cmp};
 ghost use Rattle.ibc_ids.specs.declared.refusal.Refusal.TheVariants.{NoMemory};
 ghost use Rattle.ibc_merkle.specs.Tree.{tree_root};
-ghost use Rattle.ibc_merkle.specs.Written.{written};
+ghost use Rattle.ibc_merkle.specs.Written.{written_proof};
 ghost use Rattle.ibc_forest.specs.Heights.{pairs_of, IsTreeOver};
 
 use crate::nodes::Nodes;
@@ -58,7 +58,7 @@ impl SharedTree {
     /// The proof of what the pairs have at a key: of its presence where it is among them, and of its absence where not
     /// (ICS 23, "CommitmentProof"). Nothing is hashed for it. `NoMemory` where a growth is refused.
     pub fn prove(&self, alloc: Global, key: &[u8]) -> Result<Proof, Refusal>
-        ensures ok { IfOk result (λ proof. proof ≡ written self.now key.now) }
+        ensures ok { IfOk result (λ proof. proof ≡ written_proof self.now key.now) }
         ensures err { IfErr result (λ refusal. refusal ≡ NoMemory) }
     {
         Ok(prove_in(alloc, &self.nodes, self.root, self.count, key)?)

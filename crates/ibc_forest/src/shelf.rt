@@ -1,7 +1,7 @@
 //! Nodes in chunks that snapshots share.
 
 ghost use Rattle.std.specs.Prelude.{◌≡◌, ◌<◌, ◌≤◌, ◌∷◌, ◌++◌, [], length, slice_index_or, OnOk, OnErr, IfOk};
-ghost use Rattle.ibc_forest.specs.Shelves.{joined, AreFull};
+ghost use Rattle.ibc_forest.specs.Shelves.{concatenated, AreFull};
 
 use crate::chunks::{Chunks, SIZE};
 use crate::node::ArenaNode;
@@ -19,11 +19,11 @@ pub struct Shelf {
 impl Model for Shelf {
     ghost use Rattle.std.specs.Prelude.{◌≤◌, ◌++◌, List, length};
     ghost use Rattle.ibc_forest.specs.declared.node.ArenaNode.{ArenaNode};
-    ghost use Rattle.ibc_forest.specs.Shelves.{joined, AreFull};
+    ghost use Rattle.ibc_forest.specs.Shelves.{concatenated, AreFull};
 
     ghost Value = { List ArenaNode };
 
-    ghost view = { λ shelf. joined shelf.full ++ shelf.begun.items };
+    ghost view = { λ shelf. concatenated shelf.full ++ shelf.begun.items };
 
     ghost invariant = { λ shelf. AreFull shelf.full × (length shelf.begun.items ≤ 128) };
 }
@@ -74,7 +74,7 @@ impl Shelf {
 fn close(full: &mut Chunks, begun: &mut Vec<ArenaNode>) -> Result<(), AllocError>
     requires full { AreFull full.old }
     requires most { length begun.old.items ≤ 128 }
-    ensures same { joined full.new ++ begun.new.items ≡ joined full.old ++ begun.old.items }
+    ensures same { concatenated full.new ++ begun.new.items ≡ concatenated full.old ++ begun.old.items }
     ensures full { AreFull full.new }
     ensures most { length begun.new.items ≤ 128 }
     ensures room { OnOk result (length begun.new.items < 128) }

@@ -2,10 +2,10 @@
 
 ghost use Rattle.std.specs.Prelude.{◌≡◌, ◌+◌, ◌-◌, ◌*◌, ◌^◌, ◌<◌, ◌≤◌, ℕ, [], length, take, drop, slice_set, slice_index_or, IfOk, OnOk, OnErr};
 ghost use Rattle.ibc_forest.specs.Counts.{CountsAtLeast};
-ghost use Rattle.ibc_forest.specs.Levels.{over, tree_at, trees_at};
-ghost use Rattle.ibc_forest.specs.Leaves.{row_pairs, count_new, keys, unlike, differing};
+ghost use Rattle.ibc_forest.specs.Levels.{tree_over, tree_at, trees_at};
+ghost use Rattle.ibc_forest.specs.Leaves.{row_pairs, count_new, keys, differ_count, differing_count};
 ghost use Rattle.ibc_forest.specs.Nodes.{Grows};
-ghost use Rattle.ibc_forest.specs.Rows.{Stand, IsPyramid, AreKnown, Raised, rows_of, first_row};
+ghost use Rattle.ibc_forest.specs.NodeLevels.{Stand, IsPyramid, AreKnown, HasLevelsOver, rows_of, first_row};
 
 use crate::arena::Arena;
 use crate::ascent::{climb, put_path};
@@ -15,7 +15,7 @@ use std::alloc::{AllocError, Global};
 // The root of a tree, by its rows.
 pub(crate) fn root_of(arena: &Arena, rows: &[Vec<usize>]) -> usize
     requires { IsPyramid arena.now.trees (rows_of rows.now) }
-    ensures over { tree_at arena.now.trees result ≡ over (trees_at arena.now.trees (first_row (rows_of rows.now))) }
+    ensures over { tree_at arena.now.trees result ≡ tree_over (trees_at arena.now.trees (first_row (rows_of rows.now))) }
     ensures there { result < length arena.now.trees }
 {
     rows[rows.len() - 1][0]
@@ -53,7 +53,7 @@ fn add_levels(
     requires before { AreKnown arena.old.trees (rows_of before.now) }
     requires there { front ≤ length row.items }
     requires front { take front row.items ≡ take front (first_row (rows_of before.now)) }
-    ensures levels { IfOk result (λ _. Raised arena.new.trees rows.old.items row.items rows.new.items) }
+    ensures levels { IfOk result (λ _. HasLevelsOver arena.new.trees rows.old.items row.items rows.new.items) }
     ensures grows { Grows arena.old.trees arena.new.trees }
     ensures steps { IfOk result (λ _. arena.new.steps + 1 ≤ arena.old.steps + length row.items) }
     ensures least { OnOk result (CountsAtLeast 0 arena.old.steps arena.new.steps) }
@@ -109,7 +109,7 @@ pub(crate) fn put_leaf(
     ensures levels { IfOk result (λ _. IsPyramid arena.new.trees (rows_of rows.new)) }
     ensures row { IfOk result (λ _. first_row (rows_of rows.new) ≡ slice_set (first_row (rows_of rows.old)) index node) }
     ensures grows { Grows arena.old.trees arena.new.trees }
-    ensures steps { arena.new.steps ≤ arena.old.steps + unlike node (slice_index_or (first_row (rows_of rows.old)) index 0) * (length rows.old - 1) }
+    ensures steps { arena.new.steps ≤ arena.old.steps + differ_count node (slice_index_or (first_row (rows_of rows.old)) index 0) * (length rows.old - 1) }
     ensures least { OnOk result (CountsAtLeast 0 arena.old.steps arena.new.steps) }
     ensures err { OnErr result (rows.new ≡ rows.old) }
 {
@@ -145,7 +145,7 @@ pub(crate) fn put_leaves(
     ensures levels { IfOk result (λ _. IsPyramid arena.new.trees (rows_of rows.new)) }
     ensures row { IfOk result (λ _. first_row (rows_of rows.new) ≡ row.now) }
     ensures grows { Grows arena.old.trees arena.new.trees }
-    ensures steps { IfOk result (λ _. arena.new.steps ≤ arena.old.steps + differing row.now (first_row (rows_of rows.old)) * (length rows.old - 1)) }
+    ensures steps { IfOk result (λ _. arena.new.steps ≤ arena.old.steps + differing_count row.now (first_row (rows_of rows.old)) * (length rows.old - 1)) }
     ensures least { OnOk result (CountsAtLeast 0 arena.old.steps arena.new.steps) }
 {
     for i in 0..row.len() {
@@ -169,7 +169,7 @@ pub(crate) fn copied(alloc: Global, rows: &[Vec<usize>]) -> Result<Vec<Vec<usize
 // At how many places the first row has another number than the second, which is as long.
 pub(crate) fn count_differing(row: &[usize], old: &[usize]) -> usize
     requires { length row.now ≡ length old.now }
-    ensures { result ≡ differing row.now old.now }
+    ensures { result ≡ differing_count row.now old.now }
 {
     let mut count = 0;
     for i in 0..row.len() {

@@ -7,14 +7,14 @@ use denote.Param.SendFields.{declared_send, variants_send}
 use Rattle.std.proofs.Crossing.{crosses}
 use Rattle.ibc_ids.proofs.name.Name.TheSendSync as name
 use Rattle.ibc_ids.specs.contracts.kinds.ChannelKind as ChannelKind
-use Rattle.ibc_ids.specs.contracts.kinds.ChannelKindKind.TheImpl as channel
+use Rattle.ibc_ids.specs.contracts.kinds.ChannelKindNameKind.TheImpl as channel
 use Rattle.ibc_ids.specs.contracts.kinds.DenomKind as DenomKind
-use Rattle.ibc_ids.specs.contracts.kinds.DenomKindKind.TheImpl as denom
+use Rattle.ibc_ids.specs.contracts.kinds.DenomKindNameKind.TheImpl as denom
 use Rattle.ibc_ids.specs.contracts.name.Name as Name
 use Rattle.ibc_machine.proofs.entry.Entry.TheSendSync as entry
 use Rattle.ibc_root_table.proofs.table.RootTable.TheSendSync as root_table
 use Rattle.ibc_root_table.proofs.table.Pass.TheSendSync as pass
-use Rattle.ibc_ledger.proofs.node.Node.TheSendSync as node
+use Rattle.ibc_ledger.proofs.host_state.HostState.TheSendSync as node
 use Rattle.ibc_ledger.specs.contracts.entry.StampedEntry as StampedEntry
 use Rattle.ibc_ledger.specs.contracts.ledger.Ledger as Ledger
 use Rattle.ibc_ledger.specs.contracts.ledger.Ledger.TheInside as InLedger
@@ -24,10 +24,10 @@ use Rattle.ibc_machine.proofs.genesis.Genesis.TheSendSync as genesis
 use Rattle.ibc_wire.proofs.messages.Message.TheSendSync as message
 use Rattle.ibc_ids.proofs.account.Account.TheSendSync as account
 use Rattle.ibc_ids.proofs.bytes.Bytes.TheSendSync as bytes
-use Rattle.ibc_handle.specs.contracts.held.WorldLedger as WorldLedger
-use Rattle.ibc_handle.specs.contracts.held.Held as Held
-use Rattle.ibc_handle.specs.contracts.ledgers.Ledgers as Ledgers
-use Rattle.ibc_handle.specs.contracts.ledgers.Ledgers.TheInside as InLedgers
+use Rattle.ibc_handle.specs.contracts.handle_value.WorldLedger as WorldLedger
+use Rattle.ibc_handle.specs.contracts.handle_value.HandleValue as Held
+use Rattle.ibc_handle.specs.contracts.ledgers.WorldLedgers as Ledgers
+use Rattle.ibc_handle.specs.contracts.ledgers.WorldLedgers.TheInside as InLedgers
 use Rattle.ibc_world_core.specs.contracts.holdings.Audit as Audit
 
 entry_send : IsSend StampedEntry.the_row

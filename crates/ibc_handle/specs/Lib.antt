@@ -1,3 +1,3 @@
 pub mod Joining
-pub mod Ledgers
-pub mod Owned
+pub mod LedgersModel
+pub mod OwnedBoxes

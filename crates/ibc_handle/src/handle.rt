@@ -3,12 +3,12 @@ ghost use Rattle.std.specs.Prelude.{◌≡◌, IsSome, OnOk, OnErr, is_none, is_
 ghost use Rattle.std.specs.Option.{MatchOption};
 ghost use Rattle.std.specs.declared.option.Option.{Option};
 ghost use Rattle.std.specs.declared.option.Option.TheVariants.{None, Some};
-ghost use Rattle.ibc_handle.specs.Joining.{AreToldApart, HoldsNoLedgers, IsJoined};
-ghost use Rattle.ibc_handle.specs.declared.held.Held.{Held as Value};
-ghost use Rattle.ibc_handle.specs.declared.held.Held.TheVariants as held;
+ghost use Rattle.ibc_handle.specs.Joining.{MemberJoinsIfSameNumber, HoldsNoLedgers, IsJoined};
+ghost use Rattle.ibc_handle.specs.declared.handle_value.HandleValue.{HandleValue as Value};
+ghost use Rattle.ibc_handle.specs.declared.handle_value.HandleValue.TheVariants as held;
 
-use crate::held::Held;
-use crate::{Ledgers, Loose, NotJoined};
+use crate::handle_value::HandleValue;
+use crate::{BoxParts, NotJoined, WorldLedgers};
 use std::alloc::{AllocError, Global};
 use std::marker::{Model, Send};
 use std::mem::replace;
@@ -23,10 +23,10 @@ pub struct Handle {
 }
 
 impl Model for Handle {
-    ghost use Rattle.ibc_handle.specs.contracts.held.Held.{the_row};
-    ghost use Rattle.ibc_handle.specs.Owned.{owned};
+    ghost use Rattle.ibc_handle.specs.contracts.handle_value.HandleValue.{the_row};
+    ghost use Rattle.ibc_handle.specs.OwnedBoxes.{owned_box};
 
-    ghost also_owns = { λ h. owned the_row h.at h.value };
+    ghost also_owns = { λ h. owned_box the_row h.at h.value };
 }
 
 impl Handle {
@@ -37,28 +37,28 @@ impl Handle {
         Handle { at: null_mut() }
     }
 
-    fn of_loose(loose: Loose<Held, Global>) -> Handle
+    fn of_loose(loose: BoxParts<HandleValue, Global>) -> Handle
         ensures { result.value ≡ Some loose.value }
     {
-        let Loose { at, alloc: _ } = loose;
+        let BoxParts { at, alloc: _ } = loose;
         Handle { at: at as *mut u8 }
     }
 
-    fn into_loose(self, alloc: Global) -> Option<Loose<Held, Global>>
+    fn into_loose(self, alloc: Global) -> Option<BoxParts<HandleValue, Global>>
         ensures { MatchOption result (self.value ≡ None) (λ l. self.value ≡ Some l.value) }
     {
         let Handle { at } = self;
         if at.is_null() {
             None
         } else {
-            Some(Loose {
-                at: at as *mut Held,
+            Some(BoxParts {
+                at: at as *mut HandleValue,
                 alloc,
             })
         }
     }
 
-    fn into_box(self, alloc: Global) -> Option<Box<Held>>
+    fn into_box(self, alloc: Global) -> Option<Box<HandleValue>>
         ensures { MatchOption result (self.value ≡ None) (λ b. self.value ≡ Some b.value) }
     {
         match self.into_loose(alloc) {
@@ -68,7 +68,7 @@ impl Handle {
     }
 
     /// Takes what the handle holds, and leaves it empty.
-    pub fn take(&mut self, alloc: Global) -> Option<Box<Held>>
+    pub fn take(&mut self, alloc: Global) -> Option<Box<HandleValue>>
         ensures value { MatchOption result (self.old.value ≡ None) (λ b. self.old.value ≡ Some b.value) }
         ensures left { self.new.value ≡ None }
     {
@@ -76,15 +76,15 @@ impl Handle {
     }
 
     // Puts a value into the handle, and answers what it held before.
-    fn put(&mut self, alloc: Global, held: Box<Held>) -> Option<Box<Held>>
+    fn put(&mut self, alloc: Global, held: Box<HandleValue>) -> Option<Box<HandleValue>>
         ensures value { MatchOption result (self.old.value ≡ None) (λ b. self.old.value ≡ Some b.value) }
         ensures left { self.new.value ≡ Some held.value }
     {
-        replace(self, Handle::of_loose(Loose::of(held))).into_box(alloc)
+        replace(self, Handle::of_loose(BoxParts::of(held))).into_box(alloc)
     }
 
     /// The handle holds this value. What it held before is let go.
-    pub fn set(&mut self, alloc: Global, held: Box<Held>)
+    pub fn set(&mut self, alloc: Global, held: Box<HandleValue>)
         ensures { self.new.value ≡ Some held.value }
     {
         drop(self.put(alloc, held));
@@ -106,7 +106,7 @@ impl Handle {
 
     /// Puts a value into the handle; what it held before is let go. Where a growth is refused, the handle is as it was, and the
     /// value is let go.
-    pub fn fill(&mut self, alloc: Global, value: Held) -> Result<(), AllocError>
+    pub fn fill(&mut self, alloc: Global, value: HandleValue) -> Result<(), AllocError>
         ensures ok { OnOk result (self.new.value ≡ Some value) }
         ensures err { OnErr result (self.new.value ≡ self.old.value) }
     {
@@ -120,7 +120,7 @@ impl Handle {
     }
 
     /// The handle, which holds something, holds this value in its place. No memory is asked for.
-    pub fn replace(&mut self, alloc: Global, value: Held)
+    pub fn replace(&mut self, alloc: Global, value: HandleValue)
         requires { IsSome self.old.value }
         ensures { self.new.value ≡ Some value }
     {
@@ -135,7 +135,7 @@ impl Handle {
     }
 
     /// Takes the ledgers that the handle holds. Where it holds none, it keeps what it holds.
-    pub fn take_ledgers(&mut self, alloc: Global) -> Option<Ledgers>
+    pub fn take_ledgers(&mut self, alloc: Global) -> Option<WorldLedgers>
         ensures { MatchOption result ((self.new.value ≡ self.old.value) × HoldsNoLedgers self.old.value) (λ all. (self.old.value ≡ Some (held.Ledgers all)) × (self.new.value ≡ None)) }
     {
         match self.take(alloc) {
@@ -158,8 +158,8 @@ impl Handle {
     }
 
     /// Moves the ledger that the handle holds to others of its world. Where it is refused, nothing has changed.
-    pub fn join(&mut self, alloc: Global, all: &mut Ledgers) -> Result<(), NotJoined>
-        requires { AreToldApart all.old self.old.value }
+    pub fn join(&mut self, alloc: Global, all: &mut WorldLedgers) -> Result<(), NotJoined>
+        requires { MemberJoinsIfSameNumber all.old self.old.value }
         ensures { IsJoined all.old self.old.value all.new self.new.value result }
     {
         match self.take(alloc) {

@@ -4,11 +4,11 @@ ghost use Rattle.std.specs.Prelude.{◌≡◌, ◌≢◌, ◌⊎◌, ◌↔◌, 
 ghost use Rattle.ibc_ids.specs.declared.refusal.Refusal.TheVariants.{BadMessage, NoMemory};
 ghost use Rattle.ibc_machine.specs.chain.Genesis.{genesis_state, is_allowed};
 ghost use Rattle.ibc_refinement.specs.World.{AreNew};
-ghost use Rattle.ibc_world_core.specs.Held.{plain};
-ghost use Rattle.ibc_world_core.specs.Audits.{IsAudit, is_whole};
+ghost use Rattle.ibc_world_core.specs.WorldModel.{ledgers_alone};
+ghost use Rattle.ibc_world_core.specs.WorldAudits.{IsAudit, is_whole};
 ghost use Rattle.ibc_theorem.specs.EveryAudit.{AreLawful};
-ghost use Rattle.ibc_handle.specs.Ledgers.{Joins};
-ghost use Rattle.ibc_handle.specs.Joining.{IsToldApart, with_member};
+ghost use Rattle.ibc_handle.specs.LedgersModel.{Joins};
+ghost use Rattle.ibc_handle.specs.Joining.{JoinsIfSameNumber, with_member};
 ghost use Rattle.ibc_handle.specs.declared.ledgers.NotJoined.TheVariants.{OtherWorld, NoMemory as NoRoom};
 
 use crate::WorldLedger;
@@ -35,33 +35,33 @@ pub enum NotJoined {
 
 /// Ledgers of one world, under the number that the world's owner gave it. Contracts see them as a list.
 #[derive(Drop)]
-pub struct Ledgers {
+pub struct WorldLedgers {
     number: u64,
     ledgers: Vec<Ledger>,
 }
 
-impl Model for Ledgers {
-    ghost use Rattle.ibc_world_core.specs.Audits.{AreOfOneWorld};
-    ghost use Rattle.ibc_handle.specs.Ledgers.{HeldLedgers};
+impl Model for WorldLedgers {
+    ghost use Rattle.ibc_world_core.specs.WorldAudits.{AreOfOneWorld};
+    ghost use Rattle.ibc_handle.specs.LedgersModel.{LedgersModel};
 
-    ghost Value = { HeldLedgers };
+    ghost Value = { LedgersModel };
 
     ghost view = { λ all. record { number = all.number; ledgers = all.ledgers.items } };
 
     ghost invariant = { λ all. AreOfOneWorld all.ledgers.items };
 }
 
-impl Ledgers {
+impl WorldLedgers {
     /// The ledgers of a genesis in the beginning, by the numbers of their chains. Refused: `BadMessage` exactly where the
     /// genesis isn't allowed; `NoMemory`.
-    pub fn begin(alloc: Global, genesis: &Genesis, number: u64) -> Result<Ledgers, Refusal>
+    pub fn begin(alloc: Global, genesis: &Genesis, number: u64) -> Result<WorldLedgers, Refusal>
         ensures number { IfOk result (λ all. all.number ≡ number) }
-        ensures new { IfOk result (λ all. AreNew (genesis_state genesis.now) (plain all.ledgers)) }
+        ensures new { IfOk result (λ all. AreNew (genesis_state genesis.now) (ledgers_alone all.ledgers)) }
         ensures bad { (result ≡ Err BadMessage) ↔ (is_allowed (genesis_state genesis.now) ≡ false) }
         ensures err { IfErr result (λ refusal. (refusal ≡ BadMessage) ⊎ (refusal ≡ NoMemory)) }
     {
         match World::new(alloc, genesis) {
-            Ok(world) => Ok(Ledgers {
+            Ok(world) => Ok(WorldLedgers {
                 number,
                 ledgers: world.into_ledgers(),
             }),
@@ -110,7 +110,7 @@ impl Ledgers {
     /// Adds the ledger, where it is of the world of this number. Else it is handed back with the reason, `OtherWorld` or
     /// `NoMemory`, and nothing has changed.
     pub fn join(&mut self, member: WorldLedger) -> Result<(), (NotJoined, WorldLedger)>
-        requires { IsToldApart self.old member }
+        requires { JoinsIfSameNumber self.old member }
         ensures ok { OnOk result ((member.number ≡ self.old.number) × (self.new ≡ with_member self.old member)) }
         ensures err { OnErr result (self.new ≡ self.old) }
         ensures back { IfErr result (λ e. (e.1 ≡ member) × (((e.0 ≡ OtherWorld) × (member.number ≢ self.old.number)) ⊎ (e.0 ≡ NoRoom))) }

@@ -2,11 +2,11 @@
 #![tactic(auto)]
 
 pub mod handle;
-pub mod held;
+pub mod handle_value;
 mod ledgers;
 mod loose;
 
 pub use handle::Handle;
-pub use held::{Held, WorldLedger};
-pub use ledgers::{Ledgers, NotJoined};
-pub use loose::Loose;
+pub use handle_value::{HandleValue, WorldLedger};
+pub use ledgers::{NotJoined, WorldLedgers};
+pub use loose::BoxParts;

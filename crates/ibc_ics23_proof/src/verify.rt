@@ -38,9 +38,9 @@ pub fn verify_absent(proof: &Proof, root: &Root, key: &[u8]) -> bool
 }
 
 // Whether no key stands between the two neighbours, of which one may be missing at either end.
-#[tactic(auto, using(crate::proofs::Turns::only_left_turns, crate::proofs::Turns::only_right_turns))]
+#[tactic(auto, using(crate::proofs::PathTurns::only_left_turns, crate::proofs::PathTurns::only_right_turns))]
 fn is_surrounded(root: &Root, key: &[u8], absence: &Absence) -> bool
-    ensures { result ≡ proofs.surround root.now key.now absence.now.left absence.now.right }
+    ensures { result ≡ proofs.are_neighbours_around root.now key.now absence.now.left absence.now.right }
 {
     match (&absence.left, &absence.right) {
         (Some(left), Some(right)) => is_between(root, key, left, right),
@@ -60,7 +60,7 @@ fn is_surrounded(root: &Root, key: &[u8], absence: &Absence) -> bool
 
 // Whether the key stands between two neighbours.
 fn is_between(root: &Root, key: &[u8], left: &Presence, right: &Presence) -> bool
-    ensures { result ≡ proofs.surround root.now key.now (Some left.now) (Some right.now) }
+    ensures { result ≡ proofs.are_neighbours_around root.now key.now (Some left.now) (Some right.now) }
 {
     is_presence(root, left)
         && is_presence(root, right)

@@ -142,6 +142,6 @@ pub fn sequence_path(
 
 /// Different keys have different paths (ICS 24, "Path-space").
 #[tactic(auto, using(crate::proofs::Paths::different_paths))]
-pub fn different_keys_have_different_paths()
+pub fn lemma_different_keys_have_different_paths()
     ensures { DifferentPaths }
 {}

@@ -7,7 +7,7 @@ ghost use Rattle.ibc_ids.specs.Names.{is_port, is_client, is_connection, is_chan
 use crate::{Name, forms};
 
 /// A kind of names: which texts have its form.
-pub trait Kind {
+pub trait NameKind {
     ghost form: { List ℕ → Bool };
 
     /// Whether a text has the form.
@@ -15,7 +15,7 @@ pub trait Kind {
         ensures { result ≡ form text.now };
 
     /// Texts of the form are ASCII, and of 256 bytes at most.
-    fn are_short_and_ascii()
+    fn lemma_short_and_ascii()
         ensures { (text : List ℕ) → IsTrue (form text) → IsAscii text × (length text ≤ 256) };
 }
 
@@ -82,7 +82,7 @@ pub struct VersionKind;
 #[derive(Clone, Copy, Debug)]
 pub struct DenomKind;
 
-impl Kind for PortKind {
+impl NameKind for PortKind {
     ghost form = { is_port };
 
     fn has_form(text: &[u8]) -> bool {
@@ -90,10 +90,10 @@ impl Kind for PortKind {
     }
 
     #[tactic(auto, using(crate::proofs::Ascii::ports))]
-    fn are_short_and_ascii() {}
+    fn lemma_short_and_ascii() {}
 }
 
-impl Kind for ClientKind {
+impl NameKind for ClientKind {
     ghost form = { is_client };
 
     fn has_form(text: &[u8]) -> bool {
@@ -101,10 +101,10 @@ impl Kind for ClientKind {
     }
 
     #[tactic(auto, using(crate::proofs::Ascii::clients))]
-    fn are_short_and_ascii() {}
+    fn lemma_short_and_ascii() {}
 }
 
-impl Kind for ConnectionKind {
+impl NameKind for ConnectionKind {
     ghost form = { is_connection };
 
     fn has_form(text: &[u8]) -> bool {
@@ -112,10 +112,10 @@ impl Kind for ConnectionKind {
     }
 
     #[tactic(auto, using(crate::proofs::Ascii::connections))]
-    fn are_short_and_ascii() {}
+    fn lemma_short_and_ascii() {}
 }
 
-impl Kind for ChannelKind {
+impl NameKind for ChannelKind {
     ghost form = { is_channel };
 
     fn has_form(text: &[u8]) -> bool {
@@ -123,10 +123,10 @@ impl Kind for ChannelKind {
     }
 
     #[tactic(auto, using(crate::proofs::Ascii::channels))]
-    fn are_short_and_ascii() {}
+    fn lemma_short_and_ascii() {}
 }
 
-impl Kind for UserKind {
+impl NameKind for UserKind {
     ghost form = { is_user };
 
     fn has_form(text: &[u8]) -> bool {
@@ -134,10 +134,10 @@ impl Kind for UserKind {
     }
 
     #[tactic(auto, using(crate::proofs::Ascii::users))]
-    fn are_short_and_ascii() {}
+    fn lemma_short_and_ascii() {}
 }
 
-impl Kind for ReceiverKind {
+impl NameKind for ReceiverKind {
     ghost form = { is_receiver };
 
     fn has_form(text: &[u8]) -> bool {
@@ -145,10 +145,10 @@ impl Kind for ReceiverKind {
     }
 
     #[tactic(auto, using(crate::proofs::Ascii::receivers))]
-    fn are_short_and_ascii() {}
+    fn lemma_short_and_ascii() {}
 }
 
-impl Kind for MemoKind {
+impl NameKind for MemoKind {
     ghost form = { is_memo };
 
     fn has_form(text: &[u8]) -> bool {
@@ -156,10 +156,10 @@ impl Kind for MemoKind {
     }
 
     #[tactic(auto, using(crate::proofs::Ascii::memos))]
-    fn are_short_and_ascii() {}
+    fn lemma_short_and_ascii() {}
 }
 
-impl Kind for VersionKind {
+impl NameKind for VersionKind {
     ghost form = { is_version };
 
     fn has_form(text: &[u8]) -> bool {
@@ -167,10 +167,10 @@ impl Kind for VersionKind {
     }
 
     #[tactic(auto, using(crate::proofs::Ascii::versions))]
-    fn are_short_and_ascii() {}
+    fn lemma_short_and_ascii() {}
 }
 
-impl Kind for DenomKind {
+impl NameKind for DenomKind {
     ghost form = { is_denom };
 
     fn has_form(text: &[u8]) -> bool {
@@ -178,5 +178,5 @@ impl Kind for DenomKind {
     }
 
     #[tactic(auto, using(crate::proofs::Ascii::denominations))]
-    fn are_short_and_ascii() {}
+    fn lemma_short_and_ascii() {}
 }

@@ -19,13 +19,13 @@ pub use account::Account;
 pub use bytes::Bytes;
 pub use identifiers::{nth_channel, nth_client, nth_connection};
 pub use key::{
-    Key, channel_path, client_path, connection_path, different_keys_have_different_paths,
+    Key, channel_path, client_path, connection_path, lemma_different_keys_have_different_paths,
     sequence_path,
 };
 pub use kinds::{
     ChannelId, ChannelKind, ClientId, ClientKind, ConnectionId, ConnectionKind, Denom, DenomKind,
-    Kind, Memo, MemoKind, PortId, PortKind, Receiver, ReceiverKind, UserKind, UserName, Version,
-    VersionKind,
+    Memo, MemoKind, NameKind, PortId, PortKind, Receiver, ReceiverKind, UserKind, UserName,
+    Version, VersionKind,
 };
 pub use list::ListOf;
 pub use name::Name;

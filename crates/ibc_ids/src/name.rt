@@ -5,19 +5,19 @@ ghost use Rattle.std.specs.Ordering.{nat_cmp};
 ghost use Rattle.std.specs.Cmp.{on_equiv, on_total, on_po, on_per, partial_equiv_from_equiv};
 ghost use Rattle.std.specs.Cmp.Lexicographic.{slice_cmp, nat_list_eq_equiv, nat_list_cmp_total, texts_ties, texts_po};
 
-use crate::{Kind, Refusal};
+use crate::{NameKind, Refusal};
 use std::alloc::{AllocError, Global};
 use std::cmp::Ordering;
 use std::marker::{Model, PhantomData};
 
 /// A text of one kind, as a client's identifier or a denomination. Contracts see it as its bytes.
 #[derive(Drop, Debug)]
-pub struct Name<K: Kind> {
+pub struct Name<K: NameKind> {
     text: String,
     kind: PhantomData<K>,
 }
 
-impl<K: Kind> Model for Name<K> {
+impl<K: NameKind> Model for Name<K> {
     ghost Value = { List ℕ };
 
     ghost view = { λ a. string_bytes a.text };
@@ -25,7 +25,7 @@ impl<K: Kind> Model for Name<K> {
     ghost invariant = { λ a. IsTrue (K.form (string_bytes a.text)) };
 }
 
-impl<K: Kind> Name<K> {
+impl<K: NameKind> Name<K> {
     /// The name with this text. Refused: `BadName` exactly where the text hasn't the form of the kind; `NoMemory`.
     pub fn parse(alloc: Global, text: &str) -> Result<Name<K>, Refusal>
         ensures ok { IfOk result (λ name. (name ≡ text.now) × IsTrue (K.form text.now)) }
@@ -62,7 +62,7 @@ impl<K: Kind> Name<K> {
         ensures bad { IsErrOf result Refusal.BadName ↔ ¬ IsTrue (K.form bytes.now) }
         ensures memory { IsTrue (K.form bytes.now) → IsOkUnless result Refusal.NoMemory }
     {
-        K::are_short_and_ascii();
+        K::lemma_short_and_ascii();
         match str::from_utf8(bytes) {
             Ok(text) => Name::parse(alloc, text),
             Err(_) => Err(Refusal::BadName),
@@ -78,14 +78,14 @@ impl<K: Kind> Name<K> {
     }
 
     /// A name has the form of its kind.
-    pub fn has_its_form(&self)
+    pub fn lemma_has_form(&self)
         ensures { IsTrue (K.form self.now) }
     {
         let _text = self.as_str();
     }
 }
 
-impl<K: Kind> Clone for Name<K> {
+impl<K: NameKind> Clone for Name<K> {
     ghost is_clone = { λ name copy. copy ≡ name };
 
     fn clone(&self) -> Result<Name<K>, AllocError> {
@@ -96,7 +96,7 @@ impl<K: Kind> Clone for Name<K> {
     }
 }
 
-impl<K: Kind> PartialEq for Name<K> {
+impl<K: NameKind> PartialEq for Name<K> {
     ghost eq = { λ a b. bytes_eq a b };
 
     ghost laws = { on_per (λ a. a) (partial_equiv_from_equiv nat_list_eq_equiv) };
@@ -106,11 +106,11 @@ impl<K: Kind> PartialEq for Name<K> {
     }
 }
 
-impl<K: Kind> Eq for Name<K> {
+impl<K: NameKind> Eq for Name<K> {
     ghost laws = { on_equiv (λ a. a) nat_list_eq_equiv };
 }
 
-impl<K: Kind> PartialOrd for Name<K> {
+impl<K: NameKind> PartialOrd for Name<K> {
     ghost partial_cmp = { λ a b. Some (slice_cmp nat_cmp a b) };
 
     ghost laws = { on_po (λ a. a) texts_po };
@@ -120,7 +120,7 @@ impl<K: Kind> PartialOrd for Name<K> {
     }
 }
 
-impl<K: Kind> Ord for Name<K> {
+impl<K: NameKind> Ord for Name<K> {
     ghost cmp = { λ a b. slice_cmp nat_cmp a b };
 
     ghost total = { on_total (λ a. a) nat_list_cmp_total };

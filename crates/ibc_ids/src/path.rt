@@ -8,7 +8,7 @@ ghost use Rattle.ibc_ids.specs.Paths.{path, is_key, channel_parts, IsNameRefusal
 ghost use Rattle.ibc_ids.specs.declared.key.Key.{Key};
 ghost use Rattle.ibc_ids.specs.declared.refusal.Refusal.TheVariants.{BadName, NoMemory};
 
-use crate::{ChannelId, ChannelKind, Key, Kind, Name, PortId, Refusal};
+use crate::{ChannelId, ChannelKind, Key, Name, NameKind, PortId, Refusal};
 use std::alloc::Global;
 
 impl Key {

@@ -1,5 +1,5 @@
 -- Lists, numbers and tests.
 pub mod PassedTests
 pub mod Lists
-pub mod Places
+pub mod ListPlaces
 pub mod Numbered

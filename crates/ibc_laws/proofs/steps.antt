@@ -13,8 +13,8 @@ pub mod Paid
 pub mod EndSteps
 pub mod EndKeeps
 pub mod CoreShape
-pub mod Worlds
-pub mod Steps
+pub mod WorldGrowth
+pub mod MachineSteps
 pub mod Induction
 pub mod Moments
 pub mod AtEnds

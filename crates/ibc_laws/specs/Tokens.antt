@@ -18,7 +18,7 @@ use Rattle.ibc_machine.specs.chain.Genesis.{GenesisState, start}
 use Rattle.ibc_machine.specs.chain.Machine.{World}
 use Rattle.ibc_machine.specs.promises.Histories.{Happened, End}
 use Rattle.ibc_machine.specs.promises.Peers.{end_at, are_peers}
-use Rattle.ibc_machine.specs.promises.Totals.{balances_of, hopped, escrowed}
+use Rattle.ibc_machine.specs.promises.Totals.{balances_of, denom_with_hop, escrow_balance}
 use Rattle.ibc_machine.specs.promises.Laws.{IsPast, IsEscrowed}
 use Rattle.ibc_laws.specs.Moments.{IsMoment}
 
@@ -42,10 +42,10 @@ transfer_end chain channel = record { chain = chain; port = transfer_port; chann
 pub record IsBacked (world : World) (chain : ℕ) (denom : Text) : Type 0 where
   pub channel : Text
   pub there : Text
-  pub came : denom ≡ hopped (transfer_end chain channel) there
+  pub came : denom ≡ denom_with_hop (transfer_end chain channel) there
   pub peer : End
   pub are_peers : IsTrue (are_peers world peer (transfer_end chain channel))
-  pub held : supply_at world chain denom ≤ escrowed world peer there
+  pub held : supply_at world chain denom ≤ escrow_balance world peer there
 
 abbrev pub NoVoucherWithoutEscrow : Type 0
 NoVoucherWithoutEscrow =
@@ -59,12 +59,12 @@ abbrev pub own_sending : Bool → Text → List Token → ℕ
 own_sending is_own denom tokens = if is_own then amount_of denom tokens else 0
 
 -- what an accepted transfer of the user sends of the denomination from the chain
-abbrev pub paid_by : ℕ → Text → Text → Happened → ℕ
-paid_by chain user denom (event.Message k (message.Transfer m), reply.Ok given) =
+abbrev pub amount_paid_by : ℕ → Text → Text → Happened → ℕ
+amount_paid_by chain user denom (event.Message k (message.Transfer m), reply.Ok given) =
     own_sending ((k == chain) && same_text m.user user) denom (transfer_data m).tokens
-paid_by chain user denom (event.Message k (message.TransferMany m), reply.Ok given) =
+amount_paid_by chain user denom (event.Message k (message.TransferMany m), reply.Ok given) =
     own_sending ((k == chain) && same_text m.user user) denom (transfer_many_data m).tokens
-paid_by chain user denom _ = 0
+amount_paid_by chain user denom _ = 0
 
 abbrev pub balance_at : World → ℕ → Text → Text → ℕ
 balance_at world chain user denom = balance (balances_of world chain) user denom
@@ -74,7 +74,7 @@ WhoPays =
     (genesis : GenesisState) (happened : List Happened) (world : World) (before : List Happened) (h : Happened)
     (old new : World) (chain : ℕ) (user denom : Text) → IsMoment genesis happened world before h old new
     → IsTrue (is_user user)
-    → balance_at old chain user denom ≤ balance_at new chain user denom + paid_by chain user denom h
+    → balance_at old chain user denom ≤ balance_at new chain user denom + amount_paid_by chain user denom h
 
 -- ---- no escrow held too little at any receive of the past
 

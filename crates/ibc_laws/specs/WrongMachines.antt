@@ -13,8 +13,8 @@ use Rattle.ibc_machine.specs.declared.event.Event.{Event}
 use Rattle.ibc_machine.specs.declared.event.Event.TheVariants as event
 use Rattle.ibc_machine.specs.declared.reply.Reply.{Reply}
 use Rattle.ibc_machine.specs.declared.reply.Reply.TheVariants as reply
-use Rattle.ibc_machine.specs.chain.Records.{Core, Chain, Channel}
-use Rattle.ibc_machine.specs.ics24.Values.{Value, CommitmentIs, AckIs, look, same_value}
+use Rattle.ibc_machine.specs.chain.Records.{Core, MachineChain, Channel}
+use Rattle.ibc_machine.specs.ics24.Values.{Value, CommitmentIs, AckIs, value_at, same_value}
 use Rattle.ibc_machine.specs.ics24.Evidence.{Evidence}
 use Rattle.ibc_machine.specs.ics04.Packets.{is_ordered}
 use Rattle.ibc_machine.specs.ics20.TokenData.{one_token, tokens_of, success}
@@ -22,13 +22,13 @@ use Rattle.ibc_machine.specs.ics20.Bank.{balance, escrow, give}
 use Rattle.ibc_machine.specs.ics20.Transfers.{transfer_port, came_over, without_hop}
 use Rattle.ibc_machine.specs.chain.Genesis.{GenesisState, start, is_allowed}
 use Rattle.ibc_machine.specs.chain.Handlers.{message_answer, block_answer}
-use Rattle.ibc_machine.specs.chain.Machine.{World, Marks, looks, block_seen, at_chain}
-use Rattle.ibc_machine.specs.promises.Histories.{Happened, End, sent, received, ack_written}
+use Rattle.ibc_machine.specs.chain.Machine.{World, Marks, direct_evidence, block_seen, at_chain}
+use Rattle.ibc_machine.specs.promises.Histories.{Happened, End, sent_packets, received_packets, ack_written}
 use Rattle.ibc_machine.specs.promises.Peers.{end_at, are_peers}
-use Rattle.ibc_machine.specs.promises.Totals.{balances_of, escrowed, vouchers, flight, hopped}
+use Rattle.ibc_machine.specs.promises.Totals.{balances_of, escrow_balance, vouchers, flight, denom_with_hop}
 use Rattle.ibc_machine.specs.promises.Laws.{HasOnePeer, IsExactlyOnce, IsBeginning, settles}
-use Rattle.ibc_laws.specs.Packets.{taken}
-use Rattle.ibc_laws.specs.Tokens.{supply_at, balance_at, paid_by}
+use Rattle.ibc_laws.specs.Packets.{taken_acks}
+use Rattle.ibc_laws.specs.Tokens.{supply_at, balance_at, amount_paid_by}
 
 -- ---- machines, and what happens where one is asked events in turn
 
@@ -41,16 +41,16 @@ world_by machine world [] = world
 world_by machine world (e ∷ events) = world_by machine (machine world e).1 events
 
 -- a step: the world before it, what happened, and the world after it
-abbrev pub Taken : Type 0
-Taken = World × Happened × World
+abbrev pub WorldStep : Type 0
+WorldStep = World × Happened × World
 
-abbrev pub steps_by : Machine → World → List Event → List Taken
+abbrev pub steps_by : Machine → World → List Event → List WorldStep
 steps_by machine world [] = []
 steps_by machine world (e ∷ events) =
     let (given, after) = machine world e in (world, (e, given), after) ∷ steps_by machine after events
 
 abbrev pub happened_by : Machine → World → List Event → List Happened
-happened_by machine world events = map (λ (step : Taken). step.1) (steps_by machine world events)
+happened_by machine world events = map (λ (step : WorldStep). step.1) (steps_by machine world events)
 
 -- ---- the laws that stood first, of a run
 
@@ -62,7 +62,7 @@ is_held world chain p token =
     (balance (balances_of world chain) (escrow p.destination_channel) (without_hop p token).denom)
 
 -- it is at each receive
-abbrev pub holds_enough : Taken → Bool
+abbrev pub holds_enough : WorldStep → Bool
 holds_enough (old, (event.Message k (message.RecvPacket m), reply.Ok given), new) =
     list_all (is_held old k m.packet) (tokens_of one_token (record {
       payload = m.packet.payload;
@@ -71,19 +71,19 @@ holds_enough (old, (event.Message k (message.RecvPacket m), reply.Ok given), new
     }))
 holds_enough _ = true
 
-pub record FirstLaws (steps : List Taken) (happened : List Happened) (world : World) : Type 0 where
+pub record FirstLaws (steps : List WorldStep) (happened : List Happened) (world : World) : Type 0 where
   pub one_peer : HasOnePeer world
   pub exactly_once : (e f : End) → IsTrue (are_peers world e f) → IsExactlyOnce happened e f
   pub in_order : (e f : End) (mine : Channel) → IsTrue (are_peers world e f) → end_at world e ≡ Some mine
-      → IsTrue (is_ordered mine) → IsBeginning (received f happened) (sent e mine happened)
+      → IsTrue (is_ordered mine) → IsBeginning (received_packets f happened) (sent_packets e mine happened)
   pub conserved : (e f : End) (denom : Text) → IsTrue (are_peers world e f) → e.port ≡ transfer_port
       → came_over e.port e.channel denom ≡ false
-      → escrowed world e denom ≡ vouchers world f denom + flight world e f denom + flight world f e (hopped f denom)
+      → escrow_balance world e denom ≡ vouchers world f denom + flight world e f denom + flight world f e (denom_with_hop f denom)
   pub never_poor : (event : Event) → IsTrue (settles event) → ¬ (Contains happened (event, reply.No Poor))
   pub never_short : IsTrue (list_all holds_enough steps)
 
 -- the machine has a run of which they hold, and this
-pub record HasRun (machine : GenesisState → Machine) (P : GenesisState → List Taken → World → Type 0) : Type 0 where
+pub record HasRun (machine : GenesisState → Machine) (P : GenesisState → List WorldStep → World → Type 0) : Type 0 where
   pub genesis : GenesisState
   pub allowed : IsTrue (is_allowed genesis)
   pub events : List Event
@@ -92,24 +92,24 @@ pub record HasRun (machine : GenesisState → Machine) (P : GenesisState → Lis
   pub but : P genesis (steps_by (machine genesis) (start genesis) events)
       (world_by (machine genesis) (start genesis) events)
 
-abbrev pub all_of : List Taken → List Happened
-all_of steps = map (λ (step : Taken). step.1) steps
+abbrev pub all_of : List WorldStep → List Happened
+all_of steps = map (λ (step : WorldStep). step.1) steps
 
 -- ---- looking in another way
 
 -- roots and proofs are taken to be what they claim: values alone are looked at
-abbrev pub plain_marks : Marks
-plain_marks = record { is_root = λ core root. true; is_proof = λ bytes. true; is_written = λ core key bytes. true }
+abbrev pub unhashed_marks : Marks
+unhashed_marks = record { is_root = λ core root. true; is_proof = λ bytes. true; is_written = λ core key bytes. true }
 
 -- two values are taken for the same
 abbrev pub Likeness : Type 0
 Likeness = Option Value → Option Value → Bool
 
 -- a chain that compares so
-abbrev pub comparing : Likeness → ℕ → World → Core → Evidence
-comparing alike window world core = record (looks plain_marks window true world core) {
+abbrev pub comparing_evidence : Likeness → ℕ → World → Core → Evidence
+comparing_evidence alike window world core = record (direct_evidence unhashed_marks window true world core) {
   shows = λ client height claim proof.
-      option_map_or (λ block. alike (look block.records.core claim.key) claim.value)
+      option_map_or (λ block. alike (value_at block.records.core claim.key) claim.value)
       (block_seen world core client height) false;
 }
 
@@ -117,7 +117,7 @@ comparing alike window world core = record (looks plain_marks window true world 
 unfoldable pub machine_comparing : Likeness → GenesisState → Machine
 machine_comparing alike genesis world (event.Message k m) =
     at_chain world k
-    (λ chain. message_answer (comparing alike genesis.window world chain.records.core)
+    (λ chain. message_answer (comparing_evidence alike genesis.window world chain.records.core)
     (length genesis.chains) k chain m)
     (slice_get world k)
 machine_comparing alike genesis world (event.Block k next_time) =
@@ -140,15 +140,15 @@ alike_in_tokens (Some (CommitmentIs a)) (Some (CommitmentIs b)) =
 alike_in_tokens a b = same_value a b
 
 -- so a packet is received that was never sent
-pub record ReceivesWhatWasNotSent (genesis : GenesisState) (steps : List Taken) (world : World) : Type 0 where
+pub record ReceivesWhatWasNotSent (genesis : GenesisState) (steps : List WorldStep) (world : World) : Type 0 where
   pub e : End
   pub f : End
   pub mine : Channel
   pub packet : Packet
   pub peers : IsTrue (are_peers world e f)
   pub own : end_at world e ≡ Some mine
-  pub received_it : Contains (received f (all_of steps)) packet
-  pub not_sent : ¬ (Contains (sent e mine (all_of steps)) packet)
+  pub received_it : Contains (received_packets f (all_of steps)) packet
+  pub not_sent : ¬ (Contains (sent_packets e mine (all_of steps)) packet)
 
 -- ---- 2. one that takes any acknowledgement of the same outcome for the one that was written
 
@@ -157,19 +157,19 @@ alike_in_outcome (Some (AckIs a)) (Some (AckIs b)) = if same_text a success then
 alike_in_outcome a b = same_value a b
 
 -- so an acknowledgement is taken that was never written
-pub record TakesWhatWasNotWritten (genesis : GenesisState) (steps : List Taken) (world : World) : Type 0 where
+pub record TakesWhatWasNotWritten (genesis : GenesisState) (steps : List WorldStep) (world : World) : Type 0 where
   pub e : End
   pub f : End
   pub packet : Packet
   pub ack : Text
   pub peers : IsTrue (are_peers world e f)
-  pub took_it : Contains (taken e (all_of steps)) (packet, ack)
+  pub took_it : Contains (taken_acks e (all_of steps)) (packet, ack)
   pub not_written : ¬ (ack_written f (all_of steps) packet.sequence ≡ Some ack)
 
 -- ---- 3. one that gives alice an atom at each block
 
-abbrev pub gift : Chain → Chain
-gift chain = record chain {
+abbrev pub chain_with_gift : MachineChain → MachineChain
+chain_with_gift chain = record chain {
   records = record chain.records {
     apps = record chain.records.apps {
       balances = give (codes "alice") (record { denom = codes "atom"; amount = 1 }) chain.records.apps.balances;
@@ -179,7 +179,7 @@ gift chain = record chain {
 
 abbrev pub with_gift : ℕ → Reply × World → Reply × World
 with_gift k (reply.Ok given, world) =
-    (reply.Ok given, option_map_or (λ chain. slice_set world k (gift chain)) (slice_get world k) world)
+    (reply.Ok given, option_map_or (λ chain. slice_set world k (chain_with_gift chain)) (slice_get world k) world)
 with_gift k (reply.No why, world) = (reply.No why, world)
 
 unfoldable pub machine_with_gifts : GenesisState → Machine
@@ -188,7 +188,7 @@ machine_with_gifts genesis world (event.Block k next_time) =
 machine_with_gifts genesis world e = machine_comparing same_value genesis world e
 
 -- so a supply grows
-pub record SupplyGrew (genesis : GenesisState) (steps : List Taken) (world : World) : Type 0 where
+pub record SupplyGrew (genesis : GenesisState) (steps : List WorldStep) (world : World) : Type 0 where
   pub chain : ℕ
   pub denom : Text
   pub base : IsTrue (is_base_denom denom)
@@ -202,14 +202,14 @@ machine_robbing_alice genesis world (event.Message k (message.Transfer m)) =
 machine_robbing_alice genesis world e = machine_comparing same_value genesis world e
 
 -- so a user loses what the user didn't send
-pub record AnotherPays (genesis : GenesisState) (steps : List Taken) (world : World) : Type 0 where
-  pub step : Taken
+pub record AnotherPays (genesis : GenesisState) (steps : List WorldStep) (world : World) : Type 0 where
+  pub step : WorldStep
   pub among : Contains steps step
   pub chain : ℕ
   pub user : Text
   pub denom : Text
   pub is_one : IsTrue (is_user user)
-  pub lost : balance_at step.2 chain user denom + paid_by chain user denom step.1 < balance_at step.0 chain user denom
+  pub lost : balance_at step.2 chain user denom + amount_paid_by chain user denom step.1 < balance_at step.0 chain user denom
 
 -- ---- all four
 

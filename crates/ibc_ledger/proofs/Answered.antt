@@ -1,10 +1,10 @@
 -- A message that reads nothing is answered as its handler's call says, also where what its application keeps is a part of
 -- something more.
 use Rattle.ibc_ledger.proofs.Common.{IsErrAnd, ◌∙◌, ◌≡◌, ℕ, false, [], refl, sym, ap, subst, Result, Ok, Err, None, inl, inr, ⊎_elim, Refusal, NoMemory, Text, Message, Packet, RecvPacket, Effect, Core, Apps, Checked, go_on, ◌>>=◌, Host}
-use Rattle.ibc_ledger.proofs.Common.{Evidence, CoreHandler, Handler, on_core, handle, is_block_reply, LedgerState, proves, Channel, recv_packet, recv_checked, with_received, HeldRecords, core_of, IsTaken, IsTakenWith, IsHandled}
-use Rattle.ibc_ledger.proofs.Common.{IsHandledWith, host_with, IsInFlight, same_flight, Applications, Node, Effects, plain_apps, told_by, IsReady, IsAnswered}
+use Rattle.ibc_ledger.proofs.Common.{Evidence, CoreHandler, Handler, core_handler, handle, is_block_reply, LedgerState, proof_evidence, Channel, recv_packet, recv_checked, with_received, RecordsModel, core_of, IsTakenMessage, IsTakenWith, IsHandled}
+use Rattle.ibc_ledger.proofs.Common.{IsHandledWith, host_with, IsInFlight, same_flight, Applications, HostState, EffectTwice, abstract_apps, result_effects, IsReady, IsAnswered}
 use Rattle.std.proofs.lemmas.Result.{err_from_is_err_and}
-use Rattle.ibc_machine.specs.chain.OfCore.{IsOfCore}
+use Rattle.ibc_machine.specs.chain.CoreFlight.{IsOfCore}
 use Rattle.ibc_machine.proofs.flight.CoreMessages.{core_message_burns_nothing}
 use Rattle.ibc_records.proofs.KnownStates.{knowing}
 use Rattle.ibc_machine.specs.declared.reply.Reply.TheVariants as reply
@@ -26,7 +26,7 @@ module _ {A B : Type 0} (put : A → B) where
   abbrev pub put_last : Checked (Effect × Core × A) → Checked (Effect × Core × B)
   put_last checked = checked >>= λ ((effect, core, app) : Effect × Core × A). Ok (effect, core, put app)
 
-  pub put_taken : {X : Type 0} (effect_of : X → Effect) (checked : Checked (Effect × Core × A)) (old new : HeldRecords) (app left : A) (result : Result X Refusal)
+  pub put_taken : {X : Type 0} (effect_of : X → Effect) (checked : Checked (Effect × Core × A)) (old new : RecordsModel) (app left : A) (result : Result X Refusal)
       → IsTakenWith effect_of checked old app result new left → IsTakenWith effect_of (put_last checked) old (put app) result new (put left)
   unfolding go_on
   put_taken effect_of checked old new app left (Ok x) taken = (taken.0, ap put_last taken.1, taken.2)
@@ -64,8 +64,8 @@ abbrev pub IsNoBlock : {X : Type 0} → (X → Effect) → Type 0
 IsNoBlock effect_of = (x : _) → is_block_reply (reply.Ok (effect_of x)) ≡ false
 
 -- what applications keep stays, where the core alone is handled
-core_taken : {X : Type 0} (effect_of : X → Effect) (checked : Checked (Effect × Core)) (apps : Apps) (old new : HeldRecords) (result : Result X Refusal)
-    → IsTaken effect_of checked old result new → IsTakenWith effect_of (checked >>= λ ((effect, after) : Effect × Core). Ok (effect, after, apps)) old apps result new apps
+core_taken : {X : Type 0} (effect_of : X → Effect) (checked : Checked (Effect × Core)) (apps : Apps) (old new : RecordsModel) (result : Result X Refusal)
+    → IsTakenMessage effect_of checked old result new → IsTakenWith effect_of (checked >>= λ ((effect, after) : Effect × Core). Ok (effect, after, apps)) old apps result new apps
 unfolding go_on
 core_taken effect_of checked apps old new (Ok x) taken =
     (taken.0, ap (λ (c : Checked (Effect × Core)). c >>= λ ((effect, after) : Effect × Core). Ok (effect, after, apps)) taken.1, taken.2)
@@ -73,20 +73,20 @@ core_taken effect_of checked apps old new (Err refusal) taken =
     (⊎_elim (λ e. inl (ap (λ (c : Checked (Effect × Core)). c >>= λ ((effect, after) : Effect × Core). Ok (effect, after, apps)) e)) (λ none. inr none) taken.0, taken.1, refl)
 
 -- what is kept after a handler's call, if it is so after each effect and before the call
-pub after_call : {X P : Type 0} (Q : Core → P → Type 0) (effect_of : X → Effect) (handler : Handler P) (chain chains : ℕ) (old new : HeldRecords) (app left : P) (result : Result X Refusal)
+pub after_call : {X P : Type 0} (Q : Core → P → Type 0) (effect_of : X → Effect) (handler : Handler P) (chain chains : ℕ) (old new : RecordsModel) (app left : P) (result : Result X Refusal)
     → ((evidence : Evidence) (host : Host) (effect : Effect) (after : Core) → handler evidence host (core_of old) app ≡ Ok (effect, after, left) → Q after left)
     → Q (core_of old) app → IsHandledWith effect_of handler chain chains old app result new left → Q (core_of new) left
 after_call {X = X} {P = P} Q effect_of handler chain chains old new app left result keeps before handled =
     let some = knowing old in by_result some.0 result (handled [] some.0 some.1)
   where
-    by_result : (state : LedgerState) (r : Result X Refusal) → IsTakenWith effect_of (handler (proves [] None state) (host_with chain chains old) (core_of old) app) old app r new left → Q (core_of new) left
+    by_result : (state : LedgerState) (r : Result X Refusal) → IsTakenWith effect_of (handler (proof_evidence [] None state) (host_with chain chains old) (core_of old) app) old app r new left → Q (core_of new) left
     by_result state (Ok x) taken = subst (λ core. Q core left) (sym taken.2.core_is) (keeps _ _ (effect_of x) taken.0 taken.1)
     by_result state (Err refusal) taken = subst (λ (w : Core × P). Q w.0 w.1) (λ i. (sym (ap core_of taken.1) i, sym taken.2 i)) before
 
-module _ (m : Message) (old new : Node) (same : new ≡ record old { records = new.records; applications = new.applications }) {X : Type 0} (effect_of : X → Effect) (none : IsNoBlock effect_of) where
+module _ (m : Message) (old new : HostState) (same : new ≡ record old { records = new.records; applications = new.applications }) {X : Type 0} (effect_of : X → Effect) (none : IsNoBlock effect_of) where
   -- the answer is that of a call which is handled as the message is
-  pub answered : (given : Result X Refusal) → IsHandledWith effect_of (handle m) old.number old.chains old.records (plain_apps old.applications) given new.records (plain_apps new.applications)
-      → IsInFlight new.applications.transfers (core_of new.records) → (result : Result Effects Refusal) → result ≡ told_by effect_of given → IsAnswered m old result new
+  pub answered : (given : Result X Refusal) → IsHandledWith effect_of (handle m) old.number old.chains old.records (abstract_apps old.applications) given new.records (abstract_apps new.applications)
+      → IsInFlight new.applications.transfers (core_of new.records) → (result : Result EffectTwice Refusal) → result ≡ result_effects effect_of given → IsAnswered m old result new
   answered (Ok x) handled flight result is =
       subst (λ r. IsAnswered m old r new) (sym is) (record { same = same; handled = handled; flight = flight; kept = refl; no_block = none x })
   answered (Err refusal) handled flight result is =
@@ -94,56 +94,56 @@ module _ (m : Message) (old new : Node) (same : new ≡ record old { records = n
 
 -- A message is a handler's of what one application keeps, in its place among what all keep, and the bank knows afterwards what is
 -- burnt in flight.
-pub record IsPart {P : Type 0} (m : Message) (old : Node) (put : P → Applications) (handler : Handler P) (app : P) : Type 0 where
+pub record IsPart {P : Type 0} (m : Message) (old : HostState) (put : P → Applications) (handler : Handler P) (app : P) : Type 0 where
   pub here : put app ≡ old.applications
-  pub part : (evidence : Evidence) (host : Host) → handle m evidence host (core_of old.records) (plain_apps (put app))
-      ≡ put_last (λ p. plain_apps (put p)) (handler evidence host (core_of old.records) app)
+  pub part : (evidence : Evidence) (host : Host) → handle m evidence host (core_of old.records) (abstract_apps (put app))
+      ≡ put_last (λ p. abstract_apps (put p)) (handler evidence host (core_of old.records) app)
   pub flight : (evidence : Evidence) (host : Host) (effect : Effect) (after : Core) (left : P) → handler evidence host (core_of old.records) app ≡ Ok (effect, after, left)
       → IsInFlight (put left).transfers after
 
 -- the answer is that of a call to the application
-pub part_answered : {P X : Type 0} (m : Message) (old : Node) → IsReady m old → (put : P → Applications) (handler : Handler P) (app left : P) → IsPart m old put handler app
-    → (effect_of : X → Effect) (new : HeldRecords) (given : Result X Refusal) → IsHandledWith effect_of handler old.number old.chains old.records app given new left → IsNoBlock effect_of
-    → (result : Result Effects Refusal) → result ≡ told_by effect_of given → IsAnswered m old result (record old { records = new; applications = put left })
+pub part_answered : {P X : Type 0} (m : Message) (old : HostState) → IsReady m old → (put : P → Applications) (handler : Handler P) (app left : P) → IsPart m old put handler app
+    → (effect_of : X → Effect) (new : RecordsModel) (given : Result X Refusal) → IsHandledWith effect_of handler old.number old.chains old.records app given new left → IsNoBlock effect_of
+    → (result : Result EffectTwice Refusal) → result ≡ result_effects effect_of given → IsAnswered m old result (record old { records = new; applications = put left })
 part_answered m old ready put handler app left is_part effect_of new given handled none result is =
     answered m old (record old { records = new; applications = put left }) refl effect_of none given
     (λ seen state knows.
-    let evidence = proves seen None state in
+    let evidence = proof_evidence seen None state in
     let host = host_with old.number old.chains old.records in
-    subst (λ (apps : Applications). IsTakenWith effect_of (handle m evidence host (core_of old.records) (plain_apps apps)) old.records (plain_apps apps) given new (plain_apps (put left))) is_part.here
-    (subst (λ checked. IsTakenWith effect_of checked old.records (plain_apps (put app)) given new (plain_apps (put left))) (sym (is_part.part evidence host))
-    (put_taken (λ p. plain_apps (put p)) effect_of (handler evidence host (core_of old.records) app) old.records new app left given (handled seen state knows))))
+    subst (λ (apps : Applications). IsTakenWith effect_of (handle m evidence host (core_of old.records) (abstract_apps apps)) old.records (abstract_apps apps) given new (abstract_apps (put left))) is_part.here
+    (subst (λ checked. IsTakenWith effect_of checked old.records (abstract_apps (put app)) given new (abstract_apps (put left))) (sym (is_part.part evidence host))
+    (put_taken (λ p. abstract_apps (put p)) effect_of (handler evidence host (core_of old.records) app) old.records new app left given (handled seen state knows))))
     (after_call (λ core p. IsInFlight (put p).transfers core) effect_of handler old.number old.chains old.records new app left given
     (λ evidence host effect after e. is_part.flight evidence host effect after left e)
     (subst (λ (apps : Applications). IsInFlight apps.transfers (core_of old.records)) (sym is_part.here) ready.flight) handled)
     result is
 
 -- the answer is that of a call which changes the core alone
-pub core_answered : (m : Message) (old : Node) → IsReady m old → IsOfCore m → {X : Type 0} (effect_of : X → Effect) (handler : CoreHandler) → handle m ≡ on_core handler
-    → (new : HeldRecords) (given : Result X Refusal) → IsHandled effect_of handler old.number old.chains old.records given new → IsNoBlock effect_of
-    → (result : Result Effects Refusal) → result ≡ told_by effect_of given → IsAnswered m old result (record old { records = new })
+pub core_answered : (m : Message) (old : HostState) → IsReady m old → IsOfCore m → {X : Type 0} (effect_of : X → Effect) (handler : CoreHandler) → handle m ≡ core_handler handler
+    → (new : RecordsModel) (given : Result X Refusal) → IsHandled effect_of handler old.number old.chains old.records given new → IsNoBlock effect_of
+    → (result : Result EffectTwice Refusal) → result ≡ result_effects effect_of given → IsAnswered m old result (record old { records = new })
 core_answered m old ready of_core effect_of handler is_handler new given handled none result is =
     answered m old (record old { records = new }) refl effect_of none given whole flight result is
   where
-    whole : IsHandledWith effect_of (handle m) old.number old.chains old.records (plain_apps old.applications) given new (plain_apps old.applications)
+    whole : IsHandledWith effect_of (handle m) old.number old.chains old.records (abstract_apps old.applications) given new (abstract_apps old.applications)
     whole seen state knows =
-        subst (λ (h : Handler Apps). IsTakenWith effect_of (h (proves seen None state) (host_with old.number old.chains old.records) (core_of old.records) (plain_apps old.applications)) old.records (plain_apps old.applications) given new (plain_apps old.applications)) (sym is_handler)
-        (core_taken effect_of (handler (proves seen None state) (host_with old.number old.chains old.records) (core_of old.records)) (plain_apps old.applications) old.records new given (handled seen state knows))
+        subst (λ (h : Handler Apps). IsTakenWith effect_of (h (proof_evidence seen None state) (host_with old.number old.chains old.records) (core_of old.records) (abstract_apps old.applications)) old.records (abstract_apps old.applications) given new (abstract_apps old.applications)) (sym is_handler)
+        (core_taken effect_of (handler (proof_evidence seen None state) (host_with old.number old.chains old.records) (core_of old.records)) (abstract_apps old.applications) old.records new given (handled seen state knows))
 
     flight : IsInFlight old.applications.transfers (core_of new)
     flight =
-        after_call (λ core apps. IsInFlight old.applications.transfers core) effect_of (handle m) old.number old.chains old.records new (plain_apps old.applications) (plain_apps old.applications) given
+        after_call (λ core apps. IsInFlight old.applications.transfers core) effect_of (handle m) old.number old.chains old.records new (abstract_apps old.applications) (abstract_apps old.applications) given
         (λ evidence host effect after e.
         same_flight old.applications.transfers old.applications.transfers (core_of old.records) after ready.flight refl
-        ((core_message_burns_nothing evidence host (core_of old.records) ready.orderly (plain_apps old.applications) m of_core).gives (effect, after, plain_apps old.applications) e).0)
+        ((core_message_burns_nothing evidence host (core_of old.records) ready.orderly (abstract_apps old.applications) m of_core).gives (effect, after, abstract_apps old.applications) e).0)
         ready.flight whole
 
 -- a refusal that is passed on
-pub passed_on : {result : Result Effects Refusal} {refusal : Refusal} → IsErrAnd result (λ y. y ≡ refusal) → result ≡ Err refusal
+pub passed_on : {result : Result EffectTwice Refusal} {refusal : Refusal} → IsErrAnd result (λ y. y ≡ refusal) → result ≡ Err refusal
 passed_on passed = let p = err_from_is_err_and _ passed in p.1 ∙ ap Err p.2
 
 -- memory ran out before the call
-pub no_memory : (m : Message) (old : Node) → IsReady m old → (refusal : Refusal) {result : Result Effects Refusal} → result ≡ Err refusal → refusal ≡ NoMemory → IsAnswered m old result old
+pub no_memory : (m : Message) (old : HostState) → IsReady m old → (refusal : Refusal) {result : Result EffectTwice Refusal} → result ≡ Err refusal → refusal ≡ NoMemory → IsAnswered m old result old
 no_memory m old ready refusal passed is = subst (λ r. IsAnswered m old r old) (sym passed) (record {
   same = refl;
   handled = λ seen state knows. (inr is, refl, refl);

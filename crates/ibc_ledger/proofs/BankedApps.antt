@@ -1,18 +1,18 @@
 -- What the applications answer by the bank is what the definitions say, where the bank knows what is burnt in flight.
 use Rattle.ibc_ledger.proofs.Common.{◌≡◌, ℕ, ◌≤◌, Bool, true, false, refl, sym, ap, ◌∙◌, subst, Ok, Err, if◌then◌else◌, Text, same_text, Map, Message, Packet, RecvPacket, ack_checked, timeout_checked, timeout_on_close_checked, Handler}
-use Rattle.ibc_ledger.proofs.Common.{Host, Evidence, Effect, Core, Channel, Apps, commitment_of, Checked, go_on, ◌>>=◌, tokens_of, transfer_port, burnt, receive_transfer, acknowledge_transfer, refund_transfer, receive_note, recv_packet}
+use Rattle.ibc_ledger.proofs.Common.{Host, Evidence, Effect, Core, Channel, Apps, commitment_of, Checked, go_on, ◌>>=◌, tokens_of, transfer_port, burnt_amount, receive_transfer, acknowledge_transfer, refund_transfer, receive_note, recv_packet}
 use Rattle.ibc_ledger.proofs.Common.{recv_checked, with_received, ack_packet, timeout, timeout_on_close, on_recv, on_ack, on_timeout, with_balances, handle, core_of, IsInFlight, transfer_keeps_flight, transfer_many_keeps_flight}
-use Rattle.ibc_ledger.proofs.Common.{ack_keeps_flight, timeout_keeps_flight, timeout_on_close_keeps_flight, same_flight, Applications, Node, plain_apps, IsReady, List}
+use Rattle.ibc_ledger.proofs.Common.{ack_keeps_flight, timeout_keeps_flight, timeout_on_close_keeps_flight, same_flight, Applications, HostState, abstract_apps, IsReady, List}
 use Rattle.ibc_wire.specs.declared.messages.AckPacket.{AckPacket}
 use Rattle.ibc_wire.specs.declared.messages.Timeout.{Timeout}
 use Rattle.ibc_wire.specs.declared.messages.TimeoutOnClose.{TimeoutOnClose}
-use Rattle.ibc_transfer.specs.Banked.{bank_receives, bank_acknowledged, bank_times_out}
-use Rattle.ibc_transfer.specs.Sent.{bank_transfer, bank_transfer_many}
+use Rattle.ibc_transfer.specs.BankCallbacks.{bank_receives, bank_acknowledged, bank_times_out}
+use Rattle.ibc_transfer.specs.BankTransfers.{bank_transfer, bank_transfer_many}
 use Rattle.ibc_wire.specs.declared.messages.Transfer.{Transfer}
 use Rattle.ibc_wire.specs.declared.messages.TransferMany.{TransferMany}
 use Rattle.ibc_machine.specs.ics20.Bank.{Balances}
 use Rattle.ibc_bank.specs.Moves.{BankState, burnt_of}
-use Rattle.ibc_machine.specs.ics20.Returned.{SameBurnt, returned}
+use Rattle.ibc_machine.specs.ics20.ReturningTokens.{SameBurnt, returned_amount}
 use Rattle.ibc_machine.proofs.PassedChecks.{bind_bind}
 use Rattle.ibc_machine.proofs.flight.PacketSteps.{recv_packet_burnt, ack_packet_burnt, timeout_burnt, timeout_on_close_burnt}
 use Rattle.ibc_machine.proofs.flight.UnsettledPackets.{ack_covered, timeout_covered, timeout_on_close_covered}
@@ -20,10 +20,10 @@ use Rattle.ibc_transfer.proofs.ByBank.{transfer_by_bank, transfer_many_by_bank, 
 use Rattle.ibc_wire.specs.declared.messages.Message.TheVariants as message
 use Rattle.ibc_ledger.proofs.Answered.{put_in, put_last, settling, settled, recv_put, IsPart}
 
-abbrev pub with_bank : Node → BankState → Applications
+abbrev pub with_bank : HostState → BankState → Applications
 with_bank old bank = record old.applications { transfers = bank }
 
-abbrev pub with_notes : Node → Map Text (List Text) → Applications
+abbrev pub with_notes : HostState → Map Text (List Text) → Applications
 with_notes old notes = record old.applications { notes = notes }
 
 -- what a packet's receipt leaves of what the application keeps
@@ -35,7 +35,7 @@ left_by {A = A} p core answer (Ok mine) effect after left is =
     (mine.end.version, ap (λ (w : Effect × Core × A). w.2) same)
 left_by p core answer (Err refusal) effect after left is = absurd (cc is)
 
-module _ (old : Node) where
+module _ (old : HostState) where
   abbrev core : Core
   core = core_of old.records
 
@@ -46,10 +46,10 @@ module _ (old : Node) where
   notes = old.applications.notes
 
   abbrev put_bank : BankState → Apps
-  put_bank b = plain_apps (with_bank old b)
+  put_bank b = abstract_apps (with_bank old b)
 
   abbrev put_notes : Map Text (List Text) → Apps
-  put_notes n = plain_apps (with_notes old n)
+  put_notes n = abstract_apps (with_notes old n)
 
   -- ---- sending
 
@@ -82,7 +82,7 @@ module _ (old : Node) where
 
   module _ (m : RecvPacket) (ready : IsReady (message.RecvPacket m) old) where
     -- as much of each denomination is burnt in flight, by the bank and by the core
-    as_burnt : burnt core ≡ burnt_of bank
+    as_burnt : burnt_amount core ≡ burnt_of bank
     as_burnt i denom = sym (ready.flight.counted denom) i
 
     abbrev on_port : Bool → (Text → ℕ) → Apps → Text → Text × Apps
@@ -95,7 +95,7 @@ module _ (old : Node) where
     recv_by_bank port = record {
       here = refl;
       part = λ evidence host. recv_put put_bank evidence host core bank bank_receives (on_recv core m.packet.destination_port) m
-          (λ version. ap (λ b. on_port b (burnt core) (put_bank bank) version) port ∙ ap (λ in_flight. on_port true in_flight (put_bank bank) version) as_burnt);
+          (λ version. ap (λ b. on_port b (burnt_amount core) (put_bank bank) version) port ∙ ap (λ in_flight. on_port true in_flight (put_bank bank) version) as_burnt);
       flight = λ evidence host effect after left e.
           let w = left_by m.packet core (λ version. bank_receives bank version m.packet) (recv_checked m evidence host core) effect after left e in
           same_flight bank left core after ready.flight (ap (λ (b : BankState). b.burnt) (sym w.1)) (recv_packet_burnt bank_receives evidence host core m bank ready.orderly e);
@@ -107,7 +107,7 @@ module _ (old : Node) where
     recv_by_notes port = record {
       here = refl;
       part = λ evidence host. recv_put put_notes evidence host core notes (λ notes version p. receive_note notes p) (on_recv core m.packet.destination_port) m
-          (λ version. ap (λ b. on_port b (burnt core) (put_notes notes) version) port);
+          (λ version. ap (λ b. on_port b (burnt_amount core) (put_notes notes) version) port);
       flight = λ evidence host effect after left e.
           same_flight bank bank core after ready.flight refl (recv_packet_burnt (λ notes version p. receive_note notes p) evidence host core m notes ready.orderly e);
     }
@@ -120,20 +120,20 @@ module _ (old : Node) where
 
   -- what goes back over the channel was burnt
   abbrev IsCovered : (Text → ℕ) → Text → Packet → Type 0
-  IsCovered in_flight version p = (denom : Text) → returned p.source_channel (tokens_of version (commitment_of p)) denom ≤ in_flight denom
+  IsCovered in_flight version p = (denom : Text) → returned_amount p.source_channel (tokens_of version (commitment_of p)) denom ≤ in_flight denom
 
   module _ (flight : IsInFlight bank core) (version : Text) (p : Packet) where
-    covers : IsCovered (burnt core) version p → IsCovered (burnt_of bank) version p
-    covers covered denom = subst (λ n. returned p.source_channel (tokens_of version (commitment_of p)) denom ≤ n) (sym (flight.counted denom)) (covered denom)
+    covers : IsCovered (burnt_amount core) version p → IsCovered (burnt_of bank) version p
+    covers covered denom = subst (λ n. returned_amount p.source_channel (tokens_of version (commitment_of p)) denom ≤ n) (sym (flight.counted denom)) (covered denom)
 
-    acknowledged_plain : (port ack : Text) → same_text port transfer_port ≡ true → IsCovered (burnt core) version p
+    acknowledged_plain : (port ack : Text) → same_text port transfer_port ≡ true → IsCovered (burnt_amount core) version p
         → on_ack port (put_bank bank) version p ack ≡ put_in put_bank (bank_acknowledged bank version p ack)
     acknowledged_plain port ack is covered =
         ap (λ b. if b then (acknowledge_transfer bank.balances version p ack >>= λ balances. Ok (with_balances (put_bank bank) balances)) else Ok (put_bank bank)) is
         ∙ ap (λ (x : Checked Balances). x >>= λ balances. Ok (with_balances (put_bank bank) balances)) (acknowledged_by_bank bank version p ack flight.sorted (covers covered))
         ∙ settles (bank_acknowledged bank version p ack)
 
-    timed_out_plain : (port : Text) → same_text port transfer_port ≡ true → IsCovered (burnt core) version p
+    timed_out_plain : (port : Text) → same_text port transfer_port ≡ true → IsCovered (burnt_amount core) version p
         → on_timeout port (put_bank bank) version p ≡ put_in put_bank (bank_times_out bank version p)
     timed_out_plain port is covered =
         ap (λ b. if b then (refund_transfer bank.balances version p >>= λ balances. Ok (with_balances (put_bank bank) balances)) else Ok (put_bank bank)) is

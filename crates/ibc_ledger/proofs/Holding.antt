@@ -2,14 +2,14 @@
 -- through ends of blocks.
 use Rattle.ibc_ledger.proofs.Common.{Bool, drop-drop, ◌≡◌, ℕ, ◌+◌, ◌-◌, ◌^◌, ◌<◌, cond, is_eq, Ordering, Less, Equal, Greater, [], ◌∷◌, ◌++◌, length, refl, sym, ap, ◌∙◌, subst, Some, option_and_then, option_map, arith, length-append}
 use Rattle.ibc_ledger.proofs.Common.{length-drop, nat_cmp, ordering_then, is_some, zero, suc, ◌≤◌, true, false, List, drop, map, Option, None, Result, Ok, Err, slice_get, ltb-true, ◌↔◌, IsNone, IfOk, IsSomeAnd, drop-append-le, drop-map}
-use Rattle.ibc_ledger.proofs.Common.{map-append, slice_get-map, Text, text_cmp, at, text_cmp_total, text_tied, Refusal, NoConsensus, written, UpdateClient, Message, Records, Core, Apps, LedgerState, consensus_cmp, consensus_at}
-use Rattle.ibc_ledger.proofs.Common.{with_consensus, Block, Chain, image, HeldStore, committed, kept_at, excess, gone_after, IsStored, ConsensusState, HeldClient, with_height, HeldRecords, core_of, consensus_in, IsUnchanged, UpdatesClient}
-use Rattle.ibc_ledger.proofs.Common.{IsWritten, consensus_of, working_block, IsStateOf, KeepsBlocks, passed, provable, kept_of, Ledger, IsLedger, StampedEntry, IsNext, state_with, with_entry, Stands, Publication}
+use Rattle.ibc_ledger.proofs.Common.{map-append, slice_get-map, Text, text_cmp, at, text_cmp_total, text_tied, Refusal, NoConsensus, written_proof, UpdateClient, Message, Records, Core, Apps, LedgerState, consensus_cmp, consensus_at}
+use Rattle.ibc_ledger.proofs.Common.{with_consensus, Block, MachineChain, image, StoreModel, store_after_commit, kept_at, excess_count, gone_after, IsStored, ConsensusState, ClientModel, with_height, RecordsModel, core_of, consensus_in, IsUnchanged, UpdatesClient}
+use Rattle.ibc_ledger.proofs.Common.{AreWrittenRecords, consensus_of, working_block, IsStateOf, KeepsBlocks, passed_count, provable_block, kept_of, Ledger, IsLedger, StampedEntry, IsNext, state_with, with_entry, IsReplayedState, Publication}
 use Rattle.ibc_refinement.proofs.Growing.{ledgers_go_on}
-use Rattle.ibc_path_store.specs.Held.{height_of, Hashed}
-use Rattle.ibc_records.specs.Held.{after_commit}
-use Rattle.ibc_ledger.specs.Standing.{last_block}
-use Rattle.ibc_records.specs.Knowledge.{Knows, plain_consensus}
+use Rattle.ibc_path_store.specs.StoreModel.{height_of, Hashed}
+use Rattle.ibc_records.specs.RecordsModel.{after_commit}
+use Rattle.ibc_ledger.specs.ReplayedState.{last_block}
+use Rattle.ibc_records.specs.Knowledge.{Knows, abstract_consensus}
 use Rattle.std.proofs.lemmas.Cmp.{nat_cmp_total, then_total, on_total}
 use Rattle.std.specs.Cmp.{IsTotalOrder}
 use Rattle.ibc_machine.proofs.Images.{at-with}
@@ -33,57 +33,57 @@ get_drop (suc n) i (x ∷ xs) = let e : suc (n + i) ≡ suc n + i = omega arith 
 
 -- ---- messages
 
-module _ (window : ℕ) (chain : Chain) where
-  pub keeps_stored : (old new : HeldRecords) (records : Records) → KeepsBlocks window chain old.store → IsStored old new → core_of new ≡ records.core → KeepsBlocks window (record chain { records = records }) new.store
+module _ (window : ℕ) (chain : MachineChain) where
+  pub keeps_stored : (old new : RecordsModel) (records : Records) → KeepsBlocks window chain old.store → IsStored old new → core_of new ≡ records.core → KeepsBlocks window (record chain { records = records }) new.store
   keeps_stored old new records keeps stored is = record {
     working = stored.image_of ∙ ap image is;
-    gone = ap (λ (s : HeldStore). s.gone) stored.store ∙ keeps.gone;
-    kept = ap (λ (s : HeldStore). s.kept) stored.store ∙ keeps.kept;
+    gone = ap (λ (s : StoreModel). s.gone) stored.store ∙ keeps.gone;
+    kept = ap (λ (s : StoreModel). s.kept) stored.store ∙ keeps.kept;
   }
 
 -- ---- ends of blocks
 
-module _ (window : ℕ) (chain : Chain) (store : HeldStore) (next_time : ℕ) (some : 0 < window) (room : height_of store < 2 ^ 64 - 1) (window_is : store.window ≡ window) (time : store.time ≡ chain.time)
+module _ (window : ℕ) (chain : MachineChain) (store : StoreModel) (next_time : ℕ) (some : 0 < window) (room : height_of store < 2 ^ 64 - 1) (window_is : store.window ≡ window) (time : store.time ≡ chain.time)
     (height : height_of store ≡ length chain.committed) (keeps : KeepsBlocks window chain store) where
   abbrev longer : List Block
   longer = chain.committed ++ working_block chain ∷ []
 
-  one_more : passed window chain.committed + excess store ≡ passed window longer
+  one_more : passed_count window chain.committed + excess_count store ≡ passed_count window longer
   one_more =
       let a = length-append chain.committed (working_block chain ∷ []) in
       let g = keeps.gone in
       omega (arith, a, g, height, window_is, some)
 
-  gone : gone_after store.gone (excess store) ≡ passed window longer
+  gone : gone_after store.gone (excess_count store) ≡ passed_count window longer
   gone =
       let a = length-append chain.committed (working_block chain ∷ []) in
       let g = keeps.gone in
       let o = one_more in
       omega (arith, a, g, o, height, room)
 
-  kept : drop (excess store) (store.kept ++ (store.pairs, store.time) ∷ []) ≡ map kept_of (drop (passed window longer) longer)
+  kept : drop (excess_count store) (store.kept ++ (store.pairs, store.time) ∷ []) ≡ map kept_of (drop (passed_count window longer) longer)
   kept =
-      let n = passed window chain.committed in
+      let n = passed_count window chain.committed in
       let last : (store.pairs, store.time) ≡ kept_of (working_block chain) = λ i. (keeps.working i, time i) in
       let low : n ≤ length chain.committed = omega arith in
-      ap (drop (excess store)) (
+      ap (drop (excess_count store)) (
       (λ i. keeps.kept i ++ last i ∷ [])
       ∙ sym (map-append kept_of (drop n chain.committed) (working_block chain ∷ []))
       ∙ ap (map kept_of) (sym (drop-append-le n chain.committed (working_block chain ∷ []) low))
       )
-      ∙ drop-map kept_of (excess store) (drop n longer)
-      ∙ ap (map kept_of) (drop-drop (excess store) n longer ∙ ap (λ m. drop m longer) one_more)
+      ∙ drop-map kept_of (excess_count store) (drop n longer)
+      ∙ ap (map kept_of) (drop-drop (excess_count store) n longer ∙ ap (λ m. drop m longer) one_more)
 
-  pub keeps_committed : (hashed : Hashed) → KeepsBlocks window (record { records = chain.records; time = next_time; committed = longer }) (record (committed store next_time) { hashed = hashed })
+  pub keeps_committed : (hashed : Hashed) → KeepsBlocks window (record { records = chain.records; time = next_time; committed = longer }) (record (store_after_commit store next_time) { hashed = hashed })
   keeps_committed hashed = record { working = keeps.working; gone = gone; kept = kept }
 
 -- ---- proofs of committed heights
 
-module _ (window : ℕ) (chain : Chain) (store : HeldStore) (keeps : KeepsBlocks window chain store) (height : ℕ) where
+module _ (window : ℕ) (chain : MachineChain) (store : StoreModel) (keeps : KeepsBlocks window chain store) (height : ℕ) where
   abbrev its_block : Option Block
-  its_block = provable window chain.committed height
+  its_block = provable_block window chain.committed height
 
-  block_there : (height : ℕ) → store.gone < height → slice_get chain.committed (passed window chain.committed + (height - store.gone - 1)) ≡ block_of height chain.committed
+  block_there : (height : ℕ) → store.gone < height → slice_get chain.committed (passed_count window chain.committed + (height - store.gone - 1)) ≡ block_of height chain.committed
   block_there zero below = absurd (omega arith)
   block_there (suc k) below = let g = keeps.gone in ap (slice_get chain.committed) (omega (arith, g, below))
 
@@ -92,7 +92,7 @@ module _ (window : ℕ) (chain : Chain) (store : HeldStore) (keeps : KeepsBlocks
       ≡ option_map kept_of (elim b as (λ _. Option Block) [ true ↦ block_of height chain.committed | false ↦ None ])
   by_place false is = refl
   by_place true is =
-      let n = passed window chain.committed in
+      let n = passed_count window chain.committed in
       let i = height - store.gone - 1 in
       ap (λ kept. slice_get kept i) keeps.kept
       ∙ slice_get-map kept_of (drop n chain.committed) i
@@ -103,14 +103,14 @@ module _ (window : ℕ) (chain : Chain) (store : HeldStore) (keeps : KeepsBlocks
       by_place (nat_lt store.gone height) refl
       ∙ ap (λ n. option_map kept_of (elim (nat_lt n height) as (λ _. Option Block) [ true ↦ block_of height chain.committed | false ↦ None ])) keeps.gone
 
-  by_block : (o : Option Block) (proof : Proof) (path : Text) → IsSomeAnd (option_map kept_of o) (λ kept. proof ≡ written kept.0 path) → IsSomeAnd o (λ block. proof ≡ written (image block.records.core) path)
+  by_block : (o : Option Block) (proof : Proof) (path : Text) → IsSomeAnd (option_map kept_of o) (λ kept. proof ≡ written_proof kept.0 path) → IsSomeAnd o (λ block. proof ≡ written_proof (image block.records.core) path)
   by_block None proof path is = is
   by_block (Some block) proof path is = is
 
-  pub proof_of_block : (result : Result Proof Refusal) (path : Text) → IfOk result (λ proof. IsSomeAnd (kept_at store height) (λ kept. proof ≡ written kept.0 path))
-      → IfOk result (λ proof. IsSomeAnd its_block (λ block. proof ≡ written (image block.records.core) path))
+  pub proof_of_block : (result : Result Proof Refusal) (path : Text) → IfOk result (λ proof. IsSomeAnd (kept_at store height) (λ kept. proof ≡ written_proof kept.0 path))
+      → IfOk result (λ proof. IsSomeAnd its_block (λ block. proof ≡ written_proof (image block.records.core) path))
   proof_of_block (Ok proof) path is =
-      by_block its_block proof path (subst (λ (o : Option (Pairs × ℕ)). IsSomeAnd o (λ kept. proof ≡ written kept.0 path)) kept_block is)
+      by_block its_block proof path (subst (λ (o : Option (Pairs × ℕ)). IsSomeAnd o (λ kept. proof ≡ written_proof kept.0 path)) kept_block is)
   proof_of_block (Err refusal) path is = tt
 
   same_some : (o : Option Block) → is_some (option_map kept_of o) ≡ is_some o
@@ -131,11 +131,11 @@ with_records m state records = record {
 consensus_cmp_total : IsTotalOrder consensus_cmp
 consensus_cmp_total = then_total (on_total (λ (x : Text × ℕ). x.0) text_cmp_total) (on_total (λ (x : Text × ℕ). x.1) nat_cmp_total)
 
-module _ (window : ℕ) (state : LedgerState) (old : HeldRecords) (apps : Apps) (holds : IsStateOf window state old apps) where
+module _ (window : ℕ) (state : LedgerState) (old : RecordsModel) (apps : Apps) (holds : IsStateOf window state old apps) where
   -- only how much room there is changed
-  pub unchanged_holds : (new : HeldRecords) (left : Apps) → IsUnchanged old new → left ≡ apps → IsStateOf window state new left
+  pub unchanged_holds : (new : RecordsModel) (left : Apps) → IsUnchanged old new → left ≡ apps → IsStateOf window state new left
   unchanged_holds new left same kept =
-      subst (λ (w : HeldRecords × Apps). IsStateOf window state w.0 w.1) (λ i. (sym same i, sym kept i)) (record {
+      subst (λ (w : RecordsModel × Apps). IsStateOf window state w.0 w.1) (λ i. (sym same i, sym kept i)) (record {
         core = holds.core;
         time = holds.time;
         height = holds.height;
@@ -147,13 +147,13 @@ module _ (window : ℕ) (state : LedgerState) (old : HeldRecords) (apps : Apps) 
       })
 
   -- the records were written, and the store is their image
-  stored_holds : (m : Message) (core : Core) (left : Apps) (new : HeldRecords) → IsStored old new → core_of new ≡ core → Knows new (with_records m state (record { core = core; apps = left }))
+  stored_holds : (m : Message) (core : Core) (left : Apps) (new : RecordsModel) → IsStored old new → core_of new ≡ core → Knows new (with_records m state (record { core = core; apps = left }))
       → IsStateOf window (with_records m state (record { core = core; apps = left })) new left
   stored_holds m core left new stored is known = record {
     core = is;
-    time = ap (λ (s : HeldStore). s.time) stored.store ∙ holds.time;
-    height = ap (λ (s : HeldStore). height_of s) stored.store ∙ holds.height;
-    window_is = ap (λ (s : HeldStore). s.window) stored.store ∙ holds.window_is;
+    time = ap (λ (s : StoreModel). s.time) stored.store ∙ holds.time;
+    height = ap (λ (s : StoreModel). height_of s) stored.store ∙ holds.height;
+    window_is = ap (λ (s : StoreModel). s.window) stored.store ∙ holds.window_is;
     apps_are = refl;
     known = known;
     last = stored.last ∙ holds.last;
@@ -161,23 +161,23 @@ module _ (window : ℕ) (state : LedgerState) (old : HeldRecords) (apps : Apps) 
   }
 
   -- the records and the applications were written, by a message that tells no client of a height
-  pub written_holds : (m : Message) (core : Core) (left : Apps) (new : HeldRecords) → IsWritten core old new → with_consensus m state.consensus ≡ state.consensus
+  pub written_holds : (m : Message) (core : Core) (left : Apps) (new : RecordsModel) → AreWrittenRecords core old new → with_consensus m state.consensus ≡ state.consensus
       → IsStateOf window (with_records m state (record { core = core; apps = left })) new left
-  written_holds m core left new written same =
-      stored_holds m core left new written.stored written.core_is
-      (λ client height known e. ap (λ consensus. at consensus_cmp (client, height) consensus) same ∙ holds.known client height known (written.knows client height known e))
+  written_holds m core left new written_proof same =
+      stored_holds m core left new written_proof.stored written_proof.core_is
+      (λ client height known e. ap (λ consensus. at consensus_cmp (client, height) consensus) same ∙ holds.known client height known (written_proof.knows client height known e))
 
   -- a client that was told of a header knows what the ledger's state says of it
-  module _ (m : UpdateClient) (new : HeldRecords) (updates : UpdatesClient old m.client m.header.height (consensus_of m.header) new) where
+  module _ (m : UpdateClient) (new : RecordsModel) (updates : UpdatesClient old m.client m.header.height (consensus_of m.header) new) where
     by_height : (client : Text) (height : ℕ) (known : ConsensusState) → text_cmp client m.client ≡ Equal → (b : Bool)
         → cond b (Some (consensus_of m.header)) (at nat_cmp height updates.client.known) ≡ Some known
-        → cond b (Some (plain_consensus (consensus_of m.header))) (consensus_at state client height) ≡ Some (plain_consensus known)
-    by_height client height known same true e = ap (option_map plain_consensus) e
-    by_height client height known same false e = holds.known client height known (ap (option_and_then (λ (c : HeldClient). at nat_cmp height c.known)) (ap (λ t. at text_cmp t old.clients) (text_tied client m.client same) ∙ updates.stood) ∙ e)
+        → cond b (Some (abstract_consensus (consensus_of m.header))) (consensus_at state client height) ≡ Some (abstract_consensus known)
+    by_height client height known same true e = ap (option_map abstract_consensus) e
+    by_height client height known same false e = holds.known client height known (ap (option_and_then (λ (c : ClientModel). at nat_cmp height c.known)) (ap (λ t. at text_cmp t old.clients) (text_tied client m.client same) ∙ updates.stood) ∙ e)
 
     by_client : (client : Text) (height : ℕ) (known : ConsensusState) (o : Ordering) → text_cmp client m.client ≡ o
-        → option_and_then (λ (c : HeldClient). at nat_cmp height c.known) (cond (is_eq o) (Some (with_height m.header.height (consensus_of m.header) updates.client)) (at text_cmp client old.clients)) ≡ Some known
-        → cond (is_eq (ordering_then o (nat_cmp height m.header.height))) (Some (plain_consensus (consensus_of m.header))) (consensus_at state client height) ≡ Some (plain_consensus known)
+        → option_and_then (λ (c : ClientModel). at nat_cmp height c.known) (cond (is_eq o) (Some (with_height m.header.height (consensus_of m.header) updates.client)) (at text_cmp client old.clients)) ≡ Some known
+        → cond (is_eq (ordering_then o (nat_cmp height m.header.height))) (Some (abstract_consensus (consensus_of m.header))) (consensus_at state client height) ≡ Some (abstract_consensus known)
     by_client client height known Less is e = holds.known client height known e
     by_client client height known Greater is e = holds.known client height known e
     by_client client height known Equal is e =
@@ -188,26 +188,26 @@ module _ (window : ℕ) (state : LedgerState) (old : HeldRecords) (apps : Apps) 
     updated_holds left =
         stored_holds (message.UpdateClient m) (core_of new) left new updates.stored refl
         (λ client height known e.
-        at-with consensus_cmp consensus_cmp_total (client, height) (m.client, m.header.height) (plain_consensus (consensus_of m.header)) state.consensus
+        at-with consensus_cmp consensus_cmp_total (client, height) (m.client, m.header.height) (abstract_consensus (consensus_of m.header)) state.consensus
         ∙ by_client client height known (text_cmp client m.client) refl
-        (sym (ap (option_and_then (λ (c : HeldClient). at nat_cmp height c.known)) (ap (λ (h : HeldRecords). at text_cmp client h.clients) updates.records ∙ at-with text_cmp text_cmp_total client m.client (with_height m.header.height (consensus_of m.header) updates.client) old.clients)) ∙ e))
+        (sym (ap (option_and_then (λ (c : ClientModel). at nat_cmp height c.known)) (ap (λ (h : RecordsModel). at text_cmp client h.clients) updates.records ∙ at-with text_cmp text_cmp_total client m.client (with_height m.header.height (consensus_of m.header) updates.client) old.clients)) ∙ e))
 
   -- the working block joins the committed ones
-  pub committed_holds : (next_time : ℕ) (new : HeldRecords) → 0 < window → height_of old.store < 2 ^ 64 - 1 → new ≡ after_commit old next_time new.store.hashed
+  pub committed_holds : (next_time : ℕ) (new : RecordsModel) → 0 < window → height_of old.store < 2 ^ 64 - 1 → new ≡ after_commit old next_time new.store.hashed
       → IsStateOf window (record state { chain = record { records = state.chain.records; time = next_time; committed = state.chain.committed ++ working_block state.chain ∷ [] } }) new apps
   committed_holds next_time new some room is = record {
     core = ap core_of is ∙ holds.core;
-    time = ap (λ (h : HeldRecords). h.store.time) is;
-    height = ap (λ (h : HeldRecords). height_of h.store) is ∙ one_higher;
-    window_is = ap (λ (h : HeldRecords). h.store.window) is ∙ holds.window_is;
+    time = ap (λ (h : RecordsModel). h.store.time) is;
+    height = ap (λ (h : RecordsModel). height_of h.store) is ∙ one_higher;
+    window_is = ap (λ (h : RecordsModel). h.store.window) is ∙ holds.window_is;
     apps_are = holds.apps_are;
-    known = λ client height known e. holds.known client height known (sym (ap (λ (h : HeldRecords). consensus_in h client height) is) ∙ e);
-    last = ap (λ (h : HeldRecords). h.last) is ∙ (λ i. record { core = holds.core i; time = holds.time i }) ∙ ap last_block (sym (last-push None state.chain.committed (working_block state.chain)));
-    keeps = subst (λ (h : HeldRecords). KeepsBlocks window (record { records = state.chain.records; time = next_time; committed = state.chain.committed ++ working_block state.chain ∷ [] }) h.store) (sym is)
+    known = λ client height known e. holds.known client height known (sym (ap (λ (h : RecordsModel). consensus_in h client height) is) ∙ e);
+    last = ap (λ (h : RecordsModel). h.last) is ∙ (λ i. record { core = holds.core i; time = holds.time i }) ∙ ap last_block (sym (last-push None state.chain.committed (working_block state.chain)));
+    keeps = subst (λ (h : RecordsModel). KeepsBlocks window (record { records = state.chain.records; time = next_time; committed = state.chain.committed ++ working_block state.chain ∷ [] }) h.store) (sym is)
         (keeps_committed window state.chain old.store next_time some room holds.window_is holds.time holds.height holds.keeps new.store.hashed);
   }
     where
-      one_higher : height_of (committed old.store next_time) ≡ length (state.chain.committed ++ working_block state.chain ∷ [])
+      one_higher : height_of (store_after_commit old.store next_time) ≡ length (state.chain.committed ++ working_block state.chain ∷ [])
       one_higher =
           let kept = old.store.kept ++ (old.store.pairs, old.store.time) ∷ [] in
           let a = length-drop (length old.store.kept + 1 - old.store.window) kept in
@@ -218,8 +218,8 @@ module _ (window : ℕ) (state : LedgerState) (old : HeldRecords) (apps : Apps) 
           omega arith
 
 -- a ledger stands with its next entry, where what is held is the state after it
-pub stands_next : (ledger : Ledger) (e : StampedEntry) (more : List Publication) (new : HeldRecords) (left : Apps) → IsLedger ledger → IsNext ledger e more
-    → IsStateOf ledger.genesis.window (state_with ledger e more) new left → Stands (with_entry ledger e more) new left
+pub stands_next : (ledger : Ledger) (e : StampedEntry) (more : List Publication) (new : RecordsModel) (left : Apps) → IsLedger ledger → IsNext ledger e more
+    → IsStateOf ledger.genesis.window (state_with ledger e more) new left → IsReplayedState (with_entry ledger e more) new left
 stands_next ledger e more new left is next holds =
     let w = ledgers_go_on ledger e more is next in
     record { is = w.0; holds = subst (λ (s : LedgerState). IsStateOf ledger.genesis.window s new left) (sym w.1) holds }

@@ -1,6 +1,6 @@
 -- A view of a ledger: what stood at its last committed block, and the tree that is kept of it.
 use Rattle.ibc_ledger.proofs.Common.{◌≡◌, ℕ, zero, suc, ◌-◌, ◌≤◌, ◌^◌, ◌<◌, Bool, true, false, List, [], ◌∷◌, length, refl, sym, ap, ◌∙◌, subst, Option, Some, None, option_map, slice_get, arith, lt-ltb, length-map, Core, Apps, Block}
-use Rattle.ibc_ledger.proofs.Common.{image, LedgerState, Ledger, published_as, state_of, kept_at, HeldRecords, passed, provable, kept_of, IsStateOf, Stands, genesis_of, ledger_of, IsHeld, Inside}
+use Rattle.ibc_ledger.proofs.Common.{image, LedgerState, Ledger, published_as, state_of, kept_at, RecordsModel, passed_count, provable_block, kept_of, IsStateOf, IsReplayedState, genesis_of, ledger_of, IsSoundLedger, Inside}
 use Rattle.std.proofs.Common.{nat_lt}
 use Rattle.std.specs.Prelude.{min, IsSome}
 use Rattle.std.specs.List.{last_or}
@@ -9,15 +9,15 @@ use Rattle.ibc_merkle.specs.Tree.{Pairs}
 use Rattle.ibc_machine.specs.ics24.Image.{IsKeyed}
 use Rattle.ibc_machine.specs.chain.Machine.{block_of}
 use Rattle.ibc_machine.specs.ics18.Relay.{View, view_at, view_of}
-use Rattle.ibc_path_store.specs.Held.{height_of}
-use Rattle.ibc_records.specs.Held.{LastBlock}
+use Rattle.ibc_path_store.specs.StoreModel.{height_of}
+use Rattle.ibc_records.specs.RecordsModel.{LastBlock}
 use Rattle.ibc_root_table.specs.Publications.{IsWithin}
 use Rattle.ibc_root_table.specs.declared.shape.Shape.{Shape}
-use Rattle.ibc_ledger.specs.Proved.{HasSpellings, IsProved}
-use Rattle.ibc_ledger.specs.Standing.{last_block}
+use Rattle.ibc_ledger.specs.ProvedView.{HasSpellings, IsProved}
+use Rattle.ibc_ledger.specs.ReplayedState.{last_block}
 use Rattle.ibc_ledger.proofs.Holding.{kept_block}
 use Rattle.ibc_ledger.proofs.Windows.{small_capacity}
-use Rattle.ibc_ledger.proofs.Spelled.{last_spelled, last_keyed}
+use Rattle.ibc_ledger.proofs.SpelledProofs.{last_spelled, last_keyed}
 
 -- ---- the last of a list
 
@@ -37,15 +37,15 @@ last_there : {A : Type 0} (xs : List A) → 0 < length xs → (y : A) × (last_o
 last_there [] some = absurd (omega (arith, some))
 last_there (x ∷ xs) some = some_last x xs
 
-last_provable : (window : ℕ) → 0 < window → (blocks : List Block) → 0 < length blocks → provable window blocks (length blocks) ≡ last_or None blocks
+last_provable : (window : ℕ) → 0 < window → (blocks : List Block) → 0 < length blocks → provable_block window blocks (length blocks) ≡ last_or None blocks
 last_provable window some [] below = absurd (omega (arith, below))
 last_provable window some (x ∷ xs) below =
-    let e : nat_lt (passed window (x ∷ xs)) (length (x ∷ xs)) ≡ true = lt-ltb (passed window (x ∷ xs)) (length (x ∷ xs)) (omega (arith, some, below)) in
+    let e : nat_lt (passed_count window (x ∷ xs)) (length (x ∷ xs)) ≡ true = lt-ltb (passed_count window (x ∷ xs)) (length (x ∷ xs)) (omega (arith, some, below)) in
     ap (λ (c : Bool). elim c as (λ _. Option Block) [ true ↦ block_of (length (x ∷ xs)) (x ∷ xs) | false ↦ None ]) e ∙ get_last x xs
 
 -- ---- views
 
-module _ (window : ℕ) (some : 0 < window) (state : LedgerState) (held : HeldRecords) (apps : Apps) (holds : IsStateOf window state held apps) where
+module _ (window : ℕ) (some : 0 < window) (state : LedgerState) (held : RecordsModel) (apps : Apps) (holds : IsStateOf window state held apps) where
   abbrev blocks : List Block
   blocks = state.chain.committed
 
@@ -75,7 +75,7 @@ module _ (window : ℕ) (some : 0 < window) (state : LedgerState) (held : HeldRe
       })
       ∙ sym (view_parts k (last_or None blocks) (none_last blocks))
 
-module _ (ledger : Ledger) (held : HeldRecords) (apps : Apps) (stands : Stands ledger held apps) (some : 0 < ledger.genesis.window) (height : ℕ) (is : height ≡ length (state_of ledger).chain.committed) where
+module _ (ledger : Ledger) (held : RecordsModel) (apps : Apps) (stands : IsReplayedState ledger held apps) (some : 0 < ledger.genesis.window) (height : ℕ) (is : height ≡ length (state_of ledger).chain.committed) where
   kept : 0 < height → kept_at held.store height ≡ Some (image held.last.core, held.last.time)
   kept low =
       ap (kept_at held.store) is ∙ last_kept ledger.genesis.window some (state_of ledger) held apps stands.holds (subst (λ n. 0 < n) is low)
@@ -99,7 +99,7 @@ module _ (ledger : Ledger) (held : HeldRecords) (apps : Apps) (stands : Stands l
       }
 
 -- a ledger has committed no more than its table has room for
-module _ (l : Inside) (held : IsHeld l) (within : IsWithin l.table.value.shape l.pass.seen) where
+module _ (l : Inside) (held : IsSoundLedger l) (within : IsWithin l.table.value.shape l.pass.seen) where
   by_count : (n : ℕ) → height_in l.node.number l.pass.seen ≡ n → n ≤ 1000000
   by_count zero e = omega arith
   by_count (suc n) e =

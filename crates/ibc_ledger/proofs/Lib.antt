@@ -12,5 +12,5 @@ pub mod NewLedgers
 pub mod FoundPackets
 pub mod NamedEnds
 pub mod LastBlocks
-pub mod Spelled
-pub mod Found
+pub mod SpelledProofs
+pub mod SentPlaces

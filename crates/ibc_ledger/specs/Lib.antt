@@ -1,9 +1,9 @@
-pub mod Standing
-pub mod Held
+pub mod ReplayedState
+pub mod LedgerModel
 pub mod SentPackets
-pub mod Inside
-pub mod Ending
-pub mod Answering
-pub mod Adding
-pub mod Proved
-pub mod Sent
+pub mod LedgerFields
+pub mod BlockEnd
+pub mod MessageReplies
+pub mod HistoryGrowth
+pub mod ProvedView
+pub mod SentNames

@@ -5,7 +5,7 @@ ghost use Rattle.std.specs.List.{list_all};
 ghost use Rattle.ibc_ids.specs.Texts.{same_text};
 ghost use Rattle.ibc_machine.specs.chain.Genesis.{is_fair};
 ghost use Rattle.ibc_machine.specs.chain.Notes.{note_port};
-ghost use Rattle.ibc_ledger.specs.Standing.{starting_apps};
+ghost use Rattle.ibc_ledger.specs.ReplayedState.{starting_apps};
 
 use ibc_ids::PortId;
 use ibc_machine::ChainStart;

@@ -5,13 +5,13 @@ ghost use Rattle.ibc_ids.specs.Publications.{height_of as published_height};
 ghost use Rattle.ibc_ids.specs.declared.refusal.Refusal.TheVariants.{NoMemory};
 ghost use Rattle.ibc_machine.specs.declared.event.Event.TheVariants as event;
 ghost use Rattle.ibc_machine.specs.declared.reply.Reply.TheVariants as reply_of;
-ghost use Rattle.ibc_path_store.specs.Held.{height_of};
+ghost use Rattle.ibc_path_store.specs.StoreModel.{height_of};
 ghost use Rattle.ibc_root_table.specs.Passes.{own_chain};
-ghost use Rattle.ibc_ledger.specs.Adding.{AddsOrNot};
-ghost use Rattle.ibc_ledger.specs.Ending.{IsEnded};
+ghost use Rattle.ibc_ledger.specs.HistoryGrowth.{AddsOrNot};
+ghost use Rattle.ibc_ledger.specs.BlockEnd.{IsEnded};
 
 use crate::entry::seen_if;
-use crate::outcome::{Effects, replies};
+use crate::outcome::{EffectTwice, replies};
 use crate::{Ledger, StampedEntry};
 use ibc_ids::{Refusal, Root};
 use ibc_machine::{Entry, Event, Reply};
@@ -39,7 +39,7 @@ impl Ledger {
             next_time,
         );
         let seen = seen_if(&self.pass, ended.is_ok());
-        let Ok((reply, kept)) = replies(Effects::of_block(ended)) else {
+        let Ok((reply, kept)) = replies(EffectTwice::of_block(ended)) else {
             return Reply::No(Refusal::NoMemory);
         };
         let event = Event::Block {

@@ -6,12 +6,12 @@ ghost use Rattle.ibc_wire.specs.declared.messages.Message.TheVariants as message
 ghost use Rattle.ibc_machine.specs.declared.reply.Effect.TheVariants as effect;
 ghost use Rattle.ibc_machine.specs.chain.Applications.{require_application, on_open, on_close};
 ghost use Rattle.ibc_machine.specs.ics04.Channels.{chan_open_init, chan_open_try, chan_close_init};
-ghost use Rattle.ibc_records.specs.Taking.{IsHandled};
-ghost use Rattle.ibc_ledger.specs.Answering.{IsReady, IsAnswered};
+ghost use Rattle.ibc_records.specs.HandlerContract.{IsHandled};
+ghost use Rattle.ibc_ledger.specs.MessageReplies.{IsReady, IsAnswered};
 
 use crate::applications::Applications;
-use crate::node::Node;
-use crate::outcome::Effects;
+use crate::host_state::HostState;
+use crate::outcome::EffectTwice;
 use ibc_channel::{close_confirm, close_init, open_ack, open_confirm, open_init, open_try};
 use ibc_ids::{ChannelId, Refusal, nth_channel};
 use ibc_machine::Effect;
@@ -22,63 +22,63 @@ use ibc_wire::{
 };
 use std::alloc::Global;
 
-impl Node {
+impl HostState {
     /// Begins a channel (ICS 4, "chanOpenInit"). Refused as by `ibc_channel::open_init`; `UnknownPort` where the port has no application.
-    pub fn chan_open_init(&mut self, message: &ChanOpenInit) -> Result<Effects, Refusal>
+    pub fn chan_open_init(&mut self, message: &ChanOpenInit) -> Result<EffectTwice, Refusal>
         requires { IsReady (message_of.ChanOpenInit message.now) self.old }
         ensures { IsAnswered (message_of.ChanOpenInit message.now) self.old result self.new }
     {
         let name = nth_channel(self.alloc, self.records.next_channel())?;
         let id = init_on_port(self.alloc, &mut self.records, &self.applications, message)?;
-        Ok(Effects {
+        Ok(EffectTwice {
             told: Effect::Channel(id),
             kept: Effect::Channel(name),
         })
     }
 
     /// Answers a channel of the peer (ICS 4, "chanOpenTry"). Refused as by `ibc_channel::open_try`; `UnknownPort` where the port has no application.
-    pub fn chan_open_try(&mut self, message: &ChanOpenTry) -> Result<Effects, Refusal>
+    pub fn chan_open_try(&mut self, message: &ChanOpenTry) -> Result<EffectTwice, Refusal>
         requires { IsReady (message_of.ChanOpenTry message.now) self.old }
         ensures { IsAnswered (message_of.ChanOpenTry message.now) self.old result self.new }
     {
         let name = nth_channel(self.alloc, self.records.next_channel())?;
         let id = try_on_port(self.alloc, &mut self.records, &self.applications, message)?;
-        Ok(Effects {
+        Ok(EffectTwice {
             told: Effect::Channel(id),
             kept: Effect::Channel(name),
         })
     }
 
     /// Opens a channel that the peer answered (ICS 4, "chanOpenAck"). Refused as by `ibc_channel::open_ack`.
-    pub fn chan_open_ack(&mut self, message: &ChanOpenAck) -> Result<Effects, Refusal>
+    pub fn chan_open_ack(&mut self, message: &ChanOpenAck) -> Result<EffectTwice, Refusal>
         requires { IsReady (message_of.ChanOpenAck message.now) self.old }
         ensures { IsAnswered (message_of.ChanOpenAck message.now) self.old result self.new }
     {
-        Effects::of_nothing(open_ack(self.alloc, &mut self.records, message))
+        EffectTwice::of_nothing(open_ack(self.alloc, &mut self.records, message))
     }
 
     /// Opens a channel that the peer opened (ICS 4, "chanOpenConfirm"). Refused as by `ibc_channel::open_confirm`.
-    pub fn chan_open_confirm(&mut self, message: &ChanOpenConfirm) -> Result<Effects, Refusal>
+    pub fn chan_open_confirm(&mut self, message: &ChanOpenConfirm) -> Result<EffectTwice, Refusal>
         requires { IsReady (message_of.ChanOpenConfirm message.now) self.old }
         ensures { IsAnswered (message_of.ChanOpenConfirm message.now) self.old result self.new }
     {
-        Effects::of_nothing(open_confirm(self.alloc, &mut self.records, message))
+        EffectTwice::of_nothing(open_confirm(self.alloc, &mut self.records, message))
     }
 
     /// Closes a channel (ICS 4, "chanCloseInit"). Refused as by `ibc_channel::close_init`.
-    pub fn chan_close_init(&mut self, message: &ChanCloseInit) -> Result<Effects, Refusal>
+    pub fn chan_close_init(&mut self, message: &ChanCloseInit) -> Result<EffectTwice, Refusal>
         requires { IsReady (message_of.ChanCloseInit message.now) self.old }
         ensures { IsAnswered (message_of.ChanCloseInit message.now) self.old result self.new }
     {
-        Effects::of_nothing(close_on_port(&mut self.records, &self.applications, message))
+        EffectTwice::of_nothing(close_on_port(&mut self.records, &self.applications, message))
     }
 
     /// Closes a channel that the peer closed (ICS 4, "chanCloseConfirm"). Refused as by `ibc_channel::close_confirm`.
-    pub fn chan_close_confirm(&mut self, message: &ChanCloseConfirm) -> Result<Effects, Refusal>
+    pub fn chan_close_confirm(&mut self, message: &ChanCloseConfirm) -> Result<EffectTwice, Refusal>
         requires { IsReady (message_of.ChanCloseConfirm message.now) self.old }
         ensures { IsAnswered (message_of.ChanCloseConfirm message.now) self.old result self.new }
     {
-        Effects::of_nothing(close_confirm(self.alloc, &mut self.records, message))
+        EffectTwice::of_nothing(close_confirm(self.alloc, &mut self.records, message))
     }
 }
 

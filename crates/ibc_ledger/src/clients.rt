@@ -4,19 +4,19 @@ ghost use Rattle.std.specs.Prelude.{◌≡◌};
 ghost use mathlib.Core.List.{IsPrefix};
 ghost use Rattle.ibc_wire.specs.declared.messages.Message.TheVariants as message_of;
 ghost use Rattle.ibc_root_table.specs.Passes.{SamePass, KeepsOwn};
-ghost use Rattle.ibc_ledger.specs.Answering.{IsReady, IsAnswered, IsUpdateAnswer};
+ghost use Rattle.ibc_ledger.specs.MessageReplies.{IsReady, IsAnswered, IsUpdateAnswer};
 
-use crate::node::Node;
-use crate::outcome::{Effects, Outcome};
+use crate::host_state::HostState;
+use crate::outcome::{EffectTwice, Outcome};
 use ibc_client::{create, update};
 use ibc_ids::{Refusal, nth_client};
 use ibc_machine::Effect;
 use ibc_root_table::{Pass, RootTable};
 use ibc_wire::{CreateClient, UpdateClient};
 
-impl Node {
+impl HostState {
     /// Makes a client of a chain (ICS 2, "createClient"). Refused as by `ibc_client::create`.
-    pub fn create_client(&mut self, message: &CreateClient) -> Result<Effects, Refusal>
+    pub fn create_client(&mut self, message: &CreateClient) -> Result<EffectTwice, Refusal>
         requires { IsReady (message_of.CreateClient message.now) self.old }
         ensures { IsAnswered (message_of.CreateClient message.now) self.old result self.new }
     {
@@ -28,7 +28,7 @@ impl Node {
             self.chains,
             message,
         )?;
-        Ok(Effects {
+        Ok(EffectTwice {
             told: Effect::Client(id),
             kept: Effect::Client(name),
         })
@@ -47,7 +47,7 @@ impl Node {
     {
         let updated = update(&mut self.records, table, pass, message);
         Outcome {
-            result: Effects::of_nothing(updated.result),
+            result: EffectTwice::of_nothing(updated.result),
             reading: updated.reading,
         }
     }

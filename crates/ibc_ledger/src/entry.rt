@@ -1,7 +1,7 @@
 //! What a ledger keeps of an event.
 
 ghost use Rattle.std.specs.Prelude.{◌≡◌, length, option_map};
-ghost use Rattle.ibc_refinement.specs.Growing.{stamp_if};
+ghost use Rattle.ibc_refinement.specs.LedgerGrowth.{stamp_if};
 
 use ibc_machine::Entry;
 use ibc_root_table::Pass;

@@ -8,18 +8,18 @@ ghost use Rattle.ibc_ids.specs.Maps.{at};
 ghost use Rattle.ibc_ids.specs.Paths.{path};
 ghost use Rattle.ibc_ids.specs.Publications.{height_of, published_by};
 ghost use Rattle.ibc_ids.specs.declared.refusal.Refusal.TheVariants.{BadMessage, NoConsensus, NoMemory};
-ghost use Rattle.ibc_merkle.specs.Written.{written};
+ghost use Rattle.ibc_merkle.specs.Written.{written_proof};
 ghost use Rattle.ibc_machine.specs.chain.Genesis.{genesis_state, is_allowed};
 ghost use Rattle.ibc_machine.specs.ics24.Image.{image};
 ghost use Rattle.ibc_machine.specs.ledger.Ledgers.{IsLedger, SeesMore, state_of};
-ghost use Rattle.ibc_note.specs.Plain.{plain_notes};
-ghost use Rattle.ibc_bank.specs.Listed.{plain_holding};
-ghost use Rattle.ibc_ledger.specs.Held.{plain_entry, shape_of};
+ghost use Rattle.ibc_note.specs.AbstractNotes.{abstract_notes};
+ghost use Rattle.ibc_bank.specs.ListedHoldings.{abstract_holding};
+ghost use Rattle.ibc_ledger.specs.LedgerModel.{abstract_entry, shape_of};
 ghost use Rattle.ibc_ledger.specs.SentPackets.{ack_on, packet_on};
-ghost use Rattle.ibc_ledger.specs.Standing.{provable};
+ghost use Rattle.ibc_ledger.specs.ReplayedState.{provable_block};
 
 use crate::applications::Applications;
-use crate::node::Node;
+use crate::host_state::HostState;
 use crate::{SentPackets, StampedEntry, is_allowed, packet_in};
 use ibc_ids::{Account, Bytes, ChannelId, Denom, Key, PortId, Refusal};
 use ibc_machine::Genesis;
@@ -37,7 +37,7 @@ use std::sync::Arc;
 #[derive(Drop)]
 pub struct Ledger {
     pub(crate) genesis: Snapshot<Genesis>,
-    pub(crate) node: Node,
+    pub(crate) node: HostState,
     pub(crate) capacity: u64,
     pub(crate) table: Arc<RootTable, Global>,
     pub(crate) pass: Pass,
@@ -46,14 +46,14 @@ pub struct Ledger {
 }
 
 impl Model for Ledger {
-    ghost use Rattle.ibc_ledger.specs.Held.{HeldLedger};
-    ghost use Rattle.ibc_ledger.specs.Inside.{held_of, IsHeld};
+    ghost use Rattle.ibc_ledger.specs.LedgerModel.{LedgerModel};
+    ghost use Rattle.ibc_ledger.specs.LedgerFields.{ledger_model, IsSoundLedger};
 
-    ghost Value = { HeldLedger };
+    ghost Value = { LedgerModel };
 
-    ghost view = { held_of };
+    ghost view = { ledger_model };
 
-    ghost invariant = { IsHeld };
+    ghost invariant = { IsSoundLedger };
 }
 
 impl Ledger {
@@ -78,7 +78,7 @@ impl Ledger {
             return Err(Refusal::BadMessage);
         }
         let start = &genesis.chains[usize::from(chain)];
-        let node = Node {
+        let node = HostState {
             alloc,
             number: chain,
             chains: genesis.chains.len() as u8,
@@ -112,19 +112,19 @@ impl Ledger {
 
     /// All that was asked of the chain, and what it answered, in order. What was answered with `NoMemory` isn't there.
     pub fn history(&self) -> &[StampedEntry]
-        ensures { map plain_entry result.now ≡ self.now.ledger.history }
+        ensures { map abstract_entry result.now ≡ self.now.ledger.history }
     {
         self.history.as_slice()
     }
 
     /// A ledger is one: its state is the replay of its history, whose replies are those of the steps; what its pass has seen
     /// is of the chains of the genesis; and the genesis is allowed.
-    pub fn is_its_history(&self)
+    pub fn lemma_is_its_history(&self)
         ensures is { IsLedger self.now.ledger }
         ensures allowed { IsTrue (is_allowed self.now.ledger.genesis) }
         ensures within { (c : ℕ) → 0 < height_of c self.now.ledger.seen → c < length self.now.ledger.genesis.chains }
     {
-        self.table.holds_what_is_seen(&self.pass);
+        self.table.lemma_holds_what_is_seen(&self.pass);
     }
 
     /// The value of a key in the working block, or none where the key isn't there (ICS 24). `NoMemory` where a growth is
@@ -144,8 +144,8 @@ impl Ledger {
     /// (ICS 23, "CommitmentProof"). `NoConsensus` exactly where the height isn't among the last ones that were committed, as
     /// many as the window of the genesis says; `NoMemory` where a growth is refused.
     pub fn query_proof(&self, height: u64, key: &Key) -> Result<Proof, Refusal>
-        ensures ok { IfOk result (λ proof. IsSomeAnd (provable self.now.ledger.genesis.window (state_of self.now.ledger).chain.committed height) (λ block. proof ≡ written (image block.records.core) (path key.now))) }
-        ensures unknown { (result ≡ Err NoConsensus) ↔ IsNone (provable self.now.ledger.genesis.window (state_of self.now.ledger).chain.committed height) }
+        ensures ok { IfOk result (λ proof. IsSomeAnd (provable_block self.now.ledger.genesis.window (state_of self.now.ledger).chain.committed height) (λ block. proof ≡ written_proof (image block.records.core) (path key.now))) }
+        ensures unknown { (result ≡ Err NoConsensus) ↔ IsNone (provable_block self.now.ledger.genesis.window (state_of self.now.ledger).chain.committed height) }
         ensures err { IfErr result (λ refusal. (refusal ≡ NoConsensus) ⊎ (refusal ≡ NoMemory)) }
     {
         self.node.records.prove(height, key)
@@ -154,7 +154,7 @@ impl Ledger {
     /// Who holds how much of what in the working block: the amounts above 0, in the byte order of the accounts' texts and
     /// then of the denominations. `NoMemory` where a growth is refused.
     pub fn balances(&self) -> Result<Vec<(Account, Denom, u128)>, Refusal>
-        ensures ok { IfOk result (λ list. map plain_holding list.items ≡ (state_of self.now.ledger).chain.records.apps.balances) }
+        ensures ok { IfOk result (λ list. map abstract_holding list.items ≡ (state_of self.now.ledger).chain.records.apps.balances) }
         ensures err { IfErr result (λ refusal. refusal ≡ NoMemory) }
     {
         let bank = self.node.applications.transfers.bank();
@@ -164,7 +164,7 @@ impl Ledger {
     /// The notes that came over each channel of port `note`, in the order in which they came; the channels in the byte order
     /// of their names. `NoMemory` where a growth is refused.
     pub fn all_notes(&self) -> Result<Vec<(ChannelId, Vec<Bytes>)>, Refusal>
-        ensures ok { IfOk result (λ list. map plain_notes list.items ≡ (state_of self.now.ledger).chain.records.apps.notes) }
+        ensures ok { IfOk result (λ list. map abstract_notes list.items ≡ (state_of self.now.ledger).chain.records.apps.notes) }
         ensures err { IfErr result (λ refusal. refusal ≡ NoMemory) }
     {
         Ok(self.node.applications.notes.all(self.node.alloc)?)

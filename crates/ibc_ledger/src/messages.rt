@@ -4,11 +4,11 @@ ghost use Rattle.std.specs.Prelude.{◌≡◌};
 ghost use mathlib.Core.List.{IsPrefix};
 ghost use Rattle.ibc_machine.specs.declared.event.Event.TheVariants as event;
 ghost use Rattle.ibc_root_table.specs.Passes.{SamePass, KeepsOwn};
-ghost use Rattle.ibc_ledger.specs.Adding.{AddsOrNot};
-ghost use Rattle.ibc_ledger.specs.Answering.{IsReady, IsAnswer};
+ghost use Rattle.ibc_ledger.specs.HistoryGrowth.{AddsOrNot};
+ghost use Rattle.ibc_ledger.specs.MessageReplies.{IsReady, IsAnswer};
 
 use crate::entry::seen_if;
-use crate::node::Node;
+use crate::host_state::HostState;
 use crate::outcome::{Outcome, replies};
 use crate::{Ledger, StampedEntry};
 use ibc_ids::Refusal;
@@ -31,8 +31,8 @@ impl Ledger {
             drop(message);
             return Reply::No(Refusal::NoMemory);
         };
-        message.is_typed();
-        self.node.records.is_orderly();
+        message.lemma_typed();
+        self.node.records.lemma_orderly();
         let chain = self.node.number;
         let outcome = self.node.answer(&self.table, &mut self.pass, &message);
         let reading = outcome.reading;
@@ -55,7 +55,7 @@ impl Ledger {
     }
 }
 
-impl Node {
+impl HostState {
     // What becomes of a message.
     fn answer(&mut self, table: &RootTable, pass: &mut Pass, message: &Message) -> Outcome
         requires table { pass.old.table ≡ table.now }

@@ -3,7 +3,7 @@
 ghost use Rattle.std.specs.Prelude.{◌≡◌, None, Err, IfOk, IsOk, IsErr};
 ghost use Rattle.ibc_ids.specs.declared.refusal.Refusal.TheVariants.{NoMemory};
 ghost use Rattle.ibc_machine.specs.declared.reply.Effect.TheVariants as effect_of;
-ghost use Rattle.ibc_ledger.specs.Answering.{both, told_by, told_reply, kept_reply};
+ghost use Rattle.ibc_ledger.specs.MessageReplies.{effect_twice, result_effects, caller_reply, history_reply};
 
 use ibc_ids::{Bytes, Refusal, Root};
 use ibc_machine::{Effect, Reading, Reply};
@@ -11,7 +11,7 @@ use std::alloc::AllocError;
 
 /// An effect, once for the caller and once for the history.
 #[derive(Drop)]
-pub struct Effects {
+pub struct EffectTwice {
     pub told: Effect,
     pub kept: Effect,
 }
@@ -19,13 +19,13 @@ pub struct Effects {
 /// What became of a message, and what was read for it.
 #[derive(Drop)]
 pub struct Outcome {
-    pub result: Result<Effects, Refusal>,
+    pub result: Result<EffectTwice, Refusal>,
     pub reading: Option<Reading>,
 }
 
 impl Outcome {
     /// The outcome of a message that reads nothing.
-    pub fn unread(given: Result<Effects, Refusal>) -> Outcome
+    pub fn unread(given: Result<EffectTwice, Refusal>) -> Outcome
         ensures { result ≡ record { result = given; reading = None } }
     {
         Outcome {
@@ -35,13 +35,13 @@ impl Outcome {
     }
 }
 
-impl Effects {
+impl EffectTwice {
     /// The effects of a call that tells nothing.
-    pub fn of_nothing(given: Result<(), Refusal>) -> Result<Effects, Refusal>
-        ensures { result ≡ told_by (λ _. effect_of.None) given }
+    pub fn of_nothing(given: Result<(), Refusal>) -> Result<EffectTwice, Refusal>
+        ensures { result ≡ result_effects (λ _. effect_of.None) given }
     {
         match given {
-            Ok(()) => Ok(Effects {
+            Ok(()) => Ok(EffectTwice {
                 told: Effect::None,
                 kept: Effect::None,
             }),
@@ -50,11 +50,11 @@ impl Effects {
     }
 
     /// The effects of a call that sent a packet under this sequence.
-    pub fn of_sent(sent: Result<u64, Refusal>) -> Result<Effects, Refusal>
-        ensures { result ≡ told_by effect_of.Sent sent }
+    pub fn of_sent(sent: Result<u64, Refusal>) -> Result<EffectTwice, Refusal>
+        ensures { result ≡ result_effects effect_of.Sent sent }
     {
         match sent {
-            Ok(sequence) => Ok(Effects {
+            Ok(sequence) => Ok(EffectTwice {
                 told: Effect::Sent(sequence),
                 kept: Effect::Sent(sequence),
             }),
@@ -63,11 +63,11 @@ impl Effects {
     }
 
     /// The effects of a call that ended a block, by its height and its root.
-    pub fn of_block(ended: Result<(u64, Root), Refusal>) -> Result<Effects, Refusal>
-        ensures { result ≡ told_by (λ block. effect_of.Block block.0 block.1) ended }
+    pub fn of_block(ended: Result<(u64, Root), Refusal>) -> Result<EffectTwice, Refusal>
+        ensures { result ≡ result_effects (λ block. effect_of.Block block.0 block.1) ended }
     {
         match ended {
-            Ok((height, root)) => Ok(Effects {
+            Ok((height, root)) => Ok(EffectTwice {
                 told: Effect::Block(height, root),
                 kept: Effect::Block(height, root),
             }),
@@ -76,12 +76,12 @@ impl Effects {
     }
 
     /// The effects of a call that wrote an acknowledgement, of which it gives a copy too.
-    pub fn of_ack(written: Result<(Bytes, Bytes), Refusal>) -> Result<Effects, Refusal>
+    pub fn of_ack(written: Result<(Bytes, Bytes), Refusal>) -> Result<EffectTwice, Refusal>
         requires { IfOk written (λ acks. acks.1 ≡ acks.0) }
-        ensures { result ≡ told_by (λ acks. effect_of.Ack acks.0) written }
+        ensures { result ≡ result_effects (λ acks. effect_of.Ack acks.0) written }
     {
         match written {
-            Ok((ack, kept)) => Ok(Effects {
+            Ok((ack, kept)) => Ok(EffectTwice {
                 told: Effect::Ack(ack),
                 kept: Effect::Ack(kept),
             }),
@@ -91,8 +91,8 @@ impl Effects {
 }
 
 /// The replies that tell a result, once for the caller and once for the history. Error: memory ran out.
-pub fn replies(given: Result<Effects, Refusal>) -> Result<(Reply, Reply), AllocError>
-    ensures ok { IfOk result (λ replies. (replies.0 ≡ told_reply given) × (replies.1 ≡ kept_reply given)) }
+pub fn replies(given: Result<EffectTwice, Refusal>) -> Result<(Reply, Reply), AllocError>
+    ensures ok { IfOk result (λ replies. (replies.0 ≡ caller_reply given) × (replies.1 ≡ history_reply given)) }
     ensures plenty { IsOk result → given ≡ Err NoMemory → ⊥ }
     ensures err { IsErr result → given ≡ Err NoMemory }
 {

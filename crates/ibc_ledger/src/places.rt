@@ -3,7 +3,7 @@
 ghost use Rattle.std.specs.Prelude.{◌≡◌, ◌<◌, [], IfOk, OnOk, IsTrue};
 ghost use Rattle.ibc_ids.specs.Maps.{at};
 ghost use Rattle.ibc_ids.specs.Names.{is_port};
-ghost use Rattle.ibc_ledger.specs.Sent.{sender_of, sent_as, sent_cmp, with_first};
+ghost use Rattle.ibc_ledger.specs.SentNames.{sender_of, name_if_sent, sent_cmp, with_first};
 
 use ibc_ids::{ChannelId, PortId};
 use ibc_machine::{Effect, Reply};
@@ -27,10 +27,10 @@ pub struct SentPackets {
 
 impl Model for SentPackets {
     ghost use Rattle.std.specs.Prelude.{ℕ};
-    ghost use Rattle.ibc_maps.specs.Held.{HeldMap};
-    ghost use Rattle.ibc_ledger.specs.Sent.{SentName};
+    ghost use Rattle.ibc_maps.specs.SortedMapModel.{SortedMapModel};
+    ghost use Rattle.ibc_ledger.specs.SentNames.{SentName};
 
-    ghost Value = { HeldMap SentName ℕ };
+    ghost Value = { SortedMapModel SentName ℕ };
 
     ghost view = { λ sent. sent.places };
 }
@@ -79,7 +79,7 @@ impl SentPackets {
     /// Keeps the place of the packet that was sent by this reply, if one was. The first packet of a name stays.
     pub fn keep_first(&mut self, sender: Option<Sender>, reply: &Reply, place: usize)
         requires { 0 < self.old.room }
-        ensures { self.new.pairs ≡ with_first (sent_as sender reply.now) place self.old.pairs }
+        ensures { self.new.pairs ≡ with_first (name_if_sent sender reply.now) place self.old.pairs }
     {
         keep_in(&mut self.places, sender, reply, place);
     }
@@ -88,7 +88,7 @@ impl SentPackets {
 // Keeps the place of the packet that was sent by this reply, if one was.
 fn keep_in(places: &mut Places, sender: Option<Sender>, reply: &Reply, place: usize)
     requires { 0 < places.old.room }
-    ensures { places.new.pairs ≡ with_first (sent_as sender reply.now) place places.old.pairs }
+    ensures { places.new.pairs ≡ with_first (name_if_sent sender reply.now) place places.old.pairs }
 {
     let Some(sender) = sender else {
         return;

@@ -9,7 +9,7 @@ ghost use Rattle.ibc_machine.specs.chain.Records.{client_at, channel_at};
 ghost use Rattle.ibc_machine.specs.ics04.Channels.{client_of, peer_channel_of};
 ghost use Rattle.ibc_machine.specs.ics20.Bank.{balance, supply};
 ghost use Rattle.ibc_machine.specs.ledger.Ledgers.{state_of};
-ghost use Rattle.ibc_records.specs.Held.{core_of};
+ghost use Rattle.ibc_records.specs.RecordsModel.{core_of};
 
 use crate::Ledger;
 use ibc_ids::{Account, ChannelId, ConnectionId, Denom, PortId, Refusal};
@@ -63,14 +63,14 @@ impl Ledger {
     }
 
     /// Each denomination of which an account holds something has the form of one (ICS 20).
-    pub fn holds_denominations(&self)
+    pub fn lemma_holds_denominations(&self)
         ensures { list_all (λ entry. is_denom entry.0.1) (state_of self.now.ledger).chain.records.apps.balances ≡ true }
     {
         self.node
             .applications
             .transfers
             .bank()
-            .holds_denominations();
+            .lemma_holds_denominations();
     }
 }
 
@@ -83,7 +83,7 @@ fn named_in<'a>(
     ensures ok { IfOk result (λ found. MatchOption found (channel_at (core_of records.now) end.now.peer_port (peer_channel_of end.now) ≡ None) (λ named. (end.now.peer_channel ≡ Some named.0.now) × (channel_at (core_of records.now) end.now.peer_port named.0.now ≡ Some named.1.now))) }
     ensures err { IfErr result (λ refusal. refusal ≡ NoMemory) }
 {
-    records.names_are_names();
+    records.lemma_names_have_form();
     let Some(name) = &end.peer_channel else {
         return Ok(None);
     };
@@ -98,7 +98,7 @@ fn named_in<'a>(
 fn tracked_in(records: &Records, connection: &ConnectionId) -> Option<u8>
     ensures { result ≡ option_map (λ client. client.state.chain) (client_at (core_of records.now) (client_of (core_of records.now) connection.now)) }
 {
-    records.names_are_names();
+    records.lemma_names_have_form();
     let Some(end) = records.connection(connection) else {
         return None;
     };

@@ -3,7 +3,7 @@
 ghost use Rattle.std.specs.Prelude.{◌≡◌, Some, option_map, IfOk, IfErr};
 ghost use Rattle.ibc_ids.specs.declared.refusal.Refusal.TheVariants.{NoMemory};
 ghost use Rattle.ibc_wire.specs.declared.messages.Message.TheVariants as message;
-ghost use Rattle.ibc_ledger.specs.Sent.{commitment_by, commitment_in, packet_to};
+ghost use Rattle.ibc_ledger.specs.SentNames.{commitment_by, commitment_in, packet_to};
 
 use ibc_ids::{ChannelId, PortId, Refusal, Version};
 use ibc_machine::Event;

@@ -4,14 +4,14 @@ ghost use Rattle.std.specs.Prelude.{◌≡◌, ◌&&◌, ◌^◌, ◌<◌, nat_l
 ghost use Rattle.ibc_ids.specs.Names.{is_port, is_channel};
 ghost use Rattle.ibc_ids.specs.Paths.{path, is_key};
 ghost use Rattle.ibc_ids.specs.declared.refusal.Refusal.TheVariants.{NoMemory};
-ghost use Rattle.ibc_merkle.specs.Written.{written};
+ghost use Rattle.ibc_merkle.specs.Written.{written_proof};
 ghost use Rattle.ibc_machine.specs.ics24.Image.{image, core_root, IsKeyed};
 ghost use Rattle.ibc_wire.specs.Spelling.{proof_bytes};
-ghost use Rattle.ibc_ledger.specs.Proved.{IsProved};
+ghost use Rattle.ibc_ledger.specs.ProvedView.{IsProved};
 
 use ibc_ids::{Bytes, ChannelId, Key, PortId, Refusal, Root};
-use ibc_path_store::Tree;
-use ibc_records::PlainRecords;
+use ibc_path_store::CommittedTree;
+use ibc_records::CoreRecords;
 use ibc_wire::encode;
 use std::alloc::Global;
 use std::marker::Model;
@@ -26,13 +26,13 @@ pub struct View {
     height: u64,
     time: u64,
     working_time: u64,
-    plain: Arc<PlainRecords, Global>,
-    tree: Option<Tree>,
+    plain: Arc<CoreRecords, Global>,
+    tree: Option<CommittedTree>,
 }
 
 impl Model for View {
     ghost use Rattle.ibc_machine.specs.ics18.Relay.{View as PlainView};
-    ghost use Rattle.ibc_ledger.specs.Proved.{IsProved};
+    ghost use Rattle.ibc_ledger.specs.ProvedView.{IsProved};
 
     ghost Value = { PlainView };
 
@@ -54,8 +54,8 @@ impl View {
         chain: u8,
         height: u64,
         times: (u64, u64),
-        plain: Arc<PlainRecords, Global>,
-        tree: Option<Tree>,
+        plain: Arc<CoreRecords, Global>,
+        tree: Option<CommittedTree>,
     ) -> View
         requires { IsProved height plain.value tree }
         ensures { result ≡ record { chain = chain; height = height; time = times.0; working_time = times.1; core = plain.value } }
@@ -100,14 +100,14 @@ impl View {
     }
 
     /// What stood at the height, in plain.
-    pub fn plain(&self) -> &PlainRecords
+    pub fn plain(&self) -> &CoreRecords
         ensures { result.now ≡ self.now.core }
     {
         &self.plain
     }
 
     /// Every key that has a value has names for its names (ICS 24, "Identifiers").
-    pub fn names_are_names(&self)
+    pub fn lemma_names_have_form(&self)
         ensures { IsKeyed self.now.core }
     {
         let _height = self.height;
@@ -128,10 +128,10 @@ impl View {
     /// (ICS 23, "CommitmentProof"). Nothing is hashed for it. `NoMemory` where a growth is refused.
     pub fn prove(&self, alloc: Global, key: &Key) -> Result<Bytes, Refusal>
         requires { 0 < self.now.height }
-        ensures ok { IfOk result (λ bytes. bytes ≡ proof_bytes (written (image self.now.core) (path key.now))) }
+        ensures ok { IfOk result (λ bytes. bytes ≡ proof_bytes (written_proof (image self.now.core) (path key.now))) }
         ensures err { IfErr result (λ refusal. refusal ≡ NoMemory) }
     {
-        is_named(key);
+        lemma_is_named(key);
         let Some(tree) = &self.tree else {
             unreachable!();
         };
@@ -144,33 +144,35 @@ impl View {
 }
 
 // A key has names for its names (ICS 24, "Identifiers").
-fn is_named(key: &Key)
+fn lemma_is_named(key: &Key)
     ensures { IsTrue (is_key key.now) }
 {
     match key {
-        Key::ClientState(id) => id.has_its_form(),
-        Key::Connection(id) => id.has_its_form(),
+        Key::ClientState(id) => id.lemma_has_form(),
+        Key::Connection(id) => id.lemma_has_form(),
         Key::ChannelEnd(port, channel)
         | Key::NextSequenceSend(port, channel)
         | Key::NextSequenceRecv(port, channel)
-        | Key::NextSequenceAck(port, channel) => are_names(port, channel),
+        | Key::NextSequenceAck(port, channel) => lemma_are_names(port, channel),
         Key::Commitment(port, channel, sequence)
         | Key::Receipt(port, channel, sequence)
-        | Key::Acknowledgement(port, channel, sequence) => name_a_packet(port, channel, *sequence),
+        | Key::Acknowledgement(port, channel, sequence) => lemma_packet_is_named(
+            port, channel, *sequence,
+        ),
         Key::NextClientSequence | Key::NextConnectionSequence | Key::NextChannelSequence => (),
     }
 }
 
-fn are_names(port: &PortId, channel: &ChannelId)
+fn lemma_are_names(port: &PortId, channel: &ChannelId)
     ensures { IsTrue (is_port port.now && is_channel channel.now) }
 {
-    port.has_its_form();
-    channel.has_its_form();
+    port.lemma_has_form();
+    channel.lemma_has_form();
 }
 
-fn name_a_packet(port: &PortId, channel: &ChannelId, sequence: u64)
+fn lemma_packet_is_named(port: &PortId, channel: &ChannelId, sequence: u64)
     ensures { IsTrue (is_port port.now && is_channel channel.now && nat_lt sequence (2 ^ 64)) }
 {
-    are_names(port, channel);
+    lemma_are_names(port, channel);
     let _sequence = sequence;
 }

@@ -4,11 +4,11 @@ ghost use Rattle.std.specs.Prelude.{◌≡◌, ◌<◌, IsSome, IfOk, IfErr, opt
 ghost use Rattle.ibc_ids.specs.declared.refusal.Refusal.TheVariants.{NoMemory};
 ghost use Rattle.ibc_machine.specs.ledger.Ledgers.{state_of};
 ghost use Rattle.ibc_machine.specs.ics18.Relay.{view_of};
-ghost use Rattle.ibc_path_store.specs.Held.{kept_at};
+ghost use Rattle.ibc_path_store.specs.StoreModel.{kept_at};
 
 use crate::{Ledger, View};
 use ibc_ids::Refusal;
-use ibc_path_store::Tree;
+use ibc_path_store::CommittedTree;
 use ibc_records::Records;
 
 impl Ledger {
@@ -19,7 +19,7 @@ impl Ledger {
         ensures ok { IfOk result (λ view. view ≡ view_of self.now.ledger.chain (state_of self.now.ledger).chain) }
         ensures err { IfErr result (λ refusal. refusal ≡ NoMemory) }
     {
-        self.table.holds_what_is_seen(&self.pass);
+        self.table.lemma_holds_what_is_seen(&self.pass);
         let records = &self.node.records;
         let height = records.height();
         let tree = tree_at(records, height)?;
@@ -30,7 +30,7 @@ impl Ledger {
 }
 
 // The tree of a height that is kept, and none at height 0.
-fn tree_at(records: &Records, height: u64) -> Result<Option<Tree>, Refusal>
+fn tree_at(records: &Records, height: u64) -> Result<Option<CommittedTree>, Refusal>
     requires kept { 0 < height → IsSome (kept_at records.now.store height) }
     ensures ok { IfOk result (λ tree. 0 < height → tree ≡ option_map (λ kept. kept.0) (kept_at records.now.store height)) }
     ensures err { IfErr result (λ refusal. refusal ≡ NoMemory) }

@@ -11,18 +11,18 @@ use Rattle.ibc_machine.specs.declared.reply.Reply.{Reply}
 use Rattle.ibc_machine.specs.declared.reply.Reply.TheVariants as reply
 use Rattle.ibc_machine.specs.ledger.Ledgers.{Ledger, SeesMore, AddsNext}
 use Rattle.ibc_machine.specs.ledger.Replay.{StampedEntry}
-use Rattle.ibc_ledger.specs.Adding.{AddsOrNot}
-use Rattle.ibc_ledger_lock.specs.Accounts.{Known}
-use Rattle.ibc_ledger_lock.specs.Books.{IsBeginning, reader}
-use Rattle.ibc_ledger_lock.specs.Worlds.{Claim, Holds, IsToldOf, claim_of, known_of}
-use Rattle.ibc_ledger_lock.specs.declared.book.Knowledge.{Knowledge}
+use Rattle.ibc_ledger.specs.HistoryGrowth.{AddsOrNot}
+use Rattle.ibc_ledger_lock.specs.KnownLedgers.{KnownLedger}
+use Rattle.ibc_ledger_lock.specs.Books.{IsKnownBeginning, reader}
+use Rattle.ibc_ledger_lock.specs.ReceiptsAndReadings.{ReceiptClaim, ClaimHolds, IsReceiptOf, claim_of, known_of}
+use Rattle.ibc_ledger_lock.specs.declared.book.BookKnowledge.{BookKnowledge}
 use Rattle.ibc_ledger_lock.proofs.Noting.{last_is, stands}
 
 abbrev pub Claiming : Type 0
-Claiming = Seat (Unit {0}) Knowledge
+Claiming = Seat (Unit {0}) BookKnowledge
 
 -- what a seat claims
-abbrev pub claims : Option Claiming → Option Claim
+abbrev pub claims : Option Claiming → Option ReceiptClaim
 claims = option_and_then (λ c. claim_of c.me.0.part.history)
 
 -- a receipt of this reply is kept
@@ -35,7 +35,7 @@ module _ (old new : Ledger) (event : Event) (given : Reply) (chain : ℕ) (book 
     (of_book : seat.table_id ≡ book) (knows : seat.me ≡ (reader (known_of new), [])) where
   -- all that is to be said of it
   abbrev pub Says : Type 0
-  Says = IsToldOf event (record { chain = chain; reply = given; claim = claims o })
+  Says = IsReceiptOf event (record { chain = chain; reply = given; claim = claims o })
       × IfSome (claims o) (λ c. c.place ≡ length old.history) × IsReceipt book given o
 
   says_nothing : given ≡ reply.No NoMemory → o ≡ None → Says
@@ -53,15 +53,15 @@ module _ (old new : Ledger) (event : Event) (given : Reply) (chain : ℕ) (book 
       let w = last_is old new event given adds in
       let e = w.0 in
       let claim : claims o ≡ Some (record { place = length new.history - 1; event = e.entry.event }) =
-      ap claims some ∙ ap (λ (k : Known). claim_of k.history) part_is
+      ap claims some ∙ ap (λ (k : KnownLedger). claim_of k.history) part_is
       ∙ ap (option_map (λ (x : StampedEntry). record { place = length new.history - 1; event = x.entry.event })) w.1.last in
       let last : IsSomeAnd (last_or None seat.me.0.part.history) (λ x. x.entry.reply ≡ given) =
-      subst (λ (k : Known). IsSomeAnd (last_or None k.history) (λ x. x.entry.reply ≡ given)) (sym part_is)
+      subst (λ (k : KnownLedger). IsSomeAnd (last_or None k.history) (λ x. x.entry.reply ≡ given)) (sym part_is)
       (subst (λ (p : Option StampedEntry). IsSomeAnd p (λ x. x.entry.reply ≡ given)) (sym w.1.last) w.1.answered) in (
-        inr (answered, subst (λ (p : Option Claim). IsSomeAnd p (λ c. c.event ≡ event)) (sym claim) w.1.asked),
-        subst (λ (p : Option Claim). IfSome p (λ c. c.place ≡ length old.history)) (sym claim) w.1.place,
+        inr (answered, subst (λ (p : Option ReceiptClaim). IsSomeAnd p (λ c. c.event ≡ event)) (sym claim) w.1.asked),
+        subst (λ (p : Option ReceiptClaim). IfSome p (λ c. c.place ≡ length old.history)) (sym claim) w.1.place,
         subst (IsReceipt book given) (sym some)
-            (inr (answered, refl), (of_book, knows ∙ ap (λ (k : Known). (reader k, [])) (sym part_is), last)),
+            (inr (answered, refl), (of_book, knows ∙ ap (λ (k : KnownLedger). (reader k, [])) (sym part_is), last)),
       )
 
   pub says : AddsOrNot old event given new → (given ≡ reply.No NoMemory → o ≡ None) → ((given ≡ reply.No NoMemory → ⊥) → o ≡ Some seat) → Says
@@ -72,21 +72,21 @@ module _ (old new : Ledger) (event : Event) (given : Reply) (chain : ℕ) (book 
       adds
 
 -- what is claimed stands in the history of which the claimant knows a beginning
-pub found : (ledger : Ledger) (chain : ℕ) (given : Reply) (part : Known) → IsBeginning part (known_of ledger)
+pub found : (ledger : Ledger) (chain : ℕ) (given : Reply) (part : KnownLedger) → IsKnownBeginning part (known_of ledger)
     → IsSomeAnd (last_or None part.history) (λ e. e.entry.reply ≡ given)
-    → Holds ledger (record { chain = chain; reply = given; claim = claim_of part.history })
+    → ClaimHolds ledger (record { chain = chain; reply = given; claim = claim_of part.history })
 found ledger chain given part begins last = by_last (last_or None part.history) refl last
   where
     by_last : (o : Option StampedEntry) → last_or None part.history ≡ o → IsSomeAnd o (λ e. e.entry.reply ≡ given)
-        → Holds ledger (record { chain = chain; reply = given; claim = claim_of part.history })
+        → ClaimHolds ledger (record { chain = chain; reply = given; claim = claim_of part.history })
     by_last None is replied = absurd replied
     by_last (Some e) is replied =
         let claim : claim_of part.history ≡ Some (record { place = length part.history - 1; event = e.entry.event }) =
         ap (option_map (λ (x : StampedEntry). record { place = length part.history - 1; event = x.entry.event })) is in
-        subst (λ (c : Option Claim). Holds ledger (record { chain = chain; reply = given; claim = c })) (sym claim)
+        subst (λ (c : Option ReceiptClaim). ClaimHolds ledger (record { chain = chain; reply = given; claim = c })) (sym claim)
         (stands ledger part e begins is ∙ ap (λ (r : Reply). Some (e.entry.event, r)) replied)
 
 pub holds_found : (ledger : Ledger) (chain : ℕ) (book : TableId) (given : Reply) (o : Option Claiming) → IsReceipt book given o
-    → ((c : Claiming) → o ≡ Some c → IsBeginning c.me.0.part (known_of ledger)) → Holds ledger (record { chain = chain; reply = given; claim = claims o })
+    → ((c : Claiming) → o ≡ Some c → IsKnownBeginning c.me.0.part (known_of ledger)) → ClaimHolds ledger (record { chain = chain; reply = given; claim = claims o })
 holds_found ledger chain book given None is begins = tt
 holds_found ledger chain book given (Some c) is begins = found ledger chain given c.me.0.part (begins c refl) is.1.2

@@ -13,15 +13,15 @@ use Rattle.ibc_machine.specs.declared.reply.Reply.TheVariants as reply
 use Rattle.ibc_machine.specs.chain.Genesis.{GenesisState}
 use Rattle.ibc_machine.specs.chain.Handlers.{after_block, block_answer}
 use Rattle.ibc_machine.specs.ledger.Ledgers.{Ledger, IsLedger, IsOwnEntry, SeesMore, AddsNext, is_block_reply, state_of}
-use Rattle.ibc_machine.specs.chain.Records.{Block, Chain}
+use Rattle.ibc_machine.specs.chain.Records.{Block, MachineChain}
 use Rattle.ibc_machine.specs.ics18.Relay.{View, view_at, view_of}
 use Rattle.ibc_machine.specs.ledger.Replay.{LedgerState, StampedEntry, entry_answer, ledger_answer, met_states, replay, starting_state, with_chain}
 use Rattle.ibc_merkle.proofs.Sorted.{last-push}
 use Rattle.ibc_root_table.specs.Passes.{TableName}
 use Rattle.ibc_refinement.proofs.EntrySteps.{replay_more}
-use Rattle.ibc_ledger.specs.Adding.{AddsOrNot}
-use Rattle.ibc_ledger.specs.Held.{HeldLedger}
-use Rattle.ibc_ledger_lock.specs.Worlds.{Told, IsOfWorld, IsViewOf, IsEndOf, ShowsEnd}
+use Rattle.ibc_ledger.specs.HistoryGrowth.{AddsOrNot}
+use Rattle.ibc_ledger.specs.LedgerModel.{LedgerModel}
+use Rattle.ibc_ledger_lock.specs.ReceiptsAndReadings.{ReceiptModel, IsOfWorld, IsViewOf, IsEndOf, ShowsEnd}
 use Rattle.ibc_ledger_lock.proofs.Noting.{same}
 
 last_met : (P : LedgerState × StampedEntry → Type 0) (genesis : GenesisState) (k : ℕ) (seen : List Publication) (state : LedgerState) (history : List StampedEntry) (e : StampedEntry)
@@ -35,7 +35,7 @@ ended : (k : ℕ) (s : LedgerState) (t : ℕ) (x : Checked ⊤) (height : ℕ) (
     → (view_of k (with_chain s (after_block s.chain t x)).1.chain).height ≡ height
 ended k s t (Ok may) height root e =
     let block : Block = record { records = s.chain.records; time = s.chain.time } in
-    let chain : Chain = record { records = s.chain.records; time = t; committed = s.chain.committed ++ block ∷ [] } in
+    let chain : MachineChain = record { records = s.chain.records; time = t; committed = s.chain.committed ++ block ∷ [] } in
     let same : height ≡ length s.chain.committed + 1 = cc in
     ap (λ o. (view_at k chain o).height) (last-push None s.chain.committed block)
     ∙ length-append s.chain.committed (block ∷ []) ∙ sym same
@@ -85,14 +85,14 @@ told_height (reply.Ok (effect.Sent _)) e = absurd (cc)
 told_height (reply.Ok (effect.Ack _)) e = absurd (cc)
 told_height (reply.No _) e = absurd (cc)
 
-pub of_chain : (k : ℕ) (chain : Chain) → (view_of k chain).chain ≡ k
+pub of_chain : (k : ℕ) (chain : MachineChain) → (view_of k chain).chain ≡ k
 of_chain k chain = by_last (last_or None chain.committed)
   where
     by_last : (o : Option Block) → (view_at k chain o).chain ≡ k
     by_last None = refl
     by_last (Some last) = refl
 
-module _ (table : TableName) (genesis : GenesisState) (old : Ledger) (new : HeldLedger) (t : ℕ) (told : Told)
+module _ (table : TableName) (genesis : GenesisState) (old : Ledger) (new : LedgerModel) (t : ℕ) (told : ReceiptModel)
     (adds : AddsOrNot old (event.Block old.chain t) told.reply new.ledger) (chain : told.chain ≡ old.chain)
     (world : IsOfWorld table genesis new) (is : IsLedger new.ledger) (end : is_block_reply told.reply ≡ true) where
   abbrev seen : View

@@ -14,25 +14,25 @@ use Rattle.ibc_refinement.proofs.SeenMore.{replay_stays}
 use Rattle.ibc_root_table.proofs.Beginnings.{prefix_get, take-prefix_whole}
 use Rattle.ibc_root_table.specs.Passes.{TableName}
 use Rattle.ibc_machine.specs.chain.Genesis.{GenesisState}
-use Rattle.ibc_ledger.specs.Adding.{AddsOrNot}
-use Rattle.ibc_ledger.specs.Held.{HeldLedger}
+use Rattle.ibc_ledger.specs.HistoryGrowth.{AddsOrNot}
+use Rattle.ibc_ledger.specs.LedgerModel.{LedgerModel}
 use Rattle.ibc_ledger.specs.SentPackets.{happened_of, happened_on}
 use Rattle.atomic_table.specs.Table.{Me}
-use Rattle.ibc_ledger_lock.specs.Accounts.{Known}
-use Rattle.ibc_ledger_lock.specs.Books.{IsBeginning, keeper, reader}
-use Rattle.ibc_ledger_lock.specs.declared.book.Knowledge.{Knowledge}
-use Rattle.ibc_ledger_lock.specs.Worlds.{IsEarlier, WasOnce, known_of, ledger_as, state_after}
+use Rattle.ibc_ledger_lock.specs.KnownLedgers.{KnownLedger}
+use Rattle.ibc_ledger_lock.specs.Books.{IsKnownBeginning, keeper, reader}
+use Rattle.ibc_ledger_lock.specs.declared.book.BookKnowledge.{BookKnowledge}
+use Rattle.ibc_ledger_lock.specs.ReceiptsAndReadings.{IsEarlier, IsEarlierOnItsChain, known_of, ledger_as, state_after}
 
 -- ---- what a call adds
 
 -- the ledger goes on
-pub goes_on : (old new : Ledger) (event : Event) (given : Reply) → AddsOrNot old event given new → IsBeginning (known_of old) (known_of new)
+pub goes_on : (old new : Ledger) (event : Event) (given : Reply) → AddsOrNot old event given new → IsKnownBeginning (known_of old) (known_of new)
 goes_on old new event given =
     ⊎_elim
     (λ (no : (given ≡ reply.No NoMemory) × SeesMore old new).
-    subst (λ (l : Ledger). IsBeginning (known_of old) (known_of l)) (sym no.1.1) (([], append-nil old.history), (no.1.0, refl)))
+    subst (λ (l : Ledger). IsKnownBeginning (known_of old) (known_of l)) (sym no.1.1) (([], append-nil old.history), (no.1.0, refl)))
     (λ (yes : (given ≡ reply.No NoMemory → ⊥) × AddsNext old event given new).
-    subst (λ (l : Ledger). IsBeginning (known_of old) (known_of l)) (sym yes.1.4) ((yes.1.0 ∷ [], refl), (yes.1.1, refl)))
+    subst (λ (l : Ledger). IsKnownBeginning (known_of old) (known_of l)) (sym yes.1.4) ((yes.1.0 ∷ [], refl), (yes.1.1, refl)))
 
 -- the chain and the genesis stay
 pub same : (old new : Ledger) (event : Event) (given : Reply) → AddsOrNot old event given new
@@ -65,14 +65,14 @@ last_is old new event given (e, more, asked, answered, is, _, _) = (
 
 -- ---- seats
 
-pub keeps_whole : (me : Me (Unit {0}) Knowledge) (all : Known) → me ≡ (keeper all, []) → me ≡ (keeper me.0.whole, [])
-keeps_whole me all is = is ∙ ap (λ (k : Known). (keeper k, [])) (sym (ap (λ m. m.0.whole) is))
+pub keeps_whole : (me : Me (Unit {0}) BookKnowledge) (all : KnownLedger) → me ≡ (keeper all, []) → me ≡ (keeper me.0.whole, [])
+keeps_whole me all is = is ∙ ap (λ (k : KnownLedger). (keeper k, [])) (sym (ap (λ m. m.0.whole) is))
 
-pub reads_part : (me : Me (Unit {0}) Knowledge) (part : Known) → me ≡ (reader part, []) → me ≡ (reader me.0.part, [])
-reads_part me part is = is ∙ ap (λ (k : Known). (reader k, [])) (sym (ap (λ m. m.0.part) is))
+pub reads_part : (me : Me (Unit {0}) BookKnowledge) (part : KnownLedger) → me ≡ (reader part, []) → me ≡ (reader me.0.part, [])
+reads_part me part is = is ∙ ap (λ (k : KnownLedger). (reader k, [])) (sym (ap (λ m. m.0.part) is))
 
-pub later_of : (me : Me (Unit {0}) Knowledge) (all now : Known) → me ≡ (keeper all, []) → IsBeginning all now → IsBeginning me.0.whole now
-later_of me all now is begins = subst (λ (k : Known). IsBeginning k now) (sym (ap (λ m. m.0.whole) is)) begins
+pub later_of : (me : Me (Unit {0}) BookKnowledge) (all now : KnownLedger) → me ≡ (keeper all, []) → IsKnownBeginning all now → IsKnownBeginning me.0.whole now
+later_of me all now is begins = subst (λ (k : KnownLedger). IsKnownBeginning k now) (sym (ap (λ m. m.0.whole) is)) begins
 
 -- ---- what was so once
 
@@ -94,14 +94,14 @@ last_at e (x ∷ xs) is =
     ap (λ k. slice_get (x ∷ xs) k) less ∙ last_after x e xs is
 
 -- the last entry of a beginning stands in the history
-pub stands : (ledger : Ledger) (part : Known) (e : StampedEntry) → IsBeginning part (known_of ledger) → last_or None part.history ≡ Some e
+pub stands : (ledger : Ledger) (part : KnownLedger) (e : StampedEntry) → IsKnownBeginning part (known_of ledger) → last_or None part.history ≡ Some e
     → slice_get (happened_on ledger) (length part.history - 1) ≡ Some (e.entry.event, e.entry.reply)
 stands ledger part e begins last =
     mapped_at happened_of ledger.history (length part.history - 1) e
     (prefix_get part.history ledger.history (length part.history - 1) e begins.0 (last_at e part.history last))
 
 -- the ledger as it is read
-pub as_read : (table : TableName) (genesis : GenesisState) (chain : ℕ) (held : HeldLedger) → held.table ≡ table → held.ledger.genesis ≡ genesis
+pub as_read : (table : TableName) (genesis : GenesisState) (chain : ℕ) (held : LedgerModel) → held.table ≡ table → held.ledger.genesis ≡ genesis
     → chain ≡ held.ledger.chain → ledger_as table genesis chain (known_of held.ledger) ≡ held
 as_read table genesis chain held of_table of_genesis number i = record {
   ledger = record { genesis = sym of_genesis i; chain = number i; history = held.ledger.history; seen = held.ledger.seen };
@@ -109,8 +109,8 @@ as_read table genesis chain held of_table of_genesis number i = record {
 }
 
 -- the ledger was once as it was read
-pub was_once : (table : TableName) (genesis : GenesisState) (chain : ℕ) (part : Known) (held : HeldLedger) → held.ledger.genesis ≡ genesis
-    → IsBeginning part (known_of held.ledger) → WasOnce held (ledger_as table genesis chain part)
+pub was_once : (table : TableName) (genesis : GenesisState) (chain : ℕ) (part : KnownLedger) (held : LedgerModel) → held.ledger.genesis ≡ genesis
+    → IsKnownBeginning part (known_of held.ledger) → IsEarlierOnItsChain held (ledger_as table genesis chain part)
 was_once table genesis chain part held of_genesis begins number = (
   begins.0.0,
   begins.1.0,

@@ -2,10 +2,10 @@
 
 ghost use Rattle.std.specs.Prelude.{◌≡◌, IfErr, IfSome};
 ghost use Rattle.ibc_ids.specs.declared.refusal.Refusal.TheVariants.{NoMemory};
-ghost use Rattle.ibc_ledger_lock.specs.Worlds.{IsViewOf, ShowsEnd};
+ghost use Rattle.ibc_ledger_lock.specs.ReceiptsAndReadings.{IsViewOf, ShowsEnd};
 
 use crate::receipt::Receipt;
-use crate::world::World;
+use crate::world::WorldBrand;
 use boxcar::Keeps;
 use boxcar::tag::Tag;
 use ibc_ids::Refusal;
@@ -16,23 +16,23 @@ use std::sync::Wait;
 use std::sync::atomic::{AtomicUsize, Ordering};
 
 /// What stands on the board is the view of a ledger of the world.
-pub struct OfWorld<W: World>(PhantomData<W>);
+pub struct OfWorld<W: WorldBrand>(PhantomData<W>);
 
-impl<W: World> Keeps<View> for OfWorld<W> {
-    ghost use Rattle.ibc_ledger_lock.specs.Worlds.{IsViewOf};
+impl<W: WorldBrand> Keeps<View> for OfWorld<W> {
+    ghost use Rattle.ibc_ledger_lock.specs.ReceiptsAndReadings.{IsViewOf};
 
     ghost holds = { λ tag index view. IsViewOf W.table W.genesis view };
 }
 
 /// The views that the chains of a world posted. It only grows, and reading it takes no lock.
 #[derive(Drop)]
-pub struct Board<W: World> {
+pub struct Board<W: WorldBrand> {
     views: boxcar::Vec<View, Global, OfWorld<W>>,
     // for each chain the index of its newest view that is known; an old one costs a longer scan and nothing else
     hints: Vec<AtomicUsize>,
 }
 
-impl<W: World> Board<W> {
+impl<W: WorldBrand> Board<W> {
     /// A board with no views. `NoMemory` where a growth is refused.
     pub fn new(alloc: Global) -> Result<Board<W>, Refusal>
         ensures { IfErr result (λ refusal. refusal ≡ NoMemory) }

@@ -1,9 +1,9 @@
 //! The book of a chain: its keeper knows the ledger as it is, and others each know it as it was once. It exists in proofs
 //! alone, but for one word.
 ghost use Rattle.std.specs.Prelude.{◌≡◌, ◌<◌, []};
-ghost use Rattle.ibc_ledger_lock.specs.Accounts.{nothing_known};
-ghost use Rattle.ibc_ledger_lock.specs.Books.{IsBeginning, keeper, reader};
-ghost use Rattle.ibc_ledger_lock.specs.Worlds.{known_of};
+ghost use Rattle.ibc_ledger_lock.specs.KnownLedgers.{nothing_known};
+ghost use Rattle.ibc_ledger_lock.specs.Books.{IsKnownBeginning, keeper, reader};
+ghost use Rattle.ibc_ledger_lock.specs.ReceiptsAndReadings.{known_of};
 
 use atomic_table::{Join, Play, Seat, Split, Table, TableRule};
 use ibc_ledger::Ledger;
@@ -11,57 +11,57 @@ use std::alloc::{AllocError, Global};
 use std::marker::{Brand, Model, PhantomData};
 
 /// What is known of a ledger. No value of it is made.
-pub struct Account;
+pub struct LedgerKnowledge;
 
-impl Model for Account {
-    ghost use Rattle.ibc_ledger_lock.specs.Accounts.{Known, nothing_known};
+impl Model for LedgerKnowledge {
+    ghost use Rattle.ibc_ledger_lock.specs.KnownLedgers.{KnownLedger, nothing_known};
 
-    ghost Value = { Known };
+    ghost Value = { KnownLedger };
 
     ghost view = { λ _. nothing_known };
 }
 
 /// What a seat knows: the keeper all, and another a beginning. No value of it is made.
-pub struct Knowledge {
+pub struct BookKnowledge {
     pub keeps: bool,
-    pub whole: Account,
+    pub whole: LedgerKnowledge,
     pub claims: bool,
-    pub part: Account,
+    pub part: LedgerKnowledge,
 }
 
 /// There is one keeper, and what others know is a beginning of what it knows.
 pub struct OneHistory;
 
-impl TableRule<(), Knowledge, ()> for OneHistory {
-    ghost use Rattle.ibc_ledger_lock.specs.Accounts.{nothing_known};
-    ghost use Rattle.ibc_ledger_lock.specs.Books.{keeper, IsKept};
+impl TableRule<(), BookKnowledge, ()> for OneHistory {
+    ghost use Rattle.ibc_ledger_lock.specs.KnownLedgers.{nothing_known};
+    ghost use Rattle.ibc_ledger_lock.specs.Books.{keeper, IsBookState};
 
-    ghost holds = { λ _ s. IsKept s };
+    ghost holds = { λ _ s. IsBookState s };
 
     ghost first = { λ _. keeper nothing_known };
 }
 
-pub type Book = Table<(), Knowledge, (), OneHistory, Global>;
+pub type Book = Table<(), BookKnowledge, (), OneHistory, Global>;
 
-pub type Place = Seat<(), Knowledge>;
+pub type BookSeat = Seat<(), BookKnowledge>;
 
 /// What is known of a ledger that a proof picks.
-pub trait Tells {
-    ghost use Rattle.ibc_ledger_lock.specs.Accounts.{Known};
+pub trait PickedKnowledge {
+    ghost use Rattle.ibc_ledger_lock.specs.KnownLedgers.{KnownLedger};
 
-    ghost account: { Known };
+    ghost account: { KnownLedger };
 }
 
-impl Tells for Brand {
-    ghost use Rattle.ibc_ledger_lock.specs.Accounts.{nothing_known};
+impl PickedKnowledge for Brand {
+    ghost use Rattle.ibc_ledger_lock.specs.KnownLedgers.{nothing_known};
 
     ghost account = { nothing_known };
 }
 
 /// The keeper knows more, and the new seat knows as much.
-struct Grows<X: Tells>(PhantomData<X>);
+struct KeeperGrows<X: PickedKnowledge>(PhantomData<X>);
 
-impl<X: Tells> Split<Knowledge> for Grows<X> {
+impl<X: PickedKnowledge> Split<BookKnowledge> for KeeperGrows<X> {
     ghost use Rattle.ibc_ledger_lock.specs.Books.{keeper, reader};
 
     ghost left = { λ v. keeper X.account };
@@ -72,7 +72,7 @@ impl<X: Tells> Split<Knowledge> for Grows<X> {
 /// What is claimed once more.
 struct Again;
 
-impl Split<Knowledge> for Again {
+impl Split<BookKnowledge> for Again {
     ghost use Rattle.ibc_ledger_lock.specs.Books.{reader};
 
     ghost left = { λ v. v };
@@ -83,34 +83,34 @@ impl Split<Knowledge> for Again {
 /// The keeper is shown a beginning.
 struct Shows;
 
-impl Join<Knowledge> for Shows {
-    ghost use Rattle.ibc_ledger_lock.specs.Books.{nobody, shown};
+impl Join<BookKnowledge> for Shows {
+    ghost use Rattle.ibc_ledger_lock.specs.Books.{no_knowledge, claim_to_keeper};
 
-    ghost both = { shown };
+    ghost both = { claim_to_keeper };
 
-    ghost spent = { nobody };
+    ghost spent = { no_knowledge };
 }
 
 /// The keeper finds that the beginning is one.
 struct Checks;
 
-impl Play<(), Knowledge> for Checks {
-    ghost use Rattle.ibc_ledger_lock.specs.Books.{Checked};
+impl Play<(), BookKnowledge> for Checks {
+    ghost use Rattle.ibc_ledger_lock.specs.Books.{ChecksClaim};
 
-    ghost then = { λ st m found m'. Checked m m' };
+    ghost then = { λ st m found m'. ChecksClaim m m' };
 }
 
 /// A book in which nothing is known yet, for one chain. Contracts see its name.
 #[derive(Drop)]
-pub struct Opened {
+pub struct UnusedBook {
     pub(crate) book: Book,
-    pub(crate) seat: Place,
+    pub(crate) seat: BookSeat,
 }
 
-impl Model for Opened {
+impl Model for UnusedBook {
     ghost use Rattle.std.specs.Prelude.{◌≡◌, ◌<◌, []};
     ghost use Rattle.atomic_table.specs.Seated.{TableId};
-    ghost use Rattle.ibc_ledger_lock.specs.Accounts.{nothing_known};
+    ghost use Rattle.ibc_ledger_lock.specs.KnownLedgers.{nothing_known};
     ghost use Rattle.ibc_ledger_lock.specs.Books.{keeper};
 
     ghost Value = { TableId };
@@ -120,35 +120,39 @@ impl Model for Opened {
     ghost invariant = { λ o. (o.seat.table_id ≡ o.book.shared.table_id) × (0 < o.book.shared.table_id.words) × (o.seat.me ≡ (keeper nothing_known, [])) };
 }
 
-impl Opened {
+impl UnusedBook {
     /// A new book. The error is that a growth was refused.
-    pub fn new(alloc: Global) -> Result<Opened, AllocError> {
+    pub fn new(alloc: Global) -> Result<UnusedBook, AllocError> {
         let words = [0u64; 1];
-        let (book, seat): (Book, Place) = Table::of_words(alloc, &words, &())?;
-        Ok(Opened { book, seat })
+        let (book, seat): (Book, BookSeat) = Table::of_words(alloc, &words, &())?;
+        Ok(UnusedBook { book, seat })
     }
 }
 
 /// The keeper knows a ledger that has gone on, and the new seat knows it as it is now.
-pub(crate) fn note<X: Tells>(book: &Book, seat: &mut Place, ledger: &Ledger) -> Place
+pub(crate) fn note<X: PickedKnowledge>(
+    book: &Book,
+    seat: &mut BookSeat,
+    ledger: &Ledger,
+) -> BookSeat
     requires told { known_of ledger.now.ledger ≡ X.account }
     requires book { (seat.old.table_id ≡ book.now.shared.table_id) × (0 < book.now.shared.table_id.words) }
     requires keeps { seat.old.me ≡ (keeper seat.old.me.0.whole, []) }
-    requires later { IsBeginning seat.old.me.0.whole X.account }
+    requires later { IsKnownBeginning seat.old.me.0.whole X.account }
     ensures seat { (seat.new.table_id ≡ seat.old.table_id) × (seat.new.me ≡ (keeper X.account, [])) }
     ensures reader { (result.table_id ≡ seat.old.table_id) × (result.me ≡ (reader X.account, [])) }
 {
-    book.shared.split_seat::<Grows<X>>(seat)
+    book.shared.split_seat::<KeeperGrows<X>>(seat)
 }
 
 /// What is claimed is a beginning of what the keeper knows.
-pub(crate) fn check(book: &Book, seat: &mut Place, claimed: &mut Place)
+pub(crate) fn check(book: &Book, seat: &mut BookSeat, claimed: &mut BookSeat)
     requires book { (seat.old.table_id ≡ book.now.shared.table_id) × (0 < book.now.shared.table_id.words) }
     requires keeps { seat.old.me ≡ (keeper seat.old.me.0.whole, []) }
     requires claims { (claimed.old.table_id ≡ book.now.shared.table_id) × (claimed.old.me ≡ (reader claimed.old.me.0.part, [])) }
     ensures seat { (seat.new.table_id ≡ seat.old.table_id) × (seat.new.me ≡ seat.old.me) }
     ensures claimed { (claimed.new.table_id ≡ claimed.old.table_id) × (claimed.new.me ≡ claimed.old.me) }
-    ensures found { IsBeginning claimed.old.me.0.part seat.old.me.0.whole }
+    ensures found { IsKnownBeginning claimed.old.me.0.part seat.old.me.0.whole }
 {
     let copy = book.shared.split_seat::<Again>(claimed);
     book.shared.join_seat::<Shows>(seat, copy);

@@ -7,24 +7,24 @@ ghost use Rattle.ibc_ids.specs.Maps.{at};
 ghost use Rattle.ibc_ids.specs.Paths.{path};
 ghost use Rattle.ibc_ids.specs.Texts.{text_cmp};
 ghost use Rattle.ibc_ids.specs.declared.refusal.Refusal.TheVariants.{NoConsensus, NoMemory};
-ghost use Rattle.ibc_merkle.specs.Written.{written};
+ghost use Rattle.ibc_merkle.specs.Written.{written_proof};
 ghost use Rattle.ibc_machine.specs.declared.event.Event.TheVariants as event_of;
 ghost use Rattle.ibc_machine.specs.ics24.Image.{image};
 ghost use Rattle.ibc_machine.specs.ledger.Ledgers.{state_of};
 ghost use Rattle.ibc_machine.specs.ics18.Relay.{view_of};
 ghost use Rattle.ibc_ledger.specs.declared.entry.StampedEntry.{StampedEntry as KeptEntry};
-ghost use Rattle.ibc_ledger.specs.Held.{plain_entry};
+ghost use Rattle.ibc_ledger.specs.LedgerModel.{abstract_entry};
 ghost use Rattle.ibc_ledger.specs.SentPackets.{ack_on, packet_on};
-ghost use Rattle.ibc_ledger.specs.Standing.{provable};
-ghost use Rattle.ibc_ledger_lock.specs.Worlds.{HoldsIfOf, IsLedgerOf, IsOfWorld, IsToldOf, IsViewOf, WasOnce};
+ghost use Rattle.ibc_ledger.specs.ReplayedState.{provable_block};
+ghost use Rattle.ibc_ledger_lock.specs.ReceiptsAndReadings.{ClaimHoldsOnItsChain, IsLedgerOf, IsOfWorld, IsReceiptOf, IsViewOf, IsEarlierOnItsChain};
 
 use crate::board::Board;
-use crate::book::Opened;
-use crate::desk::Desk;
+use crate::book::UnusedBook;
 use crate::gate::Gate;
-use crate::reading::Reading;
+use crate::locked_ledger::LockedLedger;
+use crate::reading::LedgerReading;
 use crate::receipt::Receipt;
-use crate::world::World;
+use crate::world::WorldBrand;
 use ibc_ids::{Bytes, ChannelId, Key, PortId, Refusal};
 use ibc_ledger::{Ledger, StampedEntry, View};
 use ibc_machine::Reply;
@@ -36,16 +36,16 @@ use std::sync::{Arc, Mutex, Wait};
 
 /// A ledger of the world, which threads share. Contracts see the number of its chain.
 #[derive(Drop)]
-pub struct Chain<W: World> {
+pub struct Chain<W: WorldBrand> {
     number: u8,
-    desk: Mutex<Desk<W>>,
+    desk: Mutex<LockedLedger<W>>,
     board: Arc<Board<W>, Global>,
     opening: View,
 }
 
-impl<W: World> Model for Chain<W> {
+impl<W: WorldBrand> Model for Chain<W> {
     ghost use Rattle.std.specs.Prelude.{◌≡◌, ℕ};
-    ghost use Rattle.ibc_ledger_lock.specs.Worlds.{IsViewOf};
+    ghost use Rattle.ibc_ledger_lock.specs.ReceiptsAndReadings.{IsViewOf};
 
     ghost Value = { ℕ };
 
@@ -54,14 +54,14 @@ impl<W: World> Model for Chain<W> {
     ghost invariant = { λ c. IsViewOf W.table W.genesis c.opening × (c.opening.chain ≡ c.number) };
 }
 
-impl<W: World> Chain<W> {
+impl<W: WorldBrand> Chain<W> {
     /// The chain of a ledger of the world, with an unused book that is the world's for its number. It posts its views on the
     /// board; that of the ledger as it stands is posted now, unless a growth is refused for it there, and the chain has it in
     /// any case. `NoMemory` where another growth is refused: the ledger comes back then.
     pub fn new<R: Wait>(
         rt: &R,
         ledger: Ledger,
-        opened: Opened,
+        opened: UnusedBook,
         board: Arc<Board<W>, Global>,
     ) -> Result<Chain<W>, (Refusal, Ledger)>
         requires world { IsOfWorld W.table W.genesis ledger }
@@ -69,7 +69,7 @@ impl<W: World> Chain<W> {
         ensures ok { IfOk result (λ chain. chain ≡ ledger.ledger.chain) }
         ensures err { IfErr result (λ back. (back.0 ≡ NoMemory) × (back.1 ≡ ledger)) }
     {
-        ledger.is_its_history();
+        ledger.lemma_is_its_history();
         let number = ledger.chain();
         let opening = match ledger.view() {
             Ok(view) => view,
@@ -80,7 +80,7 @@ impl<W: World> Chain<W> {
         }
         Ok(Chain {
             number,
-            desk: Mutex::new(Desk::new(ledger, opened)),
+            desk: Mutex::new(LockedLedger::new(ledger, opened)),
             board,
             opening,
         })
@@ -88,7 +88,7 @@ impl<W: World> Chain<W> {
 
     /// Applies a message to the ledger, as its `apply` does. The receipt claims the message with its reply.
     pub fn submit<R: Wait>(&self, rt: &R, message: Message) -> Receipt<W>
-        ensures { IsToldOf (event_of.Message result.chain message) result }
+        ensures { IsReceiptOf (event_of.Message result.chain message) result }
     {
         self.desk.lock(rt).submit(message)
     }
@@ -97,7 +97,7 @@ impl<W: World> Chain<W> {
     /// view after an accepted block is posted on the board, unless memory runs out for it; the lock is held meanwhile, so
     /// that a chain's views stand there in the order of their heights.
     pub fn produce<R: Wait>(&self, rt: &R, next_time: u64) -> Receipt<W>
-        ensures { IsToldOf (event_of.Block result.chain next_time) result }
+        ensures { IsReceiptOf (event_of.Block result.chain next_time) result }
     {
         let mut desk = self.desk.lock(rt);
         let (receipt, view) = desk.produce_and_look(next_time);
@@ -122,7 +122,7 @@ impl<W: World> Chain<W> {
 
     /// The view of the ledger as it stands, as its `view` gives it, and the reading of that ledger. Unlike `view` it takes the
     /// lock. Refused: `NoMemory`.
-    pub fn look<R: Wait>(&self, rt: &R) -> (Result<View, Refusal>, Reading<W>)
+    pub fn look<R: Wait>(&self, rt: &R) -> (Result<View, Refusal>, LedgerReading<W>)
         ensures is { IsLedgerOf W.table W.genesis result.1 }
         ensures ok { IfOk result.0 (λ view. view ≡ view_of result.1.ledger.chain (state_of result.1.ledger).chain) }
         ensures err { IsOkUnless result.0 NoMemory }
@@ -134,7 +134,11 @@ impl<W: World> Chain<W> {
 
     /// The value of a key in the ledger's working block, as its `query` gives it, and the reading of that ledger. Refused:
     /// `NoMemory`.
-    pub fn query<R: Wait>(&self, rt: &R, key: &Key) -> (Result<Option<Bytes>, Refusal>, Reading<W>)
+    pub fn query<R: Wait>(
+        &self,
+        rt: &R,
+        key: &Key,
+    ) -> (Result<Option<Bytes>, Refusal>, LedgerReading<W>)
         ensures is { IsLedgerOf W.table W.genesis result.1 }
         ensures ok { IfOk result.0 (λ value. value ≡ at text_cmp (path key.now) (image (state_of result.1.ledger).chain.records.core)) }
         ensures err { IsOkUnless result.0 NoMemory }
@@ -151,10 +155,10 @@ impl<W: World> Chain<W> {
         rt: &R,
         height: u64,
         key: &Key,
-    ) -> (Result<Proof, Refusal>, Reading<W>)
+    ) -> (Result<Proof, Refusal>, LedgerReading<W>)
         ensures is { IsLedgerOf W.table W.genesis result.1 }
-        ensures ok { IfOk result.0 (λ proof. IsSomeAnd (provable result.1.ledger.genesis.window (state_of result.1.ledger).chain.committed height) (λ block. proof ≡ written (image block.records.core) (path key.now))) }
-        ensures unknown { (result.0 ≡ Err NoConsensus) ↔ IsNone (provable result.1.ledger.genesis.window (state_of result.1.ledger).chain.committed height) }
+        ensures ok { IfOk result.0 (λ proof. IsSomeAnd (provable_block result.1.ledger.genesis.window (state_of result.1.ledger).chain.committed height) (λ block. proof ≡ written_proof (image block.records.core) (path key.now))) }
+        ensures unknown { (result.0 ≡ Err NoConsensus) ↔ IsNone (provable_block result.1.ledger.genesis.window (state_of result.1.ledger).chain.committed height) }
         ensures err { IfErr result.0 (λ refusal. (refusal ≡ NoConsensus) ⊎ (refusal ≡ NoMemory)) }
     {
         let mut desk = self.desk.lock(rt);
@@ -170,7 +174,7 @@ impl<W: World> Chain<W> {
         port: &PortId,
         channel: &ChannelId,
         sequence: u64,
-    ) -> (Result<Option<Packet>, Refusal>, Reading<W>)
+    ) -> (Result<Option<Packet>, Refusal>, LedgerReading<W>)
         ensures is { IsLedgerOf W.table W.genesis result.1 }
         ensures ok { IfOk result.0 (λ packet. packet ≡ packet_on result.1.ledger port.now channel.now sequence) }
         ensures err { IsOkUnless result.0 NoMemory }
@@ -188,7 +192,7 @@ impl<W: World> Chain<W> {
         port: &PortId,
         channel: &ChannelId,
         sequence: u64,
-    ) -> (Result<Option<Bytes>, Refusal>, Reading<W>)
+    ) -> (Result<Option<Bytes>, Refusal>, LedgerReading<W>)
         ensures is { IsLedgerOf W.table W.genesis result.1 }
         ensures ok { IfOk result.0 (λ ack. ack ≡ ack_on result.1.ledger port.now channel.now sequence) }
         ensures err { IsOkUnless result.0 NoMemory }
@@ -205,10 +209,10 @@ impl<W: World> Chain<W> {
         rt: &R,
         place: usize,
         read: F,
-    ) -> (T, Reading<W>)
+    ) -> (T, LedgerReading<W>)
         requires { F.IsAlwaysCallable read }
         ensures is { IsLedgerOf W.table W.genesis result.1 }
-        ensures given { (entries : List KeptEntry) × (map plain_entry entries ≡ drop place result.1.ledger.history) × FnOnceReturnsAt F.FnOnce read entries result.0 }
+        ensures given { (entries : List KeptEntry) × (map abstract_entry entries ≡ drop place result.1.ledger.history) × FnOnceReturnsAt F.FnOnce read entries result.0 }
     {
         let mut desk = self.desk.lock(rt);
         let reading = desk.read();
@@ -218,11 +222,15 @@ impl<W: World> Chain<W> {
 
     /// The ledger, which is of the world's table and genesis. What each receipt of its chain's number claims is so: it has
     /// that event with that reply at the place. And it was once as each reading of its chain's number has it.
-    pub fn into_ledger(self, receipts: &mut [Receipt<W>], readings: &mut [Reading<W>]) -> Ledger
+    pub fn into_ledger(
+        self,
+        receipts: &mut [Receipt<W>],
+        readings: &mut [LedgerReading<W>],
+    ) -> Ledger
         ensures world { IsOfWorld W.table W.genesis result }
         ensures same { (receipts.new ≡ receipts.old) × (readings.new ≡ readings.old) }
-        ensures held { All (HoldsIfOf result) receipts.old }
-        ensures once { All (WasOnce result) readings.old }
+        ensures held { All (ClaimHoldsOnItsChain result) receipts.old }
+        ensures once { All (IsEarlierOnItsChain result) readings.old }
     {
         let mut desk = self.desk.into_inner();
         desk.find_all(receipts);
@@ -231,7 +239,7 @@ impl<W: World> Chain<W> {
     }
 }
 
-impl<W: World + Send + Sync> Gate for Chain<W> {
+impl<W: WorldBrand + Send + Sync> Gate for Chain<W> {
     fn submit<R: Wait>(&self, rt: &R, message: Message) -> Reply {
         Chain::submit(self, rt, message).into_reply()
     }

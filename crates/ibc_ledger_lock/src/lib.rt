@@ -5,16 +5,16 @@
 mod board;
 mod book;
 mod chain;
-mod desk;
 mod gate;
+mod locked_ledger;
 mod reading;
 mod receipt;
 mod world;
 
 pub use board::Board;
-pub use book::Opened;
+pub use book::UnusedBook;
 pub use chain::Chain;
 pub use gate::Gate;
-pub use reading::{Reading, lemma_had_then};
+pub use reading::{LedgerReading, lemma_had_then};
 pub use receipt::Receipt;
-pub use world::World;
+pub use world::WorldBrand;

@@ -3,31 +3,31 @@ ghost use Rattle.std.specs.Prelude.{◌≡◌, ◌⊎◌, IsSome};
 ghost use Rattle.ibc_ids.specs.declared.refusal.Refusal.TheVariants.{NoMemory};
 ghost use Rattle.ibc_machine.specs.declared.reply.Reply.TheVariants as answer;
 
-use crate::book::Place;
-use crate::world::World;
+use crate::book::BookSeat;
+use crate::world::WorldBrand;
 use ibc_machine::Reply;
 use std::marker::{Model, PhantomData};
 
 /// The reply of a call on a chain of the world. Contracts see, where it isn't `NoMemory`, the place at which the chain's
 /// history has the reply, and the event that stands there.
 #[derive(Drop)]
-pub struct Receipt<W: World> {
+pub struct Receipt<W: WorldBrand> {
     pub(crate) chain: u8,
     pub(crate) reply: Reply,
-    pub(crate) seat: Option<Place>,
+    pub(crate) seat: Option<BookSeat>,
     pub(crate) of: PhantomData<W>,
 }
 
-impl<W: World> Model for Receipt<W> {
+impl<W: WorldBrand> Model for Receipt<W> {
     ghost use Rattle.std.specs.Prelude.{◌≡◌, ◌⊎◌, [], None, IfSome, IsNone, IsSome};
     ghost use Rattle.std.specs.List.{last_or};
     ghost use Rattle.std.specs.Option.{IsSomeAnd, option_and_then};
     ghost use Rattle.ibc_ids.specs.declared.refusal.Refusal.TheVariants.{NoMemory};
     ghost use Rattle.ibc_machine.specs.declared.reply.Reply.TheVariants as answer;
     ghost use Rattle.ibc_ledger_lock.specs.Books.{reader};
-    ghost use Rattle.ibc_ledger_lock.specs.Worlds.{Told, claim_of};
+    ghost use Rattle.ibc_ledger_lock.specs.ReceiptsAndReadings.{ReceiptModel, claim_of};
 
-    ghost Value = { Told };
+    ghost Value = { ReceiptModel };
 
     ghost view = { λ r. record { chain = r.chain; reply = r.reply; claim = option_and_then (λ c. claim_of c.me.0.part.history) r.seat } };
 
@@ -35,7 +35,7 @@ impl<W: World> Model for Receipt<W> {
         × IfSome r.seat (λ c. (c.table_id ≡ W.book r.chain) × (c.me ≡ (reader c.me.0.part, [])) × IsSomeAnd (last_or None c.me.0.part.history) (λ e. e.entry.reply ≡ r.reply)) };
 }
 
-impl<W: World> Receipt<W> {
+impl<W: WorldBrand> Receipt<W> {
     /// The number of the chain.
     pub fn chain(&self) -> u8
         ensures { result ≡ self.now.chain }

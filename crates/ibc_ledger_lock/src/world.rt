@@ -2,7 +2,7 @@
 use std::marker::Brand;
 
 /// One table and one genesis, and the books of their chains. A program picks them at a call, once they are made.
-pub trait World {
+pub trait WorldBrand {
     ghost use Rattle.std.specs.Prelude.{ℕ};
     ghost use Rattle.atomic_table.specs.Seated.{TableId};
     ghost use Rattle.ibc_machine.specs.chain.Genesis.{GenesisState};
@@ -15,9 +15,9 @@ pub trait World {
     ghost book: { ℕ → TableId };
 }
 
-impl World for Brand {
+impl WorldBrand for Brand {
     ghost use Rattle.ibc_ledger_lock.specs.Books.{no_book};
-    ghost use Rattle.ibc_ledger_lock.specs.Worlds.{no_table, no_genesis};
+    ghost use Rattle.ibc_ledger_lock.specs.ReceiptsAndReadings.{no_table, no_genesis};
 
     ghost table = { no_table };
 

@@ -11,7 +11,7 @@ use Rattle.ibc_ids.specs.declared.key.Key.TheVariants as key
 use Rattle.ibc_wire.specs.declared.records.ChannelEnd.{ChannelEnd}
 use Rattle.ibc_machine.specs.chain.Records.{Core, Channel, channel_at, with_channel, is_one_of}
 use Rattle.ibc_machine.specs.ics04.Channels.{new_channel}
-use Rattle.ibc_machine.specs.ics24.Values.{Value, ChannelIs, NumberIs, CommitmentIs, AckIs, look, receipt_if}
+use Rattle.ibc_machine.specs.ics24.Values.{Value, ChannelIs, NumberIs, CommitmentIs, AckIs, value_at, receipt_if}
 use Rattle.ibc_machine.proofs.FiniteMaps.{by_pair, at-with_same, at-with_other, named-with, told-with}
 use Rattle.ibc_machine.specs.ics24.Image.{IsKeyed}
 use Rattle.ibc_machine.proofs.ImageChanges.{Change, ChangesAt, ChangesIn, IsApart}
@@ -51,7 +51,7 @@ module _ (core : Core) (port id : Text) (channel : Channel) (end : ChannelEnd) (
   pub changes-with_channel_end : ChangesAt core (with_channel port id after core) (key.ChannelEnd port id) (ChannelIs end)
   changes-with_channel_end = record { here = ap end_of (at-with_same by_pair (port, id) after core.channels); others = others }
     where
-      others : (l : Key) → (path l ≡ path (key.ChannelEnd port id) → ⊥) → look (with_channel port id after core) l ≡ look core l
+      others : (l : Key) → (path l ≡ path (key.ChannelEnd port id) → ⊥) → value_at (with_channel port id after core) l ≡ value_at core l
       others (key.ChannelEnd q r) apart =
           ap end_of (at-with_other by_pair (port, id) (q, r) after core.channels (λ same. apart (ap (λ (n : Text × Text). path (key.ChannelEnd n.0 n.1)) same)))
       others (key.NextSequenceSend q r) apart = told send_of q r refl
@@ -69,7 +69,7 @@ module _ (core : Core) (port id : Text) (channel : Channel) (end : ChannelEnd) (
           → f (channel_at (with_channel port id after core) q r) ≡ Some v → f (channel_at core q r) ≡ Some v
       still f q r v same e = sym (told f q r same) ∙ e
 
-      keyed : (k : Key) (v : Value) → look (with_channel port id after core) k ≡ Some v → IsTrue (is_key k)
+      keyed : (k : Key) (v : Value) → value_at (with_channel port id after core) k ≡ Some v → IsTrue (is_key k)
       keyed (key.ChannelEnd q r) v e =
           named-with by_pair end_of (λ (n : Text × Text). IsTrue (is_port n.0 && is_channel n.1)) (port, id) (q, r) after core.channels (Some v)
           (λ _. named) (before.keyed (key.ChannelEnd q r) v) e
@@ -109,14 +109,14 @@ module _ (core : Core) (port id : Text) (end : ChannelEnd) (quiet : (channel : C
       go None is = none
       go (Some c) is = empty c (quiet c is)
 
-  no_commitment : (n : ℕ) (q r : Text) → look new (key.Commitment q r n) ≡ look core (key.Commitment q r n)
+  no_commitment : (n : ℕ) (q r : Text) → value_at new (key.Commitment q r n) ≡ value_at core (key.Commitment q r n)
   no_commitment n q r =
       unsent (commitment_at n) refl (λ c none. ap (λ commitments. option_map CommitmentIs (at nat_cmp n commitments)) none.commitments) q r refl
 
-  no_receipt : (n : ℕ) (q r : Text) → look new (key.Receipt q r n) ≡ look core (key.Receipt q r n)
+  no_receipt : (n : ℕ) (q r : Text) → value_at new (key.Receipt q r n) ≡ value_at core (key.Receipt q r n)
   no_receipt n q r = unsent (receipt_at n) refl (λ c none. ap (λ receipts. receipt_if (is_one_of receipts n)) none.receipts) q r refl
 
-  no_acknowledgement : (n : ℕ) (q r : Text) → look new (key.Acknowledgement q r n) ≡ look core (key.Acknowledgement q r n)
+  no_acknowledgement : (n : ℕ) (q r : Text) → value_at new (key.Acknowledgement q r n) ≡ value_at core (key.Acknowledgement q r n)
   no_acknowledgement n q r =
       unsent (acknowledgement_at n) refl (λ c none. ap (λ acks. option_map AckIs (at nat_cmp n acks)) none.acks) q r refl
 
@@ -133,7 +133,7 @@ module _ (core : Core) (port id : Text) (end : ChannelEnd) (quiet : (channel : C
         others = others;
       }
     where
-      others : (l : Key) → IsApart (path l) (new_channel_at port id end) → look new l ≡ look core l
+      others : (l : Key) → IsApart (path l) (new_channel_at port id end) → value_at new l ≡ value_at core l
       others (key.ChannelEnd q r) apart = other end_of (λ n. key.ChannelEnd n.0 n.1) q r apart.0
       others (key.NextSequenceSend q r) apart = other send_of (λ n. key.NextSequenceSend n.0 n.1) q r apart.1.0
       others (key.NextSequenceRecv q r) apart = other recv_of (λ n. key.NextSequenceRecv n.0 n.1) q r apart.1.1.0
@@ -152,7 +152,7 @@ module _ (core : Core) (port id : Text) (end : ChannelEnd) (quiet : (channel : C
           named-with by_pair f (λ (n : Text × Text). IsTrue (is_port n.0 && is_channel n.1)) (port, id) (q, r) (new_channel end) core.channels (Some v)
           (λ _. named) was e
 
-      keyed : (k : Key) (v : Value) → look new k ≡ Some v → IsTrue (is_key k)
+      keyed : (k : Key) (v : Value) → value_at new k ≡ Some v → IsTrue (is_key k)
       keyed (key.ChannelEnd q r) v e = by_name end_of q r v (before.keyed (key.ChannelEnd q r) v) e
       keyed (key.NextSequenceSend q r) v e = by_name send_of q r v (before.keyed (key.NextSequenceSend q r) v) e
       keyed (key.NextSequenceRecv q r) v e = by_name recv_of q r v (before.keyed (key.NextSequenceRecv q r) v) e

@@ -4,7 +4,7 @@ use Rattle.ibc_wire.specs.declared.records.ConnectionState.TheVariants.{Init}
 use Rattle.ibc_wire.specs.declared.records.ConnectionEnd.{ConnectionEnd}
 use Rattle.ibc_wire.specs.declared.messages.ConnOpenTry.{ConnOpenTry}
 use Rattle.ibc_wire.specs.declared.messages.ConnOpenAck.{ConnOpenAck}
-use Rattle.ibc_machine.specs.chain.Records.{Core, Client, client_at, knows}
+use Rattle.ibc_machine.specs.chain.Records.{Core, Client, client_at, is_known_height}
 use Rattle.ibc_machine.specs.ics24.Values.{same_connection_state}
 use Rattle.ibc_machine.specs.ics24.Evidence.{Host}
 use Rattle.ibc_machine.specs.ics03.Connections.{names_host, may_conn_try, may_conn_ack}
@@ -15,7 +15,7 @@ pub record MayConnTry (host : Host) (core : Core) (m : ConnOpenTry) : Type 0 whe
   pub there : client_at core m.client ≡ Some client
   pub us : names_host host m.claim ≡ true
   pub number : not (core.next_connection == 2 ^ 64 - 1) ≡ true
-  pub known : knows core m.client m.height ≡ true
+  pub known : is_known_height core m.client m.height ≡ true
 
 pub conn_tryable : (host : Host) (core : Core) (m : ConnOpenTry) → may_conn_try host core m ≡ Ok tt → MayConnTry host core m
 conn_tryable host core m e =
@@ -33,7 +33,7 @@ conn_tryable host core m e =
 pub record MayConnAck (host : Host) (core : Core) (m : ConnOpenAck) (mine : ConnectionEnd) : Type 0 where
   pub state : same_connection_state mine.state Init ≡ true
   pub us : names_host host m.claim ≡ true
-  pub known : knows core mine.client m.height ≡ true
+  pub known : is_known_height core mine.client m.height ≡ true
 
 pub conn_ackable : (host : Host) (core : Core) (m : ConnOpenAck) (mine : ConnectionEnd) → may_conn_ack host core m mine ≡ Ok tt → MayConnAck host core m mine
 conn_ackable host core m mine e =

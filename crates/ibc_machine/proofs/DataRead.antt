@@ -6,7 +6,7 @@ use Rattle.ibc_ids.specs.Texts.{Text, same_text}
 use Rattle.ibc_ids.specs.Names.{is_denom, is_memo, is_receiver, is_user}
 use Rattle.ibc_wire.specs.Tokens.{is_short, is_rising}
 use Rattle.ibc_wire.specs.declared.token.Token.{Token}
-use Rattle.ibc_machine.specs.ics20.TokenData.{Data, quoted, member, object, token_members, memo_member, party_members, members_of_first, tokens_member, data_text, is_amount, is_token, is_list_for, is_data, number_of, tokens_in, parties_in, one_token_in, tokens_behind, data_in, data_if, data_of, has_several, ReadsData}
+use Rattle.ibc_machine.specs.ics20.TokenData.{Data, quoted_text, member, object, token_members, memo_member, party_members, members_of_first, tokens_member, data_text, is_amount, is_token, is_list_for, is_data, number_of, tokens_in, parties_in, one_token_in, tokens_behind, data_in, data_if, data_of, has_several, ReadsData}
 use Rattle.ibc_machine.proofs.QuotedTexts.{both, and_true, Clear, clear_made, clear_denom, clear_decimal, number_read, between, Spells, spells-clear, spells-quoted, spells-both, spelled, spells-member, spells-next, spells-object}
 
 -- ---- the parts of data
@@ -132,9 +132,9 @@ spells-list : (ts : List Token) → list_all is_token ts ≡ true → Spells (to
 spells-list ts h =
     let list : Text = join_with_byte 44 (map (λ token. object (token_members token)) ts) in
     subst (λ ps. Spells (tokens_member ts) (codes "tokens" ∷ ps)) (append-nil (token_parts ts))
-    (spells-both (quoted (codes "tokens") ++ codes ":[" ++ list) (codes "]") (codes "tokens" ∷ token_parts ts) []
-    (spells-both (quoted (codes "tokens") ++ codes ":[") list (codes "tokens" ∷ []) (token_parts ts)
-    (spells-both (quoted (codes "tokens")) (codes ":[") (codes "tokens" ∷ []) [] (spells-quoted (codes "tokens") refl) (spells-clear (codes ":[") refl))
+    (spells-both (quoted_text (codes "tokens") ++ codes ":[" ++ list) (codes "]") (codes "tokens" ∷ token_parts ts) []
+    (spells-both (quoted_text (codes "tokens") ++ codes ":[") list (codes "tokens" ∷ []) (token_parts ts)
+    (spells-both (quoted_text (codes "tokens")) (codes ":[") (codes "tokens" ∷ []) [] (spells-quoted (codes "tokens") refl) (spells-clear (codes ":[") refl))
     (spells-tokens ts h)) (spells-clear (codes "]") refl))
 
 several_spelled : (d : Data) → IsClear d → between (object (party_members d ++ tokens_member d.tokens ∷ []))

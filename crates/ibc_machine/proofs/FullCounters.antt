@@ -2,7 +2,7 @@
 use Rattle.std.proofs.Common.{◌≡◌, ℕ, ◌^◌, ◌-◌, codes, ◌∷◌, [], refl, map}
 use Rattle.ibc_ids.specs.Texts.{Text}
 use Rattle.ibc_ids.specs.declared.refusal.Refusal.TheVariants.{Poor, NumberFull}
-use Rattle.ibc_machine.specs.chain.Records.{Chain, Core, Channel}
+use Rattle.ibc_machine.specs.chain.Records.{MachineChain, Core, Channel}
 use Rattle.ibc_machine.specs.chain.Machine.{World}
 use Rattle.ibc_machine.proofs.Computing.{computing}
 use Rattle.ibc_machine.proofs.Scripts.{a, b, alice, bob, atom, alice_has_all, a_and_b, for_tokens, replies, balances, world_after, create, no, sent}
@@ -17,7 +17,7 @@ last = 2 ^ 64 - 1
 -- the world with another core at a, or at every chain
 abbrev changed : (Core → Core) → World → World
 changed f world =
-    map (λ (chain : Chain). record chain { records = record chain.records { core = f chain.records.core } }) world
+    map (λ (chain : MachineChain). record chain { records = record chain.records { core = f chain.records.core } }) world
 
 -- ---- clients, connections and channels
 

@@ -5,7 +5,7 @@ use Rattle.ibc_ids.specs.Texts.{Text}
 use Rattle.ibc_ids.specs.Paths.{path}
 use Rattle.ibc_ids.specs.declared.key.Key.TheVariants as key
 use Rattle.ibc_merkle.specs.Hash.{hash}
-use Rattle.ibc_merkle.specs.Written.{written}
+use Rattle.ibc_merkle.specs.Written.{written_proof}
 use Rattle.ibc_wire.specs.Spelling.{proof_bytes}
 use Rattle.ibc_machine.specs.ics24.Values.{commitment_text, value_bytes, CommitmentIs, ReceiptIs, AckIs}
 use Rattle.ibc_machine.specs.ics24.Image.{image, core_root}
@@ -42,7 +42,7 @@ last_leaf =
     ∷ 0x14 ∷ 0x47 ∷ 0x0b ∷ 0xae ∷ 0x11 ∷ 0xde ∷ 0xe2 ∷ 0x0a ∷ 0xaf ∷ 0xa7 ∷ 0x1e ∷ 0xea ∷ 0xaf ∷ 0xef ∷ 0x9b ∷ 0xbe ∷ []
 
 abbrev a_proof : Text
-a_proof = proof_bytes (written (image empty_core) (path key.NextClientSequence))
+a_proof = proof_bytes (written_proof (image empty_core) (path key.NextClientSequence))
 
 its_spelling : a_proof ≡
     0x01 ∷ 0x00 ∷ 0x12 ∷ codes "nextClientSequence" ++ 0x00 ∷ 0x08 ∷ zeros ++ 0x00 ∷ 0x01 ∷ 0x00 ∷ 0x02

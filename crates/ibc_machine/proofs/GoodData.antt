@@ -4,7 +4,7 @@ use Rattle.std.specs.List.{list_all, list_any, flat_map}
 use Rattle.std.proofs.lemmas.List.Folds.{list_all-append}
 use Rattle.ibc_ids.specs.Names.{is_denom, is_memo, is_receiver, is_user}
 use Rattle.ibc_wire.specs.Tokens.{is_rising, is_short}
-use Rattle.ibc_wire.specs.Fields.{Field, are_typed, name, n8, where_}
+use Rattle.ibc_wire.specs.Fields.{Field, are_typed, name, be64, form_condition}
 use Rattle.ibc_wire.specs.Spelling.{token_fields}
 use Rattle.ibc_wire.specs.Messages.{message_fields}
 use Rattle.ibc_wire.specs.declared.token.Token.{Token}
@@ -52,10 +52,10 @@ in_type field = field.in_type
 
 -- the fields of the tokens behind their number, and those that stand behind them
 abbrev listed : TransferMany → List Field
-listed m = flat_map token_fields m.tokens ++ where_ (is_rising m.tokens) ∷ []
+listed m = flat_map token_fields m.tokens ++ form_condition (is_rising m.tokens) ∷ []
 
 abbrev behind : TransferMany → List Field
-behind m = name is_receiver m.receiver ∷ name is_memo m.memo ∷ n8 m.timeout_height ∷ n8 m.timeout_time ∷ []
+behind m = name is_receiver m.receiver ∷ name is_memo m.memo ∷ be64 m.timeout_height ∷ be64 m.timeout_time ∷ []
 
 pub transfer_many_good : (m : TransferMany) → (is_short m.tokens && is_rising m.tokens) ≡ true → not (list_any is_zero m.tokens) ≡ true
     → are_typed (message_fields (message.TransferMany m)) ≡ true → is_data several_tokens (transfer_many_data m) ≡ true
@@ -63,7 +63,7 @@ transfer_many_good m form amounts typed =
     let channel = both _ _ typed in
     let user = both (is_user m.user) _ channel.1 in
     let split = both (list_all in_type (listed m)) (list_all in_type (behind m)) (sym (list_all-append in_type (listed m) (behind m)) ∙ user.1) in
-    let tokens = both (are_typed (flat_map token_fields m.tokens)) _ (sym (list_all-append in_type (flat_map token_fields m.tokens) (where_ (is_rising m.tokens) ∷ [])) ∙ split.0) in
+    let tokens = both (are_typed (flat_map token_fields m.tokens)) _ (sym (list_all-append in_type (flat_map token_fields m.tokens) (form_condition (is_rising m.tokens) ∷ [])) ∙ split.0) in
     let receiver = both (is_receiver m.receiver) _ split.1 in
     let memo = both (is_memo m.memo) _ receiver.1 in
     and_true (and_true (and_true (and_true form (transfer_many_tokens m.tokens tokens.0 amounts)) memo.0) receiver.0) user.0

@@ -13,7 +13,7 @@ use Rattle.ibc_ids.proofs.Texts.{text_cmp_total, text_tied, text_ties}
 use Rattle.ibc_ids.proofs.Paths.{different_paths}
 use Rattle.ibc_merkle.specs.Tree.{Pairs}
 use Rattle.ibc_machine.specs.chain.Records.{Core}
-use Rattle.ibc_machine.specs.ics24.Values.{Value, look, value_bytes}
+use Rattle.ibc_machine.specs.ics24.Values.{Value, value_at, value_bytes}
 use Rattle.ibc_machine.specs.ics24.Image.{image, IsKeyed}
 use Rattle.ibc_machine.proofs.FiniteMaps.{by_text, same_key, at-with, at-with_same}
 use Rattle.ibc_machine.proofs.SortedMaps.{Sorted-from, Sorted-to, Sorted-without, at-without_same, at-without_other}
@@ -21,8 +21,8 @@ use Rattle.ibc_machine.proofs.Images.{image_sorted, image_at, image_from, sorted
 
 -- the core has the value at the key, and at every other path what it had
 pub record ChangesAt (old new : Core) (k : Key) (v : Value) : Type 0 where
-  pub here : look new k ≡ Some v
-  pub others : (l : Key) → (path l ≡ path k → ⊥) → look new l ≡ look old l
+  pub here : value_at new k ≡ Some v
+  pub others : (l : Key) → (path l ≡ path k → ⊥) → value_at new l ≡ value_at old l
 
 -- a key with its new value, or with none
 abbrev pub Change : Type 0
@@ -34,8 +34,8 @@ IsApart q changes = AllByRecursion (λ (c : Change). q ≡ path c.0 → ⊥) cha
 
 -- the core has the changes at their keys, and at every other path what it had
 pub record ChangesIn (old new : Core) (changes : List Change) : Type 0 where
-  pub here : AllByRecursion (λ (c : Change). IsTrue (is_key c.0) × (look new c.0 ≡ c.1)) changes
-  pub others : (l : Key) → IsApart (path l) changes → look new l ≡ look old l
+  pub here : AllByRecursion (λ (c : Change). IsTrue (is_key c.0) × (value_at new c.0 ≡ c.1)) changes
+  pub others : (l : Key) → IsApart (path l) changes → value_at new l ≡ value_at old l
 
 -- the pairs with this value at the path, or with none
 abbrev pub with_change : Text → Option Value → Pairs → Pairs
@@ -47,7 +47,7 @@ abbrev pub with_changes : List Change → Pairs → Pairs
 with_changes [] pairs = pairs
 with_changes (c ∷ cs) pairs = with_changes cs (with_change (path c.0) c.1 pairs)
 
-tells : (core : Core) → IsKeyed core → (k : Key) → IsTrue (is_key k) → (l : Key) (v : Value) → look core l ≡ Some v → path l ≡ path k → l ≡ k
+tells : (core : Core) → IsKeyed core → (k : Key) → IsTrue (is_key k) → (l : Key) (v : Value) → value_at core l ≡ Some v → path l ≡ path k → l ≡ k
 tells core is_keyed k named l v there same = different_paths l k (is_keyed.keyed l v there) named same
 
 -- pairs that answer alike are the same
@@ -98,7 +98,7 @@ after_changes answer q (c ∷ cs) pairs sorted here elsewhere =
 -- ---- images
 
 -- a pair of one image at another path is one of the other's
-kept : (a b : Core) (changes : List Change) → IsKeyed b → ((l : Key) → IsApart (path l) changes → look a l ≡ look b l)
+kept : (a b : Core) (changes : List Change) → IsKeyed b → ((l : Key) → IsApart (path l) changes → value_at a l ≡ value_at b l)
     → (q w : Text) → IsApart q changes → at text_cmp q (image a) ≡ Some w → at text_cmp q (image b) ≡ Some w
 kept a b changes keyed others q w apart e =
     let found = image_from a q w e in
@@ -115,7 +115,7 @@ module _ (old new : Core) (changes : List Change) (old_keyed : IsKeyed old) (new
       go None None e f = refl
       go None (Some w) e f = sym e ∙ kept old new changes new_keyed (λ l h. sym (is.others l h)) q w apart f
 
-  listed : (q : Text) (cs : List Change) → AllByRecursion (λ (c : Change). IsTrue (is_key c.0) × (look new c.0 ≡ c.1)) cs
+  listed : (q : Text) (cs : List Change) → AllByRecursion (λ (c : Change). IsTrue (is_key c.0) × (value_at new c.0 ≡ c.1)) cs
       → AllByRecursion (λ (c : Change). q ≡ path c.0 → at text_cmp q (image new) ≡ option_map value_bytes c.1) cs
   listed q [] here = tt
   listed q (c ∷ cs) here = (

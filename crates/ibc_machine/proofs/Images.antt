@@ -18,7 +18,7 @@ use Rattle.ibc_ids.specs.declared.key.Key.TheVariants as key
 use Rattle.ibc_ids.proofs.Texts.{text_cmp_total, text_tied, text_ties}
 use Rattle.ibc_merkle.specs.Tree.{Pairs, AreSorted}
 use Rattle.ibc_machine.specs.chain.Records.{Core, Channel, client_at, connection_at, channel_at, is_one_of}
-use Rattle.ibc_machine.specs.ics24.Values.{Value, NumberIs, look, value_bytes, receipt_if}
+use Rattle.ibc_machine.specs.ics24.Values.{Value, NumberIs, value_at, value_bytes, receipt_if}
 use Rattle.ibc_machine.specs.ics24.Image.{channel_keys, keys, pair_at, image}
 use Rattle.ibc_machine.proofs.Members.{Is_in, in_left, in_right, in_map, in_flat_map, in_filter_map, in_filter_map_from, in_numbers, at_in, in_keys}
 
@@ -140,7 +140,7 @@ module _ (core : Core) where
       inr (inr (inr (in_right k (map key.ClientState (keys_of core.clients) ++ map key.Connection (keys_of core.connections)) (flat_map channel_keys core.channels)
       (in_flat_map channel_keys ((port, name), c) k core.channels (at_in pair_cmp pair_tied (port, name) c core.channels there) h))))
 
-  listed : (k : Key) (v : Value) → look core k ≡ Some v → Is_in k (keys core)
+  listed : (k : Key) (v : Value) → value_at core k ≡ Some v → Is_in k (keys core)
   listed (key.ClientState id) v e =
       let w = mapped _ (client_at core id) e in
       in_clients (key.ClientState id) (in_map key.ClientState id (keys_of core.clients) (in_keys id w.0 core.clients (at_in text_cmp text_tied id w.0 core.clients w.1)))
@@ -189,23 +189,23 @@ module _ (core : Core) where
 
   -- the path tells the key among those that have a value
   abbrev pub TellsKey : Key → Type 0
-  TellsKey k = (l : Key) (v : Value) → look core l ≡ Some v → path l ≡ path k → l ≡ k
+  TellsKey k = (l : Key) (v : Value) → value_at core l ≡ Some v → path l ≡ path k → l ≡ k
 
-  pair_of : (k : Key) (v : Value) → look core k ≡ Some v → pair_at core k ≡ Some (path k, value_bytes v)
+  pair_of : (k : Key) (v : Value) → value_at core k ≡ Some v → pair_at core k ≡ Some (path k, value_bytes v)
   pair_of k v e = ap (option_map (λ value. (path k, value_bytes value))) e
 
-  pub pair_from : (k : Key) (q w : Text) → pair_at core k ≡ Some (q, w) → (v : Value) × (look core k ≡ Some v) × (path k ≡ q) × (value_bytes v ≡ w)
+  pub pair_from : (k : Key) (q w : Text) → pair_at core k ≡ Some (q, w) → (v : Value) × (value_at core k ≡ Some v) × (path k ≡ q) × (value_bytes v ≡ w)
   pair_from k q w e =
-      elim (look core k) as (λ o. look core k ≡ o → ◌≡◌ {A = Option (Text × Text)} (option_map (λ value. (path k, value_bytes value)) o) (Some (q, w)) → (v : Value) × (look core k ≡ Some v) × (path k ≡ q) × (value_bytes v ≡ w)) [
+      elim (value_at core k) as (λ o. value_at core k ≡ o → ◌≡◌ {A = Option (Text × Text)} (option_map (λ value. (path k, value_bytes value)) o) (Some (q, w)) → (v : Value) × (value_at core k ≡ Some v) × (path k ≡ q) × (value_bytes v ≡ w)) [
         | None ↦ λ is e. absurd (cc)
         | Some v ↦ λ is e. let same : ◌≡◌ {A = Text × Text} (path k, value_bytes v) (q, w) = cc in (v, is, ap (λ (x : Text × Text). x.0) same, ap (λ (x : Text × Text). x.1) same)
       ] refl e
 
-  pub image_at : (k : Key) → TellsKey k → at text_cmp (path k) (image core) ≡ option_map value_bytes (look core k)
+  pub image_at : (k : Key) → TellsKey k → at text_cmp (path k) (image core) ≡ option_map value_bytes (value_at core k)
   unfolding image
   image_at k tells =
       let ps = filter_map (pair_at core) (keys core) in
-      elim (look core k) as (λ o. look core k ≡ o → at text_cmp (path k) (put_all [] ps) ≡ option_map value_bytes o) [
+      elim (value_at core k) as (λ o. value_at core k ≡ o → at text_cmp (path k) (put_all [] ps) ≡ option_map value_bytes o) [
         | None ↦ λ is. elim (at text_cmp (path k) (put_all [] ps)) as (λ o. at text_cmp (path k) (put_all [] ps) ≡ o → o ≡ None) [
           | None ↦ λ _. refl
           | Some w ↦ λ e. elim (at-put_all_from [] ps (path k) w e) [
@@ -214,7 +214,7 @@ module _ (core : Core) where
                 let g = in_filter_map_from (pair_at core) (path k, w) (keys core) h in
                 let x = pair_from g.0 (path k) w g.2 in
                 let same = tells g.0 x.0 x.1 x.2 in
-                let both : None ≡ Some x.0 = sym is ∙ sym (ap (look core) same) ∙ x.1 in
+                let both : None ≡ Some x.0 = sym is ∙ sym (ap (value_at core) same) ∙ x.1 in
                 absurd (cc)
           ]
         ] refl
@@ -224,14 +224,14 @@ module _ (core : Core) where
             let g = in_filter_map_from (pair_at core) (path k, w) (keys core) h in
             let x = pair_from g.0 (path k) w g.2 in
             let same = tells g.0 x.0 x.1 x.2 in
-            let both : Some x.0 ≡ Some v = sym x.1 ∙ ap (look core) same ∙ is in
+            let both : Some x.0 ≡ Some v = sym x.1 ∙ ap (value_at core) same ∙ is in
             sym x.3 ∙ ap value_bytes (some_same both)
             in
             at-put_all [] ps (path k) (value_bytes v) one (inr mine)
       ] refl
 
   -- what the image has somewhere stands at the path of a key that has the value
-  pub image_from : (q w : Text) → at text_cmp q (image core) ≡ Some w → (k : Key) × (v : Value) × (look core k ≡ Some v) × (path k ≡ q) × (value_bytes v ≡ w)
+  pub image_from : (q w : Text) → at text_cmp q (image core) ≡ Some w → (k : Key) × (v : Value) × (value_at core k ≡ Some v) × (path k ≡ q) × (value_bytes v ≡ w)
   unfolding image
   image_from q w e =
       elim (at-put_all_from [] (filter_map (pair_at core) (keys core)) q w e) [

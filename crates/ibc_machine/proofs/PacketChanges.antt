@@ -11,11 +11,11 @@ use Rattle.ibc_ids.specs.Paths.{path, is_key}
 use Rattle.ibc_ids.specs.declared.key.Key.{Key}
 use Rattle.ibc_ids.specs.declared.key.Key.TheVariants as key
 use Rattle.ibc_wire.specs.declared.records.ChannelState.TheVariants.{Closed}
-use Rattle.ibc_machine.specs.chain.Records.{Core, Channel, Commitment, channel_at, with_channel, is_one_of, added}
+use Rattle.ibc_machine.specs.chain.Records.{Core, Channel, Commitment, channel_at, with_channel, is_one_of, with_number}
 use Rattle.ibc_machine.specs.ics04.Channels.{in_state}
 use Rattle.ibc_machine.specs.ics04.Packets.{is_ordered, after_send, after_receive, without_commitment, after_ack, after_timeout}
-use Rattle.ibc_machine.specs.ics04.Parts.{Part, End, NextSend, NextRecv, NextAck, CommitmentOf, ReceiptOf, AckOf, key_of, received, acknowledged, timed_out}
-use Rattle.ibc_machine.specs.ics24.Values.{Value, ChannelIs, NumberIs, CommitmentIs, ReceiptIs, AckIs, look, receipt_if}
+use Rattle.ibc_machine.specs.ics04.Parts.{Part, End, NextSend, NextRecv, NextAck, CommitmentOf, ReceiptOf, AckOf, key_of, part_after_receive, part_after_ack, part_after_timeout}
+use Rattle.ibc_machine.specs.ics24.Values.{Value, ChannelIs, NumberIs, CommitmentIs, ReceiptIs, AckIs, value_at, receipt_if}
 use Rattle.ibc_machine.proofs.FiniteMaps.{by_number, by_pair, at-with_same, at-with_split, named-with}
 use Rattle.ibc_machine.proofs.SortedMaps.{Sorted, at-without_same, at-without_other, is_one_of-added, added_there}
 use Rattle.ibc_machine.specs.ics24.Image.{IsKeyed}
@@ -52,7 +52,7 @@ module _ (core : Core) (port id : Text) (mine after : Channel) (edits : List Edi
   abbrev new : Core
   new = with_channel port id after core
 
-  look_at : (c : Core) (q r : Text) (p : Part) → look c (key_of q r p) ≡ part_of p (channel_at c q r)
+  look_at : (c : Core) (q r : Text) (p : Part) → value_at c (key_of q r p) ≡ part_of p (channel_at c q r)
   look_at c q r End = refl
   look_at c q r NextSend = refl
   look_at c q r NextRecv = refl
@@ -61,14 +61,14 @@ module _ (core : Core) (port id : Text) (mine after : Channel) (edits : List Edi
   look_at c q r (ReceiptOf n) = refl
   look_at c q r (AckOf n) = refl
 
-  there : (p : Part) → look new (key_of port id p) ≡ part_of p (Some after)
+  there : (p : Part) → value_at new (key_of port id p) ≡ part_of p (Some after)
   there p = look_at new port id p ∙ ap (part_of p) (at-with_same by_pair (port, id) after core.channels)
 
-  before : (p : Part) → look core (key_of port id p) ≡ part_of p (Some mine)
+  before : (p : Part) → value_at core (key_of port id p) ≡ part_of p (Some mine)
   before p = look_at core port id p ∙ ap (part_of p) stood
 
   named : (es : List Edit) → AllByRecursion (λ (e : Edit). IsTrue (is_key (key_of port id e.0)) × (part_of e.0 (Some after) ≡ e.1)) es
-      → AllByRecursion (λ (c : Change). IsTrue (is_key c.0) × (look new c.0 ≡ c.1)) (map (change_of port id) es)
+      → AllByRecursion (λ (c : Change). IsTrue (is_key c.0) × (value_at new c.0 ≡ c.1)) (map (change_of port id) es)
   named [] here = tt
   named (e ∷ es) here = ((here.0.0, there e.0 ∙ here.0.1), named es here.1)
 
@@ -89,9 +89,9 @@ module _ (core : Core) (port id : Text) (mine after : Channel) (edits : List Edi
     | inr listed ↦ absurd (clash p edits listed apart)
   ]
 
-  part_stays : (q r : Text) (p : Part) → IsApart (path (key_of q r p)) (map (change_of port id) edits) → look new (key_of q r p) ≡ look core (key_of q r p)
+  part_stays : (q r : Text) (p : Part) → IsApart (path (key_of q r p)) (map (change_of port id) edits) → value_at new (key_of q r p) ≡ value_at core (key_of q r p)
   part_stays q r p apart = elim (at-with_split by_pair (port, id) (q, r) after core.channels) [
-    | inl h ↦ subst (λ (n : Text × Text). look new (key_of n.0 n.1 p) ≡ look core (key_of n.0 n.1 p)) (sym h.0)
+    | inl h ↦ subst (λ (n : Text × Text). value_at new (key_of n.0 n.1 p) ≡ value_at core (key_of n.0 n.1 p)) (sym h.0)
         (there p ∙ unlisted p (subst (λ (n : Text × Text). IsApart (path (key_of n.0 n.1 p)) (map (change_of port id) edits)) h.0 apart) ∙ sym (before p))
     | inr h ↦ look_at new q r p ∙ ap (part_of p) h.1 ∙ sym (look_at core q r p)
   ]
@@ -99,7 +99,7 @@ module _ (core : Core) (port id : Text) (mine after : Channel) (edits : List Edi
   pub changes-with_edits : ChangesIn core new (map (change_of port id) edits)
   changes-with_edits = record { here = named edits is.here; others = others }
     where
-      others : (l : Key) → IsApart (path l) (map (change_of port id) edits) → look new l ≡ look core l
+      others : (l : Key) → IsApart (path l) (map (change_of port id) edits) → value_at new l ≡ value_at core l
       others (key.ChannelEnd q r) apart = part_stays q r End apart
       others (key.NextSequenceSend q r) apart = part_stays q r NextSend apart
       others (key.NextSequenceRecv q r) apart = part_stays q r NextRecv apart
@@ -118,12 +118,12 @@ module _ (core : Core) (port id : Text) (mine after : Channel) (edits : List Edi
         | inr listed ↦ listed_key p edits is.here listed
       ]
 
-      of_part : (q r : Text) (p : Part) (v : Value) → look new (key_of q r p) ≡ Some v → IsTrue (is_key (key_of q r p))
+      of_part : (q r : Text) (p : Part) (v : Value) → value_at new (key_of q r p) ≡ Some v → IsTrue (is_key (key_of q r p))
       of_part q r p v e =
           named-with by_pair (part_of p) (λ (n : Text × Text). IsTrue (is_key (key_of n.0 n.1 p))) (port, id) (q, r) after core.channels (Some v)
           (after_key p v) (λ f. was.keyed (key_of q r p) v (look_at core q r p ∙ f)) (sym (look_at new q r p) ∙ e)
 
-      keyed : (k : Key) (v : Value) → look new k ≡ Some v → IsTrue (is_key k)
+      keyed : (k : Key) (v : Value) → value_at new k ≡ Some v → IsTrue (is_key k)
       keyed (key.ChannelEnd q r) v e = of_part q r End v e
       keyed (key.NextSequenceSend q r) v e = of_part q r NextSend v e
       keyed (key.NextSequenceRecv q r) v e = of_part q r NextRecv v e
@@ -144,7 +144,7 @@ edits_of_send c mine =
     (CommitmentOf mine.next_send, Some (CommitmentIs c)) ∷ (NextSend, Some (NumberIs (mine.next_send + 1))) ∷ []
 
 abbrev pub edits_of_receive : ℕ → Text → Channel → List Edit
-edits_of_receive n ack mine = (AckOf n, Some (AckIs ack)) ∷ set_part (received n mine) ∷ []
+edits_of_receive n ack mine = (AckOf n, Some (AckIs ack)) ∷ set_part (part_after_receive n mine) ∷ []
 
 abbrev pub edits_of_settling : ℕ → Option (Part × Value) → List Edit
 edits_of_settling n None = (CommitmentOf n, None) ∷ []
@@ -184,7 +184,7 @@ module _ (port id : Text) (mine : Channel) (named : IsTrue (is_port port && is_c
   ]
 
   receipt_among : (n m : ℕ) (b : Bool) → (n == m) ≡ b
-      → (receipt_if (is_one_of (added n mine.receipts) m) ≡ receipt_if (is_one_of mine.receipts m)) ⊎ (ReceiptOf m ≡ ReceiptOf n)
+      → (receipt_if (is_one_of (with_number n mine.receipts) m) ≡ receipt_if (is_one_of mine.receipts m)) ⊎ (ReceiptOf m ≡ ReceiptOf n)
   receipt_among n m true is = inr (ap ReceiptOf (sym (eqb-true n m is)))
   receipt_among n m false is = inl (ap receipt_if (is_one_of-added n m mine.receipts ∙ ap (λ b. b || is_one_of mine.receipts m) is))
 
@@ -192,7 +192,7 @@ module _ (port id : Text) (mine : Channel) (named : IsTrue (is_port port && is_c
   edits-after_receive n ack fits = by_order (is_ordered mine)
     where
       after_by : Bool → Channel
-      after_by b = if b then record (acked n ack) { next_recv = mine.next_recv + 1 } else record (acked n ack) { receipts = added n mine.receipts }
+      after_by b = if b then record (acked n ack) { next_recv = mine.next_recv + 1 } else record (acked n ack) { receipts = with_number n mine.receipts }
 
       edits_by : Bool → List Edit
       edits_by b = (AckOf n, Some (AckIs ack)) ∷ set_part (if b then (NextRecv, NumberIs (mine.next_recv + 1)) else (ReceiptOf n, ReceiptIs)) ∷ []
@@ -251,7 +251,7 @@ module _ (port id : Text) (mine : Channel) (named : IsTrue (is_port port && is_c
         others (ReceiptOf m) = inl refl
         others (AckOf m) = inl refl
 
-    pub edits-after_ack : EditsOf port id mine (after_ack n mine) (edits_of_settling n (acknowledged mine))
+    pub edits-after_ack : EditsOf port id mine (after_ack n mine) (edits_of_settling n (part_after_ack mine))
     edits-after_ack = by_order (is_ordered mine)
       where
         after_by : Bool → Channel
@@ -273,7 +273,7 @@ module _ (port id : Text) (mine : Channel) (named : IsTrue (is_port port && is_c
         by_order true = record { here = ((of_packet n fits, gone), ((named, refl), tt)); others = in_order }
         by_order false = only_settled
 
-    pub edits-after_timeout : EditsOf port id mine (after_timeout n mine) (edits_of_settling n (timed_out mine))
+    pub edits-after_timeout : EditsOf port id mine (after_timeout n mine) (edits_of_settling n (part_after_timeout mine))
     edits-after_timeout = by_order (is_ordered mine)
       where
         after_by : Bool → Channel

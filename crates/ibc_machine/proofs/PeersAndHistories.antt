@@ -10,7 +10,7 @@ use Rattle.ibc_machine.specs.chain.Machine.{World}
 use Rattle.ibc_machine.specs.ics20.TokenData.{success}
 use Rattle.ibc_machine.specs.promises.Peers.{are_peers, end_at}
 use Rattle.ibc_machine.specs.promises.Histories as history
-use Rattle.ibc_machine.specs.promises.Histories.{End, Happened, received, acknowledged, timed_out, sequences}
+use Rattle.ibc_machine.specs.promises.Histories.{End, Happened, received_packets, acknowledged_packets, timed_out_packets, sequences}
 use Rattle.ibc_machine.proofs.Computing.{computing}
 use Rattle.ibc_machine.proofs.Scripts.{Side, Use, a, b, c, second, a_and_b, for_tokens, for_notes, replies, world_after, update, block}
 use Rattle.ibc_machine.proofs.Openings.{opening, with_tokens, with_notes}
@@ -68,21 +68,21 @@ abbrev happened : List Happened
 happened = zip three (replies a_and_b with_notes three)
 
 -- only what was accepted happened, in the order in which it did
-two_received : received (end_of b for_notes) happened ≡ noted 1 n1 ∷ noted_until 9 0 2 n2 ∷ []
+two_received : received_packets (end_of b for_notes) happened ≡ noted 1 n1 ∷ noted_until 9 0 2 n2 ∷ []
 unfolding computing
 two_received = refl
 
-one_acknowledged : acknowledged (end_of a for_notes) happened ≡ noted 1 n1 ∷ []
+one_acknowledged : acknowledged_packets (end_of a for_notes) happened ≡ noted 1 n1 ∷ []
 unfolding computing
 one_acknowledged = refl
 
-one_timed_out : timed_out (end_of a for_notes) happened ≡ noted_until 5 0 3 n3 ∷ []
+one_timed_out : timed_out_packets (end_of a for_notes) happened ≡ noted_until 5 0 3 n3 ∷ []
 unfolding computing
 one_timed_out = refl
 
 -- what was sent is sent as the peer receives it; the peer's name stands in a's own end
 abbrev sent_from : Option Channel → List Packet
-sent_from (Some mine) = history.sent (end_of a for_notes) mine happened
+sent_from (Some mine) = history.sent_packets (end_of a for_notes) mine happened
 sent_from None = []
 
 three_sent : sent_from (end_at with_notes (end_of a for_notes))
@@ -91,8 +91,8 @@ unfolding computing
 three_sent = refl
 
 nothing_the_other_way :
-    sequences (received (end_of a for_notes) happened) ++ sequences (acknowledged (end_of b for_notes) happened)
-    ++ sequences (timed_out (end_of b for_notes) happened) ++ sequences (received (end_of b for_tokens) happened)
+    sequences (received_packets (end_of a for_notes) happened) ++ sequences (acknowledged_packets (end_of b for_notes) happened)
+    ++ sequences (timed_out_packets (end_of b for_notes) happened) ++ sequences (received_packets (end_of b for_tokens) happened)
     ≡ []
 unfolding computing
 nothing_the_other_way = refl

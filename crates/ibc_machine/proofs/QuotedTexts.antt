@@ -7,7 +7,7 @@ use Rattle.std.proofs.lemmas.List.Splits.{join_with_byte-slice_split}
 use Rattle.std.proofs.lemmas.Fmt.{decimal_is_IsNumeral_wide}
 use Rattle.ibc_ids.specs.Texts.{Text}
 use Rattle.ibc_ids.specs.Names.{is_port, is_channel, is_denom, are_hops_and_base, is_made_of}
-use Rattle.ibc_machine.specs.ics20.TokenData.{quoted, member, object, is_amount, between_quotes, number_of}
+use Rattle.ibc_machine.specs.ics20.TokenData.{quoted_text, member, object, is_amount, between_quotes, number_of}
 
 pub both : (a b : Bool) → (a && b) ≡ true → (a ≡ true) × (b ≡ true)
 both true b e = (refl, e)
@@ -144,7 +144,7 @@ spells-clear text h = record {
   spells = λ front rest clear. (front ++ text, clear-append front text clear h, ap (λ t. between t) (sym (append_assoc front text rest)));
 }
 
-pub spells-quoted : (text : Text) → Clear text → Spells (quoted text) (text ∷ [])
+pub spells-quoted : (text : Text) → Clear text → Spells (quoted_text text) (text ∷ [])
 spells-quoted text h = record {
   spells = λ front rest clear. (
     [],
@@ -172,8 +172,8 @@ spelled text parts h =
 
 pub spells-member : (name value : Text) → Clear name → Clear value → Spells (member name value) (name ∷ value ∷ [])
 spells-member name value hn hv =
-    spells-both (quoted name ++ codes ":") (quoted value) (name ∷ []) (value ∷ [])
-    (spells-both (quoted name) (codes ":") (name ∷ []) [] (spells-quoted name hn) (spells-clear (codes ":") refl)) (spells-quoted value hv)
+    spells-both (quoted_text name ++ codes ":") (quoted_text value) (name ∷ []) (value ∷ [])
+    (spells-both (quoted_text name) (codes ":") (name ∷ []) [] (spells-quoted name hn) (spells-clear (codes ":") refl)) (spells-quoted value hv)
 
 pub spells-next : (a b : Text) (rest ps qs : List Text) → Spells a ps → Spells (join_with_byte 44 (b ∷ rest)) qs
     → Spells (join_with_byte 44 (a ∷ b ∷ rest)) (ps ++ qs)

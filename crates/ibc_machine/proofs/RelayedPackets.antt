@@ -9,7 +9,7 @@ use Rattle.ibc_machine.specs.declared.event.Event.{Event}
 use Rattle.ibc_machine.specs.declared.event.Event.TheVariants as event
 use Rattle.ibc_machine.specs.chain.Machine.{World, true_marks}
 use Rattle.ibc_machine.specs.ledger.Replay.{empty_chain}
-use Rattle.ibc_machine.specs.ics18.Relay.{View, Receive, Acknowledge, TimeOut, TimeOutClosed, Kind, Pending, view_of, pending, plan, proof_at}
+use Rattle.ibc_machine.specs.ics18.Relay.{View, Receive, Acknowledge, TimeOut, TimeOutClosed, PendingKind, Pending, view_of, pending, plan, proof_at}
 use Rattle.ibc_machine.specs.ics20.TokenData.{success}
 use Rattle.ibc_machine.proofs.Computing.{computing, hashing}
 use Rattle.ibc_machine.proofs.Scripts.{Side, Use, a, b, alice, bob, atom, a_and_b, for_tokens, for_notes, replies_by, world_after, update, block, done, no, acked}
@@ -23,7 +23,7 @@ view world x = view_of x.number (unwrap_or (slice_get world x.number) empty_chai
 abbrev planned : World → Side → Side → List Event
 planned world x y = map (event.Message y.number) (plan (view world x) (view world y))
 
-abbrev is_pending : Use → Kind → ℕ → Pending
+abbrev is_pending : Use → PendingKind → ℕ → Pending
 is_pending it kind n = record { port = it.port; channel = a.channel; kind = kind; sequence = n }
 
 -- ---- a transfer is committed, with a block on either side

@@ -12,7 +12,7 @@ use Rattle.ibc_machine.specs.declared.event.Event.TheVariants as event
 use Rattle.ibc_machine.specs.declared.reply.Effect.TheVariants as effect
 use Rattle.ibc_machine.specs.declared.reply.Reply.{Reply}
 use Rattle.ibc_machine.specs.declared.reply.Reply.TheVariants as reply
-use Rattle.ibc_machine.specs.chain.Records.{Chain}
+use Rattle.ibc_machine.specs.chain.Records.{MachineChain}
 use Rattle.ibc_machine.specs.ics20.Bank.{Balances}
 use Rattle.ibc_machine.specs.chain.Genesis.{GenesisState, ChainState, Holding}
 use Rattle.ibc_machine.specs.chain.Machine.{World, Marks, answer}
@@ -41,10 +41,10 @@ world_after genesis world [] = world
 world_after genesis world (e ∷ es) = world_after genesis (answer honest genesis true world e).1 es
 
 abbrev pub balances : World → List Balances
-balances world = map (λ (chain : Chain). chain.records.apps.balances) world
+balances world = map (λ (chain : MachineChain). chain.records.apps.balances) world
 
 abbrev pub notes : World → List (Map Text (List Text))
-notes world = map (λ (chain : Chain). chain.records.apps.notes) world
+notes world = map (λ (chain : MachineChain). chain.records.apps.notes) world
 
 -- ---- people and denominations
 

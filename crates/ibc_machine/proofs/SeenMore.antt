@@ -20,7 +20,7 @@ use Rattle.ibc_machine.specs.ics04.Channels.{chan_open_init, chan_open_try, chan
 use Rattle.ibc_machine.specs.ics04.Packets.{require_timeouts, recv_checked, recv_packet, ack_checked, ack_packet, timeout_checked, timeout, timeout_on_close_checked, timeout_on_close}
 use Rattle.ibc_machine.specs.ics20.Transfers.{send_tokens, transfer, transfer_many}
 use Rattle.ibc_machine.specs.chain.Notes.{send_note}
-use Rattle.ibc_machine.specs.ledger.Replay.{LedgerState, StampedEntry, is_published_as, row_read, proves, after_answer, ledger_answer, entry_answer}
+use Rattle.ibc_machine.specs.ledger.Replay.{LedgerState, StampedEntry, is_published_as, row_read, proof_evidence, after_answer, ledger_answer, entry_answer}
 use Rattle.ibc_machine.specs.ledger.Ledgers.{IsReading, header_in, fits, reading_fits}
 use Rattle.ibc_machine.proofs.Members.{get_left}
 
@@ -65,7 +65,7 @@ module _ (genesis : GenesisState) (k : ℕ) (seen more : List Publication) (read
       → ledger_answer genesis k (seen ++ more) reading state (event.Message chain m) ≡ ledger_answer genesis k seen reading state (event.Message chain m)
   unfolding ledger_answer handle create_client update_client conn_open_init conn_open_try conn_open_ack conn_open_confirm chan_open_init chan_open_try chan_open_ack chan_open_confirm chan_close_init chan_close_confirm require_timeouts recv_checked recv_packet ack_checked ack_packet timeout_checked timeout timeout_on_close_checked timeout_on_close send_tokens transfer transfer_many send_note
   message_stays (message.UpdateClient m) reads =
-      ap (λ r. after_answer (message.UpdateClient m) state (message_answer (record (proves seen reading state) { row = λ _. r }) (length genesis.chains) k state.chain (message.UpdateClient m)))
+      ap (λ r. after_answer (message.UpdateClient m) state (message_answer (record (proof_evidence seen reading state) { row = λ _. r }) (length genesis.chains) k state.chain (message.UpdateClient m)))
       (row_read_stays seen more (row_of reading) m.header reads)
   message_stays m reads = refl
 

@@ -9,7 +9,7 @@ use Rattle.std.specs.FinMap.Entries.{below_all}
 use Rattle.std.proofs.lemmas.Bool.{and_parts, and_from}
 use Rattle.ibc_ids.proofs.Texts.{lt_is_less}
 use Rattle.ibc_ids.specs.Maps.{Map, at, with, without}
-use Rattle.ibc_machine.specs.chain.Records.{is_one_of, added}
+use Rattle.ibc_machine.specs.chain.Records.{is_one_of, with_number}
 use Rattle.ibc_machine.proofs.FiniteMaps.{TellsApart, is_equal, by_number}
 
 -- the key is below all others
@@ -126,12 +126,12 @@ or_swap true false c = refl
 or_swap false b c = refl
 
 -- an added number is there, and no other that wasn't
-pub is_one_of-added : (n k : ℕ) (ks : List ℕ) → is_one_of (added n ks) k ≡ ((n == k) || is_one_of ks k)
+pub is_one_of-added : (n k : ℕ) (ks : List ℕ) → is_one_of (with_number n ks) k ≡ ((n == k) || is_one_of ks k)
 is_one_of-added n k [] = refl
 is_one_of-added n k (x ∷ xs) = go (is_one_of-added n k xs) (nat_cmp n x) refl
   where
-    go : is_one_of (added n xs) k ≡ ((n == k) || is_one_of xs k) → (p : Ordering) → nat_cmp n x ≡ p
-        → is_one_of (match_ordering p (n ∷ x ∷ xs) (x ∷ xs) (x ∷ added n xs)) k ≡ ((n == k) || ((x == k) || is_one_of xs k))
+    go : is_one_of (with_number n xs) k ≡ ((n == k) || is_one_of xs k) → (p : Ordering) → nat_cmp n x ≡ p
+        → is_one_of (match_ordering p (n ∷ x ∷ xs) (x ∷ xs) (x ∷ with_number n xs)) k ≡ ((n == k) || ((x == k) || is_one_of xs k))
     go ih Less is = refl
     go ih Equal is = subst (λ y. ((x == k) || is_one_of xs k) ≡ ((y == k) || ((x == k) || is_one_of xs k))) (sym (by_number.exact n x is)) (or_again (x == k) (is_one_of xs k))
     go ih Greater is = ap (λ b. (x == k) || b) ih ∙ or_swap (x == k) (n == k) (is_one_of xs k)
@@ -140,11 +140,11 @@ or_true : (a b : Bool) → b ≡ true → (a || b) ≡ true
 or_true true b e = refl
 or_true false b e = e
 
-pub added_kept : (n k : ℕ) (ks : List ℕ) → is_one_of ks k ≡ true → is_one_of (added n ks) k ≡ true
+pub added_kept : (n k : ℕ) (ks : List ℕ) → is_one_of ks k ≡ true → is_one_of (with_number n ks) k ≡ true
 added_kept n k ks e = is_one_of-added n k ks ∙ or_true (n == k) (is_one_of ks k) e
 
 eqb-refl : (n : ℕ) → (n == n) ≡ true
 eqb-refl n = grind arith
 
-pub added_there : (n : ℕ) (ks : List ℕ) → is_one_of (added n ks) n ≡ true
+pub added_there : (n : ℕ) (ks : List ℕ) → is_one_of (with_number n ks) n ≡ true
 added_there n ks = is_one_of-added n n ks ∙ ap (λ b. b || is_one_of ks n) (eqb-refl n)

@@ -7,7 +7,7 @@ use Rattle.ibc_ids.specs.declared.key.Key.{Key}
 use Rattle.ibc_ids.specs.declared.key.Key.TheVariants as key
 use Rattle.ibc_ids.specs.declared.publication.Publication.{Publication}
 use Rattle.ibc_ids.specs.declared.refusal.Refusal.TheVariants.{WrongHeader, BadProof, BadMessage}
-use Rattle.ibc_merkle.specs.Written.{written}
+use Rattle.ibc_merkle.specs.Written.{written_proof}
 use Rattle.ibc_wire.specs.Spelling.{proof_bytes}
 use Rattle.ibc_wire.specs.declared.messages.Message.TheVariants as message
 use Rattle.ibc_machine.specs.declared.entry.Reading.{Reading}
@@ -36,7 +36,7 @@ true_root = core_root committed
 
 -- the written proof of a key of a at height 1
 abbrev proof : Key → Text
-proof key = proof_bytes (written (image committed) (path key))
+proof key = proof_bytes (written_proof (image committed) (path key))
 
 abbrev of_connection : Text
 of_connection = proof (key.Connection a.connection)

@@ -6,5 +6,5 @@ pub mod Applications
 pub mod Handlers
 pub mod Genesis
 pub mod Machine
-pub mod OfCore
+pub mod CoreFlight
 pub mod Orderly

@@ -2,4 +2,4 @@
 pub mod TokenData
 pub mod Bank
 pub mod Transfers
-pub mod Returned
+pub mod ReturningTokens

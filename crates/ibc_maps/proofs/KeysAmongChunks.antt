@@ -9,9 +9,9 @@ use Rattle.ibc_ids.specs.Maps.{Map, at, with, without}
 use Rattle.ibc_maps.specs.Sides.{AllBelow, AllAbove}
 use Rattle.ibc_maps.proofs.Sorted.{AreRising, rising_from_sorted, before_is_below, less_from, below_tied, at-behind, at-none}
 use Rattle.ibc_maps.proofs.Edits.{with-step, without-step, without-above, sorted_from_rising}
-use Rattle.ibc_maps.specs.Chunks.{Chunk, joined, begins_above, HasPairs, IsRow}
+use Rattle.ibc_maps.specs.Chunks.{ChunkPairs, joined_chunks, begins_above, HasPairs, IsRow}
 use Rattle.ibc_maps.proofs.Orders.{above-less, below-less, rising-right, rising-with, rising-without}
-use Rattle.ibc_maps.proofs.Rows.{one_more, joined-parts, joined-set, same_when_set, has_pairs_at, whole-set}
+use Rattle.ibc_maps.proofs.PairsInChunks.{one_more, joined-parts, joined-set, same_when_set, has_pairs_at, whole-set}
 
 drop_at : {A : Type 0} (xs : List A) (i : ℕ) (x : A) → i < length xs → x ≡ get_or xs i x → drop i xs ≡ x ∷ drop (suc i) xs
 drop_at [] i x l is = absurd (omega arith)
@@ -44,22 +44,22 @@ module _ {K V : Type 0} {order : K → K → Ordering} (total : IsTotalOrder ord
       go Equal was h = below_tied total key e.0 low (total.antisymm key e.0 ∙ ap ordering_reverse was) before
       go Greater was h = absurd (cc h)
 
-  rising_parts : (chunks : List (Chunk K V)) (i : ℕ) (chunk : Chunk K V) → IsRow order chunks → i < length chunks → chunk ≡ get_or chunks i chunk
-      → AreRising order (joined (take i chunks) ++ ((arc_value chunk).pairs ++ joined (drop (suc i) chunks)))
-  rising_parts chunks i chunk row l is = subst (AreRising order) (joined-parts chunks i chunk l is) (rising_from_sorted order (joined chunks) row.sorted)
+  rising_parts : (chunks : List (ChunkPairs K V)) (i : ℕ) (chunk : ChunkPairs K V) → IsRow order chunks → i < length chunks → chunk ≡ get_or chunks i chunk
+      → AreRising order (joined_chunks (take i chunks) ++ ((arc_value chunk).pairs ++ joined_chunks (drop (suc i) chunks)))
+  rising_parts chunks i chunk row l is = subst (AreRising order) (joined-parts chunks i chunk l is) (rising_from_sorted order (joined_chunks chunks) row.sorted)
 
   -- a chunk that begins above a key, and all behind it
-  pub above_from : (chunks : List (Chunk K V)) (key : K) (i : ℕ) (chunk : Chunk K V) → IsRow order chunks → i < length chunks → chunk ≡ get_or chunks i chunk
-      → begins_above order key (arc_value chunk).pairs ≡ true → AllAbove order key (joined (drop i chunks))
+  pub above_from : (chunks : List (ChunkPairs K V)) (key : K) (i : ℕ) (chunk : ChunkPairs K V) → IsRow order chunks → i < length chunks → chunk ≡ get_or chunks i chunk
+      → begins_above order key (arc_value chunk).pairs ≡ true → AllAbove order key (joined_chunks (drop i chunks))
   above_from chunks key i chunk row l is begins =
-      subst (λ cs. AllAbove order key (joined cs)) (sym (drop_at chunks i chunk l is))
-      (above_first key (joined (take i chunks)) (arc_value chunk).pairs (joined (drop (suc i) chunks)) (rising_parts chunks i chunk row l is) begins)
+      subst (λ cs. AllAbove order key (joined_chunks cs)) (sym (drop_at chunks i chunk l is))
+      (above_first key (joined_chunks (take i chunks)) (arc_value chunk).pairs (joined_chunks (drop (suc i) chunks)) (rising_parts chunks i chunk row l is) begins)
 
   -- the chunks before one that doesn't begin above a key
-  pub below_from : (chunks : List (Chunk K V)) (key : K) (i : ℕ) (chunk : Chunk K V) → IsRow order chunks → i < length chunks → chunk ≡ get_or chunks i chunk
-      → begins_above order key (arc_value chunk).pairs ≡ false → AllBelow order key (joined (take i chunks))
+  pub below_from : (chunks : List (ChunkPairs K V)) (key : K) (i : ℕ) (chunk : ChunkPairs K V) → IsRow order chunks → i < length chunks → chunk ≡ get_or chunks i chunk
+      → begins_above order key (arc_value chunk).pairs ≡ false → AllBelow order key (joined_chunks (take i chunks))
   below_from chunks key i chunk row l is begins =
-      below_first key (joined (take i chunks)) (arc_value chunk).pairs (joined (drop (suc i) chunks)) (rising_parts chunks i chunk row l is) (has_pairs_at chunks i chunk row.whole l is) begins
+      below_first key (joined_chunks (take i chunks)) (arc_value chunk).pairs (joined_chunks (drop (suc i) chunks)) (rising_parts chunks i chunk row l is) (has_pairs_at chunks i chunk row.whole l is) begins
 
   -- ---- between lower and higher pairs
 
@@ -100,49 +100,49 @@ module _ {K V : Type 0} {order : K → K → Ordering} (total : IsTotalOrder ord
   -- ---- in the chunk of a key
 
   -- the chunk in which a key stands or would stand
-  pub record IsPlace (chunks : List (Chunk K V)) (key : K) (i : ℕ) (chunk : Chunk K V) : Type 0 where
+  pub record IsPlace (chunks : List (ChunkPairs K V)) (key : K) (i : ℕ) (chunk : ChunkPairs K V) : Type 0 where
     pub within : i < length chunks
     pub is : chunk ≡ get_or chunks i chunk
-    pub below : AllBelow order key (joined (take i chunks))
-    pub above : AllAbove order key (joined (drop (suc i) chunks))
+    pub below : AllBelow order key (joined_chunks (take i chunks))
+    pub above : AllAbove order key (joined_chunks (drop (suc i) chunks))
 
   -- .. by what a search answers
-  pub place_at : (chunks slice : List (Chunk K V)) (key : K) (i : ℕ) (chunk : Chunk K V) → slice ≡ chunks → i < length slice → AllBelow order key (joined (take i slice))
-      → AllAbove order key (joined (drop (i + 1) slice)) → chunk ≡ get_or chunks i chunk → IsPlace chunks key i chunk
+  pub place_at : (chunks slice : List (ChunkPairs K V)) (key : K) (i : ℕ) (chunk : ChunkPairs K V) → slice ≡ chunks → i < length slice → AllBelow order key (joined_chunks (take i slice))
+      → AllAbove order key (joined_chunks (drop (i + 1) slice)) → chunk ≡ get_or chunks i chunk → IsPlace chunks key i chunk
   place_at chunks slice key i chunk same within below above is = record {
-    within = subst (λ (cs : List (Chunk K V)). i < length cs) same within;
+    within = subst (λ (cs : List (ChunkPairs K V)). i < length cs) same within;
     is = is;
-    below = subst (λ cs. AllBelow order key (joined (take i cs))) same below;
-    above = subst (λ cs. AllAbove order key (joined (drop (suc i) cs))) same (subst (λ n. AllAbove order key (joined (drop n slice))) (one_more i) above);
+    below = subst (λ cs. AllBelow order key (joined_chunks (take i cs))) same below;
+    above = subst (λ cs. AllAbove order key (joined_chunks (drop (suc i) cs))) same (subst (λ n. AllAbove order key (joined_chunks (drop n slice))) (one_more i) above);
   }
 
-  module _ (chunks : List (Chunk K V)) (key : K) (i : ℕ) (chunk : Chunk K V) (p : IsPlace chunks key i chunk) where
-    parts : joined chunks ≡ joined (take i chunks) ++ ((arc_value chunk).pairs ++ joined (drop (suc i) chunks))
+  module _ (chunks : List (ChunkPairs K V)) (key : K) (i : ℕ) (chunk : ChunkPairs K V) (p : IsPlace chunks key i chunk) where
+    parts : joined_chunks chunks ≡ joined_chunks (take i chunks) ++ ((arc_value chunk).pairs ++ joined_chunks (drop (suc i) chunks))
     parts = joined-parts chunks i chunk p.within p.is
 
-    pub at-place : at order key (arc_value chunk).pairs ≡ at order key (joined chunks)
+    pub at-place : at order key (arc_value chunk).pairs ≡ at order key (joined_chunks chunks)
     at-place =
         sym (ap (at order key) parts
-        ∙ at-behind total key (joined (take i chunks)) ((arc_value chunk).pairs ++ joined (drop (suc i) chunks)) p.below
-        ∙ at-before key (arc_value chunk).pairs (joined (drop (suc i) chunks)) p.above)
+        ∙ at-behind total key (joined_chunks (take i chunks)) ((arc_value chunk).pairs ++ joined_chunks (drop (suc i) chunks)) p.below
+        ∙ at-before key (arc_value chunk).pairs (joined_chunks (drop (suc i) chunks)) p.above)
 
-    pub with-place : (value : V) (after : Chunk K V) → (arc_value after).pairs ≡ with order key value (arc_value chunk).pairs
-        → joined (set chunks i after) ≡ with order key value (joined chunks)
+    pub with-place : (value : V) (after : ChunkPairs K V) → (arc_value after).pairs ≡ with order key value (arc_value chunk).pairs
+        → joined_chunks (set chunks i after) ≡ with order key value (joined_chunks chunks)
     with-place value after is =
         joined-set chunks i after p.within
-        ∙ ap (λ ps. joined (take i chunks) ++ (ps ++ joined (drop (suc i) chunks))) is
+        ∙ ap (λ ps. joined_chunks (take i chunks) ++ (ps ++ joined_chunks (drop (suc i) chunks))) is
         ∙ sym (ap (with order key value) parts
-        ∙ with-behind key value (joined (take i chunks)) ((arc_value chunk).pairs ++ joined (drop (suc i) chunks)) p.below
-        ∙ ap (λ es. joined (take i chunks) ++ es) (with-before key value (arc_value chunk).pairs (joined (drop (suc i) chunks)) p.above))
+        ∙ with-behind key value (joined_chunks (take i chunks)) ((arc_value chunk).pairs ++ joined_chunks (drop (suc i) chunks)) p.below
+        ∙ ap (λ es. joined_chunks (take i chunks) ++ es) (with-before key value (arc_value chunk).pairs (joined_chunks (drop (suc i) chunks)) p.above))
 
-    pub without-place : (after : Chunk K V) → (arc_value after).pairs ≡ without order key (arc_value chunk).pairs
-        → joined (set chunks i after) ≡ without order key (joined chunks)
+    pub without-place : (after : ChunkPairs K V) → (arc_value after).pairs ≡ without order key (arc_value chunk).pairs
+        → joined_chunks (set chunks i after) ≡ without order key (joined_chunks chunks)
     without-place after is =
         joined-set chunks i after p.within
-        ∙ ap (λ ps. joined (take i chunks) ++ (ps ++ joined (drop (suc i) chunks))) is
+        ∙ ap (λ ps. joined_chunks (take i chunks) ++ (ps ++ joined_chunks (drop (suc i) chunks))) is
         ∙ sym (ap (without order key) parts
-        ∙ without-behind key (joined (take i chunks)) ((arc_value chunk).pairs ++ joined (drop (suc i) chunks)) p.below
-        ∙ ap (λ es. joined (take i chunks) ++ es) (without-before key (arc_value chunk).pairs (joined (drop (suc i) chunks)) p.above))
+        ∙ without-behind key (joined_chunks (take i chunks)) ((arc_value chunk).pairs ++ joined_chunks (drop (suc i) chunks)) p.below
+        ∙ ap (λ es. joined_chunks (take i chunks) ++ es) (without-before key (arc_value chunk).pairs (joined_chunks (drop (suc i) chunks)) p.above))
 
   -- ---- the row stays a row
 
@@ -161,20 +161,20 @@ module _ {K V : Type 0} {order : K → K → Ordering} (total : IsTotalOrder ord
         | Greater ↦ omega arith
       ]
 
-  pub row_when : (chunks : List (Chunk K V)) (i : ℕ) (after : Chunk K V) (m : Map K V) → AllByRecursion HasPairs chunks → joined (set chunks i after) ≡ m → is_sorted order m ≡ true
+  pub row_when : (chunks : List (ChunkPairs K V)) (i : ℕ) (after : ChunkPairs K V) (m : Map K V) → AllByRecursion HasPairs chunks → joined_chunks (set chunks i after) ≡ m → is_sorted order m ≡ true
       → 0 < length (arc_value after).pairs → IsRow order (set chunks i after)
   row_when chunks i after m whole is sorted some = record { sorted = ap (is_sorted order) is ∙ sorted; whole = whole-set chunks i after whole some }
 
   -- a chunk with the same pairs in place of one
-  pub row_same : (chunks : List (Chunk K V)) (i : ℕ) (chunk after : Chunk K V) → IsRow order chunks → i < length chunks → chunk ≡ get_or chunks i chunk
+  pub row_same : (chunks : List (ChunkPairs K V)) (i : ℕ) (chunk after : ChunkPairs K V) → IsRow order chunks → i < length chunks → chunk ≡ get_or chunks i chunk
       → (arc_value after).pairs ≡ (arc_value chunk).pairs → IsRow order (set chunks i after)
   row_same chunks i chunk after row l is same =
-      row_when chunks i after (joined chunks) row.whole (same_when_set chunks i chunk after l is same) row.sorted
+      row_when chunks i after (joined_chunks chunks) row.whole (same_when_set chunks i chunk after l is same) row.sorted
       (subst (λ (ps : Map K V). 0 < length ps) (sym same) (has_pairs_at chunks i chunk row.whole l is))
 
   -- the chunk of a key with a value, and without the key
-  pub row_with : (chunks : List (Chunk K V)) (key : K) (i : ℕ) (chunk after : Chunk K V) (value : V) → IsRow order chunks → IsPlace chunks key i chunk
+  pub row_with : (chunks : List (ChunkPairs K V)) (key : K) (i : ℕ) (chunk after : ChunkPairs K V) (value : V) → IsRow order chunks → IsPlace chunks key i chunk
       → (arc_value after).pairs ≡ with order key value (arc_value chunk).pairs → IsRow order (set chunks i after)
   row_with chunks key i chunk after value row p is =
-      row_when chunks i after (with order key value (joined chunks)) row.whole (with-place chunks key i chunk p value after is) (sorted-with key value (joined chunks) row.sorted)
+      row_when chunks i after (with order key value (joined_chunks chunks)) row.whole (with-place chunks key i chunk p value after is) (sorted-with key value (joined_chunks chunks) row.sorted)
       (subst (λ (ps : Map K V). 0 < length ps) (sym is) (some-with key value (arc_value chunk).pairs))

@@ -3,8 +3,8 @@ pub mod Edits
 pub mod SearchedKeys
 pub mod Keys
 pub mod Orders
-pub mod Rows
+pub mod PairsInChunks
 pub mod KeysAmongChunks
 pub mod Changes
 pub mod Merging
-pub mod Taking
+pub mod TakenChunks

@@ -9,7 +9,7 @@ use Rattle.std.specs.declared.cmp.Ordering.TheVariants.{Equal}
 use Rattle.std.specs.declared.alloc.Global.{Global}
 use Rattle.std.specs.declared.sync.Arc.{Arc}
 use Rattle.ibc_ids.specs.Maps.{Map}
-use Rattle.ibc_maps.specs.Held.{HeldMap}
+use Rattle.ibc_maps.specs.SortedMapModel.{SortedMapModel}
 
 -- a copy of a value is the value
 abbrev pub CopiesAreSame : {T : Type 0} → (T → T → Type 0) → Type 0
@@ -19,13 +19,13 @@ CopiesAreSame {T} is_clone = (value copy : T) → is_clone value copy → copy �
 abbrev pub TiesAreSame : {K : Type 0} → (K → K → Ordering) → Type 0
 TiesAreSame {K} order = (key other : K) → order key other ≡ Equal → key ≡ other
 
-abbrev pub Chunk : Type 0 → Type 0 → Type 0
-Chunk K V = Arc (HeldMap K V) Global
+abbrev pub ChunkPairs : Type 0 → Type 0 → Type 0
+ChunkPairs K V = Arc (SortedMapModel K V) Global
 
 -- the pairs of chunks, one after another
-abbrev pub joined : {K V : Type 0} → List (Chunk K V) → Map K V
-joined [] = []
-joined (chunk ∷ chunks) = (arc_value chunk).pairs ++ joined chunks
+abbrev pub joined_chunks : {K V : Type 0} → List (ChunkPairs K V) → Map K V
+joined_chunks [] = []
+joined_chunks (chunk ∷ chunks) = (arc_value chunk).pairs ++ joined_chunks chunks
 
 -- the first key is above this one
 abbrev pub begins_above : {K V : Type 0} → (K → K → Ordering) → K → Map K V → Bool
@@ -33,10 +33,10 @@ begins_above order key [] = false
 begins_above order key (pair ∷ pairs) = is_gt (order pair.0 key)
 
 -- a chunk has some pairs
-abbrev pub HasPairs : {K V : Type 0} → Chunk K V → Type 0
+abbrev pub HasPairs : {K V : Type 0} → ChunkPairs K V → Type 0
 HasPairs chunk = 0 < length (arc_value chunk).pairs
 
 -- the pairs are in the order of their keys, and each chunk has some
-pub record IsRow {K V : Type 0} (order : K → K → Ordering) (chunks : List (Chunk K V)) : Type 0 where
-  pub sorted : is_sorted order (joined chunks) ≡ true
+pub record IsRow {K V : Type 0} (order : K → K → Ordering) (chunks : List (ChunkPairs K V)) : Type 0 where
+  pub sorted : is_sorted order (joined_chunks chunks) ≡ true
   pub whole : AllByRecursion HasPairs chunks

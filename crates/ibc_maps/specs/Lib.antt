@@ -1,7 +1,7 @@
-pub mod Held
+pub mod SortedMapModel
 pub mod Lending
 pub mod Sides
 pub mod Chunks
 pub mod Changes
-pub mod Settled
+pub mod SettledPairs
 pub mod Merging

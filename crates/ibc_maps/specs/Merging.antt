@@ -4,7 +4,7 @@ use Rattle.std.specs.List.{AllByRecursion}
 use Rattle.std.specs.Ordering.{is_eq, is_gt}
 use Rattle.std.specs.declared.cmp.Ordering.{Ordering}
 use Rattle.ibc_ids.specs.Maps.{Map}
-use Rattle.ibc_maps.specs.Chunks.{Chunk, HasPairs}
+use Rattle.ibc_maps.specs.Chunks.{ChunkPairs, HasPairs}
 
 -- the first key is below this one
 abbrev pub begins_below : {K V : Type 0} → (K → K → Ordering) → K → Map K V → Bool
@@ -17,6 +17,6 @@ behind_key order key [] = []
 behind_key order key (pair ∷ pairs) = cond (is_eq (order key pair.0)) pairs (pair ∷ pairs)
 
 -- no chunk waits where no pair stands before it, and each chunk has some pairs
-pub record ShowsFirst {K V : Type 0} (pairs : Map K V) (chunks : List (Chunk K V)) : Type 0 where
+pub record ShowsFirst {K V : Type 0} (pairs : Map K V) (chunks : List (ChunkPairs K V)) : Type 0 where
   pub first : pairs ≡ [] → chunks ≡ []
   pub whole : AllByRecursion HasPairs chunks

@@ -3,7 +3,7 @@
 ghost use Rattle.std.specs.Prelude.{◌≡◌, ◌++◌};
 ghost use Rattle.std.specs.List.{AllByRecursion};
 ghost use Rattle.std.specs.Iterator.{YieldsFirstBy, item_count};
-ghost use Rattle.ibc_maps.specs.Chunks.{joined, HasPairs};
+ghost use Rattle.ibc_maps.specs.Chunks.{joined_chunks, HasPairs};
 ghost use Rattle.ibc_maps.specs.Merging.{begins_below, behind_key};
 
 use crate::chunk::Chunk;
@@ -21,14 +21,14 @@ impl<'m, K: Ord, V> Model for ChunkPairs<'m, K, V> {
     ghost use Rattle.std.specs.Prelude.{◌++◌};
     ghost use Rattle.std.specs.Coded.{coded_list, coded×};
     ghost use Rattle.ibc_ids.specs.Maps.{Map};
-    ghost use Rattle.ibc_maps.specs.Chunks.{joined};
+    ghost use Rattle.ibc_maps.specs.Chunks.{joined_chunks};
     ghost use Rattle.ibc_maps.specs.Merging.{ShowsFirst};
 
     ghost Value = { Map K V };
 
     ghost coded = { coded_list (coded× K.code V.code) };
 
-    ghost view = { λ rest. rest.pairs.now ++ joined rest.chunks.now };
+    ghost view = { λ rest. rest.pairs.now ++ joined_chunks rest.chunks.now };
 
     ghost invariant = { λ rest. ShowsFirst rest.pairs.now rest.chunks.now };
 }
@@ -62,7 +62,7 @@ impl<'m, K: Ord, V> ChunkPairs<'m, K, V> {
 // These pairs and those of the chunks.
 fn front<'m, K: Ord, V>(pairs: &'m [(K, V)], chunks: &'m [Chunk<K, V>]) -> ChunkPairs<'m, K, V>
     requires { AllByRecursion HasPairs chunks.now }
-    ensures { result ≡ pairs.now ++ joined chunks.now }
+    ensures { result ≡ pairs.now ++ joined_chunks chunks.now }
 {
     if !pairs.is_empty() {
         return ChunkPairs { pairs, chunks };
@@ -87,16 +87,16 @@ impl<'m, K: Ord, V> Model for Pairs<'m, K, V> {
     ghost use Rattle.ibc_maps.specs.Chunks.{TiesAreSame};
     ghost use Rattle.std.specs.Coded.{coded_list, coded×};
     ghost use Rattle.ibc_ids.specs.Maps.{Map};
-    ghost use Rattle.ibc_maps.specs.Changes.{changed};
-    ghost use Rattle.ibc_maps.specs.Settled.{AreSorted};
+    ghost use Rattle.ibc_maps.specs.Changes.{with_changes};
+    ghost use Rattle.ibc_maps.specs.SettledPairs.{AreSettledSorted};
 
     ghost Value = { Map K V };
 
     ghost coded = { coded_list (coded× K.code V.code) };
 
-    ghost view = { λ rest. changed K.cmp rest.changes.now rest.settled };
+    ghost view = { λ rest. with_changes K.cmp rest.changes.now rest.settled };
 
-    ghost invariant = { λ rest. AreSorted K.cmp rest.changes.now rest.settled × TiesAreSame K.cmp };
+    ghost invariant = { λ rest. AreSettledSorted K.cmp rest.changes.now rest.settled × TiesAreSame K.cmp };
 }
 
 impl<'m, K: Ord, V> Iterator for Pairs<'m, K, V> {

@@ -4,7 +4,7 @@ ghost use Rattle.std.specs.Prelude.{◌≡◌, ◌<◌, ◌+◌, ◌∷◌, [], 
 ghost use Rattle.std.specs.Arc.{arc_value};
 ghost use Rattle.ibc_ids.specs.Maps.{at, with, without};
 ghost use Rattle.ibc_maps.specs.Sides.{AllBelow, AllAbove};
-ghost use Rattle.ibc_maps.specs.Chunks.{joined, begins_above, CopiesAreSame, IsRow};
+ghost use Rattle.ibc_maps.specs.Chunks.{joined_chunks, begins_above, CopiesAreSame, IsRow};
 
 use crate::chunk::{Chunk, first_chunk, halves, remove_in, set_in};
 use crate::pairs::ChunkPairs;
@@ -18,32 +18,32 @@ const FULL: usize = 128;
 
 /// A map in the order of its keys, in chunks that copies share. Contracts see its pairs.
 #[derive(Drop, Debug)]
-pub struct Row<K: Ord + Clone, V: Clone> {
+pub struct ChunkedMap<K: Ord + Clone, V: Clone> {
     chunks: Vec<Chunk<K, V>>,
 }
 
-impl<K: Ord + Clone, V: Clone> Model for Row<K, V> {
+impl<K: Ord + Clone, V: Clone> Model for ChunkedMap<K, V> {
     ghost use Rattle.std.specs.Coded.{coded_list, coded×};
     ghost use Rattle.ibc_ids.specs.Maps.{Map};
-    ghost use Rattle.ibc_maps.specs.Chunks.{joined, CopiesAreSame, IsRow};
+    ghost use Rattle.ibc_maps.specs.Chunks.{joined_chunks, CopiesAreSame, IsRow};
 
     ghost Value = { Map K V };
 
     ghost coded = { coded_list (coded× K.code V.code) };
 
-    ghost view = { λ row. joined row.chunks.items };
+    ghost view = { λ row. joined_chunks row.chunks.items };
 
     ghost invariant = { λ row. IsRow K.cmp row.chunks.items × CopiesAreSame K.is_clone × CopiesAreSame V.is_clone };
 }
 
-impl<K: Ord + Clone, V: Clone> Row<K, V> {
+impl<K: Ord + Clone, V: Clone> ChunkedMap<K, V> {
     /// A map with no pair.
-    pub fn new(alloc: Global) -> Row<K, V>
+    pub fn new(alloc: Global) -> ChunkedMap<K, V>
         requires keys { CopiesAreSame K.is_clone }
         requires values { CopiesAreSame V.is_clone }
         ensures { result ≡ [] }
     {
-        Row {
+        ChunkedMap {
             chunks: Vec::new(alloc),
         }
     }
@@ -107,7 +107,7 @@ impl<K: Ord + Clone, V: Clone> Row<K, V> {
 
     /// The same pairs in a map of its own, which shares all chunks. Refused only where a growth is, or where too many
     /// share a chunk.
-    pub fn copy(&self) -> Result<Row<K, V>, AllocError>
+    pub fn copy(&self) -> Result<ChunkedMap<K, V>, AllocError>
     where
         K: Drop,
         V: Drop,
@@ -117,7 +117,7 @@ impl<K: Ord + Clone, V: Clone> Row<K, V> {
         for chunk in &self.chunks {
             chunks.push(Arc::try_clone(chunk)?)?;
         }
-        Ok(Row { chunks })
+        Ok(ChunkedMap { chunks })
     }
 }
 
@@ -132,8 +132,8 @@ fn set_among<K: Ord + Clone + Drop, V: Clone + Drop>(
     requires keys { CopiesAreSame K.is_clone }
     requires values { CopiesAreSame V.is_clone }
     ensures row { IsRow K.cmp chunks.new.items }
-    ensures ok { OnOk result (joined chunks.new.items ≡ with K.cmp key value (joined chunks.old.items)) }
-    ensures err { OnErr result (joined chunks.new.items ≡ joined chunks.old.items) }
+    ensures ok { OnOk result (joined_chunks chunks.new.items ≡ with K.cmp key value (joined_chunks chunks.old.items)) }
+    ensures err { OnErr result (joined_chunks chunks.new.items ≡ joined_chunks chunks.old.items) }
 {
     let alloc = *chunks.allocator();
     let full = place_of(chunks, &key);
@@ -152,8 +152,8 @@ fn remove_among<K: Ord + Clone + Drop, V: Clone + Drop>(
     requires keys { CopiesAreSame K.is_clone }
     requires values { CopiesAreSame V.is_clone }
     ensures row { IsRow K.cmp chunks.new.items }
-    ensures ok { OnOk result (joined chunks.new.items ≡ without K.cmp key.now (joined chunks.old.items)) }
-    ensures err { OnErr result (joined chunks.new.items ≡ joined chunks.old.items) }
+    ensures ok { OnOk result (joined_chunks chunks.new.items ≡ without K.cmp key.now (joined_chunks chunks.old.items)) }
+    ensures err { OnErr result (joined_chunks chunks.new.items ≡ joined_chunks chunks.old.items) }
 {
     let alloc = *chunks.allocator();
     let place = place_of(chunks, key);
@@ -173,7 +173,7 @@ fn divide<K: Ord + Clone + Drop, V: Clone + Drop>(
     requires row { IsRow K.cmp chunks.old.items }
     requires keys { CopiesAreSame K.is_clone }
     requires values { CopiesAreSame V.is_clone }
-    ensures same { joined chunks.new.items ≡ joined chunks.old.items }
+    ensures same { joined_chunks chunks.new.items ≡ joined_chunks chunks.old.items }
     ensures row { IsRow K.cmp chunks.new.items }
     ensures some { 0 < length chunks.new.items }
 {
@@ -192,8 +192,8 @@ fn place_of<K: Ord, V>(chunks: &[Chunk<K, V>], key: &K) -> usize
     requires some { 0 < length chunks.now }
     requires row { IsRow K.cmp chunks.now }
     ensures within { result < length chunks.now }
-    ensures below { AllBelow K.cmp key.now (joined (take result chunks.now)) }
-    ensures above { AllAbove K.cmp key.now (joined (drop (result + 1) chunks.now)) }
+    ensures below { AllBelow K.cmp key.now (joined_chunks (take result chunks.now)) }
+    ensures above { AllAbove K.cmp key.now (joined_chunks (drop (result + 1) chunks.now)) }
 {
     let mut low = 0;
     let mut high = chunks.len();

@@ -5,12 +5,12 @@ ghost use Rattle.std.specs.Arc.{arc_value};
 ghost use Rattle.std.specs.FinMap.{is_sorted};
 ghost use Rattle.ibc_ids.specs.Maps.{at, with, without};
 ghost use Rattle.ibc_maps.specs.Chunks.{CopiesAreSame, TiesAreSame};
-ghost use Rattle.ibc_maps.specs.Changes.{written, changed};
-ghost use Rattle.ibc_maps.specs.Settled.{settled_pairs, AreSorted};
+ghost use Rattle.ibc_maps.specs.Changes.{with_change, with_changes};
+ghost use Rattle.ibc_maps.specs.SettledPairs.{settled_pairs, AreSettledSorted};
 
 use crate::SortedMap;
 use crate::pairs::{ChunkPairs, Pairs};
-use crate::row::Row;
+use crate::row::ChunkedMap;
 use std::alloc::{AllocError, Global};
 use std::cmp::Ord;
 use std::marker::Model;
@@ -20,7 +20,7 @@ use std::sync::Arc;
 const MANY: usize = 16;
 
 // What copies of a map share, nothing where it has no pair.
-type Settled<K, V> = Option<Arc<Row<K, V>, Global>>;
+type Settled<K, V> = Option<Arc<ChunkedMap<K, V>, Global>>;
 
 /// A map in the order of its keys, in which room can be made beforehand, and whose copies share what is the same in both.
 /// A change waits beside what is shared until it is settled. Contracts see the pairs, and how many changes more
@@ -33,18 +33,18 @@ pub struct SharedMap<K: Ord + Clone, V: Clone> {
 }
 
 impl<K: Ord + Clone, V: Clone> Model for SharedMap<K, V> {
-    ghost use Rattle.ibc_maps.specs.Held.{HeldMap, held_code};
+    ghost use Rattle.ibc_maps.specs.SortedMapModel.{SortedMapModel, sorted_map_code};
     ghost use Rattle.ibc_maps.specs.Chunks.{CopiesAreSame, TiesAreSame};
-    ghost use Rattle.ibc_maps.specs.Changes.{changed};
-    ghost use Rattle.ibc_maps.specs.Settled.{settled_pairs, AreSorted};
+    ghost use Rattle.ibc_maps.specs.Changes.{with_changes};
+    ghost use Rattle.ibc_maps.specs.SettledPairs.{settled_pairs, AreSettledSorted};
 
-    ghost Value = { HeldMap K V };
+    ghost Value = { SortedMapModel K V };
 
-    ghost coded = { held_code K.code V.code };
+    ghost coded = { sorted_map_code K.code V.code };
 
-    ghost view = { λ map. record { pairs = changed K.cmp map.changes.pairs (settled_pairs map.settled); room = map.changes.room } };
+    ghost view = { λ map. record { pairs = with_changes K.cmp map.changes.pairs (settled_pairs map.settled); room = map.changes.room } };
 
-    ghost invariant = { λ map. AreSorted K.cmp map.changes.pairs (settled_pairs map.settled) × TiesAreSame K.cmp × CopiesAreSame K.is_clone × CopiesAreSame V.is_clone };
+    ghost invariant = { λ map. AreSettledSorted K.cmp map.changes.pairs (settled_pairs map.settled) × TiesAreSame K.cmp × CopiesAreSame K.is_clone × CopiesAreSame V.is_clone };
 }
 
 impl<K: Ord + Clone, V: Clone> SharedMap<K, V> {
@@ -78,7 +78,7 @@ impl<K: Ord + Clone, V: Clone> SharedMap<K, V> {
     }
 
     /// The pairs are in the order of their keys.
-    pub fn are_in_order(&self)
+    pub fn lemma_in_order(&self)
         ensures { IsTrue (is_sorted K.cmp self.now.pairs) }
     {
         let _changes = &self.changes;
@@ -242,9 +242,9 @@ fn write_settled<K: Ord + Clone + Drop, V: Clone + Drop>(
     requires keys { CopiesAreSame K.is_clone }
     requires values { CopiesAreSame V.is_clone }
     requires order { TiesAreSame K.cmp }
-    requires sorted { AreSorted K.cmp changes.now (settled_pairs settled.old) }
-    ensures ok { OnOk result (settled_pairs settled.new ≡ changed K.cmp changes.now (settled_pairs settled.old)) }
-    ensures again { OnErr result (changed K.cmp changes.now (settled_pairs settled.new) ≡ changed K.cmp changes.now (settled_pairs settled.old)) }
+    requires sorted { AreSettledSorted K.cmp changes.now (settled_pairs settled.old) }
+    ensures ok { OnOk result (settled_pairs settled.new ≡ with_changes K.cmp changes.now (settled_pairs settled.old)) }
+    ensures again { OnErr result (with_changes K.cmp changes.now (settled_pairs settled.new) ≡ with_changes K.cmp changes.now (settled_pairs settled.old)) }
     ensures sorted { OnErr result (IsTrue (is_sorted K.cmp (settled_pairs settled.new))) }
 {
     match settled {
@@ -260,14 +260,14 @@ fn write_settled<K: Ord + Clone + Drop, V: Clone + Drop>(
 fn first_row<K: Ord + Clone + Drop, V: Clone + Drop>(
     alloc: Global,
     changes: &[(K, Option<V>)],
-) -> Result<Arc<Row<K, V>, Global>, AllocError>
+) -> Result<Arc<ChunkedMap<K, V>, Global>, AllocError>
     requires keys { CopiesAreSame K.is_clone }
     requires values { CopiesAreSame V.is_clone }
     requires order { TiesAreSame K.cmp }
     requires sorted { IsTrue (is_sorted K.cmp changes.now) }
-    ensures { IfOk result (λ row. arc_value row ≡ changed K.cmp changes.now []) }
+    ensures { IfOk result (λ row. arc_value row ≡ with_changes K.cmp changes.now []) }
 {
-    let mut row = Row::new(alloc);
+    let mut row = ChunkedMap::new(alloc);
     match write_all(&mut row, changes) {
         Ok(()) => Ok(Arc::new(alloc, row)?),
         Err(refused) => {
@@ -281,15 +281,15 @@ fn first_row<K: Ord + Clone + Drop, V: Clone + Drop>(
 // same.
 fn write_shared<K: Ord + Clone + Drop, V: Clone + Drop>(
     alloc: Global,
-    shared: &mut Arc<Row<K, V>, Global>,
+    shared: &mut Arc<ChunkedMap<K, V>, Global>,
     changes: &[(K, Option<V>)],
 ) -> Result<(), AllocError>
     requires keys { CopiesAreSame K.is_clone }
     requires values { CopiesAreSame V.is_clone }
     requires order { TiesAreSame K.cmp }
-    requires sorted { AreSorted K.cmp changes.now (arc_value shared.old) }
-    ensures ok { OnOk result (arc_value shared.new ≡ changed K.cmp changes.now (arc_value shared.old)) }
-    ensures again { OnErr result (changed K.cmp changes.now (arc_value shared.new) ≡ changed K.cmp changes.now (arc_value shared.old)) }
+    requires sorted { AreSettledSorted K.cmp changes.now (arc_value shared.old) }
+    ensures ok { OnOk result (arc_value shared.new ≡ with_changes K.cmp changes.now (arc_value shared.old)) }
+    ensures again { OnErr result (with_changes K.cmp changes.now (arc_value shared.new) ≡ with_changes K.cmp changes.now (arc_value shared.old)) }
     ensures sorted { OnErr result (IsTrue (is_sorted K.cmp (arc_value shared.new))) }
 {
     if let Some(own) = Arc::get_mut(shared) {
@@ -310,15 +310,15 @@ fn write_shared<K: Ord + Clone + Drop, V: Clone + Drop>(
 
 // Writes changes to a row, one after another. After a refusal the same changes still come to the same.
 fn write_all<K: Ord + Clone + Drop, V: Clone + Drop>(
-    row: &mut Row<K, V>,
+    row: &mut ChunkedMap<K, V>,
     changes: &[(K, Option<V>)],
 ) -> Result<(), AllocError>
     requires keys { CopiesAreSame K.is_clone }
     requires values { CopiesAreSame V.is_clone }
     requires order { TiesAreSame K.cmp }
-    requires sorted { AreSorted K.cmp changes.now row.old }
-    ensures ok { OnOk result (row.new ≡ changed K.cmp changes.now row.old) }
-    ensures again { OnErr result (changed K.cmp changes.now row.new ≡ changed K.cmp changes.now row.old) }
+    requires sorted { AreSettledSorted K.cmp changes.now row.old }
+    ensures ok { OnOk result (row.new ≡ with_changes K.cmp changes.now row.old) }
+    ensures again { OnErr result (with_changes K.cmp changes.now row.new ≡ with_changes K.cmp changes.now row.old) }
     ensures sorted { OnErr result (IsTrue (is_sorted K.cmp row.new)) }
 {
     for change in changes {
@@ -329,13 +329,13 @@ fn write_all<K: Ord + Clone + Drop, V: Clone + Drop>(
 
 // Writes one change to a row. A refusal leaves the row.
 fn write<K: Ord + Clone + Drop, V: Clone + Drop>(
-    row: &mut Row<K, V>,
+    row: &mut ChunkedMap<K, V>,
     key: &K,
     change: &Option<V>,
 ) -> Result<(), AllocError>
     requires keys { CopiesAreSame K.is_clone }
     requires values { CopiesAreSame V.is_clone }
-    ensures ok { OnOk result (row.new ≡ written K.cmp key.now change.now row.old) }
+    ensures ok { OnOk result (row.new ≡ with_change K.cmp key.now change.now row.old) }
     ensures err { OnErr result (row.new ≡ row.old) }
 {
     match change {

@@ -23,11 +23,11 @@ pub struct SortedMap<K: Ord, V> {
 impl<K: Ord, V> Model for SortedMap<K, V> {
     ghost use Rattle.std.specs.Prelude.{◌-◌, IsTrue, vec_len, vec_capacity};
     ghost use Rattle.std.specs.FinMap.{is_sorted};
-    ghost use Rattle.ibc_maps.specs.Held.{HeldMap, held_code};
+    ghost use Rattle.ibc_maps.specs.SortedMapModel.{SortedMapModel, sorted_map_code};
 
-    ghost Value = { HeldMap K V };
+    ghost Value = { SortedMapModel K V };
 
-    ghost coded = { held_code K.code V.code };
+    ghost coded = { sorted_map_code K.code V.code };
 
     ghost view = { λ map. record { pairs = map.entries.items; room = vec_capacity map.entries - vec_len map.entries } };
 

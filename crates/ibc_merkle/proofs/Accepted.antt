@@ -14,7 +14,7 @@ use Rattle.ibc_merkle.specs.Clashes.{tree_texts, climb_texts}
 use Rattle.ibc_merkle.specs.declared.proof.Operation.{Operation}
 use Rattle.ibc_merkle.proofs.Digests.{length-hash, length-root, inner_texts_same, leaf_texts_same}
 use Rattle.ibc_merkle.proofs.Paths.{leaf_at, along, climb_down}
-use Rattle.ibc_merkle.proofs.Found.{reverse_cons}
+use Rattle.ibc_merkle.proofs.LeafPaths.{reverse_cons}
 
 -- ---- an operation tells its child's and its sibling's hash
 

@@ -7,12 +7,12 @@ use Rattle.ibc_ids.specs.Texts.{Text, text_cmp}
 use Rattle.ibc_ids.proofs.Texts.{same_text_itself}
 use Rattle.ibc_merkle.specs.Tree.{Pairs, tree, tree_root, largest_power_below, leaves}
 use Rattle.ibc_merkle.specs.Written.{left_child, right_child, found_below, operations_to}
-use Rattle.ibc_merkle.specs.Places.{key_at}
+use Rattle.ibc_merkle.specs.PairPlaces.{key_at}
 use Rattle.ibc_merkle.specs.declared.proof.Operation.{Operation}
 use Rattle.ibc_merkle.proofs.Trees.{leaves-tree, tree-halves}
 use Rattle.ibc_merkle.proofs.Sorted.{AreRising, AllBelow, rising_from_sorted, before_is_below}
-use Rattle.ibc_merkle.proofs.Found.{IsNone, below_some, none_from_below, finds_none, all_below-left}
-use Rattle.ibc_merkle.proofs.Places.{parts_at}
+use Rattle.ibc_merkle.proofs.LeafPaths.{IsNone, below_some, none_from_below, finds_none, all_below-left}
+use Rattle.ibc_merkle.proofs.SearchedPairs.{parts_at}
 
 pub operations-leaf : (pairs : Pairs) (index : ℕ) → length pairs ≡ 1 → index < length pairs → operations_to (key_at pairs index) (tree pairs) ≡ Some []
 operations-leaf [] index one there = absurd (omega arith)

@@ -1,16 +1,16 @@
 mod Facts
-pub mod Same
+pub mod EqualTrees
 pub mod Varints
 pub mod Digests
 pub mod Trees
-pub mod Kept
+pub mod KeptDigests
 pub mod Sorted
 pub mod Edits
-pub mod Places
+pub mod SearchedPairs
 pub mod Climbs
 pub mod Writes
 pub mod Paths
-pub mod Found
+pub mod LeafPaths
 pub mod Accepted
 pub mod Presences
 pub mod Clashes

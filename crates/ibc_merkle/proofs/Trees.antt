@@ -2,12 +2,12 @@
 use Rattle.std.proofs.Common.{◌≡◌, ℕ, zero, suc, ◌+◌, ◌*◌, ◌<◌, ◌≤◌, true, false, nat_lt, [], ◌∷◌, ◌++◌, length, take, drop, get_or, refl, sym, ap, ap₂, ◌∙◌, arith, ltb-true, lt-ltb, le-ltb, length-take, length-drop, take-append-drop}
 use Rattle.ibc_ids.specs.Texts.{Text}
 use Rattle.ibc_merkle.specs.Hash.{hash, leaf_text, leaf_mark, inner_text}
-use Rattle.ibc_merkle.specs.Tree.{Pairs, Tree, Leaf, Node, tree, tree_within, doubled, largest_power_below, root, tree_root, leaves}
+use Rattle.ibc_merkle.specs.Tree.{Pairs, Tree, Leaf, Node, tree, tree_within, doubled_below, largest_power_below, root, tree_root, leaves}
 
-doubled_within : (times k n : ℕ) → 0 < k → k < n → (0 < doubled times k n) × (doubled times k n < n)
+doubled_within : (times k n : ℕ) → 0 < k → k < n → (0 < doubled_below times k n) × (doubled_below times k n < n)
 doubled_within zero k n some below = (some, below)
 doubled_within (suc times) k n some below =
-    elim (nat_lt (2 * k) n) as (λ p. nat_lt (2 * k) n ≡ p → (0 < elim p as (λ _. ℕ) [ true ↦ doubled times (2 * k) n | false ↦ k ]) × ((elim p as (λ _. ℕ) [ true ↦ doubled times (2 * k) n | false ↦ k ]) < n)) [
+    elim (nat_lt (2 * k) n) as (λ p. nat_lt (2 * k) n ≡ p → (0 < elim p as (λ _. ℕ) [ true ↦ doubled_below times (2 * k) n | false ↦ k ]) × ((elim p as (λ _. ℕ) [ true ↦ doubled_below times (2 * k) n | false ↦ k ]) < n)) [
       | true ↦ λ p. doubled_within times (2 * k) n (omega arith) (ltb-true (2 * k) n p)
       | false ↦ λ p. (some, below)
     ] refl
@@ -34,24 +34,24 @@ leaves-tree pairs some = leaves-tree_within (length pairs) pairs some (omega ari
 -- ---- the tree by its halves
 
 -- enough doublings are enough
-doubled-enough : (s t k n : ℕ) → 0 < k → n ≤ s + k → n ≤ t + k → doubled s k n ≡ doubled t k n
+doubled-enough : (s t k n : ℕ) → 0 < k → n ≤ s + k → n ≤ t + k → doubled_below s k n ≡ doubled_below t k n
 doubled-enough zero zero k n some p q = refl
-doubled-enough zero (suc t) k n some p q = ap (λ b. elim b as (λ _. ℕ) [ true ↦ doubled t (2 * k) n | false ↦ k ]) (sym (le-ltb (2 * k) n (omega arith)))
-doubled-enough (suc s) zero k n some p q = ap (λ b. elim b as (λ _. ℕ) [ true ↦ doubled s (2 * k) n | false ↦ k ]) (le-ltb (2 * k) n (omega arith))
+doubled-enough zero (suc t) k n some p q = ap (λ b. elim b as (λ _. ℕ) [ true ↦ doubled_below t (2 * k) n | false ↦ k ]) (sym (le-ltb (2 * k) n (omega arith)))
+doubled-enough (suc s) zero k n some p q = ap (λ b. elim b as (λ _. ℕ) [ true ↦ doubled_below s (2 * k) n | false ↦ k ]) (le-ltb (2 * k) n (omega arith))
 doubled-enough (suc s) (suc t) k n some p q =
     ap (λ m. elim (nat_lt (2 * k) n) as (λ _. ℕ) [ true ↦ m | false ↦ k ]) (doubled-enough s t (2 * k) n (omega arith) (omega arith) (omega arith))
 
-pub doubled-once : (n k double : ℕ) → 0 < k → double ≡ 2 * k → double < n → doubled n k n ≡ doubled n double n
+pub doubled-once : (n k double : ℕ) → 0 < k → double ≡ 2 * k → double < n → doubled_below n k n ≡ doubled_below n double n
 doubled-once zero k double some twice below = absurd (omega arith)
 doubled-once (suc m) k double some twice below =
     let below : 2 * k < suc m = omega arith in
-    ap (λ b. elim b as (λ _. ℕ) [ true ↦ doubled m (2 * k) (suc m) | false ↦ k ]) (lt-ltb (2 * k) (suc m) below)
+    ap (λ b. elim b as (λ _. ℕ) [ true ↦ doubled_below m (2 * k) (suc m) | false ↦ k ]) (lt-ltb (2 * k) (suc m) below)
     ∙ doubled-enough m (suc m) (2 * k) (suc m) (omega arith) (omega arith) (omega arith)
-    ∙ ap (λ k. doubled (suc m) k (suc m)) (sym twice)
+    ∙ ap (λ k. doubled_below (suc m) k (suc m)) (sym twice)
 
-pub doubled-last : (n k : ℕ) → n ≤ 2 * k → doubled n k n ≡ k
+pub doubled-last : (n k : ℕ) → n ≤ 2 * k → doubled_below n k n ≡ k
 doubled-last zero k above = refl
-doubled-last (suc m) k above = ap (λ b. elim b as (λ _. ℕ) [ true ↦ doubled m (2 * k) (suc m) | false ↦ k ]) (le-ltb (2 * k) (suc m) above)
+doubled-last (suc m) k above = ap (λ b. elim b as (λ _. ℕ) [ true ↦ doubled_below m (2 * k) (suc m) | false ↦ k ]) (le-ltb (2 * k) (suc m) above)
 
 -- depth enough is enough
 tree_within-enough : (d e : ℕ) (pairs : Pairs) → length pairs ≤ d → length pairs ≤ e → tree_within d pairs ≡ tree_within e pairs

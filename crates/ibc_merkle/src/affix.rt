@@ -13,7 +13,7 @@ const IN_PLACE: usize = 33;
 
 // Where the bytes stand.
 #[derive(Drop)]
-enum Place {
+enum AffixStorage {
     /// In the value: the first so many of these.
     Here(u8, [u8; IN_PLACE]),
     /// In an allocation.
@@ -24,7 +24,7 @@ enum Place {
 /// mark and a hash, stand in the value, and more in an allocation. Contracts see them as a list.
 #[derive(Drop)]
 pub struct Affix {
-    place: Place,
+    place: AffixStorage,
 }
 
 impl Model for Affix {
@@ -48,7 +48,7 @@ impl Affix {
         let mut held = [0; IN_PLACE];
         held[..bytes.len()].copy_from_slice(bytes);
         Affix {
-            place: Place::Here(bytes.len() as u8, held),
+            place: AffixStorage::Here(bytes.len() as u8, held),
         }
     }
 
@@ -61,7 +61,7 @@ impl Affix {
             return Ok(Affix::short(bytes));
         }
         Ok(Affix {
-            place: Place::Away(bytes.to_vec(alloc)?),
+            place: AffixStorage::Away(bytes.to_vec(alloc)?),
         })
     }
 
@@ -70,8 +70,8 @@ impl Affix {
         ensures { result.now ≡ self.now }
     {
         match &self.place {
-            Place::Here(count, bytes) => &bytes[..usize::from(*count)],
-            Place::Away(bytes) => bytes.as_slice(),
+            AffixStorage::Here(count, bytes) => &bytes[..usize::from(*count)],
+            AffixStorage::Away(bytes) => bytes.as_slice(),
         }
     }
 }

@@ -8,12 +8,12 @@ use std::marker::Model;
 
 /// A key and its value. Contracts see the pair of both.
 #[derive(Drop, Debug)]
-pub struct Entry {
+pub struct KeyValue {
     key: Bytes,
     value: Bytes,
 }
 
-impl Model for Entry {
+impl Model for KeyValue {
     ghost use Rattle.std.specs.Prelude.{ℕ, List};
 
     ghost Value = { List ℕ × List ℕ };
@@ -21,12 +21,12 @@ impl Model for Entry {
     ghost view = { λ entry. (entry.key, entry.value) };
 }
 
-impl Entry {
+impl KeyValue {
     /// A pair of a key and a value, which are moved in.
-    pub fn new(key: Bytes, value: Bytes) -> Entry
+    pub fn new(key: Bytes, value: Bytes) -> KeyValue
         ensures { result ≡ (key, value) }
     {
-        Entry { key, value }
+        KeyValue { key, value }
     }
 
     /// The key.
@@ -51,11 +51,11 @@ impl Entry {
     }
 }
 
-impl Clone for Entry {
+impl Clone for KeyValue {
     ghost is_clone = { λ entry copy. copy ≡ entry };
 
-    fn clone(&self) -> Result<Entry, AllocError> {
-        Ok(Entry {
+    fn clone(&self) -> Result<KeyValue, AllocError> {
+        Ok(KeyValue {
             key: self.key.clone()?,
             value: self.value.clone()?,
         })

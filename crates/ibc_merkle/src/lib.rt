@@ -12,9 +12,9 @@ mod tree;
 mod writing;
 
 pub use affix::Affix;
-pub use entry::Entry;
+pub use entry::KeyValue;
 pub use hashing::{hash_inner, hash_leaf, hash_value};
-pub use laws::{accepted_is_written, written_is_accepted};
+pub use laws::{lemma_accepted_is_written, lemma_written_is_accepted};
 pub use proof::{Absence, Operation, Operations, Presence, Proof};
 pub use search::place;
 pub use steps::Steps;

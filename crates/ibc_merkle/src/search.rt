@@ -7,11 +7,11 @@ ghost use Rattle.std.specs.FinMap.{is_sorted};
 ghost use Rattle.std.specs.declared.cmp.Ordering.TheVariants.{Less, Equal, Greater};
 ghost use Rattle.ibc_ids.specs.Texts.{text_cmp};
 
-use crate::entry::Entry;
+use crate::entry::KeyValue;
 
 /// The place of a key among pairs whose keys strictly rise in byte order: `Ok` with its index, or `Err` with the index
 /// where it would stand.
-pub fn place(entries: &[Entry], key: &[u8]) -> Result<usize, usize>
+pub fn place(entries: &[KeyValue], key: &[u8]) -> Result<usize, usize>
     requires { IsTrue (is_sorted text_cmp entries.now) }
     ensures found { IfOk result (λ index. index < length entries.now) }
     ensures here { IfOk result (HoldsAt (λ entry. text_cmp entry.0 key.now ≡ Equal) entries.now) }

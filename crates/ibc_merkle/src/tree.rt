@@ -3,16 +3,16 @@
 ghost use Rattle.std.specs.Prelude.{◌≡◌, ◌<◌, ◌∷◌, ◌++◌, [], length, IfOk, OnOk};
 ghost use Rattle.ibc_merkle.specs.Hash.{hash, leaf_text, leaf_mark};
 ghost use Rattle.ibc_merkle.specs.Tree.{largest_power_below, tree_root};
-ghost use Rattle.ibc_merkle.specs.Kept.{digests_of};
+ghost use Rattle.ibc_merkle.specs.NodeDigests.{digests_of};
 
-use crate::entry::Entry;
+use crate::entry::KeyValue;
 use crate::hashing::{inner_digest, leaf_digest, value_digest};
 use ibc_ids::Root;
 use std::alloc::{AllocError, Global};
 
 /// The root of the tree over pairs, of which there is one at least (ICS 23, "CommitmentRoot"). It is meant for pairs
 /// whose keys strictly rise in byte order, since only these have proofs. It takes no memory.
-pub fn root(entries: &[Entry]) -> Root
+pub fn root(entries: &[KeyValue]) -> Root
     requires { 0 < length entries.now }
     ensures { result ≡ tree_root entries.now }
 {
@@ -20,7 +20,7 @@ pub fn root(entries: &[Entry]) -> Root
 }
 
 // The hash of a pair's leaf.
-fn leaf_hash(entry: &Entry) -> [u8; 32]
+fn leaf_hash(entry: &KeyValue) -> [u8; 32]
     ensures { result ≡ hash (leaf_text leaf_mark entry.now.0 entry.now.1) }
 {
     leaf_digest(entry.key(), &value_digest(entry.value()))
@@ -42,7 +42,7 @@ pub fn split_of(leaves: usize) -> usize
 }
 
 // The root of the tree over the pairs.
-pub(crate) fn tree_root_of(entries: &[Entry]) -> [u8; 32]
+pub(crate) fn tree_root_of(entries: &[KeyValue]) -> [u8; 32]
     requires { 0 < length entries.now }
     ensures { result ≡ tree_root entries.now }
 {
@@ -54,7 +54,7 @@ pub(crate) fn tree_root_of(entries: &[Entry]) -> [u8; 32]
 }
 
 // The digests of the tree over the pairs.
-pub(crate) fn digests_of(alloc: Global, entries: &[Entry]) -> Result<Vec<[u8; 32]>, AllocError>
+pub(crate) fn digests_of(alloc: Global, entries: &[KeyValue]) -> Result<Vec<[u8; 32]>, AllocError>
     ensures { IfOk result (λ digests. digests.items ≡ digests_of entries.now) }
 {
     if entries.is_empty() {
@@ -66,7 +66,7 @@ pub(crate) fn digests_of(alloc: Global, entries: &[Entry]) -> Result<Vec<[u8; 32
 }
 
 // Adds the digests of the tree over the pairs. The last of them, which is the root, is answered.
-fn add_digests(digests: &mut Vec<[u8; 32]>, entries: &[Entry]) -> Result<[u8; 32], AllocError>
+fn add_digests(digests: &mut Vec<[u8; 32]>, entries: &[KeyValue]) -> Result<[u8; 32], AllocError>
     requires { 0 < length entries.now }
     ensures root { IfOk result (λ digest. digest ≡ tree_root entries.now) }
     ensures added { OnOk result (digests.new.items ≡ digests.old.items ++ digests_of entries.now) }

@@ -7,12 +7,12 @@ ghost use Rattle.ibc_ids.specs.Texts.{text_cmp};
 ghost use Rattle.ibc_ids.specs.Maps.{at};
 ghost use Rattle.ibc_ids.specs.declared.refusal.Refusal.TheVariants.{NoMemory};
 ghost use Rattle.ibc_merkle.specs.Tree.{tree};
-ghost use Rattle.ibc_merkle.specs.Kept.{digests_of};
-ghost use Rattle.ibc_merkle.specs.Written.{operations_to, presence_of, written};
-ghost use Rattle.ibc_merkle.specs.Places.{key_at, pair_before};
+ghost use Rattle.ibc_merkle.specs.NodeDigests.{digests_of};
+ghost use Rattle.ibc_merkle.specs.Written.{operations_to, presence_of, written_proof};
+ghost use Rattle.ibc_merkle.specs.PairPlaces.{key_at, pair_before};
 
 use crate::affix::Affix;
-use crate::entry::Entry;
+use crate::entry::KeyValue;
 use crate::proof::{Absence, Operation, Operations, Presence, Proof};
 use crate::search::place;
 use crate::tree::{digests_of, split_of};
@@ -21,9 +21,9 @@ use std::alloc::{AllocError, Global};
 
 /// The proof of what pairs have at a key: of its presence where it is among them, and of its absence where not. The
 /// keys strictly rise in byte order. `NoMemory` where a growth is refused. All pairs are hashed.
-pub fn prove(alloc: Global, entries: &[Entry], key: &[u8]) -> Result<Proof, Refusal>
+pub fn prove(alloc: Global, entries: &[KeyValue], key: &[u8]) -> Result<Proof, Refusal>
     requires { IsTrue (is_sorted text_cmp entries.now) }
-    ensures ok { IfOk result (λ proof. proof ≡ written entries.now key.now) }
+    ensures ok { IfOk result (λ proof. proof ≡ written_proof entries.now key.now) }
     ensures err { IfErr result (λ refusal. refusal ≡ NoMemory) }
 {
     let digests = digests_of(alloc, entries)?;
@@ -33,13 +33,13 @@ pub fn prove(alloc: Global, entries: &[Entry], key: &[u8]) -> Result<Proof, Refu
 // The proof of what pairs have at a key, by the digests of their tree.
 fn prove_by(
     alloc: Global,
-    entries: &[Entry],
+    entries: &[KeyValue],
     digests: &[[u8; 32]],
     key: &[u8],
 ) -> Result<Proof, AllocError>
     requires sorted { IsTrue (is_sorted text_cmp entries.now) }
     requires digests { digests.now ≡ digests_of entries.now }
-    ensures { IfOk result (λ proof. proof ≡ written entries.now key.now) }
+    ensures { IfOk result (λ proof. proof ≡ written_proof entries.now key.now) }
 {
     match place(entries, key) {
         Ok(index) => Ok(Proof::Present(presence_at(alloc, entries, digests, index)?)),
@@ -49,10 +49,10 @@ fn prove_by(
 
 /// The proof that a key has its value (ICS 23, "CreateMembershipProof"). The keys strictly rise in byte order, and it
 /// is among them. `NoMemory` where a growth is refused.
-pub fn prove_present(alloc: Global, entries: &[Entry], key: &[u8]) -> Result<Proof, Refusal>
+pub fn prove_present(alloc: Global, entries: &[KeyValue], key: &[u8]) -> Result<Proof, Refusal>
     requires sorted { IsTrue (is_sorted text_cmp entries.now) }
     requires there { IsSome (at text_cmp key.now entries.now) }
-    ensures ok { IfOk result (λ proof. proof ≡ written entries.now key.now) }
+    ensures ok { IfOk result (λ proof. proof ≡ written_proof entries.now key.now) }
     ensures err { IfErr result (λ refusal. refusal ≡ NoMemory) }
 {
     prove(alloc, entries, key)
@@ -60,10 +60,10 @@ pub fn prove_present(alloc: Global, entries: &[Entry], key: &[u8]) -> Result<Pro
 
 /// The proof that a key isn't there (ICS 23, "CreateNonMembershipProof"). The keys strictly rise in byte order, and it
 /// is not among them. `NoMemory` where a growth is refused.
-pub fn prove_absent(alloc: Global, entries: &[Entry], key: &[u8]) -> Result<Proof, Refusal>
+pub fn prove_absent(alloc: Global, entries: &[KeyValue], key: &[u8]) -> Result<Proof, Refusal>
     requires sorted { IsTrue (is_sorted text_cmp entries.now) }
     requires missing { IsNone (at text_cmp key.now entries.now) }
-    ensures ok { IfOk result (λ proof. proof ≡ written entries.now key.now) }
+    ensures ok { IfOk result (λ proof. proof ≡ written_proof entries.now key.now) }
     ensures err { IfErr result (λ refusal. refusal ≡ NoMemory) }
 {
     prove(alloc, entries, key)
@@ -72,7 +72,7 @@ pub fn prove_absent(alloc: Global, entries: &[Entry], key: &[u8]) -> Result<Proo
 // The proof that the key at the index has its value.
 fn presence_at(
     alloc: Global,
-    entries: &[Entry],
+    entries: &[KeyValue],
     digests: &[[u8; 32]],
     index: usize,
 ) -> Result<Presence, AllocError>
@@ -95,7 +95,7 @@ fn presence_at(
 // Adds the operations from the leaf at the index up to the root.
 fn add_operations(
     operations: &mut Vec<Operation>,
-    entries: &[Entry],
+    entries: &[KeyValue],
     digests: &[[u8; 32]],
     index: usize,
 ) -> Result<(), AllocError>
@@ -124,7 +124,7 @@ fn add_operations(
 // The proof that a key isn't there, which would stand at the index.
 fn absence_at(
     alloc: Global,
-    entries: &[Entry],
+    entries: &[KeyValue],
     digests: &[[u8; 32]],
     index: usize,
     key: &[u8],
@@ -146,7 +146,7 @@ fn absence_at(
 // The proof of the pair before the index, if there is one.
 fn left_neighbour(
     alloc: Global,
-    entries: &[Entry],
+    entries: &[KeyValue],
     digests: &[[u8; 32]],
     index: usize,
 ) -> Result<Option<Presence>, AllocError>
@@ -164,7 +164,7 @@ fn left_neighbour(
 // The proof of the pair at the index, if there is one.
 fn right_neighbour(
     alloc: Global,
-    entries: &[Entry],
+    entries: &[KeyValue],
     digests: &[[u8; 32]],
     index: usize,
 ) -> Result<Option<Presence>, AllocError>

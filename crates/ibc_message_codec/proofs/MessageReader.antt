@@ -12,7 +12,7 @@ use Rattle.ibc_wire.specs.declared.messages.MessageKind.{MessageKind}
 use Rattle.ibc_wire.specs.declared.messages.MessageKind.TheVariants as kind
 use Rattle.ibc_wire.proofs.Fronts.{bind_some, bytes_parts, byte_read}
 use Rattle.ibc_wire.proofs.Tags.{tags}
-use Rattle.ibc_wire.proofs.Steps.{tagged_read, tagged_front}
+use Rattle.ibc_wire.proofs.FieldReaders.{tagged_read, tagged_front}
 use Rattle.ibc_message_codec.proofs.PayloadReaders.{create_client_reader, update_client_reader, conn_open_init_reader, conn_open_try_reader, conn_open_ack_reader, conn_open_confirm_reader, chan_open_init_reader, chan_open_try_reader, chan_open_ack_reader, chan_open_confirm_reader, chan_close_init_reader, chan_close_confirm_reader, transfer_reader, send_note_reader, recv_packet_reader, ack_packet_reader, timeout_reader, timeout_on_close_reader, transfer_many_reader}
 
 message_spelled : (k : MessageKind) (text behind : Text) (m : Message) (rest : Text) → AreBytes behind → text ≡ tag_of k ∷ behind → message_behind k behind ≡ Some (m, rest) → Begins (message_fields m) text rest

@@ -8,7 +8,7 @@ use Rattle.ibc_message_codec.specs.ConnectionFronts.{conn_open_init_fields, conn
 use Rattle.ibc_message_codec.specs.ChannelFronts.{chan_open_init_fields, chan_open_init_at_front, chan_open_try_fields, chan_open_try_at_front, chan_open_ack_fields, chan_open_ack_at_front, chan_open_confirm_fields, chan_open_confirm_at_front, chan_close_init_fields, chan_close_init_at_front, chan_close_confirm_fields, chan_close_confirm_at_front}
 use Rattle.ibc_message_codec.specs.PacketFronts.{recv_packet_fields, recv_packet_at_front, ack_packet_fields, ack_packet_at_front, timeout_fields, timeout_at_front, timeout_on_close_fields, timeout_on_close_at_front}
 use Rattle.ibc_message_codec.specs.TransferFronts.{transfer_fields, transfer_at_front, send_note_fields, send_note_at_front, transfer_many_fields, transfer_many_at_front}
-use Rattle.ibc_wire.proofs.Steps.{first, done, reader_of}
+use Rattle.ibc_wire.proofs.FieldReaders.{first, done, reader_of}
 use Rattle.ibc_wire.proofs.Readers.{u8_reader, n8_reader, n16_reader, str_reader, name_reader}
 use Rattle.ibc_wire.proofs.RecordReaders.{order_reader, client_state_reader, header_reader, packet_reader}
 use Rattle.ibc_wire.proofs.TokenReaders.{tokens_reader}

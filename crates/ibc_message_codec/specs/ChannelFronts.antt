@@ -3,7 +3,7 @@ use Rattle.std.specs.Prelude.{List, [], ◌∷◌, Some}
 use Rattle.std.specs.Int.{w64}
 use Rattle.ibc_ids.specs.Texts.{Text}
 use Rattle.ibc_ids.specs.Names.{is_connection, is_channel, is_port, is_version}
-use Rattle.ibc_wire.specs.Fields.{Field, u8, n8, str, name}
+use Rattle.ibc_wire.specs.Fields.{Field, one_byte, be64, str, name}
 use Rattle.ibc_wire.specs.Spelling.{order_number}
 use Rattle.ibc_wire.specs.Reading.{◌>>=◌, Front, str_at_front}
 use Rattle.ibc_wire.specs.Fronts.{number_at_front, name_at_front, coded_at_front}
@@ -16,7 +16,7 @@ use Rattle.ibc_wire.specs.declared.messages.ChanCloseInit.{ChanCloseInit}
 use Rattle.ibc_wire.specs.declared.messages.ChanCloseConfirm.{ChanCloseConfirm}
 
 abbrev pub chan_open_init_fields : ChanOpenInit → List Field
-chan_open_init_fields m = name is_port m.port ∷ u8 (order_number m.order) ∷ name is_connection m.connection ∷ name is_port m.peer_port ∷ name is_version m.version ∷ []
+chan_open_init_fields m = name is_port m.port ∷ one_byte (order_number m.order) ∷ name is_connection m.connection ∷ name is_port m.peer_port ∷ name is_version m.version ∷ []
 
 unfoldable pub chan_open_init_at_front : Text → Front ChanOpenInit
 chan_open_init_at_front text = do
@@ -28,7 +28,7 @@ chan_open_init_at_front text = do
   Some (record { port = port.0; order = order.0; connection = connection.0; peer_port = peer_port.0; version = version.0 }, version.1)
 
 abbrev pub chan_open_try_fields : ChanOpenTry → List Field
-chan_open_try_fields m = name is_port m.port ∷ u8 (order_number m.order) ∷ name is_connection m.connection ∷ name is_port m.peer_port ∷ name is_channel m.peer_channel ∷ name is_version m.version ∷ n8 m.height ∷ str m.proof ∷ []
+chan_open_try_fields m = name is_port m.port ∷ one_byte (order_number m.order) ∷ name is_connection m.connection ∷ name is_port m.peer_port ∷ name is_channel m.peer_channel ∷ name is_version m.version ∷ be64 m.height ∷ str m.proof ∷ []
 
 unfoldable pub chan_open_try_at_front : Text → Front ChanOpenTry
 chan_open_try_at_front text = do
@@ -43,7 +43,7 @@ chan_open_try_at_front text = do
   Some (record { port = port.0; order = order.0; connection = connection.0; peer_port = peer_port.0; peer_channel = peer_channel.0; version = version.0; height = height.0; proof = proof.0 }, proof.1)
 
 abbrev pub chan_open_ack_fields : ChanOpenAck → List Field
-chan_open_ack_fields m = name is_port m.port ∷ name is_channel m.channel ∷ name is_channel m.peer_channel ∷ n8 m.height ∷ str m.proof ∷ []
+chan_open_ack_fields m = name is_port m.port ∷ name is_channel m.channel ∷ name is_channel m.peer_channel ∷ be64 m.height ∷ str m.proof ∷ []
 
 unfoldable pub chan_open_ack_at_front : Text → Front ChanOpenAck
 chan_open_ack_at_front text = do
@@ -55,7 +55,7 @@ chan_open_ack_at_front text = do
   Some (record { port = port.0; channel = channel.0; peer_channel = peer_channel.0; height = height.0; proof = proof.0 }, proof.1)
 
 abbrev pub chan_open_confirm_fields : ChanOpenConfirm → List Field
-chan_open_confirm_fields m = name is_port m.port ∷ name is_channel m.channel ∷ n8 m.height ∷ str m.proof ∷ []
+chan_open_confirm_fields m = name is_port m.port ∷ name is_channel m.channel ∷ be64 m.height ∷ str m.proof ∷ []
 
 unfoldable pub chan_open_confirm_at_front : Text → Front ChanOpenConfirm
 chan_open_confirm_at_front text = do
@@ -75,7 +75,7 @@ chan_close_init_at_front text = do
   Some (record { port = port.0; channel = channel.0 }, channel.1)
 
 abbrev pub chan_close_confirm_fields : ChanCloseConfirm → List Field
-chan_close_confirm_fields m = name is_port m.port ∷ name is_channel m.channel ∷ n8 m.height ∷ str m.proof ∷ []
+chan_close_confirm_fields m = name is_port m.port ∷ name is_channel m.channel ∷ be64 m.height ∷ str m.proof ∷ []
 
 unfoldable pub chan_close_confirm_at_front : Text → Front ChanCloseConfirm
 chan_close_confirm_at_front text = do

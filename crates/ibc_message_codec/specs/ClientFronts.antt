@@ -2,7 +2,7 @@
 use Rattle.std.specs.Prelude.{List, [], ◌∷◌, Some}
 use Rattle.ibc_ids.specs.Texts.{Text}
 use Rattle.ibc_ids.specs.Names.{is_client}
-use Rattle.ibc_wire.specs.Fields.{Field, u8, name}
+use Rattle.ibc_wire.specs.Fields.{Field, one_byte, name}
 use Rattle.ibc_wire.specs.Reading.{◌>>=◌, Front, byte_at_front}
 use Rattle.ibc_wire.specs.Fronts.{name_at_front}
 use Rattle.ibc_wire.specs.RecordFronts.{header_fields, header_at_front}
@@ -10,7 +10,7 @@ use Rattle.ibc_wire.specs.declared.messages.CreateClient.{CreateClient}
 use Rattle.ibc_wire.specs.declared.messages.UpdateClient.{UpdateClient}
 
 abbrev pub create_client_fields : CreateClient → List Field
-create_client_fields m = u8 m.chain ∷ []
+create_client_fields m = one_byte m.chain ∷ []
 
 unfoldable pub create_client_at_front : Text → Front CreateClient
 create_client_at_front text = do

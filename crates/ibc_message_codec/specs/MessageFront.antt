@@ -14,8 +14,8 @@ use Rattle.ibc_wire.specs.declared.messages.MessageKind.{MessageKind}
 use Rattle.ibc_wire.specs.declared.messages.MessageKind.TheVariants as kind
 
 -- the kind of message that has the first byte for its tag
-abbrev pub told_kind : Text → Option MessageKind
-told_kind text = do
+abbrev pub kind_at_front : Text → Option MessageKind
+kind_at_front text = do
   tag ← byte_at_front text
   kind_of_tag tag.0
 

@@ -5,7 +5,7 @@ ghost use Rattle.std.specs.Int.{w64};
 ghost use Rattle.ibc_wire.specs.Reading.{str_at_front};
 ghost use Rattle.ibc_wire.specs.Fronts.{Gives, number_at_front, amount_at_front, name_at_front};
 
-use ibc_ids::{Bytes, Kind, Name, Refusal};
+use ibc_ids::{Bytes, Name, NameKind, Refusal};
 use ibc_wire::Wire;
 use ibc_wire::fields::{read_n8, read_n16, read_name, read_str};
 use std::alloc::Global;
@@ -42,7 +42,7 @@ pub fn str_behind<A: Drop>(
 }
 
 /// A name behind what was read before.
-pub fn name_behind<A: Drop, K: Kind>(
+pub fn name_behind<A: Drop, K: NameKind>(
     alloc: Global,
     before: A,
     bytes: &[u8],

@@ -11,4 +11,4 @@ mod parts;
 mod payload;
 mod transfers;
 
-pub use message::{a_text_spells_one_message, decode, encode};
+pub use message::{decode, encode, lemma_a_text_spells_one_message};

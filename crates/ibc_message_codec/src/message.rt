@@ -3,8 +3,8 @@
 ghost use Rattle.std.specs.Prelude.{◌≡◌, ◌⊎◌, None, Err, IsTrue, IfOk, IfErr, IsErrOf, IsOkUnless};
 ghost use Rattle.ibc_wire.specs.Fields.{Spells, HasOneValue, have_form};
 ghost use Rattle.ibc_wire.specs.Messages.{message_fields};
-ghost use Rattle.ibc_wire.specs.Fronts.{Gives, Writes, only};
-ghost use Rattle.ibc_message_codec.specs.MessageFront.{message_behind, message_at_front, told_kind};
+ghost use Rattle.ibc_wire.specs.Fronts.{Gives, Writes, value_if_whole};
+ghost use Rattle.ibc_message_codec.specs.MessageFront.{message_behind, message_at_front, kind_at_front};
 
 use crate::payload::{Payload, write_tagged};
 use ibc_ids::Refusal;
@@ -55,7 +55,7 @@ fn read_behind(alloc: Global, kind: MessageKind, bytes: &[u8]) -> Result<(Messag
 #[tactic(auto, unfolding(crate::specs::MessageFront::message_at_front))]
 fn read_message(alloc: Global, bytes: &[u8]) -> Result<(Message, &[u8]), Refusal>
     ensures message { Gives (λ x. (x.0, x.1.now)) result (message_at_front bytes.now) }
-    ensures unknown { told_kind bytes.now ≡ None → result ≡ Err Refusal.BadMessage }
+    ensures unknown { kind_at_front bytes.now ≡ None → result ≡ Err Refusal.BadMessage }
 {
     let [tag, rest @ ..] = bytes else {
         return Err(Refusal::BadMessage);
@@ -95,8 +95,8 @@ fn write_message(out: &mut Vec<u8>, message: &Message) -> Result<(), Refusal>
 
 /// The message at the front of the bytes, behind which nothing stands.
 fn read_all(alloc: Global, bytes: &[u8]) -> Result<Message, Refusal>
-    ensures message { Gives (λ x. x) result (only (message_at_front bytes.now)) }
-    ensures unknown { told_kind bytes.now ≡ None → result ≡ Err Refusal.BadMessage }
+    ensures message { Gives (λ x. x) result (value_if_whole (message_at_front bytes.now)) }
+    ensures unknown { kind_at_front bytes.now ≡ None → result ≡ Err Refusal.BadMessage }
 {
     match read_message(alloc, bytes)? {
         (message, []) => Ok(message),
@@ -127,13 +127,13 @@ pub fn decode(alloc: Global, bytes: &[u8]) -> Result<Message, Refusal>
     ensures ok { IfOk result (λ message. Spells (message_fields message) bytes.now) }
     ensures bad { IsErrOf result Refusal.BadMessage → (message : Message) → ¬ Spells (message_fields message) bytes.now }
     ensures memory { (message : Message) → Spells (message_fields message) bytes.now → IsOkUnless result Refusal.NoMemory }
-    ensures unknown { told_kind bytes.now ≡ None → result ≡ Err Refusal.BadMessage }
+    ensures unknown { kind_at_front bytes.now ≡ None → result ≡ Err Refusal.BadMessage }
     ensures errors { IfErr result (λ e. (e ≡ Refusal.BadMessage) ⊎ (e ≡ Refusal.NoMemory)) }
 {
     read_all(alloc, bytes)
 }
 
 /// No text spells two messages.
-pub fn a_text_spells_one_message()
+pub fn lemma_a_text_spells_one_message()
     ensures { HasOneValue message_fields }
 {}

@@ -1,7 +1,7 @@
 //! How the messages of packets, their acknowledgements and timeouts are spelled behind their tag.
 
 ghost use Rattle.std.specs.Prelude.{◌∷◌, []};
-ghost use Rattle.ibc_wire.specs.Fields.{n8, str};
+ghost use Rattle.ibc_wire.specs.Fields.{be64, str};
 ghost use Rattle.ibc_wire.specs.Fronts.{Writes};
 ghost use Rattle.ibc_message_codec.specs.PacketFronts.{recv_packet_fields, ack_packet_fields, timeout_fields, timeout_on_close_fields, recv_packet_at_front, ack_packet_at_front, timeout_at_front, timeout_on_close_at_front};
 
@@ -142,7 +142,7 @@ fn write_proven_ack(
     height: u64,
     proof: &Bytes,
 ) -> Result<(), Refusal>
-    ensures { Writes (str ack.now ∷ n8 height ∷ str proof.now ∷ []) out.old.items result out.new.items }
+    ensures { Writes (str ack.now ∷ be64 height ∷ str proof.now ∷ []) out.old.items result out.new.items }
 {
     write_str(out, ack, u16::MAX)?;
     write_proof(out, height, proof)
@@ -155,7 +155,7 @@ fn write_proven_absence(
     height: u64,
     proof: &Bytes,
 ) -> Result<(), Refusal>
-    ensures { Writes (n8 next_recv ∷ n8 height ∷ str proof.now ∷ []) out.old.items result out.new.items }
+    ensures { Writes (be64 next_recv ∷ be64 height ∷ str proof.now ∷ []) out.old.items result out.new.items }
 {
     write_n8(out, next_recv)?;
     write_proof(out, height, proof)
@@ -169,7 +169,7 @@ fn write_proven_close(
     proof: &Bytes,
     proof_close: &Bytes,
 ) -> Result<(), Refusal>
-    ensures { Writes (n8 next_recv ∷ n8 height ∷ str proof.now ∷ str proof_close.now ∷ []) out.old.items result out.new.items }
+    ensures { Writes (be64 next_recv ∷ be64 height ∷ str proof.now ∷ str proof_close.now ∷ []) out.old.items result out.new.items }
 {
     write_n8(out, next_recv)?;
     write_proofs(out, height, proof, proof_close)

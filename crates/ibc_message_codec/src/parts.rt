@@ -3,7 +3,7 @@
 
 ghost use Rattle.std.specs.Prelude.{◌∷◌, []};
 ghost use Rattle.ibc_ids.specs.Names.{is_memo, is_receiver};
-ghost use Rattle.ibc_wire.specs.Fields.{n8, str, name as a_name};
+ghost use Rattle.ibc_wire.specs.Fields.{be64, str, name as a_name};
 ghost use Rattle.ibc_wire.specs.Fronts.{Writes};
 
 use ibc_ids::{Bytes, Memo, Receiver, Refusal};
@@ -11,7 +11,7 @@ use ibc_wire::fields::{write_n8, write_name, write_str};
 
 /// Writes a height of the peer, and what proves a record of it.
 pub fn write_proof(out: &mut Vec<u8>, height: u64, proof: &Bytes) -> Result<(), Refusal>
-    ensures { Writes (n8 height ∷ str proof.now ∷ []) out.old.items result out.new.items }
+    ensures { Writes (be64 height ∷ str proof.now ∷ []) out.old.items result out.new.items }
 {
     write_n8(out, height)?;
     write_str(out, proof, u16::MAX)
@@ -24,7 +24,7 @@ pub fn write_proofs(
     first: &Bytes,
     second: &Bytes,
 ) -> Result<(), Refusal>
-    ensures { Writes (n8 height ∷ str first.now ∷ str second.now ∷ []) out.old.items result out.new.items }
+    ensures { Writes (be64 height ∷ str first.now ∷ str second.now ∷ []) out.old.items result out.new.items }
 {
     write_proof(out, height, first)?;
     write_str(out, second, u16::MAX)
@@ -38,7 +38,7 @@ pub fn write_delivery(
     timeout_height: u64,
     timeout_time: u64,
 ) -> Result<(), Refusal>
-    ensures { Writes (a_name is_receiver receiver.now ∷ a_name is_memo memo.now ∷ n8 timeout_height ∷ n8 timeout_time ∷ []) out.old.items result out.new.items }
+    ensures { Writes (a_name is_receiver receiver.now ∷ a_name is_memo memo.now ∷ be64 timeout_height ∷ be64 timeout_time ∷ []) out.old.items result out.new.items }
 {
     write_name(out, receiver)?;
     write_name(out, memo)?;

@@ -2,7 +2,7 @@
 
 ghost use Rattle.std.specs.Prelude.{◌∷◌, List};
 ghost use Rattle.ibc_ids.specs.Texts.{Text};
-ghost use Rattle.ibc_wire.specs.Fields.{Field, u8};
+ghost use Rattle.ibc_wire.specs.Fields.{Field, one_byte};
 ghost use Rattle.ibc_wire.specs.Reading.{Front};
 ghost use Rattle.ibc_wire.specs.Fronts.{Gives, Writes};
 
@@ -27,7 +27,7 @@ pub trait Payload: Sized {
 
 /// Writes a value behind a tag.
 pub fn write_tagged<T: Payload>(out: &mut Vec<u8>, tag: u8, value: &T) -> Result<(), Refusal>
-    ensures { Writes (u8 tag ∷ T.fields value.now) out.old.items result out.new.items }
+    ensures { Writes (one_byte tag ∷ T.fields value.now) out.old.items result out.new.items }
 {
     write_u8(out, tag)?;
     value.write(out)

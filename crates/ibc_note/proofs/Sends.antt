@@ -13,8 +13,8 @@ use Rattle.ibc_machine.specs.ics24.Evidence.{Host, Evidence, require_number}
 use Rattle.ibc_machine.specs.ics04.Packets.{has_size, sending_end, require_timeouts, after_send, with_sent}
 use Rattle.ibc_machine.specs.chain.Notes.{note_port, note_commitment, send_note}
 use Rattle.ibc_machine.proofs.PassedChecks.{find}
-use Rattle.ibc_records.specs.Held.{HeldRecords, core_of, IsUnchanged}
-use Rattle.ibc_records.specs.Taking.{IsTaken}
+use Rattle.ibc_records.specs.RecordsModel.{RecordsModel, core_of, IsUnchanged}
+use Rattle.ibc_records.specs.HandlerContract.{IsTakenMessage}
 use Rattle.ibc_records.specs.Packets.{SendsPacket}
 
 module _ (evidence : Evidence) (host : Host) (core : Core) (m : SendNote) (port : Text) (named : port ≡ note_port) where
@@ -35,14 +35,14 @@ module _ (evidence : Evidence) (host : Host) (core : Core) (m : SendNote) (port 
   pub note_found : (mine : Channel) → sending_end core port m.channel ≡ Ok mine → send_note m evidence host core ≡ note_rest mine
   note_found mine is = find note_rest is note_row
 
-module _ (checked : Checked (Effect × Core)) (old : HeldRecords) (m : SendNote) (port : Text) (c : Commitment) (committed : c ≡ note_commitment m) (mine : Channel) where
+module _ (checked : Checked (Effect × Core)) (old : RecordsModel) (m : SendNote) (port : Text) (c : Commitment) (committed : c ≡ note_commitment m) (mine : Channel) where
   pub note_taken : checked ≡ Ok (with_sent port m.channel mine (note_commitment m) (core_of old))
       → channel_at (core_of old) port m.channel ≡ Some mine
-      → (result : Result ℕ Refusal) (new : HeldRecords)
+      → (result : Result ℕ Refusal) (new : RecordsModel)
       → IfOk result (λ n. SendsPacket old port m.channel c n new)
       → IfErr result (λ refusal. refusal ≡ NoMemory)
       → OnErr result (IsUnchanged old new)
-      → IsTaken effect.Sent checked old result new
+      → IsTakenMessage effect.Sent checked old result new
   note_taken is there (Ok n) new sent err unchanged =
       let stood : Some mine ≡ Some sent.mine = sym there ∙ sent.stood in
       let same : mine ≡ sent.mine = cc (stood) in

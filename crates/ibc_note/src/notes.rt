@@ -7,7 +7,7 @@ ghost use Rattle.ibc_ids.specs.Maps.{at, with};
 ghost use Rattle.ibc_ids.specs.declared.refusal.Refusal.TheVariants.{NoMemory};
 ghost use Rattle.ibc_machine.specs.chain.Notes.{note_port, opens_for_notes, closes_for_notes, receive_note};
 ghost use Rattle.ibc_note.specs.Laws.{notes_open_or_refuse, notes_write_sized_acks};
-ghost use Rattle.ibc_note.specs.Plain.{plain_notes};
+ghost use Rattle.ibc_note.specs.AbstractNotes.{abstract_notes};
 
 use crate::list::NoteList;
 use ibc_app_port::App;
@@ -57,7 +57,7 @@ impl Notes {
 
     /// The notes of each channel over which one came, in the byte order of the channels' names.
     pub fn all(&self, alloc: Global) -> Result<Vec<(ChannelId, Vec<Bytes>)>, AllocError>
-        ensures { IfOk result (λ all. map plain_notes all.items ≡ self.now) }
+        ensures { IfOk result (λ all. map abstract_notes all.items ≡ self.now) }
     {
         let mut all = Vec::with_capacity(alloc, self.notes.len())?;
         for (channel, list) in &self.notes {

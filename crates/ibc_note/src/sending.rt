@@ -7,9 +7,9 @@ ghost use Rattle.ibc_machine.specs.chain.Notes as notes;
 ghost use Rattle.ibc_machine.specs.chain.Notes.{note_commitment};
 ghost use Rattle.ibc_machine.specs.ics04.Packets.{with_sent};
 ghost use Rattle.ibc_machine.specs.chain.Records.{channel_at};
-ghost use Rattle.ibc_records.specs.Held.{core_of};
-ghost use Rattle.ibc_records.specs.Taking.{IsHandled};
-ghost use Rattle.ibc_client.specs.Judging.{IsJudged};
+ghost use Rattle.ibc_records.specs.RecordsModel.{core_of};
+ghost use Rattle.ibc_records.specs.HandlerContract.{IsHandled};
+ghost use Rattle.ibc_client.specs.ProofVerdicts.{IsJudged};
 
 use ibc_client::check_number;
 use ibc_ids::{PortId, Refusal};

@@ -1,4 +1,4 @@
 pub mod OwnEnd
 pub mod Limits
-pub mod Rows
-pub mod Taken
+pub mod PacketChecks
+pub mod TakenPackets

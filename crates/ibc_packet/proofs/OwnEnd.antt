@@ -6,7 +6,7 @@ use Rattle.ibc_ids.specs.declared.key.Key.TheVariants as key
 use Rattle.ibc_wire.specs.declared.packet.Packet.{Packet}
 use Rattle.ibc_wire.specs.declared.records.ChannelEnd.{ChannelEnd}
 use Rattle.ibc_machine.specs.chain.Records.{Channel, Commitment}
-use Rattle.ibc_machine.specs.ics24.Values.{NumberIs, has, lacks, same_optional, same_commitment}
+use Rattle.ibc_machine.specs.ics24.Values.{NumberIs, present_claim, absent_claim, same_optional, same_commitment}
 use Rattle.ibc_machine.specs.ics04.Packets.{has_peer, is_ordered, not_received}
 use Rattle.ibc_client.proofs.FoundRows.{bytes_eq-same}
 
@@ -28,12 +28,12 @@ not_gone_past false true n next fresh is = ltb-false n next (sym fresh)
 
 -- what the peer must show, by the order of the end
 module _ (mine : Channel) (p : Packet) (next_recv : ℕ) where
-  pub not_received_in_order : true ≡ is_ordered mine → has (key.NextSequenceRecv p.destination_port p.destination_channel) (NumberIs next_recv) ≡ not_received mine p next_recv
+  pub not_received_in_order : true ≡ is_ordered mine → present_claim (key.NextSequenceRecv p.destination_port p.destination_channel) (NumberIs next_recv) ≡ not_received mine p next_recv
   not_received_in_order ordered = λ i.
-      if ordered i then has (key.NextSequenceRecv p.destination_port p.destination_channel) (NumberIs next_recv)
-      else lacks (key.Receipt p.destination_port p.destination_channel p.sequence)
+      if ordered i then present_claim (key.NextSequenceRecv p.destination_port p.destination_channel) (NumberIs next_recv)
+      else absent_claim (key.Receipt p.destination_port p.destination_channel p.sequence)
 
-  pub not_received_in_any_order : false ≡ is_ordered mine → lacks (key.Receipt p.destination_port p.destination_channel p.sequence) ≡ not_received mine p next_recv
+  pub not_received_in_any_order : false ≡ is_ordered mine → absent_claim (key.Receipt p.destination_port p.destination_channel p.sequence) ≡ not_received mine p next_recv
   not_received_in_any_order unordered = λ i.
-      if unordered i then has (key.NextSequenceRecv p.destination_port p.destination_channel) (NumberIs next_recv)
-      else lacks (key.Receipt p.destination_port p.destination_channel p.sequence)
+      if unordered i then present_claim (key.NextSequenceRecv p.destination_port p.destination_channel) (NumberIs next_recv)
+      else absent_claim (key.Receipt p.destination_port p.destination_channel p.sequence)

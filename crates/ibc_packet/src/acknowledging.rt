@@ -6,9 +6,9 @@ ghost use Rattle.ibc_machine.specs.declared.reply.Effect.TheVariants as effect;
 ghost use Rattle.ibc_machine.specs.ics04.Packets as plain;
 ghost use Rattle.ibc_machine.specs.ics04.Packets.{is_ordered, may_acknowledge, ack_checked, ack_packet};
 ghost use Rattle.ibc_machine.specs.chain.Records.{channel_at};
-ghost use Rattle.ibc_records.specs.Held.{core_of};
-ghost use Rattle.ibc_records.specs.Taking.{IsHandledWith};
-ghost use Rattle.ibc_client.specs.Judging.{IsJudged};
+ghost use Rattle.ibc_records.specs.RecordsModel.{core_of};
+ghost use Rattle.ibc_records.specs.HandlerContract.{IsHandledWith};
+ghost use Rattle.ibc_client.specs.ProofVerdicts.{IsJudged};
 
 use crate::claims::check_acknowledged;
 use crate::ends::{find_channel, has_peer, is_committed, is_open, known_over};

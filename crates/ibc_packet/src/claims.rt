@@ -3,12 +3,12 @@
 ghost use Rattle.std.specs.Prelude.{◌≡◌, ℕ, true, Some, IfOk, IfErr};
 ghost use Rattle.ibc_ids.specs.declared.refusal.Refusal.TheVariants.{NoMemory};
 ghost use Rattle.ibc_machine.specs.ics04.Packets.{not_received, was_acknowledged, was_sent};
-ghost use Rattle.ibc_machine.specs.chain.Records.{commitment_of, connection_at, knows};
+ghost use Rattle.ibc_machine.specs.chain.Records.{commitment_of, connection_at, is_known_height};
 ghost use Rattle.ibc_machine.specs.ics24.Values.{value_bytes, CommitmentIs};
-ghost use Rattle.ibc_records.specs.Held.{core_of};
-ghost use Rattle.ibc_client.specs.Judging.{IsShown};
+ghost use Rattle.ibc_records.specs.RecordsModel.{core_of};
+ghost use Rattle.ibc_client.specs.ProofVerdicts.{IsShown};
 ghost use Rattle.ibc_client.specs.Peers.{IsPeerShown};
-ghost use Rattle.ibc_packet.specs.Passing.{closed_there};
+ghost use Rattle.ibc_packet.specs.TimeoutChecks.{expected_closed_end};
 
 use ibc_client::{check_absent, check_claim, check_present, claim_peer};
 use ibc_ids::{Bytes, ClientId, Key, Refusal};
@@ -25,7 +25,7 @@ pub fn check_sent(
     message: &RecvPacket,
     proof: &Proof,
 ) -> Result<(), Refusal>
-    requires { knows (core_of records.now) client.now message.now.height ≡ true }
+    requires { is_known_height (core_of records.now) client.now message.now.height ≡ true }
     ensures { IsShown records.now client.now message.now.height (was_sent message.now.packet) proof.now result }
 {
     let packet = &message.packet;
@@ -60,7 +60,7 @@ pub fn check_acknowledged(
     message: &AckPacket,
     proof: &Proof,
 ) -> Result<(), Refusal>
-    requires { knows (core_of records.now) client.now message.now.height ≡ true }
+    requires { is_known_height (core_of records.now) client.now message.now.height ≡ true }
     ensures { IsShown records.now client.now message.now.height (was_acknowledged message.now.packet message.now.ack) proof.now result }
 {
     let packet = &message.packet;
@@ -86,7 +86,7 @@ pub fn check_not_received(
     next_recv: u64,
     proof: &Proof,
 ) -> Result<(), Refusal>
-    requires { knows (core_of records.now) client.now height ≡ true }
+    requires { is_known_height (core_of records.now) client.now height ≡ true }
     ensures { IsShown records.now client.now height (not_received mine.now packet.now next_recv) proof.now result }
 {
     let port = packet.destination_port.clone()?;
@@ -111,8 +111,8 @@ pub fn check_closed(
     proof: &Proof,
 ) -> Result<(), Refusal>
     requires there { connection_at (core_of records.now) mine.now.end.connection ≡ Some connection.now }
-    requires known { knows (core_of records.now) connection.now.client message.now.height ≡ true }
-    ensures { IsPeerShown records.now mine.now.end message.now.height message.now.packet.destination_channel (closed_there (core_of records.now) message.now.packet mine.now.end) proof.now result }
+    requires known { is_known_height (core_of records.now) connection.now.client message.now.height ≡ true }
+    ensures { IsPeerShown records.now mine.now.end message.now.height message.now.packet.destination_channel (expected_closed_end (core_of records.now) message.now.packet mine.now.end) proof.now result }
 {
     let packet = &message.packet;
     let end = mine.end();

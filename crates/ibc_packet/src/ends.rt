@@ -6,9 +6,9 @@ ghost use Rattle.ibc_machine.specs.ics04.Channels as channels;
 ghost use Rattle.ibc_machine.specs.chain.Checks.{expect};
 ghost use Rattle.ibc_machine.specs.ics24.Evidence.{require_known};
 ghost use Rattle.ibc_machine.specs.ics04.Packets as plain;
-ghost use Rattle.ibc_machine.specs.chain.Records.{channel_at, commitment_of, connection_at, knows};
+ghost use Rattle.ibc_machine.specs.chain.Records.{channel_at, commitment_of, connection_at, is_known_height};
 ghost use Rattle.ibc_machine.specs.ics24.Values.{same_commitment};
-ghost use Rattle.ibc_records.specs.Held.{core_of};
+ghost use Rattle.ibc_records.specs.RecordsModel.{core_of};
 
 use ibc_client::known_connection;
 use ibc_ids::{ChannelId, PortId, Refusal};
@@ -37,7 +37,7 @@ pub fn known_over<'a>(
     height: u64,
 ) -> Result<&'a ConnectionEnd, Refusal>
     ensures there { IfOk result (λ connection. connection_at (core_of records.now) mine.now.end.connection ≡ Some connection.now) }
-    ensures known { IfOk result (λ connection. knows (core_of records.now) connection.now.client height ≡ true) }
+    ensures known { IfOk result (λ connection. is_known_height (core_of records.now) connection.now.client height ≡ true) }
     ensures passed { IfOk result (λ _. require_known (core_of records.now) (channels.client_of (core_of records.now) mine.now.end.connection) height ≡ Ok tt) }
     ensures failed { IfErr result (λ refusal. require_known (core_of records.now) (channels.client_of (core_of records.now) mine.now.end.connection) height ≡ Err refusal) }
 {

@@ -6,9 +6,9 @@ ghost use Rattle.ibc_machine.specs.declared.reply.Effect.TheVariants as effect;
 ghost use Rattle.ibc_machine.specs.ics04.Packets as plain;
 ghost use Rattle.ibc_machine.specs.ics04.Packets.{is_ordered, may_receive, recv_checked, recv_packet};
 ghost use Rattle.ibc_machine.specs.chain.Records.{channel_at};
-ghost use Rattle.ibc_records.specs.Held.{core_of};
-ghost use Rattle.ibc_records.specs.Taking.{host_with, IsHandledWith};
-ghost use Rattle.ibc_client.specs.Judging.{IsJudged};
+ghost use Rattle.ibc_records.specs.RecordsModel.{core_of};
+ghost use Rattle.ibc_records.specs.HandlerContract.{host_with, IsHandledWith};
+ghost use Rattle.ibc_client.specs.ProofVerdicts.{IsJudged};
 
 use crate::claims::check_sent;
 use crate::ends::{find_channel, has_peer, is_open, is_repeat, known_over, waits_before};

@@ -3,10 +3,10 @@
 ghost use Rattle.std.specs.Prelude.{◌≡◌, ◌&&◌, ◌==◌, Some, IfOk};
 ghost use Rattle.ibc_ids.specs.Texts.{Text};
 ghost use Rattle.ibc_machine.specs.ics04.Packets as plain;
-ghost use Rattle.ibc_machine.specs.chain.Records.{channel_at, knows};
-ghost use Rattle.ibc_records.specs.Held.{core_of};
-ghost use Rattle.ibc_client.specs.Judging.{IsEvident, IsPassed};
-ghost use Rattle.ibc_packet.specs.Passing.{is_passed_over, with_timeouts};
+ghost use Rattle.ibc_machine.specs.chain.Records.{channel_at, is_known_height};
+ghost use Rattle.ibc_records.specs.RecordsModel.{core_of};
+ghost use Rattle.ibc_client.specs.ProofVerdicts.{IsEvident, IsPassed};
+ghost use Rattle.ibc_packet.specs.TimeoutChecks.{is_timeout_reached, with_timeouts};
 
 use crate::ends::{find_channel, is_open};
 use crate::times::is_reached;
@@ -60,9 +60,9 @@ fn has_no_timeout(timeout_height: u64, timeout_time: u64) -> bool
 
 // Whether a timeout is reached at the latest height that the end's client knows.
 fn has_passed(records: &Records, mine: &Channel, timeout_height: u64, timeout_time: u64) -> bool
-    ensures { (payload : Text) → IsEvident records.now (is_passed_over (core_of records.now) mine.now (with_timeouts payload timeout_height timeout_time)) result }
+    ensures { (payload : Text) → IsEvident records.now (is_timeout_reached (core_of records.now) mine.now (with_timeouts payload timeout_height timeout_time)) result }
 {
-    records.names_are_names();
+    records.lemma_names_have_form();
     let Some(connection) = records.connection(&mine.end().connection) else {
         return false;
     };
@@ -76,7 +76,7 @@ fn has_passed(records: &Records, mine: &Channel, timeout_height: u64, timeout_ti
 
 // Whether a client knows a height, whose time has reached a limit.
 fn is_reached_at(records: &Records, client: &ClientId, height: u64, limit: u64) -> bool
-    ensures { IsEvident records.now (λ evidence. knows (core_of records.now) client.now height && plain.is_reached limit (evidence.time_at client.now height)) result }
+    ensures { IsEvident records.now (λ evidence. is_known_height (core_of records.now) client.now height && plain.is_reached limit (evidence.time_at client.now height)) result }
 {
     match known_time(records, client, height) {
         Some(time) => is_reached(limit, time),

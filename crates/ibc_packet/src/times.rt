@@ -3,7 +3,7 @@
 ghost use Rattle.std.specs.Prelude.{◌≡◌, ◌+◌, ◌-◌, ◌^◌, min};
 ghost use Rattle.ibc_machine.specs.ics04.Packets as plain;
 ghost use Rattle.ibc_machine.specs.chain.Records.{commitment_of};
-ghost use Rattle.ibc_path_store.specs.Held.{height_of};
+ghost use Rattle.ibc_path_store.specs.StoreModel.{height_of};
 
 use ibc_records::Records;
 use ibc_wire::Packet;

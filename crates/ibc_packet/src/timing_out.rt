@@ -7,11 +7,11 @@ ghost use Rattle.ibc_machine.specs.declared.reply.Effect.TheVariants as effect;
 ghost use Rattle.ibc_machine.specs.chain.Checks.{require};
 ghost use Rattle.ibc_machine.specs.ics04.Packets as plain;
 ghost use Rattle.ibc_machine.specs.ics04.Packets.{timeout_checked, waits_for};
-ghost use Rattle.ibc_machine.specs.chain.Records.{channel_at, knows};
-ghost use Rattle.ibc_records.specs.Held.{core_of};
-ghost use Rattle.ibc_records.specs.Taking.{IsHandledWith};
-ghost use Rattle.ibc_client.specs.Judging.{IsEvident, IsJudged};
-ghost use Rattle.ibc_packet.specs.Passing.{require_timed_out};
+ghost use Rattle.ibc_machine.specs.chain.Records.{channel_at, is_known_height};
+ghost use Rattle.ibc_records.specs.RecordsModel.{core_of};
+ghost use Rattle.ibc_records.specs.HandlerContract.{IsHandledWith};
+ghost use Rattle.ibc_client.specs.ProofVerdicts.{IsEvident, IsJudged};
+ghost use Rattle.ibc_packet.specs.TimeoutChecks.{require_timed_out};
 
 use crate::claims::check_not_received;
 use crate::ends::{check_pending, find_channel, known_over};
@@ -83,7 +83,7 @@ fn check_timed_out(
     height: u64,
     packet: &Packet,
 ) -> Result<(), Refusal>
-    requires { knows (core_of records.now) client.now height ≡ true }
+    requires { is_known_height (core_of records.now) client.now height ≡ true }
     ensures { IsEvident records.now (require_timed_out client.now height packet.now) result }
 {
     match known_time(records, client, height) {

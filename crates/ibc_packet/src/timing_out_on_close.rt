@@ -6,9 +6,9 @@ ghost use Rattle.ibc_machine.specs.declared.reply.Effect.TheVariants as effect;
 ghost use Rattle.ibc_machine.specs.ics04.Packets as plain;
 ghost use Rattle.ibc_machine.specs.ics04.Packets.{timeout_on_close_checked};
 ghost use Rattle.ibc_machine.specs.chain.Records.{channel_at};
-ghost use Rattle.ibc_records.specs.Held.{core_of};
-ghost use Rattle.ibc_records.specs.Taking.{IsHandledWith};
-ghost use Rattle.ibc_client.specs.Judging.{IsJudged};
+ghost use Rattle.ibc_records.specs.RecordsModel.{core_of};
+ghost use Rattle.ibc_records.specs.HandlerContract.{IsHandledWith};
+ghost use Rattle.ibc_client.specs.ProofVerdicts.{IsJudged};
 
 use crate::claims::{check_closed, check_not_received};
 use crate::ends::{check_pending, find_channel, known_over};

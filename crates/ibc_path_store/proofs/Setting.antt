@@ -5,7 +5,7 @@ use Rattle.ibc_ids.specs.Texts.{Text, text_cmp}
 use Rattle.ibc_ids.specs.Maps.{with}
 use Rattle.ibc_ids.proofs.Texts.{text_tied}
 use Rattle.ibc_merkle.specs.Tree.{Pairs}
-use Rattle.ibc_merkle.proofs.Places.{found-with, set_is_sorted}
+use Rattle.ibc_merkle.proofs.SearchedPairs.{found-with, set_is_sorted}
 
 at_itself : (es : Pairs) (i : ℕ) (d : Text × Text) → i < length es → get_or es i d ≡ get_or es i (get_or es i d)
 at_itself [] i d l = absurd (omega arith)

@@ -8,7 +8,7 @@ use Rattle.ibc_ids.specs.Texts.{Text}
 use Rattle.ibc_merkle.specs.Tree.{Pairs}
 use Rattle.ibc_forest.specs.Gaps.{DifferIn}
 use Rattle.ibc_forest.specs.declared.gap.Gap.{Gap}
-use Rattle.ibc_path_store.specs.Touching.{Shares, IsReplaced, no_gap, shrunk, touched}
+use Rattle.ibc_path_store.specs.GapChanges.{Shares, IsReplaced, no_gap, with_shorter_front, with_replacement}
 
 abbrev own : ℕ → ℕ → ℕ → Gap
 own index gone come = record { kept = index; gone = gone; come = come }
@@ -25,7 +25,7 @@ between from more to xs ys is same =
     sym (drop-take from more xs) ∙ ap (λ n. drop from (take n xs)) is ∙ ap (drop from) same ∙ ap (λ n. drop from (take n ys)) (sym is) ∙ drop-take from more ys
 
 split_differ : (gap : Gap) (gaps : List Gap) (last pairs after : Pairs) (index gone come : ℕ) → index + gone ≤ gap.kept → DifferIn (gap ∷ gaps) last pairs
-    → IsReplaced pairs after index gone come → DifferIn (record { kept = index; gone = gone; come = come } ∷ shrunk (gap ∷ gaps) (index + gone)) last after
+    → IsReplaced pairs after index gone come → DifferIn (record { kept = index; gone = gone; come = come } ∷ with_shorter_front (gap ∷ gaps) (index + gone)) last after
 split_differ gap gaps last pairs after index gone come few differ new =
     let k : ℕ = gap.kept - (index + gone) in
     let a = length-drop (index + gone) last in
@@ -98,15 +98,15 @@ further pairs after n index gone come behind new =
     }
 
 pub differ_touched : (gaps : List Gap) (last pairs after : Pairs) (index gone come : ℕ) → gone ≤ 1 → DifferIn gaps last pairs → IsReplaced pairs after index gone come
-    → DifferIn (touched gaps index gone come) last after
+    → DifferIn (with_replacement gaps index gone come) last after
 differ_touched [] last pairs after index gone come one differ new =
     let counted : length pairs ≡ length last = ap length differ in
     let there = new.there in
     (omega arith, new.counted, new.front ∙ ap (take index) differ, new.back ∙ ap (drop (index + gone)) differ)
 differ_touched (gap ∷ gaps) last pairs after index gone come one differ new =
-    let split : List Gap = record { kept = index; gone = gone; come = come } ∷ shrunk (gap ∷ gaps) (index + gone) in
+    let split : List Gap = record { kept = index; gone = gone; come = come } ∷ with_shorter_front (gap ∷ gaps) (index + gone) in
     let wide : List Gap = record gap { come = gap.come - gone + come } ∷ gaps in
-    let next : List Gap = gap ∷ touched gaps (index - gap.kept - gap.come) gone come in
+    let next : List Gap = gap ∷ with_replacement gaps (index - gap.kept - gap.come) gone come in
     let inner : List Gap = cond (nat_le (index - gap.kept + gone) gap.come) wide next in
     elim (cases_lt index gap.kept) [
       | inl l ↦
@@ -138,30 +138,30 @@ differ_touched (gap ∷ gaps) last pairs after index gone come one differ new =
 
 pub touched_further : (gaps : List Gap) (i before gone come : ℕ) (gap : Gap) → i < length gaps → gap ≡ get_or gaps i gap → gap.kept ≤ before
     → gap.come < before - gap.kept + gone
-    → take i gaps ++ touched (drop i gaps) before gone come ≡ take (i + 1) gaps ++ touched (drop (i + 1) gaps) (before - gap.kept - gap.come) gone come
+    → take i gaps ++ with_replacement (drop i gaps) before gone come ≡ take (i + 1) gaps ++ with_replacement (drop (i + 1) gaps) (before - gap.kept - gap.come) gone come
 touched_further gaps i before gone come gap l is behind past =
     let rest : List Gap = drop (i + 1) gaps in
     let opened : drop i gaps ≡ gap ∷ rest = drop_more gaps i gap l ∙ ap (λ (g : Gap). g ∷ rest) (sym is) in
     let taken : take (i + 1) gaps ≡ take i gaps ++ gap ∷ [] = take_more gaps i gap l ∙ ap (λ (g : Gap). take i gaps ++ g ∷ []) (sym is) in
-    let next : List Gap = touched rest (before - gap.kept - gap.come) gone come in
-    ap (λ (gs : List Gap). take i gaps ++ touched gs before gone come) opened
+    let next : List Gap = with_replacement rest (before - gap.kept - gap.come) gone come in
+    ap (λ (gs : List Gap). take i gaps ++ with_replacement gs before gone come) opened
     ∙ ap (λ (gs : List Gap). take i gaps ++ gs) (cond-false (nat_lt before gap.kept) _ _ (le-ltb before gap.kept behind) ∙ cond-false (nat_le (before - gap.kept + gone) gap.come) _ _ (lt-leb (before - gap.kept + gone) gap.come past))
     ∙ sym (ap (λ (gs : List Gap). gs ++ next) taken ∙ append_assoc (take i gaps) (gap ∷ []) next)
 
 -- in front of a gap, or behind all
 pub touched_own : (gaps : List Gap) (number before gone come : ℕ) → number ≤ length gaps → (number < length gaps → before < (get_or gaps number no_gap).kept)
-    → touched (drop number gaps) before gone come ≡ record { kept = before; gone = gone; come = come } ∷ shrunk (drop number gaps) (before + gone)
+    → with_replacement (drop number gaps) before gone come ≡ record { kept = before; gone = gone; come = come } ∷ with_shorter_front (drop number gaps) (before + gone)
 touched_own gaps number before gone come within front =
     elim (cases_lt number (length gaps)) [
       | inl l ↦
           let gap = get_or gaps number no_gap in
           let opened : drop number gaps ≡ gap ∷ drop (number + 1) gaps = drop_more gaps number no_gap l in
-          ap (λ (gs : List Gap). touched gs before gone come) opened
+          ap (λ (gs : List Gap). with_replacement gs before gone come) opened
           ∙ cond-true (nat_lt before gap.kept) _ _ (lt-ltb before gap.kept (front l))
-          ∙ ap (λ (gs : List Gap). own before gone come ∷ shrunk gs (before + gone)) (sym opened)
+          ∙ ap (λ (gs : List Gap). own before gone come ∷ with_shorter_front gs (before + gone)) (sym opened)
       | inr past ↦
           let none : drop number gaps ≡ [] = drop_all number gaps past in
-          ap (λ (gs : List Gap). touched gs before gone come) none ∙ ap (λ (gs : List Gap). own before gone come ∷ shrunk gs (before + gone)) (sym none)
+          ap (λ (gs : List Gap). with_replacement gs before gone come) none ∙ ap (λ (gs : List Gap). own before gone come ∷ with_shorter_front gs (before + gone)) (sym none)
     ]
 
 behind_one : (gaps : List Gap) (number : ℕ) → number < length gaps → drop number gaps ≡ get_or gaps number no_gap ∷ drop (suc number) gaps
@@ -169,11 +169,11 @@ behind_one gaps number l = drop_more gaps number no_gap l ∙ ap (λ n. get_or g
 
 pub touched_wide : (gaps : List Gap) (number before gone come : ℕ) → number < length gaps → (get_or gaps number no_gap).kept ≤ before
     → before - (get_or gaps number no_gap).kept + gone ≤ (get_or gaps number no_gap).come
-    → set gaps number (record (get_or gaps number no_gap) { come = (get_or gaps number no_gap).come - gone + come }) ≡ take number gaps ++ touched (drop number gaps) before gone come
+    → set gaps number (record (get_or gaps number no_gap) { come = (get_or gaps number no_gap).come - gone + come }) ≡ take number gaps ++ with_replacement (drop number gaps) before gone come
 touched_wide gaps number before gone come l behind inside =
     let gap = get_or gaps number no_gap in
     set_split gaps number (record gap { come = gap.come - gone + come }) l
-    ∙ sym (ap (λ (gs : List Gap). take number gaps ++ touched gs before gone come) (behind_one gaps number l)
+    ∙ sym (ap (λ (gs : List Gap). take number gaps ++ with_replacement gs before gone come) (behind_one gaps number l)
     ∙ ap (λ (gs : List Gap). take number gaps ++ gs) (cond-false (nat_lt before gap.kept) _ _ (le-ltb before gap.kept behind) ∙ cond-true (nat_le (before - gap.kept + gone) gap.come) _ _ (le-leb (before - gap.kept + gone) gap.come inside)))
 
 -- all of a list that was written over
@@ -182,20 +182,20 @@ written_over gaps new count counted same =
     ap (λ (gs : List Gap). take count (new ++ gs)) (drop_all (length new) gaps (omega arith)) ∙ ap (take count) (append-nil new) ∙ take_all count new (omega arith)
 
 pub shrunk_at : (gaps : List Gap) (number fewer : ℕ) → number < length gaps
-    → set gaps number (record (get_or gaps number no_gap) { kept = (get_or gaps number no_gap).kept - fewer }) ≡ take number gaps ++ shrunk (drop number gaps) fewer
+    → set gaps number (record (get_or gaps number no_gap) { kept = (get_or gaps number no_gap).kept - fewer }) ≡ take number gaps ++ with_shorter_front (drop number gaps) fewer
 shrunk_at gaps number fewer l =
     let gap = get_or gaps number no_gap in
-    set_split gaps number (record gap { kept = gap.kept - fewer }) l ∙ sym (ap (λ (gs : List Gap). take number gaps ++ shrunk gs fewer) (behind_one gaps number l))
+    set_split gaps number (record gap { kept = gap.kept - fewer }) l ∙ sym (ap (λ (gs : List Gap). take number gaps ++ with_shorter_front gs fewer) (behind_one gaps number l))
 
-pub shrunk_none : (gaps : List Gap) (number fewer : ℕ) → length gaps ≤ number → gaps ≡ take number gaps ++ shrunk (drop number gaps) fewer
+pub shrunk_none : (gaps : List Gap) (number fewer : ℕ) → length gaps ≤ number → gaps ≡ take number gaps ++ with_shorter_front (drop number gaps) fewer
 shrunk_none gaps number fewer past =
-    sym (ap (λ (gs : List Gap). take number gaps ++ shrunk gs fewer) (drop_all number gaps past) ∙ append-nil (take number gaps) ∙ take_all number gaps past)
+    sym (ap (λ (gs : List Gap). take number gaps ++ with_shorter_front gs fewer) (drop_all number gaps past) ∙ append-nil (take number gaps) ∙ take_all number gaps past)
 
-pub insert_own : (gaps between : List Gap) (number fewer : ℕ) (gap : Gap) → number ≤ length gaps → between ≡ take number gaps ++ shrunk (drop number gaps) fewer
-    → insert between number gap ≡ take number gaps ++ gap ∷ shrunk (drop number gaps) fewer
+pub insert_own : (gaps between : List Gap) (number fewer : ℕ) (gap : Gap) → number ≤ length gaps → between ≡ take number gaps ++ with_shorter_front (drop number gaps) fewer
+    → insert between number gap ≡ take number gaps ++ gap ∷ with_shorter_front (drop number gaps) fewer
 insert_own gaps between number fewer gap within is =
     let front : List Gap = take number gaps in
-    let rest : List Gap = shrunk (drop number gaps) fewer in
+    let rest : List Gap = with_shorter_front (drop number gaps) fewer in
     let counted : length front ≡ number = length-take-le number gaps within in
     ap (λ (gs : List Gap). insert gs number gap) is
     ∙ ap₂ (λ (xs ys : List Gap). xs ++ gap ∷ ys) (take_at front rest number counted) (drop_at front rest number counted)
@@ -207,7 +207,7 @@ shares_lost true gaps last after is = tt
 shares_lost false gaps last after is = absurd (false≢true is)
 
 pub shares_touched : (old : Option (List Gap)) (lost : Bool) (before gaps : List Gap) (index gone come : ℕ) → elim lost [ true ↦ None | false ↦ Some before ] ≡ old → lost ≡ false → gone ≤ 1
-    → gaps ≡ touched before index gone come → (last pairs after : Pairs) → Shares old last pairs → IsReplaced pairs after index gone come
+    → gaps ≡ with_replacement before index gone come → (last pairs after : Pairs) → Shares old last pairs → IsReplaced pairs after index gone come
     → Shares (elim lost [ true ↦ None | false ↦ Some gaps ]) last after
 shares_touched old true before gaps index gone come view is one noted last pairs after shares new = tt
 shares_touched old false before gaps index gone come view is one noted last pairs after shares new =

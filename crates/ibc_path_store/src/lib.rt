@@ -8,4 +8,4 @@ mod touched;
 mod tree;
 
 pub use store::Store;
-pub use tree::Tree;
+pub use tree::CommittedTree;

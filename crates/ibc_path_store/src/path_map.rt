@@ -8,13 +8,13 @@ ghost use Rattle.std.specs.declared.cmp.Ordering.TheVariants.{Less, Equal, Great
 ghost use Rattle.ibc_ids.specs.Texts.{text_cmp};
 ghost use Rattle.ibc_ids.specs.Maps.{at, with, without};
 ghost use Rattle.ibc_merkle.specs.Tree.{Pairs};
-ghost use Rattle.ibc_path_store.specs.Touching.{Shares};
+ghost use Rattle.ibc_path_store.specs.GapChanges.{Shares};
 
 use crate::spare::Spare;
 use crate::touched::Touched;
 use ibc_forest::{Gap, SharedEntry};
 use ibc_ids::Bytes;
-use ibc_merkle::Entry;
+use ibc_merkle::KeyValue;
 use std::alloc::{AllocError, Global};
 use std::marker::Model;
 
@@ -30,9 +30,9 @@ impl Model for PathMap {
     ghost use Rattle.std.specs.Prelude.{◌-◌, min, IsTrue, vec_len, vec_capacity};
     ghost use Rattle.std.specs.FinMap.{is_sorted};
     ghost use Rattle.ibc_ids.specs.Texts.{text_cmp};
-    ghost use Rattle.ibc_path_store.specs.Held.{HeldMap};
+    ghost use Rattle.ibc_path_store.specs.StoreModel.{PathMapModel};
 
-    ghost Value = { HeldMap };
+    ghost Value = { PathMapModel };
 
     ghost view = { λ map. record {
       pairs = map.entries.items;
@@ -84,13 +84,13 @@ impl PathMap {
         let key = Bytes::from_vec(path.into_bytes());
         match self.place(key.as_slice()) {
             Ok(index) => {
-                let entry = self.spare.share(Entry::new(key, value))?;
+                let entry = self.spare.share(KeyValue::new(key, value))?;
                 self.entries[index] = entry;
                 self.touched.touch(index, 1, 1);
                 Ok(())
             }
             Err(index) => {
-                let entry = self.spare.share(Entry::new(key, value))?;
+                let entry = self.spare.share(KeyValue::new(key, value))?;
                 self.entries.insert(index, entry)?;
                 self.touched.touch(index, 0, 1);
                 Ok(())

@@ -3,7 +3,7 @@
 ghost use Rattle.std.specs.Prelude.{◌≡◌, ◌+◌, ◌≤◌, ◌<◌, IfOk, IsOk, OnOk, vec_len};
 
 use ibc_forest::{SharedEntry, SpareEntry};
-use ibc_merkle::Entry;
+use ibc_merkle::KeyValue;
 use std::alloc::{AllocError, Global};
 use std::marker::Model;
 
@@ -40,7 +40,7 @@ impl Spare {
     }
 
     /// A pair that can be shared; where there is no memory for that, it is put into what was made beforehand.
-    pub fn share(&mut self, entry: Entry) -> Result<SharedEntry, AllocError>
+    pub fn share(&mut self, entry: KeyValue) -> Result<SharedEntry, AllocError>
         ensures pair { IfOk result (λ shared. shared ≡ entry) }
         ensures reserved { 0 < self.old → IsOk result }
         ensures rest { self.old ≤ self.new + 1 }

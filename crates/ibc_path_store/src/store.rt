@@ -7,15 +7,15 @@ ghost use Rattle.ibc_ids.specs.Maps.{at, with, without};
 ghost use Rattle.ibc_ids.specs.Paths.{path};
 ghost use Rattle.ibc_ids.specs.declared.refusal.Refusal.TheVariants.{NoMemory, NoConsensus, TimeBack};
 ghost use Rattle.ibc_merkle.specs.Tree.{tree_root};
-ghost use Rattle.ibc_merkle.specs.Written.{written};
+ghost use Rattle.ibc_merkle.specs.Written.{written_proof};
 ghost use Rattle.std.specs.FinMap.{is_sorted};
 ghost use Rattle.ibc_forest.specs.Counts.{CountsEachNewLeaf};
 ghost use Rattle.ibc_forest.specs.Leaves.{count_new, keys};
-ghost use Rattle.ibc_path_store.specs.Held.{committed, height_of, kept_at};
-ghost use Rattle.ibc_path_store.specs.Touching.{Shares};
+ghost use Rattle.ibc_path_store.specs.StoreModel.{store_after_commit, height_of, kept_at};
+ghost use Rattle.ibc_path_store.specs.GapChanges.{Shares};
 
 use crate::path_map::PathMap;
-use crate::tree::Tree;
+use crate::tree::CommittedTree;
 use ibc_forest::Forest;
 use ibc_ids::{Bytes, Key, Refusal, Root};
 use ibc_merkle::Proof;
@@ -36,10 +36,10 @@ pub struct Store {
 
 impl Model for Store {
     ghost use Rattle.std.specs.Prelude.{◌≤◌, length};
-    ghost use Rattle.ibc_path_store.specs.Held.{HeldStore};
-    ghost use Rattle.ibc_path_store.specs.Touching.{Shares};
+    ghost use Rattle.ibc_path_store.specs.StoreModel.{StoreModel};
+    ghost use Rattle.ibc_path_store.specs.GapChanges.{Shares};
 
-    ghost Value = { HeldStore };
+    ghost Value = { StoreModel };
 
     ghost view = { λ store. record {
       pairs = store.map.pairs;
@@ -150,7 +150,7 @@ impl Store {
     pub fn commit(&mut self, next_time: u64) -> Result<Root, Refusal>
         requires { 0 < length self.old.pairs }
         ensures root { IfOk result (λ root. root ≡ tree_root self.old.pairs) }
-        ensures ok { OnOk result (self.new ≡ record (committed self.old next_time) { hashed = self.new.hashed }) }
+        ensures ok { OnOk result (self.new ≡ record (store_after_commit self.old next_time) { hashed = self.new.hashed }) }
         ensures last { OnOk result (self.new.hashed.last ≡ self.old.pairs) }
         ensures more { self.old.hashed.digests ≤ self.new.hashed.digests }
         ensures counts { OnOk result (CountsEachNewLeaf self.old.hashed.last self.old.pairs self.old.hashed.digests self.new.hashed.digests) }
@@ -178,7 +178,7 @@ impl Store {
     /// absence where not (ICS 23, "CommitmentProof"). `NoConsensus` where the height isn't committed or is gone from the
     /// window, `NoMemory` where a growth is refused.
     pub fn prove(&self, height: u64, key: &Key) -> Result<Proof, Refusal>
-        ensures ok { IfOk result (λ proof. IsSomeAnd (kept_at self.now height) (λ kept. proof ≡ written kept.0 (path key.now))) }
+        ensures ok { IfOk result (λ proof. IsSomeAnd (kept_at self.now height) (λ kept. proof ≡ written_proof kept.0 (path key.now))) }
         ensures unknown { (result ≡ Err NoConsensus) ↔ IsNone (kept_at self.now height) }
         ensures err { IfErr result (λ refusal. (refusal ≡ NoConsensus) ⊎ (refusal ≡ NoMemory)) }
     {
@@ -191,13 +191,13 @@ impl Store {
     /// The tree of a committed height, as a value of its own; nothing is hashed for it, and all but the last few nodes are
     /// shared. `NoConsensus` exactly where the height isn't committed or is gone from the window, `NoMemory` where a growth
     /// is refused.
-    pub fn snapshot(&self, height: u64) -> Result<Tree, Refusal>
+    pub fn snapshot(&self, height: u64) -> Result<CommittedTree, Refusal>
         ensures ok { IfOk result (λ tree. IsSomeAnd (kept_at self.now height) (λ kept. tree ≡ kept.0)) }
         ensures unknown { (result ≡ Err NoConsensus) ↔ IsNone (kept_at self.now height) }
         ensures err { IfErr result (λ refusal. (refusal ≡ NoConsensus) ⊎ (refusal ≡ NoMemory)) }
     {
         let index = self.kept_index(height).ok_or(Refusal::NoConsensus)?;
-        Ok(Tree::new(self.forest.tree(index)?))
+        Ok(CommittedTree::new(self.forest.tree(index)?))
     }
 
     // The place of a height among those that are kept.

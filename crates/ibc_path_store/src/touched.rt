@@ -2,7 +2,7 @@
 
 ghost use Rattle.std.specs.Prelude.{◌≡◌, ◌+◌, ◌-◌, ◌<◌, ◌≤◌, ◌++◌, ◌∷◌, [], ℕ, true, false, Some, length, take, drop, slice_set, slice_index_or, option_map};
 ghost use Rattle.ibc_merkle.specs.Tree.{Pairs};
-ghost use Rattle.ibc_path_store.specs.Touching.{Shares, IsReplaced, no_gap, shrunk, touched};
+ghost use Rattle.ibc_path_store.specs.GapChanges.{Shares, IsReplaced, no_gap, with_shorter_front, with_replacement};
 
 use ibc_forest::Gap;
 use std::alloc::Global;
@@ -22,7 +22,7 @@ impl Model for Touched {
 
     ghost Value = { Option (List Gap) };
 
-    ghost view = { λ touched. elim touched.lost [ true ↦ None | false ↦ Some touched.gaps.items ] };
+    ghost view = { λ with_replacement. elim with_replacement.lost [ true ↦ None | false ↦ Some with_replacement.gaps.items ] };
 }
 
 impl Touched {
@@ -84,7 +84,7 @@ fn is_in(gap: Gap, before: usize, gone: usize) -> bool
 fn place_of(gaps: &[Gap], index: usize, gone: usize) -> (usize, usize)
     requires { gone ≤ 1 }
     ensures within { result.0 ≤ length gaps.now }
-    ensures rest { (come : ℕ) → touched gaps.now index gone come ≡ take result.0 gaps.now ++ touched (drop result.0 gaps.now) result.1 gone come }
+    ensures rest { (come : ℕ) → with_replacement gaps.now index gone come ≡ take result.0 gaps.now ++ with_replacement (drop result.0 gaps.now) result.1 gone come }
     ensures inside { let gap = slice_index_or gaps.now result.0 no_gap in result.0 < length gaps.now → gap.kept ≤ result.1 → result.1 - gap.kept + gone ≤ gap.come }
 {
     let mut before = index;
@@ -119,7 +119,7 @@ fn widen(gaps: &mut [Gap], number: usize, gone: usize, come: usize) -> bool
 #[tactic(auto, using(crate::proofs::Touching::shrunk_at, crate::proofs::Touching::shrunk_none))]
 fn shrink(gaps: &mut [Gap], number: usize, gap: Gap)
     requires { number < length gaps.old → gap.kept + gap.gone ≤ (slice_index_or gaps.old number no_gap).kept }
-    ensures { gaps.new ≡ take number gaps.old ++ shrunk (drop number gaps.old) (gap.kept + gap.gone) }
+    ensures { gaps.new ≡ take number gaps.old ++ with_shorter_front (drop number gaps.old) (gap.kept + gap.gone) }
 {
     if number < gaps.len() {
         let kept = gaps[number].kept;
@@ -132,7 +132,7 @@ fn shrink(gaps: &mut [Gap], number: usize, gap: Gap)
 fn put(gaps: &mut Vec<Gap>, number: usize, gap: Gap) -> bool
     requires there { number ≤ length gaps.old.items }
     requires fits { number < length gaps.old.items → gap.kept + gap.gone ≤ (slice_index_or gaps.old.items number no_gap).kept }
-    ensures { result ≡ true → gaps.new.items ≡ take number gaps.old.items ++ gap ∷ shrunk (drop number gaps.old.items) (gap.kept + gap.gone) }
+    ensures { result ≡ true → gaps.new.items ≡ take number gaps.old.items ++ gap ∷ with_shorter_front (drop number gaps.old.items) (gap.kept + gap.gone) }
 {
     shrink(gaps.as_mut_slice(), number, gap);
     gaps.insert(number, gap).is_ok()
@@ -142,7 +142,7 @@ fn put(gaps: &mut Vec<Gap>, number: usize, gap: Gap) -> bool
 #[tactic(auto, using(crate::proofs::Touching::touched_own, crate::proofs::Touching::touched_wide))]
 fn touch_gaps(gaps: &mut Vec<Gap>, index: usize, gone: usize, come: usize) -> bool
     requires { gone ≤ 1 }
-    ensures { result ≡ true → gaps.new.items ≡ touched gaps.old.items index gone come }
+    ensures { result ≡ true → gaps.new.items ≡ with_replacement gaps.old.items index gone come }
 {
     let (number, before) = place_of(gaps.as_slice(), index, gone);
     if number < gaps.len() && gaps[number].kept <= before {

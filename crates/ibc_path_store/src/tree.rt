@@ -3,7 +3,7 @@
 ghost use Rattle.std.specs.Prelude.{◌≡◌, ◌<◌, length, IfOk, IfErr};
 ghost use Rattle.ibc_ids.specs.declared.refusal.Refusal.TheVariants.{NoMemory};
 ghost use Rattle.ibc_merkle.specs.Tree.{tree_root};
-ghost use Rattle.ibc_merkle.specs.Written.{written};
+ghost use Rattle.ibc_merkle.specs.Written.{written_proof};
 
 use ibc_forest::SharedTree;
 use ibc_ids::{Refusal, Root};
@@ -14,11 +14,11 @@ use std::marker::Model;
 /// The tree over the pairs of a committed height (ICS 23, "CommitmentState"). It is a value of its own: it stays as it is
 /// while its store goes on, and outlives it. Contracts see the pairs.
 #[derive(Drop, Debug)]
-pub struct Tree {
+pub struct CommittedTree {
     shared: SharedTree,
 }
 
-impl Model for Tree {
+impl Model for CommittedTree {
     ghost use Rattle.ibc_merkle.specs.Tree.{Pairs};
 
     ghost Value = { Pairs };
@@ -26,12 +26,12 @@ impl Model for Tree {
     ghost view = { λ tree. tree.shared };
 }
 
-impl Tree {
+impl CommittedTree {
     // This tree.
-    pub(crate) fn new(shared: SharedTree) -> Tree
+    pub(crate) fn new(shared: SharedTree) -> CommittedTree
         ensures { result ≡ shared }
     {
-        Tree { shared }
+        CommittedTree { shared }
     }
 
     /// The root of the tree, which has a pair (ICS 23, "CommitmentRoot"). Nothing is hashed for it.
@@ -45,7 +45,7 @@ impl Tree {
     /// The proof of what the pairs have at a key: of its presence where it is among them, and of its absence where not
     /// (ICS 23, "CommitmentProof"). Nothing is hashed for it. `NoMemory` where a growth is refused.
     pub fn prove(&self, alloc: Global, key: &[u8]) -> Result<Proof, Refusal>
-        ensures ok { IfOk result (λ proof. proof ≡ written self.now key.now) }
+        ensures ok { IfOk result (λ proof. proof ≡ written_proof self.now key.now) }
         ensures err { IfErr result (λ refusal. refusal ≡ NoMemory) }
     {
         self.shared.prove(alloc, key)

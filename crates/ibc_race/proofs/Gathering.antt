@@ -6,9 +6,9 @@ use Rattle.std.proofs.lemmas.List.Elements.{All-append, All-cons, All-nil}
 use Rattle.ibc_ids.specs.declared.refusal.Refusal.{Refusal}
 use Rattle.ibc_machine.specs.chain.Genesis.{GenesisState}
 use Rattle.ibc_root_table.specs.Passes.{TableName}
-use Rattle.ibc_ledger.specs.Held.{HeldLedger}
-use Rattle.ibc_ledger_lock.specs.Worlds.{HoldsIfOf, IsOfWorld, Told, WasOnce}
-use Rattle.ibc_world_core.specs.Audits.{AreOfOneWorld, IsAudit}
+use Rattle.ibc_ledger.specs.LedgerModel.{LedgerModel}
+use Rattle.ibc_ledger_lock.specs.ReceiptsAndReadings.{ClaimHoldsOnItsChain, IsOfWorld, ReceiptModel, IsEarlierOnItsChain}
+use Rattle.ibc_world_core.specs.WorldAudits.{AreOfOneWorld, IsAudit}
 use Rattle.ibc_world_core.specs.declared.holdings.Audit.{Audit}
 use Rattle.ibc_theorem.specs.EveryAudit.{AreLawful}
 use Rattle.ibc_race.proofs.Booked.{Booked, at_place}
@@ -25,7 +25,7 @@ one_more_made f made after left rest all x n pushed is next before =
 pub all_made : (f : Booked → ℕ) (made : List ℕ) (left all : List Booked) → left ≡ [] → made ++ map f left ≡ map f all → made ≡ map f all
 all_made f made left all none before = sym (append-nil made) ∙ ap (λ l. made ++ map f l) (sym none) ∙ before
 
-pub one_world : (table : TableName) (genesis : GenesisState) (ledgers : List HeldLedger) → All (IsOfWorld table genesis) ledgers → AreOfOneWorld ledgers
+pub one_world : (table : TableName) (genesis : GenesisState) (ledgers : List LedgerModel) → All (IsOfWorld table genesis) ledgers → AreOfOneWorld ledgers
 one_world table genesis ledgers all first at k h there =
     let a = at_place (IsOfWorld table genesis) ledgers 0 first all at in
     let b = at_place (IsOfWorld table genesis) ledgers k h all there in
@@ -40,22 +40,22 @@ as_many before after x left rest y n pushed next many =
     omega arith
 
 -- one ledger more is taken out
-module _ (table : TableName) (genesis : GenesisState) (receipts claims : List Told) (readings reads : List HeldLedger) where
-  pub gathered : (ledgers after : List HeldLedger) (held : HeldLedger) → claims ≡ receipts → reads ≡ readings → after ≡ ledgers ++ held ∷ []
+module _ (table : TableName) (genesis : GenesisState) (receipts claims : List ReceiptModel) (readings reads : List LedgerModel) where
+  pub gathered : (ledgers after : List LedgerModel) (held : LedgerModel) → claims ≡ receipts → reads ≡ readings → after ≡ ledgers ++ held ∷ []
       → AreGathered table genesis receipts readings ledgers → IsOfWorld table genesis held
-      → All (HoldsIfOf held) claims → All (WasOnce held) reads → AreGathered table genesis receipts readings after
+      → All (ClaimHoldsOnItsChain held) claims → All (IsEarlierOnItsChain held) reads → AreGathered table genesis receipts readings after
   gathered ledgers after held same_claims same_reads pushed before world holds once =
-      let Claimed : HeldLedger → Type 0 = λ h. All (HoldsIfOf h) receipts in
-      let Read : HeldLedger → Type 0 = λ h. All (WasOnce h) readings in
-      let with_one : (P : HeldLedger → Type 0) → All P ledgers → P held → All P (ledgers ++ held ∷ []) =
+      let Claimed : LedgerModel → Type 0 = λ h. All (ClaimHoldsOnItsChain h) receipts in
+      let Read : LedgerModel → Type 0 = λ h. All (IsEarlierOnItsChain h) readings in
+      let with_one : (P : LedgerModel → Type 0) → All P ledgers → P held → All P (ledgers ++ held ∷ []) =
       λ P all one. All-append P ledgers (held ∷ []) all (All-cons P held [] one (All-nil P)) in
       subst (AreGathered table genesis receipts readings) (sym pushed) (
         with_one (IsOfWorld table genesis) before.0 world,
-        with_one Claimed before.1 (subst (All (HoldsIfOf held)) same_claims holds),
-        with_one Read before.2 (subst (All (WasOnce held)) same_reads once),
+        with_one Claimed before.1 (subst (All (ClaimHoldsOnItsChain held)) same_claims holds),
+        with_one Read before.2 (subst (All (IsEarlierOnItsChain held)) same_reads once),
       )
 
-pub audited : (table : TableName) (genesis : GenesisState) (n : ℕ) (receipts : List Told) (readings ledgers : List HeldLedger) (answer : Result Audit Refusal)
+pub audited : (table : TableName) (genesis : GenesisState) (n : ℕ) (receipts : List ReceiptModel) (readings ledgers : List LedgerModel) (answer : Result Audit Refusal)
     → length ledgers ≡ n → AreGathered table genesis receipts readings ledgers → IfOk answer (IsAudit ledgers) → IfOk answer (AreLawful ledgers)
     → IfOk answer (IsAuditOf table genesis n receipts readings)
 audited table genesis n receipts readings ledgers (Ok audit) many are is lawful = (ledgers, many, are, is, lawful)

@@ -5,35 +5,35 @@ use Rattle.std.specs.List.{All}
 use Rattle.atomic_table.specs.Seated.{TableId}
 use Rattle.ibc_machine.specs.chain.Genesis.{GenesisState}
 use Rattle.ibc_root_table.specs.Passes.{TableName}
-use Rattle.ibc_ledger.specs.Held.{HeldLedger}
+use Rattle.ibc_ledger.specs.LedgerModel.{LedgerModel}
 use Rattle.ibc_ledger_lock.specs.Books.{no_book}
-use Rattle.ibc_ledger_lock.specs.Worlds.{HoldsIfOf, IsOfWorld, Told, WasOnce, no_table}
-use Rattle.ibc_world_core.specs.Audits.{IsAudit}
+use Rattle.ibc_ledger_lock.specs.ReceiptsAndReadings.{ClaimHoldsOnItsChain, IsOfWorld, ReceiptModel, IsEarlierOnItsChain, no_table}
+use Rattle.ibc_world_core.specs.WorldAudits.{IsAudit}
 use Rattle.ibc_world_core.specs.declared.holdings.Audit.{Audit}
 use Rattle.ibc_theorem.specs.EveryAudit.{AreLawful}
 
 -- the ledger is of this table and this genesis, and the book is the one of its chain's number
-abbrev pub HasItsBook : TableName → GenesisState → (ℕ → TableId) → HeldLedger × TableId → Type 0
+abbrev pub HasItsBook : TableName → GenesisState → (ℕ → TableId) → LedgerModel × TableId → Type 0
 HasItsBook table genesis book (held, opened) = IsOfWorld table genesis held × (opened ≡ book held.ledger.chain)
 
 -- the table of the first of the ledgers
-abbrev pub table_of : List (HeldLedger × TableId) → TableName
+abbrev pub table_of : List (LedgerModel × TableId) → TableName
 table_of [] = no_table
 table_of ((held, opened) ∷ rest) = held.table
 
 -- the book of a chain's number, where the ledgers stand by their numbers
-abbrev pub book_of : List (HeldLedger × TableId) → ℕ → TableId
+abbrev pub book_of : List (LedgerModel × TableId) → ℕ → TableId
 book_of ledgers n = option_map_or (λ p. p.1) (slice_get ledgers n) no_book
 
 -- Ledgers of this table and this genesis, in whose histories stands what the receipts claim, and which were once as they
 -- were read.
-abbrev pub AreGathered : TableName → GenesisState → List Told → List HeldLedger → List HeldLedger → Type 0
+abbrev pub AreGathered : TableName → GenesisState → List ReceiptModel → List LedgerModel → List LedgerModel → Type 0
 AreGathered table genesis receipts readings ledgers =
-    All (IsOfWorld table genesis) ledgers × All (λ held. All (HoldsIfOf held) receipts) ledgers
-    × All (λ held. All (WasOnce held) readings) ledgers
+    All (IsOfWorld table genesis) ledgers × All (λ held. All (ClaimHoldsOnItsChain held) receipts) ledgers
+    × All (λ held. All (IsEarlierOnItsChain held) readings) ledgers
 
 -- There are so many such ledgers, which hold what is told, and which together did a lawful run of the machine.
-abbrev pub IsAuditOf : TableName → GenesisState → ℕ → List Told → List HeldLedger → Audit → Type 0
+abbrev pub IsAuditOf : TableName → GenesisState → ℕ → List ReceiptModel → List LedgerModel → Audit → Type 0
 IsAuditOf table genesis n receipts readings audit =
-    (ledgers : List HeldLedger) × (length ledgers ≡ n) × AreGathered table genesis receipts readings ledgers
+    (ledgers : List LedgerModel) × (length ledgers ≡ n) × AreGathered table genesis receipts readings ledgers
     × IsAudit ledgers audit × AreLawful ledgers audit

@@ -4,14 +4,14 @@
 ghost use Rattle.std.specs.Prelude.{◌≡◌, ◌⊎◌, ◌↔◌, All, Err, IfErr, IfOk, IsOkUnless, false, length, map};
 ghost use Rattle.ibc_ids.specs.declared.refusal.Refusal.TheVariants.{BadMessage, NoMemory};
 ghost use Rattle.ibc_machine.specs.chain.Genesis.{genesis_state, is_allowed};
-ghost use Rattle.ibc_ledger_lock.specs.Worlds.{IsOfWorld};
+ghost use Rattle.ibc_ledger_lock.specs.ReceiptsAndReadings.{IsOfWorld};
 ghost use Rattle.ibc_refinement.specs.World.{AreNew};
-ghost use Rattle.ibc_world_core.specs.Held.{plain};
+ghost use Rattle.ibc_world_core.specs.WorldModel.{ledgers_alone};
 ghost use Rattle.ibc_race.specs.SharedWorlds.{AreGathered, HasItsBook, IsAuditOf, book_of, table_of};
 
 use ibc_ids::Refusal;
 use ibc_ledger::Ledger;
-use ibc_ledger_lock::{Board, Chain, Opened, Reading, Receipt, World};
+use ibc_ledger_lock::{Board, Chain, LedgerReading, Receipt, UnusedBook, WorldBrand};
 use ibc_machine::Genesis;
 use ibc_theorem::lawful_audit;
 use ibc_world_core::{Audit, World as OneWorld};
@@ -20,8 +20,8 @@ use std::sync::{Arc, Wait};
 
 /// The ledgers of a genesis in the beginning, by the numbers of their chains, each with an unused book. They are of one world.
 /// Refused: `BadMessage` exactly where no world begins so; `NoMemory`.
-pub fn begin(alloc: Global, genesis: &Genesis) -> Result<Vec<(Ledger, Opened)>, Refusal>
-    ensures new { IfOk result (λ ledgers. AreNew (genesis_state genesis.now) (plain (map (λ p. p.0) ledgers.items))) }
+pub fn begin(alloc: Global, genesis: &Genesis) -> Result<Vec<(Ledger, UnusedBook)>, Refusal>
+    ensures new { IfOk result (λ ledgers. AreNew (genesis_state genesis.now) (ledgers_alone (map (λ p. p.0) ledgers.items))) }
     ensures books { IfOk result (λ ledgers. All (HasItsBook (table_of ledgers.items) (genesis_state genesis.now) (book_of ledgers.items)) ledgers.items) }
     ensures bad { (result ≡ Err BadMessage) ↔ (is_allowed (genesis_state genesis.now) ≡ false) }
     ensures err { IfErr result (λ refusal. (refusal ≡ BadMessage) ⊎ (refusal ≡ NoMemory)) }
@@ -31,7 +31,7 @@ pub fn begin(alloc: Global, genesis: &Genesis) -> Result<Vec<(Ledger, Opened)>, 
 }
 
 // The ledgers, each with an unused book.
-fn with_books(alloc: Global, ledgers: Vec<Ledger>) -> Result<Vec<(Ledger, Opened)>, Refusal>
+fn with_books(alloc: Global, ledgers: Vec<Ledger>) -> Result<Vec<(Ledger, UnusedBook)>, Refusal>
     ensures ok { IfOk result (λ booked. map (λ p. p.0) booked.items ≡ ledgers.items) }
     ensures err { IfErr result (λ refusal. refusal ≡ NoMemory) }
 {
@@ -43,11 +43,11 @@ fn with_books(alloc: Global, ledgers: Vec<Ledger>) -> Result<Vec<(Ledger, Opened
 }
 
 // A ledger with an unused book.
-fn with_book(alloc: Global, ledger: Ledger) -> Result<(Ledger, Opened), Refusal>
+fn with_book(alloc: Global, ledger: Ledger) -> Result<(Ledger, UnusedBook), Refusal>
     ensures ok { IfOk result (λ booked. booked.0 ≡ ledger) }
     ensures err { IfErr result (λ refusal. refusal ≡ NoMemory) }
 {
-    match Opened::new(alloc) {
+    match UnusedBook::new(alloc) {
         Ok(opened) => Ok((ledger, opened)),
         Err(error) => {
             drop(ledger);
@@ -58,10 +58,10 @@ fn with_book(alloc: Global, ledger: Ledger) -> Result<(Ledger, Opened), Refusal>
 
 /// The chains of ledgers of the world, each with an unused book that is the world's for its number; all post their views on one
 /// board. `NoMemory` where a growth is refused: the ledgers are let go then.
-pub fn share<R: Wait, W: World>(
+pub fn share<R: Wait, W: WorldBrand>(
     rt: &R,
     alloc: Global,
-    ledgers: Vec<(Ledger, Opened)>,
+    ledgers: Vec<(Ledger, UnusedBook)>,
 ) -> Result<Vec<Chain<W>>, Refusal>
     requires { All (HasItsBook W.table W.genesis W.book) ledgers.items }
     ensures chains { IfOk result (λ chains. chains.items ≡ map (λ p. p.0.ledger.chain) ledgers.items) }
@@ -76,10 +76,10 @@ pub fn share<R: Wait, W: World>(
 }
 
 // The chain of a ledger, which posts on the board.
-fn shared<R: Wait, W: World>(
+fn shared<R: Wait, W: WorldBrand>(
     rt: &R,
     ledger: Ledger,
-    opened: Opened,
+    opened: UnusedBook,
     board: &Arc<Board<W>, Global>,
 ) -> Result<Chain<W>, Refusal>
     requires { HasItsBook W.table W.genesis W.book (ledger, opened) }
@@ -107,11 +107,11 @@ fn refusal_of(back: (Refusal, Ledger)) -> Refusal
 /// texts that were hashed share a digest), that these hold what is told, that each receipt's event stands with its reply at
 /// its place in the history of each ledger of its chain's number, and that each such ledger was once as each reading of its
 /// number has it. Refused: `BadMessage`, of which no clause says when it comes; `NoMemory`.
-pub fn audit_chains<W: World>(
+pub fn audit_chains<W: WorldBrand>(
     alloc: Global,
     chains: Vec<Chain<W>>,
     receipts: &mut [Receipt<W>],
-    readings: &mut [Reading<W>],
+    readings: &mut [LedgerReading<W>],
 ) -> Result<Audit, Refusal>
     ensures audited { IfOk result (IsAuditOf W.table W.genesis (length chains.items) receipts.old readings.old) }
     ensures same { (receipts.new ≡ receipts.old) × (readings.new ≡ readings.old) }
@@ -122,11 +122,11 @@ pub fn audit_chains<W: World>(
 
 // The ledgers of chains, taken out. What each receipt claims is so in those of its chain's number, and each was once as each
 // reading of its number has it.
-fn ledgers_of<W: World>(
+fn ledgers_of<W: WorldBrand>(
     alloc: Global,
     chains: Vec<Chain<W>>,
     receipts: &mut [Receipt<W>],
-    readings: &mut [Reading<W>],
+    readings: &mut [LedgerReading<W>],
 ) -> Result<Vec<Ledger>, Refusal>
     ensures as_many { IfOk result (λ ledgers. length ledgers.items ≡ length chains.items) }
     ensures gathered { IfOk result (λ ledgers. AreGathered W.table W.genesis receipts.old readings.old ledgers.items) }

@@ -9,7 +9,7 @@ use Rattle.ibc_machine.specs.chain.Records.{Core}
 use Rattle.ibc_machine.specs.ics24.Values.{Value, value_bytes}
 use Rattle.ibc_machine.specs.ics24.Image.{image, IsKeyed}
 use Rattle.ibc_machine.proofs.ImageChanges.{Change, ChangesAt, ChangesIn, with_changes, image_changes_in, one_change}
-use Rattle.ibc_records.specs.Held.{HeldRecords, IsHeld, AreOrderly, IsStored, core_of}
+use Rattle.ibc_records.specs.RecordsModel.{RecordsModel, IsSoundRecords, AreOrderly, IsStored, core_of}
 use Rattle.ibc_records.proofs.Stores.{Becomes}
 
 -- the pairs are the image of the core, every key of which has names for its names
@@ -17,7 +17,7 @@ pub record IsImageOf (core : Core) (pairs : Pairs) : Type 0 where
   pub keyed : IsKeyed core
   pub pairs_are : pairs ≡ image core
 
-pub image_in : (held : HeldRecords) → IsHeld held → IsImageOf (core_of held) held.store.pairs
+pub image_in : (held : RecordsModel) → IsSoundRecords held → IsImageOf (core_of held) held.store.pairs
 image_in held is = record { keyed = is.keyed; pairs_are = is.stored }
 
 -- several keys changed
@@ -35,11 +35,11 @@ image_set old new k v pairs before keyed changes =
     image_changed old new ((k, Some v) ∷ []) pairs before keyed (one_change old new k v keyed changes)
 
 -- records whose store became the image of their core
-module _ (old new : HeldRecords) (core : Core) (pairs : Pairs) (is_image : IsImageOf core pairs) (becomes : Becomes old.store pairs new.store) (core_is : core_of new ≡ core) (same_last : new.last ≡ old.last) where
+module _ (old new : RecordsModel) (core : Core) (pairs : Pairs) (is_image : IsImageOf core pairs) (becomes : Becomes old.store pairs new.store) (core_is : core_of new ≡ core) (same_last : new.last ≡ old.last) where
   image_of : new.store.pairs ≡ image (core_of new)
   image_of = becomes.pairs_are ∙ is_image.pairs_are ∙ ap image (sym core_is)
 
-  pub is_held : AreOrderly new.next_channel new.channels → IsHeld new
+  pub is_held : AreOrderly new.next_channel new.channels → IsSoundRecords new
   is_held orderly = record { keyed = subst IsKeyed (sym core_is) is_image.keyed; stored = image_of; orderly = orderly }
 
   pub is_stored : IsStored old new

@@ -8,9 +8,9 @@ use Rattle.std.proofs.lemmas.Map.Lookups.{exact_unsigned}
 use Rattle.ibc_ids.specs.Texts.{Text, text_cmp}
 use Rattle.ibc_ids.specs.Maps.{Map, at}
 use Rattle.ibc_ids.proofs.Maps.{at-map_values}
-use Rattle.ibc_machine.specs.chain.Records.{Client, knows, is_one_of}
-use Rattle.ibc_records.specs.HeldClients.{HeldClient, plain_client}
-use Rattle.ibc_records.specs.Held.{HeldRecords, core_of, consensus_in}
+use Rattle.ibc_machine.specs.chain.Records.{Client, is_known_height, is_one_of}
+use Rattle.ibc_records.specs.ClientModels.{ClientModel, abstract_client}
+use Rattle.ibc_records.specs.RecordsModel.{RecordsModel, core_of, consensus_in}
 
 same_number : (n m : ℕ) → eqb m n ≡ is_eq (nat_cmp n m)
 same_number n m = go (nat_cmp n m) refl
@@ -35,13 +35,13 @@ is_key_of {X} n (e ∷ entries) =
       | false ↦ is_key_of n entries
     ]
 
-pub knows-held : (held : HeldRecords) (client : Text) (height : ℕ) → knows (core_of held) client height ≡ is_some (consensus_in held client height)
+pub knows-held : (held : RecordsModel) (client : Text) (height : ℕ) → is_known_height (core_of held) client height ≡ is_some (consensus_in held client height)
 knows-held held client height =
-    ap (λ o. option_map_or (λ (c : Client). is_one_of c.known height) o false) (at-map_values text_cmp plain_client client held.clients)
+    ap (λ o. option_map_or (λ (c : Client). is_one_of c.known height) o false) (at-map_values text_cmp abstract_client client held.clients)
     ∙ go (at text_cmp client held.clients)
   where
-    go : (o : Option HeldClient) → option_map_or (λ (c : Client). is_one_of c.known height) (option_map plain_client o) false
-        ≡ is_some (option_and_then (λ (c : HeldClient). at nat_cmp height c.known) o)
+    go : (o : Option ClientModel) → option_map_or (λ (c : Client). is_one_of c.known height) (option_map abstract_client o) false
+        ≡ is_some (option_and_then (λ (c : ClientModel). at nat_cmp height c.known) o)
     go None = refl
     go (Some c) = is_key_of height c.known
 

@@ -6,7 +6,7 @@ use Rattle.std.specs.FinMap.{is_sorted}
 use Rattle.std.specs.Cmp.{IsTotalOrder}
 use Rattle.std.proofs.lemmas.Map.Lookups.{CmpEqualImpliesEq}
 use Rattle.ibc_ids.specs.Maps.{Map, with, without, at}
-use Rattle.ibc_maps.proofs.Taking.{with-without, with-same}
+use Rattle.ibc_maps.proofs.TakenChunks.{with-without, with-same}
 
 -- what is said of the entry that is found
 pub said_of : {X : Type 0} (o : Option X) (Said : X → Type 0) (x : X) → o ≡ Some x → Said x → IfSome o Said

@@ -7,7 +7,7 @@ pub mod UpdatedClients
 pub mod Connections
 pub mod Orderly
 pub mod Channels
-pub mod Written
+pub mod WrittenRecords
 pub mod Knowing
 pub mod KnownStates
 pub mod Receiving

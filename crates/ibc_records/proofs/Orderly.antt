@@ -10,14 +10,14 @@ use Rattle.ibc_ids.specs.Maps.{at, with, without}
 use Rattle.ibc_ids.specs.Paths.{nth_channel}
 use Rattle.ibc_wire.specs.declared.records.ChannelEnd.{ChannelEnd}
 use Rattle.ibc_wire.specs.declared.records.ChannelState.TheVariants.{Closed}
-use Rattle.ibc_machine.specs.chain.Records.{Channel, Commitment, added}
+use Rattle.ibc_machine.specs.chain.Records.{Channel, Commitment, with_number}
 use Rattle.ibc_machine.specs.ics04.Channels.{new_channel, in_state}
 use Rattle.ibc_machine.specs.ics04.Packets.{is_ordered, after_send, after_receive, without_commitment, after_ack, after_timeout}
 use Rattle.ibc_machine.proofs.FiniteMaps.{by_number, by_pair, pair_cmp_total, at-with_other, found_in_with}
 use Rattle.ibc_machine.proofs.SortedMaps.{Sorted-from, Sorted-to, Sorted-with, Sorted-without, at-without_same, at-without_other}
 use Rattle.ibc_machine.proofs.Identifiers.{nth_channel_same}
 use Rattle.ibc_machine.specs.chain.Orderly.{IsOrderly, IsOrderlyEnd}
-use Rattle.ibc_records.specs.Held.{HeldRecords, IsHeld, AreNumbered, AreOrderly, core_of}
+use Rattle.ibc_records.specs.RecordsModel.{RecordsModel, IsSoundRecords, AreNumberedBelow, AreOrderly, core_of}
 
 -- ---- an end, step by step
 
@@ -49,9 +49,9 @@ module _ (mine : Channel) (was : IsOrderlyEnd mine) where
       acked : Channel
       acked = record mine { acks = with nat_cmp n ack mine.acks }
 
-      by_order : (b : Bool) → IsOrderlyEnd (if b then record acked { next_recv = mine.next_recv + 1 } else record acked { receipts = added n mine.receipts })
+      by_order : (b : Bool) → IsOrderlyEnd (if b then record acked { next_recv = mine.next_recv + 1 } else record acked { receipts = with_number n mine.receipts })
       by_order true = orderly_alike mine (record acked { next_recv = mine.next_recv + 1 }) refl refl was
-      by_order false = orderly_alike mine (record acked { receipts = added n mine.receipts }) refl refl was
+      by_order false = orderly_alike mine (record acked { receipts = with_number n mine.receipts }) refl refl was
 
   -- a packet is settled
   module _ (n : ℕ) where
@@ -105,7 +105,7 @@ still_orderly next channels name channel was new end = record {
 }
 
 -- a channel that is there again
-pub still_there : (old : HeldRecords) (port id : Text) (mine channel : Channel) → IsHeld old → at pair_cmp (port, id) old.channels ≡ Some mine → IsOrderlyEnd channel
+pub still_there : (old : RecordsModel) (port id : Text) (mine channel : Channel) → IsSoundRecords old → at pair_cmp (port, id) old.channels ≡ Some mine → IsOrderlyEnd channel
     → AreOrderly old.next_channel (with pair_cmp (port, id) channel old.channels)
 still_there old port id mine channel held stood =
     still_orderly old.next_channel old.channels (port, id) channel held.orderly (held.orderly.numbered port id mine stood)
@@ -114,7 +114,7 @@ still_there old port id mine channel held stood =
 pub counted : (next : ℕ) (channels : Channels) → AreOrderly next channels → AreOrderly (next + 1) channels
 counted next channels was = record { sorted = was.sorted; numbered = numbered; ends = was.ends }
   where
-    numbered : AreNumbered (next + 1) channels
+    numbered : AreNumberedBelow (next + 1) channels
     numbered port id c found =
         let given = was.numbered port id c found in
         let less : given.0 < next + 1 = omega (arith, given.1) in
@@ -130,7 +130,7 @@ is_free next channels was fits port id is c found =
     omega (arith, same, given.1)
 
 -- so records are in order
-pub orderly_core : (held : HeldRecords) → IsHeld held → held.next_channel < 2 ^ 64 → IsOrderly (core_of held)
+pub orderly_core : (held : RecordsModel) → IsSoundRecords held → held.next_channel < 2 ^ 64 → IsOrderly (core_of held)
 orderly_core held is fits = record { sorted = is.orderly.sorted; free = free; ends = is.orderly.ends }
   where
     free : (port : Text) → at pair_cmp (port, nth_channel held.next_channel) held.channels ≡ None

@@ -1,7 +1,7 @@
-pub mod HeldClients
-pub mod Held
+pub mod ClientModels
+pub mod RecordsModel
 pub mod Entries
 pub mod Knowledge
-pub mod Taking
+pub mod HandlerContract
 pub mod Packets
-pub mod Inside
+pub mod RecordsFields

@@ -118,10 +118,10 @@ impl Channel {
     }
 
     /// What is committed is in the order of the sequences.
-    pub fn is_in_order(&self)
+    pub fn lemma_is_in_order(&self)
         ensures { IsTrue (is_sorted nat_cmp self.now.commitments) }
     {
-        self.commitments.are_in_order();
+        self.commitments.lemma_in_order();
     }
 
     /// The packet of a sequence was received, where they come in any order.

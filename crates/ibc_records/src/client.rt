@@ -4,7 +4,7 @@ ghost use Rattle.std.specs.Prelude.{◌≡◌, OnOk, OnErr, IfErr, option_copied
 ghost use Rattle.std.specs.Ordering.{nat_cmp};
 ghost use Rattle.ibc_ids.specs.Maps.{at};
 ghost use Rattle.ibc_ids.specs.declared.refusal.Refusal.TheVariants.{NoMemory};
-ghost use Rattle.ibc_records.specs.HeldClients.{new_held, with_height};
+ghost use Rattle.ibc_records.specs.ClientModels.{new_client_model, with_height};
 
 use ibc_ids::{Refusal, Root};
 use ibc_maps::SharedMap;
@@ -27,9 +27,9 @@ pub struct Client {
 }
 
 impl Model for Client {
-    ghost use Rattle.ibc_records.specs.HeldClients.{HeldClient};
+    ghost use Rattle.ibc_records.specs.ClientModels.{ClientModel};
 
-    ghost Value = { HeldClient };
+    ghost Value = { ClientModel };
 
     ghost view = { λ client. record { state = client.state; known = client.known.pairs } };
 }
@@ -37,7 +37,7 @@ impl Model for Client {
 impl Client {
     /// A client of a chain, which knows no height yet.
     pub fn new(alloc: Global, chain: u8) -> Client
-        ensures { result ≡ new_held chain }
+        ensures { result ≡ new_client_model chain }
     {
         Client {
             state: ClientState { chain, latest: 0 },

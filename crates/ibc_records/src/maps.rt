@@ -78,7 +78,7 @@ pub(crate) fn take<K: Ord + Clone + Drop, V: Clone + Drop>(
     ensures sorted { IsTrue (is_sorted K.cmp map.old.pairs) }
     ensures err { OnErr result (map.new.pairs ≡ map.old.pairs) }
 {
-    map.are_in_order();
+    map.lemma_in_order();
     match map.take(key)? {
         Some(value) => Ok(value),
         None => unreachable!(),

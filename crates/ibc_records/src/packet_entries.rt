@@ -6,7 +6,7 @@ ghost use Rattle.ibc_ids.specs.Maps.{without};
 ghost use Rattle.ibc_ids.specs.declared.refusal.Refusal.TheVariants.{NoMemory};
 ghost use Rattle.ibc_machine.specs.ics04.Packets.{is_ordered};
 ghost use Rattle.ibc_machine.specs.ics24.Values.{value_bytes};
-ghost use Rattle.ibc_machine.specs.ics04.Parts.{received, acknowledged, timed_out, entry_of};
+ghost use Rattle.ibc_machine.specs.ics04.Parts.{part_after_receive, part_after_ack, part_after_timeout, entry_of};
 ghost use Rattle.ibc_records.specs.Entries.{with_entry};
 
 use crate::channel::Channel;
@@ -26,7 +26,7 @@ pub fn received_entry(
     sequence: u64,
 ) -> Result<(String, Bytes), Refusal>
     requires { is_ordered channel.now ≡ true → channel.now.next_recv < 2 ^ 64 - 1 }
-    ensures ok { IfOk result (λ entry. (string_bytes entry.0, entry.1) ≡ entry_of port.now id.now (received sequence channel.now)) }
+    ensures ok { IfOk result (λ entry. (string_bytes entry.0, entry.1) ≡ entry_of port.now id.now (part_after_receive sequence channel.now)) }
     ensures err { IfErr result (λ refusal. refusal ≡ NoMemory) }
 {
     if channel.is_ordered() {
@@ -45,7 +45,7 @@ pub fn acknowledged_entry(
     channel: &Channel,
 ) -> Result<Option<(String, Bytes)>, Refusal>
     requires { is_ordered channel.now ≡ true → channel.now.next_ack < 2 ^ 64 - 1 }
-    ensures ok { IfOk result (λ found. option_map (λ entry. (string_bytes entry.0, entry.1)) found ≡ option_map (entry_of port.now id.now) (acknowledged channel.now)) }
+    ensures ok { IfOk result (λ found. option_map (λ entry. (string_bytes entry.0, entry.1)) found ≡ option_map (entry_of port.now id.now) (part_after_ack channel.now)) }
     ensures err { IfErr result (λ refusal. refusal ≡ NoMemory) }
 {
     if !channel.is_ordered() {
@@ -62,7 +62,7 @@ pub fn closed_entry(
     id: &ChannelId,
     channel: &Channel,
 ) -> Result<Option<(String, Bytes)>, Refusal>
-    ensures ok { IfOk result (λ found. option_map (λ entry. (string_bytes entry.0, entry.1)) found ≡ option_map (entry_of port.now id.now) (timed_out channel.now)) }
+    ensures ok { IfOk result (λ found. option_map (λ entry. (string_bytes entry.0, entry.1)) found ≡ option_map (entry_of port.now id.now) (part_after_timeout channel.now)) }
     ensures err { IfErr result (λ refusal. refusal ≡ NoMemory) }
 {
     if !channel.is_ordered() {

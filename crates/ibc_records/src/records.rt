@@ -6,13 +6,13 @@ ghost use Rattle.ibc_ids.specs.Maps.{at, with};
 ghost use Rattle.ibc_ids.specs.Paths.{path};
 ghost use Rattle.std.specs.Option.{IsSomeAnd};
 ghost use Rattle.ibc_ids.specs.declared.refusal.Refusal.TheVariants.{NoConsensus, NoMemory, TimeBack, UnknownClient};
-ghost use Rattle.ibc_merkle.specs.Written.{written};
-ghost use Rattle.ibc_records.specs.Held.{core_of, after_commit, IsNew, IsCountingFrom, AddsClient, UpdatesClient, IsUnchanged};
+ghost use Rattle.ibc_merkle.specs.Written.{written_proof};
+ghost use Rattle.ibc_records.specs.RecordsModel.{core_of, after_commit, IsNew, IsCountingFrom, AddsClient, UpdatesClient, IsUnchanged};
 ghost use Rattle.ibc_machine.specs.chain.Genesis.{empty_core};
 ghost use Rattle.ibc_machine.specs.ics24.Image.{image, core_root, IsKeyed};
 ghost use Rattle.ibc_machine.specs.chain.Orderly.{IsOrderly};
-ghost use Rattle.ibc_records.specs.HeldClients.{with_height};
-ghost use Rattle.ibc_path_store.specs.Held.{height_of, kept_at};
+ghost use Rattle.ibc_records.specs.ClientModels.{with_height};
+ghost use Rattle.ibc_path_store.specs.StoreModel.{height_of, kept_at};
 
 mod channels;
 mod connections;
@@ -20,15 +20,15 @@ mod packets;
 
 use crate::acknowledgement::AckRoom;
 use crate::client::{Client, ConsensusState};
+use crate::core_records::CoreRecords;
 use crate::maps::{
     Channels, Clients, Connections, contains, insert, no_channels, no_clients, no_connections, put,
     take,
 };
-use crate::plain::PlainRecords;
 use crate::values::{client_value, counter, set_reserved};
 use ibc_ids::{ClientId, Key, Refusal, Root, client_path};
 use ibc_merkle::Proof;
-use ibc_path_store::{Store, Tree};
+use ibc_path_store::{CommittedTree, Store};
 use ibc_wire::ClientState;
 use std::alloc::{AllocError, Global};
 use std::marker::Model;
@@ -52,21 +52,21 @@ pub struct Records {
     next_connection: u64,
     next_channel: u64,
     store: Store,
-    last: Arc<PlainRecords, Global>,
+    last: Arc<CoreRecords, Global>,
     last_time: u64,
     ack_room: AckRoom,
     alloc: Global,
 }
 
 impl Model for Records {
-    ghost use Rattle.ibc_records.specs.Held.{HeldRecords, IsHeld};
-    ghost use Rattle.ibc_records.specs.Inside.{held_of};
+    ghost use Rattle.ibc_records.specs.RecordsModel.{RecordsModel, IsSoundRecords};
+    ghost use Rattle.ibc_records.specs.RecordsFields.{records_model};
 
-    ghost Value = { HeldRecords };
+    ghost Value = { RecordsModel };
 
-    ghost view = { held_of };
+    ghost view = { records_model };
 
-    ghost invariant = { λ records. IsHeld (held_of records) };
+    ghost invariant = { λ records. IsSoundRecords (records_model records) };
 }
 
 impl Records {
@@ -120,7 +120,7 @@ impl Records {
     }
 
     /// Every key that has a value has names for its names (ICS 24, "Identifiers").
-    pub fn names_are_names(&self)
+    pub fn lemma_names_have_form(&self)
         ensures { IsKeyed (core_of self.now) }
     {
         let _number = self.next_client;
@@ -128,7 +128,7 @@ impl Records {
 
     /// The channels are in the order of their names, and nothing stands under a name or a sequence that wasn't given yet
     /// (ICS 24, "Identifiers"; ICS 4, "Channel paths").
-    pub fn is_orderly(&self)
+    pub fn lemma_orderly(&self)
         ensures { IsOrderly (core_of self.now) }
     {
         let _number = self.next_channel;
@@ -241,7 +241,7 @@ impl Records {
 
     /// What the chain proved at the last commit, and nothing before the first. It is a value of its own, which stays as it
     /// is while the records go on; it isn't copied. `NoMemory` where too many share it.
-    pub fn last(&self) -> Result<Arc<PlainRecords, Global>, Refusal>
+    pub fn last(&self) -> Result<Arc<CoreRecords, Global>, Refusal>
         ensures ok { IfOk result (λ last. last.value ≡ self.now.last.core) }
         ensures err { IfErr result (λ refusal. refusal ≡ NoMemory) }
     {
@@ -251,7 +251,7 @@ impl Records {
     /// The tree of a committed height, as a value of its own; nothing is copied or hashed for it (ICS 23,
     /// "CommitmentState"). `NoConsensus` exactly where the height isn't committed or is gone from the window; `NoMemory`
     /// where too many share it.
-    pub fn snapshot(&self, height: u64) -> Result<Tree, Refusal>
+    pub fn snapshot(&self, height: u64) -> Result<CommittedTree, Refusal>
         ensures ok { IfOk result (λ tree. IsSomeAnd (kept_at self.now.store height) (λ kept. tree ≡ kept.0)) }
         ensures unknown { (result ≡ Err NoConsensus) ↔ IsNone (kept_at self.now.store height) }
         ensures err { IfErr result (λ refusal. (refusal ≡ NoConsensus) ⊎ (refusal ≡ NoMemory)) }
@@ -267,11 +267,11 @@ impl Records {
     }
 
     // A copy of what the working block proves.
-    fn plain(&self) -> Result<Arc<PlainRecords, Global>, Refusal>
+    fn plain(&self) -> Result<Arc<CoreRecords, Global>, Refusal>
         ensures ok { IfOk result (λ plain. plain.value ≡ core_of self.now) }
         ensures err { IfErr result (λ refusal. refusal ≡ NoMemory) }
     {
-        let plain = PlainRecords::copy_of(
+        let plain = CoreRecords::copy_of(
             &self.clients,
             &self.connections,
             &self.channels,
@@ -295,7 +295,7 @@ impl Records {
     /// not (ICS 23, "CommitmentProof"). `NoConsensus` exactly where the height isn't committed or is gone from the window;
     /// `NoMemory` where a growth is refused.
     pub fn prove(&self, height: u64, key: &Key) -> Result<Proof, Refusal>
-        ensures ok { IfOk result (λ proof. IsSomeAnd (kept_at self.now.store height) (λ kept. proof ≡ written kept.0 (path key.now))) }
+        ensures ok { IfOk result (λ proof. IsSomeAnd (kept_at self.now.store height) (λ kept. proof ≡ written_proof kept.0 (path key.now))) }
         ensures unknown { (result ≡ Err NoConsensus) ↔ IsNone (kept_at self.now.store height) }
         ensures err { IfErr result (λ refusal. (refusal ≡ NoConsensus) ⊎ (refusal ≡ NoMemory)) }
     {
@@ -304,10 +304,10 @@ impl Records {
 }
 
 // What stood at the last commit, before the first.
-fn nothing(alloc: Global) -> Result<Arc<PlainRecords, Global>, AllocError>
+fn nothing(alloc: Global) -> Result<Arc<CoreRecords, Global>, AllocError>
     ensures { IfOk result (λ last. last.value ≡ empty_core) }
 {
-    Ok(Arc::new(alloc, PlainRecords::new(alloc))?)
+    Ok(Arc::new(alloc, CoreRecords::new(alloc))?)
 }
 
 // A client knows a height more.

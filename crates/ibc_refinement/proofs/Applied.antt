@@ -10,15 +10,15 @@ use Rattle.ibc_machine.specs.declared.reply.Reply.{Reply}
 use Rattle.ibc_machine.specs.declared.entry.Entry.{Entry}
 use Rattle.ibc_machine.specs.ledger.Replay.{StampedEntry}
 use Rattle.ibc_machine.specs.ledger.Ledgers.{Ledger, SeesMore, AddsEntry, Adds, chain_of}
-use Rattle.ibc_machine.specs.ledger.Merge.{is_of}
+use Rattle.ibc_machine.specs.ledger.Merge.{is_of_chain}
 use Rattle.ibc_machine.specs.promises.Worlds.{AppliesIf, Applies, AppliesEach, entries}
-use Rattle.ibc_refinement.specs.Refinement.{GivesNothing, AreAnswered, GoesOn, Gave, AppliedIsRun}
-use Rattle.ibc_refinement.proofs.Places.{get_there, get_within}
+use Rattle.ibc_refinement.specs.Refinement.{GivesNothing, AreAnswered, GoesOn, GaveEntries, AppliedIsRun}
+use Rattle.ibc_refinement.proofs.ChangedPlaces.{get_there, get_within}
 use Rattle.ibc_refinement.proofs.RunNext.{own_first, other_first}
 use Rattle.ibc_refinement.proofs.RunOn.{going_on_is_run}
 
 abbrev Grows : List Entry → ℕ → Ledger → Ledger → Type 0
-Grows more k before after = GoesOn before after × (entries after ≡ entries before ++ filter (is_of k) more)
+Grows more k before after = GoesOn before after × (entries after ≡ entries before ++ filter (is_of_chain k) more)
 
 -- a ledger with more entries, and more seen
 abbrev longer : Ledger → List StampedEntry → List Publication → Ledger
@@ -39,7 +39,7 @@ grows_both one two k a b c g h =
     let histories = append_assoc a.history g.0.0 h.0.0 in
     let seens = append_assoc a.seen g.0.1 h.0.1 in (
       (g.0.0 ++ h.0.0, g.0.1 ++ h.0.1, h.0.2 ∙ ap (λ l. longer l h.0.0 h.0.1) g.0.2 ∙ (λ i. record a { history = histories i; seen = seens i })),
-      h.1 ∙ ap (λ xs. xs ++ filter (is_of k) two) g.1 ∙ append_assoc (entries a) (filter (is_of k) one) (filter (is_of k) two) ∙ ap (λ xs. entries a ++ xs) (sym (filter-append (is_of k) one two)),
+      h.1 ∙ ap (λ xs. xs ++ filter (is_of_chain k) two) g.1 ∙ append_assoc (entries a) (filter (is_of_chain k) one) (filter (is_of_chain k) two) ∙ ap (λ xs. entries a ++ xs) (sym (filter-append (is_of_chain k) one two)),
     )
 
 grows_entry : (k : ℕ) (event : Event) (given : Reply) (before after : Ledger) (w : AddsEntry before event given after) → chain_of event ≡ k → Grows (w.0.entry ∷ []) k before after
@@ -50,7 +50,7 @@ grows_entry k event given before after w mine = (
 )
 
 -- an entry of another chain
-grows_other : (k : ℕ) (e : Entry) (before after : Ledger) → is_of k e ≡ false → SeesMore before after → Grows (e ∷ []) k before after
+grows_other : (k : ℕ) (e : Entry) (before after : Ledger) → is_of_chain k e ≡ false → SeesMore before after → Grows (e ∷ []) k before after
 grows_other k e before after other w =
     let g = grows_none k before after w in
     (g.0, g.1 ∙ ap (λ xs. entries before ++ xs) (sym (other_first k e [] other)))
@@ -126,7 +126,7 @@ module _ (old : List Ledger) (event : Event) (given : Reply) (new : List Ledger)
 
 -- ---- all events
 
-gave : (events : List Event) (replies : List Reply) (old new : List Ledger) → AppliesEach old events replies new → (more : List Entry) × Gave old events replies new more
+gave : (events : List Event) (replies : List Reply) (old new : List Ledger) → AppliesEach old events replies new → (more : List Entry) × GaveEntries old events replies new more
 gave [] [] old new applies = (
   [],
   record {

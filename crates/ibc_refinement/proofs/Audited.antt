@@ -11,7 +11,7 @@ use Rattle.ibc_machine.specs.promises.Worlds.{AreLedgersOf, AreOfOneTable, of_ch
 use Rattle.ibc_machine.proofs.Members.{Is_in, in_flat_map, in_flat_map_from, contains_in, in_contains}
 use Rattle.ibc_refinement.specs.Stamps.{merged_by_stamps}
 use Rattle.ibc_refinement.specs.Audits.{AreOfGenesis, AuditIsRun}
-use Rattle.ibc_refinement.proofs.Places.{get_there}
+use Rattle.ibc_refinement.proofs.ChangedPlaces.{get_there}
 use Rattle.ibc_refinement.proofs.PlacedLedgers.{any_there}
 use Rattle.ibc_refinement.proofs.StampsMerged.{stamps_merge, stamped_is_run}
 

@@ -12,9 +12,9 @@ use Rattle.ibc_ids.specs.declared.key.Key.{Key}
 use Rattle.ibc_merkle.specs.Tree.{Pairs, tree}
 use Rattle.ibc_merkle.specs.Clashes.{tree_texts}
 use Rattle.ibc_machine.specs.chain.Records.{Core}
-use Rattle.ibc_machine.specs.ics24.Values.{Value, Claim, look, value_bytes}
+use Rattle.ibc_machine.specs.ics24.Values.{Value, Claim, value_at, value_bytes}
 use Rattle.ibc_machine.specs.ics24.Image.{image, keys, pair_at}
-use Rattle.ibc_machine.specs.ics23.HashedTexts.{delivered}
+use Rattle.ibc_machine.specs.ics23.HashedTexts.{delivered_proof_texts}
 use Rattle.ibc_ids.proofs.Texts.{text_tied}
 use Rattle.ibc_refinement.proofs.ShortTexts.{AreBytes}
 use Rattle.ibc_merkle.proofs.Accepted.{IsClear}
@@ -41,7 +41,7 @@ all-put_all : (P : Text × Text → Type 0) (es ps : Pairs) → ((p : Text × Te
 all-put_all P es [] each h = h
 all-put_all P es (p ∷ ps) each h = all-put_all P (with text_cmp p.0 p.1 es) ps (λ q i. each q (inr i)) (all-with P p.0 p.1 es (each p (inl refl)) h)
 
-pub all_of_image : (P : Text × Text → Type 0) (core : Core) → ((k : Key) (v : Value) → look core k ≡ Some v → P (path k, value_bytes v)) → AllByRecursion P (image core)
+pub all_of_image : (P : Text × Text → Type 0) (core : Core) → ((k : Key) (v : Value) → value_at core k ≡ Some v → P (path k, value_bytes v)) → AllByRecursion P (image core)
 unfolding image
 all_of_image P core each =
     all-put_all P [] (filter_map (pair_at core) (keys core)) (λ p i.
@@ -53,7 +53,7 @@ all_of_image P core each =
 
 pub record AreFit (S : Text → Type 0) (core : Core) : Type 0 where
   pub plain : ArePlain S core
-  pub fit : (k : Key) (v : Value) → look core k ≡ Some v → FitsPair (path k, value_bytes v)
+  pub fit : (k : Key) (v : Value) → value_at core k ≡ Some v → FitsPair (path k, value_bytes v)
   pub small : length (image core) < 2 ^ 64
   pub hashed : (x : Text) → Is_in x (tree_texts (tree (image core))) → S x
 
@@ -61,7 +61,7 @@ pub record IsFitClaim (S : Text → Type 0) (claim : Claim) (bytes : Text) : Typ
   pub plain : IsPlainClaim S claim
   pub key_fits : FitsText 256 (path claim.key)
   pub bytes_given : AreBytes bytes
-  pub hashed : (x : Text) → Is_in x (delivered bytes) → S x
+  pub hashed : (x : Text) → Is_in x (delivered_proof_texts bytes) → S x
 
 pub clear_from_fit : (S : Text → Type 0) → IsClear S → (core : Core) (claim : Claim) (bytes : Text) → AreFit S core → IsFitClaim S claim bytes → AreClear core claim bytes
 clear_from_fit S clear core claim bytes r c = record {
@@ -72,5 +72,5 @@ clear_from_fit S clear core claim bytes r c = record {
   spelled_written = written_has_form (image core) (path claim.key) (all_of_image FitsPair core r.fit) (omega (arith, r.small)) c.key_fits;
 }
   where
-    among : (x : Text) → Contains (tree_texts (tree (image core)) ++ delivered bytes) x → S x
-    among x i = elim (in_cases x (tree_texts (tree (image core))) (delivered bytes) (in_contains x (tree_texts (tree (image core)) ++ delivered bytes) i)) [ inl a ↦ r.hashed x a | inr b ↦ c.hashed x b ]
+    among : (x : Text) → Contains (tree_texts (tree (image core)) ++ delivered_proof_texts bytes) x → S x
+    among x i = elim (in_cases x (tree_texts (tree (image core))) (delivered_proof_texts bytes) (in_contains x (tree_texts (tree (image core)) ++ delivered_proof_texts bytes) i)) [ inl a ↦ r.hashed x a | inr b ↦ c.hashed x b ]

@@ -4,7 +4,7 @@ use Rattle.std.specs.List.{AllByRecursion, list_any}
 use Rattle.std.specs.Ordering.{match_ordering, nat_cmp}
 use Rattle.std.proofs.lemmas.Bool.{or_cases, false≢true}
 use Rattle.ibc_ids.specs.Maps.{at, with, without}
-use Rattle.ibc_machine.specs.chain.Records.{is_one_of, added}
+use Rattle.ibc_machine.specs.chain.Records.{is_one_of, with_number}
 
 module _ {K V : Type 0} (order : K → K → Ordering) (P : K × V → Type 0) where
   pub all_with : ((x y : K) → order x y ≡ Equal → x ≡ y) → (k : K) (v : V) (es : List (K × V)) → P (k, v) → AllByRecursion P es → AllByRecursion P (with order k v es)
@@ -37,10 +37,10 @@ module _ {K V : Type 0} (order : K → K → Ordering) (P : K × V → Type 0) w
         | Greater ↦ λ p e. all_at tied k v es e h.1
       ] refl e
 
-pub all_added : (P : ℕ → Type 0) (n : ℕ) (ns : List ℕ) → P n → AllByRecursion P ns → AllByRecursion P (added n ns)
+pub all_added : (P : ℕ → Type 0) (n : ℕ) (ns : List ℕ) → P n → AllByRecursion P ns → AllByRecursion P (with_number n ns)
 all_added P n [] p h = (p, tt)
 all_added P n (x ∷ ns) p h =
-    elim (nat_cmp n x) as (λ o. AllByRecursion P (match_ordering o (n ∷ x ∷ ns) (x ∷ ns) (x ∷ added n ns))) [
+    elim (nat_cmp n x) as (λ o. AllByRecursion P (match_ordering o (n ∷ x ∷ ns) (x ∷ ns) (x ∷ with_number n ns))) [
       | Less ↦ (p, h)
       | Equal ↦ h
       | Greater ↦ (h.0, all_added P n ns p h.1)

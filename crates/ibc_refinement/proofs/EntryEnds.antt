@@ -12,28 +12,28 @@ use Rattle.ibc_machine.specs.declared.reply.Effect.TheVariants as effect
 use Rattle.ibc_machine.specs.declared.reply.Reply.{Reply}
 use Rattle.ibc_machine.specs.declared.reply.Reply.TheVariants as reply
 use Rattle.ibc_machine.specs.declared.entry.Reading.{Reading}
-use Rattle.ibc_machine.specs.chain.Records.{Core, Apps, Chain}
+use Rattle.ibc_machine.specs.chain.Records.{Core, Apps, MachineChain}
 use Rattle.ibc_machine.specs.ics24.Image.{core_root}
 use Rattle.ibc_machine.specs.chain.Checks.{Checked}
 use Rattle.ibc_machine.specs.chain.Genesis.{GenesisState}
 use Rattle.ibc_machine.specs.chain.Handlers.{working_height, host_of, after_message, may_commit, after_block}
-use Rattle.ibc_machine.specs.ledger.Replay.{LedgerState, StampedEntry, proves, after_answer, with_chain, ledger_answer, entry_answer, replay, met_states}
+use Rattle.ibc_machine.specs.ledger.Replay.{LedgerState, StampedEntry, proof_evidence, after_answer, with_chain, ledger_answer, entry_answer, replay, met_states}
 use Rattle.ibc_machine.specs.ledger.Ledgers.{Ledger, IsOwnEntry, is_typed, chain_of, is_block_reply}
 use Rattle.ibc_machine.specs.ledger.Merge.{published_next}
 use Rattle.ibc_machine.proofs.PassedRows.{Gives}
 use Rattle.ibc_refinement.proofs.Typed.{IsTyped}
 use Rattle.ibc_refinement.proofs.TypedMessages.{message_typed}
-use Rattle.ibc_refinement.proofs.Kept.{SoundBeside}
+use Rattle.ibc_refinement.proofs.KeptTypes.{SoundBeside}
 use Rattle.ibc_refinement.proofs.KeptRecords.{handle_sound}
 use Rattle.ibc_refinement.proofs.EntrySteps.{working, answer_commits, own_typed}
 use Rattle.ibc_refinement.proofs.Placed.{blocks}
 
 -- nothing is published, and the working block goes on
-abbrev pub GoesOn : Reply → Chain → Chain → Type 0
+abbrev pub GoesOn : Reply → MachineChain → MachineChain → Type 0
 GoesOn given old new = (is_block_reply given ≡ false) × (new.time ≡ old.time) × (new.committed ≡ old.committed)
 
 -- the working block is published, and the next begins
-pub record EndsBlock (e : Event) (given : Reply) (old new : Chain) : Type 0 where
+pub record EndsBlock (e : Event) (given : Reply) (old new : MachineChain) : Type 0 where
   pub next_time : ℕ
   pub event_is : e ≡ event.Block (chain_of e) next_time
   pub reply_is : given ≡ reply.Ok (effect.Block (working_height old) (core_root old.records.core))
@@ -56,7 +56,7 @@ pub answer_ends : (genesis : GenesisState) (k : ℕ) (seen : List Publication) (
     ⊎ EndsBlock e (ledger_answer genesis k seen reading state e).0 state.chain (ledger_answer genesis k seen reading state e).1.chain
 unfolding ledger_answer
 answer_ends genesis k seen reading state (event.Message chain m) typed t =
-    inl (message_goes_on m state _ (handle_sound (proves seen reading state) (host_of (length genesis.chains) k state.chain) state.chain.records.core typed state.chain.records.apps m (message_typed m t)))
+    inl (message_goes_on m state _ (handle_sound (proof_evidence seen reading state) (host_of (length genesis.chains) k state.chain) state.chain.records.core typed state.chain.records.apps m (message_typed m t)))
 answer_ends genesis k seen reading state (event.Block chain next_time) typed t = block_ends chain next_time state (may_commit genesis.capacity state.chain next_time)
 
 -- ---- what stands in a list for it
@@ -67,7 +67,7 @@ plain_next next times (event.Block k t) (reply.No r) plain = refl
 plain_next next times (event.Block k t) (reply.Ok (effect.Block height root)) plain = absurd (false≢true (sym plain))
 plain_next next times (event.Block k t) (reply.Ok other) plain = refl
 
-pub block_next : (next : List ℕ → List Publication) (times : List ℕ) (e : Event) (given : Reply) (old new : Chain) (ends : EndsBlock e given old new)
+pub block_next : (next : List ℕ → List Publication) (times : List ℕ) (e : Event) (given : Reply) (old new : MachineChain) (ends : EndsBlock e given old new)
     → published_next next times e given ≡ record { chain = chain_of e; root = core_root old.records.core; time = slice_index times (chain_of e) } ∷ next (slice_set times (chain_of e) ends.next_time)
 block_next next times e given old new ends = let a = ends.event_is in let b = ends.reply_is in λ i. published_next next times (a i) (b i)
 

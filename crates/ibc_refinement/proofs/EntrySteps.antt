@@ -11,23 +11,23 @@ use Rattle.ibc_machine.specs.declared.event.Event.TheVariants as event
 use Rattle.ibc_machine.specs.declared.reply.Effect.{Effect}
 use Rattle.ibc_machine.specs.declared.reply.Reply.{Reply}
 use Rattle.ibc_machine.specs.declared.entry.Reading.{Reading}
-use Rattle.ibc_machine.specs.chain.Records.{Core, Apps, Chain, Block}
+use Rattle.ibc_machine.specs.chain.Records.{Core, Apps, MachineChain, Block}
 use Rattle.ibc_machine.specs.chain.Checks.{Checked}
 use Rattle.ibc_machine.specs.chain.Genesis.{GenesisState}
 use Rattle.ibc_machine.specs.chain.Handlers.{host_of, after_message, may_commit, after_block}
-use Rattle.ibc_machine.specs.ledger.Replay.{LedgerState, StampedEntry, proves, after_answer, with_chain, ledger_answer, entry_answer, replay, met_states}
+use Rattle.ibc_machine.specs.ledger.Replay.{LedgerState, StampedEntry, proof_evidence, after_answer, with_chain, ledger_answer, entry_answer, replay, met_states}
 use Rattle.ibc_machine.specs.ledger.Ledgers.{Ledger, IsOwnEntry, is_typed, chain_of, is_block_reply}
 use Rattle.ibc_machine.proofs.PassedRows.{Gives}
 use Rattle.ibc_refinement.proofs.Typed.{IsTyped}
 use Rattle.ibc_refinement.proofs.TypedMessages.{message_typed}
-use Rattle.ibc_refinement.proofs.Kept.{SoundBeside}
+use Rattle.ibc_refinement.proofs.KeptTypes.{SoundBeside}
 use Rattle.ibc_refinement.proofs.KeptRecords.{handle_sound}
 
 -- the working block of a chain, as it is committed
-abbrev pub working : Chain → Block
+abbrev pub working : MachineChain → Block
 working chain = record { records = chain.records; time = chain.time }
 
-pub record Commits (given : Reply) (old new : Chain) : Type 0 where
+pub record Commits (given : Reply) (old new : MachineChain) : Type 0 where
   pub typed : IsTyped new.records.core
   pub blocks : ((is_block_reply given ≡ false) × (new.committed ≡ old.committed))
       ⊎ ((is_block_reply given ≡ true) × (new.committed ≡ old.committed ++ working old ∷ []))
@@ -46,7 +46,7 @@ pub answer_commits : (genesis : GenesisState) (k : ℕ) (seen : List Publication
     → Commits (ledger_answer genesis k seen reading state e).0 state.chain (ledger_answer genesis k seen reading state e).1.chain
 unfolding ledger_answer
 answer_commits genesis k seen reading state (event.Message _ m) typed t =
-    message_commits m state _ typed (handle_sound (proves seen reading state) (host_of (length genesis.chains) k state.chain) state.chain.records.core typed state.chain.records.apps m (message_typed m t))
+    message_commits m state _ typed (handle_sound (proof_evidence seen reading state) (host_of (length genesis.chains) k state.chain) state.chain.records.core typed state.chain.records.apps m (message_typed m t))
 answer_commits genesis k seen reading state (event.Block _ next_time) typed t = block_commits state next_time (may_commit genesis.capacity state.chain next_time) typed
 
 -- a ledger of this genesis and number

@@ -18,11 +18,11 @@ use Rattle.ibc_wire.specs.declared.records.ChannelEnd.{ChannelEnd}
 use Rattle.ibc_wire.specs.declared.records.ChannelState.{ChannelState}
 use Rattle.ibc_wire.specs.declared.records.ChannelState.TheVariants.{Init, TryOpen, Open, Closed}
 use Rattle.ibc_machine.specs.chain.Records.{Core, Channel, connection_at, commitment_of}
-use Rattle.ibc_machine.specs.ics24.Values.{Value, ClientIs, ConnectionIs, ChannelIs, NumberIs, CommitmentIs, AckIs, has, lacks, commitment_text}
+use Rattle.ibc_machine.specs.ics24.Values.{Value, ClientIs, ConnectionIs, ChannelIs, NumberIs, CommitmentIs, AckIs, present_claim, absent_claim, commitment_text}
 use Rattle.ibc_machine.specs.ics03.Connections.{connection_end}
 use Rattle.ibc_machine.specs.ics04.Channels.{is_in_state, counterpart, has_channel, peer_channel_of, peer_connection_of, channel_end}
 use Rattle.ibc_machine.specs.ics04.Packets.{is_ordered, not_received}
-use Rattle.ibc_machine.specs.ics23.HashedTexts.{delivered, packet_texts, message_texts}
+use Rattle.ibc_machine.specs.ics23.HashedTexts.{delivered_proof_texts, packet_texts, message_texts}
 use Rattle.ibc_refinement.proofs.ShortTexts.{AreBytes}
 use Rattle.ibc_refinement.proofs.SameSpellings.{IsShort, IsPeer, IsPlainChannel}
 use Rattle.ibc_machine.proofs.Members.{Is_in, in_left, in_right}
@@ -37,10 +37,10 @@ use Rattle.ibc_refinement.proofs.TypedMessages.{IsTypedPacket, IsTypedMessage}
 -- ---- the parts
 
 abbrev IsHashed : (Text → Type 0) → Text → Type 0
-IsHashed S bytes = (x : Text) → Is_in x (delivered bytes) → S x
+IsHashed S bytes = (x : Text) → Is_in x (delivered_proof_texts bytes) → S x
 
 has_fit : (S : Text → Type 0) (k : Key) (v : Value) (bytes : Text) → is_key k ≡ true → IsPlain S v → value_kind v ≡ kind_at k → AreBytes bytes → IsHashed S bytes
-    → IsFitClaim S (has k v) bytes
+    → IsFitClaim S (present_claim k v) bytes
 has_fit S k v bytes is plain kind given hashed = record {
   plain = record { key_is = is; value = λ w e. let same : v ≡ w = cc in (subst (IsPlain S) same plain, ap value_kind (sym same) ∙ kind) };
   key_fits = path_fits k is;
@@ -48,7 +48,7 @@ has_fit S k v bytes is plain kind given hashed = record {
   hashed = hashed;
 }
 
-lacks_fit : (S : Text → Type 0) (k : Key) (bytes : Text) → is_key k ≡ true → AreBytes bytes → IsHashed S bytes → IsFitClaim S (lacks k) bytes
+lacks_fit : (S : Text → Type 0) (k : Key) (bytes : Text) → is_key k ≡ true → AreBytes bytes → IsHashed S bytes → IsFitClaim S (absent_claim k) bytes
 lacks_fit S k bytes is given hashed = record {
   plain = record { key_is = is; value = λ w e. absurd (cc) };
   key_fits = path_fits k is;
@@ -58,7 +58,7 @@ lacks_fit S k bytes is given hashed = record {
 
 -- an end of the peer
 connection_fit : (S : Text → Type 0) (id : Text) (c : ConnectionEnd) (bytes : Text) → is_connection id ≡ true → IsTypedConnection c → AreBytes bytes → IsHashed S bytes
-    → IsFitClaim S (has (key.Connection id) (ConnectionIs c)) bytes
+    → IsFitClaim S (present_claim (key.Connection id) (ConnectionIs c)) bytes
 connection_fit S id c bytes is typed given hashed = has_fit S (key.Connection id) (ConnectionIs c) bytes is (plain_from S (ConnectionIs c) typed tt) refl given hashed
 
 named_short : (o : Option Text) (init : Bool) → IsNamedPeer is_connection init o → IsShort (unwrap_or o [])
@@ -105,7 +105,7 @@ sequence_is port name n p c h = and_from (is_port port && is_channel name) (nat_
 not_received_fit : (S : Text → Type 0) (mine : Channel) (p : Packet) (next_recv : ℕ) (bytes : Text) → IsTypedPacket p → next_recv < 2 ^ 64 → AreBytes bytes → IsHashed S bytes
     → IsFitClaim S (not_received mine p next_recv) bytes
 not_received_fit S mine p next_recv bytes typed small given hashed =
-    elim (is_ordered mine) as (λ b. IsFitClaim S (cond b (has (key.NextSequenceRecv p.destination_port p.destination_channel) (NumberIs next_recv)) (lacks (key.Receipt p.destination_port p.destination_channel p.sequence))) bytes) [
+    elim (is_ordered mine) as (λ b. IsFitClaim S (cond b (present_claim (key.NextSequenceRecv p.destination_port p.destination_channel) (NumberIs next_recv)) (absent_claim (key.Receipt p.destination_port p.destination_channel p.sequence))) bytes) [
       | true ↦ has_fit S (key.NextSequenceRecv p.destination_port p.destination_channel) (NumberIs next_recv) bytes
           (and_from (is_port p.destination_port) (is_channel p.destination_channel) typed.destination_port typed.destination_channel) small refl given hashed
       | false ↦ lacks_fit S (key.Receipt p.destination_port p.destination_channel p.sequence) bytes
@@ -126,14 +126,14 @@ back S xs ys h x i = h x (in_right x xs ys i)
 pub asks_fit : (S : Text → Type 0) (core : Core) (m : Message) → IsTyped core → IsTypedMessage m → AreHashed S (message_texts m) → AllAsked (IsFitClaim S) core m
 asks_fit S core (message.ConnOpenTry m) typed t h = (
   connection_fit S m.peer_connection (connection_end conn.Init m.peer_client m.client None) m.proof_end t.2 (record { client = t.1; peer_client = t.0; peer = tt }) t.5
-      (front S (delivered m.proof_end) (delivered m.proof_client) h),
-  has_fit S (key.ClientState m.peer_client) (ClientIs m.claim) m.proof_client t.1 t.4 refl t.6 (back S (delivered m.proof_end) (delivered m.proof_client) h),
+      (front S (delivered_proof_texts m.proof_end) (delivered_proof_texts m.proof_client) h),
+  has_fit S (key.ClientState m.peer_client) (ClientIs m.claim) m.proof_client t.1 t.4 refl t.6 (back S (delivered_proof_texts m.proof_end) (delivered_proof_texts m.proof_client) h),
 )
 asks_fit S core (message.ConnOpenAck m) typed t h = λ mine is.
     let c = connection_typed core m.connection mine typed is in (
       connection_fit S m.peer_connection (connection_end conn.TryOpen mine.peer_client mine.client (Some m.connection)) m.proof_end t.1
-          (record { client = c.1.peer_client; peer_client = c.1.client; peer = t.0 }) t.4 (front S (delivered m.proof_end) (delivered m.proof_client) h),
-      has_fit S (key.ClientState mine.peer_client) (ClientIs m.claim) m.proof_client c.1.peer_client t.3 refl t.5 (back S (delivered m.proof_end) (delivered m.proof_client) h),
+          (record { client = c.1.peer_client; peer_client = c.1.client; peer = t.0 }) t.4 (front S (delivered_proof_texts m.proof_end) (delivered_proof_texts m.proof_client) h),
+      has_fit S (key.ClientState mine.peer_client) (ClientIs m.claim) m.proof_client c.1.peer_client t.3 refl t.5 (back S (delivered_proof_texts m.proof_end) (delivered_proof_texts m.proof_client) h),
     )
 asks_fit S core (message.ConnOpenConfirm m) typed t h = λ mine peer is named.
     let c = connection_typed core m.connection mine typed is in
@@ -164,23 +164,23 @@ asks_fit S core (message.ChanCloseConfirm m) typed t h = λ mine is state.
     (peer_named mine.end c.value.end other) t.0 (short_name m.channel t.1) (short_version mine.end.version c.value.end.version) t.2 h
 asks_fit S core (message.RecvPacket m) typed t h =
     let p = m.packet in
-    let texts = front S (packet_texts p) (delivered m.proof) h in
+    let texts = front S (packet_texts p) (delivered_proof_texts m.proof) h in
     has_fit S (key.Commitment p.source_port p.source_channel p.sequence) (CommitmentIs (commitment_of p)) m.proof
     (sequence_is p.source_port p.source_channel p.sequence t.0.source_port t.0.source_channel t.0.sequence)
-    (t.0.timeout_time, t.0.timeout_height, texts p.payload (inl refl), texts (commitment_text (commitment_of p)) (inr (inl refl))) refl t.1 (back S (packet_texts p) (delivered m.proof) h)
+    (t.0.timeout_time, t.0.timeout_height, texts p.payload (inl refl), texts (commitment_text (commitment_of p)) (inr (inl refl))) refl t.1 (back S (packet_texts p) (delivered_proof_texts m.proof) h)
 asks_fit S core (message.AckPacket m) typed t h =
     let p = m.packet in
-    let more = back S (packet_texts p) (m.ack ∷ delivered m.proof) h in
+    let more = back S (packet_texts p) (m.ack ∷ delivered_proof_texts m.proof) h in
     has_fit S (key.Acknowledgement p.destination_port p.destination_channel p.sequence) (AckIs m.ack) m.proof
     (sequence_is p.destination_port p.destination_channel p.sequence t.0.destination_port t.0.destination_channel t.0.sequence)
-    (more m.ack (inl refl)) refl t.1 (back S (m.ack ∷ []) (delivered m.proof) more)
-asks_fit S core (message.Timeout m) typed t h = λ mine is. not_received_fit S mine m.packet m.next_recv m.proof t.0 t.1 t.2 (back S (packet_texts m.packet) (delivered m.proof) h)
+    (more m.ack (inl refl)) refl t.1 (back S (m.ack ∷ []) (delivered_proof_texts m.proof) more)
+asks_fit S core (message.Timeout m) typed t h = λ mine is. not_received_fit S mine m.packet m.next_recv m.proof t.0 t.1 t.2 (back S (packet_texts m.packet) (delivered_proof_texts m.proof) h)
 asks_fit S core (message.TimeoutOnClose m) typed t h = λ mine is.
     let p = m.packet in
     let c = channel_typed core p.source_port p.source_channel mine typed is in (
-      not_received_fit S mine p m.next_recv m.proof t.0 t.1 t.2 (back S (packet_texts p) (delivered m.proof) (front S (packet_texts p ++ delivered m.proof) (delivered m.proof_close) h)),
+      not_received_fit S mine p m.next_recv m.proof t.0 t.1 t.2 (back S (packet_texts p) (delivered_proof_texts m.proof) (front S (packet_texts p ++ delivered_proof_texts m.proof) (delivered_proof_texts m.proof_close) h)),
       channel_fit S core mine.end p.destination_channel p.source_port (Some p.source_channel) Closed m.proof_close typed c.value.end.peer_port t.0.destination_channel t.0.source_port
           (short_name p.source_channel t.0.source_channel) (short_version mine.end.version c.value.end.version) t.3
-          (back S (packet_texts p ++ delivered m.proof) (delivered m.proof_close) h),
+          (back S (packet_texts p ++ delivered_proof_texts m.proof) (delivered_proof_texts m.proof_close) h),
     )
 asks_fit S core m typed t h = tt

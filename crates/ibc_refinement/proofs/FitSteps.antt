@@ -15,7 +15,7 @@ use Rattle.ibc_machine.specs.ics23.HashedTexts.{message_texts}
 use Rattle.ibc_merkle.proofs.Accepted.{IsClear}
 use Rattle.ibc_refinement.proofs.Agreeing.{Asked}
 use Rattle.ibc_refinement.proofs.SameAnswers.{AllAsked}
-use Rattle.ibc_refinement.proofs.Steps.{KnowsBlocks, ClearIn, SeesForMessage, oldest_of, message_step}
+use Rattle.ibc_refinement.proofs.LedgerSteps.{KnowsBlocks, ClearIn, SeesForMessage, oldest_of, message_step}
 use Rattle.ibc_refinement.proofs.Clear.{AreFit, IsFitClaim, clear_from_fit}
 use Rattle.ibc_refinement.proofs.Typed.{IsTyped}
 use Rattle.ibc_refinement.proofs.TypedMessages.{IsTypedMessage}

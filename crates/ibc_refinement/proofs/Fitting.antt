@@ -9,7 +9,7 @@ use Rattle.std.proofs.lemmas.Bool.{and_parts, and_from, or_cases, or_left, false
 use Rattle.ibc_ids.specs.Texts.{Text}
 use Rattle.ibc_ids.specs.Names.{is_made_of, is_letter_or_digit, is_identifier_byte, is_client, is_connection, is_channel, is_version}
 use Rattle.ibc_ids.specs.Paths.{nth_client, nth_connection, nth_channel}
-use Rattle.ibc_wire.specs.Fields.{counted}
+use Rattle.ibc_wire.specs.Fields.{with_length}
 use Rattle.ibc_refinement.proofs.ShortTexts.{AreBytes}
 use Rattle.ibc_merkle.proofs.Depths.{bytes-be}
 use Rattle.ibc_refinement.proofs.ShortTexts.{FitsText}
@@ -29,7 +29,7 @@ byte_fits n h = record { bytes = and_from (nat_lt n 256) true (lt-ltb n 256 h) r
 pub number_fits : (n : ℕ) → FitsText 8 (to_be_bytes w64 n)
 number_fits n = record { bytes = bytes-be 8 n; short = omega arith }
 
-pub counted_fits : (a : ℕ) (x : Text) → FitsText a x → FitsText (2 + a) (counted x)
+pub counted_fits : (a : ℕ) (x : Text) → FitsText a x → FitsText (2 + a) (with_length x)
 counted_fits a x h = fits_both 2 a (to_be_bytes w16 (length x)) x (record { bytes = bytes-be 2 (length x); short = omega arith }) h
 
 -- ---- names

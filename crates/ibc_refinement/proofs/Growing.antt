@@ -8,14 +8,14 @@ use Rattle.std.specs.Prelude.{IfSome, ⊤, nat_lt}
 use Rattle.ibc_ids.specs.Publications.{published_by, height_among, height_of}
 use Rattle.ibc_ids.specs.declared.publication.Publication.{Publication}
 use Rattle.ibc_ids.specs.declared.refusal.Refusal.{Refusal}
-use Rattle.ibc_refinement.specs.Growing.{seeing_more, with_entry, state_with, IsNext, LedgersSeeMore, LedgersGoOn, entry_of, stamp_if, working_block, Reads}
+use Rattle.ibc_refinement.specs.LedgerGrowth.{with_seen, with_entry, state_with, IsNext, LedgersSeeMore, LedgersGoOn, entry_of, stamp_if, working_block, IsFittingReading}
 use Rattle.ibc_machine.specs.chain.Checks.{Checked}
 use Rattle.ibc_machine.specs.chain.Genesis.{GenesisState}
 use Rattle.ibc_machine.specs.chain.Handlers.{handle, host_of, after_message, may_commit, after_block, working_height}
 use Rattle.ibc_machine.specs.ics24.Image.{image, core_root}
 use Rattle.ibc_machine.specs.ledger.Ledgers.{Ledger, IsLedger, IsOwnEntry, published_as, state_of, met_by, IsReading, IsOwnBlock, AreRising, header_in, reading_fits, is_accepted_block, keeps_a_stamp, is_looking, is_own_event, is_block_reply}
 use Rattle.ibc_machine.specs.chain.Records.{Block, Core, Apps}
-use Rattle.ibc_machine.specs.ledger.Replay.{LedgerState, StampedEntry, entry_answer, starting_state, replay, met_states, proves, after_answer, with_chain, ledger_answer}
+use Rattle.ibc_machine.specs.ledger.Replay.{LedgerState, StampedEntry, entry_answer, starting_state, replay, met_states, proof_evidence, after_answer, with_chain, ledger_answer}
 use Rattle.ibc_machine.specs.declared.entry.Reading.{Reading}
 use Rattle.ibc_machine.specs.declared.event.Event.{Event}
 use Rattle.ibc_machine.specs.declared.reply.Effect.{Effect}
@@ -119,10 +119,10 @@ IsSmall block = length (image block.records.core) < 2 ^ 64
 -- ---- ledgers
 
 module _ (ledger : Ledger) (more : List Publication) (is : IsLedger ledger) where
-  same_state : state_of (seeing_more ledger more) ≡ state_of ledger
+  same_state : state_of (with_seen ledger more) ≡ state_of ledger
   same_state = replay_stays ledger ledger.chain more (starting_state ledger.genesis ledger.chain) ledger.history is.entries
 
-  sees_more : published_by ledger.chain (ledger.seen ++ more) ≡ published_by ledger.chain ledger.seen → IsLedger (seeing_more ledger more)
+  sees_more : published_by ledger.chain (ledger.seen ++ more) ≡ published_by ledger.chain ledger.seen → IsLedger (with_seen ledger more)
   sees_more others = record {
     number = is.number;
     entries = entries_stay ledger ledger.history more (starting_state ledger.genesis ledger.chain) ledger.history is.entries;
@@ -171,10 +171,10 @@ of_message m state (Err r) = refl
 pub message_commits : (genesis : GenesisState) (k : ℕ) (seen : List Publication) (reading : Option Reading) (state : LedgerState) (c : ℕ) (m : Message)
     → (ledger_answer genesis k seen reading state (event.Message c m)).1.chain.committed ≡ state.chain.committed
 unfolding ledger_answer
-message_commits genesis k seen reading state c m = of_message m state (handle m (proves seen reading state) (host_of (length genesis.chains) k state.chain) state.chain.records.core state.chain.records.apps)
+message_commits genesis k seen reading state c m = of_message m state (handle m (proof_evidence seen reading state) (host_of (length genesis.chains) k state.chain) state.chain.records.core state.chain.records.apps)
 
 -- what was read, with the stamp of all that is seen
-is_reading : (window : ℕ) (seen : List Publication) (ev : Event) (given : Reply) (reading : Option Reading) → Reads window seen ev reading → IsReading window seen (entry_of ev given reading (stamp_if (is_some reading) seen))
+is_reading : (window : ℕ) (seen : List Publication) (ev : Event) (given : Reply) (reading : Option Reading) → IsFittingReading window seen ev reading → IsReading window seen (entry_of ev given reading (stamp_if (is_some reading) seen))
 is_reading window seen ev given None reads = tt
 is_reading window seen ev given (Some r) reads =
     (reads.0, length seen, reads.1, refl, omega arith, ap (λ xs. reading_fits window (height_of reads.0.chain xs) reads.0.height r) (take_all (length seen) seen (omega arith)) ∙ reads.2)
@@ -185,7 +185,7 @@ pub record IsReplied (ledger : Ledger) (more : List Publication) (ev : Event) (g
   pub reply : given ≡ (ledger_answer ledger.genesis ledger.chain (ledger.seen ++ more) reading (state_of ledger) ev).0
   pub no_block : is_block_reply given ≡ false
   pub looking : is_some reading ≡ is_looking (state_of ledger) ev
-  pub reads : Reads ledger.genesis.window (ledger.seen ++ more) ev reading
+  pub reads : IsFittingReading ledger.genesis.window (ledger.seen ++ more) ev reading
   pub commits : (ledger_answer ledger.genesis ledger.chain (ledger.seen ++ more) reading (state_of ledger) ev).1.chain.committed ≡ (state_of ledger).chain.committed
 
 module _ (ledger : Ledger) (more : List Publication) (is : IsLedger ledger) where

@@ -29,7 +29,7 @@ use Rattle.ibc_refinement.proofs.Typed.{IsNamedPeer, IsTypedEnd, IsTypedChannel,
 use Rattle.ibc_refinement.proofs.TypedLook.{channel_typed}
 use Rattle.ibc_refinement.proofs.TypedMessages.{IsTypedMessage}
 use Rattle.ibc_refinement.proofs.FitClaims.{not_init}
-use Rattle.ibc_refinement.proofs.Kept.{GivesKept, typed_with_channel, typed_next_channel, below_next}
+use Rattle.ibc_refinement.proofs.KeptTypes.{GivesKept, typed_with_channel, typed_next_channel, below_next}
 
 -- an end with another end in it
 pub typed_with_end : (c : Channel) (end : ChannelEnd) → IsTypedChannel c → IsTypedEnd end → IsTypedChannel (record c { end = end })

@@ -18,7 +18,7 @@ use Rattle.ibc_machine.specs.declared.reply.Reply.TheVariants as reply
 use Rattle.ibc_machine.specs.ledger.Ledgers.{is_block_reply}
 use Rattle.ibc_machine.specs.chain.Records.{Core, Client, connection_at, with_client, with_connection}
 use Rattle.ibc_machine.specs.ics24.Evidence.{Host, Evidence}
-use Rattle.ibc_machine.specs.ics02.Clients.{create_client, update_client, new_client, updated}
+use Rattle.ibc_machine.specs.ics02.Clients.{create_client, update_client, new_client, with_known_height}
 use Rattle.ibc_machine.specs.ics03.Connections.{connection_end, with_new_connection, conn_open_init, conn_open_try, conn_open_ack, conn_open_confirm}
 use Rattle.ibc_machine.proofs.PassedRows.{Gives, gives_ok, gives_then, gives_require, gives_bind, gives_expect}
 use Rattle.ibc_machine.proofs.ConnectionChecks.{conn_tryable}
@@ -26,7 +26,7 @@ use Rattle.ibc_refinement.proofs.Fitting.{nth_client_is, nth_connection_is}
 use Rattle.ibc_refinement.proofs.Typed.{IsNamedPeer, IsTypedConnection, IsTyped}
 use Rattle.ibc_refinement.proofs.TypedLook.{client_typed, connection_typed}
 use Rattle.ibc_refinement.proofs.TypedMessages.{IsTypedMessage}
-use Rattle.ibc_refinement.proofs.Kept.{GivesSound, GivesKept, typed_with_client, typed_with_connection, typed_next_client, typed_next_connection, below_next}
+use Rattle.ibc_refinement.proofs.KeptTypes.{GivesSound, GivesKept, typed_with_client, typed_with_connection, typed_next_client, typed_next_connection, below_next}
 
 -- a name that an end of a connection has is well-formed in any state
 named : (o : Option Text) (peer : Text) (init : Bool) → o ≡ Some peer → IsNamedPeer is_connection init o → IsNamedPeer is_connection false o
@@ -51,7 +51,7 @@ module _ (evidence : Evidence) (host : Host) (core : Core) (typed : IsTyped core
       gives_expect _ _ _ λ (client : Client) there. gives_then _ _ λ _. gives_then _ _ λ _. gives_then _ _ λ _. gives_ok GivesSound _
       (let c = client_typed core m.client client typed there in
       record {
-        typed = typed_with_client m.client (updated m.header.height client) core typed (record { name = c.name; chain = c.chain; latest = omega (arith, c.latest, t.1) });
+        typed = typed_with_client m.client (with_known_height m.header.height client) core typed (record { name = c.name; chain = c.chain; latest = omega (arith, c.latest, t.1) });
         effect = refl;
       })
 

@@ -23,7 +23,7 @@ use Rattle.ibc_refinement.proofs.Typed.{IsTypedCommitment, IsSequence, HasSequen
 use Rattle.ibc_refinement.proofs.TypedLook.{channel_typed}
 use Rattle.ibc_refinement.proofs.TypedMessages.{IsTypedPacket}
 use Rattle.ibc_refinement.proofs.FitClaims.{not_init}
-use Rattle.ibc_refinement.proofs.Kept.{Kept, KeptBeside, below_next}
+use Rattle.ibc_refinement.proofs.KeptTypes.{Kept, KeptBeside, below_next}
 use Rattle.ibc_refinement.proofs.KeptChannels.{typed_in_state, changed_typed}
 
 -- ---- what an end becomes

@@ -22,7 +22,7 @@ use Rattle.ibc_machine.proofs.PacketChecks.{sending_passed}
 use Rattle.ibc_machine.proofs.PassedHandlers.{gives_on_core, gives_on_balances}
 use Rattle.ibc_refinement.proofs.Typed.{IsTyped}
 use Rattle.ibc_refinement.proofs.TypedMessages.{IsTypedMessage}
-use Rattle.ibc_refinement.proofs.Kept.{GivesKept, GivesSound, KeptBeside, SoundBeside}
+use Rattle.ibc_refinement.proofs.KeptTypes.{GivesKept, GivesSound, KeptBeside, SoundBeside}
 use Rattle.ibc_refinement.proofs.KeptConnections.{create_client_sound, update_client_sound, conn_open_init_kept, conn_open_try_kept, conn_open_ack_kept, conn_open_confirm_kept}
 use Rattle.ibc_refinement.proofs.KeptChannels.{chan_open_init_kept, chan_open_try_kept, chan_open_ack_kept, chan_open_confirm_kept, chan_close_init_kept, chan_close_confirm_kept}
 use Rattle.ibc_refinement.proofs.KeptPackets.{sent_kept, recv_packet_kept, ack_packet_kept, timeout_kept, timeout_on_close_kept}

@@ -11,7 +11,7 @@ pub mod SameConnections
 pub mod SameChannels
 pub mod SamePackets
 pub mod SameAnswers
-pub mod Steps
+pub mod LedgerSteps
 pub mod Entries
 pub mod Fitting
 pub mod Typed
@@ -19,14 +19,14 @@ pub mod TypedValues
 pub mod TypedLook
 pub mod TypedMessages
 pub mod FitClaims
-pub mod Kept
+pub mod KeptTypes
 pub mod KeptConnections
 pub mod KeptChannels
 pub mod KeptPackets
 pub mod KeptRecords
 pub mod Knowing
 pub mod MessageKnows
-pub mod Places
+pub mod ChangedPlaces
 pub mod EntrySteps
 pub mod FitSteps
 pub mod Hashed

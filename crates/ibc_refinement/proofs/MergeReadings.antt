@@ -13,8 +13,8 @@ use Rattle.ibc_machine.specs.declared.entry.Entry.{Entry}
 use Rattle.ibc_machine.specs.declared.entry.Reading.{Reading}
 use Rattle.ibc_machine.specs.ledger.Replay.{StampedEntry}
 use Rattle.ibc_machine.specs.ledger.Ledgers.{chain_of, header_in, is_accepted_block, reading_fits}
-use Rattle.ibc_machine.specs.ledger.Merge.{is_of, blocks_of, ReadsWhatIsBefore, EachAfter}
-use Rattle.ibc_refinement.specs.Stamps.{until, since, first, next_block, left_after, by_stamps}
+use Rattle.ibc_machine.specs.ledger.Merge.{is_of_chain, blocks_of, ReadingFitsBefore, EachWithEarlier}
+use Rattle.ibc_refinement.specs.Stamps.{entries_until, entries_since, first_entries, next_block, left_after, by_stamps}
 use Rattle.ibc_refinement.proofs.RunStep.{blocks_more}
 use Rattle.ibc_refinement.proofs.Stages.{StandsBy, splits, publishes}
 use Rattle.ibc_refinement.proofs.StageLists.{Histories, history_at, not_before, next_is}
@@ -22,9 +22,9 @@ use Rattle.ibc_refinement.proofs.MergeStages.{entries_of, drop_next, Staged, sta
 
 -- ---- lists with what stands before
 
-each_append : (P : List Entry → Entry → Type 0) (before xs ys : List Entry) → EachAfter P before xs → EachAfter P (before ++ xs) ys → EachAfter P before (xs ++ ys)
-each_append P before [] ys h g = subst (λ b. EachAfter P b ys) (append-nil before) g
-each_append P before (x ∷ xs) ys h g = (h.0, each_append P (before ++ x ∷ []) xs ys h.1 (subst (λ b. EachAfter P b ys) (sym (append_assoc before (x ∷ []) xs)) g))
+each_append : (P : List Entry → Entry → Type 0) (before xs ys : List Entry) → EachWithEarlier P before xs → EachWithEarlier P (before ++ xs) ys → EachWithEarlier P before (xs ++ ys)
+each_append P before [] ys h g = subst (λ b. EachWithEarlier P b ys) (append-nil before) g
+each_append P before (x ∷ xs) ys h g = (h.0, each_append P (before ++ x ∷ []) xs ys h.1 (subst (λ b. EachWithEarlier P b ys) (sym (append_assoc before (x ∷ []) xs)) g))
 
 -- ---- the entries that stand by then
 
@@ -44,18 +44,18 @@ module _ (window : ℕ) (all : List Publication) where
   stand_for n chains k (e ∷ xs) low h = (record { chain = k; low = low; stands = h.0 }, stand_for n chains k xs low h.1)
 
   -- all of them
-  all_stand : (n i chains : ℕ) (hs : Histories) → i + length hs ≡ chains → ((k : ℕ) → AllByRecursion (StandsBy window all n k) (until n (history_at k i hs)))
-      → AllByRecursion (StandsFor window all n chains) (flat_map (until n) hs)
+  all_stand : (n i chains : ℕ) (hs : Histories) → i + length hs ≡ chains → ((k : ℕ) → AllByRecursion (StandsBy window all n k) (entries_until n (history_at k i hs)))
+      → AllByRecursion (StandsFor window all n chains) (flat_map (entries_until n) hs)
   all_stand n i chains [] count each = tt
   all_stand n i chains (h ∷ hs) count each =
-      all_append (StandsFor window all n chains) (until n h) (flat_map (until n) hs)
-      (stand_for n chains i (until n h) (omega arith) (subst (λ b. AllByRecursion (StandsBy window all n i) (until n (cond b h (history_at i (suc i) hs)))) (eq-eqb i i refl) (each i)))
-      (all_stand n (suc i) chains hs (omega arith) (λ k. elim (eqb i k) as (λ b. eqb i k ≡ b → AllByRecursion (StandsBy window all n k) (until n (history_at k (suc i) hs))) [
-        | true ↦ λ is. let same = eqb-true i k is in subst (λ xs. AllByRecursion (StandsBy window all n k) (until n xs)) (sym (not_before k (suc i) hs (omega arith))) tt
-        | false ↦ λ other. subst (λ b. AllByRecursion (StandsBy window all n k) (until n (cond b h (history_at k (suc i) hs)))) other (each k)
+      all_append (StandsFor window all n chains) (entries_until n h) (flat_map (entries_until n) hs)
+      (stand_for n chains i (entries_until n h) (omega arith) (subst (λ b. AllByRecursion (StandsBy window all n i) (entries_until n (cond b h (history_at i (suc i) hs)))) (eq-eqb i i refl) (each i)))
+      (all_stand n (suc i) chains hs (omega arith) (λ k. elim (eqb i k) as (λ b. eqb i k ≡ b → AllByRecursion (StandsBy window all n k) (entries_until n (history_at k (suc i) hs))) [
+        | true ↦ λ is. let same = eqb-true i k is in subst (λ xs. AllByRecursion (StandsBy window all n k) (entries_until n xs)) (sym (not_before k (suc i) hs (omega arith))) tt
+        | false ↦ λ other. subst (λ b. AllByRecursion (StandsBy window all n k) (entries_until n (cond b h (history_at k (suc i) hs)))) other (each k)
       ] refl))
 
-  stage_stands : (n : ℕ) (hs : Histories) → Staged window all n hs → AllByRecursion (StandsFor window all n (length hs)) (flat_map (until n) hs)
+  stage_stands : (n : ℕ) (hs : Histories) → Staged window all n hs → AllByRecursion (StandsFor window all n (length hs)) (flat_map (entries_until n) hs)
   stage_stands n hs staged = all_stand n 0 (length hs) hs (omega arith) (λ k. (splits window all n k (history_at k 0 hs) (staged k).placed (staged k).rising).by)
 
   -- where so many are published
@@ -64,11 +64,11 @@ module _ (window : ℕ) (all : List Publication) where
 
   counts_plain : (before : List Entry) (n : ℕ) (e : Entry) → Counts before n → is_accepted_block e ≡ false → Counts (before ++ e ∷ []) n
   counts_plain before n e counts none c =
-      let more = blocks_more c before e false (and_right (is_of c e) (is_accepted_block e) none) in
+      let more = blocks_more c before e false (and_right (is_of_chain c e) (is_accepted_block e) none) in
       let same = counts c in
       omega arith
 
-  reads_plain : (n k : ℕ) (before : List Entry) (e : StampedEntry) → Counts before n → StandsBy window all n k e → ReadsWhatIsBefore window before e.entry
+  reads_plain : (n k : ℕ) (before : List Entry) (e : StampedEntry) → Counts before n → StandsBy window all n k e → ReadingFitsBefore window before e.entry
   reads_plain n k before e counts stands = by_reading e.entry.reading refl
     where
       by_reading : (o : Option Reading) → e.entry.reading ≡ o → IfSome o (λ r. IfSome (header_in e.entry.event) (λ header. reading_fits window (blocks_of header.chain before) header.height r ≡ true))
@@ -81,7 +81,7 @@ module _ (window : ℕ) (all : List Publication) where
 
   -- what is said of a part of the list
   pub record Reads (chains : ℕ) (before : List Entry) (part : List StampedEntry) (publishing : List ℕ) : Type 0 where
-    pub reads : EachAfter (ReadsWhatIsBefore window) before (entries_of part)
+    pub reads : EachWithEarlier (ReadingFitsBefore window) before (entries_of part)
     pub within : list_all (λ (entry : Entry). nat_lt (chain_of entry.event) chains) (entries_of part) ≡ true
     pub blocks : map (λ (e : Entry). chain_of e.event) (filter is_accepted_block (entries_of part)) ≡ publishing
 
@@ -91,7 +91,7 @@ module _ (window : ℕ) (all : List Publication) where
       let test = λ (entry : Entry). nat_lt (chain_of entry.event) chains in
       let chain = λ (e : Entry). chain_of e.event in
       record {
-        reads = subst (EachAfter (ReadsWhatIsBefore window) before) parts (each_append (ReadsWhatIsBefore window) before (entries_of xs) (entries_of ys) h.reads g.reads);
+        reads = subst (EachWithEarlier (ReadingFitsBefore window) before) parts (each_append (ReadingFitsBefore window) before (entries_of xs) (entries_of ys) h.reads g.reads);
         within = ap (list_all test) (sym parts) ∙ list_all-append test (entries_of xs) (entries_of ys) ∙ and_from (list_all test (entries_of xs)) (list_all test (entries_of ys)) h.within g.within;
         blocks = ap (λ l. map chain (filter is_accepted_block l)) (sym parts) ∙ ap (map chain) (filter-append is_accepted_block (entries_of xs) (entries_of ys))
             ∙ map-append chain (filter is_accepted_block (entries_of xs)) (filter is_accepted_block (entries_of ys)) ∙ ap (λ l. l ++ map chain (filter is_accepted_block (entries_of ys))) h.blocks ∙ ap (λ l. cs ++ l) g.blocks;
@@ -133,7 +133,7 @@ module _ (window : ℕ) (all : List Publication) where
 
   counts_block : (n : ℕ) (p : Publication) (before : List Entry) (e : Entry) → slice_get all n ≡ Some p → Counts before n → chain_of e.event ≡ p.chain → is_accepted_block e ≡ true → Counts (before ++ e ∷ []) (suc n)
   counts_block n p before e there counts mine accepted c =
-      let both : (is_of c e && is_accepted_block e) ≡ eqb p.chain c = ap (λ b. is_of c e && b) accepted ∙ and_true (is_of c e) ∙ ap (λ k. eqb k c) mine in
+      let both : (is_of_chain c e && is_accepted_block e) ≡ eqb p.chain c = ap (λ b. is_of_chain c e && b) accepted ∙ and_true (is_of_chain c e) ∙ ap (λ k. eqb k c) mine in
       blocks_more c before e (eqb p.chain c) both ∙ ap (λ x. x + cond (eqb p.chain c) 1 0) (counts c) ∙ sym (height_next c n p there)
     where
       and_true : (b : Bool) → (b && true) ≡ b
@@ -156,16 +156,16 @@ module _ (window : ℕ) (all : List Publication) where
 
   pub merged_reads : (ps : List Publication) (n : ℕ) (hs : Histories) (before : List Entry) → drop n all ≡ ps → Staged window all n hs → Counts before n
       → Reads (length hs) before (by_stamps ps n hs) (map (λ (p : Publication). p.chain) ps)
-  merged_reads [] n hs before left staged counts = (plain (length hs) n before (flat_map (until n) hs) counts (stage_stands n hs staged)).part_reads
+  merged_reads [] n hs before left staged counts = (plain (length hs) n before (flat_map (entries_until n) hs) counts (stage_stands n hs staged)).part_reads
   merged_reads (p ∷ ps) n hs before left staged counts =
       let c = p.chain in
       let w = drop_next n all p ps left in
-      let A = flat_map (until n) hs in
+      let A = flat_map (entries_until n) hs in
       let B = next_block n c 0 hs in
       let a = plain (length hs) n before A counts (stage_stands n hs staged) in
       let block = publishes window all n p w.0 c (history_at c 0 hs) refl (staged c) in
       let e = block.block in
-      let B_is : B ≡ e ∷ [] = next_is n c 0 hs ∙ ap first block.whole in
+      let B_is : B ≡ e ∷ [] = next_is n c 0 hs ∙ ap first_entries block.whole in
       let quiet = (block.placed.block block.accepted).5 in
       let low : chain_of e.entry.event < length hs = omega (arith, block.placed.chain, publishing_low c hs e block.rest block.whole) in
       let b : Reads (length hs) (before ++ entries_of A) (e ∷ []) (c ∷ []) = record {
@@ -185,9 +185,9 @@ module _ (window : ℕ) (all : List Publication) where
       (both_read (length hs) before (A ++ e ∷ []) C (c ∷ []) (map (λ (p : Publication). p.chain) ps) front
       (subst (λ b. Reads (length hs) b C (map (λ (p : Publication). p.chain) ps)) places (subst (λ l. Reads l ((before ++ entries_of A) ++ e.entry ∷ []) C (map (λ (p : Publication). p.chain) ps)) same_length rest)))
     where
-      since_some : (h : List StampedEntry) (e : StampedEntry) (rest : List StampedEntry) → since n h ≡ e ∷ rest → (x : StampedEntry) × (ys : List StampedEntry) × (h ≡ x ∷ ys)
+      since_some : (h : List StampedEntry) (e : StampedEntry) (rest : List StampedEntry) → entries_since n h ≡ e ∷ rest → (x : StampedEntry) × (ys : List StampedEntry) × (h ≡ x ∷ ys)
       since_some [] e rest is = absurd (cc)
       since_some (x ∷ ys) e rest is = (x, ys, refl)
 
-      publishing_low : (c : ℕ) (hs : Histories) (e : StampedEntry) (rest : List StampedEntry) → since n (history_at c 0 hs) ≡ e ∷ rest → c < length hs
+      publishing_low : (c : ℕ) (hs : Histories) (e : StampedEntry) (rest : List StampedEntry) → entries_since n (history_at c 0 hs) ≡ e ∷ rest → c < length hs
       publishing_low c hs e rest is = let w = since_some (history_at c 0 hs) e rest is in let low = within_histories c 0 hs w.0 w.1 w.2 in omega arith

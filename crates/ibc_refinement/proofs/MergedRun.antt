@@ -8,15 +8,15 @@ use Rattle.ibc_ids.specs.declared.publication.Publication.{Publication}
 use Rattle.ibc_machine.specs.declared.event.Event.{Event}
 use Rattle.ibc_machine.specs.declared.reply.Reply.{Reply}
 use Rattle.ibc_machine.specs.declared.entry.Entry.{Entry}
-use Rattle.ibc_machine.specs.chain.Records.{Chain, Block, knows}
+use Rattle.ibc_machine.specs.chain.Records.{MachineChain, Block, is_known_height}
 use Rattle.ibc_machine.specs.chain.Genesis.{GenesisState, start, starting_chain, empty_core}
 use Rattle.ibc_machine.specs.chain.Machine.{World, IsRun, block_of}
 use Rattle.ibc_machine.specs.ledger.Replay.{LedgerState, StampedEntry, replay, starting_state, empty_chain}
 use Rattle.ibc_machine.specs.ledger.Ledgers.{Ledger, chain_of, machine_of, state_of}
 use Rattle.ibc_machine.specs.ics23.HashedTexts.{HasNoClash}
-use Rattle.ibc_machine.specs.ledger.Merge.{ReadsWhatIsBefore, EachAfter, Merges}
+use Rattle.ibc_machine.specs.ledger.Merge.{ReadingFitsBefore, EachWithEarlier, Merges}
 use Rattle.ibc_machine.specs.promises.Worlds.{entries}
-use Rattle.ibc_refinement.proofs.Places.{get_there, get_within, same_places}
+use Rattle.ibc_refinement.proofs.ChangedPlaces.{get_there, get_within, same_places}
 use Rattle.ibc_refinement.proofs.Typed.{IsTyped}
 use Rattle.ibc_refinement.proofs.EntrySteps.{ledger_of}
 use Rattle.ibc_refinement.proofs.RunStates.{AllRun, AreOfWorld, ledger_at, ledger_from}
@@ -57,7 +57,7 @@ ends_there genesis ledgers publications are world before run =
 -- ---- from the middle to the end
 
 pub runs_on : (genesis : GenesisState) (ledgers : List Ledger) (publications : List Publication) → AreOfWorld genesis ledgers publications → HasNoClash ledgers
-    → (rest : List Entry) (world : World) (before : List Entry) → AllRun genesis ledgers world before rest → EachAfter (ReadsWhatIsBefore genesis.window) before rest → AreWithin (length ledgers) rest
+    → (rest : List Entry) (world : World) (before : List Entry) → AllRun genesis ledgers world before rest → EachWithEarlier (ReadingFitsBefore genesis.window) before rest → AreWithin (length ledgers) rest
     → IsRun genesis world (events_of rest) (replies_of rest) (machine_of ledgers)
 runs_on genesis ledgers publications are clash [] world before run reads within = sym (ends_there genesis ledgers publications are world before run)
 runs_on genesis ledgers publications are clash (e ∷ rest) world before run reads within =
@@ -92,10 +92,10 @@ all_start genesis ledgers publications are times list merges = record {
         own = f.1.entries;
         met = λ at i. i;
         ends = refl;
-        typed = subst (λ (x : Chain). IsTyped x.records.core) (sym chain) typed_start;
-        fit = λ height block e. absurd (nothing height block (ap (λ (x : Chain). block_of height x.committed) (sym chain) ∙ e));
-        blocks = ap (λ (x : Chain). length x.committed) chain;
-        knows = λ client height is. absurd (false≢true (ap (λ (x : Chain). knows x.records.core client height) (sym chain) ∙ is));
+        typed = subst (λ (x : MachineChain). IsTyped x.records.core) (sym chain) typed_start;
+        fit = λ height block e. absurd (nothing height block (ap (λ (x : MachineChain). block_of height x.committed) (sym chain) ∙ e));
+        blocks = ap (λ (x : MachineChain). length x.committed) chain;
+        knows = λ client height is. absurd (false≢true (ap (λ (x : MachineChain). is_known_height x.records.core client height) (sym chain) ∙ is));
       };
   others = λ k past. refl;
 }

@@ -19,19 +19,19 @@ use Rattle.ibc_machine.specs.chain.Records.{Core, Apps, Client, Block, client_at
 use Rattle.ibc_machine.specs.ics24.Image.{core_root}
 use Rattle.ibc_machine.specs.chain.Checks.{Checked}
 use Rattle.ibc_machine.specs.ics24.Evidence.{Host, Evidence, require_row}
-use Rattle.ibc_machine.specs.ics02.Clients.{create_client, update_client, new_client, updated, is_of_client}
+use Rattle.ibc_machine.specs.ics02.Clients.{create_client, update_client, new_client, with_known_height, is_of_client}
 use Rattle.ibc_machine.specs.chain.Genesis.{GenesisState}
 use Rattle.ibc_machine.specs.chain.Handlers.{handle, after_message, host_of}
 use Rattle.ibc_machine.specs.chain.Machine.{World, block_at, row_if}
-use Rattle.ibc_machine.specs.ledger.Replay.{Consensus, LedgerState, consensus_cmp, is_published_as, row_read, proves, with_consensus, after_answer, ledger_answer}
+use Rattle.ibc_machine.specs.ledger.Replay.{Consensus, LedgerState, consensus_cmp, is_published_as, row_read, proof_evidence, with_consensus, after_answer, ledger_answer}
 use Rattle.ibc_machine.specs.ledger.Ledgers.{published_as}
 use Rattle.ibc_ids.proofs.Texts.{text_same}
 use Rattle.ibc_machine.proofs.PassedRows.{Gives, gives_ok, gives_then, gives_require, gives_expect}
 use Rattle.ibc_machine.proofs.PassedHandlers.{gives_on_core}
-use Rattle.ibc_refinement.proofs.Steps.{Knows, KnowsBlocks, consensus_of, SeesForMessage}
+use Rattle.ibc_refinement.proofs.LedgerSteps.{Knows, KnowsBlocks, consensus_of, SeesForMessage}
 use Rattle.ibc_refinement.proofs.Typed.{IsTyped}
 use Rattle.ibc_refinement.proofs.TypedMessages.{IsTypedMessage}
-use Rattle.ibc_refinement.proofs.Kept.{KeptBeside}
+use Rattle.ibc_refinement.proofs.KeptTypes.{KeptBeside}
 use Rattle.ibc_refinement.proofs.KeptRecords.{IsOtherMessage, handle_kept}
 use Rattle.ibc_refinement.proofs.Knowing.{update_knows, same_clients_know, created_knows}
 
@@ -76,7 +76,7 @@ pub record Updates (evidence : Evidence) (core : Core) (m : UpdateClient) (after
   pub ours : is_of_client client m.header ≡ true
   pub published : nat_le m.header.height (evidence.published m.header.chain) ≡ true
   pub row : require_row (evidence.row m.header) ≡ Ok tt
-  pub core_is : with_client m.client (updated m.header.height client) core ≡ after
+  pub core_is : with_client m.client (with_known_height m.header.height client) core ≡ after
 
 update_gives : (evidence : Evidence) (host : Host) (core : Core) (m : UpdateClient) → Gives (λ (w : Effect × Core). Updates evidence core m w.1) (update_client m evidence host core)
 unfolding update_client
@@ -106,7 +106,7 @@ block_from header (Some block) e =
     (block, refl, λ i. record { root = root i; time = time i })
 
 update_message_knows : (window : ℕ) (world : World) (seen : List Publication) (reading : Option Reading) (state : LedgerState) (m : UpdateClient) (x : Checked (Effect × Core × Apps))
-    → Gives (λ (w : Effect × Core × Apps). Updates (proves seen reading state) state.chain.records.core m w.1) x
+    → Gives (λ (w : Effect × Core × Apps). Updates (proof_evidence seen reading state) state.chain.records.core m w.1) x
     → SeesForMessage window world seen reading state (message.UpdateClient m) → KnowsBlocks world state → KnowsAfter world state (message.UpdateClient m) x
 update_message_knows window world seen reading state m (Err r) gives sees known = known
 update_message_knows window world seen reading state m (Ok w) gives sees known =
@@ -132,11 +132,11 @@ unfolding ledger_answer handle
 message_knows genesis k chain world seen reading state (message.CreateClient m) typed t sees known =
     let core = state.chain.records.core in
     create_knows world state m _ (gives_on_core (λ (w : Effect × Core × Apps). Creates core m w.1) _ state.chain.records.apps
-    (create_gives (proves seen reading state) (host_of (length genesis.chains) k state.chain) core m)) known
+    (create_gives (proof_evidence seen reading state) (host_of (length genesis.chains) k state.chain) core m)) known
 message_knows genesis k chain world seen reading state (message.UpdateClient m) typed t sees known =
     let core = state.chain.records.core in
-    update_message_knows genesis.window world seen reading state m _ (gives_on_core (λ (w : Effect × Core × Apps). Updates (proves seen reading state) core m w.1) _ state.chain.records.apps
-    (update_gives (proves seen reading state) (host_of (length genesis.chains) k state.chain) core m)) sees known
+    update_message_knows genesis.window world seen reading state m _ (gives_on_core (λ (w : Effect × Core × Apps). Updates (proof_evidence seen reading state) core m w.1) _ state.chain.records.apps
+    (update_gives (proof_evidence seen reading state) (host_of (length genesis.chains) k state.chain) core m)) sees known
 message_knows genesis k chain world seen reading state m typed t sees known =
     other_knows world state m _ tt
-    (handle_kept (proves seen reading state) (host_of (length genesis.chains) k state.chain) state.chain.records.core typed state.chain.records.apps m tt t) known
+    (handle_kept (proof_evidence seen reading state) (host_of (length genesis.chains) k state.chain) state.chain.records.core typed state.chain.records.apps m tt t) known

@@ -9,11 +9,11 @@ use Rattle.ibc_ids.specs.Publications.{published_by, height_among}
 use Rattle.ibc_ids.specs.declared.publication.Publication.{Publication}
 use Rattle.ibc_wire.specs.declared.header.Header.{Header}
 use Rattle.ibc_machine.specs.declared.entry.Reading.{Reading}
-use Rattle.ibc_machine.specs.chain.Records.{Chain}
+use Rattle.ibc_machine.specs.chain.Records.{MachineChain}
 use Rattle.ibc_machine.specs.chain.Genesis.{GenesisState, start, starting_chain}
 use Rattle.ibc_machine.specs.ledger.Replay.{LedgerState, StampedEntry, entry_answer, met_states, starting_state, empty_chain}
 use Rattle.ibc_machine.specs.ledger.Ledgers.{Ledger, IsOwnEntry, IsReading, chain_of, header_in, is_looking, is_typed, is_block_reply, is_accepted_block, reading_fits, published_as, state_of}
-use Rattle.ibc_refinement.proofs.Places.{get_more, get_within, get_there}
+use Rattle.ibc_refinement.proofs.ChangedPlaces.{get_more, get_within, get_there}
 use Rattle.ibc_refinement.proofs.Typed.{IsTyped}
 use Rattle.ibc_refinement.proofs.EntrySteps.{ledger_of, own_typed, answer_commits}
 use Rattle.ibc_refinement.proofs.EntryEnds.{answer_ends, replay_counts}
@@ -152,7 +152,7 @@ module _ (genesis : GenesisState) (ledgers : List Ledger) (publications : List P
       let c = get_there genesis.chains k low in
       let first : slice_get (start genesis) k ≡ Some (starting_chain c.0) = slice_get-map starting_chain genesis.chains k ∙ ap (option_map starting_chain) c.1 in
       let chain : (starting_state genesis k).chain ≡ starting_chain c.0 = ap (λ o. unwrap_or o empty_chain) first in
-      (subst (λ (x : Chain). IsTyped x.records.core) (sym chain) typed_start, ap (λ (x : Chain). length x.committed) chain)
+      (subst (λ (x : MachineChain). IsTyped x.records.core) (sym chain) typed_start, ap (λ (x : MachineChain). length x.committed) chain)
 
   pub staged_start : Staged genesis.window publications 0 (map (λ (l : Ledger). l.history) ledgers)
   staged_start k =

@@ -13,7 +13,7 @@ use Rattle.ibc_merkle.proofs.Digests.{length-hash}
 use Rattle.ibc_merkle.proofs.Accepted.{IsClear}
 use Rattle.ibc_refinement.proofs.SameSpellings.{numbers_same, client_states_same, IsPlainConnection, connection_ends_same, IsPlainChannel, channel_ends_same}
 use Rattle.ibc_machine.specs.chain.Records.{Core, Channel, Commitment, client_at, connection_at, channel_at, is_one_of}
-use Rattle.ibc_machine.specs.ics24.Values.{Value, ClientIs, ConnectionIs, ChannelIs, NumberIs, CommitmentIs, ReceiptIs, AckIs, Claim, look, receipt_if, commitment_text, value_bytes}
+use Rattle.ibc_machine.specs.ics24.Values.{Value, ClientIs, ConnectionIs, ChannelIs, NumberIs, CommitmentIs, ReceiptIs, AckIs, Claim, value_at, receipt_if, commitment_text, value_bytes}
 use Rattle.ibc_machine.proofs.Images.{TellsKey}
 
 -- its numbers fit, its texts are short, and what it hashes is among these texts
@@ -58,7 +58,7 @@ receipt_kind : (b : Bool) (v : Value) → receipt_if b ≡ Some v → value_kind
 receipt_kind true v e = let same : ReceiptIs ≡ v = cc in ap value_kind (sym same)
 receipt_kind false v e = absurd (cc)
 
-look_kind : (core : Core) (k : Key) (v : Value) → look core k ≡ Some v → value_kind v ≡ kind_at k
+look_kind : (core : Core) (k : Key) (v : Value) → value_at core k ≡ Some v → value_kind v ≡ kind_at k
 look_kind core (key.ClientState id) v e = mapped_kind _ 0 (λ _. refl) (client_at core id) v e
 look_kind core (key.Connection id) v e = mapped_kind _ 1 (λ _. refl) (connection_at core id) v e
 look_kind core (key.ChannelEnd port name) v e = mapped_kind _ 2 (λ _. refl) (channel_at core port name) v e
@@ -103,8 +103,8 @@ plain_values_same S clear v w k h g e = absurd (cc)
 
 -- all values that stand are plain, and all keys that have one are keys
 pub record ArePlain (S : Text → Type 0) (core : Core) : Type 0 where
-  pub values : (k : Key) (v : Value) → look core k ≡ Some v → IsPlain S v
-  pub keys_are : (k : Key) (v : Value) → look core k ≡ Some v → is_key k ≡ true
+  pub values : (k : Key) (v : Value) → value_at core k ≡ Some v → IsPlain S v
+  pub keys_are : (k : Key) (v : Value) → value_at core k ≡ Some v → is_key k ≡ true
 
 -- a claim of a key, with a plain value of the key's kind or none
 pub record IsPlainClaim (S : Text → Type 0) (claim : Claim) : Type 0 where
@@ -115,7 +115,7 @@ pub plain_tells : DifferentPaths → (S : Text → Type 0) (core : Core) (k : Ke
 plain_tells different S core k plain is l v there same = different l k (plain.keys_are l v there) is same
 
 pub plain_one_value : (S : Text → Type 0) → IsClear S → (core : Core) (claim : Claim) → ArePlain S core → IsPlainClaim S claim
-    → (v w : Value) → look core claim.key ≡ Some v → claim.value ≡ Some w → value_bytes v ≡ value_bytes w → v ≡ w
+    → (v w : Value) → value_at core claim.key ≡ Some v → claim.value ≡ Some w → value_bytes v ≡ value_bytes w → v ≡ w
 plain_one_value S clear core claim plain asked v w there claimed same =
     let given = asked.value w claimed in
     plain_values_same S clear v w (look_kind core claim.key v there ∙ sym given.1) (plain.values claim.key v there) given.0 same

@@ -11,8 +11,8 @@ use Rattle.ibc_machine.specs.ics24.Image.{core_root}
 use Rattle.ibc_machine.specs.chain.Genesis.{GenesisState}
 use Rattle.ibc_machine.specs.ledger.Replay.{LedgerState, StampedEntry, entry_answer, replay, met_states}
 use Rattle.ibc_machine.specs.ledger.Ledgers.{Ledger, IsOwnEntry, chain_of, is_block_reply, is_accepted_block, published_as, state_of}
-use Rattle.ibc_machine.specs.ledger.Merge.{is_of, published_along}
-use Rattle.ibc_refinement.proofs.Places.{get_set, get_set_other, get_within}
+use Rattle.ibc_machine.specs.ledger.Merge.{is_of_chain, published_along}
+use Rattle.ibc_refinement.proofs.ChangedPlaces.{get_set, get_set_other, get_within}
 use Rattle.ibc_refinement.proofs.Typed.{IsTyped}
 use Rattle.ibc_refinement.proofs.EntrySteps.{ledger_of, own_typed, working, answer_commits, replay_grows}
 use Rattle.ibc_refinement.proofs.EntryEnds.{GoesOn, EndsBlock, answer_ends, plain_next, block_next}
@@ -31,7 +31,7 @@ drop_front (x ∷ xs) ys = drop_front xs ys
 pub record Publishing (genesis : GenesisState) (times : List ℕ) (ps : List Publication) (rest : List Entry) (k : ℕ) (history : List StampedEntry) (seen : List Publication) : Type 0 where
   pub state : LedgerState
   pub left : List StampedEntry
-  pub remaining : map (λ (s : StampedEntry). s.entry) left ≡ filter (is_of k) rest
+  pub remaining : map (λ (s : StampedEntry). s.entry) left ≡ filter (is_of_chain k) rest
   pub own : AllByRecursion (IsOwnEntry (ledger_of genesis k history seen)) (met_states genesis k seen state left)
   pub ends : replay genesis k seen state left ≡ state_of (ledger_of genesis k history seen)
   pub typed : IsTyped state.chain.records.core
@@ -55,7 +55,7 @@ module _ (genesis : GenesisState) (ledgers : List Ledger) (publications : List P
   not_of k j apart = elim (eqb k j) as (λ b. eqb k j ≡ b → b ≡ false) [ true ↦ λ is. absurd (apart (eqb-true k j is)) | false ↦ λ _. refl ] refl
 
   -- another chain's ledger stands as it stood
-  other_stays : (times after : List ℕ) (ps qs : List Publication) (e : Entry) (rest : List Entry) (j : ℕ) (history : List StampedEntry) (seen : List Publication) → is_of j e ≡ false
+  other_stays : (times after : List ℕ) (ps qs : List Publication) (e : Entry) (rest : List Entry) (j : ℕ) (history : List StampedEntry) (seen : List Publication) → is_of_chain j e ≡ false
       → slice_get after j ≡ slice_get times j → published_by j qs ≡ published_by j ps → Publishing genesis times ps (e ∷ rest) j history seen → Publishing genesis after qs rest j history seen
   other_stays times after ps qs e rest j history seen apart time same p = record {
     state = p.state;
@@ -70,7 +70,7 @@ module _ (genesis : GenesisState) (ledgers : List Ledger) (publications : List P
 
   module _ (times : List ℕ) (ps : List Publication) (rest : List Entry) (s : StampedEntry) (later : List StampedEntry) (all : AllPublishing times ps (s.entry ∷ rest))
       (at : IsLedgerAt genesis ledgers (chain_of s.entry.event)) (r : Publishing genesis times ps (s.entry ∷ rest) (chain_of s.entry.event) at.history at.seen) (whole : r.left ≡ s ∷ later)
-      (remaining : map (λ (s : StampedEntry). s.entry) later ≡ filter (is_of (chain_of s.entry.event)) rest)
+      (remaining : map (λ (s : StampedEntry). s.entry) later ≡ filter (is_of_chain (chain_of s.entry.event)) rest)
       (next : (after : List ℕ) (qs : List Publication) → AllPublishing after qs rest → block_chains rest ≡ map (λ (p : Publication). p.chain) qs → published_along after rest ≡ qs)
       (chains : block_chains (s.entry ∷ rest) ≡ map (λ (p : Publication). p.chain) ps) where
     abbrev k : ℕ

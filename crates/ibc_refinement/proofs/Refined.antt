@@ -8,13 +8,13 @@ use Rattle.ibc_ids.specs.declared.publication.Publication.{Publication}
 use Rattle.ibc_machine.specs.declared.event.Event.{Event}
 use Rattle.ibc_machine.specs.declared.reply.Reply.{Reply}
 use Rattle.ibc_machine.specs.declared.entry.Entry.{Entry}
-use Rattle.ibc_machine.specs.chain.Records.{Chain}
+use Rattle.ibc_machine.specs.chain.Records.{MachineChain}
 use Rattle.ibc_machine.specs.chain.Genesis.{GenesisState, start}
 use Rattle.ibc_machine.specs.chain.Machine.{IsRun}
 use Rattle.ibc_machine.specs.ledger.Replay.{LedgerState, StampedEntry, entry_answer, met_states, starting_state}
 use Rattle.ibc_machine.specs.ledger.Ledgers.{Ledger, IsOwnEntry, chain_of, is_typed, machine_of}
 use Rattle.ibc_machine.specs.promises.Histories.{Happened}
-use Rattle.ibc_machine.specs.ledger.Merge.{is_of, Merges}
+use Rattle.ibc_machine.specs.ledger.Merge.{is_of_chain, Merges}
 use Rattle.ibc_machine.specs.promises.Worlds.{entries, interleaved}
 use Rattle.ibc_refinement.specs.Refinement.{MergedIsRun, KeptOrderIsRun}
 use Rattle.ibc_machine.proofs.Members.{Is_in}
@@ -68,16 +68,16 @@ module _ (genesis : GenesisState) (ledgers : List Ledger) (publications : List P
       let low = ltb-true k (length ledgers) (all_of (λ (entry : Entry). nat_lt (chain_of entry.event) (length ledgers)) list e within i) in
       let at = ledger_at genesis ledgers are.of k low in
       let L = ledger_of genesis k at.history at.seen in
-      let own : filter (is_of k) list ≡ entries L = merges.each k (entries L) (slice_get-map entries ledgers k ∙ ap (option_map entries) at.there) in
+      let own : filter (is_of_chain k) list ≡ entries L = merges.each k (entries L) (slice_get-map entries ledgers k ∙ ap (option_map entries) at.there) in
       all_of (λ (e : Entry). is_typed e.event) (entries L) e (typed_history L genesis k (starting_state genesis k) at.history at.is.entries)
-      (subst (Is_in e) own (in_filter (is_of k) list e (eq-eqb k k refl) i))
+      (subst (Is_in e) own (in_filter (is_of_chain k) list e (eq-eqb k k refl) i))
 
 -- ---- the theorem
 
 pub merged_is_run : MergedIsRun
 merged_is_run genesis ledgers publications list of table allowed clash merges =
     let are : AreOfWorld genesis ledgers publications = record { of = of; table = table } in
-    let times = map (λ (c : Chain). c.time) (start genesis) in
+    let times = map (λ (c : MachineChain). c.time) (start genesis) in
     let run = runs_on genesis ledgers publications are clash list (start genesis) [] (all_start genesis ledgers publications are times list merges) merges.readings
     (within genesis ledgers publications are times list merges)
     in

@@ -10,10 +10,10 @@ use Rattle.ibc_machine.specs.chain.Machine.{World, Answers}
 use Rattle.ibc_machine.specs.ledger.Replay.{LedgerState, StampedEntry, entry_answer, replay, met_states, starting_state}
 use Rattle.ibc_machine.specs.ledger.Ledgers.{Ledger, IsOwnEntry, chain_of, met_by, state_of}
 use Rattle.ibc_machine.specs.ics23.HashedTexts.{HasNoClash}
-use Rattle.ibc_machine.specs.ledger.Merge.{is_of, ReadsWhatIsBefore}
+use Rattle.ibc_machine.specs.ledger.Merge.{is_of_chain, ReadingFitsBefore}
 use Rattle.ibc_machine.proofs.Members.{Is_in}
-use Rattle.ibc_refinement.proofs.Places.{get_set, get_set_other, get_within, length_set}
-use Rattle.ibc_refinement.proofs.Steps.{oldest_of}
+use Rattle.ibc_refinement.proofs.ChangedPlaces.{get_set, get_set_other, get_within, length_set}
+use Rattle.ibc_refinement.proofs.LedgerSteps.{oldest_of}
 use Rattle.ibc_refinement.proofs.EntrySteps.{ledger_of, own_typed, replay_more}
 use Rattle.ibc_refinement.proofs.Hashed.{Among}
 use Rattle.ibc_refinement.proofs.RunStates.{Runs, AllRun, AreOfWorld, IsLedgerAt, ledger_at}
@@ -29,7 +29,7 @@ pub record StepsOn (genesis : GenesisState) (ledgers : List Ledger) (world : Wor
 
 module _ (genesis : GenesisState) (ledgers : List Ledger) (publications : List Publication) (are : AreOfWorld genesis ledgers publications) (clash : HasNoClash ledgers) where
   module _ (world : World) (before rest : List Entry) (s : StampedEntry) (later : List StampedEntry) (run : AllRun genesis ledgers world before (s.entry ∷ rest))
-      (reads : ReadsWhatIsBefore genesis.window before s.entry) (at : IsLedgerAt genesis ledgers (chain_of s.entry.event)) where
+      (reads : ReadingFitsBefore genesis.window before s.entry) (at : IsLedgerAt genesis ledgers (chain_of s.entry.event)) where
     abbrev k : ℕ
     k = chain_of s.entry.event
 
@@ -38,7 +38,7 @@ module _ (genesis : GenesisState) (ledgers : List Ledger) (publications : List P
 
     module _ (r : Runs (Among ledgers) genesis world before (s.entry ∷ rest) k at.history at.seen) (own : AllByRecursion (IsOwnEntry ledger) (met_states genesis k at.seen r.state (s ∷ later)))
         (met : (x : LedgerState × StampedEntry) → Is_in x (met_states genesis k at.seen r.state (s ∷ later)) → Is_in x (met_by ledger))
-        (ends : replay genesis k at.seen r.state (s ∷ later) ≡ state_of ledger) (remaining : map (λ (s : StampedEntry). s.entry) later ≡ filter (is_of k) rest)
+        (ends : replay genesis k at.seen r.state (s ∷ later) ≡ state_of ledger) (remaining : map (λ (s : StampedEntry). s.entry) later ≡ filter (is_of_chain k) rest)
         (parts : at.history ≡ r.done ++ s ∷ later) where
       abbrev after_k : LedgerState
       after_k = (entry_answer genesis k at.seen r.state s).1
@@ -60,7 +60,7 @@ module _ (genesis : GenesisState) (ledgers : List Ledger) (publications : List P
       extends : Extends world after
       extends = goes_on genesis ledgers publications are clash world before rest k s later run at r.state r.there own met ends r.typed
 
-      mine : is_of k s.entry ≡ true
+      mine : is_of_chain k s.entry ≡ true
       mine = eq-eqb k k refl
 
       runs_k : Runs (Among ledgers) genesis after (before ++ s.entry ∷ []) rest k at.history at.seen
@@ -103,7 +103,7 @@ module _ (genesis : GenesisState) (ledgers : List Ledger) (publications : List P
         knows = knows_on world after o.state.chain.records.core o.state.consensus extends o.knows;
       }
         where
-          not_of : (j : ℕ) → (k ≡ j → ⊥) → is_of j s.entry ≡ false
+          not_of : (j : ℕ) → (k ≡ j → ⊥) → is_of_chain j s.entry ≡ false
           not_of j apart = elim (eqb k j) as (λ b. eqb k j ≡ b → b ≡ false) [ true ↦ λ is. absurd (apart (eqb-true k j is)) | false ↦ λ _. refl ] refl
 
       -- the same ledger
@@ -129,28 +129,28 @@ module _ (genesis : GenesisState) (ledgers : List Ledger) (publications : List P
         };
       }
         where
-          beyond : (j : ℕ) → length ledgers ≤ j → is_of j s.entry ≡ false
+          beyond : (j : ℕ) → length ledgers ≤ j → is_of_chain j s.entry ≡ false
           beyond j past =
               elim (eqb k j) as (λ b. eqb k j ≡ b → b ≡ false) [
                 | true ↦ λ is. let same = eqb-true k j is in let low = get_within ledgers k ledger at.there in absurd (omega arith)
                 | false ↦ λ _. refl
               ] refl
 
-  pub next_step : (world : World) (before rest : List Entry) (e : Entry) → AllRun genesis ledgers world before (e ∷ rest) → ReadsWhatIsBefore genesis.window before e → chain_of e.event < length ledgers
+  pub next_step : (world : World) (before rest : List Entry) (e : Entry) → AllRun genesis ledgers world before (e ∷ rest) → ReadingFitsBefore genesis.window before e → chain_of e.event < length ledgers
       → StepsOn genesis ledgers world before rest e
   next_step world before rest e run reads within =
       let at = ledger_at genesis ledgers are.of (chain_of e.event) within in
       let r = run.each (chain_of e.event) at.history at.seen at.there in
-      let b = begins_with e (filter (is_of (chain_of e.event)) rest) r.left (r.remaining ∙ own_first (chain_of e.event) e rest (eq-eqb (chain_of e.event) (chain_of e.event) refl)) in
+      let b = begins_with e (filter (is_of_chain (chain_of e.event)) rest) r.left (r.remaining ∙ own_first (chain_of e.event) e rest (eq-eqb (chain_of e.event) (chain_of e.event) refl)) in
       by_entry b.first b.later e b.entry run reads at r b.whole b.remaining
     where
-      by_entry : (s : StampedEntry) (later : List StampedEntry) (e : Entry) → s.entry ≡ e → (run : AllRun genesis ledgers world before (e ∷ rest)) → ReadsWhatIsBefore genesis.window before e
+      by_entry : (s : StampedEntry) (later : List StampedEntry) (e : Entry) → s.entry ≡ e → (run : AllRun genesis ledgers world before (e ∷ rest)) → ReadingFitsBefore genesis.window before e
           → (at : IsLedgerAt genesis ledgers (chain_of e.event)) (r : Runs (Among ledgers) genesis world before (e ∷ rest) (chain_of e.event) at.history at.seen) → r.left ≡ s ∷ later
-          → map (λ (s : StampedEntry). s.entry) later ≡ filter (is_of (chain_of e.event)) rest → StepsOn genesis ledgers world before rest e
+          → map (λ (s : StampedEntry). s.entry) later ≡ filter (is_of_chain (chain_of e.event)) rest → StepsOn genesis ledgers world before rest e
       by_entry s later e same =
-          subst (λ (e : Entry). (run : AllRun genesis ledgers world before (e ∷ rest)) → ReadsWhatIsBefore genesis.window before e
+          subst (λ (e : Entry). (run : AllRun genesis ledgers world before (e ∷ rest)) → ReadingFitsBefore genesis.window before e
           → (at : IsLedgerAt genesis ledgers (chain_of e.event)) (r : Runs (Among ledgers) genesis world before (e ∷ rest) (chain_of e.event) at.history at.seen) → r.left ≡ s ∷ later
-          → map (λ (s : StampedEntry). s.entry) later ≡ filter (is_of (chain_of e.event)) rest → StepsOn genesis ledgers world before rest e) same
+          → map (λ (s : StampedEntry). s.entry) later ≡ filter (is_of_chain (chain_of e.event)) rest → StepsOn genesis ledgers world before rest e) same
           (λ run reads at r whole remaining.
           let L = ledger_of genesis (chain_of s.entry.event) at.history at.seen in
           steps_on world before rest s later run reads at r

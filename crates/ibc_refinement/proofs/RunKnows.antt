@@ -9,15 +9,15 @@ use Rattle.ibc_ids.specs.declared.publication.Publication.{Publication}
 use Rattle.ibc_machine.specs.declared.event.Event.{Event}
 use Rattle.ibc_machine.specs.declared.event.Event.TheVariants as event
 use Rattle.ibc_machine.specs.declared.entry.Reading.{Reading}
-use Rattle.ibc_machine.specs.chain.Records.{Core, Chain, Block, Client, client_at}
+use Rattle.ibc_machine.specs.chain.Records.{Core, MachineChain, Block, Client, client_at}
 use Rattle.ibc_machine.specs.chain.Checks.{Checked}
 use Rattle.ibc_machine.specs.chain.Genesis.{GenesisState}
 use Rattle.ibc_machine.specs.chain.Handlers.{may_commit, after_block}
 use Rattle.ibc_machine.specs.chain.Machine.{World, block_of, block_at}
 use Rattle.ibc_machine.specs.ledger.Replay.{LedgerState, Consensus, with_chain, ledger_answer}
 use Rattle.ibc_machine.specs.ledger.Ledgers.{is_typed}
-use Rattle.ibc_refinement.proofs.Places.{get_set, get_set_other, get_more, get_within}
-use Rattle.ibc_refinement.proofs.Steps.{Knows, KnowsBlocks, SeesForMessage}
+use Rattle.ibc_refinement.proofs.ChangedPlaces.{get_set, get_set_other, get_more, get_within}
+use Rattle.ibc_refinement.proofs.LedgerSteps.{Knows, KnowsBlocks, SeesForMessage}
 use Rattle.ibc_refinement.proofs.Typed.{IsTyped}
 use Rattle.ibc_refinement.proofs.TypedMessages.{message_typed}
 use Rattle.ibc_refinement.proofs.MessageKnows.{message_knows}
@@ -39,7 +39,7 @@ knows_on old new core consensus extends known client height is =
     seen_on {block} (Some c) e = extends c.state.chain height block e
 
 -- one chain has more blocks, and the others are as they were
-pub extends_at : (world : World) (k : ℕ) (before after : Chain) (more : List Block) → slice_get world k ≡ Some before → after.committed ≡ before.committed ++ more
+pub extends_at : (world : World) (k : ℕ) (before after : MachineChain) (more : List Block) → slice_get world k ≡ Some before → after.committed ≡ before.committed ++ more
     → Extends world (slice_set world k after)
 extends_at world k before after more there grows chain zero block e = absurd (cc)
 extends_at world k before after more there grows chain (suc i) block e =
@@ -48,10 +48,10 @@ extends_at world k before after more there grows chain (suc i) block e =
           let same = eqb-true k chain is in
           let here = ap (λ j. slice_get (slice_set world k after) j) (sym same) ∙ get_set world k after (get_within world k before there) in
           let was = ap (slice_get world) (sym same) ∙ there in
-          ap (λ o. block_of (suc i) (option_map_or (λ (c : Chain). c.committed) o [])) here ∙ ap (block_of (suc i)) grows
-          ∙ get_more before.committed more i block (sym (ap (λ o. block_of (suc i) (option_map_or (λ (c : Chain). c.committed) o [])) was) ∙ e)
+          ap (λ o. block_of (suc i) (option_map_or (λ (c : MachineChain). c.committed) o [])) here ∙ ap (block_of (suc i)) grows
+          ∙ get_more before.committed more i block (sym (ap (λ o. block_of (suc i) (option_map_or (λ (c : MachineChain). c.committed) o [])) was) ∙ e)
       | false ↦ λ is.
-          ap (λ o. block_of (suc i) (option_map_or (λ (c : Chain). c.committed) o [])) (get_set_other world k chain after (λ same. false≢true (sym is ∙ eq-eqb k chain same))) ∙ e
+          ap (λ o. block_of (suc i) (option_map_or (λ (c : MachineChain). c.committed) o [])) (get_set_other world k chain after (λ same. false≢true (sym is ∙ eq-eqb k chain same))) ∙ e
     ] refl
 
 -- ---- an event

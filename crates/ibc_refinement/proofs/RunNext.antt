@@ -13,9 +13,9 @@ use Rattle.ibc_machine.specs.chain.Machine.{World, block_of}
 use Rattle.ibc_machine.specs.ledger.Replay.{LedgerState, StampedEntry, entry_answer, replay, met_states, starting_state}
 use Rattle.ibc_machine.specs.ledger.Ledgers.{Ledger, IsOwnEntry, is_block_reply, is_accepted_block, met_by, state_of}
 use Rattle.ibc_machine.specs.ics23.HashedTexts.{event_texts, ledger_texts, HasNoClash}
-use Rattle.ibc_machine.specs.ledger.Merge.{is_of, blocks_of}
+use Rattle.ibc_machine.specs.ledger.Merge.{is_of_chain, blocks_of}
 use Rattle.ibc_machine.proofs.Members.{Is_in, in_left, in_right, in_flat_map}
-use Rattle.ibc_refinement.proofs.Places.{get_cases, get_in, all_in}
+use Rattle.ibc_refinement.proofs.ChangedPlaces.{get_cases, get_in, all_in}
 use Rattle.ibc_refinement.proofs.Clear.{AreFit}
 use Rattle.ibc_refinement.proofs.Typed.{IsTyped}
 use Rattle.ibc_refinement.proofs.TypedLook.{fit_from}
@@ -38,17 +38,17 @@ pub begins_with : (e : Entry) (rest : List Entry) (left : List StampedEntry) →
 begins_with e rest [] is = absurd (cc)
 begins_with e rest (s ∷ left) is = record { first = s; later = left; whole = refl; entry = cc; remaining = cc }
 
-pub own_first : (k : ℕ) (e : Entry) (rest : List Entry) → is_of k e ≡ true → filter (is_of k) (e ∷ rest) ≡ e ∷ filter (is_of k) rest
-own_first k e rest is = ap (λ b. cond b (e ∷ filter (is_of k) rest) (filter (is_of k) rest)) is
+pub own_first : (k : ℕ) (e : Entry) (rest : List Entry) → is_of_chain k e ≡ true → filter (is_of_chain k) (e ∷ rest) ≡ e ∷ filter (is_of_chain k) rest
+own_first k e rest is = ap (λ b. cond b (e ∷ filter (is_of_chain k) rest) (filter (is_of_chain k) rest)) is
 
-pub other_first : (k : ℕ) (e : Entry) (rest : List Entry) → is_of k e ≡ false → filter (is_of k) (e ∷ rest) ≡ filter (is_of k) rest
-other_first k e rest is = ap (λ b. cond b (e ∷ filter (is_of k) rest) (filter (is_of k) rest)) is
+pub other_first : (k : ℕ) (e : Entry) (rest : List Entry) → is_of_chain k e ≡ false → filter (is_of_chain k) (e ∷ rest) ≡ filter (is_of_chain k) rest
+other_first k e rest is = ap (λ b. cond b (e ∷ filter (is_of_chain k) rest) (filter (is_of_chain k) rest)) is
 
-pub own_last : (k : ℕ) (before : List Entry) (e : Entry) → is_of k e ≡ true → filter (is_of k) (before ++ e ∷ []) ≡ filter (is_of k) before ++ e ∷ []
-own_last k before e is = filter-append (is_of k) before (e ∷ []) ∙ ap (λ xs. filter (is_of k) before ++ xs) (own_first k e [] is)
+pub own_last : (k : ℕ) (before : List Entry) (e : Entry) → is_of_chain k e ≡ true → filter (is_of_chain k) (before ++ e ∷ []) ≡ filter (is_of_chain k) before ++ e ∷ []
+own_last k before e is = filter-append (is_of_chain k) before (e ∷ []) ∙ ap (λ xs. filter (is_of_chain k) before ++ xs) (own_first k e [] is)
 
-pub other_last : (k : ℕ) (before : List Entry) (e : Entry) → is_of k e ≡ false → filter (is_of k) (before ++ e ∷ []) ≡ filter (is_of k) before
-other_last k before e is = filter-append (is_of k) before (e ∷ []) ∙ ap (λ xs. filter (is_of k) before ++ xs) (other_first k e [] is) ∙ append-nil (filter (is_of k) before)
+pub other_last : (k : ℕ) (before : List Entry) (e : Entry) → is_of_chain k e ≡ false → filter (is_of_chain k) (before ++ e ∷ []) ≡ filter (is_of_chain k) before
+other_last k before e is = filter-append (is_of_chain k) before (e ∷ []) ∙ ap (λ xs. filter (is_of_chain k) before ++ xs) (other_first k e [] is) ∙ append-nil (filter (is_of_chain k) before)
 
 module _ (genesis : GenesisState) (ledgers : List Ledger) (publications : List Publication) (are : AreOfWorld genesis ledgers publications) (clash : HasNoClash ledgers)
     (world : World) (before rest : List Entry) (k : ℕ) (s : StampedEntry) (later : List StampedEntry) (run : AllRun genesis ledgers world before (s.entry ∷ rest)) (at : IsLedgerAt genesis ledgers k) where
@@ -108,7 +108,7 @@ module _ (genesis : GenesisState) (ledgers : List Ledger) (publications : List P
     accepted_is : (b : Bool) → is_block_reply (entry_answer genesis k at.seen state s).0 ≡ b → is_accepted_block s.entry ≡ b
     accepted_is b is = ap is_block_reply own.0.reply ∙ is
 
-    pub next_blocks : is_of k s.entry ≡ true → length state.chain.committed ≡ blocks_of k before → length next.chain.committed ≡ blocks_of k (before ++ s.entry ∷ [])
+    pub next_blocks : is_of_chain k s.entry ≡ true → length state.chain.committed ≡ blocks_of k before → length next.chain.committed ≡ blocks_of k (before ++ s.entry ∷ [])
     next_blocks mine count =
         elim (commits.blocks) [
           | inl w ↦

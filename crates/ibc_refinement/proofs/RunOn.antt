@@ -11,17 +11,17 @@ use Rattle.ibc_machine.specs.declared.event.Event.TheVariants as event
 use Rattle.ibc_machine.specs.declared.reply.Reply.{Reply}
 use Rattle.ibc_machine.specs.declared.reply.Reply.TheVariants as reply
 use Rattle.ibc_machine.specs.declared.entry.Entry.{Entry}
-use Rattle.ibc_machine.specs.chain.Records.{Chain}
+use Rattle.ibc_machine.specs.chain.Records.{MachineChain}
 use Rattle.ibc_machine.specs.chain.Genesis.{GenesisState, start}
 use Rattle.ibc_machine.specs.chain.Handlers.{message_answer, block_answer}
-use Rattle.ibc_machine.specs.chain.Machine.{World, Step, IsRun, answer, at_chain, looks, true_marks}
+use Rattle.ibc_machine.specs.chain.Machine.{World, Step, IsRun, answer, at_chain, direct_evidence, true_marks}
 use Rattle.ibc_machine.specs.ledger.Replay.{LedgerState, StampedEntry, replay, starting_state}
 use Rattle.ibc_machine.specs.ledger.Ledgers.{Ledger, chain_of, machine_of, state_of}
 use Rattle.ibc_machine.specs.ics23.HashedTexts.{HasNoClash}
-use Rattle.ibc_machine.specs.ledger.Merge.{is_of, ReadsWhatIsBefore, EachAfter}
+use Rattle.ibc_machine.specs.ledger.Merge.{is_of_chain, ReadingFitsBefore, EachWithEarlier}
 use Rattle.ibc_machine.specs.promises.Worlds.{AreLedgersOf, entries}
 use Rattle.ibc_refinement.specs.Refinement.{GivesNothing, AreAnswered, GoesOn, GoingOnIsRun}
-use Rattle.ibc_refinement.proofs.Places.{get_within, same_places}
+use Rattle.ibc_refinement.proofs.ChangedPlaces.{get_within, same_places}
 use Rattle.ibc_refinement.proofs.EntrySteps.{ledger_of}
 use Rattle.ibc_refinement.proofs.RunStates.{AllRun, AreOfWorld, IsLedgerAt, ledger_at}
 use Rattle.ibc_refinement.proofs.RunForward.{next_step}
@@ -35,7 +35,7 @@ use Rattle.ibc_refinement.proofs.SeenMore.{replay_stays}
 pub record Reaches (genesis : GenesisState) (ledgers : List Ledger) (before rest : List Entry) : Type 0 where
   pub world : World
   pub run : AllRun genesis ledgers world before rest
-  pub reads : EachAfter (ReadsWhatIsBefore genesis.window) before rest
+  pub reads : EachWithEarlier (ReadingFitsBefore genesis.window) before rest
   pub within : AreWithin (length ledgers) rest
 
 reaches : (genesis : GenesisState) (ledgers : List Ledger) (publications : List Publication) → AreOfWorld genesis ledgers publications → HasNoClash ledgers
@@ -61,7 +61,7 @@ same_front (x ∷ a) b (y ∷ c) d l e =
 
 module _ (genesis : GenesisState) (old new : List Ledger) (publications : List Publication) (list more : List Entry) (of_old : AreLedgersOf genesis old) (are : AreOfWorld genesis new publications)
     (goes : (k : ℕ) (before after : Ledger) → slice_get old k ≡ Some before → slice_get new k ≡ Some after → GoesOn before after)
-    (merged : (k : ℕ) (before : Ledger) → slice_get old k ≡ Some before → filter (is_of k) list ≡ entries before) where
+    (merged : (k : ℕ) (before : Ledger) → slice_get old k ≡ Some before → filter (is_of_chain k) list ≡ entries before) where
   -- the state of a ledger in the middle is what the old ledger was in
   state_was : (world : World) (run : AllRun genesis new world list more) (k : ℕ) (at : IsLedgerAt genesis old k) (now : IsLedgerAt genesis new k)
       → (run.each k now.history now.seen now.there).state ≡ state_of (ledger_of genesis k at.history at.seen)
@@ -96,7 +96,7 @@ module _ (genesis : GenesisState) (old new : List Ledger) (publications : List P
 unknown_answer : (genesis : GenesisState) (world : World) (e : Event) → length world ≤ chain_of e → answer true_marks genesis true world e ≡ (reply.No UnknownChain, world)
 unfolding answer
 unknown_answer genesis world (event.Message k m) past =
-    ap (at_chain world k (λ chain. message_answer (looks true_marks genesis.window true world chain.records.core) (length genesis.chains) k chain m)) (slice_get_past world k past)
+    ap (at_chain world k (λ chain. message_answer (direct_evidence true_marks genesis.window true world chain.records.core) (length genesis.chains) k chain m)) (slice_get_past world k past)
 unknown_answer genesis world (event.Block k next_time) past = ap (at_chain world k (λ chain. block_answer genesis.capacity chain next_time)) (slice_get_past world k past)
 
 nothing_step : (genesis : GenesisState) (world : World) (chains : ℕ) (e : Event) (given : Reply) → length world ≡ chains → GivesNothing chains e given → Step genesis world e given world
@@ -114,7 +114,7 @@ goes_on_by genesis ledgers publications are clash (e ∷ events) (given ∷ repl
     (r.world, nothing_step genesis r.world (length ledgers) e given r.run.as_many w.0, goes_on_by genesis ledgers publications are clash events replies before more r w.1)
 goes_on_by genesis ledgers publications are clash (e ∷ events) (given ∷ replies) before more r (inr w) =
     let run = subst (λ m. AllRun genesis ledgers r.world before m) w.2 r.run in
-    let reads = subst (λ m. EachAfter (ReadsWhatIsBefore genesis.window) before m) w.2 r.reads in
+    let reads = subst (λ m. EachWithEarlier (ReadingFitsBefore genesis.window) before m) w.2 r.reads in
     let low = subst (λ m. AreWithin (length ledgers) m) w.2 r.within in
     let parts = and_parts (nat_lt (chain_of w.0.event) (length ledgers)) (list_all (λ (entry : Entry). nat_lt (chain_of entry.event) (length ledgers)) w.1) low in
     let step = next_step genesis ledgers publications are clash r.world before w.1 w.0 run reads.0 (ltb-true (chain_of w.0.event) (length ledgers) parts.0) in
@@ -130,7 +130,7 @@ goes_on_by genesis ledgers publications are clash (e ∷ events) (given ∷ repl
 pub going_on_is_run : GoingOnIsRun
 going_on_is_run genesis old new publications list more events replies of_old of_new table goes merged merges answered clash =
     let are : AreOfWorld genesis new publications = record { of = of_new; table = table } in
-    let times = map (λ (c : Chain). c.time) (start genesis) in
+    let times = map (λ (c : MachineChain). c.time) (start genesis) in
     let first : Reaches genesis new [] (list ++ more) = record {
       world = start genesis;
       run = all_start genesis new publications are times (list ++ more) merges;

@@ -9,14 +9,14 @@ use Rattle.ibc_ids.specs.declared.publication.Publication.{Publication}
 use Rattle.ibc_wire.specs.declared.header.Header.{Header}
 use Rattle.ibc_machine.specs.declared.entry.Entry.{Entry}
 use Rattle.ibc_machine.specs.declared.entry.Reading.{Reading}
-use Rattle.ibc_machine.specs.chain.Records.{Chain}
+use Rattle.ibc_machine.specs.chain.Records.{MachineChain}
 use Rattle.ibc_machine.specs.chain.Genesis.{GenesisState}
 use Rattle.ibc_machine.specs.chain.Machine.{World, block_at, committed_of}
 use Rattle.ibc_machine.specs.ledger.Ledgers.{Ledger, published_as, fits, reading_fits}
 use Rattle.ibc_machine.specs.ledger.Merge.{blocks_of}
 use Rattle.ibc_machine.proofs.Members.{get_left}
 use Rattle.ibc_machine.proofs.SeenMore.{height_grows}
-use Rattle.ibc_refinement.proofs.Steps.{SeesRow}
+use Rattle.ibc_refinement.proofs.LedgerSteps.{SeesRow}
 use Rattle.ibc_refinement.proofs.EntrySteps.{ledger_of, replay_grows}
 use Rattle.ibc_refinement.proofs.Hashed.{Among}
 use Rattle.ibc_refinement.proofs.RunStates.{Runs, AllRun, AreOfWorld, IsLedgerAt, ledger_at}
@@ -35,13 +35,13 @@ module _ (genesis : GenesisState) (ledgers : List Ledger) (publications : List P
   runs_at k at = run.each k at.history at.seen at.there
 
   pub committed_is : (k : ℕ) (at : IsLedgerAt genesis ledgers k) → committed_of world k ≡ (runs_at k at).state.chain.committed
-  committed_is k at = ap (λ o. option_map_or (λ (c : Chain). c.committed) o []) (runs_at k at).there
+  committed_is k at = ap (λ o. option_map_or (λ (c : MachineChain). c.committed) o []) (runs_at k at).there
 
   pub counts : (k : ℕ) → length (committed_of world k) ≡ blocks_of k before
   counts k =
       elim (cases_lt k (length ledgers)) [
         | inl within ↦ let at = ledger_at genesis ledgers are.of k within in ap length (committed_is k at) ∙ (runs_at k at).blocks
-        | inr past ↦ ap (λ o. length (option_map_or (λ (c : Chain). c.committed) o [])) (slice_get_past world k (omega (arith, run.as_many))) ∙ sym (run.others k past)
+        | inr past ↦ ap (λ o. length (option_map_or (λ (c : MachineChain). c.committed) o [])) (slice_get_past world k (omega (arith, run.as_many))) ∙ sym (run.others k past)
       ]
 
   -- what a chain published is what it committed
@@ -59,7 +59,7 @@ module _ (genesis : GenesisState) (ledgers : List Ledger) (publications : List P
             let committed = committed_is k at in
             ap (λ xs. slice_get xs i) all ∙ slice_get-map (published_as k) (r.state.chain.committed ++ more.0) i
             ∙ ap (option_map (published_as k)) (get_left r.state.chain.committed more.0 i (omega (arith, ap length committed)) ∙ ap (λ xs. slice_get xs i) (sym committed))
-        | inr past ↦ absurd (none (ap (λ o. length (option_map_or (λ (c : Chain). c.committed) o [])) (slice_get_past world k (omega (arith, run.as_many)))))
+        | inr past ↦ absurd (none (ap (λ o. length (option_map_or (λ (c : MachineChain). c.committed) o [])) (slice_get_past world k (omega (arith, run.as_many)))))
       ]
     where
       none : length (committed_of world k) ≡ 0 → ⊥

@@ -9,12 +9,12 @@ use Rattle.ibc_machine.specs.chain.Genesis.{GenesisState}
 use Rattle.ibc_machine.specs.chain.Machine.{World, block_of}
 use Rattle.ibc_machine.specs.ledger.Replay.{LedgerState, StampedEntry, replay, met_states, starting_state}
 use Rattle.ibc_machine.specs.ledger.Ledgers.{Ledger, IsOwnEntry, IsLedger, met_by, state_of}
-use Rattle.ibc_machine.specs.ledger.Merge.{is_of, blocks_of}
+use Rattle.ibc_machine.specs.ledger.Merge.{is_of_chain, blocks_of}
 use Rattle.ibc_machine.specs.promises.Worlds.{AreLedgersOf, AreOfOneTable}
 use Rattle.ibc_machine.proofs.Members.{Is_in}
-use Rattle.ibc_refinement.proofs.Places.{get_there}
+use Rattle.ibc_refinement.proofs.ChangedPlaces.{get_there}
 use Rattle.ibc_refinement.proofs.Clear.{AreFit}
-use Rattle.ibc_refinement.proofs.Steps.{KnowsBlocks}
+use Rattle.ibc_refinement.proofs.LedgerSteps.{KnowsBlocks}
 use Rattle.ibc_refinement.proofs.Typed.{IsTyped}
 use Rattle.ibc_refinement.proofs.EntrySteps.{ledger_of}
 use Rattle.ibc_refinement.proofs.Hashed.{Among}
@@ -27,9 +27,9 @@ pub record Runs (S : Text → Type 0) (genesis : GenesisState) (world : World) (
   pub left : List StampedEntry
   pub whole : history ≡ done ++ left
   pub replayed : replay genesis k seen (starting_state genesis k) done ≡ state
-  pub consumed : map (λ (s : StampedEntry). s.entry) done ≡ filter (is_of k) before
+  pub consumed : map (λ (s : StampedEntry). s.entry) done ≡ filter (is_of_chain k) before
   pub there : slice_get world k ≡ Some state.chain
-  pub remaining : map (λ (s : StampedEntry). s.entry) left ≡ filter (is_of k) rest
+  pub remaining : map (λ (s : StampedEntry). s.entry) left ≡ filter (is_of_chain k) rest
   pub own : AllByRecursion (IsOwnEntry (ledger_of genesis k history seen)) (met_states genesis k seen state left)
   pub met : (at : LedgerState × StampedEntry) → Is_in at (met_states genesis k seen state left) → Is_in at (met_by (ledger_of genesis k history seen))
   pub ends : replay genesis k seen state left ≡ state_of (ledger_of genesis k history seen)

@@ -14,16 +14,16 @@ use Rattle.ibc_machine.specs.declared.event.Event.{Event}
 use Rattle.ibc_machine.specs.declared.event.Event.TheVariants as event
 use Rattle.ibc_machine.specs.declared.entry.Entry.{Entry}
 use Rattle.ibc_machine.specs.declared.entry.Reading.{Reading}
-use Rattle.ibc_machine.specs.chain.Records.{Chain, Client}
+use Rattle.ibc_machine.specs.chain.Records.{MachineChain, Client}
 use Rattle.ibc_machine.specs.ics02.Clients.{is_of_client}
 use Rattle.ibc_machine.specs.chain.Genesis.{GenesisState}
 use Rattle.ibc_machine.specs.chain.Machine.{World, answer, block_of, true_marks}
 use Rattle.ibc_machine.specs.ledger.Replay.{LedgerState, StampedEntry, ledger_answer}
 use Rattle.ibc_machine.specs.ledger.Ledgers.{Ledger, IsReading, is_looking, header_in, is_typed, chain_of, is_accepted_block, reading_fits}
 use Rattle.ibc_machine.specs.ics23.HashedTexts.{event_texts, HasNoClash}
-use Rattle.ibc_machine.specs.ledger.Merge.{is_of, blocks_of, ReadsWhatIsBefore}
+use Rattle.ibc_machine.specs.ledger.Merge.{is_of_chain, blocks_of, ReadingFitsBefore}
 use Rattle.ibc_machine.proofs.Members.{Is_in}
-use Rattle.ibc_refinement.proofs.Steps.{KnowsBlocks, oldest_of, block_step}
+use Rattle.ibc_refinement.proofs.LedgerSteps.{KnowsBlocks, oldest_of, block_step}
 use Rattle.ibc_refinement.proofs.Typed.{IsTyped}
 use Rattle.ibc_refinement.proofs.TypedMessages.{message_typed}
 use Rattle.ibc_refinement.proofs.FitSteps.{AllFit, fit_step}
@@ -34,13 +34,13 @@ use Rattle.ibc_refinement.proofs.RunKnows.{SeesForEvent}
 
 -- ---- counting blocks
 
-pub blocks_more : (k : ℕ) (before : List Entry) (e : Entry) (b : Bool) → (is_of k e && is_accepted_block e) ≡ b → blocks_of k (before ++ e ∷ []) ≡ blocks_of k before + cond b 1 0
+pub blocks_more : (k : ℕ) (before : List Entry) (e : Entry) (b : Bool) → (is_of_chain k e && is_accepted_block e) ≡ b → blocks_of k (before ++ e ∷ []) ≡ blocks_of k before + cond b 1 0
 blocks_more k before e b is =
-    let parts = sum_by-append (λ (entry : Entry). cond (is_of k entry && is_accepted_block entry) 1 0) before (e ∷ []) in
-    let one : cond (is_of k e && is_accepted_block e) 1 0 ≡ cond b 1 0 = ap {B = ℕ} (λ x. cond x 1 0) is in
+    let parts = sum_by-append (λ (entry : Entry). cond (is_of_chain k entry && is_accepted_block entry) 1 0) before (e ∷ []) in
+    let one : cond (is_of_chain k e && is_accepted_block e) 1 0 ≡ cond b 1 0 = ap {B = ℕ} (λ x. cond x 1 0) is in
     omega (arith, parts, one)
 
-pub blocks_apart : (k : ℕ) (before : List Entry) (e : Entry) → is_of k e ≡ false → blocks_of k (before ++ e ∷ []) ≡ blocks_of k before
+pub blocks_apart : (k : ℕ) (before : List Entry) (e : Entry) → is_of_chain k e ≡ false → blocks_of k (before ++ e ∷ []) ≡ blocks_of k before
 blocks_apart k before e apart = let w = blocks_more k before e false (ap (λ b. b && is_accepted_block e) apart) in omega (arith, w)
 
 module _ (genesis : GenesisState) (ledgers : List Ledger) (publications : List Publication) (are : AreOfWorld genesis ledgers publications) (clash : HasNoClash ledgers) where
@@ -53,7 +53,7 @@ module _ (genesis : GenesisState) (ledgers : List Ledger) (publications : List P
               let at = ledger_at genesis ledgers are.of chain within in
               (runs_at genesis ledgers publications world before rest are run chain at).fit height block
               (ap (block_of height) (sym (committed_is genesis ledgers publications world before rest are run chain at)) ∙ is)
-          | inr past ↦ absurd (nothing height (ap (λ o. block_of height (option_map_or (λ (c : Chain). c.committed) o [])) (sym (slice_get_past world chain (omega (arith, run.as_many)))) ∙ is))
+          | inr past ↦ absurd (nothing height (ap (λ o. block_of height (option_map_or (λ (c : MachineChain). c.committed) o [])) (sym (slice_get_past world chain (omega (arith, run.as_many)))) ∙ is))
         ]
       where
         nothing : (height : ℕ) → block_of height [] ≡ Some block → ⊥
@@ -67,7 +67,7 @@ module _ (genesis : GenesisState) (ledgers : List Ledger) (publications : List P
     read_there (Some r) e = (r, refl)
 
     pub sees_for : (k : ℕ) (ledger : Ledger) (state : LedgerState) (s : StampedEntry) → slice_get ledgers k ≡ Some ledger → is_some s.entry.reading ≡ is_looking state s.entry.event
-        → IsReading genesis.window ledger.seen s → ReadsWhatIsBefore genesis.window before s.entry
+        → IsReading genesis.window ledger.seen s → ReadingFitsBefore genesis.window before s.entry
         → (e : Event) → s.entry.event ≡ e → SeesForEvent genesis.window world ledger.seen s.entry.reading state e
     sees_for k ledger state s there looking reading reads (event.Message chain (message.UpdateClient m)) is = λ client known ours.
         let looks : is_looking state s.entry.event ≡ true =

@@ -12,7 +12,7 @@ use Rattle.ibc_wire.specs.declared.messages.Timeout.{Timeout}
 use Rattle.ibc_wire.specs.declared.messages.TimeoutOnClose.{TimeoutOnClose}
 use Rattle.ibc_wire.specs.declared.packet.Packet.{Packet}
 use Rattle.ibc_wire.specs.declared.records.ChannelState.TheVariants.{Closed}
-use Rattle.ibc_machine.specs.chain.Records.{Core, Client, Channel, Commitment, client_at, channel_at, knows, commitment_of}
+use Rattle.ibc_machine.specs.chain.Records.{Core, Client, Channel, Commitment, client_at, channel_at, is_known_height, commitment_of}
 use Rattle.ibc_machine.specs.chain.Checks.{Checked, require}
 use Rattle.ibc_machine.specs.ics24.Evidence.{Host, Evidence}
 use Rattle.ibc_machine.specs.ics04.Channels.{client_of, counterpart, has_channel}
@@ -30,7 +30,7 @@ module _ (asked : Asked) (one other : Evidence) (host : Host) (core : Core) (agr
 
   passed_same : (id : Text) (c : Commitment) (client : Client) → has_passed one core id c client ≡ has_passed other core id c client
   passed_same id c client =
-      elim (knows core id client.state.latest) as (λ k. knows core id client.state.latest ≡ k
+      elim (is_known_height core id client.state.latest) as (λ k. is_known_height core id client.state.latest ≡ k
       → (is_reached c.timeout_height client.state.latest || (k && is_reached c.timeout_time (one.time_at id client.state.latest)))
       ≡ (is_reached c.timeout_height client.state.latest || (k && is_reached c.timeout_time (other.time_at id client.state.latest)))) [
         | true ↦ λ known. ap (λ t. is_reached c.timeout_height client.state.latest || is_reached c.timeout_time t) (agree.time_at id client.state.latest known)

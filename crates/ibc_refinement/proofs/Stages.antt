@@ -8,7 +8,7 @@ use Rattle.ibc_ids.specs.Publications.{published_by}
 use Rattle.ibc_ids.specs.declared.publication.Publication.{Publication}
 use Rattle.ibc_machine.specs.ledger.Replay.{StampedEntry}
 use Rattle.ibc_machine.specs.ledger.Ledgers.{AreRising, is_accepted_block}
-use Rattle.ibc_refinement.specs.Stamps.{is_by, until, since}
+use Rattle.ibc_refinement.specs.Stamps.{is_by, entries_until, entries_since}
 use Rattle.ibc_refinement.proofs.Placed.{IsPlaced, IsStaged, blocks, few_blocks, left_own, left_other, fewer_after}
 
 -- an entry that stands by then isn't a block, and its stamp is n
@@ -30,11 +30,11 @@ none_number e = absurd (cc)
 
 module _ (window : ℕ) (publications : List Publication) (n k : ℕ) where
   pub record Splits (history : List StampedEntry) : Type 0 where
-    pub by : AllByRecursion (StandsBy window publications n k) (until n history)
-    pub behind : AllByRecursion (IsPlaced window publications k) (since n history)
-    pub above : IsAbove n (since n history)
-    pub count : blocks (since n history) ≡ blocks history
-    pub whole : until n history ++ since n history ≡ history
+    pub by : AllByRecursion (StandsBy window publications n k) (entries_until n history)
+    pub behind : AllByRecursion (IsPlaced window publications k) (entries_since n history)
+    pub above : IsAbove n (entries_since n history)
+    pub count : blocks (entries_since n history) ≡ blocks history
+    pub whole : entries_until n history ++ entries_since n history ≡ history
 
   -- no block stands by then
   no_block_by : (e : StampedEntry) → IsPlaced window publications k e → (is_accepted_block e.entry ≡ true → (m : ℕ) → e.stamp ≡ Some m → n < m) → is_by n e ≡ true → is_accepted_block e.entry ≡ false
@@ -56,20 +56,20 @@ module _ (window : ℕ) (publications : List Publication) (n k : ℕ) where
       split_by by above stamp rest =
           let none = no_block_by e placed.0 above by in
           record {
-            by = subst (λ b. AllByRecursion (StandsBy window publications n k) (cond b (e ∷ until n history) [])) (sym by) (record { placed = placed.0; no_block = none; stamp = stamp }, rest.by);
-            behind = subst (λ b. AllByRecursion (IsPlaced window publications k) (cond b (since n history) (e ∷ history))) (sym by) rest.behind;
-            above = subst (λ b. IsAbove n (cond b (since n history) (e ∷ history))) (sym by) rest.above;
-            count = ap (λ b. blocks (cond b (since n history) (e ∷ history))) by ∙ rest.count ∙ ap (λ b. cond b (suc (blocks history)) (blocks history)) (sym none);
-            whole = ap (λ b. cond b (e ∷ until n history) [] ++ cond b (since n history) (e ∷ history)) by ∙ ap (λ xs. e ∷ xs) rest.whole;
+            by = subst (λ b. AllByRecursion (StandsBy window publications n k) (cond b (e ∷ entries_until n history) [])) (sym by) (record { placed = placed.0; no_block = none; stamp = stamp }, rest.by);
+            behind = subst (λ b. AllByRecursion (IsPlaced window publications k) (cond b (entries_since n history) (e ∷ history))) (sym by) rest.behind;
+            above = subst (λ b. IsAbove n (cond b (entries_since n history) (e ∷ history))) (sym by) rest.above;
+            count = ap (λ b. blocks (cond b (entries_since n history) (e ∷ history))) by ∙ rest.count ∙ ap (λ b. cond b (suc (blocks history)) (blocks history)) (sym none);
+            whole = ap (λ b. cond b (e ∷ entries_until n history) [] ++ cond b (entries_since n history) (e ∷ history)) by ∙ ap (λ xs. e ∷ xs) rest.whole;
           }
 
       split_here : (m : ℕ) → e.stamp ≡ Some m → n < m → (is_accepted_block e.entry ≡ true → n < m) → AreRising m history → is_by n e ≡ false → Splits (e ∷ history)
       split_here m is high block rest by = record {
-        by = subst (λ b. AllByRecursion (StandsBy window publications n k) (cond b (e ∷ until n history) [])) (sym by) tt;
-        behind = subst (λ b. AllByRecursion (IsPlaced window publications k) (cond b (since n history) (e ∷ history))) (sym by) placed;
-        above = subst (λ b. IsAbove n (cond b (since n history) (e ∷ history))) (sym by) (m, is, high, block, rest);
-        count = ap (λ b. blocks (cond b (since n history) (e ∷ history))) by;
-        whole = ap (λ b. cond b (e ∷ until n history) [] ++ cond b (since n history) (e ∷ history)) by;
+        by = subst (λ b. AllByRecursion (StandsBy window publications n k) (cond b (e ∷ entries_until n history) [])) (sym by) tt;
+        behind = subst (λ b. AllByRecursion (IsPlaced window publications k) (cond b (entries_since n history) (e ∷ history))) (sym by) placed;
+        above = subst (λ b. IsAbove n (cond b (entries_since n history) (e ∷ history))) (sym by) (m, is, high, block, rest);
+        count = ap (λ b. blocks (cond b (entries_since n history) (e ∷ history))) by;
+        whole = ap (λ b. cond b (e ∷ entries_until n history) [] ++ cond b (entries_since n history) (e ∷ history)) by;
       }
 
       by_number : (AreRising n history → Splits history) → (m : ℕ) → e.stamp ≡ Some m → (n ≤ m) × (is_accepted_block e.entry ≡ true → n < m) → AreRising m history → (b : Bool) → nat_le m n ≡ b → Splits (e ∷ history)
@@ -132,10 +132,10 @@ module _ (window : ℕ) (publications : List Publication) (n : ℕ) (p : Publica
             absurd (omega arith)
       ] refl
 
-  pub publishes : (k : ℕ) (history : List StampedEntry) → p.chain ≡ k → IsStaged window publications n k history → Publishes k (since n history)
+  pub publishes : (k : ℕ) (history : List StampedEntry) → p.chain ≡ k → IsStaged window publications n k history → Publishes k (entries_since n history)
   publishes k history own staged =
       let s = splits window publications n k history staged.placed staged.rising in
-      publishes_from k (since n history) own s.behind s.above (s.count ∙ staged.count)
+      publishes_from k (entries_since n history) own s.behind s.above (s.count ∙ staged.count)
 
   -- another chain's
   rising_from : (k : ℕ) (left : List StampedEntry) → eqb p.chain k ≡ false → AllByRecursion (IsPlaced window publications k) left → IsAbove n left → AreRising (suc n) left
@@ -158,11 +158,11 @@ module _ (window : ℕ) (publications : List Publication) (n : ℕ) (p : Publica
                 absurd (false≢true (sym other ∙ eq-eqb p.chain k (ap (λ (x : Publication). x.chain) (sym one) ∙ w.4)))
           ]
 
-  pub stays : (k : ℕ) (history : List StampedEntry) → eqb p.chain k ≡ false → IsStaged window publications n k history → IsStaged window publications (suc n) k (since n history)
+  pub stays : (k : ℕ) (history : List StampedEntry) → eqb p.chain k ≡ false → IsStaged window publications n k history → IsStaged window publications (suc n) k (entries_since n history)
   stays k history other staged =
       let s = splits window publications n k history staged.placed staged.rising in
       record {
         placed = s.behind;
-        rising = rising_from k (since n history) other s.behind s.above;
+        rising = rising_from k (entries_since n history) other s.behind s.above;
         count = s.count ∙ staged.count ∙ left_other k publications n p published other;
       }

@@ -6,14 +6,14 @@ use Rattle.std.proofs.lemmas.List.{length-map}
 use Rattle.std.proofs.lemmas.Option.{slice_get-map}
 use Rattle.ibc_ids.specs.declared.publication.Publication.{Publication}
 use Rattle.ibc_machine.specs.declared.entry.Entry.{Entry}
-use Rattle.ibc_machine.specs.chain.Records.{Chain}
+use Rattle.ibc_machine.specs.chain.Records.{MachineChain}
 use Rattle.ibc_machine.specs.chain.Genesis.{GenesisState, start, starting_chain}
 use Rattle.ibc_machine.specs.ledger.Replay.{StampedEntry, starting_state, empty_chain}
 use Rattle.ibc_machine.specs.ledger.Ledgers.{Ledger, chain_of, published_as, state_of}
-use Rattle.ibc_machine.specs.ledger.Merge.{is_of, published_along, Merges}
+use Rattle.ibc_machine.specs.ledger.Merge.{is_of_chain, published_along, Merges}
 use Rattle.ibc_machine.specs.promises.Worlds.{entries}
 use Rattle.ibc_refinement.specs.Stamps.{by_stamps, merged_by_stamps, StampsMerge, StampedIsRun}
-use Rattle.ibc_refinement.proofs.Places.{get_within, get_there}
+use Rattle.ibc_refinement.proofs.ChangedPlaces.{get_within, get_there}
 use Rattle.ibc_refinement.proofs.EntrySteps.{ledger_of}
 use Rattle.ibc_refinement.proofs.RunStates.{AreOfWorld, IsLedgerAt, ledger_at, ledger_from}
 use Rattle.ibc_refinement.proofs.RunNext.{begins_with, own_first}
@@ -25,10 +25,10 @@ use Rattle.ibc_refinement.proofs.MergeReadings.{Reads, merged_reads}
 use Rattle.ibc_refinement.proofs.PlacedLedgers.{at_place, typed_begin, staged_start}
 use Rattle.ibc_refinement.proofs.PublishedAlong.{block_chains, Publishing, AllPublishing, published_here}
 
-own_entries : (k : ℕ) (xs : List StampedEntry) → filter (is_of k) (entries_of xs) ≡ entries_of (own k xs)
+own_entries : (k : ℕ) (xs : List StampedEntry) → filter (is_of_chain k) (entries_of xs) ≡ entries_of (own k xs)
 own_entries k [] = refl
 own_entries k (x ∷ xs) =
-    elim (is_of k x.entry) as (λ b. cond b (x.entry ∷ filter (is_of k) (entries_of xs)) (filter (is_of k) (entries_of xs)) ≡ entries_of (cond b (x ∷ own k xs) (own k xs))) [
+    elim (is_of_chain k x.entry) as (λ b. cond b (x.entry ∷ filter (is_of_chain k) (entries_of xs)) (filter (is_of_chain k) (entries_of xs)) ≡ entries_of (cond b (x ∷ own k xs) (own k xs))) [
       | true ↦ ap (λ ys. x.entry ∷ ys) (own_entries k xs)
       | false ↦ own_entries k xs
     ]
@@ -44,23 +44,23 @@ module _ (genesis : GenesisState) (ledgers : List Ledger) (publications : List P
       let parts = and_parts (nat_lt (chain_of e.event) (length ledgers)) (list_all (λ (entry : Entry). nat_lt (chain_of entry.event) (length ledgers)) rest) within in
       let at = ledger_at genesis ledgers are.of (chain_of e.event) (ltb-true (chain_of e.event) (length ledgers) parts.0) in
       let r = all (chain_of e.event) at.history at.seen at.there in
-      let b = begins_with e (filter (is_of (chain_of e.event)) rest) r.left (r.remaining ∙ own_first (chain_of e.event) e rest (eq-eqb (chain_of e.event) (chain_of e.event) refl)) in
+      let b = begins_with e (filter (is_of_chain (chain_of e.event)) rest) r.left (r.remaining ∙ own_first (chain_of e.event) e rest (eq-eqb (chain_of e.event) (chain_of e.event) refl)) in
       by_entry (λ after qs all chains. published_list rest after qs all parts.1 chains) b.first b.later e b.entry all at r b.whole b.remaining chains
     where
       by_entry : ((after : List ℕ) (qs : List Publication) → AllPublishing genesis ledgers publications are after qs rest → block_chains rest ≡ map (λ (p : Publication). p.chain) qs → published_along after rest ≡ qs)
           → (s : StampedEntry) (later : List StampedEntry) (e : Entry) → s.entry ≡ e → AllPublishing genesis ledgers publications are times ps (e ∷ rest)
           → (at : IsLedgerAt genesis ledgers (chain_of e.event)) (r : Publishing genesis times ps (e ∷ rest) (chain_of e.event) at.history at.seen) → r.left ≡ s ∷ later
-          → map (λ (s : StampedEntry). s.entry) later ≡ filter (is_of (chain_of e.event)) rest → block_chains (e ∷ rest) ≡ map (λ (p : Publication). p.chain) ps → published_along times (e ∷ rest) ≡ ps
+          → map (λ (s : StampedEntry). s.entry) later ≡ filter (is_of_chain (chain_of e.event)) rest → block_chains (e ∷ rest) ≡ map (λ (p : Publication). p.chain) ps → published_along times (e ∷ rest) ≡ ps
       by_entry next s later e same =
           subst (λ (e : Entry). AllPublishing genesis ledgers publications are times ps (e ∷ rest)
           → (at : IsLedgerAt genesis ledgers (chain_of e.event)) (r : Publishing genesis times ps (e ∷ rest) (chain_of e.event) at.history at.seen) → r.left ≡ s ∷ later
-          → map (λ (s : StampedEntry). s.entry) later ≡ filter (is_of (chain_of e.event)) rest → block_chains (e ∷ rest) ≡ map (λ (p : Publication). p.chain) ps → published_along times (e ∷ rest) ≡ ps) same
+          → map (λ (s : StampedEntry). s.entry) later ≡ filter (is_of_chain (chain_of e.event)) rest → block_chains (e ∷ rest) ≡ map (λ (p : Publication). p.chain) ps → published_along times (e ∷ rest) ≡ ps) same
           (λ all at r whole remaining chains. published_here genesis ledgers publications are times ps rest s later all at r whole remaining next chains)
 
   abbrev times : List ℕ
-  times = map (λ (c : Chain). c.time) (start genesis)
+  times = map (λ (c : MachineChain). c.time) (start genesis)
 
-  all_publishing : (list : List Entry) → ((k : ℕ) (at : IsLedgerAt genesis ledgers k) → filter (is_of k) list ≡ entries (ledger_of genesis k at.history at.seen)) → AllPublishing genesis ledgers publications are times publications list
+  all_publishing : (list : List Entry) → ((k : ℕ) (at : IsLedgerAt genesis ledgers k) → filter (is_of_chain k) list ≡ entries (ledger_of genesis k at.history at.seen)) → AllPublishing genesis ledgers publications are times publications list
   all_publishing list each k history seen there =
       let L = ledger_of genesis k history seen in
       let f = ledger_from genesis ledgers are.of k L there in
@@ -76,7 +76,7 @@ module _ (genesis : GenesisState) (ledgers : List Ledger) (publications : List P
         own = f.1.entries;
         ends = refl;
         typed = t.0;
-        time = slice_get-map (λ (c : Chain). c.time) (start genesis) k ∙ ap (option_map (λ (c : Chain). c.time)) (first ∙ ap Some (sym chain));
+        time = slice_get-map (λ (c : MachineChain). c.time) (start genesis) k ∙ ap (option_map (λ (c : MachineChain). c.time)) (first ∙ ap Some (sym chain));
         upcoming = sym (are.table.own k L there) ∙ f.1.published ∙ ap (λ n. map (published_as k) (drop n (state_of L).chain.committed)) (sym t.1);
       }
 
@@ -91,7 +91,7 @@ module _ (genesis : GenesisState) (ledgers : List Ledger) (publications : List P
   reads : Reads genesis.window publications (length histories) [] (by_stamps publications 0 histories) (map (λ (p : Publication). p.chain) publications)
   reads = merged_reads genesis.window publications publications 0 histories [] refl (staged_start genesis ledgers publications are) (λ c. refl)
 
-  each_own : (k : ℕ) (at : IsLedgerAt genesis ledgers k) → filter (is_of k) list ≡ entries (ledger_of genesis k at.history at.seen)
+  each_own : (k : ℕ) (at : IsLedgerAt genesis ledgers k) → filter (is_of_chain k) list ≡ entries (ledger_of genesis k at.history at.seen)
   each_own k at =
       let sum : k ≡ 0 + k = omega arith in
       own_entries k (by_stamps publications 0 histories) ∙ ap entries_of (own_merged genesis.window publications publications 0 histories refl (staged_start genesis ledgers publications are) k

@@ -16,7 +16,7 @@ use Rattle.ibc_wire.specs.declared.records.ConnectionEnd.{ConnectionEnd}
 use Rattle.ibc_merkle.specs.Tree.{tree}
 use Rattle.ibc_merkle.specs.Clashes.{tree_texts}
 use Rattle.ibc_machine.specs.chain.Records.{Core, Client, Channel, client_at, connection_at, channel_at, is_one_of}
-use Rattle.ibc_machine.specs.ics24.Values.{Value, ClientIs, ConnectionIs, ChannelIs, NumberIs, CommitmentIs, ReceiptIs, AckIs, look, receipt_if, commitment_text}
+use Rattle.ibc_machine.specs.ics24.Values.{Value, ClientIs, ConnectionIs, ChannelIs, NumberIs, CommitmentIs, ReceiptIs, AckIs, value_at, receipt_if, commitment_text}
 use Rattle.ibc_machine.specs.ics24.Image.{image}
 use Rattle.ibc_machine.specs.ics23.HashedTexts.{commitment_texts, channel_texts, core_texts}
 use Rattle.ibc_ids.proofs.Texts.{text_tied}
@@ -137,7 +137,7 @@ module _ (S : Text → Type 0) (core : Core) (typed : IsTyped core) (texts : (x 
       let t = channel_typed core port name w.0 typed w.1 in
       subst (Stands S k) w.2 (record { key_is = sym keys ∙ and_from (is_port port) (is_channel name) t.port t.channel; typed = small w.0 t.value; texts = tt })
 
-  pub stands : (k : Key) (v : Value) → look core k ≡ Some v → Stands S k v
+  pub stands : (k : Key) (v : Value) → value_at core k ≡ Some v → Stands S k v
   stands (key.ClientState id) v e =
       let w = mapped (λ client. ClientIs client.state) (client_at core id) e in
       let t = client_typed core id w.0 typed w.1 in

@@ -4,7 +4,7 @@ use Rattle.std.specs.Prelude.{⊤}
 use Rattle.std.proofs.lemmas.List.Folds.{list_all-append}
 use Rattle.std.proofs.lemmas.Bool.{and_parts}
 use Rattle.ibc_ids.specs.Names.{is_client, is_connection, is_channel, is_port, is_version, is_receiver, is_memo}
-use Rattle.ibc_wire.specs.Fields.{Field, are_typed, name, n8, str}
+use Rattle.ibc_wire.specs.Fields.{Field, are_typed, name, be64, str}
 use Rattle.ibc_wire.specs.Spelling.{packet_fields, tokens_fields}
 use Rattle.ibc_wire.specs.Messages.{message_fields}
 use Rattle.ibc_wire.specs.declared.packet.Packet.{Packet}
@@ -123,22 +123,22 @@ message_typed (message.Transfer m) h =
     let fs = message_fields (message.Transfer m) in (number m.timeout_height (field_at 7 fs h), number m.timeout_time (field_at 8 fs h))
 message_typed (message.SendNote m) h = let fs = message_fields (message.SendNote m) in (number m.timeout_height (field_at 3 fs h), number m.timeout_time (field_at 4 fs h))
 message_typed (message.RecvPacket m) h =
-    let more = n8 m.height ∷ str m.proof ∷ [] in
+    let more = be64 m.height ∷ str m.proof ∷ [] in
     let w = both_typed (packet_fields m.packet) more (typed_behind 1 (message_fields (message.RecvPacket m)) h) in
     (packet_typed m.packet w.0, field_at 1 more w.1)
 message_typed (message.AckPacket m) h =
-    let more = str m.ack ∷ n8 m.height ∷ str m.proof ∷ [] in
+    let more = str m.ack ∷ be64 m.height ∷ str m.proof ∷ [] in
     let w = both_typed (packet_fields m.packet) more (typed_behind 1 (message_fields (message.AckPacket m)) h) in
     (packet_typed m.packet w.0, field_at 2 more w.1)
 message_typed (message.Timeout m) h =
-    let more = n8 m.next_recv ∷ n8 m.height ∷ str m.proof ∷ [] in
+    let more = be64 m.next_recv ∷ be64 m.height ∷ str m.proof ∷ [] in
     let w = both_typed (packet_fields m.packet) more (typed_behind 1 (message_fields (message.Timeout m)) h) in
     (packet_typed m.packet w.0, number m.next_recv (field_at 0 more w.1), field_at 2 more w.1)
 message_typed (message.TimeoutOnClose m) h =
-    let more = n8 m.next_recv ∷ n8 m.height ∷ str m.proof ∷ str m.proof_close ∷ [] in
+    let more = be64 m.next_recv ∷ be64 m.height ∷ str m.proof ∷ str m.proof_close ∷ [] in
     let w = both_typed (packet_fields m.packet) more (typed_behind 1 (message_fields (message.TimeoutOnClose m)) h) in
     (packet_typed m.packet w.0, number m.next_recv (field_at 0 more w.1), field_at 2 more w.1, field_at 3 more w.1)
 message_typed (message.TransferMany m) h =
-    let more = name is_receiver m.receiver ∷ name is_memo m.memo ∷ n8 m.timeout_height ∷ n8 m.timeout_time ∷ [] in
+    let more = name is_receiver m.receiver ∷ name is_memo m.memo ∷ be64 m.timeout_height ∷ be64 m.timeout_time ∷ [] in
     let w = both_typed (tokens_fields m.tokens) more (typed_behind 3 (message_fields (message.TransferMany m)) h) in
     (number m.timeout_height (field_at 2 more w.1), number m.timeout_time (field_at 3 more w.1))

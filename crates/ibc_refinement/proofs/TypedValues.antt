@@ -9,7 +9,7 @@ use Rattle.ibc_ids.specs.Names.{is_connection, is_channel, is_port}
 use Rattle.ibc_ids.specs.Paths.{path, is_key, channel_path, sequence_path}
 use Rattle.ibc_ids.specs.declared.key.Key.{Key}
 use Rattle.ibc_ids.specs.declared.key.Key.TheVariants as key
-use Rattle.ibc_wire.specs.Fields.{counted}
+use Rattle.ibc_wire.specs.Fields.{with_length}
 use Rattle.ibc_wire.specs.Spelling.{peer, connection_state_number, channel_state_number, order_number}
 use Rattle.ibc_wire.specs.declared.records.ConnectionState.{ConnectionState}
 use Rattle.ibc_wire.specs.declared.records.ConnectionState.TheVariants as conn
@@ -119,22 +119,22 @@ value_fits (ClientIs c) h =
     (fits_both 1 8 (c.chain ∷ []) (to_be_bytes w64 c.latest ++ []) (byte_fits c.chain h.0) (fits_both 8 0 (to_be_bytes w64 c.latest) [] (number_fits c.latest) (record { bytes = refl; short = omega arith })))
 value_fits (ConnectionIs c) h =
     let peer_bytes = (peer is_connection (connection_state_number c.state == 1) c.peer_connection).bytes in
-    let last = counted (codes "1") ++ [] in
+    let last = with_length (codes "1") ++ [] in
     fits_within 202 512 (value_bytes (ConnectionIs c)) (omega arith)
-    (fits_both 1 201 (connection_state_number c.state ∷ []) (counted c.client ++ (counted c.peer_client ++ (peer_bytes ++ last))) (byte_fits _ (connection_state_low c.state))
-    (fits_both 66 135 (counted c.client) (counted c.peer_client ++ (peer_bytes ++ last)) (counted_fits 64 c.client (name_fits 9 64 c.client h.client))
-    (fits_both 66 69 (counted c.peer_client) (peer_bytes ++ last) (counted_fits 64 c.peer_client (name_fits 9 64 c.peer_client h.peer_client))
+    (fits_both 1 201 (connection_state_number c.state ∷ []) (with_length c.client ++ (with_length c.peer_client ++ (peer_bytes ++ last))) (byte_fits _ (connection_state_low c.state))
+    (fits_both 66 135 (with_length c.client) (with_length c.peer_client ++ (peer_bytes ++ last)) (counted_fits 64 c.client (name_fits 9 64 c.client h.client))
+    (fits_both 66 69 (with_length c.peer_client) (peer_bytes ++ last) (counted_fits 64 c.peer_client (name_fits 9 64 c.peer_client h.peer_client))
     (fits_both 66 3 peer_bytes last (peer_fits is_connection _ c.peer_connection (λ id g. name_fits 10 64 id g) h.peer) (record { bytes = refl; short = omega arith })))))
 value_fits (ChannelIs c) h =
     let peer_bytes = (peer is_channel (channel_state_number c.state == 1) c.peer_channel).bytes in
-    let last = counted c.version ++ [] in
+    let last = with_length c.version ++ [] in
     fits_within 298 512 (value_bytes (ChannelIs c)) (omega arith)
-    (fits_both 1 297 (channel_state_number c.state ∷ []) (order_number c.order ∷ (counted c.peer_port ++ (peer_bytes ++ (counted c.connection ++ last)))) (byte_fits _ (channel_state_low c.state))
-    (fits_both 1 296 (order_number c.order ∷ []) (counted c.peer_port ++ (peer_bytes ++ (counted c.connection ++ last))) (byte_fits _ (order_low c.order))
-    (fits_both 130 166 (counted c.peer_port) (peer_bytes ++ (counted c.connection ++ last)) (counted_fits 128 c.peer_port (name_fits 2 128 c.peer_port h.peer_port))
-    (fits_both 66 100 peer_bytes (counted c.connection ++ last) (peer_fits is_channel _ c.peer_channel (λ id g. name_fits 8 64 id g) h.peer)
-    (fits_both 66 34 (counted c.connection) last (counted_fits 64 c.connection (name_fits 10 64 c.connection h.connection))
-    (fits_both 34 0 (counted c.version) [] (counted_fits 32 c.version (version_fits c.version h.version)) (record { bytes = refl; short = omega arith })))))))
+    (fits_both 1 297 (channel_state_number c.state ∷ []) (order_number c.order ∷ (with_length c.peer_port ++ (peer_bytes ++ (with_length c.connection ++ last)))) (byte_fits _ (channel_state_low c.state))
+    (fits_both 1 296 (order_number c.order ∷ []) (with_length c.peer_port ++ (peer_bytes ++ (with_length c.connection ++ last))) (byte_fits _ (order_low c.order))
+    (fits_both 130 166 (with_length c.peer_port) (peer_bytes ++ (with_length c.connection ++ last)) (counted_fits 128 c.peer_port (name_fits 2 128 c.peer_port h.peer_port))
+    (fits_both 66 100 peer_bytes (with_length c.connection ++ last) (peer_fits is_channel _ c.peer_channel (λ id g. name_fits 8 64 id g) h.peer)
+    (fits_both 66 34 (with_length c.connection) last (counted_fits 64 c.connection (name_fits 10 64 c.connection h.connection))
+    (fits_both 34 0 (with_length c.version) [] (counted_fits 32 c.version (version_fits c.version h.version)) (record { bytes = refl; short = omega arith })))))))
 value_fits (NumberIs n) h = fits_within 8 512 (to_be_bytes w64 n) (omega arith) (number_fits n)
 value_fits (CommitmentIs c) h = hash_fits (commitment_text c)
 value_fits ReceiptIs h = record { bytes = refl; short = omega arith }

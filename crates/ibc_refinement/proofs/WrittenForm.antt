@@ -7,7 +7,7 @@ use Rattle.std.proofs.lemmas.Bool.{and_from}
 use Rattle.ibc_ids.specs.Texts.{Text, same_text, text_cmp}
 use Rattle.ibc_ids.specs.Maps.{at}
 use Rattle.ibc_merkle.specs.Tree.{Pairs, Tree, Leaf, Node, tree, root}
-use Rattle.ibc_merkle.specs.Written.{left_child, right_child, found_below, operations_to, presence_of, last_below, first_above, written, written_or_absent, absence}
+use Rattle.ibc_merkle.specs.Written.{left_child, right_child, found_below, operations_to, presence_of, last_below, first_above, written_proof, written_or_absent, absence_proof}
 use Rattle.ibc_merkle.specs.Written as writing
 use Rattle.ibc_merkle.specs.Proofs.{is_below}
 use Rattle.ibc_merkle.specs.Hash.{leaf_mark}
@@ -91,7 +91,7 @@ abbrev NeighbourFits : Option Presence → Type 0
 NeighbourFits o = have_form (neighbour_fields o) ≡ true
 
 module _ (pairs : Pairs) (fits : AllByRecursion FitsPair pairs) (few : length pairs ≤ 2 ^ 64) where
-  written_presence_form : (key value : Text) (p : Presence) → FitsPair (key, value) → writing.presence pairs key value ≡ Some p → have_form (presence_fields p) ≡ true
+  written_presence_form : (key value : Text) (p : Presence) → FitsPair (key, value) → writing.presence_in pairs key value ≡ Some p → have_form (presence_fields p) ≡ true
   written_presence_form key value p fit e =
       elim (operations_to key (tree pairs)) as (λ o. operations_to key (tree pairs) ≡ o
       → ◌≡◌ {A = Option Presence} (option_map (λ operations. record { key = key; value = value; leaf_prefix = leaf_mark; operations = operations }) o) (Some p) → have_form (presence_fields p) ≡ true) [
@@ -102,7 +102,7 @@ module _ (pairs : Pairs) (fits : AllByRecursion FitsPair pairs) (few : length pa
   pair_form : (pair : Option (Text × Text)) → ((e : Text × Text) → pair ≡ Some e → FitsPair e) → NeighbourFits (presence_of pairs pair)
   pair_form None h = refl
   pair_form (Some e) h =
-      elim (writing.presence pairs e.0 e.1) as (λ o. writing.presence pairs e.0 e.1 ≡ o → NeighbourFits o) [
+      elim (writing.presence_in pairs e.0 e.1) as (λ o. writing.presence_in pairs e.0 e.1 ≡ o → NeighbourFits o) [
         | None ↦ λ _. refl
         | Some p ↦ λ is. and_from true (have_form (presence_fields p)) refl (written_presence_form e.0 e.1 p (h e refl) is)
       ] refl
@@ -126,7 +126,7 @@ module _ (pairs : Pairs) (fits : AllByRecursion FitsPair pairs) (few : length pa
   value_fits key value (x ∷ es) h is =
       elim (is_eq (text_cmp key x.0)) as (λ b. cond b (Some x.1) (at text_cmp key es) ≡ Some value → FitsText 512 value) [ true ↦ λ is. subst (FitsText 512) (some_same is) h.0.1 | false ↦ λ is. value_fits key value es h.1 is ] is
 
-  absence_form : (key : Text) → FitsText 256 key → have_form (proof_fields (absence pairs key)) ≡ true
+  absence_form : (key : Text) → FitsText 256 key → have_form (proof_fields (absence_proof pairs key)) ≡ true
   absence_form key fit =
       let rest : List Field = neighbour_fields (presence_of pairs (last_below pairs key)) ++ neighbour_fields (presence_of pairs (first_above pairs key)) in
       and_from true (have_form (str_up_to 256 key ∷ rest)) refl (forms_both (str_up_to 256 key ∷ []) rest (str_form 256 key fit)
@@ -134,20 +134,20 @@ module _ (pairs : Pairs) (fits : AllByRecursion FitsPair pairs) (few : length pa
       (pair_form (last_below pairs key) (λ e is. last_fits (λ entry. is_below entry.0 key) pairs None e fits (λ f none. absurd (cc)) is))
       (pair_form (first_above pairs key) (λ e is. find_fits (λ entry. is_below key entry.0) pairs e fits is))))
 
-  form_of_written : (key : Text) → FitsText 256 key → have_form (proof_fields (written pairs key)) ≡ true
-  unfolding written
+  form_of_written : (key : Text) → FitsText 256 key → have_form (proof_fields (written_proof pairs key)) ≡ true
+  unfolding written_proof
   form_of_written key fit =
-      elim (option_and_then (λ value. writing.presence pairs key value) (at text_cmp key pairs)) as (λ o. option_and_then (λ value. writing.presence pairs key value) (at text_cmp key pairs) ≡ o → have_form (proof_fields (written_or_absent pairs key o)) ≡ true) [
+      elim (option_and_then (λ value. writing.presence_in pairs key value) (at text_cmp key pairs)) as (λ o. option_and_then (λ value. writing.presence_in pairs key value) (at text_cmp key pairs) ≡ o → have_form (proof_fields (written_or_absent pairs key o)) ≡ true) [
         | None ↦ λ _. absence_form key fit
         | Some p ↦ λ is. and_from true (have_form (presence_fields p)) refl (found p (at text_cmp key pairs) refl is)
       ] refl
     where
-      found : (p : Presence) (o : Option Text) → at text_cmp key pairs ≡ o → option_and_then (λ value. writing.presence pairs key value) o ≡ Some p → have_form (presence_fields p) ≡ true
+      found : (p : Presence) (o : Option Text) → at text_cmp key pairs ≡ o → option_and_then (λ value. writing.presence_in pairs key value) o ≡ Some p → have_form (presence_fields p) ≡ true
       found p None there is = absurd (cc)
       found p (Some value) there is = written_presence_form key value p (fit, value_fits key value pairs fits there) is
 
 -- a written proof has a spelling, where the texts of the pairs and of the key are short and the tree isn't too
 -- deep
 pub written_has_form : (pairs : Pairs) (key : Text) → AllByRecursion FitsPair pairs → length pairs ≤ 2 ^ 64 → FitsText 256 key
-    → have_form (proof_fields (written pairs key)) ≡ true
+    → have_form (proof_fields (written_proof pairs key)) ≡ true
 written_has_form pairs key fits few fit = form_of_written pairs fits few key fit

@@ -5,7 +5,7 @@ pub mod Publications
 pub mod Order
 pub mod Grown
 pub mod Published
-pub mod Turns
+pub mod EntryBehind
 pub mod Step
 pub mod Nothing
 pub mod One

@@ -1,7 +1,7 @@
 -- An audit takes ledgers in any order, with no chain missing or twice.
 use Rattle.std.specs.Prelude.{◌≡◌, ℕ, List, map, Some, slice_get, IsTrue}
 use Rattle.ibc_ids.specs.declared.publication.Publication.{Publication}
-use Rattle.ibc_machine.specs.chain.Records.{Chain}
+use Rattle.ibc_machine.specs.chain.Records.{MachineChain}
 use Rattle.ibc_machine.specs.chain.Genesis.{GenesisState}
 use Rattle.ibc_machine.specs.ledger.Ledgers.{Ledger, IsLedger, machine_of}
 use Rattle.ibc_machine.specs.promises.Worlds.{AreOfOneTable, by_number, is_complete, IsAudited}
@@ -17,5 +17,5 @@ abbrev pub AuditIsRun : Type 0
 AuditIsRun = (genesis : GenesisState) (ledgers : List Ledger) (publications : List Publication)
     → AreOfGenesis genesis ledgers → IsTrue (is_complete genesis ledgers) → AreOfOneTable publications ledgers
     → IsAudited genesis ledgers publications
-    (map (λ (c : Chain). c.records.apps.balances) (machine_of (by_number genesis ledgers)))
-    (map (λ (c : Chain). c.records.apps.notes) (machine_of (by_number genesis ledgers)))
+    (map (λ (c : MachineChain). c.records.apps.balances) (machine_of (by_number genesis ledgers)))
+    (map (λ (c : MachineChain). c.records.apps.notes) (machine_of (by_number genesis ledgers)))

@@ -1,7 +1,7 @@
 pub mod Refinement
 pub mod Stamps
 pub mod Audits
-pub mod Growing
+pub mod LedgerGrowth
 pub mod World
 pub mod Steps
 pub mod Meetings

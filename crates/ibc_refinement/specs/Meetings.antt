@@ -7,7 +7,7 @@ use Rattle.ibc_machine.specs.declared.event.Event.{Event}
 use Rattle.ibc_machine.specs.declared.reply.Reply.{Reply}
 use Rattle.ibc_machine.specs.declared.reply.Reply.TheVariants as reply
 use Rattle.ibc_machine.specs.ledger.Ledgers.{Ledger, IsLedger, SeesMore, chain_of}
-use Rattle.ibc_refinement.specs.World.{WorldState, AllSee, AreOfFirst, IsWorld}
+use Rattle.ibc_refinement.specs.World.{WorldState, AllHaveSeen, AreOfFirstChains, IsWorld}
 use Rattle.ibc_refinement.specs.Steps.{AllSeeMore, AddsNothing, AddsOne, IsStep, AreSteps}
 
 -- the ledgers have at most seen more, and all of them the same
@@ -16,23 +16,23 @@ pub record HaveMet (old new : List Ledger) : Type 0 where
   pub each : AllSeeMore old new
   pub each_is : (k : ℕ) (ledger : Ledger) → slice_get new k ≡ Some ledger → IsLedger ledger
   pub publications : List Publication
-  pub seen : AllSee publications new
-  pub within : AreOfFirst (length new) publications
+  pub seen : AllHaveSeen publications new
+  pub within : AreOfFirstChains (length new) publications
 
 -- the first so many have seen no more than this
-abbrev pub AreBehind : ℕ → List Publication → List Ledger → Type 0
-AreBehind n seen ledgers = (k : ℕ) (ledger : Ledger) → k < n → slice_get ledgers k ≡ Some ledger → IsPrefix ledger.seen seen
+abbrev pub FirstHaveSeenNoMore : ℕ → List Publication → List Ledger → Type 0
+FirstHaveSeenNoMore n seen ledgers = (k : ℕ) (ledger : Ledger) → k < n → slice_get ledgers k ≡ Some ledger → IsPrefix ledger.seen seen
 
 -- the first so many have seen just this
-abbrev pub FirstSee : ℕ → List Publication → List Ledger → Type 0
-FirstSee n seen ledgers = (k : ℕ) (ledger : Ledger) → k < n → slice_get ledgers k ≡ Some ledger → ledger.seen ≡ seen
+abbrev pub FirstHaveSeen : ℕ → List Publication → List Ledger → Type 0
+FirstHaveSeen n seen ledgers = (k : ℕ) (ledger : Ledger) → k < n → slice_get ledgers k ≡ Some ledger → ledger.seen ≡ seen
 
 -- Where the first ledger has seen more, and the others then just what it has seen, all have met.
 abbrev pub AllMeetTheFirst : Type 0
 AllMeetTheFirst = (first leader : Ledger) (others now : List Ledger) → SeesMore first leader
-    → length now ≡ length others → AllSeeMore others now → FirstSee (length now) leader.seen now
+    → length now ≡ length others → AllSeeMore others now → FirstHaveSeen (length now) leader.seen now
     → ((k : ℕ) (ledger : Ledger) → slice_get (leader ∷ now) k ≡ Some ledger → IsLedger ledger)
-    → AreOfFirst (length (leader ∷ now)) leader.seen → HaveMet (first ∷ others) (leader ∷ now)
+    → AreOfFirstChains (length (leader ∷ now)) leader.seen → HaveMet (first ∷ others) (leader ∷ now)
 
 -- an event was put to the ledgers, which haven't met since
 pub record IsPut (old : WorldState) (event : Event) (given : Reply) (new : WorldState) : Type 0 where

@@ -6,12 +6,12 @@ use Rattle.ibc_machine.specs.declared.event.Event.{Event}
 use Rattle.ibc_machine.specs.declared.reply.Reply.{Reply}
 use Rattle.ibc_machine.specs.declared.reply.Reply.TheVariants as reply
 use Rattle.ibc_machine.specs.declared.entry.Entry.{Entry}
-use Rattle.ibc_machine.specs.chain.Records.{Chain}
+use Rattle.ibc_machine.specs.chain.Records.{MachineChain}
 use Rattle.ibc_machine.specs.chain.Genesis.{GenesisState, start, is_allowed}
 use Rattle.ibc_machine.specs.ledger.Replay.{StampedEntry}
 use Rattle.ibc_machine.specs.ledger.Ledgers.{Ledger, chain_of}
 use Rattle.ibc_machine.specs.ics23.HashedTexts.{HasNoClash}
-use Rattle.ibc_machine.specs.ledger.Merge.{is_of, Merges}
+use Rattle.ibc_machine.specs.ledger.Merge.{is_of_chain, Merges}
 use Rattle.ibc_machine.specs.promises.Worlds.{AreLedgersOf, AreOfOneTable, AppliesEach, entries, interleaved, IsWorldHistory, Refines, SinceGenesis}
 
 -- Every list that merges the histories of the ledgers of a genesis along one list of publications is a run of
@@ -20,7 +20,7 @@ abbrev pub MergedIsRun : Type 0
 MergedIsRun =
     (genesis : GenesisState) (ledgers : List Ledger) (publications : List Publication) (list : List Entry)
     → AreLedgersOf genesis ledgers → AreOfOneTable publications ledgers → IsTrue (is_allowed genesis) → HasNoClash ledgers
-    → Merges genesis.window (map (λ (c : Chain). c.time) (start genesis)) (map entries ledgers) publications list
+    → Merges genesis.window (map (λ (c : MachineChain). c.time) (start genesis)) (map entries ledgers) publications list
     → IsWorldHistory genesis ledgers publications list
 
 -- The order that a world keeps, which merges the histories along its publications, is a run since genesis.
@@ -28,7 +28,7 @@ abbrev pub KeptOrderIsRun : Type 0
 KeptOrderIsRun =
     (genesis : GenesisState) (order : List ℕ) (ledgers : List Ledger) (publications : List Publication)
     → AreLedgersOf genesis ledgers → AreOfOneTable publications ledgers → IsTrue (is_allowed genesis)
-    → Merges genesis.window (map (λ (c : Chain). c.time) (start genesis)) (map entries ledgers) publications
+    → Merges genesis.window (map (λ (c : MachineChain). c.time) (start genesis)) (map entries ledgers) publications
     (interleaved order (map entries ledgers))
     → SinceGenesis genesis order ledgers publications
 
@@ -62,19 +62,19 @@ GoingOnIsRun =
     (events : List Event) (replies : List Reply)
     → AreLedgersOf genesis old → AreLedgersOf genesis new → AreOfOneTable publications new
     → ((k : ℕ) (before after : Ledger) → slice_get old k ≡ Some before → slice_get new k ≡ Some after → GoesOn before after)
-    → ((k : ℕ) (before : Ledger) → slice_get old k ≡ Some before → filter (is_of k) list ≡ entries before)
-    → Merges genesis.window (map (λ (c : Chain). c.time) (start genesis)) (map entries new) publications (list ++ more)
+    → ((k : ℕ) (before : Ledger) → slice_get old k ≡ Some before → filter (is_of_chain k) list ≡ entries before)
+    → Merges genesis.window (map (λ (c : MachineChain). c.time) (start genesis)) (map entries new) publications (list ++ more)
     → AreAnswered (length new) events replies more
     → Refines genesis old events replies new
 
 -- ---- by the contract of a world's run
 
 -- the entries that events gave: each ledger has those of its chain more
-pub record Gave (old : List Ledger) (events : List Event) (replies : List Reply) (new : List Ledger) (more : List Entry) : Type 0 where
+pub record GaveEntries (old : List Ledger) (events : List Event) (replies : List Reply) (new : List Ledger) (more : List Entry) : Type 0 where
   pub as_many : length new ≡ length old
   pub answered : AreAnswered (length old) events replies more
   pub each : (k : ℕ) (before after : Ledger) → slice_get old k ≡ Some before → slice_get new k ≡ Some after
-      → GoesOn before after × (entries after ≡ entries before ++ filter (is_of k) more)
+      → GoesOn before after × (entries after ≡ entries before ++ filter (is_of_chain k) more)
 
 -- Events that were applied one after another refine the machine, where the kept order merges the histories
 -- before, and with the entries that the events gave behind it those after.
@@ -84,7 +84,7 @@ AppliedIsRun =
     (events : List Event) (replies : List Reply)
     → AreLedgersOf genesis old → AreLedgersOf genesis new → AreOfOneTable publications new
     → AppliesEach old events replies new
-    → Merges genesis.window (map (λ (c : Chain). c.time) (start genesis)) (map entries old) before list
-    → ((more : List Entry) → Gave old events replies new more
-    → Merges genesis.window (map (λ (c : Chain). c.time) (start genesis)) (map entries new) publications (list ++ more))
+    → Merges genesis.window (map (λ (c : MachineChain). c.time) (start genesis)) (map entries old) before list
+    → ((more : List Entry) → GaveEntries old events replies new more
+    → Merges genesis.window (map (λ (c : MachineChain). c.time) (start genesis)) (map entries new) publications (list ++ more))
     → Refines genesis old events replies new

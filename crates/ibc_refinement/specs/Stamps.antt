@@ -5,7 +5,7 @@ use Rattle.std.specs.List.{flat_map}
 use Rattle.std.specs.Option.{option_map_or}
 use Rattle.ibc_ids.specs.declared.publication.Publication.{Publication}
 use Rattle.ibc_machine.specs.declared.entry.Entry.{Entry}
-use Rattle.ibc_machine.specs.chain.Records.{Chain}
+use Rattle.ibc_machine.specs.chain.Records.{MachineChain}
 use Rattle.ibc_machine.specs.chain.Genesis.{GenesisState, start, is_allowed}
 use Rattle.ibc_machine.specs.ledger.Replay.{StampedEntry}
 use Rattle.ibc_machine.specs.ledger.Ledgers.{Ledger}
@@ -18,38 +18,38 @@ abbrev pub is_by : ℕ → StampedEntry → Bool
 is_by n e = option_map_or (λ stamp. nat_le stamp n) e.stamp true
 
 -- the entries up to the first whose stamp is above n, and those from it on
-abbrev pub until : ℕ → List StampedEntry → List StampedEntry
-until n [] = []
-until n (e ∷ history) = if is_by n e then e ∷ until n history else []
+abbrev pub entries_until : ℕ → List StampedEntry → List StampedEntry
+entries_until n [] = []
+entries_until n (e ∷ history) = if is_by n e then e ∷ entries_until n history else []
 
-abbrev pub since : ℕ → List StampedEntry → List StampedEntry
-since n [] = []
-since n (e ∷ history) = if is_by n e then since n history else e ∷ history
+abbrev pub entries_since : ℕ → List StampedEntry → List StampedEntry
+entries_since n [] = []
+entries_since n (e ∷ history) = if is_by n e then entries_since n history else e ∷ history
 
-abbrev pub first : List StampedEntry → List StampedEntry
-first [] = []
-first (e ∷ history) = e ∷ []
+abbrev pub first_entries : List StampedEntry → List StampedEntry
+first_entries [] = []
+first_entries (e ∷ history) = e ∷ []
 
-abbrev pub later : List StampedEntry → List StampedEntry
-later [] = []
-later (e ∷ history) = history
+abbrev pub later_entries : List StampedEntry → List StampedEntry
+later_entries [] = []
+later_entries (e ∷ history) = history
 
 -- of the histories of chains i, i + 1 and so on: the block that chain k publishes next, where n are published
 abbrev pub next_block : ℕ → ℕ → ℕ → List (List StampedEntry) → List StampedEntry
 next_block n k i [] = []
-next_block n k i (history ∷ histories) = if i == k then first (since n history) else next_block n k (suc i) histories
+next_block n k i (history ∷ histories) = if i == k then first_entries (entries_since n history) else next_block n k (suc i) histories
 
 -- what is left of them then
 abbrev pub left_after : ℕ → ℕ → ℕ → List (List StampedEntry) → List (List StampedEntry)
 left_after n k i [] = []
 left_after n k i (history ∷ histories) =
-    (if i == k then later (since n history) else since n history) ∷ left_after n k (suc i) histories
+    (if i == k then later_entries (entries_since n history) else entries_since n history) ∷ left_after n k (suc i) histories
 
 -- Where n are published: what stands by then, chain by chain; the next publication's block; and so on.
 abbrev pub by_stamps : List Publication → ℕ → List (List StampedEntry) → List StampedEntry
-by_stamps [] n histories = flat_map (until n) histories
+by_stamps [] n histories = flat_map (entries_until n) histories
 by_stamps (p ∷ publications) n histories =
-    flat_map (until n) histories ++ next_block n p.chain 0 histories
+    flat_map (entries_until n) histories ++ next_block n p.chain 0 histories
     ++ by_stamps publications (suc n) (left_after n p.chain 0 histories)
 
 abbrev pub merged_by_stamps : List Publication → List Ledger → List Entry
@@ -60,7 +60,7 @@ merged_by_stamps publications ledgers =
 abbrev pub StampsMerge : Type 0
 StampsMerge = (genesis : GenesisState) (ledgers : List Ledger) (publications : List Publication)
     → AreLedgersOf genesis ledgers → AreOfOneTable publications ledgers
-    → Merges genesis.window (map (λ (c : Chain). c.time) (start genesis)) (map entries ledgers) publications
+    → Merges genesis.window (map (λ (c : MachineChain). c.time) (start genesis)) (map entries ledgers) publications
     (merged_by_stamps publications ledgers)
 
 -- So the list by the stamps is a run of the machine since genesis to the ledgers' states, where no two texts

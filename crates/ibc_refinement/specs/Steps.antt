@@ -10,7 +10,7 @@ use Rattle.ibc_machine.specs.declared.entry.Entry.{Entry}
 use Rattle.ibc_machine.specs.ledger.Ledgers.{Ledger, IsLedger, SeesMore, chain_of, AddsNext}
 use Rattle.ibc_machine.specs.promises.Histories.{Happened}
 use Rattle.ibc_machine.specs.promises.Worlds.{AppliesEach, Refines, happened_by}
-use Rattle.ibc_refinement.specs.World.{WorldState, kept_entries, AllSee, AreOfFirst, IsWorld}
+use Rattle.ibc_refinement.specs.World.{WorldState, kept_entries, AllHaveSeen, AreOfFirstChains, IsWorld}
 
 -- the event was this ledger's, or another's
 abbrev pub AddsIf : Bool → Event → Reply → Ledger → Ledger → Type 0
@@ -48,8 +48,8 @@ pub record IsStep (old : WorldState) (event : Event) (given : Reply) (new : Worl
   pub as_many : length new.ledgers ≡ length old.ledgers
   pub each_is : (k : ℕ) (ledger : Ledger) → slice_get new.ledgers k ≡ Some ledger → IsLedger ledger
   pub publications : List Publication
-  pub seen : AllSee publications new.ledgers
-  pub within : AreOfFirst (length new.ledgers) publications
+  pub seen : AllHaveSeen publications new.ledgers
+  pub within : AreOfFirstChains (length new.ledgers) publications
   pub adds : AddsNothing old event given new ⊎ AddsOne old event given new
 
 abbrev pub StepIsKept : Type 0

@@ -4,7 +4,7 @@ use Rattle.std.specs.List.{list_all, count_by}
 use Rattle.ibc_ids.specs.Publications.{height_of}
 use Rattle.ibc_ids.specs.declared.publication.Publication.{Publication}
 use Rattle.ibc_machine.specs.declared.entry.Entry.{Entry}
-use Rattle.ibc_machine.specs.chain.Records.{Chain}
+use Rattle.ibc_machine.specs.chain.Records.{MachineChain}
 use Rattle.ibc_machine.specs.chain.Genesis.{GenesisState, start, is_allowed}
 use Rattle.ibc_machine.specs.ledger.Ledgers.{Ledger, chain_of, is_accepted_block}
 use Rattle.ibc_machine.specs.ledger.Merge.{Merges}
@@ -21,12 +21,12 @@ abbrev pub kept_entries : WorldState → List Entry
 kept_entries world = interleaved world.order (map entries world.ledgers)
 
 -- every ledger has seen just these publications
-abbrev pub AllSee : List Publication → List Ledger → Type 0
-AllSee publications ledgers = (k : ℕ) (ledger : Ledger) → slice_get ledgers k ≡ Some ledger → ledger.seen ≡ publications
+abbrev pub AllHaveSeen : List Publication → List Ledger → Type 0
+AllHaveSeen publications ledgers = (k : ℕ) (ledger : Ledger) → slice_get ledgers k ≡ Some ledger → ledger.seen ≡ publications
 
 -- the publications are of the first so many chains
-abbrev pub AreOfFirst : ℕ → List Publication → Type 0
-AreOfFirst chains publications = (c : ℕ) → 0 < height_of c publications → c < chains
+abbrev pub AreOfFirstChains : ℕ → List Publication → Type 0
+AreOfFirstChains chains publications = (c : ℕ) → 0 < height_of c publications → c < chains
 
 -- the order names each ledger as often as it has entries, and no others
 pub record NamesEntries (order : List ℕ) (ledgers : List Ledger) : Type 0 where
@@ -44,11 +44,11 @@ pub record IsWorld (world : WorldState) : Type 0 where
   pub allowed : IsTrue (is_allowed world.genesis)
   pub of : AreLedgersOf world.genesis world.ledgers
   pub publications : List Publication
-  pub seen : AllSee publications world.ledgers
-  pub within : AreOfFirst (length world.ledgers) publications
+  pub seen : AllHaveSeen publications world.ledgers
+  pub within : AreOfFirstChains (length world.ledgers) publications
   pub names : NamesEntries world.order world.ledgers
   pub turns : block_chains (kept_entries world) ≡ map (λ (p : Publication). p.chain) publications
-  pub merges : Merges world.genesis.window (map (λ (c : Chain). c.time) (start world.genesis))
+  pub merges : Merges world.genesis.window (map (λ (c : MachineChain). c.time) (start world.genesis))
       (map entries world.ledgers) publications (kept_entries world)
 
 -- ---- a world's beginning and its past
@@ -68,7 +68,7 @@ NewIsWorld = (genesis : GenesisState) (ledgers : List Ledger) → IsTrue (is_all
 
 -- the entries in their kept order are a run since genesis, along the publications that all ledgers have seen
 abbrev pub HasItsPast : WorldState → Type 0
-HasItsPast world = (publications : List Publication) × AllSee publications world.ledgers
+HasItsPast world = (publications : List Publication) × AllHaveSeen publications world.ledgers
     × SinceGenesis world.genesis world.order world.ledgers publications
 
 abbrev pub OrderIsRun : Type 0

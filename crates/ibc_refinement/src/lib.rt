@@ -7,10 +7,13 @@ mod refinement;
 mod stamps;
 mod world_laws;
 
-pub use ledger_laws::{a_ledger_goes_on, a_ledger_sees_more};
-pub use refinement::{applied_is_run, going_on_is_run, kept_order_is_run, merged_is_run};
-pub use stamps::{audit_is_run, stamped_is_run, stamps_merge};
+pub use ledger_laws::{lemma_a_ledger_goes_on, lemma_a_ledger_sees_more};
+pub use refinement::{
+    lemma_applied_is_run, lemma_going_on_is_run, lemma_kept_order_is_run, lemma_merged_is_run,
+};
+pub use stamps::{lemma_audit_is_run, lemma_stamped_is_run, lemma_stamps_merge};
 pub use world_laws::{
-    a_meeting_ends_a_step, a_new_world_is_one, a_step_keeps_the_world, all_meet_the_first,
-    nothing_done_is_a_step, runs_refine, steps_go_on, the_order_is_a_run,
+    lemma_a_meeting_ends_a_step, lemma_a_new_world_is_one, lemma_a_step_keeps_the_world,
+    lemma_all_meet_the_first, lemma_nothing_done_is_a_step, lemma_runs_refine, lemma_steps_go_on,
+    lemma_the_order_is_a_run,
 };

@@ -19,9 +19,9 @@ use Rattle.ibc_machine.specs.ics04.Channels.{is_in_state, client_of, peer_channe
 use Rattle.ibc_machine.specs.ics04.Packets.{has_peer, has_received, is_timed_out}
 use Rattle.ibc_machine.specs.promises.Histories.{packet_from}
 use Rattle.ibc_machine.specs.ics04.Proving.{recv_message, ack_message}
-use Rattle.ibc_machine.specs.ics18.Relay.{View, Kind, Receive, Acknowledge, TimeOut, TimeOutClosed, Pending, pending_of, is_to_receive, to_receive, is_acknowledged, to_acknowledge, timeout_kind, to_time_out, tracks, when, end_pending, if_names, theirs_of, pending_at, proof_at, end_of, message_of, packet_of, ack_of, message_for, pending_message, client_used}
-use Rattle.ibc_relayer.specs.Ends.{packet_between, peer_of, message_if, received_at, acked_at, timed_out_at, messages_if, end_messages}
-use Rattle.ibc_relayer.specs.Used.{goes_over, has_any}
+use Rattle.ibc_machine.specs.ics18.Relay.{View, PendingKind, Receive, Acknowledge, TimeOut, TimeOutClosed, Pending, pending_of, is_to_receive, to_receive, is_acknowledged, to_acknowledge, timeout_kind, to_time_out, tracks, pending_if, end_pending, if_names, theirs_of, pending_at, proof_at, end_of, message_of, packet_of, ack_of, message_for, pending_message, client_used}
+use Rattle.ibc_relayer.specs.EndPackets.{packet_between, peer_of, message_if, receive_message_at, ack_message_at, timeout_message_at, messages_if, end_messages}
+use Rattle.ibc_relayer.specs.UsedClients.{is_over_client, has_any}
 use Rattle.ibc_relayer.proofs.Lists.{filter_map_on, kept_if, map_filter, all_filter_map, all_append, each_at}
 
 -- the end that names another back has its port and its name
@@ -39,11 +39,11 @@ all_weaker h [] all = tt
 all_weaker h (x ∷ xs) all = (h x all.0, all_weaker h xs all.1)
 
 module _ (a b : View) (port channel : Text) (mine theirs : Channel) (mine_at : channel_at b.core port channel ≡ Some mine) (theirs_at : theirs_of a (port, channel) mine ≡ Some theirs) where
-  abbrev pend : Kind → ℕ → Pending
+  abbrev pend : PendingKind → ℕ → Pending
   pend kind n = pending_of (port, channel) kind n
 
   -- the message that is pending, from both ends
-  found : (kind : Kind) (n : ℕ) → pending_message a b (pend kind n) ≡ message_for a b (pend kind n) mine theirs
+  found : (kind : PendingKind) (n : ℕ) → pending_message a b (pend kind n) ≡ message_for a b (pend kind n) mine theirs
   found kind n =
       ap (λ (o : Option Channel). option_and_then (λ m. option_and_then (message_for a b (pend kind n) m) (theirs_of a (port, channel) m)) o) mine_at
       ∙ ap (λ (o : Option Channel). option_and_then (message_for a b (pend kind n) mine) o) theirs_at
@@ -68,7 +68,7 @@ module _ (a b : View) (port channel : Text) (mine theirs : Channel) (mine_at : c
       ∙ ap (λ o. option_map (λ p. message_of a mine theirs Receive p (ack_of (pend Receive entry.0) theirs)) (option_map (packet_from (end_of a mine.end.peer_port (peer_channel_of mine.end)) theirs entry.0) o)) there
       ∙ λ i. Some (recv_message (packet_between (peer_of mine) (peer_names.0 i, peer_names.1 i) entry.0 entry.1) a.height (proof_at a (key.Commitment mine.end.peer_port (peer_channel_of mine.end) entry.0)))
 
-  received_if : (entry : ℕ × Commitment) → at nat_cmp entry.0 theirs.commitments ≡ Some entry.1 → option_and_then (pending_message a b) (kept_if (is_to_receive b mine entry) (pend Receive entry.0)) ≡ received_at a b (port, channel) mine entry
+  received_if : (entry : ℕ × Commitment) → at nat_cmp entry.0 theirs.commitments ≡ Some entry.1 → option_and_then (pending_message a b) (kept_if (is_to_receive b mine entry) (pend Receive entry.0)) ≡ receive_message_at a b (port, channel) mine entry
   received_if entry there =
       elim (is_to_receive b mine entry) as (λ due. option_and_then (pending_message a b) (kept_if due (pend Receive entry.0))
       ≡ message_if due (recv_message (packet_between (peer_of mine) (port, channel) entry.0 entry.1) a.height (proof_at a (key.Commitment mine.end.peer_port (peer_channel_of mine.end) entry.0)))) [
@@ -78,13 +78,13 @@ module _ (a b : View) (port channel : Text) (mine theirs : Channel) (mine_at : c
 
   -- ---- packets of the end
 
-  sent_item : (kind : Kind) (entry : ℕ × Commitment) → at nat_cmp entry.0 mine.commitments ≡ Some entry.1 → packet_of a b (pend kind entry.0) mine theirs ≡ option_map (packet_from (end_of b port channel) mine entry.0) (at nat_cmp entry.0 mine.commitments)
+  sent_item : (kind : PendingKind) (entry : ℕ × Commitment) → at nat_cmp entry.0 mine.commitments ≡ Some entry.1 → packet_of a b (pend kind entry.0) mine theirs ≡ option_map (packet_from (end_of b port channel) mine entry.0) (at nat_cmp entry.0 mine.commitments)
       → pending_message a b (pend kind entry.0) ≡ Some (message_of a mine theirs kind (packet_between (port, channel) (peer_of mine) entry.0 entry.1) (unwrap_or (at nat_cmp entry.0 theirs.acks) []))
   sent_item kind entry there packet =
       found kind entry.0
       ∙ ap (option_map (λ p. message_of a mine theirs kind p (ack_of (pend kind entry.0) theirs))) (packet ∙ ap (option_map (packet_from (end_of b port channel) mine entry.0)) there)
 
-  acked_if : (entry : ℕ × Commitment) → at nat_cmp entry.0 mine.commitments ≡ Some entry.1 → option_and_then (pending_message a b) (kept_if (is_acknowledged theirs entry) (pend Acknowledge entry.0)) ≡ acked_at a (port, channel) mine theirs entry
+  acked_if : (entry : ℕ × Commitment) → at nat_cmp entry.0 mine.commitments ≡ Some entry.1 → option_and_then (pending_message a b) (kept_if (is_acknowledged theirs entry) (pend Acknowledge entry.0)) ≡ ack_message_at a (port, channel) mine theirs entry
   acked_if entry there = by_ack (at nat_cmp entry.0 theirs.acks) refl
     where
       by_ack : (o : Option Text) → at nat_cmp entry.0 theirs.acks ≡ o
@@ -96,7 +96,7 @@ module _ (a b : View) (port channel : Text) (mine theirs : Channel) (mine_at : c
           ∙ ap (λ o. Some (message_of a mine theirs Acknowledge (packet_between (port, channel) (peer_of mine) entry.0 entry.1) (unwrap_or o []))) is
 
   late_if : (entry : ℕ × Commitment) → at nat_cmp entry.0 mine.commitments ≡ Some entry.1
-      → option_and_then (pending_message a b) (option_map (λ kind. pend kind entry.0) (timeout_kind a theirs entry)) ≡ timed_out_at a (port, channel) mine theirs entry
+      → option_and_then (pending_message a b) (option_map (λ kind. pend kind entry.0) (timeout_kind a theirs entry)) ≡ timeout_message_at a (port, channel) mine theirs entry
   late_if entry there =
       elim (has_received theirs entry.0) as (λ got. option_and_then (pending_message a b) (option_map (λ kind. pend kind entry.0) (if got then None else if is_timed_out entry.1 a.height a.time then Some TimeOut else if is_in_state Closed theirs then Some TimeOutClosed else None))
       ≡ option_map made (if got then None else if is_timed_out entry.1 a.height a.time then Some TimeOut else if is_in_state Closed theirs then Some TimeOutClosed else None)) [
@@ -111,7 +111,7 @@ module _ (a b : View) (port channel : Text) (mine theirs : Channel) (mine_at : c
             ]
       ]
     where
-      made : Kind → Message
+      made : PendingKind → Message
       made kind = message_of a mine theirs kind (packet_between (port, channel) (peer_of mine) entry.0 entry.1) []
 
   -- ---- the whole end
@@ -120,24 +120,24 @@ module _ (a b : View) (port channel : Text) (mine theirs : Channel) (mine_at : c
     abbrev g : Pending → Option Message
     g = pending_message a b
 
-    received_all : filter_map g (to_receive b (port, channel) mine theirs) ≡ filter_map (received_at a b (port, channel) mine) theirs.commitments
+    received_all : filter_map g (to_receive b (port, channel) mine theirs) ≡ filter_map (receive_message_at a b (port, channel) mine) theirs.commitments
     received_all =
         ap (filter_map g) (map_filter (is_to_receive b mine) (λ (entry : ℕ × Commitment). pend Receive entry.0) theirs.commitments)
-        ∙ filter_map_on (λ (entry : ℕ × Commitment). kept_if (is_to_receive b mine entry) (pend Receive entry.0)) g (received_at a b (port, channel) mine) theirs.commitments
+        ∙ filter_map_on (λ (entry : ℕ × Commitment). kept_if (is_to_receive b mine entry) (pend Receive entry.0)) g (receive_message_at a b (port, channel) mine) theirs.commitments
         (all_weaker received_if theirs.commitments (each_at theirs.commitments theirs_sorted))
 
-    acked_all : filter_map g (to_acknowledge (port, channel) mine theirs) ≡ filter_map (acked_at a (port, channel) mine theirs) mine.commitments
+    acked_all : filter_map g (to_acknowledge (port, channel) mine theirs) ≡ filter_map (ack_message_at a (port, channel) mine theirs) mine.commitments
     acked_all =
         ap (filter_map g) (map_filter (is_acknowledged theirs) (λ (entry : ℕ × Commitment). pend Acknowledge entry.0) mine.commitments)
-        ∙ filter_map_on (λ (entry : ℕ × Commitment). kept_if (is_acknowledged theirs entry) (pend Acknowledge entry.0)) g (acked_at a (port, channel) mine theirs) mine.commitments
+        ∙ filter_map_on (λ (entry : ℕ × Commitment). kept_if (is_acknowledged theirs entry) (pend Acknowledge entry.0)) g (ack_message_at a (port, channel) mine theirs) mine.commitments
         (all_weaker acked_if mine.commitments (each_at mine.commitments mine_sorted))
 
-    late_all : filter_map g (to_time_out a (port, channel) mine theirs) ≡ filter_map (timed_out_at a (port, channel) mine theirs) mine.commitments
+    late_all : filter_map g (to_time_out a (port, channel) mine theirs) ≡ filter_map (timeout_message_at a (port, channel) mine theirs) mine.commitments
     late_all =
-        filter_map_on (λ (entry : ℕ × Commitment). option_map (λ kind. pend kind entry.0) (timeout_kind a theirs entry)) g (timed_out_at a (port, channel) mine theirs) mine.commitments
+        filter_map_on (λ (entry : ℕ × Commitment). option_map (λ kind. pend kind entry.0) (timeout_kind a theirs entry)) g (timeout_message_at a (port, channel) mine theirs) mine.commitments
         (all_weaker late_if mine.commitments (each_at mine.commitments mine_sorted))
 
-    when_is : (c : Bool) (ps : List Pending) (ms : List Message) → filter_map g ps ≡ ms → filter_map g (when c ps) ≡ messages_if c ms
+    when_is : (c : Bool) (ps : List Pending) (ms : List Message) → filter_map g ps ≡ ms → filter_map g (pending_if c ps) ≡ messages_if c ms
     when_is true ps ms is = is
     when_is false ps ms is = refl
 
@@ -148,13 +148,13 @@ module _ (a b : View) (port channel : Text) (mine theirs : Channel) (mine_at : c
         let second = to_acknowledge (port, channel) mine theirs in
         let third = to_time_out a (port, channel) mine theirs in
         let both = open_ || is_in_state Closed mine in
-        filter_map-append g (when open_ first ++ when open_ second) (when both third)
-        ∙ ap (λ (ms : List Message). ms ++ filter_map g (when both third)) (filter_map-append g (when open_ first) (when open_ second))
+        filter_map-append g (pending_if open_ first ++ pending_if open_ second) (pending_if both third)
+        ∙ ap (λ (ms : List Message). ms ++ filter_map g (pending_if both third)) (filter_map-append g (pending_if open_ first) (pending_if open_ second))
         ∙ λ i. when_is open_ first _ received_all i ++ when_is open_ second _ acked_all i ++ when_is both third _ late_all i
 
     module _ (tracked : tracks a b mine ≡ true) where
       pending_is : pending_at a b ((port, channel), mine) ≡ end_pending a b (port, channel) mine theirs
-      pending_is = λ i. when (tracked i) (option_map_or (end_pending a b (port, channel) mine) (theirs_at i) [])
+      pending_is = λ i. pending_if (tracked i) (option_map_or (end_pending a b (port, channel) mine) (theirs_at i) [])
 
       -- the pending messages of the end
       pub messages_are : filter_map g (pending_at a b ((port, channel), mine)) ≡ end_messages a b (port, channel) mine theirs
@@ -171,7 +171,7 @@ module _ (a b : View) (port channel : Text) (mine theirs : Channel) (mine_at : c
         pub is : g p ≡ Some message
         pub over : client_used b p ≡ client
 
-      over : (kind : Kind) (n : ℕ) (m : Message) → g (pend kind n) ≡ Some m → IsOver (pend kind n)
+      over : (kind : PendingKind) (n : ℕ) (m : Message) → g (pend kind n) ≡ Some m → IsOver (pend kind n)
       over kind n m is = record { message = m; is = is; over = ap (λ (o : Option Channel). option_map_or (λ (c : Channel). client_of b.core c.end.connection) o []) mine_at }
 
       kept_over : (c : Bool) (p y : Pending) → IsOver p → kept_if c p ≡ Some y → IsOver y
@@ -188,7 +188,7 @@ module _ (a b : View) (port channel : Text) (mine theirs : Channel) (mine_at : c
       late_over entry there y e =
           by_kind (has_received theirs entry.0) (is_timed_out entry.1 a.height a.time) (is_in_state Closed theirs) e
         where
-          the : (kind : Kind) → IsOver (pend kind entry.0) → option_map (λ kind. pend kind entry.0) (Some kind) ≡ Some y → IsOver y
+          the : (kind : PendingKind) → IsOver (pend kind entry.0) → option_map (λ kind. pend kind entry.0) (Some kind) ≡ Some y → IsOver y
           the kind is e = let same : pend kind entry.0 ≡ y = cc in subst IsOver same is
 
           by_kind : (got late shut : Bool) → option_map (λ kind. pend kind entry.0) (if got then None else if late then Some TimeOut else if shut then Some TimeOutClosed else None) ≡ Some y → IsOver y
@@ -197,7 +197,7 @@ module _ (a b : View) (port channel : Text) (mine theirs : Channel) (mine_at : c
           by_kind false false true e = the TimeOutClosed (over TimeOutClosed entry.0 _ (sent_item TimeOutClosed entry there refl)) e
           by_kind false false false e = absurd (cc)
 
-      when_over : (c : Bool) (ps : List Pending) → AllByRecursion IsOver ps → AllByRecursion IsOver (when c ps)
+      when_over : (c : Bool) (ps : List Pending) → AllByRecursion IsOver ps → AllByRecursion IsOver (pending_if c ps)
       when_over true ps all = all
       when_over false ps all = tt
 
@@ -210,10 +210,10 @@ module _ (a b : View) (port channel : Text) (mine theirs : Channel) (mine_at : c
           let second = subst (AllByRecursion IsOver) (sym (map_filter (is_acknowledged theirs) (λ (entry : ℕ × Commitment). pend Acknowledge entry.0) mine.commitments))
           (all_filter_map IsOver (λ (entry : ℕ × Commitment). kept_if (is_acknowledged theirs entry) (pend Acknowledge entry.0)) mine.commitments (all_weaker acked_over mine.commitments (each_at mine.commitments mine_sorted))) in
           let third = all_filter_map IsOver (λ (entry : ℕ × Commitment). option_map (λ kind. pend kind entry.0) (timeout_kind a theirs entry)) mine.commitments (all_weaker late_over mine.commitments (each_at mine.commitments mine_sorted)) in
-          all_append IsOver (when open_ (to_receive b (port, channel) mine theirs) ++ when open_ (to_acknowledge (port, channel) mine theirs)) _
-          (all_append IsOver (when open_ (to_receive b (port, channel) mine theirs)) _ (when_over open_ _ first) (when_over open_ _ second)) (when_over both _ third)
+          all_append IsOver (pending_if open_ (to_receive b (port, channel) mine theirs) ++ pending_if open_ (to_acknowledge (port, channel) mine theirs)) _
+          (all_append IsOver (pending_if open_ (to_receive b (port, channel) mine theirs)) _ (when_over open_ _ first) (when_over open_ _ second)) (when_over both _ third)
 
-      over_all : (ps : List Pending) → AllByRecursion IsOver ps → (id : Text) → goes_over b id ps ≡ (has_any (filter_map g ps) && same_text client id)
+      over_all : (ps : List Pending) → AllByRecursion IsOver ps → (id : Text) → is_over_client b id ps ≡ (has_any (filter_map g ps) && same_text client id)
       over_all [] all id = refl
       over_all (p ∷ ps) all id =
           (λ i. same_text (all.0.over i) id || over_all ps all.1 id i)
@@ -226,7 +226,7 @@ module _ (a b : View) (port channel : Text) (mine theirs : Channel) (mine_at : c
           once false false = refl
 
       -- the messages of the end, if there are any, go over its client
-      pub goes_over_client : (id : Text) → goes_over b id (pending_at a b ((port, channel), mine)) ≡ (has_any (end_messages a b (port, channel) mine theirs) && same_text client id)
+      pub goes_over_client : (id : Text) → is_over_client b id (pending_at a b ((port, channel), mine)) ≡ (has_any (end_messages a b (port, channel) mine theirs) && same_text client id)
       goes_over_client id =
-          ap (goes_over b id) pending_is ∙ over_all (end_pending a b (port, channel) mine theirs) end_over id
+          ap (is_over_client b id) pending_is ∙ over_all (end_pending a b (port, channel) mine theirs) end_over id
           ∙ ap (λ (ms : List Message). has_any ms && same_text client id) end_is

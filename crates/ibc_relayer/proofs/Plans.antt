@@ -11,12 +11,12 @@ use Rattle.ibc_ids.specs.Maps.{Map, at, with}
 use Rattle.ibc_ids.proofs.Texts.{text_same, text_tied, text_ties, text_cmp_total, same_text_from}
 use Rattle.ibc_wire.specs.declared.messages.Message.{Message}
 use Rattle.ibc_machine.specs.chain.Records.{Client, Channel, is_one_of}
-use Rattle.ibc_machine.specs.ics18.Relay.{View, Pending, pending, pending_at, pending_message, client_used, needs_update, update_of, plan, when}
+use Rattle.ibc_machine.specs.ics18.Relay.{View, Pending, pending, pending_at, pending_message, client_used, needs_update, update_of, plan, pending_if}
 use Rattle.ibc_machine.proofs.Images.{at-with}
 use Rattle.ibc_machine.proofs.SortedMaps.{Below, Sorted}
 use Rattle.ibc_relayer.specs.declared.ends.Ends.{Ends}
-use Rattle.ibc_relayer.specs.Found.{AreTheEnds}
-use Rattle.ibc_relayer.specs.Used.{goes_over, has_any, AreUsed, is_told}
+use Rattle.ibc_relayer.specs.EndPairs.{IsEndPair}
+use Rattle.ibc_relayer.specs.UsedClients.{is_over_client, has_any, AreUsed, is_to_update}
 
 -- two tests of a text
 pub same_is : (x y : Text) → same_text x y ≡ is_eq (text_cmp y x)
@@ -57,25 +57,25 @@ module _ (a b : View) where
   pub no_plan : a.height ≡ 0 → plan a b ≡ []
   unfolding plan pending
   no_plan none =
-      let nothing : pending a b ≡ [] = ap (λ n. when (not (eqb n 0)) (flat_map (pending_at a b) b.core.channels)) none in
+      let nothing : pending a b ≡ [] = ap (λ n. pending_if (not (eqb n 0)) (flat_map (pending_at a b) b.core.channels)) none in
       (λ i. map (update_of a) (filter (needs_update a b (nothing i)) b.core.clients) ++ filter_map (pending_message a b) (nothing i))
       ∙ ap (λ (clients : List (Text × Client)). map (update_of a) clients ++ []) (filter_none (needs_update a b []) b.core.clients (λ entry. refl))
 
   module _ (low : 0 < a.height) (used : Map Text (Unit {0})) where
     all_pending : pending a b ≡ flat_map (pending_at a b) b.core.channels
     unfolding pending
-    all_pending = ap (λ c. when (not c) (flat_map (pending_at a b) b.core.channels)) (not_zero a.height low)
+    all_pending = ap (λ c. pending_if (not c) (flat_map (pending_at a b) b.core.channels)) (not_zero a.height low)
       where
         not_zero : (n : ℕ) → 0 < n → eqb n 0 ≡ false
         not_zero n low = grind (arith, low)
 
     pub plan_is : AreUsed b (flat_map (pending_at a b) b.core.channels) used
-        → map (update_of a) (filter (is_told a used) b.core.clients) ++ filter_map (pending_message a b) (flat_map (pending_at a b) b.core.channels) ≡ plan a b
+        → map (update_of a) (filter (is_to_update a used) b.core.clients) ++ filter_map (pending_message a b) (flat_map (pending_at a b) b.core.channels) ≡ plan a b
     unfolding plan
     plan_is all =
         let rest = flat_map (pending_at a b) b.core.channels in
         ap (λ (clients : List (Text × Client)). map (update_of a) clients ++ filter_map (pending_message a b) rest)
-        (filter_same (is_told a used) (needs_update a b rest) b.core.clients (λ entry. ap (λ c. c && not (is_one_of entry.1.known a.height)) (all entry.0)))
+        (filter_same (is_to_update a used) (needs_update a b rest) b.core.clients (λ entry. ap (λ c. c && not (is_one_of entry.1.known a.height)) (all entry.0)))
         ∙ ap (λ (ps : List Pending). map (update_of a) (filter (needs_update a b ps) b.core.clients) ++ filter_map (pending_message a b) ps) (sym all_pending)
 
 -- a list is longer behind others just where there is one more
@@ -88,18 +88,18 @@ is_longer old new (m ∷ ms) is =
     lt-ltb (length old) (length new) (omega arith)
 
 -- what is pending between two ends that were found
-pub same_pending : (a b : View) (port channel : Text) (mine : Channel) (ends : Ends) → AreTheEnds a b port channel mine ends
+pub same_pending : (a b : View) (port channel : Text) (mine : Channel) (ends : Ends) → IsEndPair a b port channel mine ends
     → pending_at ends.a.now ends.b.now ((ends.port.now, ends.channel.now), ends.mine.now) ≡ pending_at a b ((port, channel), mine)
 same_pending a b port channel mine ends are = λ i. pending_at (are.a_is i) (are.b_is i) ((are.port_is i, are.channel_is i), are.mine_is i)
 
-pub same_messages : (a b : View) (port channel : Text) (mine : Channel) (ends : Ends) → AreTheEnds a b port channel mine ends
+pub same_messages : (a b : View) (port channel : Text) (mine : Channel) (ends : Ends) → IsEndPair a b port channel mine ends
     → filter_map (pending_message ends.a.now ends.b.now) (pending_at ends.a.now ends.b.now ((ends.port.now, ends.channel.now), ends.mine.now))
     ≡ filter_map (pending_message a b) (pending_at a b ((port, channel), mine))
 same_messages a b port channel mine ends are = λ i. filter_map (pending_message (are.a_is i) (are.b_is i)) (same_pending a b port channel mine ends are i)
 
-pub same_over : (a b : View) (port channel : Text) (mine : Channel) (ends : Ends) (id : Text) → AreTheEnds a b port channel mine ends
-    → goes_over ends.b.now id (pending_at ends.a.now ends.b.now ((ends.port.now, ends.channel.now), ends.mine.now)) ≡ goes_over b id (pending_at a b ((port, channel), mine))
-same_over a b port channel mine ends id are = λ i. goes_over (are.b_is i) id (same_pending a b port channel mine ends are i)
+pub same_over : (a b : View) (port channel : Text) (mine : Channel) (ends : Ends) (id : Text) → IsEndPair a b port channel mine ends
+    → is_over_client ends.b.now id (pending_at ends.a.now ends.b.now ((ends.port.now, ends.channel.now), ends.mine.now)) ≡ is_over_client b id (pending_at a b ((port, channel), mine))
+same_over a b port channel mine ends id are = λ i. is_over_client (are.b_is i) id (same_pending a b port channel mine ends are i)
 
 -- ---- one end more
 
@@ -128,18 +128,18 @@ module _ (a b : View) where
   turned false false z = refl
 
   -- the client of an end is used
-  pub one_used : (id : Text) (old new : Bool) (e : (Text × Text) × Channel) (rest : List ((Text × Text) × Channel)) {all : Bool} → (goes_over b id (flat_map (pending_at a b) (e ∷ rest)) || old) ≡ all
-      → new ≡ (goes_over b id (pending_at a b e) || old) → (goes_over b id (flat_map (pending_at a b) rest) || new) ≡ all
+  pub one_used : (id : Text) (old new : Bool) (e : (Text × Text) × Channel) (rest : List ((Text × Text) × Channel)) {all : Bool} → (is_over_client b id (flat_map (pending_at a b) (e ∷ rest)) || old) ≡ all
+      → new ≡ (is_over_client b id (pending_at a b e) || old) → (is_over_client b id (flat_map (pending_at a b) rest) || new) ≡ all
   one_used id old new e rest so_far added =
       let more = flat_map (pending_at a b) rest in
-      ap (λ c. goes_over b id more || c) added
-      ∙ turned (goes_over b id (pending_at a b e)) (goes_over b id more) old
+      ap (λ c. is_over_client b id more || c) added
+      ∙ turned (is_over_client b id (pending_at a b e)) (is_over_client b id more) old
       ∙ ap (λ c. c || old) (sym (list_any-append (λ pend. same_text (client_used b pend) id) (pending_at a b e) more))
       ∙ so_far
 
-  pub none_used : (id : Text) (old : Bool) (e : (Text × Text) × Channel) (rest : List ((Text × Text) × Channel)) {all : Bool} → (goes_over b id (flat_map (pending_at a b) (e ∷ rest)) || old) ≡ all
-      → pending_at a b e ≡ [] → (goes_over b id (flat_map (pending_at a b) rest) || old) ≡ all
-  none_used id old e rest so_far none = ap (λ (ps : List Pending). goes_over b id (ps ++ flat_map (pending_at a b) rest) || old) (sym none) ∙ so_far
+  pub none_used : (id : Text) (old : Bool) (e : (Text × Text) × Channel) (rest : List ((Text × Text) × Channel)) {all : Bool} → (is_over_client b id (flat_map (pending_at a b) (e ∷ rest)) || old) ≡ all
+      → pending_at a b e ≡ [] → (is_over_client b id (flat_map (pending_at a b) rest) || old) ≡ all
+  none_used id old e rest so_far none = ap (λ (ps : List Pending). is_over_client b id (ps ++ flat_map (pending_at a b) rest) || old) (sym none) ∙ so_far
 
 -- each entry of a map in order stands under its key
 module _ {K V : Type 0} {order : K → K → Ordering} (total : IsTotalOrder order) where

@@ -14,18 +14,18 @@ use Rattle.ibc_machine.specs.ics24.Values.{ChannelIs}
 use Rattle.ibc_machine.specs.ics24.Image.{IsKeyed}
 use Rattle.ibc_machine.specs.ics04.Channels.{client_of, peer_channel_of}
 use Rattle.ibc_machine.specs.ics04.Packets.{has_peer}
-use Rattle.ibc_machine.specs.ics18.Relay.{View, tracks, theirs_of, if_names, end_pending, pending_at, when}
-use Rattle.ibc_records.specs.HeldClients.{HeldClient, plain_client}
-use Rattle.ibc_records.specs.Held.{plain_entry}
+use Rattle.ibc_machine.specs.ics18.Relay.{View, tracks, theirs_of, if_names, end_pending, pending_at, pending_if}
+use Rattle.ibc_records.specs.ClientModels.{ClientModel, abstract_client}
+use Rattle.ibc_records.specs.RecordsModel.{abstract_client_entry}
 use Rattle.ibc_client.proofs.Connections.{client_nowhere}
-use Rattle.ibc_relayer.specs.Found.{tracks_chain}
+use Rattle.ibc_relayer.specs.EndPairs.{tracks_chain}
 
 -- a client is found among those that are held
-pub tracked_there : (b : View) (entries : Map Text HeldClient) (id : Text) (chain : ℕ) (found : Option HeldClient) → map plain_entry entries ≡ b.core.clients → found ≡ at text_cmp id entries
-    → tracks_chain chain (option_map plain_client found) ≡ tracks_chain chain (client_at b.core id)
+pub tracked_there : (b : View) (entries : Map Text ClientModel) (id : Text) (chain : ℕ) (found : Option ClientModel) → map abstract_client_entry entries ≡ b.core.clients → found ≡ at text_cmp id entries
+    → tracks_chain chain (option_map abstract_client found) ≡ tracks_chain chain (client_at b.core id)
 tracked_there b entries id chain found are is =
-    ap (λ o. tracks_chain chain (option_map plain_client o)) is
-    ∙ ap (tracks_chain chain) (sym (at-map_values text_cmp plain_client id entries) ∙ ap (at text_cmp id) are)
+    ap (λ o. tracks_chain chain (option_map abstract_client o)) is
+    ∙ ap (tracks_chain chain) (sym (at-map_values text_cmp abstract_client id entries) ∙ ap (at text_cmp id) are)
 
 module _ (a b : View) (mine : Channel) where
   pub tracks_nowhere : IsKeyed b.core → connection_at b.core mine.end.connection ≡ None → tracks a b mine ≡ false
@@ -40,14 +40,14 @@ module _ (a b : View) (mine : Channel) where
   -- nothing is pending where there is no peer that names the end back
   module _ (port channel : Text) where
     pub none_tracked : tracks a b mine ≡ false → pending_at a b ((port, channel), mine) ≡ []
-    none_tracked untracked = ap (λ c. when c (option_map_or (end_pending a b (port, channel) mine) (theirs_of a (port, channel) mine) [])) untracked
+    none_tracked untracked = ap (λ c. pending_if c (option_map_or (end_pending a b (port, channel) mine) (theirs_of a (port, channel) mine) [])) untracked
 
-    when_none : (c : Bool) → when c [] ≡ []
+    when_none : (c : Bool) → pending_if c [] ≡ []
     when_none true = refl
     when_none false = refl
 
     no_peer : theirs_of a (port, channel) mine ≡ None → pending_at a b ((port, channel), mine) ≡ []
-    no_peer none = ap (λ o. when (tracks a b mine) (option_map_or (end_pending a b (port, channel) mine) o [])) none ∙ when_none (tracks a b mine)
+    no_peer none = ap (λ o. pending_if (tracks a b mine) (option_map_or (end_pending a b (port, channel) mine) o [])) none ∙ when_none (tracks a b mine)
 
     pub none_found : channel_at a.core mine.end.peer_port (peer_channel_of mine.end) ≡ None → pending_at a b ((port, channel), mine) ≡ []
     none_found none = no_peer (ap (option_and_then (if_names (port, channel))) none)

@@ -1,3 +1,3 @@
-pub mod Ends
-pub mod Found
-pub mod Used
+pub mod EndPackets
+pub mod EndPairs
+pub mod UsedClients

@@ -8,8 +8,8 @@ ghost use Rattle.ibc_ids.specs.declared.refusal.Refusal.TheVariants.{NoMemory};
 ghost use Rattle.ibc_machine.specs.ics04.Channels.{client_of};
 ghost use Rattle.ibc_machine.specs.chain.Records.{client_at, connection_at};
 ghost use Rattle.ibc_machine.specs.ics18.Relay as relay;
-ghost use Rattle.ibc_relayer.specs.Ends.{received_at, acked_at, timed_out_at, end_messages};
-ghost use Rattle.ibc_relayer.specs.Found.{AreEnds, tracks_chain};
+ghost use Rattle.ibc_relayer.specs.EndPackets.{receive_message_at, ack_message_at, timeout_message_at, end_messages};
+ghost use Rattle.ibc_relayer.specs.EndPairs.{IsFoundEndPair, tracks_chain};
 
 use crate::due::has_peer;
 use ibc_ids::{ChannelId, ClientId, PortId, Refusal};
@@ -41,12 +41,12 @@ impl<'v> Ends<'v> {
     }
 
     /// What was sent at both ends is in the order of the sequences.
-    pub fn are_in_order(&self)
+    pub fn lemma_in_order(&self)
         ensures mine { IsTrue (is_sorted nat_cmp self.now.mine.now.commitments) }
         ensures theirs { IsTrue (is_sorted nat_cmp self.now.theirs.now.commitments) }
     {
-        self.mine.is_in_order();
-        self.theirs.is_in_order();
+        self.mine.lemma_is_in_order();
+        self.theirs.lemma_is_in_order();
     }
 
     /// Adds all messages for the end. `NoMemory` where a growth is refused.
@@ -71,7 +71,7 @@ impl<'v> Ends<'v> {
     fn receive_all(&self, alloc: Global, messages: &mut Vec<Message>) -> Result<(), Refusal>
         requires height { 0 < self.now.a.now.height }
         requires peer { self.now.mine.now.end.peer_channel ≡ Some self.now.peer.now }
-        ensures ok { OnOk result (messages.new.items ≡ messages.old.items ++ filter_map (received_at self.now.a.now self.now.b.now (self.now.port.now, self.now.channel.now) self.now.mine.now) self.now.theirs.now.commitments) }
+        ensures ok { OnOk result (messages.new.items ≡ messages.old.items ++ filter_map (receive_message_at self.now.a.now self.now.b.now (self.now.port.now, self.now.channel.now) self.now.mine.now) self.now.theirs.now.commitments) }
         ensures err { IfErr result (λ refusal. refusal ≡ NoMemory) }
     {
         for (sequence, commitment) in self.theirs.commitments() {
@@ -84,7 +84,7 @@ impl<'v> Ends<'v> {
     fn acknowledge_all(&self, alloc: Global, messages: &mut Vec<Message>) -> Result<(), Refusal>
         requires height { 0 < self.now.a.now.height }
         requires peer { self.now.mine.now.end.peer_channel ≡ Some self.now.peer.now }
-        ensures ok { OnOk result (messages.new.items ≡ messages.old.items ++ filter_map (acked_at self.now.a.now (self.now.port.now, self.now.channel.now) self.now.mine.now self.now.theirs.now) self.now.mine.now.commitments) }
+        ensures ok { OnOk result (messages.new.items ≡ messages.old.items ++ filter_map (ack_message_at self.now.a.now (self.now.port.now, self.now.channel.now) self.now.mine.now self.now.theirs.now) self.now.mine.now.commitments) }
         ensures err { IfErr result (λ refusal. refusal ≡ NoMemory) }
     {
         for (sequence, commitment) in self.mine.commitments() {
@@ -97,7 +97,7 @@ impl<'v> Ends<'v> {
     fn time_out_all(&self, alloc: Global, messages: &mut Vec<Message>) -> Result<(), Refusal>
         requires height { 0 < self.now.a.now.height }
         requires peer { self.now.mine.now.end.peer_channel ≡ Some self.now.peer.now }
-        ensures ok { OnOk result (messages.new.items ≡ messages.old.items ++ filter_map (timed_out_at self.now.a.now (self.now.port.now, self.now.channel.now) self.now.mine.now self.now.theirs.now) self.now.mine.now.commitments) }
+        ensures ok { OnOk result (messages.new.items ≡ messages.old.items ++ filter_map (timeout_message_at self.now.a.now (self.now.port.now, self.now.channel.now) self.now.mine.now self.now.theirs.now) self.now.mine.now.commitments) }
         ensures err { IfErr result (λ refusal. refusal ≡ NoMemory) }
     {
         for (sequence, commitment) in self.mine.commitments() {
@@ -126,10 +126,10 @@ pub fn ends_of<'v>(
     channel: &'v ChannelId,
     mine: &'v Channel,
 ) -> Result<Option<Ends<'v>>, Refusal>
-    ensures ok { IfOk result (AreEnds a.now b.now port.now channel.now mine.now) }
+    ensures ok { IfOk result (IsFoundEndPair a.now b.now port.now channel.now mine.now) }
     ensures err { IfErr result (λ refusal. refusal ≡ NoMemory) }
 {
-    a.names_are_names();
+    a.lemma_names_have_form();
     let Some(client) = tracking(a, b, mine) else {
         return Ok(None);
     };
@@ -160,7 +160,7 @@ fn tracking<'v>(a: &View, b: &'v View, mine: &Channel) -> Option<&'v ClientId>
     ensures tracks { is_some result ≡ relay.tracks a.now b.now mine.now }
     ensures client { IfSome result (λ client. client_of b.now.core mine.now.end.connection ≡ client.now) }
 {
-    b.names_are_names();
+    b.lemma_names_have_form();
     let Some(connection) = connection_of(b, mine) else {
         return None;
     };

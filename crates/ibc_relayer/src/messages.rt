@@ -6,7 +6,7 @@ ghost use Rattle.ibc_ids.specs.declared.key.Key.TheVariants as key;
 ghost use Rattle.ibc_machine.specs.ics04.Channels.{peer_channel_of};
 ghost use Rattle.ibc_machine.specs.ics04.Proving.{commitment_key, ack_key, destination_key, recv_message, ack_message, timeout_message, timeout_on_close_message};
 ghost use Rattle.ibc_machine.specs.ics18.Relay.{proof_at, unreceived_key, next_recv};
-ghost use Rattle.ibc_relayer.specs.Ends.{packet_between, peer_of, unreceived_at, received_at, acked_at, timed_out_at};
+ghost use Rattle.ibc_relayer.specs.EndPackets.{packet_between, peer_of, unreceived_at, receive_message_at, ack_message_at, timeout_message_at};
 
 use crate::due::{has_received, is_timed_out, is_to_receive};
 use crate::ends::Ends;
@@ -25,7 +25,7 @@ impl Ends<'_> {
     ) -> Result<Option<Message>, Refusal>
         requires height { 0 < self.now.a.now.height }
         requires peer { self.now.mine.now.end.peer_channel ≡ Some self.now.peer.now }
-        ensures ok { IfOk result (λ made. made ≡ received_at self.now.a.now self.now.b.now (self.now.port.now, self.now.channel.now) self.now.mine.now (sequence, commitment.now)) }
+        ensures ok { IfOk result (λ made. made ≡ receive_message_at self.now.a.now self.now.b.now (self.now.port.now, self.now.channel.now) self.now.mine.now (sequence, commitment.now)) }
         ensures err { IfErr result (λ refusal. refusal ≡ NoMemory) }
     {
         if !is_to_receive(self.b, self.mine, sequence, commitment) {
@@ -44,7 +44,7 @@ impl Ends<'_> {
     ) -> Result<Option<Message>, Refusal>
         requires height { 0 < self.now.a.now.height }
         requires peer { self.now.mine.now.end.peer_channel ≡ Some self.now.peer.now }
-        ensures ok { IfOk result (λ made. made ≡ acked_at self.now.a.now (self.now.port.now, self.now.channel.now) self.now.mine.now self.now.theirs.now (sequence, commitment.now)) }
+        ensures ok { IfOk result (λ made. made ≡ ack_message_at self.now.a.now (self.now.port.now, self.now.channel.now) self.now.mine.now self.now.theirs.now (sequence, commitment.now)) }
         ensures err { IfErr result (λ refusal. refusal ≡ NoMemory) }
     {
         match self.theirs.ack(sequence) {
@@ -63,7 +63,7 @@ impl Ends<'_> {
     ) -> Result<Option<Message>, Refusal>
         requires height { 0 < self.now.a.now.height }
         requires peer { self.now.mine.now.end.peer_channel ≡ Some self.now.peer.now }
-        ensures ok { IfOk result (λ made. made ≡ timed_out_at self.now.a.now (self.now.port.now, self.now.channel.now) self.now.mine.now self.now.theirs.now (sequence, commitment.now)) }
+        ensures ok { IfOk result (λ made. made ≡ timeout_message_at self.now.a.now (self.now.port.now, self.now.channel.now) self.now.mine.now self.now.theirs.now (sequence, commitment.now)) }
         ensures err { IfErr result (λ refusal. refusal ≡ NoMemory) }
     {
         if has_received(self.theirs, sequence) {

@@ -10,9 +10,9 @@ ghost use Rattle.ibc_machine.specs.ics24.Image.{core_root};
 ghost use Rattle.ibc_machine.specs.chain.Records.{channel_at};
 ghost use Rattle.ibc_machine.specs.ics18.Relay as relay;
 ghost use Rattle.ibc_machine.specs.ics18.Relay.{pending_at, pending_message, update_of};
-ghost use Rattle.ibc_records.specs.HeldClients.{plain_client};
-ghost use Rattle.ibc_relayer.specs.Found.{AreTheEnds};
-ghost use Rattle.ibc_relayer.specs.Used.{goes_over, AreUsed, is_told};
+ghost use Rattle.ibc_records.specs.ClientModels.{abstract_client};
+ghost use Rattle.ibc_relayer.specs.EndPairs.{IsEndPair};
+ghost use Rattle.ibc_relayer.specs.UsedClients.{is_over_client, AreUsed, is_to_update};
 
 use crate::ends::{Ends, ends_of};
 use ibc_ids::{ClientId, Refusal};
@@ -58,7 +58,7 @@ fn plan_packets(
 {
     let mut used = Used::new(alloc);
     let all = b.plain().channels();
-    all.are_in_order();
+    all.lemma_in_order();
     for ((port, channel), mine) in all.iter() {
         if let Some(ends) = ends_of(a, b, port, channel, mine)? {
             plan_end(alloc, &ends, messages, &mut used)?;
@@ -75,10 +75,10 @@ fn plan_end(
     used: &mut Used,
 ) -> Result<(), Refusal>
     requires height { 0 < ends.now.a.now.height }
-    requires ends { AreTheEnds ends.now.a.now ends.now.b.now ends.now.port.now ends.now.channel.now ends.now.mine.now ends.now }
+    requires ends { IsEndPair ends.now.a.now ends.now.b.now ends.now.port.now ends.now.channel.now ends.now.mine.now ends.now }
     requires there { channel_at ends.now.b.now.core ends.now.port.now ends.now.channel.now ≡ Some ends.now.mine.now }
     ensures ok { OnOk result (messages.new.items ≡ messages.old.items ++ filter_map (pending_message ends.now.a.now ends.now.b.now) (pending_at ends.now.a.now ends.now.b.now ((ends.now.port.now, ends.now.channel.now), ends.now.mine.now))) }
-    ensures used { OnOk result ((id : Text) → is_some (at text_cmp id used.new.entries) ≡ (goes_over ends.now.b.now id (pending_at ends.now.a.now ends.now.b.now ((ends.now.port.now, ends.now.channel.now), ends.now.mine.now)) || is_some (at text_cmp id used.old.entries))) }
+    ensures used { OnOk result ((id : Text) → is_some (at text_cmp id used.new.entries) ≡ (is_over_client ends.now.b.now id (pending_at ends.now.a.now ends.now.b.now ((ends.now.port.now, ends.now.channel.now), ends.now.mine.now)) || is_some (at text_cmp id used.old.entries))) }
     ensures err { IfErr result (λ refusal. refusal ≡ NoMemory) }
 {
     if !has_messages(alloc, ends, messages)? {
@@ -91,13 +91,13 @@ fn plan_end(
 // Adds the messages for an end. The result is whether there is one.
 fn has_messages(alloc: Global, ends: &Ends, messages: &mut Vec<Message>) -> Result<bool, Refusal>
     requires height { 0 < ends.now.a.now.height }
-    requires ends { AreTheEnds ends.now.a.now ends.now.b.now ends.now.port.now ends.now.channel.now ends.now.mine.now ends.now }
+    requires ends { IsEndPair ends.now.a.now ends.now.b.now ends.now.port.now ends.now.channel.now ends.now.mine.now ends.now }
     requires there { channel_at ends.now.b.now.core ends.now.port.now ends.now.channel.now ≡ Some ends.now.mine.now }
     ensures ok { OnOk result (messages.new.items ≡ messages.old.items ++ filter_map (pending_message ends.now.a.now ends.now.b.now) (pending_at ends.now.a.now ends.now.b.now ((ends.now.port.now, ends.now.channel.now), ends.now.mine.now))) }
-    ensures over { IfOk result (λ any. (id : Text) → goes_over ends.now.b.now id (pending_at ends.now.a.now ends.now.b.now ((ends.now.port.now, ends.now.channel.now), ends.now.mine.now)) ≡ (any && same_text ends.now.client.now id)) }
+    ensures over { IfOk result (λ any. (id : Text) → is_over_client ends.now.b.now id (pending_at ends.now.a.now ends.now.b.now ((ends.now.port.now, ends.now.channel.now), ends.now.mine.now)) ≡ (any && same_text ends.now.client.now id)) }
     ensures err { IfErr result (λ refusal. refusal ≡ NoMemory) }
 {
-    ends.are_in_order();
+    ends.lemma_in_order();
     let before = messages.len();
     ends.plan(alloc, messages)?;
     Ok(before < messages.len())
@@ -106,7 +106,7 @@ fn has_messages(alloc: Global, ends: &Ends, messages: &mut Vec<Message>) -> Resu
 // The updates of the clients that are used and don't know the height of `a`.
 fn updates(alloc: Global, a: &View, b: &View, used: &Used) -> Result<Vec<Message>, Refusal>
     requires { 0 < a.now.height }
-    ensures ok { IfOk result (λ updates. updates.items ≡ map (update_of a.now) (filter (is_told a.now used.now.entries) b.now.core.clients)) }
+    ensures ok { IfOk result (λ updates. updates.items ≡ map (update_of a.now) (filter (is_to_update a.now used.now.entries) b.now.core.clients)) }
     ensures err { IfErr result (λ refusal. refusal ≡ NoMemory) }
 {
     let mut updates = Vec::new(alloc);
@@ -120,7 +120,7 @@ fn updates(alloc: Global, a: &View, b: &View, used: &Used) -> Result<Vec<Message
 
 // Whether a client is used, and doesn't know the height of `a`.
 fn is_told(a: &View, used: &Used, id: &ClientId, client: &Client) -> bool
-    ensures { result ≡ is_told a.now used.now.entries (id.now, plain_client client.now) }
+    ensures { result ≡ is_to_update a.now used.now.entries (id.now, abstract_client client.now) }
 {
     used.contains_key(id) && client.consensus_state(a.height()).is_none()
 }

@@ -8,22 +8,22 @@ use native.Mathlib.Decide.{ℕ_discrete}
 use Rattle.atomic_table.specs.Table.{State, step, keeps, Allows}
 use Rattle.atomic_table.proofs.Lists.{one_turn}
 use Rattle.ibc_ids.specs.declared.publication.Publication.{Publication}
-use Rattle.ibc_root_table.specs.declared.knowledge.Knowledge.{Knowledge}
+use Rattle.ibc_root_table.specs.declared.knowledge.TableKnowledge.{TableKnowledge}
 use Rattle.ibc_root_table.specs.declared.shape.Shape.{Shape}
 use Rattle.ibc_ids.specs.Publications.{published_by, height_of}
 use Rattle.ibc_root_table.specs.Layout.{place, floor_at, RowStands}
-use Rattle.ibc_root_table.specs.Rule.{Owns, Knows, Written, IsKept}
-use Rattle.ibc_root_table.specs.Told.{Sat, Drafted}
+use Rattle.ibc_root_table.specs.Rule.{Owns, SeatKnows, Written, IsTableState}
+use Rattle.ibc_root_table.specs.SeatSteps.{SeatKnowledge, Drafted}
 use Rattle.std.proofs.lemmas.Option.{slice_get_within}
-use Rattle.ibc_root_table.proofs.Places.{place_above, place_inside, place_apart}
+use Rattle.ibc_root_table.proofs.WordPlaces.{place_above, place_inside, place_apart}
 use Rattle.ibc_root_table.proofs.Views.{seats_stay, chains_same, windows_same, capacities_same}
 
 abbrev St : Type 0
-St = State (Unit {0}) Knowledge
+St = State (Unit {0}) TableKnowledge
 
 module _ (key : Shape) where
   abbrev Rule : St → Type 0
-  Rule = IsKept key
+  Rule = IsTableState key
 
   -- a word of a chain's next row is no word of a row that is kept
   row_apart : (log : List Publication) (words : List ℕ) (r : Written key log words) (c part d k other : ℕ) (q : Publication) → height_of c log + 1 ≤ floor_at key words c + key.window → part < 5 → slice_get (published_by d log) k ≡ Some q
@@ -69,7 +69,7 @@ module _ (key : Shape) where
       get_or-set_other words (place key c k part) (place key d m other) x 0 (λ same. ne (place_apart key d m other c k part ring (omega arith) lp same).0) ∙ stands other lo
 
   -- a word of the next row is stored
-  pub drafts : (slots id : ℕ) (me : Sat) (word x : ℕ) → me.0.first_own < me.0.shape.chains → Owns me.0.first_own me.0 → height_of me.0.first_own me.0.seen < me.0.shape.capacity
+  pub drafts : (slots id : ℕ) (me : SeatKnowledge) (word x : ℕ) → me.0.first_own < me.0.shape.chains → Owns me.0.first_own me.0 → height_of me.0.first_own me.0.seen < me.0.shape.capacity
       → height_of me.0.first_own me.0.seen + 1 ≤ get_or me.0.floors me.0.first_own 0 + me.0.shape.window → length me.0.draft < 5
       → word ≡ place (me.0.shape) me.0.first_own (height_of me.0.first_own me.0.seen) (length me.0.draft)
       → Allows Rule slots id me word (λ _. x) (λ _. Drafted (step slots word x 0 none) me x)
@@ -82,7 +82,7 @@ module _ (key : Shape) where
       let room : n + 1 ≤ floor_at key s.words c + key.window = omega arith in
       let there : ℕ = place key c n part in
       let at_place : word ≡ there = is ∙ (ap (λ (z : Shape). place z c (height_of c v.seen) part) shape ∙ ap (λ (z : ℕ). place key c z part) all) in
-      let w : Knowledge = record v { draft = v.draft ++ x ∷ [] } in
+      let w : TableKnowledge = record v { draft = v.draft ++ x ∷ [] } in
       let size = r.written.size in
       let ring = r.written.ring in
       let fit : there < length s.words = omega (arith, place_inside key c n part lc ring short) in
@@ -91,7 +91,7 @@ module _ (key : Shape) where
         log = r.log;
         owner = r.owner;
         written = stored r.log s.words c part x r.written room short;
-        each_seat = seats_stay (Knows key r.log r.owner (set s.words there x)) s.views id w
+        each_seat = seats_stay (SeatKnows key r.log r.owner (set s.words there x)) s.views id w
             record {
               shape = k.shape;
               seen = k.seen;

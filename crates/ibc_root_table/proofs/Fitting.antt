@@ -9,7 +9,7 @@ use Rattle.ibc_root_table.specs.declared.table.Pass.TheInside.{Inside as PassIns
 use Rattle.ibc_root_table.specs.declared.shape.Shape.{Shape}
 use Rattle.ibc_root_table.specs.Publications.{IsWithin}
 use Rattle.ibc_root_table.specs.Passes.{TableName, Sight}
-use Rattle.ibc_root_table.specs.Inside.{id_of, name_of, sight_of}
+use Rattle.ibc_root_table.specs.TableFields.{id_of, name_of, sight_of}
 
 pub record Fits (t : TableInside) (p : PassInside) : Type 0 where
   pub id : p.place.table_id ≡ id_of t

@@ -1,8 +1,8 @@
 pub mod Beginnings
 pub mod Chains
 pub mod Growing
-pub mod Places
-pub mod Rows
+pub mod WordPlaces
+pub mod RowBytes
 pub mod Views
 pub mod Loads
 pub mod Drafts

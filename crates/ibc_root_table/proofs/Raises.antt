@@ -5,26 +5,26 @@ use mathlib.Core.Option.{none}
 use native.Mathlib.Decide.{ℕ_discrete}
 use Rattle.atomic_table.specs.Table.{State, step, keeps, Allows}
 use Rattle.ibc_ids.specs.declared.publication.Publication.{Publication}
-use Rattle.ibc_root_table.specs.declared.knowledge.Knowledge.{Knowledge}
+use Rattle.ibc_root_table.specs.declared.knowledge.TableKnowledge.{TableKnowledge}
 use Rattle.ibc_root_table.specs.declared.shape.Shape.{Shape}
 use Rattle.ibc_ids.specs.Publications.{published_by, height_of}
-use Rattle.ibc_root_table.specs.Publications.{IsRoot, row_words, bytes_of_row, drawn_up}
+use Rattle.ibc_root_table.specs.Publications.{IsRoot, row_words, bytes_of_row, publication_of_row}
 use Rattle.ibc_root_table.specs.Layout.{place, floor_at, RowStands}
-use Rattle.ibc_root_table.specs.Rule.{Owns, Knows, Written, IsKept}
-use Rattle.ibc_root_table.specs.Told.{Sat, RaisedFloor, Raised}
+use Rattle.ibc_root_table.specs.Rule.{Owns, SeatKnows, Written, IsTableState}
+use Rattle.ibc_root_table.specs.SeatSteps.{SeatKnowledge, RaisedFloor, Raised}
 use base.Growing.{prefix_refl}
 use Rattle.std.proofs.lemmas.Option.{slice_get_within}
 use Rattle.ibc_root_table.proofs.Beginnings.{prefix_longer, get_snoc}
 use Rattle.ibc_root_table.proofs.Chains.{height_grows, own_added, other_added, own_height, other_height}
-use Rattle.ibc_root_table.proofs.Places.{place_above}
+use Rattle.ibc_root_table.proofs.WordPlaces.{place_above}
 use Rattle.ibc_root_table.proofs.Views.{seats_stay, chains_same, windows_same, capacities_same, within_own, all_floors}
 
 abbrev St : Type 0
-St = State (Unit {0}) Knowledge
+St = State (Unit {0}) TableKnowledge
 
 module _ (key : Shape) where
   abbrev Rule : St → Type 0
-  Rule = IsKept key
+  Rule = IsTableState key
 
   -- a floor is the one that was raised, or as it was
   floor_raised : (words : List ℕ) (c x : ℕ) → key.chains + c < length words → floor_at key (set words (key.chains + c) x) c ≡ x
@@ -34,7 +34,7 @@ module _ (key : Shape) where
   floor_other words c x d ne = get_or-set_other words (key.chains + c) (key.chains + d) x 0 (λ (e : key.chains + d ≡ key.chains + c). ne (omega arith))
 
   -- a floor is raised, so that the ring has a slot for the next row
-  pub raises_floor : (slots id : ℕ) (me : Sat) (word x : ℕ) → me.0.first_own < me.0.shape.chains → Owns me.0.first_own me.0 → x + me.0.shape.window ≡ height_of me.0.first_own me.0.seen + 1 → word ≡ me.0.shape.chains + me.0.first_own
+  pub raises_floor : (slots id : ℕ) (me : SeatKnowledge) (word x : ℕ) → me.0.first_own < me.0.shape.chains → Owns me.0.first_own me.0 → x + me.0.shape.window ≡ height_of me.0.first_own me.0.seen + 1 → word ≡ me.0.shape.chains + me.0.first_own
       → Allows Rule slots id me word (λ _. x) (λ _. RaisedFloor (step slots word x 0 none) me x)
   raises_floor slots id me word x inside own up is s r _ at _ =
       let v = me.0 in let c : ℕ = v.first_own in let k = r.each_seat id v at in let shape = k.shape (omega arith) in
@@ -54,7 +54,7 @@ module _ (key : Shape) where
       (λ ne. let same = floor_other s.words c x d ne in omega arith) in
       let row_stays : (d m : ℕ) (row : List ℕ) → RowStands key s.words d m row → RowStands key ws d m row = λ d m row stands part lp. let above = place_above key d m part in
       get_or-set_other s.words there (place key d m part) x 0 (λ (e : place key d m part ≡ there). absurd (omega arith)) ∙ stands part lp in
-      let w : Knowledge = record v { floors = drop key.chains ws } in
+      let w : TableKnowledge = record v { floors = drop key.chains ws } in
       let kept : Rule record { words = ws; homes = s.homes; views = set s.views id w } = record {
         log = r.log;
         owner = r.owner;
@@ -70,7 +70,7 @@ module _ (key : Shape) where
           within = r.written.within;
           roots = r.written.roots;
         };
-        each_seat = seats_stay (Knows key r.log r.owner ws) s.views id w
+        each_seat = seats_stay (SeatKnows key r.log r.owner ws) s.views id w
             record {
               shape = k.shape;
               seen = k.seen;
@@ -139,14 +139,14 @@ module _ (key : Shape) where
       }
 
   -- a published word is raised, once the row is stored
-  pub raises : (slots id : ℕ) (me : Sat) (n : ℕ) → me.0.first_own < me.0.shape.chains → Owns me.0.first_own me.0 → n ≡ height_of me.0.first_own me.0.seen + 1 → 0 < length me.0.draft
-      → row_words (drawn_up me.0.first_own me.0.draft) ≡ me.0.draft → IsRoot (bytes_of_row me.0.draft)
+  pub raises : (slots id : ℕ) (me : SeatKnowledge) (n : ℕ) → me.0.first_own < me.0.shape.chains → Owns me.0.first_own me.0 → n ≡ height_of me.0.first_own me.0.seen + 1 → 0 < length me.0.draft
+      → row_words (publication_of_row me.0.first_own me.0.draft) ≡ me.0.draft → IsRoot (bytes_of_row me.0.draft)
       → Allows Rule slots id me me.0.first_own (λ _. n) (λ _. Raised (step slots me.0.first_own n 0 none) me n)
   raises slots id me n inside own up some_part whole root s r _ at _ =
       let v = me.0 in let c : ℕ = v.first_own in let k = r.each_seat id v at in let shape = k.shape (omega arith) in let chains = chains_same shape in let capacity = capacities_same shape in
-      let p : Publication = drawn_up c v.draft in let log' : List Publication = r.log ++ p ∷ [] in
+      let p : Publication = publication_of_row c v.draft in let log' : List Publication = r.log ++ p ∷ [] in
       let all : height_of c v.seen ≡ height_of c r.log = k.all c own in
-      let w : Knowledge = record v { seen = log'; draft = [] } in
+      let w : TableKnowledge = record v { seen = log'; draft = [] } in
       let room = k.room own some_part in
       let lc : c < key.chains = omega arith in
       let floor : (d : ℕ) → floor_at key (set s.words c n) d ≡ floor_at key s.words d = λ d. floor_above s.words c n d lc in
@@ -160,7 +160,7 @@ module _ (key : Shape) where
           log = log';
           owner = r.owner;
           written = written;
-          each_seat = seats_stay (Knows key log' r.owner (set s.words c n)) s.views id w
+          each_seat = seats_stay (SeatKnows key log' r.owner (set s.words c n)) s.views id w
               record {
                 shape = k.shape;
                 seen = prefix_refl log';

@@ -6,25 +6,25 @@ use lib.ListN.{length-replicate}
 use Rattle.std.proofs.lemmas.List.{get_or-replicate}
 use Rattle.atomic_table.specs.Table.{State, Splits, Joins, opening}
 use Rattle.atomic_table.proofs.Lists.{set_else}
-use Rattle.ibc_root_table.specs.declared.knowledge.Knowledge.{Knowledge}
+use Rattle.ibc_root_table.specs.declared.knowledge.TableKnowledge.{TableKnowledge}
 use Rattle.ibc_root_table.specs.declared.shape.Shape.{Shape}
 use Rattle.ibc_root_table.specs.Layout.{table_size}
-use Rattle.ibc_root_table.specs.Rule.{Owns, Knows, IsKept, writer_of_all, spent, rest_of, writer_of_first, reader, hearing}
+use Rattle.ibc_root_table.specs.Rule.{Owns, SeatKnows, IsTableState, writer_of_all, spent_seat, rest_of, writer_of_first, reader_seat, seat_with_heard}
 use Rattle.ibc_root_table.proofs.Beginnings.{prefix_none}
 use Rattle.ibc_root_table.proofs.Views.{seats_stay, one_more}
 
 abbrev St : Type 0
-St = State (Unit {0}) Knowledge
+St = State (Unit {0}) TableKnowledge
 
 module _ (key : Shape) where
   abbrev Rule : St → Type 0
-  Rule = IsKept key
+  Rule = IsTableState key
 
   -- the seat is cut in two, and the new one writes for the first chain
-  pub cuts_writer : (id : ℕ) (v : Knowledge) → v.first_own < v.end_own → Splits Rule id v (rest_of v) (writer_of_first v)
+  pub cuts_writer : (id : ℕ) (v : TableKnowledge) → v.first_own < v.end_own → Splits Rule id v (rest_of v) (writer_of_first v)
   cuts_writer id v some_own s r at =
       let k = r.each_seat id v at in let c : ℕ = v.first_own in let new : ℕ = length s.views in
-      let vs : List Knowledge = set s.views id (rest_of v) in
+      let vs : List TableKnowledge = set s.views id (rest_of v) in
       let owner : ℕ → ℕ = λ d. cond (d == c) new (r.owner d) in
       let here : (d : ℕ) → d ≡ c → owner d ≡ new = λ d e. ap (λ b. cond b new (r.owner d)) (eq-eqb d c e) in
       let there : (d : ℕ) → d ≢ c → owner d ≡ r.owner d = λ d e. ap (λ b. cond b new (r.owner d)) (ne_eqb d c e) in
@@ -33,7 +33,7 @@ module _ (key : Shape) where
         log = r.log;
         owner = owner;
         written = r.written;
-        each_seat = one_more (Knows key r.log owner s.words) vs (writer_of_first v)
+        each_seat = one_more (SeatKnows key r.log owner s.words) vs (writer_of_first v)
             record {
               shape = k.shape;
               seen = k.seen;
@@ -45,7 +45,7 @@ module _ (key : Shape) where
               room = λ o l. absurd (omega arith);
               floors = k.floors;
             }
-            (seats_stay (Knows key r.log owner s.words) s.views id (rest_of v)
+            (seats_stay (SeatKnows key r.log owner s.words) s.views id (rest_of v)
             record {
               shape = k.shape;
               seen = k.seen;
@@ -71,12 +71,12 @@ module _ (key : Shape) where
       }
 
   -- the seat keeps what it has, and the new one has seen as much
-  pub cuts_reader : (id : ℕ) (v : Knowledge) → Splits Rule id v v (reader v)
+  pub cuts_reader : (id : ℕ) (v : TableKnowledge) → Splits Rule id v v (reader_seat v)
   cuts_reader id v s r at = let k = r.each_seat id v at in record {
     log = r.log;
     owner = r.owner;
     written = r.written;
-    each_seat = one_more (Knows key r.log r.owner s.words) (set s.views id v) (reader v)
+    each_seat = one_more (SeatKnows key r.log r.owner s.words) (set s.views id v) (reader_seat v)
         record {
           shape = k.shape;
           seen = k.seen;
@@ -88,17 +88,17 @@ module _ (key : Shape) where
           room = λ o l. absurd (omega arith);
           floors = k.floors;
         }
-        (seats_stay (Knows key r.log r.owner s.words) s.views id v k (λ j d _. r.each_seat j d));
+        (seats_stay (SeatKnows key r.log r.owner s.words) s.views id v k (λ j d _. r.each_seat j d));
   }
 
   -- the seat hears what the other has seen, and the other is spent
-  pub hears : (id : ℕ) (v : Knowledge) (other : ℕ) (w : Knowledge) → Joins Rule id v other w (hearing v w) spent
+  pub hears : (id : ℕ) (v : TableKnowledge) (other : ℕ) (w : TableKnowledge) → Joins Rule id v other w (seat_with_heard v w) spent_seat
   hears id v other w s r at apart there = let k = r.each_seat id v at in
-      let told : IsPrefix w.seen r.log = (r.each_seat other w (sym (set_else s.views id other (hearing v w) apart) ∙ there)).seen in record {
+      let told : IsPrefix w.seen r.log = (r.each_seat other w (sym (set_else s.views id other (seat_with_heard v w) apart) ∙ there)).seen in record {
         log = r.log;
         owner = r.owner;
         written = r.written;
-        each_seat = seats_stay (Knows key r.log r.owner s.words) (set s.views id (hearing v w)) other spent
+        each_seat = seats_stay (SeatKnows key r.log r.owner s.words) (set s.views id (seat_with_heard v w)) other spent_seat
             record {
               shape = λ l. absurd (omega arith);
               seen = prefix_none r.log;
@@ -110,7 +110,7 @@ module _ (key : Shape) where
               room = λ o l. absurd (omega arith);
               floors = λ d l. omega arith;
             }
-            (λ j d _. seats_stay (Knows key r.log r.owner s.words) s.views id (hearing v w)
+            (λ j d _. seats_stay (SeatKnows key r.log r.owner s.words) s.views id (seat_with_heard v w)
             record { shape = k.shape; seen = k.seen; heard = told; inside = k.inside; sole = k.sole; all = k.all; drafted = k.drafted; room = k.room; floors = k.floors }
             (λ i e _. r.each_seat i e) j d);
       }
@@ -130,7 +130,7 @@ module _ (key : Shape) where
       within = λ c l. absurd (omega arith);
       roots = λ c k p e. absurd cc;
     };
-    each_seat = one_more (Knows key [] (λ _. 0) (replicate n 0)) [] (writer_of_all key)
+    each_seat = one_more (SeatKnows key [] (λ _. 0) (replicate n 0)) [] (writer_of_all key)
         record {
           shape = λ _. refl;
           seen = prefix_none [];

@@ -5,7 +5,7 @@ use lib.ListN.{get_elem?}
 use Rattle.std.proofs.lemmas.List.{get_or-drop}
 use Rattle.atomic_table.proofs.Lists.{at_set}
 use Rattle.ibc_ids.specs.declared.publication.Publication.{Publication}
-use Rattle.ibc_root_table.specs.declared.knowledge.Knowledge.{Knowledge}
+use Rattle.ibc_root_table.specs.declared.knowledge.TableKnowledge.{TableKnowledge}
 use Rattle.ibc_root_table.specs.declared.shape.Shape.{Shape}
 use Rattle.ibc_root_table.specs.Publications.{IsWithin}
 use Rattle.ibc_root_table.specs.Layout.{floor_at}
@@ -13,23 +13,23 @@ use Rattle.ibc_root_table.proofs.Chains.{height_grows}
 use mathlib.Core.List.{IsPrefix}
 
 -- what is known of each seat stays known where one seat's view changes
-pub seats_stay : (K : ℕ → Knowledge → Type 0) (vs : List Knowledge) (me : ℕ) (w : Knowledge) → K me w → ((j : ℕ) (d : Knowledge) → j ≢ me → get_elem? vs j ≡ some d → K j d)
-    → (j : ℕ) (d : Knowledge) → get_elem? (set vs me w) j ≡ some d → K j d
-seats_stay K vs me w mine others j d e = ⊎_elim (λ (t : (j ≡ me) × (w ≡ d)). subst (λ (x : ℕ × Knowledge). K x.0 x.1) (λ i. (sym t.0 i, t.1 i)) mine)
+pub seats_stay : (K : ℕ → TableKnowledge → Type 0) (vs : List TableKnowledge) (me : ℕ) (w : TableKnowledge) → K me w → ((j : ℕ) (d : TableKnowledge) → j ≢ me → get_elem? vs j ≡ some d → K j d)
+    → (j : ℕ) (d : TableKnowledge) → get_elem? (set vs me w) j ≡ some d → K j d
+seats_stay K vs me w mine others j d e = ⊎_elim (λ (t : (j ≡ me) × (w ≡ d)). subst (λ (x : ℕ × TableKnowledge). K x.0 x.1) (λ i. (sym t.0 i, t.1 i)) mine)
     (λ (t : (j ≢ me) × (get_elem? vs j ≡ some d)). others j d t.0 t.1) (at_set vs me j w d e)
 
 -- a view in a list with one more at its end
-at_end : (l : List Knowledge) (a b : Knowledge) (j : ℕ) → get_elem? (l ++ a ∷ []) j ≡ some b → (get_elem? l j ≡ some b) ⊎ ((j ≡ length l) × (a ≡ b))
+at_end : (l : List TableKnowledge) (a b : TableKnowledge) (j : ℕ) → get_elem? (l ++ a ∷ []) j ≡ some b → (get_elem? l j ≡ some b) ⊎ ((j ≡ length l) × (a ≡ b))
 at_end [] a b zero e = inr (refl, some-injective a b e)
 at_end [] a b (suc j) e = absurd (some-ne-none b (sym e))
 at_end (x ∷ xs) a b zero e = inl e
 at_end (x ∷ xs) a b (suc j) e = ⊎_elim (λ t. inl t) (λ t. inr (ap suc t.0, t.1)) (at_end xs a b j e)
 
 -- a seat joins the others
-pub one_more : (K : ℕ → Knowledge → Type 0) (vs : List Knowledge) (w : Knowledge) → K (length vs) w → ((j : ℕ) (d : Knowledge) → get_elem? vs j ≡ some d → K j d)
-    → (j : ℕ) (d : Knowledge) → get_elem? (vs ++ w ∷ []) j ≡ some d → K j d
+pub one_more : (K : ℕ → TableKnowledge → Type 0) (vs : List TableKnowledge) (w : TableKnowledge) → K (length vs) w → ((j : ℕ) (d : TableKnowledge) → get_elem? vs j ≡ some d → K j d)
+    → (j : ℕ) (d : TableKnowledge) → get_elem? (vs ++ w ∷ []) j ≡ some d → K j d
 one_more K vs w new old j d e = ⊎_elim (λ (t : get_elem? vs j ≡ some d). old j d t)
-    (λ (t : (j ≡ length vs) × (w ≡ d)). subst (λ (x : ℕ × Knowledge). K x.0 x.1) (λ i. (sym t.0 i, t.1 i)) new) (at_end vs w d j e)
+    (λ (t : (j ≡ length vs) × (w ≡ d)). subst (λ (x : ℕ × TableKnowledge). K x.0 x.1) (λ i. (sym t.0 i, t.1 i)) new) (at_end vs w d j e)
 
 -- two shapes that are one
 pub chains_same : {a b : Shape} → a ≡ b → a.chains ≡ b.chains

@@ -2,5 +2,5 @@ pub mod Publications
 pub mod Layout
 pub mod Passes
 pub mod Rule
-pub mod Told
-pub mod Inside
+pub mod SeatSteps
+pub mod TableFields

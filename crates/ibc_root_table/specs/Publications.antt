@@ -34,5 +34,5 @@ abbrev pub bytes_of_row : List ℕ → List ℕ
 bytes_of_row row = bytes_of (slice_index row 0) (slice_index row 1) (slice_index row 2) (slice_index row 3)
 
 -- the publication that a whole row stands for
-abbrev pub drawn_up : ℕ → List ℕ → Publication
-drawn_up chain row = publication chain (bytes_of_row row) (slice_index row 4)
+abbrev pub publication_of_row : ℕ → List ℕ → Publication
+publication_of_row chain row = publication chain (bytes_of_row row) (slice_index row 4)

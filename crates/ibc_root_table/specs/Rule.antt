@@ -6,17 +6,17 @@ use lib.ListN.{get_elem?}
 use Rattle.atomic_table.specs.Table.{State}
 use Rattle.ibc_ids.specs.declared.publication.Publication.{Publication}
 use Rattle.ibc_ids.specs.Publications.{published_by, height_of}
-use Rattle.ibc_root_table.specs.declared.knowledge.Knowledge.{Knowledge}
+use Rattle.ibc_root_table.specs.declared.knowledge.TableKnowledge.{TableKnowledge}
 use Rattle.ibc_root_table.specs.declared.shape.Shape.{Shape}
 use Rattle.ibc_root_table.specs.Publications.{IsRoot, IsWithin, row_words}
 use Rattle.ibc_root_table.specs.Layout.{table_size, floor_at, RowStands}
 
 -- the seat alone writes for the chain
-abbrev pub Owns : ℕ → Knowledge → Type 0
+abbrev pub Owns : ℕ → TableKnowledge → Type 0
 Owns c v = (v.first_own ≤ c) × (c < v.end_own)
 
 -- what the seat j knows is so: of the one list, of the words, and of who writes for which chain
-pub record Knows (key : Shape) (log : List Publication) (owner : ℕ → ℕ) (words : List ℕ) (j : ℕ) (v : Knowledge) : Type 0 where
+pub record SeatKnows (key : Shape) (log : List Publication) (owner : ℕ → ℕ) (words : List ℕ) (j : ℕ) (v : TableKnowledge) : Type 0 where
   pub shape : 0 < v.shape.chains → v.shape ≡ key
   pub seen : IsPrefix v.seen log
   pub heard : IsPrefix v.heard log
@@ -41,33 +41,33 @@ pub record Written (key : Shape) (log : List Publication) (words : List ℕ) : T
   pub roots : (c k : ℕ) (p : Publication) → slice_get (published_by c log) k ≡ Some p → (p.chain ≡ c) × IsRoot p.root
 
 -- there is one list, for which the words stand, and of which each seat has seen a beginning
-pub record IsKept (key : Shape) (s : State (Unit {0}) Knowledge) : Type 0 where
+pub record IsTableState (key : Shape) (s : State (Unit {0}) TableKnowledge) : Type 0 where
   pub log : List Publication
   pub owner : ℕ → ℕ
   pub written : Written key log s.words
-  pub each_seat : (j : ℕ) (v : Knowledge) → get_elem? s.views j ≡ some v → Knows key log owner s.words j v
+  pub each_seat : (j : ℕ) (v : TableKnowledge) → get_elem? s.views j ≡ some v → SeatKnows key log owner s.words j v
 
 -- a seat that has seen nothing, and writes for the chains from the first of these numbers up to below the second
-abbrev pub newcomer : Shape → ℕ → ℕ → Knowledge
-newcomer key first end = record { shape = key; first_own = first; end_own = end; seen = []; heard = []; draft = []; floors = [] }
+abbrev pub new_seat : Shape → ℕ → ℕ → TableKnowledge
+new_seat key first end = record { shape = key; first_own = first; end_own = end; seen = []; heard = []; draft = []; floors = [] }
 
 -- the first seat writes for all chains
-abbrev pub writer_of_all : Shape → Knowledge
-writer_of_all key = newcomer key 0 key.chains
+abbrev pub writer_of_all : Shape → TableKnowledge
+writer_of_all key = new_seat key 0 key.chains
 
 -- a seat that is spent
-abbrev pub spent : Knowledge
-spent = newcomer record { chains = 0; window = 0; capacity = 0 } 0 0
+abbrev pub spent_seat : TableKnowledge
+spent_seat = new_seat record { chains = 0; window = 0; capacity = 0 } 0 0
 
 -- how a seat is cut: the new one writes for the first chain, or only reads
-abbrev pub rest_of : Knowledge → Knowledge
+abbrev pub rest_of : TableKnowledge → TableKnowledge
 rest_of v = record v { first_own = v.first_own + 1; draft = [] }
 
-abbrev pub writer_of_first : Knowledge → Knowledge
+abbrev pub writer_of_first : TableKnowledge → TableKnowledge
 writer_of_first v = record v { end_own = v.first_own + 1; draft = [] }
 
-abbrev pub reader : Knowledge → Knowledge
-reader v = record v { first_own = 0; end_own = 0; draft = [] }
+abbrev pub reader_seat : TableKnowledge → TableKnowledge
+reader_seat v = record v { first_own = 0; end_own = 0; draft = [] }
 
-abbrev pub hearing : Knowledge → Knowledge → Knowledge
-hearing v w = record v { heard = w.seen }
+abbrev pub seat_with_heard : TableKnowledge → TableKnowledge → TableKnowledge
+seat_with_heard v w = record v { heard = w.seen }

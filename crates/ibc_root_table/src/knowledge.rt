@@ -6,7 +6,7 @@ use std::alloc::Global;
 use std::collections::LinkedList;
 
 /// What a seat knows. No value of it is made.
-pub struct Knowledge {
+pub struct TableKnowledge {
     /// The table's shape, or one of no chains where the seat is spent.
     pub shape: Shape,
     /// The seat alone writes for the chains from the first of these numbers up to below the second.
@@ -25,14 +25,14 @@ pub struct Knowledge {
 /// There is one list of publications.
 pub struct OneList;
 
-impl TableRule<(), Knowledge, Shape> for OneList {
-    ghost use Rattle.ibc_root_table.specs.Rule.{IsKept, writer_of_all};
+impl TableRule<(), TableKnowledge, Shape> for OneList {
+    ghost use Rattle.ibc_root_table.specs.Rule.{IsTableState, writer_of_all};
 
-    ghost holds = { IsKept };
+    ghost holds = { IsTableState };
 
     ghost first = { writer_of_all };
 }
 
-pub type Board = Table<(), Knowledge, Shape, OneList, Global>;
+pub type PublicationTable = Table<(), TableKnowledge, Shape, OneList, Global>;
 
-pub type Place = Seat<(), Knowledge>;
+pub type TableSeat = Seat<(), TableKnowledge>;

@@ -6,7 +6,7 @@ ghost use Rattle.ibc_ids.specs.declared.publication.Publication.{Publication};
 ghost use Rattle.ibc_ids.specs.Publications.{published_by, height_of, row_at};
 ghost use Rattle.ibc_root_table.specs.Publications.{publication, row_words, IsRoot, IsWithin};
 
-use crate::knowledge::{Board, Place};
+use crate::knowledge::{PublicationTable, TableSeat};
 use crate::row::{ROW_LEN, root_of, row_of};
 use crate::shape::Shape;
 use crate::steps::{
@@ -21,7 +21,7 @@ use std::marker::Model;
 /// The table in which all chains of a process publish their heights. Contracts see which table it is, and its shape.
 #[derive(Drop)]
 pub struct RootTable {
-    board: Board,
+    board: PublicationTable,
     shape: Shape,
 }
 
@@ -31,7 +31,7 @@ impl Model for RootTable {
 
     ghost Value = { TableName };
 
-    ghost use Rattle.ibc_root_table.specs.Inside.{name_of, IsTable};
+    ghost use Rattle.ibc_root_table.specs.TableFields.{name_of, IsTable};
 
     ghost view = { name_of };
 
@@ -42,7 +42,7 @@ impl Model for RootTable {
 /// Contracts see which publications it has seen; the code keeps no list of them.
 #[derive(Drop)]
 pub struct Pass {
-    place: Place,
+    place: TableSeat,
     own: Option<u8>,
 }
 
@@ -51,7 +51,7 @@ impl Model for Pass {
 
     ghost Value = { Sight };
 
-    ghost use Rattle.ibc_root_table.specs.Inside.{sight_of, IsPass};
+    ghost use Rattle.ibc_root_table.specs.TableFields.{sight_of, IsPass};
 
     ghost view = { sight_of };
 
@@ -60,9 +60,9 @@ impl Model for Pass {
 
 impl RootTable {
     ghost use Rattle.ibc_root_table.specs.Passes.{SamePass, KeepsOwn, Publishes, AreDealt, own_chain, unused_pass};
-    ghost use Rattle.ibc_root_table.specs.Rule.{Owns, newcomer};
-    ghost use Rattle.ibc_root_table.specs.Told.{FloorLooked};
-    ghost use Rattle.ibc_root_table.specs.Inside.{IsPlaceOf, SamePlace};
+    ghost use Rattle.ibc_root_table.specs.Rule.{Owns, new_seat};
+    ghost use Rattle.ibc_root_table.specs.SeatSteps.{FloorLooked};
+    ghost use Rattle.ibc_root_table.specs.TableFields.{IsPlaceOf, SamePlace};
 
     /// A table with no publications, the chains' own passes in their order, and then the passes that only read.
     /// There are 1 to 255 chains, each with a ring of at least one row.
@@ -90,20 +90,29 @@ impl RootTable {
     }
 
     // The table, and the seat that writes for all chains.
-    fn lay(alloc: Global, shape: Shape) -> Result<(RootTable, Place), AllocError>
+    fn lay(alloc: Global, shape: Shape) -> Result<(RootTable, TableSeat), AllocError>
         requires { (0 < shape.chains) × (0 < shape.window) }
-        ensures { IfOk result (λ made. (made.0.shape ≡ shape) × IsPlaceOf made.0 made.1 × (made.1.me ≡ (newcomer shape 0 shape.chains, []))) }
+        ensures { IfOk result (λ made. (made.0.shape ≡ shape) × IsPlaceOf made.0 made.1 × (made.1.me ≡ (new_seat shape 0 shape.chains, []))) }
     {
         let words = vec![in alloc; 0u64; shape.word_count()]?;
-        let (board, place): (Board, Place) = Table::of_words(alloc, words.as_slice(), &shape)?;
+        let (board, place): (PublicationTable, TableSeat) = Table::of_words(
+            alloc,
+            words.as_slice(),
+            &shape,
+        )?;
         let table = RootTable { board, shape };
         Ok((table, place))
     }
 
     // The chains' own passes, and then the readers'.
-    fn deal(&self, alloc: Global, mut place: Place, readers: usize) -> Result<Vec<Pass>, AllocError>
+    fn deal(
+        &self,
+        alloc: Global,
+        mut place: TableSeat,
+        readers: usize,
+    ) -> Result<Vec<Pass>, AllocError>
         requires table { IsPlaceOf self.now place }
-        requires view { place.me ≡ (newcomer self.now.shape 0 self.now.shape.chains, []) }
+        requires view { place.me ≡ (new_seat self.now.shape 0 self.now.shape.chains, []) }
         ensures { IfOk result (λ passes. AreDealt self.now.shape.chains readers self.now passes.items) }
     {
         let mut passes = Vec::new(alloc);
@@ -117,10 +126,10 @@ impl RootTable {
     }
 
     // The own pass of the seat's first chain, which the seat gives up.
-    fn own_pass(&self, place: &mut Place, chain: u8) -> Pass
+    fn own_pass(&self, place: &mut TableSeat, chain: u8) -> Pass
         requires table { IsPlaceOf self.now place.old }
-        requires view { (chain < self.now.shape.chains) × (place.old.me ≡ (newcomer self.now.shape chain self.now.shape.chains, [])) }
-        ensures place { SamePlace place.old place.new × (place.new.me ≡ (newcomer self.now.shape (chain + 1) self.now.shape.chains, [])) }
+        requires view { (chain < self.now.shape.chains) × (place.old.me ≡ (new_seat self.now.shape chain self.now.shape.chains, [])) }
+        ensures place { SamePlace place.old place.new × (place.new.me ≡ (new_seat self.now.shape (chain + 1) self.now.shape.chains, [])) }
         ensures pass { result ≡ unused_pass self.now (Some chain) }
     {
         Pass {
@@ -129,7 +138,7 @@ impl RootTable {
         }
     }
 
-    fn reading_pass(&self, place: &mut Place) -> Pass
+    fn reading_pass(&self, place: &mut TableSeat) -> Pass
         requires table { IsPlaceOf self.now place.old }
         requires view { place.old.me.0.seen ≡ [] }
         ensures place { SamePlace place.old place.new × (place.new.me ≡ place.old.me) }
@@ -211,7 +220,7 @@ impl RootTable {
     }
 
     // Raises the floor, so that the ring has a slot for the next row.
-    fn make_room(&self, place: &mut Place, chain: u8, row: u64)
+    fn make_room(&self, place: &mut TableSeat, chain: u8, row: u64)
         requires table { IsPlaceOf self.now place.old }
         requires own { (place.old.me.0.first_own ≡ chain) × Owns chain place.old.me.0 × (chain < self.now.shape.chains) }
         requires row { (row ≡ height_of chain place.old.me.0.seen) × (row < self.now.shape.capacity) }
@@ -227,7 +236,7 @@ impl RootTable {
     }
 
     // The chain's floor, by a look at the table as it is.
-    fn load_floor(&self, place: &mut Place, chain: u8) -> u64
+    fn load_floor(&self, place: &mut TableSeat, chain: u8) -> u64
         requires table { IsPlaceOf self.now place.old }
         requires chain { chain < self.now.shape.chains }
         ensures same { SamePlace place.old place.new }
@@ -238,7 +247,7 @@ impl RootTable {
     }
 
     // Stores the next row of the seat's first chain, which nobody reads yet.
-    fn store_row(&self, place: &mut Place, chain: u8, row: u64, words: &[u64; ROW_LEN])
+    fn store_row(&self, place: &mut TableSeat, chain: u8, row: u64, words: &[u64; ROW_LEN])
         requires table { IsPlaceOf self.now place.old }
         requires own { (place.old.me.0.first_own ≡ chain) × Owns chain place.old.me.0 × (chain < self.now.shape.chains) }
         requires row { (row ≡ height_of chain place.old.me.0.seen) × (row < self.now.shape.capacity) × (place.old.me.0.draft ≡ []) }
@@ -255,7 +264,7 @@ impl RootTable {
     }
 
     // Loads a row that the seat has seen.
-    fn load_row(&self, place: &mut Place, chain: u8, row: u64) -> [u64; ROW_LEN]
+    fn load_row(&self, place: &mut TableSeat, chain: u8, row: u64) -> [u64; ROW_LEN]
         requires table { IsPlaceOf self.now place.old }
         requires row { chain < self.now.shape.chains }
         ensures same { SamePlace place.old place.new × (place.new.me ≡ (record place.old.me.0 { floors = place.new.me.0.floors }, place.old.me.1)) }
@@ -300,7 +309,7 @@ impl RootTable {
     }
 
     /// What a pass has seen is of the table's chains, none of which has published more than it may.
-    pub fn holds_what_is_seen(&self, pass: &Pass)
+    pub fn lemma_holds_what_is_seen(&self, pass: &Pass)
         requires { pass.now.table ≡ self.now }
         ensures { IsWithin self.now.shape pass.now.seen }
     {
@@ -308,7 +317,7 @@ impl RootTable {
     }
 
     // One seat hears what another has seen.
-    fn tell(&self, from: &mut Place, to: &mut Place)
+    fn tell(&self, from: &mut TableSeat, to: &mut TableSeat)
         requires tables { (from.old.table_id ≡ self.now.id) × (to.old.table_id ≡ self.now.id) }
         ensures from { SamePlace from.old from.new × (from.new.me ≡ from.old.me) }
         ensures to { SamePlace to.old to.new × (to.new.me ≡ (record to.old.me.0 { heard = from.old.me.0.seen }, to.old.me.1)) }

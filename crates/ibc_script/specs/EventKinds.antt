@@ -51,6 +51,6 @@ draft_kind (draft.Connection d) = connection_draft_kind d
 draft_kind (draft.Channel d) = channel_draft_kind d
 draft_kind (draft.Packet d) = packet_draft_kind d
 
-abbrev pub name_of : EventKind → Text
-name_of (event.Message k) = wire.name_of k
-name_of event.Block = codes "Block"
+abbrev pub kind_name_of : EventKind → Text
+kind_name_of (event.Message k) = wire.name_of k
+kind_name_of event.Block = codes "Block"

@@ -19,9 +19,9 @@ fault_of refusal.NoMemory = NoMemory
 fault_of _ = BadScript
 
 -- a fault that may come while steps are run
-abbrev pub StopsRun : Fault → Type 0
-StopsRun fault = (fault ≡ CannotWrite) ⊎ (fault ≡ NoMemory)
+abbrev pub IsRunFault : Fault → Type 0
+IsRunFault fault = (fault ≡ CannotWrite) ⊎ (fault ≡ NoMemory)
 
 -- a fault that may come while a script is judged
-abbrev pub JudgesScript : Fault → Type 0
-JudgesScript fault = (fault ≡ BadScript) ⊎ (fault ≡ NoMemory)
+abbrev pub IsScriptFault : Fault → Type 0
+IsScriptFault fault = (fault ≡ BadScript) ⊎ (fault ≡ NoMemory)

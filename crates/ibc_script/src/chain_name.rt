@@ -4,7 +4,7 @@ ghost use Rattle.std.specs.Prelude.{◌≡◌};
 ghost use Rattle.std.specs.List.{list_all};
 ghost use Rattle.ibc_script.specs.ChainNames.{is_chain_name_byte, is_chain_name};
 
-use ibc_ids::{Kind, Name};
+use ibc_ids::{Name, NameKind};
 
 /// The name of a chain in a script: 1 to 16 lower-case letters and digits.
 pub type ChainName = Name<ChainNameKind>;
@@ -31,7 +31,7 @@ fn is_chain_name(text: &[u8]) -> bool
     1 <= text.len() && text.len() <= 16 && are_chain_name_bytes(text)
 }
 
-impl Kind for ChainNameKind {
+impl NameKind for ChainNameKind {
     ghost form = { is_chain_name };
 
     fn has_form(text: &[u8]) -> bool {
@@ -39,5 +39,5 @@ impl Kind for ChainNameKind {
     }
 
     #[tactic(auto, using(crate::proofs::Ascii::chain_names))]
-    fn are_short_and_ascii() {}
+    fn lemma_short_and_ascii() {}
 }

@@ -9,7 +9,7 @@ use ibc_wire::{ChanCloseInit, ChanOpenInit, MessageKind, Order, SendNote, Transf
 
 /// The height of a chain from which the proofs of a message are taken.
 #[derive(Clone, Copy, Debug, PartialEq, Eq, Drop)]
-pub struct Origin {
+pub struct ProofSource {
     pub chain: u8,
     pub height: u64,
 }
@@ -36,18 +36,18 @@ pub enum ConnectionDraft {
         client: ClientId,
         peer_client: ClientId,
         peer_connection: ConnectionId,
-        from: Origin,
+        from: ProofSource,
     },
     /// A connection that the peer answered is opened.
     OpenAck {
         connection: ConnectionId,
         peer_connection: ConnectionId,
-        from: Origin,
+        from: ProofSource,
     },
     /// A connection that the peer opened is opened.
     OpenConfirm {
         connection: ConnectionId,
-        from: Origin,
+        from: ProofSource,
     },
 }
 
@@ -60,7 +60,7 @@ pub struct ChannelTry {
     pub peer_port: PortId,
     pub peer_channel: ChannelId,
     pub version: Version,
-    pub from: Origin,
+    pub from: ProofSource,
 }
 
 /// A message for channels (ICS 4).
@@ -75,13 +75,13 @@ pub enum ChannelDraft {
         port: PortId,
         channel: ChannelId,
         peer_channel: ChannelId,
-        from: Origin,
+        from: ProofSource,
     },
     /// A channel that the peer opened is opened.
     OpenConfirm {
         port: PortId,
         channel: ChannelId,
-        from: Origin,
+        from: ProofSource,
     },
     /// A channel is closed.
     CloseInit(ChanCloseInit),
@@ -89,7 +89,7 @@ pub enum ChannelDraft {
     CloseConfirm {
         port: PortId,
         channel: ChannelId,
-        from: Origin,
+        from: ProofSource,
     },
 }
 
@@ -113,13 +113,25 @@ pub enum PacketDraft {
     /// A note is sent.
     SendNote(SendNote),
     /// A packet is received. Its proof is of this height of the chain that sent it.
-    Recv { packet: SentPacket, height: u64 },
+    Recv {
+        packet: SentPacket,
+        height: u64,
+    },
     /// The sender is told how its packet was acknowledged.
-    Ack { packet: SentPacket, from: Origin },
+    Ack {
+        packet: SentPacket,
+        from: ProofSource,
+    },
     /// The sender is told that its packet wasn't received in time.
-    Timeout { packet: SentPacket, from: Origin },
+    Timeout {
+        packet: SentPacket,
+        from: ProofSource,
+    },
     /// The sender is told that its packet wasn't received, and that the peer's end is closed.
-    TimeoutOnClose { packet: SentPacket, from: Origin },
+    TimeoutOnClose {
+        packet: SentPacket,
+        from: ProofSource,
+    },
 }
 
 /// A message as a step of a script names it. Its other fields come from what the chains answer when the step is run.

@@ -1,7 +1,7 @@
 //! What an event is called in a printed line.
 
 ghost use Rattle.std.specs.Prelude.{◌≡◌};
-ghost use Rattle.ibc_script.specs.EventKinds.{name_of};
+ghost use Rattle.ibc_script.specs.EventKinds.{kind_name_of};
 
 use ibc_wire::MessageKind;
 
@@ -17,7 +17,7 @@ pub enum EventKind {
 impl EventKind {
     /// The name by which a line calls the kind.
     pub fn name(self) -> &'static str
-        ensures { result.now ≡ name_of self }
+        ensures { result.now ≡ kind_name_of self }
     {
         match self {
             EventKind::Message(kind) => kind.name(),

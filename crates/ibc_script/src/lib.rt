@@ -16,7 +16,8 @@ mod script;
 pub use application::Application;
 pub use chain_name::{ChainName, ChainNameKind};
 pub use draft::{
-    ChannelDraft, ChannelTry, ClientDraft, ConnectionDraft, Draft, Origin, PacketDraft, SentPacket,
+    ChannelDraft, ChannelTry, ClientDraft, ConnectionDraft, Draft, PacketDraft, ProofSource,
+    SentPacket,
 };
 pub use event_kind::EventKind;
 pub use fault::Fault;

@@ -1,7 +1,7 @@
 //! Scripts are read from JSON.
 
 ghost use Rattle.std.specs.Prelude.{◌≡◌, ◌<◌, length, IfErr, IsErrOf};
-ghost use Rattle.ibc_script.specs.Faults.{JudgesScript};
+ghost use Rattle.ibc_script.specs.Faults.{IsScriptFault};
 
 mod chains;
 mod channels;
@@ -16,7 +16,7 @@ use crate::amount::amount_of;
 use crate::members::{has_only, item_text, list, number, optional_number};
 use crate::{Fault, MOST_BYTES, Script};
 use chains::read_chains;
-use ibc_ids::{Kind, Name};
+use ibc_ids::{Name, NameKind};
 use ibc_machine::Genesis;
 use serde_json::Value;
 use std::alloc::Global;
@@ -26,7 +26,7 @@ use steps::read_steps;
 const USUAL_WINDOW: u64 = 4_096;
 
 fn parsed(alloc: Global, bytes: &[u8]) -> Result<Value, Fault>
-    ensures { IfErr result JudgesScript }
+    ensures { IfErr result IsScriptFault }
 {
     match Value::from_slice(alloc, bytes) {
         Ok(value) => Ok(value),
@@ -37,20 +37,20 @@ fn parsed(alloc: Global, bytes: &[u8]) -> Result<Value, Fault>
 
 // The amount that a text writes.
 fn read_amount(alloc: Global, text: &str) -> Result<u128, Fault>
-    ensures { IfErr result JudgesScript }
+    ensures { IfErr result IsScriptFault }
 {
     amount_of(alloc, text)?.ok_or(Fault::BadScript)
 }
 
 // The amount that an item of a list is, a text.
 fn item_amount(alloc: Global, item: &Value) -> Result<u128, Fault>
-    ensures { IfErr result JudgesScript }
+    ensures { IfErr result IsScriptFault }
 {
     read_amount(alloc, item_text(item)?)
 }
 
-fn parse_name<K: Kind>(alloc: Global, text: &str) -> Result<Name<K>, Fault>
-    ensures { IfErr result JudgesScript }
+fn parse_name<K: NameKind>(alloc: Global, text: &str) -> Result<Name<K>, Fault>
+    ensures { IfErr result IsScriptFault }
 {
     match Name::parse(alloc, text) {
         Ok(name) => Ok(name),
@@ -59,8 +59,8 @@ fn parse_name<K: Kind>(alloc: Global, text: &str) -> Result<Name<K>, Fault>
 }
 
 // The name that an item of a list is, a text.
-fn item_name<K: Kind>(alloc: Global, item: &Value) -> Result<Name<K>, Fault>
-    ensures { IfErr result JudgesScript }
+fn item_name<K: NameKind>(alloc: Global, item: &Value) -> Result<Name<K>, Fault>
+    ensures { IfErr result IsScriptFault }
 {
     parse_name(alloc, item_text(item)?)
 }
@@ -70,7 +70,7 @@ fn item_name<K: Kind>(alloc: Global, item: &Value) -> Result<Name<K>, Fault>
 /// `NoMemory`.
 pub fn read_script(alloc: Global, bytes: &[u8]) -> Result<Script, Fault>
     ensures too_long { 1048576 < length bytes.now → IsErrOf result Fault.BadScript }
-    ensures faults { IfErr result JudgesScript }
+    ensures faults { IfErr result IsScriptFault }
 {
     if bytes.len() > MOST_BYTES {
         return Err(Fault::BadScript);
@@ -83,7 +83,7 @@ pub fn read_script(alloc: Global, bytes: &[u8]) -> Result<Script, Fault>
 
 // The script that a JSON object is.
 fn read_members(alloc: Global, script: &Value) -> Result<Script, Fault>
-    ensures { IfErr result JudgesScript }
+    ensures { IfErr result IsScriptFault }
 {
     has_only(script, &["capacity", "window", "chains", "steps"])?;
     let capacity = number(script, "capacity")?;

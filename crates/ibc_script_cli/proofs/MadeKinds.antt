@@ -17,15 +17,15 @@ use Rattle.ibc_script.specs.declared.draft.PacketDraft.{PacketDraft}
 use Rattle.ibc_script.specs.declared.draft.PacketDraft.TheVariants as packet
 use Rattle.ibc_script.specs.declared.draft.Draft.{Draft}
 use Rattle.ibc_script.specs.declared.draft.Draft.TheVariants as draft
-use Rattle.ibc_script.specs.declared.draft.Origin.{Origin}
-use Rattle.ibc_script_cli.specs.Answers.{Answers}
+use Rattle.ibc_script.specs.declared.draft.ProofSource.{ProofSource}
+use Rattle.ibc_script_cli.specs.ChainAnswers.{ChainAnswers}
 use Rattle.ibc_machine.specs.ics04.Proving.{recv_message, timeout_message}
-use Rattle.ibc_script_cli.specs.Completing.{connection_message, channel_message, acknowledged_message, closed_message, MakesHandled, MakesOfFound, MakesMessage}
-use Rattle.ibc_script_cli.specs.declared.completing.Claim.{Claim}
-use Rattle.ibc_script_cli.specs.declared.completing.packets.Handling.{Handling}
-use Rattle.ibc_script_cli.specs.declared.completing.packets.Handling.TheVariants as handling
+use Rattle.ibc_script_cli.specs.Completing.{connection_message, channel_message, acknowledged_message, closed_message, MakesPacketAction, MakesIfFound, MakesMessage}
+use Rattle.ibc_script_cli.specs.declared.completing.ClientClaim.{ClientClaim}
+use Rattle.ibc_script_cli.specs.declared.completing.packets.PacketAction.{PacketAction}
+use Rattle.ibc_script_cli.specs.declared.completing.packets.PacketAction.TheVariants as handling
 use Rattle.ibc_script_cli.specs.declared.completing.packets.Unreceived.{Unreceived}
-use Rattle.ibc_script_cli.specs.declared.heights.Heights.{Heights}
+use Rattle.ibc_script_cli.specs.declared.heights.CommittedHeights.{CommittedHeights}
 
 -- what is made is of a kind
 abbrev Has : MessageKind → Option Message → Type 0
@@ -35,7 +35,7 @@ Has k made = IfSome made (λ m. kind_of m ≡ k)
 abbrev Fits : Draft → Option Message → Type 0
 Fits d = Has (draft_kind d)
 
-of_connection : (d : ConnectionDraft) (proof_end : Option Text) (claim : Option Claim)
+of_connection : (d : ConnectionDraft) (proof_end : Option Text) (claim : Option ClientClaim)
     → Fits (draft.Connection d) (connection_message d proof_end claim)
 of_connection (connection.OpenInit id peer_client) proof_end claim = refl
 of_connection (connection.OpenTry id peer_client peer_connection from) None claim = tt
@@ -79,14 +79,14 @@ of_closed p height None proof = tt
 of_closed p height (Some shown) None = tt
 of_closed p height (Some shown) (Some proof) = refl
 
-abbrev kind_at : Handling → MessageKind
+abbrev kind_at : PacketAction → MessageKind
 kind_at handling.Recv = kind.RecvPacket
 kind_at handling.Ack = kind.AckPacket
 kind_at handling.Timeout = kind.Timeout
 kind_at handling.TimeoutOnClose = kind.TimeoutOnClose
 
-of_handled : (told : Answers) (on : ℕ) (h : Handling) (from : Origin) (p : Packet) (made : Option Message)
-    → MakesHandled told on h from p made → Has (kind_at h) made
+of_handled : (told : ChainAnswers) (on : ℕ) (h : PacketAction) (from : ProofSource) (p : Packet) (made : Option Message)
+    → MakesPacketAction told on h from p made → Has (kind_at h) made
 of_handled told on handling.Recv from p made m =
     subst (Has kind.RecvPacket) (sym m.2) (of_recv p from.height m.0)
 of_handled told on handling.Ack from p made m =
@@ -96,12 +96,12 @@ of_handled told on handling.Timeout from p made m =
 of_handled told on handling.TimeoutOnClose from p made m =
     subst (Has kind.TimeoutOnClose) (sym m.4) (of_closed p from.height m.0 m.1)
 
-of_found : (told : Answers) (on : ℕ) (h : Handling) (from : Origin) (found : Option Packet) (made : Option Message)
-    → MakesOfFound (MakesHandled told on h from) found made → Has (kind_at h) made
+of_found : (told : ChainAnswers) (on : ℕ) (h : PacketAction) (from : ProofSource) (found : Option Packet) (made : Option Message)
+    → MakesIfFound (MakesPacketAction told on h from) found made → Has (kind_at h) made
 of_found told on h from None made none = subst (Has (kind_at h)) (sym none) tt
 of_found told on h from (Some p) made m = of_handled told on h from p made m
 
-of_packet : (told : Answers) (heights : List Heights) (on : ℕ) (d : PacketDraft) (made : Option Message)
+of_packet : (told : ChainAnswers) (heights : List CommittedHeights) (on : ℕ) (d : PacketDraft) (made : Option Message)
     → MakesMessage told heights on (draft.Packet d) made → Fits (draft.Packet d) made
 of_packet told heights on (packet.Transfer m) made is = subst (Has kind.Transfer) (sym is) refl
 of_packet told heights on (packet.TransferMany t) made is = subst (Has kind.TransferMany) (sym is) refl
@@ -112,14 +112,14 @@ of_packet told heights on (packet.Timeout sent from) made m = of_found told on h
 of_packet told heights on (packet.TimeoutOnClose sent from) made m =
     of_found told on handling.TimeoutOnClose from m.0 made m.2
 
-of_client : (told : Answers) (heights : List Heights) (on : ℕ) (d : ClientDraft) (made : Option Message)
+of_client : (told : ChainAnswers) (heights : List CommittedHeights) (on : ℕ) (d : ClientDraft) (made : Option Message)
     → MakesMessage told heights on (draft.Client d) made → Fits (draft.Client d) made
 of_client told heights on (client.Create of) made m =
     subst (Has kind.CreateClient) (sym m.1) (ap kind_of m.2)
 of_client told heights on (client.Update id height) made m =
     subst (Has kind.UpdateClient) (sym m.1) (ap kind_of m.2.2)
 
-made_fits : (told : Answers) (heights : List Heights) (on : ℕ) (d : Draft) (made : Option Message)
+made_fits : (told : ChainAnswers) (heights : List CommittedHeights) (on : ℕ) (d : Draft) (made : Option Message)
     → MakesMessage told heights on d made → Fits d made
 made_fits told heights on (draft.Client d) made m = of_client told heights on d made m
 made_fits told heights on (draft.Connection d) made m =
@@ -129,7 +129,7 @@ made_fits told heights on (draft.Channel d) made m =
 made_fits told heights on (draft.Packet d) made m = of_packet told heights on d made m
 
 -- the message that a step becomes, if one is made, is of its kind
-pub are_of_kind : {E : Type 0} (told : Answers) (heights : List Heights) (on : ℕ) (d : Draft) (r : Result (Option Message) E)
+pub are_of_kind : {E : Type 0} (told : ChainAnswers) (heights : List CommittedHeights) (on : ℕ) (d : Draft) (r : Result (Option Message) E)
     → IfOk r (MakesMessage told heights on d) → IfOk r (λ made. IfSome made (λ m. kind_of m ≡ draft_kind d))
 are_of_kind told heights on d (Ok made) m = made_fits told heights on d made m
 are_of_kind told heights on d (Err e) m = tt

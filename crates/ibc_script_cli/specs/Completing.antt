@@ -18,11 +18,11 @@ use Rattle.ibc_wire.specs.declared.records.ConnectionEnd.{ConnectionEnd}
 use Rattle.ibc_wire.specs.declared.records.ChannelEnd.{ChannelEnd}
 use Rattle.ibc_wire.specs.declared.records.Order.{Order}
 use Rattle.ibc_wire.specs.declared.records.Order.TheVariants.{Unordered, Ordered}
-use Rattle.ibc_script_cli.specs.Answers.{Answers}
+use Rattle.ibc_script_cli.specs.ChainAnswers.{ChainAnswers}
 use Rattle.ibc_script_cli.specs.Heights.{kept_at}
-use Rattle.ibc_script_cli.specs.declared.completing.Claim.{Claim}
-use Rattle.ibc_script_cli.specs.declared.completing.packets.Handling.{Handling}
-use Rattle.ibc_script_cli.specs.declared.completing.packets.Handling.TheVariants as handling
+use Rattle.ibc_script_cli.specs.declared.completing.ClientClaim.{ClientClaim}
+use Rattle.ibc_script_cli.specs.declared.completing.packets.PacketAction.{PacketAction}
+use Rattle.ibc_script_cli.specs.declared.completing.packets.PacketAction.TheVariants as handling
 use Rattle.ibc_script_cli.specs.declared.completing.packets.Unreceived.{Unreceived}
 use Rattle.ibc_script.specs.declared.draft.ClientDraft.{ClientDraft}
 use Rattle.ibc_script.specs.declared.draft.ClientDraft.TheVariants as client
@@ -35,9 +35,9 @@ use Rattle.ibc_script.specs.declared.draft.PacketDraft.TheVariants as packet
 use Rattle.ibc_script.specs.declared.draft.SentPacket.{SentPacket}
 use Rattle.ibc_script.specs.declared.draft.Draft.{Draft}
 use Rattle.ibc_script.specs.declared.draft.Draft.TheVariants as draft
-use Rattle.ibc_script.specs.declared.draft.Origin.{Origin}
+use Rattle.ibc_script.specs.declared.draft.ProofSource.{ProofSource}
 use Rattle.ibc_script_cli.specs.declared.heights.Committed.{Committed}
-use Rattle.ibc_script_cli.specs.declared.heights.Heights.{Heights}
+use Rattle.ibc_script_cli.specs.declared.heights.CommittedHeights.{CommittedHeights}
 
 -- ---- what is proved
 
@@ -48,17 +48,17 @@ IsEncoding (Some proof) None = have_form (proof_fields proof) ≡ false
 IsEncoding (Some proof) (Some bytes) = bytes ≡ proof_bytes proof
 
 -- the encoding of the proof of a key
-abbrev pub IsProofAt : Answers → Origin → Key → Option Text → Type 0
-IsProofAt told from key bytes =
+abbrev pub IsProofBytesAt : ChainAnswers → ProofSource → Key → Option Text → Type 0
+IsProofBytesAt told from key bytes =
     (found : Option Proof) × told.proof from.chain from.height key found × IsEncoding found bytes
 
 -- the same, none where there is no key
-abbrev pub IsProofOf : Answers → Origin → Option Key → Option Text → Type 0
-IsProofOf told from None bytes = bytes ≡ None
-IsProofOf told from (Some key) bytes = IsProofAt told from key bytes
+abbrev pub IsProofBytesOf : ChainAnswers → ProofSource → Option Key → Option Text → Type 0
+IsProofBytesOf told from None bytes = bytes ≡ None
+IsProofBytesOf told from (Some key) bytes = IsProofBytesAt told from key bytes
 
 -- what a proof that was found shows of a client: its state, and the proof's encoding
-abbrev pub IsClaim : Option Proof → Option Claim → Type 0
+abbrev pub IsClaim : Option Proof → Option ClientClaim → Type 0
 IsClaim None claim = claim ≡ None
 IsClaim (Some (Absent absence)) claim = claim ≡ None
 IsClaim (Some (Present presence)) None =
@@ -68,7 +68,7 @@ IsClaim (Some (Present presence)) (Some claim) =
     Spells (client_state_fields claim.state) presence.value × (claim.proof ≡ proof_bytes (Present presence))
 
 -- what the proof of a client's state shows
-abbrev pub IsClaimAt : Answers → Origin → Text → Option Claim → Type 0
+abbrev pub IsClaimAt : ChainAnswers → ProofSource → Text → Option ClientClaim → Type 0
 IsClaimAt told from id claim =
     (found : Option Proof) × told.proof from.chain from.height (key.ClientState id) found × IsClaim found claim
 
@@ -80,16 +80,16 @@ header_from chain height None = record { chain = chain; height = height; time = 
 header_from chain height (Some known) =
     record { chain = chain; height = height; time = known.time; root = known.root }
 
-abbrev pub header_at : ℕ → ℕ → Option Heights → Option Header
+abbrev pub header_at : ℕ → ℕ → Option CommittedHeights → Option Header
 header_at chain height = option_map (λ heights. header_from chain height (kept_at heights.window heights.committed.items height))
 
 -- the header of an update: of the chain that the client tracks, and else of the step's own
-abbrev pub header_of : List Heights → ℕ → ℕ → Option ClientState → Header
+abbrev pub header_of : List CommittedHeights → ℕ → ℕ → Option ClientState → Header
 header_of heights on height None = header_from on height None
 header_of heights on height (Some state) =
     unwrap_or (header_at state.chain height (slice_get heights state.chain)) (header_from on height None)
 
-abbrev pub MakesClientMessage : Answers → List Heights → ℕ → ClientDraft → Message → Type 0
+abbrev pub MakesClientMessage : ChainAnswers → List CommittedHeights → ℕ → ClientDraft → Message → Type 0
 MakesClientMessage told heights on (client.Create of) made = made ≡ message.CreateClient (record { chain = of })
 MakesClientMessage told heights on (client.Update id height) made =
     (state : Option ClientState) × told.client on id state
@@ -98,7 +98,7 @@ MakesClientMessage told heights on (client.Update id height) made =
 -- ---- messages for connections
 
 -- with the proof of the peer's end, and what is claimed of the peer's client; none where one that it needs isn't there
-abbrev pub connection_message : ConnectionDraft → Option Text → Option Claim → Option Message
+abbrev pub connection_message : ConnectionDraft → Option Text → Option ClientClaim → Option Message
 connection_message (connection.OpenInit id peer_client) _ _ =
     Some (message.ConnOpenInit (record { client = id; peer_client = peer_client }))
 connection_message (connection.OpenTry id peer_client peer_connection from) (Some proof_end) (Some claim) =
@@ -125,15 +125,15 @@ connection_message (connection.OpenConfirm id from) (Some proof) _ =
 connection_message _ _ _ = None
 
 -- the proof of the peer's connection, and what is claimed of its client
-abbrev pub AreProofs : Answers → Origin → Text → Text → Option Text → Option Claim → Type 0
-AreProofs told from peer_connection peer_client proof_end claim =
-    IsProofAt told from (key.Connection peer_connection) proof_end × IsClaimAt told from peer_client claim
+abbrev pub AreBothProofs : ChainAnswers → ProofSource → Text → Text → Option Text → Option ClientClaim → Type 0
+AreBothProofs told from peer_connection peer_client proof_end claim =
+    IsProofBytesAt told from (key.Connection peer_connection) proof_end × IsClaimAt told from peer_client claim
 
 -- the same of the client that the own end names, none where there is no such end
-abbrev pub AreProofsFor : Answers → Origin → Text → Option ConnectionEnd → Option Text → Option Claim → Type 0
+abbrev pub AreProofsFor : ChainAnswers → ProofSource → Text → Option ConnectionEnd → Option Text → Option ClientClaim → Type 0
 AreProofsFor told from peer_connection None proof_end claim = (proof_end ≡ None) × (claim ≡ None)
 AreProofsFor told from peer_connection (Some own) proof_end claim =
-    AreProofs told from peer_connection own.peer_client proof_end claim
+    AreBothProofs told from peer_connection own.peer_client proof_end claim
 
 -- the key of the connection that an own end names as the peer's
 abbrev pub peer_connection_key : ConnectionEnd → Option Key
@@ -141,20 +141,20 @@ peer_connection_key own = option_map key.Connection own.peer_connection
 
 -- what a step needs: an answer proves the connection and the client that it names, what opens a connection proves the
 -- client that the own end names, and in the end the connection that the own end names
-abbrev pub AreConnectionProofs : Answers → ℕ → ConnectionDraft → Option Text → Option Claim → Type 0
+abbrev pub AreConnectionProofs : ChainAnswers → ℕ → ConnectionDraft → Option Text → Option ClientClaim → Type 0
 AreConnectionProofs told on (connection.OpenInit id peer_client) proof_end claim = (proof_end ≡ None) × (claim ≡ None)
 AreConnectionProofs told on (connection.OpenTry id peer_client peer_connection from) proof_end claim =
-    AreProofs told from peer_connection peer_client proof_end claim
+    AreBothProofs told from peer_connection peer_client proof_end claim
 AreConnectionProofs told on (connection.OpenAck id peer_connection from) proof_end claim =
     (own : Option ConnectionEnd) × told.connection on id own × AreProofsFor told from peer_connection own proof_end claim
 AreConnectionProofs told on (connection.OpenConfirm id from) proof claim =
     (own : Option ConnectionEnd) × told.connection on id own
-    × IsProofOf told from (option_and_then peer_connection_key own) proof × (claim ≡ None)
+    × IsProofBytesOf told from (option_and_then peer_connection_key own) proof × (claim ≡ None)
 
 -- the message that a step becomes, none where something that it needs isn't there
-abbrev pub MakesConnectionMessage : Answers → ℕ → ConnectionDraft → Option Message → Type 0
+abbrev pub MakesConnectionMessage : ChainAnswers → ℕ → ConnectionDraft → Option Message → Type 0
 MakesConnectionMessage told on d made =
-    (proof_end : Option Text) × (claim : Option Claim) × AreConnectionProofs told on d proof_end claim
+    (proof_end : Option Text) × (claim : Option ClientClaim) × AreConnectionProofs told on d proof_end claim
     × (made ≡ connection_message d proof_end claim)
 
 -- ---- messages for channels
@@ -197,21 +197,21 @@ abbrev pub answer_key : Text → ChannelEnd → Key
 answer_key peer_channel end = key.ChannelEnd end.peer_port peer_channel
 
 -- the proof of the end that the own end names as the peer's
-abbrev pub IsPeerProof : Answers → ℕ → Text → Text → Origin → Option Text → Type 0
+abbrev pub IsPeerProof : ChainAnswers → ℕ → Text → Text → ProofSource → Option Text → Type 0
 IsPeerProof told on port id from proof =
-    (own : Option ChannelEnd) × told.channel on port id own × IsProofOf told from (option_and_then peer_key own) proof
+    (own : Option ChannelEnd) × told.channel on port id own × IsProofBytesOf told from (option_and_then peer_key own) proof
 
 -- the proof of the end that a message names as the peer's
-abbrev pub IsAnswerProof : Answers → ℕ → Text → Text → Text → Origin → Option Text → Type 0
+abbrev pub IsAnswerProof : ChainAnswers → ℕ → Text → Text → Text → ProofSource → Option Text → Type 0
 IsAnswerProof told on port id peer_channel from proof =
     (own : Option ChannelEnd) × told.channel on port id own
-    × IsProofOf told from (option_map (answer_key peer_channel) own) proof
+    × IsProofBytesOf told from (option_map (answer_key peer_channel) own) proof
 
 -- what a step needs
-abbrev pub IsChannelProof : Answers → ℕ → ChannelDraft → Option Text → Type 0
+abbrev pub IsChannelProof : ChainAnswers → ℕ → ChannelDraft → Option Text → Type 0
 IsChannelProof told on (channel.OpenInit m) proof = proof ≡ None
 IsChannelProof told on (channel.OpenTry d) proof =
-    IsProofAt told d.from (key.ChannelEnd d.peer_port d.peer_channel) proof
+    IsProofBytesAt told d.from (key.ChannelEnd d.peer_port d.peer_channel) proof
 IsChannelProof told on (channel.OpenAck port id peer_channel from) proof =
     IsAnswerProof told on port id peer_channel from proof
 IsChannelProof told on (channel.OpenConfirm port id from) proof = IsPeerProof told on port id from proof
@@ -219,7 +219,7 @@ IsChannelProof told on (channel.CloseInit m) proof = proof ≡ None
 IsChannelProof told on (channel.CloseConfirm port id from) proof = IsPeerProof told on port id from proof
 
 -- the message that a step becomes, none where something that it needs isn't there
-abbrev pub MakesChannelMessage : Answers → ℕ → ChannelDraft → Option Message → Type 0
+abbrev pub MakesChannelMessage : ChainAnswers → ℕ → ChannelDraft → Option Message → Type 0
 MakesChannelMessage told on d made =
     (proof : Option Text) × IsChannelProof told on d proof × (made ≡ channel_message d proof)
 
@@ -230,9 +230,9 @@ abbrev pub number_in : Text → Option ℕ
 number_in bytes = if length bytes == 8 then Some (from_be_bytes w64 bytes) else None
 
 -- what shows that a packet wasn't received: the sequence that is received next, and a proof's encoding
-abbrev pub unreceived : Option ℕ → Option Text → Option Unreceived
-unreceived (Some next_recv) (Some proof) = Some (record { next_recv = next_recv; proof = proof })
-unreceived _ _ = None
+abbrev pub unreceived_proof : Option ℕ → Option Text → Option Unreceived
+unreceived_proof (Some next_recv) (Some proof) = Some (record { next_recv = next_recv; proof = proof })
+unreceived_proof _ _ = None
 
 -- the sequence that a proof that was found shows, and the proof's encoding
 abbrev pub IsNextRecv : Option Proof → Option Unreceived → Type 0
@@ -240,29 +240,29 @@ IsNextRecv None shown = shown ≡ None
 IsNextRecv (Some (Absent absence)) shown = shown ≡ None
 IsNextRecv (Some (Present presence)) shown =
     (proof : Option Text) × IsEncoding (Some (Present presence)) proof
-    × (shown ≡ unreceived (number_in presence.value) proof)
+    × (shown ≡ unreceived_proof (number_in presence.value) proof)
 
 -- by the order of the own end: the sequence that is received next, or that there is no receipt
-abbrev pub IsUnreceived : Answers → Origin → Packet → Order → Option Unreceived → Type 0
+abbrev pub IsUnreceived : ChainAnswers → ProofSource → Packet → Order → Option Unreceived → Type 0
 IsUnreceived told from p Ordered shown =
     (found : Option Proof) × told.proof from.chain from.height (next_recv_key p) found × IsNextRecv found shown
 IsUnreceived told from p Unordered shown =
-    (proof : Option Text) × IsProofAt told from (receipt_key p) proof × (shown ≡ unreceived (Some 0) proof)
+    (proof : Option Text) × IsProofBytesAt told from (receipt_key p) proof × (shown ≡ unreceived_proof (Some 0) proof)
 
 -- the same, none where there is no own end
-abbrev pub IsUnreceivedBy : Answers → Origin → Packet → Option ChannelEnd → Option Unreceived → Type 0
+abbrev pub IsUnreceivedBy : ChainAnswers → ProofSource → Packet → Option ChannelEnd → Option Unreceived → Type 0
 IsUnreceivedBy told from p None shown = shown ≡ None
 IsUnreceivedBy told from p (Some own) shown = IsUnreceived told from p own.order shown
 
 -- the own end is that of the packet's source, on the chain that is told
-abbrev pub IsUnreceivedAt : Answers → ℕ → Origin → Packet → Option Unreceived → Type 0
+abbrev pub IsUnreceivedAt : ChainAnswers → ℕ → ProofSource → Packet → Option Unreceived → Type 0
 IsUnreceivedAt told on from p shown =
     (own : Option ChannelEnd) × told.channel on p.source_port p.source_channel own × IsUnreceivedBy told from p own shown
 
 -- the packet was committed
-abbrev pub MakesRecv : Answers → Origin → Packet → Option Message → Type 0
+abbrev pub MakesRecv : ChainAnswers → ProofSource → Packet → Option Message → Type 0
 MakesRecv told from p made =
-    (proof : Option Text) × IsProofAt told from (commitment_key p) proof
+    (proof : Option Text) × IsProofBytesAt told from (commitment_key p) proof
     × (made ≡ option_map (recv_message p from.height) proof)
 
 abbrev pub acknowledged_message : Packet → ℕ → Option Text → Option Text → Option Message
@@ -270,13 +270,13 @@ acknowledged_message p height (Some ack) (Some proof) = Some (ack_message p heig
 acknowledged_message p height _ _ = None
 
 -- the acknowledgement is the one that was written, at whatever height
-abbrev pub MakesAck : Answers → Origin → Packet → Option Message → Type 0
+abbrev pub MakesAck : ChainAnswers → ProofSource → Packet → Option Message → Type 0
 MakesAck told from p made =
     (ack : Option Text) × (proof : Option Text)
-    × told.ack from.chain p.destination_port p.destination_channel p.sequence ack × IsProofAt told from (ack_key p) proof
+    × told.ack from.chain p.destination_port p.destination_channel p.sequence ack × IsProofBytesAt told from (ack_key p) proof
     × (made ≡ acknowledged_message p from.height ack proof)
 
-abbrev pub MakesTimeout : Answers → ℕ → Origin → Packet → Option Message → Type 0
+abbrev pub MakesTimeout : ChainAnswers → ℕ → ProofSource → Packet → Option Message → Type 0
 MakesTimeout told on from p made =
     (shown : Option Unreceived) × IsUnreceivedAt told on from p shown
     × (made ≡ option_map (λ (s : Unreceived). timeout_message p from.height s.next_recv s.proof) shown)
@@ -287,47 +287,47 @@ closed_message p height (Some shown) (Some proof_close) =
 closed_message p height _ _ = None
 
 -- and the peer's end is proved, which is to be closed
-abbrev pub MakesTimeoutOnClose : Answers → ℕ → Origin → Packet → Option Message → Type 0
+abbrev pub MakesTimeoutOnClose : ChainAnswers → ℕ → ProofSource → Packet → Option Message → Type 0
 MakesTimeoutOnClose told on from p made =
     (shown : Option Unreceived) × (proof_close : Option Text) × IsUnreceivedAt told on from p shown
-    × IsProofAt told from (destination_key p) proof_close × (made ≡ closed_message p from.height shown proof_close)
+    × IsProofBytesAt told from (destination_key p) proof_close × (made ≡ closed_message p from.height shown proof_close)
 
 -- by what the message does with the packet
-abbrev pub MakesHandled : Answers → ℕ → Handling → Origin → Packet → Option Message → Type 0
-MakesHandled told on handling.Recv from = MakesRecv told from
-MakesHandled told on handling.Ack from = MakesAck told from
-MakesHandled told on handling.Timeout from = MakesTimeout told on from
-MakesHandled told on handling.TimeoutOnClose from = MakesTimeoutOnClose told on from
+abbrev pub MakesPacketAction : ChainAnswers → ℕ → PacketAction → ProofSource → Packet → Option Message → Type 0
+MakesPacketAction told on handling.Recv from = MakesRecv told from
+MakesPacketAction told on handling.Ack from = MakesAck told from
+MakesPacketAction told on handling.Timeout from = MakesTimeout told on from
+MakesPacketAction told on handling.TimeoutOnClose from = MakesTimeoutOnClose told on from
 
 -- where there is a packet
-abbrev pub MakesOfFound : (Packet → Option Message → Type 0) → Option Packet → Option Message → Type 0
-MakesOfFound makes None made = made ≡ None
-MakesOfFound makes (Some p) made = makes p made
+abbrev pub MakesIfFound : (Packet → Option Message → Type 0) → Option Packet → Option Message → Type 0
+MakesIfFound makes None made = made ≡ None
+MakesIfFound makes (Some p) made = makes p made
 
 -- the packet is the one that the step names
-abbrev pub MakesOf : Answers → SentPacket → (Packet → Option Message → Type 0) → Option Message → Type 0
-MakesOf told sent makes made =
+abbrev pub MakesFromSentPacket : ChainAnswers → SentPacket → (Packet → Option Message → Type 0) → Option Message → Type 0
+MakesFromSentPacket told sent makes made =
     (found : Option Packet) × told.packet sent.chain sent.port sent.channel sent.sequence found
-    × MakesOfFound makes found made
+    × MakesIfFound makes found made
 
 -- the message that a step becomes, none where something that it needs isn't there; a packet is received with a proof
 -- of the chain that sent it
-abbrev pub MakesPacketMessage : Answers → ℕ → PacketDraft → Option Message → Type 0
+abbrev pub MakesPacketMessage : ChainAnswers → ℕ → PacketDraft → Option Message → Type 0
 MakesPacketMessage told on (packet.Transfer m) made = made ≡ Some (message.Transfer m)
 MakesPacketMessage told on (packet.TransferMany t) made = made ≡ Some (message.TransferMany t.message)
 MakesPacketMessage told on (packet.SendNote m) made = made ≡ Some (message.SendNote m)
 MakesPacketMessage told on (packet.Recv sent height) made =
-    MakesOf told sent (MakesHandled told on handling.Recv (record { chain = sent.chain; height = height })) made
-MakesPacketMessage told on (packet.Ack sent from) made = MakesOf told sent (MakesHandled told on handling.Ack from) made
+    MakesFromSentPacket told sent (MakesPacketAction told on handling.Recv (record { chain = sent.chain; height = height })) made
+MakesPacketMessage told on (packet.Ack sent from) made = MakesFromSentPacket told sent (MakesPacketAction told on handling.Ack from) made
 MakesPacketMessage told on (packet.Timeout sent from) made =
-    MakesOf told sent (MakesHandled told on handling.Timeout from) made
+    MakesFromSentPacket told sent (MakesPacketAction told on handling.Timeout from) made
 MakesPacketMessage told on (packet.TimeoutOnClose sent from) made =
-    MakesOf told sent (MakesHandled told on handling.TimeoutOnClose from) made
+    MakesFromSentPacket told sent (MakesPacketAction told on handling.TimeoutOnClose from) made
 
 -- ---- all messages
 
 -- the message that a step becomes, none where something that it needs isn't there
-abbrev pub MakesMessage : Answers → List Heights → ℕ → Draft → Option Message → Type 0
+abbrev pub MakesMessage : ChainAnswers → List CommittedHeights → ℕ → Draft → Option Message → Type 0
 MakesMessage told heights on (draft.Client d) made =
     (sent : Message) × (made ≡ Some sent) × MakesClientMessage told heights on d sent
 MakesMessage told heights on (draft.Connection d) made = MakesConnectionMessage told on d made

@@ -1,4 +1,4 @@
-pub mod Answers
+pub mod ChainAnswers
 pub mod Completing
 pub mod Heights
 pub mod Lines

@@ -13,19 +13,19 @@ use Rattle.ibc_machine.specs.declared.reply.Effect.TheVariants as effect
 use Rattle.ibc_machine.specs.declared.reply.Reply.{Reply}
 use Rattle.ibc_machine.specs.declared.reply.Reply.TheVariants as reply
 use Rattle.ibc_machine.specs.declared.totals.Totals.{Totals}
-use Rattle.ibc_script.specs.EventKinds.{name_of}
+use Rattle.ibc_script.specs.EventKinds.{kind_name_of}
 use Rattle.ibc_script_cli.specs.declared.line.Line.{Line}
 use Rattle.ibc_script_cli.specs.declared.line.Line.TheVariants as printed
 
 -- words with a blank between any two
-abbrev pub spaced : List Text → Text
-spaced [] = []
-spaced (word ∷ []) = word
-spaced (word ∷ next ∷ words) = word ++ (codes " " ++ spaced (next ∷ words))
+abbrev pub spaced_words : List Text → Text
+spaced_words [] = []
+spaced_words (word ∷ []) = word
+spaced_words (word ∷ next ∷ words) = word ++ (codes " " ++ spaced_words (next ∷ words))
 
 -- a byte of an acknowledgement as it is printed: `?` where it is no printable ASCII
-abbrev pub shown : ℕ → ℕ
-shown c = if nat_le 0x20 c && nat_le c 0x7e then c else 63
+abbrev pub printed_byte : ℕ → ℕ
+printed_byte c = if nat_le 0x20 c && nat_le c 0x7e then c else 63
 
 -- what an accepted event gives
 abbrev pub effect_words : Effect → List Text
@@ -34,7 +34,7 @@ effect_words (effect.Client id) = id ∷ []
 effect_words (effect.Connection id) = id ∷ []
 effect_words (effect.Channel id) = id ∷ []
 effect_words (effect.Sent sequence) = decimal sequence ∷ []
-effect_words (effect.Ack bytes) = map shown bytes ∷ []
+effect_words (effect.Ack bytes) = map printed_byte bytes ∷ []
 effect_words (effect.Block height root) = decimal height ∷ []
 
 abbrev pub reply_words : Reply → List Text
@@ -54,8 +54,8 @@ totals_words channel denom (Err refusal) = codes "no" ∷ decimal (number_of ref
 
 -- the words of a line
 abbrev pub line_words : Line → List Text
-line_words (printed.Reply chain kind answer) = chain.now ∷ name_of kind ∷ reply_words answer.now
-line_words (printed.Missing chain kind) = chain.now ∷ name_of kind ∷ codes "none" ∷ []
+line_words (printed.Reply chain kind answer) = chain.now ∷ kind_name_of kind ∷ reply_words answer.now
+line_words (printed.Missing chain kind) = chain.now ∷ kind_name_of kind ∷ codes "none" ∷ []
 line_words (printed.Balance chain account denom amount) =
     codes "balance" ∷ chain.now ∷ account_text account.now ∷ denom.now ∷ decimal amount ∷ []
 line_words (printed.Note chain channel index bytes) =
@@ -69,4 +69,4 @@ line_words (printed.Totals chain channel denom totals) =
 
 -- the text of a line
 abbrev pub line : Line → Text
-line printed_line = spaced (line_words printed_line)
+line printed_line = spaced_words (line_words printed_line)

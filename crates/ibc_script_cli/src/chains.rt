@@ -1,7 +1,7 @@
 //! The chains that the steps of a script are run on.
 
 ghost use Rattle.std.specs.Prelude.{IfOk};
-ghost use Rattle.ibc_script_cli.specs.Answers.{Answers, any_answers};
+ghost use Rattle.ibc_script_cli.specs.ChainAnswers.{ChainAnswers, any_answers};
 
 use ibc_ids::{
     Account, Bytes, ChannelId, ClientId, ConnectionId, Denom, Key, PortId, Refusal, Root,
@@ -20,7 +20,7 @@ pub struct EndedBlock {
 /// The chains that the steps of a script are run on, by their numbers. Each call is refused with `NoMemory` alone.
 pub trait Chains {
     // What the chains answer to the questions below.
-    ghost answers: { Self → Answers } = { λ _. any_answers };
+    ghost answers: { Self → ChainAnswers } = { λ _. any_answers };
 
     /// Asks a chain for an event.
     fn ask(&mut self, event: Event) -> Result<Reply, Refusal>;
@@ -79,7 +79,7 @@ pub trait Chains {
 }
 
 /// Chains that tell what they hold, by their numbers. Each call but `totals` is refused with `NoMemory` alone.
-pub trait Tells {
+pub trait Holdings {
     /// What a channel of port `transfer` of a chain has of a denomination, or why it has none.
     fn totals(&self, chain: u8, channel: &ChannelId, denom: &Denom) -> Result<Totals, Refusal>;
 

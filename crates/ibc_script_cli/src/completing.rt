@@ -3,7 +3,7 @@
 ghost use Rattle.std.specs.Prelude.{◌≡◌, Some, IfOk, IfErr, IfSome};
 ghost use Rattle.ibc_wire.specs.Kinds.{kind_of};
 ghost use Rattle.ibc_script.specs.EventKinds.{draft_kind};
-ghost use Rattle.ibc_script_cli.specs.Completing.{IsEncoding, IsClaim, IsProofAt, IsClaimAt, MakesMessage};
+ghost use Rattle.ibc_script_cli.specs.Completing.{IsEncoding, IsClaim, IsProofBytesAt, IsClaimAt, MakesMessage};
 
 mod channels;
 mod clients;
@@ -12,10 +12,10 @@ mod packet_keys;
 mod packets;
 
 use crate::Chains;
-use crate::heights::Heights;
+use crate::heights::CommittedHeights;
 use ibc_ids::{Bytes, ClientId, Key, Refusal};
 use ibc_merkle::{Presence, Proof};
-use ibc_script::{Draft, Fault, Origin};
+use ibc_script::{Draft, Fault, ProofSource};
 use ibc_wire::{ClientState, Message, decode, encode};
 use std::alloc::Global;
 
@@ -23,13 +23,13 @@ use std::alloc::Global;
 #[derive(Drop)]
 pub struct Completer<'r, C: Chains + Drop> {
     pub alloc: Global,
-    pub heights: &'r [Heights],
+    pub heights: &'r [CommittedHeights],
     pub chains: &'r C,
 }
 
 /// What is claimed of a client: its state, and the encoding of the proof that shows it.
 #[derive(Drop)]
-struct Claim {
+struct ClientClaim {
     state: ClientState,
     proof: Bytes,
 }
@@ -62,7 +62,7 @@ impl<C: Chains + Drop> Completer<'_, C> {
     }
 
     // What a chain proves of a key at a height, `None` where there is nothing.
-    fn found(&self, from: Origin, key: Key) -> Result<Option<Proof>, Fault>
+    fn found(&self, from: ProofSource, key: Key) -> Result<Option<Proof>, Fault>
         ensures found { IfOk result ((C.answers self.now.chains.now).proof from.chain from.height key) }
         ensures err { IfErr result (λ fault. fault ≡ Fault.NoMemory) }
     {
@@ -72,8 +72,8 @@ impl<C: Chains + Drop> Completer<'_, C> {
     }
 
     /// The encoding of the proof of a key at a height, `None` where there is none.
-    pub fn proof(&self, from: Origin, key: Key) -> Result<Option<Bytes>, Fault>
-        ensures is { IfOk result (IsProofAt (C.answers self.now.chains.now) from key) }
+    pub fn proof(&self, from: ProofSource, key: Key) -> Result<Option<Bytes>, Fault>
+        ensures is { IfOk result (IsProofBytesAt (C.answers self.now.chains.now) from key) }
         ensures err { IfErr result (λ fault. fault ≡ Fault.NoMemory) }
     {
         match self.found(from, key)? {
@@ -87,7 +87,7 @@ impl<C: Chains + Drop> Completer<'_, C> {
     }
 
     /// The state of a client at a height, with the encoding of the proof that shows it; `None` where there is none.
-    fn claim(&self, from: Origin, client: &ClientId) -> Result<Option<Claim>, Fault>
+    fn claim(&self, from: ProofSource, client: &ClientId) -> Result<Option<ClientClaim>, Fault>
         ensures is { IfOk result (IsClaimAt (C.answers self.now.chains.now) from client.now) }
         ensures err { IfErr result (λ fault. fault ≡ Fault.NoMemory) }
     {
@@ -103,7 +103,7 @@ impl<C: Chains + Drop> Completer<'_, C> {
 }
 
 /// What a proof shows of a client, `None` where it shows no state.
-fn claim_of(alloc: Global, proof: &Proof) -> Result<Option<Claim>, Fault>
+fn claim_of(alloc: Global, proof: &Proof) -> Result<Option<ClientClaim>, Fault>
     ensures is { IfOk result (IsClaim (Some proof.now)) }
     ensures err { IfErr result (λ fault. fault ≡ Fault.NoMemory) }
 {
@@ -116,7 +116,7 @@ fn claim_of(alloc: Global, proof: &Proof) -> Result<Option<Claim>, Fault>
         Err(_) => return Err(Fault::NoMemory),
     };
     match encoding_of(alloc, proof)? {
-        Some(proof) => Ok(Some(Claim { state, proof })),
+        Some(proof) => Ok(Some(ClientClaim { state, proof })),
         None => Ok(None),
     }
 }

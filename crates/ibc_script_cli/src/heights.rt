@@ -17,13 +17,13 @@ pub struct Committed {
 
 /// What one chain has committed, from height 1, and the time of its working block. The last `window` heights are kept.
 #[derive(Drop)]
-pub struct Heights {
+pub struct CommittedHeights {
     pub window: u64,
     pub working_time: u64,
     pub committed: Vec<Committed>,
 }
 
-impl Heights {
+impl CommittedHeights {
     /// What was committed at a height, `None` where the height isn't kept.
     pub fn at(&self, height: u64) -> Option<Committed>
         ensures { result ≡ kept_at self.now.window self.now.committed.items height }
@@ -62,11 +62,11 @@ impl Heights {
 }
 
 // What a chain has committed as it begins.
-fn begun(alloc: Global, window: u64, start: &ChainStart) -> Heights
+fn begun(alloc: Global, window: u64, start: &ChainStart) -> CommittedHeights
     ensures none { KeepsNone window result }
     ensures time { result.working_time ≡ start.now.time }
 {
-    Heights {
+    CommittedHeights {
         window,
         working_time: start.time,
         committed: Vec::new(alloc),
@@ -74,7 +74,7 @@ fn begun(alloc: Global, window: u64, start: &ChainStart) -> Heights
 }
 
 /// The heights of each chain of a genesis, none of them committed yet.
-pub fn heights_at(alloc: Global, genesis: &Genesis) -> Result<Vec<Heights>, AllocError>
+pub fn heights_at(alloc: Global, genesis: &Genesis) -> Result<Vec<CommittedHeights>, AllocError>
     ensures length { IfOk result (λ heights. length heights.items ≡ length genesis.now.chains.items) }
     ensures times { IfOk result (λ heights. map (λ h. h.working_time) heights.items ≡ map (λ start. start.time) genesis.now.chains.items) }
     ensures begun { IfOk result (λ heights. All (KeepsNone genesis.now.window) heights.items) }

@@ -13,10 +13,10 @@ mod runner;
 mod streams;
 mod words;
 
-pub use chains::{Chains, EndedBlock, Tells};
+pub use chains::{Chains, EndedBlock, Holdings};
 pub use line::{Line, line_text};
 pub use program::{Races, Worlds, drive};
-pub use racing::{Audited, Race};
+pub use racing::{Race, RaceAudit};
 pub use runner::Runner;
 pub use streams::{read_input, write_line};
 pub use words::{Command, read_words};

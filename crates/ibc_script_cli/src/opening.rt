@@ -1,20 +1,20 @@
 //! What the step `open` does in turn, and what the chains have given it.
 
 ghost use Rattle.std.specs.Prelude.{◌≡◌, IfOk, IfErr};
-ghost use Rattle.ibc_script_cli.specs.Opening.{new_party, with_given, origin_of, own_of, turn_draft, with_learnt};
+ghost use Rattle.ibc_script_cli.specs.Opening.{new_party, with_effect, origin_of, own_of, turn_draft, with_effect_at};
 
 mod drafts;
 
-use drafts::Drafting;
+use drafts::DraftWriter;
 use ibc_ids::{ChannelId, ClientId, ConnectionId};
 use ibc_machine::Effect;
-use ibc_script::{Application, Draft, EventKind, Fault, Origin};
+use ibc_script::{Application, Draft, EventKind, Fault, ProofSource};
 use ibc_wire::MessageKind;
 use std::alloc::Global;
 
 /// One of the two chains.
 #[derive(Clone, Copy, Debug, PartialEq, Eq, Drop)]
-pub enum Side {
+pub enum HandshakeSide {
     /// The chain that begins the handshakes.
     First,
     /// The chain that answers.
@@ -24,31 +24,70 @@ pub enum Side {
 /// The turns of an `open`, each a chain and what it does: clients of each other, then a connection (ICS 3, "Opening
 /// Handshake"), then a channel over it (ICS 4, "Opening handshake"). The peer is told of each height whose records a
 /// message proves.
-pub const PLAN: [(Side, EventKind); 20] = [
-    (Side::First, EventKind::Message(MessageKind::CreateClient)),
-    (Side::Second, EventKind::Message(MessageKind::CreateClient)),
-    (Side::First, EventKind::Message(MessageKind::ConnOpenInit)),
-    (Side::First, EventKind::Block),
-    (Side::Second, EventKind::Message(MessageKind::UpdateClient)),
-    (Side::Second, EventKind::Message(MessageKind::ConnOpenTry)),
-    (Side::Second, EventKind::Block),
-    (Side::First, EventKind::Message(MessageKind::UpdateClient)),
-    (Side::First, EventKind::Message(MessageKind::ConnOpenAck)),
-    (Side::First, EventKind::Message(MessageKind::ChanOpenInit)),
-    (Side::First, EventKind::Block),
-    (Side::Second, EventKind::Message(MessageKind::UpdateClient)),
+pub const PLAN: [(HandshakeSide, EventKind); 20] = [
     (
-        Side::Second,
+        HandshakeSide::First,
+        EventKind::Message(MessageKind::CreateClient),
+    ),
+    (
+        HandshakeSide::Second,
+        EventKind::Message(MessageKind::CreateClient),
+    ),
+    (
+        HandshakeSide::First,
+        EventKind::Message(MessageKind::ConnOpenInit),
+    ),
+    (HandshakeSide::First, EventKind::Block),
+    (
+        HandshakeSide::Second,
+        EventKind::Message(MessageKind::UpdateClient),
+    ),
+    (
+        HandshakeSide::Second,
+        EventKind::Message(MessageKind::ConnOpenTry),
+    ),
+    (HandshakeSide::Second, EventKind::Block),
+    (
+        HandshakeSide::First,
+        EventKind::Message(MessageKind::UpdateClient),
+    ),
+    (
+        HandshakeSide::First,
+        EventKind::Message(MessageKind::ConnOpenAck),
+    ),
+    (
+        HandshakeSide::First,
+        EventKind::Message(MessageKind::ChanOpenInit),
+    ),
+    (HandshakeSide::First, EventKind::Block),
+    (
+        HandshakeSide::Second,
+        EventKind::Message(MessageKind::UpdateClient),
+    ),
+    (
+        HandshakeSide::Second,
         EventKind::Message(MessageKind::ConnOpenConfirm),
     ),
-    (Side::Second, EventKind::Message(MessageKind::ChanOpenTry)),
-    (Side::Second, EventKind::Block),
-    (Side::First, EventKind::Message(MessageKind::UpdateClient)),
-    (Side::First, EventKind::Message(MessageKind::ChanOpenAck)),
-    (Side::First, EventKind::Block),
-    (Side::Second, EventKind::Message(MessageKind::UpdateClient)),
     (
-        Side::Second,
+        HandshakeSide::Second,
+        EventKind::Message(MessageKind::ChanOpenTry),
+    ),
+    (HandshakeSide::Second, EventKind::Block),
+    (
+        HandshakeSide::First,
+        EventKind::Message(MessageKind::UpdateClient),
+    ),
+    (
+        HandshakeSide::First,
+        EventKind::Message(MessageKind::ChanOpenAck),
+    ),
+    (HandshakeSide::First, EventKind::Block),
+    (
+        HandshakeSide::Second,
+        EventKind::Message(MessageKind::UpdateClient),
+    ),
+    (
+        HandshakeSide::Second,
         EventKind::Message(MessageKind::ChanOpenConfirm),
     ),
 ];
@@ -56,7 +95,7 @@ pub const PLAN: [(Side, EventKind); 20] = [
 /// A chain of an `open`, with the names that it has given, and the height that it has committed last, 0 before the
 /// first.
 #[derive(Drop)]
-pub struct Party {
+pub struct HandshakeParty {
     pub chain: u8,
     pub client: Option<ClientId>,
     pub connection: Option<ConnectionId>,
@@ -64,11 +103,11 @@ pub struct Party {
     pub height: u64,
 }
 
-impl Party {
-    fn new(chain: u8) -> Party
+impl HandshakeParty {
+    fn new(chain: u8) -> HandshakeParty
         ensures { result ≡ new_party chain }
     {
-        Party {
+        HandshakeParty {
             chain,
             client: None,
             connection: None,
@@ -78,7 +117,7 @@ impl Party {
     }
 
     fn learn(&mut self, effect: Effect)
-        ensures { self.new ≡ with_given effect self.old }
+        ensures { self.new ≡ with_effect effect self.old }
     {
         match effect {
             Effect::Client(client) => self.client = Some(client),
@@ -90,10 +129,10 @@ impl Party {
     }
 
     /// The height that it has committed last.
-    pub fn origin(&self) -> Origin
+    pub fn origin(&self) -> ProofSource
         ensures { result ≡ origin_of self.now }
     {
-        Origin {
+        ProofSource {
             chain: self.chain,
             height: self.height,
         }
@@ -102,31 +141,31 @@ impl Party {
 
 /// An `open` under way.
 #[derive(Drop)]
-pub struct Opening {
+pub struct Handshake {
     pub application: Application,
-    pub first: Party,
-    pub second: Party,
+    pub first: HandshakeParty,
+    pub second: HandshakeParty,
 }
 
-impl Opening {
+impl Handshake {
     /// An `open` of which nothing is done yet.
-    pub fn new(application: Application, first: u8, second: u8) -> Opening
+    pub fn new(application: Application, first: u8, second: u8) -> Handshake
         ensures { result ≡ record { application = application; first = new_party first; second = new_party second } }
     {
-        Opening {
+        Handshake {
             application,
-            first: Party::new(first),
-            second: Party::new(second),
+            first: HandshakeParty::new(first),
+            second: HandshakeParty::new(second),
         }
     }
 
     /// The chain of a side.
-    pub fn chain(&self, side: Side) -> u8
+    pub fn chain(&self, side: HandshakeSide) -> u8
         ensures { result ≡ (own_of side self.now).chain }
     {
         match side {
-            Side::First => self.first.chain,
-            Side::Second => self.second.chain,
+            HandshakeSide::First => self.first.chain,
+            HandshakeSide::Second => self.second.chain,
         }
     }
 
@@ -135,17 +174,17 @@ impl Opening {
     pub fn draft(
         &self,
         alloc: Global,
-        side: Side,
+        side: HandshakeSide,
         kind: MessageKind,
     ) -> Result<Option<Draft>, Fault>
         ensures made { IfOk result (λ made. made ≡ turn_draft side kind self.now) }
         ensures memory { IfErr result (λ fault. fault ≡ Fault.NoMemory) }
     {
         let (own, peer) = match side {
-            Side::First => (&self.first, &self.second),
-            Side::Second => (&self.second, &self.first),
+            HandshakeSide::First => (&self.first, &self.second),
+            HandshakeSide::Second => (&self.second, &self.first),
         };
-        let drafting = Drafting {
+        let drafting = DraftWriter {
             alloc,
             application: self.application,
             own,
@@ -155,12 +194,12 @@ impl Opening {
     }
 
     /// A chain has given this.
-    pub fn learn(&mut self, side: Side, effect: Effect)
-        ensures { self.new ≡ with_learnt side effect self.old }
+    pub fn learn(&mut self, side: HandshakeSide, effect: Effect)
+        ensures { self.new ≡ with_effect_at side effect self.old }
     {
         match side {
-            Side::First => self.first.learn(effect),
-            Side::Second => self.second.learn(effect),
+            HandshakeSide::First => self.first.learn(effect),
+            HandshakeSide::Second => self.second.learn(effect),
         }
     }
 }

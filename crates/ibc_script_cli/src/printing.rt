@@ -1,9 +1,9 @@
 //! The lines of a script are printed.
 
 ghost use Rattle.std.specs.Prelude.{◌≤◌, length, IfErr};
-ghost use Rattle.ibc_script.specs.Faults.{StopsRun};
+ghost use Rattle.ibc_script.specs.Faults.{IsRunFault};
 
-use crate::{Audited, Line, Tells, line_text, write_line};
+use crate::{Holdings, Line, RaceAudit, line_text, write_line};
 use ibc_ids::{Account, Bytes, ChannelId, Denom};
 use ibc_script::{ChainName, Fault};
 use std::alloc::Global;
@@ -11,7 +11,7 @@ use std::io::Write;
 
 /// Prints a line. Faults: `CannotWrite`, `NoMemory`.
 pub fn print<W: Write>(alloc: Global, output: &mut W, line: Line<'_>) -> Result<(), Fault>
-    ensures { IfErr result StopsRun }
+    ensures { IfErr result IsRunFault }
 {
     let text = line_text(alloc, line).map_err(Fault::no_memory)?;
     write_line(output, text.as_str())
@@ -24,7 +24,7 @@ fn print_amounts<W: Write>(
     amounts: &[(Account, Denom, u128)],
     output: &mut W,
 ) -> Result<(), Fault>
-    ensures { IfErr result StopsRun }
+    ensures { IfErr result IsRunFault }
 {
     for (account, denom, amount) in amounts {
         let line = Line::Balance {
@@ -39,14 +39,14 @@ fn print_amounts<W: Write>(
 }
 
 // Prints the balances of a chain.
-fn print_balances_of<C: Tells, W: Write>(
+fn print_balances_of<C: Holdings, W: Write>(
     alloc: Global,
     chain: &ChainName,
     number: u8,
     chains: &C,
     output: &mut W,
 ) -> Result<(), Fault>
-    ensures { IfErr result StopsRun }
+    ensures { IfErr result IsRunFault }
 {
     let balances = chains.balances(number).map_err(Fault::no_memory)?;
     let printed = print_amounts(alloc, chain, balances.as_slice(), output);
@@ -55,14 +55,14 @@ fn print_balances_of<C: Tells, W: Write>(
 }
 
 /// Prints the balances of all chains, in the chains' order. Faults: `CannotWrite`, `NoMemory`.
-pub fn print_balances<C: Tells, W: Write>(
+pub fn print_balances<C: Holdings, W: Write>(
     alloc: Global,
     names: &[ChainName],
     chains: &C,
     output: &mut W,
 ) -> Result<(), Fault>
     requires { length names.now ≤ 8 }
-    ensures { IfErr result StopsRun }
+    ensures { IfErr result IsRunFault }
 {
     for (number, chain) in names.iter().enumerate() {
         print_balances_of(alloc, chain, number as u8, chains, output)?;
@@ -78,7 +78,7 @@ fn print_notes_over<W: Write>(
     notes: &[Bytes],
     output: &mut W,
 ) -> Result<(), Fault>
-    ensures { IfErr result StopsRun }
+    ensures { IfErr result IsRunFault }
 {
     for (index, bytes) in notes.iter().enumerate() {
         let line = Line::Note {
@@ -99,7 +99,7 @@ fn print_channels<W: Write>(
     channels: &[(ChannelId, Vec<Bytes>)],
     output: &mut W,
 ) -> Result<(), Fault>
-    ensures { IfErr result StopsRun }
+    ensures { IfErr result IsRunFault }
 {
     for (channel, notes) in channels {
         print_notes_over(alloc, chain, channel, notes.as_slice(), output)?;
@@ -108,14 +108,14 @@ fn print_channels<W: Write>(
 }
 
 // Prints the notes of a chain.
-fn print_notes_of<C: Tells, W: Write>(
+fn print_notes_of<C: Holdings, W: Write>(
     alloc: Global,
     chain: &ChainName,
     number: u8,
     chains: &C,
     output: &mut W,
 ) -> Result<(), Fault>
-    ensures { IfErr result StopsRun }
+    ensures { IfErr result IsRunFault }
 {
     let notes = chains.notes(number).map_err(Fault::no_memory)?;
     let printed = print_channels(alloc, chain, notes.as_slice(), output);
@@ -124,14 +124,14 @@ fn print_notes_of<C: Tells, W: Write>(
 }
 
 /// Prints the notes of all chains, in the chains' order. Faults: `CannotWrite`, `NoMemory`.
-pub fn print_notes<C: Tells, W: Write>(
+pub fn print_notes<C: Holdings, W: Write>(
     alloc: Global,
     names: &[ChainName],
     chains: &C,
     output: &mut W,
 ) -> Result<(), Fault>
     requires { length names.now ≤ 8 }
-    ensures { IfErr result StopsRun }
+    ensures { IfErr result IsRunFault }
 {
     for (number, chain) in names.iter().enumerate() {
         print_notes_of(alloc, chain, number as u8, chains, output)?;
@@ -144,10 +144,10 @@ pub fn print_notes<C: Tells, W: Write>(
 pub fn print_audited<W: Write>(
     alloc: Global,
     names: &[ChainName],
-    audited: &Audited,
+    audited: &RaceAudit,
     output: &mut W,
 ) -> Result<(), Fault>
-    ensures { IfErr result StopsRun }
+    ensures { IfErr result IsRunFault }
 {
     for (chain, amounts) in names.iter().zip(audited.balances.iter()) {
         print_amounts(alloc, chain, amounts.as_slice(), output)?;
@@ -159,10 +159,10 @@ pub fn print_audited<W: Write>(
 fn print_audited_notes<W: Write>(
     alloc: Global,
     names: &[ChainName],
-    audited: &Audited,
+    audited: &RaceAudit,
     output: &mut W,
 ) -> Result<(), Fault>
-    ensures { IfErr result StopsRun }
+    ensures { IfErr result IsRunFault }
 {
     for (chain, channels) in names.iter().zip(audited.notes.iter()) {
         print_channels(alloc, chain, channels.as_slice(), output)?;

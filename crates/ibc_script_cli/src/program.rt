@@ -1,13 +1,13 @@
 //! The program, from its words and its input to the lines on its output.
 
 ghost use Rattle.std.specs.Prelude.{⊤, ◌≡◌, ◌⊎◌, ◌<◌, ◌≤◌, map, true, false, length, IfOk, IfErr, IfSome, IsErrOf, Err};
-ghost use Rattle.ibc_script.specs.Faults.{StopsRun, JudgesScript};
+ghost use Rattle.ibc_script.specs.Faults.{IsRunFault, IsScriptFault};
 ghost use Rattle.ibc_script_cli.specs.Words.{are_words};
 
-use crate::heights::{Heights, heights_at};
+use crate::heights::{CommittedHeights, heights_at};
 use crate::printing::print_audited;
 use crate::runner::Runner;
-use crate::{Audited, Chains, Command, Race, Tells, read_input, read_words};
+use crate::{Chains, Command, Holdings, Race, RaceAudit, read_input, read_words};
 use ibc_ids::Refusal;
 use ibc_machine::Genesis;
 use ibc_script::{ChainName, Fault, Script, read_script};
@@ -17,7 +17,7 @@ use std::io::{Read, Write};
 /// What makes the chains that a script is run on.
 pub trait Worlds {
     /// The chains that are made.
-    type Chains: Chains + Tells + Drop;
+    type Chains: Chains + Holdings + Drop;
 
     /// The chains of a genesis in the beginning. Refused: `BadMessage` where no chains begin so; `NoMemory`.
     fn begin(&self, genesis: &Genesis) -> Result<Self::Chains, Refusal>;
@@ -30,10 +30,10 @@ pub trait Races {
 
     /// Runs a race on chains of its genesis that threads share, with so many relayers at each `relay`, and tells what an audit
     /// of the chains finds at the end. Faults: `BadScript` where no chains begin so; those that stop a run.
-    fn race(&self, relayers: u8, race: Race) -> Result<Audited, Fault>
+    fn race(&self, relayers: u8, race: Race) -> Result<RaceAudit, Fault>
         requires may { Self.may_race self.now }
         requires few { 1 ≤ relayers × relayers ≤ 8 }
-        ensures { IfErr result (λ fault. StopsRun fault ⊎ JudgesScript fault) };
+        ensures { IfErr result (λ fault. IsRunFault fault ⊎ IsScriptFault fault) };
 }
 
 /// Does what the words after the program's name ask for: the script on the input is run on the chains of its genesis,
@@ -54,7 +54,7 @@ pub fn drive<S: Worlds, Q: Races, R: Read + Drop, W: Write>(
     ensures bad_arguments { IsErrOf result Fault.BadArguments → are_words (map (λ word. word.now) words.now) ≡ false }
     ensures words_first { are_words (map (λ word. word.now) words.now) ≡ false → (result ≡ Err Fault.BadArguments) ⊎ (result ≡ Err Fault.NoMemory) }
     ensures too_long { IfOk result (λ _. IfSome (R.remaining input) (λ known. length known < 1048577)) }
-    ensures unwritten { IfErr result (λ fault. StopsRun fault ⊎ (output.new ≡ output.old)) }
+    ensures unwritten { IfErr result (λ fault. IsRunFault fault ⊎ (output.new ≡ output.old)) }
 {
     let command = read_words(alloc, words)?;
     let bytes = read_input(alloc, input)?;
@@ -67,8 +67,8 @@ pub fn drive<S: Worlds, Q: Races, R: Read + Drop, W: Write>(
 
 /// What a script begins with: the heights of its chains, none committed yet, and the chains.
 #[derive(Drop)]
-struct Beginning<C: Chains + Drop> {
-    heights: Vec<Heights>,
+struct StartedScript<C: Chains + Drop> {
+    heights: Vec<CommittedHeights>,
     chains: C,
 }
 
@@ -77,13 +77,13 @@ fn begin<S: Worlds>(
     alloc: Global,
     worlds: &S,
     genesis: &Genesis,
-) -> Result<Beginning<S::Chains>, Fault>
+) -> Result<StartedScript<S::Chains>, Fault>
     ensures one_each { IfOk result (λ begun. length begun.heights.items ≡ length genesis.now.chains.items) }
-    ensures faults { IfErr result JudgesScript }
+    ensures faults { IfErr result IsScriptFault }
 {
     let heights = heights_at(alloc, genesis)?;
     match worlds.begin(genesis) {
-        Ok(chains) => Ok(Beginning { heights, chains }),
+        Ok(chains) => Ok(StartedScript { heights, chains }),
         Err(refusal) => {
             drop(heights);
             Err(Fault::of_refusal(refusal))
@@ -99,12 +99,12 @@ fn run_script<S: Worlds, W: Write>(
     script: Script,
     output: &mut W,
 ) -> Result<(), Fault>
-    ensures faults { IfErr result (λ fault. StopsRun fault ⊎ ((fault ≡ Fault.BadScript) × (output.new ≡ output.old))) }
+    ensures faults { IfErr result (λ fault. IsRunFault fault ⊎ ((fault ≡ Fault.BadScript) × (output.new ≡ output.old))) }
 {
     match begin(alloc, worlds, &script.genesis) {
         Ok(beginning) => {
             let Script { names, steps, .. } = script;
-            let Beginning { heights, chains } = beginning;
+            let StartedScript { heights, chains } = beginning;
             let mut runner = Runner::new(alloc, names, heights, chains);
             let ran = runner.run_all(steps, output);
             drop(runner);
@@ -128,7 +128,7 @@ fn race_script<Q: Races, W: Write>(
 ) -> Result<(), Fault>
     requires may { Q.may_race races.now }
     requires few { 1 ≤ relayers × relayers ≤ 8 }
-    ensures faults { IfErr result (λ fault. StopsRun fault ⊎ ((fault ≡ Fault.BadScript) × (output.new ≡ output.old))) }
+    ensures faults { IfErr result (λ fault. IsRunFault fault ⊎ ((fault ≡ Fault.BadScript) × (output.new ≡ output.old))) }
 {
     let names: Result<Vec<ChainName>, AllocError> = script.names.clone();
     let race = Race::new(alloc, script);
@@ -140,18 +140,18 @@ fn race_script<Q: Races, W: Write>(
 fn print_race<W: Write>(
     alloc: Global,
     names: &[ChainName],
-    audited: &Audited,
+    audited: &RaceAudit,
     output: &mut W,
 ) -> Result<(), Fault>
-    ensures { IfErr result StopsRun }
+    ensures { IfErr result IsRunFault }
 {
     flush_after(print_audited(alloc, names, audited, output), output)
 }
 
 /// Gives on what the output holds back, also where the run has stopped.
 fn flush_after<W: Write>(ran: Result<(), Fault>, output: &mut W) -> Result<(), Fault>
-    requires { IfErr ran StopsRun }
-    ensures { IfErr result StopsRun }
+    requires { IfErr ran IsRunFault }
+    ensures { IfErr result IsRunFault }
 {
     let flushed = output.flush();
     ran?;

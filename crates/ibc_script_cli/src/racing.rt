@@ -1,11 +1,11 @@
 //! Races: the steps of a script on chains that threads share.
 
 ghost use Rattle.std.specs.Prelude.{◌≡◌, length, All, IfErr};
-ghost use Rattle.ibc_script.specs.Faults.{StopsRun};
+ghost use Rattle.ibc_script.specs.Faults.{IsRunFault};
 ghost use Rattle.ibc_script.specs.Scripts.{IsAmong};
 
 use crate::Chains;
-use crate::heights::{Heights, heights_at};
+use crate::heights::{CommittedHeights, heights_at};
 use crate::runner::Runner;
 use ibc_ids::{Account, Bytes, ChannelId, Denom};
 use ibc_machine::Genesis;
@@ -15,7 +15,7 @@ use std::io;
 
 /// What an audit of chains tells, by their numbers.
 #[derive(Debug, Drop)]
-pub struct Audited {
+pub struct RaceAudit {
     /// Of each chain the amounts above 0, in the byte order of the accounts' texts and then of the denominations.
     pub balances: Vec<Vec<(Account, Denom, u128)>>,
     /// Of each chain the notes that came over each channel, the channels in the byte order of their names.
@@ -27,7 +27,7 @@ pub struct Audited {
 pub struct Race {
     alloc: Global,
     script: Script,
-    heights: Vec<Heights>,
+    heights: Vec<CommittedHeights>,
     ghost one_each: { length heights.items ≡ length script.names.items },
 }
 
@@ -71,7 +71,7 @@ impl Race {
     /// Takes the steps on chains that have committed nothing yet, and gives the chains back. Replies are not printed, and steps
     /// that only ask what chains have are passed over. Faults: those that stop a run.
     pub fn run_on<C: Chains + Drop>(self, chains: C) -> Result<C, Fault>
-        ensures { IfErr result StopsRun }
+        ensures { IfErr result IsRunFault }
     {
         let (mut runner, steps) = self.begin(chains);
         match runner.act_each(steps, &mut io::sink()) {

@@ -1,18 +1,18 @@
 //! The steps of a script are run.
 
 ghost use Rattle.std.specs.Prelude.{◌≡◌, ◌<◌, ◌≤◌, length, All, IfOk, IfErr};
-ghost use Rattle.ibc_script.specs.Faults.{StopsRun};
+ghost use Rattle.ibc_script.specs.Faults.{IsRunFault};
 ghost use Rattle.ibc_script.specs.Scripts.{IsAmong};
-ghost use Rattle.ibc_script_cli.specs.Opening.{own_of, given_by};
+ghost use Rattle.ibc_script_cli.specs.Opening.{own_of, effect_given_by};
 
 mod looking;
 mod relaying;
 
 use crate::completing::Completer;
-use crate::heights::Heights;
-use crate::opening::{Opening, PLAN, Side};
+use crate::heights::CommittedHeights;
+use crate::opening::{Handshake, HandshakeSide, PLAN};
 use crate::printing::{print, print_balances, print_notes};
-use crate::{Chains, EndedBlock, Line, Tells};
+use crate::{Chains, EndedBlock, Holdings, Line};
 use ibc_machine::{Effect, Event, Reply};
 use ibc_script::{ChainName, Draft, EventKind, Fault, Step};
 use ibc_wire::Message;
@@ -24,7 +24,7 @@ use std::io::Write;
 pub struct Runner<C: Chains + Drop> {
     alloc: Global,
     names: Vec<ChainName>,
-    heights: Vec<Heights>,
+    heights: Vec<CommittedHeights>,
     chains: C,
     ghost one_each: { length heights.items ≡ length names.items },
     ghost few: { length names.items ≤ 8 },
@@ -32,7 +32,7 @@ pub struct Runner<C: Chains + Drop> {
 
 /// What an accepted event gives, `None` where it was refused.
 fn given_by(reply: Reply) -> Option<Effect>
-    ensures { result ≡ given_by reply }
+    ensures { result ≡ effect_given_by reply }
 {
     match reply {
         Reply::Ok(effect) => Some(effect),
@@ -42,7 +42,12 @@ fn given_by(reply: Reply) -> Option<Effect>
 
 impl<C: Chains + Drop> Runner<C> {
     /// A run on chains that have committed nothing yet.
-    pub fn new(alloc: Global, names: Vec<ChainName>, heights: Vec<Heights>, chains: C) -> Runner<C>
+    pub fn new(
+        alloc: Global,
+        names: Vec<ChainName>,
+        heights: Vec<CommittedHeights>,
+        chains: C,
+    ) -> Runner<C>
         requires few { length names.items ≤ 8 }
         requires one_each { length heights.items ≡ length names.items }
         ensures { result.names ≡ names }
@@ -64,8 +69,8 @@ impl<C: Chains + Drop> Runner<C> {
         output: &mut W,
     ) -> Result<Option<Effect>, Fault>
         requires { on < length self.now.names.items }
-        ensures given { IfOk result (λ given. given ≡ given_by reply) }
-        ensures faults { IfErr result StopsRun }
+        ensures given { IfOk result (λ given. given ≡ effect_given_by reply) }
+        ensures faults { IfErr result IsRunFault }
     {
         let line = Line::Reply {
             chain: &self.names[on as usize],
@@ -90,7 +95,7 @@ impl<C: Chains + Drop> Runner<C> {
     ) -> Result<Option<Effect>, Fault>
         requires { on < length self.old.names.items }
         ensures same { self.new.names.items ≡ self.old.names.items }
-        ensures faults { IfErr result StopsRun }
+        ensures faults { IfErr result IsRunFault }
     {
         let kind = EventKind::Message(message.kind());
         let event = Event::Message { chain: on, message };
@@ -101,7 +106,7 @@ impl<C: Chains + Drop> Runner<C> {
     /// Prints that something that a message needs isn't there.
     fn print_missing<W: Write>(&self, on: u8, kind: EventKind, output: &mut W) -> Result<(), Fault>
         requires { on < length self.now.names.items }
-        ensures { IfErr result StopsRun }
+        ensures { IfErr result IsRunFault }
     {
         let chain = &self.names[on as usize];
         print(self.alloc, output, Line::Missing { chain, kind })
@@ -128,7 +133,7 @@ impl<C: Chains + Drop> Runner<C> {
     ) -> Result<Option<Effect>, Fault>
         requires { on < length self.old.names.items }
         ensures same { self.new.names.items ≡ self.old.names.items }
-        ensures faults { IfErr result StopsRun }
+        ensures faults { IfErr result IsRunFault }
     {
         let kind = draft.kind();
         match self.completer().complete(on, draft)? {
@@ -162,7 +167,7 @@ impl<C: Chains + Drop> Runner<C> {
     ) -> Result<Option<Effect>, Fault>
         requires { on < length self.old.names.items }
         ensures same { self.new.names.items ≡ self.old.names.items }
-        ensures faults { IfErr result StopsRun }
+        ensures faults { IfErr result IsRunFault }
     {
         let next_time = time.unwrap_or(self.heights[on as usize].working_time);
         let event = Event::Block {
@@ -182,14 +187,14 @@ impl<C: Chains + Drop> Runner<C> {
     /// Takes one turn of an `open`. The result is what the accepted event gives.
     fn take<W: Write>(
         &mut self,
-        opening: &Opening,
-        side: Side,
+        opening: &Handshake,
+        side: HandshakeSide,
         kind: EventKind,
         output: &mut W,
     ) -> Result<Option<Effect>, Fault>
         requires { (own_of side opening.now).chain < length self.old.names.items }
         ensures same { self.new.names.items ≡ self.old.names.items }
-        ensures faults { IfErr result StopsRun }
+        ensures faults { IfErr result IsRunFault }
     {
         let on = opening.chain(side);
         let EventKind::Message(kind) = kind else {
@@ -204,8 +209,8 @@ impl<C: Chains + Drop> Runner<C> {
     // Takes one turn of an `open`, which learns what it gives. The result is whether the next turn is to be taken.
     fn take_and_learn<W: Write>(
         &mut self,
-        opening: &mut Opening,
-        side: Side,
+        opening: &mut Handshake,
+        side: HandshakeSide,
         kind: EventKind,
         output: &mut W,
     ) -> Result<bool, Fault>
@@ -214,7 +219,7 @@ impl<C: Chains + Drop> Runner<C> {
         ensures same { self.new.names.items ≡ self.old.names.items }
         ensures first { opening.new.first.chain ≡ opening.old.first.chain }
         ensures second { opening.new.second.chain ≡ opening.old.second.chain }
-        ensures faults { IfErr result StopsRun }
+        ensures faults { IfErr result IsRunFault }
     {
         match self.take(opening, side, kind, output)? {
             Some(effect) => {
@@ -226,11 +231,11 @@ impl<C: Chains + Drop> Runner<C> {
     }
 
     // Takes the turns of an `open`, up to the first that gives nothing.
-    fn take_each<W: Write>(&mut self, opening: &mut Opening, output: &mut W) -> Result<(), Fault>
+    fn take_each<W: Write>(&mut self, opening: &mut Handshake, output: &mut W) -> Result<(), Fault>
         requires first { opening.old.first.chain < length self.old.names.items }
         requires second { opening.old.second.chain < length self.old.names.items }
         ensures same { self.new.names.items ≡ self.old.names.items }
-        ensures faults { IfErr result StopsRun }
+        ensures faults { IfErr result IsRunFault }
     {
         for (side, kind) in &PLAN {
             if !self.take_and_learn(opening, *side, *kind, output)? {
@@ -242,11 +247,11 @@ impl<C: Chains + Drop> Runner<C> {
 
     /// Opens a channel of an application between two chains, on a new connection between new clients. After a refusal,
     /// and where something that a message needs isn't there, the rest is left out.
-    fn open<W: Write>(&mut self, mut opening: Opening, output: &mut W) -> Result<(), Fault>
+    fn open<W: Write>(&mut self, mut opening: Handshake, output: &mut W) -> Result<(), Fault>
         requires first { opening.first.chain < length self.old.names.items }
         requires second { opening.second.chain < length self.old.names.items }
         ensures same { self.new.names.items ≡ self.old.names.items }
-        ensures faults { IfErr result StopsRun }
+        ensures faults { IfErr result IsRunFault }
     {
         let opened = self.take_each(&mut opening, output);
         drop(opening);
@@ -258,7 +263,7 @@ impl<C: Chains + Drop> Runner<C> {
     pub fn act<W: Write>(&mut self, step: Step, output: &mut W) -> Result<(), Fault>
         requires { IsAmong (length self.old.names.items) step }
         ensures same { self.new.names.items ≡ self.old.names.items }
-        ensures faults { IfErr result StopsRun }
+        ensures faults { IfErr result IsRunFault }
     {
         match step {
             Step::Message { on, draft } => self.submit(on, draft, output).map(drop),
@@ -267,7 +272,7 @@ impl<C: Chains + Drop> Runner<C> {
                 first,
                 second,
                 application,
-            } => self.open(Opening::new(application, first, second), output),
+            } => self.open(Handshake::new(application, first, second), output),
             Step::Relay {
                 first,
                 second,
@@ -282,7 +287,7 @@ impl<C: Chains + Drop> Runner<C> {
     pub fn act_each<W: Write>(&mut self, steps: Vec<Step>, output: &mut W) -> Result<(), Fault>
         requires { All (IsAmong (length self.old.names.items)) steps.items }
         ensures same { self.new.names.items ≡ self.old.names.items }
-        ensures faults { IfErr result StopsRun }
+        ensures faults { IfErr result IsRunFault }
     {
         for step in steps {
             self.act(step, output)?;
@@ -309,11 +314,11 @@ impl<C: Chains + Drop> Runner<C> {
     }
 }
 
-impl<C: Chains + Tells + Drop> Runner<C> {
+impl<C: Chains + Holdings + Drop> Runner<C> {
     fn run<W: Write>(&mut self, step: Step, output: &mut W) -> Result<(), Fault>
         requires { IsAmong (length self.old.names.items) step }
         ensures same { self.new.names.items ≡ self.old.names.items }
-        ensures faults { IfErr result StopsRun }
+        ensures faults { IfErr result IsRunFault }
     {
         match step {
             Step::Root { on, height } => self.print_root(on, height, output),
@@ -326,7 +331,7 @@ impl<C: Chains + Tells + Drop> Runner<C> {
     /// Runs steps in turn, and prints their lines.
     fn run_each<W: Write>(&mut self, steps: Vec<Step>, output: &mut W) -> Result<(), Fault>
         requires { All (IsAmong (length self.old.names.items)) steps.items }
-        ensures { IfErr result StopsRun }
+        ensures { IfErr result IsRunFault }
     {
         for step in steps {
             self.run(step, output)?;
@@ -338,7 +343,7 @@ impl<C: Chains + Tells + Drop> Runner<C> {
     /// `NoMemory`; what was written stays written.
     pub fn run_all<W: Write>(&mut self, steps: Vec<Step>, output: &mut W) -> Result<(), Fault>
         requires { All (IsAmong (length self.old.names.items)) steps.items }
-        ensures { IfErr result StopsRun }
+        ensures { IfErr result IsRunFault }
     {
         self.run_each(steps, output)?;
         let names = self.names.as_slice();

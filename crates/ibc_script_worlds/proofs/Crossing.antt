@@ -14,18 +14,18 @@ use Rattle.ibc_machine.proofs.entry.Entry.TheSendSync as entry
 use Rattle.ibc_root_table.proofs.table.RootTable.TheSendSync as root_table
 use Rattle.ibc_root_table.proofs.table.Pass.TheSendSync as pass
 use Rattle.ibc_ledger.proofs.view.View.TheSendSync as view
-use Rattle.ibc_ledger.proofs.node.Node.TheSendSync as node
+use Rattle.ibc_ledger.proofs.host_state.HostState.TheSendSync as node
 use Rattle.ibc_ledger.specs.contracts.entry.StampedEntry as StampedEntry
 use Rattle.ibc_ledger.specs.contracts.ledger.Ledger as Ledger
 use Rattle.ibc_ledger.specs.contracts.ledger.Ledger.TheInside as InLedger
 use Rattle.ibc_ledger.proofs.places.SentPackets.TheSendSync as sent
 use Rattle.ibc_ledger_lock.proofs.board.Board.TheSendSync as board
-use Rattle.ibc_ledger_lock.specs.declared.world.World.{Ghosts}
-use Rattle.ibc_ledger_lock.specs.contracts.book.Knowledge as Knowledge
+use Rattle.ibc_ledger_lock.specs.declared.world.WorldBrand.{Ghosts}
+use Rattle.ibc_ledger_lock.specs.contracts.book.BookKnowledge as Knowledge
 use Rattle.ibc_ledger_lock.specs.contracts.book.OneHistory as OneHistory
-use Rattle.ibc_ledger_lock.specs.contracts.book.OneHistoryTableRuleUnitKnowledgeUnit.TheImpl as rule
-use Rattle.ibc_ledger_lock.specs.contracts.desk.Desk as Desk
-use Rattle.ibc_ledger_lock.specs.contracts.desk.Desk.TheInside as InDesk
+use Rattle.ibc_ledger_lock.specs.contracts.book.OneHistoryTableRuleUnitBookKnowledgeUnit.TheImpl as rule
+use Rattle.ibc_ledger_lock.specs.contracts.locked_ledger.LockedLedger as Desk
+use Rattle.ibc_ledger_lock.specs.contracts.locked_ledger.LockedLedger.TheInside as InDesk
 use Rattle.ibc_ledger_lock.specs.contracts.chain.Chain as Chain
 
 entry_send : IsSend StampedEntry.the_row

@@ -2,15 +2,15 @@
 use Rattle.std.proofs.Common.{◌≡◌, ℕ, List, sym, subst}
 use Rattle.ibc_machine.specs.chain.Genesis.{GenesisState}
 use Rattle.ibc_root_table.specs.Passes.{TableName}
-use Rattle.ibc_ledger.specs.Held.{HeldLedger}
-use Rattle.ibc_ledger_lock.specs.Worlds.{Told}
+use Rattle.ibc_ledger.specs.LedgerModel.{LedgerModel}
+use Rattle.ibc_ledger_lock.specs.ReceiptsAndReadings.{ReceiptModel}
 use Rattle.ibc_world_core.specs.declared.holdings.Audit.{Audit}
 use Rattle.ibc_theorem.specs.EveryAudit.{AreLawful}
 use Rattle.ibc_race.specs.SharedWorlds.{IsAuditOf}
-use Rattle.ibc_script_cli.specs.declared.racing.Audited.{Audited}
+use Rattle.ibc_script_cli.specs.declared.racing.RaceAudit.{RaceAudit}
 use Rattle.ibc_script_worlds.specs.Racing.{IsRaceOf}
 
-pub raced : (table : TableName) (genesis : GenesisState) (n : ℕ) (receipts : List Told) (readings : List HeldLedger) (audit : Audit) (told : Audited)
+pub raced : (table : TableName) (genesis : GenesisState) (n : ℕ) (receipts : List ReceiptModel) (readings : List LedgerModel) (audit : Audit) (told : RaceAudit)
     → IsAuditOf table genesis n receipts readings audit → told.balances ≡ audit.balances → told.notes ≡ audit.notes → IsRaceOf genesis told
 raced table genesis n receipts readings audit told is balances notes =
     let same : audit ≡ record { balances = told.balances; notes = told.notes } = λ i. record { balances = sym balances i; notes = sym notes i } in (

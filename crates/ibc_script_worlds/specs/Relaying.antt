@@ -2,5 +2,5 @@
 use Rattle.ibc_machine.specs.ledger.Ledgers.{Ledger, state_of}
 use Rattle.ibc_machine.specs.ics18.Relay.{View, view_of}
 
-abbrev pub seen : Ledger → View
-seen ledger = view_of ledger.chain (state_of ledger).chain
+abbrev pub view_of_ledger : Ledger → View
+view_of_ledger ledger = view_of ledger.chain (state_of ledger).chain

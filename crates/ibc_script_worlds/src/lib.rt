@@ -6,7 +6,7 @@ mod relaying;
 mod sharing;
 mod worlds;
 
-pub use racing::{NewRaces, race_on_ledgers};
+pub use racing::{RaceRunner, race_on_ledgers};
 pub use relaying::plans_between;
 pub use sharing::Shared;
-pub use worlds::{Ledgers, NewWorlds};
+pub use worlds::{ScriptWorld, WorldFactory};

@@ -2,7 +2,7 @@
 
 ghost use Rattle.std.specs.Prelude.{◌≡◌, ◌⊎◌, ◌<◌, ◌≤◌, length, All, IfErr, IfOk};
 ghost use denote.Param.Send.{IsSync};
-ghost use Rattle.ibc_script.specs.Faults.{JudgesScript, StopsRun};
+ghost use Rattle.ibc_script.specs.Faults.{IsScriptFault, IsRunFault};
 ghost use Rattle.ibc_script.specs.Scripts.{IsAmong};
 ghost use Rattle.ibc_machine.specs.chain.Genesis.{genesis_state};
 ghost use Rattle.ibc_race.specs.SharedWorlds.{HasItsBook};
@@ -10,10 +10,10 @@ ghost use Rattle.ibc_script_worlds.specs.Racing.{IsRaceOf};
 
 use crate::sharing::Shared;
 use ibc_ledger::Ledger;
-use ibc_ledger_lock::{Chain, Opened, World};
+use ibc_ledger_lock::{Chain, UnusedBook, WorldBrand};
 use ibc_race::{audit_chains, begin, share};
 use ibc_script::{Fault, Step};
-use ibc_script_cli::{Audited, Race, Races, Runner};
+use ibc_script_cli::{Race, RaceAudit, Races, Runner};
 use ibc_world_core::Audit;
 use std::alloc::Global;
 use std::io;
@@ -23,22 +23,22 @@ use std::thread::Threads;
 
 /// Runs races on ledgers that threads share, with the leave to start threads and to wait.
 #[derive(Drop)]
-pub struct NewRaces<'r, R: Threads + Wait + Sync> {
+pub struct RaceRunner<'r, R: Threads + Wait + Sync> {
     rt: &'r R,
     alloc: Global,
 }
 
-impl<'r, R: Threads + Wait + Sync> NewRaces<'r, R> {
+impl<'r, R: Threads + Wait + Sync> RaceRunner<'r, R> {
     /// What runs races, with its leave and its memory from here.
-    pub fn new(rt: &'r R, alloc: Global) -> NewRaces<'r, R> {
-        NewRaces { rt, alloc }
+    pub fn new(rt: &'r R, alloc: Global) -> RaceRunner<'r, R> {
+        RaceRunner { rt, alloc }
     }
 }
 
-impl<R: Threads + Wait + Sync> Races for NewRaces<'_, R> {
+impl<R: Threads + Wait + Sync> Races for RaceRunner<'_, R> {
     ghost may_race = { λ _. IsSync R.row };
 
-    fn race(&self, relayers: u8, race: Race) -> Result<Audited, Fault> {
+    fn race(&self, relayers: u8, race: Race) -> Result<RaceAudit, Fault> {
         race_on_ledgers(self.rt, self.alloc, relayers, race)
     }
 }
@@ -51,10 +51,10 @@ pub fn race_on_ledgers<R: Threads + Wait + Sync>(
     alloc: Global,
     relayers: u8,
     race: Race,
-) -> Result<Audited, Fault>
+) -> Result<RaceAudit, Fault>
     requires { 1 ≤ relayers × relayers ≤ 8 }
     ensures raced { IfOk result (IsRaceOf (genesis_state race.script.genesis)) }
-    ensures faults { IfErr result (λ fault. StopsRun fault ⊎ JudgesScript fault) }
+    ensures faults { IfErr result (λ fault. IsRunFault fault ⊎ IsScriptFault fault) }
 {
     match begin(alloc, race.genesis()) {
         Ok(ledgers) => race_on::<R, Brand>(rt, alloc, relayers, ledgers, race),
@@ -66,17 +66,17 @@ pub fn race_on_ledgers<R: Threads + Wait + Sync>(
 }
 
 // Runs a race on ledgers of the world.
-fn race_on<R: Threads + Wait + Sync, W: World + Send + Sync>(
+fn race_on<R: Threads + Wait + Sync, W: WorldBrand + Send + Sync>(
     rt: &R,
     alloc: Global,
     relayers: u8,
-    ledgers: Vec<(Ledger, Opened)>,
+    ledgers: Vec<(Ledger, UnusedBook)>,
     race: Race,
-) -> Result<Audited, Fault>
+) -> Result<RaceAudit, Fault>
     requires few { 1 ≤ relayers × relayers ≤ 8 }
     requires books { All (HasItsBook W.table W.genesis W.book) ledgers.items }
     ensures raced { IfOk result (IsRaceOf W.genesis) }
-    ensures faults { IfErr result (λ fault. StopsRun fault ⊎ JudgesScript fault) }
+    ensures faults { IfErr result (λ fault. IsRunFault fault ⊎ IsScriptFault fault) }
 {
     let chains = match share::<R, W>(rt, alloc, ledgers) {
         Ok(chains) => chains,
@@ -99,14 +99,14 @@ fn race_on<R: Threads + Wait + Sync, W: World + Send + Sync>(
 }
 
 // Takes the steps in turn.
-fn take_each<R: Threads + Wait + Sync, W: World + Send + Sync>(
+fn take_each<R: Threads + Wait + Sync, W: WorldBrand + Send + Sync>(
     relayers: u8,
     runner: &mut Runner<Shared<'_, R, W>>,
     steps: Vec<Step>,
 ) -> Result<(), Fault>
     requires few { 1 ≤ relayers × relayers ≤ 8 }
     requires among { All (IsAmong (length runner.old.names.items)) steps.items }
-    ensures { IfErr result StopsRun }
+    ensures { IfErr result IsRunFault }
 {
     for step in steps {
         take(relayers, runner, step)?;
@@ -115,7 +115,7 @@ fn take_each<R: Threads + Wait + Sync, W: World + Send + Sync>(
 }
 
 // Takes a step; at a `relay`, relayers work at the same time first.
-fn take<R: Threads + Wait + Sync, W: World + Send + Sync>(
+fn take<R: Threads + Wait + Sync, W: WorldBrand + Send + Sync>(
     relayers: u8,
     runner: &mut Runner<Shared<'_, R, W>>,
     step: Step,
@@ -123,7 +123,7 @@ fn take<R: Threads + Wait + Sync, W: World + Send + Sync>(
     requires few { 1 ≤ relayers × relayers ≤ 8 }
     requires among { IsAmong (length runner.old.names.items) step }
     ensures same { runner.new.names.items ≡ runner.old.names.items }
-    ensures faults { IfErr result StopsRun }
+    ensures faults { IfErr result IsRunFault }
 {
     let raced = match &step {
         Step::Relay {
@@ -143,7 +143,7 @@ fn take<R: Threads + Wait + Sync, W: World + Send + Sync>(
 }
 
 // Has relayers work at the same time between two chains, and keeps the blocks that these ended meanwhile.
-fn relay_at_once<R: Threads + Wait + Sync, W: World + Send + Sync>(
+fn relay_at_once<R: Threads + Wait + Sync, W: WorldBrand + Send + Sync>(
     relayers: u8,
     runner: &mut Runner<Shared<'_, R, W>>,
     chains: (u8, u8),
@@ -153,7 +153,7 @@ fn relay_at_once<R: Threads + Wait + Sync, W: World + Send + Sync>(
     requires first { chains.0 < length runner.old.names.items }
     requires second { chains.1 < length runner.old.names.items }
     ensures same { runner.new.names.items ≡ runner.old.names.items }
-    ensures faults { IfErr result StopsRun }
+    ensures faults { IfErr result IsRunFault }
 {
     let (first, second) = chains;
     let ended = runner.chains().relay_between(relayers, chains, turns);
@@ -167,9 +167,9 @@ fn relay_at_once<R: Threads + Wait + Sync, W: World + Send + Sync>(
 }
 
 // What chains of the world come to.
-fn audited<W: World>(alloc: Global, chains: Vec<Chain<W>>) -> Result<Audited, Fault>
+fn audited<W: WorldBrand>(alloc: Global, chains: Vec<Chain<W>>) -> Result<RaceAudit, Fault>
     ensures raced { IfOk result (IsRaceOf W.genesis) }
-    ensures faults { IfErr result JudgesScript }
+    ensures faults { IfErr result IsScriptFault }
 {
     let mut receipts = Vec::new(alloc);
     let mut readings = Vec::new(alloc);
@@ -185,9 +185,9 @@ fn audited<W: World>(alloc: Global, chains: Vec<Chain<W>>) -> Result<Audited, Fa
 }
 
 // What an audit tells.
-fn told(audit: Audit) -> Audited
+fn told(audit: Audit) -> RaceAudit
     ensures { (result.balances ≡ audit.balances) × (result.notes ≡ audit.notes) }
 {
     let Audit { balances, notes } = audit;
-    Audited { balances, notes }
+    RaceAudit { balances, notes }
 }

@@ -3,7 +3,7 @@
 ghost use Rattle.std.specs.Prelude.{◌≡◌, IfOk, IfErr};
 ghost use Rattle.ibc_ids.specs.declared.refusal.Refusal.TheVariants.{NoMemory};
 ghost use Rattle.ibc_machine.specs.ics18.Relay as relay;
-ghost use Rattle.ibc_script_worlds.specs.Relaying.{seen};
+ghost use Rattle.ibc_script_worlds.specs.Relaying.{view_of_ledger};
 
 use ibc_ids::Refusal;
 use ibc_ledger::Ledger;
@@ -18,8 +18,8 @@ pub fn plans_between(
     first: &Ledger,
     second: &Ledger,
 ) -> Result<(Vec<Message>, Vec<Message>), Refusal>
-    ensures second { IfOk result (λ plans. plans.0.items ≡ relay.plan (seen first.now.ledger) (seen second.now.ledger)) }
-    ensures first { IfOk result (λ plans. plans.1.items ≡ relay.plan (seen second.now.ledger) (seen first.now.ledger)) }
+    ensures second { IfOk result (λ plans. plans.0.items ≡ relay.plan (view_of_ledger first.now.ledger) (view_of_ledger second.now.ledger)) }
+    ensures first { IfOk result (λ plans. plans.1.items ≡ relay.plan (view_of_ledger second.now.ledger) (view_of_ledger first.now.ledger)) }
     ensures err { IfErr result (λ refusal. refusal ≡ NoMemory) }
 {
     let first = first.view()?;

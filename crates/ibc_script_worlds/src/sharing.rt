@@ -6,7 +6,7 @@ ghost use Rattle.ibc_ids.specs.declared.refusal.Refusal.TheVariants.{NoMemory};
 use crate::worlds::decoded;
 use ibc_ids::{Bytes, ChannelId, ClientId, ConnectionId, Key, PortId, Refusal};
 use ibc_ledger::StampedEntry;
-use ibc_ledger_lock::{Chain, World};
+use ibc_ledger_lock::{Chain, WorldBrand};
 use ibc_machine::{Effect, Entry, Event, Reply};
 use ibc_merkle::Proof;
 use ibc_relayer::{plans, relay_all};
@@ -18,13 +18,13 @@ use std::thread::Threads;
 
 /// Chains that threads share, as the steps of a script see them.
 #[derive(Drop)]
-pub struct Shared<'r, R: Wait, W: World> {
+pub struct Shared<'r, R: Wait, W: WorldBrand> {
     pub rt: &'r R,
     pub alloc: Global,
     pub chains: Vec<Chain<W>>,
 }
 
-impl<R: Wait, W: World> Shared<'_, R, W> {
+impl<R: Wait, W: WorldBrand> Shared<'_, R, W> {
     // The chain of a number, or none.
     fn chain(&self, chain: u8) -> Option<&Chain<W>> {
         self.chains.get(usize::from(chain))
@@ -59,7 +59,7 @@ impl<R: Wait, W: World> Shared<'_, R, W> {
     }
 }
 
-impl<R: Threads + Wait + Sync, W: World + Send + Sync> Shared<'_, R, W> {
+impl<R: Threads + Wait + Sync, W: WorldBrand + Send + Sync> Shared<'_, R, W> {
     /// Has so many relayers relay between two chains at the same time. The result is the blocks that each of both ended
     /// meanwhile, in order. Refused: `NoMemory`.
     pub fn relay_between(
@@ -117,7 +117,7 @@ fn ended_by(entry: &Entry) -> Option<EndedBlock> {
     }
 }
 
-impl<R: Wait, W: World> Chains for Shared<'_, R, W> {
+impl<R: Wait, W: WorldBrand> Chains for Shared<'_, R, W> {
     fn ask(&mut self, event: Event) -> Result<Reply, Refusal> {
         let number = match &event {
             Event::Message { chain, .. } | Event::Block { chain, .. } => *chain,

@@ -4,32 +4,32 @@ use crate::relaying::plans_between;
 use ibc_ids::{Account, Bytes, ChannelId, ClientId, ConnectionId, Denom, Key, PortId, Refusal};
 use ibc_machine::{Event, Genesis, Reply, Totals};
 use ibc_merkle::Proof;
-use ibc_script_cli::{Chains, Tells, Worlds};
+use ibc_script_cli::{Chains, Holdings, Worlds};
 use ibc_wire::{ChannelEnd, ClientState, ConnectionEnd, Message, Packet, Wire, decode};
 use ibc_world_core::World;
 use std::alloc::Global;
 
 /// Makes the world of each genesis.
 #[derive(Drop)]
-pub struct NewWorlds {
+pub struct WorldFactory {
     alloc: Global,
 }
 
-impl NewWorlds {
+impl WorldFactory {
     /// What makes worlds, with their memory from here.
-    pub fn new(alloc: Global) -> NewWorlds {
-        NewWorlds { alloc }
+    pub fn new(alloc: Global) -> WorldFactory {
+        WorldFactory { alloc }
     }
 }
 
 /// A world, as the steps of a script see it.
 #[derive(Drop)]
-pub struct Ledgers {
+pub struct ScriptWorld {
     alloc: Global,
     world: World,
 }
 
-impl Ledgers {
+impl ScriptWorld {
     // What a chain has at a key as it stands, none where there is nothing. Refused: `NoMemory`.
     fn record<T: Wire + Drop>(&self, chain: u8, key: Key) -> Result<Option<T>, Refusal> {
         let value = self.value(chain, &key);
@@ -54,18 +54,18 @@ pub fn decoded<T: Wire + Drop>(alloc: Global, bytes: Option<Bytes>) -> Result<Op
     }
 }
 
-impl Worlds for NewWorlds {
-    type Chains = Ledgers;
+impl Worlds for WorldFactory {
+    type Chains = ScriptWorld;
 
-    fn begin(&self, genesis: &Genesis) -> Result<Ledgers, Refusal> {
-        Ok(Ledgers {
+    fn begin(&self, genesis: &Genesis) -> Result<ScriptWorld, Refusal> {
+        Ok(ScriptWorld {
             alloc: self.alloc,
             world: World::new(self.alloc, genesis)?,
         })
     }
 }
 
-impl Chains for Ledgers {
+impl Chains for ScriptWorld {
     fn ask(&mut self, event: Event) -> Result<Reply, Refusal> {
         Ok(self.world.step(event))
     }
@@ -137,7 +137,7 @@ impl Chains for Ledgers {
     }
 }
 
-impl Tells for Ledgers {
+impl Holdings for ScriptWorld {
     fn totals(&self, chain: u8, channel: &ChannelId, denom: &Denom) -> Result<Totals, Refusal> {
         self.world.totals(chain, channel, denom)
     }

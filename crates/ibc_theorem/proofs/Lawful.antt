@@ -5,17 +5,17 @@ use Rattle.std.specs.List.{list_all}
 use Rattle.std.proofs.lemmas.List.{length-map}
 use Rattle.ibc_ids.specs.declared.publication.Publication.{Publication}
 use Rattle.ibc_machine.specs.declared.entry.Entry.{Entry}
-use Rattle.ibc_machine.specs.chain.Records.{Chain}
+use Rattle.ibc_machine.specs.chain.Records.{MachineChain}
 use Rattle.ibc_machine.specs.ledger.Ledgers.{Ledger, chain_of}
 use Rattle.ibc_machine.specs.promises.Worlds.{IsWorldHistory, by_number, entries, interleaved}
-use Rattle.ibc_ledger.specs.Held.{HeldLedger}
+use Rattle.ibc_ledger.specs.LedgerModel.{LedgerModel}
 use Rattle.ibc_laws.specs.EveryLaw.{EveryLaw}
 use Rattle.ibc_refinement.specs.World.{WorldState, kept_entries}
 use Rattle.ibc_refinement.proofs.world.Nothing.{history_at}
 use Rattle.ibc_refinement.proofs.world.Interleavings.{chains_of, interleaved_is}
 use Rattle.ibc_world_core.specs.declared.holdings.Audit.{Audit}
-use Rattle.ibc_world_core.specs.Held.{plain}
-use Rattle.ibc_world_core.specs.Audits.{IsAudit}
+use Rattle.ibc_world_core.specs.WorldModel.{ledgers_alone}
+use Rattle.ibc_world_core.specs.WorldAudits.{IsAudit}
 use Rattle.ibc_world_core.proofs.OneWorld.{two_maps}
 use Rattle.ibc_theorem.specs.EveryWorld.{happened_in, states_of, IsLawful}
 use Rattle.ibc_theorem.specs.EveryAudit.{world_of, AreLawful}
@@ -45,18 +45,18 @@ lawful every world publications history =
           laws.never_short world.genesis happened states takes.2 chain m takes.1 brings.1 brings.3 token history.past takes.0 takes.3 brings.0 brings.2 brings.4 brings.5;
     }
 
-pub are_lawful : EveryLaw → (ledgers : List HeldLedger) (audit : Audit) → IsAudit ledgers audit → AreLawful ledgers audit
+pub are_lawful : EveryLaw → (ledgers : List LedgerModel) (audit : Audit) → IsAudit ledgers audit → AreLawful ledgers audit
 are_lawful laws [] audit is = absurd is
 are_lawful laws (first ∷ others) audit is =
     let publications = is.1.0 in
     let audited = is.1.2 in
     let genesis = first.ledger.genesis in
-    let ledgers : List Ledger = by_number genesis (plain (first ∷ others)) in
+    let ledgers : List Ledger = by_number genesis (ledgers_alone (first ∷ others)) in
     let order = chains_of audited.list in
     let same : interleaved order (map entries ledgers) ≡ audited.list = interleaved_is audited.list (map entries ledgers) audited.merges.each audited.merges.no_others in (
       order,
       λ clash. lawful laws (world_of first others order) publications
           (subst (IsWorldHistory genesis ledgers publications) (sym same) (record { merges = audited.merges; past = audited.past is.0 clash })),
-      audited.balances_are ∙ sym (two_maps (λ (c : Chain). c.records.apps.balances) ledgers),
-      audited.notes_are ∙ sym (two_maps (λ (c : Chain). c.records.apps.notes) ledgers),
+      audited.balances_are ∙ sym (two_maps (λ (c : MachineChain). c.records.apps.balances) ledgers),
+      audited.notes_are ∙ sym (two_maps (λ (c : MachineChain). c.records.apps.notes) ledgers),
     )

@@ -21,15 +21,15 @@ use Rattle.ibc_machine.specs.chain.Genesis.{start}
 use Rattle.ibc_machine.specs.chain.Machine.{World, Step}
 use Rattle.ibc_machine.specs.ledger.Ledgers.{Ledger, chain_of, machine_of, is_typed}
 use Rattle.ibc_machine.specs.ics23.HashedTexts.{HasNoClash}
-use Rattle.ibc_machine.specs.promises.Histories.{Happened, End, sent, received, ack_written}
+use Rattle.ibc_machine.specs.promises.Histories.{Happened, End, sent_packets, received_packets, ack_written}
 use Rattle.ibc_machine.specs.promises.Peers.{end_at, are_peers}
-use Rattle.ibc_machine.specs.promises.Totals.{flight, vouchers, escrowed, hopped}
+use Rattle.ibc_machine.specs.promises.Totals.{flight, vouchers, escrow_balance, denom_with_hop}
 use Rattle.ibc_machine.specs.promises.Laws.{IsPast, HasOnePeer, IsExactlyOnce, IsBeginning, IsEscrowed, settles}
-use Rattle.ibc_machine.specs.ledger.Merge.{is_of}
+use Rattle.ibc_machine.specs.ledger.Merge.{is_of_chain}
 use Rattle.ibc_machine.specs.promises.Worlds.{entries, happened_by}
 use Rattle.ibc_laws.specs.Moments.{IsMoment}
-use Rattle.ibc_laws.specs.Packets.{taken}
-use Rattle.ibc_laws.specs.Tokens.{IsBacked, BringsTo, balance_at, paid_by, supply_at}
+use Rattle.ibc_laws.specs.Packets.{taken_acks}
+use Rattle.ibc_laws.specs.Tokens.{IsBacked, BringsTo, balance_at, amount_paid_by, supply_at}
 use Rattle.ibc_refinement.specs.World.{WorldState, kept_entries}
 
 -- all that happened since genesis: each event with its reply, in the order in which the world kept them
@@ -61,7 +61,7 @@ pub record IsLawful (world : WorldState) : Type 0 where
   pub run : IsPast world.genesis (happened_in world) (states_of world)
   -- The run has all that each chain's own history tells, in that history's order, and nothing of other chains.
   pub whole : (k : ℕ) (ledger : Ledger) → slice_get world.ledgers k ≡ Some ledger
-      → filter (is_of k) (kept_entries world) ≡ entries ledger
+      → filter (is_of_chain k) (kept_entries world) ≡ entries ledger
   pub no_others : list_all (λ (entry : Entry). nat_lt (chain_of entry.event) (length world.ledgers)) (kept_entries world)
       ≡ true
   -- An end of a channel that is OPEN or CLOSED has exactly one peer, and no end has two (ICS 4, channel exclusivity).
@@ -71,21 +71,21 @@ pub record IsLawful (world : WorldState) : Type 0 where
   pub exactly_once : (e f : End) → ArePeers world e f → IsExactlyOnce (happened_in world) e f
   -- Whatever an end received, on any channel, its peer sent, equal in every field (ICS 4).
   pub received_was_sent : (e f : End) (mine : Channel) (p : Packet) → ArePeers world e f
-      → end_at (states_of world) e ≡ Some mine → Contains (received f (happened_in world)) p
-      → Contains (sent e mine (happened_in world)) p
+      → end_at (states_of world) e ≡ Some mine → Contains (received_packets f (happened_in world)) p
+      → Contains (sent_packets e mine (happened_in world)) p
   -- The acknowledgement that is taken of a packet is the one that its receiver wrote (ICS 4).
   pub taken_as_written : (e f : End) (p : Packet) (ack : Text) → ArePeers world e f
-      → Contains (taken e (happened_in world)) (p, ack) → ack_written f (happened_in world) p.sequence ≡ Some ack
+      → Contains (taken_acks e (happened_in world)) (p, ack) → ack_written f (happened_in world) p.sequence ≡ Some ack
   -- What an end of an ordered channel received is a beginning of what its peer sent, equal in every field (ICS 4,
   -- ordering).
   pub in_order : (e f : End) (mine : Channel) → ArePeers world e f → end_at (states_of world) e ≡ Some mine
-      → IsTrue (is_ordered mine) → IsBeginning (received f (happened_in world)) (sent e mine (happened_in world))
+      → IsTrue (is_ordered mine) → IsBeginning (received_packets f (happened_in world)) (sent_packets e mine (happened_in world))
   -- The escrow of a channel equals its vouchers at the peer and what is under way there and back, of each denomination
   -- that doesn't begin with the channel's own hop (ICS 20, fungibility and total supply).
   pub conserved : (e f : End) (denom : Text) → ArePeers world e f → e.port ≡ transfer_port
       → came_over e.port e.channel denom ≡ false
-      → escrowed (states_of world) e denom ≡ vouchers (states_of world) f denom + flight (states_of world) e f denom
-      + flight (states_of world) f e (hopped f denom)
+      → escrow_balance (states_of world) e denom ≡ vouchers (states_of world) f denom + flight (states_of world) e f denom
+      + flight (states_of world) f e (denom_with_hop f denom)
   -- The supply of a base denomination on a chain, escrows included, is what the genesis gave (ICS 20, total supply).
   pub supply_stays : (chain : ℕ) (denom : Text) → IsTrue (is_base_denom denom)
       → supply_at (states_of world) chain denom ≡ supply_at (start world.genesis) chain denom
@@ -99,7 +99,7 @@ pub record IsLawful (world : WorldState) : Type 0 where
   -- A user's balance falls only by an accepted transfer of that user, and by no more than it sends.
   pub who_pays : (before : List Happened) (h : Happened) (old new : World) (chain : ℕ) (user denom : Text)
       → IsMomentOf world before h old new → IsTrue (is_user user)
-      → balance_at old chain user denom ≤ balance_at new chain user denom + paid_by chain user denom h
+      → balance_at old chain user denom ≤ balance_at new chain user denom + amount_paid_by chain user denom h
   -- No acknowledgement and no timeout was refused because an escrow holds too little for the refund.
   pub never_poor : (event : Event) → IsTrue (settles event) → ¬ (Contains (happened_in world) (event, reply.No Poor))
   -- No escrow held too little at a receive: what the packet brought home was held by the escrow of its channel.

@@ -2,10 +2,10 @@
 
 ghost use Rattle.std.specs.Prelude.{◌≡◌, ◌⊎◌, ◌↔◌, Err, false, IfOk, IfErr};
 ghost use Rattle.ibc_ids.specs.declared.refusal.Refusal.TheVariants.{BadMessage, NoMemory};
-ghost use Rattle.ibc_world_core.specs.Audits.{AreOfOneWorld, IsAudit, is_whole};
+ghost use Rattle.ibc_world_core.specs.WorldAudits.{AreOfOneWorld, IsAudit, is_whole};
 ghost use Rattle.ibc_theorem.specs.EveryAudit.{AreLawful};
 
-use crate::the_laws_hold;
+use crate::lemma_the_laws_hold;
 use ibc_ids::Refusal;
 use ibc_ledger::Ledger;
 use ibc_world_core::{Audit, audit};
@@ -20,6 +20,6 @@ pub fn lawful_audit(alloc: Global, ledgers: Vec<Ledger>) -> Result<Audit, Refusa
     ensures bad { (result ≡ Err BadMessage) ↔ (is_whole ledgers.items ≡ false) }
     ensures err { IfErr result (λ refusal. (refusal ≡ BadMessage) ⊎ (refusal ≡ NoMemory)) }
 {
-    the_laws_hold();
+    lemma_the_laws_hold();
     audit(alloc, ledgers)
 }

@@ -10,34 +10,35 @@ ghost use Rattle.ibc_theorem.specs.EveryWorld.{IsLawfulUnlessClash};
 
 pub use audits::lawful_audit;
 use ibc_laws::{
-    each_end_has_one_peer, each_ordered_channel_delivers_in_order, each_packet_is_handled_once,
-    escrow_equals_vouchers_and_flight, lemma_acknowledgements_are_taken_as_written,
-    lemma_each_event_has_its_moment, lemma_no_escrow_was_short, lemma_no_voucher_is_without_escrow,
-    lemma_only_the_sender_pays, lemma_the_supply_at_home_stays, lemma_what_is_received_was_sent,
-    no_escrow_is_short, no_refund_is_refused,
+    lemma_acknowledgements_are_taken_as_written, lemma_each_end_has_one_peer,
+    lemma_each_event_has_its_moment, lemma_each_ordered_channel_delivers_in_order,
+    lemma_each_packet_is_handled_once, lemma_escrow_equals_vouchers_and_flight,
+    lemma_no_escrow_is_short, lemma_no_escrow_was_short, lemma_no_refund_is_refused,
+    lemma_no_voucher_is_without_escrow, lemma_only_the_sender_pays, lemma_the_supply_at_home_stays,
+    lemma_what_is_received_was_sent,
 };
 use ibc_world_core::World;
 pub use totals::balanced_totals;
 
 /// Whatever a world was asked, its replies and states are a run of the machine since genesis, of which the laws hold. The
 /// function does nothing: to call it is to cite what it says.
-pub fn what_every_world_keeps(world: &World)
+pub fn lemma_what_every_world_keeps(world: &World)
     ensures { IsLawfulUnlessClash world.now }
 {
-    world.has_its_past();
-    the_laws_hold();
+    world.lemma_has_past();
+    lemma_the_laws_hold();
 }
 
 /// The laws of every run of the machine, all together.
-pub fn the_laws_hold()
+pub fn lemma_the_laws_hold()
     ensures { EveryLaw }
 {
-    each_end_has_one_peer();
-    each_packet_is_handled_once();
-    each_ordered_channel_delivers_in_order();
-    escrow_equals_vouchers_and_flight();
-    no_refund_is_refused();
-    no_escrow_is_short();
+    lemma_each_end_has_one_peer();
+    lemma_each_packet_is_handled_once();
+    lemma_each_ordered_channel_delivers_in_order();
+    lemma_escrow_equals_vouchers_and_flight();
+    lemma_no_refund_is_refused();
+    lemma_no_escrow_is_short();
     lemma_each_event_has_its_moment();
     lemma_what_is_received_was_sent();
     lemma_acknowledgements_are_taken_as_written();

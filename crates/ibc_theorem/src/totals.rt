@@ -4,10 +4,10 @@ ghost use Rattle.std.specs.Prelude.{◌≡◌, ◌+◌, ◌⊎◌, Ok, Err, IfOk
 ghost use Rattle.ibc_ids.specs.declared.refusal.Refusal.TheVariants.{NoMemory};
 ghost use Rattle.ibc_machine.specs.ics23.HashedTexts.{HasNoClash};
 ghost use Rattle.ibc_machine.specs.promises.Totals.{totals};
-ghost use Rattle.ibc_world_core.specs.Totals.{plain_totals};
+ghost use Rattle.ibc_world_core.specs.Totals.{abstract_totals};
 ghost use Rattle.ibc_theorem.specs.EveryWorld.{states_of};
 
-use crate::what_every_world_keeps;
+use crate::lemma_what_every_world_keeps;
 use ibc_ids::{ChannelId, Denom, Refusal};
 use ibc_machine::Totals;
 use ibc_world_core::World;
@@ -21,11 +21,11 @@ pub fn balanced_totals(
     channel: &ChannelId,
     denom: &Denom,
 ) -> Result<Totals, Refusal>
-    ensures ok { IfOk result (λ t. totals (states_of world.now) chain channel.now denom.now ≡ Ok (plain_totals t)) }
+    ensures ok { IfOk result (λ t. totals (states_of world.now) chain channel.now denom.now ≡ Ok (abstract_totals t)) }
     ensures refused { IfErr result (λ refusal. (refusal ≡ NoMemory) ⊎ (totals (states_of world.now) chain channel.now denom.now ≡ Err refusal)) }
     ensures balanced { HasNoClash world.now.ledgers → IfOk result (λ t. t.escrow ≡ t.vouchers + t.out + t.back) }
 {
-    what_every_world_keeps(world);
-    world.holds_denominations();
+    lemma_what_every_world_keeps(world);
+    world.lemma_holds_denominations();
     world.totals(chain, channel, denom)
 }

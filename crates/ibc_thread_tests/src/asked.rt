@@ -20,7 +20,7 @@ pub struct Answer {
 
 /// Chains that threads share, as the steps of a script see them, asked by the calls of `Gate`; their answers are kept.
 #[derive(Drop)]
-pub struct Asked<'g, R: Wait, G: Gate> {
+pub struct GatedChains<'g, R: Wait, G: Gate> {
     pub rt: &'g R,
     pub alloc: Global,
     pub gates: &'g [G],
@@ -34,13 +34,13 @@ pub fn take_steps<R: Wait, G: Gate>(
     gates: &[G],
     race: Race,
 ) -> Result<Vec<Answer>, Fault> {
-    let asked = Asked {
+    let asked = GatedChains {
         rt,
         alloc,
         gates,
         answers: Vec::new(alloc),
     };
-    let Asked { answers, .. } = race.run_on(asked)?;
+    let GatedChains { answers, .. } = race.run_on(asked)?;
     Ok(answers)
 }
 
@@ -70,7 +70,7 @@ fn read<T: Wire + Drop>(alloc: Global, bytes: Option<Bytes>) -> Result<Option<T>
 
 // A call of a function whose bounds this block assumes isn't covered by the borrow checker where a bound is `Sync`: so each
 // method asks the gate itself.
-impl<R: Wait, G: Gate> Chains for Asked<'_, R, G> {
+impl<R: Wait, G: Gate> Chains for GatedChains<'_, R, G> {
     fn ask(&mut self, event: Event) -> Result<Reply, Refusal> {
         match event {
             Event::Message { chain, message } => match self.gates.get(usize::from(chain)) {

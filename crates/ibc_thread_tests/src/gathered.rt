@@ -1,22 +1,22 @@
 //! Worlds that keep what they were asked.
 
 ghost use Rattle.std.specs.Prelude.{◌⊎◌, IfErr};
-ghost use Rattle.ibc_script.specs.Faults.{JudgesScript, StopsRun};
+ghost use Rattle.ibc_script.specs.Faults.{IsScriptFault, IsRunFault};
 
-use crate::spelled::{Spelled, is_no_memory};
+use crate::spelled::{SpelledEvent, is_no_memory};
 use ibc_ids::{Bytes, ChannelId, ClientId, ConnectionId, Key, PortId, Refusal};
 use ibc_machine::{Event, Genesis, Reply};
 use ibc_merkle::Proof;
 use ibc_script::Fault;
 use ibc_script_cli::{Chains, Race, Worlds};
-use ibc_script_worlds::{Ledgers, NewWorlds};
+use ibc_script_worlds::{ScriptWorld, WorldFactory};
 use ibc_wire::{ChannelEnd, ClientState, ConnectionEnd, Message, Packet};
 use std::alloc::{AllocError, Global};
 
 /// What a world was asked, as it is spelled, and what it answered.
 #[derive(Drop)]
 pub struct List {
-    pub events: Vec<Spelled>,
+    pub events: Vec<SpelledEvent>,
     pub replies: Vec<Reply>,
 }
 
@@ -24,14 +24,14 @@ pub struct List {
 #[derive(Drop)]
 struct Gathering {
     alloc: Global,
-    ledgers: Ledgers,
+    ledgers: ScriptWorld,
     list: List,
 }
 
 /// What a world is asked and answers when the steps of a script are taken with ample memory. Faults: `NoMemory`, also where
 /// a step was refused for want of it; those that stop a run.
 pub fn list_of(alloc: Global, race: Race) -> Result<List, Fault>
-    ensures { IfErr result (λ fault. StopsRun fault ⊎ JudgesScript fault) }
+    ensures { IfErr result (λ fault. IsRunFault fault ⊎ IsScriptFault fault) }
 {
     match begin(alloc, race.genesis()) {
         Ok(gathering) => Ok(race.run_on(gathering)?.into_list()),
@@ -55,7 +55,7 @@ impl Gathering {
 fn begin(alloc: Global, genesis: &Genesis) -> Result<Gathering, Refusal> {
     Ok(Gathering {
         alloc,
-        ledgers: NewWorlds::new(alloc).begin(genesis)?,
+        ledgers: WorldFactory::new(alloc).begin(genesis)?,
         list: List {
             events: Vec::new(alloc),
             replies: Vec::new(alloc),
@@ -89,7 +89,7 @@ impl List {
 
     // Keeps an event.
     fn ask(&mut self, alloc: Global, event: &Event) -> Result<(), Refusal> {
-        Ok(self.events.push(Spelled::of(alloc, event)?)?)
+        Ok(self.events.push(SpelledEvent::of(alloc, event)?)?)
     }
 }
 

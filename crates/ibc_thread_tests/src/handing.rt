@@ -7,10 +7,10 @@ ghost use Rattle.ibc_race.specs.SharedWorlds.{HasItsBook};
 use crate::equal::are_equal;
 use ibc_ids::Refusal;
 use ibc_ledger::Ledger;
-use ibc_ledger_lock::{Board, Chain, Opened, World};
+use ibc_ledger_lock::{Board, Chain, UnusedBook, WorldBrand};
 use ibc_race::begin;
 use ibc_script::Fault;
-use ibc_script_cli::{Audited, Race, Races};
+use ibc_script_cli::{Race, RaceAudit, Races};
 use ibc_wire::{CreateClient, Message};
 use std::alloc::Global;
 use std::cell::Cell;
@@ -29,11 +29,11 @@ pub struct Returning<'r, R: Wait> {
 impl<R: Wait> Races for Returning<'_, R> {
     ghost may_race = { λ _. IsSync R.row };
 
-    fn race(&self, _relayers: u8, race: Race) -> Result<Audited, Fault> {
+    fn race(&self, _relayers: u8, race: Race) -> Result<RaceAudit, Fault> {
         match try_returning(self, race) {
             Ok(are_same) => {
                 self.is_done.set(are_same);
-                Ok(Audited {
+                Ok(RaceAudit {
                     balances: Vec::new(self.alloc),
                     notes: Vec::new(self.alloc),
                 })
@@ -57,9 +57,9 @@ fn try_returning<R: Wait>(returning: &Returning<'_, R>, race: Race) -> Result<bo
 // Makes a chain of each ledger and takes the ledger out again; where no chain can be made, the ledger is handed back. Gives
 // whether each ledger that came back has the number and the balances that it had. No step of the script is taken. Refused:
 // `NoMemory`, but not for a growth that `Chain::new` asks for.
-fn come_back<R: Wait, W: World>(
+fn come_back<R: Wait, W: WorldBrand>(
     returning: &Returning<'_, R>,
-    ledgers: Vec<(Ledger, Opened)>,
+    ledgers: Vec<(Ledger, UnusedBook)>,
     race: Race,
 ) -> Result<bool, Refusal>
     requires { All (HasItsBook W.table W.genesis W.book) ledgers.items }
@@ -79,11 +79,11 @@ fn are_both(one: Result<bool, Refusal>, other: Result<bool, Refusal>) -> Result<
 }
 
 // Whether a ledger comes back as it was.
-fn comes_back<R: Wait, W: World>(
+fn comes_back<R: Wait, W: WorldBrand>(
     rt: &R,
     alloc: Global,
     ledger: Ledger,
-    opened: Opened,
+    opened: UnusedBook,
 ) -> Result<bool, Refusal>
     requires { HasItsBook W.table W.genesis W.book (ledger, opened) }
 {
@@ -119,16 +119,16 @@ fn with_a_client(mut ledger: Ledger) -> Ledger
 }
 
 // A board of its own.
-fn board_of<W: World>(alloc: Global) -> Result<Arc<Board<W>, Global>, Refusal> {
+fn board_of<W: WorldBrand>(alloc: Global) -> Result<Arc<Board<W>, Global>, Refusal> {
     Ok(Arc::new(alloc, Board::new(alloc)?)?)
 }
 
 // The ledger of the chain that was made of a ledger, or the ledger that was handed back.
-fn made_and_taken<R: Wait, W: World>(
+fn made_and_taken<R: Wait, W: WorldBrand>(
     rt: &R,
     alloc: Global,
     ledger: Ledger,
-    opened: Opened,
+    opened: UnusedBook,
     board: Arc<Board<W>, Global>,
 ) -> Ledger
     requires { HasItsBook W.table W.genesis W.book (ledger, opened) }

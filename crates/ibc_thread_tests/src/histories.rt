@@ -13,7 +13,7 @@ use std::sync::Wait;
 
 /// The lines of two chains' histories.
 #[derive(Clone, Copy)]
-pub struct Told {
+pub struct HistoryLines {
     pub a: &'static str,
     pub b: &'static str,
 }
@@ -116,7 +116,7 @@ pub fn are_told<G: Gate, R: Wait>(
     alloc: Global,
     gates: &[G],
     answers: &[Answer],
-    told: Told,
+    told: HistoryLines,
 ) -> Result<bool, Refusal> {
     let [a, b] = gates else {
         return Ok(false);

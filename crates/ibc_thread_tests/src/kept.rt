@@ -2,7 +2,7 @@
 
 use crate::asked::Answer;
 use ibc_ids::{Bytes, ChannelId, ClientId, ConnectionId, Key, PortId, Refusal};
-use ibc_ledger_lock::{Receipt, World};
+use ibc_ledger_lock::{Receipt, WorldBrand};
 use ibc_machine::{Event, Reply};
 use ibc_merkle::Proof;
 use ibc_script_cli::Chains;
@@ -13,13 +13,16 @@ use std::sync::Wait;
 
 /// Chains that threads share, as the steps of a script see them, with the receipts of what they were asked in its order.
 #[derive(Drop)]
-pub struct Kept<'r, R: Wait, W: World> {
+pub struct ReceiptedChains<'r, R: Wait, W: WorldBrand> {
     pub shared: Shared<'r, R, W>,
     pub receipts: Vec<Receipt<W>>,
 }
 
 // Keeps a receipt, and tells its reply.
-fn keep<W: World>(receipts: &mut Vec<Receipt<W>>, receipt: Receipt<W>) -> Result<Reply, Refusal> {
+fn keep<W: WorldBrand>(
+    receipts: &mut Vec<Receipt<W>>,
+    receipt: Receipt<W>,
+) -> Result<Reply, Refusal> {
     let reply: Result<Reply, AllocError> = receipt.reply().clone();
     match receipts.push(receipt) {
         Ok(()) => Ok(reply?),
@@ -31,7 +34,7 @@ fn keep<W: World>(receipts: &mut Vec<Receipt<W>>, receipt: Receipt<W>) -> Result
 }
 
 /// What receipts tell. Refused: `NoMemory`.
-pub fn answers_of<W: World>(
+pub fn answers_of<W: WorldBrand>(
     alloc: Global,
     receipts: &[Receipt<W>],
 ) -> Result<Vec<Answer>, Refusal> {
@@ -46,7 +49,7 @@ pub fn answers_of<W: World>(
 }
 
 // Adds what receipts tell to other answers.
-fn push_answers<W: World>(
+fn push_answers<W: WorldBrand>(
     answers: &mut Vec<Answer>,
     receipts: &[Receipt<W>],
 ) -> Result<(), Refusal> {
@@ -58,7 +61,7 @@ fn push_answers<W: World>(
     Ok(())
 }
 
-impl<R: Wait, W: World> Chains for Kept<'_, R, W> {
+impl<R: Wait, W: WorldBrand> Chains for ReceiptedChains<'_, R, W> {
     fn ask(&mut self, event: Event) -> Result<Reply, Refusal> {
         let number = match &event {
             Event::Message { chain, .. } | Event::Block { chain, .. } => *chain,

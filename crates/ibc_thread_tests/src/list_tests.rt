@@ -4,7 +4,7 @@ use crate::lists::{CLOSED_PEER, HANDSHAKES, NOTES, TRANSFERS};
 use crate::refused::{Came, Listing, Trying};
 use ibc_script::Fault;
 use ibc_script_cli::drive;
-use ibc_script_worlds::NewWorlds;
+use ibc_script_worlds::WorldFactory;
 use std::alloc::Global;
 use std::cell::Cell;
 use std::test::Fail;
@@ -20,7 +20,7 @@ fn came_of(alloc: Global, trying: Trying, script: &str) -> Result<Came, Fault> {
     let mut output = Vec::new(alloc);
     drive(
         alloc,
-        &NewWorlds::new(alloc),
+        &WorldFactory::new(alloc),
         &listing,
         &["race", "--relayers", "1"],
         script.as_bytes(),

@@ -1,16 +1,16 @@
 //! Lists of events that worlds are asked at once, also where one growth is refused meanwhile.
 
 ghost use Rattle.std.specs.Prelude.{◌⊎◌, IfErr};
-ghost use Rattle.ibc_script.specs.Faults.{JudgesScript, StopsRun};
+ghost use Rattle.ibc_script.specs.Faults.{IsScriptFault, IsRunFault};
 
 use crate::equal::are_equal;
 use crate::gathered::{List, list_of};
-use crate::spelled::{Spelled, answered, are_spelled, is_no_memory, read_back};
+use crate::spelled::{SpelledEvent, answered, are_spelled, is_no_memory, read_back};
 use ibc_ids::Refusal;
 use ibc_ledger::{Ledger, StampedEntry};
 use ibc_machine::{Genesis, Reply};
 use ibc_script::Fault;
-use ibc_script_cli::{Audited, Race, Races};
+use ibc_script_cli::{Race, RaceAudit, Races};
 use ibc_world_core::{NotRun, World};
 use std::alloc::Global;
 use std::cell::Cell;
@@ -52,13 +52,13 @@ pub struct Listing<'c> {
 }
 
 impl Races for Listing<'_> {
-    fn race(&self, _relayers: u8, race: Race) -> Result<Audited, Fault> {
+    fn race(&self, _relayers: u8, race: Race) -> Result<RaceAudit, Fault> {
         let came = match self.trying {
             Trying::Run => try_run(self.alloc, race)?,
             Trying::ReadBack => try_read_back(self.alloc, race)?,
         };
         self.came.set(came);
-        Ok(Audited {
+        Ok(RaceAudit {
             balances: Vec::new(self.alloc),
             notes: Vec::new(self.alloc),
         })
@@ -67,7 +67,7 @@ impl Races for Listing<'_> {
 
 // Reads the messages of the list back.
 fn try_read_back(alloc: Global, race: Race) -> Result<Came, Fault>
-    ensures { IfErr result (λ fault. StopsRun fault ⊎ JudgesScript fault) }
+    ensures { IfErr result (λ fault. IsRunFault fault ⊎ IsScriptFault fault) }
 {
     let list = list_of(alloc, race)?;
     let back = read_back(alloc, list.events.as_slice());
@@ -88,7 +88,7 @@ struct Pair {
 
 // Asks a world of the script's genesis the list, and another one of the same to judge it by.
 fn try_run(alloc: Global, race: Race) -> Result<Came, Fault>
-    ensures { IfErr result (λ fault. StopsRun fault ⊎ JudgesScript fault) }
+    ensures { IfErr result (λ fault. IsRunFault fault ⊎ IsScriptFault fault) }
 {
     match pair_of(alloc, race.genesis()) {
         Ok(pair) => try_pair(alloc, pair, race),
@@ -113,7 +113,7 @@ fn pair_of(alloc: Global, genesis: &Genesis) -> Result<Pair, Refusal> {
 
 // Asks the first of two worlds the list.
 fn try_pair(alloc: Global, mut pair: Pair, race: Race) -> Result<Came, Fault>
-    ensures { IfErr result (λ fault. StopsRun fault ⊎ JudgesScript fault) }
+    ensures { IfErr result (λ fault. IsRunFault fault ⊎ IsScriptFault fault) }
 {
     let list = match list_of(alloc, race) {
         Ok(list) => list,
@@ -184,7 +184,7 @@ impl Pair {
     fn are_due(
         &mut self,
         alloc: Global,
-        events: &[Spelled],
+        events: &[SpelledEvent],
         replies: &[Reply],
     ) -> Result<bool, Refusal> {
         let events = answered(alloc, events, replies)?;
@@ -264,7 +264,9 @@ fn have_same_entries(
         .zip(others)
     {
         let is_same = entry.reply == other.reply && entry.reading == other.reading;
-        if !is_same || Spelled::of(alloc, &entry.event)? != Spelled::of(alloc, &other.event)? {
+        if !is_same
+            || SpelledEvent::of(alloc, &entry.event)? != SpelledEvent::of(alloc, &other.event)?
+        {
             return Ok(false);
         }
     }

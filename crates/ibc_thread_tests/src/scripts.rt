@@ -1,13 +1,13 @@
 //! Scripts of chains that threads share, and what their histories say.
 
-use crate::histories::Told;
+use crate::histories::HistoryLines;
 use std::alloc::{AllocError, Global};
 
 /// A script, and the lines of its chains' histories.
 #[derive(Clone, Copy)]
 pub struct Case {
     pub script: &'static str,
-    pub told: Told,
+    pub told: HistoryLines,
 }
 
 /// A client is told of a height before it is published, and afterwards.
@@ -20,7 +20,7 @@ pub const HEIGHTS: Case = Case {
 {"do":"UpdateClient","on":"a","client":"inprocess-0","height":1},
 {"do":"Block","on":"b"},
 {"do":"UpdateClient","on":"a","client":"inprocess-0","height":1}]}"#,
-    told: Told {
+    told: HistoryLines {
         a: r#"a CreateClient ok inprocess-0
 a UpdateClient no 6
 a UpdateClient ok
@@ -53,7 +53,7 @@ pub const TOKENS: Case = Case {
 {"do":"Block","on":"a"},
 {"do":"UpdateClient","on":"b","client":"inprocess-0","height":5},
 {"do":"AckPacket","on":"b","packet":["b","transfer","channel-0",1],"from":"a","height":5}]}"#,
-    told: Told {
+    told: HistoryLines {
         a: r#"a CreateClient ok inprocess-0
 a ConnOpenInit ok connection-0
 a Block ok 1
@@ -114,7 +114,7 @@ const OPENED: &str = r#"{"capacity":64,"chains":[
 
 /// Steps that a script takes so often.
 #[derive(Clone, Copy)]
-pub struct Steps {
+pub struct RepeatedSteps {
     pub text: &'static str,
     pub times: u32,
 }
@@ -148,7 +148,7 @@ pub const SENT_AND_RECEIVED: &str = r#",
 {"do":"RecvPacket","on":"b","packet":["a","transfer","channel-0",2],"height":6}"#;
 
 /// The script of two chains that open a channel of tokens, and then take these steps.
-pub fn opened(alloc: Global, steps: &[Steps]) -> Result<String, AllocError> {
+pub fn opened(alloc: Global, steps: &[RepeatedSteps]) -> Result<String, AllocError> {
     let mut script = OPENED.to_string(alloc)?;
     for steps in steps {
         push_steps(&mut script, *steps)?;
@@ -157,7 +157,7 @@ pub fn opened(alloc: Global, steps: &[Steps]) -> Result<String, AllocError> {
     Ok(script)
 }
 
-fn push_steps(script: &mut String, steps: Steps) -> Result<(), AllocError> {
+fn push_steps(script: &mut String, steps: RepeatedSteps) -> Result<(), AllocError> {
     for _ in 0..steps.times {
         script.push_str(steps.text)?;
     }

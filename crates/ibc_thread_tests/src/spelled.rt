@@ -8,20 +8,20 @@ use std::alloc::Global;
 
 /// An event, with its message as it is spelled.
 #[derive(PartialEq, Eq, Drop)]
-pub enum Spelled {
+pub enum SpelledEvent {
     Message { chain: u8, bytes: Vec<u8> },
     Block { chain: u8, next_time: u64 },
 }
 
-impl Spelled {
+impl SpelledEvent {
     /// How an event is spelled. Refused: `NoMemory`, and `BadMessage` where its message has no spelling.
-    pub fn of(alloc: Global, event: &Event) -> Result<Spelled, Refusal> {
+    pub fn of(alloc: Global, event: &Event) -> Result<SpelledEvent, Refusal> {
         match event {
-            Event::Message { chain, message } => Ok(Spelled::Message {
+            Event::Message { chain, message } => Ok(SpelledEvent::Message {
                 chain: *chain,
                 bytes: encode(alloc, message)?,
             }),
-            Event::Block { chain, next_time } => Ok(Spelled::Block {
+            Event::Block { chain, next_time } => Ok(SpelledEvent::Block {
                 chain: *chain,
                 next_time: *next_time,
             }),
@@ -31,11 +31,11 @@ impl Spelled {
     /// The event. Refused: `NoMemory`, and `BadMessage` where the bytes spell no message.
     pub fn event(&self, alloc: Global) -> Result<Event, Refusal> {
         match self {
-            Spelled::Message { chain, bytes } => Ok(Event::Message {
+            SpelledEvent::Message { chain, bytes } => Ok(Event::Message {
                 chain: *chain,
                 message: decode(alloc, bytes.as_slice())?,
             }),
-            Spelled::Block { chain, next_time } => Ok(Event::Block {
+            SpelledEvent::Block { chain, next_time } => Ok(Event::Block {
                 chain: *chain,
                 next_time: *next_time,
             }),
@@ -44,12 +44,16 @@ impl Spelled {
 }
 
 /// Whether events are spelled so. Refused: `NoMemory`, and `BadMessage` where a message has no spelling.
-pub fn are_spelled(alloc: Global, events: &[Event], list: &[Spelled]) -> Result<bool, Refusal> {
+pub fn are_spelled(
+    alloc: Global,
+    events: &[Event],
+    list: &[SpelledEvent],
+) -> Result<bool, Refusal> {
     if events.len() != list.len() {
         return Ok(false);
     }
     for (event, spelled) in events.iter().zip(list) {
-        if Spelled::of(alloc, event)? != *spelled {
+        if SpelledEvent::of(alloc, event)? != *spelled {
             return Ok(false);
         }
     }
@@ -62,7 +66,11 @@ pub fn is_no_memory(reply: &Reply) -> bool {
 }
 
 /// The events of a list but for those that were answered `NoMemory`. Refused: `NoMemory`.
-pub fn answered(alloc: Global, list: &[Spelled], replies: &[Reply]) -> Result<Vec<Event>, Refusal> {
+pub fn answered(
+    alloc: Global,
+    list: &[SpelledEvent],
+    replies: &[Reply],
+) -> Result<Vec<Event>, Refusal> {
     let mut events = Vec::with_capacity(alloc, list.len())?;
     match push_answered(alloc, &mut events, list, replies) {
         Ok(()) => Ok(events),
@@ -77,7 +85,7 @@ pub fn answered(alloc: Global, list: &[Spelled], replies: &[Reply]) -> Result<Ve
 fn push_answered(
     alloc: Global,
     events: &mut Vec<Event>,
-    list: &[Spelled],
+    list: &[SpelledEvent],
     replies: &[Reply],
 ) -> Result<(), Refusal> {
     for (spelled, reply) in list.iter().zip(replies) {
@@ -123,10 +131,10 @@ fn bytes_come_back(alloc: Global, bytes: &[u8]) -> Result<bool, Refusal> {
 }
 
 /// How many messages of a list are read back from their bytes as they were; none where one isn't. Refused: `NoMemory`.
-pub fn read_back(alloc: Global, list: &[Spelled]) -> Result<Option<usize>, Refusal> {
+pub fn read_back(alloc: Global, list: &[SpelledEvent]) -> Result<Option<usize>, Refusal> {
     let mut count = 0usize;
     for spelled in list {
-        if let Spelled::Message { bytes, .. } = spelled {
+        if let SpelledEvent::Message { bytes, .. } = spelled {
             if !bytes_come_back(alloc, bytes.as_slice())? {
                 return Ok(None);
             }

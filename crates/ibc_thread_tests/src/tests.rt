@@ -2,12 +2,12 @@
 
 use crate::handing::Returning;
 use crate::scripts::{
-    BLOCKS, HEIGHTS, IN_A_ROW, RELAYED, SENT, SENT_IN_A_BLOCK, Steps, TOKENS, opened,
+    BLOCKS, HEIGHTS, IN_A_ROW, RELAYED, RepeatedSteps, SENT, SENT_IN_A_BLOCK, TOKENS, opened,
 };
 use crate::trial::{Calls, Deed, Trial};
 use ibc_script::Fault;
 use ibc_script_cli::drive;
-use ibc_script_worlds::{NewRaces, NewWorlds};
+use ibc_script_worlds::{RaceRunner, WorldFactory};
 use std::alloc::Global;
 use std::cell::Cell;
 use std::sync::Wait;
@@ -48,7 +48,7 @@ pub fn tried<R: Threads + Wait + Sync>(
     };
     let mut output = Vec::new(alloc);
     let words = ["race", "--relayers", "8"];
-    let worlds = NewWorlds::new(alloc);
+    let worlds = WorldFactory::new(alloc);
     drive(
         alloc,
         &worlds,
@@ -105,11 +105,11 @@ fn heights_never_fall_while_threads_relay(rt: HostRuntime) -> Result<(), Fail> {
     let script = opened(
         alloc,
         &[
-            Steps {
+            RepeatedSteps {
                 text: BLOCKS,
                 times: 1,
             },
-            Steps {
+            RepeatedSteps {
                 text: SENT_IN_A_BLOCK,
                 times: 30,
             },
@@ -135,11 +135,11 @@ fn eight_relayers_race(rt: HostRuntime) -> Result<(), Fail> {
     let script = opened(
         alloc,
         &[
-            Steps {
+            RepeatedSteps {
                 text: SENT,
                 times: 50,
             },
-            Steps {
+            RepeatedSteps {
                 text: BLOCKS,
                 times: 1,
             },
@@ -165,11 +165,11 @@ fn a_race_prints_its_audit(rt: HostRuntime) -> Result<(), Fail> {
     let script = opened(
         alloc,
         &[
-            Steps {
+            RepeatedSteps {
                 text: SENT,
                 times: 50,
             },
-            Steps {
+            RepeatedSteps {
                 text: RELAYED,
                 times: 1,
             },
@@ -179,8 +179,8 @@ fn a_race_prints_its_audit(rt: HostRuntime) -> Result<(), Fail> {
         let mut output = Vec::new(alloc);
         let driven = drive(
             alloc,
-            &NewWorlds::new(alloc),
-            &NewRaces::new(&rt, alloc),
+            &WorldFactory::new(alloc),
+            &RaceRunner::new(&rt, alloc),
             &words,
             script.as_bytes(),
             &mut output,
@@ -199,8 +199,8 @@ fn bad_words_race_nothing(rt: HostRuntime) {
         let mut output = Vec::new(alloc);
         let driven = drive(
             alloc,
-            &NewWorlds::new(alloc),
-            &NewRaces::new(&rt, alloc),
+            &WorldFactory::new(alloc),
+            &RaceRunner::new(&rt, alloc),
             &["race", "--relayers", relayers],
             FIFTY.as_bytes(),
             &mut output,
@@ -224,7 +224,7 @@ fn ledgers_come_back_from_chains(rt: HostRuntime) {
     let mut output = Vec::new(alloc);
     let driven = drive(
         alloc,
-        &NewWorlds::new(alloc),
+        &WorldFactory::new(alloc),
         &returning,
         &["race", "--relayers", "1"],
         TOKENS.script.as_bytes(),

@@ -5,17 +5,17 @@ ghost use Rattle.std.specs.Prelude.{All};
 ghost use Rattle.ibc_race.specs.SharedWorlds.{HasItsBook};
 
 use crate::asked::{Answer, take_steps};
-use crate::histories::{Told, are_told};
-use crate::kept::{Kept, answers_of};
+use crate::histories::{HistoryLines, are_told};
+use crate::kept::{ReceiptedChains, answers_of};
 use crate::looks::{received_thirty, take_steps_watched};
 use crate::relayed::{eight_race, two_pairs_relay};
 use crate::turns::{blocks_end, sent_again, there_and_back, two_turns};
 use ibc_ids::Refusal;
 use ibc_ledger::Ledger;
-use ibc_ledger_lock::{Chain, Gate, Opened, Receipt, World};
+use ibc_ledger_lock::{Chain, Gate, Receipt, UnusedBook, WorldBrand};
 use ibc_race::{audit_chains, begin, share};
 use ibc_script::Fault;
-use ibc_script_cli::{Audited, Race, Races};
+use ibc_script_cli::{Race, RaceAudit, Races};
 use ibc_script_worlds::Shared;
 use ibc_world_core::Audit;
 use std::alloc::Global;
@@ -39,7 +39,7 @@ pub enum Calls {
 #[derive(Clone, Copy)]
 pub enum Deed {
     /// Their histories say these lines, and the answers are of entries of their own.
-    Tell(Told),
+    Tell(HistoryLines),
     /// The second received 30 packets.
     HaveThirty,
     /// Eight relayers race between them.
@@ -70,7 +70,7 @@ impl<R: Threads + Wait + Sync> Races for Trial<'_, R> {
     ghost may_race = { λ _. IsSync R.row };
 
     // Whatever stopped it, `NoMemory` is told.
-    fn race(&self, _relayers: u8, race: Race) -> Result<Audited, Fault> {
+    fn race(&self, _relayers: u8, race: Race) -> Result<RaceAudit, Fault> {
         match try_script(self, race) {
             Ok(audited) => Ok(audited),
             Err(_) => Err(Fault::NoMemory),
@@ -82,7 +82,7 @@ impl<R: Threads + Wait + Sync> Races for Trial<'_, R> {
 fn try_script<R: Threads + Wait + Sync>(
     trial: &Trial<'_, R>,
     race: Race,
-) -> Result<Audited, Fault> {
+) -> Result<RaceAudit, Fault> {
     match begin(trial.alloc, race.genesis()) {
         Ok(ledgers) => try_on::<R, Brand>(trial, ledgers, race),
         Err(refusal) => {
@@ -93,11 +93,11 @@ fn try_script<R: Threads + Wait + Sync>(
 }
 
 // Takes the steps on chains of the ledgers of the world.
-fn try_on<R: Threads + Wait + Sync, W: World + Send + Sync>(
+fn try_on<R: Threads + Wait + Sync, W: WorldBrand + Send + Sync>(
     trial: &Trial<'_, R>,
-    ledgers: Vec<(Ledger, Opened)>,
+    ledgers: Vec<(Ledger, UnusedBook)>,
     race: Race,
-) -> Result<Audited, Fault>
+) -> Result<RaceAudit, Fault>
     requires { All (HasItsBook W.table W.genesis W.book) ledgers.items }
 {
     let chains = match share::<R, W>(trial.rt, trial.alloc, ledgers) {
@@ -114,25 +114,25 @@ fn try_on<R: Threads + Wait + Sync, W: World + Send + Sync>(
 }
 
 // Takes the steps by the chains' own calls.
-fn try_own_calls<R: Threads + Wait + Sync, W: World + Send + Sync>(
+fn try_own_calls<R: Threads + Wait + Sync, W: WorldBrand + Send + Sync>(
     trial: &Trial<'_, R>,
     chains: Vec<Chain<W>>,
     race: Race,
-) -> Result<Audited, Fault> {
+) -> Result<RaceAudit, Fault> {
     let (rt, alloc) = (trial.rt, trial.alloc);
     let shared = Shared { rt, alloc, chains };
-    let kept = Kept {
+    let kept = ReceiptedChains {
         shared,
         receipts: Vec::new(alloc),
     };
-    let Kept { shared, receipts } = race.run_on(kept)?;
+    let ReceiptedChains { shared, receipts } = race.run_on(kept)?;
     let Shared { chains, .. } = shared;
     let done = is_done_by_receipts(trial, chains.as_slice(), receipts.as_slice());
     audited(trial, chains, receipts, done)
 }
 
 // Whether the chains do what they must, which the receipts tell the answers of.
-fn is_done_by_receipts<R: Threads + Wait + Sync, W: World + Send + Sync>(
+fn is_done_by_receipts<R: Threads + Wait + Sync, W: WorldBrand + Send + Sync>(
     trial: &Trial<'_, R>,
     chains: &[Chain<W>],
     receipts: &[Receipt<W>],
@@ -144,11 +144,11 @@ fn is_done_by_receipts<R: Threads + Wait + Sync, W: World + Send + Sync>(
 }
 
 // Takes the steps by the calls of `Gate`.
-fn try_gates<R: Threads + Wait + Sync, W: World + Send + Sync>(
+fn try_gates<R: Threads + Wait + Sync, W: WorldBrand + Send + Sync>(
     trial: &Trial<'_, R>,
     chains: Vec<Chain<W>>,
     race: Race,
-) -> Result<Audited, Fault> {
+) -> Result<RaceAudit, Fault> {
     match is_done_by_gates(trial, chains.as_slice(), race) {
         Ok(done) => audited(trial, chains, Vec::new(trial.alloc), Ok(done)),
         Err(fault) => {
@@ -196,12 +196,12 @@ fn is_done<R: Threads + Wait + Sync, G: Gate>(
 }
 
 // What the chains hold, if their ledgers pass the audit with the receipts; keeps whether they did what they must.
-fn audited<R: Threads + Wait + Sync, W: World>(
+fn audited<R: Threads + Wait + Sync, W: WorldBrand>(
     trial: &Trial<'_, R>,
     chains: Vec<Chain<W>>,
     mut receipts: Vec<Receipt<W>>,
     done: Result<bool, Refusal>,
-) -> Result<Audited, Fault> {
+) -> Result<RaceAudit, Fault> {
     trial.is_done.set(done == Ok(true));
     let mut readings = Vec::new(trial.alloc);
     match audit_chains(
@@ -210,7 +210,7 @@ fn audited<R: Threads + Wait + Sync, W: World>(
         receipts.as_mut_slice(),
         readings.as_mut_slice(),
     ) {
-        Ok(Audit { balances, notes }) => Ok(Audited { balances, notes }),
+        Ok(Audit { balances, notes }) => Ok(RaceAudit { balances, notes }),
         Err(refusal) => Err(Fault::of_refusal(refusal)),
     }
 }

@@ -2,7 +2,7 @@
 
 use crate::committing::Committing;
 use crate::histories::history_of;
-use crate::scripts::{BLOCKS, RELAYED_ONCE, SENT, SENT_AND_RECEIVED, Steps, opened};
+use crate::scripts::{BLOCKS, RELAYED_ONCE, RepeatedSteps, SENT, SENT_AND_RECEIVED, opened};
 use crate::tests::{is_printed, tried};
 use crate::trial::{Calls, Deed};
 use ibc_ids::Refusal;
@@ -11,7 +11,7 @@ use ibc_ledger_lock::Gate;
 use ibc_machine::{Entry, Event, Reply};
 use ibc_relayer::{relay, relay_all};
 use ibc_script_cli::drive;
-use ibc_script_worlds::{NewRaces, NewWorlds};
+use ibc_script_worlds::{RaceRunner, WorldFactory};
 use std::alloc::Global;
 use std::sync::Wait;
 use std::test::Fail;
@@ -141,11 +141,11 @@ fn is_done<R: Threads + Wait + Sync>(
     deed: Deed,
     text: &str,
 ) -> Result<bool, Fail> {
-    let sent = Steps {
+    let sent = RepeatedSteps {
         text: sent,
         times: 1,
     };
-    let ended = Steps {
+    let ended = RepeatedSteps {
         text: BLOCKS,
         times: 1,
     };
@@ -185,13 +185,16 @@ fn what_is_refused_is_not_counted(rt: HostRuntime) -> Result<(), Fail> {
 #[test]
 fn blocks_of_a_race_keep_their_times(rt: HostRuntime) -> Result<(), Fail> {
     let alloc = rt.alloc();
-    let steps = [SENT, RELAYED_ONCE, SENT_AND_RECEIVED].map(|text| Steps { text, times: 1 });
+    let steps = [SENT, RELAYED_ONCE, SENT_AND_RECEIVED].map(|text| RepeatedSteps {
+        text,
+        times: 1,
+    });
     let script = opened(alloc, &steps)?;
     let mut output = Vec::new(alloc);
     let driven = drive(
         alloc,
-        &NewWorlds::new(alloc),
-        &NewRaces::new(&rt, alloc),
+        &WorldFactory::new(alloc),
+        &RaceRunner::new(&rt, alloc),
         &["race", "--relayers", "2"],
         script.as_bytes(),
         &mut output,

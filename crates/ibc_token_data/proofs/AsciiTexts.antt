@@ -11,7 +11,7 @@ use Rattle.ibc_ids.specs.Texts.{Text}
 use Rattle.ibc_ids.specs.Names.{is_denom, is_memo, is_receiver, is_user}
 use Rattle.ibc_ids.proofs.Ascii.{users, receivers, memos, denominations}
 use Rattle.ibc_wire.specs.declared.token.Token.{Token}
-use Rattle.ibc_machine.specs.ics20.TokenData.{Data, quoted, member, object, token_members, memo_member, party_members, members_of_first, tokens_member, has_several, data_text}
+use Rattle.ibc_machine.specs.ics20.TokenData.{Data, quoted_text, member, object, token_members, memo_member, party_members, members_of_first, tokens_member, has_several, data_text}
 use Rattle.ibc_token_data.proofs.Typed.{is_typed_token, is_typed}
 
 -- ---- texts of parts
@@ -20,12 +20,12 @@ small : (text : Text) → list_all (λ c. nat_lt c 128) text ≡ true → IsAsci
 small [] e = IsAscii-nil
 small (c ∷ cs) e = let parts = and_parts (nat_lt c 128) _ e in IsAscii-cons c cs (ltb-true c 128 parts.0) (small cs parts.1)
 
-quoted_ascii : (text : Text) → IsAscii text → IsAscii (quoted text)
+quoted_ascii : (text : Text) → IsAscii text → IsAscii (quoted_text text)
 quoted_ascii text h = IsAscii-cons 34 (text ++ 34 ∷ []) (omega arith) (IsAscii-append text (34 ∷ []) h (small (34 ∷ []) refl))
 
 member_ascii : (name value : Text) → IsAscii name → IsAscii value → IsAscii (member name value)
 member_ascii name value hn hv =
-    IsAscii-append (quoted name ++ codes ":") (quoted value) (IsAscii-append (quoted name) (codes ":") (quoted_ascii name hn) (small (codes ":") refl)) (quoted_ascii value hv)
+    IsAscii-append (quoted_text name ++ codes ":") (quoted_text value) (IsAscii-append (quoted_text name) (codes ":") (quoted_ascii name hn) (small (codes ":") refl)) (quoted_ascii value hv)
 
 abbrev AreAscii : List Text → Type 0
 AreAscii [] = ⊤
@@ -64,8 +64,8 @@ objects_ascii (t ∷ ts) typed =
 list_ascii : (ts : List Token) → list_all is_typed_token ts ≡ true → IsAscii (tokens_member ts)
 list_ascii ts typed =
     let list : Text = join_with_byte 44 (map (λ token. object (token_members token)) ts) in
-    IsAscii-append (quoted (codes "tokens") ++ codes ":[" ++ list) (codes "]")
-    (IsAscii-append (quoted (codes "tokens") ++ codes ":[") list (small (quoted (codes "tokens") ++ codes ":[") refl) (joined_ascii (map (λ token. object (token_members token)) ts) (objects_ascii ts typed)))
+    IsAscii-append (quoted_text (codes "tokens") ++ codes ":[" ++ list) (codes "]")
+    (IsAscii-append (quoted_text (codes "tokens") ++ codes ":[") list (small (quoted_text (codes "tokens") ++ codes ":[") refl) (joined_ascii (map (λ token. object (token_members token)) ts) (objects_ascii ts typed)))
     (small (codes "]") refl)
 
 first_ascii : (ts : List Token) → list_all is_typed_token ts ≡ true → AreAscii (members_of_first ts)

@@ -3,8 +3,8 @@ pub mod PlainTexts
 pub mod Typed
 pub mod AsciiTexts
 pub mod Joined
-pub mod Spelled
+pub mod SpelledData
 pub mod Read
-pub mod Found
+pub mod JsonMembers
 pub mod PartialSums
 pub mod DenomAmounts

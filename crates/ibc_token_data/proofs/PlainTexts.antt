@@ -11,7 +11,7 @@ use Rattle.std.specs.List.{list_all, join_with_byte, slice_split}
 use Rattle.std.specs.Str.Parse.{AllDigits}
 use Rattle.ibc_ids.specs.Texts.{Text}
 use Rattle.ibc_ids.specs.Names.{is_letter_or_digit, is_identifier_byte, is_plain_byte, is_made_of, is_port, is_channel, is_user, is_receiver, is_memo, is_slash, are_hops_and_base, is_denom}
-use Rattle.ibc_machine.specs.ics20.TokenData.{quoted}
+use Rattle.ibc_machine.specs.ics20.TokenData.{quoted_text}
 use Rattle.json.specs.Print as print
 use Rattle.json.proofs.Printed.Strings.{escape_byte_plain}
 
@@ -97,5 +97,5 @@ escaped (c ∷ cs) e =
     let parts = and_parts (is_plain_byte c) _ e in
     ap₂ (λ (a b : Text). a ++ b) (plain_byte c parts.0) (escaped cs parts.1)
 
-pub plain_quoted : (text : Text) → IsPlain text → print.quoted text ≡ quoted text
+pub plain_quoted : (text : Text) → IsPlain text → print.quoted text ≡ quoted_text text
 plain_quoted text e = ap (λ t. 34 ∷ (t ++ 34 ∷ [])) (escaped text e)

@@ -15,12 +15,12 @@ use Rattle.json.specs.Tree as tree
 use Rattle.json.specs.Tree.{HasNumbers, json_tokens}
 use Rattle.json.specs.Value.{items_of}
 use Rattle.json.proofs.Printed.Trees.{document-print}
-use Rattle.ibc_token_data.specs.declared.fault.Fault.{Fault}
-use Rattle.ibc_token_data.specs.declared.fault.Fault.TheVariants.{NotData, NoMemory}
+use Rattle.ibc_token_data.specs.declared.fault.TokenDataFault.{TokenDataFault}
+use Rattle.ibc_token_data.specs.declared.fault.TokenDataFault.TheVariants.{NotData, NoMemory}
 use Rattle.ibc_token_data.specs.Json.{token_json, data_json}
 use Rattle.ibc_token_data.proofs.Typed.{is_typed_token, is_typed}
-use Rattle.ibc_token_data.proofs.Found.{good_parts}
-use Rattle.ibc_token_data.proofs.Spelled.{data_written}
+use Rattle.ibc_token_data.proofs.JsonMembers.{good_parts}
+use Rattle.ibc_token_data.proofs.SpelledData.{data_written}
 use Rattle.ibc_token_data.proofs.AsciiTexts.{data_ascii}
 
 -- what is needed to read a value back
@@ -92,7 +92,7 @@ told version text d e =
       json = ap document same ∙ read_back (has_several version) d;
     }
 
-pub only_memory : (fault : Fault) → (fault ≡ NotData → ⊥) → fault ≡ NoMemory
+pub only_memory : (fault : TokenDataFault) → (fault ≡ NotData → ⊥) → fault ≡ NoMemory
 only_memory NotData h = absurd (h refl)
 only_memory NoMemory h = refl
 

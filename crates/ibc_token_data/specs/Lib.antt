@@ -1,4 +1,4 @@
-pub mod Plain
+pub mod AbstractData
 pub mod Json
 pub mod Spelling
 pub mod Members

@@ -4,8 +4,8 @@ use Rattle.std.specs.Option.{option_and_then}
 use Rattle.ibc_ids.specs.Texts.{Text}
 use Rattle.json.specs.Json as json
 use Rattle.json.specs.Find.{get, as_array, as_str}
-use Rattle.ibc_token_data.specs.declared.fault.Fault.{Fault}
-use Rattle.ibc_token_data.specs.declared.fault.Fault.TheVariants.{NoMemory}
+use Rattle.ibc_token_data.specs.declared.fault.TokenDataFault.{TokenDataFault}
+use Rattle.ibc_token_data.specs.declared.fault.TokenDataFault.TheVariants.{NoMemory}
 
 -- the text of a member
 abbrev pub text_at : Text → json.Json → Option Text
@@ -16,5 +16,5 @@ abbrev pub list_at : Text → json.Json → Option json.Items
 list_at name value = option_and_then as_array (get name value)
 
 -- it is what was found, unless a growth was refused
-abbrev pub Finds : {A : Type 0} → A → Result A Fault → Type 0
-Finds wanted result = MatchResult result (λ found. found ≡ wanted) (λ fault. fault ≡ NoMemory)
+abbrev pub FindsMember : {A : Type 0} → A → Result A TokenDataFault → Type 0
+FindsMember wanted result = MatchResult result (λ found. found ≡ wanted) (λ fault. fault ≡ NoMemory)

@@ -4,7 +4,7 @@ ghost use Rattle.std.specs.Prelude.{◌≡◌, ◌&&◌};
 ghost use Rattle.std.specs.List.{list_all};
 ghost use Rattle.ibc_wire.specs.Tokens.{is_rising, is_short};
 ghost use Rattle.ibc_machine.specs.ics20.TokenData.{has_several, is_token, is_list_for, is_data};
-ghost use Rattle.ibc_token_data.specs.Plain.{plain_data};
+ghost use Rattle.ibc_token_data.specs.AbstractData.{abstract_data};
 
 use crate::TokenData;
 use ibc_ids::Version;
@@ -50,7 +50,7 @@ fn are_tokens(tokens: &[Token]) -> bool
 
 /// Whether a packet over a channel of the version may have the data.
 pub(crate) fn is_data(version: &Version, told: &TokenData) -> bool
-    ensures { result ≡ is_data version.now (plain_data told.now) }
+    ensures { result ≡ is_data version.now (abstract_data told.now) }
 {
     let _memo = told.memo.as_str();
     let _receiver = told.receiver.as_str();

@@ -4,10 +4,10 @@ ghost use Rattle.std.specs.Prelude.{◌≡◌, ◌↔◌, ◌<◌, ◌^◌, Some
 ghost use Rattle.ibc_ids.specs.declared.refusal.Refusal.TheVariants.{NoMemory};
 ghost use Rattle.ibc_machine.specs.ics20.TokenData.{Data, amount_of, data_of, data_text};
 ghost use Rattle.ibc_machine.specs.ics20.Transfers.{transfer_data, transfer_many_data};
-ghost use Rattle.ibc_token_data.specs.declared.fault.Fault.TheVariants as fault;
-ghost use Rattle.ibc_token_data.specs.Plain.{plain_data};
+ghost use Rattle.ibc_token_data.specs.declared.fault.TokenDataFault.TheVariants as fault;
+ghost use Rattle.ibc_token_data.specs.AbstractData.{abstract_data};
 
-use crate::fault::Fault;
+use crate::fault::TokenDataFault;
 use crate::forms::is_data;
 use crate::members::parsed;
 use crate::reading::data_in;
@@ -30,7 +30,7 @@ pub struct TokenData {
 impl TokenData {
     /// What a transfer of one token says. Refused where a growth is.
     pub fn of_transfer(alloc: Global, message: &Transfer) -> Result<TokenData, AllocError>
-        ensures { IfOk result (λ told. plain_data told ≡ transfer_data message.now) }
+        ensures { IfOk result (λ told. abstract_data told ≡ transfer_data message.now) }
     {
         let mut tokens = Vec::new(alloc);
         tokens.push(Token {
@@ -47,7 +47,7 @@ impl TokenData {
 
     /// What a transfer of several tokens says. Refused where a growth is.
     pub fn of_transfer_many(alloc: Global, message: &TransferMany) -> Result<TokenData, AllocError>
-        ensures { IfOk result (λ told. plain_data told ≡ transfer_many_data message.now) }
+        ensures { IfOk result (λ told. abstract_data told ≡ transfer_many_data message.now) }
     {
         Ok(TokenData {
             tokens: message.tokens.as_slice().to_vec(alloc)?,
@@ -64,19 +64,19 @@ impl TokenData {
         version: &Version,
         payload: &[u8],
     ) -> Result<Option<TokenData>, Refusal>
-        ensures ok { IfOk result (λ told. option_map plain_data told ≡ data_of version.now payload.now) }
+        ensures ok { IfOk result (λ told. option_map abstract_data told ≡ data_of version.now payload.now) }
         ensures err { IfErr result (λ refusal. refusal ≡ NoMemory) }
     {
         match spelled_data(alloc, version, payload) {
             Ok(told) => Ok(Some(told)),
-            Err(Fault::NotData) => Ok(None),
-            Err(Fault::NoMemory) => Err(Refusal::NoMemory),
+            Err(TokenDataFault::NotData) => Ok(None),
+            Err(TokenDataFault::NoMemory) => Err(Refusal::NoMemory),
         }
     }
 
     /// The one spelling of the data over a channel of the version. Refused: `NoMemory`.
     pub fn write(&self, alloc: Global, version: &Version) -> Result<Bytes, Refusal>
-        ensures ok { IfOk result (λ text. text ≡ data_text version.now (plain_data self.now)) }
+        ensures ok { IfOk result (λ text. text ≡ data_text version.now (abstract_data self.now)) }
         ensures err { IfErr result (λ refusal. refusal ≡ NoMemory) }
     {
         let text = spelling(alloc, version, self, likely_length(self))?;
@@ -85,7 +85,7 @@ impl TokenData {
 
     /// How much of a denomination the packet has, or `None` where that is more than 2^128 - 1.
     pub fn amount_of(&self, denom: &Denom) -> Option<u128>
-        ensures { SomeIff result (amount_of denom.now (plain_data self.now).tokens < 2 ^ 128) (amount_of denom.now (plain_data self.now).tokens) }
+        ensures { SomeIff result (amount_of denom.now (abstract_data self.now).tokens < 2 ^ 128) (amount_of denom.now (abstract_data self.now).tokens) }
     {
         amount_in(self.tokens.as_slice(), denom)
     }
@@ -108,8 +108,8 @@ fn amount_in(tokens: &[Token], denom: &Denom) -> Option<u128>
 }
 
 // The data that the bytes may spell: if they spell any, it is this.
-fn told_by(alloc: Global, version: &Version, payload: &[u8]) -> Result<TokenData, Fault>
-    ensures { (d : Data) → data_of version.now payload.now ≡ Some d → MatchResult result (λ told. plain_data told ≡ d) (λ e. e ≡ fault.NoMemory) }
+fn told_by(alloc: Global, version: &Version, payload: &[u8]) -> Result<TokenData, TokenDataFault>
+    ensures { (d : Data) → data_of version.now payload.now ≡ Some d → MatchResult result (λ told. abstract_data told ≡ d) (λ e. e ≡ fault.NoMemory) }
 {
     let mut scratch = Scratch::new(alloc);
     let value = parsed(alloc, payload, &mut scratch)?;
@@ -129,7 +129,7 @@ fn is_spelled_by(
     told: &TokenData,
     payload: &[u8],
 ) -> Result<bool, AllocError>
-    ensures { IfOk result (λ spelled. IsTrue spelled ↔ (data_of version.now payload.now ≡ Some (plain_data told.now))) }
+    ensures { IfOk result (λ spelled. IsTrue spelled ↔ (data_of version.now payload.now ≡ Some (abstract_data told.now))) }
 {
     if !is_data(version, told) {
         return Ok(false);
@@ -138,14 +138,18 @@ fn is_spelled_by(
     Ok(is_same(text.as_bytes(), payload))
 }
 
-fn spelled_data(alloc: Global, version: &Version, payload: &[u8]) -> Result<TokenData, Fault>
-    ensures ok { IfOk result (λ told. data_of version.now payload.now ≡ Some (plain_data told)) }
-    ensures bad { IsErrOf result Fault.NotData → data_of version.now payload.now ≡ None }
+fn spelled_data(
+    alloc: Global,
+    version: &Version,
+    payload: &[u8],
+) -> Result<TokenData, TokenDataFault>
+    ensures ok { IfOk result (λ told. data_of version.now payload.now ≡ Some (abstract_data told)) }
+    ensures bad { IsErrOf result TokenDataFault.NotData → data_of version.now payload.now ≡ None }
 {
     let told = told_by(alloc, version, payload)?;
     if is_spelled_by(alloc, version, &told, payload)? {
         Ok(told)
     } else {
-        Err(Fault::NotData)
+        Err(TokenDataFault::NotData)
     }
 }

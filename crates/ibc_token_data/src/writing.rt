@@ -2,7 +2,7 @@
 
 ghost use Rattle.std.specs.Prelude.{◌≡◌, ◌++◌, ◌∷◌, true, false, string_bytes, IfOk, OnOk};
 ghost use Rattle.ibc_machine.specs.ics20.TokenData.{member, object, token_members, has_several, data_text};
-ghost use Rattle.ibc_token_data.specs.Plain.{plain_data};
+ghost use Rattle.ibc_token_data.specs.AbstractData.{abstract_data};
 ghost use Rattle.ibc_token_data.specs.Spelling.{memo_front, parties_text, token_text, first_front, objects_text, behind_text, members_text};
 
 use crate::TokenData;
@@ -18,7 +18,7 @@ pub(crate) fn spelling(
     told: &TokenData,
     room: usize,
 ) -> Result<String, AllocError>
-    ensures { IfOk result (λ text. string_bytes text ≡ data_text version.now (plain_data told.now)) }
+    ensures { IfOk result (λ text. string_bytes text ≡ data_text version.now (abstract_data told.now)) }
 {
     let mut text = String::with_capacity(alloc, room)?;
     text.push_str("{")?;
@@ -46,7 +46,7 @@ pub(crate) fn likely_length(told: &TokenData) -> usize {
 }
 
 fn push_members(text: &mut String, version: &Version, told: &TokenData) -> Result<(), AllocError>
-    ensures { OnOk result (string_bytes text.new ≡ string_bytes text.old ++ members_text (has_several version.now) (plain_data told.now)) }
+    ensures { OnOk result (string_bytes text.new ≡ string_bytes text.old ++ members_text (has_several version.now) (abstract_data told.now)) }
 {
     if has_several(version) {
         push_with_list(text, told)
@@ -57,7 +57,7 @@ fn push_members(text: &mut String, version: &Version, told: &TokenData) -> Resul
 
 // The members with the list of tokens.
 fn push_with_list(text: &mut String, told: &TokenData) -> Result<(), AllocError>
-    ensures { OnOk result (string_bytes text.new ≡ string_bytes text.old ++ members_text true (plain_data told.now)) }
+    ensures { OnOk result (string_bytes text.new ≡ string_bytes text.old ++ members_text true (abstract_data told.now)) }
 {
     push_parties(text, told)?;
     text.push_str(",\"tokens\":[")?;
@@ -67,7 +67,7 @@ fn push_with_list(text: &mut String, told: &TokenData) -> Result<(), AllocError>
 
 // The members with those of the first token.
 fn push_with_first(text: &mut String, told: &TokenData) -> Result<(), AllocError>
-    ensures { OnOk result (string_bytes text.new ≡ string_bytes text.old ++ members_text false (plain_data told.now)) }
+    ensures { OnOk result (string_bytes text.new ≡ string_bytes text.old ++ members_text false (abstract_data told.now)) }
 {
     push_first(text, told.tokens.as_slice())?;
     push_parties(text, told)
@@ -86,7 +86,7 @@ fn push_first(text: &mut String, tokens: &[Token]) -> Result<(), AllocError>
 
 // Memo, receiver and sender.
 fn push_parties(text: &mut String, told: &TokenData) -> Result<(), AllocError>
-    ensures { OnOk result (string_bytes text.new ≡ string_bytes text.old ++ parties_text (plain_data told.now)) }
+    ensures { OnOk result (string_bytes text.new ≡ string_bytes text.old ++ parties_text (abstract_data told.now)) }
 {
     push_memo(text, &told.memo)?;
     push_member(text, "receiver", told.receiver.as_str())?;

@@ -25,11 +25,11 @@ use Rattle.ibc_machine.specs.ics20.TokenData.{Data, one_token, several_tokens, d
 use Rattle.ibc_machine.specs.ics20.Transfers.{transfer_port, transfer_commitment, transfer_data, transfer_many_data, is_zero, refund_data, refund_transfer, acknowledge_transfer, with_tokens_sent, send_tokens, transfer, transfer_many}
 use Rattle.ibc_machine.proofs.PassedChecks.{fail, bind_bind, then_bind}
 use Rattle.ibc_machine.proofs.PassedRows.{require_passed, then_passed, bind_passed, ok_same}
-use Rattle.ibc_records.specs.Held.{HeldRecords}
-use Rattle.ibc_records.specs.Taking.{IsTakenWith}
-use Rattle.ibc_bank.specs.Moves.{BankState, moved_all}
-use Rattle.ibc_transfer.specs.Banked.{bank_refunds, bank_times_out, bank_settles, bank_receives, bank_acknowledged}
-use Rattle.ibc_transfer.specs.Sent.{send_moves, with_bank_sent, bank_sends, bank_transfer, bank_transfer_many}
+use Rattle.ibc_records.specs.RecordsModel.{RecordsModel}
+use Rattle.ibc_records.specs.HandlerContract.{IsTakenWith}
+use Rattle.ibc_bank.specs.Moves.{BankState, after_moves}
+use Rattle.ibc_transfer.specs.BankCallbacks.{bank_refunds, bank_times_out, bank_settles, bank_receives, bank_acknowledged}
+use Rattle.ibc_transfer.specs.BankTransfers.{send_moves, with_bank_sent, bank_sends, bank_transfer, bank_transfer_many}
 use Rattle.ibc_transfer.proofs.Moves.{IsCovered, AreBurntIn, balances_after, sends_by_moves, sends_burn, refunds_by_moves, refunds_settle, settlements_keep, settlements_settle, burnt_alike}
 
 -- ---- sending
@@ -60,7 +60,7 @@ module _ (evidence : Evidence) (host : Host) (core : Core) (bank : BankState) wh
       number = require_number mine.next_send
 
       moves : Checked BankState
-      moves = moved_all (send_moves channel d) bank
+      moves = after_moves (send_moves channel d) bank
 
       sent : BankState → Checked (Effect × Core × BankState)
       sent left = number >> Ok (with_bank_sent channel mine c core left)
@@ -114,7 +114,7 @@ module _ (evidence : Evidence) (host : Host) (core : Core) (bank : BankState) wh
 
 -- what becomes of a message by a bank becomes of it by the bank's balances
 pub taken_by_balances : (checked : Checked (Effect × Core × BankState)) (told : Checked (Effect × Core × Balances)) → told ≡ in_balances checked
-    → (old : HeldRecords) (bank : BankState) (result : Result ℕ Refusal) (new : HeldRecords) (left : BankState)
+    → (old : RecordsModel) (bank : BankState) (result : Result ℕ Refusal) (new : RecordsModel) (left : BankState)
     → IsTakenWith effect.Sent checked old bank result new left → IsTakenWith effect.Sent told old bank.balances result new left.balances
 unfolding go_on
 taken_by_balances checked told same old bank (Ok n) new left taken = (taken.0, same ∙ ap in_balances taken.1, taken.2)
@@ -138,7 +138,7 @@ module _ (evidence : Evidence) (host : Host) (core : Core) (bank : BankState) (s
   unfolding bank_sends
   sends_did channel version mine d c there same e =
       let timeouts = then_passed (require_timeouts evidence core mine c) _ e in
-      let paid = bind_passed (moved_all (send_moves channel d) bank) _ timeouts.1 in
+      let paid = bind_passed (after_moves (send_moves channel d) bank) _ timeouts.1 in
       let number = then_passed (require_number mine.next_send) _ paid.2 in
       let is : with_bank_sent channel mine c core paid.0 ≡ (effect, after, left) = ok_same number.1 in
       record {

@@ -18,25 +18,25 @@ use Rattle.ibc_machine.specs.chain.Records.{Core, commitment_of}
 use Rattle.ibc_machine.specs.ics24.Evidence.{Host, Evidence}
 use Rattle.ibc_machine.specs.ics04.Packets.{ack_packet, timeout, timeout_on_close}
 use Rattle.ibc_machine.specs.ics20.TokenData.{Data, one_token, several_tokens, is_data, tokens_of}
-use Rattle.ibc_machine.specs.ics20.Transfers.{transfer_port, burnt, transfer_commitment, transfer_data, transfer_many_data}
+use Rattle.ibc_machine.specs.ics20.Transfers.{transfer_port, burnt_amount, transfer_commitment, transfer_data, transfer_many_data}
 use Rattle.ibc_machine.proofs.GoodData.{transfer_good, transfer_many_good}
 use Rattle.ibc_machine.specs.chain.Orderly.{IsOrderly}
-use Rattle.ibc_machine.specs.ics20.Returned.{SameBurnt, returned}
+use Rattle.ibc_machine.specs.ics20.ReturningTokens.{SameBurnt, returned_amount}
 use Rattle.ibc_machine.proofs.flight.SendSteps.{tokens_sent_burnt}
 use Rattle.ibc_machine.proofs.flight.PacketSteps.{Settles, ack_packet_settles, timeout_settles, timeout_on_close_settles}
 use Rattle.ibc_bank.specs.Amounts.{amount_at}
 use Rattle.ibc_bank.specs.Moves.{BankState}
-use Rattle.ibc_transfer.specs.Banked.{bank_acknowledged, bank_times_out}
-use Rattle.ibc_transfer.specs.Sent.{bank_transfer, bank_transfer_many}
+use Rattle.ibc_transfer.specs.BankCallbacks.{bank_acknowledged, bank_times_out}
+use Rattle.ibc_transfer.specs.BankTransfers.{bank_transfer, bank_transfer_many}
 use Rattle.ibc_transfer.specs.InFlight.{IsInFlight}
 use Rattle.ibc_transfer.proofs.Moves.{IsCovered, AreBurntIn}
 use Rattle.ibc_transfer.proofs.ByBank.{Sends, transfer_did, transfer_many_did, acknowledged_in_flight, timed_out_in_flight}
 
 -- where what is burnt stays in the bank and on the channels, as where a packet is received
 pub same_flight : (bank left : BankState) (core after : Core) → IsInFlight bank core → left.burnt ≡ bank.burnt → SameBurnt core after → IsInFlight left after
-same_flight bank left core after flight same burnt = record {
+same_flight bank left core after flight same burnt_amount = record {
   sorted = ap (is_sorted text_cmp) same ∙ flight.sorted;
-  counted = λ denom. ap (amount_at text_cmp denom) same ∙ flight.counted denom ∙ sym (burnt denom);
+  counted = λ denom. ap (amount_at text_cmp denom) same ∙ flight.counted denom ∙ sym (burnt_amount denom);
 }
 
 -- ---- sending
@@ -74,7 +74,7 @@ module _ (evidence : Evidence) (host : Host) (core : Core) (bank : BankState) (o
 
 -- as much less is burnt in the bank as on the channels
 settled_keeps_flight : (core after : Core) (bank left : BankState) (channel : Text) (tokens : List Token) → IsInFlight bank core
-    → ((denom : Text) → burnt after denom + returned channel tokens denom ≡ burnt core denom) → AreBurntIn channel tokens bank left → IsInFlight left after
+    → ((denom : Text) → burnt_amount after denom + returned_amount channel tokens denom ≡ burnt_amount core denom) → AreBurntIn channel tokens bank left → IsInFlight left after
 settled_keeps_flight core after bank left channel tokens flight less gone = record {
   sorted = gone.fewer_sorted;
   counted = λ denom.
@@ -86,7 +86,7 @@ settled_keeps_flight core after bank left channel tokens flight less gone = reco
 
 -- the tokens of a packet that is settled were burnt
 settled_covers : (core after : Core) (bank : BankState) (channel : Text) (tokens : List Token) → IsInFlight bank core
-    → ((denom : Text) → burnt after denom + returned channel tokens denom ≡ burnt core denom) → IsCovered channel tokens bank
+    → ((denom : Text) → burnt_amount after denom + returned_amount channel tokens denom ≡ burnt_amount core denom) → IsCovered channel tokens bank
 settled_covers core after bank channel tokens flight less denom =
     let old = flight.counted denom in
     let settled = less denom in

@@ -17,15 +17,15 @@ use Rattle.ibc_machine.specs.ics20.Transfers.{transfer_port, came_over, each_tok
 use Rattle.ibc_machine.proofs.FiniteMaps.{by_text}
 use Rattle.ibc_machine.proofs.SortedMaps.{Sorted-from, Sorted-to}
 use Rattle.ibc_machine.proofs.PassedRows.{bind_passed, ok_same}
-use Rattle.ibc_machine.specs.ics20.Returned.{returned}
+use Rattle.ibc_machine.specs.ics20.ReturningTokens.{returned_amount}
 use Rattle.ibc_bank.specs.Amounts.{amount_at, with_amount}
-use Rattle.ibc_bank.specs.Moves.{BankState, burnt_of, with_burnt, with_balances, settled, moved, moved_all}
+use Rattle.ibc_bank.specs.Moves.{BankState, burnt_of, with_burnt, with_balances, after_settlement, after_move, after_moves}
 use Rattle.ibc_bank.specs.declared.moves.Move.{Move}
 use Rattle.ibc_bank.specs.declared.moves.Move.TheVariants as move
 use Rattle.ibc_bank.specs.declared.moves.Source.TheVariants as source
 use Rattle.ibc_bank.proofs.Writes.{by_denom, denom_amount, sorted-with_amount}
-use Rattle.ibc_transfer.specs.Banked.{refund_move, settle_tokens}
-use Rattle.ibc_transfer.specs.Sent.{send_move}
+use Rattle.ibc_transfer.specs.BankCallbacks.{refund_move, settle_tokens}
+use Rattle.ibc_transfer.specs.BankTransfers.{send_move}
 
 -- ---- the balances that moves leave
 
@@ -64,10 +64,10 @@ left_is None of burnt same left e = absurd (cc e)
 pub record AreBurntIn (channel : Text) (tokens : List Token) (more fewer : BankState) : Type 0 where
   pub more_sorted : IsTrue (is_sorted text_cmp more.burnt)
   pub fewer_sorted : IsTrue (is_sorted text_cmp fewer.burnt)
-  pub counted : (denom : Text) → burnt_of more denom ≡ burnt_of fewer denom + returned channel tokens denom
+  pub counted : (denom : Text) → burnt_of more denom ≡ burnt_of fewer denom + returned_amount channel tokens denom
 
 -- of no tokens goes back nothing
-none_returned : (channel denom : Text) → returned channel [] denom ≡ 0
+none_returned : (channel denom : Text) → returned_amount channel [] denom ≡ 0
 none_returned channel denom = go (came_over transfer_port channel denom)
   where
     go : (b : Bool) → (if b then amount_of denom [] else 0) ≡ 0
@@ -76,7 +76,7 @@ none_returned channel denom = go (came_over transfer_port channel denom)
 
 -- of several, the first one's share and the others'
 first_returned : (channel : Text) (token : Token) (tokens : List Token) (denom : Text)
-    → returned channel (token ∷ tokens) denom ≡ returned channel (token ∷ []) denom + returned channel tokens denom
+    → returned_amount channel (token ∷ tokens) denom ≡ returned_amount channel (token ∷ []) denom + returned_amount channel tokens denom
 first_returned channel token tokens denom = go (came_over transfer_port channel denom)
   where
     go : (b : Bool) → (if b then amount_of denom (token ∷ tokens) else 0)
@@ -94,13 +94,13 @@ nothing false = refl
 module _ (channel : Text) (token : Token) where
   -- a token that came over the channel goes back over it
   goes_back : came_over transfer_port channel token.denom ≡ true → (denom : Text)
-      → returned channel (token ∷ []) denom ≡ (if same_text token.denom denom then token.amount else 0)
+      → returned_amount channel (token ∷ []) denom ≡ (if same_text token.denom denom then token.amount else 0)
   goes_back back denom =
       by_denom token.denom denom (λ same d. (if came_over transfer_port channel d then 0 + (if same then token.amount else 0) else 0) ≡ (if same then token.amount else 0))
       (let one = ap (λ b. if b then 0 + token.amount else 0) back in omega arith) (nothing (came_over transfer_port channel denom))
 
   -- another one doesn't
-  stays : came_over transfer_port channel token.denom ≡ false → (denom : Text) → returned channel (token ∷ []) denom ≡ 0
+  stays : came_over transfer_port channel token.denom ≡ false → (denom : Text) → returned_amount channel (token ∷ []) denom ≡ 0
   stays here denom =
       by_denom token.denom denom (λ same d. (if came_over transfer_port channel d then 0 + (if same then token.amount else 0) else 0) ≡ 0)
       (ap (λ b. if b then 0 + token.amount else 0) here) (nothing (came_over transfer_port channel denom))
@@ -155,7 +155,7 @@ module _ (channel : Text) (token : Token) where
 
 -- some tokens and then the others
 burnt_through : (channel : Text) (all some others : List Token) (more between fewer : BankState)
-    → ((denom : Text) → returned channel all denom ≡ returned channel some denom + returned channel others denom)
+    → ((denom : Text) → returned_amount channel all denom ≡ returned_amount channel some denom + returned_amount channel others denom)
     → AreBurntIn channel some more between → AreBurntIn channel others between fewer → AreBurntIn channel all more fewer
 burnt_through channel all some others more between fewer parts first rest = record {
   more_sorted = first.more_sorted;
@@ -177,7 +177,7 @@ burnt_alike channel bank sorted = record {
 
 -- where as much was burnt as goes back
 abbrev pub IsCovered : Text → List Token → BankState → Type 0
-IsCovered channel tokens bank = (denom : Text) → returned channel tokens denom ≤ burnt_of bank denom
+IsCovered channel tokens bank = (denom : Text) → returned_amount channel tokens denom ≤ burnt_of bank denom
 
 -- then as much as the first token, and once it is gone as much as the others
 covers_first : (channel : Text) (token : Token) (tokens : List Token) (bank : BankState) → IsCovered channel (token ∷ tokens) bank
@@ -207,36 +207,36 @@ module _ (channel user : Text) (token : Token) (bank : BankState) where
   sending back = if back then move.Burn user token.denom token.amount else move.Escrow user channel token.denom token.amount
 
   -- what sending the token does to the balances
-  send_step : IsStep (moved (send_move channel user token) bank) (send_token channel user token bank.balances)
+  send_step : IsStep (after_move (send_move channel user token) bank) (send_token channel user token bank.balances)
   send_step = go (came_over transfer_port channel token.denom)
     where
-      go : (b : Bool) → IsStep (moved (sending b) bank) (if b then pay user token bank.balances else into_escrow channel user token bank.balances)
+      go : (b : Bool) → IsStep (after_move (sending b) bank) (if b then pay user token bank.balances else into_escrow channel user token bank.balances)
       go true = made (pay user token bank.balances) burning (λ b. refl)
       go false = made (into_escrow channel user token bank.balances) (with_balances bank) (λ b. refl)
 
   -- and to what was burnt
-  send_burns : IsTrue (is_sorted text_cmp bank.burnt) → (left : BankState) → moved (send_move channel user token) bank ≡ Ok left → AreBurntIn channel (token ∷ []) left bank
+  send_burns : IsTrue (is_sorted text_cmp bank.burnt) → (left : BankState) → after_move (send_move channel user token) bank ≡ Ok left → AreBurntIn channel (token ∷ []) left bank
   send_burns sorted left e = go (came_over transfer_port channel token.denom) refl e
     where
-      go : (b : Bool) → came_over transfer_port channel token.denom ≡ b → moved (sending b) bank ≡ Ok left → AreBurntIn channel (token ∷ []) left bank
+      go : (b : Bool) → came_over transfer_port channel token.denom ≡ b → after_move (sending b) bank ≡ Ok left → AreBurntIn channel (token ∷ []) left bank
       go true back e = burnt_more channel token bank left sorted back (left_is (pay user token bank.balances) burning _ (λ b. refl) left e)
       go false here e = none_burnt channel token left bank sorted here (left_is (into_escrow channel user token bank.balances) (with_balances bank) _ (λ b. refl) left e)
 
 -- the tokens leave the sender
 pub sends_by_moves : (channel user : Text) (tokens : List Token) (bank : BankState)
-    → IsStep (moved_all (map (send_move channel user) tokens) bank) (each_token (send_token channel user) tokens bank.balances)
+    → IsStep (after_moves (map (send_move channel user) tokens) bank) (each_token (send_token channel user) tokens bank.balances)
 unfolding go_on
 sends_by_moves channel user [] bank = refl
 sends_by_moves channel user (token ∷ tokens) bank =
-    then_step (moved (send_move channel user token) bank) (send_token channel user token bank.balances) _ _
+    then_step (after_move (send_move channel user token) bank) (send_token channel user token bank.balances) _ _
     (send_step channel user token bank) (λ left is. sends_by_moves channel user tokens left)
 
 -- and what goes back is burnt
 pub sends_burn : (channel user : Text) (tokens : List Token) (bank left : BankState) → IsTrue (is_sorted text_cmp bank.burnt)
-    → moved_all (map (send_move channel user) tokens) bank ≡ Ok left → AreBurntIn channel tokens left bank
+    → after_moves (map (send_move channel user) tokens) bank ≡ Ok left → AreBurntIn channel tokens left bank
 sends_burn channel user [] bank left sorted e = subst (λ b. AreBurntIn channel [] b bank) (ok_same e) (burnt_alike channel bank sorted)
 sends_burn channel user (token ∷ tokens) bank left sorted e =
-    let first = bind_passed (moved (send_move channel user token) bank) _ e in
+    let first = bind_passed (after_move (send_move channel user token) bank) _ e in
     let one = send_burns channel user token bank sorted first.0 first.1 in
     burnt_through channel (token ∷ tokens) tokens (token ∷ []) left first.0 bank (λ denom. let parts = first_returned channel token tokens denom in omega arith)
     (sends_burn channel user tokens first.0 left one.more_sorted first.2) one
@@ -259,11 +259,11 @@ module _ (channel user : Text) (token : Token) (bank : BankState) where
 
   -- what refunding the token does to the balances
   refund_step : (came_over transfer_port channel token.denom ≡ true → token.amount ≤ burnt_of bank token.denom)
-      → IsStep (moved (refund_move channel user token) bank) (refund_token channel user token bank.balances)
+      → IsStep (after_move (refund_move channel user token) bank) (refund_token channel user token bank.balances)
   refund_step enough = go (came_over transfer_port channel token.denom) refl
     where
       go : (b : Bool) → came_over transfer_port channel token.denom ≡ b
-          → IsStep (moved (refunding b) bank) (if b then Some (give user token bank.balances) else out_of_escrow channel user token bank.balances)
+          → IsStep (after_move (refunding b) bank) (if b then Some (give user token bank.balances) else out_of_escrow channel user token bank.balances)
       go true back =
           let limit = enough back in
           let fits : nat_lt (burnt_of bank token.denom) token.amount ≡ false = grind (arith, nat_tests) in
@@ -271,7 +271,7 @@ module _ (channel user : Text) (token : Token) (bank : BankState) where
       go false here = made (out_of_escrow channel user token bank.balances) (with_balances bank) (λ b. refl)
 
   -- and to what was burnt
-  refund_settles : IsTrue (is_sorted text_cmp bank.burnt) → (left : BankState) → moved (refund_move channel user token) bank ≡ Ok left → AreBurntIn channel (token ∷ []) bank left
+  refund_settles : IsTrue (is_sorted text_cmp bank.burnt) → (left : BankState) → after_move (refund_move channel user token) bank ≡ Ok left → AreBurntIn channel (token ∷ []) bank left
   refund_settles sorted left e = go (came_over transfer_port channel token.denom) refl e
     where
       inner : came_over transfer_port channel token.denom ≡ true → (short : Bool) → nat_lt (burnt_of bank token.denom) token.amount ≡ short
@@ -279,7 +279,7 @@ module _ (channel user : Text) (token : Token) (bank : BankState) where
       inner back true is e = absurd (cc e)
       inner back false is e = burnt_less channel token bank left sorted back (ltb-false (burnt_of bank token.denom) token.amount is) (ap (λ (b : BankState). b.burnt) (sym (ok_same e)))
 
-      go : (b : Bool) → came_over transfer_port channel token.denom ≡ b → moved (refunding b) bank ≡ Ok left → AreBurntIn channel (token ∷ []) bank left
+      go : (b : Bool) → came_over transfer_port channel token.denom ≡ b → after_move (refunding b) bank ≡ Ok left → AreBurntIn channel (token ∷ []) bank left
       go true back e = inner back (nat_lt (burnt_of bank token.denom) token.amount) refl e
       go false here e =
           let same = left_is (out_of_escrow channel user token bank.balances) (with_balances bank) bank.burnt (λ b. refl) left e in
@@ -287,21 +287,21 @@ module _ (channel user : Text) (token : Token) (bank : BankState) where
 
 -- what was burnt is minted again, and not refunded any more
 pub refunds_settle : (channel user : Text) (tokens : List Token) (bank left : BankState) → IsTrue (is_sorted text_cmp bank.burnt)
-    → moved_all (map (refund_move channel user) tokens) bank ≡ Ok left → AreBurntIn channel tokens bank left
+    → after_moves (map (refund_move channel user) tokens) bank ≡ Ok left → AreBurntIn channel tokens bank left
 refunds_settle channel user [] bank left sorted e = subst (λ b. AreBurntIn channel [] bank b) (ok_same e) (burnt_alike channel bank sorted)
 refunds_settle channel user (token ∷ tokens) bank left sorted e =
-    let first = bind_passed (moved (refund_move channel user token) bank) _ e in
+    let first = bind_passed (after_move (refund_move channel user token) bank) _ e in
     let one = refund_settles channel user token bank sorted first.0 first.1 in
     burnt_through channel (token ∷ tokens) (token ∷ []) tokens bank first.0 left (first_returned channel token tokens) one
     (refunds_settle channel user tokens first.0 left one.fewer_sorted first.2)
 
 -- the tokens come back to the sender
 pub refunds_by_moves : (channel user : Text) (tokens : List Token) (bank : BankState) → IsTrue (is_sorted text_cmp bank.burnt) → IsCovered channel tokens bank
-    → IsStep (moved_all (map (refund_move channel user) tokens) bank) (each_token (refund_token channel user) tokens bank.balances)
+    → IsStep (after_moves (map (refund_move channel user) tokens) bank) (each_token (refund_token channel user) tokens bank.balances)
 unfolding go_on
 refunds_by_moves channel user [] bank sorted covers = refl
 refunds_by_moves channel user (token ∷ tokens) bank sorted covers =
-    then_step (moved (refund_move channel user token) bank) (refund_token channel user token bank.balances) _ _
+    then_step (after_move (refund_move channel user token) bank) (refund_token channel user token bank.balances) _ _
     (refund_step channel user token bank (covers_first channel token tokens bank covers))
     (λ left is. let one = refund_settles channel user token bank sorted left is in
     refunds_by_moves channel user tokens left one.fewer_sorted (covers_others channel token tokens bank left covers one))
@@ -310,7 +310,7 @@ refunds_by_moves channel user (token ∷ tokens) bank sorted covers =
 
 -- where the token came over the channel
 abbrev settling : Token → BankState → Bool → BankState
-settling token bank back = if back then settled token bank else bank
+settling token bank back = if back then after_settlement token bank else bank
 
 settle_keeps : (token : Token) (bank : BankState) (b : Bool) → (settling token bank b).balances ≡ bank.balances
 settle_keeps token bank true = refl
@@ -334,5 +334,5 @@ settlements_settle channel (token ∷ tokens) bank sorted covers =
     (settlements_settle channel tokens next one.fewer_sorted (covers_others channel token tokens bank next covers one))
   where
     go : (b : Bool) → came_over transfer_port channel token.denom ≡ b → AreBurntIn channel (token ∷ []) bank (settling token bank b)
-    go true back = burnt_less channel token bank (settled token bank) sorted back (covers_first channel token tokens bank covers back) refl
+    go true back = burnt_less channel token bank (after_settlement token bank) sorted back (covers_first channel token tokens bank covers back) refl
     go false here = none_burnt channel token bank bank sorted here refl

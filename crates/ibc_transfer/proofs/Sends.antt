@@ -16,16 +16,16 @@ use Rattle.ibc_machine.specs.ics24.Evidence.{Host, Evidence, require_number}
 use Rattle.ibc_machine.specs.ics04.Packets.{sending_end, require_timeouts, after_send}
 use Rattle.ibc_machine.specs.ics20.Transfers.{transfer_port}
 use Rattle.ibc_machine.proofs.PassedChecks.{find, miss, pass}
-use Rattle.ibc_records.specs.Held.{HeldRecords, core_of, IsUnchanged}
-use Rattle.ibc_records.specs.Taking.{IsTakenWith}
+use Rattle.ibc_records.specs.RecordsModel.{RecordsModel, core_of, IsUnchanged}
+use Rattle.ibc_records.specs.HandlerContract.{IsTakenWith}
 use Rattle.ibc_records.specs.Packets.{SendsPacket}
 use Rattle.ibc_client.proofs.Judging.{IsRefusedBy, stops_at}
-use Rattle.ibc_bank.specs.Moves.{BankState, moved_all}
+use Rattle.ibc_bank.specs.Moves.{BankState, after_moves}
 use Rattle.ibc_bank.specs.declared.moves.Move.{Move}
-use Rattle.ibc_transfer.specs.Sent.{with_bank_sent, bank_sends, bank_transfer, bank_transfer_many}
-use Rattle.ibc_transfer.specs.Sending.{PlainParcel, one_parcel, many_parcel, may_leave, may_go, sends}
+use Rattle.ibc_transfer.specs.BankTransfers.{with_bank_sent, bank_sends, bank_transfer, bank_transfer_many}
+use Rattle.ibc_transfer.specs.TransferChecks.{OutgoingModel, one_outgoing, many_outgoing, require_channel, require_moves, send_handler}
 
-pub one_sent : (evidence : Evidence) (host : Host) (core : Core) (bank : BankState) (m : Transfer) → bank_transfer m evidence host core bank ≡ sends m.channel (one_parcel m) evidence host core bank
+pub one_sent : (evidence : Evidence) (host : Host) (core : Core) (bank : BankState) (m : Transfer) → bank_transfer m evidence host core bank ≡ send_handler m.channel (one_outgoing m) evidence host core bank
 unfolding bank_transfer bank_sends
 one_sent evidence host core bank m = refl
 
@@ -34,7 +34,7 @@ abbrev pub has_form : List Token → Bool
 has_form tokens = is_short tokens && is_rising tokens
 
 pub many_sent : (evidence : Evidence) (host : Host) (core : Core) (bank : BankState) (m : TransferMany)
-    → bank_transfer_many m evidence host core bank ≡ (require (has_form m.tokens) BadMessage >> sends m.channel (many_parcel m) evidence host core bank)
+    → bank_transfer_many m evidence host core bank ≡ (require (has_form m.tokens) BadMessage >> send_handler m.channel (many_outgoing m) evidence host core bank)
 unfolding bank_transfer_many bank_sends
 many_sent evidence host core bank m = refl
 
@@ -53,8 +53,8 @@ unfolding go_on
 full_next (Ok after) number is full = inr full
 full_next (Err refusal) number is full = absurd (cc (is))
 
-same_moves : {bank asked : BankState} {moves checked : List Move} → asked ≡ bank → checked ≡ moves → moved_all checked asked ≡ moved_all moves bank
-same_moves same_bank same = ap₂ (λ (steps : List Move) (b : BankState). moved_all steps b) same same_bank
+same_moves : {bank asked : BankState} {moves checked : List Move} → asked ≡ bank → checked ≡ moves → after_moves checked asked ≡ after_moves moves bank
+same_moves same_bank same = ap₂ (λ (steps : List Move) (b : BankState). after_moves steps b) same same_bank
 
 not_going : {B : Type 0} {y : Checked B} {r : Refusal} (moved : Checked BankState) (number : Checked ⊤) (done : BankState → B)
     → (r ≡ NoMemory) ⊎ ((moved >>= λ (after : BankState). number) ≡ Err r) → y ≡ (moved >>= λ (after : BankState). number >> Ok (done after)) → IsRefusedBy y r
@@ -80,7 +80,7 @@ unfolding go_on
 all_done_after (Ok a) row done checks same = same a
 all_done_after (Err r) row done checks same = refl
 
-module _ (evidence : Evidence) (host : Host) (core : Core) (channel : Text) (parcel : PlainParcel) where
+module _ (evidence : Evidence) (host : Host) (core : Core) (channel : Text) (parcel : OutgoingModel) where
   -- the checks behind those of the end
   abbrev pub leave_rest : Channel → Checked Channel
   leave_rest mine =
@@ -90,44 +90,44 @@ module _ (evidence : Evidence) (host : Host) (core : Core) (channel : Text) (par
       >> Ok mine))
 
   module _ (port : Text) (named : port ≡ transfer_port) where
-    pub leave_row : may_leave channel parcel evidence host core ≡ (sending_end core port channel >>= leave_rest)
+    pub leave_row : require_channel channel parcel evidence host core ≡ (sending_end core port channel >>= leave_rest)
     leave_row = λ i. sending_end core (sym named i) channel >>= leave_rest
 
-    pub leave_found : (mine : Channel) → sending_end core port channel ≡ Ok mine → may_leave channel parcel evidence host core ≡ leave_rest mine
+    pub leave_found : (mine : Channel) → sending_end core port channel ≡ Ok mine → require_channel channel parcel evidence host core ≡ leave_rest mine
     leave_found mine is = find leave_rest is leave_row
 
   module _ (bank : BankState) where
     -- what the end sends once they passed
     abbrev pub sent_by : Channel → Checked (Effect × Core × BankState)
     sent_by mine =
-        moved_all parcel.moves bank >>= λ (after : BankState). require_number mine.next_send >> Ok (with_bank_sent channel mine parcel.commitment core after)
+        after_moves parcel.moves bank >>= λ (after : BankState). require_number mine.next_send >> Ok (with_bank_sent channel mine parcel.commitment core after)
 
-    pub sends_after : sends channel parcel evidence host core bank ≡ (may_leave channel parcel evidence host core >>= sent_by)
+    pub sends_after : send_handler channel parcel evidence host core bank ≡ (require_channel channel parcel evidence host core >>= sent_by)
     sends_after =
         all_done_after (sending_end core transfer_port channel) _ sent_by leave_rest
         (λ mine. done_after (require (same_text mine.end.version parcel.version) WrongVersion) (require parcel.fits TooLarge) (require_timeouts evidence core mine parcel.commitment) mine sent_by)
 
-    pub sends_refused : {r : Refusal} → IsRefusedBy (may_leave channel parcel evidence host core) r → IsRefusedBy (sends channel parcel evidence host core bank) r
+    pub sends_refused : {r : Refusal} → IsRefusedBy (require_channel channel parcel evidence host core) r → IsRefusedBy (send_handler channel parcel evidence host core bank) r
     sends_refused why = stops_at sent_by why sends_after
 
     pub unpaid : {asked : BankState} {checked : List Move} {r : Refusal} → asked ≡ bank → checked ≡ parcel.moves → (mine : Channel)
-        → may_leave channel parcel evidence host core ≡ Ok mine → (r ≡ NoMemory) ⊎ (may_go asked checked mine.next_send ≡ Err r)
-        → IsRefusedBy (sends channel parcel evidence host core bank) r
+        → require_channel channel parcel evidence host core ≡ Ok mine → (r ≡ NoMemory) ⊎ (require_moves asked checked mine.next_send ≡ Err r)
+        → IsRefusedBy (send_handler channel parcel evidence host core bank) r
     unpaid {asked} {checked} {r} same_bank same mine is why =
-        not_going (moved_all parcel.moves bank) (require_number mine.next_send) (λ (after : BankState). with_bank_sent channel mine parcel.commitment core after)
+        not_going (after_moves parcel.moves bank) (require_number mine.next_send) (λ (after : BankState). with_bank_sent channel mine parcel.commitment core after)
         (subst (λ (moved : Checked BankState). (r ≡ NoMemory) ⊎ ((moved >>= λ (after : BankState). require_number mine.next_send) ≡ Err r)) (same_moves same_bank same) why)
         (find sent_by is sends_after)
 
-pub parcel_taken : (evidence : Evidence) (host : Host) (old : HeldRecords) (bank : BankState) (channel : Text) (parcel : PlainParcel) (port : Text) → port ≡ transfer_port → (mine : Channel)
-    → may_leave channel parcel evidence host (core_of old) ≡ Ok mine
+pub parcel_taken : (evidence : Evidence) (host : Host) (old : RecordsModel) (bank : BankState) (channel : Text) (parcel : OutgoingModel) (port : Text) → port ≡ transfer_port → (mine : Channel)
+    → require_channel channel parcel evidence host (core_of old) ≡ Ok mine
     → require_number mine.next_send ≡ Ok tt
     → channel_at (core_of old) port channel ≡ Some mine
-    → (result : Result ℕ Refusal) (new : HeldRecords) (after : BankState)
+    → (result : Result ℕ Refusal) (new : RecordsModel) (after : BankState)
     → IfOk result (λ n. SendsPacket old port channel parcel.commitment n new)
-    → OnOk result (moved_all parcel.moves bank ≡ Ok after)
-    → IfErr result (λ refusal. (refusal ≡ NoMemory) ⊎ (moved_all parcel.moves bank ≡ Err refusal))
+    → OnOk result (after_moves parcel.moves bank ≡ Ok after)
+    → IfErr result (λ refusal. (refusal ≡ NoMemory) ⊎ (after_moves parcel.moves bank ≡ Err refusal))
     → OnErr result (IsUnchanged old new × (after ≡ bank))
-    → IsTakenWith effect.Sent (sends channel parcel evidence host (core_of old) bank) old bank result new after
+    → IsTakenWith effect.Sent (send_handler channel parcel evidence host (core_of old) bank) old bank result new after
 parcel_taken evidence host old bank channel parcel port named mine is free there (Ok n) new after sent paid err unchanged =
     let stood : Some mine ≡ Some sent.mine = sym there ∙ sent.stood in
     let same : mine ≡ sent.mine = cc (stood) in

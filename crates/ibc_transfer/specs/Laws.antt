@@ -13,11 +13,11 @@ use Rattle.ibc_machine.specs.ics04.Packets.{has_size}
 use Rattle.ibc_machine.specs.ics20.Bank.{Balances}
 use Rattle.ibc_machine.specs.chain.Checks.{Checked, expect, go_on, ◌>>=◌}
 use Rattle.ibc_machine.specs.ics20.TokenData.{Data, data_of, one_token, several_tokens, success}
-use Rattle.ibc_machine.specs.ics20.Transfers.{transfer_port, came_over, opens_for_transfers, acknowledged_with, each_token, receive_token, receive_data, receive_transfer}
+use Rattle.ibc_machine.specs.ics20.Transfers.{transfer_port, came_over, opens_for_transfers, receive_result, each_token, receive_token, receive_data, receive_transfer}
 use Rattle.ibc_app_port.specs.Openings.{order_or_version}
 use Rattle.ibc_bank.specs.declared.moves.Move.{Move}
-use Rattle.ibc_bank.specs.Moves.{BankState, burnt_of, moved, moved_all}
-use Rattle.ibc_transfer.specs.Banked.{bank_receives, refund_move, bank_refunds, bank_times_out, bank_acknowledged}
+use Rattle.ibc_bank.specs.Moves.{BankState, burnt_of, after_move, after_moves}
+use Rattle.ibc_transfer.specs.BankCallbacks.{bank_receives, refund_move, bank_refunds, bank_times_out, bank_acknowledged}
 
 -- an opening is refused for the order or the version alone
 pub transfers_open_or_refuse : (order : Order) (version : Text) → IfErr (opens_for_transfers order version) (λ refusal. (refusal ≡ WrongOrder) ⊎ (refusal ≡ WrongVersion))
@@ -30,7 +30,7 @@ sized_choice : (b : Bool) (x y : Text × Balances) → IsTrue (has_size x.0) →
 sized_choice true x y one other = one
 sized_choice false x y one other = other
 
-sized_with : (before : Balances) (after : Option Balances) → IsTrue (has_size (acknowledged_with before after).0)
+sized_with : (before : Balances) (after : Option Balances) → IsTrue (has_size (receive_result before after).0)
 sized_with before (Some after) = refl
 sized_with before None = refl
 
@@ -57,14 +57,14 @@ unfolding go_on
 then_or_poor (Ok bank) rest one more = more bank
 then_or_poor (Err refusal) rest one more = one
 
-chosen_or_poor : (b : Bool) (x y : Move) (bank : BankState) → IsPoor (moved x bank) → IsPoor (moved y bank) → IsPoor (moved (if b then x else y) bank)
+chosen_or_poor : (b : Bool) (x y : Move) (bank : BankState) → IsPoor (after_move x bank) → IsPoor (after_move y bank) → IsPoor (after_move (if b then x else y) bank)
 chosen_or_poor true x y bank one other = one
 chosen_or_poor false x y bank one other = other
 
-refunded_or_poor : (channel user : Text) (tokens : List Token) (bank : BankState) → IsPoor (moved_all (map (refund_move channel user) tokens) bank)
+refunded_or_poor : (channel user : Text) (tokens : List Token) (bank : BankState) → IsPoor (after_moves (map (refund_move channel user) tokens) bank)
 refunded_or_poor channel user [] bank = tt
 refunded_or_poor channel user (token ∷ tokens) bank =
-    then_or_poor (moved (refund_move channel user token) bank) (moved_all (map (refund_move channel user) tokens))
+    then_or_poor (after_move (refund_move channel user token) bank) (after_moves (map (refund_move channel user) tokens))
     (chosen_or_poor (came_over transfer_port channel token.denom) _ _ bank (expected_or_poor _) (expected_or_poor _))
     (refunded_or_poor channel user tokens)
 

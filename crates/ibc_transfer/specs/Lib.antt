@@ -1,8 +1,8 @@
-pub mod Banked
-pub mod Sent
-pub mod Sending
-pub mod Arriving
-pub mod Returning
-pub mod Plain
+pub mod BankCallbacks
+pub mod BankTransfers
+pub mod TransferChecks
+pub mod TokenArrival
+pub mod TokenRefunds
+pub mod AbstractMoves
 pub mod Laws
 pub mod InFlight

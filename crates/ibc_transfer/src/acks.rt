@@ -3,7 +3,7 @@
 ghost use Rattle.std.specs.Prelude.{◌≡◌, IfOk};
 ghost use Rattle.ibc_ids.specs.Texts.{same_text};
 ghost use Rattle.ibc_machine.specs.ics20.TokenData.{success};
-ghost use Rattle.ibc_transfer.specs.Arriving.{failure_ack};
+ghost use Rattle.ibc_transfer.specs.TokenArrival.{failure_ack};
 
 use ibc_ids::Bytes;
 use std::alloc::{AllocError, Global};

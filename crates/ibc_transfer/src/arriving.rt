@@ -3,8 +3,8 @@
 ghost use Rattle.std.specs.Prelude.{◌≡◌, ◌↔◌, IfOk, IfErr, IsTrue, option_map, Some, MatchOption};
 ghost use Rattle.ibc_ids.specs.Names.{is_user};
 ghost use Rattle.ibc_ids.specs.declared.refusal.Refusal.TheVariants.{NoMemory};
-ghost use Rattle.ibc_transfer.specs.Arriving.{mint_move, receive_move, receive_moves, arrival};
-ghost use Rattle.ibc_transfer.specs.Plain.{plain_moves, plain_arrival};
+ghost use Rattle.ibc_transfer.specs.TokenArrival.{mint_move, receive_move, receive_moves, arrival_moves};
+ghost use Rattle.ibc_transfer.specs.AbstractMoves.{abstract_moves, abstract_arrival};
 
 use crate::acks::Failure;
 use ibc_bank::Move;
@@ -20,7 +20,7 @@ pub(crate) fn read_arrival(
     version: &Version,
     packet: &Packet,
 ) -> Result<Result<Vec<Move>, Failure>, Refusal>
-    ensures ok { IfOk result (λ arrived. plain_arrival arrived ≡ arrival version.now packet.now) }
+    ensures ok { IfOk result (λ arrived. abstract_arrival arrived ≡ arrival_moves version.now packet.now) }
     ensures err { IfErr result (λ refusal. refusal ≡ NoMemory) }
 {
     let Some(data) = TokenData::read(alloc, version, packet.payload.as_slice())? else {
@@ -52,7 +52,7 @@ fn receive_moves(
     user: &UserName,
     tokens: &[Token],
 ) -> Result<Option<Vec<Move>>, Refusal>
-    ensures ok { IfOk result (λ moves. option_map plain_moves moves ≡ receive_moves packet.now user.now tokens.now) }
+    ensures ok { IfOk result (λ moves. option_map abstract_moves moves ≡ receive_moves packet.now user.now tokens.now) }
     ensures err { IfErr result (λ refusal. refusal ≡ NoMemory) }
 {
     let mut moves = Vec::with_capacity(alloc, tokens.len())?;

@@ -2,7 +2,7 @@
 
 ghost use Rattle.std.specs.Prelude.{◌≡◌, IfOk, IfErr, map};
 ghost use Rattle.ibc_ids.specs.declared.refusal.Refusal.TheVariants.{NoMemory};
-ghost use Rattle.ibc_transfer.specs.Sent.{send_move};
+ghost use Rattle.ibc_transfer.specs.BankTransfers.{send_move};
 
 use crate::names::came_over;
 use ibc_bank::Move;

@@ -5,7 +5,7 @@ mod acks;
 mod arriving;
 mod leaving;
 mod names;
-mod parcels;
+mod outgoing;
 mod returning;
 mod sending;
 mod transfers;

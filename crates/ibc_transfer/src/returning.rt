@@ -3,8 +3,8 @@
 ghost use Rattle.std.specs.Prelude.{◌≡◌, IfOk, IfErr, map};
 ghost use Rattle.ibc_ids.specs.declared.refusal.Refusal.TheVariants.{NoMemory};
 ghost use Rattle.ibc_bank.specs.declared.moves.Move.TheVariants as move;
-ghost use Rattle.ibc_transfer.specs.Banked.{refund_move};
-ghost use Rattle.ibc_transfer.specs.Returning.{refunds, settle_moves, settlements, acknowledged};
+ghost use Rattle.ibc_transfer.specs.BankCallbacks.{refund_move};
+ghost use Rattle.ibc_transfer.specs.TokenRefunds.{refund_moves, settle_moves, settlement_moves, moves_after_ack};
 
 use crate::acks::is_success;
 use crate::names::came_over;
@@ -21,7 +21,7 @@ pub(crate) fn refunds(
     version: &Version,
     packet: &Packet,
 ) -> Result<Vec<Move>, Refusal>
-    ensures ok { IfOk result (λ moves. moves.items ≡ refunds version.now packet.now) }
+    ensures ok { IfOk result (λ moves. moves.items ≡ refund_moves version.now packet.now) }
     ensures err { IfErr result (λ refusal. refusal ≡ NoMemory) }
 {
     match TokenData::read(alloc, version, packet.payload.as_slice())? {
@@ -43,7 +43,7 @@ pub(crate) fn acknowledged(
     packet: &Packet,
     ack: &[u8],
 ) -> Result<Vec<Move>, Refusal>
-    ensures ok { IfOk result (λ moves. moves.items ≡ acknowledged version.now packet.now ack.now) }
+    ensures ok { IfOk result (λ moves. moves.items ≡ moves_after_ack version.now packet.now ack.now) }
     ensures err { IfErr result (λ refusal. refusal ≡ NoMemory) }
 {
     if is_success(ack) {
@@ -56,7 +56,7 @@ pub(crate) fn acknowledged(
 // The moves that settle what was burnt of a packet's tokens, which their receiver has; none where it has no tokens.
 // Refused: `NoMemory`.
 fn settlements(alloc: Global, version: &Version, packet: &Packet) -> Result<Vec<Move>, Refusal>
-    ensures ok { IfOk result (λ moves. moves.items ≡ settlements version.now packet.now) }
+    ensures ok { IfOk result (λ moves. moves.items ≡ settlement_moves version.now packet.now) }
     ensures err { IfErr result (λ refusal. refusal ≡ NoMemory) }
 {
     match TokenData::read(alloc, version, packet.payload.as_slice())? {

@@ -7,14 +7,14 @@ ghost use Rattle.ibc_machine.specs.declared.reply.Effect.TheVariants as effect;
 ghost use Rattle.ibc_machine.specs.ics24.Evidence.{require_number};
 ghost use Rattle.ibc_machine.specs.chain.Records.{channel_at};
 ghost use Rattle.ibc_machine.specs.ics20.Transfers as transfer;
-ghost use Rattle.ibc_records.specs.Held.{core_of};
-ghost use Rattle.ibc_records.specs.Taking.{IsHandledWith};
-ghost use Rattle.ibc_client.specs.Judging.{IsJudged};
-ghost use Rattle.ibc_transfer.specs.Sent.{bank_transfer, bank_transfer_many};
-ghost use Rattle.ibc_transfer.specs.Sending.{plain_parcel, may_leave, may_go, sends};
+ghost use Rattle.ibc_records.specs.RecordsModel.{core_of};
+ghost use Rattle.ibc_records.specs.HandlerContract.{IsHandledWith};
+ghost use Rattle.ibc_client.specs.ProofVerdicts.{IsJudged};
+ghost use Rattle.ibc_transfer.specs.BankTransfers.{bank_transfer, bank_transfer_many};
+ghost use Rattle.ibc_transfer.specs.TransferChecks.{abstract_outgoing, require_channel, require_moves, send_handler};
 
 use crate::names::transfer_port;
-use crate::parcels::Parcel;
+use crate::outgoing::Outgoing;
 use crate::transfers::Transfers;
 use ibc_bank::{Bank, Move};
 use ibc_client::check_number;
@@ -41,7 +41,7 @@ pub fn send_transfer(
     ensures answer { (chain chains : ℕ) → IsHandledWith effect.Sent (transfer.transfer message.now) chain chains records.old transfers.old.balances result records.new transfers.new.balances }
     ensures counted { (chain chains : ℕ) → IsHandledWith effect.Sent (bank_transfer message.now) chain chains records.old transfers.old result records.new transfers.new }
 {
-    let parcel = Parcel::of_transfer(alloc, message)?;
+    let parcel = Outgoing::of_transfer(alloc, message)?;
     send_parcel(alloc, records, transfers, &message.channel, parcel)
 }
 
@@ -65,7 +65,7 @@ pub fn send_transfer_many(
     if !are_few_and_rising(message.tokens.as_slice()) {
         return Err(Refusal::BadMessage);
     }
-    let parcel = Parcel::of_transfer_many(alloc, message)?;
+    let parcel = Outgoing::of_transfer_many(alloc, message)?;
     send_parcel(alloc, records, transfers, &message.channel, parcel)
 }
 
@@ -76,9 +76,9 @@ fn send_parcel(
     records: &mut Records,
     transfers: &mut Transfers,
     channel: &ChannelId,
-    parcel: Parcel,
+    parcel: Outgoing,
 ) -> Result<u64, Refusal>
-    ensures { (chain chains : ℕ) → IsHandledWith effect.Sent (sends channel.now (plain_parcel parcel)) chain chains records.old transfers.old result records.new transfers.new }
+    ensures { (chain chains : ℕ) → IsHandledWith effect.Sent (send_handler channel.now (abstract_outgoing parcel)) chain chains records.old transfers.old result records.new transfers.new }
 {
     let port = transfer_port(alloc)?;
     let mine = leaving_end(records, &port, channel, &parcel)?;
@@ -92,10 +92,10 @@ fn leaving_end<'a>(
     records: &'a Records,
     port: &PortId,
     channel: &ChannelId,
-    parcel: &Parcel,
+    parcel: &Outgoing,
 ) -> Result<&'a Channel, Refusal>
     requires { port.now ≡ transfer.transfer_port }
-    ensures judged { (chain chains : ℕ) → IsJudged (may_leave channel.now (plain_parcel parcel.now)) chain chains records.now (λ mine. mine.now) result }
+    ensures judged { (chain chains : ℕ) → IsJudged (require_channel channel.now (abstract_outgoing parcel.now)) chain chains records.now (λ mine. mine.now) result }
     ensures there { IfOk result (λ mine. channel_at (core_of records.now) port.now channel.now ≡ Some mine.now) }
 {
     let mine = sending_end(records, port, channel)?;
@@ -119,7 +119,7 @@ fn leaving_end<'a>(
 fn check_next(bank: &Bank, mine: &Channel, moves: &[Move]) -> Result<(), Refusal>
     ensures ok { OnOk result (require_number mine.now.next_send ≡ Ok tt) }
     ensures free { OnOk result (mine.now.next_send < 2 ^ 64 - 1) }
-    ensures err { IfErr result (λ e. (e ≡ NoMemory) ⊎ (may_go bank.now moves.now mine.now.next_send ≡ Err e)) }
+    ensures err { IfErr result (λ e. (e ≡ NoMemory) ⊎ (require_moves bank.now moves.now mine.now.next_send ≡ Err e)) }
 {
     match check_number(mine.next_send()) {
         Ok(()) => Ok(()),

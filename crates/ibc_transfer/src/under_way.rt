@@ -2,7 +2,7 @@
 
 ghost use Rattle.std.specs.Prelude.{◌≡◌, ◌<◌, ◌^◌, Some, IfOk, IfErr, SomeIff};
 ghost use Rattle.ibc_ids.specs.declared.refusal.Refusal.TheVariants.{NoMemory};
-ghost use Rattle.ibc_machine.specs.promises.Totals.{succeeded, amount_under_way, flight_between};
+ghost use Rattle.ibc_machine.specs.promises.Totals.{has_succeeded, amount_under_way, flight_between};
 
 use crate::acks::is_success;
 use ibc_ids::{Denom, Refusal, Version};
@@ -61,7 +61,7 @@ fn amount_under_way(
 
 // Whether the packet of a sequence was received at the end, and acknowledged with success.
 fn has_succeeded(theirs: &Channel, sequence: u64) -> bool
-    ensures { result ≡ succeeded theirs.now sequence }
+    ensures { result ≡ has_succeeded theirs.now sequence }
 {
     match theirs.ack(sequence) {
         Some(ack) => is_success(ack.as_slice()),

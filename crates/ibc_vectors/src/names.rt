@@ -2,18 +2,18 @@
 
 use ibc_ids::{
     ChannelId, ChannelKind, ClientId, ClientKind, ConnectionId, ConnectionKind, Denom, DenomKind,
-    Key, Kind, MemoKind, Name, PortId, PortKind, ReceiverKind, Refusal, UserKind, VersionKind,
+    Key, MemoKind, Name, NameKind, PortId, PortKind, ReceiverKind, Refusal, UserKind, VersionKind,
     nth_channel, nth_client, nth_connection,
 };
 use std::alloc::Global;
 
 // Whether this is a name with this text.
-fn has_text<K: Kind>(name: &Result<Name<K>, Refusal>, text: &str) -> bool {
+fn has_text<K: NameKind>(name: &Result<Name<K>, Refusal>, text: &str) -> bool {
     matches!(name, Ok(name) if name.as_str() == text)
 }
 
 // Whether the text is a name of the kind.
-fn is_name<K: Kind>(alloc: Global, text: &str) -> bool {
+fn is_name<K: NameKind>(alloc: Global, text: &str) -> bool {
     has_text(&Name::<K>::from_bytes(alloc, text.as_bytes()), text)
 }
 

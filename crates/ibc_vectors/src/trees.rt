@@ -8,8 +8,8 @@ ghost use Rattle.ibc_ids.specs.Texts.{text_cmp};
 use ibc_ics23_proof::verify_absent;
 use ibc_ids::{Bytes, Refusal};
 use ibc_merkle::{
-    Entry, Presence, Proof, Steps, hash_inner, hash_leaf, hash_value, place, prove, prove_absent,
-    prove_present, root, split_of,
+    KeyValue, Presence, Proof, Steps, hash_inner, hash_leaf, hash_value, place, prove,
+    prove_absent, prove_present, root, split_of,
 };
 use std::alloc::{AllocError, Global};
 
@@ -71,16 +71,16 @@ fn three_leaves_are_split_after_two(rt: HostRuntime) {
 }
 
 // A counter at 0.
-fn counter(alloc: Global, key: &str) -> Result<Entry, AllocError>
+fn counter(alloc: Global, key: &str) -> Result<KeyValue, AllocError>
     ensures { IfOk result (λ entry. entry.0 ≡ key.now) }
 {
     let key = Bytes::copy_of(alloc, key.as_bytes())?;
     let value = Bytes::copy_of(alloc, [0u8; 8].as_slice())?;
-    Ok(Entry::new(key, value))
+    Ok(KeyValue::new(key, value))
 }
 
 // The three counters of a new chain.
-fn new_chain(alloc: Global) -> Result<Vec<Entry>, AllocError>
+fn new_chain(alloc: Global) -> Result<Vec<KeyValue>, AllocError>
     ensures sorted { IfOk result (λ entries. IsTrue (is_sorted text_cmp entries.items)) }
     ensures some { IfOk result (λ entries. 0 < length entries.items) }
     ensures there { IfOk result (λ entries. IsSome (at text_cmp (codes "nextClientSequence") entries.items)) }

@@ -8,7 +8,7 @@ use Rattle.std.proofs.lemmas.Grind.{flat_map-append}
 use Rattle.std.proofs.lemmas.Nat.{be_bytes_2, from_be_bytes-to_be_bytes_2}
 use Rattle.std.proofs.lemmas.Bool.{and_parts, and_from}
 use Rattle.ibc_ids.specs.Texts.{Text}
-use Rattle.ibc_wire.specs.Fields.{Field, bytes_of, have_form, str_up_to, counted, u8, count_between}
+use Rattle.ibc_wire.specs.Fields.{Field, bytes_of, have_form, str_up_to, with_length, one_byte, count_between}
 use Rattle.ibc_wire.specs.Lawful.{AreBytes, Begins}
 use Rattle.ibc_wire.specs.Reading.{◌>>=◌, byte_at_front, bytes_at_front, str_at_front}
 
@@ -73,10 +73,10 @@ pub byte_read : (text : Text) (b : ℕ) (rest : Text) → byte_at_front text ≡
 byte_read [] b rest e = none_some e
 byte_read (x ∷ text) b rest e = let same = some_same e in λ i. (same i).0 ∷ (same i).1
 
-pub u8_read : (n : ℕ) (text rest : Text) → nat_lt n 256 ≡ true → text ≡ n ∷ rest → Begins (u8 n ∷ []) text rest
+pub u8_read : (n : ℕ) (text rest : Text) → nat_lt n 256 ≡ true → text ≡ n ∷ rest → Begins (one_byte n ∷ []) text rest
 u8_read n text rest small e = record { form = and_from (nat_lt n 256 && true) true (and_from (nat_lt n 256) true small refl) refl; is = e }
 
-pub u8_front : (n : ℕ) (text rest : Text) → Begins (u8 n ∷ []) text rest → byte_at_front text ≡ Some (n, rest)
+pub u8_front : (n : ℕ) (text rest : Text) → Begins (one_byte n ∷ []) text rest → byte_at_front text ≡ Some (n, rest)
 u8_front n text rest h = ap byte_at_front h.is
 
 pub count_read : (least most n : ℕ) (text rest : Text) → (nat_le least n && nat_le n most) ≡ true → text ≡ n ∷ rest → Begins (count_between least most n ∷ []) text rest
@@ -114,14 +114,14 @@ str_read limit text t rest bytes e =
     record {
       form = and_from (list_all (λ c. nat_lt c 256) t && nat_le (length t) limit) true
           (and_from (list_all (λ c. nat_lt c 256) t) (nat_le (length t) limit) mine.0 (ap (λ m. nat_le m limit) second.0 ∙ within.0)) refl;
-      is = first.1 ∙ (λ i. sym spelled i ++ second.1 i) ∙ sym (append_assoc (to_be_bytes w16 (length t)) t rest) ∙ ap (λ x. x ++ rest) (sym (append-nil (counted t)));
+      is = first.1 ∙ (λ i. sym spelled i ++ second.1 i) ∙ sym (append_assoc (to_be_bytes w16 (length t)) t rest) ∙ ap (λ x. x ++ rest) (sym (append-nil (with_length t)));
     }
 
 pub str_front : (limit : ℕ) (text t rest : Text) → limit < 65536 → Begins (str_up_to limit t ∷ []) text rest → str_at_front limit text ≡ Some (t, rest)
 str_front limit text t rest small h =
     let forms = and_parts (list_all (λ c. nat_lt c 256) t) (nat_le (length t) limit) (and_parts (list_all (λ c. nat_lt c 256) t && nat_le (length t) limit) true h.form).0 in
     let short = leb-true (length t) limit forms.1 in
-    let is : text ≡ to_be_bytes w16 (length t) ++ (t ++ rest) = h.is ∙ ap (λ x. x ++ rest) (append-nil (counted t)) ∙ append_assoc (to_be_bytes w16 (length t)) t rest in
+    let is : text ≡ to_be_bytes w16 (length t) ++ (t ++ rest) = h.is ∙ ap (λ x. x ++ rest) (append-nil (with_length t)) ∙ append_assoc (to_be_bytes w16 (length t)) t rest in
     let number : from_be_bytes w16 (to_be_bytes w16 (length t)) ≡ length t = from_be_bytes-to_be_bytes_2 (length t) (omega arith) in
     let next : Text × Text → Option (Text × Text) = λ size. elim (nat_le (from_be_bytes w16 size.0) limit) as (λ _. Option (Text × Text)) [ true ↦ bytes_at_front (from_be_bytes w16 size.0) size.1 | false ↦ None ] in
     ap (str_at_front limit) is

@@ -1,7 +1,7 @@
 mod Facts
 pub mod Fronts
 pub mod Whole
-pub mod Steps
+pub mod FieldReaders
 pub mod Readers
 pub mod RecordReaders
 pub mod TokenReaders
@@ -9,4 +9,4 @@ pub mod ProofReaders
 pub mod TypedTokens
 pub mod Tags
 pub mod Writing
-pub mod Rows
+pub mod ValueSequences

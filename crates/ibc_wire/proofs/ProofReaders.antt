@@ -5,8 +5,8 @@ use Rattle.std.proofs.lemmas.Bool.{and_parts, and_from}
 use Rattle.ibc_ids.specs.Texts.{Text}
 use Rattle.ibc_wire.specs.Fields.{Field, count_between}
 use Rattle.ibc_wire.specs.Spelling.{operation_fields, presence_fields, neighbour_fields, proof_fields}
-use Rattle.ibc_wire.specs.Reading.{◌>>=◌, Front, byte_at_front, str_at_front, operation_at_front, operations_at_front, presence_at_front, neighbour_at_front, neighbour_behind, proof_behind, whole, proof_of, ReadsWhatIsSpelled}
-use Rattle.ibc_wire.specs.Fronts.{many_at_front, only}
+use Rattle.ibc_wire.specs.Reading.{◌>>=◌, Front, byte_at_front, str_at_front, operation_at_front, operations_at_front, presence_at_front, neighbour_at_front, neighbour_behind, proof_behind, proof_if_whole, proof_of, ReadsWhatIsSpelled}
+use Rattle.ibc_wire.specs.Fronts.{many_at_front, value_if_whole}
 use Rattle.ibc_wire.specs.RecordFronts.{absence_fields, absence_at_front, proof_of_kind, proof_at_front}
 use Rattle.ibc_wire.specs.Lawful.{AreBytes, Begins, IsReader}
 use Rattle.ibc_merkle.specs.declared.proof.Operation.{Operation}
@@ -15,7 +15,7 @@ use Rattle.ibc_merkle.specs.declared.proof.Absence.{Absence}
 use Rattle.ibc_merkle.specs.declared.proof.Proof.{Proof}
 use Rattle.ibc_merkle.specs.declared.proof.Proof.TheVariants.{Present, Absent}
 use Rattle.ibc_wire.proofs.Fronts.{bind_some, some_same, none_some, if_some, begins_both, begins_split, bytes_behind, bytes_parts, bytes_from, byte_read, u8_read, u8_front, count_read, count_front}
-use Rattle.ibc_wire.proofs.Steps.{first, under, like, done, reader_of, tagged_read, tagged_front}
+use Rattle.ibc_wire.proofs.FieldReaders.{first, under, like, done, reader_of, tagged_read, tagged_front}
 use Rattle.ibc_wire.proofs.Readers.{str_reader}
 use Rattle.ibc_wire.proofs.TokenReaders.{many_read, many_front}
 use Rattle.ibc_wire.proofs.Whole.{is_spelled, is_read}
@@ -162,16 +162,16 @@ kinds_same (suc (suc zero)) text =
     )
 kinds_same (suc (suc (suc n))) text = refl
 
-only_whole : (read : Front Proof) → (read >>= whole) ≡ only read
+only_whole : (read : Front Proof) → (read >>= proof_if_whole) ≡ value_if_whole read
 only_whole None = refl
 only_whole (Some (p, [])) = refl
 only_whole (Some (p, b ∷ rest)) = refl
 
-proof_of_is : (text : Text) → proof_of text ≡ only (proof_at_front text)
+proof_of_is : (text : Text) → proof_of text ≡ value_if_whole (proof_at_front text)
 unfolding proof_of proof_at_front
 proof_of_is text =
-    bind_same (byte_at_front text) _ _ (λ tag. ap (λ o. o >>= whole) (kinds_same tag.0 tag.1))
-    ∙ sym (bind_assoc (byte_at_front text) (λ tag. proof_of_kind tag.0 tag.1) whole)
+    bind_same (byte_at_front text) _ _ (λ tag. ap (λ o. o >>= proof_if_whole) (kinds_same tag.0 tag.1))
+    ∙ sym (bind_assoc (byte_at_front text) (λ tag. proof_of_kind tag.0 tag.1) proof_if_whole)
     ∙ only_whole (byte_at_front text >>= λ tag. proof_of_kind tag.0 tag.1)
 
 pub reads_what_is_spelled : ReadsWhatIsSpelled

@@ -9,14 +9,14 @@ use Rattle.std.proofs.lemmas.Nat.{be_bytes_8, from_be_bytes-to_be_bytes_8}
 use Rattle.std.proofs.lemmas.Bool.{and_parts, and_from, false≢true}
 use Rattle.std.proofs.lemmas.Slice.Eq.{bytes_eq-Decides}
 use Rattle.ibc_ids.specs.Texts.{Text}
-use Rattle.ibc_wire.specs.Fields.{Field, u8, n8, n16, str, str_up_to, counted, name, root32, where_}
+use Rattle.ibc_wire.specs.Fields.{Field, one_byte, be64, be128, str, str_up_to, with_length, name, root32, form_condition}
 use Rattle.ibc_wire.specs.Spelling.{peer}
 use Rattle.ibc_wire.specs.Reading.{◌>>=◌, Front, byte_at_front, bytes_at_front, str_at_front}
 use Rattle.ibc_wire.specs.Fronts.{number_at_front, amount_at_front, name_at_front, same_at_front, coded_at_front, peer_at_front}
 use Rattle.ibc_wire.specs.Lawful.{AreBytes, Begins, IsReader}
 use Rattle.ibc_wire.proofs.Fronts.{bind_some, some_same, if_some, bytes_behind, bytes_parts, bytes_at, bytes_from, byte_read, u8_read, u8_front, bytes_read, bytes_front, str_read, str_front}
 
-pub u8_reader : IsReader (λ n. u8 n ∷ []) byte_at_front
+pub u8_reader : IsReader (λ n. one_byte n ∷ []) byte_at_front
 u8_reader = record {
   spelled = λ text n rest bytes e.
       let is = byte_read text n rest e in
@@ -24,7 +24,7 @@ u8_reader = record {
   read = λ n text rest h. u8_front n text rest h;
 }
 
-pub n8_reader : IsReader (λ n. n8 n ∷ []) (number_at_front w64)
+pub n8_reader : IsReader (λ n. be64 n ∷ []) (number_at_front w64)
 n8_reader = record {
   spelled = λ text n rest bytes e.
       let found = bind_some (bytes_at_front 8 text) _ e in
@@ -70,12 +70,12 @@ its_bytes : (field : Field) (text rest : Text) → Begins (field ∷ []) text re
 its_bytes field text rest h = h.is ∙ ap (λ x. x ++ rest) (append-nil field.bytes)
 
 -- a text that is short and of bytes, behind its length
-counted_front : (t text rest : Text) → AreBytes t → length t ≤ 65535 → text ≡ counted t ++ rest → str_at_front 65535 text ≡ Some (t, rest)
+counted_front : (t text rest : Text) → AreBytes t → length t ≤ 65535 → text ≡ with_length t ++ rest → str_at_front 65535 text ≡ Some (t, rest)
 counted_front t text rest bytes short is =
     let form = and_from (list_all (λ c. nat_lt c 256) t) (nat_le (length t) 65535) bytes (le-leb (length t) 65535 short) in
     str_front 65535 text t rest (omega arith) (one_field (str t) text rest form is)
 
-counted_read : (text t rest : Text) → AreBytes text → str_at_front 65535 text ≡ Some (t, rest) → text ≡ counted t ++ rest
+counted_read : (text t rest : Text) → AreBytes text → str_at_front 65535 text ≡ Some (t, rest) → text ≡ with_length t ++ rest
 counted_read text t rest bytes e = its_bytes (str t) text rest (str_read 65535 text t rest bytes e)
 
 pub name_reader : (test : Text → Bool) → ((t : Text) → test t ≡ true → IsAscii t × (length t ≤ 256)) → IsReader (λ t. name test t ∷ []) (name_at_front test)
@@ -126,7 +126,7 @@ same_reader expected all short = record {
 -- ---- values with numbers
 
 pub coded_reader : {A : Type 0} (number : A → ℕ) (of : ℕ → Option A) → ((n : ℕ) (a : A) → of n ≡ Some a → n ≡ number a) → ((a : A) → of (number a) ≡ Some a) → ((a : A) → nat_lt (number a) 256 ≡ true)
-    → IsReader (λ a. u8 (number a) ∷ []) (coded_at_front of)
+    → IsReader (λ a. one_byte (number a) ∷ []) (coded_at_front of)
 coded_reader number of its_number of_its small = record {
   spelled = λ text a rest bytes e.
       let found = bind_some (byte_at_front text) _ e in
@@ -135,7 +135,7 @@ coded_reader number of its_number of_its small = record {
       let is = byte_read text found.0.0 found.0.1 found.1 in
       let n = its_number found.0.0 value.0 value.1 in
       let mine = u8_read (number value.0) text found.0.1 (small value.0) (subst (λ m. text ≡ m ∷ found.0.1) n is) in
-      subst (λ w. Begins (u8 (number w.0) ∷ []) text w.1) same mine;
+      subst (λ w. Begins (one_byte (number w.0) ∷ []) text w.1) same mine;
   read = λ a text rest h.
       ap (λ o. o >>= λ (n : ℕ × Text). of n.0 >>= λ found. Some (found, n.1)) (u8_front (number a) text rest h)
       ∙ ap (λ o. o >>= λ found. Some (found, rest)) (of_its a);
@@ -151,7 +151,7 @@ nothing_read text t rest bytes e =
     let b = str_read 0 text t rest bytes e in
     let form = and_parts (list_all (λ c. nat_lt c 256) t) (nat_le (length t) 0) (its_form (str_up_to 0 t) text rest b) in
     let none : t ≡ [] = nil_from_length t (omega (arith, leb-true (length t) 0 form.1)) in
-    one_field (str []) text rest refl (subst (λ x. text ≡ counted x ++ rest) none (its_bytes (str_up_to 0 t) text rest b))
+    one_field (str []) text rest refl (subst (λ x. text ≡ with_length x ++ rest) none (its_bytes (str_up_to 0 t) text rest b))
 
 pub peer_reader : (test : Text → Bool) → ((t : Text) → test t ≡ true → IsAscii t × (length t ≤ 256)) → (init : Bool) → IsReader (λ o. peer test init o ∷ []) (peer_at_front test init)
 peer_reader test short true = record {
@@ -164,7 +164,7 @@ peer_reader test short true = record {
     no_peer : (test : Text → Bool) (o : Option Text) (text rest : Text) → Begins (peer test true o ∷ []) text rest → peer_at_front test true text ≡ Some (o, rest)
     no_peer test None text rest h =
         ap (λ f. f >>= λ (found : Text × Text). Some (None, found.1)) (str_front 0 text [] rest (omega arith) (one_field (str_up_to 0 []) text rest refl (its_bytes (str []) text rest h)))
-    no_peer test (Some id) text rest h = never (where_ false) text rest refl h
+    no_peer test (Some id) text rest h = never (form_condition false) text rest refl h
 peer_reader test short false = record {
   spelled = λ text o rest bytes e.
       let found = bind_some (name_at_front test text) _ e in
@@ -173,7 +173,7 @@ peer_reader test short false = record {
 }
   where
     a_peer : (o : Option Text) (text rest : Text) → Begins (peer test false o ∷ []) text rest → peer_at_front test false text ≡ Some (o, rest)
-    a_peer None text rest h = never (where_ false) text rest refl h
+    a_peer None text rest h = never (form_condition false) text rest refl h
     a_peer (Some id) text rest h =
         ap (λ f. f >>= λ (found : Text × Text). Some (Some found.0, found.1)) ((name_reader test short).read id text rest h)
 
@@ -204,39 +204,39 @@ halves n high low small is =
     let l0 : n % 256 ≡ low % 256 = omega arith in
     λ i. h7 i ∷ h6 i ∷ h5 i ∷ h4 i ∷ h3 i ∷ h2 i ∷ h1 i ∷ h0 i ∷ l7 i ∷ l6 i ∷ l5 i ∷ l4 i ∷ l3 i ∷ l2 i ∷ l1 i ∷ l0 i ∷ []
 
-pub n16_reader : IsReader (λ n. n16 n ∷ []) amount_at_front
+pub n16_reader : IsReader (λ n. be128 n ∷ []) amount_at_front
 n16_reader = record {
   spelled = λ text n rest bytes e.
       let high = bind_some (number_at_front w64 text) _ e in
       let h = n8_reader.spelled text high.0.0 high.0.1 bytes high.1 in
       let low = bind_some (number_at_front w64 high.0.1) _ high.2 in
-      let l = n8_reader.spelled high.0.1 low.0.0 low.0.1 (bytes_behind (n8 high.0.0 ∷ []) text high.0.1 bytes h) low.1 in
+      let l = n8_reader.spelled high.0.1 low.0.0 low.0.1 (bytes_behind (be64 high.0.0 ∷ []) text high.0.1 bytes h) low.1 in
       let small = number_form high.0.0 text high.0.1 h in
       let low_small = number_form low.0.0 high.0.1 low.0.1 l in
       let amount = high.0.0 * 2 ^ 64 + low.0.0 in
       let fits : amount < 2 ^ 128 = omega arith in
       let is : text ≡ to_be_bytes w128 amount ++ low.0.1 =
-      its_bytes (n8 high.0.0) text high.0.1 h ∙ ap (λ x. to_be_bytes w64 high.0.0 ++ x) (its_bytes (n8 low.0.0) high.0.1 low.0.1 l)
+      its_bytes (be64 high.0.0) text high.0.1 h ∙ ap (λ x. to_be_bytes w64 high.0.0 ++ x) (its_bytes (be64 low.0.0) high.0.1 low.0.1 l)
       ∙ sym (append_assoc (to_be_bytes w64 high.0.0) (to_be_bytes w64 low.0.0) low.0.1) ∙ ap (λ x. x ++ low.0.1) (sym (halves amount high.0.0 low.0.0 low_small refl))
       in
-      let mine = one_field (n16 amount) text low.0.1 (and_from (nat_lt amount (2 ^ 128)) true (lt-ltb amount (2 ^ 128) fits) refl) is in
-      subst (λ w. Begins (n16 w.0 ∷ []) text w.1) (some_same low.2) mine;
+      let mine = one_field (be128 amount) text low.0.1 (and_from (nat_lt amount (2 ^ 128)) true (lt-ltb amount (2 ^ 128) fits) refl) is in
+      subst (λ w. Begins (be128 w.0 ∷ []) text w.1) (some_same low.2) mine;
   read = λ n text rest h.
       let high = n / 2 ^ 64 in
       let low = n % 2 ^ 64 in
-      let fits = ltb-true n (2 ^ 128) (and_parts (nat_lt n (2 ^ 128)) true (its_form (n16 n) text rest h)).0 in
+      let fits = ltb-true n (2 ^ 128) (and_parts (nat_lt n (2 ^ 128)) true (its_form (be128 n) text rest h)).0 in
       let low_small : low < 2 ^ 64 = omega arith in
       let high_small : high < 2 ^ 64 = omega arith in
       let is_n : n ≡ high * 2 ^ 64 + low = omega arith in
       let is : text ≡ to_be_bytes w64 high ++ (to_be_bytes w64 low ++ rest) =
-      its_bytes (n16 n) text rest h ∙ ap (λ x. x ++ rest) (halves n high low low_small is_n) ∙ append_assoc (to_be_bytes w64 high) (to_be_bytes w64 low) rest
+      its_bytes (be128 n) text rest h ∙ ap (λ x. x ++ rest) (halves n high low low_small is_n) ∙ append_assoc (to_be_bytes w64 high) (to_be_bytes w64 low) rest
       in
       ap (λ o. o >>= λ (h : ℕ × Text). number_at_front w64 h.1 >>= λ (l : ℕ × Text). Some (h.0 * 2 ^ 64 + l.0, l.1))
-      (n8_reader.read high text (to_be_bytes w64 low ++ rest) (one_field (n8 high) text (to_be_bytes w64 low ++ rest) (and_from (nat_lt high (2 ^ 64)) true (lt-ltb high (2 ^ 64) high_small) refl) is))
+      (n8_reader.read high text (to_be_bytes w64 low ++ rest) (one_field (be64 high) text (to_be_bytes w64 low ++ rest) (and_from (nat_lt high (2 ^ 64)) true (lt-ltb high (2 ^ 64) high_small) refl) is))
       ∙ ap (λ o. o >>= λ (l : ℕ × Text). Some (high * 2 ^ 64 + l.0, l.1))
-      (n8_reader.read low (to_be_bytes w64 low ++ rest) rest (one_field (n8 low) (to_be_bytes w64 low ++ rest) rest (and_from (nat_lt low (2 ^ 64)) true (lt-ltb low (2 ^ 64) low_small) refl) refl))
+      (n8_reader.read low (to_be_bytes w64 low ++ rest) rest (one_field (be64 low) (to_be_bytes w64 low ++ rest) rest (and_from (nat_lt low (2 ^ 64)) true (lt-ltb low (2 ^ 64) low_small) refl) refl))
       ∙ ap (λ m. Some (m, rest)) (sym is_n);
 }
   where
-    number_form : (n : ℕ) (text rest : Text) → Begins (n8 n ∷ []) text rest → n < 2 ^ 64
-    number_form n text rest h = ltb-true n (2 ^ 64) (and_parts (nat_lt n (2 ^ 64)) true (its_form (n8 n) text rest h)).0
+    number_form : (n : ℕ) (text rest : Text) → Begins (be64 n ∷ []) text rest → n < 2 ^ 64
+    number_form n text rest h = ltb-true n (2 ^ 64) (and_parts (nat_lt n (2 ^ 64)) true (its_form (be64 n) text rest h)).0

@@ -3,7 +3,7 @@ use Rattle.std.proofs.Common.{◌≡◌, ℕ, zero, suc, true, nat_lt, ◌==◌,
 use Rattle.ibc_ids.specs.Names.{is_client, is_connection, is_channel, is_port, is_version}
 use Rattle.ibc_ids.proofs.Ascii.{clients, connections, channels, ports, versions}
 use Rattle.ibc_wire.specs.Spelling.{connection_state_number, channel_state_number, order_number, peer, client_state_fields, connection_end_fields, channel_end_fields, packet_fields}
-use Rattle.ibc_wire.specs.Fields.{u8, name, str}
+use Rattle.ibc_wire.specs.Fields.{one_byte, name, str}
 use Rattle.ibc_wire.specs.Fronts.{coded_at_front}
 use Rattle.ibc_wire.specs.RecordFronts.{connection_state_of, channel_state_of, order_of, client_state_at_front, header_fields, header_at_front, connection_end_at_front, channel_end_at_front, packet_at_front}
 use Rattle.ibc_wire.specs.Lawful.{IsReader}
@@ -14,7 +14,7 @@ use Rattle.ibc_wire.specs.declared.records.ChannelState.TheVariants as chan
 use Rattle.ibc_wire.specs.declared.records.Order.{Order}
 use Rattle.ibc_wire.specs.declared.records.Order.TheVariants.{Unordered, Ordered}
 use Rattle.ibc_wire.proofs.Fronts.{some_same, none_some}
-use Rattle.ibc_wire.proofs.Steps.{first, under, done, reader_of}
+use Rattle.ibc_wire.proofs.FieldReaders.{first, under, done, reader_of}
 use Rattle.ibc_wire.proofs.Readers.{u8_reader, n8_reader, str_reader, name_reader, root_reader, same_reader, coded_reader, peer_reader}
 
 -- ---- states and orders
@@ -26,7 +26,7 @@ connection_numbers (suc (suc zero)) s e = ap connection_state_number (some_same 
 connection_numbers (suc (suc (suc zero))) s e = ap connection_state_number (some_same e)
 connection_numbers (suc (suc (suc (suc n)))) s e = none_some e
 
-pub connection_state_reader : IsReader (λ s. u8 (connection_state_number s) ∷ []) (coded_at_front connection_state_of)
+pub connection_state_reader : IsReader (λ s. one_byte (connection_state_number s) ∷ []) (coded_at_front connection_state_of)
 connection_state_reader = coded_reader connection_state_number connection_state_of connection_numbers
     (λ s. elim s as (λ s. connection_state_of (connection_state_number s) ≡ Some s) [ conn.Init ↦ refl | conn.TryOpen ↦ refl | conn.Open ↦ refl ])
     (λ s. elim s as (λ s. nat_lt (connection_state_number s) 256 ≡ true) [ conn.Init ↦ refl | conn.TryOpen ↦ refl | conn.Open ↦ refl ])
@@ -39,7 +39,7 @@ channel_numbers (suc (suc (suc zero))) s e = ap channel_state_number (some_same 
 channel_numbers (suc (suc (suc (suc zero)))) s e = ap channel_state_number (some_same e)
 channel_numbers (suc (suc (suc (suc (suc n))))) s e = none_some e
 
-pub channel_state_reader : IsReader (λ s. u8 (channel_state_number s) ∷ []) (coded_at_front channel_state_of)
+pub channel_state_reader : IsReader (λ s. one_byte (channel_state_number s) ∷ []) (coded_at_front channel_state_of)
 channel_state_reader = coded_reader channel_state_number channel_state_of channel_numbers
     (λ s. elim s as (λ s. channel_state_of (channel_state_number s) ≡ Some s) [ chan.Init ↦ refl | chan.TryOpen ↦ refl | chan.Open ↦ refl | chan.Closed ↦ refl ])
     (λ s. elim s as (λ s. nat_lt (channel_state_number s) 256 ≡ true) [ chan.Init ↦ refl | chan.TryOpen ↦ refl | chan.Open ↦ refl | chan.Closed ↦ refl ])
@@ -50,7 +50,7 @@ order_numbers (suc zero) s e = ap order_number (some_same e)
 order_numbers (suc (suc zero)) s e = ap order_number (some_same e)
 order_numbers (suc (suc (suc n))) s e = none_some e
 
-pub order_reader : IsReader (λ s. u8 (order_number s) ∷ []) (coded_at_front order_of)
+pub order_reader : IsReader (λ s. one_byte (order_number s) ∷ []) (coded_at_front order_of)
 order_reader = coded_reader order_number order_of order_numbers
     (λ s. elim s as (λ s. order_of (order_number s) ≡ Some s) [ Unordered ↦ refl | Ordered ↦ refl ])
     (λ s. elim s as (λ s. nat_lt (order_number s) 256 ≡ true) [ Unordered ↦ refl | Ordered ↦ refl ])

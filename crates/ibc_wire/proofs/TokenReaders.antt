@@ -6,7 +6,7 @@ use Rattle.ibc_ids.specs.Texts.{Text}
 use Rattle.ibc_ids.specs.Names.{is_denom}
 use Rattle.ibc_ids.proofs.Ascii.{denominations}
 use Rattle.ibc_wire.specs.Tokens.{is_rising}
-use Rattle.ibc_wire.specs.Fields.{Field, where_, count_between}
+use Rattle.ibc_wire.specs.Fields.{Field, form_condition, count_between}
 use Rattle.ibc_wire.specs.Spelling.{token_fields, tokens_fields}
 use Rattle.ibc_wire.specs.Reading.{◌>>=◌, Front, byte_at_front}
 use Rattle.ibc_wire.specs.Fronts.{many_at_front}
@@ -14,7 +14,7 @@ use Rattle.ibc_wire.specs.RecordFronts.{token_at_front, tokens_at_front}
 use Rattle.ibc_wire.specs.Lawful.{AreBytes, Begins, IsReader}
 use Rattle.ibc_wire.specs.declared.token.Token.{Token}
 use Rattle.ibc_wire.proofs.Fronts.{bind_some, some_same, if_some, begins_both, begins_split, begins_none, bytes_behind, byte_read, count_read, count_front}
-use Rattle.ibc_wire.proofs.Steps.{first, done, reader_of}
+use Rattle.ibc_wire.proofs.FieldReaders.{first, done, reader_of}
 use Rattle.ibc_wire.proofs.Readers.{name_reader, n16_reader}
 
 -- ---- so many values in a row
@@ -53,7 +53,7 @@ token_reader =
 abbrev few : ℕ → Bool
 few n = nat_le 1 n && nat_le n 8
 
-rising_field : (ts : List Token) (text : Text) → is_rising ts ≡ true → Begins (where_ (is_rising ts) ∷ []) text text
+rising_field : (ts : List Token) (text : Text) → is_rising ts ≡ true → Begins (form_condition (is_rising ts) ∷ []) text text
 rising_field ts text e = record { form = and_from (is_rising ts) true e refl; is = refl }
 
 pub tokens_reader : IsReader tokens_fields tokens_at_front
@@ -69,12 +69,12 @@ tokens_reader = record {
       let c = count_read 1 8 n text behind short.0 (byte_read text n behind count.1) in
       let all = many_read token_reader n behind found.0.0 found.0.1 (bytes_behind (count_between 1 8 n ∷ []) text behind bytes c) short.1 in
       let counted : Begins (count_between 1 8 (length found.0.0) ∷ []) text behind = subst (λ m. Begins (count_between 1 8 m ∷ []) text behind) (sym all.0) c in
-      let ends = begins_both (flat_map token_fields found.0.0) (where_ (is_rising found.0.0) ∷ []) behind found.0.1 found.0.1 all.1 (rising_field found.0.0 found.0.1 passed.0) in
-      let mine = begins_both (count_between 1 8 (length found.0.0) ∷ []) (flat_map token_fields found.0.0 ++ where_ (is_rising found.0.0) ∷ []) text behind found.0.1 counted ends in
+      let ends = begins_both (flat_map token_fields found.0.0) (form_condition (is_rising found.0.0) ∷ []) behind found.0.1 found.0.1 all.1 (rising_field found.0.0 found.0.1 passed.0) in
+      let mine = begins_both (count_between 1 8 (length found.0.0) ∷ []) (flat_map token_fields found.0.0 ++ form_condition (is_rising found.0.0) ∷ []) text behind found.0.1 counted ends in
       subst (λ (w : List Token × Text). Begins (tokens_fields w.0) text w.1) (some_same passed.1) mine;
   read = λ ts text rest h.
-      let a = begins_split (count_between 1 8 (length ts) ∷ []) (flat_map token_fields ts ++ where_ (is_rising ts) ∷ []) text rest h in
-      let b = begins_split (flat_map token_fields ts) (where_ (is_rising ts) ∷ []) a.0 rest a.2 in
+      let a = begins_split (count_between 1 8 (length ts) ∷ []) (flat_map token_fields ts ++ form_condition (is_rising ts) ∷ []) text rest h in
+      let b = begins_split (flat_map token_fields ts) (form_condition (is_rising ts) ∷ []) a.0 rest a.2 in
       let number = count_front 1 8 (length ts) text a.0 a.1 in
       let rises : is_rising ts ≡ true = (and_parts (is_rising ts) true b.2.form).0 in
       let end : b.0 ≡ rest = b.2.is in

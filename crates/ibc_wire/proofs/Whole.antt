@@ -6,7 +6,7 @@ use Rattle.ibc_ids.specs.declared.refusal.Refusal.{Refusal}
 use Rattle.ibc_ids.specs.declared.refusal.Refusal.TheVariants.{NoMemory, BadMessage}
 use Rattle.ibc_wire.specs.Fields.{Field, Spells, HasOneValue, bytes_of}
 use Rattle.ibc_wire.specs.Reading.{Front}
-use Rattle.ibc_wire.specs.Fronts.{IsRefusal, Gives, only}
+use Rattle.ibc_wire.specs.Fronts.{IsRefusal, Gives, value_if_whole}
 use Rattle.ibc_wire.proofs.Fronts.{some_same}
 use Rattle.ibc_wire.specs.Lawful.{AreBytes, Begins, IsReader}
 
@@ -16,21 +16,21 @@ one_of_two NoMemory h = inl refl
 one_of_two BadMessage h = inr (refl, h)
 one_of_two _ h = absurd h
 
-only_is : {A : Type 0} (read : Front A) (a : A) → only read ≡ Some a → read ≡ Some (a, [])
+only_is : {A : Type 0} (read : Front A) (a : A) → value_if_whole read ≡ Some a → read ≡ Some (a, [])
 only_is None a e = absurd cc
 only_is (Some (b, [])) a e = let same : b ≡ a = cc in λ i. Some (same i, [])
 only_is (Some (b, x ∷ rest)) a e = absurd cc
 
 module _ {A : Type 0} {fields : A → List Field} {front : Text → Front A} (reader : IsReader fields front) where
-  pub is_spelled : (text : Text) (a : A) → AreBytes text → only (front text) ≡ Some a → Spells (fields a) text
+  pub is_spelled : (text : Text) (a : A) → AreBytes text → value_if_whole (front text) ≡ Some a → Spells (fields a) text
   is_spelled text a bytes e =
       let begins = reader.spelled text a [] bytes (only_is (front text) a e) in
       (begins.form, begins.is ∙ append-nil (bytes_of (fields a)))
 
-  pub is_read : (text : Text) (a : A) → Spells (fields a) text → only (front text) ≡ Some a
+  pub is_read : (text : Text) (a : A) → Spells (fields a) text → value_if_whole (front text) ≡ Some a
   is_read text a h =
       let begins : Begins (fields a) text [] = record { form = h.0; is = h.1 ∙ sym (append-nil (bytes_of (fields a))) } in
-      ap only (reader.read a text [] begins)
+      ap value_if_whole (reader.read a text [] begins)
 
   pub one_value : HasOneValue fields
   one_value a b text h g =
@@ -43,7 +43,7 @@ module _ {A : Type 0} {fields : A → List Field} {front : Text → Front A} (re
     pub memory : (a : A) → Spells (fields a) text → IsOkUnless r NoMemory
     pub errors : IfErr r (λ e. (e ≡ BadMessage) ⊎ (e ≡ NoMemory))
 
-  refused : (text : Text) (e : Refusal) → (e ≡ NoMemory) ⊎ ((e ≡ BadMessage) × (only (front text) ≡ None)) → Decodes text (Err e)
+  refused : (text : Text) (e : Refusal) → (e ≡ NoMemory) ⊎ ((e ≡ BadMessage) × (value_if_whole (front text) ≡ None)) → Decodes text (Err e)
   refused text e (inl no_memory) = record {
     ok = tt;
     bad = λ bad a h. absurd (cc);
@@ -57,7 +57,7 @@ module _ {A : Type 0} {fields : A → List Field} {front : Text → Front A} (re
     errors = inl is_bad;
   }
 
-  pub decoded : (text : Text) (r : Result A Refusal) → AreBytes text → Gives (λ a. a) r (only (front text)) → Decodes text r
+  pub decoded : (text : Text) (r : Result A Refusal) → AreBytes text → Gives (λ a. a) r (value_if_whole (front text)) → Decodes text r
   decoded text (Ok a) bytes gives = record {
     ok = is_spelled text a bytes gives;
     bad = λ bad b h. absurd (cc);

@@ -10,7 +10,7 @@ use Rattle.ibc_ids.specs.Texts.{Text}
 use Rattle.ibc_ids.specs.declared.refusal.Refusal.{Refusal}
 use Rattle.ibc_ids.specs.declared.refusal.Refusal.TheVariants.{NoMemory, BadMessage}
 use Rattle.ibc_wire.specs.Fronts.{IsRefusal, Writes}
-use Rattle.ibc_wire.specs.Fields.{Field, have_form, bytes_of, str_up_to, root32, where_}
+use Rattle.ibc_wire.specs.Fields.{Field, have_form, bytes_of, str_up_to, root32, form_condition}
 use Rattle.ibc_wire.proofs.Fronts.{bytes_from, bytes_parts}
 use Rattle.ibc_wire.specs.Lawful.{AreBytes}
 
@@ -67,6 +67,6 @@ behind fs gs old mid new (Ok x) f g = all_behind fs gs old mid new f g
 behind fs gs old mid new (Err e) f g = refused e (none_behind fs gs) g
 
 -- a condition that holds has no bytes
-pub nothing_behind : {X : Type 0} (fs : List Field) (holds : Bool) → holds ≡ true → (old new : Text) (r : Result X Refusal) → Writes fs old r new → Writes (fs ++ where_ holds ∷ []) old r new
-nothing_behind fs holds h old new (Ok x) f = all_behind fs (where_ holds ∷ []) old new new f (and_from holds true h refl, sym (append-nil new))
-nothing_behind fs holds h old new (Err e) f = refused e (none_before fs (where_ holds ∷ [])) f
+pub nothing_behind : {X : Type 0} (fs : List Field) (holds : Bool) → holds ≡ true → (old new : Text) (r : Result X Refusal) → Writes fs old r new → Writes (fs ++ form_condition holds ∷ []) old r new
+nothing_behind fs holds h old new (Ok x) f = all_behind fs (form_condition holds ∷ []) old new new f (and_from holds true h refl, sym (append-nil new))
+nothing_behind fs holds h old new (Err e) f = refused e (none_before fs (form_condition holds ∷ [])) f

@@ -13,30 +13,30 @@ pub record Field : Type 0 where
   pub in_form : Bool
 
 -- one byte
-abbrev pub u8 : ℕ → Field
-u8 n = record { bytes = n ∷ []; in_type = nat_lt n 256; in_form = true }
+abbrev pub one_byte : ℕ → Field
+one_byte n = record { bytes = n ∷ []; in_type = nat_lt n 256; in_form = true }
 
 -- a whole number, 8 bytes big-endian
-abbrev pub n8 : ℕ → Field
-n8 n = record { bytes = to_be_bytes w64 n; in_type = nat_lt n (2 ^ 64); in_form = true }
+abbrev pub be64 : ℕ → Field
+be64 n = record { bytes = to_be_bytes w64 n; in_type = nat_lt n (2 ^ 64); in_form = true }
 
 -- an amount, 16 bytes big-endian
-abbrev pub n16 : ℕ → Field
-n16 n = record { bytes = to_be_bytes w128 n; in_type = nat_lt n (2 ^ 128); in_form = true }
+abbrev pub be128 : ℕ → Field
+be128 n = record { bytes = to_be_bytes w128 n; in_type = nat_lt n (2 ^ 128); in_form = true }
 
 -- a text behind its length
-abbrev pub counted : Text → Text
-counted text = to_be_bytes w16 (length text) ++ text
+abbrev pub with_length : Text → Text
+with_length text = to_be_bytes w16 (length text) ++ text
 
 -- a name behind its length
 abbrev pub name : (Text → Bool) → Text → Field
-name test text = record { bytes = counted text; in_type = test text; in_form = true }
+name test text = record { bytes = with_length text; in_type = test text; in_form = true }
 
 -- a text of so many bytes at most behind its length
 abbrev pub str_up_to : ℕ → Text → Field
 str_up_to limit text =
     record {
-      bytes = counted text;
+      bytes = with_length text;
       in_type = list_all (λ c. nat_lt c 256) text;
       in_form = nat_le (length text) limit;
     }
@@ -51,8 +51,8 @@ root32 text =
     record { bytes = text; in_type = (length text == 32) && list_all (λ c. nat_lt c 256) text; in_form = true }
 
 -- no bytes, where something holds of the value
-abbrev pub where_ : Bool → Field
-where_ holds = record { bytes = []; in_type = true; in_form = holds }
+abbrev pub form_condition : Bool → Field
+form_condition holds = record { bytes = []; in_type = true; in_form = holds }
 
 -- how many things stand behind it, in one byte
 abbrev pub count_between : ℕ → ℕ → ℕ → Field

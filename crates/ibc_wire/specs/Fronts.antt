@@ -73,7 +73,7 @@ many_at_front front (suc n) text = do
   Some (head.0 ∷ others.0, others.1)
 
 -- the value at the front, where nothing stands behind it
-abbrev pub only : {A : Type 0} → Front A → Option A
-only None = None
-only (Some (value, [])) = Some value
-only (Some (value, b ∷ rest)) = None
+abbrev pub value_if_whole : {A : Type 0} → Front A → Option A
+value_if_whole None = None
+value_if_whole (Some (value, [])) = Some value
+value_if_whole (Some (value, b ∷ rest)) = None

@@ -85,15 +85,15 @@ proof_behind (suc (suc zero)) text = do
 proof_behind (suc (suc (suc n))) text = None
 
 -- nothing may stand behind a proof
-abbrev pub whole : Proof × Text → Option Proof
-whole (proof, []) = Some proof
-whole (proof, b ∷ rest) = None
+abbrev pub proof_if_whole : Proof × Text → Option Proof
+proof_if_whole (proof, []) = Some proof
+proof_if_whole (proof, b ∷ rest) = None
 
 unfoldable pub proof_of : Text → Option Proof
 proof_of text = do
   tag ← byte_at_front text
   found ← proof_behind tag.0 tag.1
-  whole found
+  proof_if_whole found
 
 -- what is read is spelled so, and what is spelled so is read; texts are of bytes
 abbrev pub ReadsWhatIsSpelled : Type 0

@@ -3,7 +3,7 @@ use Rattle.std.specs.Prelude.{ℕ, zero, suc, ◌==◌, nat_le, ◌&&◌, true, 
 use Rattle.std.specs.Int.{w64}
 use Rattle.ibc_ids.specs.Texts.{Text}
 use Rattle.ibc_ids.specs.Names.{is_client, is_connection, is_channel, is_port, is_version, is_denom}
-use Rattle.ibc_wire.specs.Fields.{Field, u8, n8, root32, str_up_to}
+use Rattle.ibc_wire.specs.Fields.{Field, one_byte, be64, root32, str_up_to}
 use Rattle.ibc_wire.specs.Spelling.{connection_state_number, channel_state_number, neighbour_fields}
 use Rattle.ibc_wire.specs.Tokens.{is_rising}
 use Rattle.ibc_wire.specs.Reading.{◌>>=◌, Front, byte_at_front, bytes_at_front, str_at_front, presence_at_front, neighbour_at_front}
@@ -72,7 +72,7 @@ token_at_front text = do
 
 -- a header stands in a message only
 abbrev pub header_fields : Header → List Field
-header_fields h = u8 h.chain ∷ n8 h.height ∷ n8 h.time ∷ root32 h.root ∷ []
+header_fields h = one_byte h.chain ∷ be64 h.height ∷ be64 h.time ∷ root32 h.root ∷ []
 
 unfoldable pub header_at_front : Text → Front Header
 header_at_front text = do

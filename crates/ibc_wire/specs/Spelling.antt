@@ -3,7 +3,7 @@ use Rattle.std.specs.Prelude.{ℕ, Bool, true, false, ◌==◌, codes, List, [],
 use Rattle.std.specs.List.{flat_map}
 use Rattle.ibc_ids.specs.Texts.{Text}
 use Rattle.ibc_ids.specs.Names.{is_client, is_connection, is_channel, is_port, is_version, is_denom}
-use Rattle.ibc_wire.specs.Fields.{Field, u8, n8, n16, str, str_up_to, name, where_, count_between, bytes_of}
+use Rattle.ibc_wire.specs.Fields.{Field, one_byte, be64, be128, str, str_up_to, name, form_condition, count_between, bytes_of}
 use Rattle.ibc_wire.specs.Tokens.{is_rising}
 use Rattle.ibc_wire.specs.declared.records.ClientState.{ClientState}
 use Rattle.ibc_wire.specs.declared.records.ConnectionState.{ConnectionState}
@@ -23,7 +23,7 @@ use Rattle.ibc_merkle.specs.declared.proof.Proof.TheVariants.{Present, Absent}
 
 -- ICS 2, "ClientState"
 abbrev pub client_state_fields : ClientState → List Field
-client_state_fields c = u8 c.chain ∷ n8 c.latest ∷ []
+client_state_fields c = one_byte c.chain ∷ be64 c.latest ∷ []
 
 abbrev pub connection_state_number : ConnectionState → ℕ
 connection_state_number conn.Init = 1
@@ -43,38 +43,38 @@ order_number Ordered = 2
 -- a peer's identifier: empty in the state Init and only there
 abbrev pub peer : (Text → Bool) → Bool → Option Text → Field
 peer test true None = str []
-peer test true (Some id) = where_ false
-peer test false None = where_ false
+peer test true (Some id) = form_condition false
+peer test false None = form_condition false
 peer test false (Some id) = name test id
 
 -- ICS 3, "ConnectionEnd"; the version is always "1"
 abbrev pub connection_end_fields : ConnectionEnd → List Field
 connection_end_fields c =
-    u8 (connection_state_number c.state) ∷ name is_client c.client ∷ name is_client c.peer_client
+    one_byte (connection_state_number c.state) ∷ name is_client c.client ∷ name is_client c.peer_client
     ∷ peer is_connection (connection_state_number c.state == 1) c.peer_connection ∷ str (codes "1") ∷ []
 
 -- ICS 4, "ChannelEnd"
 abbrev pub channel_end_fields : ChannelEnd → List Field
 channel_end_fields c =
-    u8 (channel_state_number c.state) ∷ u8 (order_number c.order) ∷ name is_port c.peer_port
+    one_byte (channel_state_number c.state) ∷ one_byte (order_number c.order) ∷ name is_port c.peer_port
     ∷ peer is_channel (channel_state_number c.state == 1) c.peer_channel
     ∷ name is_connection c.connection ∷ name is_version c.version ∷ []
 
 -- ICS 4, "Packet"
 abbrev pub packet_fields : Packet → List Field
 packet_fields p =
-    n8 p.sequence ∷ n8 p.timeout_height ∷ n8 p.timeout_time ∷ name is_port p.source_port
+    be64 p.sequence ∷ be64 p.timeout_height ∷ be64 p.timeout_time ∷ name is_port p.source_port
     ∷ name is_channel p.source_channel
     ∷ name is_port p.destination_port ∷ name is_channel p.destination_channel ∷ str p.payload ∷ []
 
 -- ICS 20: a denomination and an amount
 abbrev pub token_fields : Token → List Field
-token_fields t = name is_denom t.denom ∷ n16 t.amount ∷ []
+token_fields t = name is_denom t.denom ∷ be128 t.amount ∷ []
 
 -- several tokens behind their number: 1 to 8, in rising order
 abbrev pub tokens_fields : List Token → List Field
 tokens_fields tokens =
-    count_between 1 8 (length tokens) ∷ flat_map token_fields tokens ++ where_ (is_rising tokens) ∷ []
+    count_between 1 8 (length tokens) ∷ flat_map token_fields tokens ++ form_condition (is_rising tokens) ∷ []
 
 -- ICS 23, "InnerOp"
 abbrev pub operation_fields : Operation → List Field
@@ -87,13 +87,13 @@ presence_fields p =
     ∷ flat_map operation_fields p.operations
 
 abbrev pub neighbour_fields : Option Presence → List Field
-neighbour_fields None = u8 0 ∷ []
-neighbour_fields (Some p) = u8 1 ∷ presence_fields p
+neighbour_fields None = one_byte 0 ∷ []
+neighbour_fields (Some p) = one_byte 1 ∷ presence_fields p
 
 -- ICS 23, "ExistenceProof" and "NonExistenceProof"
 abbrev pub proof_fields : Proof → List Field
-proof_fields (Present p) = u8 1 ∷ presence_fields p
-proof_fields (Absent p) = u8 2 ∷ str_up_to 256 p.key ∷ neighbour_fields p.left ++ neighbour_fields p.right
+proof_fields (Present p) = one_byte 1 ∷ presence_fields p
+proof_fields (Absent p) = one_byte 2 ∷ str_up_to 256 p.key ∷ neighbour_fields p.left ++ neighbour_fields p.right
 
 -- The bytes of each
 abbrev pub client_state_bytes : ClientState → Text

@@ -2,12 +2,12 @@
 
 ghost use Rattle.std.specs.Prelude.{◌≡◌, ◌==◌, ◌∷◌, [], codes, IsTrue, List};
 ghost use Rattle.std.specs.Int.{w64};
-ghost use Rattle.ibc_wire.specs.Fields.{u8, n8, n16, name as a_name, root32, str_up_to, count_between};
+ghost use Rattle.ibc_wire.specs.Fields.{one_byte, be64, be128, name as a_name, root32, str_up_to, count_between};
 ghost use Rattle.ibc_wire.specs.Spelling.{peer};
 ghost use Rattle.ibc_wire.specs.Reading.{byte_at_front, bytes_at_front, str_at_front};
 ghost use Rattle.ibc_wire.specs.Fronts.{Gives, Writes, number_at_front, amount_at_front, name_at_front, peer_at_front};
 
-use ibc_ids::{Bytes, Kind, Name, Refusal, Root};
+use ibc_ids::{Bytes, Name, NameKind, Refusal, Root};
 use ibc_merkle::Affix;
 use std::alloc::Global;
 
@@ -23,7 +23,7 @@ pub fn read_u8(bytes: &[u8]) -> Result<(u8, &[u8]), Refusal>
 
 /// Writes one byte.
 pub fn write_u8(out: &mut Vec<u8>, byte: u8) -> Result<(), Refusal>
-    ensures { Writes (u8 byte ∷ []) out.old.items result out.new.items }
+    ensures { Writes (one_byte byte ∷ []) out.old.items result out.new.items }
 {
     out.push(byte)?;
     Ok(())
@@ -64,7 +64,7 @@ pub fn read_n8(bytes: &[u8]) -> Result<(u64, &[u8]), Refusal>
 
 /// Writes a whole number in 8 bytes.
 pub fn write_n8(out: &mut Vec<u8>, number: u64) -> Result<(), Refusal>
-    ensures { Writes (n8 number ∷ []) out.old.items result out.new.items }
+    ensures { Writes (be64 number ∷ []) out.old.items result out.new.items }
 {
     out.extend_from_slice(&number.to_be_bytes())?;
     Ok(())
@@ -81,7 +81,7 @@ pub fn read_n16(bytes: &[u8]) -> Result<(u128, &[u8]), Refusal>
 
 /// Writes an amount in 16 bytes.
 pub fn write_n16(out: &mut Vec<u8>, amount: u128) -> Result<(), Refusal>
-    ensures { Writes (n16 amount ∷ []) out.old.items result out.new.items }
+    ensures { Writes (be128 amount ∷ []) out.old.items result out.new.items }
 {
     out.extend_from_slice(&amount.to_be_bytes())?;
     Ok(())
@@ -144,7 +144,7 @@ pub fn write_affix(out: &mut Vec<u8>, affix: &Affix, limit: u16) -> Result<(), R
 }
 
 /// A name behind its length, and what stands behind it.
-pub fn read_name<K: Kind>(alloc: Global, bytes: &[u8]) -> Result<(Name<K>, &[u8]), Refusal>
+pub fn read_name<K: NameKind>(alloc: Global, bytes: &[u8]) -> Result<(Name<K>, &[u8]), Refusal>
     ensures { Gives (λ x. (x.0, x.1.now)) result (name_at_front K.form bytes.now) }
 {
     let (text, rest) = read_text(bytes, u16::MAX)?;
@@ -156,10 +156,10 @@ pub fn read_name<K: Kind>(alloc: Global, bytes: &[u8]) -> Result<(Name<K>, &[u8]
 }
 
 /// Writes a name behind its length.
-pub fn write_name<K: Kind>(out: &mut Vec<u8>, name: &Name<K>) -> Result<(), Refusal>
+pub fn write_name<K: NameKind>(out: &mut Vec<u8>, name: &Name<K>) -> Result<(), Refusal>
     ensures { Writes (a_name K.form name.now ∷ []) out.old.items result out.new.items }
 {
-    K::are_short_and_ascii();
+    K::lemma_short_and_ascii();
     let text = name.as_str();
     out.extend_from_slice(&(text.len() as u16).to_be_bytes())?;
     out.extend_from_slice(text.as_bytes())?;
@@ -186,7 +186,7 @@ pub fn write_root(out: &mut Vec<u8>, root: &Root) -> Result<(), Refusal>
 }
 
 /// A peer's identifier, which is empty in the first state of a handshake and only there, and what stands behind it.
-pub fn read_peer<K: Kind>(
+pub fn read_peer<K: NameKind>(
     alloc: Global,
     bytes: &[u8],
     is_init: bool,
@@ -203,7 +203,7 @@ pub fn read_peer<K: Kind>(
 }
 
 /// Writes a peer's identifier, or an empty text.
-pub fn write_peer<K: Kind>(
+pub fn write_peer<K: NameKind>(
     out: &mut Vec<u8>,
     is_init: bool,
     id: &Option<Name<K>>,

@@ -3,6 +3,6 @@
 ghost use Rattle.ibc_wire.specs.Reading.{ReadsWhatIsSpelled};
 
 /// A proof is read from bytes just where they spell it.
-pub fn proofs_are_read_as_they_are_spelled()
+pub fn lemma_proofs_are_read_as_they_are_spelled()
     ensures { ReadsWhatIsSpelled }
 {}

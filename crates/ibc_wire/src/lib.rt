@@ -12,7 +12,7 @@ mod typed;
 mod wire;
 
 pub use header::Header;
-pub use laws::proofs_are_read_as_they_are_spelled;
+pub use laws::lemma_proofs_are_read_as_they_are_spelled;
 pub use messages::{
     AckPacket, ChanCloseConfirm, ChanCloseInit, ChanOpenAck, ChanOpenConfirm, ChanOpenInit,
     ChanOpenTry, ConnOpenAck, ConnOpenConfirm, ConnOpenInit, ConnOpenTry, CreateClient, Message,
@@ -22,4 +22,4 @@ pub use messages::{
 pub use packet::Packet;
 pub use records::{ChannelEnd, ChannelState, ClientState, ConnectionEnd, ConnectionState, Order};
 pub use token::{Token, Tokens, is_listed, is_rising};
-pub use wire::{Wire, a_text_spells_one_value, decode, encode};
+pub use wire::{Wire, decode, encode, lemma_a_text_spells_one_value};

@@ -340,29 +340,29 @@ impl Message {
     }
 
     /// The message is what its type promises: names have their form, numbers their range, and texts are of bytes.
-    pub fn is_typed(&self)
+    pub fn lemma_typed(&self)
         ensures { IsTrue (are_typed (message_fields self.now)) }
     {
         match self {
-            Message::CreateClient(message) => message.is_typed(),
-            Message::UpdateClient(message) => message.is_typed(),
-            Message::ConnOpenInit(message) => message.is_typed(),
-            Message::ConnOpenTry(message) => message.is_typed(),
-            Message::ConnOpenAck(message) => message.is_typed(),
-            Message::ConnOpenConfirm(message) => message.is_typed(),
-            Message::ChanOpenInit(message) => message.is_typed(),
-            Message::ChanOpenTry(message) => message.is_typed(),
-            Message::ChanOpenAck(message) => message.is_typed(),
-            Message::ChanOpenConfirm(message) => message.is_typed(),
-            Message::ChanCloseInit(message) => message.is_typed(),
-            Message::ChanCloseConfirm(message) => message.is_typed(),
-            Message::Transfer(message) => message.is_typed(),
-            Message::SendNote(message) => message.is_typed(),
-            Message::RecvPacket(message) => message.is_typed(),
-            Message::AckPacket(message) => message.is_typed(),
-            Message::Timeout(message) => message.is_typed(),
-            Message::TimeoutOnClose(message) => message.is_typed(),
-            Message::TransferMany(message) => message.is_typed(),
+            Message::CreateClient(message) => message.lemma_typed(),
+            Message::UpdateClient(message) => message.lemma_typed(),
+            Message::ConnOpenInit(message) => message.lemma_typed(),
+            Message::ConnOpenTry(message) => message.lemma_typed(),
+            Message::ConnOpenAck(message) => message.lemma_typed(),
+            Message::ConnOpenConfirm(message) => message.lemma_typed(),
+            Message::ChanOpenInit(message) => message.lemma_typed(),
+            Message::ChanOpenTry(message) => message.lemma_typed(),
+            Message::ChanOpenAck(message) => message.lemma_typed(),
+            Message::ChanOpenConfirm(message) => message.lemma_typed(),
+            Message::ChanCloseInit(message) => message.lemma_typed(),
+            Message::ChanCloseConfirm(message) => message.lemma_typed(),
+            Message::Transfer(message) => message.lemma_typed(),
+            Message::SendNote(message) => message.lemma_typed(),
+            Message::RecvPacket(message) => message.lemma_typed(),
+            Message::AckPacket(message) => message.lemma_typed(),
+            Message::Timeout(message) => message.lemma_typed(),
+            Message::TimeoutOnClose(message) => message.lemma_typed(),
+            Message::TransferMany(message) => message.lemma_typed(),
         }
     }
 }

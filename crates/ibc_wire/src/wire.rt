@@ -4,7 +4,7 @@ ghost use Rattle.std.specs.Prelude.{◌≡◌, ◌⊎◌, ℕ, List, Option, IsT
 ghost use Rattle.ibc_ids.specs.Texts.{Text};
 ghost use Rattle.ibc_wire.specs.Fields.{Field, Spells, HasOneValue, have_form};
 ghost use Rattle.ibc_wire.specs.Reading.{Front};
-ghost use Rattle.ibc_wire.specs.Fronts.{Gives, Writes, only};
+ghost use Rattle.ibc_wire.specs.Fronts.{Gives, Writes, value_if_whole};
 ghost use Rattle.ibc_wire.specs.Lawful.{IsReader};
 
 mod header;
@@ -35,7 +35,7 @@ pub trait Wire: Sized {
         ensures { Writes (fields self.now) out.old.items result out.new.items };
 
     /// A value is read just where it is spelled.
-    fn reads_what_is_spelled()
+    fn lemma_reads_what_is_spelled()
         ensures { IsReader fields front };
 }
 
@@ -59,13 +59,13 @@ pub fn decode<T: Wire + Drop>(alloc: Global, bytes: &[u8]) -> Result<T, Refusal>
     ensures memory { (value : T) → Spells (T.fields value) bytes.now → IsOkUnless result Refusal.NoMemory }
     ensures errors { IfErr result (λ e. (e ≡ Refusal.BadMessage) ⊎ (e ≡ Refusal.NoMemory)) }
 {
-    T::reads_what_is_spelled();
+    T::lemma_reads_what_is_spelled();
     read_all(alloc, bytes)
 }
 
 /// The value at the front of the bytes, behind which nothing stands.
 fn read_all<T: Wire + Drop>(alloc: Global, bytes: &[u8]) -> Result<T, Refusal>
-    ensures { Gives (λ x. x) result (only (T.front bytes.now)) }
+    ensures { Gives (λ x. x) result (value_if_whole (T.front bytes.now)) }
 {
     match T::read(alloc, bytes)? {
         (value, []) => Ok(value),
@@ -74,8 +74,8 @@ fn read_all<T: Wire + Drop>(alloc: Global, bytes: &[u8]) -> Result<T, Refusal>
 }
 
 /// No text spells two values of a type.
-pub fn a_text_spells_one_value<T: Wire>()
+pub fn lemma_a_text_spells_one_value<T: Wire>()
     ensures { HasOneValue T.fields }
 {
-    T::reads_what_is_spelled();
+    T::lemma_reads_what_is_spelled();
 }

@@ -8,7 +8,7 @@ use Rattle.ibc_ids.specs.Names.{hop}
 use Rattle.ibc_ids.specs.declared.refusal.Refusal.TheVariants.{NoMemory, UnknownChain, UnknownChannel, WrongState, WrongPeer, TooLarge, BadMessage}
 use Rattle.ibc_ids.specs.declared.refusal.Refusal.{Refusal}
 use Rattle.ibc_wire.specs.declared.records.ChannelEnd.{ChannelEnd}
-use Rattle.ibc_machine.specs.chain.Records.{Core, Chain, Client, Channel, Records, client_at, channel_at}
+use Rattle.ibc_machine.specs.chain.Records.{Core, MachineChain, Client, Channel, Records, client_at, channel_at}
 use Rattle.ibc_machine.specs.ics04.Channels.{is_established, client_of, peer_channel_of}
 use Rattle.ibc_machine.specs.ics20.Bank.{Balances, balance, supply, escrow}
 use Rattle.ibc_machine.specs.chain.Checks.{Checked, require, go_on, and_then, ◌>>◌}
@@ -18,26 +18,26 @@ use Rattle.ibc_machine.specs.promises.Histories.{End}
 use Rattle.ibc_machine.specs.ledger.Ledgers.{Ledger, state_of, machine_of}
 use Rattle.ibc_machine.specs.promises.Peers.{records_of, end_at}
 use Rattle.ibc_machine.specs.promises.Totals.{Totals, totals, totals_between, peer_at, are_bounded, balances_of, flight_between}
-use Rattle.ibc_world_core.specs.Totals.{IsOwnEnd, IsPeerEnd, abroad}
+use Rattle.ibc_world_core.specs.Totals.{IsOwnEnd, IsPeerEnd, peer_amounts}
 
 -- ---- what stands at a chain that is there
 
-module _ (world : World) (k : ℕ) (chain : Chain) (there : slice_get world k ≡ Some chain) where
+module _ (world : World) (k : ℕ) (chain : MachineChain) (there : slice_get world k ≡ Some chain) where
   pub its_records : records_of world k ≡ Some chain.records
-  its_records = ap (option_map (λ (c : Chain). c.records)) there
+  its_records = ap (option_map (λ (c : MachineChain). c.records)) there
 
   pub its_end : (port channel : Text) → end_at world (record { chain = k; port = port; channel = channel }) ≡ channel_at chain.records.core port channel
   its_end port channel = ap (option_and_then (λ (r : Records). channel_at r.core port channel)) its_records
 
   its_balances : balances_of world k ≡ chain.records.apps.balances
-  its_balances = ap (λ (o : Option Chain). option_map_or (λ (c : Chain). c.records.apps.balances) o []) there
+  its_balances = ap (λ (o : Option MachineChain). option_map_or (λ (c : MachineChain). c.records.apps.balances) o []) there
 
 -- ---- the checks that stand before the sums
 
 module _ (world : World) (chain : ℕ) (channel denom : Text) where
   pub no_chain : slice_get world chain ≡ None → totals world chain channel denom ≡ Err UnknownChain
   unfolding totals go_on and_then
-  no_chain gone = let e : records_of world chain ≡ None = ap (option_map (λ (c : Chain). c.records)) gone in rw e refl
+  no_chain gone = let e : records_of world chain ≡ None = ap (option_map (λ (c : MachineChain). c.records)) gone in rw e refl
 
   module _ (ledger : Ledger) (of : slice_get world chain ≡ Some (state_of ledger).chain) where
     pub no_channel : channel_at (state_of ledger).chain.records.core transfer_port channel ≡ None → totals world chain channel denom ≡ Err UnknownChannel
@@ -119,7 +119,7 @@ module _ (world : World) (chain : ℕ) (channel denom : Text) (ledger : Ledger) 
         ∙ ap (option_map (λ (t : Channel). f)) peer_there
 
     abbrev far : ℕ × ℕ
-    far = abroad (state_of peer).chain mine name theirs denom
+    far = peer_amounts (state_of peer).chain mine name theirs denom
 
     abbrev counted : Totals
     counted = record {
@@ -214,7 +214,7 @@ module _ (world : World) (core : Core) (mine : Channel) where
   not_there k tracked gone = ap stands_there (tracked_then k client tracked) ∙ ap (option_map (λ (t : Channel). at_chain k)) gone
 
   pub no_end : (k : ℕ) → slice_get world k ≡ None → end_at world (at_chain k) ≡ None
-  no_end k gone = ap (λ (o : Option Chain). option_and_then (λ (r : Records). channel_at r.core mine.end.peer_port (peer_channel_of mine.end)) (option_map (λ (c : Chain). c.records) o)) gone
+  no_end k gone = ap (λ (o : Option MachineChain). option_and_then (λ (r : Records). channel_at r.core mine.end.peer_port (peer_channel_of mine.end)) (option_map (λ (c : MachineChain). c.records) o)) gone
 
 -- ---- refusals of sums
 

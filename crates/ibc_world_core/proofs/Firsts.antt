@@ -3,12 +3,12 @@ use Rattle.std.proofs.Common.{◌≡◌, ℕ, zero, suc, ◌<◌, ◌-◌, true,
 use Rattle.std.proofs.lemmas.Bool.{false≢true}
 use Rattle.std.proofs.lemmas.List.{take_all}
 use Rattle.ibc_machine.specs.promises.Worlds.{is_complete}
-use Rattle.ibc_ledger.specs.Held.{HeldLedger}
-use Rattle.ibc_world_core.specs.Held.{plain}
-use Rattle.ibc_world_core.specs.Audits.{is_whole}
+use Rattle.ibc_ledger.specs.LedgerModel.{LedgerModel}
+use Rattle.ibc_world_core.specs.WorldModel.{ledgers_alone}
+use Rattle.ibc_world_core.specs.WorldAudits.{is_whole}
 
 -- whole worlds have one
-pub first_of : (ledgers : List HeldLedger) → is_whole ledgers ≡ true → (first : HeldLedger) × (slice_get ledgers 0 ≡ Some first) × (is_complete first.ledger.genesis (plain ledgers) ≡ true)
+pub first_of : (ledgers : List LedgerModel) → is_whole ledgers ≡ true → (first : LedgerModel) × (slice_get ledgers 0 ≡ Some first) × (is_complete first.ledger.genesis (ledgers_alone ledgers) ≡ true)
 first_of [] whole = absurd (false≢true whole)
 first_of (first ∷ others) whole = (first, refl, whole)
 

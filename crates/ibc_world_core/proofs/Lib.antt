@@ -1,11 +1,11 @@
 -- Why the ledgers of a world have met.
 pub mod Rounds
-pub mod Putting
-pub mod Stepping
+pub mod PutEvents
+pub mod WorldSteps
 -- How the ledgers of a genesis begin.
 pub mod Beginnings
 -- How a world goes on by events.
-pub mod Turns
+pub mod EventSequences
 -- The totals of a channel.
 pub mod CountedTotals
 pub mod Denominations

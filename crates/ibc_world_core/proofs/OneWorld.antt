@@ -1,34 +1,34 @@
 -- Ledgers of one world that are gathered, in any order, are audited.
 use Rattle.std.proofs.Common.{◌≡◌, ℕ, zero, suc, true, false, List, [], ◌∷◌, ◌++◌, length, map, refl, sym, ap, ◌∙◌, subst, Some, None, slice_get}
 use Rattle.std.proofs.lemmas.Bool.{false≢true}
-use Rattle.ibc_machine.specs.chain.Records.{Chain}
+use Rattle.ibc_machine.specs.chain.Records.{MachineChain}
 use Rattle.ibc_machine.specs.chain.Genesis.{GenesisState}
 use Rattle.ibc_machine.specs.ledger.Ledgers.{Ledger, IsLedger, state_of, machine_of}
 use Rattle.ibc_machine.specs.promises.Worlds.{IsAudited, by_number, is_complete}
 use Rattle.ibc_refinement.specs.Audits.{AreOfGenesis}
-use Rattle.ibc_refinement.proofs.Places.{get_more}
+use Rattle.ibc_refinement.proofs.ChangedPlaces.{get_more}
 use Rattle.ibc_refinement.proofs.Audited.{audit_is_run}
-use Rattle.ibc_ledger.specs.Held.{HeldLedger}
+use Rattle.ibc_ledger.specs.LedgerModel.{LedgerModel}
 use Rattle.ibc_refinement.specs.Meetings.{HaveMet}
 use Rattle.ibc_refinement.proofs.world.Gathered.{as_many, one_table}
 use Rattle.ibc_world_core.specs.declared.holdings.Audit.{Audit}
 use Rattle.ibc_world_core.specs.declared.world.World.TheInside.{Inside}
-use Rattle.ibc_world_core.specs.Inside.{IsHeld}
-use Rattle.ibc_world_core.specs.Held.{plain, AreLedgers, AreAllowed}
-use Rattle.ibc_world_core.specs.Audits.{AreOfOneWorld, is_whole, balances_of, notes_of, balances_in, notes_in, TellsAll, IsAudit}
+use Rattle.ibc_world_core.specs.WorldFields.{IsSoundWorld}
+use Rattle.ibc_world_core.specs.WorldModel.{ledgers_alone, AreLedgers, AreAllowed}
+use Rattle.ibc_world_core.specs.WorldAudits.{AreOfOneWorld, is_whole, balances_of, notes_of, balances_in, notes_in, TellsAll, IsAudit}
 use Rattle.ibc_world_core.proofs.Rounds.{plain_length, plain_get}
 use Rattle.ibc_world_core.proofs.Firsts.{first_of}
 
 -- ---- ledgers of one genesis
 
-held_at : (ledgers : List HeldLedger) (k : ℕ) (ledger : Ledger) → slice_get (plain ledgers) k ≡ Some ledger
-    → (h : HeldLedger) × (slice_get ledgers k ≡ Some h) × (h.ledger ≡ ledger)
+held_at : (ledgers : List LedgerModel) (k : ℕ) (ledger : Ledger) → slice_get (ledgers_alone ledgers) k ≡ Some ledger
+    → (h : LedgerModel) × (slice_get ledgers k ≡ Some h) × (h.ledger ≡ ledger)
 held_at [] k ledger there = absurd (cc)
 held_at (h ∷ ledgers) zero ledger there = (h, refl, cc)
 held_at (h ∷ ledgers) (suc k) ledger there = held_at ledgers k ledger there
 
-module _ (ledgers : List HeldLedger) (first : HeldLedger) (at : slice_get ledgers 0 ≡ Some first) (world : AreOfOneWorld ledgers) (are : AreLedgers ledgers) where
-  of_genesis : AreOfGenesis first.ledger.genesis (plain ledgers)
+module _ (ledgers : List LedgerModel) (first : LedgerModel) (at : slice_get ledgers 0 ≡ Some first) (world : AreOfOneWorld ledgers) (are : AreLedgers ledgers) where
+  of_genesis : AreOfGenesis first.ledger.genesis (ledgers_alone ledgers)
   of_genesis k ledger there =
       let held = held_at ledgers k ledger there in (
         subst (λ (l : Ledger). l.genesis ≡ first.ledger.genesis) held.2 (world first at k held.0 held.1).1,
@@ -36,11 +36,11 @@ module _ (ledgers : List HeldLedger) (first : HeldLedger) (at : slice_get ledger
       )
 
   -- the chains of the genesis are the ledgers
-  chains_of : is_complete first.ledger.genesis (plain ledgers) ≡ true → (k : ℕ) (h : HeldLedger) → slice_get ledgers k ≡ Some h → length h.ledger.genesis.chains ≡ length ledgers
+  chains_of : is_complete first.ledger.genesis (ledgers_alone ledgers) ≡ true → (k : ℕ) (h : LedgerModel) → slice_get ledgers k ≡ Some h → length h.ledger.genesis.chains ≡ length ledgers
   chains_of complete k h there =
-      ap (λ (g : GenesisState). length g.chains) (world first at k h there).1 ∙ as_many first.ledger.genesis (plain ledgers) of_genesis complete ∙ plain_length ledgers
+      ap (λ (g : GenesisState). length g.chains) (world first at k h there).1 ∙ as_many first.ledger.genesis (ledgers_alone ledgers) of_genesis complete ∙ plain_length ledgers
 
-pub chains_are : (ledgers : List HeldLedger) → is_whole ledgers ≡ true → AreOfOneWorld ledgers → AreLedgers ledgers → (k : ℕ) (h : HeldLedger) → slice_get ledgers k ≡ Some h
+pub chains_are : (ledgers : List LedgerModel) → is_whole ledgers ≡ true → AreOfOneWorld ledgers → AreLedgers ledgers → (k : ℕ) (h : LedgerModel) → slice_get ledgers k ≡ Some h
     → length h.ledger.genesis.chains ≡ length ledgers
 chains_are ledgers whole world are =
     let first = first_of ledgers whole in
@@ -48,22 +48,22 @@ chains_are ledgers whole world are =
 
 -- ---- what they hold
 
-pub two_maps : {A : Type 0} (of : Chain → A) (ledgers : List Ledger) → map (λ (l : Ledger). of (state_of l).chain) ledgers ≡ map of (machine_of ledgers)
+pub two_maps : {A : Type 0} (of : MachineChain → A) (ledgers : List Ledger) → map (λ (l : Ledger). of (state_of l).chain) ledgers ≡ map of (machine_of ledgers)
 two_maps of [] = refl
 two_maps of (l ∷ ledgers) = ap (λ rest. of (state_of l).chain ∷ rest) (two_maps of ledgers)
 
 -- ---- the audit
 
-module _ (first : HeldLedger) (others : List HeldLedger) (now : List Ledger) (audit : Audit) (world : AreOfOneWorld (first ∷ others)) (are : AreLedgers (first ∷ others)) (whole : is_whole (first ∷ others) ≡ true) (met : HaveMet (plain (first ∷ others)) now) where
+module _ (first : LedgerModel) (others : List LedgerModel) (now : List Ledger) (audit : Audit) (world : AreOfOneWorld (first ∷ others)) (are : AreLedgers (first ∷ others)) (whole : is_whole (first ∷ others) ≡ true) (met : HaveMet (ledgers_alone (first ∷ others)) now) where
   abbrev own_genesis : GenesisState
   own_genesis = first.ledger.genesis
 
   abbrev gathered : List Ledger
-  gathered = plain (first ∷ others)
+  gathered = ledgers_alone (first ∷ others)
 
   run : IsAudited own_genesis gathered met.publications
-      (map (λ (c : Chain). c.records.apps.balances) (machine_of (by_number own_genesis gathered)))
-      (map (λ (c : Chain). c.records.apps.notes) (machine_of (by_number own_genesis gathered)))
+      (map (λ (c : MachineChain). c.records.apps.balances) (machine_of (by_number own_genesis gathered)))
+      (map (λ (c : MachineChain). c.records.apps.notes) (machine_of (by_number own_genesis gathered)))
   run =
       let of = of_genesis (first ∷ others) first refl world are in
       audit_is_run own_genesis gathered met.publications of whole (one_table own_genesis gathered of whole now met)
@@ -74,37 +74,37 @@ module _ (first : HeldLedger) (others : List HeldLedger) (now : List Ledger) (au
     list = run.list;
     merges = run.merges;
     past = run.past;
-    balances_are = balances ∙ two_maps (λ (c : Chain). c.records.apps.balances) (by_number own_genesis gathered);
-    notes_are = notes ∙ two_maps (λ (c : Chain). c.records.apps.notes) (by_number own_genesis gathered);
+    balances_are = balances ∙ two_maps (λ (c : MachineChain). c.records.apps.balances) (by_number own_genesis gathered);
+    notes_are = notes ∙ two_maps (λ (c : MachineChain). c.records.apps.notes) (by_number own_genesis gathered);
   }
 
-pub audited : (ledgers : List HeldLedger) (now : List Ledger) (audit : Audit) → is_whole ledgers ≡ true → AreOfOneWorld ledgers → AreLedgers ledgers → AreAllowed ledgers
-    → HaveMet (plain ledgers) now → TellsAll ledgers audit → IsAudit ledgers audit
+pub audited : (ledgers : List LedgerModel) (now : List Ledger) (audit : Audit) → is_whole ledgers ≡ true → AreOfOneWorld ledgers → AreLedgers ledgers → AreAllowed ledgers
+    → HaveMet (ledgers_alone ledgers) now → TellsAll ledgers audit → IsAudit ledgers audit
 audited [] now audit whole world are allowed met tells = absurd (false≢true whole)
 audited (first ∷ others) now audit whole world are allowed met tells =
     let told_of = tells first refl in (
       allowed 0 first refl,
       (
         met.publications,
-        one_table first.ledger.genesis (plain (first ∷ others)) (of_genesis (first ∷ others) first refl world are) whole now met,
+        one_table first.ledger.genesis (ledgers_alone (first ∷ others)) (of_genesis (first ∷ others) first refl world are) whole now met,
         told first others now audit world are whole met told_of.0 told_of.1,
       ),
     )
 
 -- ---- fewer ledgers
 
-pub none_are : (ledgers : List HeldLedger) → ledgers ≡ [] → AreOfOneWorld ledgers
+pub none_are : (ledgers : List LedgerModel) → ledgers ≡ [] → AreOfOneWorld ledgers
 none_are ledgers none first at =
-    let nothing : Some first ≡ None = sym at ∙ ap (λ (l : List HeldLedger). slice_get l 0) none in
+    let nothing : Some first ≡ None = sym at ∙ ap (λ (l : List LedgerModel). slice_get l 0) none in
     absurd (cc (nothing))
 
-pub fewer_are : (ledgers fewer gone : List HeldLedger) → AreOfOneWorld ledgers → ledgers ≡ fewer ++ gone → AreOfOneWorld fewer
+pub fewer_are : (ledgers fewer gone : List LedgerModel) → AreOfOneWorld ledgers → ledgers ≡ fewer ++ gone → AreOfOneWorld fewer
 fewer_are ledgers fewer gone world parts first at k h there =
     world first (ap (λ l. slice_get l 0) parts ∙ get_more fewer gone 0 first at) k h (ap (λ l. slice_get l k) parts ∙ get_more fewer gone k h there)
 
 -- ---- a world's own ledgers
 
-pub world_is : (w : Inside) → IsHeld w → AreOfOneWorld w.ledgers.items
+pub world_is : (w : Inside) → IsSoundWorld w → AreOfOneWorld w.ledgers.items
 world_is w held first at k h there =
     let ledgers = w.ledgers.items in (
       held.tables first at k h there,

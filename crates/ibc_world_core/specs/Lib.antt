@@ -1,4 +1,4 @@
-pub mod Audits
-pub mod Held
-pub mod Inside
+pub mod WorldAudits
+pub mod WorldModel
+pub mod WorldFields
 pub mod Totals

@@ -5,7 +5,7 @@ use Rattle.std.specs.Option.{option_map}
 use Rattle.ibc_ids.specs.Texts.{Text}
 use Rattle.ibc_ids.specs.Names.{hop, is_denom}
 use Rattle.ibc_machine.specs.declared.totals.Totals.{Totals as ToldTotals}
-use Rattle.ibc_machine.specs.chain.Records.{Chain, Channel, Client, client_at, channel_at}
+use Rattle.ibc_machine.specs.chain.Records.{MachineChain, Channel, Client, client_at, channel_at}
 use Rattle.ibc_machine.specs.ics04.Channels.{is_established, client_of}
 use Rattle.ibc_machine.specs.ics20.Bank.{supply}
 use Rattle.ibc_machine.specs.ics20.Transfers.{transfer_port, came_over}
@@ -13,8 +13,8 @@ use Rattle.ibc_machine.specs.chain.Machine.{World}
 use Rattle.ibc_machine.specs.ledger.Ledgers.{Ledger, state_of}
 use Rattle.ibc_machine.specs.promises.Totals.{Totals, flight_between}
 
-abbrev pub plain_totals : ToldTotals → Totals
-plain_totals t = record { escrow = t.escrow; vouchers = t.vouchers; out = t.out; back = t.back }
+abbrev pub abstract_totals : ToldTotals → Totals
+abstract_totals t = record { escrow = t.escrow; vouchers = t.vouchers; out = t.out; back = t.back }
 
 -- an end of port `transfer` that is OPEN or CLOSED, and over which the denomination didn't come
 pub record IsOwnEnd (world : World) (chain : ℕ) (channel denom : Text) (ledger : Ledger) (mine : Channel) : Type 0 where
@@ -34,8 +34,8 @@ pub record IsPeerEnd (world : World) (ledger : Ledger) (mine : Channel) (peer : 
   pub end : channel_at (state_of peer).chain.records.core mine.end.peer_port name ≡ Some theirs
 
 -- the vouchers at the peer, and what is under way back
-abbrev pub abroad : Chain → Channel → Text → Channel → Text → ℕ × ℕ
-abroad chain mine name theirs denom =
+abbrev pub peer_amounts : MachineChain → Channel → Text → Channel → Text → ℕ × ℕ
+peer_amounts chain mine name theirs denom =
     let hopped = hop mine.end.peer_port name ++ denom in
     if nat_le (length hopped) 256
     then (supply chain.records.apps.balances hopped, flight_between hopped (Some theirs) (Some mine)) else (0, 0)

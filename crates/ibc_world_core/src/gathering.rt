@@ -4,8 +4,8 @@ ghost use Rattle.std.specs.Prelude.{◌≡◌, ◌⊎◌, ◌↔◌, ◌≤◌, 
 ghost use Rattle.std.specs.List.{list_all, range_with_len};
 ghost use Rattle.ibc_ids.specs.declared.refusal.Refusal.TheVariants.{BadMessage, NoMemory};
 ghost use Rattle.ibc_machine.specs.promises.Worlds.{of_chain};
-ghost use Rattle.ibc_world_core.specs.Held.{plain, AreLedgers, AreAllowed};
-ghost use Rattle.ibc_world_core.specs.Audits.{is_whole, AreOfOneWorld, IsAudit};
+ghost use Rattle.ibc_world_core.specs.WorldModel.{ledgers_alone, AreLedgers, AreAllowed};
+ghost use Rattle.ibc_world_core.specs.WorldAudits.{is_whole, AreOfOneWorld, IsAudit};
 
 use crate::holdings::{Audit, holdings_of};
 use crate::meeting::meet_all;
@@ -39,7 +39,7 @@ fn audit_of(alloc: Global, ledgers: &mut [Ledger]) -> Result<Audit, Refusal>
         return Err(Refusal::BadMessage);
     }
     let audit = holdings_of(alloc, ledgers)?;
-    know_all(ledgers);
+    lemma_know_all(ledgers);
     meet_all(ledgers);
     Ok(audit)
 }
@@ -57,14 +57,14 @@ fn is_whole(ledgers: &[Ledger]) -> bool
 // Whether each of so many chains from a number on has one ledger there.
 fn has_each(ledgers: &[Ledger], from: u8, chains: u8) -> bool
     requires { from + chains ≤ 255 }
-    ensures { result ≡ list_all (λ k. length (of_chain k (plain ledgers.now)) == 1) (range_with_len from chains) }
+    ensures { result ≡ list_all (λ k. length (of_chain k (ledgers_alone ledgers.now)) == 1) (range_with_len from chains) }
 {
     chains == 0 || count_of(ledgers, from) == 1 && has_each(ledgers, from + 1, chains - 1)
 }
 
 // How many ledgers a chain has there.
 fn count_of(ledgers: &[Ledger], chain: u8) -> usize
-    ensures count { result ≡ length (of_chain chain (plain ledgers.now)) }
+    ensures count { result ≡ length (of_chain chain (ledgers_alone ledgers.now)) }
     ensures few { result ≤ length ledgers.now }
 {
     match ledgers {
@@ -74,12 +74,12 @@ fn count_of(ledgers: &[Ledger], chain: u8) -> usize
 }
 
 // Each of them is a ledger of an allowed genesis.
-fn know_all(ledgers: &[Ledger])
+fn lemma_know_all(ledgers: &[Ledger])
     ensures are { AreLedgers ledgers.now }
     ensures allowed { AreAllowed ledgers.now }
 {
     if let [first, rest @ ..] = ledgers {
-        first.is_its_history();
-        know_all(rest);
+        first.lemma_is_its_history();
+        lemma_know_all(rest);
     }
 }

@@ -4,8 +4,8 @@ ghost use Rattle.std.specs.Prelude.{◌≡◌, ◌≤◌, ◌<◌, ◌+◌, ◌+
 ghost use Rattle.std.specs.List.{flat_map, range_with_len};
 ghost use Rattle.ibc_ids.specs.declared.refusal.Refusal.TheVariants.{NoMemory};
 ghost use Rattle.ibc_machine.specs.promises.Worlds.{of_chain};
-ghost use Rattle.ibc_world_core.specs.Held.{plain};
-ghost use Rattle.ibc_world_core.specs.Audits.{balances_of, notes_of, balances_in, notes_in, TellsAll};
+ghost use Rattle.ibc_world_core.specs.WorldModel.{ledgers_alone};
+ghost use Rattle.ibc_world_core.specs.WorldAudits.{balances_of, notes_of, balances_in, notes_in, TellsAll};
 
 use ibc_ids::{Account, Bytes, ChannelId, Denom, Refusal};
 use ibc_ledger::Ledger;
@@ -37,8 +37,8 @@ pub(crate) fn holdings_of(alloc: Global, ledgers: &[Ledger]) -> Result<Audit, Re
 // Adds what so many chains from a number on hold.
 fn add_chains(ledgers: &[Ledger], from: u8, chains: u8, audit: &mut Audit) -> Result<(), Refusal>
     requires { from + chains ≤ 255 }
-    ensures balances { OnOk result (balances_in audit.new ≡ balances_in audit.old ++ map balances_of (flat_map (λ k. of_chain k (plain ledgers.now)) (range_with_len from chains))) }
-    ensures notes { OnOk result (notes_in audit.new ≡ notes_in audit.old ++ map notes_of (flat_map (λ k. of_chain k (plain ledgers.now)) (range_with_len from chains))) }
+    ensures balances { OnOk result (balances_in audit.new ≡ balances_in audit.old ++ map balances_of (flat_map (λ k. of_chain k (ledgers_alone ledgers.now)) (range_with_len from chains))) }
+    ensures notes { OnOk result (notes_in audit.new ≡ notes_in audit.old ++ map notes_of (flat_map (λ k. of_chain k (ledgers_alone ledgers.now)) (range_with_len from chains))) }
     ensures err { IfErr result (λ refusal. refusal ≡ NoMemory) }
 {
     if chains == 0 {
@@ -50,8 +50,8 @@ fn add_chains(ledgers: &[Ledger], from: u8, chains: u8, audit: &mut Audit) -> Re
 
 // Adds what the ledgers of a chain hold.
 fn add_chain(ledgers: &[Ledger], chain: u8, audit: &mut Audit) -> Result<(), Refusal>
-    ensures balances { OnOk result (balances_in audit.new ≡ balances_in audit.old ++ map balances_of (of_chain chain (plain ledgers.now))) }
-    ensures notes { OnOk result (notes_in audit.new ≡ notes_in audit.old ++ map notes_of (of_chain chain (plain ledgers.now))) }
+    ensures balances { OnOk result (balances_in audit.new ≡ balances_in audit.old ++ map balances_of (of_chain chain (ledgers_alone ledgers.now))) }
+    ensures notes { OnOk result (notes_in audit.new ≡ notes_in audit.old ++ map notes_of (of_chain chain (ledgers_alone ledgers.now))) }
     ensures err { IfErr result (λ refusal. refusal ≡ NoMemory) }
 {
     match ledgers {

@@ -2,9 +2,9 @@
 
 ghost use Rattle.std.specs.Prelude.{◌≡◌, ◌<◌, ℕ, length, Some, slice_get};
 ghost use Rattle.ibc_machine.specs.ledger.Ledgers.{SeesMore};
-ghost use Rattle.ibc_ledger.specs.Held.{HeldLedger};
-ghost use Rattle.ibc_refinement.specs.Meetings.{HaveMet, AreBehind, FirstSee};
-ghost use Rattle.ibc_world_core.specs.Held.{plain, AllAt, HaveSeenMore, FirstAre};
+ghost use Rattle.ibc_ledger.specs.LedgerModel.{LedgerModel};
+ghost use Rattle.ibc_refinement.specs.Meetings.{HaveMet, FirstHaveSeenNoMore, FirstHaveSeen};
+ghost use Rattle.ibc_world_core.specs.WorldModel.{ledgers_alone, AllAtTable, HaveSeenMore, FirstAreLedgers};
 
 use ibc_ledger::Ledger;
 
@@ -12,25 +12,25 @@ use ibc_ledger::Ledger;
 /// had seen.
 pub fn meet_all(ledgers: &mut [Ledger])
     requires some { 0 < length ledgers.old }
-    requires tables { (h : HeldLedger) → slice_get ledgers.old 0 ≡ Some h → AllAt h.table ledgers.old }
-    requires chains { (k : ℕ) (h : HeldLedger) → slice_get ledgers.old k ≡ Some h → length h.ledger.genesis.chains ≡ length ledgers.old }
-    ensures met { HaveMet (plain ledgers.old) (plain ledgers.new) }
-    ensures tables { (h : HeldLedger) → slice_get ledgers.old 0 ≡ Some h → AllAt h.table ledgers.new }
+    requires tables { (h : LedgerModel) → slice_get ledgers.old 0 ≡ Some h → AllAtTable h.table ledgers.old }
+    requires chains { (k : ℕ) (h : LedgerModel) → slice_get ledgers.old k ≡ Some h → length h.ledger.genesis.chains ≡ length ledgers.old }
+    ensures met { HaveMet (ledgers_alone ledgers.old) (ledgers_alone ledgers.new) }
+    ensures tables { (h : LedgerModel) → slice_get ledgers.old 0 ≡ Some h → AllAtTable h.table ledgers.new }
 {
     if let Some((leader, others)) = ledgers.split_first_mut() {
         meet_each(leader, others);
         follow_each(others, leader);
-        leader.is_its_history();
+        leader.lemma_is_its_history();
     }
 }
 
 // The leader meets each of the others, which are then behind it.
 fn meet_each(leader: &mut Ledger, others: &mut [Ledger])
-    requires { AllAt leader.old.table others.old }
+    requires { AllAtTable leader.old.table others.old }
     ensures table { leader.new.table ≡ leader.old.table }
     ensures leader { SeesMore leader.old.ledger leader.new.ledger }
     ensures others { HaveSeenMore leader.old.table others.old others.new }
-    ensures behind { AreBehind (length others.new) leader.new.ledger.seen (plain others.new) }
+    ensures behind { FirstHaveSeenNoMore (length others.new) leader.new.ledger.seen (ledgers_alone others.new) }
 {
     for index in 0..others.len() {
         leader.meet(&mut others[index]);
@@ -39,15 +39,15 @@ fn meet_each(leader: &mut Ledger, others: &mut [Ledger])
 
 // Each of the others, which are behind the leader, takes over just what the leader has seen.
 fn follow_each(others: &mut [Ledger], leader: &mut Ledger)
-    requires tables { AllAt leader.old.table others.old }
-    requires behind { AreBehind (length others.old) leader.old.ledger.seen (plain others.old) }
+    requires tables { AllAtTable leader.old.table others.old }
+    requires behind { FirstHaveSeenNoMore (length others.old) leader.old.ledger.seen (ledgers_alone others.old) }
     ensures leader { leader.new ≡ leader.old }
     ensures others { HaveSeenMore leader.old.table others.old others.new }
-    ensures seen { FirstSee (length others.new) leader.old.ledger.seen (plain others.new) }
-    ensures are { FirstAre (length others.new) (plain others.new) }
+    ensures seen { FirstHaveSeen (length others.new) leader.old.ledger.seen (ledgers_alone others.new) }
+    ensures are { FirstAreLedgers (length others.new) (ledgers_alone others.new) }
 {
     for index in 0..others.len() {
         others[index].follow(leader);
-        others[index].is_its_history();
+        others[index].lemma_is_its_history();
     }
 }

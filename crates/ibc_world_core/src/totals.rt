@@ -6,8 +6,8 @@ ghost use Rattle.ibc_machine.specs.ics20.Bank.{balance, escrow};
 ghost use Rattle.ibc_machine.specs.ics04.Channels.{is_established};
 ghost use Rattle.ibc_machine.specs.ledger.Ledgers.{machine_of, state_of};
 ghost use Rattle.ibc_machine.specs.promises.Totals.{totals, flight_between, peer_at};
-ghost use Rattle.ibc_world_core.specs.Held.{plain};
-ghost use Rattle.ibc_world_core.specs.Totals.{IsOwnEnd, IsPeerEnd, AllHold, FirstHold, abroad, plain_totals};
+ghost use Rattle.ibc_world_core.specs.WorldModel.{ledgers_alone};
+ghost use Rattle.ibc_world_core.specs.Totals.{IsOwnEnd, IsPeerEnd, AllHold, FirstHold, peer_amounts, abstract_totals};
 
 use crate::World;
 use ibc_ids::{Account, ChannelId, Denom, Refusal};
@@ -20,7 +20,7 @@ use std::alloc::Global;
 
 /// An end of a channel by its name, and the ledger that it is of.
 #[derive(Clone, Copy)]
-struct Side<'a> {
+struct LedgerEnd<'a> {
     ledger: &'a Ledger,
     name: &'a ChannelId,
     end: &'a Channel,
@@ -35,7 +35,7 @@ impl World {
     /// where the denomination begins with the end's own hop; `WrongPeer` where the end that it names isn't there; `TooLarge`
     /// where a sum is more than 2^128 - 1. `NoMemory` may stand for any of these.
     pub fn totals(&self, chain: u8, channel: &ChannelId, denom: &Denom) -> Result<Totals, Refusal>
-        ensures ok { IfOk result (λ t. totals (machine_of self.now.ledgers) chain channel.now denom.now ≡ Ok (plain_totals t)) }
+        ensures ok { IfOk result (λ t. totals (machine_of self.now.ledgers) chain channel.now denom.now ≡ Ok (abstract_totals t)) }
         ensures refused { IfErr result (λ refusal. (refusal ≡ NoMemory) ⊎ (totals (machine_of self.now.ledgers) chain channel.now denom.now ≡ Err refusal)) }
     {
         let mine = self.own_end(chain, channel, denom)?;
@@ -54,10 +54,10 @@ impl World {
     }
 
     /// Each denomination of which an account of a chain holds something has the form of one (ICS 20).
-    pub fn holds_denominations(&self)
+    pub fn lemma_holds_denominations(&self)
         ensures { AllHold self.now.ledgers }
     {
-        each_holds_denominations(self.ledgers.as_slice());
+        lemma_each_holds_denominations(self.ledgers.as_slice());
     }
 
     // The end of a channel of port `transfer` that is OPEN or CLOSED, and over which the denomination didn't come. Refused,
@@ -67,7 +67,7 @@ impl World {
         chain: u8,
         channel: &'a ChannelId,
         denom: &Denom,
-    ) -> Result<Side<'a>, Refusal>
+    ) -> Result<LedgerEnd<'a>, Refusal>
         ensures ok { IfOk result (λ mine. IsOwnEnd (machine_of self.now.ledgers) chain channel.now denom.now mine.ledger.now.ledger mine.end.now) }
         ensures name { IfOk result (λ mine. mine.name.now ≡ channel.now) }
         ensures refused { IfErr result (λ refusal. (refusal ≡ NoMemory) ⊎ (totals (machine_of self.now.ledgers) chain channel.now denom.now ≡ Err refusal)) }
@@ -85,7 +85,7 @@ impl World {
         if came_over(self.alloc, channel, denom)? {
             return Err(Refusal::BadMessage);
         }
-        Ok(Side {
+        Ok(LedgerEnd {
             ledger,
             name: channel,
             end,
@@ -93,7 +93,7 @@ impl World {
     }
 
     // The end that an end names as its peer, on the chain that its client tracks, or none. Refused: `NoMemory`.
-    fn peer_end<'a>(&'a self, mine: Side<'a>) -> Result<Option<Side<'a>>, Refusal>
+    fn peer_end<'a>(&'a self, mine: LedgerEnd<'a>) -> Result<Option<LedgerEnd<'a>>, Refusal>
         ensures ok { IfOk result (λ found. MatchOption found (peer_at (machine_of self.now.ledgers) (state_of mine.entry.ledger.now.ledger).chain.records.core mine.entry.end.now ≡ None) (λ peer. IsPeerEnd (machine_of self.now.ledgers) mine.entry.ledger.now.ledger mine.entry.end.now peer.ledger.now.ledger peer.name.now peer.end.now)) }
         ensures err { IfErr result (λ refusal. refusal ≡ NoMemory) }
     {
@@ -105,17 +105,17 @@ impl World {
             return Ok(None);
         };
         match ledger.named_channel(end)? {
-            Some((name, end)) => Ok(Some(Side { ledger, name, end })),
+            Some((name, end)) => Ok(Some(LedgerEnd { ledger, name, end })),
             None => Ok(None),
         }
     }
 }
 
-fn each_holds_denominations(ledgers: &[Ledger])
-    ensures { FirstHold (length ledgers.now) (plain ledgers.now) }
+fn lemma_each_holds_denominations(ledgers: &[Ledger])
+    ensures { FirstHold (length ledgers.now) (ledgers_alone ledgers.now) }
 {
     for ledger in ledgers {
-        ledger.holds_denominations();
+        ledger.lemma_holds_denominations();
     }
 }
 
@@ -128,7 +128,7 @@ fn is_established(end: &Channel) -> bool
 }
 
 // What the escrow account of an end holds of a denomination. Refused: `NoMemory`.
-fn escrowed(mine: Side<'_>, denom: &Denom) -> Result<u128, Refusal>
+fn escrowed(mine: LedgerEnd<'_>, denom: &Denom) -> Result<u128, Refusal>
     ensures ok { IfOk result (λ amount. amount ≡ balance (state_of mine.entry.ledger.now.ledger).chain.records.apps.balances (escrow mine.entry.name.now) denom.now) }
     ensures small { IfOk result (λ amount. amount < 2 ^ 128) }
     ensures err { IfErr result (λ refusal. refusal ≡ NoMemory) }
@@ -139,7 +139,12 @@ fn escrowed(mine: Side<'_>, denom: &Denom) -> Result<u128, Refusal>
 
 // What is under way of a denomination from an end to its peer. Refused: `TooLarge` where that is more than 2^128 - 1;
 // `NoMemory`.
-fn under_way(alloc: Global, mine: Side<'_>, peer: Side<'_>, denom: &Denom) -> Result<u128, Refusal>
+fn under_way(
+    alloc: Global,
+    mine: LedgerEnd<'_>,
+    peer: LedgerEnd<'_>,
+    denom: &Denom,
+) -> Result<u128, Refusal>
     ensures ok { IfOk result (λ amount. amount ≡ flight_between denom.now (Some mine.entry.end.now) (Some peer.entry.end.now)) }
     ensures small { IfOk result (λ amount. amount < 2 ^ 128) }
     ensures refused { IfErr result (λ refusal. (refusal ≡ NoMemory) ⊎ ((refusal ≡ TooLarge) × (2 ^ 128 ≤ flight_between denom.now (Some mine.entry.end.now) (Some peer.entry.end.now)))) }
@@ -154,13 +159,13 @@ fn under_way(alloc: Global, mine: Side<'_>, peer: Side<'_>, denom: &Denom) -> Re
 // with the peer's hop. Refused: `TooLarge` where what is under way is more than 2^128 - 1; `NoMemory`.
 fn abroad(
     alloc: Global,
-    mine: Side<'_>,
-    peer: Side<'_>,
+    mine: LedgerEnd<'_>,
+    peer: LedgerEnd<'_>,
     denom: &Denom,
 ) -> Result<(u128, u128), Refusal>
-    ensures ok { IfOk result (λ both. both ≡ abroad (state_of peer.entry.ledger.now.ledger).chain mine.entry.end.now peer.entry.name.now peer.entry.end.now denom.now) }
+    ensures ok { IfOk result (λ both. both ≡ peer_amounts (state_of peer.entry.ledger.now.ledger).chain mine.entry.end.now peer.entry.name.now peer.entry.end.now denom.now) }
     ensures small { IfOk result (λ both. (both.0 < 2 ^ 128) × (both.1 < 2 ^ 128)) }
-    ensures refused { IfErr result (λ refusal. (refusal ≡ NoMemory) ⊎ ((refusal ≡ TooLarge) × (2 ^ 128 ≤ (abroad (state_of peer.entry.ledger.now.ledger).chain mine.entry.end.now peer.entry.name.now peer.entry.end.now denom.now).1))) }
+    ensures refused { IfErr result (λ refusal. (refusal ≡ NoMemory) ⊎ ((refusal ≡ TooLarge) × (2 ^ 128 ≤ (peer_amounts (state_of peer.entry.ledger.now.ledger).chain mine.entry.end.now peer.entry.name.now peer.entry.end.now denom.now).1))) }
 {
     match denom.hop(alloc, &mine.end.end().peer_port, peer.name) {
         Ok(hopped) => {

@@ -6,12 +6,12 @@ ghost use Rattle.ibc_machine.specs.declared.reply.Reply.TheVariants as reply_of;
 ghost use Rattle.ibc_machine.specs.chain.Genesis.{genesis_state, is_allowed};
 ghost use Rattle.ibc_machine.specs.ledger.Ledgers.{chain_of};
 ghost use Rattle.ibc_root_table.specs.Passes.{TableName, AreDealt};
-ghost use Rattle.ibc_ledger.specs.Held.{HeldLedger, shape_of};
-ghost use Rattle.ibc_ledger.specs.Adding.{AddsOrNot};
+ghost use Rattle.ibc_ledger.specs.LedgerModel.{LedgerModel, shape_of};
+ghost use Rattle.ibc_ledger.specs.HistoryGrowth.{AddsOrNot};
 ghost use Rattle.ibc_refinement.specs.World.{AreNew, HasItsPast, new_ledger};
 ghost use Rattle.ibc_refinement.specs.Steps.{IsStep, GoesOnBy};
-ghost use Rattle.ibc_world_core.specs.Held.{plain, AreBegun, AreNumbered, IsPutTo, SameTables};
-ghost use Rattle.ibc_world_core.specs.Audits.{AreOfOneWorld};
+ghost use Rattle.ibc_world_core.specs.WorldModel.{ledgers_alone, AreBegun, AreNumbered, IsPutTo, SameTables};
+ghost use Rattle.ibc_world_core.specs.WorldAudits.{AreOfOneWorld};
 
 use crate::meeting::meet_all;
 use ibc_ids::Refusal;
@@ -41,13 +41,13 @@ pub struct World {
 
 impl Model for World {
     ghost use Rattle.ibc_refinement.specs.World.{WorldState};
-    ghost use Rattle.ibc_world_core.specs.Inside.{state_of, IsHeld};
+    ghost use Rattle.ibc_world_core.specs.WorldFields.{state_of, IsSoundWorld};
 
     ghost Value = { WorldState };
 
     ghost view = { state_of };
 
-    ghost invariant = { IsHeld };
+    ghost invariant = { IsSoundWorld };
 }
 
 impl World {
@@ -108,7 +108,7 @@ impl World {
     }
 
     /// A world has its past: the entries that it keeps are a run since genesis to the states of its ledgers.
-    pub fn has_its_past(&self)
+    pub fn lemma_has_past(&self)
         ensures { HasItsPast self.now }
     {
         let _ = &self.ledgers;
@@ -116,7 +116,7 @@ impl World {
 
     /// The ledgers, in the order of their numbers. They can be driven apart, and gathered by `audit`.
     pub fn into_ledgers(self) -> Vec<Ledger>
-        ensures ledgers { plain result.items ≡ self.ledgers }
+        ensures ledgers { ledgers_alone result.items ≡ self.ledgers }
         ensures world { AreOfOneWorld result.items }
     {
         self.ledgers

@@ -3,7 +3,7 @@
 
 use ibc_script::Fault;
 use ibc_script_cli::drive;
-use ibc_script_worlds::{NewRaces, NewWorlds};
+use ibc_script_worlds::{RaceRunner, WorldFactory};
 use std::env::Env;
 use std::io::BufWriter;
 use std::process::ExitCode;
@@ -31,8 +31,8 @@ fn run<R: Env + Input + Print + AllocGlobal + Threads + Wait + Sync>(rt: &R) -> 
     let mut output = BufWriter::new(alloc, io::writer(rt)).map_err(fault_of)?;
     drive(
         alloc,
-        &NewWorlds::new(alloc),
-        &NewRaces::new(rt, alloc),
+        &WorldFactory::new(alloc),
+        &RaceRunner::new(rt, alloc),
         words.as_slice(),
         rt.reader(),
         &mut output,

@@ -3,11 +3,11 @@
 ghost use Rattle.std.specs.Prelude.{◌≡◌, ◌⊎◌};
 ghost use Rattle.ibc_merkle.specs.Proofs.{accepts_absent, accepts_present};
 ghost use Rattle.ibc_wire.specs.Reading.{proof_of};
-ghost use Rattle.ibc_c.specs.Judged.{judged, kind_in};
-ghost use Rattle.ibc_c.specs.Answers.{Numbered};
-ghost use Rattle.ibc_c.specs.Evidence.{FindsKey, FindsShown, TellsProof};
+ghost use Rattle.ibc_c.specs.JudgedProofs.{proof_verdict, kind_in};
+ghost use Rattle.ibc_c.specs.CallAnswers.{Numbered};
+ghost use Rattle.ibc_c.specs.ProofReads.{FindsKey, FindsShown, TellsProof};
 ghost use Rattle.ibc_c.specs.Handles.{Finds};
-ghost use Rattle.ibc_c.specs.Codes.{IsKindTold, IsTagged, code_of, kind_number};
+ghost use Rattle.ibc_c.specs.Codes.{IsKindWritten, IsTagged, code_of, kind_number};
 
 use crate::{ProofKind, kind_of, number, show_absent, show_present, tag_of};
 use ibc_ids::Refusal;
@@ -24,7 +24,7 @@ pub extern "C" fn ibcw_verify_present(
     value: &[u8],
     proof: &[u8],
 ) -> u32
-    ensures { (result ≡ 1) ⊎ (result ≡ code_of (judged root.now proof.now (λ p. accepts_present p root.now key.now value.now))) }
+    ensures { (result ≡ 1) ⊎ (result ≡ code_of (proof_verdict root.now proof.now (λ p. accepts_present p root.now key.now value.now))) }
 {
     code_of(show_present(alloc, root, key, value, proof))
 }
@@ -33,7 +33,7 @@ pub extern "C" fn ibcw_verify_present(
 /// `ibcw_verify_present`.
 #[unsafe(no_mangle)]
 pub extern "C" fn ibcw_verify_absent(alloc: Global, root: &[u8], key: &[u8], proof: &[u8]) -> u32
-    ensures { (result ≡ 1) ⊎ (result ≡ code_of (judged root.now proof.now (λ p. accepts_absent p root.now key.now))) }
+    ensures { (result ≡ 1) ⊎ (result ≡ code_of (proof_verdict root.now proof.now (λ p. accepts_absent p root.now key.now))) }
 {
     code_of(show_absent(alloc, root, key, proof))
 }
@@ -42,7 +42,7 @@ pub extern "C" fn ibcw_verify_absent(alloc: Global, root: &[u8], key: &[u8], pro
 /// isn't there. Answers the number of `BadMessage` exactly where they spell none, and 1 where memory ran out: then nothing is told.
 #[unsafe(no_mangle)]
 pub extern "C" fn ibcw_proof_kind(alloc: Global, proof: &[u8], kind: &mut u8) -> u32
-    ensures { ((result ≡ 1) × (kind.new ≡ kind.old)) ⊎ IsKindTold (kind_in (proof_of proof.now)) kind.old kind.new result }
+    ensures { ((result ≡ 1) × (kind.new ≡ kind.old)) ⊎ IsKindWritten (kind_in (proof_of proof.now)) kind.old kind.new result }
 {
     match kind_of(alloc, proof) {
         Ok(found) => {

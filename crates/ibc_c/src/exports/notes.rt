@@ -1,9 +1,9 @@
 //! The notes that came to ledgers.
 
 ghost use Rattle.std.specs.Prelude.{◌≡◌};
-ghost use Rattle.ibc_c.specs.Answers.{Numbered};
+ghost use Rattle.ibc_c.specs.CallAnswers.{Numbered};
 ghost use Rattle.ibc_c.specs.Handles.{Finds};
-ghost use Rattle.ibc_c.specs.Notes.{FindsChannel, FindsNote, MakesNotes, TellsNoteCount};
+ghost use Rattle.ibc_c.specs.NoteReads.{FindsChannel, FindsNote, MakesNotes, TellsNoteCount};
 
 use crate::number;
 use ibc_handle::Handle;

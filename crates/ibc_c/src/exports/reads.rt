@@ -1,14 +1,14 @@
 //! What is read of ledgers.
 
 ghost use Rattle.std.specs.Prelude.{◌≡◌};
-ghost use Rattle.ibc_c.specs.Answers.{Numbered};
+ghost use Rattle.ibc_c.specs.CallAnswers.{Numbered};
 ghost use Rattle.ibc_c.specs.Handles.{Finds};
 ghost use Rattle.ibc_c.specs.Holdings.{FindsHolding, MakesBalances, TellsHolding};
 ghost use Rattle.ibc_c.specs.History.{TellsEvent, TellsLength, TellsReply};
-ghost use Rattle.ibc_c.specs.Proved.{FindsProved};
+ghost use Rattle.ibc_c.specs.ViewProofs.{FindsProved};
 ghost use Rattle.ibc_c.specs.Reads.{FindsValue, TellsBalance};
 
-use crate::{Amount, Asked, Told, number};
+use crate::{Amount, EventCode, ReplyCode, number};
 use ibc_handle::Handle;
 use std::alloc::Global;
 
@@ -27,7 +27,7 @@ pub extern "C" fn ibcw_reply(
     alloc: Global,
     ledger: &mut Handle,
     index: u64,
-    told: &mut Told,
+    told: &mut ReplyCode,
     bytes: &mut [u8],
     size: &mut usize,
 ) -> u32
@@ -43,7 +43,7 @@ pub extern "C" fn ibcw_event(
     alloc: Global,
     ledger: &mut Handle,
     index: u64,
-    asked: &mut Asked,
+    asked: &mut EventCode,
     bytes: &mut [u8],
     size: &mut usize,
 ) -> u32

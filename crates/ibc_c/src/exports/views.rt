@@ -1,12 +1,12 @@
 //! Views, and what is planned from two of them.
 
 ghost use Rattle.std.specs.Prelude.{◌≡◌};
-ghost use Rattle.ibc_c.specs.Answers.{Numbered};
+ghost use Rattle.ibc_c.specs.CallAnswers.{Numbered};
 ghost use Rattle.ibc_c.specs.Handles.{Finds};
 ghost use Rattle.ibc_c.specs.Reads.{FindsMessage};
 ghost use Rattle.ibc_c.specs.Views.{FindsProof, FindsRoot, MakesPlan, MakesView, TellsHeights};
 
-use crate::{Heights, number};
+use crate::{ViewHeights, number};
 use ibc_handle::Handle;
 use std::alloc::Global;
 
@@ -21,7 +21,11 @@ pub extern "C" fn ibcw_make_view(alloc: Global, ledger: &mut Handle, view: &mut 
 
 /// Tells the number of a view's chain, its height and its times. As `view_heights`.
 #[unsafe(no_mangle)]
-pub extern "C" fn ibcw_view_heights(alloc: Global, view: &mut Handle, heights: &mut Heights) -> u32
+pub extern "C" fn ibcw_view_heights(
+    alloc: Global,
+    view: &mut Handle,
+    heights: &mut ViewHeights,
+) -> u32
     ensures kept { view.new.value ≡ view.old.value }
     ensures told { Numbered (TellsHeights view.old.value heights.old heights.new) result }
 {

@@ -1,12 +1,12 @@
 //! How a world is made, and how its ledgers go on.
 
 ghost use Rattle.std.specs.Prelude.{◌≡◌, ◌+◌, ◌*◌, ◌^◌, None};
-ghost use Rattle.ibc_c.specs.Answers.{Numbered, answer_number};
-ghost use Rattle.ibc_c.specs.Events.{Applies, Ends};
+ghost use Rattle.ibc_c.specs.CallAnswers.{Numbered, answer_number};
+ghost use Rattle.ibc_c.specs.Events.{AppliesMessage, EndsBlock};
 ghost use Rattle.ibc_c.specs.Gathering.{AreApart, Audits, JoinsLedger};
-ghost use Rattle.ibc_c.specs.Genesis.{BalanceAdded, Begins, ChainAdded};
+ghost use Rattle.ibc_c.specs.GenesisHandles.{BalanceAdded, BeginsGenesis, ChainAdded};
 ghost use Rattle.ibc_c.specs.Handles.{freed};
-ghost use Rattle.ibc_c.specs.Worlds.{MakesLedgers, TakesLedger};
+ghost use Rattle.ibc_c.specs.WorldHandles.{MakesLedgers, TakesLedger};
 
 use crate::number;
 use ibc_handle::Handle;
@@ -20,7 +20,7 @@ pub extern "C" fn ibcw_make_genesis(
     capacity: u64,
     window: u64,
 ) -> u32
-    ensures { Numbered (Begins capacity window genesis.old.value genesis.new.value) result }
+    ensures { Numbered (BeginsGenesis capacity window genesis.old.value genesis.new.value) result }
 {
     number(crate::make_genesis(alloc, genesis, capacity, window))
 }
@@ -90,7 +90,7 @@ pub extern "C" fn ibcw_audit(alloc: Global, ledgers: &mut Handle, audit: &mut Ha
 /// Applies the message that the bytes spell to a ledger. As `apply`.
 #[unsafe(no_mangle)]
 pub extern "C" fn ibcw_apply(alloc: Global, ledger: &mut Handle, message: &[u8]) -> u32
-    ensures { Numbered (Applies message.now ledger.old.value ledger.new.value) result }
+    ensures { Numbered (AppliesMessage message.now ledger.old.value ledger.new.value) result }
 {
     number(crate::apply(alloc, ledger, message))
 }
@@ -98,7 +98,7 @@ pub extern "C" fn ibcw_apply(alloc: Global, ledger: &mut Handle, message: &[u8])
 /// Ends the working block of a ledger. As `end_block`.
 #[unsafe(no_mangle)]
 pub extern "C" fn ibcw_end_block(alloc: Global, ledger: &mut Handle, next_time: u64) -> u32
-    ensures { Numbered (Ends next_time ledger.old.value ledger.new.value) result }
+    ensures { Numbered (EndsBlock next_time ledger.old.value ledger.new.value) result }
 {
     number(crate::end_block(alloc, ledger, next_time))
 }

@@ -8,13 +8,13 @@ use Rattle.ibc_machine.specs.ics04.Packets.{has_received, is_reached, is_timed_o
 use Rattle.ibc_machine.specs.chain.Machine.{World, block_of}
 use Rattle.ibc_machine.specs.promises.Histories.{End}
 use Rattle.ibc_laws.proofs.basics.PassedTests.{or_left, or_right, both, either, and_true}
-use Rattle.ibc_laws.proofs.basics.Places.{some_is}
+use Rattle.ibc_laws.proofs.basics.ListPlaces.{some_is}
 use Rattle.ibc_laws.proofs.steps.CoreSteps.{rank}
 use Rattle.ibc_laws.proofs.steps.Growth.{ChannelGrows}
 use Rattle.ibc_laws.proofs.steps.EndSteps.{rank_below_closed}
 use Rattle.ibc_laws.proofs.packets.ReceivedOnce.{received_stays}
 use Rattle.ibc_laws.proofs.packets.SettledOnce.{IsGone, IsGone-grows}
-use Rattle.ibc_laws.proofs.steps.Worlds.{WorldGrows}
+use Rattle.ibc_laws.proofs.steps.WorldGrowth.{WorldGrows}
 use Rattle.ibc_laws.proofs.peers.Peers.{Peers, peers_on}
 
 -- ---- a timeout that is over stays over

@@ -3,12 +3,12 @@ use Rattle.std.proofs.Common.{◌≡◌, ℕ, true, sym, subst, List, [], ◌∷
 use Rattle.ibc_wire.specs.declared.packet.Packet.{Packet}
 use Rattle.ibc_machine.specs.chain.Records.{Channel, is_one_of}
 use Rattle.ibc_machine.specs.chain.Machine.{World}
-use Rattle.ibc_machine.specs.promises.Histories.{Happened, End, received, timed_out, sequences}
+use Rattle.ibc_machine.specs.promises.Histories.{Happened, End, received_packets, timed_out_packets, sequences}
 use Rattle.ibc_laws.proofs.basics.Lists.{among-last_or_before}
 use Rattle.ibc_laws.proofs.steps.CoreSteps.{TimesOut}
-use Rattle.ibc_laws.proofs.steps.Worlds.{WorldGrows}
+use Rattle.ibc_laws.proofs.steps.WorldGrowth.{WorldGrows}
 use Rattle.ibc_laws.proofs.peers.Invariant.{Inv, stepped_grows}
-use Rattle.ibc_laws.proofs.steps.Steps.{Stepped}
+use Rattle.ibc_laws.proofs.steps.MachineSteps.{Stepped}
 use Rattle.ibc_laws.proofs.peers.Peers.{Stands, Peers, peers_flip, one_peer_only, peers_on}
 use Rattle.ibc_laws.proofs.peers.FirstLaw.{peers_of}
 use Rattle.ibc_laws.proofs.steps.AtEnds.{at_end}
@@ -18,7 +18,7 @@ use Rattle.ibc_laws.proofs.packets.Lasting.{WasReceived, was_received_on, WasTim
 use Rattle.ibc_laws.proofs.packets.ReceiptsAndTimeouts.{sender_seen, receiver_seen, now_received, now_timed_out, not_after_timeout, not_after_receipt}
 
 abbrev pub HasTimedOut : List Happened → End → ℕ → Type 0
-HasTimedOut hs e n = is_one_of (sequences (timed_out e hs)) n ≡ true
+HasTimedOut hs e n = is_one_of (sequences (timed_out_packets e hs)) n ≡ true
 
 pub record NotBoth (hs : List Happened) (w : World) : Type 0 where
   pub received : (f : End) (n : ℕ) → IsReceived hs f n → WasReceived w f n
@@ -30,17 +30,17 @@ module _ (chains : ℕ) (w : World) (hs : List Happened) (h : Happened) (v : Wor
   grows = stepped_grows chains w h v inv step
 
   -- a sequence of the longer history is an earlier one, or that of the event's packet
-  received_before : (f : End) (n : ℕ) → IsReceived (hs ++ h ∷ []) f n → (ps : _) → received f (hs ++ h ∷ []) ≡ ps → is_one_of (sequences ps) n ≡ true
+  received_before : (f : End) (n : ℕ) → IsReceived (hs ++ h ∷ []) f n → (ps : _) → received_packets f (hs ++ h ∷ []) ≡ ps → is_one_of (sequences ps) n ≡ true
   received_before f n is ps same = subst (λ l. is_one_of (sequences l) n ≡ true) same is
 
-  timed_out_before : (e : End) (n : ℕ) → HasTimedOut (hs ++ h ∷ []) e n → (ps : _) → timed_out e (hs ++ h ∷ []) ≡ ps → is_one_of (sequences ps) n ≡ true
+  timed_out_before : (e : End) (n : ℕ) → HasTimedOut (hs ++ h ∷ []) e n → (ps : _) → timed_out_packets e (hs ++ h ∷ []) ≡ ps → is_one_of (sequences ps) n ≡ true
   timed_out_before e n is ps same = subst (λ l. is_one_of (sequences l) n ≡ true) same is
 
   received_after : (f : End) (n : ℕ) → IsReceived (hs ++ h ∷ []) f n → Receiving chains w hs h v f → WasReceived v f n
   received_after f n is (received_nothing same acks) = was_received_on f n grows (both.received f n (received_before f n is _ same))
   received_after f n is (received_one p ack m was now r told more) =
-      elim (among-last_or_before (sequences (received f hs)) p.sequence n
-      (subst (λ l. is_one_of l n ≡ true) (sequences-push (received f hs) p) (received_before f n is _ more))) [
+      elim (among-last_or_before (sequences (received_packets f hs)) p.sequence n
+      (subst (λ l. is_one_of l n ≡ true) (sequences-push (received_packets f hs) p) (received_before f n is _ more))) [
         | inl new ↦ subst (WasReceived v f) (sym new) (now_received w v inv grows chains f m was p r ack now)
         | inr old ↦ was_received_on f n grows (both.received f n old)
       ]
@@ -50,8 +50,8 @@ module _ (chains : ℕ) (w : World) (hs : List Happened) (h : Happened) (v : Wor
   timed_out_after e n is (acknowledged_one p m was now s a t) =
       was_timed_out_on e n grows (both.timed_out e n (timed_out_before e n is _ t))
   timed_out_after e n is (timed_out_one p m was now s told a t) =
-      elim (among-last_or_before (sequences (timed_out e hs)) p.sequence n
-      (subst (λ l. is_one_of l n ≡ true) (sequences-push (timed_out e hs) p) (timed_out_before e n is _ t))) [
+      elim (among-last_or_before (sequences (timed_out_packets e hs)) p.sequence n
+      (subst (λ l. is_one_of l n ≡ true) (sequences-push (timed_out_packets e hs) p) (timed_out_before e n is _ t))) [
         | inl new ↦ subst (WasTimedOut v e) (sym new) (now_timed_out w v inv grows e m was p s now)
         | inr old ↦ was_timed_out_on e n grows (both.timed_out e n old)
       ]
@@ -68,8 +68,8 @@ module _ (chains : ℕ) (w : World) (hs : List Happened) (h : Happened) (v : Wor
       → Receiving chains w hs h v f → ⊥
   new_receipt e f n peers t r (received_nothing same acks) = neither e f n peers t (received_before f n r _ same)
   new_receipt e f n peers t r (received_one p ack m was now s told more) =
-      elim (among-last_or_before (sequences (received f hs)) p.sequence n
-      (subst (λ l. is_one_of l n ≡ true) (sequences-push (received f hs) p) (received_before f n r _ more))) [
+      elim (among-last_or_before (sequences (received_packets f hs)) p.sequence n
+      (subst (λ l. is_one_of l n ≡ true) (sequences-push (received_packets f hs) p) (received_before f n r _ more))) [
         | inl new ↦ (
             let peer = (sender_seen w v inv grows chains f m was p s).peer in
             let same : e ≡ peer.other = one_peer_only v f e peer.other (peers_flip e f peers) (peers_on f peer.other grows (peers_of w f m was peer)).peers in
@@ -94,8 +94,8 @@ module _ (chains : ℕ) (w : World) (hs : List Happened) (h : Happened) (v : Wor
   not_both_after e f n peers t r (acknowledged_one p m was now s a same) receives =
       new_receipt e f n peers (timed_out_before e n t _ same) r receives
   not_both_after e f n peers t r (timed_out_one p m was now s told a more) receives =
-      elim (among-last_or_before (sequences (timed_out e hs)) p.sequence n
-      (subst (λ l. is_one_of l n ≡ true) (sequences-push (timed_out e hs) p) (timed_out_before e n t _ more))) [
+      elim (among-last_or_before (sequences (timed_out_packets e hs)) p.sequence n
+      (subst (λ l. is_one_of l n ≡ true) (sequences-push (timed_out_packets e hs) p) (timed_out_before e n t _ more))) [
         | inl new ↦ new_timeout e f peers p m was s (subst (IsReceived hs f) new (only_timed_out receives))
         | inr old ↦ new_receipt e f n peers old r receives
       ]

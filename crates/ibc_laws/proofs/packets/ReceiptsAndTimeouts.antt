@@ -5,17 +5,17 @@ use Rattle.ibc_ids.specs.Maps.{at}
 use Rattle.ibc_wire.specs.declared.packet.Packet.{Packet}
 use Rattle.ibc_wire.specs.declared.records.Order.TheVariants.{Ordered}
 use Rattle.ibc_wire.specs.declared.records.ChannelEnd.{ChannelEnd}
-use Rattle.ibc_machine.specs.chain.Records.{Records, Block, Chain, Channel, Commitment, channel_at, commitment_of}
+use Rattle.ibc_machine.specs.chain.Records.{Records, Block, MachineChain, Channel, Commitment, channel_at, commitment_of}
 use Rattle.ibc_machine.specs.ics24.Values.{same_order}
 use Rattle.ibc_machine.specs.chain.Handlers.{host_of, working_height}
 use Rattle.ibc_machine.specs.ics04.Packets.{has_received, is_timed_out, after_receive, after_timeout}
 use Rattle.ibc_machine.specs.chain.Machine.{World, block_of}
 use Rattle.ibc_machine.specs.promises.Histories.{End}
-use Rattle.ibc_laws.proofs.basics.Places.{some_is}
+use Rattle.ibc_laws.proofs.basics.ListPlaces.{some_is}
 use Rattle.ibc_laws.proofs.steps.CoreSteps.{rank, Receives, TimesOut, HadCommitment, HadNotReceived, WasOver}
 use Rattle.ibc_laws.proofs.steps.Growth.{ChannelGrows, ChannelGrows-trans}
 use Rattle.ibc_laws.proofs.steps.EndSteps.{the_next, received_now, open_rank}
-use Rattle.ibc_laws.proofs.steps.Worlds.{height_below, WorldGrows}
+use Rattle.ibc_laws.proofs.steps.WorldGrowth.{height_below, WorldGrows}
 use Rattle.ibc_laws.proofs.peers.Invariant.{Inv, shape_of}
 use Rattle.ibc_laws.proofs.peers.Peers.{Stands, stands_same, stands_alike, peers_flip, one_peer_only, peers_on}
 use Rattle.ibc_laws.proofs.peers.FirstLaw.{peers_of}
@@ -91,7 +91,7 @@ module _ (w v : World) (inv : Inv w) (grows : WorldGrows w v) where
         subst (λ i. channel_at r.sees.block.records.core i e.channel ≡ Some had.0) seen.port_is
         (subst (λ i. channel_at r.sees.block.records.core p.source_port i ≡ Some had.0) seen.channel_is had.1) in
         let c_is : commitment_of p ≡ x.c = x.blocks r.height r.sees.block
-        (subst (λ (c : Chain). block_of r.height c.committed ≡ Some r.sees.block) (sym theirs) seen.stood) had.0 there (commitment_of p) had.2 in
+        (subst (λ (c : MachineChain). block_of r.height c.committed ≡ Some r.sees.block) (sym theirs) seen.stood) had.0 there (commitment_of p) had.2 in
         elim x.over [
           | inl closed ↦ (
               let two : rank m.end.state ≡ 2 = ap (λ (k : Channel). rank k.end.state) (sym ours.1) ∙ closed in
@@ -100,7 +100,7 @@ module _ (w v : World) (inv : Inv w) (grows : WorldGrows w v) where
               )
           | inr late ↦ absurd (cc (
             r.in_time,
-            subst (λ (c : Chain). is_timed_out (commitment_of p) (working_height c) c.time ≡ true) ours.0
+            subst (λ (c : MachineChain). is_timed_out (commitment_of p) (working_height c) c.time ≡ true) ours.0
                 (subst (λ c. is_timed_out c (working_height x.peers.there.chain) x.peers.there.chain.time ≡ true) (sym c_is) late),
           ))
         ]
@@ -168,7 +168,7 @@ module _ (w v : World) (inv : Inv w) (grows : WorldGrows w v) where
         let c_is : commitment_of p ≡ x.c = x.committed (commitment_of p)
         (ap (λ (k : Channel). at nat_cmp p.sequence k.commitments) ours.1 ∙ s.settles.committed) in
         let theirs = some_is x.peers.here.there peer.there.there in
-        elim (x.blocks s.height s.sees.block (subst (λ (c : Chain). block_of s.height c.committed ≡ Some s.sees.block) (sym theirs) seen.stood)) [
+        elim (x.blocks s.height s.sees.block (subst (λ (c : MachineChain). block_of s.height c.committed ≡ Some s.sees.block) (sym theirs) seen.stood)) [
           | inl had ↦ (
               let there : channel_at s.sees.block.records.core p.destination_port p.destination_channel ≡ Some had.0 =
               subst (λ i. channel_at s.sees.block.records.core i p.destination_channel ≡ Some had.0) (sym seen.port_is)

@@ -10,12 +10,12 @@ use Rattle.ibc_machine.specs.chain.Handlers.{host_of}
 use Rattle.ibc_machine.specs.ics04.Channels.{channel_end, new_channel}
 use Rattle.ibc_machine.specs.ics04.Packets.{is_ordered, after_receive}
 use Rattle.ibc_machine.specs.chain.Machine.{World}
-use Rattle.ibc_machine.specs.promises.Histories.{Happened, End, packet_from, sent, received}
+use Rattle.ibc_machine.specs.promises.Histories.{Happened, End, packet_from, sent_packets, received_packets}
 use Rattle.ibc_machine.specs.promises.Laws.{IsBeginning}
 use Rattle.ibc_laws.proofs.steps.CoreSteps.{Receives}
 use Rattle.ibc_laws.proofs.steps.EndSteps.{the_next, taken}
-use Rattle.ibc_laws.proofs.steps.Worlds.{WorldGrows}
-use Rattle.ibc_laws.proofs.steps.Steps.{Stepped}
+use Rattle.ibc_laws.proofs.steps.WorldGrowth.{WorldGrows}
+use Rattle.ibc_laws.proofs.steps.MachineSteps.{Stepped}
 use Rattle.ibc_laws.proofs.peers.Invariant.{Inv, stepped_grows}
 use Rattle.ibc_laws.proofs.peers.Peers.{Stands, Peers, stands_same, stands_on, one_peer_only, peers_on}
 use Rattle.ibc_laws.proofs.peers.FirstLaw.{peers_of}
@@ -32,19 +32,19 @@ toward f = new_channel (channel_end chan.Open Ordered f.port (Some f.channel) []
 pub record FromPeer (hs : List Happened) (w : World) (f : End) : Type 0 where
   pub other : End
   pub peers : Peers w f other
-  pub beginning : IsBeginning (received f hs) (sent other (toward f) hs)
+  pub beginning : IsBeginning (received_packets f hs) (sent_packets other (toward f) hs)
 
 pub record ReceivedInOrder (hs : List Happened) (w : World) (f : End) : Type 0 where
-  pub none : ((m : Channel) → Stands w f m → ⊥) → received f hs ≡ []
-  pub counts : (m : Channel) → Stands w f m → is_ordered m ≡ true → length (received f hs) + 1 ≡ m.next_recv
-  pub from_peer : (m : Channel) → Stands w f m → is_ordered m ≡ true → (received f hs ≡ []) ⊎ FromPeer hs w f
+  pub none : ((m : Channel) → Stands w f m → ⊥) → received_packets f hs ≡ []
+  pub counts : (m : Channel) → Stands w f m → is_ordered m ≡ true → length (received_packets f hs) + 1 ≡ m.next_recv
+  pub from_peer : (m : Channel) → Stands w f m → is_ordered m ≡ true → (received_packets f hs ≡ []) ⊎ FromPeer hs w f
 
 -- ---- a packet that is received is the one that the peer sent under its number, in every field
 
 pub lemma_sent_so : (w v : World) (inv : Inv w) (grows : WorldGrows w v) (hs : List Happened) → ((e : End) → SentInOrder hs w e)
     → (chains : ℕ) (f : End) (m : Channel) (stood : Stands w f m) (p : Packet)
     → (r : Receives w (host_of chains f.chain stood.chain) stood.chain.records.core f.port f.channel m p)
-    → IsNth (sent (sender_seen w v inv grows chains f m stood p r).peer.other (toward f) hs) p.sequence p
+    → IsNth (sent_packets (sender_seen w v inv grows chains f m stood p r).peer.other (toward f) hs) p.sequence p
 lemma_sent_so w v inv grows hs all_sent chains f m stood p r =
     let seen = sender_seen w v inv grows chains f m stood p r in
     let e : End = seen.peer.other in
@@ -87,41 +87,41 @@ beginning-next front all p h e =
 module _ (chains : ℕ) (w : World) (hs : List Happened) (h : Happened) (v : World) (inv : Inv w) (step : Stepped chains w h v)
     (all_sent : (e : End) → SentInOrder hs w e) (f : End) (was : ReceivedInOrder hs w f) where
   -- what the other end sent may have grown
-  still_beginning : (e : End) (front : List Packet) → IsBeginning front (sent e (toward f) hs) → IsBeginning front (sent e (toward f) (hs ++ h ∷ []))
+  still_beginning : (e : End) (front : List Packet) → IsBeginning front (sent_packets e (toward f) hs) → IsBeginning front (sent_packets e (toward f) (hs ++ h ∷ []))
   still_beginning e front begins = go (sending chains w hs h v e inv (at_end chains w h v inv step e))
     where
-      go : Sending chains w hs h v e → IsBeginning front (sent e (toward f) (hs ++ h ∷ []))
+      go : Sending chains w hs h v e → IsBeginning front (sent_packets e (toward f) (hs ++ h ∷ []))
       go (sent_nothing same before) = subst (IsBeginning front) (sym (same (toward f))) begins
-      go (sent_one c m stood now more) = subst (IsBeginning front) (sym (more (toward f))) (beginning-longer front (sent e (toward f) hs) _ begins)
+      go (sent_one c m stood now more) = subst (IsBeginning front) (sym (more (toward f))) (beginning-longer front (sent_packets e (toward f) hs) _ begins)
 
-  on : (x : FromPeer hs w f) → (received f (hs ++ h ∷ []) ≡ received f hs) → FromPeer (hs ++ h ∷ []) v f
+  on : (x : FromPeer hs w f) → (received_packets f (hs ++ h ∷ []) ≡ received_packets f hs) → FromPeer (hs ++ h ∷ []) v f
   on x same = record {
     other = x.other;
     peers = (peers_on f x.other (stepped_grows chains w h v inv step) x.peers).peers;
-    beginning = subst (λ ps. IsBeginning ps (sent x.other (toward f) (hs ++ h ∷ []))) (sym same) (still_beginning x.other (received f hs) x.beginning);
+    beginning = subst (λ ps. IsBeginning ps (sent_packets x.other (toward f) (hs ++ h ∷ []))) (sym same) (still_beginning x.other (received_packets f hs) x.beginning);
   }
 
   -- ---- a packet is received
 
   module _ (m : Channel) (stood : Stands w f m) (p : Packet) (r : Receives w (host_of chains f.chain stood.chain) stood.chain.records.core f.port f.channel m p) where
     -- what stood before of the peer that is seen now
-    so_far : (e : End) → Peers w f e → is_ordered m ≡ true → IsBeginning (received f hs) (sent e (toward f) hs)
+    so_far : (e : End) → Peers w f e → is_ordered m ≡ true → IsBeginning (received_packets f hs) (sent_packets e (toward f) hs)
     so_far e peers ordered = elim (was.from_peer m stood ordered) [
-      | inl nothing ↦ (sent e (toward f) hs, ap (λ ps. ps ++ sent e (toward f) hs) nothing)
-      | inr x ↦ subst (λ g. IsBeginning (received f hs) (sent g (toward f) hs)) (one_peer_only w f x.other e x.peers peers) x.beginning
+      | inl nothing ↦ (sent_packets e (toward f) hs, ap (λ ps. ps ++ sent_packets e (toward f) hs) nothing)
+      | inr x ↦ subst (λ g. IsBeginning (received_packets f hs) (sent_packets g (toward f) hs)) (one_peer_only w f x.other e x.peers peers) x.beginning
     ]
 
     -- the packet is the peer's next one
-    is_next : is_ordered m ≡ true → slice_get (sent (sender_seen w v inv (stepped_grows chains w h v inv step) chains f m stood p r).peer.other (toward f) hs) (length (received f hs)) ≡ Some p
+    is_next : is_ordered m ≡ true → slice_get (sent_packets (sender_seen w v inv (stepped_grows chains w h v inv step) chains f m stood p r).peer.other (toward f) hs) (length (received_packets f hs)) ≡ Some p
     is_next ordered =
         let e : End = (sender_seen w v inv (stepped_grows chains w h v inv step) chains f m stood p r).peer.other in
         let nth = lemma_sent_so w v inv (stepped_grows chains w h v inv step) hs all_sent chains f m stood p r in
         let count = was.counts m stood ordered in
         let next = the_next m p.sequence r.fresh r.in_order ordered in
-        let index : nth.index ≡ length (received f hs) = (let a = nth.number in omega arith) in
-        subst (λ i. slice_get (sent e (toward f) hs) i ≡ Some p) index nth.got
+        let index : nth.index ≡ length (received_packets f hs) = (let a = nth.number in omega arith) in
+        subst (λ i. slice_get (sent_packets e (toward f) hs) i ≡ Some p) index nth.got
 
-    now_from_peer : is_ordered m ≡ true → received f (hs ++ h ∷ []) ≡ received f hs ++ p ∷ [] → FromPeer (hs ++ h ∷ []) v f
+    now_from_peer : is_ordered m ≡ true → received_packets f (hs ++ h ∷ []) ≡ received_packets f hs ++ p ∷ [] → FromPeer (hs ++ h ∷ []) v f
     now_from_peer ordered more =
         let seen = sender_seen w v inv (stepped_grows chains w h v inv step) chains f m stood p r in
         let e : End = seen.peer.other in
@@ -129,8 +129,8 @@ module _ (chains : ℕ) (w : World) (hs : List Happened) (h : Happened) (v : Wor
         record {
           other = e;
           peers = (peers_on f e (stepped_grows chains w h v inv step) peers).peers;
-          beginning = subst (λ ps. IsBeginning ps (sent e (toward f) (hs ++ h ∷ []))) (sym more)
-              (still_beginning e (received f hs ++ p ∷ []) (beginning-next (received f hs) (sent e (toward f) hs) p (so_far e peers ordered) (is_next ordered)));
+          beginning = subst (λ ps. IsBeginning ps (sent_packets e (toward f) (hs ++ h ∷ []))) (sym more)
+              (still_beginning e (received_packets f hs ++ p ∷ []) (beginning-next (received_packets f hs) (sent_packets e (toward f) hs) p (so_far e peers ordered) (is_next ordered)));
         }
 
   -- ---- the step
@@ -145,24 +145,24 @@ module _ (chains : ℕ) (w : World) (hs : List Happened) (h : Happened) (v : Wor
   next_after : (n : ℕ) (ack : Text) (m : Channel) → is_ordered m ≡ true → (after_receive n ack m).next_recv ≡ m.next_recv + 1
   next_after n ack m ordered = ap (λ b. (taken b n ack m).next_recv) ordered
 
-  counts_after : Receiving chains w hs h v f → (k : Channel) → Stands v f k → is_ordered k ≡ true → length (received f (hs ++ h ∷ [])) + 1 ≡ k.next_recv
+  counts_after : Receiving chains w hs h v f → (k : Channel) → Stands v f k → is_ordered k ≡ true → length (received_packets f (hs ++ h ∷ [])) + 1 ≡ k.next_recv
   counts_after (received_nothing same before) k stands ordered = go (before k stands)
     where
-      go : StoodBefore w f SameReceiving k → length (received f (hs ++ h ∷ [])) + 1 ≡ k.next_recv
+      go : StoodBefore w f SameReceiving k → length (received_packets f (hs ++ h ∷ [])) + 1 ≡ k.next_recv
       go (was_there m stood kept) =
           ap (λ (ps : List Packet). length ps + 1) same ∙ was.counts m stood (ap (λ o. same_order o Ordered) (sym kept.order) ∙ ordered) ∙ sym kept.next
       go (is_new none end new) = ap (λ (ps : List Packet). length ps + 1) (same ∙ was.none none) ∙ ap (λ (x : Channel). x.next_recv) new
   counts_after (received_one p ack m stood now r told more) k stands ordered =
       let now_k = stands_same f _ k now stands in
       let before : is_ordered m ≡ true = sym (same_order_after p.sequence ack m) ∙ ap (λ (x : Channel). is_ordered x) now_k ∙ ordered in
-      ap (λ (ps : List Packet). length ps + 1) more ∙ ap (λ n. n + 1) (longer_by_one (received f hs) p ∙ was.counts m stood before)
+      ap (λ (ps : List Packet). length ps + 1) more ∙ ap (λ n. n + 1) (longer_by_one (received_packets f hs) p ∙ was.counts m stood before)
       ∙ sym (next_after p.sequence ack m before) ∙ ap (λ (x : Channel). x.next_recv) now_k
 
   from_peer_after : Receiving chains w hs h v f → (k : Channel) → Stands v f k → is_ordered k ≡ true
-      → (received f (hs ++ h ∷ []) ≡ []) ⊎ FromPeer (hs ++ h ∷ []) v f
+      → (received_packets f (hs ++ h ∷ []) ≡ []) ⊎ FromPeer (hs ++ h ∷ []) v f
   from_peer_after (received_nothing same before) k stands ordered = go (before k stands)
     where
-      go : StoodBefore w f SameReceiving k → (received f (hs ++ h ∷ []) ≡ []) ⊎ FromPeer (hs ++ h ∷ []) v f
+      go : StoodBefore w f SameReceiving k → (received_packets f (hs ++ h ∷ []) ≡ []) ⊎ FromPeer (hs ++ h ∷ []) v f
       go (was_there m stood kept) = elim (was.from_peer m stood (ap (λ o. same_order o Ordered) (sym kept.order) ∙ ordered)) [
         | inl nothing ↦ inl (same ∙ nothing)
         | inr x ↦ inr (on x same)
@@ -172,7 +172,7 @@ module _ (chains : ℕ) (w : World) (hs : List Happened) (h : Happened) (v : Wor
       let now_k = stands_same f _ k now stands in
       inr (now_from_peer m stood p r (sym (same_order_after p.sequence ack m) ∙ ap (λ (x : Channel). is_ordered x) now_k ∙ ordered) more)
 
-  none_after : Receiving chains w hs h v f → ((m : Channel) → Stands v f m → ⊥) → received f (hs ++ h ∷ []) ≡ []
+  none_after : Receiving chains w hs h v f → ((m : Channel) → Stands v f m → ⊥) → received_packets f (hs ++ h ∷ []) ≡ []
   none_after (received_nothing same before) nothing =
       same ∙ was.none (λ m stood. let on = stands_on f m (stepped_grows chains w h v inv step) stood in nothing on.now on.stands)
   none_after (received_one p ack m stood now r told more) nothing = absurd (nothing _ now)

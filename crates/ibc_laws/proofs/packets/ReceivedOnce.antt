@@ -7,12 +7,12 @@ use Rattle.ibc_machine.specs.chain.Records.{Channel, is_one_of}
 use Rattle.ibc_machine.specs.ics24.Values.{same_order}
 use Rattle.ibc_machine.specs.ics04.Packets.{is_ordered, has_received}
 use Rattle.ibc_machine.specs.chain.Machine.{World}
-use Rattle.ibc_machine.specs.promises.Histories.{Happened, End, received, sequences}
+use Rattle.ibc_machine.specs.promises.Histories.{Happened, End, received_packets, sequences}
 use Rattle.ibc_laws.proofs.basics.Lists.{among-last_or_before, distinct-push}
 use Rattle.ibc_laws.proofs.steps.Growth.{ChannelGrows}
 use Rattle.ibc_laws.proofs.steps.EndSteps.{the_next, received_now}
 use Rattle.ibc_laws.proofs.peers.Invariant.{Inv, stepped_grows}
-use Rattle.ibc_laws.proofs.steps.Steps.{Stepped}
+use Rattle.ibc_laws.proofs.steps.MachineSteps.{Stepped}
 use Rattle.ibc_laws.proofs.peers.Peers.{Stands, stands_same, stands_on}
 use Rattle.ibc_laws.proofs.steps.AtEnds.{at_end}
 use Rattle.ibc_laws.proofs.steps.Happenings.{Receiving, received_nothing, received_one, receiving, sequences-push}
@@ -24,8 +24,8 @@ pub record HasReceived (w : World) (f : End) (n : ℕ) : Type 0 where
   pub received : has_received channel n ≡ true
 
 pub record ReceivedOnce (hs : List Happened) (w : World) : Type 0 where
-  pub marked : (f : End) (n : ℕ) → is_one_of (sequences (received f hs)) n ≡ true → HasReceived w f n
-  pub once : (f : End) → IsDistinct nat_eq (sequences (received f hs))
+  pub marked : (f : End) (n : ℕ) → is_one_of (sequences (received_packets f hs)) n ≡ true → HasReceived w f n
+  pub once : (f : End) → IsDistinct nat_eq (sequences (received_packets f hs))
 
 same_order_later : (m n : Channel) → ChannelGrows m n → is_ordered n ≡ is_ordered m
 same_order_later m n g = ap (λ o. same_order o Ordered) g.end.order
@@ -44,7 +44,7 @@ received_stays m n k g e = go (is_ordered m) refl e
         (g.receiving.receipts k e)
 
 module _ (chains : ℕ) (w : World) (hs : List Happened) (h : Happened) (v : World) (inv : Inv w) (step : Stepped chains w h v) (once : ReceivedOnce hs w) where
-  kept : (f : End) (n : ℕ) → is_one_of (sequences (received f hs)) n ≡ true → HasReceived v f n
+  kept : (f : End) (n : ℕ) → is_one_of (sequences (received_packets f hs)) n ≡ true → HasReceived v f n
   kept f n is =
       let was = once.marked f n is in
       let now = stands_on f was.channel (stepped_grows chains w h v inv step) was.stands in
@@ -52,31 +52,31 @@ module _ (chains : ℕ) (w : World) (hs : List Happened) (h : Happened) (v : Wor
 
   -- a sequence without a mark is not in the history
   pub not_received_yet : (f : End) (m : Channel) → Stands w f m → (n : ℕ) → has_received m n ≡ false
-      → is_one_of (sequences (received f hs)) n ≡ false
-  not_received_yet f m stands n fresh = go (is_one_of (sequences (received f hs)) n) refl
+      → is_one_of (sequences (received_packets f hs)) n ≡ false
+  not_received_yet f m stands n fresh = go (is_one_of (sequences (received_packets f hs)) n) refl
     where
-      go : (b : Bool) → is_one_of (sequences (received f hs)) n ≡ b → b ≡ false
+      go : (b : Bool) → is_one_of (sequences (received_packets f hs)) n ≡ b → b ≡ false
       go false is = refl
       go true is =
           let was = once.marked f n is in
           absurd (cc (was.received, fresh, ap (λ x. has_received x n) (stands_same f was.channel m was.stands stands)))
 
-  more_marked : (f : End) (n : ℕ) → Receiving chains w hs h v f → is_one_of (sequences (received f (hs ++ h ∷ []))) n ≡ true → HasReceived v f n
+  more_marked : (f : End) (n : ℕ) → Receiving chains w hs h v f → is_one_of (sequences (received_packets f (hs ++ h ∷ []))) n ≡ true → HasReceived v f n
   more_marked f n (received_nothing same acks) is = kept f n (subst (λ ps. is_one_of (sequences ps) n ≡ true) same is)
   more_marked f n (received_one p ack m was now r told more) is =
-      elim (among-last_or_before (sequences (received f hs)) p.sequence n
-      (subst (λ l. is_one_of l n ≡ true) (ap sequences more ∙ sequences-push (received f hs) p) is)) [
+      elim (among-last_or_before (sequences (received_packets f hs)) p.sequence n
+      (subst (λ l. is_one_of l n ≡ true) (ap sequences more ∙ sequences-push (received_packets f hs) p) is)) [
         | inl new ↦ record { channel = _; stands = now; received = received_now p.sequence ack m (the_next m p.sequence r.fresh r.in_order) n (inl new) }
         | inr old ↦ kept f n old
       ]
 
-  more_once : (f : End) → Receiving chains w hs h v f → IsDistinct nat_eq (sequences (received f (hs ++ h ∷ [])))
+  more_once : (f : End) → Receiving chains w hs h v f → IsDistinct nat_eq (sequences (received_packets f (hs ++ h ∷ [])))
   more_once f (received_nothing same acks) = subst (λ ps. IsDistinct nat_eq (sequences ps)) (sym same) (once.once f)
   more_once f (received_one p ack m was now r told more) =
-      let ns : List ℕ = sequences (received f hs) in
+      let ns : List ℕ = sequences (received_packets f hs) in
       let fresh : is_one_of (ns ++ []) p.sequence ≡ false = ap (λ l. is_one_of l p.sequence) (append-nil ns) ∙ not_received_yet f m was p.sequence r.fresh in
       let distinct = distinct-push ns [] p.sequence (subst (IsDistinct nat_eq) (sym (append-nil ns)) (once.once f)) fresh in
-      subst (IsDistinct nat_eq) (append-nil _ ∙ sym (sequences-push (received f hs) p) ∙ ap sequences (sym more)) distinct
+      subst (IsDistinct nat_eq) (append-nil _ ∙ sym (sequences-push (received_packets f hs) p) ∙ ap sequences (sym more)) distinct
 
   pub received_once_step : ReceivedOnce (hs ++ h ∷ []) v
   received_once_step = record {

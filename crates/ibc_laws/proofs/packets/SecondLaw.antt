@@ -3,10 +3,10 @@
 use Rattle.std.proofs.Common.{ℕ, List, [], ◌∷◌, ◌++◌, length, subst, ◌≡◌}
 use Rattle.ibc_machine.specs.chain.Genesis.{GenesisState, start}
 use Rattle.ibc_machine.specs.chain.Machine.{World}
-use Rattle.ibc_machine.specs.promises.Histories.{Happened, End, received, acknowledged, timed_out, sequences}
+use Rattle.ibc_machine.specs.promises.Histories.{Happened, End, received_packets, acknowledged_packets, timed_out_packets, sequences}
 use Rattle.ibc_machine.specs.promises.Laws.{ExactlyOnce, IsPast}
 use Rattle.ibc_laws.proofs.basics.Lists.{distinct-none, contains-among, among-contains}
-use Rattle.ibc_laws.proofs.steps.Steps.{Stepped, stepped}
+use Rattle.ibc_laws.proofs.steps.MachineSteps.{Stepped, stepped}
 use Rattle.ibc_laws.proofs.peers.Invariant.{Inv, Inv-start, stepped_inv, starts_empty, no_channel}
 use Rattle.ibc_laws.proofs.steps.Induction.{past_has}
 use Rattle.ibc_laws.proofs.peers.Peers.{true_peers, one_peer_only}
@@ -59,11 +59,11 @@ exactly_once genesis happened world e f past are_peers =
     let peers = true_peers world e f are_peers in
     record {
       not_both = λ n t r. all.not_both.not_both e f n peers
-          (among-contains (sequences (timed_out e happened)) n t) (among-contains (sequences (received f happened)) n r);
+          (among-contains (sequences (timed_out_packets e happened)) n t) (among-contains (sequences (received_packets f happened)) n r);
       received_once = all.received.once f;
       settled_once = all.settled.once e;
       acknowledged_received = λ n is.
-          let x = all.acknowledged.acknowledged e n (among-contains (sequences (acknowledged e happened)) n is) in
+          let x = all.acknowledged.acknowledged e n (among-contains (sequences (acknowledged_packets e happened)) n is) in
           let same : x.0 ≡ f = one_peer_only world e x.0 f x.1 peers in
-          contains-among (sequences (received f happened)) n (subst (λ (g : End). IsReceived happened g n) same x.2);
+          contains-among (sequences (received_packets f happened)) n (subst (λ (g : End). IsReceived happened g n) same x.2);
     }

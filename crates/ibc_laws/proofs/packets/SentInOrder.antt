@@ -4,12 +4,12 @@ use Rattle.std.proofs.Common.{◌≡◌, ℕ, zero, suc, ◌+◌, refl, ap, sym,
 use Rattle.ibc_ids.specs.Maps.{at}
 use Rattle.ibc_wire.specs.declared.packet.Packet.{Packet}
 use Rattle.ibc_wire.specs.declared.records.ChannelEnd.{ChannelEnd}
-use Rattle.ibc_machine.specs.chain.Records.{Records, Block, Chain, Channel, Commitment, channel_at}
+use Rattle.ibc_machine.specs.chain.Records.{Records, Block, MachineChain, Channel, Commitment, channel_at}
 use Rattle.ibc_machine.specs.ics04.Channels.{new_channel}
 use Rattle.ibc_machine.specs.chain.Machine.{World, block_of}
-use Rattle.ibc_machine.specs.promises.Histories.{Happened, End, packet_from, sent}
+use Rattle.ibc_machine.specs.promises.Histories.{Happened, End, packet_from, sent_packets}
 use Rattle.ibc_machine.proofs.FiniteMaps.{by_number, found_in_with}
-use Rattle.ibc_laws.proofs.steps.Steps.{Stepped}
+use Rattle.ibc_laws.proofs.steps.MachineSteps.{Stepped}
 use Rattle.ibc_laws.proofs.peers.Invariant.{Inv, stepped_grows, stepped_back}
 use Rattle.ibc_laws.proofs.peers.Peers.{Stands, stands_same, stands_on}
 use Rattle.ibc_laws.proofs.steps.AtEnds.{at_end}
@@ -44,13 +44,13 @@ IsNth-last xs x n is = record { index = length xs; number = omega arith; got = g
 -- each commitment of the channel is that of the packet of its number, whoever the peer is
 abbrev pub AreSent : List Happened → End → Channel → Type 0
 AreSent hs e m = (n : ℕ) (c : Commitment) → at nat_cmp n m.commitments ≡ Some c → (mine : Channel)
-    → IsNth (sent e mine hs) n (packet_from e mine n c)
+    → IsNth (sent_packets e mine hs) n (packet_from e mine n c)
 
 pub record SentInOrder (hs : List Happened) (w : World) (e : End) : Type 0 where
-  pub none : ((m : Channel) → Stands w e m → ⊥) → (mine : Channel) → sent e mine hs ≡ []
-  pub counts : (m : Channel) → Stands w e m → (mine : Channel) → length (sent e mine hs) + 1 ≡ m.next_send
+  pub none : ((m : Channel) → Stands w e m → ⊥) → (mine : Channel) → sent_packets e mine hs ≡ []
+  pub counts : (m : Channel) → Stands w e m → (mine : Channel) → length (sent_packets e mine hs) + 1 ≡ m.next_send
   pub now : (m : Channel) → Stands w e m → AreSent hs e m
-  pub blocks : (c : Chain) → slice_get w e.chain ≡ Some c → (h : ℕ) (b : Block) → block_of h c.committed ≡ Some b
+  pub blocks : (c : MachineChain) → slice_get w e.chain ≡ Some c → (h : ℕ) (b : Block) → block_of h c.committed ≡ Some b
       → (m : Channel) → channel_at b.records.core e.port e.channel ≡ Some m → AreSent hs e m
 
 module _ (chains : ℕ) (w : World) (hs : List Happened) (h : Happened) (v : World) (inv : Inv w) (step : Stepped chains w h v) (e : End) (was_sent : SentInOrder hs w e) where
@@ -60,21 +60,21 @@ module _ (chains : ℕ) (w : World) (hs : List Happened) (h : Happened) (v : Wor
       subst (λ ps. IsNth ps n (packet_from e mine n c)) (sym (same mine)) (are n c is mine)
   grown m are (sent_one d k stood now more) n c is mine =
       subst (λ ps. IsNth ps n (packet_from e mine n c)) (sym (more mine))
-      (IsNth-longer (sent e mine hs) _ n (packet_from e mine n c) (are n c is mine))
+      (IsNth-longer (sent_packets e mine hs) _ n (packet_from e mine n c) (are n c is mine))
 
   the_sending : Sending chains w hs h v e
   the_sending = sending chains w hs h v e inv (at_end chains w h v inv step e)
 
   counts_after : Sending chains w hs h v e → (m : Channel) → Stands v e m → (mine : Channel)
-      → length (sent e mine (hs ++ h ∷ [])) + 1 ≡ m.next_send
+      → length (sent_packets e mine (hs ++ h ∷ [])) + 1 ≡ m.next_send
   counts_after (sent_nothing same before) m stands mine = go (before m stands)
     where
-      go : StoodBefore w e SameSending m → length (sent e mine (hs ++ h ∷ [])) + 1 ≡ m.next_send
+      go : StoodBefore w e SameSending m → length (sent_packets e mine (hs ++ h ∷ [])) + 1 ≡ m.next_send
       go (was_there k stood kept) = ap (λ ps. length ps + 1) (same mine) ∙ was_sent.counts k stood mine ∙ sym kept.next
       go (is_new none end new) = ap (λ (ps : List Packet). length ps + 1) (same mine ∙ was_sent.none none mine) ∙ ap (λ (x : Channel). x.next_send) new
   counts_after (sent_one c k stood now more) m stands mine =
-      let before : length (sent e mine hs) + 1 ≡ k.next_send = was_sent.counts k stood mine in
-      let one = longer_by_one (sent e mine hs) (packet_from e mine k.next_send c) in
+      let before : length (sent_packets e mine hs) + 1 ≡ k.next_send = was_sent.counts k stood mine in
+      let one = longer_by_one (sent_packets e mine hs) (packet_from e mine k.next_send c) in
       ap (λ (ps : List Packet). length ps + 1) (more mine) ∙ ap (λ n. n + 1) (one ∙ before)
       ∙ ap (λ (x : Channel). x.next_send) (stands_same e _ m now stands)
 
@@ -94,14 +94,14 @@ module _ (chains : ℕ) (w : World) (hs : List Happened) (h : Happened) (v : Wor
       subst (λ ps. IsNth ps n (packet_from e mine n d)) (sym (more mine))
       (elim (found_in_with by_number k.next_send n c d k.commitments found) [
         | inl new ↦ (
-            let last = IsNth-last (sent e mine hs) (packet_from e mine k.next_send c) k.next_send (was_sent.counts k stood mine) in
-            subst (λ i. IsNth (sent e mine hs ++ packet_from e mine k.next_send c ∷ []) i (packet_from e mine i d)) (sym new.0)
-            (subst (λ x. IsNth (sent e mine hs ++ packet_from e mine k.next_send c ∷ []) k.next_send (packet_from e mine k.next_send x)) new.1 last)
+            let last = IsNth-last (sent_packets e mine hs) (packet_from e mine k.next_send c) k.next_send (was_sent.counts k stood mine) in
+            subst (λ i. IsNth (sent_packets e mine hs ++ packet_from e mine k.next_send c ∷ []) i (packet_from e mine i d)) (sym new.0)
+            (subst (λ x. IsNth (sent_packets e mine hs ++ packet_from e mine k.next_send c ∷ []) k.next_send (packet_from e mine k.next_send x)) new.1 last)
             )
-        | inr old ↦ IsNth-longer (sent e mine hs) _ n (packet_from e mine n d) (was_sent.now k stood n d old mine)
+        | inr old ↦ IsNth-longer (sent_packets e mine hs) _ n (packet_from e mine n d) (was_sent.now k stood n d old mine)
       ])
 
-  blocks_after : (d : Chain) → slice_get v e.chain ≡ Some d → (n : ℕ) (b : Block) → block_of n d.committed ≡ Some b
+  blocks_after : (d : MachineChain) → slice_get v e.chain ≡ Some d → (n : ℕ) (b : Block) → block_of n d.committed ≡ Some b
       → (m : Channel) → channel_at b.records.core e.port e.channel ≡ Some m → AreSent (hs ++ h ∷ []) e m
   blocks_after d there n b is m at_ =
       let back = stepped_back chains w h v inv step e.chain d there in
@@ -114,7 +114,7 @@ module _ (chains : ℕ) (w : World) (hs : List Happened) (h : Happened) (v : Wor
         })) the_sending
       ]
 
-  none_after : Sending chains w hs h v e → ((m : Channel) → Stands v e m → ⊥) → (mine : Channel) → sent e mine (hs ++ h ∷ []) ≡ []
+  none_after : Sending chains w hs h v e → ((m : Channel) → Stands v e m → ⊥) → (mine : Channel) → sent_packets e mine (hs ++ h ∷ []) ≡ []
   none_after (sent_nothing same before) nothing mine =
       same mine ∙ was_sent.none (λ m stood. let on = stands_on e m (stepped_grows chains w h v inv step) stood in nothing on.now on.stands) mine
   none_after (sent_one c k stood now more) nothing mine = absurd (nothing _ now)

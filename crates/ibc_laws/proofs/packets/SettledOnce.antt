@@ -7,13 +7,13 @@ use Rattle.ibc_wire.specs.declared.packet.Packet.{Packet}
 use Rattle.ibc_machine.specs.chain.Records.{Channel, commitment_of, is_one_of}
 use Rattle.ibc_machine.specs.ics04.Packets.{is_ordered, without_commitment, after_ack, after_timeout}
 use Rattle.ibc_machine.specs.chain.Machine.{World}
-use Rattle.ibc_machine.specs.promises.Histories.{Happened, End, acknowledged, timed_out, sequences}
+use Rattle.ibc_machine.specs.promises.Histories.{Happened, End, acknowledged_packets, timed_out_packets, sequences}
 use Rattle.ibc_laws.proofs.basics.Lists.{among-push, distinct-push}
 use Rattle.ibc_laws.proofs.steps.Growth.{ChannelGrows}
 use Rattle.ibc_laws.proofs.steps.CoreSteps.{Settles}
 use Rattle.ibc_laws.proofs.steps.EndSteps.{IsShaped, gone_now, acked, over}
 use Rattle.ibc_laws.proofs.peers.Invariant.{Inv, shape_of, stepped_grows}
-use Rattle.ibc_laws.proofs.steps.Steps.{Stepped}
+use Rattle.ibc_laws.proofs.steps.MachineSteps.{Stepped}
 use Rattle.ibc_laws.proofs.peers.Peers.{Stands, stands_same, stands_on}
 use Rattle.ibc_laws.proofs.steps.AtEnds.{at_end}
 use Rattle.ibc_laws.proofs.steps.Happenings.{Settling, settled_nothing, acknowledged_one, timed_out_one, settling, sequences-push}
@@ -35,7 +35,7 @@ pub record HasSettled (w : World) (e : End) (n : ℕ) : Type 0 where
   pub gone : IsGone n channel
 
 abbrev pub settled_at : End → List Happened → List ℕ
-settled_at e hs = sequences (acknowledged e hs) ++ sequences (timed_out e hs)
+settled_at e hs = sequences (acknowledged_packets e hs) ++ sequences (timed_out_packets e hs)
 
 pub record SettledOnce (hs : List Happened) (w : World) : Type 0 where
   pub settled : (e : End) (n : ℕ) → is_one_of (settled_at e hs) n ≡ true → HasSettled w e n
@@ -100,13 +100,13 @@ module _ (chains : ℕ) (w : World) (hs : List Happened) (h : Happened) (v : Wor
       subst (Good e) (sym (ap₂ (λ (x y : List Packet). sequences x ++ sequences y) a t)) (kept e, once.once e)
   good e (acknowledged_one p m was now s a t) =
       let shaped = shape_of w inv e m was in
-      subst (Good e) (sym (ap₂ (λ (x y : List Packet). sequences x ++ sequences y) a t ∙ ap (λ x. x ++ sequences (timed_out e hs)) (sequences-push (acknowledged e hs) p)))
-      (more e p.sequence (sequences (acknowledged e hs)) (sequences (timed_out e hs)) refl (absent e e.port e.channel m was p s.settles)
+      subst (Good e) (sym (ap₂ (λ (x y : List Packet). sequences x ++ sequences y) a t ∙ ap (λ x. x ++ sequences (timed_out_packets e hs)) (sequences-push (acknowledged_packets e hs) p)))
+      (more e p.sequence (sequences (acknowledged_packets e hs)) (sequences (timed_out_packets e hs)) refl (absent e e.port e.channel m was p s.settles)
       (record { channel = _; stands = now; gone = gone_after_ack p.sequence m shaped (shaped.below p.sequence (commitment_of p) s.settles.committed) }))
   good e (timed_out_one p m was now s told a t) =
       let shaped = shape_of w inv e m was in
-      subst (Good e) (sym (ap₂ (λ (x y : List Packet). sequences x ++ sequences y) a t ∙ ap (λ x. sequences (acknowledged e hs) ++ x) (sequences-push (timed_out e hs) p)
-      ∙ sym (append_assoc (sequences (acknowledged e hs)) (sequences (timed_out e hs)) (p.sequence ∷ [])) ∙ sym (append-nil _)))
+      subst (Good e) (sym (ap₂ (λ (x y : List Packet). sequences x ++ sequences y) a t ∙ ap (λ x. sequences (acknowledged_packets e hs) ++ x) (sequences-push (timed_out_packets e hs) p)
+      ∙ sym (append_assoc (sequences (acknowledged_packets e hs)) (sequences (timed_out_packets e hs)) (p.sequence ∷ [])) ∙ sym (append-nil _)))
       (more e p.sequence (settled_at e hs) [] (append-nil _) (absent e e.port e.channel m was p s.settles)
       (record { channel = _; stands = now; gone = gone_after_timeout p.sequence m shaped (shaped.below p.sequence (commitment_of p) s.settles.committed) }))
 

@@ -15,13 +15,13 @@ use Rattle.ibc_machine.specs.chain.Machine.{World}
 use Rattle.ibc_machine.specs.ledger.Ledgers.{chain_of}
 use Rattle.ibc_machine.specs.promises.Histories.{Happened, End, is_destination, is_source, packet_if, received_by, sequences, history_of, ack_by, ack_written}
 use Rattle.ibc_machine.specs.promises.Laws.{IsPast}
-use Rattle.ibc_laws.specs.Packets.{TakenAsWritten, taken, taken_by, taken_if}
+use Rattle.ibc_laws.specs.Packets.{TakenAsWritten, taken_acks, ack_taken_by, pair_if}
 use Rattle.ibc_laws.proofs.basics.PassedTests.{and_true, number-self}
 use Rattle.ibc_laws.proofs.steps.Told.{Told, Quiet, Sent, Received, Acknowledged, TimedOut, told_of, is_told, received_in, acknowledged_in, ack_in, taken_in}
 use Rattle.ibc_laws.proofs.steps.CoreSteps.{ChannelStep, answers, follows, closes, sends, receives, acknowledges, times_out, Receives, Acks, HadAck}
 use Rattle.ibc_laws.proofs.steps.EndSteps.{acks_of_receive}
 use Rattle.ibc_laws.proofs.steps.EndKeeps.{keeps_receiving}
-use Rattle.ibc_laws.proofs.steps.Steps.{Stepped, stepped as did_step}
+use Rattle.ibc_laws.proofs.steps.MachineSteps.{Stepped, stepped as did_step}
 use Rattle.ibc_laws.proofs.steps.AtEnds.{EndStep, untouched, opened, stepped, at_end}
 use Rattle.ibc_laws.proofs.steps.Happenings.{about, about-append, about-more, about-same, lemma_only_one, lemma_is_at_itself}
 use Rattle.ibc_laws.proofs.steps.Induction.{past_has}
@@ -41,7 +41,7 @@ pub record AcksWritten (hs : List Happened) (w : World) : Type 0 where
   -- each acknowledgement that stands is the one that was written
   pub written : (f : End) (m : Channel) → Stands w f m → (n : ℕ) (ack : Text) → at nat_cmp n m.acks ≡ Some ack → IsWritten hs f n ack
   -- and so is each that was taken
-  pub taken_so : (e : End) (p : Packet) (ack : Text) → Contains (taken e hs) (p, ack) → (f : End) × Peers w e f × IsWritten hs f p.sequence ack
+  pub taken_so : (e : End) (p : Packet) (ack : Text) → Contains (taken_acks e hs) (p, ack) → (f : End) × Peers w e f × IsWritten hs f p.sequence ack
 
 -- ---- what was written was received
 
@@ -88,7 +88,7 @@ lemma_none_written f n (h ∷ hs) e = go (ack_by f n h) refl (received_by f h) r
 lemma_none_taken : (e : End) (told : Told) → acknowledged_in e told ≡ None → taken_in e told ≡ None
 lemma_none_taken e (Acknowledged p ack) none = go (is_source e p) none
   where
-    go : (b : Bool) → packet_if b p ≡ None → taken_if b p ack ≡ None
+    go : (b : Bool) → packet_if b p ≡ None → pair_if b p ack ≡ None
     go true none = absurd (cc none)
     go false none = refl
 lemma_none_taken e Quiet none = refl
@@ -164,22 +164,22 @@ module _ (chains : ℕ) (w : World) (hs : List Happened) (h : Happened) (v : Wor
       let theirs = (seen.grows had.0 had.1).receiving.acks p.sequence s.ack had.2 in
       (seen.peer.other, peers_of w e m was seen.peer, acks.written seen.peer.other seen.peer.theirs seen.peer.there p.sequence s.ack theirs)
 
-  lemma_taken_after : (e : End) (p : Packet) (ack : Text) → Contains (taken e (hs ++ h ∷ [])) (p, ack) → EndStep chains w h v e → IsTakenSo v (hs ++ h ∷ []) e (p, ack)
+  lemma_taken_after : (e : End) (p : Packet) (ack : Text) → Contains (taken_acks e (hs ++ h ∷ [])) (p, ack) → EndStep chains w h v e → IsTakenSo v (hs ++ h ∷ []) e (p, ack)
   lemma_taken_after e p ack has step_ = go step_
     where
       as_before : (chain_of h.0 ≡ e.chain → taken_in e (told_of h) ≡ None) → IsTakenSo v (hs ++ h ∷ []) e (p, ack)
       as_before none = lemma_on e (p, ack) (acks.taken_so e p ack
-          (subst (λ xs. Contains xs (p, ack)) (about-same (taken_by e) e.chain hs h (λ chain. (is_told h).took e ∙ none chain)) has))
+          (subst (λ xs. Contains xs (p, ack)) (about-same (ack_taken_by e) e.chain hs h (λ chain. (is_told h).took e ∙ none chain)) has))
 
       of_label : (m : Channel) (was : Stands w e m) (told : Told) → told_of h ≡ told → (j : Channel)
           → ChannelStep w (host_of chains e.chain was.chain) was.chain.records.core e.port e.channel m told j → IsTakenSo v (hs ++ h ∷ []) e (p, ack)
       of_label m was told tells j (acknowledges q s) =
           let here : is_source e q ≡ true = lemma_is_at_itself e q.source_port q.source_channel s.settles.from_port s.settles.from_channel in
-          elim (Contains-append_cases (taken e hs) (about (taken_by e) e.chain (h ∷ [])) (p, ack) (subst (λ xs. Contains xs (p, ack)) (about-append (taken_by e) e.chain hs h) has)) [
+          elim (Contains-append_cases (taken_acks e hs) (about (ack_taken_by e) e.chain (h ∷ [])) (p, ack) (subst (λ xs. Contains xs (p, ack)) (about-append (ack_taken_by e) e.chain hs h) has)) [
             | inl old ↦ lemma_on e (p, ack) (acks.taken_so e p ack old)
             | inr new ↦ (
-                let takes : taken_by e h ≡ Some (q, s.ack) = (is_told h).took e ∙ ap (λ t. taken_in e t) tells ∙ ap (λ b. taken_if b q s.ack) here in
-                lemma_on e (p, ack) (subst (IsTakenSo w hs e) (lemma_only_one (taken_by e) e.chain hs h (q, s.ack) (p, ack) takes new) (lemma_seen_so e m was q s))
+                let takes : ack_taken_by e h ≡ Some (q, s.ack) = (is_told h).took e ∙ ap (λ t. taken_in e t) tells ∙ ap (λ b. pair_if b q s.ack) here in
+                lemma_on e (p, ack) (subst (IsTakenSo w hs e) (lemma_only_one (ack_taken_by e) e.chain hs h (q, s.ack) (p, ack) takes new) (lemma_seen_so e m was q s))
                 )
           ]
       of_label m was told tells j (answers peer s) = as_before (λ chain. ap (λ t. taken_in e t) tells)

@@ -10,12 +10,12 @@ use Rattle.ibc_machine.specs.ics04.Channels.{is_established, peer_channel_of}
 use Rattle.ibc_machine.specs.ics04.Packets.{is_ordered}
 use Rattle.ibc_machine.specs.chain.Genesis.{GenesisState, start}
 use Rattle.ibc_machine.specs.chain.Machine.{World}
-use Rattle.ibc_machine.specs.promises.Histories.{Happened, End, sent, received, history_of}
+use Rattle.ibc_machine.specs.promises.Histories.{Happened, End, sent_packets, received_packets, history_of}
 use Rattle.ibc_machine.specs.promises.Peers.{end_at}
 use Rattle.ibc_machine.specs.promises.Laws.{InOrder, IsPast, IsBeginning}
 use Rattle.ibc_laws.proofs.basics.PassedTests.{either}
 use Rattle.ibc_laws.proofs.steps.Told.{Told, Quiet, Sent, Received, Acknowledged, TimedOut, told_of, is_told, sent_in}
-use Rattle.ibc_laws.proofs.steps.Steps.{Stepped, stepped}
+use Rattle.ibc_laws.proofs.steps.MachineSteps.{Stepped, stepped}
 use Rattle.ibc_laws.proofs.steps.PacketsPassed.{established_rank}
 use Rattle.ibc_laws.proofs.peers.Invariant.{Inv, Inv-start, stepped_inv, starts_empty, no_channel, no_block}
 use Rattle.ibc_laws.proofs.steps.Induction.{past_has}
@@ -71,7 +71,7 @@ sent_toward_in e f mine port channel (Acknowledged p ack) = refl
 sent_toward_in e f mine port channel (TimedOut p) = refl
 
 sent_toward : (e f : End) (mine : Channel) → mine.end.peer_port ≡ f.port → mine.end.peer_channel ≡ Some f.channel
-    → (hs : List Happened) → sent e mine hs ≡ sent e (toward f) hs
+    → (hs : List Happened) → sent_packets e mine hs ≡ sent_packets e (toward f) hs
 sent_toward e f mine port channel hs =
     ap (λ (by : Happened → Option Packet). filter_map by (history_of e.chain hs))
     (λ i h. ((is_told h).sent e mine
@@ -80,10 +80,10 @@ sent_toward e f mine port channel hs =
 
 -- what an end's own record says of its peer is all that counts
 pub lemma_sent_to_peer : (w : World) (e f : End) → Peers w e f → (mine : Channel) → end_at w e ≡ Some mine → (hs : List Happened)
-    → sent e mine hs ≡ sent e (toward f) hs
+    → sent_packets e mine hs ≡ sent_packets e (toward f) hs
 lemma_sent_to_peer w e f p mine is hs =
     let same : p.mine ≡ mine = stands_same e p.mine mine p.here (stands w e mine is) in
-    ap (λ (c : Channel). sent e c hs) (sym same) ∙ sent_toward e f p.mine (sym p.names_them.port) p.names_them.channel hs
+    ap (λ (c : Channel). sent_packets e c hs) (sym same) ∙ sent_toward e f p.mine (sym p.names_them.port) p.names_them.channel hs
 
 -- ---- peers are of one order
 
@@ -108,8 +108,8 @@ in_order genesis happened world e f past are_peers mine is ordered =
     let ours : is_ordered p.mine ≡ true = ap (λ (c : Channel). is_ordered c) same ∙ ordered in
     let theirs : is_ordered p.theirs ≡ true = ap (λ o. same_order o Ordered) (same_order_as world all.inv e f p) ∙ ours in
     let toward_f = lemma_sent_to_peer world e f p mine is happened in
-    subst (IsBeginning (received f happened)) (sym toward_f)
+    subst (IsBeginning (received_packets f happened)) (sym toward_f)
     (elim ((all.received f).from_peer p.theirs p.there theirs) [
-      | inl nothing ↦ (sent e (toward f) happened, ap (λ ps. ps ++ sent e (toward f) happened) nothing)
-      | inr x ↦ subst (λ g. IsBeginning (received f happened) (sent g (toward f) happened)) (one_peer_only world f x.other e x.peers (peers_flip e f p)) x.beginning
+      | inl nothing ↦ (sent_packets e (toward f) happened, ap (λ ps. ps ++ sent_packets e (toward f) happened) nothing)
+      | inr x ↦ subst (λ g. IsBeginning (received_packets f happened) (sent_packets g (toward f) happened)) (one_peer_only world f x.other e x.peers (peers_flip e f p)) x.beginning
     ])

@@ -1,12 +1,12 @@
 -- Each end that is OPEN or CLOSED has exactly one peer, of its own order and version.
 use Rattle.std.proofs.Common.{◌≡◌, ◌≤◌, true, refl, ap, sym, ◌∙◌, subst, Some, ◌||◌}
 use Rattle.ibc_wire.specs.declared.records.ConnectionEnd.{ConnectionEnd}
-use Rattle.ibc_machine.specs.chain.Records.{Core, Chain, Channel, client_at, connection_at}
+use Rattle.ibc_machine.specs.chain.Records.{Core, MachineChain, Channel, client_at, connection_at}
 use Rattle.ibc_machine.specs.ics04.Channels.{is_established}
 use Rattle.ibc_machine.specs.chain.Machine.{World}
 use Rattle.ibc_machine.specs.promises.Histories.{End}
 use Rattle.ibc_machine.specs.promises.Laws.{OnePeer}
-use Rattle.ibc_laws.proofs.basics.Places.{some_is}
+use Rattle.ibc_laws.proofs.basics.ListPlaces.{some_is}
 use Rattle.ibc_laws.proofs.steps.CoreSteps.{rank}
 use Rattle.ibc_laws.proofs.steps.EndSteps.{not_init}
 use Rattle.ibc_laws.proofs.steps.PacketsPassed.{established_rank}
@@ -50,11 +50,11 @@ peer_of w inv e m here ranks =
     let theirs = channel.back ranks peer.0 over.0 peer.1 over.1 connection.tracked connection.there in
     let client = connection.client over.0 over.1 in
     let back = connection.back open_ over.0 over.1 in
-    let y : Chain = theirs.chain in
+    let y : MachineChain = theirs.chain in
     let same_client : client.chain ≡ y = some_is client.there theirs.there in
     let same_back : back.chain ≡ y = some_is back.there theirs.there in
-    let client_now = subst (λ (z : Chain). ClientOf e.chain k.peer_client z.records.core) same_client client.holds in
-    let back_now = subst (λ (z : Chain). ConnectionTo m.end.connection k.peer_client over.0 z.records.core) same_back back.holds in
+    let client_now = subst (λ (z : MachineChain). ClientOf e.chain k.peer_client z.records.core) same_client client.holds in
+    let back_now = subst (λ (z : MachineChain). ConnectionTo m.end.connection k.peer_client over.0 z.records.core) same_back back.holds in
     let n : Channel = theirs.holds.0 in
     let f : End = record { chain = connection.tracked.state.chain; port = m.end.peer_port; channel = peer.0 } in
     record {

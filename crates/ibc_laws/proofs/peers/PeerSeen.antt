@@ -5,7 +5,7 @@ use Rattle.std.specs.Option.{option_map_or}
 use Rattle.ibc_ids.specs.Texts.{Text, same_text}
 use Rattle.ibc_ids.proofs.Texts.{text_same}
 use Rattle.ibc_wire.specs.declared.records.ConnectionEnd.{ConnectionEnd}
-use Rattle.ibc_machine.specs.chain.Records.{Core, Block, Chain, Client, Channel, client_at, channel_at}
+use Rattle.ibc_machine.specs.chain.Records.{Core, Block, MachineChain, Client, Channel, client_at, channel_at}
 use Rattle.ibc_machine.specs.ics24.Values.{same_optional}
 use Rattle.ibc_machine.specs.chain.Handlers.{working_height}
 use Rattle.ibc_machine.specs.ics04.Channels.{client_of}
@@ -14,11 +14,11 @@ use Rattle.ibc_machine.specs.chain.Machine.{World, block_of}
 use Rattle.ibc_machine.specs.promises.Histories.{End}
 use Rattle.ibc_machine.proofs.SameValues.{same_optional_is}
 use Rattle.ibc_laws.proofs.basics.PassedTests.{both}
-use Rattle.ibc_laws.proofs.basics.Places.{some_is}
+use Rattle.ibc_laws.proofs.basics.ListPlaces.{some_is}
 use Rattle.ibc_laws.proofs.steps.CoreSteps.{rank, SeesPeer}
 use Rattle.ibc_laws.proofs.steps.Growth.{ChannelGrows, Grows}
 use Rattle.ibc_laws.proofs.steps.CoreShape.{CoreShaped}
-use Rattle.ibc_laws.proofs.steps.Worlds.{seen_of, height_below}
+use Rattle.ibc_laws.proofs.steps.WorldGrowth.{seen_of, height_below}
 use Rattle.ibc_laws.proofs.peers.Invariant.{Inv}
 use Rattle.ibc_laws.proofs.peers.Peers.{Stands}
 use Rattle.ibc_laws.proofs.peers.FirstLaw.{HasPeer, peer_of}
@@ -50,9 +50,9 @@ peer_seen w inv e mine here ranks port channel named height P sees =
     let tracked : sees.tracked ≡ names.client = some_is (subst (λ i. client_at core i ≡ Some sees.tracked) client sees.there) names.client_there in
     let chain_is : sees.tracked.state.chain ≡ peer.other.chain = ap (λ (c : Client). c.state.chain) tracked ∙ names.tracks in
     let of = seen_of sees in
-    let there : Chain = peer.there.chain in
+    let there : MachineChain = peer.there.chain in
     let same : of.chain ≡ there = some_is (subst (λ i. slice_get w i ≡ Some of.chain) chain_is of.there) peer.there.there in
-    let stood : block_of height there.committed ≡ Some sees.block = subst (λ (c : Chain). block_of height c.committed ≡ Some sees.block) same of.stood in
+    let stood : block_of height there.committed ≡ Some sees.block = subst (λ (c : MachineChain). block_of height c.committed ≡ Some sees.block) same of.stood in
     let shape = inv.shaped.each peer.other.chain there peer.there.there in
     let grows : Grows sees.block.records.core there.records.core = shape.grows height sees.block stood in
     record {

@@ -7,7 +7,7 @@ use Rattle.ibc_ids.proofs.Texts.{text_same, same_text_itself}
 use Rattle.ibc_wire.specs.declared.records.ConnectionEnd.{ConnectionEnd}
 use Rattle.ibc_wire.specs.declared.records.ChannelState.TheVariants as chan
 use Rattle.ibc_wire.specs.declared.records.ChannelState.{ChannelState}
-use Rattle.ibc_machine.specs.chain.Records.{Core, Records, Chain, Client, Channel, client_at, connection_at, channel_at}
+use Rattle.ibc_machine.specs.chain.Records.{Core, Records, MachineChain, Client, Channel, client_at, connection_at, channel_at}
 use Rattle.ibc_machine.specs.ics24.Values.{same_optional, same_channel_state}
 use Rattle.ibc_machine.specs.ics04.Channels.{is_established}
 use Rattle.ibc_machine.specs.ics04.Packets.{has_peer}
@@ -16,44 +16,44 @@ use Rattle.ibc_machine.specs.promises.Histories.{End}
 use Rattle.ibc_machine.specs.promises.Peers.{end_at, found_at, is_connected_to, names, are_paired_if, are_peers}
 use Rattle.ibc_machine.proofs.SameValues.{same_optional_is}
 use Rattle.ibc_laws.proofs.basics.PassedTests.{or_left, or_right, both, either, and_true, number-self}
-use Rattle.ibc_laws.proofs.basics.Places.{some_is}
+use Rattle.ibc_laws.proofs.basics.ListPlaces.{some_is}
 use Rattle.ibc_laws.proofs.steps.CoreSteps.{rank}
 use Rattle.ibc_laws.proofs.steps.Growth.{ChannelGrows, Grows}
 use Rattle.ibc_laws.proofs.steps.PacketsPassed.{established_rank}
-use Rattle.ibc_laws.proofs.steps.Worlds.{ChainGrows, WorldGrows}
+use Rattle.ibc_laws.proofs.steps.WorldGrowth.{ChainGrows, WorldGrows}
 
 -- ---- what stands at an end
 
 pub record Stands (w : World) (e : End) (m : Channel) : Type 0 where
-  pub chain : Chain
+  pub chain : MachineChain
   pub there : slice_get w e.chain ≡ Some chain
   pub is : channel_at chain.records.core e.port e.channel ≡ Some m
 
 pub stands : (w : World) (e : End) (m : Channel) → end_at w e ≡ Some m → Stands w e m
 stands w e m is = go (slice_get w e.chain) refl is
   where
-    go : (o : Option Chain) → slice_get w e.chain ≡ o
-        → option_and_then (λ (records : Records). channel_at records.core e.port e.channel) (option_map (λ (c : Chain). c.records) o) ≡ Some m → Stands w e m
+    go : (o : Option MachineChain) → slice_get w e.chain ≡ o
+        → option_and_then (λ (records : Records). channel_at records.core e.port e.channel) (option_map (λ (c : MachineChain). c.records) o) ≡ Some m → Stands w e m
     go (Some c) there is = record { chain = c; there = there; is = is }
     go None there is = absurd (cc is)
 
 found : (w : World) (e : End) (m : Channel) (s : Stands w e m) → found_at w e ≡ Some (s.chain.records.core, m)
 found w e m s =
-    ap (λ (o : Option Chain). option_and_then (λ (records : Records). option_map (λ (c : Channel). (records.core, c)) (channel_at records.core e.port e.channel)) (option_map (λ (c : Chain). c.records) o)) s.there
+    ap (λ (o : Option MachineChain). option_and_then (λ (records : Records). option_map (λ (c : Channel). (records.core, c)) (channel_at records.core e.port e.channel)) (option_map (λ (c : MachineChain). c.records) o)) s.there
     ∙ ap (λ (o : Option Channel). option_map (λ (c : Channel). (s.chain.records.core, c)) o) s.is
 
 found_stands : (w : World) (e : End) (x : Core × Channel) → found_at w e ≡ Some x → (s : Stands w e x.1) × (s.chain.records.core ≡ x.0)
 found_stands w e x is = go (slice_get w e.chain) refl is
   where
-    inner : (c : Chain) → slice_get w e.chain ≡ Some c → (o : Option Channel) → channel_at c.records.core e.port e.channel ≡ o
+    inner : (c : MachineChain) → slice_get w e.chain ≡ Some c → (o : Option Channel) → channel_at c.records.core e.port e.channel ≡ o
         → option_map (λ (m : Channel). (c.records.core, m)) o ≡ Some x → (s : Stands w e x.1) × (s.chain.records.core ≡ x.0)
     inner c there (Some m) at_ is =
         let same : (c.records.core, m) ≡ x = some_is refl is in
         (record { chain = c; there = there; is = at_ ∙ ap Some (ap (λ (y : Core × Channel). y.1) same) }, ap (λ (y : Core × Channel). y.0) same)
     inner c there None at_ is = absurd (cc is)
 
-    go : (o : Option Chain) → slice_get w e.chain ≡ o
-        → option_and_then (λ (records : Records). option_map (λ (c : Channel). (records.core, c)) (channel_at records.core e.port e.channel)) (option_map (λ (c : Chain). c.records) o) ≡ Some x
+    go : (o : Option MachineChain) → slice_get w e.chain ≡ o
+        → option_and_then (λ (records : Records). option_map (λ (c : Channel). (records.core, c)) (channel_at records.core e.port e.channel)) (option_map (λ (c : MachineChain). c.records) o) ≡ Some x
         → (s : Stands w e x.1) × (s.chain.records.core ≡ x.0)
     go (Some c) there is = inner c there (channel_at c.records.core e.port e.channel) refl is
     go None there is = absurd (cc is)
@@ -171,7 +171,7 @@ peers_flip e f p = record {
 pub stands_same : {w : World} (e : End) (m n : Channel) → Stands w e m → Stands w e n → m ≡ n
 stands_same e m n a b =
     let chain : a.chain ≡ b.chain = some_is a.there b.there in
-    some_is a.is (subst (λ (c : Chain). channel_at c.records.core e.port e.channel ≡ Some n) (sym chain) b.is)
+    some_is a.is (subst (λ (c : MachineChain). channel_at c.records.core e.port e.channel ≡ Some n) (sym chain) b.is)
 
 pub stands_alike : {w : World} (g f : End) (a b : Channel) → g ≡ f → (x : Stands w g a) (y : Stands w f b)
     → (x.chain ≡ y.chain) × (a ≡ b)
@@ -179,14 +179,14 @@ stands_alike {w} g f a b same x y =
     let there = subst (λ (z : End). slice_get w z.chain ≡ Some x.chain) same x.there in
     let chain = some_is there y.there in
     let is = subst (λ (z : End). channel_at x.chain.records.core z.port z.channel ≡ Some a) same x.is in
-    (chain, some_is (subst (λ (c : Chain). channel_at c.records.core f.port f.channel ≡ Some a) chain is) y.is)
+    (chain, some_is (subst (λ (c : MachineChain). channel_at c.records.core f.port f.channel ≡ Some a) chain is) y.is)
 
 pub one_peer_only : (w : World) (e f g : End) → Peers w e f → Peers w e g → f ≡ g
 one_peer_only w e f g p q =
     let chain : q.here.chain ≡ p.here.chain = some_is q.here.there p.here.there in
     let mine : q.mine ≡ p.mine = stands_same e q.mine p.mine q.here p.here in
     let nq : Names p.here.chain.records.core p.mine g q.theirs =
-    subst (λ (m : Channel). Names p.here.chain.records.core m g q.theirs) mine (subst (λ (z : Chain). Names z.records.core q.mine g q.theirs) chain q.names_them) in
+    subst (λ (m : Channel). Names p.here.chain.records.core m g q.theirs) mine (subst (λ (z : MachineChain). Names z.records.core q.mine g q.theirs) chain q.names_them) in
     let np = p.names_them in
     let port : f.port ≡ g.port = np.port ∙ sym nq.port in
     let channel : f.channel ≡ g.channel = some_is np.channel nq.channel in

@@ -14,13 +14,13 @@ use Rattle.ibc_machine.specs.ics04.Channels.{is_open, client_of, peer_connection
 use Rattle.ibc_machine.specs.chain.Machine.{World}
 use Rattle.ibc_machine.proofs.SameValues.{same_connection_state_is}
 use Rattle.ibc_machine.proofs.FiniteMaps.{by_text, by_pair, found_in_with}
-use Rattle.ibc_laws.proofs.basics.Places.{some_is}
+use Rattle.ibc_laws.proofs.basics.ListPlaces.{some_is}
 use Rattle.ibc_laws.proofs.steps.Told.{Told}
 use Rattle.ibc_laws.proofs.steps.CoreSteps.{rank, HadChannel, their_end, CoreStep, creates_client, updates_client, starts_connection, answers_connection, confirms_connection, opens_channel, changes_channel, ChannelStep, answers, follows, closes, sends, receives, acknowledges, times_out, StartsConnection, AnswersConnection, ConfirmsConnection, SeesPeer}
 use Rattle.ibc_laws.proofs.steps.Growth.{ChannelGrows, Grows-refl}
 use Rattle.ibc_laws.proofs.steps.EndSteps.{IsShaped, end_grows, not_init, open_rank}
 use Rattle.ibc_laws.proofs.steps.CoreShape.{CoreShaped}
-use Rattle.ibc_laws.proofs.steps.Worlds.{At, Shaped, WorldGrows-refl, seen_now}
+use Rattle.ibc_laws.proofs.steps.WorldGrowth.{At, Shaped, WorldGrows-refl, seen_now}
 use Rattle.ibc_laws.proofs.peers.PeersKnown.{ClientOf, ConnectionTo, ConnectionPeer, ChannelTo, ChannelPeer, ChannelPeer-grows, Connected, Settled}
 
 -- each end of a chain knows of its peer what it must

@@ -6,11 +6,11 @@ use Rattle.ibc_wire.specs.declared.records.ChannelState.TheVariants as chan
 use Rattle.ibc_wire.specs.declared.records.ConnectionEnd.{ConnectionEnd}
 use Rattle.ibc_machine.specs.chain.Records.{Core, Client, Channel, client_at, connection_at, channel_at}
 use Rattle.ibc_machine.specs.chain.Machine.{World}
-use Rattle.ibc_laws.proofs.basics.Places.{some_is}
+use Rattle.ibc_laws.proofs.basics.ListPlaces.{some_is}
 use Rattle.ibc_laws.proofs.steps.CoreSteps.{rank}
 use Rattle.ibc_laws.proofs.steps.Growth.{ChannelGrows, Grows}
 use Rattle.ibc_laws.proofs.steps.EndSteps.{not_init}
-use Rattle.ibc_laws.proofs.steps.Worlds.{At, At-grows, WorldGrows}
+use Rattle.ibc_laws.proofs.steps.WorldGrowth.{At, At-grows, WorldGrows}
 
 -- ---- connections
 

@@ -7,7 +7,7 @@ use Rattle.ibc_ids.specs.Paths.{nth_channel}
 use Rattle.ibc_ids.proofs.Texts.{text_same}
 use Rattle.ibc_wire.specs.declared.packet.Packet.{Packet}
 use Rattle.ibc_wire.specs.declared.records.ChannelEnd.{ChannelEnd}
-use Rattle.ibc_machine.specs.chain.Records.{Core, Chain, Channel, channel_at}
+use Rattle.ibc_machine.specs.chain.Records.{Core, MachineChain, Channel, channel_at}
 use Rattle.ibc_machine.specs.ics24.Evidence.{Host}
 use Rattle.ibc_machine.specs.chain.Handlers.{host_of}
 use Rattle.ibc_machine.specs.ics04.Channels.{new_channel}
@@ -16,15 +16,15 @@ use Rattle.ibc_machine.specs.chain.Machine.{World}
 use Rattle.ibc_machine.specs.promises.Histories.{Happened, End, is_end, packet_if}
 use Rattle.ibc_laws.proofs.basics.PassedTests.{both}
 use Rattle.ibc_machine.proofs.FiniteMaps.{by_pair, at-with_split}
-use Rattle.ibc_laws.proofs.basics.Places.{some_is, same_or_not, get-set_same, get-set_other}
+use Rattle.ibc_laws.proofs.basics.ListPlaces.{some_is, same_or_not, get-set_same, get-set_other}
 use Rattle.ibc_laws.proofs.steps.Told.{Told, Quiet, told_of, sent_in, received_in, acknowledged_in, timed_out_in}
 use Rattle.ibc_laws.proofs.steps.CoreSteps.{CoreStep, creates_client, updates_client, starts_connection, answers_connection, confirms_connection, opens_channel, changes_channel, ChannelStep, answers, follows, closes, sends, receives, acknowledges, times_out}
-use Rattle.ibc_laws.proofs.steps.Worlds.{ChainStep, acts, ends, GoodStep, next_chain}
+use Rattle.ibc_laws.proofs.steps.WorldGrowth.{ChainStep, acts, ends, GoodStep, next_chain}
 use Rattle.ibc_laws.proofs.steps.CoreShape.{HasChannel}
 use Rattle.ibc_laws.proofs.basics.Numbered.{none_yet}
 use Rattle.ibc_machine.proofs.Identifiers.{nth_channel_same}
 use Rattle.ibc_laws.proofs.peers.Invariant.{Inv}
-use Rattle.ibc_laws.proofs.steps.Steps.{Moves, Stepped, rests, moves}
+use Rattle.ibc_laws.proofs.steps.MachineSteps.{Moves, Stepped, rests, moves}
 use Rattle.ibc_laws.proofs.peers.Peers.{Stands}
 
 -- nothing is told of the end
@@ -99,8 +99,8 @@ quiet_elsewhere w host core e port id m told n other (times_out p s) = record {
 -- ---- the chain of the end moves
 
 pub record MovesAt (chains : ℕ) (w : World) (h : Happened) (v : World) (k : ℕ) : Type 0 where
-  pub before : Chain
-  pub now : Chain
+  pub before : MachineChain
+  pub now : MachineChain
   pub there : slice_get w k ≡ Some before
   pub chain_is : chain_of h.0 ≡ k
   pub step : ChainStep chains w k before (told_of h) now
@@ -108,7 +108,7 @@ pub record MovesAt (chains : ℕ) (w : World) (h : Happened) (v : World) (k : �
   pub after : v ≡ slice_set w k now
 
 module _ (chains : ℕ) (w : World) (h : Happened) (v : World) (inv : Inv w) (e : End) (s : MovesAt chains w h v e.chain) where
-  stands_now : (d : Chain) → s.now ≡ d → (n : Channel) → channel_at d.records.core e.port e.channel ≡ Some n → Stands v e n
+  stands_now : (d : MachineChain) → s.now ≡ d → (n : Channel) → channel_at d.records.core e.port e.channel ≡ Some n → Stands v e n
   stands_now d same n is = record {
     chain = d;
     there = subst (λ x. slice_get x e.chain ≡ Some d) (sym s.after)
@@ -120,20 +120,20 @@ module _ (chains : ℕ) (w : World) (h : Happened) (v : World) (inv : Inv w) (e 
   stood m is = record { chain = s.before; there = s.there; is = is }
 
   -- what stands now is of the chain that moved
-  of_now : (d : Chain) → s.now ≡ d → (m : Channel) → Stands v e m → channel_at d.records.core e.port e.channel ≡ Some m
+  of_now : (d : MachineChain) → s.now ≡ d → (m : Channel) → Stands v e m → channel_at d.records.core e.port e.channel ≡ Some m
   of_now d same m stands =
       let at_v = subst (λ x. slice_get x e.chain ≡ Some stands.chain) s.after stands.there in
       let is : stands.chain ≡ d = some_is at_v (get-set_same w e.chain s.before s.now s.there) ∙ same in
-      subst (λ (c : Chain). channel_at c.records.core e.port e.channel ≡ Some m) is stands.is
+      subst (λ (c : MachineChain). channel_at c.records.core e.port e.channel ≡ Some m) is stands.is
 
   -- the channels are as they were
-  same_channels : (d : Chain) → s.now ≡ d → told_of h ≡ Quiet → d.records.core.channels ≡ s.before.records.core.channels
+  same_channels : (d : MachineChain) → s.now ≡ d → told_of h ≡ Quiet → d.records.core.channels ≡ s.before.records.core.channels
       → EndStep chains w h v e
   same_channels d same silent channels = untouched (λ chain. quiet e (told_of h) silent)
       (λ m stands. stood m (ap (λ x. at pair_cmp (e.port, e.channel) x) (sym channels) ∙ of_now d same m stands))
 
   -- the channel of a key is new, or another one, and the end is at the key or elsewhere
-  opening : (port : Text) (end : ChannelEnd) → (d : Chain) → s.now ≡ d → told_of h ≡ Quiet
+  opening : (port : Text) (end : ChannelEnd) → (d : MachineChain) → s.now ≡ d → told_of h ≡ Quiet
       → d.records.core.channels ≡ with pair_cmp (port, nth_channel s.before.records.core.next_channel) (new_channel end) s.before.records.core.channels
       → EndStep chains w h v e
   opening port end d same silent channels =
@@ -146,14 +146,14 @@ module _ (chains : ℕ) (w : World) (h : Happened) (v : World) (inv : Inv w) (e 
               e.port,
               m,
               ap (λ x. channel_at core e.port x) (sym (ap (λ (x : Text × Text). x.1) here.0))
-                  ∙ ap (λ (c : Chain). channel_at c.records.core e.port e.channel) (some_is s.there stands.there) ∙ stands.is,
+                  ∙ ap (λ (c : MachineChain). channel_at c.records.core e.port e.channel) (some_is s.there stands.there) ∙ stands.is,
             )))
         | inr there ↦ untouched (λ chain. quiet e (told_of h) silent)
             (λ m stands. stood m (sym there.1 ∙ sym found ∙ of_now d same m stands))
       ]
 
   changing : (told : Told) (port id : Text) (m n : Channel) → channel_at s.before.records.core port id ≡ Some m
-      → ChannelStep w (host_of chains e.chain s.before) s.before.records.core port id m told n → (d : Chain) → s.now ≡ d → told_of h ≡ told
+      → ChannelStep w (host_of chains e.chain s.before) s.before.records.core port id m told n → (d : MachineChain) → s.now ≡ d → told_of h ≡ told
       → d.records.core.channels ≡ with pair_cmp (port, id) n s.before.records.core.channels → EndStep chains w h v e
   changing told port id m n was step d same is channels =
       let core : Core = s.before.records.core in
@@ -169,7 +169,7 @@ module _ (chains : ℕ) (w : World) (h : Happened) (v : World) (inv : Inv w) (e 
       ]
 
   of_core : (told : Told) (after : Core) → CoreStep w (host_of chains e.chain s.before) s.before.records.core told after
-      → (d : Chain) → s.now ≡ d → told_of h ≡ told → d.records.core ≡ after → EndStep chains w h v e
+      → (d : MachineChain) → s.now ≡ d → told_of h ≡ told → d.records.core ≡ after → EndStep chains w h v e
   of_core told after (creates_client chain other free) d same is core = same_channels d same is (ap (λ (c : Core). c.channels) core)
   of_core told after (updates_client id client height there) d same is core = same_channels d same is (ap (λ (c : Core). c.channels) core)
   of_core told after (starts_connection end free s) d same is core = same_channels d same is (ap (λ (c : Core). c.channels) core)
@@ -179,7 +179,7 @@ module _ (chains : ℕ) (w : World) (h : Happened) (v : World) (inv : Inv w) (e 
   of_core _ after (changes_channel told port id mine now there s) d same is core =
       changing told port id mine now there s d same is (ap (λ (c : Core). c.channels) core)
 
-  of_chain : (told : Told) (d : Chain) → ChainStep chains w e.chain s.before told d → s.now ≡ d → told_of h ≡ told → EndStep chains w h v e
+  of_chain : (told : Told) (d : MachineChain) → ChainStep chains w e.chain s.before told d → s.now ≡ d → told_of h ≡ told → EndStep chains w h v e
   of_chain _ d (acts told records step apps) same is = of_core told records.core step (record s.before { records = records }) same is refl
   of_chain told d (ends t later) same is = same_channels (next_chain s.before t) same is refl
 

@@ -9,10 +9,10 @@ use Rattle.ibc_wire.specs.declared.records.ConnectionEnd.{ConnectionEnd}
 use Rattle.ibc_wire.specs.declared.records.ChannelEnd.{ChannelEnd}
 use Rattle.ibc_machine.specs.chain.Records.{Core, Client, Channel, client_at, connection_at, channel_at, with_client, with_connection, with_channel}
 use Rattle.ibc_machine.specs.ics24.Evidence.{Host}
-use Rattle.ibc_machine.specs.ics02.Clients.{new_client, updated}
+use Rattle.ibc_machine.specs.ics02.Clients.{new_client, with_known_height}
 use Rattle.ibc_machine.specs.ics04.Channels.{new_channel}
 use Rattle.ibc_machine.specs.chain.Machine.{World}
-use Rattle.ibc_laws.proofs.basics.Places.{some_is}
+use Rattle.ibc_laws.proofs.basics.ListPlaces.{some_is}
 use Rattle.ibc_machine.proofs.FiniteMaps.{by_text, by_pair, found_in_with}
 use Rattle.ibc_machine.proofs.Identifiers.{nth_client_same, nth_connection_same, nth_channel_same}
 use Rattle.ibc_laws.proofs.steps.Told.{Told}
@@ -102,7 +102,7 @@ module _ (w : World) (host : Host) (core : Core) (h : CoreShaped core) where
       (λ c e. absurd (none_yet h.client_names nth_client_same (c, e))))
       (Grows-same_ends (record { clients = refl; connections = refl; channels = refl }))
   core_grows told after (updates_client id client height there) =
-      Grows-with_client core id (updated height client) (λ b e. ap (λ (x : Client). x.state.chain) (some_is there e))
+      Grows-with_client core id (with_known_height height client) (λ b e. ap (λ (x : Client). x.state.chain) (some_is there e))
   core_grows told after (starts_connection end free s) =
       Grows-trans (Grows-with_connection core (nth_connection core.next_connection) end
       (λ c e. absurd (none_yet h.connection_names nth_connection_same (c, e))))
@@ -146,7 +146,7 @@ module _ (w : World) (host : Host) (core : Core) (h : CoreShaped core) where
     channels = h.channels;
   }
   core_shaped told after (updates_client id client height there) = record {
-    client_names = numbered-same h.client_names (λ q has. old (HasClient core) id q (client, there) (has_client core h id q (updated height client) has));
+    client_names = numbered-same h.client_names (λ q has. old (HasClient core) id q (client, there) (has_client core h id q (with_known_height height client) has));
     connection_names = h.connection_names;
     channel_names = h.channel_names;
     connections = h.connections;

@@ -14,7 +14,7 @@ use Rattle.ibc_wire.specs.declared.messages.Message.{Message}
 use Rattle.ibc_machine.specs.declared.reply.Effect.{Effect}
 use Rattle.ibc_machine.specs.chain.Records.{Core, Block, Client, Channel, Commitment, client_at, connection_at, channel_at, with_client, with_connection, with_channel, commitment_of}
 use Rattle.ibc_machine.specs.ics24.Evidence.{Host}
-use Rattle.ibc_machine.specs.ics02.Clients.{new_client, updated}
+use Rattle.ibc_machine.specs.ics02.Clients.{new_client, with_known_height}
 use Rattle.ibc_machine.specs.ics03.Connections.{with_new_connection}
 use Rattle.ibc_machine.specs.ics04.Channels.{is_open, client_of, peer_channel_of, counterpart, with_new_channel, in_state}
 use Rattle.ibc_machine.specs.ics04.Packets.{is_ordered, has_peer, has_received, is_timed_out, after_send, after_receive, after_ack, after_timeout}
@@ -192,7 +192,7 @@ pub data CoreStep (w : World) (host : Host) (core : Core) : Told → Core → Ty
   creates_client : (chain : ℕ) → (chain == host.chain) ≡ false → IsFree core.next_client
       → CoreStep w host core Quiet (record (with_client (nth_client core.next_client) (new_client chain) core) { next_client = core.next_client + 1 })
   updates_client : (id : Text) (client : Client) (height : ℕ) → client_at core id ≡ Some client
-      → CoreStep w host core Quiet (with_client id (updated height client) core)
+      → CoreStep w host core Quiet (with_client id (with_known_height height client) core)
   starts_connection : (end : ConnectionEnd) → IsFree core.next_connection → StartsConnection w host core end
       → CoreStep w host core Quiet (with_new_connection (nth_connection core.next_connection) end core)
   answers_connection : (id : Text) (mine : ConnectionEnd) (peer : Text) → AnswersConnection w host core id mine peer

@@ -12,7 +12,7 @@ use Rattle.ibc_machine.specs.ics04.Packets.{is_ordered, without_commitment, afte
 use Rattle.ibc_machine.specs.chain.Machine.{World}
 use Rattle.ibc_machine.specs.promises.Histories.{End}
 use Rattle.std.specs.Cmp.{nat_cmp_total}
-use Rattle.ibc_laws.proofs.basics.Places.{same_or_not}
+use Rattle.ibc_laws.proofs.basics.ListPlaces.{same_or_not}
 use Rattle.ibc_machine.proofs.FiniteMaps.{by_number, at-with_split}
 use Rattle.ibc_machine.proofs.SortedMaps.{at-without_other}
 use Rattle.ibc_laws.proofs.steps.Told.{Told, Sent, Received}

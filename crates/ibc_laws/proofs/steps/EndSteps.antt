@@ -8,7 +8,7 @@ use Rattle.ibc_wire.specs.declared.packet.Packet.{Packet}
 use Rattle.ibc_wire.specs.declared.records.ChannelState.{ChannelState}
 use Rattle.ibc_wire.specs.declared.records.ChannelState.TheVariants as chan
 use Rattle.ibc_wire.specs.declared.records.ChannelEnd.{ChannelEnd}
-use Rattle.ibc_machine.specs.chain.Records.{Core, Channel, Commitment, is_one_of, added}
+use Rattle.ibc_machine.specs.chain.Records.{Core, Channel, Commitment, is_one_of, with_number}
 use Rattle.ibc_machine.specs.ics24.Evidence.{Host}
 use Rattle.ibc_machine.specs.ics04.Channels.{in_state}
 use Rattle.ibc_machine.specs.ics04.Packets.{is_ordered, has_received, after_send, after_receive, without_commitment}
@@ -91,7 +91,7 @@ shaped-sent c m h = record {
 abbrev pub taken : Bool → ℕ → Text → Channel → Channel
 taken b n ack m =
     let acked : Channel = record m { acks = with nat_cmp n ack m.acks } in
-    if b then record acked { next_recv = m.next_recv + 1 } else record acked { receipts = added n m.receipts }
+    if b then record acked { next_recv = m.next_recv + 1 } else record acked { receipts = with_number n m.receipts }
 
 abbrev was_taken : Bool → Channel → ℕ → Bool
 was_taken b m n = if b then nat_lt n m.next_recv else is_one_of m.receipts n
@@ -104,7 +104,7 @@ received_after n ack m true next k (inl e) =
 received_after n ack m true next k (inr e) =
     let a : k < m.next_recv = ltb-true k m.next_recv e in lt-ltb k (m.next_recv + 1) (omega arith)
 received_after n ack m false next k (inl e) =
-    subst (λ x. is_one_of (added n m.receipts) x ≡ true) (sym e) (added_there n m.receipts)
+    subst (λ x. is_one_of (with_number n m.receipts) x ≡ true) (sym e) (added_there n m.receipts)
 received_after n ack m false next k (inr e) = added_kept n k m.receipts e
 
 -- an ordered end takes the sequence that it waits for

@@ -11,7 +11,7 @@ use Rattle.ibc_machine.specs.ics04.Channels.{new_channel}
 use Rattle.ibc_machine.specs.ics04.Packets.{is_ordered, after_send, after_receive, after_ack, after_timeout}
 use Rattle.ibc_machine.specs.chain.Machine.{World}
 use Rattle.ibc_machine.specs.ledger.Ledgers.{chain_of}
-use Rattle.ibc_machine.specs.promises.Histories.{Happened, End, is_end, packet_if, packet_from, sent_by, received_by, acknowledged_by, timed_out_by, sent, received, acknowledged, timed_out, history_of, sequences}
+use Rattle.ibc_machine.specs.promises.Histories.{Happened, End, is_end, packet_if, packet_from, sent_by, received_by, acknowledged_by, timed_out_by, sent_packets, received_packets, acknowledged_packets, timed_out_packets, history_of, sequences}
 use Rattle.ibc_laws.proofs.basics.PassedTests.{and_true, number-self}
 use Rattle.ibc_laws.proofs.basics.Lists.{filter-append, filter_map-append, lemma_contains_one}
 use Rattle.ibc_laws.proofs.steps.Told.{Told, Sent, Received, TimedOut, told_of, is_told, sent_in, received_in, acknowledged_in, timed_out_in}
@@ -73,43 +73,43 @@ at_itself e port channel p is_port is_channel = ap (λ b. packet_if b p) (lemma_
 module _ (chains : ℕ) (w : World) (hs : List Happened) (h : Happened) (v : World) (e : End) where
   -- the packets that the end has sent
   pub data Sending : Type 0 where
-    sent_nothing : ((mine : Channel) → sent e mine (hs ++ h ∷ []) ≡ sent e mine hs)
+    sent_nothing : ((mine : Channel) → sent_packets e mine (hs ++ h ∷ []) ≡ sent_packets e mine hs)
         → ((n : Channel) → Stands v e n → StoodBefore w e SameSending n) → Sending
     sent_one : (c : Commitment) (m : Channel) → Stands w e m → Stands v e (after_send c m)
-        → ((mine : Channel) → sent e mine (hs ++ h ∷ []) ≡ sent e mine hs ++ packet_from e mine m.next_send c ∷ []) → Sending
+        → ((mine : Channel) → sent_packets e mine (hs ++ h ∷ []) ≡ sent_packets e mine hs ++ packet_from e mine m.next_send c ∷ []) → Sending
 
   -- the packets that it has received
   pub data Receiving : Type 0 where
-    received_nothing : received e (hs ++ h ∷ []) ≡ received e hs
+    received_nothing : received_packets e (hs ++ h ∷ []) ≡ received_packets e hs
         → ((n : Channel) → Stands v e n → StoodBefore w e SameReceiving n) → Receiving
     received_one : (p : Packet) (ack : Text) (m : Channel) (was : Stands w e m) → Stands v e (after_receive p.sequence ack m)
         → Receives w (host_of chains e.chain was.chain) was.chain.records.core e.port e.channel m p
-        → told_of h ≡ Received p (Some ack) → received e (hs ++ h ∷ []) ≡ received e hs ++ p ∷ [] → Receiving
+        → told_of h ≡ Received p (Some ack) → received_packets e (hs ++ h ∷ []) ≡ received_packets e hs ++ p ∷ [] → Receiving
 
   -- its packets that were acknowledged, and that timed out
   pub data Settling : Type 0 where
-    settled_nothing : acknowledged e (hs ++ h ∷ []) ≡ acknowledged e hs → timed_out e (hs ++ h ∷ []) ≡ timed_out e hs
+    settled_nothing : acknowledged_packets e (hs ++ h ∷ []) ≡ acknowledged_packets e hs → timed_out_packets e (hs ++ h ∷ []) ≡ timed_out_packets e hs
         → ((n : Channel) → Stands v e n → StoodBefore w e SameGone n) → Settling
     acknowledged_one : (p : Packet) (m : Channel) (was : Stands w e m) → Stands v e (after_ack p.sequence m)
         → Acks w was.chain.records.core e.port e.channel m p
-        → acknowledged e (hs ++ h ∷ []) ≡ acknowledged e hs ++ p ∷ [] → timed_out e (hs ++ h ∷ []) ≡ timed_out e hs → Settling
+        → acknowledged_packets e (hs ++ h ∷ []) ≡ acknowledged_packets e hs ++ p ∷ [] → timed_out_packets e (hs ++ h ∷ []) ≡ timed_out_packets e hs → Settling
     timed_out_one : (p : Packet) (m : Channel) (was : Stands w e m) → Stands v e (after_timeout p.sequence m)
         → TimesOut w was.chain.records.core e.port e.channel m p → told_of h ≡ TimedOut p
-        → acknowledged e (hs ++ h ∷ []) ≡ acknowledged e hs → timed_out e (hs ++ h ∷ []) ≡ timed_out e hs ++ p ∷ [] → Settling
+        → acknowledged_packets e (hs ++ h ∷ []) ≡ acknowledged_packets e hs → timed_out_packets e (hs ++ h ∷ []) ≡ timed_out_packets e hs ++ p ∷ [] → Settling
 
   -- ---- which of them it is
 
   no_sent : (chain_of h.0 ≡ e.chain → (mine : Channel) → sent_in e mine (told_of h) ≡ None) → (mine : Channel)
-      → sent e mine (hs ++ h ∷ []) ≡ sent e mine hs
+      → sent_packets e mine (hs ++ h ∷ []) ≡ sent_packets e mine hs
   no_sent none mine = about-same (sent_by e mine) e.chain hs h (λ chain. (is_told h).sent e mine ∙ none chain mine)
 
-  no_received : (chain_of h.0 ≡ e.chain → received_in e (told_of h) ≡ None) → received e (hs ++ h ∷ []) ≡ received e hs
+  no_received : (chain_of h.0 ≡ e.chain → received_in e (told_of h) ≡ None) → received_packets e (hs ++ h ∷ []) ≡ received_packets e hs
   no_received none = about-same (received_by e) e.chain hs h (λ chain. (is_told h).received e ∙ none chain)
 
-  no_acknowledged : (chain_of h.0 ≡ e.chain → acknowledged_in e (told_of h) ≡ None) → acknowledged e (hs ++ h ∷ []) ≡ acknowledged e hs
+  no_acknowledged : (chain_of h.0 ≡ e.chain → acknowledged_in e (told_of h) ≡ None) → acknowledged_packets e (hs ++ h ∷ []) ≡ acknowledged_packets e hs
   no_acknowledged none = about-same (acknowledged_by e) e.chain hs h (λ chain. (is_told h).acknowledged e ∙ none chain)
 
-  no_timed_out : (chain_of h.0 ≡ e.chain → timed_out_in e (told_of h) ≡ None) → timed_out e (hs ++ h ∷ []) ≡ timed_out e hs
+  no_timed_out : (chain_of h.0 ≡ e.chain → timed_out_in e (told_of h) ≡ None) → timed_out_packets e (hs ++ h ∷ []) ≡ timed_out_packets e hs
   no_timed_out none = about-same (timed_out_by e) e.chain hs h (λ chain. (is_told h).timed_out e ∙ none chain)
 
   new_end : (P : Channel → Channel → Type 0) → ((m : Channel) → Stands w e m → ⊥) → (end : ChannelEnd) → Stands v e (new_channel end)

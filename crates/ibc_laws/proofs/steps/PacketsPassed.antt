@@ -14,13 +14,13 @@ use Rattle.ibc_wire.specs.declared.messages.AckPacket.{AckPacket}
 use Rattle.ibc_wire.specs.declared.messages.Timeout.{Timeout}
 use Rattle.ibc_wire.specs.declared.messages.TimeoutOnClose.{TimeoutOnClose}
 use Rattle.ibc_machine.specs.chain.Records.{Core, Apps, Records, Block, Client, Channel, Commitment, channel_at, with_channel, is_one_of, commitment_of}
-use Rattle.ibc_machine.specs.ics24.Values.{NumberIs, has, lacks}
+use Rattle.ibc_machine.specs.ics24.Values.{NumberIs, present_claim, absent_claim}
 use Rattle.ibc_machine.specs.ics24.Evidence.{Host, Evidence}
 use Rattle.ibc_machine.specs.ics04.Channels.{is_in_state, is_established, client_of}
 use Rattle.ibc_machine.specs.ics04.Packets.{recv_checked, recv_packet, ack_checked, ack_packet, timeout_checked, timeout, timeout_on_close_checked, timeout_on_close, is_ordered, is_timed_out, after_ack, not_received, waits_for}
 use Rattle.ibc_machine.specs.chain.Applications.{on_recv, on_ack, on_timeout}
 use Rattle.ibc_machine.specs.chain.Machine.{World, block_at}
-use Rattle.ibc_laws.proofs.basics.Places.{some_is}
+use Rattle.ibc_laws.proofs.basics.ListPlaces.{some_is}
 use Rattle.ibc_machine.proofs.PacketChecks.{IsUnsettled, recv_passed, ack_passed, timeout_passed, timeout_on_close_passed}
 use Rattle.ibc_machine.proofs.PassedRows.{Gives, gives_ok, gives_bind}
 use Rattle.ibc_machine.proofs.SameValues.{same_channel_state_is}
@@ -46,8 +46,8 @@ module _ (window : ℕ) (oldest : Bool) (w : World) (core : Core) (client : Text
   not_received_shown mine p n proof waits e = go (is_ordered mine) refl waits e
     where
       go : (b : Bool) → is_ordered mine ≡ b → not (b && nat_lt p.sequence n) ≡ true
-          → (seeing window oldest w core).shows client height (if b then has (key.NextSequenceRecv p.destination_port p.destination_channel) (NumberIs n)
-          else lacks (key.Receipt p.destination_port p.destination_channel p.sequence)) proof ≡ true
+          → (seeing window oldest w core).shows client height (if b then present_claim (key.NextSequenceRecv p.destination_port p.destination_channel) (NumberIs n)
+          else absent_claim (key.Receipt p.destination_port p.destination_channel p.sequence)) proof ≡ true
           → Sees w core client height (HadNotReceived mine p)
       go true is waits e = Sees-map
           (λ (b : Block) had c there same.

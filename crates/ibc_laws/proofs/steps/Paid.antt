@@ -7,7 +7,7 @@ use Rattle.ibc_wire.specs.declared.messages.Transfer.{Transfer}
 use Rattle.ibc_wire.specs.declared.messages.TransferMany.{TransferMany}
 use Rattle.ibc_machine.specs.declared.event.Event.TheVariants as event
 use Rattle.ibc_machine.specs.declared.reply.Effect.{Effect}
-use Rattle.ibc_machine.specs.chain.Records.{Core, Apps, Chain, Channel, Commitment}
+use Rattle.ibc_machine.specs.chain.Records.{Core, Apps, MachineChain, Channel, Commitment}
 use Rattle.ibc_machine.specs.ics24.Evidence.{Host, Evidence}
 use Rattle.ibc_machine.specs.chain.Handlers.{handle}
 use Rattle.ibc_machine.specs.ics20.TokenData.{Data, one_token, several_tokens}
@@ -26,7 +26,7 @@ Paid (message.Transfer m) before after = Pays m.channel (transfer_data m) before
 Paid (message.TransferMany m) before after = Pays m.channel (transfer_many_data m) before after
 Paid _ before after = Unit {0}
 
-abbrev pub PaidOf : Happened → Chain → Chain → Type 0
+abbrev pub PaidOf : Happened → MachineChain → MachineChain → Type 0
 PaidOf (event.Message k m, given) before after = Paid m before.records.apps.balances after.records.apps.balances
 PaidOf (event.Block k t, given) before after = Unit {0}
 

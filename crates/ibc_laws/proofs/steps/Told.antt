@@ -13,7 +13,7 @@ use Rattle.ibc_machine.specs.ics20.TokenData.{one_token, several_tokens}
 use Rattle.ibc_machine.specs.ics20.Transfers.{transfer_port, transfer_commitment, transfer_data, transfer_many_data}
 use Rattle.ibc_machine.specs.chain.Notes.{note_port, note_commitment}
 use Rattle.ibc_machine.specs.promises.Histories.{Happened, End, is_end, is_source, is_destination, packet_if, packet_from, sent_by, received_by, acknowledged_by, timed_out_by, ack_by}
-use Rattle.ibc_laws.specs.Packets.{taken_by, taken_if}
+use Rattle.ibc_laws.specs.Packets.{ack_taken_by, pair_if}
 
 pub data Told : Type 0 where
   Quiet : Told
@@ -70,7 +70,7 @@ ack_in e n (Received p (Some ack)) = if is_destination e p && (p.sequence == n) 
 ack_in e n _ = None
 
 abbrev pub taken_in : End → Told → Option (Packet × Text)
-taken_in e (Acknowledged p ack) = taken_if (is_source e p) p ack
+taken_in e (Acknowledged p ack) = pair_if (is_source e p) p ack
 taken_in e _ = None
 
 -- the histories are read off what was told
@@ -80,7 +80,7 @@ pub record IsTold (h : Happened) : Type 0 where
   pub acknowledged : (e : End) → acknowledged_by e h ≡ acknowledged_in e (told_of h)
   pub timed_out : (e : End) → timed_out_by e h ≡ timed_out_in e (told_of h)
   pub wrote : (e : End) (n : ℕ) → ack_by e n h ≡ ack_in e n (told_of h)
-  pub took : (e : End) → taken_by e h ≡ taken_in e (told_of h)
+  pub took : (e : End) → ack_taken_by e h ≡ taken_in e (told_of h)
 
 pub is_told : (h : Happened) → IsTold h
 is_told (event.Message k (message.Transfer m), reply.Ok (effect.Sent n)) =

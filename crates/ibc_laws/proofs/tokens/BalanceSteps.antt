@@ -11,7 +11,7 @@ use Rattle.ibc_machine.specs.chain.Checks.{Checked, ◌>>=◌}
 use Rattle.ibc_machine.specs.ics20.TokenData.{Data, data_of, success, error}
 use Rattle.ibc_machine.specs.ics20.Bank.{Balances, with_balance}
 use Rattle.ibc_machine.specs.chain.Genesis.{Holding, starting_balances}
-use Rattle.ibc_machine.specs.ics20.Transfers.{transfer_port, burnt, each_token, receive_token, refund_token, receive_transfer, receive_data, acknowledged_with, refund_transfer, refund_data, acknowledge_transfer}
+use Rattle.ibc_machine.specs.ics20.Transfers.{transfer_port, burnt_amount, each_token, receive_token, refund_token, receive_transfer, receive_data, receive_result, refund_transfer, refund_data, acknowledge_transfer}
 use Rattle.ibc_machine.specs.chain.Notes.{receive_note}
 use Rattle.ibc_machine.specs.chain.Applications.{with_balances, on_recv, on_ack, on_timeout}
 use Rattle.ibc_machine.proofs.PassedRows.{bind_passed, expect_passed, ok_same}
@@ -34,14 +34,14 @@ taking balances in_flight version p = go (data_of version p.payload) refl
   where
     moving : (d : Data) → data_of version p.payload ≡ Some d → is_user d.receiver ≡ true → (o : Option Balances)
         → each_token (receive_token in_flight p d.receiver) d.tokens balances ≡ o
-        → Taking balances in_flight version p (acknowledged_with balances o).0 (acknowledged_with balances o).1
+        → Taking balances in_flight version p (receive_result balances o).0 (receive_result balances o).1
     moving d is user (Some after) moved = takes d after is user moved
     moving d is user None moved = refuses (codes "over limit")
 
     of_data : (d : Data) → data_of version p.payload ≡ Some d → (b : Bool) → is_user d.receiver ≡ b
         → Taking balances in_flight version p
-        (if b then acknowledged_with balances (each_token (receive_token in_flight p d.receiver) d.tokens balances) else (error (codes "bad receiver"), balances)).0
-        (if b then acknowledged_with balances (each_token (receive_token in_flight p d.receiver) d.tokens balances) else (error (codes "bad receiver"), balances)).1
+        (if b then receive_result balances (each_token (receive_token in_flight p d.receiver) d.tokens balances) else (error (codes "bad receiver"), balances)).0
+        (if b then receive_result balances (each_token (receive_token in_flight p d.receiver) d.tokens balances) else (error (codes "bad receiver"), balances)).1
     of_data d is true user = moving d is user (each_token (receive_token in_flight p d.receiver) d.tokens balances) refl
     of_data d is false user = refuses (codes "bad receiver")
 
@@ -123,19 +123,19 @@ acknowledged_balances apps port version p ack after e =
     by_port apps port after (acknowledge_transfer apps.balances version p ack) (Acknowledging apps.balances version p ack) (acknowledging apps.balances version p ack) e
 
 pub received_balances : (records : Records) (port version : Text) (p : Packet) (ack : Text) (after : Apps) → on_recv records.core port records.apps version p ≡ (ack, after)
-    → ByPort port records.apps.balances after.balances (Taking records.apps.balances (burnt records.core) version p ack)
+    → ByPort port records.apps.balances after.balances (Taking records.apps.balances (burnt_amount records.core) version p ack)
 received_balances records port version p ack after e = go (same_text port transfer_port) refl e
   where
     go : (b : Bool) → same_text port transfer_port ≡ b
         → ◌≡◌ {A = Text × Apps}
-        (if b then (let (ack, balances) = receive_transfer (burnt records.core) records.apps.balances version p in (ack, with_balances records.apps balances))
+        (if b then (let (ack, balances) = receive_transfer (burnt_amount records.core) records.apps.balances version p in (ack, with_balances records.apps balances))
         else (let (ack, notes) = receive_note records.apps.notes p in (ack, record records.apps { notes = notes })))
         (ack, after)
-        → ByPort port records.apps.balances after.balances (Taking records.apps.balances (burnt records.core) version p ack)
+        → ByPort port records.apps.balances after.balances (Taking records.apps.balances (burnt_amount records.core) version p ack)
     go true is e = inl (
       is,
-      subst (λ (x : Text × Apps). Taking records.apps.balances (burnt records.core) version p x.0 x.1.balances) e
-          (taking records.apps.balances (burnt records.core) version p),
+      subst (λ (x : Text × Apps). Taking records.apps.balances (burnt_amount records.core) version p x.0 x.1.balances) e
+          (taking records.apps.balances (burnt_amount records.core) version p),
     )
     go false is e = inr (is, ap (λ (x : Text × Apps). x.1.balances) (sym e))
 

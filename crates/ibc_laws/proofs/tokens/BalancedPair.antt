@@ -10,7 +10,7 @@ use Rattle.ibc_machine.specs.chain.Records.{Channel, Commitment}
 use Rattle.ibc_machine.specs.ics20.TokenData.{amount_of, tokens_of, success}
 use Rattle.ibc_machine.specs.ics20.Bank.{Balances, balance, supply, escrow}
 use Rattle.ibc_machine.specs.ics20.Transfers.{transfer_port, came_over}
-use Rattle.ibc_machine.specs.promises.Totals.{succeeded, amount_under_way}
+use Rattle.ibc_machine.specs.promises.Totals.{has_succeeded, amount_under_way}
 use Rattle.ibc_machine.proofs.SortedMaps.{Sorted}
 use Rattle.ibc_laws.proofs.tokens.FlightSums.{under_way-sent, under_way-settled, under_way-acknowledged}
 use Rattle.ibc_laws.proofs.tokens.TokenShifts.{Unshifted}
@@ -36,16 +36,16 @@ Balanced version e f held issued mine theirs =
 -- what an end with the record m did, with its peer's record, which stays
 pub data PairEffect (version id peer : Text) (theirs : Channel) (before after : Balances) (m n : Channel) : Type 0 where
   keeps : SameBooks m n → Unshifted before after id → PairEffect version id peer theirs before after m n
-  sends_more : (k : ℕ) (c : Commitment) → at nat_cmp k m.commitments ≡ None → succeeded theirs k ≡ false
+  sends_more : (k : ℕ) (c : Commitment) → at nat_cmp k m.commitments ≡ None → has_succeeded theirs k ≡ false
       → n.commitments ≡ with nat_cmp k c m.commitments → n.acks ≡ m.acks
       → Leaving before after id (tokens_of version c) → PairEffect version id peer theirs before after m n
   takes_one : (k : ℕ) (c : Commitment) → at nat_cmp k theirs.commitments ≡ Some c → at nat_cmp k m.acks ≡ None → Noted k success m n
       → Arriving before after id transfer_port peer (tokens_of version c) → PairEffect version id peer theirs before after m n
   turns_one_down : (k : ℕ) (c : Commitment) (ack : Text) → at nat_cmp k theirs.commitments ≡ Some c → at nat_cmp k m.acks ≡ None
       → same_text ack success ≡ false → Noted k ack m n → Unshifted before after id → PairEffect version id peer theirs before after m n
-  settles_one : (k : ℕ) (c : Commitment) → at nat_cmp k m.commitments ≡ Some c → succeeded theirs k ≡ true → Removed k m n
+  settles_one : (k : ℕ) (c : Commitment) → at nat_cmp k m.commitments ≡ Some c → has_succeeded theirs k ≡ true → Removed k m n
       → Unshifted before after id → PairEffect version id peer theirs before after m n
-  gets_back : (k : ℕ) (c : Commitment) → at nat_cmp k m.commitments ≡ Some c → succeeded theirs k ≡ false → Removed k m n
+  gets_back : (k : ℕ) (c : Commitment) → at nat_cmp k m.commitments ≡ Some c → has_succeeded theirs k ≡ false → Removed k m n
       → Returning before after id (tokens_of version c) → PairEffect version id peer theirs before after m n
 
 -- ---- sums under way, in the record that changed and in the one that stays
@@ -59,13 +59,13 @@ module _ (version denom : Text) where
       then 0 else amount_of denom (tokens_of version entry.1)) cs) same
 
   -- a term that counts, and one that doesn't
-  pub counts : (theirs : Channel) (k : ℕ) (c : Commitment) → succeeded theirs k ≡ false → amount_under_way version denom theirs (k, c) ≡ amount_of denom (tokens_of version c)
+  pub counts : (theirs : Channel) (k : ℕ) (c : Commitment) → has_succeeded theirs k ≡ false → amount_under_way version denom theirs (k, c) ≡ amount_of denom (tokens_of version c)
   counts theirs k c is = ap (λ p. if p then 0 else amount_of denom (tokens_of version c)) is
 
-  counts_not : (theirs : Channel) (k : ℕ) (c : Commitment) → succeeded theirs k ≡ true → amount_under_way version denom theirs (k, c) ≡ 0
+  counts_not : (theirs : Channel) (k : ℕ) (c : Commitment) → has_succeeded theirs k ≡ true → amount_under_way version denom theirs (k, c) ≡ 0
   counts_not theirs k c is = ap (λ p. if p then 0 else amount_of denom (tokens_of version c)) is
 
-  more : (theirs m n : Channel) (k : ℕ) (c : Commitment) → Sorted nat_cmp m.commitments → at nat_cmp k m.commitments ≡ None → succeeded theirs k ≡ false
+  more : (theirs m n : Channel) (k : ℕ) (c : Commitment) → Sorted nat_cmp m.commitments → at nat_cmp k m.commitments ≡ None → has_succeeded theirs k ≡ false
       → n.commitments ≡ with nat_cmp k c m.commitments
       → flown version denom theirs n.commitments ≡ flown version denom theirs m.commitments + amount_of denom (tokens_of version c)
   more theirs m n k c sorted none fresh same =
@@ -74,7 +74,7 @@ module _ (version denom : Text) where
       let term = counts theirs k c fresh in
       omega arith
 
-  fewer : (theirs m n : Channel) (k : ℕ) (c : Commitment) → at nat_cmp k m.commitments ≡ Some c → succeeded theirs k ≡ false
+  fewer : (theirs m n : Channel) (k : ℕ) (c : Commitment) → at nat_cmp k m.commitments ≡ Some c → has_succeeded theirs k ≡ false
       → n.commitments ≡ without nat_cmp k m.commitments
       → flown version denom theirs n.commitments + amount_of denom (tokens_of version c) ≡ flown version denom theirs m.commitments
   fewer theirs m n k c there counted same =
@@ -83,7 +83,7 @@ module _ (version denom : Text) where
       let term = counts theirs k c counted in
       omega arith
 
-  as_many : (theirs m n : Channel) (k : ℕ) (c : Commitment) → at nat_cmp k m.commitments ≡ Some c → succeeded theirs k ≡ true
+  as_many : (theirs m n : Channel) (k : ℕ) (c : Commitment) → at nat_cmp k m.commitments ≡ Some c → has_succeeded theirs k ≡ true
       → n.commitments ≡ without nat_cmp k m.commitments → flown version denom theirs n.commitments ≡ flown version denom theirs m.commitments
   as_many theirs m n k c there done same =
       let sum = under_way-settled version denom theirs k c m.commitments there in

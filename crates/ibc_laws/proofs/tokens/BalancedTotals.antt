@@ -10,7 +10,7 @@ use Rattle.ibc_ids.specs.declared.refusal.Refusal.TheVariants.{UnknownChain, Unk
 use Rattle.ibc_ids.proofs.Texts.{text_same}
 use Rattle.ibc_wire.specs.declared.records.ConnectionEnd.{ConnectionEnd}
 use Rattle.ibc_wire.specs.declared.token.Token.{Token}
-use Rattle.ibc_machine.specs.chain.Records.{Records, Chain, Client, Channel, Commitment, client_at, channel_at}
+use Rattle.ibc_machine.specs.chain.Records.{Records, MachineChain, Client, Channel, Commitment, client_at, channel_at}
 use Rattle.ibc_machine.specs.ics04.Channels.{is_established, client_of, peer_channel_of}
 use Rattle.ibc_machine.specs.ics20.TokenData.{Data, is_data, is_token, is_amount, data_of, tokens_of, amount_of}
 use Rattle.ibc_machine.specs.ics20.Bank.{Balances, supply}
@@ -18,12 +18,12 @@ use Rattle.ibc_machine.specs.ics20.Transfers.{transfer_port, came_over}
 use Rattle.ibc_machine.specs.chain.Machine.{World}
 use Rattle.ibc_machine.specs.promises.Histories.{End}
 use Rattle.ibc_machine.specs.promises.Peers.{records_of, end_at, are_peers}
-use Rattle.ibc_machine.specs.promises.Totals.{Totals, totals, totals_between, named_peer, peer_at, are_bounded, flight, flight_between, amount_under_way, succeeded, escrowed, vouchers, hopped}
+use Rattle.ibc_machine.specs.promises.Totals.{Totals, totals, totals_between, named_peer, peer_at, are_bounded, flight, flight_between, amount_under_way, has_succeeded, escrow_balance, vouchers, denom_with_hop}
 use Rattle.ibc_machine.specs.promises.Laws.{HasOnePeer}
 use Rattle.ibc_machine.proofs.DataRead.{data_spelled}
 use Rattle.ibc_machine.proofs.PassedRows.{Gives, gives_expect, gives_require, gives_ok}
 use Rattle.ibc_laws.proofs.basics.PassedTests.{both, no_longer}
-use Rattle.ibc_laws.proofs.basics.Places.{some_is}
+use Rattle.ibc_laws.proofs.basics.ListPlaces.{some_is}
 use Rattle.ibc_laws.proofs.peers.Peers.{Stands, Peers, true_peers, stands, stands_same}
 
 -- ---- of what is no denomination nothing is held, and nothing is under way
@@ -73,7 +73,7 @@ chosen false n e = e
 nothing_under_way : (version denom : Text) → is_denom denom ≡ false → (theirs : Channel) (sent : List (ℕ × Commitment)) → sum_by (amount_under_way version denom theirs) sent ≡ 0
 nothing_under_way version denom not_one theirs [] = refl
 nothing_under_way version denom not_one theirs (entry ∷ sent) =
-    let here : amount_under_way version denom theirs entry ≡ 0 = chosen (succeeded theirs entry.0) _ (nothing_told version denom not_one entry.1) in
+    let here : amount_under_way version denom theirs entry ≡ 0 = chosen (has_succeeded theirs entry.0) _ (nothing_told version denom not_one entry.1) in
     let more = nothing_under_way version denom not_one theirs sent in
     let sum = sum_by-cons (amount_under_way version denom theirs) entry sent in
     omega (arith, here, more, sum)
@@ -92,7 +92,7 @@ AreBalanced t = t.escrow ≡ t.vouchers + t.out + t.back
 
 -- each chain holds denominations alone
 abbrev pub HoldDenominations : World → Type 0
-HoldDenominations world = (k : ℕ) (chain : Chain) → slice_get world k ≡ Some chain
+HoldDenominations world = (k : ℕ) (chain : MachineChain) → slice_get world k ≡ Some chain
     → list_all (λ (entry : (Text × Text) × ℕ). is_denom entry.0.1) chain.records.apps.balances ≡ true
 
 abbrev end_of : ℕ → Text → Text → End
@@ -100,11 +100,11 @@ end_of chain port channel = record { chain = chain; port = port; channel = chann
 
 standing : (world : World) (e : End) (m : Channel) → Stands world e m → end_at world e ≡ Some m
 standing world e m s =
-    ap (λ (o : Option Chain). option_and_then (λ (r : Records). channel_at r.core e.port e.channel) (option_map (λ (c : Chain). c.records) o)) s.there ∙ s.is
+    ap (λ (o : Option MachineChain). option_and_then (λ (r : Records). channel_at r.core e.port e.channel) (option_map (λ (c : MachineChain). c.records) o)) s.there ∙ s.is
 
 module _ (world : World) (one_peer : HasOnePeer world)
     (conserved : (e f : End) (denom : Text) → IsTrue (are_peers world e f) → e.port ≡ transfer_port → came_over e.port e.channel denom ≡ false
-    → escrowed world e denom ≡ vouchers world f denom + flight world e f denom + flight world f e (hopped f denom))
+    → escrow_balance world e denom ≡ vouchers world f denom + flight world e f denom + flight world f e (denom_with_hop f denom))
     (hold : HoldDenominations world) (chain : ℕ) (channel denom : Text) where
   abbrev e : End
   e = end_of chain transfer_port channel
@@ -122,24 +122,24 @@ module _ (world : World) (one_peer : HasOnePeer world)
       λ i. end_of (n.tracks i) (sym n.port i) (name i) in
       ap (option_map (λ (c : Client). end_of c.state.chain p.mine.end.peer_port (peer_channel_of p.mine.end))) there ∙ ap Some same
 
-  too_long : (g : End) → nat_le (length (hopped g denom)) 256 ≡ false → is_denom (hopped g denom) ≡ false
+  too_long : (g : End) → nat_le (length (denom_with_hop g denom)) 256 ≡ false → is_denom (denom_with_hop g denom) ≡ false
   too_long g e = rw e refl
 
   with_peer : (g : End) → are_peers world e g ≡ true → came_over transfer_port channel denom ≡ false → AreBalanced (totals_between world e g denom)
-  with_peer g peers foreign = go (nat_le (length (hopped g denom)) 256) refl
+  with_peer g peers foreign = go (nat_le (length (denom_with_hop g denom)) 256) refl
     where
-      law : escrowed world e denom ≡ vouchers world g denom + flight world e g denom + flight world g e (hopped g denom)
+      law : escrow_balance world e denom ≡ vouchers world g denom + flight world e g denom + flight world g e (denom_with_hop g denom)
       law = conserved e g denom peers refl foreign
 
-      go : (b : Bool) → nat_le (length (hopped g denom)) 256 ≡ b
-          → escrowed world e denom ≡ (if b then vouchers world g denom else 0) + flight world e g denom + (if b then flight world g e (hopped g denom) else 0)
+      go : (b : Bool) → nat_le (length (denom_with_hop g denom)) 256 ≡ b
+          → escrow_balance world e denom ≡ (if b then vouchers world g denom else 0) + flight world e g denom + (if b then flight world g e (denom_with_hop g denom) else 0)
       go true fits = law
       go false long =
           let p = true_peers world e g peers in
           let held : vouchers world g denom ≡ 0 =
-          ap (λ (o : Option Chain). supply (option_map_or (λ (c : Chain). c.records.apps.balances) o []) (hopped g denom)) p.there.there
-          ∙ nothing_held (hopped g denom) (too_long g long) p.there.chain.records.apps.balances (hold g.chain p.there.chain p.there.there) in
-          let back : flight world g e (hopped g denom) ≡ 0 = no_flight (hopped g denom) (too_long g long) (end_at world g) (end_at world e) in
+          ap (λ (o : Option MachineChain). supply (option_map_or (λ (c : MachineChain). c.records.apps.balances) o []) (denom_with_hop g denom)) p.there.there
+          ∙ nothing_held (denom_with_hop g denom) (too_long g long) p.there.chain.records.apps.balances (hold g.chain p.there.chain p.there.there) in
+          let back : flight world g e (denom_with_hop g denom) ≡ 0 = no_flight (denom_with_hop g denom) (too_long g long) (end_at world g) (end_at world e) in
           omega (arith, law, held, back)
 
   checked : (records : Records) → records_of world chain ≡ Some records → (mine : Channel) → channel_at records.core transfer_port channel ≡ Some mine
@@ -150,7 +150,7 @@ module _ (world : World) (one_peer : HasOnePeer world)
       let g = peer.0 in
       let p = true_peers world e g peer.1 in
       let same : p.mine ≡ mine = stands_same e p.mine mine p.here (stands world e mine own) in
-      let its : p.here.chain.records ≡ records = some_is (ap (option_map (λ (c : Chain). c.records)) p.here.there) there in
+      let its : p.here.chain.records ≡ records = some_is (ap (option_map (λ (c : MachineChain). c.records)) p.here.there) there in
       let named : named_peer records.core mine ≡ Some g =
       subst (λ (x : Records × Channel). named_peer x.0.core x.1 ≡ Some g) (λ i. (its i, same i)) (is_named g p) in
       let found_g : peer_at world records.core mine ≡ Some g =

@@ -6,17 +6,17 @@ use Rattle.ibc_ids.specs.Names.{is_user}
 use Rattle.ibc_ids.proofs.Texts.{text_same}
 use Rattle.ibc_wire.specs.declared.packet.Packet.{Packet}
 use Rattle.ibc_wire.specs.declared.token.Token.{Token}
-use Rattle.ibc_machine.specs.chain.Records.{Core, Apps, Records, Chain, Channel, Commitment, channel_at}
+use Rattle.ibc_machine.specs.chain.Records.{Core, Apps, Records, MachineChain, Channel, Commitment, channel_at}
 use Rattle.ibc_machine.specs.ics24.Evidence.{Host}
 use Rattle.ibc_machine.specs.chain.Handlers.{host_of}
 use Rattle.ibc_machine.specs.ics20.TokenData.{Data}
 use Rattle.ibc_machine.specs.ics20.Bank.{Balances}
-use Rattle.ibc_machine.specs.ics20.Transfers.{transfer_port, burnt, each_token, send_token, refund_token, receive_token}
+use Rattle.ibc_machine.specs.ics20.Transfers.{transfer_port, burnt_amount, each_token, send_token, refund_token, receive_token}
 use Rattle.ibc_machine.specs.chain.Machine.{World}
 use Rattle.ibc_laws.proofs.steps.Told.{Told, Sent}
 use Rattle.ibc_laws.proofs.steps.CoreSteps.{CoreStep, creates_client, updates_client, starts_connection, answers_connection, confirms_connection, opens_channel, changes_channel, ChannelStep, answers, follows, closes, sends, receives, acknowledges, times_out}
 use Rattle.ibc_laws.proofs.steps.AppSteps.{AppsOf, AppsOfEnd}
-use Rattle.ibc_laws.proofs.steps.Worlds.{ChainStep, acts, ends}
+use Rattle.ibc_laws.proofs.steps.WorldGrowth.{ChainStep, acts, ends}
 use Rattle.ibc_laws.proofs.tokens.BalanceSteps.{Taking, takes, refuses, Refunding, no_data, refunds, Acknowledging, succeeds, fails, ByPort, received_balances, acknowledged_balances, timed_out_balances}
 use Rattle.ibc_laws.proofs.tokens.TokenEffects.{sender_of}
 
@@ -58,9 +58,9 @@ module _ (w : World) (host : Host) (records : Records) (apps : Apps) where
   lemma_acknowledged told version p ack _ has (fails after bad refund) = lemma_refunded told version p after has refund
 
   lemma_arrived : (told : Told) (version : Text) (p : Packet) (ack : Text) (after : Balances) → HasTransfers records.core p.destination_channel
-      → p.destination_port ≡ transfer_port → Taking records.apps.balances (burnt records.core) version p ack after → Did told after
+      → p.destination_port ≡ transfer_port → Taking records.apps.balances (burnt_amount records.core) version p ack after → Did told after
   lemma_arrived told version p _ _ has to (takes d after read user moved) =
-      arrive (burnt records.core) p d.receiver d.tokens has to user moved
+      arrive (burnt_amount records.core) p d.receiver d.tokens has to user moved
   lemma_arrived told version p _ _ has to (refuses words) = stay refl
 
   lemma_by_port : (told : Told) (port : Text) (P : Balances → Type 0) → (port ≡ transfer_port → P apps.balances → Did told apps.balances)
@@ -83,7 +83,7 @@ module _ (w : World) (host : Host) (records : Records) (apps : Apps) where
       (ap (λ q. Sent q id m.next_send c) tokens.port_is)
       (tokens.paid ∙ ap (λ (a : Apps). Some a.balances) (sym tokens.after))
   lemma_end_moved port id m told n there (receives p ack s) did =
-      lemma_by_port told port (Taking records.apps.balances (burnt records.core) m.end.version p ack)
+      lemma_by_port told port (Taking records.apps.balances (burnt_amount records.core) m.end.version p ack)
       (λ is. lemma_arrived told m.end.version p ack apps.balances (lemma_has_transfers port id p.destination_channel (m, there) is (sym s.to_channel)) (s.to_port ∙ is))
       (received_balances records port m.end.version p ack apps did)
   lemma_end_moved port id m told n there (acknowledges p s) did =
@@ -104,7 +104,7 @@ module _ (w : World) (host : Host) (records : Records) (apps : Apps) where
   lemma_core_moved told after (opens_channel port end free s) did = lemma_same_apps told did
   lemma_core_moved _ after (changes_channel told port id mine now there s) did = lemma_end_moved port id mine told now there s did
 
-pub lemma_balances_moved : (chains : ℕ) (w : World) (k : ℕ) (c : Chain) (told : Told) (d : Chain) → ChainStep chains w k c told d
+pub lemma_balances_moved : (chains : ℕ) (w : World) (k : ℕ) (c : MachineChain) (told : Told) (d : MachineChain) → ChainStep chains w k c told d
     → BalancesMoved c.records.core told c.records.apps.balances d.records.apps.balances
 lemma_balances_moved chains w k c _ d (acts told records step did) =
     lemma_core_moved w (host_of chains k c) c.records records.apps told records.core step did

@@ -4,11 +4,11 @@ use Rattle.std.proofs.Common.{◌≡◌, ℕ, true, ap, sym, ◌∙◌, subst, S
 use Rattle.ibc_ids.specs.Texts.{Text}
 use Rattle.ibc_ids.specs.Paths.{nth_client, nth_channel}
 use Rattle.ibc_wire.specs.declared.packet.Packet.{Packet}
-use Rattle.ibc_machine.specs.chain.Records.{Core, Apps, Records, Chain, Client, Channel, client_at, channel_at}
+use Rattle.ibc_machine.specs.chain.Records.{Core, Apps, Records, MachineChain, Client, Channel, client_at, channel_at}
 use Rattle.ibc_machine.specs.ics24.Evidence.{Host}
-use Rattle.ibc_machine.specs.ics02.Clients.{new_client, updated}
+use Rattle.ibc_machine.specs.ics02.Clients.{new_client, with_known_height}
 use Rattle.ibc_machine.specs.ics04.Channels.{new_channel}
-use Rattle.ibc_machine.specs.ics20.Transfers.{burnt}
+use Rattle.ibc_machine.specs.ics20.Transfers.{burnt_amount}
 use Rattle.ibc_machine.specs.ics20.Bank.{Balances}
 use Rattle.ibc_machine.specs.chain.Applications.{on_open}
 use Rattle.ibc_machine.specs.chain.Handlers.{host_of}
@@ -17,7 +17,7 @@ use Rattle.ibc_machine.specs.chain.Machine.{World}
 use Rattle.ibc_machine.specs.promises.Histories.{Happened}
 use Rattle.ibc_laws.proofs.basics.PassedTests.{number-self}
 use Rattle.ibc_machine.proofs.FiniteMaps.{by_text, by_pair, found_in_with}
-use Rattle.ibc_laws.proofs.basics.Places.{placed}
+use Rattle.ibc_laws.proofs.basics.ListPlaces.{placed}
 use Rattle.ibc_laws.proofs.steps.Told.{Told, told_of}
 use Rattle.ibc_laws.proofs.steps.CoreSteps.{CoreStep, creates_client, updates_client, starts_connection, answers_connection, confirms_connection, opens_channel, changes_channel, ChannelStep, answers, follows, closes, sends, receives, acknowledges, times_out, IsTaken}
 use Rattle.ibc_laws.proofs.steps.AppSteps.{AppsOf, AppsOfEnd}
@@ -26,8 +26,8 @@ use Rattle.ibc_laws.proofs.steps.CoreShape.{CoreShaped}
 use Rattle.ibc_machine.proofs.Measures.{Test, IsSorted}
 use Rattle.ibc_laws.proofs.tokens.TokenMoves.{sent_tokens, refunded_tokens, received_tokens}
 use Rattle.ibc_laws.proofs.tokens.BalanceSteps.{Taking, takes, refuses, Refunding, no_data, refunds, Acknowledging, succeeds, fails, ByPort, received_balances, acknowledged_balances, timed_out_balances, starting_sorted}
-use Rattle.ibc_laws.proofs.steps.Worlds.{ChainStep, acts, ends}
-use Rattle.ibc_laws.proofs.steps.Steps.{Stepped, rests, moves}
+use Rattle.ibc_laws.proofs.steps.WorldGrowth.{ChainStep, acts, ends}
+use Rattle.ibc_laws.proofs.steps.MachineSteps.{Stepped, rests, moves}
 use Rattle.ibc_laws.proofs.peers.Invariant.{Inv, starting}
 
 pub record ChainKinds (x : ℕ) (records : Records) : Type 0 where
@@ -75,8 +75,8 @@ module _ (w : World) (host : Host) (records : Records) (apps : Apps) (sorted : I
         (sent_tokens any id tokens.data_sent.sender tokens.data_sent.tokens records.apps.balances tokens.balances sorted tokens.paid).sorted
   ]
   end_sorted port id m told n (receives p ack s) did =
-      by_port_sorted port records.apps.balances apps.balances (Taking records.apps.balances (burnt records.core) m.end.version p ack) sorted
-      (taken_sorted records.apps.balances (burnt records.core) m.end.version p ack apps.balances sorted)
+      by_port_sorted port records.apps.balances apps.balances (Taking records.apps.balances (burnt_amount records.core) m.end.version p ack) sorted
+      (taken_sorted records.apps.balances (burnt_amount records.core) m.end.version p ack apps.balances sorted)
       (received_balances records port m.end.version p ack apps did)
   end_sorted port id m told n (acknowledges p s) did =
       by_port_sorted port records.apps.balances apps.balances (Acknowledging records.apps.balances m.end.version p s.ack) sorted
@@ -111,7 +111,7 @@ module _ (w : World) (host : Host) (records : Records) (shaped : CoreShaped reco
         | inr old ↦ h.other_chains id t old own
       ]
   clients_after told after (updates_client k client height there) id t is own =
-      elim (found_in_with by_text k id (updated height client) t records.core.clients is) [
+      elim (found_in_with by_text k id (with_known_height height client) t records.core.clients is) [
         | inl new ↦ h.other_chains k client there (ap (λ (c : Client). c.state.chain) new.1 ∙ own)
         | inr old ↦ h.other_chains id t old own
       ]
@@ -151,9 +151,9 @@ module _ (w : World) (host : Host) (records : Records) (shaped : CoreShaped reco
 -- ---- every run
 
 pub record Kinds (w : World) : Type 0 where
-  pub each : (x : ℕ) (c : Chain) → slice_get w x ≡ Some c → ChainKinds x c.records
+  pub each : (x : ℕ) (c : MachineChain) → slice_get w x ≡ Some c → ChainKinds x c.records
 
-kinds_of_step : (chains : ℕ) (w : World) → Inv w → (k : ℕ) (c : Chain) → slice_get w k ≡ Some c → ChainKinds k c.records → (told : Told) (d : Chain)
+kinds_of_step : (chains : ℕ) (w : World) → Inv w → (k : ℕ) (c : MachineChain) → slice_get w k ≡ Some c → ChainKinds k c.records → (told : Told) (d : MachineChain)
     → ChainStep chains w k c told d → ChainKinds k d.records
 kinds_of_step chains w inv k c there h _ d (acts told records step did) =
     let shaped = (inv.shaped.each k c there).core in
@@ -168,7 +168,7 @@ pub kinds_step : (chains : ℕ) (w : World) (h : Happened) (v : World) → Inv w
 kinds_step chains w h v inv kinds (rests quiet same) = subst Kinds (sym same) kinds
 kinds_step chains w h v inv kinds (moves s) = record {
   each = λ x c is. elim (placed w s.k s.before s.now s.there x c (subst (λ y. slice_get y x ≡ Some c) s.after is)) [
-    | inl here ↦ subst (λ (z : Chain). ChainKinds x z.records) here.1 (subst (λ y. ChainKinds y s.now.records) (sym here.0)
+    | inl here ↦ subst (λ (z : MachineChain). ChainKinds x z.records) here.1 (subst (λ y. ChainKinds y s.now.records) (sym here.0)
         (kinds_of_step chains w inv s.k s.before s.there (kinds.each s.k s.before s.there) (told_of h) s.now s.step))
     | inr other ↦ kinds.each x c other.1
   ];
@@ -183,5 +183,5 @@ kinds_start_of x s = record {
 
 pub kinds_start : (genesis : GenesisState) → Kinds (start genesis)
 kinds_start genesis = record {
-  each = λ x c is. let s = starting genesis.chains x c is in subst (λ (z : Chain). ChainKinds x z.records) s.1 (kinds_start_of x s.0);
+  each = λ x c is. let s = starting genesis.chains x c is in subst (λ (z : MachineChain). ChainKinds x z.records) s.1 (kinds_start_of x s.0);
 }

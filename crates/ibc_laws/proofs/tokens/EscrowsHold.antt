@@ -12,7 +12,7 @@ use Rattle.ibc_machine.specs.chain.Records.{Commitment}
 use Rattle.ibc_machine.specs.ics20.TokenData.{amount_of, tokens_of}
 use Rattle.ibc_machine.specs.ics20.Bank.{Balances, balance, escrow, give, with_balance, out_of_escrow}
 use Rattle.ibc_machine.specs.ics20.Transfers.{transfer_port, came_over, each_token, refund_token}
-use Rattle.ibc_machine.specs.promises.Totals.{succeeded}
+use Rattle.ibc_machine.specs.promises.Totals.{has_succeeded}
 use Rattle.ibc_machine.specs.chain.Machine.{World}
 use Rattle.ibc_machine.specs.promises.Histories.{Happened, End}
 use Rattle.ibc_laws.proofs.peers.Peers.{Peers}
@@ -28,7 +28,7 @@ use Rattle.ibc_laws.proofs.tokens.FourthLaw.{Conserving}
 -- ---- what the equation says of one packet
 
 module _ (hs : List Happened) (w : World) (all : Conserving hs w) (e f : End) (p : Peers w e f) (is : e.port ≡ transfer_port) (is_there : f.port ≡ transfer_port) where
-  pub refund_is_held : (k : ℕ) (c : Commitment) → at nat_cmp k p.mine.commitments ≡ Some c → succeeded p.theirs k ≡ false → (denom : Text)
+  pub refund_is_held : (k : ℕ) (c : Commitment) → at nat_cmp k p.mine.commitments ≡ Some c → has_succeeded p.theirs k ≡ false → (denom : Text)
       → kept_of e.channel denom (tokens_of p.mine.end.version c) ≤ balance (balances_at p.here) (escrow e.channel) denom
   refund_is_held k c there counted denom =
       let equation = all.balanced e f p is is_there denom in
@@ -39,7 +39,7 @@ module _ (hs : List Happened) (w : World) (all : Conserving hs w) (e f : End) (p
       let mine = ap (λ n. unless burns n) term in
       omega arith
 
-  pub arrival_is_held : (k : ℕ) (c : Commitment) → at nat_cmp k p.theirs.commitments ≡ Some c → succeeded p.mine k ≡ false → (denom : Text)
+  pub arrival_is_held : (k : ℕ) (c : Commitment) → at nat_cmp k p.theirs.commitments ≡ Some c → has_succeeded p.mine k ≡ false → (denom : Text)
       → carried_of f.channel denom (tokens_of p.mine.end.version c) ≤ balance (balances_at p.here) (escrow e.channel) denom
   arrival_is_held k c there counted denom =
       let equation = all.balanced e f p is is_there denom in

@@ -4,7 +4,7 @@ use Rattle.std.proofs.Common.{◌≡◌, ℕ, suc, zero, ◌≤◌, true, false,
 use Rattle.std.specs.Option.{option_map_or, option_and_then}
 use Rattle.std.specs.Prelude.{option_map}
 use Rattle.ibc_ids.specs.Names.{hop}
-use Rattle.ibc_machine.specs.chain.Records.{Records, Chain, Channel, channel_at}
+use Rattle.ibc_machine.specs.chain.Records.{Records, MachineChain, Channel, channel_at}
 use Rattle.ibc_machine.specs.ics20.Bank.{balance, supply, escrow}
 use Rattle.ibc_machine.specs.ics20.Transfers.{transfer_port, came_over}
 use Rattle.ibc_machine.specs.chain.Genesis.{GenesisState, start, is_allowed}
@@ -12,14 +12,14 @@ use Rattle.ibc_machine.specs.chain.Machine.{World}
 use Rattle.ibc_machine.specs.ledger.Ledgers.{is_typed}
 use Rattle.ibc_machine.specs.promises.Histories.{Happened, End}
 use Rattle.ibc_machine.specs.promises.Peers.{end_at}
-use Rattle.ibc_machine.specs.promises.Totals.{flight, flight_between, vouchers, escrowed, hopped}
+use Rattle.ibc_machine.specs.promises.Totals.{flight, flight_between, vouchers, escrow_balance, denom_with_hop}
 use Rattle.ibc_machine.specs.promises.Laws.{Conserved, IsPast}
-use Rattle.ibc_laws.proofs.basics.Places.{some_is, placed}
+use Rattle.ibc_laws.proofs.basics.ListPlaces.{some_is, placed}
 use Rattle.ibc_laws.proofs.steps.Told.{told_of}
 use Rattle.ibc_laws.proofs.steps.CoreSteps.{rank}
 use Rattle.ibc_laws.proofs.peers.Invariant.{Inv, stepped_grows, starts_empty, no_channel}
 use Rattle.ibc_laws.proofs.steps.Induction.{past_has}
-use Rattle.ibc_laws.proofs.steps.Steps.{Moves, Stepped, rests, moves, stepped}
+use Rattle.ibc_laws.proofs.steps.MachineSteps.{Moves, Stepped, rests, moves, stepped}
 use Rattle.ibc_laws.proofs.steps.AtEnds.{at_end}
 use Rattle.ibc_laws.proofs.steps.Happenings.{settling}
 use Rattle.ibc_laws.proofs.peers.Peers.{Stands, Peers, peers_on, peers_flip, stands_same, one_peer_only, true_peers}
@@ -41,7 +41,7 @@ IsBalanced w e f p = Balanced p.mine.end.version e.channel f.channel (balances_a
 
 pub record Conserving (hs : List Happened) (w : World) : Type 0 where
   pub known : Known hs w
-  pub unopened : (x : ℕ) (c : Chain) → slice_get w x ≡ Some c → Unopened c.records
+  pub unopened : (x : ℕ) (c : MachineChain) → slice_get w x ≡ Some c → Unopened c.records
   pub balanced : (e f : End) (p : Peers w e f) → e.port ≡ transfer_port → f.port ≡ transfer_port → IsBalanced w e f p
 
 -- ---- the start
@@ -71,11 +71,11 @@ opened_or_not w e = go (slice_get w e.chain) refl
     by_rank m here zero is = not_opened (λ n other. ap (λ (c : Channel). rank c.end.state) (stands_same e n m other here) ∙ is)
     by_rank m here (suc r) is = was_opened m here (omega arith)
 
-    of_chain : (c : Chain) → slice_get w e.chain ≡ Some c → (o : Option Channel) → channel_at c.records.core e.port e.channel ≡ o → WasOpened w e
+    of_chain : (c : MachineChain) → slice_get w e.chain ≡ Some c → (o : Option Channel) → channel_at c.records.core e.port e.channel ≡ o → WasOpened w e
     of_chain c there (Some m) is = by_rank m (record { chain = c; there = there; is = is }) (rank m.end.state) refl
-    of_chain c there None is = not_opened (λ m here. absurd (cc (is, subst (λ (d : Chain). channel_at d.records.core e.port e.channel ≡ Some m) (some_is here.there there) here.is)))
+    of_chain c there None is = not_opened (λ m here. absurd (cc (is, subst (λ (d : MachineChain). channel_at d.records.core e.port e.channel ≡ Some m) (some_is here.there there) here.is)))
 
-    go : (o : Option Chain) → slice_get w e.chain ≡ o → WasOpened w e
+    go : (o : Option MachineChain) → slice_get w e.chain ≡ o → WasOpened w e
     go (Some c) there = of_chain c there (channel_at c.records.core e.port e.channel) refl
     go None there = not_opened (λ m here. absurd (cc (there, here.there)))
 
@@ -116,8 +116,8 @@ module _ (chains : ℕ) (hs : List Happened) (w : World) (h : Happened) (v : Wor
               is = subst (λ q. channel_at s.before.records.core q e.channel ≡ Some m) (sym is) at_;
             }) in
             let is_then : channel_at s.now.records.core transfer_port e.channel ≡ Some n =
-            subst (λ (c : Chain). channel_at c.records.core transfer_port e.channel ≡ Some n) (sym moved.1) is_now in (
-              subst (λ (c : Chain). IsUntouched c.records.apps.balances e.channel) moved.1
+            subst (λ (c : MachineChain). channel_at c.records.core transfer_port e.channel ≡ Some n) (sym moved.1) is_now in (
+              subst (λ (c : MachineChain). IsUntouched c.records.apps.balances e.channel) moved.1
                   (untouched_now chains w inv was.known.kinds s.k s.before s.there (was.unopened s.k s.before s.there) (told_of h) s.now s.step (s.good typed) e.channel (clear s e is n now) before),
               unsent_now chains w inv was.known.kinds s.k s.before s.there (was.unopened s.k s.before s.there) (told_of h) s.now s.step (s.good typed) e.channel (clear s e is n now) before n is_then,
             )
@@ -188,7 +188,7 @@ conserving_of_past genesis happened world past = past_has genesis Conserving
 
 stands_at : (w : World) (e : End) (m : Channel) → Stands w e m → end_at w e ≡ Some m
 stands_at w e m s =
-    ap (λ (o : Option Chain). option_and_then (λ (records : Records). channel_at records.core e.port e.channel) (option_map (λ (c : Chain). c.records) o)) s.there ∙ s.is
+    ap (λ (o : Option MachineChain). option_and_then (λ (records : Records). channel_at records.core e.port e.channel) (option_map (λ (c : MachineChain). c.records) o)) s.there ∙ s.is
 
 pub conserved : Conserved
 conserved genesis happened w e f past are_peers denom is over =
@@ -199,16 +199,16 @@ conserved genesis happened w e f past are_peers denom is over =
     let equation = all.balanced e f p is is_there denom in
     let kept = ap (λ b. unless b (flown p.mine.end.version denom p.theirs p.mine.commitments))
     (ap (λ port. came_over port e.channel denom) (sym is) ∙ over) in
-    let held : escrowed w e denom ≡ balance (balances_at p.here) (escrow e.channel) denom =
-    ap (λ (o : Option Chain). balance (option_map_or (λ (c : Chain). c.records.apps.balances) o []) (escrow e.channel) denom) p.here.there in
+    let held : escrow_balance w e denom ≡ balance (balances_at p.here) (escrow e.channel) denom =
+    ap (λ (o : Option MachineChain). balance (option_map_or (λ (c : MachineChain). c.records.apps.balances) o []) (escrow e.channel) denom) p.here.there in
     let made : vouchers w f denom ≡ supply (balances_at p.there) (hop transfer_port f.channel ++ denom) =
-    ap (λ (o : Option Chain). supply (option_map_or (λ (c : Chain). c.records.apps.balances) o []) (hopped f denom)) p.there.there
+    ap (λ (o : Option MachineChain). supply (option_map_or (λ (c : MachineChain). c.records.apps.balances) o []) (denom_with_hop f denom)) p.there.there
     ∙ ap (λ port. supply (balances_at p.there) (hop port f.channel ++ denom)) is_there in
     let out : flight w e f denom ≡ flown p.mine.end.version denom p.theirs p.mine.commitments =
     ap (λ o. flight_between denom o (end_at w f)) (stands_at w e p.mine p.here) ∙ ap (λ o. flight_between denom (Some p.mine) o) (stands_at w f p.theirs p.there) in
-    let back : flight w f e (hopped f denom) ≡ flown p.mine.end.version (hop transfer_port f.channel ++ denom) p.mine p.theirs.commitments =
-    ap (λ o. flight_between (hopped f denom) o (end_at w e)) (stands_at w f p.theirs p.there)
-    ∙ ap (λ o. flight_between (hopped f denom) (Some p.theirs) o) (stands_at w e p.mine p.here)
+    let back : flight w f e (denom_with_hop f denom) ≡ flown p.mine.end.version (hop transfer_port f.channel ++ denom) p.mine p.theirs.commitments =
+    ap (λ o. flight_between (denom_with_hop f denom) o (end_at w e)) (stands_at w f p.theirs p.there)
+    ∙ ap (λ o. flight_between (denom_with_hop f denom) (Some p.theirs) o) (stands_at w e p.mine p.here)
     ∙ ap (λ port. flown p.theirs.end.version (hop port f.channel ++ denom) p.mine p.theirs.commitments) is_there
     ∙ ap (λ x. flown x (hop transfer_port f.channel ++ denom) p.mine p.theirs.commitments) version in
     omega arith

@@ -4,7 +4,7 @@ use Rattle.std.proofs.Common.{◌≡◌, ℕ, ◌≤◌, ◌<◌, true, ap, sym,
 use Rattle.ibc_ids.specs.Maps.{at}
 use Rattle.ibc_machine.specs.chain.Records.{Channel, is_one_of}
 use Rattle.ibc_machine.specs.chain.Machine.{World}
-use Rattle.ibc_machine.specs.promises.Histories.{Happened, End, acknowledged, timed_out, sequences}
+use Rattle.ibc_machine.specs.promises.Histories.{Happened, End, acknowledged_packets, timed_out_packets, sequences}
 use Rattle.ibc_laws.proofs.basics.Lists.{among-last, among-kept}
 use Rattle.ibc_laws.proofs.peers.Peers.{Stands, stands_same}
 use Rattle.ibc_laws.proofs.steps.EndKeeps.{SameGone, StoodBefore, was_there, is_new, gone-acked, gone-over}
@@ -12,7 +12,7 @@ use Rattle.ibc_laws.proofs.steps.Happenings.{Settling, settled_nothing, acknowle
 
 abbrev pub IsSettled : List Happened → End → ℕ → Type 0
 IsSettled hs e n =
-    (is_one_of (sequences (acknowledged e hs)) n ≡ true) ⊎ (is_one_of (sequences (timed_out e hs)) n ≡ true)
+    (is_one_of (sequences (acknowledged_packets e hs)) n ≡ true) ⊎ (is_one_of (sequences (timed_out_packets e hs)) n ≡ true)
 
 pub record GoneSettled (hs : List Happened) (w : World) (e : End) : Type 0 where
   pub settled : (m : Channel) → Stands w e m → (n : ℕ) → 1 ≤ n → n < m.next_send → at nat_cmp n m.commitments ≡ None
@@ -26,14 +26,14 @@ module _ (chains : ℕ) (w : World) (hs : List Happened) (h : Happened) (v : Wor
     | inr x ↦ inr (subst (λ ps. is_one_of (sequences ps) n ≡ true) (sym t) x)
   ]
   still n is (acknowledged_one p m stood now s a t) = elim is [
-    | inl x ↦ inl (subst (λ l. is_one_of l n ≡ true) (sym (ap sequences a ∙ sequences-push (acknowledged e hs) p))
-        (among-kept (sequences (acknowledged e hs)) (p.sequence ∷ []) n x))
+    | inl x ↦ inl (subst (λ l. is_one_of l n ≡ true) (sym (ap sequences a ∙ sequences-push (acknowledged_packets e hs) p))
+        (among-kept (sequences (acknowledged_packets e hs)) (p.sequence ∷ []) n x))
     | inr x ↦ inr (subst (λ ps. is_one_of (sequences ps) n ≡ true) (sym t) x)
   ]
   still n is (timed_out_one p m stood now s told a t) = elim is [
     | inl x ↦ inl (subst (λ ps. is_one_of (sequences ps) n ≡ true) (sym a) x)
-    | inr x ↦ inr (subst (λ l. is_one_of l n ≡ true) (sym (ap sequences t ∙ sequences-push (timed_out e hs) p))
-        (among-kept (sequences (timed_out e hs)) (p.sequence ∷ []) n x))
+    | inr x ↦ inr (subst (λ l. is_one_of l n ≡ true) (sym (ap sequences t ∙ sequences-push (timed_out_packets e hs) p))
+        (among-kept (sequences (timed_out_packets e hs)) (p.sequence ∷ []) n x))
   ]
 
   settled_after : Settling chains w hs h v e → (k : Channel) → Stands v e k → (n : ℕ) → 1 ≤ n → n < k.next_send
@@ -47,15 +47,15 @@ module _ (chains : ℕ) (w : World) (hs : List Happened) (h : Happened) (v : Wor
   settled_after (acknowledged_one p m stood now s a t) k stands n low used none =
       let same = stands_same e k _ stands now in
       elim (gone-acked p.sequence m n (subst (λ (x : Channel). n < x.next_send) same used) (ap (λ (x : Channel). at nat_cmp n x.commitments) (sym same) ∙ none)) [
-        | inl new ↦ inl (subst (λ l. is_one_of l n ≡ true) (sym (ap sequences a ∙ sequences-push (acknowledged e hs) p))
-            (subst (λ i. is_one_of (sequences (acknowledged e hs) ++ p.sequence ∷ []) i ≡ true) (sym new) (among-last (sequences (acknowledged e hs)) p.sequence)))
+        | inl new ↦ inl (subst (λ l. is_one_of l n ≡ true) (sym (ap sequences a ∙ sequences-push (acknowledged_packets e hs) p))
+            (subst (λ i. is_one_of (sequences (acknowledged_packets e hs) ++ p.sequence ∷ []) i ≡ true) (sym new) (among-last (sequences (acknowledged_packets e hs)) p.sequence)))
         | inr old ↦ still n (was.settled m stood n low old.0 old.1) (acknowledged_one p m stood now s a t)
       ]
   settled_after (timed_out_one p m stood now s told a t) k stands n low used none =
       let same = stands_same e k _ stands now in
       elim (gone-over p.sequence m n (subst (λ (x : Channel). n < x.next_send) same used) (ap (λ (x : Channel). at nat_cmp n x.commitments) (sym same) ∙ none)) [
-        | inl new ↦ inr (subst (λ l. is_one_of l n ≡ true) (sym (ap sequences t ∙ sequences-push (timed_out e hs) p))
-            (subst (λ i. is_one_of (sequences (timed_out e hs) ++ p.sequence ∷ []) i ≡ true) (sym new) (among-last (sequences (timed_out e hs)) p.sequence)))
+        | inl new ↦ inr (subst (λ l. is_one_of l n ≡ true) (sym (ap sequences t ∙ sequences-push (timed_out_packets e hs) p))
+            (subst (λ i. is_one_of (sequences (timed_out_packets e hs) ++ p.sequence ∷ []) i ≡ true) (sym new) (among-last (sequences (timed_out_packets e hs)) p.sequence)))
         | inr old ↦ still n (was.settled m stood n low old.0 old.1) (timed_out_one p m stood now s told a t)
       ]
 

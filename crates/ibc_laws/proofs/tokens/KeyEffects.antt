@@ -5,7 +5,7 @@ use Rattle.ibc_ids.specs.Texts.{Text, pair_cmp}
 use Rattle.ibc_ids.specs.Maps.{at, with}
 use Rattle.ibc_ids.specs.Paths.{nth_channel}
 use Rattle.ibc_wire.specs.declared.records.ChannelEnd.{ChannelEnd}
-use Rattle.ibc_machine.specs.chain.Records.{Core, Apps, Records, Chain, Channel, channel_at}
+use Rattle.ibc_machine.specs.chain.Records.{Core, Apps, Records, MachineChain, Channel, channel_at}
 use Rattle.ibc_machine.specs.ics24.Evidence.{Host}
 use Rattle.ibc_machine.specs.chain.Handlers.{host_of}
 use Rattle.ibc_machine.specs.ics04.Channels.{new_channel}
@@ -16,7 +16,7 @@ use Rattle.ibc_machine.proofs.Identifiers.{nth_channel_same}
 use Rattle.ibc_laws.proofs.steps.Told.{Told}
 use Rattle.ibc_laws.proofs.steps.CoreSteps.{CoreStep, creates_client, updates_client, starts_connection, answers_connection, confirms_connection, opens_channel, changes_channel, ChannelStep}
 use Rattle.ibc_laws.proofs.steps.AppSteps.{AppsOf, AppsOfEnd, GoodOf, GoodOfEnd}
-use Rattle.ibc_laws.proofs.steps.Worlds.{ChainStep, acts, ends, GoodStep}
+use Rattle.ibc_laws.proofs.steps.WorldGrowth.{ChainStep, acts, ends, GoodStep}
 use Rattle.ibc_laws.proofs.steps.CoreShape.{CoreShaped, HasChannel}
 use Rattle.ibc_laws.proofs.basics.Numbered.{none_yet}
 use Rattle.ibc_machine.proofs.Measures.{IsSorted}
@@ -89,8 +89,8 @@ module _ (w : World) (host : Host) (records : Records) (shaped : CoreShaped reco
   of_core apps told after (opens_channel port end free s) did good = opening _ port end did refl
   of_core apps _ after (changes_channel told port id mine now there s) did good = changed _ told port id mine now there s did good refl
 
-pub key_effect : (chains : ℕ) (w : World) (k : ℕ) (c : Chain) → CoreShaped c.records.core → IsSorted c.records.apps.balances
-    → (name : Text) → HasNoSlash name → (told : Told) (d : Chain) (step : ChainStep chains w k c told d) → GoodStep chains w k c told d step
+pub key_effect : (chains : ℕ) (w : World) (k : ℕ) (c : MachineChain) → CoreShaped c.records.core → IsSorted c.records.apps.balances
+    → (name : Text) → HasNoSlash name → (told : Told) (d : MachineChain) (step : ChainStep chains w k c told d) → GoodStep chains w k c told d step
     → KeyEffect w (host_of chains k c) c.records d.records name
 key_effect chains w k c shaped sorted name clear _ d (acts told records step did) good =
     of_core w (host_of chains k c) c.records shaped sorted name clear records.apps told records.core step did good

@@ -15,7 +15,7 @@ use Rattle.ibc_machine.specs.declared.event.Event.TheVariants as event
 use Rattle.ibc_machine.specs.declared.reply.Effect.{Effect}
 use Rattle.ibc_machine.specs.declared.reply.Reply.{Reply}
 use Rattle.ibc_machine.specs.declared.reply.Reply.TheVariants as reply
-use Rattle.ibc_machine.specs.chain.Records.{Core, Apps, Chain, Channel, channel_at, commitment_of}
+use Rattle.ibc_machine.specs.chain.Records.{Core, Apps, MachineChain, Channel, channel_at, commitment_of}
 use Rattle.ibc_machine.specs.chain.Checks.{Checked}
 use Rattle.ibc_machine.specs.ics24.Evidence.{Host, Evidence}
 use Rattle.ibc_machine.specs.chain.Handlers.{handle, host_of, after_message, message_answer}
@@ -23,15 +23,15 @@ use Rattle.ibc_machine.specs.ics04.Packets.{ack_checked, ack_packet, timeout_che
 use Rattle.ibc_machine.specs.ics20.TokenData.{success}
 use Rattle.ibc_machine.specs.ics20.Transfers.{transfer_port, each_token, refund_token}
 use Rattle.ibc_machine.specs.chain.Applications.{on_ack, on_timeout}
-use Rattle.ibc_machine.specs.promises.Totals.{succeeded}
+use Rattle.ibc_machine.specs.promises.Totals.{has_succeeded}
 use Rattle.ibc_machine.specs.chain.Genesis.{GenesisState}
-use Rattle.ibc_machine.specs.chain.Machine.{World, looks, true_marks, answer, at_chain, Step}
+use Rattle.ibc_machine.specs.chain.Machine.{World, direct_evidence, true_marks, answer, at_chain, Step}
 use Rattle.ibc_machine.specs.promises.Histories.{Happened, End}
 use Rattle.ibc_machine.specs.promises.Laws.{NeverPoor, settles}
 use Rattle.ibc_laws.proofs.steps.Seen.{seeing}
 use Rattle.ibc_laws.proofs.steps.CoreSteps.{TimesOut, Settles}
 use Rattle.ibc_laws.proofs.steps.PacketsPassed.{acking, timing_out, timing_out_on_close}
-use Rattle.ibc_laws.proofs.steps.Steps.{stepped}
+use Rattle.ibc_laws.proofs.steps.MachineSteps.{stepped}
 use Rattle.ibc_laws.proofs.steps.Induction.{past_has}
 use Rattle.ibc_laws.proofs.peers.Peers.{Stands, Peers}
 use Rattle.ibc_laws.proofs.peers.FirstLaw.{HasPeer, peer_of, peers_of}
@@ -54,7 +54,7 @@ module _ (hs : List Happened) (w : World) (all : Conserving hs w) (chains : ℕ)
   abbrev p : Peers w e peer.other
   p = peers_of w e mine was peer
 
-  can_refund : succeeded peer.theirs q.sequence ≡ false → LacksRefund (balances_at was) mine.end.version q → ⊥
+  can_refund : has_succeeded peer.theirs q.sequence ≡ false → LacksRefund (balances_at was) mine.end.version q → ⊥
   can_refund counted lacks =
       let is_there = transfer_peer w all.known.once.inv all.known.kinds e peer.other p is in
       let tokens = tokens_read mine.end.version (commitment_of q) lacks.0 lacks.1 in
@@ -65,7 +65,7 @@ module _ (hs : List Happened) (w : World) (all : Conserving hs w) (chains : ℕ)
       omega arith) in
       absurd (cc (lacks.2, subst (λ i. each_token (refund_token i lacks.0.sender) lacks.0.tokens (balances_at was) ≡ Some whole.0) (sym from) whole.1))
 
-module _ (hs : List Happened) (w : World) (all : Conserving hs w) (chains : ℕ) (window : ℕ) (oldest : Bool) (k : ℕ) (c : Chain) (there : slice_get w k ≡ Some c) where
+module _ (hs : List Happened) (w : World) (all : Conserving hs w) (chains : ℕ) (window : ℕ) (oldest : Bool) (k : ℕ) (c : MachineChain) (there : slice_get w k ≡ Some c) where
   abbrev host : Host
   host = host_of chains k c
 
@@ -138,7 +138,7 @@ module _ (hs : List Happened) (w : World) (all : Conserving hs w) (chains : ℕ)
 -- ---- every step, and every run
 
 module _ (genesis : GenesisState) (hs : List Happened) (w : World) (all : Conserving hs w) where
-  refused : (m : Message) (k : ℕ) → settles (event.Message k m) ≡ true → (oldest : Bool) (c : Chain) → slice_get w k ≡ Some c → (o : Checked (Effect × Core × Apps))
+  refused : (m : Message) (k : ℕ) → settles (event.Message k m) ≡ true → (oldest : Bool) (c : MachineChain) → slice_get w k ≡ Some c → (o : Checked (Effect × Core × Apps))
       → handle m (seeing genesis.window oldest w c.records.core) (host_of (length genesis.chains) k c) c.records.core c.records.apps ≡ o
       → (after_message c o).0 ≡ reply.No refusal.Poor → ⊥
   refused m k is oldest c there (Ok y) handled_so e = absurd (cc e)
@@ -150,8 +150,8 @@ module _ (genesis : GenesisState) (hs : List Happened) (w : World) (all : Conser
   unfolding answer
   answered (event.Message k m) is oldest v e = go (slice_get w k) refl e
     where
-      go : (o : Option Chain) → slice_get w k ≡ o
-          → at_chain w k (λ (chain : Chain). message_answer (looks true_marks genesis.window oldest w chain.records.core) (length genesis.chains) k chain m) o ≡ (reply.No refusal.Poor, v) → ⊥
+      go : (o : Option MachineChain) → slice_get w k ≡ o
+          → at_chain w k (λ (chain : MachineChain). message_answer (direct_evidence true_marks genesis.window oldest w chain.records.core) (length genesis.chains) k chain m) o ≡ (reply.No refusal.Poor, v) → ⊥
       go (Some c) there e = refused m k is oldest c there (handle m (seeing genesis.window oldest w c.records.core) (host_of (length genesis.chains) k c) c.records.core c.records.apps) refl
           (ap (λ (x : Reply × World). x.0) e)
       go None there e = absurd (cc (ap (λ (x : Reply × World). x.0) e))

@@ -9,7 +9,7 @@ use Rattle.ibc_wire.specs.declared.token.Token.{Token}
 use Rattle.ibc_wire.specs.declared.messages.Message.TheVariants as message
 use Rattle.ibc_machine.specs.declared.event.Event.TheVariants as event
 use Rattle.ibc_machine.specs.declared.reply.Reply.TheVariants as reply
-use Rattle.ibc_machine.specs.chain.Records.{Chain, Channel, commitment_of}
+use Rattle.ibc_machine.specs.chain.Records.{MachineChain, Channel, commitment_of}
 use Rattle.ibc_machine.specs.chain.Handlers.{host_of}
 use Rattle.ibc_machine.specs.ics20.TokenData.{Data, data_of, amount_of, success}
 use Rattle.ibc_machine.specs.ics20.Bank.{balance, escrow}
@@ -23,7 +23,7 @@ use Rattle.ibc_laws.proofs.basics.PassedTests.{and_true}
 use Rattle.ibc_laws.proofs.steps.Told.{Told, Received, ack_of, told_of, received_in}
 use Rattle.ibc_laws.proofs.steps.CoreSteps.{rank, ChannelStep, answers, follows, closes, sends, receives, acknowledges, times_out, Receives}
 use Rattle.ibc_laws.proofs.steps.EndSteps.{open_rank}
-use Rattle.ibc_laws.proofs.steps.Steps.{stepped as did_step}
+use Rattle.ibc_laws.proofs.steps.MachineSteps.{stepped as did_step}
 use Rattle.ibc_laws.proofs.steps.AtEnds.{EndStep, untouched, opened, stepped, at_end}
 use Rattle.ibc_laws.proofs.peers.Peers.{Stands, Peers, stands, stands_same}
 use Rattle.ibc_laws.proofs.peers.FirstLaw.{peer_of, peers_of}
@@ -97,7 +97,7 @@ never_short genesis happened world after chain m given mine d token past typed s
     let r = receiver chains world (event.Message chain (message.RecvPacket m), reply.Ok given) after e m.packet (ack_of given) refl refl here (at_end chains world _ after all.known.once.inv did e) in
     let same : mine ≡ r.mine = stands_same e mine r.mine (stands world e mine is) r.was in
     let held = comes_home happened world all chains e refl m.packet r d token (subst (λ (c : Channel). data_of c.end.version m.packet.payload ≡ Some d) same read) has came in
-    subst (λ (o : Option Chain). token.amount ≤ balance (option_map_or (λ (c : Chain). c.records.apps.balances) o []) (escrow m.packet.destination_channel) (without_hop m.packet token).denom)
+    subst (λ (o : Option MachineChain). token.amount ≤ balance (option_map_or (λ (c : MachineChain). c.records.apps.balances) o []) (escrow m.packet.destination_channel) (without_hop m.packet token).denom)
     (sym r.was.there) held
 
 -- nor did one at any receive of the past

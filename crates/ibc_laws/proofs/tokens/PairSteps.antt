@@ -2,7 +2,7 @@
 -- two ends that become peers have moved nothing yet.
 use Rattle.std.proofs.Common.{◌≡◌, ℕ, true, refl, ap, sym, ◌∙◌, subst, List, Some, inl, inr, slice_get}
 use Rattle.ibc_ids.specs.Texts.{Text}
-use Rattle.ibc_machine.specs.chain.Records.{Records, Chain, Channel, channel_at}
+use Rattle.ibc_machine.specs.chain.Records.{Records, MachineChain, Channel, channel_at}
 use Rattle.ibc_machine.specs.ics24.Evidence.{Host}
 use Rattle.ibc_machine.specs.chain.Handlers.{host_of}
 use Rattle.ibc_machine.specs.ics04.Channels.{is_established}
@@ -12,12 +12,12 @@ use Rattle.ibc_machine.specs.chain.Machine.{World}
 use Rattle.ibc_machine.specs.ledger.Ledgers.{is_typed}
 use Rattle.ibc_machine.specs.promises.Histories.{Happened, End}
 use Rattle.ibc_laws.proofs.basics.PassedTests.{either}
-use Rattle.ibc_laws.proofs.basics.Places.{some_is, same_or_not, get-set_same, get-set_other}
+use Rattle.ibc_laws.proofs.basics.ListPlaces.{some_is, same_or_not, get-set_same, get-set_other}
 use Rattle.ibc_laws.proofs.steps.Told.{told_of}
 use Rattle.ibc_laws.proofs.steps.PacketsPassed.{established_rank}
 use Rattle.ibc_laws.proofs.peers.Invariant.{Inv, shape_of}
 use Rattle.ibc_laws.proofs.tokens.ChainKinds.{Kinds}
-use Rattle.ibc_laws.proofs.steps.Steps.{Moves}
+use Rattle.ibc_laws.proofs.steps.MachineSteps.{Moves}
 use Rattle.ibc_laws.proofs.steps.AtEnds.{MovesAt, here}
 use Rattle.ibc_laws.proofs.peers.Peers.{Stands, Peers, stands_alike, one_peer_only, peers_flip}
 use Rattle.ibc_laws.proofs.peers.FirstLaw.{peer_of, peers_of}
@@ -78,8 +78,8 @@ module _ (chains : ℕ) (w : World) (h : Happened) (v : World) (inv : Inv w) (ki
       own_effect w (host_of chains e.chain was.chain) was.chain.records now.chain.records e.channel m n
       (subst (λ q. channel_at was.chain.records.core q e.channel ≡ Some m) is was.is)
       (subst (λ q. channel_at now.chain.records.core q e.channel ≡ Some n) is now.is)
-      (subst (λ (d : Chain). KeyEffect w (host_of chains e.chain was.chain) was.chain.records d.records e.channel) new
-      (subst (λ (c : Chain). KeyEffect w (host_of chains e.chain c) c.records s.now.records e.channel) old key))
+      (subst (λ (d : MachineChain). KeyEffect w (host_of chains e.chain was.chain) was.chain.records d.records e.channel) new
+      (subst (λ (c : MachineChain). KeyEffect w (host_of chains e.chain c) c.records s.now.records e.channel) old key))
 
   -- another chain moves
   unmoved : (s : Moves chains w h v) (e : End) → (e.chain ≡ s.k → ⊥) → (m n : Channel) (was : Stands w e m) (now : Stands v e n)
@@ -87,7 +87,7 @@ module _ (chains : ℕ) (w : World) (h : Happened) (v : World) (inv : Inv w) (ki
   unmoved s e other m n was now =
       let there = sym (get-set_other w s.k e.chain s.now other) ∙ subst (λ x. slice_get x e.chain ≡ Some now.chain) s.after now.there in
       let chain : was.chain ≡ now.chain = some_is was.there there in
-      (chain, some_is was.is (subst (λ (c : Chain). channel_at c.records.core e.port e.channel ≡ Some n) (sym chain) now.is))
+      (chain, some_is was.is (subst (λ (c : MachineChain). channel_at c.records.core e.port e.channel ≡ Some n) (sym chain) now.is))
 
 module _ (chains : ℕ) (hs : List Happened) (w : World) (h : Happened) (v : World) (known : Known hs w) (typed : is_typed h.0 ≡ true)
     (s : Moves chains w h v) (e f : End) (p : Peers w e f) (q : Peers v e f) (is : e.port ≡ transfer_port) (is_there : f.port ≡ transfer_port)
@@ -111,7 +111,7 @@ module _ (chains : ℕ) (hs : List Happened) (w : World) (h : Happened) (v : Wor
       let pair = pair_effect hs w known chains e f p is is_there version refl (balances_at p.here) (balances_at q.here) q.mine own in
       let next = balanced_here version e.channel f.channel (balances_at p.here) (balances_at p.there) p.mine p.theirs
       (shape_of w inv e p.mine p.here).sorted (shape_of w inv f p.theirs p.there).sorted was (balances_at q.here) q.mine pair in
-      subst (λ (c : Chain). Balanced version e.channel f.channel (balances_at q.here) c.records.apps.balances q.mine q.theirs) f_same.0
+      subst (λ (c : MachineChain). Balanced version e.channel f.channel (balances_at q.here) c.records.apps.balances q.mine q.theirs) f_same.0
       (subst (λ t. Balanced version e.channel f.channel (balances_at q.here) (balances_at p.there) q.mine t) f_same.1 next)
 
   theirs_moves : f.chain ≡ s.k → Now
@@ -122,16 +122,16 @@ module _ (chains : ℕ) (hs : List Happened) (w : World) (h : Happened) (v : Wor
       let pair = pair_effect hs w known chains f e (peers_flip e f p) is_there is version (same_version_as w inv e f p) (balances_at p.there) (balances_at q.there) q.theirs own in
       let next = balanced_there version e.channel f.channel (balances_at p.here) (balances_at p.there) p.mine p.theirs
       (shape_of w inv e p.mine p.here).sorted (shape_of w inv f p.theirs p.there).sorted was (balances_at q.there) q.theirs pair in
-      subst (λ (c : Chain). Balanced version e.channel f.channel c.records.apps.balances (balances_at q.there) q.mine q.theirs) e_same.0
+      subst (λ (c : MachineChain). Balanced version e.channel f.channel c.records.apps.balances (balances_at q.there) q.mine q.theirs) e_same.0
       (subst (λ m. Balanced version e.channel f.channel (balances_at p.here) (balances_at q.there) m q.theirs) e_same.1 next)
 
   neither_moves : (e.chain ≡ s.k → ⊥) → (f.chain ≡ s.k → ⊥) → Now
   neither_moves not_ours not_theirs =
       let e_same = unmoved chains w h v inv known.kinds typed s e not_ours p.mine q.mine p.here q.here in
       let f_same = unmoved chains w h v inv known.kinds typed s f not_theirs p.theirs q.theirs p.there q.there in
-      subst (λ (c : Chain). Balanced version e.channel f.channel c.records.apps.balances (balances_at q.there) q.mine q.theirs) e_same.0
+      subst (λ (c : MachineChain). Balanced version e.channel f.channel c.records.apps.balances (balances_at q.there) q.mine q.theirs) e_same.0
       (subst (λ m. Balanced version e.channel f.channel (balances_at p.here) (balances_at q.there) m q.theirs) e_same.1
-      (subst (λ (c : Chain). Balanced version e.channel f.channel (balances_at p.here) c.records.apps.balances p.mine q.theirs) f_same.0
+      (subst (λ (c : MachineChain). Balanced version e.channel f.channel (balances_at p.here) c.records.apps.balances p.mine q.theirs) f_same.0
       (subst (λ t. Balanced version e.channel f.channel (balances_at p.here) (balances_at p.there) p.mine t) f_same.1 was)))
 
   pub pair_step : Now

@@ -11,11 +11,11 @@ use Rattle.ibc_machine.specs.ics04.Packets.{has_received}
 use Rattle.ibc_machine.specs.ics20.TokenData.{tokens_of, success}
 use Rattle.ibc_machine.specs.ics20.Bank.{Balances}
 use Rattle.ibc_machine.specs.ics20.Transfers.{transfer_port}
-use Rattle.ibc_machine.specs.promises.Totals.{succeeded}
+use Rattle.ibc_machine.specs.promises.Totals.{has_succeeded}
 use Rattle.ibc_machine.specs.chain.Machine.{World}
 use Rattle.ibc_machine.specs.promises.Histories.{Happened, End}
 use Rattle.ibc_laws.proofs.steps.CoreSteps.{Receives, Acks, TimesOut, HadAck}
-use Rattle.ibc_laws.proofs.steps.Worlds.{WorldGrows, WorldGrows-refl}
+use Rattle.ibc_laws.proofs.steps.WorldGrowth.{WorldGrows, WorldGrows-refl}
 use Rattle.ibc_laws.proofs.peers.Invariant.{Inv, shape_of}
 use Rattle.ibc_laws.proofs.peers.Peers.{Peers, stands_alike, one_peer_only, peers_flip}
 use Rattle.ibc_laws.proofs.peers.FirstLaw.{peers_of}
@@ -60,10 +60,10 @@ module _ (hs : List Happened) (w : World) (k : Known hs w) (chains : ℕ) (e f :
       let alike = stands_alike x.other e x.peers.theirs p.mine same x.peers.there p.here in
       subst (λ (c : Channel). n < c.next_send) alike.1 x.used
 
-  not_succeeded : (n : ℕ) → ((ack : Text) → at nat_cmp n p.theirs.acks ≡ Some ack → ⊥) → succeeded p.theirs n ≡ false
+  not_succeeded : (n : ℕ) → ((ack : Text) → at nat_cmp n p.theirs.acks ≡ Some ack → ⊥) → has_succeeded p.theirs n ≡ false
   not_succeeded n never = ap (λ o. option_map_or (λ ack. same_text ack success) o false) (none_or (at nat_cmp n p.theirs.acks) never)
 
-  pub next_is_new : succeeded p.theirs p.mine.next_send ≡ false
+  pub next_is_new : has_succeeded p.theirs p.mine.next_send ≡ false
   next_is_new = not_succeeded p.mine.next_send (λ ack is. let lt = was_used p.mine.next_send ack is in omega arith)
 
   pub next_is_free : at nat_cmp p.mine.next_send p.mine.commitments ≡ None
@@ -73,7 +73,7 @@ module _ (hs : List Happened) (w : World) (k : Known hs w) (chains : ℕ) (e f :
   -- ---- a packet is acknowledged, and times out
 
   pub acknowledged_so : (port : Text) (q : Packet) (s : Acks w p.here.chain.records.core port e.channel p.mine q)
-      → succeeded p.theirs q.sequence ≡ same_text s.ack success
+      → has_succeeded p.theirs q.sequence ≡ same_text s.ack success
   acknowledged_so port q s =
       let seen = peer_seen w inv e p.mine p.here s.settles.settled q.destination_port q.destination_channel s.settles.peer s.height (HadAck q s.ack) s.sees in
       let had = s.sees.had in
@@ -83,7 +83,7 @@ module _ (hs : List Happened) (w : World) (k : Known hs w) (chains : ℕ) (e f :
       subst (λ (c : Channel). at nat_cmp q.sequence c.acks ≡ Some s.ack) alike.1 ((seen.grows had.0 had.1).receiving.acks q.sequence s.ack had.2) in
       ap (λ o. option_map_or (λ ack. same_text ack success) o false) stands
 
-  pub not_acknowledged : (q : Packet) → TimesOut w p.here.chain.records.core e.port e.channel p.mine q → succeeded p.theirs q.sequence ≡ false
+  pub not_acknowledged : (q : Packet) → TimesOut w p.here.chain.records.core e.port e.channel p.mine q → has_succeeded p.theirs q.sequence ≡ false
   not_acknowledged q s = not_succeeded q.sequence (λ ack is.
       let peer = (receiver_seen w w inv grows e p.mine p.here q s).peer in
       let same : peer.other ≡ f = one_peer_only w e peer.other f (peers_of w e p.mine p.here peer) p in

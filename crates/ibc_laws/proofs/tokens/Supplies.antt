@@ -8,7 +8,7 @@ use Rattle.ibc_ids.specs.Names.{is_base_denom, hop}
 use Rattle.ibc_ids.proofs.Hops.{came_over_is, came_over_by}
 use Rattle.ibc_wire.specs.declared.packet.Packet.{Packet}
 use Rattle.ibc_wire.specs.declared.token.Token.{Token}
-use Rattle.ibc_machine.specs.chain.Records.{Core, Chain, Channel}
+use Rattle.ibc_machine.specs.chain.Records.{Core, MachineChain, Channel}
 use Rattle.ibc_machine.specs.ics20.TokenData.{amount_of}
 use Rattle.ibc_machine.specs.ics20.Bank.{Balances, supply, balance, escrow}
 use Rattle.ibc_machine.specs.ics20.Transfers.{transfer_port, came_over, without_hop}
@@ -16,15 +16,15 @@ use Rattle.ibc_machine.specs.chain.Genesis.{GenesisState, start, is_allowed, sta
 use Rattle.ibc_machine.specs.chain.Machine.{World}
 use Rattle.ibc_machine.specs.ledger.Ledgers.{is_typed}
 use Rattle.ibc_machine.specs.promises.Histories.{Happened, End}
-use Rattle.ibc_machine.specs.promises.Totals.{balances_of, escrowed}
+use Rattle.ibc_machine.specs.promises.Totals.{balances_of, escrow_balance}
 use Rattle.ibc_machine.specs.promises.Laws.{IsPast}
 use Rattle.ibc_machine.proofs.Measures.{IsSorted, Moved, weigh}
 use Rattle.ibc_laws.specs.Tokens.{SupplyStays, NoVoucherWithoutEscrow, IsBacked, transfer_end, supply_at}
-use Rattle.ibc_laws.proofs.basics.Places.{some_is, placed, same_or_not, get-set_same, get-set_other}
+use Rattle.ibc_laws.proofs.basics.ListPlaces.{some_is, placed, same_or_not, get-set_same, get-set_other}
 use Rattle.ibc_laws.proofs.steps.Told.{Told, told_of}
 use Rattle.ibc_laws.proofs.steps.CoreSteps.{rank}
-use Rattle.ibc_laws.proofs.steps.Steps.{Moves, Stepped, rests, moves, stepped}
-use Rattle.ibc_laws.proofs.steps.Worlds.{chain_grows}
+use Rattle.ibc_laws.proofs.steps.MachineSteps.{Moves, Stepped, rests, moves, stepped}
+use Rattle.ibc_laws.proofs.steps.WorldGrowth.{chain_grows}
 use Rattle.ibc_laws.proofs.steps.Induction.{past_has}
 use Rattle.ibc_laws.proofs.peers.Invariant.{Inv}
 use Rattle.ibc_laws.proofs.peers.Peers.{Stands, Peers, peers_flip, peers_true}
@@ -117,7 +117,7 @@ lemma_no_base channel denom base over =
 record Supplies (genesis : GenesisState) (hs : List Happened) (w : World) : Type 0 where
   conserving : Conserving hs w
   base : (k : ℕ) (denom : Text) → is_base_denom denom ≡ true → supply (balances_of w k) denom ≡ supply (balances_of (start genesis) k) denom
-  came : (k : ℕ) (c : Chain) → slice_get w k ≡ Some c → (denom : Text) → 1 ≤ supply c.records.apps.balances denom
+  came : (k : ℕ) (c : MachineChain) → slice_get w k ≡ Some c → (denom : Text) → 1 ≤ supply c.records.apps.balances denom
       → (is_base_denom denom ≡ true) ⊎ CameOver c.records.core denom
 
 module _ (genesis : GenesisState) (chains : ℕ) (hs : List Happened) (w : World) (h : Happened) (v : World) (typed : is_typed h.0 ≡ true) (was : Supplies genesis hs w) where
@@ -136,8 +136,8 @@ module _ (genesis : GenesisState) (chains : ℕ) (hs : List Happened) (w : World
     | inr over ↦ absurd (lemma_no_base over.0 denom base over.2)
   ]
 
-  abbrev of : Option Chain → Balances
-  of o = option_map_or (λ (c : Chain). c.records.apps.balances) o []
+  abbrev of : Option MachineChain → Balances
+  of o = option_map_or (λ (c : MachineChain). c.records.apps.balances) o []
 
   lemma_base_after : Stepped chains w h v → (k : ℕ) (denom : Text) → is_base_denom denom ≡ true → supply (balances_of v k) denom ≡ supply (balances_of w k) denom
   lemma_base_after (rests quiet same) k denom base = ap (λ (x : World). supply (balances_of x k) denom) same
@@ -153,13 +153,13 @@ module _ (genesis : GenesisState) (chains : ℕ) (hs : List Happened) (w : World
         | inr other ↦ ap (λ o. supply (of o) denom) (get-set_other w s.k k s.now other)
       ]
 
-  lemma_came_after : Stepped chains w h v → (k : ℕ) (c : Chain) → slice_get v k ≡ Some c → (denom : Text) → 1 ≤ supply c.records.apps.balances denom
+  lemma_came_after : Stepped chains w h v → (k : ℕ) (c : MachineChain) → slice_get v k ≡ Some c → (denom : Text) → 1 ≤ supply c.records.apps.balances denom
       → (is_base_denom denom ≡ true) ⊎ CameOver c.records.core denom
   lemma_came_after (rests quiet same) k c there denom some = was.came k c (subst (λ (x : World). slice_get x k ≡ Some c) same there) denom some
   lemma_came_after (moves s) k c there denom some =
       elim (placed w s.k s.before s.now s.there k c (subst (λ (x : World). slice_get x k ≡ Some c) s.after there)) [
-        | inl here ↦ subst (λ (d : Chain). (is_base_denom denom ≡ true) ⊎ CameOver d.records.core denom) here.1
-            (now (subst (λ (d : Chain). 1 ≤ supply d.records.apps.balances denom) (sym here.1) some))
+        | inl here ↦ subst (λ (d : MachineChain). (is_base_denom denom ≡ true) ⊎ CameOver d.records.core denom) here.1
+            (now (subst (λ (d : MachineChain). 1 ≤ supply d.records.apps.balances denom) (sym here.1) some))
         | inr other ↦ was.came k c other.1 denom some
       ]
     where
@@ -185,7 +185,7 @@ module _ (genesis : GenesisState) (chains : ℕ) (hs : List Happened) (w : World
     came = lemma_came_after step;
   }
 
-lemma_came_at_start : (genesis : GenesisState) → is_allowed genesis ≡ true → (k : ℕ) (c : Chain) → slice_get (start genesis) k ≡ Some c
+lemma_came_at_start : (genesis : GenesisState) → is_allowed genesis ≡ true → (k : ℕ) (c : MachineChain) → slice_get (start genesis) k ≡ Some c
     → (denom : Text) → 1 ≤ supply c.records.apps.balances denom → (is_base_denom denom ≡ true) ⊎ CameOver c.records.core denom
 lemma_came_at_start genesis allowed k c there denom some = go (is_base_denom denom) refl
   where
@@ -196,7 +196,7 @@ lemma_came_at_start genesis allowed k c there denom some = go (is_base_denom den
         let none : supply (starting_balances s.0.balances) denom ≡ 0 = held_at_start (of_denom denom)
         (λ user base a_user a_base. differ base denom (λ same. absurd (cc (sym a_base ∙ ap is_base_denom same ∙ is))))
         s.0.balances s.0.balances s.2 [] tt refl in
-        let of_chain : supply (starting_balances s.0.balances) denom ≡ supply c.records.apps.balances denom = ap (λ (d : Chain). supply d.records.apps.balances denom) s.1 in
+        let of_chain : supply (starting_balances s.0.balances) denom ≡ supply c.records.apps.balances denom = ap (λ (d : MachineChain). supply d.records.apps.balances denom) s.1 in
         absurd (omega arith)
 
 lemma_supplies : (genesis : GenesisState) (happened : List Happened) (world : World) → IsPast genesis happened world → Supplies genesis happened world
@@ -213,7 +213,7 @@ lemma_supply_stays genesis happened world chain denom past base = (lemma_supplie
 
 -- ---- no voucher without escrow
 
-module _ (hs : List Happened) (world : World) (all : Conserving hs world) (chain : ℕ) (denom : Text) (c : Chain) (there : slice_get world chain ≡ Some c)
+module _ (hs : List Happened) (world : World) (all : Conserving hs world) (chain : ℕ) (denom : Text) (c : MachineChain) (there : slice_get world chain ≡ Some c)
     (over : CameOver c.records.core denom) (some : 1 ≤ supply c.records.apps.balances denom) where
   abbrev f : End
   f = transfer_end chain over.0
@@ -234,8 +234,8 @@ module _ (hs : List Happened) (world : World) (all : Conserving hs world) (chain
       let q = peers_flip f e p in
       let enough : supply q.there.chain.records.apps.balances (hop transfer_port over.0 ++ rest) ≤ balance q.here.chain.records.apps.balances (escrow e.channel) rest =
       (let equation = all.balanced e f q port refl rest in omega arith) in
-      let at_home : escrowed world e rest ≡ balance q.here.chain.records.apps.balances (escrow e.channel) rest = ap (λ (o : Option Chain). balance (option_map_or (λ (c : Chain). c.records.apps.balances) o []) (escrow e.channel) rest) q.here.there in
-      let at_chain : supply_at world chain denom ≡ supply q.there.chain.records.apps.balances denom = ap (λ (o : Option Chain). supply (option_map_or (λ (c : Chain). c.records.apps.balances) o []) denom) q.there.there in
+      let at_home : escrow_balance world e rest ≡ balance q.here.chain.records.apps.balances (escrow e.channel) rest = ap (λ (o : Option MachineChain). balance (option_map_or (λ (c : MachineChain). c.records.apps.balances) o []) (escrow e.channel) rest) q.here.there in
+      let at_chain : supply_at world chain denom ≡ supply q.there.chain.records.apps.balances denom = ap (λ (o : Option MachineChain). supply (option_map_or (λ (c : MachineChain). c.records.apps.balances) o []) denom) q.there.there in
       let same : supply q.there.chain.records.apps.balances denom ≡ supply q.there.chain.records.apps.balances (hop transfer_port over.0 ++ rest) =
       ap (λ d. supply q.there.chain.records.apps.balances d) whole in
       record {
@@ -266,13 +266,13 @@ lemma_no_voucher_without_escrow genesis happened world chain denom past some = g
     all : Supplies genesis happened world
     all = lemma_supplies genesis happened world past
 
-    go : (o : Option Chain) → slice_get world chain ≡ o → (is_base_denom denom ≡ true) ⊎ IsBacked world chain denom
+    go : (o : Option MachineChain) → slice_get world chain ≡ o → (is_base_denom denom ≡ true) ⊎ IsBacked world chain denom
     go (Some c) there =
-        let held : 1 ≤ supply c.records.apps.balances denom = (let same = ap (λ (o : Option Chain). supply (option_map_or (λ (c : Chain). c.records.apps.balances) o []) denom) there in omega arith) in
+        let held : 1 ≤ supply c.records.apps.balances denom = (let same = ap (λ (o : Option MachineChain). supply (option_map_or (λ (c : MachineChain). c.records.apps.balances) o []) denom) there in omega arith) in
         elim (all.came chain c there denom held) [
           | inl base ↦ inl base
           | inr over ↦ inr (lemma_backed happened world all.conserving chain denom c there over held)
         ]
     go None there =
-        let none = ap (λ (o : Option Chain). supply (option_map_or (λ (c : Chain). c.records.apps.balances) o []) denom) there in
+        let none = ap (λ (o : Option MachineChain). supply (option_map_or (λ (c : MachineChain). c.records.apps.balances) o []) denom) there in
         absurd (omega arith)

@@ -13,7 +13,7 @@ use Rattle.ibc_machine.specs.ics24.Evidence.{Host}
 use Rattle.ibc_machine.specs.ics04.Packets.{is_ordered, after_receive, after_ack, after_timeout}
 use Rattle.ibc_machine.specs.ics20.TokenData.{Data, data_of, is_data, tokens_of, amount_of, success, error}
 use Rattle.ibc_machine.specs.ics20.Bank.{Balances, balance, escrow}
-use Rattle.ibc_machine.specs.ics20.Transfers.{transfer_port, came_over, burnt}
+use Rattle.ibc_machine.specs.ics20.Transfers.{transfer_port, came_over, burnt_amount}
 use Rattle.ibc_machine.specs.chain.Machine.{World}
 use Rattle.ibc_machine.proofs.DataRead.{data_read, data_spelled}
 use Rattle.ibc_laws.proofs.basics.PassedTests.{both}
@@ -57,9 +57,9 @@ module _ (w : World) (host : Host) (records : Records) (apps : Apps) (sorted : I
   ack_apart m p ack _ is from (fails after bad_ack refund) = refund_apart m p after is from refund
 
   taking_apart : (m : Channel) (p : Packet) (ack : Text) (after : Balances) → port ≡ transfer_port → p.destination_port ≡ port → p.destination_channel ≡ id
-      → Taking records.apps.balances (burnt records.core) m.end.version p ack after → Unshifted records.apps.balances after other
+      → Taking records.apps.balances (burnt_amount records.core) m.end.version p ack after → Unshifted records.apps.balances after other
   taking_apart m p _ _ is to_port to (takes d after read user moved) =
-      received_elsewhere (burnt records.core) p (to_port ∙ is) (subst HasNoSlash (sym to) clear) d.receiver d.tokens records.apps.balances after sorted user moved
+      received_elsewhere (burnt_amount records.core) p (to_port ∙ is) (subst HasNoSlash (sym to) clear) d.receiver d.tokens records.apps.balances after sorted user moved
       other clear_other (λ e. apart is (sym to ∙ e))
   taking_apart m p _ _ is to_port to (refuses words) = unshifted records.apps.balances other
 
@@ -80,7 +80,7 @@ module _ (w : World) (host : Host) (records : Records) (apps : Apps) (sorted : I
       (sent_elsewhere id tokens.data_sent.sender tokens.data_sent.tokens records.apps.balances tokens.balances sorted
       (sender_is_user m.end.version tokens.data_sent good) other clear clear_other (apart tokens.port_is) tokens.paid)
   elsewhere m told n (receives p ack s) did good =
-      by_port_apart apps.balances (Taking records.apps.balances (burnt records.core) m.end.version p ack)
+      by_port_apart apps.balances (Taking records.apps.balances (burnt_amount records.core) m.end.version p ack)
       (λ is. taking_apart m p ack apps.balances is s.to_port s.to_channel) (received_balances records port m.end.version p ack apps did)
   elsewhere m told n (acknowledges p s) did good =
       by_port_apart apps.balances (Acknowledging records.apps.balances m.end.version p s.ack)
@@ -193,16 +193,16 @@ module _ (w : World) (host : Host) (records : Records) (apps : Apps) (sorted : I
       (subst (λ (a : Apps). Leaving records.apps.balances a.balances id (tokens_of m.end.version c)) (sym tokens.after)
       (subst (Leaving records.apps.balances tokens.balances id) (sym (tokens_read m.end.version c d read))
       (sent_shift id d.sender d.tokens records.apps.balances tokens.balances sorted (sender_is_user m.end.version d good) tokens.paid)))
-  at_itself m told n (receives p ack s) did good = of_taking ack apps.balances s (of_transfers apps.balances (Taking records.apps.balances (burnt records.core) m.end.version p ack) (received_balances records transfer_port m.end.version p ack apps did))
+  at_itself m told n (receives p ack s) did good = of_taking ack apps.balances s (of_transfers apps.balances (Taking records.apps.balances (burnt_amount records.core) m.end.version p ack) (received_balances records transfer_port m.end.version p ack apps did))
     where
       of_taking : (ack : Text) (after : Balances) → Receives w host records.core transfer_port id m p
-          → Taking records.apps.balances (burnt records.core) m.end.version p ack after
+          → Taking records.apps.balances (burnt_amount records.core) m.end.version p ack after
           → OwnEffect w host records.core id records.apps.balances after m (after_receive p.sequence ack m)
       of_taking _ _ s (takes d after read user moved) =
           takes_in p s (noted p.sequence success m)
           (subst (Arriving records.apps.balances after id p.source_port p.source_channel) (sym (tokens_read m.end.version (commitment_of p) d read))
           (subst (λ i. Arriving records.apps.balances after i p.source_port p.source_channel d.tokens) s.to_channel
-          (received_shift (burnt records.core) p s.to_port (subst HasNoSlash (sym s.to_channel) clear) d.receiver d.tokens records.apps.balances after sorted user moved)))
+          (received_shift (burnt_amount records.core) p s.to_port (subst HasNoSlash (sym s.to_channel) clear) d.receiver d.tokens records.apps.balances after sorted user moved)))
       of_taking _ _ s (refuses words) = turns_down p (error words) s (error_is_no_success words) (noted p.sequence (error words) m) (unshifted records.apps.balances id)
   at_itself m told n (acknowledges p s) did good = of_ack s apps.balances (of_transfers apps.balances (Acknowledging records.apps.balances m.end.version p s.ack) (acknowledged_balances records.apps transfer_port m.end.version p s.ack apps did))
     where

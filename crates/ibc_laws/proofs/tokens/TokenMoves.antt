@@ -8,7 +8,7 @@ use Rattle.ibc_wire.specs.declared.packet.Packet.{Packet}
 use Rattle.ibc_wire.specs.declared.token.Token.{Token}
 use Rattle.ibc_machine.specs.ics20.Bank.{Balances, supply, escrow, give, pay, into_escrow, out_of_escrow, mint, is_bounded}
 use Rattle.ibc_machine.specs.ics20.Transfers.{transfer_port, came_over, each_token, send_token, refund_token, receive_token, without_hop, with_hop}
-use Rattle.ibc_laws.proofs.basics.Places.{some_is}
+use Rattle.ibc_laws.proofs.basics.ListPlaces.{some_is}
 use Rattle.ibc_machine.proofs.Measures.{Test, weigh, IsSorted, Moved, given, paid, moved_between, moved_each}
 
 -- the amount, unless the denomination came over the channel and was burnt there

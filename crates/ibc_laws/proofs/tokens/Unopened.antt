@@ -4,7 +4,7 @@ use Rattle.std.proofs.Common.{◌≡◌, ℕ, zero, suc, true, false, ◌&&◌, 
 use Rattle.std.specs.List.{list_all, fold}
 use Rattle.ibc_ids.specs.Texts.{Text, same_text}
 use Rattle.ibc_ids.specs.Names.{is_user, is_base_denom, hop}
-use Rattle.ibc_machine.specs.chain.Records.{Core, Records, Chain, Channel, channel_at}
+use Rattle.ibc_machine.specs.chain.Records.{Core, Records, MachineChain, Channel, channel_at}
 use Rattle.ibc_machine.specs.ics24.Evidence.{Host}
 use Rattle.ibc_machine.specs.chain.Handlers.{host_of}
 use Rattle.ibc_machine.specs.ics20.Bank.{Balances, balance, with_balance, supply, escrow}
@@ -15,14 +15,14 @@ use Rattle.ibc_machine.specs.chain.Machine.{World}
 use Rattle.ibc_machine.specs.ledger.Ledgers.{is_typed}
 use Rattle.ibc_machine.specs.promises.Histories.{Happened}
 use Rattle.ibc_laws.proofs.basics.PassedTests.{both}
-use Rattle.ibc_laws.proofs.basics.Places.{placed, some_is}
+use Rattle.ibc_laws.proofs.basics.ListPlaces.{placed, some_is}
 use Rattle.ibc_laws.proofs.steps.Told.{Told, told_of}
 use Rattle.ibc_laws.proofs.steps.CoreSteps.{rank}
 use Rattle.ibc_laws.proofs.steps.EndSteps.{open_rank}
-use Rattle.ibc_laws.proofs.steps.Worlds.{ChainStep, GoodStep, chain_grows, chain_shaped}
+use Rattle.ibc_laws.proofs.steps.WorldGrowth.{ChainStep, GoodStep, chain_grows, chain_shaped}
 use Rattle.ibc_laws.proofs.peers.Invariant.{Inv}
 use Rattle.ibc_laws.proofs.tokens.ChainKinds.{Kinds}
-use Rattle.ibc_laws.proofs.steps.Steps.{Stepped, rests, moves}
+use Rattle.ibc_laws.proofs.steps.MachineSteps.{Stepped, rests, moves}
 use Rattle.ibc_laws.proofs.tokens.Hops.{HasNoSlash, base_has_no_slash, escrow_is_no_user}
 use Rattle.ibc_machine.proofs.Measures.{Test, IsSorted, measure, measure-with_balance, sorted-with_balance}
 use Rattle.ibc_laws.proofs.tokens.BalanceSteps.{starting_sorted}
@@ -83,8 +83,8 @@ module _ (w : World) (host : Host) (before after : Records) (was : Unopened befo
 
 -- ---- every step
 
-module _ (chains : ℕ) (w : World) (inv : Inv w) (kinds : Kinds w) (k : ℕ) (c : Chain) (there : slice_get w k ≡ Some c) (was : Unopened c.records)
-    (told : Told) (d : Chain) (step : ChainStep chains w k c told d) (good : GoodStep chains w k c told d step) where
+module _ (chains : ℕ) (w : World) (inv : Inv w) (kinds : Kinds w) (k : ℕ) (c : MachineChain) (there : slice_get w k ≡ Some c) (was : Unopened c.records)
+    (told : Told) (d : MachineChain) (step : ChainStep chains w k c told d) (good : GoodStep chains w k c told d step) where
   effect : (name : Text) → HasNoSlash name → KeyEffect w (host_of chains k c) c.records d.records name
   effect name clear = key_effect chains w k c (inv.shaped.each k c there).core (kinds.each k c there).sorted name clear told d step good
 
@@ -113,11 +113,11 @@ module _ (chains : ℕ) (w : World) (inv : Inv w) (kinds : Kinds w) (k : ℕ) (c
   }
 
 pub unopened_step : (chains : ℕ) (w : World) (h : Happened) (v : World) → Inv w → Kinds w → is_typed h.0 ≡ true → Stepped chains w h v
-    → ((x : ℕ) (c : Chain) → slice_get w x ≡ Some c → Unopened c.records) → (x : ℕ) (c : Chain) → slice_get v x ≡ Some c → Unopened c.records
+    → ((x : ℕ) (c : MachineChain) → slice_get w x ≡ Some c → Unopened c.records) → (x : ℕ) (c : MachineChain) → slice_get v x ≡ Some c → Unopened c.records
 unopened_step chains w h v inv kinds typed (rests quiet same) was x c is = was x c (subst (λ y. slice_get y x ≡ Some c) same is)
 unopened_step chains w h v inv kinds typed (moves s) was x c is =
     elim (placed w s.k s.before s.now s.there x c (subst (λ y. slice_get y x ≡ Some c) s.after is)) [
-      | inl here ↦ subst (λ (z : Chain). Unopened z.records) here.1
+      | inl here ↦ subst (λ (z : MachineChain). Unopened z.records) here.1
           (unopened_on chains w inv kinds s.k s.before s.there (was s.k s.before s.there) (told_of h) s.now s.step (s.good typed))
       | inr other ↦ was x c other.1
     ]
@@ -164,19 +164,19 @@ unfolding is_allowed
 fair_chains genesis allowed = (both _ _ allowed).1
 
 fair_at : (starts : List ChainState) → list_all (λ (chain : ChainState). list_all (is_fair chain.balances) chain.balances) starts ≡ true
-    → (x : ℕ) (c : Chain) → slice_get (map starting_chain starts) x ≡ Some c → (s : ChainState) × (starting_chain s ≡ c) × (list_all (is_fair s.balances) s.balances ≡ true)
+    → (x : ℕ) (c : MachineChain) → slice_get (map starting_chain starts) x ≡ Some c → (s : ChainState) × (starting_chain s ≡ c) × (list_all (is_fair s.balances) s.balances ≡ true)
 fair_at [] fair x c e = absurd (cc e)
 fair_at (s ∷ starts) fair zero c e = (s, some_is refl e, (both (list_all (is_fair s.balances) s.balances) _ fair).0)
 fair_at (s ∷ starts) fair (suc x) c e = fair_at starts (both (list_all (is_fair s.balances) s.balances) _ fair).1 x c e
 
 -- each chain begins with the balances of its own part of an allowed genesis, which are fair
-abbrev pub StartsFairly : Chain → Type 0
+abbrev pub StartsFairly : MachineChain → Type 0
 StartsFairly c = (s : ChainState) × (starting_chain s ≡ c) × (list_all (is_fair s.balances) s.balances ≡ true)
 
-pub lemma_starts_fairly : (genesis : GenesisState) → is_allowed genesis ≡ true → (x : ℕ) (c : Chain) → slice_get (start genesis) x ≡ Some c → StartsFairly c
+pub lemma_starts_fairly : (genesis : GenesisState) → is_allowed genesis ≡ true → (x : ℕ) (c : MachineChain) → slice_get (start genesis) x ≡ Some c → StartsFairly c
 lemma_starts_fairly genesis allowed = fair_at genesis.chains (fair_chains genesis allowed)
 
-pub unopened_start : (genesis : GenesisState) → is_allowed genesis ≡ true → (x : ℕ) (c : Chain) → slice_get (start genesis) x ≡ Some c → Unopened c.records
+pub unopened_start : (genesis : GenesisState) → is_allowed genesis ≡ true → (x : ℕ) (c : MachineChain) → slice_get (start genesis) x ≡ Some c → Unopened c.records
 unopened_start genesis allowed x c is =
     let s = lemma_starts_fairly genesis allowed x c is in
-    subst (λ (z : Chain). Unopened z.records) s.1 (unopened_start_of s.0 s.2)
+    subst (λ (z : MachineChain). Unopened z.records) s.1 (unopened_start_of s.0 s.2)

@@ -11,7 +11,7 @@ use Rattle.ibc_wire.specs.declared.messages.Message.TheVariants as message
 use Rattle.ibc_machine.specs.declared.event.Event.TheVariants as event
 use Rattle.ibc_machine.specs.declared.reply.Effect.TheVariants as effect
 use Rattle.ibc_machine.specs.declared.reply.Reply.TheVariants as reply
-use Rattle.ibc_machine.specs.chain.Records.{Core, Chain, Commitment}
+use Rattle.ibc_machine.specs.chain.Records.{Core, MachineChain, Commitment}
 use Rattle.ibc_machine.specs.ics20.TokenData.{Data}
 use Rattle.ibc_machine.specs.ics20.Bank.{Balances, balance, escrow}
 use Rattle.ibc_machine.specs.ics20.Transfers.{transfer_port, came_over, without_hop, transfer_data, transfer_many_data}
@@ -19,12 +19,12 @@ use Rattle.ibc_machine.specs.chain.Machine.{World}
 use Rattle.ibc_machine.specs.ledger.Ledgers.{chain_of}
 use Rattle.ibc_machine.specs.promises.Histories.{Happened}
 use Rattle.ibc_machine.proofs.Measures.{IsSorted, Moved, weigh}
-use Rattle.ibc_laws.specs.Tokens.{WhoPays, paid_by, own_sending, balance_at}
+use Rattle.ibc_laws.specs.Tokens.{WhoPays, amount_paid_by, own_sending, balance_at}
 use Rattle.ibc_laws.proofs.basics.PassedTests.{number-self}
-use Rattle.ibc_laws.proofs.basics.Places.{same_or_not, get-set_same, get-set_other}
+use Rattle.ibc_laws.proofs.basics.ListPlaces.{same_or_not, get-set_same, get-set_other}
 use Rattle.ibc_laws.proofs.steps.Told.{Told, Sent, told_of}
 use Rattle.ibc_laws.proofs.steps.Paid.{Pays, PaidOf}
-use Rattle.ibc_laws.proofs.steps.Steps.{Stepped, rests, moves, stepped}
+use Rattle.ibc_laws.proofs.steps.MachineSteps.{Stepped, rests, moves, stepped}
 use Rattle.ibc_laws.proofs.tokens.Hops.{escrow_is_no_user}
 use Rattle.ibc_laws.proofs.tokens.HeldAndIssued.{at_key, balance_is, differ, if_of, sum-same, sum-zero}
 use Rattle.ibc_laws.proofs.tokens.TokenMoves.{receive_out, sent_tokens, refunded_tokens, received_tokens}
@@ -97,9 +97,9 @@ module _ (user denom : Text) (is : is_user user ≡ true) where
       let here : (j == k) ≡ true = subst (λ i. (j == i) ≡ true) same (number-self j) in
       sym (ap (λ b. own_sending (b && own) denom tokens) here)
 
-  fell : (h : Happened) (k : ℕ) (c d : Chain) → chain_of h.0 ≡ k → IsSorted c.records.apps.balances → PaidOf h c d
+  fell : (h : Happened) (k : ℕ) (c d : MachineChain) → chain_of h.0 ≡ k → IsSorted c.records.apps.balances → PaidOf h c d
       → BalancesMoved c.records.core (told_of h) c.records.apps.balances d.records.apps.balances
-      → FellBy c.records.apps.balances d.records.apps.balances (paid_by k user denom h)
+      → FellBy c.records.apps.balances d.records.apps.balances (amount_paid_by k user denom h)
   fell (event.Message j (message.Transfer m), reply.Ok given) k c d chain sorted paid moved =
       subst (FellBy c.records.apps.balances d.records.apps.balances) (lemma_on_chain j k (same_text m.user user) (transfer_data m).tokens chain)
       (lemma_paid_own m.channel (transfer_data m) c.records.apps.balances d.records.apps.balances sorted paid)
@@ -123,11 +123,11 @@ module _ (user denom : Text) (is : is_user user ≡ true) where
 
   -- ---- by the chain
 
-  abbrev held : Option Chain → ℕ
-  held o = balance (option_map_or (λ (c : Chain). c.records.apps.balances) o []) user denom
+  abbrev held : Option MachineChain → ℕ
+  held o = balance (option_map_or (λ (c : MachineChain). c.records.apps.balances) o []) user denom
 
-  lemma_of_step : (chains : ℕ) (w : World) (h : Happened) (v : World) (k : ℕ) → ((x : ℕ) (c : Chain) → slice_get w x ≡ Some c → IsSorted c.records.apps.balances)
-      → Stepped chains w h v → balance_at w k user denom ≤ balance_at v k user denom + paid_by k user denom h
+  lemma_of_step : (chains : ℕ) (w : World) (h : Happened) (v : World) (k : ℕ) → ((x : ℕ) (c : MachineChain) → slice_get w x ≡ Some c → IsSorted c.records.apps.balances)
+      → Stepped chains w h v → balance_at w k user denom ≤ balance_at v k user denom + amount_paid_by k user denom h
   lemma_of_step chains w h v k sorted (rests quiet same) = let e = ap (λ (x : World). balance_at x k user denom) same in omega arith
   lemma_of_step chains w h v k sorted (moves s) = elim (same_or_not k s.k) [
     | inl here ↦ (

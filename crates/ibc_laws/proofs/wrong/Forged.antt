@@ -6,9 +6,9 @@ use Rattle.ibc_ids.specs.Texts.{same_text}
 use Rattle.ibc_machine.specs.declared.event.Event.{Event}
 use Rattle.ibc_machine.specs.chain.Genesis.{start, is_allowed}
 use Rattle.ibc_machine.specs.chain.Machine.{World}
-use Rattle.ibc_machine.specs.promises.Histories.{Happened, End, sent, received}
+use Rattle.ibc_machine.specs.promises.Histories.{Happened, End, sent_packets, received_packets}
 use Rattle.ibc_machine.specs.promises.Peers.{end_at}
-use Rattle.ibc_machine.specs.promises.Totals.{escrowed, vouchers, flight, hopped}
+use Rattle.ibc_machine.specs.promises.Totals.{escrow_balance, vouchers, flight, denom_with_hop}
 use Rattle.ibc_machine.specs.promises.Laws.{IsExactlyOnce}
 use Rattle.ibc_machine.proofs.Computing.{computing}
 use Rattle.ibc_machine.specs.promises.Peers.{are_peers}
@@ -45,10 +45,10 @@ there_ = transfer_end 1 b.channel
 lemma_conserved : IsConserved world here there_
 unfolding computing machine_comparing
 lemma_conserved denom over =
-    let held : escrowed world here denom ≡ (if same_text atom denom then 100 else 0) = lemma_entry_of denom atom 100 in
+    let held : escrow_balance world here denom ≡ (if same_text atom denom then 100 else 0) = lemma_entry_of denom atom 100 in
     let made : vouchers world there_ denom ≡ 0 + (if same_text atom denom then 100 else 0) = refl in
     let out : flight world here there_ denom ≡ 0 = refl in
-    let back : flight world there_ here (hopped there_ denom) ≡ 0 = refl in
+    let back : flight world there_ here (denom_with_hop there_ denom) ≡ 0 = refl in
     omega arith
 
 lemma_conserved_back : IsConserved world there_ here
@@ -73,14 +73,14 @@ lemma_own : end_at world here ≡ Some (mine_in world here)
 unfolding computing machine_comparing
 lemma_own = refl
 
-lemma_received_it : Contains (received there_ happened) for_carol
+lemma_received_it : Contains (received_packets there_ happened) for_carol
 unfolding computing machine_comparing
-lemma_received_it = let one : received there_ happened ≡ for_carol ∷ [] = refl in subst (λ ps. Contains ps for_carol) (sym one) (0, omega arith, refl)
+lemma_received_it = let one : received_packets there_ happened ≡ for_carol ∷ [] = refl in subst (λ ps. Contains ps for_carol) (sym one) (0, omega arith, refl)
 
-lemma_not_sent : ¬ (Contains (sent here (mine_in world here) happened) for_carol)
+lemma_not_sent : ¬ (Contains (sent_packets here (mine_in world here) happened) for_carol)
 unfolding computing machine_comparing
 lemma_not_sent has =
-    let one : sent here (mine_in world here) happened ≡ there ∷ [] = refl in
+    let one : sent_packets here (mine_in world here) happened ≡ there ∷ [] = refl in
     let same : there ≡ for_carol = lemma_contains_one there for_carol (subst (λ ps. Contains ps for_carol) one has) in
     let differ : same_text there.payload for_carol.payload ≡ false = refl in
     let alike : same_text there.payload there.payload ≡ true = refl in

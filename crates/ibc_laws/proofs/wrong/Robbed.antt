@@ -6,13 +6,13 @@ use Rattle.ibc_machine.specs.declared.event.Event.{Event}
 use Rattle.ibc_machine.specs.chain.Genesis.{start, is_allowed}
 use Rattle.ibc_machine.specs.chain.Machine.{World}
 use Rattle.ibc_machine.specs.promises.Histories.{Happened, End}
-use Rattle.ibc_machine.specs.promises.Totals.{escrowed, vouchers, flight, hopped}
+use Rattle.ibc_machine.specs.promises.Totals.{escrow_balance, vouchers, flight, denom_with_hop}
 use Rattle.ibc_machine.proofs.Computing.{computing}
 use Rattle.ibc_machine.proofs.Scripts.{a, b, alice, bob, atom, a_and_b, for_tokens}
 use Rattle.ibc_machine.proofs.Openings.{opening}
 use Rattle.ibc_machine.proofs.PacketScripts.{send}
-use Rattle.ibc_laws.specs.Tokens.{balance_at, paid_by, transfer_end}
-use Rattle.ibc_laws.specs.WrongMachines.{Machine, Taken, HasRun, FirstLaws, AnotherPays, steps_by, happened_by, world_by, machine_comparing, machine_robbing_alice}
+use Rattle.ibc_laws.specs.Tokens.{balance_at, amount_paid_by, transfer_end}
+use Rattle.ibc_laws.specs.WrongMachines.{Machine, WorldStep, HasRun, FirstLaws, AnotherPays, steps_by, happened_by, world_by, machine_comparing, machine_robbing_alice}
 use Rattle.ibc_laws.proofs.basics.Lists.{distinct-none}
 use Rattle.ibc_laws.proofs.wrong.TwoEnds.{IsConserved, chain_in, mine_in, lemma_entry_of, lemma_once_by, lemma_laws_of}
 
@@ -38,10 +38,10 @@ there = transfer_end 1 b.channel
 lemma_conserved : IsConserved world here there
 unfolding computing machine_comparing machine_robbing_alice
 lemma_conserved denom over =
-    let held : escrowed world here denom ≡ (if same_text atom denom then 100 else 0) = lemma_entry_of denom atom 100 in
+    let held : escrow_balance world here denom ≡ (if same_text atom denom then 100 else 0) = lemma_entry_of denom atom 100 in
     let made : vouchers world there denom ≡ 0 = refl in
     let out : flight world here there denom ≡ 0 + (0 + (if same_text atom denom then 100 else 0)) = refl in
-    let back : flight world there here (hopped there denom) ≡ 0 = refl in
+    let back : flight world there here (denom_with_hop there denom) ≡ 0 = refl in
     omega arith
 
 lemma_conserved_back : IsConserved world there here
@@ -60,19 +60,19 @@ lemma_laws = lemma_laws_of world (chain_in world 0) (chain_in world 1) a.channel
 abbrev before : World
 before = world_by robbing (start a_and_b) (opening a b for_tokens 0 0)
 
-abbrev robbery : Taken
+abbrev robbery : WorldStep
 robbery = (before, (send a bob 100 atom bob, (robbing before (send a bob 100 atom bob)).0), world)
 
 lemma_among : Contains (steps_by robbing (start a_and_b) events) robbery
 unfolding computing machine_comparing machine_robbing_alice
 lemma_among = let many : length (steps_by robbing (start a_and_b) events) ≡ 21 = refl in (20, omega (arith, many), refl)
 
-lemma_lost : balance_at world 0 alice atom + paid_by 0 alice atom robbery.1 < balance_at before 0 alice atom
+lemma_lost : balance_at world 0 alice atom + amount_paid_by 0 alice atom robbery.1 < balance_at before 0 alice atom
 unfolding computing machine_comparing machine_robbing_alice
 lemma_lost =
     let old : balance_at before 0 alice atom ≡ 1000 = refl in
     let new : balance_at world 0 alice atom ≡ 900 = refl in
-    let own : paid_by 0 alice atom robbery.1 ≡ 0 = refl in
+    let own : amount_paid_by 0 alice atom robbery.1 ≡ 0 = refl in
     omega arith
 
 lemma_allowed : IsTrue (is_allowed a_and_b)

@@ -7,21 +7,21 @@ use Rattle.ibc_ids.specs.Maps.{at}
 use Rattle.ibc_ids.specs.declared.refusal.Refusal.TheVariants.{Poor}
 use Rattle.ibc_machine.specs.declared.event.Event.{Event}
 use Rattle.ibc_machine.specs.declared.reply.Reply.TheVariants as reply
-use Rattle.ibc_machine.specs.chain.Records.{Chain, Channel}
+use Rattle.ibc_machine.specs.chain.Records.{MachineChain, Channel}
 use Rattle.ibc_wire.specs.declared.records.Order.TheVariants.{Unordered}
 use Rattle.ibc_wire.specs.declared.records.ChannelState.TheVariants as chan
 use Rattle.ibc_machine.specs.ics04.Channels.{channel_end, new_channel}
 use Rattle.ibc_machine.specs.chain.Machine.{World}
-use Rattle.ibc_machine.specs.promises.Histories.{Happened, End, received, acknowledged, timed_out, sequences}
+use Rattle.ibc_machine.specs.promises.Histories.{Happened, End, received_packets, acknowledged_packets, timed_out_packets, sequences}
 use Rattle.ibc_machine.specs.promises.Peers.{end_at, are_peers}
 use Rattle.ibc_machine.specs.promises.Laws.{HasOnePeer, IsExactlyOnce, settles}
 use Rattle.ibc_machine.proofs.FiniteMaps.{by_pair, by_text, found_in_with, at-with_same}
 use Rattle.ibc_machine.specs.ics04.Packets.{is_ordered}
 use Rattle.ibc_machine.specs.ics20.Transfers.{transfer_port, came_over}
-use Rattle.ibc_machine.specs.promises.Totals.{escrowed, vouchers, flight, hopped}
+use Rattle.ibc_machine.specs.promises.Totals.{escrow_balance, vouchers, flight, denom_with_hop}
 use Rattle.ibc_machine.specs.ledger.Replay.{empty_chain}
 use Rattle.ibc_laws.specs.Tokens.{transfer_end}
-use Rattle.ibc_laws.specs.WrongMachines.{Taken, FirstLaws, holds_enough}
+use Rattle.ibc_laws.specs.WrongMachines.{WorldStep, FirstLaws, holds_enough}
 use Rattle.ibc_laws.proofs.basics.PassedTests.{both}
 use Rattle.ibc_laws.proofs.peers.Peers.{Stands, stands, true_peers}
 
@@ -51,13 +51,13 @@ pub lemma_none_poor : (happened : List Happened) → list_all is_not_poor happen
     → Contains happened (event, reply.No Poor) → ⊥
 lemma_none_poor happened all event settling has = absurd (cc (lemma_passes is_not_poor happened (event, reply.No Poor) all has))
 
-pub lemma_once_by : (happened : List Happened) (e f : End) → sequences (timed_out e happened) ≡ [] → IsDistinct nat_eq (sequences (received f happened))
-    → IsDistinct nat_eq (sequences (acknowledged e happened))
-    → ((n : ℕ) → Contains (sequences (acknowledged e happened)) n → Contains (sequences (received f happened)) n) → IsExactlyOnce happened e f
+pub lemma_once_by : (happened : List Happened) (e f : End) → sequences (timed_out_packets e happened) ≡ [] → IsDistinct nat_eq (sequences (received_packets f happened))
+    → IsDistinct nat_eq (sequences (acknowledged_packets e happened))
+    → ((n : ℕ) → Contains (sequences (acknowledged_packets e happened)) n → Contains (sequences (received_packets f happened)) n) → IsExactlyOnce happened e f
 lemma_once_by happened e f none once settled both_ = record {
   not_both = λ n gone had. absurd (let lt = (subst (λ ns. Contains ns n) none gone).1 in omega arith);
   received_once = once;
-  settled_once = subst (IsDistinct nat_eq) (sym (ap (λ ns. sequences (acknowledged e happened) ++ ns) none ∙ append-nil _)) settled;
+  settled_once = subst (IsDistinct nat_eq) (sym (ap (λ ns. sequences (acknowledged_packets e happened) ++ ns) none ∙ append-nil _)) settled;
   acknowledged_received = both_;
 }
 
@@ -65,10 +65,10 @@ lemma_once_by happened e f none once settled both_ = record {
 
 abbrev pub IsConserved : World → End → End → Type 0
 IsConserved w e f = (denom : Text) → came_over e.port e.channel denom ≡ false
-    → escrowed w e denom ≡ vouchers w f denom + flight w e f denom + flight w f e (hopped f denom)
+    → escrow_balance w e denom ≡ vouchers w f denom + flight w e f denom + flight w f e (denom_with_hop f denom)
 
 -- a chain of a world
-abbrev pub chain_in : World → ℕ → Chain
+abbrev pub chain_in : World → ℕ → MachineChain
 chain_in w k = unwrap_or (slice_get w k) empty_chain
 
 -- what one entry has of a denomination
@@ -92,7 +92,7 @@ lemma_found_one q k v x is = elim (found_in_with by_pair k q v x [] is) [
   | inr never ↦ absurd (cc never)
 ]
 
-module _ (w : World) (a b : Chain) (id : Text) (mine theirs : Channel) (two : w ≡ a ∷ b ∷ [])
+module _ (w : World) (a b : MachineChain) (id : Text) (mine theirs : Channel) (two : w ≡ a ∷ b ∷ [])
     (on_a : a.records.core.channels ≡ ((transfer_port, id), mine) ∷ []) (on_b : b.records.core.channels ≡ ((transfer_port, id), theirs) ∷ []) where
   abbrev end_of : ℕ → End
   end_of k = transfer_end k id
@@ -100,7 +100,7 @@ module _ (w : World) (a b : Chain) (id : Text) (mine theirs : Channel) (two : w 
   abbrev IsOneOf : End → Channel → Type 0
   IsOneOf e m = ((e ≡ end_of 0) × (mine ≡ m)) ⊎ ((e ≡ end_of 1) × (theirs ≡ m))
 
-  lemma_of_chain : (k : ℕ) (c : Chain) (e : End) (m v : Channel) → e.chain ≡ k → c.records.core.channels ≡ ((transfer_port, id), v) ∷ []
+  lemma_of_chain : (k : ℕ) (c : MachineChain) (e : End) (m v : Channel) → e.chain ≡ k → c.records.core.channels ≡ ((transfer_port, id), v) ∷ []
       → at pair_cmp (e.port, e.channel) c.records.core.channels ≡ Some m → (e ≡ end_of k) × (v ≡ m)
   lemma_of_chain k c e m v is has found =
       let h = lemma_found_one (e.port, e.channel) (transfer_port, id) v m (ap (λ cs. at pair_cmp (e.port, e.channel) cs) (sym has) ∙ found) in
@@ -112,10 +112,10 @@ module _ (w : World) (a b : Chain) (id : Text) (mine theirs : Channel) (two : w 
       go : (k : ℕ) → e.chain ≡ k → slice_get (a ∷ b ∷ []) k ≡ Some s.chain → IsOneOf e m
       go zero is there =
           let same : a ≡ s.chain = cc there in
-          inl (lemma_of_chain 0 a e m mine is on_a (subst (λ (c : Chain). at pair_cmp (e.port, e.channel) c.records.core.channels ≡ Some m) (sym same) s.is))
+          inl (lemma_of_chain 0 a e m mine is on_a (subst (λ (c : MachineChain). at pair_cmp (e.port, e.channel) c.records.core.channels ≡ Some m) (sym same) s.is))
       go (suc zero) is there =
           let same : b ≡ s.chain = cc there in
-          inr (lemma_of_chain 1 b e m theirs is on_b (subst (λ (c : Chain). at pair_cmp (e.port, e.channel) c.records.core.channels ≡ Some m) (sym same) s.is))
+          inr (lemma_of_chain 1 b e m theirs is on_b (subst (λ (c : MachineChain). at pair_cmp (e.port, e.channel) c.records.core.channels ≡ Some m) (sym same) s.is))
       go (suc (suc k)) is there = absurd (cc there)
 
   pub lemma_at_one : (e : End) (m : Channel) → end_at w e ≡ Some m → IsOneOf e m
@@ -167,7 +167,7 @@ module _ (w : World) (a b : Chain) (id : Text) (mine theirs : Channel) (two : w 
         same e f g (inr x) (inl y) = absurd (apart e y.0 x.0)
 
     -- the first laws
-    pub lemma_laws_of : (steps : List Taken) (happened : List Happened) → IsExactlyOnce happened (end_of 0) (end_of 1) → IsExactlyOnce happened (end_of 1) (end_of 0)
+    pub lemma_laws_of : (steps : List WorldStep) (happened : List Happened) → IsExactlyOnce happened (end_of 0) (end_of 1) → IsExactlyOnce happened (end_of 1) (end_of 0)
         → is_ordered mine ≡ false → is_ordered theirs ≡ false → IsConserved w (end_of 0) (end_of 1) → IsConserved w (end_of 1) (end_of 0)
         → list_all is_not_poor happened ≡ true → list_all holds_enough steps ≡ true → FirstLaws steps happened w
     lemma_laws_of steps happened once once_back not_ordered not_ordered_there conserved conserved_back fair enough = record {
@@ -187,13 +187,13 @@ module _ (w : World) (a b : Chain) (id : Text) (mine theirs : Channel) (two : w 
 
 -- ---- two chains without channels
 
-module _ (w : World) (a b : Chain) (two : w ≡ a ∷ b ∷ []) (on_a : a.records.core.channels ≡ []) (on_b : b.records.core.channels ≡ []) where
+module _ (w : World) (a b : MachineChain) (two : w ≡ a ∷ b ∷ []) (on_a : a.records.core.channels ≡ []) (on_b : b.records.core.channels ≡ []) where
   lemma_nobody : (e : End) (m : Channel) → Stands w e m → ⊥
   lemma_nobody e m s = go e.chain (subst (λ (x : World). slice_get x e.chain ≡ Some s.chain) two s.there)
     where
-      none : (c : Chain) → c.records.core.channels ≡ [] → c ≡ s.chain → ⊥
+      none : (c : MachineChain) → c.records.core.channels ≡ [] → c ≡ s.chain → ⊥
       none c has same =
-          let there = subst (λ (d : Chain). at pair_cmp (e.port, e.channel) d.records.core.channels ≡ Some m) (sym same) s.is in
+          let there = subst (λ (d : MachineChain). at pair_cmp (e.port, e.channel) d.records.core.channels ≡ Some m) (sym same) s.is in
           absurd (nothing (subst (λ cs. at pair_cmp (e.port, e.channel) cs ≡ Some m) has there))
         where
           nothing : at pair_cmp (e.port, e.channel) [] ≡ Some m → ⊥
@@ -207,7 +207,7 @@ module _ (w : World) (a b : Chain) (two : w ≡ a ∷ b ∷ []) (on_a : a.record
   lemma_no_peers : (e f : End) → are_peers w e f ≡ true → ⊥
   lemma_no_peers e f is = let p = true_peers w e f is in lemma_nobody e p.mine p.here
 
-  pub lemma_laws_of_none : (steps : List Taken) (happened : List Happened) → list_all is_not_poor happened ≡ true → list_all holds_enough steps ≡ true → FirstLaws steps happened w
+  pub lemma_laws_of_none : (steps : List WorldStep) (happened : List Happened) → list_all is_not_poor happened ≡ true → list_all holds_enough steps ≡ true → FirstLaws steps happened w
   lemma_laws_of_none steps happened fair enough = record {
     one_peer = record {
       one = λ e m is established. absurd (lemma_nobody e m (stands w e m is));

@@ -14,7 +14,7 @@ use Rattle.ibc_machine.specs.promises.Peers.{are_peers}
 use Rattle.ibc_machine.proofs.Scripts.{a, b, alice, atom, a_and_b, for_tokens, block, update}
 use Rattle.ibc_machine.proofs.Openings.{opening}
 use Rattle.ibc_machine.proofs.PacketScripts.{send, recv, ack, tokens}
-use Rattle.ibc_laws.specs.Packets.{taken}
+use Rattle.ibc_laws.specs.Packets.{taken_acks}
 use Rattle.ibc_laws.specs.Tokens.{transfer_end}
 use Rattle.ibc_laws.specs.WrongMachines.{Machine, HasRun, FirstLaws, TakesWhatWasNotWritten, steps_by, happened_by, world_by, machine_comparing, alike_in_outcome}
 use Rattle.ibc_laws.proofs.basics.Lists.{distinct-none}
@@ -71,10 +71,10 @@ lemma_peers : IsTrue (are_peers world here there_)
 unfolding computing machine_comparing
 lemma_peers = refl
 
-lemma_took_it : Contains (taken here happened) (for_nobody, other_words)
+lemma_took_it : Contains (taken_acks here happened) (for_nobody, other_words)
 unfolding computing machine_comparing
 lemma_took_it =
-    let one : taken here happened ≡ (for_nobody, other_words) ∷ [] = refl in
+    let one : taken_acks here happened ≡ (for_nobody, other_words) ∷ [] = refl in
     subst (λ xs. Contains xs (for_nobody, other_words)) (sym one) (0, omega arith, refl)
 
 lemma_not_written : ¬ (ack_written there_ happened 1 ≡ Some other_words)

@@ -9,12 +9,12 @@ use Rattle.ibc_ids.proofs.Texts.{text_same}
 use Rattle.ibc_wire.specs.declared.token.Token.{Token}
 use Rattle.ibc_machine.specs.chain.Records.{Core, Channel, Commitment, channel_at}
 use Rattle.ibc_machine.specs.ics20.TokenData.{amount_of, tokens_of}
-use Rattle.ibc_machine.specs.ics20.Transfers.{transfer_port, came_over, burnt, burnt_over}
+use Rattle.ibc_machine.specs.ics20.Transfers.{transfer_port, came_over, burnt_amount, burnt_over}
 use Rattle.ibc_machine.proofs.FiniteMaps.{by_number, by_pair, pair_cmp_total}
 use Rattle.ibc_machine.proofs.SortedMaps.{Sorted-from}
 use Rattle.ibc_machine.proofs.Measures.{sum-with, sum-without}
 use Rattle.ibc_machine.specs.chain.Orderly.{IsOrderly, IsOrderlyEnd}
-use Rattle.ibc_machine.specs.ics20.Returned.{SameBurnt, returned}
+use Rattle.ibc_machine.specs.ics20.ReturningTokens.{SameBurnt, returned_amount}
 
 -- ---- tokens of one channel
 
@@ -32,7 +32,7 @@ burnt_by-other port channel tokens denom other =
     ap (λ b. if b && came_over port channel denom then amount_of denom tokens else 0) other
 
 pub burnt_by-transfer : (port channel : Text) (tokens : List Token) (denom : Text) → same_text port transfer_port ≡ true
-    → burnt_by port channel tokens denom ≡ returned channel tokens denom
+    → burnt_by port channel tokens denom ≡ returned_amount channel tokens denom
 burnt_by-transfer port channel tokens denom ours =
     ap (λ b. if b && came_over port channel denom then amount_of denom tokens else 0) ours
     ∙ ap (λ p. if came_over p channel denom then amount_of denom tokens else 0) (text_same port transfer_port ours)
@@ -73,7 +73,7 @@ burnt_at-with returns version denom n c mine orderly next =
 
 -- what stands at one end is no more than all
 pub burnt_at_end : (core : Core) (port id : Text) (old : Channel) → channel_at core port id ≡ Some old → (denom : Text)
-    → burnt_over denom ((port, id), old) ≤ burnt core denom
+    → burnt_over denom ((port, id), old) ≤ burnt_amount core denom
 burnt_at_end core port id old there denom =
     let sum = sum-without pair_cmp_total by_pair (burnt_over denom) (port, id) core.channels in
     let term = ap (λ o. option_map_or (λ v. burnt_over denom ((port, id), v)) o 0) there in
@@ -81,7 +81,7 @@ burnt_at_end core port id old there denom =
 
 -- so the tokens of a packet that is committed to are in flight
 pub committed_covered : (core : Core) (port id : Text) (old : Channel) (n : ℕ) (c : Commitment) → channel_at core port id ≡ Some old
-    → at nat_cmp n old.commitments ≡ Some c → (denom : Text) → burnt_by port id (tokens_of old.end.version c) denom ≤ burnt core denom
+    → at nat_cmp n old.commitments ≡ Some c → (denom : Text) → burnt_by port id (tokens_of old.end.version c) denom ≤ burnt_amount core denom
 committed_covered core port id old n c there committed denom =
     let all = burnt_at_end core port id old there denom in
     let one = burnt_at-without (same_text port transfer_port && came_over port id denom) old.end.version denom n c old.commitments committed in
@@ -94,7 +94,7 @@ same_channels core after same denom = ap (λ m. sum_by (burnt_over denom) m) sam
 module _ (core after : Core) (port id : Text) (now : Channel) (orderly : IsOrderly core)
     (is : after.channels ≡ with pair_cmp (port, id) now core.channels) where
   changed : (before : ℕ) (denom : Text) → option_map_or (λ v. burnt_over denom ((port, id), v)) (channel_at core port id) 0 ≡ before
-      → burnt after denom + before ≡ burnt core denom + burnt_over denom ((port, id), now)
+      → burnt_amount after denom + before ≡ burnt_amount core denom + burnt_over denom ((port, id), now)
   changed before denom term =
       let sum = sum-with pair_cmp_total by_pair (burnt_over denom) (port, id) now core.channels (Sorted-from pair_cmp core.channels orderly.sorted) in
       let new = ap (λ m. sum_by (burnt_over denom) m) is in
@@ -112,12 +112,12 @@ module _ (core after : Core) (port id : Text) (now : Channel) (orderly : IsOrder
   module _ (old : Channel) (there : channel_at core port id ≡ Some old) (version : now.end.version ≡ old.end.version) where
     -- the end with these commitments
     recommitted : (m : Map ℕ Commitment) → now.commitments ≡ m → (denom : Text)
-        → burnt after denom + burnt_over denom ((port, id), old)
-        ≡ burnt core denom + burnt_at (same_text port transfer_port && came_over port id denom) old.end.version denom m
+        → burnt_amount after denom + burnt_over denom ((port, id), old)
+        ≡ burnt_amount core denom + burnt_at (same_text port transfer_port && came_over port id denom) old.end.version denom m
     recommitted m commitments denom =
         changed (burnt_over denom ((port, id), old)) denom (ap (λ o. option_map_or (λ v. burnt_over denom ((port, id), v)) o 0) there)
-        ∙ ap (λ v. burnt core denom + burnt_at (same_text port transfer_port && came_over port id denom) v denom now.commitments) version
-        ∙ ap (λ m. burnt core denom + burnt_at (same_text port transfer_port && came_over port id denom) old.end.version denom m) commitments
+        ∙ ap (λ v. burnt_amount core denom + burnt_at (same_text port transfer_port && came_over port id denom) v denom now.commitments) version
+        ∙ ap (λ m. burnt_amount core denom + burnt_at (same_text port transfer_port && came_over port id denom) old.end.version denom m) commitments
 
     -- the same commitments
     pub same_commitments : now.commitments ≡ old.commitments → SameBurnt core after
@@ -125,7 +125,7 @@ module _ (core after : Core) (port id : Text) (now : Channel) (orderly : IsOrder
 
     -- a packet is settled
     pub one_settled : (n : ℕ) (c : Commitment) → at nat_cmp n old.commitments ≡ Some c → now.commitments ≡ without nat_cmp n old.commitments
-        → (denom : Text) → burnt after denom + burnt_by port id (tokens_of old.end.version c) denom ≡ burnt core denom
+        → (denom : Text) → burnt_amount after denom + burnt_by port id (tokens_of old.end.version c) denom ≡ burnt_amount core denom
     one_settled n c committed same denom =
         let step = recommitted (without nat_cmp n old.commitments) same denom in
         let less = burnt_at-without (same_text port transfer_port && came_over port id denom) old.end.version denom n c old.commitments committed in
@@ -133,7 +133,7 @@ module _ (core after : Core) (port id : Text) (now : Channel) (orderly : IsOrder
 
     -- a packet is sent
     pub one_sent : (c : Commitment) → now.commitments ≡ with nat_cmp old.next_send c old.commitments
-        → (denom : Text) → burnt after denom ≡ burnt core denom + burnt_by port id (tokens_of old.end.version c) denom
+        → (denom : Text) → burnt_amount after denom ≡ burnt_amount core denom + burnt_by port id (tokens_of old.end.version c) denom
     one_sent c same denom =
         let step = recommitted (with nat_cmp old.next_send c old.commitments) same denom in
         let more = burnt_at-with (same_text port transfer_port && came_over port id denom) old.end.version denom old.next_send c old (orderly.ends port id old there) (omega arith) in

@@ -7,9 +7,9 @@ use Rattle.ibc_machine.specs.chain.Records.{Core, Apps}
 use Rattle.ibc_machine.specs.chain.Checks.{Checked, ◌>>=◌}
 use Rattle.ibc_machine.specs.ics24.Evidence.{Host, Evidence}
 use Rattle.ibc_machine.specs.chain.Handlers.{handle}
-use Rattle.ibc_machine.specs.chain.OfCore.{IsOfCore}
+use Rattle.ibc_machine.specs.chain.CoreFlight.{IsOfCore}
 use Rattle.ibc_machine.specs.chain.Orderly.{IsOrderly}
-use Rattle.ibc_machine.specs.ics20.Returned.{SameBurnt}
+use Rattle.ibc_machine.specs.ics20.ReturningTokens.{SameBurnt}
 use Rattle.ibc_machine.proofs.PassedRows.{Gives}
 use Rattle.ibc_machine.proofs.PassedHandlers.{gives_on_core}
 use Rattle.ibc_machine.proofs.flight.UnchangedChannels.{LeavesBurnt, create_client_burnt, update_client_burnt, conn_open_init_burnt, conn_open_try_burnt, conn_open_ack_burnt, conn_open_confirm_burnt}

@@ -4,7 +4,7 @@ use Rattle.std.proofs.Common.{◌≡◌, ℕ, ◌+◌, Bool, true, false, refl, 
 use Rattle.ibc_ids.specs.Texts.{Text}
 use Rattle.ibc_ids.specs.Maps.{Map, with, without}
 use Rattle.ibc_wire.specs.declared.records.ChannelState.TheVariants as chan
-use Rattle.ibc_machine.specs.chain.Records.{Channel, Commitment, added}
+use Rattle.ibc_machine.specs.chain.Records.{Channel, Commitment, with_number}
 use Rattle.ibc_machine.specs.ics04.Channels.{in_state}
 use Rattle.ibc_machine.specs.ics04.Packets.{is_ordered, after_receive, without_commitment, after_ack, after_timeout}
 
@@ -30,7 +30,7 @@ pub after_receive_keeps : (n : ℕ) (ack : Text) (mine : Channel) → Keeps mine
 after_receive_keeps n ack mine =
     let acked : Channel = record mine { acks = with nat_cmp n ack mine.acks } in
     let next : Channel = record acked { next_recv = mine.next_recv + 1 } in
-    let receipt : Channel = record acked { receipts = added n mine.receipts } in
+    let receipt : Channel = record acked { receipts = with_number n mine.receipts } in
     keeps_either_way mine next receipt mine.commitments (plainly mine next _ refl refl) (plainly mine receipt _ refl refl) (is_ordered mine)
 
 pub after_ack_keeps : (n : ℕ) (mine : Channel) → Keeps mine (after_ack n mine) (without nat_cmp n mine.commitments)

@@ -14,9 +14,9 @@ use Rattle.ibc_machine.specs.chain.Checks.{Checked, ◌>>=◌}
 use Rattle.ibc_machine.specs.ics24.Evidence.{Host, Evidence}
 use Rattle.ibc_machine.specs.ics04.Packets.{recv_packet, ack_packet, timeout, timeout_on_close, after_receive, after_ack, after_timeout, with_timed_out}
 use Rattle.ibc_machine.specs.ics20.TokenData.{tokens_of}
-use Rattle.ibc_machine.specs.ics20.Transfers.{transfer_port, burnt}
+use Rattle.ibc_machine.specs.ics20.Transfers.{transfer_port, burnt_amount}
 use Rattle.ibc_machine.specs.chain.Orderly.{IsOrderly}
-use Rattle.ibc_machine.specs.ics20.Returned.{SameBurnt, returned}
+use Rattle.ibc_machine.specs.ics20.ReturningTokens.{SameBurnt, returned_amount}
 use Rattle.ibc_machine.proofs.PacketChecks.{IsUnsettled, recv_passed, ack_passed, timeout_passed, timeout_on_close_passed}
 use Rattle.ibc_machine.proofs.PassedRows.{bind_passed, ok_same}
 use Rattle.ibc_machine.proofs.flight.BurntSteps.{burnt_by, burnt_by-other, burnt_by-transfer, same_commitments, one_settled}
@@ -46,7 +46,7 @@ record Settled {A : Type 0} (core after : Core) (p : Packet) (answer : Text → 
   mine : Channel
   there : channel_at core p.source_port p.source_channel ≡ Some mine
   answered : answer mine.end.version ≡ Ok app
-  less : (denom : Text) → burnt after denom + burnt_by p.source_port p.source_channel (tokens_of mine.end.version (commitment_of p)) denom ≡ burnt core denom
+  less : (denom : Text) → burnt_amount after denom + burnt_by p.source_port p.source_channel (tokens_of mine.end.version (commitment_of p)) denom ≡ burnt_amount core denom
 
 settled : {A : Type 0} (core after : Core) (p : Packet) (answer : Text → Checked A) (app : A) (mine now : Channel) → IsOrderly core → IsUnsettled core p mine
     → answer mine.end.version ≡ Ok app → Keeps mine now (without nat_cmp p.sequence mine.commitments)
@@ -71,7 +71,7 @@ settled_elsewhere core after p answer app other s denom =
 abbrev pub Settles : {A : Type 0} → Core → Core → Packet → (Text → Checked A) → A → Type 0
 Settles core after p answer app =
     (mine : Channel) × (channel_at core p.source_port p.source_channel ≡ Some mine) × (answer mine.end.version ≡ Ok app)
-    × ((denom : Text) → burnt after denom + returned p.source_channel (tokens_of mine.end.version (commitment_of p)) denom ≡ burnt core denom)
+    × ((denom : Text) → burnt_amount after denom + returned_amount p.source_channel (tokens_of mine.end.version (commitment_of p)) denom ≡ burnt_amount core denom)
 
 settled_here : {A : Type 0} (core after : Core) (p : Packet) (answer : Text → Checked A) (app : A) → same_text p.source_port transfer_port ≡ true
     → Settled core after p answer app → Settles core after p answer app

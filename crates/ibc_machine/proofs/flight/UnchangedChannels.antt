@@ -13,7 +13,7 @@ use Rattle.ibc_machine.specs.chain.Records.{Core, Client}
 use Rattle.ibc_machine.specs.ics24.Evidence.{Host, Evidence}
 use Rattle.ibc_machine.specs.ics02.Clients.{create_client, update_client}
 use Rattle.ibc_machine.specs.ics03.Connections.{conn_open_init, conn_open_try, conn_open_ack, conn_open_confirm}
-use Rattle.ibc_machine.specs.ics20.Returned.{SameBurnt}
+use Rattle.ibc_machine.specs.ics20.ReturningTokens.{SameBurnt}
 use Rattle.ibc_machine.proofs.PassedRows.{Gives, gives_ok, gives_then, gives_bind}
 use Rattle.ibc_machine.proofs.flight.BurntSteps.{same_channels}
 

@@ -8,7 +8,7 @@ use Rattle.ibc_wire.specs.declared.packet.Packet.{Packet}
 use Rattle.ibc_machine.specs.chain.Records.{Core, Apps}
 use Rattle.ibc_machine.specs.chain.Checks.{Checked, require, ◌>>=◌}
 use Rattle.ibc_machine.specs.ics20.Bank.{Balances}
-use Rattle.ibc_machine.specs.ics20.Transfers.{transfer_port, opens_for_transfers, closes_for_transfers, burnt, receive_transfer, refund_transfer, acknowledge_transfer}
+use Rattle.ibc_machine.specs.ics20.Transfers.{transfer_port, opens_for_transfers, closes_for_transfers, burnt_amount, receive_transfer, refund_transfer, acknowledge_transfer}
 use Rattle.ibc_machine.specs.chain.Notes.{note_port, opens_for_notes, closes_for_notes, receive_note}
 
 -- the port has an application
@@ -29,7 +29,7 @@ with_balances apps balances = record apps { balances = balances }
 abbrev pub on_recv : Core → Text → Apps → Text → Packet → Text × Apps
 on_recv core port apps version p =
     if same_text port transfer_port
-    then (let (ack, balances) = receive_transfer (burnt core) apps.balances version p in
+    then (let (ack, balances) = receive_transfer (burnt_amount core) apps.balances version p in
     (ack, with_balances apps balances))
     else (let (ack, notes) = receive_note apps.notes p in (ack, record apps { notes = notes }))
 

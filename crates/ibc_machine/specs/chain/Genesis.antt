@@ -5,7 +5,7 @@ use Rattle.ibc_ids.specs.Texts.{Text, same_text}
 use Rattle.ibc_ids.specs.Names.{is_user, is_base_denom}
 use Rattle.ibc_machine.specs.declared.genesis.Genesis.{Genesis}
 use Rattle.ibc_machine.specs.declared.genesis.ChainStart.{ChainStart}
-use Rattle.ibc_machine.specs.chain.Records.{Core, Chain}
+use Rattle.ibc_machine.specs.chain.Records.{Core, MachineChain}
 use Rattle.ibc_machine.specs.ics20.Bank.{Balances, with_balance}
 
 -- who holds how much of which denomination: user, denomination, amount
@@ -71,7 +71,7 @@ empty_core = record {
   next_channel = 0;
 }
 
-abbrev pub starting_chain : ChainState → Chain
+abbrev pub starting_chain : ChainState → MachineChain
 starting_chain start = record {
   records = record {
     core = empty_core;
@@ -81,5 +81,5 @@ starting_chain start = record {
   committed = [];
 }
 
-abbrev pub start : GenesisState → List Chain
+abbrev pub start : GenesisState → List MachineChain
 start genesis = map starting_chain genesis.chains

@@ -6,7 +6,7 @@ use Rattle.ibc_ids.specs.Texts.{Text, same_text}
 use Rattle.ibc_ids.specs.Paths.{path}
 use Rattle.ibc_ids.specs.declared.key.Key.{Key}
 use Rattle.ibc_ids.specs.declared.refusal.Refusal.TheVariants.{NoMemory, UnknownChain}
-use Rattle.ibc_merkle.specs.Written.{written}
+use Rattle.ibc_merkle.specs.Written.{written_proof}
 use Rattle.ibc_wire.specs.Spelling.{proof_bytes}
 use Rattle.ibc_wire.specs.Reading.{proof_of}
 use Rattle.ibc_wire.specs.declared.header.Header.{Header}
@@ -14,16 +14,16 @@ use Rattle.ibc_machine.specs.declared.event.Event.{Event}
 use Rattle.ibc_machine.specs.declared.event.Event.TheVariants as event
 use Rattle.ibc_machine.specs.declared.reply.Reply.{Reply}
 use Rattle.ibc_machine.specs.declared.reply.Reply.TheVariants as reply
-use Rattle.ibc_machine.specs.chain.Records.{Core, Block, Chain, client_at}
-use Rattle.ibc_machine.specs.ics24.Values.{Claim, look, same_value}
+use Rattle.ibc_machine.specs.chain.Records.{Core, Block, MachineChain, client_at}
+use Rattle.ibc_machine.specs.ics24.Values.{Claim, value_at, same_value}
 use Rattle.ibc_machine.specs.ics24.Image.{image, core_root}
-use Rattle.ibc_machine.specs.ics24.Evidence.{Evidence, Row, Same, Different, Gone}
+use Rattle.ibc_machine.specs.ics24.Evidence.{Evidence, PublishedRow, Same, Different, Gone}
 use Rattle.ibc_machine.specs.chain.Genesis.{GenesisState}
 use Rattle.ibc_machine.specs.chain.Handlers.{message_answer, block_answer}
 
 -- the chains by their numbers
 abbrev pub World : Type 0
-World = List Chain
+World = List MachineChain
 
 -- ---- what the others had committed
 
@@ -33,7 +33,7 @@ block_of zero blocks = None
 block_of (suc k) blocks = slice_get blocks k
 
 abbrev pub committed_of : World → ℕ → List Block
-committed_of world chain = option_map_or (λ (c : Chain). c.committed) (slice_get world chain) []
+committed_of world chain = option_map_or (λ (c : MachineChain). c.committed) (slice_get world chain) []
 
 abbrev pub block_at : World → ℕ → ℕ → Option Block
 block_at world chain height = block_of height (committed_of world chain)
@@ -56,7 +56,7 @@ abbrev pub true_marks : Marks
 true_marks = record {
   is_root = λ core root. same_text root (core_root core);
   is_proof = λ bytes. is_some (proof_of bytes);
-  is_written = λ core key bytes. same_text bytes (proof_bytes (written (image core) (path key)));
+  is_written = λ core key bytes. same_text bytes (proof_bytes (written_proof (image core) (path key)));
 }
 
 -- ---- rows in a window
@@ -67,7 +67,7 @@ abbrev pub is_gone : ℕ → ℕ → Bool → ℕ → Bool
 is_gone window published oldest_is_there height =
     nat_le (height + window) published || ((height + window == published + 1) && not oldest_is_there)
 
-abbrev pub row_if : Bool → Row
+abbrev pub row_if : Bool → PublishedRow
 row_if true = Same
 row_if false = Different
 
@@ -77,31 +77,31 @@ row_if false = Different
 abbrev pub is_header_of : Marks → Header → Block → Bool
 is_header_of marks header block = (header.time == block.time) && marks.is_root block.records.core header.root
 
-abbrev pub row_seen : Marks → ℕ → Bool → World → Header → Row
+abbrev pub row_seen : Marks → ℕ → Bool → World → Header → PublishedRow
 row_seen marks window oldest_is_there world header =
     if is_gone window (length (committed_of world header.chain)) oldest_is_there header.height then Gone
     else row_if (option_map_or (is_header_of marks header) (block_at world header.chain header.height) false)
 
 -- the block has what is claimed, and the proof is the written one
-abbrev pub shows_in : Marks → Claim → Text → Block → Bool
-shows_in marks claim proof block =
-    same_value (look block.records.core claim.key) claim.value && marks.is_written block.records.core claim.key proof
+abbrev pub is_shown_in : Marks → Claim → Text → Block → Bool
+is_shown_in marks claim proof block =
+    same_value (value_at block.records.core claim.key) claim.value && marks.is_written block.records.core claim.key proof
 
 -- a chain with this core looks straight at what the others had committed
-abbrev pub looks : Marks → ℕ → Bool → World → Core → Evidence
-looks marks window oldest_is_there world core = record {
+abbrev pub direct_evidence : Marks → ℕ → Bool → World → Core → Evidence
+direct_evidence marks window oldest_is_there world core = record {
   published = λ chain. length (committed_of world chain);
   row = row_seen marks window oldest_is_there world;
   time_at = λ client height. option_map_or (λ block. block.time) (block_seen world core client height) 0;
   is_proof = marks.is_proof;
   shows = λ client height claim proof.
-      option_map_or (shows_in marks claim proof) (block_seen world core client height) false;
+      option_map_or (is_shown_in marks claim proof) (block_seen world core client height) false;
 }
 
 -- ---- steps and runs
 
 -- chain k answers and changes; a chain that isn't there is unknown
-abbrev pub at_chain : World → ℕ → (Chain → Reply × Chain) → Option Chain → Reply × World
+abbrev pub at_chain : World → ℕ → (MachineChain → Reply × MachineChain) → Option MachineChain → Reply × World
 at_chain world k answer_of (Some chain) = let (reply, after) = answer_of chain in (reply, slice_set world k after)
 at_chain world k answer_of None = (reply.No UnknownChain, world)
 
@@ -109,15 +109,15 @@ at_chain world k answer_of None = (reply.No UnknownChain, world)
 unfoldable pub answer : Marks → GenesisState → Bool → World → Event → Reply × World
 answer marks genesis oldest_is_there world (event.Message k m) =
     at_chain world k
-    (λ chain. message_answer (looks marks genesis.window oldest_is_there world chain.records.core)
+    (λ chain. message_answer (direct_evidence marks genesis.window oldest_is_there world chain.records.core)
     (length genesis.chains) k chain m)
     (slice_get world k)
 answer marks genesis oldest_is_there world (event.Block k next_time) =
     at_chain world k (λ chain. block_answer genesis.capacity chain next_time) (slice_get world k)
 
 -- memory ran out, and nothing changed
-abbrev pub GivesUp : World → Reply → World → Type 0
-GivesUp old given new = (given ≡ reply.No NoMemory) × (new ≡ old)
+abbrev pub RunsOutOfMemory : World → Reply → World → Type 0
+RunsOutOfMemory old given new = (given ≡ reply.No NoMemory) × (new ≡ old)
 
 -- the machine answers, and has chosen whether the oldest row of a window is there
 abbrev pub Answers : GenesisState → World → Event → Reply → World → Type 0
@@ -126,7 +126,7 @@ Answers genesis old event given new =
 
 -- from old the machine may give this reply to the event and go on to new
 abbrev pub Step : GenesisState → World → Event → Reply → World → Type 0
-Step genesis old event given new = GivesUp old given new ⊎ Answers genesis old event given new
+Step genesis old event given new = RunsOutOfMemory old given new ⊎ Answers genesis old event given new
 
 -- the machine may give these replies to these events, one step after another
 abbrev pub IsRun : GenesisState → World → List Event → List Reply → World → Type 0

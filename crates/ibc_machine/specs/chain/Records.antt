@@ -60,7 +60,7 @@ pub record Block : Type 0 where
   pub time : ℕ
 
 -- a chain: the records now, the time of its working block, and its committed blocks from height 1 on
-pub record Chain : Type 0 where
+pub record MachineChain : Type 0 where
   pub records : Records
   pub time : ℕ
   pub committed : List Block
@@ -70,8 +70,8 @@ abbrev pub is_one_of : List ℕ → ℕ → Bool
 is_one_of numbers n = list_any (λ m. m == n) numbers
 
 -- a number added to a set of numbers in their order
-abbrev pub added : ℕ → List ℕ → List ℕ
-added n numbers = insert_key nat_cmp numbers n
+abbrev pub with_number : ℕ → List ℕ → List ℕ
+with_number n numbers = insert_key nat_cmp numbers n
 
 abbrev pub client_at : Core → Text → Option Client
 client_at core id = at text_cmp id core.clients
@@ -93,8 +93,8 @@ with_channel port channel value core =
     record core { channels = with pair_cmp (port, channel) value core.channels }
 
 -- the client knows the height
-abbrev pub knows : Core → Text → ℕ → Bool
-knows core client height = option_map_or (λ found. is_one_of found.known height) (client_at core client) false
+abbrev pub is_known_height : Core → Text → ℕ → Bool
+is_known_height core client height = option_map_or (λ found. is_one_of found.known height) (client_at core client) false
 
 -- what is committed of a packet
 abbrev pub commitment_of : Packet → Commitment

@@ -6,7 +6,7 @@ use Rattle.ibc_wire.specs.declared.messages.CreateClient.{CreateClient}
 use Rattle.ibc_wire.specs.declared.header.Header.{Header}
 use Rattle.ibc_wire.specs.declared.messages.UpdateClient.{UpdateClient}
 use Rattle.ibc_machine.specs.declared.reply.Effect.TheVariants as effect
-use Rattle.ibc_machine.specs.chain.Records.{Client, client_at, with_client, added}
+use Rattle.ibc_machine.specs.chain.Records.{Client, client_at, with_client, with_number}
 use Rattle.ibc_machine.specs.chain.Checks.{require, expect, ◌>>=◌, ◌>>◌}
 use Rattle.ibc_machine.specs.ics24.Evidence.{CoreHandler, require_number, require_row}
 
@@ -24,11 +24,11 @@ create_client m evidence host core = do
   Ok (effect.Client id, record (with_client id (new_client m.chain) core) { next_client = core.next_client + 1 })
 
 -- the client with one more height
-abbrev pub updated : ℕ → Client → Client
-updated height client =
+abbrev pub with_known_height : ℕ → Client → Client
+with_known_height height client =
     record {
       state = record { chain = client.state.chain; latest = max client.state.latest height };
-      known = added height client.known;
+      known = with_number height client.known;
     }
 
 -- the header is of a height of the chain that the client tracks
@@ -42,4 +42,4 @@ update_client m evidence host core = do
   require (is_of_client client m.header) WrongHeader
   require (nat_le m.header.height (evidence.published m.header.chain)) NotPublished
   require_row (evidence.row m.header)
-  Ok (effect.None, with_client m.client (updated m.header.height client) core)
+  Ok (effect.None, with_client m.client (with_known_height m.header.height client) core)

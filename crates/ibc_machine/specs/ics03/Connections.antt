@@ -14,7 +14,7 @@ use Rattle.ibc_wire.specs.declared.messages.ConnOpenAck.{ConnOpenAck}
 use Rattle.ibc_wire.specs.declared.messages.ConnOpenConfirm.{ConnOpenConfirm}
 use Rattle.ibc_machine.specs.declared.reply.Effect.TheVariants as effect
 use Rattle.ibc_machine.specs.chain.Records.{Core, client_at, connection_at, with_connection}
-use Rattle.ibc_machine.specs.ics24.Values.{ClientIs, ConnectionIs, Claim, has, same_connection_state}
+use Rattle.ibc_machine.specs.ics24.Values.{ClientIs, ConnectionIs, Claim, present_claim, same_connection_state}
 use Rattle.ibc_machine.specs.chain.Checks.{Checked, require, expect, ◌>>=◌, ◌>>◌}
 use Rattle.ibc_machine.specs.ics24.Evidence.{Host, CoreHandler, require_number, require_known, require_proof}
 
@@ -29,10 +29,10 @@ connection_end state client peer_client peer_connection =
 
 -- the claims that the peer has this end, and this client
 abbrev pub has_connection : Text → ConnectionEnd → Claim
-has_connection connection end = has (key.Connection connection) (ConnectionIs end)
+has_connection connection end = present_claim (key.Connection connection) (ConnectionIs end)
 
 abbrev pub has_client : Text → ClientState → Claim
-has_client client state = has (key.ClientState client) (ClientIs state)
+has_client client state = present_claim (key.ClientState client) (ClientIs state)
 
 abbrev pub with_new_connection : Text → ConnectionEnd → Core → Core
 with_new_connection id end core =

@@ -20,7 +20,7 @@ use Rattle.ibc_wire.specs.declared.messages.ChanCloseInit.{ChanCloseInit}
 use Rattle.ibc_wire.specs.declared.messages.ChanCloseConfirm.{ChanCloseConfirm}
 use Rattle.ibc_machine.specs.declared.reply.Effect.TheVariants as effect
 use Rattle.ibc_machine.specs.chain.Records.{Core, Channel, connection_at, channel_at, with_channel}
-use Rattle.ibc_machine.specs.ics24.Values.{ChannelIs, Claim, has, same_connection_state, same_channel_state}
+use Rattle.ibc_machine.specs.ics24.Values.{ChannelIs, Claim, present_claim, same_connection_state, same_channel_state}
 use Rattle.ibc_machine.specs.chain.Checks.{Checked, require, expect, ◌>>=◌, ◌>>◌}
 use Rattle.ibc_machine.specs.ics24.Evidence.{CoreHandler, require_number, require_known, require_proof}
 
@@ -66,7 +66,7 @@ counterpart core mine port channel state =
 
 -- the claim that the peer of an own end is this end
 abbrev pub has_channel : ChannelEnd → Text → ChannelEnd → Claim
-has_channel mine peer_channel theirs = has (key.ChannelEnd mine.peer_port peer_channel) (ChannelIs theirs)
+has_channel mine peer_channel theirs = present_claim (key.ChannelEnd mine.peer_port peer_channel) (ChannelIs theirs)
 
 -- a new end, with its three counters at 1
 abbrev pub new_channel : ChannelEnd → Channel

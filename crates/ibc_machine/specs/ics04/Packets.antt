@@ -16,8 +16,8 @@ use Rattle.ibc_wire.specs.declared.messages.Timeout.{Timeout}
 use Rattle.ibc_wire.specs.declared.messages.TimeoutOnClose.{TimeoutOnClose}
 use Rattle.ibc_machine.specs.declared.reply.Effect.{Effect}
 use Rattle.ibc_machine.specs.declared.reply.Effect.TheVariants as effect
-use Rattle.ibc_machine.specs.chain.Records.{Core, Client, Channel, Commitment, client_at, channel_at, with_channel, knows, is_one_of, added, commitment_of}
-use Rattle.ibc_machine.specs.ics24.Values.{Claim, CommitmentIs, NumberIs, AckIs, has, lacks, same_optional, same_commitment, same_order}
+use Rattle.ibc_machine.specs.chain.Records.{Core, Client, Channel, Commitment, client_at, channel_at, with_channel, is_known_height, is_one_of, with_number, commitment_of}
+use Rattle.ibc_machine.specs.ics24.Values.{Claim, CommitmentIs, NumberIs, AckIs, present_claim, absent_claim, same_optional, same_commitment, same_order}
 use Rattle.ibc_machine.specs.chain.Checks.{Checked, require, expect, ◌>>=◌, ◌>>◌}
 use Rattle.ibc_machine.specs.ics24.Evidence.{Host, Evidence, Handler, require_known, require_proof}
 use Rattle.ibc_machine.specs.ics04.Channels.{is_in_state, is_established, client_of, counterpart, has_channel, in_state}
@@ -74,7 +74,7 @@ sending_end core port channel = do
 abbrev pub has_passed : Evidence → Core → Text → Commitment → Client → Bool
 has_passed evidence core id c client =
     is_reached c.timeout_height client.state.latest
-    || (knows core id client.state.latest && is_reached c.timeout_time (evidence.time_at id client.state.latest))
+    || (is_known_height core id client.state.latest && is_reached c.timeout_time (evidence.time_at id client.state.latest))
 
 unfoldable pub require_timeouts : Evidence → Core → Channel → Commitment → Checked ⊤
 require_timeouts evidence core mine c = do
@@ -99,11 +99,11 @@ abbrev pub after_receive : ℕ → Text → Channel → Channel
 after_receive n ack mine =
     let acked : Channel = record mine { acks = with nat_cmp n ack mine.acks } in
     if is_ordered mine then record acked { next_recv = mine.next_recv + 1 }
-    else record acked { receipts = added n mine.receipts }
+    else record acked { receipts = with_number n mine.receipts }
 
 -- the claim that the peer committed to the packet
 abbrev pub was_sent : Packet → Claim
-was_sent p = has (key.Commitment p.source_port p.source_channel p.sequence) (CommitmentIs (commitment_of p))
+was_sent p = present_claim (key.Commitment p.source_port p.source_channel p.sequence) (CommitmentIs (commitment_of p))
 
 -- the end may receive the packet in the working block
 abbrev pub may_receive : Host → Channel → Packet → Checked ⊤
@@ -151,7 +151,7 @@ after_ack n mine =
 
 -- the claim that the peer acknowledged the packet so
 abbrev pub was_acknowledged : Packet → Text → Claim
-was_acknowledged p ack = has (key.Acknowledgement p.destination_port p.destination_channel p.sequence) (AckIs ack)
+was_acknowledged p ack = present_claim (key.Acknowledgement p.destination_port p.destination_channel p.sequence) (AckIs ack)
 
 -- the end may take the packet's acknowledgement
 abbrev pub may_acknowledge : Channel → Packet → Checked ⊤
@@ -185,8 +185,8 @@ ack_packet on_ack m evidence host core app = do
 abbrev pub not_received : Channel → Packet → ℕ → Claim
 not_received mine p next_recv =
     if is_ordered mine
-    then has (key.NextSequenceRecv p.destination_port p.destination_channel) (NumberIs next_recv)
-    else lacks (key.Receipt p.destination_port p.destination_channel p.sequence)
+    then present_claim (key.NextSequenceRecv p.destination_port p.destination_channel) (NumberIs next_recv)
+    else absent_claim (key.Receipt p.destination_port p.destination_channel p.sequence)
 
 -- on an ordered channel the peer waits for this packet or an earlier one
 abbrev pub waits_for : Channel → ℕ → ℕ → Bool

@@ -34,13 +34,13 @@ abbrev pub entry_of : Text → Text → Part × Value → Text × Text
 entry_of port id entry = (path (key_of port id entry.0), value_bytes entry.1)
 
 -- what is written beside the acknowledgement: the counter of an ordered channel, or a receipt
-abbrev pub received : ℕ → Channel → Part × Value
-received n mine = if is_ordered mine then (NextRecv, NumberIs (mine.next_recv + 1)) else (ReceiptOf n, ReceiptIs)
+abbrev pub part_after_receive : ℕ → Channel → Part × Value
+part_after_receive n mine = if is_ordered mine then (NextRecv, NumberIs (mine.next_recv + 1)) else (ReceiptOf n, ReceiptIs)
 
 -- what is written where the commitment is removed: the counter of an ordered channel
-abbrev pub acknowledged : Channel → Option (Part × Value)
-acknowledged mine = if is_ordered mine then Some (NextAck, NumberIs (mine.next_ack + 1)) else None
+abbrev pub part_after_ack : Channel → Option (Part × Value)
+part_after_ack mine = if is_ordered mine then Some (NextAck, NumberIs (mine.next_ack + 1)) else None
 
 -- or its end
-abbrev pub timed_out : Channel → Option (Part × Value)
-timed_out mine = if is_ordered mine then Some (End, ChannelIs (record mine.end { state = Closed })) else None
+abbrev pub part_after_timeout : Channel → Option (Part × Value)
+part_after_timeout mine = if is_ordered mine then Some (End, ChannelIs (record mine.end { state = Closed })) else None

@@ -7,13 +7,13 @@ use Rattle.ibc_ids.specs.Texts.{Text, same_text}
 use Rattle.ibc_ids.specs.Maps.{at}
 use Rattle.ibc_ids.specs.Paths.{path}
 use Rattle.ibc_ids.specs.declared.key.Key.{Key}
-use Rattle.ibc_merkle.specs.Written.{written}
+use Rattle.ibc_merkle.specs.Written.{written_proof}
 use Rattle.ibc_wire.specs.Spelling.{proof_bytes}
 use Rattle.ibc_wire.specs.declared.records.ChannelState.TheVariants.{Open, Closed}
 use Rattle.ibc_wire.specs.declared.packet.Packet.{Packet}
 use Rattle.ibc_wire.specs.declared.messages.Message.{Message}
 use Rattle.ibc_wire.specs.declared.messages.Message.TheVariants as message
-use Rattle.ibc_machine.specs.chain.Records.{Core, Block, Chain, Client, Channel, Commitment, client_at, channel_at, is_one_of}
+use Rattle.ibc_machine.specs.chain.Records.{Core, Block, MachineChain, Client, Channel, Commitment, client_at, channel_at, is_one_of}
 use Rattle.ibc_machine.specs.ics24.Image.{image, core_root}
 use Rattle.ibc_machine.specs.ics04.Channels.{is_in_state, client_of, peer_channel_of}
 use Rattle.ibc_machine.specs.ics04.Packets.{is_ordered, is_timed_out, has_received, has_peer}
@@ -31,7 +31,7 @@ pub record View : Type 0 where
   pub core : Core
 
 -- the view of chain k as it stands after its last committed block
-abbrev pub view_at : ℕ → Chain → Option Block → View
+abbrev pub view_at : ℕ → MachineChain → Option Block → View
 view_at k chain None = record { chain = k; height = 0; time = 0; working_time = chain.time; core = empty_core }
 view_at k chain (Some last) = record {
   chain = k;
@@ -41,25 +41,25 @@ view_at k chain (Some last) = record {
   core = last.records.core;
 }
 
-abbrev pub view_of : ℕ → Chain → View
+abbrev pub view_of : ℕ → MachineChain → View
 view_of k chain = view_at k chain (last_or None chain.committed)
 
 -- a message about a packet, by the packet's end on the chain that gets it
-pub data Kind : Type 0 where
-  Receive : Kind
-  Acknowledge : Kind
-  TimeOut : Kind
-  TimeOutClosed : Kind
+pub data PendingKind : Type 0 where
+  Receive : PendingKind
+  Acknowledge : PendingKind
+  TimeOut : PendingKind
+  TimeOutClosed : PendingKind
 
 pub record Pending : Type 0 where
   pub port : Text
   pub channel : Text
-  pub kind : Kind
+  pub kind : PendingKind
   pub sequence : ℕ
 
 -- ---- the pending messages of an end of b, whose peer on a is theirs
 
-abbrev pub pending_of : (Text × Text) → Kind → ℕ → Pending
+abbrev pub pending_of : (Text × Text) → PendingKind → ℕ → Pending
 pending_of place kind n = record { port = place.0; channel = place.1; kind = kind; sequence = n }
 
 -- 1. commitments that stand at a, that b hasn't received, and whose timeouts b's working block hasn't reached
@@ -80,7 +80,7 @@ to_acknowledge place mine theirs =
     map (λ entry. pending_of place Acknowledge entry.0) (filter (is_acknowledged theirs) mine.commitments)
 
 -- 3. standing commitments of b that a hasn't received: timed out at a's height, or else a's end is CLOSED
-abbrev pub timeout_kind : View → Channel → ℕ × Commitment → Option Kind
+abbrev pub timeout_kind : View → Channel → ℕ × Commitment → Option PendingKind
 timeout_kind a theirs entry =
     if has_received theirs entry.0 then None
     else if is_timed_out entry.1 a.height a.time then Some TimeOut
@@ -96,15 +96,15 @@ tracks a b mine =
     option_map_or (λ (c : Client). c.state.chain == a.chain)
     (client_at b.core (client_of b.core mine.end.connection)) false
 
-abbrev pub when : Bool → List Pending → List Pending
-when true all = all
-when false all = []
+abbrev pub pending_if : Bool → List Pending → List Pending
+pending_if true all = all
+pending_if false all = []
 
 abbrev pub end_pending : View → View → (Text × Text) → Channel → Channel → List Pending
 end_pending a b place mine theirs =
     let open_ : Bool = is_in_state Open mine in
-    when open_ (to_receive b place mine theirs) ++ when open_ (to_acknowledge place mine theirs)
-    ++ when (open_ || is_in_state Closed mine) (to_time_out a place mine theirs)
+    pending_if open_ (to_receive b place mine theirs) ++ pending_if open_ (to_acknowledge place mine theirs)
+    ++ pending_if (open_ || is_in_state Closed mine) (to_time_out a place mine theirs)
 
 -- the end on a that an end of b names, where it names that end back
 abbrev pub if_names : (Text × Text) → Channel → Option Channel
@@ -116,16 +116,16 @@ theirs_of a place mine =
 
 abbrev pub pending_at : View → View → (Text × Text) × Channel → List Pending
 pending_at a b entry =
-    when (tracks a b entry.1) (option_map_or (end_pending a b entry.0 entry.1) (theirs_of a entry.0 entry.1) [])
+    pending_if (tracks a b entry.1) (option_map_or (end_pending a b entry.0 entry.1) (theirs_of a entry.0 entry.1) [])
 
 -- by port and channel, in an end by the three items, in an item by sequence; at height 0 nothing is pending
 unfoldable pub pending : View → View → List Pending
-pending a b = when (not (a.height == 0)) (flat_map (pending_at a b) b.core.channels)
+pending a b = pending_if (not (a.height == 0)) (flat_map (pending_at a b) b.core.channels)
 
 -- ---- the messages, with the written proofs at a's height
 
 abbrev pub proof_at : View → Key → Text
-proof_at a key = proof_bytes (written (image a.core) (path key))
+proof_at a key = proof_bytes (written_proof (image a.core) (path key))
 
 abbrev pub end_of : View → Text → Text → End
 end_of view port channel = record { chain = view.chain; port = port; channel = channel }
@@ -139,7 +139,7 @@ abbrev pub unreceived_key : Channel → Packet → Key
 unreceived_key mine p = if is_ordered mine then next_recv_key p else receipt_key p
 
 -- the message of a kind on the packet p, which mine sent and theirs is to receive
-abbrev pub message_of : View → Channel → Channel → Kind → Packet → Text → Message
+abbrev pub message_of : View → Channel → Channel → PendingKind → Packet → Text → Message
 message_of a mine theirs Receive p ack = recv_message p a.height (proof_at a (commitment_key p))
 message_of a mine theirs Acknowledge p ack = ack_message p a.height ack (proof_at a (ack_key p))
 message_of a mine theirs TimeOut p ack =

@@ -31,11 +31,11 @@ has_several version = same_text version several_tokens
 
 -- ---- writing
 
-abbrev pub quoted : Text → Text
-quoted text = 34 ∷ text ++ 34 ∷ []
+abbrev pub quoted_text : Text → Text
+quoted_text text = 34 ∷ text ++ 34 ∷ []
 
 abbrev pub member : Text → Text → Text
-member name value = quoted name ++ codes ":" ++ quoted value
+member name value = quoted_text name ++ codes ":" ++ quoted_text value
 
 abbrev pub object : List Text → Text
 object members = codes "{" ++ join_with_byte 44 members ++ codes "}"
@@ -58,7 +58,7 @@ members_of_first (token ∷ tokens) = token_members token
 
 abbrev pub tokens_member : List Token → Text
 tokens_member tokens =
-    quoted (codes "tokens") ++ codes ":[" ++ join_with_byte 44 (map (λ token. object (token_members token)) tokens)
+    quoted_text (codes "tokens") ++ codes ":[" ++ join_with_byte 44 (map (λ token. object (token_members token)) tokens)
     ++ codes "]"
 
 -- the one spelling of data

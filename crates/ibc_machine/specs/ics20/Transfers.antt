@@ -47,8 +47,8 @@ burnt_over denom entry =
     else 0
 
 -- what was burnt of a denomination to go back over its channel, and may still be refunded
-abbrev pub burnt : Core → Text → ℕ
-burnt core denom = sum_by (burnt_over denom) core.channels
+abbrev pub burnt_amount : Core → Text → ℕ
+burnt_amount core denom = sum_by (burnt_over denom) core.channels
 
 -- ---- a list of tokens is moved whole or not at all
 
@@ -89,15 +89,15 @@ receive_token in_flight p user token balances =
 -- ---- what the application does with a packet
 
 -- the acknowledgement, and the balances after it; an error changes none
-abbrev pub acknowledged_with : Balances → Option Balances → Text × Balances
-acknowledged_with before (Some after) = (success, after)
-acknowledged_with before None = (error (codes "over limit"), before)
+abbrev pub receive_result : Balances → Option Balances → Text × Balances
+receive_result before (Some after) = (success, after)
+receive_result before None = (error (codes "over limit"), before)
 
 abbrev pub receive_data : (Text → ℕ) → Packet → Balances → Option Data → Text × Balances
 receive_data in_flight p balances None = (error (codes "bad data"), balances)
 receive_data in_flight p balances (Some d) =
     if is_user d.receiver
-    then acknowledged_with balances (each_token (receive_token in_flight p d.receiver) d.tokens balances)
+    then receive_result balances (each_token (receive_token in_flight p d.receiver) d.tokens balances)
     else (error (codes "bad receiver"), balances)
 
 -- ICS 20, "onRecvPacket"; so much of each denomination was burnt in flight

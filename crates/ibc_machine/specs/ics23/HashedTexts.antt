@@ -36,24 +36,24 @@ abbrev pub block_texts : Block → List Text
 block_texts block = tree_texts (tree (image block.records.core))
 
 -- the check of a proof that is delivered
-abbrev pub delivered : Text → List Text
-delivered bytes = option_map_or proof_texts (proof_of bytes) []
+abbrev pub delivered_proof_texts : Text → List Text
+delivered_proof_texts bytes = option_map_or proof_texts (proof_of bytes) []
 
 abbrev pub packet_texts : Packet → List Text
 packet_texts p = commitment_texts (commitment_of p)
 
 abbrev pub message_texts : Message → List Text
-message_texts (message.ConnOpenTry m) = delivered m.proof_end ++ delivered m.proof_client
-message_texts (message.ConnOpenAck m) = delivered m.proof_end ++ delivered m.proof_client
-message_texts (message.ConnOpenConfirm m) = delivered m.proof
-message_texts (message.ChanOpenTry m) = delivered m.proof
-message_texts (message.ChanOpenAck m) = delivered m.proof
-message_texts (message.ChanOpenConfirm m) = delivered m.proof
-message_texts (message.ChanCloseConfirm m) = delivered m.proof
-message_texts (message.RecvPacket m) = packet_texts m.packet ++ delivered m.proof
-message_texts (message.AckPacket m) = packet_texts m.packet ++ m.ack ∷ delivered m.proof
-message_texts (message.Timeout m) = packet_texts m.packet ++ delivered m.proof
-message_texts (message.TimeoutOnClose m) = packet_texts m.packet ++ delivered m.proof ++ delivered m.proof_close
+message_texts (message.ConnOpenTry m) = delivered_proof_texts m.proof_end ++ delivered_proof_texts m.proof_client
+message_texts (message.ConnOpenAck m) = delivered_proof_texts m.proof_end ++ delivered_proof_texts m.proof_client
+message_texts (message.ConnOpenConfirm m) = delivered_proof_texts m.proof
+message_texts (message.ChanOpenTry m) = delivered_proof_texts m.proof
+message_texts (message.ChanOpenAck m) = delivered_proof_texts m.proof
+message_texts (message.ChanOpenConfirm m) = delivered_proof_texts m.proof
+message_texts (message.ChanCloseConfirm m) = delivered_proof_texts m.proof
+message_texts (message.RecvPacket m) = packet_texts m.packet ++ delivered_proof_texts m.proof
+message_texts (message.AckPacket m) = packet_texts m.packet ++ m.ack ∷ delivered_proof_texts m.proof
+message_texts (message.Timeout m) = packet_texts m.packet ++ delivered_proof_texts m.proof
+message_texts (message.TimeoutOnClose m) = packet_texts m.packet ++ delivered_proof_texts m.proof ++ delivered_proof_texts m.proof_close
 message_texts (message.CreateClient m) = []
 message_texts (message.UpdateClient m) = []
 message_texts (message.ConnOpenInit m) = []

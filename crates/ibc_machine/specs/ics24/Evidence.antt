@@ -5,7 +5,7 @@ use Rattle.ibc_ids.specs.Texts.{Text}
 use Rattle.ibc_ids.specs.declared.refusal.Refusal.TheVariants.{WrongHeader, NoConsensus, BadProof, NumberFull, Pruned}
 use Rattle.ibc_wire.specs.declared.header.Header.{Header}
 use Rattle.ibc_machine.specs.declared.reply.Effect.{Effect}
-use Rattle.ibc_machine.specs.chain.Records.{Core, knows}
+use Rattle.ibc_machine.specs.chain.Records.{Core, is_known_height}
 use Rattle.ibc_machine.specs.ics24.Values.{Claim}
 use Rattle.ibc_machine.specs.chain.Checks.{Checked, require, ◌>>=◌}
 
@@ -18,16 +18,16 @@ pub record Host : Type 0 where
 
 -- what stands where a header's chain published the header's height: the header's time and root, others, or
 -- nothing any more
-pub data Row : Type 0 where
-  Same : Row
-  Different : Row
-  Gone : Row
+pub data PublishedRow : Type 0 where
+  Same : PublishedRow
+  Different : PublishedRow
+  Gone : PublishedRow
 
 pub record Evidence : Type 0 where
   -- how many heights a chain has published
   pub published : ℕ → ℕ
   -- what stands at the height of a header, which is published
-  pub row : Header → Row
+  pub row : Header → PublishedRow
   -- the time of a height that the client knows
   pub time_at : Text → ℕ → ℕ
   -- the bytes are a proof
@@ -47,14 +47,14 @@ abbrev pub CoreHandler : Type 0
 CoreHandler = Evidence → Host → Core → Checked (Effect × Core)
 
 -- it leaves what applications keep
-abbrev pub on_core : {A : Type 0} → CoreHandler → Handler A
-on_core handler evidence host core app =
+abbrev pub core_handler : {A : Type 0} → CoreHandler → Handler A
+core_handler handler evidence host core app =
     handler evidence host core >>= λ ((effect, after) : Effect × Core). Ok (effect, after, app)
 
 -- ---- checks
 
 -- the header is the published one
-abbrev pub require_row : Row → Checked ⊤
+abbrev pub require_row : PublishedRow → Checked ⊤
 require_row Same = Ok tt
 require_row Different = Err WrongHeader
 require_row Gone = Err Pruned
@@ -65,7 +65,7 @@ require_number n = require (not (n == 2 ^ 64 - 1)) NumberFull
 
 -- the client knows the height
 abbrev pub require_known : Core → Text → ℕ → Checked ⊤
-require_known core client height = require (knows core client height) NoConsensus
+require_known core client height = require (is_known_height core client height) NoConsensus
 
 -- the proof shows the claim
 abbrev pub require_proof : Evidence → Text → ℕ → Claim → Text → Checked ⊤

@@ -10,7 +10,7 @@ use Rattle.ibc_ids.specs.declared.key.Key.{Key}
 use Rattle.ibc_ids.specs.declared.key.Key.TheVariants as key
 use Rattle.ibc_merkle.specs.Tree.{Pairs, tree_root}
 use Rattle.ibc_machine.specs.chain.Records.{Core, Channel}
-use Rattle.ibc_machine.specs.ics24.Values.{Value, look, value_bytes}
+use Rattle.ibc_machine.specs.ics24.Values.{Value, value_at, value_bytes}
 
 -- the keys of a channel: its end, its counters, and those of its packets
 abbrev pub channel_keys : (Text × Text) × Channel → List Key
@@ -33,7 +33,7 @@ keys core =
 
 -- a key's path with its value's bytes
 abbrev pub pair_at : Core → Key → Option (Text × Text)
-pair_at core key = option_map (λ value. (path key, value_bytes value)) (look core key)
+pair_at core key = option_map (λ value. (path key, value_bytes value)) (value_at core key)
 
 -- the map from paths to values, in the order of the paths
 unfoldable pub image : Core → Pairs
@@ -46,4 +46,4 @@ core_root core = tree_root (image core)
 
 -- every key that has a value has names for its names
 pub record IsKeyed (core : Core) : Type 0 where
-  pub keyed : (k : Key) (v : Value) → look core k ≡ Some v → IsTrue (is_key k)
+  pub keyed : (k : Key) (v : Value) → value_at core k ≡ Some v → IsTrue (is_key k)

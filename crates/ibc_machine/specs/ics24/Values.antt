@@ -31,11 +31,11 @@ pub record Claim : Type 0 where
   pub key : Key
   pub value : Option Value
 
-abbrev pub has : Key → Value → Claim
-has key value = record { key = key; value = Some value }
+abbrev pub present_claim : Key → Value → Claim
+present_claim key value = record { key = key; value = Some value }
 
-abbrev pub lacks : Key → Claim
-lacks key = record { key = key; value = None }
+abbrev pub absent_claim : Key → Claim
+absent_claim key = record { key = key; value = None }
 
 -- a receipt, where there is one
 abbrev pub receipt_if : Bool → Option Value
@@ -43,26 +43,26 @@ receipt_if true = Some ReceiptIs
 receipt_if false = None
 
 -- the value or the absence of a key in plain
-abbrev pub look : Core → Key → Option Value
-look core (key.ClientState id) = option_map (λ client. ClientIs client.state) (client_at core id)
-look core (key.Connection id) = option_map ConnectionIs (connection_at core id)
-look core (key.ChannelEnd port channel) = option_map (λ c. ChannelIs c.end) (channel_at core port channel)
-look core (key.NextSequenceSend port channel) =
+abbrev pub value_at : Core → Key → Option Value
+value_at core (key.ClientState id) = option_map (λ client. ClientIs client.state) (client_at core id)
+value_at core (key.Connection id) = option_map ConnectionIs (connection_at core id)
+value_at core (key.ChannelEnd port channel) = option_map (λ c. ChannelIs c.end) (channel_at core port channel)
+value_at core (key.NextSequenceSend port channel) =
     option_map (λ c. NumberIs c.next_send) (channel_at core port channel)
-look core (key.NextSequenceRecv port channel) =
+value_at core (key.NextSequenceRecv port channel) =
     option_map (λ c. NumberIs c.next_recv) (channel_at core port channel)
-look core (key.NextSequenceAck port channel) =
+value_at core (key.NextSequenceAck port channel) =
     option_map (λ c. NumberIs c.next_ack) (channel_at core port channel)
-look core (key.Commitment port channel n) =
+value_at core (key.Commitment port channel n) =
     option_and_then (λ c. option_map CommitmentIs (at nat_cmp n c.commitments))
     (channel_at core port channel)
-look core (key.Receipt port channel n) =
+value_at core (key.Receipt port channel n) =
     option_and_then (λ c. receipt_if (is_one_of c.receipts n)) (channel_at core port channel)
-look core (key.Acknowledgement port channel n) =
+value_at core (key.Acknowledgement port channel n) =
     option_and_then (λ c. option_map AckIs (at nat_cmp n c.acks)) (channel_at core port channel)
-look core key.NextClientSequence = Some (NumberIs core.next_client)
-look core key.NextConnectionSequence = Some (NumberIs core.next_connection)
-look core key.NextChannelSequence = Some (NumberIs core.next_channel)
+value_at core key.NextClientSequence = Some (NumberIs core.next_client)
+value_at core key.NextConnectionSequence = Some (NumberIs core.next_connection)
+value_at core key.NextChannelSequence = Some (NumberIs core.next_channel)
 
 -- two states, and two orders, are the same
 abbrev pub same_connection_state : ConnectionState → ConnectionState → Bool

@@ -21,9 +21,9 @@ use Rattle.ibc_machine.specs.declared.reply.Reply.{Reply}
 use Rattle.ibc_machine.specs.declared.reply.Reply.TheVariants as reply
 use Rattle.ibc_machine.specs.declared.entry.Entry.{Entry}
 use Rattle.ibc_machine.specs.declared.entry.Reading.{Reading}
-use Rattle.ibc_machine.specs.chain.Records.{Chain}
+use Rattle.ibc_machine.specs.chain.Records.{MachineChain}
 use Rattle.ibc_machine.specs.ics24.Values.{Claim, value_bytes}
-use Rattle.ibc_machine.specs.ics24.Evidence.{Evidence, Row, Different, Gone}
+use Rattle.ibc_machine.specs.ics24.Evidence.{Evidence, PublishedRow, Different, Gone}
 use Rattle.ibc_machine.specs.chain.Genesis.{GenesisState, start, starting_chain}
 use Rattle.ibc_machine.specs.chain.Handlers.{message_answer, block_answer}
 use Rattle.ibc_machine.specs.chain.Machine.{row_if}
@@ -38,7 +38,7 @@ consensus_cmp a b = ordering_then (text_cmp a.0 b.0) (nat_cmp a.1 b.1)
 
 -- the chain itself, and the consensus states of its clients, by client and height
 pub record LedgerState : Type 0 where
-  pub chain : Chain
+  pub chain : MachineChain
   pub consensus : Map (Text × ℕ) Consensus
 
 abbrev pub consensus_at : LedgerState → Text → ℕ → Option Consensus
@@ -51,7 +51,7 @@ abbrev pub is_published_as : Header → Publication → Bool
 is_published_as header p = (header.time == p.time) && same_text header.root p.root
 
 -- the row of a header's height, which was still there when it was asked for, or was gone
-abbrev pub row_read : List Publication → Option Bool → Header → Row
+abbrev pub row_read : List Publication → Option Bool → Header → PublishedRow
 row_read seen (Some true) header =
     row_if (option_map_or (is_published_as header) (row_at seen header.chain header.height) false)
 row_read seen (Some false) header = Gone
@@ -64,8 +64,8 @@ is_shown claim bytes known =
     (proof_of bytes) false
 
 -- a ledger judges by what it read of the published heights, and by proofs under the roots that its clients know
-abbrev pub proves : List Publication → Option Reading → LedgerState → Evidence
-proves seen reading state = record {
+abbrev pub proof_evidence : List Publication → Option Reading → LedgerState → Evidence
+proof_evidence seen reading state = record {
   published = λ chain. option_map_or (λ r. r.published) reading 0;
   row = row_read seen (option_and_then (λ r. r.row_was_there) reading);
   time_at = λ client height. option_map_or (λ known. known.time) (consensus_at state client height) 0;
@@ -82,18 +82,18 @@ with_consensus (message.UpdateClient m) known =
     with consensus_cmp (m.client, m.header.height) (record { root = m.header.root; time = m.header.time }) known
 with_consensus _ known = known
 
-abbrev pub after_answer : Message → LedgerState → Reply × Chain → Reply × LedgerState
+abbrev pub after_answer : Message → LedgerState → Reply × MachineChain → Reply × LedgerState
 after_answer m old (reply.Ok effect, chain) =
     (reply.Ok effect, record { chain = chain; consensus = with_consensus m old.consensus })
 after_answer m old (reply.No refusal, chain) = (reply.No refusal, record old { chain = chain })
 
-abbrev pub with_chain : LedgerState → Reply × Chain → Reply × LedgerState
+abbrev pub with_chain : LedgerState → Reply × MachineChain → Reply × LedgerState
 with_chain old (given, chain) = (given, record old { chain = chain })
 
 -- the reply of chain k to its event, and its state after it, where this was read
 unfoldable pub ledger_answer : GenesisState → ℕ → List Publication → Option Reading → LedgerState → Event → Reply × LedgerState
 ledger_answer genesis k seen reading state (event.Message _ m) =
-    after_answer m state (message_answer (proves seen reading state) (length genesis.chains) k state.chain m)
+    after_answer m state (message_answer (proof_evidence seen reading state) (length genesis.chains) k state.chain m)
 ledger_answer genesis k seen reading state (event.Block _ next_time) =
     with_chain state (block_answer genesis.capacity state.chain next_time)
 
@@ -121,7 +121,7 @@ met_states genesis k seen state (e ∷ history) =
     (state, e) ∷ met_states genesis k seen (entry_answer genesis k seen state e).1 history
 
 -- chain k in the beginning; its clients know nothing
-abbrev pub empty_chain : Chain
+abbrev pub empty_chain : MachineChain
 empty_chain = starting_chain (record { time = 0; balances = [] })
 
 abbrev pub starting_state : GenesisState → ℕ → LedgerState

@@ -88,24 +88,24 @@ timed_out_by e (event.Message k (message.TimeoutOnClose m), reply.Ok effect) =
 timed_out_by e _ = None
 
 -- the packets in the order in which it happened
-abbrev pub sent : End → Channel → List Happened → List Packet
-sent e mine happened = filter_map (sent_by e mine) (history_of e.chain happened)
+abbrev pub sent_packets : End → Channel → List Happened → List Packet
+sent_packets e mine happened = filter_map (sent_by e mine) (history_of e.chain happened)
 
-abbrev pub received : End → List Happened → List Packet
-received e happened = filter_map (received_by e) (history_of e.chain happened)
+abbrev pub received_packets : End → List Happened → List Packet
+received_packets e happened = filter_map (received_by e) (history_of e.chain happened)
 
-abbrev pub acknowledged : End → List Happened → List Packet
-acknowledged e happened = filter_map (acknowledged_by e) (history_of e.chain happened)
+abbrev pub acknowledged_packets : End → List Happened → List Packet
+acknowledged_packets e happened = filter_map (acknowledged_by e) (history_of e.chain happened)
 
-abbrev pub timed_out : End → List Happened → List Packet
-timed_out e happened = filter_map (timed_out_by e) (history_of e.chain happened)
+abbrev pub timed_out_packets : End → List Happened → List Packet
+timed_out_packets e happened = filter_map (timed_out_by e) (history_of e.chain happened)
 
 abbrev pub sequences : List Packet → List ℕ
 sequences packets = map (λ (p : Packet). p.sequence) packets
 
 -- the packet that was sent from an end under a sequence, whether its commitment stands or not
 abbrev pub packet_sent : End → Channel → List Happened → ℕ → Option Packet
-packet_sent e mine happened n = find (λ (p : Packet). p.sequence == n) (sent e mine happened)
+packet_sent e mine happened n = find (λ (p : Packet). p.sequence == n) (sent_packets e mine happened)
 
 -- the acknowledgement that an accepted event wrote at the end for a sequence
 abbrev pub ack_by : End → ℕ → Happened → Option Text

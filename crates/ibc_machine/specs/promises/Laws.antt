@@ -21,9 +21,9 @@ use Rattle.ibc_machine.specs.ics20.Transfers.{transfer_port, came_over, without_
 use Rattle.ibc_machine.specs.chain.Genesis.{GenesisState, start, is_allowed}
 use Rattle.ibc_machine.specs.chain.Machine.{World, Step, IsRun}
 use Rattle.ibc_machine.specs.ledger.Ledgers.{is_typed}
-use Rattle.ibc_machine.specs.promises.Histories.{Happened, End, sent, received, acknowledged, timed_out, sequences}
+use Rattle.ibc_machine.specs.promises.Histories.{Happened, End, sent_packets, received_packets, acknowledged_packets, timed_out_packets, sequences}
 use Rattle.ibc_machine.specs.promises.Peers.{end_at, are_peers}
-use Rattle.ibc_machine.specs.promises.Totals.{flight, vouchers, escrowed, hopped, balances_of}
+use Rattle.ibc_machine.specs.promises.Totals.{flight, vouchers, escrow_balance, denom_with_hop, balances_of}
 
 -- What happened since an allowed genesis, and the world after it. Each event is what its type promises.
 pub record IsPast (genesis : GenesisState) (happened : List Happened) (world : World) : Type 0 where
@@ -54,12 +54,12 @@ OfPeers Law =
 -- timed out at most once in all; one that was acknowledged was received
 
 pub record IsExactlyOnce (happened : List Happened) (e f : End) : Type 0 where
-  pub not_both : (n : ℕ) → Contains (sequences (timed_out e happened)) n
-      → ¬ (Contains (sequences (received f happened)) n)
-  pub received_once : IsDistinct nat_eq (sequences (received f happened))
-  pub settled_once : IsDistinct nat_eq (sequences (acknowledged e happened) ++ sequences (timed_out e happened))
-  pub acknowledged_received : (n : ℕ) → Contains (sequences (acknowledged e happened)) n
-      → Contains (sequences (received f happened)) n
+  pub not_both : (n : ℕ) → Contains (sequences (timed_out_packets e happened)) n
+      → ¬ (Contains (sequences (received_packets f happened)) n)
+  pub received_once : IsDistinct nat_eq (sequences (received_packets f happened))
+  pub settled_once : IsDistinct nat_eq (sequences (acknowledged_packets e happened) ++ sequences (timed_out_packets e happened))
+  pub acknowledged_received : (n : ℕ) → Contains (sequences (acknowledged_packets e happened)) n
+      → Contains (sequences (received_packets f happened)) n
 
 abbrev pub ExactlyOnce : Type 0
 ExactlyOnce = OfPeers (λ happened world e f. IsExactlyOnce happened e f)
@@ -72,7 +72,7 @@ IsBeginning front all = (rest : List Packet) × (front ++ rest ≡ all)
 abbrev pub InOrder : Type 0
 InOrder = OfPeers (λ happened world e f.
     (mine : Channel) → end_at world e ≡ Some mine → IsTrue (is_ordered mine)
-    → IsBeginning (received f happened) (sent e mine happened))
+    → IsBeginning (received_packets f happened) (sent_packets e mine happened))
 
 -- ---- 4. the escrow of a channel equals the vouchers present and under way, of each denomination that
 -- doesn't begin with the channel's own hop
@@ -80,7 +80,7 @@ InOrder = OfPeers (λ happened world e f.
 abbrev pub Conserved : Type 0
 Conserved = OfPeers (λ happened world e f.
     (denom : Text) → e.port ≡ transfer_port → came_over e.port e.channel denom ≡ false
-    → escrowed world e denom ≡ vouchers world f denom + flight world e f denom + flight world f e (hopped f denom))
+    → escrow_balance world e denom ≡ vouchers world f denom + flight world e f denom + flight world f e (denom_with_hop f denom))
 
 -- an acknowledgement or a timeout of a packet
 abbrev pub settles : Event → Bool

@@ -3,7 +3,7 @@ use Rattle.std.specs.Prelude.{ℕ, Bool, false, ◌==◌, ◌&&◌, ◌||◌, Op
 use Rattle.std.specs.Option.{option_map, option_map_or, option_and_then}
 use Rattle.ibc_ids.specs.Texts.{Text}
 use Rattle.ibc_wire.specs.declared.records.ConnectionEnd.{ConnectionEnd}
-use Rattle.ibc_machine.specs.chain.Records.{Core, Records, Chain, Client, Channel, client_at, connection_at, channel_at}
+use Rattle.ibc_machine.specs.chain.Records.{Core, Records, MachineChain, Client, Channel, client_at, connection_at, channel_at}
 use Rattle.ibc_machine.specs.ics24.Values.{same_optional}
 use Rattle.ibc_machine.specs.ics04.Channels.{is_established}
 use Rattle.ibc_machine.specs.ics04.Packets.{has_peer}
@@ -11,7 +11,7 @@ use Rattle.ibc_machine.specs.chain.Machine.{World}
 use Rattle.ibc_machine.specs.promises.Histories.{End}
 
 abbrev pub records_of : World → ℕ → Option Records
-records_of world chain = option_map (λ (c : Chain). c.records) (slice_get world chain)
+records_of world chain = option_map (λ (c : MachineChain). c.records) (slice_get world chain)
 
 abbrev pub end_at : World → End → Option Channel
 end_at world e = option_and_then (λ records. channel_at records.core e.port e.channel) (records_of world e.chain)

@@ -7,7 +7,7 @@ use Rattle.ibc_ids.specs.Texts.{Text, same_text}
 use Rattle.ibc_ids.specs.Maps.{at}
 use Rattle.ibc_ids.specs.Names.{hop}
 use Rattle.ibc_ids.specs.declared.refusal.Refusal.TheVariants.{UnknownChain, UnknownChannel, WrongState, WrongPeer, TooLarge, BadMessage}
-use Rattle.ibc_machine.specs.chain.Records.{Core, Chain, Channel, Commitment, client_at, channel_at}
+use Rattle.ibc_machine.specs.chain.Records.{Core, MachineChain, Channel, Commitment, client_at, channel_at}
 use Rattle.ibc_machine.specs.chain.Checks.{Checked, require, expect, ◌>>=◌, ◌>>◌}
 use Rattle.ibc_machine.specs.ics04.Channels.{is_established, client_of, peer_channel_of}
 use Rattle.ibc_machine.specs.ics20.TokenData.{amount_of, tokens_of, success}
@@ -18,12 +18,12 @@ use Rattle.ibc_machine.specs.promises.Histories.{End}
 use Rattle.ibc_machine.specs.promises.Peers.{records_of, end_at}
 
 -- the sequence was received there, and acknowledged with success
-abbrev pub succeeded : Channel → ℕ → Bool
-succeeded theirs n = option_map_or (λ ack. same_text ack success) (at nat_cmp n theirs.acks) false
+abbrev pub has_succeeded : Channel → ℕ → Bool
+has_succeeded theirs n = option_map_or (λ ack. same_text ack success) (at nat_cmp n theirs.acks) false
 
 abbrev pub amount_under_way : Text → Text → Channel → ℕ × Commitment → ℕ
 amount_under_way version denom theirs entry =
-    if succeeded theirs entry.0 then 0 else amount_of denom (tokens_of version entry.1)
+    if has_succeeded theirs entry.0 then 0 else amount_of denom (tokens_of version entry.1)
 
 abbrev pub flight_between : Text → Option Channel → Option Channel → ℕ
 flight_between denom (Some mine) (Some theirs) =
@@ -35,18 +35,18 @@ abbrev pub flight : World → End → End → Text → ℕ
 flight world e f denom = flight_between denom (end_at world e) (end_at world f)
 
 -- the denomination with a hop of the end before it
-abbrev pub hopped : End → Text → Text
-hopped f denom = hop f.port f.channel ++ denom
+abbrev pub denom_with_hop : End → Text → Text
+denom_with_hop f denom = hop f.port f.channel ++ denom
 
 abbrev pub balances_of : World → ℕ → Balances
-balances_of world chain = option_map_or (λ (c : Chain). c.records.apps.balances) (slice_get world chain) []
+balances_of world chain = option_map_or (λ (c : MachineChain). c.records.apps.balances) (slice_get world chain) []
 
 -- all that the peer's chain holds of the denomination as it came over the peer's end f
 abbrev pub vouchers : World → End → Text → ℕ
-vouchers world f denom = supply (balances_of world f.chain) (hopped f denom)
+vouchers world f denom = supply (balances_of world f.chain) (denom_with_hop f denom)
 
-abbrev pub escrowed : World → End → Text → ℕ
-escrowed world e denom = balance (balances_of world e.chain) (escrow e.channel) denom
+abbrev pub escrow_balance : World → End → Text → ℕ
+escrow_balance world e denom = balance (balances_of world e.chain) (escrow e.channel) denom
 
 -- ---- the totals of a channel of port `transfer`
 
@@ -69,12 +69,12 @@ named_peer core mine =
 -- a denomination that would be longer than 256 bytes with its hop is nowhere
 abbrev pub totals_between : World → End → End → Text → Totals
 totals_between world e f denom =
-    let fits = nat_le (length (hopped f denom)) 256 in
+    let fits = nat_le (length (denom_with_hop f denom)) 256 in
     record {
-      escrow = escrowed world e denom;
+      escrow = escrow_balance world e denom;
       vouchers = if fits then vouchers world f denom else 0;
       out = flight world e f denom;
-      back = if fits then flight world f e (hopped f denom) else 0;
+      back = if fits then flight world f e (denom_with_hop f denom) else 0;
     }
 
 abbrev pub are_bounded : Totals → Bool

@@ -10,7 +10,7 @@ use Rattle.ibc_machine.specs.declared.event.Event.{Event}
 use Rattle.ibc_machine.specs.declared.reply.Reply.{Reply}
 use Rattle.ibc_machine.specs.declared.reply.Reply.TheVariants as reply
 use Rattle.ibc_machine.specs.declared.entry.Entry.{Entry}
-use Rattle.ibc_machine.specs.chain.Records.{Chain}
+use Rattle.ibc_machine.specs.chain.Records.{MachineChain}
 use Rattle.ibc_machine.specs.ics20.Bank.{Balances}
 use Rattle.ibc_machine.specs.chain.Genesis.{GenesisState, start, is_allowed}
 use Rattle.ibc_machine.specs.chain.Machine.{IsRun}
@@ -73,7 +73,7 @@ happened_by list = map (λ (e : Entry). (e.event, e.reply)) list
 -- states of the ledgers.
 pub record IsWorldHistory (genesis : GenesisState) (ledgers : List Ledger) (publications : List Publication)
     (list : List Entry) : Type 0 where
-  pub merges : Merges genesis.window (map (λ (c : Chain). c.time) (start genesis)) (map entries ledgers)
+  pub merges : Merges genesis.window (map (λ (c : MachineChain). c.time) (start genesis)) (map entries ledgers)
       publications list
   pub past : IsPast genesis (happened_by list) (machine_of ledgers)
 
@@ -120,12 +120,12 @@ is_complete genesis ledgers =
 pub record IsAudited (genesis : GenesisState) (ledgers : List Ledger) (publications : List Publication)
     (balances : List Balances) (notes : List (Map Text (List Text))) : Type 0 where
   pub list : List Entry
-  pub merges : Merges genesis.window (map (λ (c : Chain). c.time) (start genesis))
+  pub merges : Merges genesis.window (map (λ (c : MachineChain). c.time) (start genesis))
       (map entries (by_number genesis ledgers)) publications list
   pub past : IsTrue (is_allowed genesis) → HasNoClash ledgers
       → IsPast genesis (happened_by list) (machine_of (by_number genesis ledgers))
-  pub balances_are : balances ≡ map (λ (c : Chain). c.records.apps.balances) (machine_of (by_number genesis ledgers))
-  pub notes_are : notes ≡ map (λ (c : Chain). c.records.apps.notes) (machine_of (by_number genesis ledgers))
+  pub balances_are : balances ≡ map (λ (c : MachineChain). c.records.apps.balances) (machine_of (by_number genesis ledgers))
+  pub notes_are : notes ≡ map (λ (c : MachineChain). c.records.apps.notes) (machine_of (by_number genesis ledgers))
 
 -- there is one list of publications of which every pass saw a beginning, with all of its own chain's, and the
 -- histories are audited along it

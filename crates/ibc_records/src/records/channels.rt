@@ -8,7 +8,7 @@ ghost use Rattle.ibc_ids.specs.Paths.{path, nth_channel};
 ghost use Rattle.ibc_ids.specs.declared.key.Key.TheVariants as key;
 ghost use Rattle.ibc_ids.specs.declared.refusal.Refusal.TheVariants.{NoMemory, UnknownChannel};
 ghost use Rattle.ibc_machine.specs.ics24.Values.{value_bytes, ChannelIs};
-ghost use Rattle.ibc_records.specs.Held.{AddsChannel, SetsChannelEnd, IsUnchanged};
+ghost use Rattle.ibc_records.specs.RecordsModel.{AddsChannel, SetsChannelEnd, IsUnchanged};
 
 use crate::Records;
 use crate::channel::Channel;

@@ -4,7 +4,7 @@ ghost use Rattle.std.specs.Prelude.{◌≡◌, ◌-◌, ◌^◌, ◌<◌, IfErr,
 ghost use Rattle.ibc_ids.specs.Texts.{text_cmp};
 ghost use Rattle.ibc_ids.specs.Maps.{at};
 ghost use Rattle.ibc_ids.specs.declared.refusal.Refusal.TheVariants.{NoMemory};
-ghost use Rattle.ibc_records.specs.Held.{AddsConnection, SetsConnection, IsUnchanged};
+ghost use Rattle.ibc_records.specs.RecordsModel.{AddsConnection, SetsConnection, IsUnchanged};
 
 use crate::Records;
 use crate::maps::insert;

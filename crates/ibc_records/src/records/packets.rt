@@ -11,8 +11,8 @@ ghost use Rattle.ibc_ids.specs.declared.refusal.Refusal.TheVariants.{NoMemory};
 ghost use Rattle.ibc_machine.specs.chain.Records.{channel_at};
 ghost use Rattle.ibc_machine.specs.ics04.Packets.{is_ordered, after_send, after_receive, after_ack, after_timeout};
 ghost use Rattle.ibc_machine.specs.ics24.Values.{value_bytes, AckIs, CommitmentIs, NumberIs};
-ghost use Rattle.ibc_machine.specs.ics04.Parts.{received, acknowledged, timed_out, entry_of};
-ghost use Rattle.ibc_records.specs.Held.{core_of, IsUnchanged};
+ghost use Rattle.ibc_machine.specs.ics04.Parts.{part_after_receive, part_after_ack, part_after_timeout, entry_of};
+ghost use Rattle.ibc_records.specs.RecordsModel.{core_of, IsUnchanged};
 ghost use Rattle.ibc_records.specs.Packets.{SendsPacket, ReceivesPacket, AcknowledgesPacket, TimesOutPacket};
 
 use crate::Records;
@@ -23,7 +23,7 @@ use crate::maps::{Channels, put, take};
 use crate::packet_entries::{acknowledged_entry, closed_entry, received_entry, settle};
 use crate::packet_values::{channel_counter, commitment_value};
 use crate::values::set_reserved;
-use ibc_app_port::{App, Nobody, Pays};
+use ibc_app_port::{App, NoPayer, Pays};
 use ibc_ids::{Bytes, ChannelId, PortId, Refusal, sequence_path};
 use ibc_path_store::Store;
 use ibc_wire::Packet;
@@ -43,7 +43,7 @@ impl Records {
         ensures err { IfErr result (λ refusal. refusal ≡ NoMemory) }
         ensures unchanged { OnErr result (IsUnchanged self.old self.new) }
     {
-        self.send_paid(&mut Nobody, &(), port, id, commitment)
+        self.send_paid(&mut NoPayer, &(), port, id, commitment)
     }
 
     /// As `send`, where a payer pays once nothing else can be refused (ICS 20, "sendFungibleTokens"). What the payer
@@ -232,7 +232,7 @@ fn reserve_receive(
 ) -> Result<(String, (String, Bytes)), Refusal>
     requires { is_ordered channel.now ≡ true → channel.now.next_recv < 2 ^ 64 - 1 }
     ensures path { IfOk result (λ made. string_bytes made.0 ≡ path (key.Acknowledgement name.now.0 name.now.1 sequence)) }
-    ensures other { IfOk result (λ made. (string_bytes made.1.0, made.1.1) ≡ entry_of name.now.0 name.now.1 (received sequence channel.now)) }
+    ensures other { IfOk result (λ made. (string_bytes made.1.0, made.1.1) ≡ entry_of name.now.0 name.now.1 (part_after_receive sequence channel.now)) }
     ensures named { OnOk result (IsTrue (is_port name.now.0 && is_channel name.now.1)) }
     ensures fits { sequence < 2 ^ 64 }
     ensures room { OnOk result (2 ≤ store.new.room) }
@@ -280,7 +280,7 @@ fn reserve_acknowledged(
 ) -> Result<(String, Option<(String, Bytes)>), Refusal>
     requires { is_ordered channel.now ≡ true → channel.now.next_ack < 2 ^ 64 - 1 }
     ensures path { IfOk result (λ made. string_bytes made.0 ≡ path (key.Commitment name.now.0 name.now.1 sequence)) }
-    ensures other { IfOk result (λ made. option_map (λ entry. (string_bytes entry.0, entry.1)) made.1 ≡ option_map (entry_of name.now.0 name.now.1) (acknowledged channel.now)) }
+    ensures other { IfOk result (λ made. option_map (λ entry. (string_bytes entry.0, entry.1)) made.1 ≡ option_map (entry_of name.now.0 name.now.1) (part_after_ack channel.now)) }
     ensures named { OnOk result (IsTrue (is_port name.now.0 && is_channel name.now.1)) }
     ensures fits { sequence < 2 ^ 64 }
     ensures room { OnOk result (0 < store.new.room) }
@@ -321,7 +321,7 @@ fn reserve_timed_out(
     sequence: u64,
 ) -> Result<(String, Option<(String, Bytes)>), Refusal>
     ensures path { IfOk result (λ made. string_bytes made.0 ≡ path (key.Commitment name.now.0 name.now.1 sequence)) }
-    ensures other { IfOk result (λ made. option_map (λ entry. (string_bytes entry.0, entry.1)) made.1 ≡ option_map (entry_of name.now.0 name.now.1) (timed_out channel.now)) }
+    ensures other { IfOk result (λ made. option_map (λ entry. (string_bytes entry.0, entry.1)) made.1 ≡ option_map (entry_of name.now.0 name.now.1) (part_after_timeout channel.now)) }
     ensures named { OnOk result (IsTrue (is_port name.now.0 && is_channel name.now.1)) }
     ensures fits { sequence < 2 ^ 64 }
     ensures room { OnOk result (0 < store.new.room) }

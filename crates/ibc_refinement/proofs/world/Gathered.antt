@@ -11,9 +11,9 @@ use Rattle.ibc_machine.specs.ledger.Replay.{LedgerState, starting_state}
 use Rattle.ibc_machine.specs.ledger.Ledgers.{Ledger, IsLedger, SeesMore, published_as}
 use Rattle.ibc_machine.specs.promises.Worlds.{AreOfOneTable, of_chain, is_complete}
 use Rattle.ibc_refinement.specs.Audits.{AreOfGenesis}
-use Rattle.ibc_refinement.proofs.Places.{get_there, get_within}
+use Rattle.ibc_refinement.proofs.ChangedPlaces.{get_there, get_within}
 use Rattle.ibc_refinement.proofs.SeenMore.{replay_stays}
-use Rattle.ibc_refinement.specs.World.{AreOfFirst}
+use Rattle.ibc_refinement.specs.World.{AreOfFirstChains}
 use Rattle.ibc_refinement.specs.Meetings.{HaveMet}
 use Rattle.ibc_refinement.proofs.world.Together.{first_within, rest_within}
 
@@ -110,7 +110,7 @@ module _ (genesis : GenesisState) (ledgers : List Ledger) (of : AreOfGenesis gen
       sym (whole_total ledgers (length genesis.chains) 0 complete)
       ∙ all_total (length genesis.chains) ledgers (λ k l there. let g = of k l there in subst (λ (g : GenesisState). l.chain < length g.chains) g.0 g.1.number)
 
-  known : (publications : List Publication) → AreOfFirst (length ledgers) publications → list_all (λ (p : Publication). list_any (λ (l : Ledger). eqb l.chain p.chain) ledgers) publications ≡ true
+  known : (publications : List Publication) → AreOfFirstChains (length ledgers) publications → list_all (λ (p : Publication). list_any (λ (l : Ledger). eqb l.chain p.chain) ledgers) publications ≡ true
   known [] within = refl
   known (p ∷ publications) within =
       let low = first_within (length ledgers) p publications within in
@@ -137,7 +137,7 @@ module _ (genesis : GenesisState) (ledgers : List Ledger) (of : AreOfGenesis gen
   one_table now met = record {
     beginnings = λ k l there. let at = there_now k l there in (length l.seen, begins l at.0 (of k l there).1 (met.each_is k at.0 at.1) (met.each k l at.0 there at.1) met.publications (met.seen k at.0 at.1));
     own = λ k l there. let at = there_now k l there in owns l at.0 (of k l there).1 (met.each_is k at.0 at.1) (met.each k l at.0 there at.1) met.publications (met.seen k at.0 at.1);
-    of_chains = known met.publications (subst (λ n. AreOfFirst n met.publications) met.as_many met.within);
+    of_chains = known met.publications (subst (λ n. AreOfFirstChains n met.publications) met.as_many met.within);
   }
     where
       there_now : (k : ℕ) (l : Ledger) → slice_get ledgers k ≡ Some l → (after : Ledger) × (slice_get now k ≡ Some after)

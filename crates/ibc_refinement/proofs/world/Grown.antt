@@ -6,11 +6,11 @@ use Rattle.std.proofs.lemmas.List.{map-append}
 use Rattle.std.proofs.lemmas.Option.{slice_get-map}
 use Rattle.ibc_ids.specs.Publications.{published_by}
 use Rattle.ibc_ids.specs.declared.publication.Publication.{Publication}
-use Rattle.ibc_machine.specs.chain.Records.{Chain}
+use Rattle.ibc_machine.specs.chain.Records.{MachineChain}
 use Rattle.ibc_machine.specs.chain.Genesis.{GenesisState, start, starting_chain}
 use Rattle.ibc_machine.specs.ledger.Replay.{LedgerState, StampedEntry, entry_answer, replay, met_states, starting_state, empty_chain}
 use Rattle.ibc_machine.specs.ledger.Ledgers.{Ledger, IsLedger, IsOwnEntry, IsReading, published_as, chain_of, header_in, is_typed, is_block_reply, is_accepted_block}
-use Rattle.ibc_refinement.proofs.Places.{get_there}
+use Rattle.ibc_refinement.proofs.ChangedPlaces.{get_there}
 use Rattle.ibc_refinement.proofs.Typed.{IsTyped}
 use Rattle.ibc_refinement.proofs.EntrySteps.{working, answer_commits, own_typed, replay_more}
 use Rattle.ibc_refinement.proofs.EntryEnds.{answer_ends}
@@ -27,7 +27,7 @@ starts_typed : (genesis : GenesisState) (k : ℕ) → k < length genesis.chains 
 starts_typed genesis k low =
     let c = get_there genesis.chains k low in
     let first : slice_get (start genesis) k ≡ Some (starting_chain c.0) = slice_get-map starting_chain genesis.chains k ∙ ap (option_map starting_chain) c.1 in
-    subst (λ (x : Chain). IsTyped x.records.core) (sym (ap (λ o. unwrap_or o empty_chain) first)) typed_start
+    subst (λ (x : MachineChain). IsTyped x.records.core) (sym (ap (λ o. unwrap_or o empty_chain) first)) typed_start
 
 -- the last entry met a typed state, and is the ledger's own there
 last_met : (ledger : Ledger) (genesis : GenesisState) (k : ℕ) (seen : List Publication) (state : LedgerState) (history : List StampedEntry) (e : StampedEntry) → IsTyped state.chain.records.core

@@ -4,10 +4,10 @@ use mathlib.Core.List.{IsPrefix}
 use Rattle.std.proofs.lemmas.Bool.{false≢true, cases_lt}
 use Rattle.ibc_ids.specs.declared.publication.Publication.{Publication}
 use Rattle.ibc_machine.specs.ledger.Ledgers.{Ledger, SeesMore}
-use Rattle.ibc_refinement.proofs.Places.{get_within, get_set, get_set_other}
-use Rattle.ibc_refinement.specs.World.{AllSee}
+use Rattle.ibc_refinement.proofs.ChangedPlaces.{get_within, get_set, get_set_other}
+use Rattle.ibc_refinement.specs.World.{AllHaveSeen}
 use Rattle.ibc_refinement.specs.Steps.{AllSeeMore}
-use Rattle.ibc_refinement.specs.Meetings.{AreBehind, FirstSee, AllMeetTheFirst}
+use Rattle.ibc_refinement.specs.Meetings.{FirstHaveSeenNoMore, FirstHaveSeen, AllMeetTheFirst}
 use Rattle.ibc_refinement.proofs.world.Meetings.{same_one}
 
 prefix_both : (xs ys zs : List Publication) → IsPrefix xs ys → IsPrefix ys zs → IsPrefix xs zs
@@ -32,12 +32,12 @@ at_set P ledgers k j other after ledger there here own others =
 
 -- ---- the first round
 
-pub none_behind : (seen : List Publication) (ledgers : List Ledger) → AreBehind 0 seen ledgers
+pub none_behind : (seen : List Publication) (ledgers : List Ledger) → FirstHaveSeenNoMore 0 seen ledgers
 none_behind seen ledgers k ledger low = absurd (omega arith)
 
 -- the leader met one more
-pub behind_more : (n : ℕ) (ledgers : List Ledger) (before leader other after : Ledger) → AreBehind n before.seen ledgers → SeesMore before leader → slice_get ledgers n ≡ Some other → after.seen ≡ leader.seen
-    → AreBehind (suc n) leader.seen (slice_set ledgers n after)
+pub behind_more : (n : ℕ) (ledgers : List Ledger) (before leader other after : Ledger) → FirstHaveSeenNoMore n before.seen ledgers → SeesMore before leader → slice_get ledgers n ≡ Some other → after.seen ≡ leader.seen
+    → FirstHaveSeenNoMore (suc n) leader.seen (slice_set ledgers n after)
 behind_more n ledgers before leader other after behind sees there same j ledger low here =
     at_set (λ (l : Ledger). IsPrefix l.seen leader.seen) ledgers n j other after ledger there here ([], append-nil after.seen ∙ same) (λ apart was.
     prefix_both ledger.seen before.seen leader.seen (behind j ledger (below apart) was) (seen_before before leader sees))
@@ -47,20 +47,20 @@ behind_more n ledgers before leader other after behind sees there same j ledger 
 
 -- ---- the second round
 
-pub none_see : (seen : List Publication) (ledgers : List Ledger) → FirstSee 0 seen ledgers
+pub none_see : (seen : List Publication) (ledgers : List Ledger) → FirstHaveSeen 0 seen ledgers
 none_see seen ledgers k ledger low = absurd (omega arith)
 
 -- one more took over what the leader has seen, and the later ones are behind as they were
-pub see_more : (n : ℕ) (seen : List Publication) (ledgers : List Ledger) (other after : Ledger) → FirstSee n seen ledgers → slice_get ledgers n ≡ Some other → after.seen ≡ seen
-    → FirstSee (suc n) seen (slice_set ledgers n after)
+pub see_more : (n : ℕ) (seen : List Publication) (ledgers : List Ledger) (other after : Ledger) → FirstHaveSeen n seen ledgers → slice_get ledgers n ≡ Some other → after.seen ≡ seen
+    → FirstHaveSeen (suc n) seen (slice_set ledgers n after)
 see_more n seen ledgers other after first there same j ledger low here =
     at_set (λ (l : Ledger). l.seen ≡ seen) ledgers n j other after ledger there here same (λ apart was. first j ledger (below apart) was)
   where
     below : (n ≡ j → ⊥) → j < n
     below apart = elim (cases_lt j n) [ inl lower ↦ lower | inr above ↦ absurd (apart (omega arith)) ]
 
-pub still_behind : (m n : ℕ) (seen : List Publication) (ledgers : List Ledger) (other after : Ledger) → AreBehind m seen ledgers → slice_get ledgers n ≡ Some other → after.seen ≡ seen
-    → AreBehind m seen (slice_set ledgers n after)
+pub still_behind : (m n : ℕ) (seen : List Publication) (ledgers : List Ledger) (other after : Ledger) → FirstHaveSeenNoMore m seen ledgers → slice_get ledgers n ≡ Some other → after.seen ≡ seen
+    → FirstHaveSeenNoMore m seen (slice_set ledgers n after)
 still_behind m n seen ledgers other after behind there same j ledger low here =
     at_set (λ (l : Ledger). IsPrefix l.seen seen) ledgers n j other after ledger there here ([], append-nil after.seen ∙ same) (λ apart was. behind j ledger low was)
 
@@ -83,6 +83,6 @@ all_meet_first first leader others now sees as_many each same is within = record
         subst (λ (x : Ledger × Ledger). SeesMore x.0 x.1) (λ i. (one i, two i)) sees
     all_more (suc k) before after was here = each k before after was here
 
-    all_same : AllSee leader.seen (leader ∷ now)
+    all_same : AllHaveSeen leader.seen (leader ∷ now)
     all_same zero ledger here = ap (λ (l : Ledger). l.seen) (sym (same_one (leader ∷ now) 0 leader ledger refl here))
     all_same (suc k) ledger here = same k ledger (get_within now k ledger here) here

@@ -8,7 +8,7 @@ use Rattle.ibc_machine.specs.declared.event.Event.{Event}
 use Rattle.ibc_machine.specs.declared.reply.Reply.{Reply}
 use Rattle.ibc_machine.specs.declared.entry.Reading.{Reading}
 use Rattle.ibc_machine.specs.ledger.Ledgers.{Ledger, SeesMore, chain_of, header_in, IsReadBetween, ReadsThen, AddsNext}
-use Rattle.ibc_refinement.proofs.Places.{get_there, get_within, get_set, get_set_other}
+use Rattle.ibc_refinement.proofs.ChangedPlaces.{get_there, get_within, get_set, get_set_other}
 use Rattle.ibc_refinement.specs.World.{WorldState}
 use Rattle.ibc_refinement.specs.Steps.{AddsIf, AllSeeMore, AddsNothing, AddsOne, IsStep}
 use Rattle.ibc_refinement.specs.Meetings.{HaveMet, IsPut, MeetingEndsStep, NothingDoneIsStep, StepsGoOn}

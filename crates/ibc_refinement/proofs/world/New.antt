@@ -10,7 +10,7 @@ use Rattle.ibc_machine.specs.ics24.Image.{image}
 use Rattle.std.specs.Prelude.{◌^◌}
 use Rattle.std.specs.List.{AllByRecursion}
 use Rattle.ibc_machine.specs.promises.Worlds.{entries}
-use Rattle.ibc_refinement.proofs.Places.{get_there, get_within}
+use Rattle.ibc_refinement.proofs.ChangedPlaces.{get_there, get_within}
 use Rattle.ibc_refinement.specs.World.{new_ledger, AreNew, NewIsWorld}
 
 -- a chain begins with no block

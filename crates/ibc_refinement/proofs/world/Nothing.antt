@@ -6,13 +6,13 @@ use Rattle.std.proofs.lemmas.Option.{slice_get-map}
 use Rattle.ibc_machine.specs.declared.entry.Entry.{Entry}
 use Rattle.ibc_machine.specs.declared.event.Event.{Event}
 use Rattle.ibc_machine.specs.declared.reply.Reply.{Reply}
-use Rattle.ibc_machine.specs.chain.Records.{Chain}
+use Rattle.ibc_machine.specs.chain.Records.{MachineChain}
 use Rattle.ibc_machine.specs.chain.Genesis.{start}
 use Rattle.ibc_machine.specs.ledger.Ledgers.{Ledger}
 use Rattle.ibc_machine.specs.ledger.Merge.{Merges}
 use Rattle.ibc_machine.specs.promises.Worlds.{entries, interleaved}
-use Rattle.ibc_refinement.proofs.Places.{get_there, get_within, same_places}
-use Rattle.ibc_refinement.specs.World.{WorldState, kept_entries, AreOfFirst, block_chains, IsWorld}
+use Rattle.ibc_refinement.proofs.ChangedPlaces.{get_there, get_within, same_places}
+use Rattle.ibc_refinement.specs.World.{WorldState, kept_entries, AreOfFirstChains, block_chains, IsWorld}
 use Rattle.ibc_refinement.specs.Steps.{IsStep, AddsNothing}
 use Rattle.ibc_refinement.proofs.world.Step.{before_of, ledgers_of, nothing_new}
 
@@ -53,7 +53,7 @@ module _ (old new : WorldState) (event : Event) (given : Reply) (is : IsWorld ol
         (ap (λ (l : Ledger). l.genesis) w.1, ap (λ (l : Ledger). l.chain) w.1));
     publications = is.publications;
     seen = λ k ledger now. step.seen k ledger now ∙ same_publications;
-    within = subst (λ n. AreOfFirst n is.publications) (sym step.as_many) is.within;
+    within = subst (λ n. AreOfFirstChains n is.publications) (sym step.as_many) is.within;
     names = record {
       each = λ k ledger now.
           let w = before_of old new event given is step k ledger now in
@@ -61,7 +61,7 @@ module _ (old new : WorldState) (event : Event) (given : Reply) (is : IsWorld ol
       no_others = ap (λ n. list_all (λ i. nat_lt i n) old.order) step.as_many ∙ is.names.no_others;
     };
     turns = ap block_chains same_kept ∙ is.turns;
-    merges = subst (λ hs. Merges old.genesis.window (map (λ (c : Chain). c.time) (start old.genesis)) hs is.publications (interleaved old.order hs)) (sym same_histories) is.merges;
+    merges = subst (λ hs. Merges old.genesis.window (map (λ (c : MachineChain). c.time) (start old.genesis)) hs is.publications (interleaved old.order hs)) (sym same_histories) is.merges;
   }
 
   after_is : after ≡ new

@@ -13,12 +13,12 @@ use Rattle.ibc_machine.specs.declared.reply.Reply.{Reply}
 use Rattle.ibc_machine.specs.chain.Genesis.{GenesisState}
 use Rattle.ibc_machine.specs.ledger.Replay.{StampedEntry}
 use Rattle.ibc_machine.specs.ledger.Ledgers.{Ledger, IsLedger, SeesMore, chain_of, header_in, is_accepted_block, reading_fits, AddsNext}
-use Rattle.ibc_machine.specs.ledger.Merge.{blocks_of, ReadsWhatIsBefore}
-use Rattle.ibc_refinement.specs.World.{WorldState, kept_entries, AreOfFirst, IsWorld}
+use Rattle.ibc_machine.specs.ledger.Merge.{blocks_of, ReadingFitsBefore}
+use Rattle.ibc_refinement.specs.World.{WorldState, kept_entries, AreOfFirstChains, IsWorld}
 use Rattle.ibc_refinement.specs.Steps.{AddsIf, IsStep, AddsOne}
 use Rattle.ibc_refinement.proofs.world.Publications.{published_behind, nothing_behind, none_more, one_more}
 use Rattle.ibc_refinement.proofs.world.Grown.{IsPlain, IsEnded, own_reading, publishes, with_next}
-use Rattle.ibc_refinement.proofs.world.Turns.{as_many_blocks}
+use Rattle.ibc_refinement.proofs.world.EntryBehind.{as_many_blocks}
 use Rattle.ibc_refinement.proofs.world.Step.{BothAt, both_at, grown, quiet, within_more}
 
 pub apart_from : (a b : ℕ) → (a ≡ b → ⊥) → eqb a b ≡ false
@@ -74,9 +74,9 @@ module _ (old new : WorldState) (event : Event) (given : Reply) (is : IsWorld ol
   -- what the entry published, and what it read
   pub record Behind : Type 0 where
     pub chains : map (λ (p : Publication). p.chain) more ≡ cond (is_accepted_block e.entry) (chain_of e.entry.event ∷ []) []
-    pub reads : ReadsWhatIsBefore old.genesis.window list e.entry
+    pub reads : ReadingFitsBefore old.genesis.window list e.entry
 
-  within : AreOfFirst (length old.ledgers) more
+  within : AreOfFirstChains (length old.ledgers) more
   within = within_more old new event given is step more all_grown
 
   -- ---- an entry that published nothing

@@ -9,13 +9,13 @@ use Rattle.ibc_ids.specs.declared.publication.Publication.{Publication}
 use Rattle.ibc_machine.specs.declared.entry.Entry.{Entry}
 use Rattle.ibc_machine.specs.declared.event.Event.{Event}
 use Rattle.ibc_machine.specs.declared.reply.Reply.{Reply}
-use Rattle.ibc_machine.specs.chain.Records.{Chain}
+use Rattle.ibc_machine.specs.chain.Records.{MachineChain}
 use Rattle.ibc_machine.specs.chain.Genesis.{start}
 use Rattle.ibc_machine.specs.ledger.Replay.{StampedEntry}
 use Rattle.ibc_machine.specs.ledger.Ledgers.{Ledger, chain_of}
-use Rattle.ibc_machine.specs.ledger.Merge.{is_of, ReadsWhatIsBefore, Merges}
+use Rattle.ibc_machine.specs.ledger.Merge.{is_of_chain, ReadingFitsBefore, Merges}
 use Rattle.ibc_machine.specs.promises.Worlds.{AreLedgersOf, entries, interleaved}
-use Rattle.ibc_refinement.proofs.Places.{get_set, get_set_other, get_within, length_set, same_places}
+use Rattle.ibc_refinement.proofs.ChangedPlaces.{get_set, get_set_other, get_within, length_set, same_places}
 use Rattle.ibc_refinement.proofs.RunStates.{AreOfWorld}
 use Rattle.ibc_refinement.proofs.RunNext.{own_last, other_last}
 use Rattle.ibc_refinement.specs.World.{WorldState, kept_entries, block_chains, IsWorld}
@@ -23,7 +23,7 @@ use Rattle.ibc_refinement.specs.Steps.{AddsIf, IsStep, AddsOne}
 use Rattle.ibc_refinement.proofs.world.Together.{one_table}
 use Rattle.ibc_refinement.proofs.world.Order.{kept_last}
 use Rattle.ibc_refinement.proofs.world.Published.{published}
-use Rattle.ibc_refinement.proofs.world.Turns.{turns_last, each_last}
+use Rattle.ibc_refinement.proofs.world.EntryBehind.{turns_last, each_last}
 use Rattle.ibc_refinement.proofs.world.Step.{before_of, ledgers_of}
 use Rattle.ibc_refinement.proofs.world.Nothing.{history_at, ledger_at}
 use Rattle.ibc_refinement.proofs.world.One.{at, next, others, all_grown, behind}
@@ -55,7 +55,7 @@ module _ (old new : WorldState) (event : Event) (given : Reply) (is : IsWorld ol
   abbrev pub list : List Entry
   list = kept_entries old
 
-  is_own : (j : ℕ) → is_of j e ≡ eqb k j
+  is_own : (j : ℕ) → is_of_chain j e ≡ eqb k j
   is_own j = ap (λ x. eqb (chain_of x) j) (next old new event given is step adds).2
 
   own_entries : entries after ≡ entries before ++ e ∷ []
@@ -69,11 +69,11 @@ module _ (old new : WorldState) (event : Event) (given : Reply) (is : IsWorld ol
 
   -- ---- the list
 
-  filtered : (j : ℕ) (ledger : Ledger) → slice_get new.ledgers j ≡ Some ledger → filter (is_of j) (list ++ e ∷ []) ≡ entries ledger
+  filtered : (j : ℕ) (ledger : Ledger) → slice_get new.ledgers j ≡ Some ledger → filter (is_of_chain j) (list ++ e ∷ []) ≡ entries ledger
   filtered j ledger here =
       let w = before_of old new event given is step j ledger here in
       let own = is.merges.each j (entries w.0) (history_at old.ledgers j w.0 w.1) in
-      elim (eqb k j) as (λ b. eqb k j ≡ b → filter (is_of j) (list ++ e ∷ []) ≡ entries ledger) [
+      elim (eqb k j) as (λ b. eqb k j ≡ b → filter (is_of_chain j) (list ++ e ∷ []) ≡ entries ledger) [
         | true ↦ λ same.
             let place = eqb-true k j same in
             own_last j list e (is_own j ∙ same) ∙ ap (λ xs. xs ++ e ∷ []) (own ∙ ap entries (sym (same_here old.ledgers k j before w.0 place was w.1)))
@@ -152,13 +152,13 @@ module _ (old new : WorldState) (event : Event) (given : Reply) (is : IsWorld ol
   are : AreOfWorld old.genesis new.ledgers step.publications
   are = record { of = of_new; table = one_table old.genesis new.ledgers of_new step.publications step.seen step.within }
 
-  merges : Merges old.genesis.window (map (λ (c : Chain). c.time) (start old.genesis)) (map entries new.ledgers) step.publications (list ++ e ∷ [])
+  merges : Merges old.genesis.window (map (λ (c : MachineChain). c.time) (start old.genesis)) (map entries new.ledgers) step.publications (list ++ e ∷ [])
   merges = record {
     each = λ j history there. let a = ledger_at new.ledgers j history there in filtered j a.0 a.1 ∙ a.2;
     no_others = ap (λ n. list_all (λ (entry : Entry). nat_lt (chain_of entry.event) n) (list ++ e ∷ [])) (length-map new.ledgers entries ∙ step.as_many) ∙ within;
     blocks = published old.genesis new.ledgers step.publications are (list ++ e ∷ []) filtered
         (ap (λ n. list_all (λ (entry : Entry). nat_lt (chain_of entry.event) n) (list ++ e ∷ [])) step.as_many ∙ within) turns;
-    readings = each_last (ReadsWhatIsBefore old.genesis.window) [] list e is.merges.readings (behind old new event given is step adds).reads;
+    readings = each_last (ReadingFitsBefore old.genesis.window) [] list e is.merges.readings (behind old new event given is step adds).reads;
   }
 
   is_world : IsWorld world
@@ -170,7 +170,7 @@ module _ (old new : WorldState) (event : Event) (given : Reply) (is : IsWorld ol
     within = step.within;
     names = record { each = named; no_others = all_named };
     turns = ap block_chains kept ∙ turns;
-    merges = subst (Merges old.genesis.window (map (λ (c : Chain). c.time) (start old.genesis)) (map entries new.ledgers) step.publications) (sym kept) merges;
+    merges = subst (Merges old.genesis.window (map (λ (c : MachineChain). c.time) (start old.genesis)) (map entries new.ledgers) step.publications) (sym kept) merges;
   }
 
   world_is : world ≡ new

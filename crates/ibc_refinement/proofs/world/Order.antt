@@ -8,7 +8,7 @@ use Rattle.std.proofs.lemmas.Option.{slice_get-map, slice_get_past}
 use Rattle.ibc_machine.specs.declared.entry.Entry.{Entry}
 use Rattle.ibc_machine.specs.ledger.Ledgers.{Ledger}
 use Rattle.ibc_machine.specs.promises.Worlds.{entries, interleaved_from, interleaved}
-use Rattle.ibc_refinement.proofs.Places.{get_set, get_set_other, get_within, get_there}
+use Rattle.ibc_refinement.proofs.ChangedPlaces.{get_set, get_set_other, get_within, get_there}
 use Rattle.ibc_refinement.specs.World.{NamesEntries}
 
 abbrev named : ℕ → List ℕ → ℕ

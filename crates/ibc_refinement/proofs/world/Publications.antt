@@ -5,7 +5,7 @@ use Rattle.std.proofs.lemmas.List.{append_cancel_left}
 use Rattle.std.proofs.lemmas.List.Elements.{filter-append}
 use Rattle.ibc_ids.specs.Publications.{published_by}
 use Rattle.ibc_ids.specs.declared.publication.Publication.{Publication}
-use Rattle.ibc_refinement.specs.World.{AreOfFirst}
+use Rattle.ibc_refinement.specs.World.{AreOfFirstChains}
 use Rattle.ibc_refinement.proofs.world.Together.{first_published, first_within, rest_within}
 
 -- what a chain published behind the list
@@ -16,7 +16,7 @@ published_behind c seen more own e =
 pub nothing_behind : (c : ℕ) (seen more : List Publication) → published_by c (seen ++ more) ≡ published_by c seen → published_by c more ≡ []
 nothing_behind c seen more e = published_behind c seen more [] (e ∙ sym (append-nil (published_by c seen)))
 
-pub within_behind : (chains : ℕ) (seen more : List Publication) → AreOfFirst chains (seen ++ more) → AreOfFirst chains more
+pub within_behind : (chains : ℕ) (seen more : List Publication) → AreOfFirstChains chains (seen ++ more) → AreOfFirstChains chains more
 within_behind chains seen more within c some =
     let parts = ap length (filter-append (λ (p : Publication). eqb p.chain c) seen more) ∙ length-append (published_by c seen) (published_by c more) in
     within c (omega arith)
@@ -25,14 +25,14 @@ rest_none : (c : ℕ) (q : Publication) (more : List Publication) → published_
 rest_none c q more = elim (eqb q.chain c) as (λ b. cond b (q ∷ published_by c more) (published_by c more) ≡ [] → published_by c more ≡ []) [ true ↦ λ e. absurd (cc) | false ↦ λ e. e ]
 
 -- where no chain published, nothing is there
-pub none_more : (chains : ℕ) (more : List Publication) → AreOfFirst chains more → ((c : ℕ) → c < chains → published_by c more ≡ []) → more ≡ []
+pub none_more : (chains : ℕ) (more : List Publication) → AreOfFirstChains chains more → ((c : ℕ) → c < chains → published_by c more ≡ []) → more ≡ []
 none_more chains [] within none = refl
 none_more chains (q ∷ more) within none =
     let there = sym (first_published q more) ∙ none q.chain (first_within chains q more within) in
     absurd (cc)
 
 -- where one chain published once, nothing else is there
-pub one_more : (chains : ℕ) (more : List Publication) (k : ℕ) (p : Publication) → AreOfFirst chains more → published_by k more ≡ p ∷ []
+pub one_more : (chains : ℕ) (more : List Publication) (k : ℕ) (p : Publication) → AreOfFirstChains chains more → published_by k more ≡ p ∷ []
     → ((c : ℕ) → c < chains → (c ≡ k → ⊥) → published_by c more ≡ []) → more ≡ p ∷ []
 one_more chains [] k p within one others = absurd (cc)
 one_more chains (q ∷ more) k p within one others =

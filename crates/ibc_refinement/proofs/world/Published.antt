@@ -6,13 +6,13 @@ use Rattle.std.proofs.lemmas.Bool.{and_parts}
 use Rattle.std.proofs.lemmas.Option.{slice_get-map}
 use Rattle.ibc_ids.specs.declared.publication.Publication.{Publication}
 use Rattle.ibc_machine.specs.declared.entry.Entry.{Entry}
-use Rattle.ibc_machine.specs.chain.Records.{Chain}
+use Rattle.ibc_machine.specs.chain.Records.{MachineChain}
 use Rattle.ibc_machine.specs.chain.Genesis.{GenesisState, start, starting_chain}
 use Rattle.ibc_machine.specs.ledger.Replay.{StampedEntry, starting_state, empty_chain}
 use Rattle.ibc_machine.specs.ledger.Ledgers.{Ledger, chain_of, published_as, state_of}
-use Rattle.ibc_machine.specs.ledger.Merge.{is_of, published_along}
+use Rattle.ibc_machine.specs.ledger.Merge.{is_of_chain, published_along}
 use Rattle.ibc_machine.specs.promises.Worlds.{entries}
-use Rattle.ibc_refinement.proofs.Places.{get_there}
+use Rattle.ibc_refinement.proofs.ChangedPlaces.{get_there}
 use Rattle.ibc_refinement.proofs.Typed.{IsTyped}
 use Rattle.ibc_refinement.proofs.EntrySteps.{ledger_of}
 use Rattle.ibc_refinement.proofs.RunStates.{AreOfWorld, IsLedgerAt, ledger_at, ledger_from}
@@ -30,41 +30,41 @@ module _ (genesis : GenesisState) (ledgers : List Ledger) (publications : List P
       let parts = and_parts (nat_lt (chain_of e.event) (length ledgers)) (list_all (λ (entry : Entry). nat_lt (chain_of entry.event) (length ledgers)) rest) within in
       let at = ledger_at genesis ledgers are.of (chain_of e.event) (ltb-true (chain_of e.event) (length ledgers) parts.0) in
       let r = all (chain_of e.event) at.history at.seen at.there in
-      let b = begins_with e (filter (is_of (chain_of e.event)) rest) r.left (r.remaining ∙ own_first (chain_of e.event) e rest (eq-eqb (chain_of e.event) (chain_of e.event) refl)) in
+      let b = begins_with e (filter (is_of_chain (chain_of e.event)) rest) r.left (r.remaining ∙ own_first (chain_of e.event) e rest (eq-eqb (chain_of e.event) (chain_of e.event) refl)) in
       by_entry (λ after qs all chains. published_list rest after qs all parts.1 chains) b.first b.later e b.entry all at r b.whole b.remaining chains
     where
       by_entry : ((after : List ℕ) (qs : List Publication) → AllPublishing genesis ledgers publications are after qs rest → block_chains rest ≡ map (λ (p : Publication). p.chain) qs → published_along after rest ≡ qs)
           → (s : StampedEntry) (later : List StampedEntry) (e : Entry) → s.entry ≡ e → AllPublishing genesis ledgers publications are times ps (e ∷ rest)
           → (at : IsLedgerAt genesis ledgers (chain_of e.event)) (r : Publishing genesis times ps (e ∷ rest) (chain_of e.event) at.history at.seen) → r.left ≡ s ∷ later
-          → map (λ (s : StampedEntry). s.entry) later ≡ filter (is_of (chain_of e.event)) rest → block_chains (e ∷ rest) ≡ map (λ (p : Publication). p.chain) ps → published_along times (e ∷ rest) ≡ ps
+          → map (λ (s : StampedEntry). s.entry) later ≡ filter (is_of_chain (chain_of e.event)) rest → block_chains (e ∷ rest) ≡ map (λ (p : Publication). p.chain) ps → published_along times (e ∷ rest) ≡ ps
       by_entry next s later e same =
           subst (λ (e : Entry). AllPublishing genesis ledgers publications are times ps (e ∷ rest)
           → (at : IsLedgerAt genesis ledgers (chain_of e.event)) (r : Publishing genesis times ps (e ∷ rest) (chain_of e.event) at.history at.seen) → r.left ≡ s ∷ later
-          → map (λ (s : StampedEntry). s.entry) later ≡ filter (is_of (chain_of e.event)) rest → block_chains (e ∷ rest) ≡ map (λ (p : Publication). p.chain) ps → published_along times (e ∷ rest) ≡ ps) same
+          → map (λ (s : StampedEntry). s.entry) later ≡ filter (is_of_chain (chain_of e.event)) rest → block_chains (e ∷ rest) ≡ map (λ (p : Publication). p.chain) ps → published_along times (e ∷ rest) ≡ ps) same
           (λ all at r whole remaining chains. published_here genesis ledgers publications are times ps rest s later all at r whole remaining next chains)
 
   abbrev times : List ℕ
-  times = map (λ (c : Chain). c.time) (start genesis)
+  times = map (λ (c : MachineChain). c.time) (start genesis)
 
-  all_publishing : (list : List Entry) → ((k : ℕ) (ledger : Ledger) → slice_get ledgers k ≡ Some ledger → filter (is_of k) list ≡ entries ledger) → AllPublishing genesis ledgers publications are times publications list
+  all_publishing : (list : List Entry) → ((k : ℕ) (ledger : Ledger) → slice_get ledgers k ≡ Some ledger → filter (is_of_chain k) list ≡ entries ledger) → AllPublishing genesis ledgers publications are times publications list
   all_publishing list each k history seen there =
       let L = ledger_of genesis k history seen in
       let f = ledger_from genesis ledgers are.of k L there in
       let c = get_there genesis.chains k f.1.number in
       let first : slice_get (start genesis) k ≡ Some (starting_chain c.0) = slice_get-map starting_chain genesis.chains k ∙ ap (option_map starting_chain) c.1 in
       let chain : (starting_state genesis k).chain ≡ starting_chain c.0 = ap (λ o. unwrap_or o empty_chain) first in
-      let none : length (starting_state genesis k).chain.committed ≡ 0 = ap (λ (x : Chain). length x.committed) chain in
+      let none : length (starting_state genesis k).chain.committed ≡ 0 = ap (λ (x : MachineChain). length x.committed) chain in
       record {
         state = starting_state genesis k;
         left = history;
         remaining = sym (each k L there);
         own = f.1.entries;
         ends = refl;
-        typed = subst (λ (x : Chain). IsTyped x.records.core) (sym chain) typed_start;
-        time = slice_get-map (λ (c : Chain). c.time) (start genesis) k ∙ ap (option_map (λ (c : Chain). c.time)) (first ∙ ap Some (sym chain));
+        typed = subst (λ (x : MachineChain). IsTyped x.records.core) (sym chain) typed_start;
+        time = slice_get-map (λ (c : MachineChain). c.time) (start genesis) k ∙ ap (option_map (λ (c : MachineChain). c.time)) (first ∙ ap Some (sym chain));
         upcoming = sym (are.table.own k L there) ∙ f.1.published ∙ ap (λ n. map (published_as k) (drop n (state_of L).chain.committed)) (sym none);
       }
 
-  pub published : (list : List Entry) → ((k : ℕ) (ledger : Ledger) → slice_get ledgers k ≡ Some ledger → filter (is_of k) list ≡ entries ledger) → AreWithin (length ledgers) list
+  pub published : (list : List Entry) → ((k : ℕ) (ledger : Ledger) → slice_get ledgers k ≡ Some ledger → filter (is_of_chain k) list ≡ entries ledger) → AreWithin (length ledgers) list
       → block_chains list ≡ map (λ (p : Publication). p.chain) publications → published_along times list ≡ publications
   published list each within turns = published_list list times publications (all_publishing list each) within turns

@@ -9,13 +9,13 @@ use Rattle.std.proofs.lemmas.List.Elements.{filter-append}
 use Rattle.ibc_machine.specs.declared.event.Event.{Event}
 use Rattle.ibc_machine.specs.declared.reply.Reply.{Reply}
 use Rattle.ibc_machine.specs.declared.entry.Entry.{Entry}
-use Rattle.ibc_machine.specs.chain.Records.{Chain}
+use Rattle.ibc_machine.specs.chain.Records.{MachineChain}
 use Rattle.ibc_machine.specs.chain.Genesis.{GenesisState, start}
 use Rattle.ibc_machine.specs.ledger.Ledgers.{Ledger, SeesMore, chain_of}
 use Rattle.ibc_machine.specs.ledger.Merge.{Merges}
 use Rattle.ibc_machine.specs.promises.Worlds.{AreLedgersOf, AppliesIf, Applies, AppliesEach, entries, happened_by}
 use Rattle.ibc_refinement.specs.Refinement.{GivesNothing, AreAnswered, GoesOn}
-use Rattle.ibc_refinement.proofs.Places.{get_there, get_within}
+use Rattle.ibc_refinement.proofs.ChangedPlaces.{get_there, get_within}
 use Rattle.ibc_refinement.proofs.RunOn.{going_on_is_run}
 use Rattle.ibc_refinement.specs.World.{WorldState, kept_entries, IsWorld}
 use Rattle.ibc_refinement.specs.Steps.{AddsIf, AddsNothing, AddsOne, IsStep, StepIsKept, AreSteps, is_answered, has_entry, StepsRefine}
@@ -185,7 +185,7 @@ steps_refine old events replies new is steps =
           going_on_is_run old.genesis old.ledgers new.ledgers now.publications (kept_entries old) w.more events replies is.of of
           (one_table old.genesis new.ledgers of now.publications now.seen now.within) w.each
           (λ k before was. is.merges.each k (entries before) (history_at old.ledgers k before was))
-          (subst (λ (g : GenesisState). Merges g.window (map (λ (c : Chain). c.time) (start g)) (map entries new.ledgers) now.publications (kept_entries old ++ w.more)) w.genesis
-          (subst (Merges new.genesis.window (map (λ (c : Chain). c.time) (start new.genesis)) (map entries new.ledgers) now.publications) w.kept now.merges))
+          (subst (λ (g : GenesisState). Merges g.window (map (λ (c : MachineChain). c.time) (start g)) (map entries new.ledgers) now.publications (kept_entries old ++ w.more)) w.genesis
+          (subst (Merges new.genesis.window (map (λ (c : MachineChain). c.time) (start new.genesis)) (map entries new.ledgers) now.publications) w.kept now.merges))
           (subst (λ n. AreAnswered n events replies w.more) (sym w.as_many) w.answered);
     }

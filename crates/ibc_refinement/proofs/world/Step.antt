@@ -7,8 +7,8 @@ use Rattle.ibc_machine.specs.declared.event.Event.{Event}
 use Rattle.ibc_machine.specs.declared.reply.Reply.{Reply}
 use Rattle.ibc_machine.specs.ledger.Ledgers.{Ledger, IsLedger, SeesMore}
 use Rattle.ibc_machine.specs.promises.Worlds.{AreLedgersOf}
-use Rattle.ibc_refinement.proofs.Places.{get_there, get_within}
-use Rattle.ibc_refinement.specs.World.{WorldState, AreOfFirst, IsWorld}
+use Rattle.ibc_refinement.proofs.ChangedPlaces.{get_there, get_within}
+use Rattle.ibc_refinement.specs.World.{WorldState, AreOfFirstChains, IsWorld}
 use Rattle.ibc_refinement.specs.Steps.{IsStep}
 use Rattle.ibc_refinement.proofs.world.Publications.{nothing_behind, within_behind, none_more}
 use Rattle.ibc_refinement.proofs.world.Grown.{sees_only}
@@ -57,11 +57,11 @@ module _ (old new : WorldState) (event : Event) (given : Reply) (is : IsWorld ol
       ∙ subst (λ c. published_by c (before.seen ++ w.0) ≡ published_by c before.seen) of.1 one
       ∙ ap (published_by k) (is.seen k before was)
 
-  within_new : AreOfFirst (length old.ledgers) step.publications
-  within_new = subst (λ n. AreOfFirst n step.publications) step.as_many step.within
+  within_new : AreOfFirstChains (length old.ledgers) step.publications
+  within_new = subst (λ n. AreOfFirstChains n step.publications) step.as_many step.within
 
-  pub within_more : (more : List Publication) → step.publications ≡ is.publications ++ more → AreOfFirst (length old.ledgers) more
-  within_more more e = within_behind (length old.ledgers) is.publications more (subst (AreOfFirst (length old.ledgers)) e within_new)
+  pub within_more : (more : List Publication) → step.publications ≡ is.publications ++ more → AreOfFirstChains (length old.ledgers) more
+  within_more more e = within_behind (length old.ledgers) is.publications more (subst (AreOfFirstChains (length old.ledgers)) e within_new)
 
   -- where all only saw more, they have seen nothing new
   pub nothing_new : ((k : ℕ) (before after : Ledger) → slice_get old.ledgers k ≡ Some before → slice_get new.ledgers k ≡ Some after → SeesMore before after) → step.publications ≡ is.publications

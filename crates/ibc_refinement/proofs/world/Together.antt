@@ -9,9 +9,9 @@ use Rattle.ibc_ids.specs.declared.publication.Publication.{Publication}
 use Rattle.ibc_machine.specs.chain.Genesis.{GenesisState}
 use Rattle.ibc_machine.specs.ledger.Ledgers.{Ledger}
 use Rattle.ibc_machine.specs.promises.Worlds.{AreLedgersOf, AreOfOneTable}
-use Rattle.ibc_refinement.proofs.Places.{get_there}
+use Rattle.ibc_refinement.proofs.ChangedPlaces.{get_there}
 use Rattle.ibc_refinement.proofs.Refined.{kept_order_is_run}
-use Rattle.ibc_refinement.specs.World.{AllSee, AreOfFirst, OrderIsRun}
+use Rattle.ibc_refinement.specs.World.{AllHaveSeen, AreOfFirstChains, OrderIsRun}
 
 -- what its chain has published there is not nothing
 pub first_published : (q : Publication) (rest : List Publication) → published_by q.chain (q ∷ rest) ≡ q ∷ published_by q.chain rest
@@ -21,10 +21,10 @@ first_published q rest = ap (λ b. cond b (q ∷ published_by q.chain rest) (pub
 height_rest : (c : ℕ) (q : Publication) (rest : List Publication) → 0 < height_of c rest → 0 < height_of c (q ∷ rest)
 height_rest c q rest some = elim (eqb q.chain c) as (λ b. 0 < length (cond b (q ∷ published_by c rest) (published_by c rest))) [ true ↦ omega arith | false ↦ some ]
 
-pub first_within : (chains : ℕ) (q : Publication) (rest : List Publication) → AreOfFirst chains (q ∷ rest) → q.chain < chains
+pub first_within : (chains : ℕ) (q : Publication) (rest : List Publication) → AreOfFirstChains chains (q ∷ rest) → q.chain < chains
 first_within chains q rest within = within q.chain (let e = ap length (first_published q rest) in omega arith)
 
-pub rest_within : (chains : ℕ) (q : Publication) (rest : List Publication) → AreOfFirst chains (q ∷ rest) → AreOfFirst chains rest
+pub rest_within : (chains : ℕ) (q : Publication) (rest : List Publication) → AreOfFirstChains chains (q ∷ rest) → AreOfFirstChains chains rest
 rest_within chains q rest within c some = within c (height_rest c q rest some)
 
 any_at : {A : Type 0} (test : A → Bool) (xs : List A) (k : ℕ) (x : A) → slice_get xs k ≡ Some x → test x ≡ true → list_any test xs ≡ true
@@ -33,7 +33,7 @@ any_at test (y ∷ xs) zero x there passes = let same : y ≡ x = cc in ap (λ b
 any_at test (y ∷ xs) (suc k) x there passes = elim (test y) as (λ b. (b || list_any test xs) ≡ true) [ true ↦ refl | false ↦ any_at test xs k x there passes ]
 
 module _ (genesis : GenesisState) (ledgers : List Ledger) (of : AreLedgersOf genesis ledgers) where
-  known : (publications : List Publication) → AreOfFirst (length ledgers) publications → list_all (λ (p : Publication). list_any (λ (l : Ledger). eqb l.chain p.chain) ledgers) publications ≡ true
+  known : (publications : List Publication) → AreOfFirstChains (length ledgers) publications → list_all (λ (p : Publication). list_any (λ (l : Ledger). eqb l.chain p.chain) ledgers) publications ≡ true
   known [] within = refl
   known (p ∷ publications) within =
       let at = get_there ledgers p.chain (first_within (length ledgers) p publications within) in
@@ -42,7 +42,7 @@ module _ (genesis : GenesisState) (ledgers : List Ledger) (of : AreLedgersOf gen
       (any_at (λ (l : Ledger). eqb l.chain p.chain) ledgers p.chain at.0 at.1 (eq-eqb at.0.chain p.chain mine))
       (known publications (rest_within (length ledgers) p publications within))
 
-  pub one_table : (publications : List Publication) → AllSee publications ledgers → AreOfFirst (length ledgers) publications → AreOfOneTable publications ledgers
+  pub one_table : (publications : List Publication) → AllHaveSeen publications ledgers → AreOfFirstChains (length ledgers) publications → AreOfOneTable publications ledgers
   one_table publications seen within = record {
     beginnings = λ k ledger there. (length publications, seen k ledger there ∙ sym (take_all (length publications) publications (omega arith)));
     own = λ k ledger there. ap (published_by ledger.chain) (seen k ledger there);

@@ -11,12 +11,12 @@ use std::test::Fail;
 
 /// A height that was read, and, for proofs alone, the pass as it was then.
 #[derive(Drop)]
-struct Reading {
+struct HeightReading {
     height: u64,
     then: Snapshot<Pass>,
 }
 
-fn read(table: &RootTable, pass: &mut Pass, chain: u8) -> Reading
+fn read(table: &RootTable, pass: &mut Pass, chain: u8) -> HeightReading
     requires { pass.old.table ≡ table.now }
     ensures pass { SamePass pass.old pass.new }
     ensures seen { IsPrefix pass.old.seen pass.new.seen }
@@ -25,7 +25,7 @@ fn read(table: &RootTable, pass: &mut Pass, chain: u8) -> Reading
 {
     let height = table.published(pass, chain);
     let then = Snapshot::of(&*pass);
-    Reading { height, then }
+    HeightReading { height, then }
 }
 
 // Readings of two passes, which have their places in the one list that both have seen after they have met.
@@ -34,7 +34,7 @@ fn read_and_meet(
     first: &mut Pass,
     second: &mut Pass,
     chain: u8,
-) -> (Reading, Reading)
+) -> (HeightReading, HeightReading)
     requires tables { (first.old.table ≡ table.now) × (second.old.table ≡ table.now) }
     ensures passes { SamePass first.old first.new × SamePass second.old second.new }
     ensures same { first.new.seen ≡ second.new.seen }

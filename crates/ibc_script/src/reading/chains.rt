@@ -1,7 +1,7 @@
 //! The chains of a script, and how they begin.
 
 ghost use Rattle.std.specs.Prelude.{◌≡◌, ◌≤◌, length, IfOk, IfErr};
-ghost use Rattle.ibc_script.specs.Faults.{JudgesScript};
+ghost use Rattle.ibc_script.specs.Faults.{IsScriptFault};
 
 use super::{item_amount, item_name, parse_name};
 use crate::members::{has_only, list, number, text};
@@ -14,7 +14,7 @@ use std::alloc::Global;
 
 /// One balance: `[user, denomination, amount]`, all texts.
 fn read_balance(alloc: Global, value: &Value) -> Result<(UserName, Denom, u128), Fault>
-    ensures { IfErr result JudgesScript }
+    ensures { IfErr result IsScriptFault }
 {
     let items = value.as_array().ok_or(Fault::BadScript)?;
     let [user, denom, amount] = items.as_slice() else {
@@ -25,7 +25,7 @@ fn read_balance(alloc: Global, value: &Value) -> Result<(UserName, Denom, u128),
 }
 
 fn read_balances(alloc: Global, values: &[Value]) -> Result<Vec<(UserName, Denom, u128)>, Fault>
-    ensures { IfErr result JudgesScript }
+    ensures { IfErr result IsScriptFault }
 {
     let mut balances = Vec::with_capacity(alloc, values.len())?;
     for value in values {
@@ -35,7 +35,7 @@ fn read_balances(alloc: Global, values: &[Value]) -> Result<Vec<(UserName, Denom
 }
 
 fn read_chain(alloc: Global, value: &Value) -> Result<(ChainName, ChainStart), Fault>
-    ensures { IfErr result JudgesScript }
+    ensures { IfErr result IsScriptFault }
 {
     has_only(value, &["name", "time", "balances"])?;
     let time = number(value, "time")?;
@@ -52,7 +52,7 @@ pub fn read_chains(
 ) -> Result<(Vec<ChainName>, Vec<ChainStart>), Fault>
     ensures named { IfOk result (λ r. length r.0.items ≡ length r.1.items) }
     ensures few { IfOk result (λ r. length r.0.items ≤ 8) }
-    ensures faults { IfErr result JudgesScript }
+    ensures faults { IfErr result IsScriptFault }
 {
     if values.len() > MOST_CHAINS {
         return Err(Fault::BadScript);

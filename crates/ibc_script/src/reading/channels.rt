@@ -1,7 +1,7 @@
 //! The steps that send messages for channels.
 
 ghost use Rattle.std.specs.Prelude.{◌≡◌, ◌<◌, length, IfOk, IfErr};
-ghost use Rattle.ibc_script.specs.Faults.{JudgesScript};
+ghost use Rattle.ibc_script.specs.Faults.{IsScriptFault};
 ghost use Rattle.ibc_script.specs.Scripts.{IsChannelAmong};
 
 use super::step_reader::StepReader;
@@ -15,7 +15,7 @@ impl StepReader<'_> {
     /// The message for channels of this kind.
     pub fn channel_draft(&self, kind: &str) -> Result<ChannelDraft, Fault>
         ensures among { IfOk result (IsChannelAmong (length self.now.names.now)) }
-        ensures faults { IfErr result JudgesScript }
+        ensures faults { IfErr result IsScriptFault }
     {
         match kind {
             "ChanOpenInit" => self.chan_open_init(),
@@ -30,14 +30,14 @@ impl StepReader<'_> {
 
     /// The port and the identifier of a channel's own end.
     fn own_end(&self) -> Result<(PortId, ChannelId), Fault>
-        ensures { IfErr result JudgesScript }
+        ensures { IfErr result IsScriptFault }
     {
         Ok((self.name("port")?, self.name("channel")?))
     }
 
     /// What the first two steps of a channel's handshake have in common.
     fn opening(&self) -> Result<ChanOpenInit, Fault>
-        ensures { IfErr result JudgesScript }
+        ensures { IfErr result IsScriptFault }
     {
         Ok(ChanOpenInit {
             order: self.order("order")?,
@@ -50,7 +50,7 @@ impl StepReader<'_> {
 
     fn chan_open_init(&self) -> Result<ChannelDraft, Fault>
         ensures among { IfOk result (IsChannelAmong (length self.now.names.now)) }
-        ensures faults { IfErr result JudgesScript }
+        ensures faults { IfErr result IsScriptFault }
     {
         has_only(
             self.object,
@@ -69,7 +69,7 @@ impl StepReader<'_> {
 
     fn chan_open_try(&self) -> Result<ChannelDraft, Fault>
         ensures among { IfOk result (IsChannelAmong (length self.now.names.now)) }
-        ensures faults { IfErr result JudgesScript }
+        ensures faults { IfErr result IsScriptFault }
     {
         has_only(
             self.object,
@@ -102,7 +102,7 @@ impl StepReader<'_> {
 
     fn chan_open_ack(&self) -> Result<ChannelDraft, Fault>
         ensures among { IfOk result (IsChannelAmong (length self.now.names.now)) }
-        ensures faults { IfErr result JudgesScript }
+        ensures faults { IfErr result IsScriptFault }
     {
         has_only(
             self.object,
@@ -129,7 +129,7 @@ impl StepReader<'_> {
 
     fn chan_open_confirm(&self) -> Result<ChannelDraft, Fault>
         ensures among { IfOk result (IsChannelAmong (length self.now.names.now)) }
-        ensures faults { IfErr result JudgesScript }
+        ensures faults { IfErr result IsScriptFault }
     {
         has_only(
             self.object,
@@ -146,7 +146,7 @@ impl StepReader<'_> {
 
     fn chan_close_init(&self) -> Result<ChannelDraft, Fault>
         ensures among { IfOk result (IsChannelAmong (length self.now.names.now)) }
-        ensures faults { IfErr result JudgesScript }
+        ensures faults { IfErr result IsScriptFault }
     {
         has_only(self.object, &["do", "on", "port", "channel"])?;
         let (port, channel) = self.own_end()?;
@@ -155,7 +155,7 @@ impl StepReader<'_> {
 
     fn chan_close_confirm(&self) -> Result<ChannelDraft, Fault>
         ensures among { IfOk result (IsChannelAmong (length self.now.names.now)) }
-        ensures faults { IfErr result JudgesScript }
+        ensures faults { IfErr result IsScriptFault }
     {
         has_only(
             self.object,

@@ -1,7 +1,7 @@
 //! The steps that send messages for clients.
 
 ghost use Rattle.std.specs.Prelude.{◌≡◌, ◌<◌, length, IfOk, IfErr};
-ghost use Rattle.ibc_script.specs.Faults.{JudgesScript};
+ghost use Rattle.ibc_script.specs.Faults.{IsScriptFault};
 ghost use Rattle.ibc_script.specs.Scripts.{IsClientAmong};
 
 use super::step_reader::StepReader;
@@ -13,7 +13,7 @@ impl StepReader<'_> {
     /// The message for clients of this kind.
     pub fn client_draft(&self, kind: &str) -> Result<ClientDraft, Fault>
         ensures among { IfOk result (IsClientAmong (length self.now.names.now)) }
-        ensures faults { IfErr result JudgesScript }
+        ensures faults { IfErr result IsScriptFault }
     {
         match kind {
             "CreateClient" => self.create_client(),
@@ -24,7 +24,7 @@ impl StepReader<'_> {
 
     fn create_client(&self) -> Result<ClientDraft, Fault>
         ensures among { IfOk result (IsClientAmong (length self.now.names.now)) }
-        ensures faults { IfErr result JudgesScript }
+        ensures faults { IfErr result IsScriptFault }
     {
         has_only(self.object, &["do", "on", "of"])?;
         Ok(ClientDraft::Create {
@@ -34,7 +34,7 @@ impl StepReader<'_> {
 
     fn update_client(&self) -> Result<ClientDraft, Fault>
         ensures among { IfOk result (IsClientAmong (length self.now.names.now)) }
-        ensures faults { IfErr result JudgesScript }
+        ensures faults { IfErr result IsScriptFault }
     {
         has_only(self.object, &["do", "on", "client", "height"])?;
         Ok(ClientDraft::Update {

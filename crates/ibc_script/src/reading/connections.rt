@@ -1,7 +1,7 @@
 //! The steps that send messages for connections.
 
 ghost use Rattle.std.specs.Prelude.{◌≡◌, ◌<◌, length, IfOk, IfErr};
-ghost use Rattle.ibc_script.specs.Faults.{JudgesScript};
+ghost use Rattle.ibc_script.specs.Faults.{IsScriptFault};
 ghost use Rattle.ibc_script.specs.Scripts.{IsConnectionAmong};
 
 use super::step_reader::StepReader;
@@ -14,7 +14,7 @@ impl StepReader<'_> {
     /// The message for connections of this kind.
     pub fn connection_draft(&self, kind: &str) -> Result<ConnectionDraft, Fault>
         ensures among { IfOk result (IsConnectionAmong (length self.now.names.now)) }
-        ensures faults { IfErr result JudgesScript }
+        ensures faults { IfErr result IsScriptFault }
     {
         match kind {
             "ConnOpenInit" => self.conn_open_init(),
@@ -27,14 +27,14 @@ impl StepReader<'_> {
 
     /// The clients of the two ends of a connection.
     fn two_clients(&self) -> Result<(ClientId, ClientId), Fault>
-        ensures { IfErr result JudgesScript }
+        ensures { IfErr result IsScriptFault }
     {
         Ok((self.name("client")?, self.name("peer_client")?))
     }
 
     fn conn_open_init(&self) -> Result<ConnectionDraft, Fault>
         ensures among { IfOk result (IsConnectionAmong (length self.now.names.now)) }
-        ensures faults { IfErr result JudgesScript }
+        ensures faults { IfErr result IsScriptFault }
     {
         has_only(self.object, &["do", "on", "client", "peer_client"])?;
         let (client, peer_client) = self.two_clients()?;
@@ -46,7 +46,7 @@ impl StepReader<'_> {
 
     fn conn_open_try(&self) -> Result<ConnectionDraft, Fault>
         ensures among { IfOk result (IsConnectionAmong (length self.now.names.now)) }
-        ensures faults { IfErr result JudgesScript }
+        ensures faults { IfErr result IsScriptFault }
     {
         has_only(
             self.object,
@@ -73,7 +73,7 @@ impl StepReader<'_> {
 
     fn conn_open_ack(&self) -> Result<ConnectionDraft, Fault>
         ensures among { IfOk result (IsConnectionAmong (length self.now.names.now)) }
-        ensures faults { IfErr result JudgesScript }
+        ensures faults { IfErr result IsScriptFault }
     {
         has_only(
             self.object,
@@ -95,7 +95,7 @@ impl StepReader<'_> {
 
     fn conn_open_confirm(&self) -> Result<ConnectionDraft, Fault>
         ensures among { IfOk result (IsConnectionAmong (length self.now.names.now)) }
-        ensures faults { IfErr result JudgesScript }
+        ensures faults { IfErr result IsScriptFault }
     {
         has_only(self.object, &["do", "on", "connection", "from", "height"])?;
         Ok(ConnectionDraft::OpenConfirm {

@@ -1,13 +1,13 @@
 //! The steps that send messages for packets.
 
 ghost use Rattle.std.specs.Prelude.{◌≡◌, ◌<◌, length, IfOk, IfErr};
-ghost use Rattle.ibc_script.specs.Faults.{JudgesScript};
+ghost use Rattle.ibc_script.specs.Faults.{IsScriptFault};
 ghost use Rattle.ibc_script.specs.Scripts.{IsPacketAmong};
 
 use super::item_name;
 use super::step_reader::StepReader;
 use crate::Fault;
-use crate::draft::{Origin, PacketDraft, SentPacket};
+use crate::draft::{PacketDraft, ProofSource, SentPacket};
 use crate::members::{has_only, list, text};
 use crate::payload::payload_of;
 use ibc_ids::Bytes;
@@ -16,7 +16,7 @@ use ibc_wire::SendNote;
 impl StepReader<'_> {
     /// The bytes that a member writes in base64.
     fn payload(&self, member: &str) -> Result<Bytes, Fault>
-        ensures { IfErr result JudgesScript }
+        ensures { IfErr result IsScriptFault }
     {
         payload_of(self.alloc, text(self.object, member)?)?.ok_or(Fault::BadScript)
     }
@@ -24,7 +24,7 @@ impl StepReader<'_> {
     /// The packet that the member `packet` names: `[chain, port, channel, sequence]`.
     fn packet(&self) -> Result<SentPacket, Fault>
         ensures among { IfOk result (λ sent. sent.chain < length self.now.names.now) }
-        ensures faults { IfErr result JudgesScript }
+        ensures faults { IfErr result IsScriptFault }
     {
         let [chain, port, channel, sequence] = list(self.object, "packet")? else {
             return Err(Fault::BadScript);
@@ -38,10 +38,10 @@ impl StepReader<'_> {
     }
 
     /// The packet of a step with the members of an acknowledgement or a timeout, and the height that proves it.
-    fn packet_from(&self) -> Result<(SentPacket, Origin), Fault>
+    fn packet_from(&self) -> Result<(SentPacket, ProofSource), Fault>
         ensures sent { IfOk result (λ read. read.0.chain < length self.now.names.now) }
         ensures from { IfOk result (λ read. read.1.chain < length self.now.names.now) }
-        ensures faults { IfErr result JudgesScript }
+        ensures faults { IfErr result IsScriptFault }
     {
         has_only(self.object, &["do", "on", "packet", "from", "height"])?;
         let from = self.origin()?;
@@ -51,7 +51,7 @@ impl StepReader<'_> {
     /// The message for packets of this kind.
     pub fn packet_draft(&self, kind: &str) -> Result<PacketDraft, Fault>
         ensures among { IfOk result (IsPacketAmong (length self.now.names.now)) }
-        ensures faults { IfErr result JudgesScript }
+        ensures faults { IfErr result IsScriptFault }
     {
         match kind {
             "Transfer" => self.transfer(),
@@ -67,7 +67,7 @@ impl StepReader<'_> {
 
     fn send_note(&self) -> Result<PacketDraft, Fault>
         ensures among { IfOk result (IsPacketAmong (length self.now.names.now)) }
-        ensures faults { IfErr result JudgesScript }
+        ensures faults { IfErr result IsScriptFault }
     {
         has_only(
             self.object,
@@ -90,7 +90,7 @@ impl StepReader<'_> {
 
     fn recv_packet(&self) -> Result<PacketDraft, Fault>
         ensures among { IfOk result (IsPacketAmong (length self.now.names.now)) }
-        ensures faults { IfErr result JudgesScript }
+        ensures faults { IfErr result IsScriptFault }
     {
         has_only(self.object, &["do", "on", "packet", "height"])?;
         Ok(PacketDraft::Recv {
@@ -101,7 +101,7 @@ impl StepReader<'_> {
 
     fn ack_packet(&self) -> Result<PacketDraft, Fault>
         ensures among { IfOk result (IsPacketAmong (length self.now.names.now)) }
-        ensures faults { IfErr result JudgesScript }
+        ensures faults { IfErr result IsScriptFault }
     {
         let (packet, from) = self.packet_from()?;
         Ok(PacketDraft::Ack { packet, from })
@@ -109,7 +109,7 @@ impl StepReader<'_> {
 
     fn timeout(&self) -> Result<PacketDraft, Fault>
         ensures among { IfOk result (IsPacketAmong (length self.now.names.now)) }
-        ensures faults { IfErr result JudgesScript }
+        ensures faults { IfErr result IsScriptFault }
     {
         let (packet, from) = self.packet_from()?;
         Ok(PacketDraft::Timeout { packet, from })
@@ -117,7 +117,7 @@ impl StepReader<'_> {
 
     fn timeout_on_close(&self) -> Result<PacketDraft, Fault>
         ensures among { IfOk result (IsPacketAmong (length self.now.names.now)) }
-        ensures faults { IfErr result JudgesScript }
+        ensures faults { IfErr result IsScriptFault }
     {
         let (packet, from) = self.packet_from()?;
         Ok(PacketDraft::TimeoutOnClose { packet, from })

@@ -1,14 +1,14 @@
 //! The members of a step.
 
 ghost use Rattle.std.specs.Prelude.{◌≡◌, ◌≢◌, ◌≤◌, ◌<◌, length, IfOk, IfErr};
-ghost use Rattle.ibc_script.specs.Faults.{JudgesScript};
+ghost use Rattle.ibc_script.specs.Faults.{IsScriptFault};
 
 use super::parse_name;
-use crate::draft::Origin;
+use crate::draft::ProofSource;
 use crate::members::{item_text, list, number, text};
 use crate::script::MOST_TURNS;
 use crate::{Application, ChainName, Fault};
-use ibc_ids::{Key, Kind, Name};
+use ibc_ids::{Key, Name, NameKind};
 use ibc_wire::Order;
 use serde_json::Value;
 use std::alloc::Global;
@@ -26,7 +26,7 @@ impl StepReader<'_> {
     /// The number of the chain of this name.
     pub fn chain_of(&self, name: &str) -> Result<u8, Fault>
         ensures among { IfOk result (λ chain. chain < length self.now.names.now) }
-        ensures faults { IfErr result JudgesScript }
+        ensures faults { IfErr result IsScriptFault }
     {
         match self.names.iter().position(|known| known.as_str() == name) {
             Some(place) => Ok(place as u8),
@@ -37,7 +37,7 @@ impl StepReader<'_> {
     /// The number of the chain that a member names.
     pub fn chain(&self, member: &str) -> Result<u8, Fault>
         ensures among { IfOk result (λ chain. chain < length self.now.names.now) }
-        ensures faults { IfErr result JudgesScript }
+        ensures faults { IfErr result IsScriptFault }
     {
         self.chain_of(text(self.object, member)?)
     }
@@ -45,7 +45,7 @@ impl StepReader<'_> {
     /// The number of the chain that an item of a list names.
     pub fn item_chain(&self, item: &Value) -> Result<u8, Fault>
         ensures among { IfOk result (λ chain. chain < length self.now.names.now) }
-        ensures faults { IfErr result JudgesScript }
+        ensures faults { IfErr result IsScriptFault }
     {
         self.chain_of(item_text(item)?)
     }
@@ -55,7 +55,7 @@ impl StepReader<'_> {
         ensures first { IfOk result (λ chains. chains.0 < length self.now.names.now) }
         ensures second { IfOk result (λ chains. chains.1 < length self.now.names.now) }
         ensures different { IfOk result (λ chains. chains.0 ≢ chains.1) }
-        ensures faults { IfErr result JudgesScript }
+        ensures faults { IfErr result IsScriptFault }
     {
         let [first, second] = list(self.object, member)? else {
             return Err(Fault::BadScript);
@@ -70,7 +70,7 @@ impl StepReader<'_> {
 
     /// The number that a member is.
     pub fn number(&self, member: &str) -> Result<u64, Fault>
-        ensures { IfErr result JudgesScript }
+        ensures { IfErr result IsScriptFault }
     {
         number(self.object, member)
     }
@@ -79,7 +79,7 @@ impl StepReader<'_> {
     pub fn turns(&self, member: &str) -> Result<u16, Fault>
         ensures some { IfOk result (λ turns. 0 < turns) }
         ensures most { IfOk result (λ turns. turns ≤ 1000) }
-        ensures faults { IfErr result JudgesScript }
+        ensures faults { IfErr result IsScriptFault }
     {
         match u16::try_from(self.number(member)?) {
             Ok(turns) if (1..=MOST_TURNS).contains(&turns) => Ok(turns),
@@ -88,15 +88,15 @@ impl StepReader<'_> {
     }
 
     /// The name of a kind that a member is.
-    pub fn name<K: Kind>(&self, member: &str) -> Result<Name<K>, Fault>
-        ensures { IfErr result JudgesScript }
+    pub fn name<K: NameKind>(&self, member: &str) -> Result<Name<K>, Fault>
+        ensures { IfErr result IsScriptFault }
     {
         parse_name(self.alloc, text(self.object, member)?)
     }
 
     /// The key whose path a member is.
     pub fn key(&self, member: &str) -> Result<Key, Fault>
-        ensures { IfErr result JudgesScript }
+        ensures { IfErr result IsScriptFault }
     {
         match Key::parse(self.alloc, text(self.object, member)?) {
             Ok(key) => Ok(key),
@@ -106,7 +106,7 @@ impl StepReader<'_> {
 
     /// The order of a channel that a member names.
     pub fn order(&self, member: &str) -> Result<Order, Fault>
-        ensures { IfErr result JudgesScript }
+        ensures { IfErr result IsScriptFault }
     {
         match text(self.object, member)? {
             "ORDERED" => Ok(Order::Ordered),
@@ -117,7 +117,7 @@ impl StepReader<'_> {
 
     /// The application that a member names.
     pub fn application(&self, member: &str) -> Result<Application, Fault>
-        ensures { IfErr result JudgesScript }
+        ensures { IfErr result IsScriptFault }
     {
         match text(self.object, member)? {
             "note" => Ok(Application::Note),
@@ -128,11 +128,11 @@ impl StepReader<'_> {
     }
 
     /// The height from which proofs are taken: that of the member `height`, on the chain that `from` names.
-    pub fn origin(&self) -> Result<Origin, Fault>
+    pub fn origin(&self) -> Result<ProofSource, Fault>
         ensures among { IfOk result (λ from. from.chain < length self.now.names.now) }
-        ensures faults { IfErr result JudgesScript }
+        ensures faults { IfErr result IsScriptFault }
     {
-        Ok(Origin {
+        Ok(ProofSource {
             chain: self.chain("from")?,
             height: self.number("height")?,
         })

@@ -1,7 +1,7 @@
 //! The steps of a script.
 
 ghost use Rattle.std.specs.Prelude.{◌≡◌, ◌≤◌, ◌<◌, length, All, IfOk, IfErr};
-ghost use Rattle.ibc_script.specs.Faults.{JudgesScript};
+ghost use Rattle.ibc_script.specs.Faults.{IsScriptFault};
 ghost use Rattle.ibc_script.specs.Scripts.{IsAmong, IsDraftAmong};
 
 use super::step_reader::StepReader;
@@ -14,7 +14,7 @@ use std::alloc::Global;
 impl StepReader<'_> {
     fn block(&self) -> Result<Step, Fault>
         ensures among { IfOk result (IsAmong (length self.now.names.now)) }
-        ensures faults { IfErr result JudgesScript }
+        ensures faults { IfErr result IsScriptFault }
     {
         has_only(self.object, &["do", "on", "time"])?;
         Ok(Step::Block {
@@ -25,7 +25,7 @@ impl StepReader<'_> {
 
     fn root(&self) -> Result<Step, Fault>
         ensures among { IfOk result (IsAmong (length self.now.names.now)) }
-        ensures faults { IfErr result JudgesScript }
+        ensures faults { IfErr result IsScriptFault }
     {
         has_only(self.object, &["do", "on", "height"])?;
         Ok(Step::Root {
@@ -36,7 +36,7 @@ impl StepReader<'_> {
 
     fn prove(&self) -> Result<Step, Fault>
         ensures among { IfOk result (IsAmong (length self.now.names.now)) }
-        ensures faults { IfErr result JudgesScript }
+        ensures faults { IfErr result IsScriptFault }
     {
         has_only(self.object, &["do", "on", "height", "path"])?;
         Ok(Step::Prove {
@@ -48,7 +48,7 @@ impl StepReader<'_> {
 
     fn totals(&self) -> Result<Step, Fault>
         ensures among { IfOk result (IsAmong (length self.now.names.now)) }
-        ensures faults { IfErr result JudgesScript }
+        ensures faults { IfErr result IsScriptFault }
     {
         has_only(self.object, &["do", "on", "channel", "denom"])?;
         Ok(Step::Totals {
@@ -60,7 +60,7 @@ impl StepReader<'_> {
 
     fn open(&self) -> Result<Step, Fault>
         ensures among { IfOk result (IsAmong (length self.now.names.now)) }
-        ensures faults { IfErr result JudgesScript }
+        ensures faults { IfErr result IsScriptFault }
     {
         has_only(self.object, &["do", "chains", "app"])?;
         let (first, second) = self.two_chains("chains")?;
@@ -73,7 +73,7 @@ impl StepReader<'_> {
 
     fn relay(&self) -> Result<Step, Fault>
         ensures among { IfOk result (IsAmong (length self.now.names.now)) }
-        ensures faults { IfErr result JudgesScript }
+        ensures faults { IfErr result IsScriptFault }
     {
         has_only(self.object, &["do", "chains", "turns"])?;
         let (first, second) = self.two_chains("chains")?;
@@ -87,7 +87,7 @@ impl StepReader<'_> {
     /// The message of a step whose `do` is the name of one.
     fn draft(&self, kind: &str) -> Result<Draft, Fault>
         ensures among { IfOk result (IsDraftAmong (length self.now.names.now)) }
-        ensures faults { IfErr result JudgesScript }
+        ensures faults { IfErr result IsScriptFault }
     {
         if kind.ends_with("Client") {
             self.client_draft(kind).map(Draft::Client)
@@ -102,7 +102,7 @@ impl StepReader<'_> {
 
     fn message(&self, kind: &str) -> Result<Step, Fault>
         ensures among { IfOk result (IsAmong (length self.now.names.now)) }
-        ensures faults { IfErr result JudgesScript }
+        ensures faults { IfErr result IsScriptFault }
     {
         Ok(Step::Message {
             on: self.chain("on")?,
@@ -112,7 +112,7 @@ impl StepReader<'_> {
 
     fn step(&self) -> Result<Step, Fault>
         ensures among { IfOk result (IsAmong (length self.now.names.now)) }
-        ensures faults { IfErr result JudgesScript }
+        ensures faults { IfErr result IsScriptFault }
     {
         match text(self.object, "do")? {
             "Block" => self.block(),
@@ -130,7 +130,7 @@ impl StepReader<'_> {
 pub fn read_steps(alloc: Global, names: &[ChainName], values: &[Value]) -> Result<Vec<Step>, Fault>
     requires { length names.now ≤ 8 }
     ensures among { IfOk result (λ steps. All (IsAmong (length names.now)) steps.items) }
-    ensures faults { IfErr result JudgesScript }
+    ensures faults { IfErr result IsScriptFault }
 {
     if values.len() > MOST_STEPS {
         return Err(Fault::BadScript);

@@ -2,7 +2,7 @@
 
 ghost use Rattle.std.specs.Prelude.{◌≡◌, length, IfOk, IfErr, IsTrue};
 ghost use Rattle.ibc_wire.specs.Tokens.{is_listed};
-ghost use Rattle.ibc_script.specs.Faults.{JudgesScript};
+ghost use Rattle.ibc_script.specs.Faults.{IsScriptFault};
 ghost use Rattle.ibc_script.specs.Scripts.{IsPacketAmong};
 
 use super::step_reader::StepReader;
@@ -18,7 +18,7 @@ use std::alloc::Global;
 
 /// One token: `[denomination, amount]`, both texts.
 fn read_token(alloc: Global, value: &Value) -> Result<Token, Fault>
-    ensures { IfErr result JudgesScript }
+    ensures { IfErr result IsScriptFault }
 {
     let items = value.as_array().ok_or(Fault::BadScript)?;
     let [denom, amount] = items.as_slice() else {
@@ -31,7 +31,7 @@ fn read_token(alloc: Global, value: &Value) -> Result<Token, Fault>
 
 fn read_tokens(alloc: Global, values: &[Value]) -> Result<Tokens, Fault>
     ensures listed { IfOk result (λ tokens. IsTrue (is_listed tokens)) }
-    ensures faults { IfErr result JudgesScript }
+    ensures faults { IfErr result IsScriptFault }
 {
     let mut tokens = Vec::with_capacity(alloc, values.len())?;
     for value in values {
@@ -58,13 +58,13 @@ struct Sending {
 impl StepReader<'_> {
     /// The memo of a transfer, the empty one where the step has none.
     fn memo(&self) -> Result<Memo, Fault>
-        ensures { IfErr result JudgesScript }
+        ensures { IfErr result IsScriptFault }
     {
         parse_name(self.alloc, text_or_empty(self.object, "memo")?)
     }
 
     fn sending(&self) -> Result<Sending, Fault>
-        ensures { IfErr result JudgesScript }
+        ensures { IfErr result IsScriptFault }
     {
         Ok(Sending {
             timeout_height: self.number("timeout_height")?,
@@ -78,7 +78,7 @@ impl StepReader<'_> {
 
     pub fn transfer(&self) -> Result<PacketDraft, Fault>
         ensures among { IfOk result (IsPacketAmong (length self.now.names.now)) }
-        ensures faults { IfErr result JudgesScript }
+        ensures faults { IfErr result IsScriptFault }
     {
         has_only(
             self.object,
@@ -112,7 +112,7 @@ impl StepReader<'_> {
 
     pub fn transfer_many(&self) -> Result<PacketDraft, Fault>
         ensures among { IfOk result (IsPacketAmong (length self.now.names.now)) }
-        ensures faults { IfErr result JudgesScript }
+        ensures faults { IfErr result IsScriptFault }
     {
         has_only(
             self.object,

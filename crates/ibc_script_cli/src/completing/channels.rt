@@ -7,7 +7,7 @@ ghost use Rattle.ibc_ids.specs.declared.key.Key.TheVariants as key;
 use super::Completer;
 use crate::Chains;
 use ibc_ids::{Bytes, ChannelId, Key, PortId};
-use ibc_script::{ChannelDraft, Fault, Origin};
+use ibc_script::{ChannelDraft, Fault, ProofSource};
 use ibc_wire::{ChanCloseConfirm, ChanOpenAck, ChanOpenConfirm, ChanOpenTry, ChannelEnd, Message};
 use std::alloc::AllocError;
 
@@ -128,7 +128,7 @@ impl<C: Chains + Drop> Completer<'_, C> {
         port: &PortId,
         channel: &ChannelId,
         peer_channel: &ChannelId,
-        from: Origin,
+        from: ProofSource,
     ) -> Result<Option<Bytes>, Fault>
         ensures is { IfOk result (IsAnswerProof (C.answers self.now.chains.now) on port.now channel.now peer_channel.now from) }
         ensures err { IfErr result (λ fault. fault ≡ Fault.NoMemory) }
@@ -146,7 +146,7 @@ impl<C: Chains + Drop> Completer<'_, C> {
         on: u8,
         port: &PortId,
         channel: &ChannelId,
-        from: Origin,
+        from: ProofSource,
     ) -> Result<Option<Bytes>, Fault>
         ensures is { IfOk result (IsPeerProof (C.answers self.now.chains.now) on port.now channel.now from) }
         ensures err { IfErr result (λ fault. fault ≡ Fault.NoMemory) }

@@ -7,14 +7,14 @@ ghost use Rattle.ibc_script.specs.declared.draft.ClientDraft.TheVariants as clie
 
 use super::Completer;
 use crate::Chains;
-use crate::heights::Heights;
+use crate::heights::CommittedHeights;
 use ibc_ids::{ClientId, Root};
 use ibc_script::{ClientDraft, Fault};
 use ibc_wire::{ClientState, CreateClient, Header, Message, UpdateClient};
 
 /// The header of a chain that an update names: the true one where the height is kept, and else one with time 0 and a
 /// zero root.
-fn header_at(chain: u8, heights: &Heights, height: u64) -> Header
+fn header_at(chain: u8, heights: &CommittedHeights, height: u64) -> Header
     ensures { result ≡ header_from chain height (kept_at heights.now.window heights.now.committed.items height) }
 {
     match heights.at(height) {

@@ -1,13 +1,13 @@
 //! Messages for connections.
 
 ghost use Rattle.std.specs.Prelude.{◌≡◌, Some, IfOk, IfErr};
-ghost use Rattle.ibc_script_cli.specs.Completing.{connection_message, peer_connection_key, AreProofs, AreConnectionProofs, MakesConnectionMessage};
+ghost use Rattle.ibc_script_cli.specs.Completing.{connection_message, peer_connection_key, AreBothProofs, AreConnectionProofs, MakesConnectionMessage};
 ghost use Rattle.ibc_script.specs.declared.draft.ConnectionDraft.TheVariants as connection_draft;
 
-use super::{Claim, Completer};
+use super::{ClientClaim, Completer};
 use crate::Chains;
 use ibc_ids::{Bytes, ClientId, ConnectionId, Key};
-use ibc_script::{ConnectionDraft, Fault, Origin};
+use ibc_script::{ConnectionDraft, Fault, ProofSource};
 use ibc_wire::{ConnOpenAck, ConnOpenConfirm, ConnOpenInit, ConnOpenTry, ConnectionEnd, Message};
 
 /// What is shown of the peer: the proof of its end of a connection, and what is claimed of its client. Each is `None`
@@ -15,7 +15,7 @@ use ibc_wire::{ConnOpenAck, ConnOpenConfirm, ConnOpenInit, ConnOpenTry, Connecti
 #[derive(Drop)]
 struct Shown {
     end: Option<Bytes>,
-    claim: Option<Claim>,
+    claim: Option<ClientClaim>,
 }
 
 /// Nothing of the peer.
@@ -115,11 +115,11 @@ impl<C: Chains + Drop> Completer<'_, C> {
     // The proof of the peer's end of a connection, and what is claimed of its client.
     fn peer_shown(
         &self,
-        from: Origin,
+        from: ProofSource,
         peer_connection: &ConnectionId,
         peer_client: &ClientId,
     ) -> Result<Shown, Fault>
-        ensures shown { IfOk result (λ shown. AreProofs (C.answers self.now.chains.now) from peer_connection.now peer_client.now shown.end shown.claim) }
+        ensures shown { IfOk result (λ shown. AreBothProofs (C.answers self.now.chains.now) from peer_connection.now peer_client.now shown.end shown.claim) }
         ensures err { IfErr result (λ fault. fault ≡ Fault.NoMemory) }
     {
         let end = self.proof(from, Key::Connection(peer_connection.clone()?))?;
@@ -138,7 +138,7 @@ impl<C: Chains + Drop> Completer<'_, C> {
         on: u8,
         connection: &ConnectionId,
         peer_connection: &ConnectionId,
-        from: Origin,
+        from: ProofSource,
     ) -> Result<Shown, Fault>
         ensures shown { IfOk result (λ shown. AreConnectionProofs (C.answers self.now.chains.now) on (connection_draft.OpenAck connection.now peer_connection.now from) shown.end shown.claim) }
         ensures err { IfErr result (λ fault. fault ≡ Fault.NoMemory) }
@@ -155,7 +155,12 @@ impl<C: Chains + Drop> Completer<'_, C> {
     }
 
     // What the opening of a connection needs that the peer opened.
-    fn confirm_shown(&self, on: u8, connection: &ConnectionId, from: Origin) -> Result<Shown, Fault>
+    fn confirm_shown(
+        &self,
+        on: u8,
+        connection: &ConnectionId,
+        from: ProofSource,
+    ) -> Result<Shown, Fault>
         ensures shown { IfOk result (λ shown. AreConnectionProofs (C.answers self.now.chains.now) on (connection_draft.OpenConfirm connection.now from) shown.end shown.claim) }
         ensures err { IfErr result (λ fault. fault ≡ Fault.NoMemory) }
     {

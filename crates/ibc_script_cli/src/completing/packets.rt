@@ -3,20 +3,20 @@
 ghost use Rattle.std.specs.Prelude.{◌≡◌, Some, IfOk, IfErr};
 ghost use Rattle.ibc_machine.specs.ics04.Proving.{commitment_key, ack_key, destination_key};
 ghost use Rattle.ibc_wire.specs.declared.records.Order.TheVariants.{Unordered, Ordered};
-ghost use Rattle.ibc_script_cli.specs.Completing.{number_in, acknowledged_message, closed_message, IsProofAt, IsNextRecv, IsUnreceived, IsUnreceivedAt, MakesRecv, MakesAck, MakesTimeout, MakesTimeoutOnClose, MakesHandled, MakesOf, MakesPacketMessage};
+ghost use Rattle.ibc_script_cli.specs.Completing.{number_in, acknowledged_message, closed_message, IsProofBytesAt, IsNextRecv, IsUnreceived, IsUnreceivedAt, MakesRecv, MakesAck, MakesTimeout, MakesTimeoutOnClose, MakesPacketAction, MakesFromSentPacket, MakesPacketMessage};
 
 use super::packet_keys::{ack_key, commitment_key, destination_key, next_recv_key, receipt_key};
 use super::{Completer, encoding_of};
 use crate::Chains;
 use ibc_ids::Bytes;
 use ibc_merkle::{Presence, Proof};
-use ibc_script::{Fault, Origin, PacketDraft, SentPacket};
+use ibc_script::{Fault, PacketDraft, ProofSource, SentPacket};
 use ibc_wire::{AckPacket, Message, Order, Packet, RecvPacket, Timeout, TimeoutOnClose};
 use std::alloc::Global;
 
 /// What a message does with a packet that was sent (ICS 4, "Packet flow & handling").
 #[derive(Clone, Copy)]
-pub enum Handling {
+pub enum PacketAction {
     /// It is received.
     Recv,
     /// Its acknowledgement is told to the sender.
@@ -142,7 +142,11 @@ impl<C: Chains + Drop> Completer<'_, C> {
     }
 
     /// What shows on an ordered channel that a packet wasn't received.
-    fn ordered_unreceived(&self, packet: &Packet, from: Origin) -> Result<Option<Unreceived>, Fault>
+    fn ordered_unreceived(
+        &self,
+        packet: &Packet,
+        from: ProofSource,
+    ) -> Result<Option<Unreceived>, Fault>
         ensures is { IfOk result (IsUnreceived (C.answers self.now.chains.now) from packet.now Ordered) }
         ensures err { IfErr result (λ fault. fault ≡ Fault.NoMemory) }
     {
@@ -160,7 +164,7 @@ impl<C: Chains + Drop> Completer<'_, C> {
     fn unordered_unreceived(
         &self,
         packet: &Packet,
-        from: Origin,
+        from: ProofSource,
     ) -> Result<Option<Unreceived>, Fault>
         ensures is { IfOk result (IsUnreceived (C.answers self.now.chains.now) from packet.now Unordered) }
         ensures err { IfErr result (λ fault. fault ≡ Fault.NoMemory) }
@@ -175,7 +179,12 @@ impl<C: Chains + Drop> Completer<'_, C> {
     }
 
     /// What shows that a packet wasn't received, by the order of the own end, `None` where there is none.
-    fn unreceived(&self, on: u8, packet: &Packet, from: Origin) -> Result<Option<Unreceived>, Fault>
+    fn unreceived(
+        &self,
+        on: u8,
+        packet: &Packet,
+        from: ProofSource,
+    ) -> Result<Option<Unreceived>, Fault>
         ensures is { IfOk result (IsUnreceivedAt (C.answers self.now.chains.now) on from packet.now) }
         ensures err { IfErr result (λ fault. fault ≡ Fault.NoMemory) }
     {
@@ -190,33 +199,33 @@ impl<C: Chains + Drop> Completer<'_, C> {
     }
 
     // The proof that a packet was committed.
-    fn commitment_proof(&self, packet: &Packet, from: Origin) -> Result<Option<Bytes>, Fault>
-        ensures is { IfOk result (IsProofAt (C.answers self.now.chains.now) from (commitment_key packet.now)) }
+    fn commitment_proof(&self, packet: &Packet, from: ProofSource) -> Result<Option<Bytes>, Fault>
+        ensures is { IfOk result (IsProofBytesAt (C.answers self.now.chains.now) from (commitment_key packet.now)) }
         ensures err { IfErr result (λ fault. fault ≡ Fault.NoMemory) }
     {
         self.proof(from, commitment_key(packet)?)
     }
 
     // The proof of what a packet's destination has of its acknowledgement.
-    fn ack_proof(&self, packet: &Packet, from: Origin) -> Result<Option<Bytes>, Fault>
-        ensures is { IfOk result (IsProofAt (C.answers self.now.chains.now) from (ack_key packet.now)) }
+    fn ack_proof(&self, packet: &Packet, from: ProofSource) -> Result<Option<Bytes>, Fault>
+        ensures is { IfOk result (IsProofBytesAt (C.answers self.now.chains.now) from (ack_key packet.now)) }
         ensures err { IfErr result (λ fault. fault ≡ Fault.NoMemory) }
     {
         self.proof(from, ack_key(packet)?)
     }
 
     // The proof of the end of a packet's destination.
-    fn close_proof(&self, packet: &Packet, from: Origin) -> Result<Option<Bytes>, Fault>
-        ensures is { IfOk result (IsProofAt (C.answers self.now.chains.now) from (destination_key packet.now)) }
+    fn close_proof(&self, packet: &Packet, from: ProofSource) -> Result<Option<Bytes>, Fault>
+        ensures is { IfOk result (IsProofBytesAt (C.answers self.now.chains.now) from (destination_key packet.now)) }
         ensures err { IfErr result (λ fault. fault ≡ Fault.NoMemory) }
     {
         self.proof(from, destination_key(packet)?)
     }
 
     // What shows how a packet was acknowledged.
-    fn acknowledged(&self, packet: &Packet, from: Origin) -> Result<Acknowledged, Fault>
+    fn acknowledged(&self, packet: &Packet, from: ProofSource) -> Result<Acknowledged, Fault>
         ensures ack { IfOk result (λ shown. (C.answers self.now.chains.now).ack from.chain packet.now.destination_port packet.now.destination_channel packet.now.sequence shown.ack) }
-        ensures proof { IfOk result (λ shown. IsProofAt (C.answers self.now.chains.now) from (ack_key packet.now) shown.proof) }
+        ensures proof { IfOk result (λ shown. IsProofBytesAt (C.answers self.now.chains.now) from (ack_key packet.now) shown.proof) }
         ensures err { IfErr result (λ fault. fault ≡ Fault.NoMemory) }
     {
         let ack = self.written_ack(from.chain, packet)?;
@@ -230,9 +239,9 @@ impl<C: Chains + Drop> Completer<'_, C> {
     }
 
     // What shows that a packet won't be received any more.
-    fn closed(&self, on: u8, packet: &Packet, from: Origin) -> Result<Closed, Fault>
+    fn closed(&self, on: u8, packet: &Packet, from: ProofSource) -> Result<Closed, Fault>
         ensures unreceived { IfOk result (λ shown. IsUnreceivedAt (C.answers self.now.chains.now) on from packet.now shown.unreceived) }
-        ensures proof { IfOk result (λ shown. IsProofAt (C.answers self.now.chains.now) from (destination_key packet.now) shown.proof) }
+        ensures proof { IfOk result (λ shown. IsProofBytesAt (C.answers self.now.chains.now) from (destination_key packet.now) shown.proof) }
         ensures err { IfErr result (λ fault. fault ≡ Fault.NoMemory) }
     {
         let unreceived = self.unreceived(on, packet, from)?;
@@ -245,7 +254,7 @@ impl<C: Chains + Drop> Completer<'_, C> {
         }
     }
 
-    fn recv_packet(&self, packet: Packet, from: Origin) -> Result<Option<Message>, Fault>
+    fn recv_packet(&self, packet: Packet, from: ProofSource) -> Result<Option<Message>, Fault>
         ensures made { IfOk result (MakesRecv (C.answers self.now.chains.now) from packet) }
         ensures err { IfErr result (λ fault. fault ≡ Fault.NoMemory) }
     {
@@ -266,7 +275,7 @@ impl<C: Chains + Drop> Completer<'_, C> {
         }
     }
 
-    fn ack_packet(&self, packet: Packet, from: Origin) -> Result<Option<Message>, Fault>
+    fn ack_packet(&self, packet: Packet, from: ProofSource) -> Result<Option<Message>, Fault>
         ensures made { IfOk result (MakesAck (C.answers self.now.chains.now) from packet) }
         ensures err { IfErr result (λ fault. fault ≡ Fault.NoMemory) }
     {
@@ -279,7 +288,7 @@ impl<C: Chains + Drop> Completer<'_, C> {
         }
     }
 
-    fn timeout(&self, on: u8, packet: Packet, from: Origin) -> Result<Option<Message>, Fault>
+    fn timeout(&self, on: u8, packet: Packet, from: ProofSource) -> Result<Option<Message>, Fault>
         ensures made { IfOk result (MakesTimeout (C.answers self.now.chains.now) on from packet) }
         ensures err { IfErr result (λ fault. fault ≡ Fault.NoMemory) }
     {
@@ -305,7 +314,7 @@ impl<C: Chains + Drop> Completer<'_, C> {
         &self,
         on: u8,
         packet: Packet,
-        from: Origin,
+        from: ProofSource,
     ) -> Result<Option<Message>, Fault>
         ensures made { IfOk result (MakesTimeoutOnClose (C.answers self.now.chains.now) on from packet) }
         ensures err { IfErr result (λ fault. fault ≡ Fault.NoMemory) }
@@ -323,18 +332,18 @@ impl<C: Chains + Drop> Completer<'_, C> {
     fn handled(
         &self,
         on: u8,
-        handling: Handling,
+        handling: PacketAction,
         packet: Packet,
-        from: Origin,
+        from: ProofSource,
     ) -> Result<Option<Message>, Fault>
-        ensures made { IfOk result (MakesHandled (C.answers self.now.chains.now) on handling from packet) }
+        ensures made { IfOk result (MakesPacketAction (C.answers self.now.chains.now) on handling from packet) }
         ensures err { IfErr result (λ fault. fault ≡ Fault.NoMemory) }
     {
         match handling {
-            Handling::Recv => self.recv_packet(packet, from),
-            Handling::Ack => self.ack_packet(packet, from),
-            Handling::Timeout => self.timeout(on, packet, from),
-            Handling::TimeoutOnClose => self.timeout_on_close(on, packet, from),
+            PacketAction::Recv => self.recv_packet(packet, from),
+            PacketAction::Ack => self.ack_packet(packet, from),
+            PacketAction::Timeout => self.timeout(on, packet, from),
+            PacketAction::TimeoutOnClose => self.timeout_on_close(on, packet, from),
         }
     }
 
@@ -342,11 +351,11 @@ impl<C: Chains + Drop> Completer<'_, C> {
     fn handled_if_sent(
         &self,
         on: u8,
-        handling: Handling,
+        handling: PacketAction,
         sent: SentPacket,
-        from: Origin,
+        from: ProofSource,
     ) -> Result<Option<Message>, Fault>
-        ensures made { IfOk result (MakesOf (C.answers self.now.chains.now) sent (MakesHandled (C.answers self.now.chains.now) on handling from)) }
+        ensures made { IfOk result (MakesFromSentPacket (C.answers self.now.chains.now) sent (MakesPacketAction (C.answers self.now.chains.now) on handling from)) }
         ensures err { IfErr result (λ fault. fault ≡ Fault.NoMemory) }
     {
         match self.sent_packet(sent)? {
@@ -368,20 +377,20 @@ impl<C: Chains + Drop> Completer<'_, C> {
             ))),
             PacketDraft::SendNote(message) => Ok(Some(Message::SendNote(message))),
             PacketDraft::Recv { packet, height } => {
-                let from = Origin {
+                let from = ProofSource {
                     chain: packet.chain,
                     height,
                 };
-                self.handled_if_sent(on, Handling::Recv, packet, from)
+                self.handled_if_sent(on, PacketAction::Recv, packet, from)
             }
             PacketDraft::Ack { packet, from } => {
-                self.handled_if_sent(on, Handling::Ack, packet, from)
+                self.handled_if_sent(on, PacketAction::Ack, packet, from)
             }
             PacketDraft::Timeout { packet, from } => {
-                self.handled_if_sent(on, Handling::Timeout, packet, from)
+                self.handled_if_sent(on, PacketAction::Timeout, packet, from)
             }
             PacketDraft::TimeoutOnClose { packet, from } => {
-                self.handled_if_sent(on, Handling::TimeoutOnClose, packet, from)
+                self.handled_if_sent(on, PacketAction::TimeoutOnClose, packet, from)
             }
         }
     }

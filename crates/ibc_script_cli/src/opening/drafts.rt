@@ -5,8 +5,8 @@ ghost use Rattle.std.specs.Option.{option_zip};
 ghost use Rattle.ibc_script.specs.Applications.{port_of, version_of};
 ghost use Rattle.ibc_script_cli.specs.Opening.{update_draft, init_draft, try_draft, ack_draft, confirm_draft, channel_init_draft, channel_try_draft, channel_ack_draft, channel_confirm_draft, draft_of};
 
-use super::Party;
-use ibc_ids::{Kind, Name, PortId, Version};
+use super::HandshakeParty;
+use ibc_ids::{Name, NameKind, PortId, Version};
 use ibc_script::{
     Application, ChannelDraft, ChannelTry, ClientDraft, ConnectionDraft, Draft, Fault,
 };
@@ -15,11 +15,11 @@ use std::alloc::{AllocError, Global};
 
 /// What a message of an `open` is made of: the application, the chain that it is sent to, and the other one.
 #[derive(Clone, Copy)]
-pub struct Drafting<'p> {
+pub struct DraftWriter<'p> {
     pub alloc: Global,
     pub application: Application,
-    pub own: &'p Party,
-    pub peer: &'p Party,
+    pub own: &'p HandshakeParty,
+    pub peer: &'p HandshakeParty,
 }
 
 /// What the two ends of an application's channel agree on.
@@ -31,7 +31,7 @@ struct Terms {
 }
 
 /// Copies of two names, `None` where one of them isn't there.
-fn both<K: Kind, L: Kind>(
+fn both<K: NameKind, L: NameKind>(
     first: &Option<Name<K>>,
     second: &Option<Name<L>>,
 ) -> Result<Option<(Name<K>, Name<L>)>, AllocError>
@@ -43,7 +43,7 @@ fn both<K: Kind, L: Kind>(
     Ok(Some((first.clone()?, second.clone()?)))
 }
 
-impl Drafting<'_> {
+impl DraftWriter<'_> {
     fn update_client(&self) -> Result<Option<Draft>, Fault>
         ensures made { IfOk result (λ made. made ≡ update_draft self.now.own.now self.now.peer.now) }
         ensures memory { IfErr result (λ fault. fault ≡ Fault.NoMemory) }

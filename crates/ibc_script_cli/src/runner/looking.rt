@@ -1,13 +1,13 @@
 //! The steps that only ask what chains have.
 
 ghost use Rattle.std.specs.Prelude.{◌<◌, length, IfErr};
-ghost use Rattle.ibc_script.specs.Faults.{StopsRun};
+ghost use Rattle.ibc_script.specs.Faults.{IsRunFault};
 
 use super::Runner;
 use crate::printing::print;
-use crate::{Chains, Line, Tells};
+use crate::{Chains, Holdings, Line};
 use ibc_ids::{Bytes, ChannelId, Denom, Key, Root};
-use ibc_script::{Fault, Origin};
+use ibc_script::{Fault, ProofSource};
 use std::io::Write;
 
 impl<C: Chains + Drop> Runner<C> {
@@ -20,7 +20,7 @@ impl<C: Chains + Drop> Runner<C> {
         output: &mut W,
     ) -> Result<(), Fault>
         requires { on < length self.now.names.items }
-        ensures { IfErr result StopsRun }
+        ensures { IfErr result IsRunFault }
     {
         let chain = &self.names[on as usize];
         let line = Line::Root {
@@ -39,7 +39,7 @@ impl<C: Chains + Drop> Runner<C> {
         output: &mut W,
     ) -> Result<(), Fault>
         requires { on < length self.now.names.items }
-        ensures { IfErr result StopsRun }
+        ensures { IfErr result IsRunFault }
     {
         let committed = self.heights[on as usize].at(height);
         let root = committed.map(|committed| committed.root);
@@ -55,7 +55,7 @@ impl<C: Chains + Drop> Runner<C> {
         output: &mut W,
     ) -> Result<(), Fault>
         requires { on < length self.now.names.items }
-        ensures { IfErr result StopsRun }
+        ensures { IfErr result IsRunFault }
     {
         let chain = &self.names[on as usize];
         let line = Line::Prove {
@@ -75,9 +75,9 @@ impl<C: Chains + Drop> Runner<C> {
         output: &mut W,
     ) -> Result<(), Fault>
         requires { on < length self.now.names.items }
-        ensures { IfErr result StopsRun }
+        ensures { IfErr result IsRunFault }
     {
-        let from = Origin { chain: on, height };
+        let from = ProofSource { chain: on, height };
         let proof = self.completer().proof(from, key)?;
         let printed = self.print_encoding(on, height, proof.as_ref(), output);
         drop(proof);
@@ -85,7 +85,7 @@ impl<C: Chains + Drop> Runner<C> {
     }
 }
 
-impl<C: Chains + Tells + Drop> Runner<C> {
+impl<C: Chains + Holdings + Drop> Runner<C> {
     /// Prints what a channel of a chain has of a denomination.
     pub(super) fn print_totals<W: Write>(
         &self,
@@ -95,7 +95,7 @@ impl<C: Chains + Tells + Drop> Runner<C> {
         output: &mut W,
     ) -> Result<(), Fault>
         requires { on < length self.now.names.items }
-        ensures { IfErr result StopsRun }
+        ensures { IfErr result IsRunFault }
     {
         let line = Line::Totals {
             chain: &self.names[on as usize],

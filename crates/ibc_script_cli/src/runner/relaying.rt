@@ -1,7 +1,7 @@
 //! The steps `relay`.
 
 ghost use Rattle.std.specs.Prelude.{◌≡◌, ◌<◌, length, IfErr};
-ghost use Rattle.ibc_script.specs.Faults.{StopsRun};
+ghost use Rattle.ibc_script.specs.Faults.{IsRunFault};
 
 use super::Runner;
 use crate::Chains;
@@ -19,7 +19,7 @@ impl<C: Chains + Drop> Runner<C> {
     ) -> Result<(), Fault>
         requires { on < length self.old.names.items }
         ensures same { self.new.names.items ≡ self.old.names.items }
-        ensures faults { IfErr result StopsRun }
+        ensures faults { IfErr result IsRunFault }
     {
         for message in messages {
             self.send(on, message, output)?;
@@ -32,7 +32,7 @@ impl<C: Chains + Drop> Runner<C> {
         requires first { first < length self.old.names.items }
         requires second { second < length self.old.names.items }
         ensures same { self.new.names.items ≡ self.old.names.items }
-        ensures faults { IfErr result StopsRun }
+        ensures faults { IfErr result IsRunFault }
     {
         let (for_second, for_first) = self.chains.plans(first, second).map_err(Fault::no_memory)?;
         let sent = self.send_each(second, for_second, output);
@@ -51,7 +51,7 @@ impl<C: Chains + Drop> Runner<C> {
         requires first { first < length self.old.names.items }
         requires second { second < length self.old.names.items }
         ensures same { self.new.names.items ≡ self.old.names.items }
-        ensures faults { IfErr result StopsRun }
+        ensures faults { IfErr result IsRunFault }
     {
         self.end_block(first, None, output)?;
         self.end_block(second, None, output)?;
@@ -69,7 +69,7 @@ impl<C: Chains + Drop> Runner<C> {
         requires first { first < length self.old.names.items }
         requires second { second < length self.old.names.items }
         ensures same { self.new.names.items ≡ self.old.names.items }
-        ensures faults { IfErr result StopsRun }
+        ensures faults { IfErr result IsRunFault }
     {
         for _turn in 0..turns {
             self.relay_once(first, second, output)?;

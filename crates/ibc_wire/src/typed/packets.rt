@@ -5,64 +5,64 @@ ghost use Rattle.ibc_wire.specs.Fields.{are_typed};
 ghost use Rattle.ibc_wire.specs.Messages.{message_fields};
 ghost use Rattle.ibc_wire.specs.Spelling.{packet_fields};
 
-use super::{is_text, is_u64};
+use super::{lemma_is_text, lemma_is_u64};
 use crate::{AckPacket, Message, Packet, RecvPacket, Timeout, TimeoutOnClose};
 
 impl RecvPacket {
-    pub(crate) fn is_typed(&self)
+    pub(crate) fn lemma_typed(&self)
         ensures { IsTrue (are_typed (message_fields (Message.RecvPacket self.now))) }
     {
-        self.packet.is_typed();
-        is_u64(self.height);
-        is_text(&self.proof);
+        self.packet.lemma_typed();
+        lemma_is_u64(self.height);
+        lemma_is_text(&self.proof);
     }
 }
 
 impl AckPacket {
-    pub(crate) fn is_typed(&self)
+    pub(crate) fn lemma_typed(&self)
         ensures { IsTrue (are_typed (message_fields (Message.AckPacket self.now))) }
     {
-        self.packet.is_typed();
-        is_text(&self.ack);
-        is_u64(self.height);
-        is_text(&self.proof);
+        self.packet.lemma_typed();
+        lemma_is_text(&self.ack);
+        lemma_is_u64(self.height);
+        lemma_is_text(&self.proof);
     }
 }
 
 impl Timeout {
-    pub(crate) fn is_typed(&self)
+    pub(crate) fn lemma_typed(&self)
         ensures { IsTrue (are_typed (message_fields (Message.Timeout self.now))) }
     {
-        self.packet.is_typed();
-        is_u64(self.next_recv);
-        is_u64(self.height);
-        is_text(&self.proof);
+        self.packet.lemma_typed();
+        lemma_is_u64(self.next_recv);
+        lemma_is_u64(self.height);
+        lemma_is_text(&self.proof);
     }
 }
 
 impl TimeoutOnClose {
-    pub(crate) fn is_typed(&self)
+    pub(crate) fn lemma_typed(&self)
         ensures { IsTrue (are_typed (message_fields (Message.TimeoutOnClose self.now))) }
     {
-        self.packet.is_typed();
-        is_u64(self.next_recv);
-        is_u64(self.height);
-        is_text(&self.proof);
-        is_text(&self.proof_close);
+        self.packet.lemma_typed();
+        lemma_is_u64(self.next_recv);
+        lemma_is_u64(self.height);
+        lemma_is_text(&self.proof);
+        lemma_is_text(&self.proof_close);
     }
 }
 
 impl Packet {
-    fn is_typed(&self)
+    fn lemma_typed(&self)
         ensures { IsTrue (are_typed (packet_fields self.now)) }
     {
-        is_u64(self.sequence);
-        is_u64(self.timeout_height);
-        is_u64(self.timeout_time);
-        self.source_port.has_its_form();
-        self.source_channel.has_its_form();
-        self.destination_port.has_its_form();
-        self.destination_channel.has_its_form();
-        is_text(&self.payload);
+        lemma_is_u64(self.sequence);
+        lemma_is_u64(self.timeout_height);
+        lemma_is_u64(self.timeout_time);
+        self.source_port.lemma_has_form();
+        self.source_channel.lemma_has_form();
+        self.destination_port.lemma_has_form();
+        self.destination_channel.lemma_has_form();
+        lemma_is_text(&self.payload);
     }
 }

@@ -39,5 +39,5 @@ impl Wire for Header {
     }
 
     #[tactic(auto, using(crate::proofs::RecordReaders::header_reader))]
-    fn reads_what_is_spelled() {}
+    fn lemma_reads_what_is_spelled() {}
 }

@@ -2,7 +2,7 @@
 
 ghost use Rattle.std.specs.List.{flat_map};
 ghost use Rattle.std.specs.Prelude.{◌∷◌};
-ghost use Rattle.ibc_wire.specs.Fields.{u8};
+ghost use Rattle.ibc_wire.specs.Fields.{one_byte};
 ghost use Rattle.ibc_wire.specs.Fronts.{Gives, Writes, many_at_front};
 
 use crate::Wire;
@@ -40,7 +40,7 @@ pub fn write_many<T: Wire>(out: &mut Vec<u8>, values: &[T]) -> Result<(), Refusa
 
 /// Writes a value behind a tag.
 pub fn write_tagged<T: Wire>(out: &mut Vec<u8>, tag: u8, value: &T) -> Result<(), Refusal>
-    ensures { Writes (u8 tag ∷ T.fields value.now) out.old.items result out.new.items }
+    ensures { Writes (one_byte tag ∷ T.fields value.now) out.old.items result out.new.items }
 {
     write_u8(out, tag)?;
     value.write(out)

@@ -50,5 +50,5 @@ impl Wire for Packet {
     }
 
     #[tactic(auto, using(crate::proofs::RecordReaders::packet_reader))]
-    fn reads_what_is_spelled() {}
+    fn lemma_reads_what_is_spelled() {}
 }

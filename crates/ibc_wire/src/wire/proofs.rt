@@ -44,7 +44,7 @@ impl Wire for Operation {
     }
 
     #[tactic(auto, using(crate::proofs::ProofReaders::operation_reader))]
-    fn reads_what_is_spelled() {}
+    fn lemma_reads_what_is_spelled() {}
 }
 
 /// So many operations, and what stands behind them.
@@ -98,7 +98,7 @@ impl Wire for Presence {
     }
 
     #[tactic(auto, using(crate::proofs::ProofReaders::presence_reader))]
-    fn reads_what_is_spelled() {}
+    fn lemma_reads_what_is_spelled() {}
 }
 
 /// A neighbour behind a flag, and what stands behind it.
@@ -145,7 +145,7 @@ impl Wire for Absence {
     }
 
     #[tactic(auto, using(crate::proofs::ProofReaders::absence_reader))]
-    fn reads_what_is_spelled() {}
+    fn lemma_reads_what_is_spelled() {}
 }
 
 impl Wire for Proof {
@@ -176,5 +176,5 @@ impl Wire for Proof {
     }
 
     #[tactic(auto, using(crate::proofs::ProofReaders::proof_reader))]
-    fn reads_what_is_spelled() {}
+    fn lemma_reads_what_is_spelled() {}
 }

@@ -1,7 +1,7 @@
 //! How the records of clients, connections and channels are spelled.
 
 ghost use Rattle.std.specs.Prelude.{◌≡◌, ◌==◌, ◌∷◌, [], codes};
-ghost use Rattle.ibc_wire.specs.Fields.{u8, str};
+ghost use Rattle.ibc_wire.specs.Fields.{one_byte, str};
 ghost use Rattle.ibc_wire.specs.Spelling.{client_state_fields, connection_end_fields, channel_end_fields, connection_state_number, channel_state_number, order_number};
 ghost use Rattle.ibc_wire.specs.Fronts.{Gives, Writes, coded_at_front, same_at_front};
 ghost use Rattle.ibc_wire.specs.RecordFronts.{client_state_at_front, connection_end_at_front, channel_end_at_front, connection_state_of, channel_state_of, order_of};
@@ -32,11 +32,11 @@ impl Wire for ClientState {
     }
 
     #[tactic(auto, using(crate::proofs::RecordReaders::client_state_reader))]
-    fn reads_what_is_spelled() {}
+    fn lemma_reads_what_is_spelled() {}
 }
 
 impl Wire for ConnectionState {
-    ghost fields = { λ value. u8 (connection_state_number value) ∷ [] };
+    ghost fields = { λ value. one_byte (connection_state_number value) ∷ [] };
 
     ghost front = { coded_at_front connection_state_of };
 
@@ -58,11 +58,11 @@ impl Wire for ConnectionState {
     }
 
     #[tactic(auto, using(crate::proofs::RecordReaders::connection_state_reader))]
-    fn reads_what_is_spelled() {}
+    fn lemma_reads_what_is_spelled() {}
 }
 
 impl Wire for ChannelState {
-    ghost fields = { λ value. u8 (channel_state_number value) ∷ [] };
+    ghost fields = { λ value. one_byte (channel_state_number value) ∷ [] };
 
     ghost front = { coded_at_front channel_state_of };
 
@@ -86,11 +86,11 @@ impl Wire for ChannelState {
     }
 
     #[tactic(auto, using(crate::proofs::RecordReaders::channel_state_reader))]
-    fn reads_what_is_spelled() {}
+    fn lemma_reads_what_is_spelled() {}
 }
 
 impl Wire for Order {
-    ghost fields = { λ value. u8 (order_number value) ∷ [] };
+    ghost fields = { λ value. one_byte (order_number value) ∷ [] };
 
     ghost front = { coded_at_front order_of };
 
@@ -110,7 +110,7 @@ impl Wire for Order {
     }
 
     #[tactic(auto, using(crate::proofs::RecordReaders::order_reader))]
-    fn reads_what_is_spelled() {}
+    fn lemma_reads_what_is_spelled() {}
 }
 
 /// What stands behind the version of connections.
@@ -161,7 +161,7 @@ impl Wire for ConnectionEnd {
     }
 
     #[tactic(auto, using(crate::proofs::RecordReaders::connection_end_reader))]
-    fn reads_what_is_spelled() {}
+    fn lemma_reads_what_is_spelled() {}
 }
 
 impl Wire for ChannelEnd {
@@ -200,5 +200,5 @@ impl Wire for ChannelEnd {
     }
 
     #[tactic(auto, using(crate::proofs::RecordReaders::channel_end_reader))]
-    fn reads_what_is_spelled() {}
+    fn lemma_reads_what_is_spelled() {}
 }

@@ -30,7 +30,7 @@ impl Wire for Token {
     }
 
     #[tactic(auto, using(crate::proofs::TokenReaders::token_reader))]
-    fn reads_what_is_spelled() {}
+    fn lemma_reads_what_is_spelled() {}
 }
 
 impl Wire for Tokens {
@@ -62,5 +62,5 @@ impl Wire for Tokens {
     }
 
     #[tactic(auto, using(crate::proofs::TokenReaders::tokens_reader))]
-    fn reads_what_is_spelled() {}
+    fn lemma_reads_what_is_spelled() {}
 }

@@ -1,5 +1,5 @@
-use Rattle.ibc_records.specs.Held.{core_of}
-use Rattle.ibc_channel.proofs.Found.{connection_there, connection_gone}
+use Rattle.ibc_records.specs.RecordsModel.{core_of}
+use Rattle.ibc_channel.proofs.FoundRecords.{connection_there, connection_gone}
 use Rattle.ibc_channel.proofs.checks.check_connection.Goals as goal
 
 pub returns-in-Some : goal.returns-in-Some

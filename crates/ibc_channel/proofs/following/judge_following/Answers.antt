@@ -4,16 +4,16 @@ use Rattle.std.proofs.lemmas.Result.{err_from_is_err_and}
 use Rattle.ibc_ids.specs.Paths.{path}
 use Rattle.ibc_ids.specs.declared.key.Key.TheVariants as key
 use Rattle.ibc_machine.specs.ics04.Channels.{peer_channel_of}
-use Rattle.ibc_machine.specs.ledger.Replay.{proves}
+use Rattle.ibc_machine.specs.ledger.Replay.{proof_evidence}
 use Rattle.ibc_machine.proofs.PassedChecks.{pass, fail}
-use Rattle.ibc_records.specs.Held.{core_of}
-use Rattle.ibc_records.specs.Taking.{host_with}
+use Rattle.ibc_records.specs.RecordsModel.{core_of}
+use Rattle.ibc_records.specs.HandlerContract.{host_with}
 use Rattle.ibc_client.specs.Peers.{end_bytes, text_of}
 use Rattle.ibc_client.proofs.Judging.{failed, passed, stops, stops_at, refuses, made}
 use Rattle.ibc_client.proofs.Claimed.{peer_shown}
-use Rattle.ibc_channel.specs.Ends.{moved, settled}
-use Rattle.ibc_channel.specs.Follows.{follow_peer}
-use Rattle.ibc_channel.proofs.Found.{named_bytes}
+use Rattle.ibc_channel.specs.ChannelHandshake.{end_in_state, with_set_end}
+use Rattle.ibc_channel.specs.FollowedPeers.{follow_peer}
+use Rattle.ibc_channel.proofs.FoundRecords.{named_bytes}
 use Rattle.ibc_channel.proofs.Handshake.{follow_begun, follow_found}
 use Rattle.ibc_channel.proofs.following.judge_following.Goals as goal
 
@@ -23,7 +23,7 @@ returns-in_err-mine-clause-judged c =
     let core = core_of c.args.records.now in
     λ chain chains bytes read seen state knows.
     let host = host_with chain chains c.args.records.now in
-    refuses (follow_peer c.args.to c.args.port.now c.args.channel.now c.args.height bytes (proves seen None state) host core) _ c.from_residual.result p.1 p.2
+    refuses (follow_peer c.args.to c.args.port.now c.args.channel.now c.args.height bytes (proof_evidence seen None state) host core) _ c.from_residual.result p.1 p.2
     (stops_at _ c.in_err-mine.ensures.err (follow_begun seen state host core c.args.to c.args.port.now c.args.channel.now c.args.height bytes c.args.proof.now read))
 
 pub returns-in_err-check_follows-clause-judged : goal.returns-in_err-check_follows-clause-judged
@@ -33,7 +33,7 @@ returns-in_err-check_follows-clause-judged c =
     λ chain chains bytes read seen state knows.
     let host = host_with chain chains c.args.records.now in
     let found = follow_found seen state host core c.args.to c.args.port.now c.args.channel.now c.args.height bytes c.args.proof.now read c.in_ok-mine.mine.now c.in_ok-mine.ensures.ok in
-    refuses (follow_peer c.args.to c.args.port.now c.args.channel.now c.args.height bytes (proves seen None state) host core) _ c.from_residual-in_err-check_follows.result p.1 p.2
+    refuses (follow_peer c.args.to c.args.port.now c.args.channel.now c.args.height bytes (proof_evidence seen None state) host core) _ c.from_residual-in_err-check_follows.result p.1 p.2
     (inl (fail _ (sym c.in_err-check_follows.ensures) found))
 
 pub returns-in_err-connection-clause-judged : goal.returns-in_err-connection-clause-judged
@@ -44,7 +44,7 @@ returns-in_err-connection-clause-judged c =
     let host = host_with chain chains c.args.records.now in
     let found = follow_found seen state host core c.args.to c.args.port.now c.args.channel.now c.args.height bytes c.args.proof.now read c.in_ok-mine.mine.now c.in_ok-mine.ensures.ok in
     let follows = pass (sym c.in_ok-check_follows.ensures) found in
-    refuses (follow_peer c.args.to c.args.port.now c.args.channel.now c.args.height bytes (proves seen None state) host core) _ c.from_residual-in_err-connection.result p.1 p.2
+    refuses (follow_peer c.args.to c.args.port.now c.args.channel.now c.args.height bytes (proof_evidence seen None state) host core) _ c.from_residual-in_err-connection.result p.1 p.2
     (inl (fail _ c.in_err-connection.ensures.failed follows))
 
 pub returns-in_err-claim-clause-judged : goal.returns-in_err-claim-clause-judged
@@ -52,7 +52,7 @@ returns-in_err-claim-clause-judged c =
     let p = err_from_is_err_and c.from_residual-in_err-claim.result c.from_residual-in_err-claim.ensures.1 in
     λ chain chains bytes read seen state knows.
     let host = host_with chain chains c.args.records.now in
-    refuses (follow_peer c.args.to c.args.port.now c.args.channel.now c.args.height bytes (proves seen None state) host (core_of c.args.records.now)) _ c.from_residual-in_err-claim.result p.1 p.2
+    refuses (follow_peer c.args.to c.args.port.now c.args.channel.now c.args.height bytes (proof_evidence seen None state) host (core_of c.args.records.now)) _ c.from_residual-in_err-claim.result p.1 p.2
     (inr c.in_err-claim.ensures.err)
 
 pub returns-in_err-shown-clause-judged : goal.returns-in_err-shown-clause-judged
@@ -71,7 +71,7 @@ returns-in_err-shown-clause-judged c =
     let host = host_with chain chains c.args.records.now in
     let found = follow_found seen state host core c.args.to c.args.port.now c.args.channel.now c.args.height bytes c.args.proof.now read mine c.in_ok-mine.ensures.ok in
     let known = pass c.in_ok-connection.ensures.passed (pass (sym c.in_ok-check_follows.ensures) found) in
-    refuses (follow_peer c.args.to c.args.port.now c.args.channel.now c.args.height bytes (proves seen None state) host core) _ c.from_residual-in_err-shown.result p.1 p.2
+    refuses (follow_peer c.args.to c.args.port.now c.args.channel.now c.args.height bytes (proof_evidence seen None state) host core) _ c.from_residual-in_err-shown.result p.1 p.2
     (stops _ (failed (shown seen state bytes knows read)) known)
 
 pub returns-clause-judged : goal.returns-clause-judged
@@ -89,5 +89,5 @@ returns-clause-judged c =
     let host = host_with chain chains c.args.records.now in
     let found = follow_found seen state host core c.args.to c.args.port.now c.args.channel.now c.args.height bytes c.args.proof.now read mine c.in_ok-mine.ensures.ok in
     let known = pass c.in_ok-connection.ensures.passed (pass (sym c.in_ok-check_follows.ensures) found) in
-    made (follow_peer c.args.to c.args.port.now c.args.channel.now c.args.height bytes (proves seen None state) host core) (settled c.args.port.now c.args.channel.now core) (moved c.args.to mine) c.move_end.result
+    made (follow_peer c.args.to c.args.port.now c.args.channel.now c.args.height bytes (proof_evidence seen None state) host core) (with_set_end c.args.port.now c.args.channel.now core) (end_in_state c.args.to mine) c.move_end.result
     (pass (passed (shown seen state bytes knows read)) known) c.move_end.ensures.ok c.move_end.ensures.err

@@ -3,7 +3,7 @@ use Rattle.std.proofs.Common.{arith, ◌∙◌, ap, refl, subst}
 use Rattle.std.proofs.lemmas.Result.{err_from_is_err_and}
 use Rattle.ibc_ids.specs.Texts.{Text}
 use Rattle.ibc_ids.specs.Paths.{nth_client}
-use Rattle.ibc_records.specs.Held.{AddsClient}
+use Rattle.ibc_records.specs.RecordsModel.{AddsClient}
 use Rattle.ibc_client.proofs.Creating.{refused_unknown, refused_own, refused_full, no_memory, made}
 use Rattle.ibc_client.proofs.create_client.create.Goals as goal
 

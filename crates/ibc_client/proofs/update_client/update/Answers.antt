@@ -1,6 +1,6 @@
 -- Each check of the code is the definition's.
 use Rattle.std.proofs.Common.{sym}
-use Rattle.ibc_records.specs.Held.{core_of}
+use Rattle.ibc_records.specs.RecordsModel.{core_of}
 use Rattle.ibc_client.proofs.Updating.{refused_untracked, held_client, tracked_height, learned, looks_up-tracked}
 use Rattle.ibc_client.proofs.update_client.update.Goals as goal
 

@@ -4,9 +4,9 @@ use Rattle.std.proofs.lemmas.Result.{err_from_is_err_and}
 use Rattle.ibc_machine.specs.declared.reply.Effect.TheVariants as effect
 use Rattle.ibc_machine.specs.chain.Records.{with_connection}
 use Rattle.ibc_machine.specs.ics03.Connections.{conn_open_ack}
-use Rattle.ibc_machine.specs.ledger.Replay.{proves}
-use Rattle.ibc_records.specs.Held.{core_of}
-use Rattle.ibc_records.specs.Taking.{host_with}
+use Rattle.ibc_machine.specs.ledger.Replay.{proof_evidence}
+use Rattle.ibc_records.specs.RecordsModel.{core_of}
+use Rattle.ibc_records.specs.HandlerContract.{host_with}
 use Rattle.ibc_client.proofs.Judging.{stops, unread, untaken}
 use Rattle.ibc_connection.proofs.Handshake.{ack_checks}
 use Rattle.ibc_connection.proofs.Opened.{end_taken}
@@ -17,27 +17,27 @@ returns-in_err-proofs c =
     let old = c.args.records.now in
     let p = err_from_is_err_and c.from_residual.result c.from_residual.ensures.1 in
     λ chains seen state knows.
-    untaken (λ _. effect.None) (conn_open_ack c.args.message.now (proves seen None state) (host_with c.args.chain chains old) (core_of old)) old c.from_residual.result old p.1 p.2
-    (stops _ (unread (λ is. c.in_err-proofs.ensures.bad (ap Err is)) c.in_err-proofs.ensures.err) (ack_checks (proves seen None state) (host_with c.args.chain chains old) (core_of old) c.args.message.now)) refl
+    untaken (λ _. effect.None) (conn_open_ack c.args.message.now (proof_evidence seen None state) (host_with c.args.chain chains old) (core_of old)) old c.from_residual.result old p.1 p.2
+    (stops _ (unread (λ is. c.in_err-proofs.ensures.bad (ap Err is)) c.in_err-proofs.ensures.err) (ack_checks (proof_evidence seen None state) (host_with c.args.chain chains old) (core_of old) c.args.message.now)) refl
 
 pub returns-in_err-clone : goal.returns-in_err-clone
 returns-in_err-clone c =
     let old = c.args.records.now in
     let p = err_from_is_err_and c.from_residual-in_err-clone.result c.from_residual-in_err-clone.ensures.1 in
     λ chains seen state knows.
-    untaken (λ _. effect.None) (conn_open_ack c.args.message.now (proves seen None state) (host_with c.args.chain chains old) (core_of old)) old c.from_residual-in_err-clone.result old p.1 p.2 (inr refl) refl
+    untaken (λ _. effect.None) (conn_open_ack c.args.message.now (proof_evidence seen None state) (host_with c.args.chain chains old) (core_of old)) old c.from_residual-in_err-clone.result old p.1 p.2 (inr refl) refl
 
 pub returns-in_err-judged : goal.returns-in_err-judged
 returns-in_err-judged c =
     let old = c.args.records.now in
     let p = err_from_is_err_and c.from_residual-in_err-judged.result c.from_residual-in_err-judged.ensures.1 in
     λ chains seen state knows.
-    untaken (λ _. effect.None) (conn_open_ack c.args.message.now (proves seen None state) (host_with c.args.chain chains old) (core_of old)) old c.from_residual-in_err-judged.result old p.1 p.2 (c.in_err-judged.ensures chains seen state knows) refl
+    untaken (λ _. effect.None) (conn_open_ack c.args.message.now (proof_evidence seen None state) (host_with c.args.chain chains old) (core_of old)) old c.from_residual-in_err-judged.result old p.1 p.2 (c.in_err-judged.ensures chains seen state knows) refl
 
 pub returns : goal.returns
 returns c =
     let old = c.args.records.now in
     λ chains seen state knows.
-    end_taken (conn_open_ack c.args.message.now (proves seen None state) (host_with c.args.chain chains old) (core_of old)) old c.set_connection.new.self c.in_ok-clone.field-0 c.in_ok-judged.field-0 c.set_connection.result
+    end_taken (conn_open_ack c.args.message.now (proof_evidence seen None state) (host_with c.args.chain chains old) (core_of old)) old c.set_connection.new.self c.in_ok-clone.field-0 c.in_ok-judged.field-0 c.set_connection.result
     (c.in_ok-judged.ensures chains seen state knows ∙ ap (λ id. Ok (effect.None, with_connection id c.in_ok-judged.field-0 (core_of old))) (sym c.in_ok-clone.ensures.cases))
     c.set_connection.ensures.ok c.set_connection.ensures.err c.set_connection.ensures.unchanged

@@ -7,10 +7,10 @@ use Rattle.ibc_machine.specs.declared.reply.Effect.TheVariants as effect
 use Rattle.ibc_machine.specs.chain.Records.{with_connection}
 use Rattle.ibc_machine.specs.chain.Checks.{expect}
 use Rattle.ibc_machine.specs.ics03.Connections.{connection_end, conn_open_confirm}
-use Rattle.ibc_machine.specs.ledger.Replay.{proves}
+use Rattle.ibc_machine.specs.ledger.Replay.{proof_evidence}
 use Rattle.ibc_machine.proofs.PassedChecks.{pass, fail, find, miss}
-use Rattle.ibc_records.specs.Held.{core_of}
-use Rattle.ibc_records.specs.Taking.{host_with}
+use Rattle.ibc_records.specs.RecordsModel.{core_of}
+use Rattle.ibc_records.specs.HandlerContract.{host_with}
 use Rattle.ibc_client.proofs.Judging.{failed, passed, stops, refuses}
 use Rattle.ibc_connection.proofs.Handshake.{confirm_begun, confirm_found}
 use Rattle.ibc_connection.proofs.opening_confirm.judge_confirm.Goals as goal
@@ -28,7 +28,7 @@ returns-in_err-check_state c =
     λ chain chains seen state knows.
     let host = host_with chain chains c.args.records.now in
     let found = confirm_found seen state host core m c.args.proof.now c.requires c.in-Some.mine.now (sym c.in-Some.ensures) in
-    refuses (conn_open_confirm m (proves seen None state) host core) (λ end. (effect.None, with_connection m.connection end core)) c.from_residual.result p.1 p.2
+    refuses (conn_open_confirm m (proof_evidence seen None state) host core) (λ end. (effect.None, with_connection m.connection end core)) c.from_residual.result p.1 p.2
     (inl (fail _ (sym c.in_err-check_state.ensures) found))
 
 pub returns-in_default-peer_connection : goal.returns-in_default-peer_connection
@@ -45,7 +45,7 @@ returns-in_err-check_known c =
     let host = host_with chain chains c.args.records.now in
     let found = confirm_found seen state host core m c.args.proof.now c.requires c.in-Some.mine.now (sym c.in-Some.ensures) in
     let named = find _ (ap (λ o. expect o WrongState) c.in-Some-peer_connection.is) (pass (sym c.in_ok-check_state.ensures) found) in
-    refuses (conn_open_confirm m (proves seen None state) host core) (λ end. (effect.None, with_connection m.connection end core)) c.from_residual-in_err-check_known.result p.1 p.2
+    refuses (conn_open_confirm m (proof_evidence seen None state) host core) (λ end. (effect.None, with_connection m.connection end core)) c.from_residual-in_err-check_known.result p.1 p.2
     (inl (fail _ (sym c.in_err-check_known.ensures) named))
 
 pub returns-in_err-check_opened : goal.returns-in_err-check_opened
@@ -57,7 +57,7 @@ returns-in_err-check_opened c =
     let host = host_with chain chains c.args.records.now in
     let found = confirm_found seen state host core m c.args.proof.now c.requires c.in-Some.mine.now (sym c.in-Some.ensures) in
     let named = find _ (ap (λ o. expect o WrongState) c.in-Some-peer_connection.is) (pass (sym c.in_ok-check_state.ensures) found) in
-    refuses (conn_open_confirm m (proves seen None state) host core) (λ end. (effect.None, with_connection m.connection end core)) c.from_residual-in_err-check_opened.result p.1 p.2
+    refuses (conn_open_confirm m (proof_evidence seen None state) host core) (λ end. (effect.None, with_connection m.connection end core)) c.from_residual-in_err-check_opened.result p.1 p.2
     (stops _ (failed (c.in_err-check_opened.ensures seen state m.proof knows c.requires)) (pass (sym c.in_ok-check_known.ensures) named))
 
 pub returns : goal.returns

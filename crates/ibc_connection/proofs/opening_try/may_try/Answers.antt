@@ -4,7 +4,7 @@ use Rattle.std.proofs.lemmas.Result.{err_from_is_err_and}
 use Rattle.ibc_ids.specs.declared.refusal.Refusal.TheVariants.{WrongSelfClient}
 use Rattle.ibc_machine.specs.chain.Checks.{require}
 use Rattle.ibc_machine.proofs.PassedChecks.{pass, fail}
-use Rattle.ibc_records.specs.Held.{core_of}
+use Rattle.ibc_records.specs.RecordsModel.{core_of}
 use Rattle.ibc_connection.proofs.Handshake.{no_client, behind_client}
 use Rattle.ibc_connection.proofs.opening_try.may_try.Goals as goal
 

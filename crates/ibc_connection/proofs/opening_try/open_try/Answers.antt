@@ -10,18 +10,18 @@ use Rattle.ibc_machine.specs.declared.reply.Effect.TheVariants as effect
 use Rattle.ibc_machine.specs.chain.Records.{Core}
 use Rattle.ibc_machine.specs.chain.Checks.{Checked}
 use Rattle.ibc_machine.specs.ics03.Connections.{connection_end, conn_open_try}
-use Rattle.ibc_machine.specs.ledger.Replay.{LedgerState, proves}
-use Rattle.ibc_records.specs.Held.{HeldRecords, core_of}
-use Rattle.ibc_records.specs.Taking.{host_with}
+use Rattle.ibc_machine.specs.ledger.Replay.{LedgerState, proof_evidence}
+use Rattle.ibc_records.specs.RecordsModel.{RecordsModel, core_of}
+use Rattle.ibc_records.specs.HandlerContract.{host_with}
 use Rattle.ibc_client.proofs.Judging.{stops, unread, untaken}
-use Rattle.ibc_connection.specs.Ends.{tried}
+use Rattle.ibc_connection.specs.ConnectionHandshake.{try_end}
 use Rattle.ibc_connection.proofs.Handshake.{try_checks}
 use Rattle.ibc_connection.proofs.Opened.{IsAdded, begun_taken}
 use Rattle.ibc_connection.proofs.opening_try.open_try.Goals as goal
 
 -- the definition
-abbrev says : HeldRecords → ConnOpenTry → ℕ → ℕ → List Publication → LedgerState → Checked (Effect × Core)
-says held m chain chains seen state = conn_open_try m (proves seen None state) (host_with chain chains held) (core_of held)
+abbrev says : RecordsModel → ConnOpenTry → ℕ → ℕ → List Publication → LedgerState → Checked (Effect × Core)
+says held m chain chains seen state = conn_open_try m (proof_evidence seen None state) (host_with chain chains held) (core_of held)
 
 pub returns-in_err-proofs-clause-answer : goal.returns-in_err-proofs-clause-answer
 returns-in_err-proofs-clause-answer c =
@@ -29,7 +29,7 @@ returns-in_err-proofs-clause-answer c =
     let p = err_from_is_err_and c.from_residual.result c.from_residual.ensures.1 in
     λ chains seen state knows.
     untaken effect.Connection (says old c.args.message.now c.args.chain chains seen state) old c.from_residual.result old p.1 p.2
-    (stops _ (unread (λ is. c.in_err-proofs.ensures.bad (ap Err is)) c.in_err-proofs.ensures.err) (try_checks (proves seen None state) (host_with c.args.chain chains old) (core_of old) c.args.message.now)) refl
+    (stops _ (unread (λ is. c.in_err-proofs.ensures.bad (ap Err is)) c.in_err-proofs.ensures.err) (try_checks (proof_evidence seen None state) (host_with c.args.chain chains old) (core_of old) c.args.message.now)) refl
 
 pub returns-in_err-checked-clause-answer : goal.returns-in_err-checked-clause-answer
 returns-in_err-checked-clause-answer c =
@@ -46,7 +46,7 @@ pub returns-clause-answer : goal.returns-clause-answer
 returns-clause-answer c =
     let old = c.args.records.now in
     λ chains seen state knows.
-    begun_taken (says old c.args.message.now c.args.chain chains seen state) old c.add_connection.new.records (tried c.args.message.now) c.add_connection.result
+    begun_taken (says old c.args.message.now c.args.chain chains seen state) old c.add_connection.new.records (try_end c.args.message.now) c.add_connection.result
     (c.in_ok-checked.ensures.judged chains seen state knows)
     (subst (λ end. IfOk c.add_connection.result (IsAdded end old c.add_connection.new.records))
     (λ i. connection_end TryOpen (c.in_ok-clone.ensures.cases i) (c.in_ok-clone-2.ensures.cases i) (Some (c.in_ok-clone-3.ensures.cases i))) c.add_connection.ensures.ok)

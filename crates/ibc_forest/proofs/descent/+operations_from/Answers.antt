@@ -3,7 +3,7 @@ use Rattle.std.proofs.Common.{◌≡◌, ◌<◌, ◌-◌, ◌∷◌, ◌++◌, 
 use Rattle.std.proofs.lemmas.Result.{IfOk-weaker}
 use Rattle.std.specs.FinMap.{is_sorted}
 use Rattle.ibc_ids.specs.Texts.{text_cmp}
-use Rattle.ibc_merkle.specs.Places.{key_at}
+use Rattle.ibc_merkle.specs.PairPlaces.{key_at}
 use Rattle.ibc_merkle.specs.Tree.{Pairs, largest_power_below}
 use Rattle.ibc_merkle.specs.Written.{left_child, right_child}
 use Rattle.ibc_merkle.proofs.Edits.{take_is_sorted, drop_is_sorted}

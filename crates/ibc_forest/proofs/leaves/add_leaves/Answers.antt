@@ -4,7 +4,7 @@ use Rattle.std.proofs.lemmas.List.{length_push, take_all, take-append-le}
 use Rattle.std.specs.declared.alloc.AllocError.{AllocError}
 use Rattle.ibc_merkle.specs.Tree.{Pairs}
 use Rattle.ibc_merkle.proofs.Sorted.{rising_from_sorted}
-use Rattle.ibc_forest.specs.Leaves.{row_pairs, from_key, behind_key, is_new, count_new, differing}
+use Rattle.ibc_forest.specs.Leaves.{row_pairs, from_key, behind_key, is_new, count_new, differing_count}
 use Rattle.ibc_forest.specs.Counts.{CountsAtLeast}
 use Rattle.ibc_forest.specs.Gaps.{HasFirst, IsFoundFrom}
 use Rattle.ibc_forest.proofs.Counting.{least_on, least_kept}
@@ -98,7 +98,7 @@ loop-i-preserved c =
           ∙ ap (λ n. get_or old n 0) (w.1 ∙ sym counted)
           in
           let pushed = differing-push row old leaf (is_new entry (drop found last)) (omega arith) kept in
-          let pushed_row : differing c.push.new.self.items old ≡ differing (row ++ leaf ∷ []) old = ap (λ row. differing row old) items in
+          let pushed_row : differing_count c.push.new.self.items old ≡ differing_count (row ++ leaf ∷ []) old = ap (λ row. differing_count row old) items in
           omega arith;
     }
 

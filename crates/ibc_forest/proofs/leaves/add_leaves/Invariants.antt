@@ -1,7 +1,7 @@
 use Rattle.std.proofs.Common.{◌≡◌, ◌+◌, ◌*◌, ◌≤◌, length, take, drop}
 use Rattle.ibc_forest.specs.Counts.{CountsAtLeast}
 use Rattle.ibc_forest.specs.Gaps.{HasFirst, IsFoundFrom}
-use Rattle.ibc_forest.specs.Leaves.{row_pairs, count_new, keys, differing}
+use Rattle.ibc_forest.specs.Leaves.{row_pairs, count_new, keys, differing_count}
 use Rattle.ibc_forest.specs.Nodes.{Grows}
 use Rattle.ibc_forest.proofs.leaves.add_leaves.Given as goal
 
@@ -18,5 +18,5 @@ invariant-loop-i l =
       found : IsFoundFrom last l.at (drop l.i l.entries);
       steps : l.arena.steps + 2 * count_new last (drop l.i l.entries) ≤ l.initial.arena.steps + 2 * all;
       least : CountsAtLeast (2 * all) l.initial.arena.steps (l.arena.steps + 2 * count_new last (drop l.i l.entries));
-      same : keys l.entries ≡ keys last → differing l.row.items l.old + count_new last (drop l.i l.entries) ≤ differing l.initial.row.items l.old + all;
+      same : keys l.entries ≡ keys last → differing_count l.row.items l.old + count_new last (drop l.i l.entries) ≤ differing_count l.initial.row.items l.old + all;
     }

@@ -5,7 +5,7 @@ use Rattle.std.specs.declared.alloc.AllocError.{AllocError}
 use Rattle.ibc_ids.specs.Texts.{text_cmp}
 use Rattle.ibc_merkle.specs.Tree.{Pairs}
 use Rattle.ibc_merkle.proofs.Sorted.{rising_from_sorted}
-use Rattle.ibc_forest.specs.Leaves.{row_pairs, count_new, keys, differing}
+use Rattle.ibc_forest.specs.Leaves.{row_pairs, count_new, keys, differing_count}
 use Rattle.ibc_forest.specs.Counts.{CountsAtLeast}
 use Rattle.ibc_forest.specs.Gaps.{DifferIn, HasFirst, IsFoundFrom}
 use Rattle.ibc_forest.specs.declared.gap.Gap.{Gap}
@@ -116,15 +116,15 @@ loop-i-preserved c =
           c.args.arena.now.steps c.loop-i.arena.steps c.add_leaves.new.arena.steps (omega arith) least c.loop-i.invariant.least;
       same = λ same.
           let now = c.loop-i.invariant.same same in
-          let more : differing next old + count_new last (drop (length next) entries) ≤ differing kept old + count_new last (drop (length row + gap.kept) entries) =
-          subst (λ (pairs : Pairs). keys entries ≡ keys pairs → differing next old + count_new pairs (drop (length next) entries) ≤ differing kept old + count_new pairs (drop (length row + gap.kept) entries)) held
-          (subst (λ n. keys entries ≡ keys (row_pairs trees old) → differing next old + count_new (row_pairs trees old) (drop (length next) entries) ≤ differing kept old + count_new (row_pairs trees old) (drop n entries)) counted
-          (subst (λ n. keys entries ≡ keys (row_pairs trees old) → differing next old + count_new (row_pairs trees old) (drop n entries) ≤ differing kept old + count_new (row_pairs trees old) (drop (length kept) entries)) end_is
+          let more : differing_count next old + count_new last (drop (length next) entries) ≤ differing_count kept old + count_new last (drop (length row + gap.kept) entries) =
+          subst (λ (pairs : Pairs). keys entries ≡ keys pairs → differing_count next old + count_new pairs (drop (length next) entries) ≤ differing_count kept old + count_new pairs (drop (length row + gap.kept) entries)) held
+          (subst (λ n. keys entries ≡ keys (row_pairs trees old) → differing_count next old + count_new (row_pairs trees old) (drop (length next) entries) ≤ differing_count kept old + count_new (row_pairs trees old) (drop n entries)) counted
+          (subst (λ n. keys entries ≡ keys (row_pairs trees old) → differing_count next old + count_new (row_pairs trees old) (drop n entries) ≤ differing_count kept old + count_new (row_pairs trees old) (drop (length kept) entries)) end_is
           c.in_ok-place.ensures.same))
           same
           in
           let most = differing_past last entries old row from gap.kept its.past same (omega arith) in
-          let is_kept : differing kept old ≡ differing (row ++ take gap.kept (drop from old)) old = ap (λ row. differing row old) c.in_ok-behind.ensures.row in
+          let is_kept : differing_count kept old ≡ differing_count (row ++ take gap.kept (drop from old)) old = ap (λ row. differing_count row old) c.in_ok-behind.ensures.row in
           omega arith;
     }
 
@@ -172,5 +172,5 @@ loop-i-init c =
       splice = λ others differ. subst (λ (xs : List ℕ). DifferIn c.args.gaps.now old (xs ++ others)) (sym items) differ;
       steps = omega arith;
       least = least_kept (2 * count_new last entries) (2 * count_new last (drop (length row) entries)) c.args.arena.now.steps (omega arith);
-      same = λ same. let none = ap (λ (xs : List ℕ). differing xs old) items in omega arith;
+      same = λ same. let none = ap (λ (xs : List ℕ). differing_count xs old) items in omega arith;
     }

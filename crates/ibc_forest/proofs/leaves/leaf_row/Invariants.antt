@@ -1,7 +1,7 @@
 use Rattle.std.proofs.Common.{◌≡◌, ◌+◌, ◌*◌, ◌≤◌, ◌++◌, ℕ, List, length, drop}
 use Rattle.ibc_forest.specs.Counts.{CountsAtLeast}
 use Rattle.ibc_forest.specs.Gaps.{DifferIn, HasFirst, IsFoundFrom}
-use Rattle.ibc_forest.specs.Leaves.{row_pairs, count_new, keys, differing}
+use Rattle.ibc_forest.specs.Leaves.{row_pairs, count_new, keys, differing_count}
 use Rattle.ibc_forest.specs.Nodes.{Grows}
 use Rattle.ibc_forest.proofs.leaves.leaf_row.Given as goal
 
@@ -19,5 +19,5 @@ invariant-loop-i l =
       splice : (others : List ℕ) → DifferIn (drop l.i l.gaps) (drop l.from l.old) others → DifferIn l.gaps l.old (l.row.items ++ others);
       steps : l.arena.steps + 2 * count_new last rest ≤ l.initial.arena.steps + 2 * count_new last l.entries;
       least : CountsAtLeast (2 * count_new last l.entries) l.initial.arena.steps (l.arena.steps + 2 * count_new last rest);
-      same : keys l.entries ≡ keys last → differing l.row.items l.old + count_new last rest ≤ count_new last l.entries;
+      same : keys l.entries ≡ keys last → differing_count l.row.items l.old + count_new last rest ≤ count_new last l.entries;
     }

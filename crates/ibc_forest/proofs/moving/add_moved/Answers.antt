@@ -1,6 +1,6 @@
 -- The copy is noted.
 use Rattle.std.proofs.Common.{◌∷◌, []}
-use Rattle.ibc_forest.specs.Nodes.{built, Grows}
+use Rattle.ibc_forest.specs.Nodes.{tree_of_node, Grows}
 use Rattle.ibc_forest.proofs.Moved.{moved-grows, moved-set, added}
 use Rattle.ibc_forest.proofs.moving.add_moved.Goals as goal
 
@@ -9,6 +9,6 @@ returns-clause-moved c =
     let old = c.args.old.now in
     let before = c.args.new.now.trees in
     let after = c.add.new.self.trees in
-    let g : Grows before after = (built before c.args.node.below ∷ [], c.in_ok-copy.ensures.ok) in
-    let is = added old before after (built before c.args.node.below) c.args.number c.in_ok-copy.copy c.in_ok-copy.ensures.ok c.in_ok-copy.ensures.number c.requires.same in
+    let g : Grows before after = (tree_of_node before c.args.node.below ∷ [], c.in_ok-copy.ensures.ok) in
+    let is = added old before after (tree_of_node before c.args.node.below) c.args.number c.in_ok-copy.copy c.in_ok-copy.ensures.ok c.in_ok-copy.ensures.number c.requires.same in
     moved-set old after c.args.moved.now c.args.number c.in_ok-copy.copy c.requires.there is (moved-grows old before after c.args.moved.now g c.requires.moved)

@@ -3,7 +3,7 @@ use Rattle.std.proofs.Common.{◌<◌, ◌∷◌, ◌++◌, [], length, get_or, 
 use Rattle.std.proofs.lemmas.List.{map_push, take_all, take_more}
 use Rattle.std.proofs.lemmas.List.Elements.{All-push}
 use Rattle.ibc_forest.specs.Levels.{tree_at, trees_at}
-use Rattle.ibc_forest.specs.Rows.{Stand}
+use Rattle.ibc_forest.specs.NodeLevels.{Stand}
 use Rattle.ibc_forest.proofs.Pairing.{grows_on, trees_at-grows, stand-grows}
 use Rattle.ibc_forest.proofs.moving.move_row.Goals as goal
 

@@ -1,8 +1,8 @@
 use Rattle.std.proofs.Common.{◌≡◌, take}
 use Rattle.ibc_forest.specs.Levels.{trees_at}
-use Rattle.ibc_forest.specs.Moving.{AreMoved}
+use Rattle.ibc_forest.specs.NodeMoves.{AreMoved}
 use Rattle.ibc_forest.specs.Nodes.{Grows}
-use Rattle.ibc_forest.specs.Rows.{Stand}
+use Rattle.ibc_forest.specs.NodeLevels.{Stand}
 use Rattle.ibc_forest.proofs.moving.move_row.Given as goal
 
 abbrev pub invariant-loop-i : goal.invariant-loop-i

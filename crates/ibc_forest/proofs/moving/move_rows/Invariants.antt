@@ -1,8 +1,8 @@
 use Rattle.std.proofs.Common.{◌≡◌, map, take}
 use Rattle.ibc_forest.specs.Levels.{trees_at}
-use Rattle.ibc_forest.specs.Moving.{AreMoved, AllStand}
+use Rattle.ibc_forest.specs.NodeMoves.{AreMoved, AllStand}
 use Rattle.ibc_forest.specs.Nodes.{Grows}
-use Rattle.ibc_forest.specs.Rows.{rows_of}
+use Rattle.ibc_forest.specs.NodeLevels.{rows_of}
 use Rattle.ibc_forest.proofs.moving.move_rows.Given as goal
 
 abbrev pub invariant-loop-i : goal.invariant-loop-i

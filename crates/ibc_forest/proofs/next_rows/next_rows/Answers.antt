@@ -2,8 +2,8 @@
 use Rattle.std.proofs.Common.{◌≡◌, ℕ, List, ◌+◌, ◌-◌, ◌*◌, ◌≤◌, length, subst, arith}
 use Rattle.ibc_merkle.specs.Tree.{Pairs}
 use Rattle.ibc_forest.specs.Counts.{CountsEachNewLeaf}
-use Rattle.ibc_forest.specs.Leaves.{row_pairs, keys, count_new, differing}
-use Rattle.ibc_forest.specs.Rows.{rows_of, first_row}
+use Rattle.ibc_forest.specs.Leaves.{row_pairs, keys, count_new, differing_count}
+use Rattle.ibc_forest.specs.NodeLevels.{rows_of, first_row}
 use Rattle.ibc_forest.proofs.Climbing.{if_ok, if_both}
 use Rattle.ibc_forest.proofs.Counting.{least_more}
 use Rattle.ibc_forest.proofs.LeafRows.{length-row_pairs}
@@ -50,8 +50,8 @@ returns-clause-same c = λ same log few.
     let steps : c.leaf_row.new.arena.steps ≤ c.args.arena.now.steps + 2 * count_new last entries =
     subst (λ row. c.leaf_row.new.arena.steps ≤ c.args.arena.now.steps + 2 * count_new (row_pairs before row) entries) c.first_of.ensures c.in_ok-row.ensures.steps
     in
-    let differ : differing row old ≤ count_new last entries =
-    subst (λ old. keys entries ≡ keys (row_pairs before old) → differing row old ≤ count_new (row_pairs before old) entries) c.first_of.ensures c.in_ok-row.ensures.same same
+    let differ : differing_count row old ≤ count_new last entries =
+    subst (λ old. keys entries ≡ keys (row_pairs before old) → differing_count row old ≤ count_new (row_pairs before old) entries) c.first_of.ensures c.in_ok-row.ensures.same same
     in
-    if_ok c.rows_over.result _ _ (λ next more. all_texts (count_new last entries) c.args.arena.now.steps c.leaf_row.new.arena.steps c.rows_over.new.arena.steps (differing row old) (length c.args.rows.now - 1) log steps more differ low)
+    if_ok c.rows_over.result _ _ (λ next more. all_texts (count_new last entries) c.args.arena.now.steps c.leaf_row.new.arena.steps c.rows_over.new.arena.steps (differing_count row old) (length c.args.rows.now - 1) log steps more differ low)
     (c.rows_over.ensures.few as_many)

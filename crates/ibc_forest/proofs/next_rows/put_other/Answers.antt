@@ -3,8 +3,8 @@ use Rattle.std.proofs.Common.{◌≡◌, ℕ, ◌+◌, ◌-◌, ◌*◌, ◌≤�
 use Rattle.std.proofs.lemmas.List.{length-set}
 use Rattle.ibc_merkle.specs.Tree.{Pairs}
 use Rattle.ibc_forest.specs.Counts.{CountsEachNewLeaf}
-use Rattle.ibc_forest.specs.Leaves.{row_pairs, keys, count_new, unlike}
-use Rattle.ibc_forest.specs.Rows.{rows_of, first_row}
+use Rattle.ibc_forest.specs.Leaves.{row_pairs, keys, count_new, differ_count}
+use Rattle.ibc_forest.specs.NodeLevels.{rows_of, first_row}
 use Rattle.ibc_forest.proofs.Climbing.{if_ok, if_both}
 use Rattle.ibc_forest.proofs.Counting.{least_more}
 use Rattle.ibc_forest.proofs.LeafRows.{length-row_pairs, unlike_most}
@@ -55,7 +55,7 @@ returns-clause-steps c =
     let counted : length entries ≡ length last = ap length c.requires.other.same ∙ length-set last c.args.index (get_or entries c.args.index ([], [])) in
     let there = c.requires.other.there in
     if_ok c.put_leaf.result _ _
-    (λ _ _. few_texts new c.args.arena.now.steps middle c.put_leaf.new.arena.steps (unlike c.in_ok-leaf.leaf (get_or old c.args.index 0)) (length c.args.rows.now - 1) (length entries) leaf c.put_leaf.ensures.steps
+    (λ _ _. few_texts new c.args.arena.now.steps middle c.put_leaf.new.arena.steps (differ_count c.in_ok-leaf.leaf (get_or old c.args.index 0)) (length c.args.rows.now - 1) (length entries) leaf c.put_leaf.ensures.steps
     (unlike_most c.in_ok-leaf.leaf (get_or old c.args.index 0)) (omega arith))
     c.put_leaf.ensures.levels
 
@@ -81,12 +81,12 @@ returns-clause-same c = λ same log few.
     let leaf : middle ≤ c.args.arena.now.steps + 2 * new =
     subst (λ (row : List ℕ). middle ≤ c.args.arena.now.steps + 2 * count_new (row_pairs before row) entries) c.first_of.ensures c.in_ok-leaf.ensures.steps
     in
-    let differ : unlike c.in_ok-leaf.leaf (get_or old c.args.index 0) ≤ new =
-    subst (λ (row : List ℕ). keys entries ≡ keys (row_pairs before row) → unlike c.in_ok-leaf.leaf (get_or row c.args.index 0) ≤ count_new (row_pairs before row) entries) c.first_of.ensures c.in_ok-leaf.ensures.same same
+    let differ : differ_count c.in_ok-leaf.leaf (get_or old c.args.index 0) ≤ new =
+    subst (λ (row : List ℕ). keys entries ≡ keys (row_pairs before row) → differ_count c.in_ok-leaf.leaf (get_or row c.args.index 0) ≤ count_new (row_pairs before row) entries) c.first_of.ensures c.in_ok-leaf.ensures.same same
     in
     let olds = length-row_pairs before old in
     let counted : length entries ≡ length last = ap length c.requires.other.same ∙ length-set last c.args.index (get_or entries c.args.index ([], [])) in
     let low : length c.args.rows.now - 1 ≤ log = levels_few before c.args.rows.now log c.requires.last (let l = few in omega arith) in
     if_ok c.put_leaf.result _ _
-    (λ _ _. all_texts new c.args.arena.now.steps middle c.put_leaf.new.arena.steps (unlike c.in_ok-leaf.leaf (get_or old c.args.index 0)) (length c.args.rows.now - 1) log leaf c.put_leaf.ensures.steps differ low)
+    (λ _ _. all_texts new c.args.arena.now.steps middle c.put_leaf.new.arena.steps (differ_count c.in_ok-leaf.leaf (get_or old c.args.index 0)) (length c.args.rows.now - 1) log leaf c.put_leaf.ensures.steps differ low)
     c.put_leaf.ensures.levels

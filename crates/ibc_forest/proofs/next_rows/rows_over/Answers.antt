@@ -1,6 +1,6 @@
 -- What stands over the first leaves is known.
 use Rattle.std.proofs.Common.{length, sym, ap}
-use Rattle.ibc_forest.specs.Rows.{rows_of, first_row}
+use Rattle.ibc_forest.specs.NodeLevels.{rows_of, first_row}
 use Rattle.ibc_forest.proofs.KnownRows.{known_last}
 use Rattle.ibc_forest.proofs.next_rows.rows_over.Goals as goal
 

@@ -3,12 +3,12 @@ use Rattle.std.proofs.Common.{◌≡◌, sym, ap, ◌∙◌, arith, Less, Greate
 use Rattle.std.specs.FinMap.{is_sorted}
 use Rattle.ibc_ids.specs.Texts.{text_cmp}
 use Rattle.ibc_merkle.specs.Tree.{Pairs}
-use Rattle.ibc_merkle.specs.Places.{key_at}
+use Rattle.ibc_merkle.specs.PairPlaces.{key_at}
 use Rattle.ibc_merkle.proofs.Edits.{take_is_sorted, drop_is_sorted}
 use Rattle.ibc_forest.specs.Heights.{pairs_of}
 use Rattle.ibc_forest.proofs.Climbing.{if_both}
 use Rattle.ibc_forest.proofs.Descents.{halved_below}
-use Rattle.ibc_forest.proofs.Places.{here_at, first_right, left_here, right_here, left_gap, right_gap, if_both_err}
+use Rattle.ibc_forest.proofs.KeysAroundPlaces.{here_at, first_right, left_here, right_here, left_gap, right_gap, if_both_err}
 use Rattle.ibc_forest.proofs.place.+place_in.Goals as goal
 
 pub compare_first-requires-in-Children : goal.compare_first-requires-in-Children

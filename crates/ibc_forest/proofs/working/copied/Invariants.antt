@@ -1,5 +1,5 @@
 use Rattle.std.proofs.Common.{◌≡◌, take}
-use Rattle.ibc_forest.specs.Rows.{rows_of}
+use Rattle.ibc_forest.specs.NodeLevels.{rows_of}
 use Rattle.ibc_forest.proofs.working.copied.Given as goal
 
 abbrev pub invariant-loop-i : goal.invariant-loop-i

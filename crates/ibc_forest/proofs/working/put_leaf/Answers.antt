@@ -1,6 +1,6 @@
 -- Another node there, so one text a row above it.
 use Rattle.std.proofs.Common.{◌≢◌, ◌-◌, get_or, length, sym, ap, ◌∙◌, arith}
-use Rattle.ibc_forest.specs.Rows.{rows_of, first_row}
+use Rattle.ibc_forest.specs.NodeLevels.{rows_of, first_row}
 use Rattle.ibc_forest.proofs.Putting.{one_time}
 use Rattle.ibc_forest.proofs.working.put_leaf.Goals as goal
 

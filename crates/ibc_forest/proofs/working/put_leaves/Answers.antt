@@ -1,7 +1,7 @@
 -- One place more.
 use Rattle.std.proofs.Common.{◌≡◌, ◌-◌, ◌*◌, ◌∙◌, ap₂, arith, get_or, length}
-use Rattle.ibc_forest.specs.Leaves.{unlike}
-use Rattle.ibc_forest.specs.Rows.{rows_of, first_row}
+use Rattle.ibc_forest.specs.Leaves.{differ_count}
+use Rattle.ibc_forest.specs.NodeLevels.{rows_of, first_row}
 use Rattle.ibc_forest.proofs.Counting.{least_more}
 use Rattle.ibc_forest.proofs.Pairing.{grows_on}
 use Rattle.ibc_forest.proofs.Putting.{put_one, differing_more_times}
@@ -16,8 +16,8 @@ loop-i-preserved c =
     let above = length c.args.rows.now - 1 in
     let counted : length c.loop-i.rows ≡ length c.args.rows.now = c.loop-i.auto.rows in
     let w = put_one row old now i c.loop-i-test.true c.requires.counted c.loop-i.invariant.row in
-    let times : unlike (get_or row i 0) (get_or now i 0) * (length c.loop-i.rows - 1) ≡ unlike (get_or row i 0) (get_or old i 0) * above =
-    ap₂ (λ x n. unlike (get_or row i 0) x * (n - 1)) w.1 counted
+    let times : differ_count (get_or row i 0) (get_or now i 0) * (length c.loop-i.rows - 1) ≡ differ_count (get_or row i 0) (get_or old i 0) * above =
+    ap₂ (λ x n. differ_count (get_or row i 0) x * (n - 1)) w.1 counted
     in
     let more = differing_more_times row old i above c.loop-i-test.true c.requires.counted in
     let so_far = c.loop-i.invariant.steps in

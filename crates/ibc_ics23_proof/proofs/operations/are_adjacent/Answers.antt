@@ -3,7 +3,7 @@ use Rattle.std.proofs.Common.{◌≡◌, true, not, ◌&&◌, ◌-◌, take, sym
 use Rattle.std.specs.Bool.{beq}
 use Rattle.std.specs.List.{list_all}
 use Rattle.ibc_merkle.specs.Proofs.{goes_left, are_adjacent}
-use Rattle.ibc_ics23_proof.proofs.Turns.{turns_of, none_right, parts_here}
+use Rattle.ibc_ics23_proof.proofs.PathTurns.{turns_of, none_right, parts_here}
 use Rattle.ibc_ics23_proof.proofs.operations.are_adjacent.Goals as goal
 
 pub returns-else-rights-gt0 : goal.returns-else-rights-gt0

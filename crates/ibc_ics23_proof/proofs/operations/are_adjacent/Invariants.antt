@@ -1,6 +1,6 @@
 use Rattle.std.proofs.Common.{◌≡◌, ◌≤◌, length, take}
 use Rattle.ibc_merkle.specs.Proofs.{are_adjacent}
-use Rattle.ibc_ics23_proof.proofs.Turns.{turns_of}
+use Rattle.ibc_ics23_proof.proofs.PathTurns.{turns_of}
 use Rattle.ibc_ics23_proof.proofs.operations.are_adjacent.Given as goal
 
 abbrev pub invariant-loop-lefts : goal.invariant-loop-lefts

@@ -7,4 +7,4 @@ use Rattle.ibc_ledger.proofs.reads.named_in.Goals as goal
 pub returns-in_default-clause-ok : goal.returns-in_default-clause-ok
 returns-in_default-clause-ok c =
     ap (λ (o : Option Text). channel_at (core_of c.args.records.now) c.args.end.now.peer_port (unwrap_or o [])) c.in_default.is
-    ∙ no_empty_name (core_of c.args.records.now) c.args.end.now.peer_port c.names_are_names.ensures
+    ∙ no_empty_name (core_of c.args.records.now) c.args.end.now.peer_port c.lemma_names_have_form.ensures

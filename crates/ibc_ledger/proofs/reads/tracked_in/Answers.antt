@@ -8,7 +8,7 @@ use Rattle.ibc_ledger.proofs.reads.tracked_in.Goals as goal
 
 pub returns-in_default : goal.returns-in_default
 returns-in_default c =
-    sym (ap (option_map (λ (client : Client). client.state.chain)) (client_nowhere (core_of c.args.records.now) c.args.connection.now c.names_are_names.ensures (sym c.connection.ensures ∙ ap option_copied c.in_default.is)))
+    sym (ap (option_map (λ (client : Client). client.state.chain)) (client_nowhere (core_of c.args.records.now) c.args.connection.now c.lemma_names_have_form.ensures (sym c.connection.ensures ∙ ap option_copied c.in_default.is)))
 
 pub returns-in-Some-client : goal.returns-in-Some-client
 returns-in-Some-client c =

@@ -3,8 +3,8 @@ use Rattle.std.proofs.Common.{◌≡◌, ◌<◌, ◌++◌, suc, length, set, sy
 use Rattle.std.specs.Arc.{arc_value}
 use Rattle.std.specs.FinMap.{is_sorted}
 use Rattle.std.specs.List.{AllByRecursion, insert}
-use Rattle.ibc_maps.specs.Chunks.{joined, HasPairs}
-use Rattle.ibc_maps.proofs.Rows.{one_more, joined-divided, whole-divided, some-take, some-drop}
+use Rattle.ibc_maps.specs.Chunks.{joined_chunks, HasPairs}
+use Rattle.ibc_maps.proofs.PairsInChunks.{one_more, joined-divided, whole-divided, some-take, some-drop}
 use Rattle.ibc_maps.proofs.row.divide.Given.{Over}
 use Rattle.ibc_maps.proofs.row.divide.Goals as goal
 
@@ -17,9 +17,9 @@ module _ (g : Over) (c : goal.After-drop-index_mut g) where
   halves : (arc_value c.in_ok-low.low).pairs ++ (arc_value c.in_ok-low.high).pairs ≡ (arc_value c.index-chunk.result.now).pairs
   halves = ap₂ ◌++◌ c.in_ok-low.ensures.low c.in_ok-low.ensures.high ∙ take-append-drop 64 (arc_value c.index-chunk.result.now).pairs
 
-  same : joined (set c.insert.new.self.items c.args.place c.in_ok-low.low) ≡ joined c.args.chunks.now.items
+  same : joined_chunks (set c.insert.new.self.items c.args.place c.in_ok-low.low) ≡ joined_chunks c.args.chunks.now.items
   same =
-      ap joined items
+      ap joined_chunks items
       ∙ joined-divided c.args.chunks.now.items c.args.place c.index-chunk.result.now c.in_ok-low.low c.in_ok-low.high c.requires.within c.index-chunk.ensures halves
 
   long : 64 < length (arc_value c.index-chunk.result.now).pairs

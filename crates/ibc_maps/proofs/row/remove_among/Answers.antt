@@ -4,8 +4,8 @@ use Rattle.std.specs.Arc.{arc_value}
 use Rattle.std.specs.FinMap.{is_sorted}
 use Rattle.std.specs.List.{AllByRecursion}
 use Rattle.ibc_ids.specs.Maps.{without}
-use Rattle.ibc_maps.specs.Chunks.{joined, HasPairs}
-use Rattle.ibc_maps.proofs.Rows.{if_err, same_when_set, whole-removed, joined-emptied, counted_there}
+use Rattle.ibc_maps.specs.Chunks.{joined_chunks, HasPairs}
+use Rattle.ibc_maps.proofs.PairsInChunks.{if_err, same_when_set, whole-removed, joined-emptied, counted_there}
 use Rattle.ibc_maps.proofs.KeysAmongChunks.{place_at, without-place, sorted-without, row_when, row_same}
 use Rattle.ibc_maps.proofs.row.remove_among.Goals as goal
 
@@ -61,8 +61,8 @@ returns-else-len-eq0-clause-row g c =
     let p = place_at total chunks c.deref.result.now key i chunk c.deref.ensures.value its.within its.below its.above c.index_mut.ensures.value in
     let n = counted_there chunks i after c.index.result.now c.deref-2.result.now c.len.result p.within c.index.ensures c.deref-2.ensures c.len.ensures in
     let no = c.if-len-eq0.false in
-    row_when total chunks i after (without g.K.Ord.cmp key (joined chunks)) c.requires.row.whole (without-place total chunks key i chunk p after c.in_ok-remove_in.ensures.ok)
-    (sorted-without total key (joined chunks) c.requires.row.sorted)
+    row_when total chunks i after (without g.K.Ord.cmp key (joined_chunks chunks)) c.requires.row.whole (without-place total chunks key i chunk p after c.in_ok-remove_in.ensures.ok)
+    (sorted-without total key (joined_chunks chunks) c.requires.row.sorted)
     (let some : 0 < length (arc_value after).pairs = omega arith in some)
 
 -- ---- the last
@@ -78,7 +78,7 @@ returns-then-len-eq0-clause-ok g c =
     let total = g.met.K.Ord.total in
     let p = place_at total chunks c.deref.result.now key i chunk c.deref.ensures.value its.within its.below its.above c.index_mut.ensures.value in
     let n = counted_there chunks i after c.index.result.now c.deref-2.result.now c.len.result p.within c.index.ensures c.deref-2.ensures c.len.ensures in
-    ap joined c.remove.ensures.items
+    ap joined_chunks c.remove.ensures.items
     ∙ joined-emptied chunks i after p.within (sym n ∙ c.if-len-eq0.true)
     ∙ without-place total chunks key i chunk p after c.in_ok-remove_in.ensures.ok
 
@@ -95,8 +95,8 @@ returns-then-len-eq0-clause-row g c =
     let n = counted_there chunks i after c.index.result.now c.deref-2.result.now c.len.result p.within c.index.ensures c.deref-2.ensures c.len.ensures in
     record {
       sorted =
-          ap (λ cs. is_sorted g.K.Ord.cmp (joined cs)) c.remove.ensures.items
+          ap (λ cs. is_sorted g.K.Ord.cmp (joined_chunks cs)) c.remove.ensures.items
           ∙ ap (is_sorted g.K.Ord.cmp) (joined-emptied chunks i after p.within (sym n ∙ c.if-len-eq0.true) ∙ without-place total chunks key i chunk p after c.in_ok-remove_in.ensures.ok)
-          ∙ sorted-without total key (joined chunks) c.requires.row.sorted;
+          ∙ sorted-without total key (joined_chunks chunks) c.requires.row.sorted;
       whole = subst (AllByRecursion HasPairs) (sym c.remove.ensures.items) (whole-removed chunks i after c.requires.row.whole);
     }

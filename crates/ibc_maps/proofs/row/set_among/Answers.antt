@@ -1,7 +1,7 @@
 -- The chunk of the key has the value.
 use Rattle.std.proofs.Common.{ap, ◌∙◌}
 use Rattle.ibc_ids.specs.Maps.{with}
-use Rattle.ibc_maps.proofs.Rows.{on_ok, on_err, either, same_when_set}
+use Rattle.ibc_maps.proofs.PairsInChunks.{on_ok, on_err, either, same_when_set}
 use Rattle.ibc_maps.proofs.KeysAmongChunks.{IsPlace, place_at, with-place, row_same, row_with}
 use Rattle.ibc_maps.proofs.row.set_among.Given.{Over}
 use Rattle.ibc_maps.proofs.row.set_among.Goals as goal

@@ -6,7 +6,7 @@ use Rattle.std.specs.FinMap.{is_sorted}
 use Rattle.std.proofs.lemmas.Fn.{always_returns_same}
 use Rattle.ibc_ids.specs.Texts.{Text, text_cmp}
 use Rattle.ibc_merkle.specs.Tree.{Pairs}
-use Rattle.ibc_merkle.proofs.Places.{searchable}
+use Rattle.ibc_merkle.proofs.SearchedPairs.{searchable}
 use Rattle.ibc_merkle.proofs.search.place.Goals as goal
 
 here : (es : Pairs) (key : Text) (r : Result ℕ ℕ) → IsBinarySearchResult (λ (e : Text × Text). text_cmp e.0 key) es r

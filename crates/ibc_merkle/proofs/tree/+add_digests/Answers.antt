@@ -2,9 +2,9 @@
 use Rattle.std.proofs.Common.{◌≡◌, ◌∷◌, ◌++◌, [], IfOk, OnOk, sym, ◌∙◌, arith, ap, ap₂, subst}
 use Rattle.ibc_merkle.specs.Hash.{hash, inner_text}
 use Rattle.ibc_merkle.specs.Tree.{tree_root}
-use Rattle.ibc_merkle.specs.Kept.{digests_of}
+use Rattle.ibc_merkle.specs.NodeDigests.{digests_of}
 use Rattle.ibc_merkle.proofs.Trees.{tree_root-halves}
-use Rattle.ibc_merkle.proofs.Kept.{added_halves}
+use Rattle.ibc_merkle.proofs.KeptDigests.{added_halves}
 use Rattle.ibc_merkle.proofs.tree.+add_digests.Goals as goal
 
 root_is : {t : _} (c : goal.After-add_digest-2 t) → c.inner_digest.result ≡ tree_root c.args.entries.now

@@ -2,12 +2,12 @@
 use Rattle.std.proofs.Common.{rules, arith, ◌+◌, ◌-◌, [], ◌∷◌, ◌++◌, length, ap, ◌∙◌, sym, subst, length-take}
 use Rattle.std.specs.FinMap.{is_sorted}
 use Rattle.ibc_ids.specs.Texts.{text_cmp}
-use Rattle.ibc_merkle.specs.Kept.{digests_of}
-use Rattle.ibc_merkle.specs.Places.{key_at}
+use Rattle.ibc_merkle.specs.NodeDigests.{digests_of}
+use Rattle.ibc_merkle.specs.PairPlaces.{key_at}
 use Rattle.ibc_merkle.specs.Written.{left_child, right_child}
 use Rattle.ibc_merkle.proofs.Edits.{take_is_sorted, drop_is_sorted}
 use Rattle.ibc_merkle.proofs.Climbs.{AddsTo, adds_at_leaf, adds_on_left, adds_on_right}
-use Rattle.ibc_merkle.proofs.Kept.{length-digests, length-rest, left_digests, right_digests, last_of_left, last_of_right}
+use Rattle.ibc_merkle.proofs.KeptDigests.{length-digests, length-rest, left_digests, right_digests, last_of_left, last_of_right}
 use Rattle.ibc_merkle.proofs.writing.+add_operations.Goals as goal
 
 pub returns-then-entries-eq1 : goal.returns-then-entries-eq1

@@ -3,7 +3,7 @@ use Rattle.std.proofs.Common.{subst}
 use Rattle.ibc_ids.specs.Paths.{path}
 use Rattle.ibc_ids.specs.declared.key.Key.TheVariants as key
 use Rattle.ibc_machine.specs.ics24.Values.{NumberIs}
-use Rattle.ibc_client.specs.Judging.{IsShown}
+use Rattle.ibc_client.specs.ProofVerdicts.{IsShown}
 use Rattle.ibc_client.proofs.Shown.{is_shown, is_shown_absent}
 use Rattle.ibc_packet.proofs.OwnEnd.{not_received_in_order, not_received_in_any_order}
 use Rattle.ibc_packet.proofs.claims.check_not_received.Goals as goal

@@ -5,7 +5,7 @@ use Rattle.ibc_wire.specs.declared.records.ChannelEnd.{ChannelEnd}
 use Rattle.ibc_machine.specs.ics04.Channels.{client_of}
 use Rattle.ibc_machine.specs.ics24.Evidence.{require_known}
 use Rattle.ibc_machine.specs.chain.Records.{connection_at}
-use Rattle.ibc_records.specs.Held.{core_of}
+use Rattle.ibc_records.specs.RecordsModel.{core_of}
 use Rattle.ibc_packet.proofs.ends.known_over.Goals as goal
 
 pub returns-clause-there : goal.returns-clause-there

@@ -5,9 +5,9 @@ use Rattle.ibc_ids.specs.declared.refusal.Refusal.TheVariants.{UnknownChannel, W
 use Rattle.ibc_machine.specs.chain.Checks.{require, expect}
 use Rattle.ibc_machine.specs.ics04.Packets.{sending_end}
 use Rattle.ibc_machine.proofs.PassedChecks.{pass, fail, find}
-use Rattle.ibc_records.specs.Held.{core_of}
+use Rattle.ibc_records.specs.RecordsModel.{core_of}
 use Rattle.ibc_client.proofs.Judging.{stops_at, refuses}
-use Rattle.ibc_packet.proofs.Rows.{sending_row}
+use Rattle.ibc_packet.proofs.PacketChecks.{sending_row}
 use Rattle.ibc_packet.proofs.sending.sending_end.Goals as goal
 
 pub returns-in_err-mine-clause-passed : goal.returns-in_err-mine-clause-passed

@@ -2,7 +2,7 @@
 use Rattle.std.proofs.Common.{◌≡◌, ℕ, ◌+◌, ◌-◌, ◌<◌, ◌≤◌, ◌++◌, List, length, get_or, take, drop, set, sym, ap, ◌∙◌, subst, arith}
 use Rattle.std.proofs.lemmas.List.{length-set, get_or_default}
 use Rattle.ibc_forest.specs.declared.gap.Gap.{Gap}
-use Rattle.ibc_path_store.specs.Touching.{no_gap, touched}
+use Rattle.ibc_path_store.specs.GapChanges.{no_gap, with_replacement}
 use Rattle.ibc_path_store.proofs.Touching.{touched_wide, written_over}
 use Rattle.ibc_path_store.proofs.touched.touch_gaps.Goals as goal
 
@@ -25,8 +25,8 @@ returns-then-index-before c = λ fits.
     subst (λ (gs : List Gap). number < length gs → (get_or gs number no_gap).kept ≤ before → before - (get_or gs number no_gap).kept + gone ≤ (get_or gs number no_gap).come) c.as_slice.ensures.value
     c.place_of-number.ensures.inside l behind
     in
-    let rest : touched gaps c.args.index gone come ≡ take number gaps ++ touched (drop number gaps) before gone come =
-    subst (λ (gs : List Gap). touched gs c.args.index gone come ≡ take number gs ++ touched (drop number gs) before gone come) c.as_slice.ensures.value (c.place_of-number.ensures.rest come)
+    let rest : with_replacement gaps c.args.index gone come ≡ take number gaps ++ with_replacement (drop number gaps) before gone come =
+    subst (λ (gs : List Gap). with_replacement gs c.args.index gone come ≡ take number gs ++ with_replacement (drop number gs) before gone come) c.as_slice.ensures.value (c.place_of-number.ensures.rest come)
     in
     let new : c.widen.new.gaps ≡ wide gaps number gone come = c.widen.ensures fits ∙ ap (λ (gs : List Gap). wide gs number gone come) c.as_mut_slice.ensures.value in
     let many : length c.widen.new.gaps ≡ length gaps = ap length new ∙ length-set gaps number _ in

@@ -4,7 +4,7 @@ use Rattle.std.specs.Cmp.Lexicographic.{nat_list_cmp_total}
 use Rattle.ibc_ids.specs.Texts.{Text, text_cmp}
 use Rattle.ibc_ids.specs.Maps.{with}
 use Rattle.ibc_machine.proofs.FiniteMaps.{by_text}
-use Rattle.ibc_records.specs.HeldClients.{with_height}
+use Rattle.ibc_records.specs.ClientModels.{with_height}
 use Rattle.ibc_records.proofs.Learning.{replaced, put_back, on_ok, on_err}
 use Rattle.ibc_records.proofs.records.learn.Goals as goal
 

@@ -5,4 +5,4 @@ use Rattle.ibc_relayer.proofs.ends.tracking.Goals as goal
 
 pub returns-in_default-clause-tracks : goal.returns-in_default-clause-tracks
 returns-in_default-clause-tracks c =
-    sym (tracks_nowhere c.args.a.now c.args.b.now c.args.mine.now c.names_are_names.ensures (sym c.in_default.ensures))
+    sym (tracks_nowhere c.args.a.now c.args.b.now c.args.mine.now c.lemma_names_have_form.ensures (sym c.in_default.ensures))

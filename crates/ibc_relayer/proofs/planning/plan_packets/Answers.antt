@@ -10,8 +10,8 @@ use Rattle.ibc_machine.specs.chain.Records.{Core, Channel}
 use Rattle.ibc_machine.specs.ics18.Relay.{pending_at, pending_message}
 use Rattle.ibc_machine.proofs.FiniteMaps.{pair_cmp_total}
 use Rattle.ibc_machine.proofs.SortedMaps.{Sorted-from}
-use Rattle.ibc_relayer.specs.Found.{AreTheEnds, AreEnds}
-use Rattle.ibc_relayer.specs.Used.{goes_over}
+use Rattle.ibc_relayer.specs.EndPairs.{IsEndPair, IsFoundEndPair}
+use Rattle.ibc_relayer.specs.UsedClients.{is_over_client}
 use Rattle.ibc_relayer.proofs.Plans.{one_end, one_used, same_messages, same_over, each_there}
 use Rattle.ibc_relayer.proofs.planning.plan_packets.Goals as goal
 
@@ -23,9 +23,9 @@ loop-port-init c =
     let all : c.into_iter-port-iterator.result ≡ b.core.channels = c.into_iter-port-iterator.ensures.into_iter_gives ∙ c.iter-port-items.ensures ∙ pairs in
     record {
       planned = λ i. c.requires.empty i ++ filter_map (pending_message a b) (flat_map (pending_at a b) (all i));
-      used = λ id. (λ i. goes_over b id (flat_map (pending_at a b) (all i)) || is_some (at text_cmp id (c.new-used.ensures.empty i))) ∙ or-false (goes_over b id (flat_map (pending_at a b) b.core.channels));
+      used = λ id. (λ i. is_over_client b id (flat_map (pending_at a b) (all i)) || is_some (at text_cmp id (c.new-used.ensures.empty i))) ∙ or-false (is_over_client b id (flat_map (pending_at a b) b.core.channels));
       there = subst (λ (es : List ((Text × Text) × Channel)). AllByRecursion (λ e. at pair_cmp e.0 b.core.channels ≡ Some e.1) es) (sym all)
-          (each_there pair_cmp_total b.core.channels (Sorted-from pair_cmp b.core.channels (ap (is_sorted pair_cmp) (sym pairs) ∙ c.are_in_order.ensures)));
+          (each_there pair_cmp_total b.core.channels (Sorted-from pair_cmp b.core.channels (ap (is_sorted pair_cmp) (sym pairs) ∙ c.lemma_in_order.ensures)));
     }
 
 pub loop-port-preserved-in-Continue-branch-3 : goal.loop-port-preserved-in-Continue-branch-3
@@ -37,7 +37,7 @@ loop-port-preserved-in-Continue-branch-3 c =
     let e : (Text × Text) × Channel = (place, mine) in
     let rest = c.next.new.self in
     let ends = c.in-Some-2.ends in
-    let are : AreTheEnds a b place.0 place.1 mine ends = subst (AreEnds a b place.0 place.1 mine) c.in-Some-2.is c.in_ok-ends.ensures.ok in
+    let are : IsEndPair a b place.0 place.1 mine ends = subst (IsFoundEndPair a b place.0 place.1 mine) c.in-Some-2.is c.in_ok-ends.ensures.ok in
     let before = c.loop-port.messages.items in
     let used = c.loop-port.used.entries in
     let steps = c.in-Some.ensures.steps in
@@ -46,7 +46,7 @@ loop-port-preserved-in-Continue-branch-3 c =
           (ap (λ (left : List ((Text × Text) × Channel)). before ++ filter_map (pending_message a b) (flat_map (pending_at a b) left)) (sym steps) ∙ c.loop-port.invariant.planned)
           (c.in_ok-plan_end.ensures.ok ∙ ap (λ (ms : List Message). before ++ ms) (same_messages a b place.0 place.1 mine ends are));
       used = λ id. one_used a b id (is_some (at text_cmp id used)) (is_some (at text_cmp id c.plan_end.new.used.entries)) e rest
-          (ap (λ (left : List ((Text × Text) × Channel)). goes_over b id (flat_map (pending_at a b) left) || is_some (at text_cmp id used)) (sym steps) ∙ c.loop-port.invariant.used id)
+          (ap (λ (left : List ((Text × Text) × Channel)). is_over_client b id (flat_map (pending_at a b) left) || is_some (at text_cmp id used)) (sym steps) ∙ c.loop-port.invariant.used id)
           (c.in_ok-plan_end.ensures.used id ∙ ap (λ x. x || is_some (at text_cmp id used)) (same_over a b place.0 place.1 mine ends id are));
       there = (subst (AllByRecursion (λ (e : (Text × Text) × Channel). at pair_cmp e.0 b.core.channels ≡ Some e.1)) steps c.loop-port.invariant.there).1;
     }

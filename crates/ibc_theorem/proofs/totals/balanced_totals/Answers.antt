@@ -5,12 +5,12 @@ use Rattle.std.proofs.lemmas.Option.{slice_get-map}
 use Rattle.ibc_ids.specs.Texts.{Text}
 use Rattle.ibc_ids.specs.Names.{is_denom}
 use Rattle.ibc_machine.specs.declared.totals.Totals.{Totals}
-use Rattle.ibc_machine.specs.chain.Records.{Chain}
+use Rattle.ibc_machine.specs.chain.Records.{MachineChain}
 use Rattle.ibc_machine.specs.promises.Totals.{totals}
 use Rattle.std.proofs.lemmas.Result.{IfOk-weaker}
 use Rattle.ibc_machine.specs.ledger.Ledgers.{Ledger, state_of}
 use Rattle.ibc_laws.proofs.tokens.BalancedTotals.{HoldDenominations, totals_balance}
-use Rattle.ibc_world_core.specs.Totals.{AllHold, plain_totals}
+use Rattle.ibc_world_core.specs.Totals.{AllHold, abstract_totals}
 use Rattle.ibc_theorem.specs.EveryWorld.{states_of}
 use Rattle.ibc_theorem.proofs.totals.balanced_totals.Goals as goal
 
@@ -22,13 +22,13 @@ hold ledgers each k chain there = go (slice_get ledgers k) refl (sym (slice_get-
         → list_all (λ (entry : (Text × Text) × ℕ). is_denom entry.0.1) chain.records.apps.balances ≡ true
     go (Some ledger) at is =
         let same : (state_of ledger).chain ≡ chain = cc (is) in
-        ap (λ (c : Chain). list_all (λ (entry : (Text × Text) × ℕ). is_denom entry.0.1) c.records.apps.balances) (sym same) ∙ each k ledger at
+        ap (λ (c : MachineChain). list_all (λ (entry : (Text × Text) × ℕ). is_denom entry.0.1) c.records.apps.balances) (sym same) ∙ each k ledger at
     go None at is = absurd (cc is)
 
 pub returns-clause-balanced : goal.returns-clause-balanced
 returns-clause-balanced c = λ clash.
     let world = c.args.world.now in
-    let lawful = c.what_every_world_keeps.ensures clash in
-    IfOk-weaker c.totals.result (λ (t : Totals). totals (states_of world) c.args.chain c.args.channel.now c.args.denom.now ≡ Ok (plain_totals t)) (λ (t : Totals). t.escrow ≡ t.vouchers + t.out + t.back)
-    (λ t is. totals_balance (states_of world) lawful.one_peer lawful.conserved (hold world.ledgers c.holds_denominations.ensures) c.args.chain c.args.channel.now c.args.denom.now (plain_totals t) is)
+    let lawful = c.lemma_what_every_world_keeps.ensures clash in
+    IfOk-weaker c.totals.result (λ (t : Totals). totals (states_of world) c.args.chain c.args.channel.now c.args.denom.now ≡ Ok (abstract_totals t)) (λ (t : Totals). t.escrow ≡ t.vouchers + t.out + t.back)
+    (λ t is. totals_balance (states_of world) lawful.one_peer lawful.conserved (hold world.ledgers c.lemma_holds_denominations.ensures) c.args.chain c.args.channel.now c.args.denom.now (abstract_totals t) is)
     c.totals.ensures.ok

@@ -2,7 +2,7 @@ use Rattle.std.proofs.Common.{ap, sym, ◌∙◌, subst}
 use Rattle.std.proofs.lemmas.Result.{err_from_is_err_and}
 use Rattle.ibc_ids.specs.Names.{is_memo}
 use Rattle.ibc_machine.specs.ics20.TokenData.{has_several}
-use Rattle.ibc_token_data.proofs.Found.{HasParties, has_parties, good_parts}
+use Rattle.ibc_token_data.proofs.JsonMembers.{HasParties, has_parties, good_parts}
 use Rattle.ibc_token_data.proofs.reading.data_in.Goals as goal
 
 pub returns-in_err-memo_at : goal.returns-in_err-memo_at

@@ -3,7 +3,7 @@ use Rattle.std.specs.Option.{option_and_then}
 use Rattle.json.specs.Find.{as_array}
 use Rattle.json.specs.Value.{items_of, value_view}
 use Rattle.ibc_token_data.specs.Json.{token_json}
-use Rattle.ibc_token_data.proofs.Found.{items_same}
+use Rattle.ibc_token_data.proofs.JsonMembers.{items_same}
 use Rattle.ibc_token_data.proofs.reading.listed_tokens.Goals as goal
 
 pub returns-in-Some : goal.returns-in-Some

@@ -1,7 +1,7 @@
 use Rattle.std.proofs.Common.{ap, codes}
 use Rattle.std.proofs.lemmas.Result.{err_from_is_err_and}
 use Rattle.ibc_token_data.specs.Members.{text_at}
-use Rattle.ibc_token_data.proofs.Found.{token_at_place, one_more}
+use Rattle.ibc_token_data.proofs.JsonMembers.{token_at_place, one_more}
 use Rattle.ibc_token_data.proofs.reading.tokens_in.Goals as goal
 
 pub returns-in_err-token_at : goal.returns-in_err-token_at

@@ -1,6 +1,6 @@
 -- One move more stands in front of those of the tokens that are left.
 use Rattle.std.proofs.Common.{sym, ap, ◌∙◌, ◌+◌, drop}
-use Rattle.ibc_transfer.specs.Arriving.{receive_moves}
+use Rattle.ibc_transfer.specs.TokenArrival.{receive_moves}
 use Rattle.ibc_transfer.proofs.Receiving.{behind, one_more}
 use Rattle.ibc_transfer.proofs.arriving.receive_moves.Goals as goal
 

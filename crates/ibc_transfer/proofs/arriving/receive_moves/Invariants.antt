@@ -1,6 +1,6 @@
 -- The moves so far stand before those of the tokens that are left.
 use Rattle.std.proofs.Common.{◌≡◌, drop}
-use Rattle.ibc_transfer.specs.Arriving.{receive_moves}
+use Rattle.ibc_transfer.specs.TokenArrival.{receive_moves}
 use Rattle.ibc_transfer.proofs.Receiving.{behind}
 use Rattle.ibc_transfer.proofs.arriving.receive_moves.Given as goal
 

@@ -1,6 +1,6 @@
 -- The moves so far stand before those of the tokens that are left.
 use Rattle.std.proofs.Common.{◌≡◌, ◌++◌, drop}
-use Rattle.ibc_transfer.specs.Returning.{settle_moves}
+use Rattle.ibc_transfer.specs.TokenRefunds.{settle_moves}
 use Rattle.ibc_transfer.proofs.returning.settle_moves.Given as goal
 
 abbrev pub invariant-loop-token : goal.invariant-loop-token

@@ -5,13 +5,13 @@ use Rattle.ibc_machine.specs.declared.reply.Effect.{Effect}
 use Rattle.ibc_machine.specs.declared.reply.Effect.TheVariants as effect
 use Rattle.ibc_machine.specs.chain.Checks.{Checked, require}
 use Rattle.ibc_machine.specs.chain.Records.{Core}
-use Rattle.ibc_machine.specs.ledger.Replay.{proves}
+use Rattle.ibc_machine.specs.ledger.Replay.{proof_evidence}
 use Rattle.ibc_machine.proofs.PassedChecks.{pass, fail}
 use Rattle.ibc_bank.specs.Moves.{BankState}
-use Rattle.ibc_records.specs.Held.{core_of}
-use Rattle.ibc_records.specs.Taking.{IsTakenWith, host_with}
-use Rattle.ibc_transfer.specs.Sent.{bank_transfer_many}
-use Rattle.ibc_transfer.specs.Sending.{PlainParcel, sends}
+use Rattle.ibc_records.specs.RecordsModel.{core_of}
+use Rattle.ibc_records.specs.HandlerContract.{IsTakenWith, host_with}
+use Rattle.ibc_transfer.specs.BankTransfers.{bank_transfer_many}
+use Rattle.ibc_transfer.specs.TransferChecks.{OutgoingModel, send_handler}
 use Rattle.ibc_transfer.proofs.ByBank.{many_refused, taken_by_balances, transfer_many_by_bank}
 use Rattle.ibc_transfer.proofs.Sends.{has_form, many_sent}
 use Rattle.ibc_transfer.proofs.sending.send_transfer_many.Goals as goal
@@ -20,13 +20,13 @@ pub returns-then-not-are_few_and_rising-clause-answer : goal.returns-then-not-ar
 returns-then-not-are_few_and_rising-clause-answer c =
     let form = ap (λ b. require b BadMessage) (sym (c.if-not-are_few_and_rising.ensures ∙ ap has_form c.as_slice.ensures)) in
     λ chain chains seen state knowledge.
-    (inl (many_refused (proves seen None state) (host_with chain chains c.args.records.now) (core_of c.args.records.now) c.args.transfers.now c.args.message.now form), refl, refl)
+    (inl (many_refused (proof_evidence seen None state) (host_with chain chains c.args.records.now) (core_of c.args.records.now) c.args.transfers.now c.args.message.now form), refl, refl)
 
 pub returns-then-not-are_few_and_rising-clause-counted : goal.returns-then-not-are_few_and_rising-clause-counted
 returns-then-not-are_few_and_rising-clause-counted c =
     let form = ap (λ b. require b BadMessage) (sym (c.if-not-are_few_and_rising.ensures ∙ ap has_form c.as_slice.ensures)) in
     λ chain chains seen state knowledge.
-    (inl (fail _ form (many_sent (proves seen None state) (host_with chain chains c.args.records.now) (core_of c.args.records.now) c.args.transfers.now c.args.message.now)), refl, refl)
+    (inl (fail _ form (many_sent (proof_evidence seen None state) (host_with chain chains c.args.records.now) (core_of c.args.records.now) c.args.transfers.now c.args.message.now)), refl, refl)
 
 pub returns-clause-counted : goal.returns-clause-counted
 returns-clause-counted c =
@@ -37,7 +37,7 @@ returns-clause-counted c =
     λ chain chains seen state knowledge.
     let host = host_with chain chains old in
     subst (λ (checked : Checked (Effect × Core × BankState)). IsTakenWith effect.Sent checked old bank c.send_parcel.result c.send_parcel.new.records c.send_parcel.new.transfers)
-    (ap (λ (parcel : PlainParcel). sends m.channel parcel (proves seen None state) host (core_of old) bank) c.in_ok-parcel.ensures.ok ∙ sym (pass form (many_sent (proves seen None state) host (core_of old) bank m)))
+    (ap (λ (parcel : OutgoingModel). send_handler m.channel parcel (proof_evidence seen None state) host (core_of old) bank) c.in_ok-parcel.ensures.ok ∙ sym (pass form (many_sent (proof_evidence seen None state) host (core_of old) bank m)))
     (c.send_parcel.ensures chain chains seen state knowledge)
 
 pub returns-clause-answer : goal.returns-clause-answer
@@ -48,7 +48,7 @@ returns-clause-answer c =
     let form = ap (λ b. require b BadMessage) (sym (c.if-not-are_few_and_rising.ensures ∙ ap has_form c.as_slice.ensures)) in
     λ chain chains seen state knowledge.
     let host = host_with chain chains old in
-    taken_by_balances (bank_transfer_many m (proves seen None state) host (core_of old) bank) _ (transfer_many_by_bank (proves seen None state) host (core_of old) bank m) old bank c.send_parcel.result c.send_parcel.new.records c.send_parcel.new.transfers
+    taken_by_balances (bank_transfer_many m (proof_evidence seen None state) host (core_of old) bank) _ (transfer_many_by_bank (proof_evidence seen None state) host (core_of old) bank m) old bank c.send_parcel.result c.send_parcel.new.records c.send_parcel.new.transfers
     (subst (λ (checked : Checked (Effect × Core × BankState)). IsTakenWith effect.Sent checked old bank c.send_parcel.result c.send_parcel.new.records c.send_parcel.new.transfers)
-    (ap (λ (parcel : PlainParcel). sends m.channel parcel (proves seen None state) host (core_of old) bank) c.in_ok-parcel.ensures.ok ∙ sym (pass form (many_sent (proves seen None state) host (core_of old) bank m)))
+    (ap (λ (parcel : OutgoingModel). send_handler m.channel parcel (proof_evidence seen None state) host (core_of old) bank) c.in_ok-parcel.ensures.ok ∙ sym (pass form (many_sent (proof_evidence seen None state) host (core_of old) bank m)))
     (c.send_parcel.ensures chain chains seen state knowledge))

@@ -1,7 +1,7 @@
 use Rattle.std.proofs.Common.{ℕ, List, ◌++◌, ◌∷◌, [], sym, ap, ◌∙◌, ⊎_elim, arith}
 use Rattle.std.proofs.lemmas.Bool.{false≢true}
 use Rattle.std.proofs.lemmas.Option.{slice_get-get_or}
-use Rattle.ibc_world_core.proofs.Putting.{nothing_at, one_at, same_tables}
+use Rattle.ibc_world_core.proofs.PutEvents.{nothing_at, one_at, same_tables}
 use Rattle.ibc_world_core.proofs.world.put.Goals as goal
 
 pub returns-then-adds_an_entry-clause-put : goal.returns-then-adds_an_entry-clause-put

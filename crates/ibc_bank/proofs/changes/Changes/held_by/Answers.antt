@@ -3,7 +3,7 @@ use Rattle.std.proofs.Common.{◌≡◌, ◌&&◌, true, false, ap, sym, ◌∙�
 use Rattle.std.proofs.lemmas.Map.Text.{is_eq-slice_cmp}
 use Rattle.ibc_ids.specs.Texts.{Text, text_cmp, pair_cmp}
 use Rattle.ibc_machine.proofs.FiniteMaps.{by_pair, pair_cmp_total}
-use Rattle.ibc_bank.specs.Amounts.{amount_at, written}
+use Rattle.ibc_bank.specs.Amounts.{amount_at, with_amounts}
 use Rattle.ibc_bank.specs.Parties.{party_text}
 use Rattle.ibc_bank.proofs.Writes.{after_more, tied_alike, pairs_tied}
 use Rattle.ibc_bank.proofs.changes.Changes.held_by.Goals.{then-is_eq+then-eq, else-is_eq, else-is_eq-via-then-is_eq+else-eq, else-is_eq-via-else-is_eq}
@@ -13,8 +13,8 @@ pub loop-holder-preserved : goal.loop-holder-preserved
 loop-holder-preserved c =
     let item = c.loop-holder-item.result in
     let key : Text × Text = (party_text c.args.party, c.args.denom.now) in
-    let so_far = written pair_cmp (take c.loop-holder.holder-index c.deref-holder-items.result.now) c.args.books.now.held.pairs in
-    let more = after_more pair_cmp_total by_pair c.deref-holder-items.result.now c.loop-holder.holder-index item c.loop-holder-test.true c.loop-holder-item.is c.args.books.now.held.pairs c.are_in_order.ensures key in
+    let so_far = with_amounts pair_cmp (take c.loop-holder.holder-index c.deref-holder-items.result.now) c.args.books.now.held.pairs in
+    let more = after_more pair_cmp_total by_pair c.deref-holder-items.result.now c.loop-holder.holder-index item c.loop-holder-test.true c.loop-holder-item.is c.args.books.now.held.pairs c.lemma_in_order.ensures key in
     let holder : is_eq (text_cmp (party_text c.args.party) item.0.0) ≡ c.is_eq.result = tied_alike (party_text c.args.party) item.0.0 ∙ sym (is_eq-slice_cmp item.0.0 (party_text c.args.party)) ∙ sym (c.is_eq.ensures ∙ ap is_eq c.compare.ensures) in
     let both = pairs_tied (party_text c.args.party) c.args.denom.now item.0.0 item.0.1 in
     let denom = tied_alike c.args.denom.now item.0.1 in

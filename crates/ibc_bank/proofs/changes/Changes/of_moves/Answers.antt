@@ -1,8 +1,8 @@
 -- One move more is made in the changes, or is refused and ends all.
 use Rattle.std.proofs.Common.{◌∙◌, add-one}
 use Rattle.std.proofs.lemmas.Result.{err_from_is_err_and}
-use Rattle.ibc_bank.specs.Books.{state_of}
-use Rattle.ibc_bank.proofs.Steps.{at_place, refused_there}
+use Rattle.ibc_bank.specs.BankModel.{state_of}
+use Rattle.ibc_bank.proofs.MoveSequences.{at_place, refused_there}
 use Rattle.ibc_bank.proofs.changes.Changes.of_moves.Goals as goal
 
 pub returns-in_err-apply-clause-refused : goal.returns-in_err-apply-clause-refused

@@ -5,9 +5,9 @@ use Rattle.std.specs.declared.alloc.Global.{Global}
 use Rattle.ibc_ids.specs.Texts.{text_cmp}
 use Rattle.ibc_merkle.specs.Tree.{Pairs, Tree}
 use Rattle.ibc_forest.specs.Forest.{kept_pairs}
-use Rattle.ibc_forest.specs.HeldForest.{HeldForest}
-use Rattle.ibc_forest.specs.Moving.{AllStand}
-use Rattle.ibc_forest.specs.Rows.{rows_of}
+use Rattle.ibc_forest.specs.ForestModel.{ForestModel}
+use Rattle.ibc_forest.specs.NodeMoves.{AllStand}
+use Rattle.ibc_forest.specs.NodeLevels.{rows_of}
 use Rattle.ibc_forest.proofs.Moved.{last_moved_on, last_all_stand}
 use Rattle.ibc_forest.proofs.forest.Forest.moved.Goals as goal
 
@@ -30,7 +30,7 @@ invariant_of-result c = (
 
 pub returns : goal.returns
 returns c =
-    let held : Pairs → List (Pairs × ℕ) → HeldForest = λ last kept. record { last = last; kept = kept; digests = c.self.inside.digests } in
+    let held : Pairs → List (Pairs × ℕ) → ForestModel = λ last kept. record { last = last; kept = kept; digests = c.self.inside.digests } in
     ap₂ held
     (last_moved_on c.self.inside.arena.trees c.nodes-nodes.result.now c.move_rows.new.new.trees c.move_kept.new.new.trees c.self.inside.rows.items c.as_slice.result.now c.in_ok-rows.rows.items
     c.nodes-nodes.ensures c.as_slice.ensures.value c.in_ok-rows.ensures.same c.in_ok-rows.ensures.stand c.move_kept.ensures.grows c.self.invariant.0).1

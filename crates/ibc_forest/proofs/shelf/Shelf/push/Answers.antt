@@ -1,13 +1,13 @@
 -- One node more, in the open chunk.
 use Rattle.std.proofs.Common.{◌∷◌, ◌++◌, [], length, sym, ap, ◌∙◌, arith, append_assoc}
 use Rattle.std.proofs.lemmas.List.{length_push}
-use Rattle.ibc_forest.specs.Shelves.{joined}
+use Rattle.ibc_forest.specs.Shelves.{concatenated}
 use Rattle.ibc_forest.proofs.InChunks.{on_err}
 use Rattle.ibc_forest.proofs.shelf.Shelf.push.Goals as goal
 
 pub returns-clause-ok : goal.returns-clause-ok
 returns-clause-ok c =
-    let before = joined c.close.new.full in
+    let before = concatenated c.close.new.full in
     ap (λ xs. before ++ xs) c.in_ok-push.ensures.items
     ∙ sym (append_assoc before c.close.new.begun.items (c.args.node ∷ []))
     ∙ ap (λ xs. xs ++ c.args.node ∷ []) (c.close.ensures.same ∙ c.self.view_is)
@@ -20,7 +20,7 @@ invariant_of-self-2 c =
 
 pub returns-in_err-push-clause-err : goal.returns-in_err-push-clause-err
 returns-in_err-push-clause-err c =
-    on_err c.from_residual-in_err-push.result _ (ap (λ xs. joined c.close.new.full ++ xs) c.in_err-push.ensures.items ∙ c.close.ensures.same ∙ c.self.view_is)
+    on_err c.from_residual-in_err-push.result _ (ap (λ xs. concatenated c.close.new.full ++ xs) c.in_err-push.ensures.items ∙ c.close.ensures.same ∙ c.self.view_is)
 
 pub returns-in_err-close-clause-err : goal.returns-in_err-close-clause-err
 returns-in_err-close-clause-err c = on_err c.from_residual.result _ (c.close.ensures.same ∙ c.self.view_is)

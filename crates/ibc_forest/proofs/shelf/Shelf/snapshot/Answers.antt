@@ -1,7 +1,7 @@
 -- The chunks are shared, and the open one is copied.
 use Rattle.std.proofs.Common.{◌++◌, length, sym, ap, ap₂, ◌∙◌, subst, arith}
 use Rattle.std.proofs.lemmas.List.Elements.{same_from_all_zip}
-use Rattle.ibc_forest.specs.Shelves.{joined, AreFull}
+use Rattle.ibc_forest.specs.Shelves.{concatenated, AreFull}
 use Rattle.ibc_forest.proofs.shelf.Shelf.snapshot.Goals as goal
 
 pub invariant_of-result : goal.invariant_of-result
@@ -14,4 +14,4 @@ invariant_of-result c =
 pub returns : goal.returns
 returns c =
     let copied = same_from_all_zip _ c.self.inside.begun.items c.in_ok-begun.begun.items c.in_ok-begun.ensures.cases.0 (λ x y e. e) in
-    ap₂ ◌++◌ (ap joined c.in_ok-full.ensures) copied ∙ c.self.view_is
+    ap₂ ◌++◌ (ap concatenated c.in_ok-full.ensures) copied ∙ c.self.view_is

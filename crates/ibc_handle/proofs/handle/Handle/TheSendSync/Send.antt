@@ -11,13 +11,13 @@ use Rattle.std_alloc.proofs.SendSync.{quiet, lies}
 use Rattle.std.proofs.Crossing.{frees}
 use Rattle.std.specs.declared.option.Option.{Option}
 use Rattle.std.specs.declared.option.Option.TheVariants.{None, Some}
-use Rattle.ibc_handle.specs.declared.held.Held.{Held}
-use Rattle.ibc_handle.specs.contracts.held.Held.{the_row as R}
+use Rattle.ibc_handle.specs.declared.handle_value.HandleValue.{HandleValue}
+use Rattle.ibc_handle.specs.contracts.handle_value.HandleValue.{the_row as R}
 use Rattle.ibc_handle.proofs.Crossing.{held_send}
-use Rattle.ibc_handle.specs.Owned.{owned}
+use Rattle.ibc_handle.specs.OwnedBoxes.{owned_box}
 use Rattle.ibc_handle.specs.contracts.handle.Handle.{the_row, the_type}
 
-owned_keyless : (p : Ptr) (x : Option Held) → Keyless (owned R p x)
+owned_keyless : (p : Ptr) (x : Option HandleValue) → Keyless (owned_box R p x)
 owned_keyless null_ptr None = tt
 owned_keyless null_ptr (Some x) = λ _. tt
 owned_keyless (block_ptr b o) None = λ _. tt

@@ -28,7 +28,7 @@ use Rattle.std.proofs.alloc.Global.TheLaws as heap_laws
 use Rattle.std.specs.contracts.impls.GlobalAllocator.TheImpl.{ghosts}
 use Rattle.std_alloc.proofs.ResultValues.{and_tt}
 use Rattle.ibc_handle.proofs.Values.{both, Loose, loose_good, loose_in}
-use Rattle.ibc_handle.specs.contracts.held.Held.{the_row as R}
+use Rattle.ibc_handle.specs.contracts.handle_value.HandleValue.{the_row as R}
 use Rattle.ibc_handle.proofs.Fields.{Row, word, handle_out, either_owned}
 use Rattle.ibc_handle.specs.contracts.handle.Handle.into_loose.{ended, clauses}
 use Rattle.ibc_handle.specs.contracts.handle.Handle.into_loose.Key.{name as #self}

@@ -24,8 +24,8 @@ use Rattle.std.specs.contracts.impls.GlobalAllocator.TheImpl.{ghosts}
 use Rattle.std.specs.declared.option.Option.{Option}
 use Rattle.std.specs.declared.option.Option.TheVariants.{Some}
 use Rattle.ibc_handle.proofs.Values.{both, Loose, loose_good, loose_out}
-use Rattle.ibc_handle.specs.declared.held.Held.{Held}
-use Rattle.ibc_handle.specs.contracts.held.Held.{the_row as R}
+use Rattle.ibc_handle.specs.declared.handle_value.HandleValue.{HandleValue}
+use Rattle.ibc_handle.specs.contracts.handle_value.HandleValue.{the_row as R}
 use Rattle.ibc_handle.proofs.Fields.{word, handle_in}
 use Rattle.ibc_handle.specs.contracts.handle.Handle.of_loose.{ended, clauses}
 use Rattle.ibc_handle.specs.contracts.handle.Handle.of_loose.Key.{name as #self}

@@ -6,9 +6,9 @@ use Rattle.ibc_ids.proofs.name.Name.from_bytes.Goals as goal
 pub returns-in-Err-clause-bad : goal.returns-in-Err-clause-bad
 returns-in-Err-clause-bad g c =
     let bytes = c.args.bytes.now in
-    (λ e form. c.in-Err.ensures.cases.0 (IsUtf8-from_ascii bytes (c.are_short_and_ascii.ensures bytes form).0), λ no. refl)
+    (λ e form. c.in-Err.ensures.cases.0 (IsUtf8-from_ascii bytes (c.lemma_short_and_ascii.ensures bytes form).0), λ no. refl)
 
 pub returns-in-Err-clause-memory : goal.returns-in-Err-clause-memory
 returns-in-Err-clause-memory g c =
     let bytes = c.args.bytes.now in
-    λ form. absurd (c.in-Err.ensures.cases.0 (IsUtf8-from_ascii bytes (c.are_short_and_ascii.ensures bytes form).0))
+    λ form. absurd (c.in-Err.ensures.cases.0 (IsUtf8-from_ascii bytes (c.lemma_short_and_ascii.ensures bytes form).0))

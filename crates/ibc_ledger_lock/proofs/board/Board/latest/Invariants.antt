@@ -1,5 +1,5 @@
 use Rattle.std.proofs.Common.{◌≡◌, IfSome}
-use Rattle.ibc_ledger_lock.specs.Worlds.{IsViewOf}
+use Rattle.ibc_ledger_lock.specs.ReceiptsAndReadings.{IsViewOf}
 use Rattle.ibc_ledger_lock.proofs.board.Board.latest.Given as goal
 
 abbrev pub invariant-loop-index : goal.invariant-loop-index

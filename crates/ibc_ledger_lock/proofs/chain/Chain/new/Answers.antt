@@ -9,6 +9,6 @@ pub invariant_of-result : goal.invariant_of-result
 invariant_of-result g c =
     let ledger = c.args.ledger in
     let shown = c.in-Ok.ensures.ok in (
-      (ledger, (c.requires.world, c.is_its_history.ensures.is), shown),
+      (ledger, (c.requires.world, c.lemma_is_its_history.ensures.is), shown),
       ap (λ (view : View). view.chain) shown ∙ of_chain ledger.ledger.chain (state_of ledger.ledger).chain ∙ sym c.chain-number.ensures,
     )

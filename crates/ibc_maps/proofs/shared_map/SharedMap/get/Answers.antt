@@ -1,7 +1,7 @@
 -- A change tells what a key has, and else what is settled.
 use Rattle.std.proofs.Common.{ap, ◌∙◌, sym}
 use Rattle.ibc_ids.specs.Maps.{at}
-use Rattle.ibc_maps.specs.Settled.{settled_pairs}
+use Rattle.ibc_maps.specs.SettledPairs.{settled_pairs}
 use Rattle.ibc_maps.proofs.Changes.{found_in_changes, found_settled}
 use Rattle.ibc_maps.proofs.shared_map.SharedMap.get.Goals as goal
 

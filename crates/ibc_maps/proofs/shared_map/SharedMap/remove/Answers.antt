@@ -2,10 +2,10 @@
 use Rattle.std.proofs.Common.{ap, ◌∙◌, None}
 use Rattle.std.specs.FinMap.{is_sorted}
 use Rattle.ibc_ids.specs.Maps.{without}
-use Rattle.ibc_maps.specs.Held.{HeldMap}
-use Rattle.ibc_maps.specs.Changes.{changed}
-use Rattle.ibc_maps.specs.Settled.{settled_pairs}
-use Rattle.ibc_maps.proofs.Rows.{on_ok, either}
+use Rattle.ibc_maps.specs.SortedMapModel.{SortedMapModel}
+use Rattle.ibc_maps.specs.Changes.{with_changes}
+use Rattle.ibc_maps.specs.SettledPairs.{settled_pairs}
+use Rattle.ibc_maps.proofs.PairsInChunks.{on_ok, either}
 use Rattle.ibc_maps.proofs.KeysAmongChunks.{sorted-with}
 use Rattle.ibc_maps.proofs.Changes.{changed-with}
 use Rattle.ibc_maps.proofs.shared_map.SharedMap.remove.Goals as goal
@@ -31,6 +31,6 @@ returns-clause-ok g c =
     let base = settled_pairs c.self.inside.settled in
     on_ok c.set.result c.set.ensures.ok
     (λ is.
-    ap (λ cs. changed g.K.Ord.cmp cs base) is
+    ap (λ cs. with_changes g.K.Ord.cmp cs base) is
     ∙ changed-with g.met.K.Ord.total kept.1 c.args.key None c.self.inside.changes.pairs base kept.0.in_changes kept.0.in_settled
-    ∙ ap (λ (m : HeldMap g.row.K.Denot g.row.V.Denot). without g.K.Ord.cmp c.args.key m.pairs) c.self.view_is)
+    ∙ ap (λ (m : SortedMapModel g.row.K.Denot g.row.V.Denot). without g.K.Ord.cmp c.args.key m.pairs) c.self.view_is)

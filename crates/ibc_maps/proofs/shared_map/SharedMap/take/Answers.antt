@@ -2,10 +2,10 @@
 use Rattle.std.proofs.Common.{ap, ◌∙◌, sym, subst, arith, ◌≡◌, ◌≤◌, None}
 use Rattle.std.specs.FinMap.{is_sorted}
 use Rattle.ibc_ids.specs.Maps.{at, with, without}
-use Rattle.ibc_maps.specs.Held.{HeldMap}
-use Rattle.ibc_maps.specs.Changes.{changed}
-use Rattle.ibc_maps.specs.Settled.{settled_pairs}
-use Rattle.ibc_maps.proofs.Rows.{either, when_ok}
+use Rattle.ibc_maps.specs.SortedMapModel.{SortedMapModel}
+use Rattle.ibc_maps.specs.Changes.{with_changes}
+use Rattle.ibc_maps.specs.SettledPairs.{settled_pairs}
+use Rattle.ibc_maps.proofs.PairsInChunks.{either, when_ok}
 use Rattle.ibc_maps.proofs.KeysAmongChunks.{sorted-with}
 use Rattle.ibc_maps.proofs.Changes.{changed-with, found_in_changes, found_settled}
 use Rattle.ibc_maps.proofs.shared_map.SharedMap.take.Goals as goal
@@ -34,9 +34,9 @@ pub returns-in-Some-clause-ok : goal.returns-in-Some-clause-ok
 returns-in-Some-clause-ok g c =
     let kept = c.self.invariant in
     let base = settled_pairs c.self.inside.settled in
-    ap (λ change. changed g.K.Ord.cmp (with g.K.Ord.cmp c.args.key.now change c.self.inside.changes.pairs) base) c.take.ensures.after
+    ap (λ change. with_changes g.K.Ord.cmp (with g.K.Ord.cmp c.args.key.now change c.self.inside.changes.pairs) base) c.take.ensures.after
     ∙ changed-with g.met.K.Ord.total kept.1 c.args.key.now None c.self.inside.changes.pairs base kept.0.in_changes kept.0.in_settled
-    ∙ ap (λ (m : HeldMap g.row.K.Denot g.row.V.Denot). without g.K.Ord.cmp c.args.key.now m.pairs) c.self.view_is
+    ∙ ap (λ (m : SortedMapModel g.row.K.Denot g.row.V.Denot). without g.K.Ord.cmp c.args.key.now m.pairs) c.self.view_is
     ∙ ap (without g.K.Ord.cmp c.args.key.now) c.in_ok-reserve.ensures.pairs
 
 -- ---- in what is settled
@@ -68,9 +68,9 @@ returns-clause-ok g c =
     let base = settled_pairs c.self.inside.settled in
     let removed = c.in_ok-removed.removed in
     let same : removed ≡ c.args.key.now = kept.2 c.args.key.now removed c.in_ok-removed.ensures.cases in
-    let room : 2 ≤ c.self.inside.changes.room = subst (λ (m : HeldMap g.row.K.Denot g.row.V.Denot). 2 ≤ m.room) (sym c.self.view_is) c.in_ok-reserve.ensures.ok in
-    ap (λ cs. changed g.K.Ord.cmp cs base) (when_ok c.set.result (c.set.ensures.reserved (omega arith)) c.set.ensures.ok)
+    let room : 2 ≤ c.self.inside.changes.room = subst (λ (m : SortedMapModel g.row.K.Denot g.row.V.Denot). 2 ≤ m.room) (sym c.self.view_is) c.in_ok-reserve.ensures.ok in
+    ap (λ cs. with_changes g.K.Ord.cmp cs base) (when_ok c.set.result (c.set.ensures.reserved (omega arith)) c.set.ensures.ok)
     ∙ changed-with g.met.K.Ord.total kept.1 removed None c.self.inside.changes.pairs base kept.0.in_changes kept.0.in_settled
-    ∙ ap (λ (m : HeldMap g.row.K.Denot g.row.V.Denot). without g.K.Ord.cmp removed m.pairs) c.self.view_is
+    ∙ ap (λ (m : SortedMapModel g.row.K.Denot g.row.V.Denot). without g.K.Ord.cmp removed m.pairs) c.self.view_is
     ∙ ap (λ key. without g.K.Ord.cmp key c.reserve.new.self.pairs) same
     ∙ ap (without g.K.Ord.cmp c.args.key.now) c.in_ok-reserve.ensures.pairs

@@ -1,6 +1,6 @@
 use Rattle.std.proofs.Common.{[], ◌∷◌, ◌++◌}
 use Rattle.ibc_ids.specs.Names.{is_connection}
-use Rattle.ibc_wire.specs.Fields.{n8, str, name}
+use Rattle.ibc_wire.specs.Fields.{be64, str, name}
 use Rattle.ibc_wire.specs.Spelling.{client_state_fields}
 use Rattle.ibc_wire.proofs.Writing.{behind}
 use Rattle.ibc_message_codec.proofs.connections.ConnOpenAckPayload.write.Goals as goal
@@ -8,7 +8,7 @@ use Rattle.ibc_message_codec.proofs.connections.ConnOpenAckPayload.write.Goals a
 pub returns : goal.returns
 returns c =
     let m = c.args.self.now in
-    behind (name is_connection m.connection ∷ []) (name is_connection m.peer_connection ∷ (client_state_fields m.claim ++ (n8 m.height ∷ str m.proof_end ∷ str m.proof_client ∷ []))) c.args.out.now.items c.write_name.new.out.items c.write_proofs.new.out.items c.write_proofs.result c.in_ok-write_name.ensures (
-    behind (name is_connection m.peer_connection ∷ []) ((client_state_fields m.claim ++ (n8 m.height ∷ str m.proof_end ∷ str m.proof_client ∷ []))) c.write_name.new.out.items c.write_name-2.new.out.items c.write_proofs.new.out.items c.write_proofs.result c.in_ok-write_name-2.ensures (
-    behind (client_state_fields m.claim) (n8 m.height ∷ str m.proof_end ∷ str m.proof_client ∷ []) c.write_name-2.new.out.items c.write.new.out.items c.write_proofs.new.out.items c.write_proofs.result c.in_ok-write.ensures (
+    behind (name is_connection m.connection ∷ []) (name is_connection m.peer_connection ∷ (client_state_fields m.claim ++ (be64 m.height ∷ str m.proof_end ∷ str m.proof_client ∷ []))) c.args.out.now.items c.write_name.new.out.items c.write_proofs.new.out.items c.write_proofs.result c.in_ok-write_name.ensures (
+    behind (name is_connection m.peer_connection ∷ []) ((client_state_fields m.claim ++ (be64 m.height ∷ str m.proof_end ∷ str m.proof_client ∷ []))) c.write_name.new.out.items c.write_name-2.new.out.items c.write_proofs.new.out.items c.write_proofs.result c.in_ok-write_name-2.ensures (
+    behind (client_state_fields m.claim) (be64 m.height ∷ str m.proof_end ∷ str m.proof_client ∷ []) c.write_name-2.new.out.items c.write.new.out.items c.write_proofs.new.out.items c.write_proofs.result c.in_ok-write.ensures (
     c.write_proofs.ensures)))

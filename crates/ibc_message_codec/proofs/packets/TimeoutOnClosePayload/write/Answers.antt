@@ -1,5 +1,5 @@
 use Rattle.std.proofs.Common.{[], ◌∷◌}
-use Rattle.ibc_wire.specs.Fields.{n8, str}
+use Rattle.ibc_wire.specs.Fields.{be64, str}
 use Rattle.ibc_wire.specs.Spelling.{packet_fields}
 use Rattle.ibc_wire.proofs.Writing.{behind}
 use Rattle.ibc_message_codec.proofs.packets.TimeoutOnClosePayload.write.Goals as goal
@@ -7,4 +7,4 @@ use Rattle.ibc_message_codec.proofs.packets.TimeoutOnClosePayload.write.Goals as
 pub returns : goal.returns
 returns c =
     let m = c.args.self.now in
-    behind (packet_fields m.packet) (n8 m.next_recv ∷ n8 m.height ∷ str m.proof ∷ str m.proof_close ∷ []) c.args.out.now.items c.write.new.out.items c.write_proven_close.new.out.items c.write_proven_close.result c.in_ok-write.ensures c.write_proven_close.ensures
+    behind (packet_fields m.packet) (be64 m.next_recv ∷ be64 m.height ∷ str m.proof ∷ str m.proof_close ∷ []) c.args.out.now.items c.write.new.out.items c.write_proven_close.new.out.items c.write_proven_close.result c.in_ok-write.ensures c.write_proven_close.ensures

@@ -6,8 +6,8 @@ use Rattle.std.specs.FinMap.{is_sorted}
 use Rattle.std.proofs.lemmas.Fn.{always_returns_same}
 use Rattle.ibc_ids.specs.Texts.{Text, text_cmp}
 use Rattle.ibc_merkle.specs.Tree.{Pairs}
-use Rattle.ibc_merkle.proofs.Places.{searchable}
-use Rattle.ibc_path_store.specs.Held.{HeldMap}
+use Rattle.ibc_merkle.proofs.SearchedPairs.{searchable}
+use Rattle.ibc_path_store.specs.StoreModel.{PathMapModel}
 use Rattle.ibc_path_store.proofs.path_map.PathMap.place.Goals as goal
 
 here : (es : Pairs) (key : Text) (r : Result ℕ ℕ) → IsBinarySearchResult (λ (e : Text × Text). text_cmp e.0 key) es r
@@ -21,7 +21,7 @@ gap es key (Ok i) sorted h = tt
 gap es key (Err i) sorted h = h (searchable es key sorted)
 
 pairs_are : (c : goal.After-binary_search_by) → c.self.inside.entries.items ≡ c.args.self.now.pairs
-pairs_are c = ap (λ (map : HeldMap). map.pairs) c.self.view_is
+pairs_are c = ap (λ (map : PathMapModel). map.pairs) c.self.view_is
 
 found : (c : goal.After-binary_search_by) → IsBinarySearchResult (λ (e : Text × Text). text_cmp e.0 c.args.path.now) c.args.self.now.pairs c.binary_search_by.result
 found c =

@@ -4,15 +4,15 @@ use Rattle.std.specs.List.{remove}
 use Rattle.std.specs.FinMap.{is_sorted}
 use Rattle.ibc_ids.specs.Texts.{text_cmp}
 use Rattle.ibc_ids.specs.Maps.{without}
-use Rattle.ibc_path_store.specs.Held.{HeldMap}
-use Rattle.ibc_merkle.proofs.Places.{found-without, gap-without, remove_is_sorted}
+use Rattle.ibc_path_store.specs.StoreModel.{PathMapModel}
+use Rattle.ibc_merkle.proofs.SearchedPairs.{found-without, gap-without, remove_is_sorted}
 use Rattle.ibc_merkle.specs.Tree.{Pairs}
-use Rattle.ibc_path_store.specs.Touching.{Shares}
+use Rattle.ibc_path_store.specs.GapChanges.{Shares}
 use Rattle.ibc_path_store.proofs.Touching.{replaced_gone}
 use Rattle.ibc_path_store.proofs.path_map.PathMap.remove.Goals as goal
 
 pairs_are : (c : goal.After-touch) → c.self.inside.entries.items ≡ c.args.self.now.pairs
-pairs_are c = ap (λ (map : HeldMap). map.pairs) c.self.view_is
+pairs_are c = ap (λ (map : PathMapModel). map.pairs) c.self.view_is
 
 stands : (c : goal.After-touch) → c.remove.result ≡ get_or c.args.self.now.pairs c.in-Ok.index c.remove.result
 stands c = c.remove.ensures.value ∙ ap (λ pairs. get_or pairs c.in-Ok.index c.remove.result) (pairs_are c)
@@ -43,5 +43,5 @@ pub returns-in-Ok-clause-shares : goal.returns-in-Ok-clause-shares
 returns-in-Ok-clause-shares c = λ last shares.
     let pairs : Pairs = c.args.self.now.pairs in
     let i = c.in-Ok.index in
-    c.touch.ensures last pairs c.remove.new.self.items (subst (λ gaps. Shares gaps last pairs) (sym (ap (λ (map : HeldMap). map.touched) c.self.view_is)) shares)
+    c.touch.ensures last pairs c.remove.new.self.items (subst (λ gaps. Shares gaps last pairs) (sym (ap (λ (map : PathMapModel). map.touched) c.self.view_is)) shares)
     (replaced_gone pairs c.remove.new.self.items i c.in-Ok.ensures.found (items_are c))

@@ -5,10 +5,10 @@ use Rattle.std.specs.FinMap.{is_sorted}
 use Rattle.std.specs.declared.alloc.Global.{Global}
 use Rattle.ibc_ids.specs.Texts.{Text, text_cmp}
 use Rattle.ibc_ids.specs.Maps.{with}
-use Rattle.ibc_path_store.specs.Held.{HeldMap}
-use Rattle.ibc_merkle.proofs.Places.{gap-with, insert_is_sorted}
+use Rattle.ibc_path_store.specs.StoreModel.{PathMapModel}
+use Rattle.ibc_merkle.proofs.SearchedPairs.{gap-with, insert_is_sorted}
 use Rattle.ibc_merkle.specs.Tree.{Pairs}
-use Rattle.ibc_path_store.specs.Touching.{Shares}
+use Rattle.ibc_path_store.specs.GapChanges.{Shares}
 use Rattle.ibc_path_store.proofs.Setting.{replaced_with, replaced_sorted}
 use Rattle.ibc_path_store.proofs.Touching.{replaced_value, replaced_new}
 use Rattle.ibc_path_store.proofs.path_map.PathMap.set.Goals as goal
@@ -16,7 +16,7 @@ use Rattle.ibc_path_store.proofs.path_map.PathMap.set.Goals as goal
 -- ---- a path that is there
 
 found_pairs : (c : goal.After-touch) → c.self.inside.entries.items ≡ c.args.self.now.pairs
-found_pairs c = ap (λ (map : HeldMap). map.pairs) c.self.view_is
+found_pairs c = ap (λ (map : PathMapModel). map.pairs) c.self.view_is
 
 found_path : (c : goal.After-touch) → c.as_slice.result.now ≡ string_bytes c.args.path
 found_path c = c.as_slice.ensures ∙ c.from_vec-key.ensures ∙ ap (λ (bytes : Vec ℕ Global). bytes.items) c.into_bytes.ensures.value
@@ -50,13 +50,13 @@ pub returns-in_ok-entry-in-Ok-clause-shares : goal.returns-in_ok-entry-in-Ok-cla
 returns-in_ok-entry-in-Ok-clause-shares c = λ last shares.
     let pairs : Pairs = c.args.self.now.pairs in
     let i = c.in-Ok.index in
-    c.touch.ensures last pairs (set c.self.inside.entries.items i c.in_ok-entry-in-Ok.entry) (subst (λ gaps. Shares gaps last pairs) (sym (ap (λ (map : HeldMap). map.touched) c.self.view_is)) shares)
+    c.touch.ensures last pairs (set c.self.inside.entries.items i c.in_ok-entry-in-Ok.entry) (subst (λ gaps. Shares gaps last pairs) (sym (ap (λ (map : PathMapModel). map.touched) c.self.view_is)) shares)
     (replaced_value pairs (set c.self.inside.entries.items i c.in_ok-entry-in-Ok.entry) i (c.as_slice.result.now, c.args.value) c.in-Ok.ensures.found (found_items c))
 
 -- ---- a new path
 
 new_pairs : (c : goal.After-touch-in-Err) → c.self.inside.entries.items ≡ c.args.self.now.pairs
-new_pairs c = ap (λ (map : HeldMap). map.pairs) c.self.view_is
+new_pairs c = ap (λ (map : PathMapModel). map.pairs) c.self.view_is
 
 key_path : (c : goal.After-touch-in-Err) → c.from_vec-key.result ≡ string_bytes c.args.path
 key_path c = c.from_vec-key.ensures ∙ ap (λ (bytes : Vec ℕ Global). bytes.items) c.into_bytes.ensures.value
@@ -82,5 +82,5 @@ pub returns-in_ok-insert-in-Err-clause-shares : goal.returns-in_ok-insert-in-Err
 returns-in_ok-insert-in-Err-clause-shares c = λ last shares.
     let pairs : Pairs = c.args.self.now.pairs in
     let i = c.in-Err.index in
-    c.touch-in-Err.ensures last pairs c.insert.new.self.items (subst (λ gaps. Shares gaps last pairs) (sym (ap (λ (map : HeldMap). map.touched) c.self.view_is)) shares)
+    c.touch-in-Err.ensures last pairs c.insert.new.self.items (subst (λ gaps. Shares gaps last pairs) (sym (ap (λ (map : PathMapModel). map.touched) c.self.view_is)) shares)
     (replaced_new pairs c.insert.new.self.items i (c.as_slice.result.now, c.args.value) c.in-Err.ensures.within (new_items c))

@@ -4,7 +4,7 @@ use Rattle.std.specs.Prelude.{⊤}
 use Rattle.std.specs.Map.{keys_of}
 use Rattle.ibc_ids.specs.Maps.{with}
 use Rattle.ibc_ids.proofs.Maps.{keys_of-with}
-use Rattle.ibc_machine.specs.chain.Records.{Channel, added}
+use Rattle.ibc_machine.specs.chain.Records.{Channel, with_number}
 use Rattle.ibc_machine.specs.ics04.Packets.{is_ordered}
 use Rattle.ibc_records.proofs.Receiving.{where_ok, received_in_order, received_in_any}
 use Rattle.ibc_records.proofs.channel.Channel.receive.Goals.{then-in_order, else-in_order}
@@ -34,5 +34,5 @@ returns-clause-ok g c =
       | else-in_order w ↦ received_in_any mine c.args.self.now c.self.view_is n ack c.fill-copies.result.reply (keys_of w.set-else-in_order.new.self.pairs) acks c.if-in_order.self is_acks is_reply
           (order ∙ w.if-in_order.false)
           (ap keys_of (where_ok w.set-else-in_order.result _ (w.set-else-in_order.ensures.reserved c.in_ok-reserve-2.ensures.ok) w.set-else-in_order.ensures.ok)
-          ∙ keys_of-with nat_cmp n tt c.reserve-2.new.self.pairs ∙ ap (λ (receipts : List (ℕ × ⊤)). added n (keys_of receipts)) c.in_ok-reserve-2.ensures.pairs) w.self-is
+          ∙ keys_of-with nat_cmp n tt c.reserve-2.new.self.pairs ∙ ap (λ (receipts : List (ℕ × ⊤)). with_number n (keys_of receipts)) c.in_ok-reserve-2.ensures.pairs) w.self-is
     ]

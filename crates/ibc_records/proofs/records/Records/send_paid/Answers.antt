@@ -7,31 +7,31 @@ use Rattle.ibc_ids.specs.declared.key.Key.TheVariants as key
 use Rattle.ibc_machine.specs.chain.Records.{Channel}
 use Rattle.ibc_machine.specs.ics04.Packets.{after_send}
 use Rattle.ibc_machine.specs.ics24.Values.{value_bytes, NumberIs}
-use Rattle.ibc_records.specs.Held.{HeldRecords}
-use Rattle.ibc_records.specs.Inside.{held_of}
+use Rattle.ibc_records.specs.RecordsModel.{RecordsModel}
+use Rattle.ibc_records.specs.RecordsFields.{records_model}
 use Rattle.ibc_records.proofs.Channels.{roomy}
 use Rattle.ibc_records.proofs.PacketSteps.{sends, where_found, found, asked, not_missing, written_at}
 use Rattle.ibc_records.proofs.records.Records.send_paid.Goals as goal
 
 pub returns-in-None-clause-err : goal.returns-in-None-clause-err
 returns-in-None-clause-err g c =
-    let old : HeldRecords = held_of c.self.inside in
+    let old : RecordsModel = records_model c.self.inside in
     absurd (not_missing old c.args.self.now c.in_ok-name.name c.args.port.now c.args.id.now c.self.view_is c.in_ok-name.ensures.ok (λ (mine : Channel). mine.next_send < 2 ^ 64 - 1) c.requires (sym c.in-None.ensures))
 
 pub reserve_send-requires : goal.reserve_send-requires
 reserve_send-requires g c =
-    let old : HeldRecords = held_of c.self.inside in
+    let old : RecordsModel = records_model c.self.inside in
     let below = asked old c.args.self.now c.in_ok-name.name c.args.port.now c.args.id.now c.self.view_is c.in_ok-name.ensures.ok (λ (mine : Channel). mine.next_send < 2 ^ 64 - 1) c.in-Some.channel.now c.requires (sym c.in-Some.ensures) in
     omega (arith, below, c.next_send-sequence.ensures)
 
 pub invariant_of-self-in_err-send_on : goal.invariant_of-self-in_err-send_on
 invariant_of-self-in_err-send_on g c =
-    let old : HeldRecords = held_of c.self.inside in
+    let old : RecordsModel = records_model c.self.inside in
     roomy old c.send_on.new.channels.pairs c.reserve_send.new.store c.self.invariant c.in_err-send_on.ensures.unchanged.0 c.reserve_send.ensures.same
 
 pub invariant_of-self-2 : goal.invariant_of-self-2
 invariant_of-self-2 g c =
-    let old : HeldRecords = held_of c.self.inside in
+    let old : RecordsModel = records_model c.self.inside in
     let mine : Channel = c.in-Some.channel.now in
     let there : at pair_cmp c.in_ok-name.name old.channels ≡ Some mine = sym c.in-Some.ensures in
     let below = asked old c.args.self.now c.in_ok-name.name c.args.port.now c.args.id.now c.self.view_is c.in_ok-name.ensures.ok (λ (mine : Channel). mine.next_send < 2 ^ 64 - 1) mine c.requires there in
@@ -44,7 +44,7 @@ invariant_of-self-2 g c =
 
 pub returns-clause-ok : goal.returns-clause-ok
 returns-clause-ok g c =
-    let old : HeldRecords = held_of c.self.inside in
+    let old : RecordsModel = records_model c.self.inside in
     let mine : Channel = c.in-Some.channel.now in
     let there : at pair_cmp c.in_ok-name.name old.channels ≡ Some mine = sym c.in-Some.ensures in
     let below = asked old c.args.self.now c.in_ok-name.name c.args.port.now c.args.id.now c.self.view_is c.in_ok-name.ensures.ok (λ (mine : Channel). mine.next_send < 2 ^ 64 - 1) mine c.requires there in

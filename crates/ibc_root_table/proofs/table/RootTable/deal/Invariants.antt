@@ -1,13 +1,13 @@
 use Rattle.std.proofs.Common.{◌≡◌, ℕ, ◌<◌, ◌≤◌, ◌+◌, length, slice_get, Some, None, []}
-use Rattle.ibc_root_table.specs.Rule.{newcomer}
+use Rattle.ibc_root_table.specs.Rule.{new_seat}
 use Rattle.ibc_root_table.specs.Passes.{unused_pass}
-use Rattle.ibc_root_table.specs.Inside.{IsPlaceOf}
+use Rattle.ibc_root_table.specs.TableFields.{IsPlaceOf}
 use Rattle.ibc_root_table.proofs.table.RootTable.deal.Given as goal
 
 abbrev pub invariant-loop-chain : goal.invariant-loop-chain
 invariant-loop-chain l = record {
   place : l.place.table_id ≡ l.self.id;
-  view : l.place.me ≡ (newcomer l.self.shape l.chain l.self.shape.chains, []);
+  view : l.place.me ≡ (new_seat l.self.shape l.chain l.self.shape.chains, []);
   total : length l.passes.items ≡ l.chain;
   own : (k : ℕ) → k < l.chain → slice_get l.passes.items k ≡ Some (unused_pass l.self (Some k));
 }

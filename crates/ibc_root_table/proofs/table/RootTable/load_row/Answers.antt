@@ -4,8 +4,8 @@ use Rattle.ibc_ids.specs.Publications.{published_by}
 use Rattle.ibc_root_table.specs.declared.shape.Shape.{Shape}
 use Rattle.ibc_root_table.specs.Publications.{row_words}
 use Rattle.ibc_root_table.specs.Layout.{place}
-use Rattle.ibc_root_table.specs.Told.{Sat}
-use Rattle.ibc_root_table.proofs.Places.{place_inside}
+use Rattle.ibc_root_table.specs.SeatSteps.{SeatKnowledge}
+use Rattle.ibc_root_table.proofs.WordPlaces.{place_inside}
 use Rattle.ibc_root_table.proofs.Fitting.{named}
 use Rattle.ibc_root_table.proofs.Views.{chains_same}
 use Rattle.ibc_root_table.proofs.Loads.{reads}
@@ -20,7 +20,7 @@ load-requires c =
     let same_chains = t.chains in
     let inside = place_inside c.self.inside.shape c.args.chain c.args.row c.loop-part.part (omega arith) c.self.invariant.ring c.loop-part-test.true in
     let here = c.row_word-word.ensures in
-    let chains = chains_same (ap (λ (m : Sat). m.0.shape) inv.1 ∙ c.requires.table.1) in
+    let chains = chains_same (ap (λ (m : SeatKnowledge). m.0.shape) inv.1 ∙ c.requires.table.1) in
     (inv.0.0 ∙ (c.requires.table.0 ∙ sym t.id), omega arith, reads _ _ _ _ _ (omega arith))
 
 pub loop-part-preserved : goal.loop-part-preserved
@@ -32,7 +32,7 @@ loop-part-preserved c =
     let part : ℕ = c.loop-part.part in
     let words : List ℕ = c.loop-part.words in
     let long : length words ≡ 5 = inv.2 in
-    let shape = ap (λ (m : Sat). m.0.shape) inv.1 ∙ c.requires.table.1 in
+    let shape = ap (λ (m : SeatKnowledge). m.0.shape) inv.1 ∙ c.requires.table.1 in
     let chains = chains_same shape in
     let chain = c.requires.row in
     let rise = told.2.1 c.args.chain (omega arith) in
@@ -42,7 +42,7 @@ loop-part-preserved c =
       told.2.0 ∙ (λ i. (record (inv.1 i).0 { floors = now.0.floors }, (inv.1 i).1)),
       length-set words part c.load.result ∙ long,
       λ p e.
-          let fact = told.2.2 c.args.chain c.args.row part p (subst (λ (m : Sat). slice_get (published_by c.args.chain m.0.seen) c.args.row ≡ Some p) (sym inv.1) e) lp there in
+          let fact = told.2.2 c.args.chain c.args.row part p (subst (λ (m : SeatKnowledge). slice_get (published_by c.args.chain m.0.seen) c.args.row ≡ Some p) (sym inv.1) e) lp there in
           let before = inv.3 p e in (
             below_more (λ k. get_or now.0.floors c.args.chain 0 ≤ c.args.row → get_or (set words part c.load.result) k 0 ≡ get_or (row_words p) k 0) part
                 (λ k h low. get_or-set_other words part k c.load.result 0 (λ (same : k ≡ part). absurd (omega arith)) ∙ before.0 k h (omega arith))

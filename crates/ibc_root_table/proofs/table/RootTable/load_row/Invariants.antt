@@ -1,5 +1,5 @@
 use Rattle.std.proofs.Common.{◌≡◌, ℕ, ◌<◌, ◌≤◌, length, slice_get, Some, get_or}
-use Rattle.ibc_root_table.specs.Inside.{SamePlace}
+use Rattle.ibc_root_table.specs.TableFields.{SamePlace}
 use Rattle.ibc_ids.specs.Publications.{published_by}
 use Rattle.ibc_root_table.specs.Publications.{row_words, IsRoot}
 use Rattle.ibc_ids.specs.declared.publication.Publication.{Publication}

@@ -4,9 +4,9 @@ use mathlib.Core.Option.{none}
 use Rattle.atomic_table.specs.Table.{step, Allows}
 use Rattle.ibc_ids.specs.Publications.{height_of}
 use Rattle.ibc_root_table.specs.Layout.{place}
-use Rattle.ibc_root_table.specs.Rule.{IsKept}
-use Rattle.ibc_root_table.specs.Told.{Sat, Drafted}
-use Rattle.ibc_root_table.proofs.Places.{place_inside}
+use Rattle.ibc_root_table.specs.Rule.{IsTableState}
+use Rattle.ibc_root_table.specs.SeatSteps.{SeatKnowledge, Drafted}
+use Rattle.ibc_root_table.proofs.WordPlaces.{place_inside}
 use Rattle.ibc_root_table.proofs.Fitting.{named}
 use Rattle.ibc_root_table.proofs.Views.{chains_same, windows_same, capacities_same}
 use Rattle.ibc_root_table.proofs.Drafts.{drafts}
@@ -26,12 +26,12 @@ store-requires c =
     let below = c.requires.own.2 in
     let inside = place_inside shape c.args.chain c.args.row part (omega arith) ring lp in
     let here = c.row_word-word.ensures in
-    let before : Sat = c.args.place.now.me in
+    let before : SeatKnowledge = c.args.place.now.me in
     let words : List ℕ = c.args.words.now in
     let five : length words ≡ 5 = c.told-words in
     let drafted : length (take part words) ≡ part = length-take-le part words (omega arith) in
     let x : ℕ = get_or words part 0 in
-    let me : Sat = (record before.0 { draft = take part words }, before.1) in
+    let me : SeatKnowledge = (record before.0 { draft = take part words }, before.1) in
     let first = c.requires.own.0 in let owns = c.requires.own.1 in
     let row = c.requires.row.0 in let room = c.requires.row.1 in
     let known = c.requires.room in
@@ -40,6 +40,6 @@ store-requires c =
     let there = here ∙ (λ i. place (sym same i) (sym first i) (sym counted i) (sym drafted i)) in (
       inv.0.0 ∙ (c.requires.table.0 ∙ sym t.id),
       omega arith,
-      subst (λ (m : Sat). Allows (IsKept c.self.inside.board.shared.key) c.self.inside.board.shared.table_id.slots c.loop-part.place.id m c.row_word-word.result (λ _. x) (λ _. Drafted (step c.self.inside.board.shared.table_id.slots c.row_word-word.result x 0 none) m x)) (sym inv.1)
+      subst (λ (m : SeatKnowledge). Allows (IsTableState c.self.inside.board.shared.key) c.self.inside.board.shared.table_id.slots c.loop-part.place.id m c.row_word-word.result (λ _. x) (λ _. Drafted (step c.self.inside.board.shared.table_id.slots c.row_word-word.result x 0 none) m x)) (sym inv.1)
           (drafts c.self.inside.board.shared.key c.self.inside.board.shared.table_id.slots c.loop-part.place.id me c.row_word-word.result x (omega arith) (omega arith, omega arith) (omega arith) (omega arith) (omega arith) there),
     )

@@ -1,6 +1,6 @@
 use Rattle.std.proofs.lemmas.Result.{err_from_is_err_and}
 use Rattle.ibc_wire.specs.Fronts.{many_at_front}
-use Rattle.ibc_wire.proofs.Rows.{goes_on, ends, is_done}
+use Rattle.ibc_wire.proofs.ValueSequences.{goes_on, ends, is_done}
 use Rattle.ibc_wire.proofs.wire.many.read_many.Goals as goal
 
 pub returns-in_err-value : goal.returns-in_err-value

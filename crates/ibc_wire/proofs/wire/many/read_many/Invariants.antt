@@ -1,6 +1,6 @@
 use Rattle.std.proofs.Common.{◌≡◌, ◌-◌}
 use Rattle.ibc_wire.specs.Fronts.{many_at_front}
-use Rattle.ibc_wire.proofs.Rows.{with_front}
+use Rattle.ibc_wire.proofs.ValueSequences.{with_front}
 use Rattle.ibc_wire.proofs.wire.many.read_many.Given as goal
 
 abbrev pub invariant-loop : goal.invariant-loop

@@ -1,5 +1,5 @@
 use Rattle.std.proofs.lemmas.Result.{err_from_is_err_and}
-use Rattle.ibc_wire.proofs.Rows.{more_written, one_fails, all_written}
+use Rattle.ibc_wire.proofs.ValueSequences.{more_written, one_fails, all_written}
 use Rattle.ibc_wire.proofs.wire.many.write_many.Goals as goal
 
 pub returns-in_err-write : goal.returns-in_err-write

@@ -1,5 +1,5 @@
 use Rattle.std.proofs.Common.{take}
-use Rattle.ibc_wire.proofs.Rows.{SoFar}
+use Rattle.ibc_wire.proofs.ValueSequences.{SoFar}
 use Rattle.ibc_wire.proofs.wire.many.write_many.Given as goal
 
 abbrev pub invariant-loop-value : goal.invariant-loop-value

@@ -3,8 +3,8 @@ use Rattle.std.proofs.Common.{◌≡◌, refl, sym, ap, ◌∙◌, ℕ, List, ma
 use Rattle.std.specs.List.{slice_get}
 use Rattle.std.specs.Slice.{IsItemAt}
 use Rattle.std.proofs.lemmas.Option.{slice_get-map, slice_get_past, slice_get_read}
-use Rattle.ibc_ledger.specs.Held.{HeldLedger}
-use Rattle.ibc_world_core.specs.Held.{plain}
+use Rattle.ibc_ledger.specs.LedgerModel.{LedgerModel}
+use Rattle.ibc_world_core.specs.WorldModel.{ledgers_alone}
 use Rattle.ibc_world_core.proofs.world.World.ledger.Goals as goal
 
 item_mapped : {X Y : Type 0} (f : X → Y) (xs : List X) (i : ℕ) (r : Option (Bor X)) → IsItemAt xs i r → option_map (λ (b : Bor X). f b.now) r ≡ slice_get (map f xs) i
@@ -13,5 +13,5 @@ item_mapped f xs i (Some b) is = sym (slice_get-map f xs i ∙ ap (option_map f)
 
 pub returns : goal.returns
 returns c =
-    item_mapped (λ (h : HeldLedger). h.ledger) c.deref.result.now c.from.result c.get.result c.get.ensures.lookup
-    ∙ (λ i. slice_get (plain (c.deref.ensures.value i)) (c.from.ensures i)) ∙ (λ i. slice_get ((c.self.view_is i).ledgers) c.args.chain)
+    item_mapped (λ (h : LedgerModel). h.ledger) c.deref.result.now c.from.result c.get.result c.get.ensures.lookup
+    ∙ (λ i. slice_get (ledgers_alone (c.deref.ensures.value i)) (c.from.ensures i)) ∙ (λ i. slice_get ((c.self.view_is i).ledgers) c.args.chain)

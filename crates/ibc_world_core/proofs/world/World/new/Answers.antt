@@ -3,7 +3,7 @@ use Rattle.std.proofs.Common.{sym, subst, rules}
 use Rattle.std.specs.Prelude.{IsTrue}
 use Rattle.ibc_machine.specs.chain.Genesis.{genesis_state, is_allowed}
 use Rattle.ibc_refinement.specs.World.{IsWorld}
-use Rattle.ibc_world_core.specs.Held.{plain}
+use Rattle.ibc_world_core.specs.WorldModel.{ledgers_alone}
 use Rattle.ibc_world_core.proofs.Beginnings.{begun_are_new, begun_is_world, begun_at_one_table}
 use Rattle.ibc_world_core.proofs.world.World.new.Goals as goal
 
@@ -15,7 +15,7 @@ invariant_of-result c =
     let allowed : IsTrue (is_allowed genesis) = search rules in
     record {
       world =
-          subst (λ g. IsWorld (record { genesis = genesis_state g; ledgers = plain ledgers; order = c.new.result.items })) (sym c.of.ensures)
+          subst (λ g. IsWorld (record { genesis = genesis_state g; ledgers = ledgers_alone ledgers; order = c.new.result.items })) (sym c.of.ensures)
           (begun_is_world genesis begun.0 ledgers begun.1 c.new.result.items c.new.ensures.items allowed);
       tables = begun_at_one_table genesis begun.0 ledgers begun.1;
     }

@@ -5,7 +5,7 @@ use Rattle.ibc_wire.specs.declared.records.ChannelEnd.{ChannelEnd}
 use Rattle.ibc_machine.specs.chain.Records.{Channel, channel_at}
 use Rattle.ibc_machine.specs.ics04.Channels.{peer_channel_of}
 use Rattle.ibc_machine.specs.ledger.Ledgers.{state_of, machine_of}
-use Rattle.ibc_ledger.specs.Held.{HeldLedger}
+use Rattle.ibc_ledger.specs.LedgerModel.{LedgerModel}
 use Rattle.ibc_world_core.proofs.CountedTotals.{chain_there, chain_gone, its_end, tracked_as, untracked, not_there, no_end, said, said_none}
 use Rattle.ibc_world_core.proofs.world.World.peer_end.Goals as goal
 
@@ -22,7 +22,7 @@ returns-in_default-ledger-clause-ok c =
     let mine = c.args.mine.end.now in
     let tracked = tracked_as core mine c.end-end.result.now c.tracked_over.result c.end-end.ensures c.tracked_over.ensures in
     not_there world core mine c.in-Some.chain (tracked ∙ c.in-Some.is)
-    (no_end world core mine c.in-Some.chain (chain_gone c.args.self.now.ledgers c.in-Some.chain (sym c.ledger.ensures ∙ ap (option_map (λ (l : Bor HeldLedger). l.now.ledger)) c.in_default-ledger.is)))
+    (no_end world core mine c.in-Some.chain (chain_gone c.args.self.now.ledgers c.in-Some.chain (sym c.ledger.ensures ∙ ap (option_map (λ (l : Bor LedgerModel). l.now.ledger)) c.in_default-ledger.is)))
 
 pub returns-in-None-clause-ok : goal.returns-in-None-clause-ok
 returns-in-None-clause-ok c =
@@ -33,7 +33,7 @@ returns-in-None-clause-ok c =
     let theirs = (state_of peer).chain.records.core in
     let end = c.end-end.result.now in
     let tracked = tracked_as core mine end c.tracked_over.result c.end-end.ensures c.tracked_over.ensures in
-    let of = chain_there c.args.self.now.ledgers c.in-Some.chain peer (sym c.ledger.ensures ∙ ap (option_map (λ (l : Bor HeldLedger). l.now.ledger)) c.in-Some-ledger.is) in
+    let of = chain_there c.args.self.now.ledgers c.in-Some.chain peer (sym c.ledger.ensures ∙ ap (option_map (λ (l : Bor LedgerModel). l.now.ledger)) c.in-Some-ledger.is) in
     let none = said_none (channel_at theirs end.peer_port (peer_channel_of end) ≡ None) (λ (named : Bor Text × Bor Channel). (end.peer_channel ≡ Some named.0.now) × (channel_at theirs end.peer_port named.0.now ≡ Some named.1.now)) c.in_ok-name.field-0 c.in-None.is c.in_ok-name.ensures.ok in
     not_there world core mine c.in-Some.chain (tracked ∙ c.in-Some.is)
     (its_end world c.in-Some.chain (state_of peer).chain of mine.end.peer_port (peer_channel_of mine.end)
@@ -52,7 +52,7 @@ returns-in-Some-2-clause-ok c =
     record {
       chain = c.in-Some.chain;
       tracked = tracked ∙ c.in-Some.is;
-      of = chain_there c.args.self.now.ledgers c.in-Some.chain peer (sym c.ledger.ensures ∙ ap (option_map (λ (l : Bor HeldLedger). l.now.ledger)) c.in-Some-ledger.is);
+      of = chain_there c.args.self.now.ledgers c.in-Some.chain peer (sym c.ledger.ensures ∙ ap (option_map (λ (l : Bor LedgerModel). l.now.ledger)) c.in-Some-ledger.is);
       named = so.0;
       end = so.1;
     }

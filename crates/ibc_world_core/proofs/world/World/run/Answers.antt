@@ -3,7 +3,7 @@ use Rattle.std.proofs.Common.{◌∙◌, length, sym, ap, subst, arith}
 use Rattle.std.specs.Vec.Iter.{into_iter_items}
 use Rattle.ibc_refinement.specs.World.{IsWorld}
 use Rattle.ibc_refinement.proofs.world.Together.{order_is_run}
-use Rattle.ibc_world_core.proofs.Turns.{none_has_run, one_more_has_run, all_have_run}
+use Rattle.ibc_world_core.proofs.EventSequences.{none_has_run, one_more_has_run, all_have_run}
 use Rattle.ibc_world_core.proofs.world.World.run.Goals as goal
 
 pub returns-in_default-clause-past : goal.returns-in_default-clause-past

@@ -4,7 +4,7 @@ use Rattle.std.proofs.lemmas.Result.{err_from_is_err_and}
 use Rattle.ibc_machine.specs.ics20.Bank.{balance, escrow}
 use Rattle.ibc_machine.specs.ledger.Ledgers.{state_of, machine_of}
 use Rattle.ibc_machine.specs.promises.Totals.{totals, peer_at, flight_between}
-use Rattle.ibc_world_core.specs.Totals.{IsPeerEnd, abroad}
+use Rattle.ibc_world_core.specs.Totals.{IsPeerEnd, peer_amounts}
 use Rattle.ibc_world_core.proofs.CountedTotals.{no_peer, too_much_out, too_much_back, too_large, answered, said, said_none}
 use Rattle.ibc_world_core.proofs.world.World.totals.Goals as goal
 
@@ -32,7 +32,7 @@ returns-in_err-vouchers-clause-refused c =
     let world = machine_of c.args.self.now.ledgers in
     let there = said (peer_at world (state_of mine.ledger.now.ledger).chain.records.core mine.end.now ≡ None) (λ peer. IsPeerEnd world mine.ledger.now.ledger mine.end.now peer.ledger.now.ledger peer.name.now peer.end.now) _ peer c.in-Some.is c.in_ok-peer.ensures.ok in
     let p = err_from_is_err_and c.from_residual-in_err-vouchers.result c.from_residual-in_err-vouchers.ensures.1 in
-    rw (p.1, p.2) (too_large {P = 2 ^ 128 ≤ (abroad (state_of peer.ledger.now.ledger).chain mine.end.now peer.name.now peer.end.now c.args.denom.now).1} (totals world c.args.chain c.args.channel.now c.args.denom.now) c.in_err-vouchers.field-0.0
+    rw (p.1, p.2) (too_large {P = 2 ^ 128 ≤ (peer_amounts (state_of peer.ledger.now.ledger).chain mine.end.now peer.name.now peer.end.now c.args.denom.now).1} (totals world c.args.chain c.args.channel.now c.args.denom.now) c.in_err-vouchers.field-0.0
     (too_much_back world c.args.chain c.args.channel.now c.args.denom.now mine.ledger.now.ledger mine.end.now c.in_ok-mine.ensures.ok peer.ledger.now.ledger peer.name.now peer.end.now there) c.in_err-vouchers.ensures.refused)
 
 pub returns-clause-ok : goal.returns-clause-ok

@@ -1,0 +1,17 @@
+-- Ledgers of one world under the number that their owner gave it.
+use Rattle.std.specs.Prelude.{◌≡◌, ℕ, List, [], ◌∷◌, Option, Some, None, ⊤}
+use Rattle.ibc_ledger.specs.LedgerModel.{LedgerModel}
+
+-- some ledgers of a world
+pub record LedgersModel : Type 0 where
+  pub number : ℕ
+  pub ledgers : List LedgerModel
+
+-- of one table and one genesis
+abbrev pub HaveOneTable : LedgerModel → LedgerModel → Type 0
+HaveOneTable a b = (a.table ≡ b.table) × (a.ledger.genesis ≡ b.ledger.genesis)
+
+-- the ledger is of the world of the others, if there are others
+abbrev pub Joins : LedgerModel → List LedgerModel → Type 0
+Joins ledger [] = ⊤
+Joins ledger (first ∷ others) = HaveOneTable ledger first

@@ -1,5 +1,0 @@
-use Rattle.ibc_laws.proofs.tokens.FourthLaw.{conserved}
-use Rattle.ibc_laws.proofs.escrow_equals_vouchers_and_flight.Goals as goal
-
-pub returns : goal.returns
-returns c = conserved

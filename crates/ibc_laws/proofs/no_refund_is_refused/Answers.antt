@@ -1,5 +1,0 @@
-use Rattle.ibc_laws.proofs.tokens.NeverPoor.{never_poor}
-use Rattle.ibc_laws.proofs.no_refund_is_refused.Goals as goal
-
-pub returns : goal.returns
-returns c = never_poor

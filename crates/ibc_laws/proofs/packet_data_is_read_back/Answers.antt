@@ -1,5 +1,0 @@
-use Rattle.ibc_machine.proofs.DataRead.{reads_data}
-use Rattle.ibc_laws.proofs.packet_data_is_read_back.Goals as goal
-
-pub returns : goal.returns
-returns c = reads_data

@@ -1,6 +1,0 @@
-use Rattle.std.proofs.Common.{◌≡◌, All, take}
-use Rattle.ibc_ledger_lock.specs.Worlds.{WasOnce}
-use Rattle.ibc_ledger_lock.proofs.desk.Desk.recall_all.Given as goal
-
-abbrev pub invariant-loop-k : goal.invariant-loop-k
-invariant-loop-k g l = (l.self ≡ l.initial.self) × (l.readings ≡ l.initial.readings) × All (WasOnce l.initial.self) (take l.k l.initial.readings)

@@ -1,0 +1,18 @@
+-- What a map has beside the changes that wait.
+use Rattle.std.specs.Prelude.{◌≡◌, true, Option, Some, None, []}
+use Rattle.std.specs.FinMap.{is_sorted}
+use Rattle.std.specs.declared.cmp.Ordering.{Ordering}
+use Rattle.std.specs.Arc.{arc_value}
+use Rattle.std.specs.declared.alloc.Global.{Global}
+use Rattle.std.specs.declared.sync.Arc.{Arc}
+use Rattle.ibc_ids.specs.Maps.{Map}
+
+-- the pairs of a row, none where there is no row
+abbrev pub settled_pairs : {K V : Type 0} → Option (Arc (Map K V) Global) → Map K V
+settled_pairs None = []
+settled_pairs (Some row) = arc_value row
+
+-- the changes, and what is settled, are in the order of their keys
+pub record AreSettledSorted {K V : Type 0} (order : K → K → Ordering) (changes : Map K (Option V)) (settled : Map K V) : Type 0 where
+  pub in_changes : is_sorted order changes ≡ true
+  pub in_settled : is_sorted order settled ≡ true

@@ -1,8 +1,0 @@
--- The notes of a chain, in plain.
-use Rattle.std.specs.Prelude.{List}
-use Rattle.std.specs.Global.{Vec}
-use Rattle.ibc_ids.specs.Texts.{Text}
-
--- the notes of one channel
-abbrev pub plain_notes : Text × Vec Text → Text × List Text
-plain_notes (channel, notes) = (channel, notes.items)

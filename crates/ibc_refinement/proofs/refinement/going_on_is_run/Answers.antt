@@ -1,5 +1,0 @@
-use Rattle.ibc_refinement.proofs.RunOn.{going_on_is_run}
-use Rattle.ibc_refinement.proofs.refinement.going_on_is_run.Goals as goal
-
-pub returns : goal.returns
-returns c = going_on_is_run

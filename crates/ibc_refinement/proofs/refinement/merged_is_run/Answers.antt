@@ -1,5 +1,0 @@
-use Rattle.ibc_refinement.proofs.Refined.{merged_is_run}
-use Rattle.ibc_refinement.proofs.refinement.merged_is_run.Goals as goal
-
-pub returns : goal.returns
-returns c = merged_is_run

@@ -1,5 +1,0 @@
-use Rattle.ibc_refinement.proofs.StampsMerged.{stamps_merge}
-use Rattle.ibc_refinement.proofs.stamps.stamps_merge.Goals as goal
-
-pub returns : goal.returns
-returns c = stamps_merge

@@ -1,5 +1,0 @@
-use Rattle.ibc_refinement.proofs.world.New.{new_is_world}
-use Rattle.ibc_refinement.proofs.world_laws.a_new_world_is_one.Goals as goal
-
-pub returns : goal.returns
-returns c = new_is_world

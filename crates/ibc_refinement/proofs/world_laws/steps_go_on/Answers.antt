@@ -1,5 +1,0 @@
-use Rattle.ibc_refinement.proofs.world.Meetings.{steps_go_on}
-use Rattle.ibc_refinement.proofs.world_laws.steps_go_on.Goals as goal
-
-pub returns : goal.returns
-returns c = steps_go_on

@@ -1,0 +1,20 @@
+use Rattle.ibc_theorem.proofs.lemma_the_laws_hold.Goals as goal
+
+pub returns : goal.returns
+returns c = record {
+  laws = record {
+    one_peer = c.lemma_each_end_has_one_peer.ensures;
+    exactly_once = c.lemma_each_packet_is_handled_once.ensures;
+    in_order = c.lemma_each_ordered_channel_delivers_in_order.ensures;
+    conserved = c.lemma_escrow_equals_vouchers_and_flight.ensures;
+    never_poor = c.lemma_no_refund_is_refused.ensures;
+    never_short = c.lemma_no_escrow_is_short.ensures;
+  };
+  each_moment = c.lemma_each_event_has_its_moment.ensures;
+  received_was_sent = c.lemma_what_is_received_was_sent.ensures;
+  taken_as_written = c.lemma_acknowledgements_are_taken_as_written.ensures;
+  supply_stays = c.lemma_the_supply_at_home_stays.ensures;
+  no_voucher_without_escrow = c.lemma_no_voucher_is_without_escrow.ensures;
+  who_pays = c.lemma_only_the_sender_pays.ensures;
+  was_never_short = c.lemma_no_escrow_was_short.ensures;
+}

@@ -1,5 +1,0 @@
-use Rattle.ibc_wire.proofs.ProofReaders.{reads_what_is_spelled}
-use Rattle.ibc_wire.proofs.laws.proofs_are_read_as_they_are_spelled.Goals as goal
-
-pub returns : goal.returns
-returns c = reads_what_is_spelled

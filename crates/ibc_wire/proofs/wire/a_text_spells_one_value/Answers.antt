@@ -1,5 +1,0 @@
-use Rattle.ibc_wire.proofs.Whole.{one_value}
-use Rattle.ibc_wire.proofs.wire.a_text_spells_one_value.Goals as goal
-
-pub returns : goal.returns
-returns g c = one_value c.reads_what_is_spelled.ensures

@@ -1,6 +1,0 @@
-use Rattle.ibc_world_core.specs.Held.{plain}
-use Rattle.ibc_world_core.specs.Totals.{FirstHold}
-use Rattle.ibc_world_core.proofs.totals.each_holds_denominations.Given as goal
-
-abbrev pub invariant-loop-ledger : goal.invariant-loop-ledger
-invariant-loop-ledger l = FirstHold l.ledger-index (plain l.ledgers)

@@ -1,0 +1,51 @@
+-- Ledgers that are gathered, in any order: what they hold, and that they did what the machine does.
+use Rattle.std.specs.Prelude.{◌≡◌, ℕ, Bool, false, List, [], ◌∷◌, map, Some, slice_get, IsTrue}
+use Rattle.ibc_ids.specs.Texts.{Text}
+use Rattle.ibc_ids.specs.Maps.{Map}
+use Rattle.ibc_machine.specs.ics20.Bank.{Balances}
+use Rattle.ibc_machine.specs.chain.Genesis.{is_allowed}
+use Rattle.ibc_machine.specs.ledger.Ledgers.{Ledger, state_of}
+use Rattle.ibc_machine.specs.promises.Worlds.{Audited, by_number, is_complete}
+use Rattle.ibc_bank.specs.ListedHoldings.{abstract_holding}
+use Rattle.ibc_note.specs.AbstractNotes.{abstract_notes}
+use Rattle.ibc_ledger.specs.LedgerModel.{LedgerModel}
+use Rattle.ibc_world_core.specs.declared.holdings.Audit.{Audit}
+use Rattle.ibc_world_core.specs.WorldModel.{ledgers_alone}
+
+-- ledgers of one table and one genesis, or none
+abbrev pub AreOfOneWorld : List LedgerModel → Type 0
+AreOfOneWorld ledgers = (first : LedgerModel) → slice_get ledgers 0 ≡ Some first → (k : ℕ) (h : LedgerModel)
+    → slice_get ledgers k ≡ Some h → (h.table ≡ first.table) × (h.ledger.genesis ≡ first.ledger.genesis)
+
+-- each chain of their genesis has a ledger there, and none has two
+abbrev pub is_whole : List LedgerModel → Bool
+is_whole [] = false
+is_whole (first ∷ others) = is_complete first.ledger.genesis (ledgers_alone (first ∷ others))
+
+abbrev pub balances_of : Ledger → Balances
+balances_of ledger = (state_of ledger).chain.records.apps.balances
+
+abbrev pub notes_of : Ledger → Map Text (List Text)
+notes_of ledger = (state_of ledger).chain.records.apps.notes
+
+-- what is told of balances and of notes
+abbrev pub balances_in : Audit → List Balances
+balances_in audit = map (λ chain. map abstract_holding chain.items) audit.balances.items
+
+abbrev pub notes_in : Audit → List (Map Text (List Text))
+notes_in audit = map (λ chain. map abstract_notes chain.items) audit.notes.items
+
+-- what is told is what the ledgers hold, by the numbers of the chains of the first one's genesis
+abbrev pub TellsAll : List LedgerModel → Audit → Type 0
+TellsAll ledgers audit = (first : LedgerModel) → slice_get ledgers 0 ≡ Some first
+    → (balances_in audit ≡ map balances_of (by_number first.ledger.genesis (ledgers_alone ledgers)))
+    × (notes_in audit ≡ map notes_of (by_number first.ledger.genesis (ledgers_alone ledgers)))
+
+-- There is one list of publications, along which the histories of the ledgers merge into one list. Where no texts clash,
+-- that list is a run of the machine since genesis, with the replies in the histories and with the balances and notes that
+-- are told at its end.
+abbrev pub IsAudit : List LedgerModel → Audit → Type 0
+IsAudit [] audit = ⊥
+IsAudit (first ∷ others) audit =
+    IsTrue (is_allowed first.ledger.genesis)
+    × Audited first.ledger.genesis (ledgers_alone (first ∷ others)) (balances_in audit) (notes_in audit)
