@@ -1,6 +1,6 @@
 //! The application of a port.
 
-ghost use Rattle.std.specs.Prelude.{◌≡◌, ◌⊎◌, ⊤, Ok, Err, IsTrue, IfOk, IfErr, OnOk, OnErr};
+ghost use Rattle.std.specs.Prelude.{◌≡◌, ◌⊎◌, ⊤, Ok, Err, IsTrue, IfOk, IfErr, OnOk, OnErr, IsOkUnless};
 ghost use Rattle.ibc_ids.specs.Texts.{Text};
 ghost use Rattle.ibc_ids.specs.declared.refusal.Refusal.TheVariants.{NoMemory, WrongOrder, WrongVersion, Poor, CloseRefused};
 ghost use Rattle.ibc_wire.specs.declared.packet.Packet.{Packet};
@@ -43,7 +43,7 @@ pub trait App {
     /// "onRecvPacket"). `NoMemory` where a growth is refused.
     fn on_recv(&mut self, version: &Version, packet: &Packet) -> Result<Bytes, Refusal>
         ensures ok { IfOk result (λ ack. (ack, self.new) ≡ receives self.old version.now packet.now) }
-        ensures err { IfErr result (λ refusal. refusal ≡ NoMemory) }
+        ensures err { IsOkUnless result NoMemory }
         ensures unchanged { OnErr result (self.new ≡ self.old) };
 
     /// Learns the acknowledgement of a packet that was sent over a channel of the version (ICS 20,
@@ -66,7 +66,7 @@ pub trait App {
     ghost opens_or_refuses: { (order : Order) (version : Text) → IfErr (opens order version) (λ refusal. (refusal ≡ WrongOrder) ⊎ (refusal ≡ WrongVersion)) };
 
     // A closing is refused as such alone.
-    ghost closes_or_refuses: { IfErr closes (λ refusal. refusal ≡ CloseRefused) };
+    ghost closes_or_refuses: { IsOkUnless closes CloseRefused };
 
     // Each acknowledgement has 1 to 1,024 bytes.
     ghost writes_sized_acks: { (app : Self) (version : Text) (packet : Packet) → IsTrue (has_size (receives app version packet).0) };

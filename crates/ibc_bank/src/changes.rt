@@ -1,6 +1,6 @@
 //! What moves change, beside the bank.
 
-ghost use Rattle.std.specs.Prelude.{◌≡◌, ◌⊎◌, ◌++◌, ◌∷◌, [], Some, None, Ok, Err, OnOk, IfOk, IfErr, IsErrOf};
+ghost use Rattle.std.specs.Prelude.{◌≡◌, ◌⊎◌, ◌++◌, ◌∷◌, [], Some, None, Ok, Err, OnOk, IfOk, IfErr, IsErrOf, IsOkUnless};
 ghost use Rattle.ibc_machine.specs.ics20.Bank.{balance};
 ghost use Rattle.ibc_bank.specs.Parties.{party_text};
 ghost use Rattle.ibc_bank.specs.Moves.{token_of, after_move, after_moves, after_refund, after_settlement};
@@ -140,7 +140,7 @@ impl Changes {
         requires { AreBalanced no_amount self.old books.now }
         ensures ok { OnOk result (state_after_changes self.new books.now ≡ after_settlement (token_of denom.now amount) (state_after_changes self.old books.now)) }
         ensures balanced { OnOk result (AreBalanced no_amount self.new books.now) }
-        ensures err { IfErr result (λ e. e ≡ NoMemory) }
+        ensures err { IsOkUnless result NoMemory }
     {
         let amount = amount.min(books.burnt.after(&self.burnt, denom));
         self.carry(books, Place::Burnt, Place::Outside, denom, amount)

@@ -1,6 +1,6 @@
 //! Messages as their bytes.
 
-ghost use Rattle.std.specs.Prelude.{◌≡◌, ◌⊎◌, None, Some, Err, IfOk, IfErr, IsErrOf, MatchOption};
+ghost use Rattle.std.specs.Prelude.{◌≡◌, ◌⊎◌, None, Some, Err, IfOk, IfErr, IsErrOf, MatchOption, IsOkUnless};
 ghost use Rattle.ibc_ids.specs.declared.refusal.Refusal.TheVariants.{BadMessage, NoMemory};
 ghost use Rattle.ibc_wire.specs.Fields.{Spells};
 ghost use Rattle.ibc_wire.specs.Messages.{message_fields};
@@ -53,7 +53,7 @@ pub fn carried_proof(alloc: Global, bytes: &[u8], index: u64) -> Result<Option<C
 // A copy of the proof at an index, and its height.
 fn copied(alloc: Global, message: &Message, index: u64) -> Result<Option<Carried>, Refusal>
     ensures ok { IfOk result (λ found. found ≡ carried_proof index message.now) }
-    ensures err { IfErr result (λ refusal. refusal ≡ NoMemory) }
+    ensures err { IsOkUnless result NoMemory }
 {
     let Some(proof) = proof_in(message, index) else {
         return Ok(None);

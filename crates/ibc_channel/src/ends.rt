@@ -1,6 +1,6 @@
 //! Ends of channels: the ones that are there, and the ones that are added or set.
 
-ghost use Rattle.std.specs.Prelude.{◌≡◌, ◌⊎◌, ◌-◌, ◌^◌, ◌<◌, Some, Err, IsSome, IfOk, IfErr, OnOk, OnErr};
+ghost use Rattle.std.specs.Prelude.{◌≡◌, ◌⊎◌, ◌-◌, ◌^◌, ◌<◌, Some, Err, IsSome, IfOk, IfErr, OnOk, OnErr, IsOkUnless};
 ghost use Rattle.ibc_ids.specs.Paths.{nth_channel};
 ghost use Rattle.ibc_ids.specs.declared.refusal.Refusal.TheVariants.{NoMemory, UnknownChannel};
 ghost use Rattle.ibc_machine.specs.ics04.Channels.{channel_end, with_new_channel};
@@ -39,7 +39,7 @@ pub fn new_end(
     version: &Version,
 ) -> Result<ChannelEnd, Refusal>
     ensures ok { IfOk result (λ end. end ≡ channel_end state order peer_port.now peer_channel connection.now version.now) }
-    ensures err { IfErr result (λ refusal. refusal ≡ NoMemory) }
+    ensures err { IsOkUnless result NoMemory }
 {
     Ok(ChannelEnd {
         state,
@@ -54,7 +54,7 @@ pub fn new_end(
 /// The end in another state. `NoMemory` where a growth is refused.
 pub fn move_end(end: &ChannelEnd, state: ChannelState) -> Result<ChannelEnd, Refusal>
     ensures ok { IfOk result (λ after. after ≡ end_in_state state end.now) }
-    ensures err { IfErr result (λ refusal. refusal ≡ NoMemory) }
+    ensures err { IsOkUnless result NoMemory }
 {
     let peer_channel = match &end.peer_channel {
         Some(peer) => Some(peer.clone()?),
@@ -79,7 +79,7 @@ pub fn add_channel(
 ) -> Result<ChannelId, Refusal>
     requires { records.old.next_channel < 2 ^ 64 - 1 }
     ensures ok { IfOk result (λ id. (id ≡ nth_channel records.old.next_channel) × AreWrittenRecords (with_new_channel port.now id end (core_of records.old)) records.old records.new) }
-    ensures err { IfErr result (λ refusal. refusal ≡ NoMemory) }
+    ensures err { IsOkUnless result NoMemory }
     ensures unchanged { OnErr result (IsUnchanged records.old records.new) }
 {
     let id = nth_channel(alloc, records.next_channel())?;
@@ -96,7 +96,7 @@ pub fn set_end(
 ) -> Result<(), Refusal>
     requires { IsSome (end_at (core_of records.old) port.now channel.now) }
     ensures ok { OnOk result (AreWrittenRecords (with_end port.now channel.now end (core_of records.old)) records.old records.new) }
-    ensures err { IfErr result (λ refusal. refusal ≡ NoMemory) }
+    ensures err { IsOkUnless result NoMemory }
     ensures unchanged { OnErr result (IsUnchanged records.old records.new) }
 {
     records.set_channel_end(port.clone()?, channel.clone()?, end)

@@ -1,6 +1,6 @@
 //! What messages of channels and packets claim of the peer's end of a channel.
 
-ghost use Rattle.std.specs.Prelude.{◌≡◌, ◌++◌, string_bytes, IfOk, IfErr, OnOk};
+ghost use Rattle.std.specs.Prelude.{◌≡◌, ◌++◌, string_bytes, IfOk, OnOk, IsOkUnless};
 ghost use Rattle.ibc_ids.specs.Paths.{path};
 ghost use Rattle.ibc_ids.specs.declared.key.Key.TheVariants as key;
 ghost use Rattle.ibc_ids.specs.declared.refusal.Refusal.TheVariants.{NoMemory};
@@ -37,7 +37,7 @@ pub fn claim_peer(
 ) -> Result<PeerClaim, Refusal>
     ensures path { IfOk result (λ claim. string_bytes claim.path ≡ path (key.ChannelEnd mine.now.peer_port peer.now)) }
     ensures value { IfOk result (λ claim. claim.value ≡ end_bytes state mine.now.order port.now channel.now (text_of connection.now.peer_connection) mine.now.version) }
-    ensures err { IfErr result (λ refusal. refusal ≡ NoMemory) }
+    ensures err { IsOkUnless result NoMemory }
 {
     let over = name_or_none(&connection.peer_connection);
     let value = end_value(alloc, state, mine.order, port, channel, over, &mine.version)?;
@@ -74,7 +74,7 @@ pub fn name_or_none<K: NameKind>(name: &Option<Name<K>>) -> &str
 // The path of an end of a channel.
 fn end_path(alloc: Global, port: &PortId, channel: &str) -> Result<String, Refusal>
     ensures ok { IfOk result (λ text. string_bytes text ≡ path (key.ChannelEnd port.now channel.now)) }
-    ensures err { IfErr result (λ refusal. refusal ≡ NoMemory) }
+    ensures err { IsOkUnless result NoMemory }
 {
     let port = port.as_str();
     Ok(format!(in alloc; "channelEnds/ports/{port}/channels/{channel}")?)
@@ -91,7 +91,7 @@ fn end_value(
     version: &Version,
 ) -> Result<Bytes, Refusal>
     ensures ok { IfOk result (λ bytes. bytes ≡ end_bytes state order peer_port.now peer_channel.now connection.now version.now) }
-    ensures err { IfErr result (λ refusal. refusal ≡ NoMemory) }
+    ensures err { IsOkUnless result NoMemory }
 {
     let mut bytes = Vec::new(alloc);
     match write_end(

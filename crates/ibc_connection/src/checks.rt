@@ -1,6 +1,6 @@
 //! Checks that several of the messages make, and the connection that a new one adds.
 
-ghost use Rattle.std.specs.Prelude.{◌≡◌, ◌==◌, ◌&&◌, ◌+◌, ◌-◌, ◌^◌, ◌<◌, nat_lt, IfOk, IfErr, OnErr};
+ghost use Rattle.std.specs.Prelude.{◌≡◌, ◌==◌, ◌&&◌, ◌+◌, ◌-◌, ◌^◌, ◌<◌, nat_lt, IfOk, OnErr, IsOkUnless};
 ghost use Rattle.ibc_ids.specs.Paths.{nth_connection};
 ghost use Rattle.ibc_ids.specs.declared.refusal.Refusal.TheVariants.{NoMemory, WrongState};
 ghost use Rattle.ibc_machine.specs.chain.Checks.{require};
@@ -58,7 +58,7 @@ pub fn add_connection(
 ) -> Result<ConnectionId, Refusal>
     requires { records.old.next_connection < 2 ^ 64 - 1 }
     ensures ok { IfOk result (λ id. (id ≡ nth_connection records.old.next_connection) × AreWrittenRecords (with_new_connection id end (core_of records.old)) records.old records.new) }
-    ensures err { IfErr result (λ refusal. refusal ≡ NoMemory) }
+    ensures err { IsOkUnless result NoMemory }
     ensures unchanged { OnErr result (IsUnchanged records.old records.new) }
 {
     let id = nth_connection(alloc, records.next_connection())?;

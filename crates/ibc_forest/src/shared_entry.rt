@@ -1,6 +1,6 @@
 //! Pairs that a map shares with its trees.
 
-ghost use Rattle.std.specs.Prelude.{◌≡◌, IfOk, IfErr};
+ghost use Rattle.std.specs.Prelude.{◌≡◌, IfOk, IsOkUnless};
 ghost use Rattle.std.specs.Arc.{arc_value};
 
 use ibc_ids::Bytes;
@@ -38,7 +38,7 @@ impl SharedEntry {
     /// A pair that can be shared. Where memory is refused, the pair is handed back.
     pub fn new(alloc: Global, entry: KeyValue) -> Result<SharedEntry, KeyValue>
         ensures ok { IfOk result (λ shared. shared ≡ entry) }
-        ensures err { IfErr result (λ back. back ≡ entry) }
+        ensures err { IsOkUnless result entry }
     {
         match Arc::new(alloc, entry) {
             Ok(shared) => Ok(SharedEntry {

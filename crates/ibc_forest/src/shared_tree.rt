@@ -1,6 +1,6 @@
 //! The tree of one height, as a value of its own.
 
-ghost use Rattle.std.specs.Prelude.{◌≡◌, IsTrue, IfOk, IfErr};
+ghost use Rattle.std.specs.Prelude.{◌≡◌, IsTrue, IfOk, IsOkUnless};
 ghost use Rattle.std.specs.FinMap.{is_sorted};
 ghost use Rattle.ibc_ids.specs.Texts.{text_cmp};
 ghost use Rattle.ibc_ids.specs.declared.refusal.Refusal.TheVariants.{NoMemory};
@@ -59,7 +59,7 @@ impl SharedTree {
     /// (ICS 23, "CommitmentProof"). Nothing is hashed for it. `NoMemory` where a growth is refused.
     pub fn prove(&self, alloc: Global, key: &[u8]) -> Result<Proof, Refusal>
         ensures ok { IfOk result (λ proof. proof ≡ written_proof self.now key.now) }
-        ensures err { IfErr result (λ refusal. refusal ≡ NoMemory) }
+        ensures err { IsOkUnless result NoMemory }
     {
         Ok(prove_in(alloc, &self.nodes, self.root, self.count, key)?)
     }

@@ -1,6 +1,6 @@
 //! Ledgers of one world.
 
-ghost use Rattle.std.specs.Prelude.{◌≡◌, ◌≢◌, ◌⊎◌, ◌↔◌, ◌++◌, ◌∷◌, [], Err, false, length, IfOk, IfErr, MatchOption, OnOk, OnErr};
+ghost use Rattle.std.specs.Prelude.{◌≡◌, ◌≢◌, ◌⊎◌, ◌↔◌, ◌++◌, ◌∷◌, [], Err, false, length, IfOk, IfErr, MatchOption, OnOk, OnErr, IsOkUnless};
 ghost use Rattle.ibc_ids.specs.declared.refusal.Refusal.TheVariants.{BadMessage, NoMemory};
 ghost use Rattle.ibc_machine.specs.chain.Genesis.{genesis_state, is_allowed};
 ghost use Rattle.ibc_refinement.specs.World.{AreNew};
@@ -98,7 +98,7 @@ impl WorldLedgers {
         requires { Joins ledger self.old.ledgers }
         ensures ok { OnOk result (self.new ≡ record self.old { ledgers = self.old.ledgers ++ ledger ∷ [] }) }
         ensures err { OnErr result (self.new ≡ self.old) }
-        ensures back { IfErr result (λ back. back ≡ ledger) }
+        ensures back { IsOkUnless result ledger }
     {
         let Ok(()) = self.ledgers.reserve(1) else {
             return Err(ledger);

@@ -1,6 +1,6 @@
 //! What a denomination tells, and its hops.
 
-ghost use Rattle.std.specs.Prelude.{◌≡◌, ◌↔◌, ◌≤◌, ◌<◌, ◌++◌, ◌∷◌, ◌≢◌, ℕ, List, false, length, IfOk, IfErr, IsErrOf, IsOkUnless, MatchOption};
+ghost use Rattle.std.specs.Prelude.{◌≡◌, ◌↔◌, ◌≤◌, ◌<◌, ◌++◌, ◌∷◌, ◌≢◌, ℕ, List, false, length, IfOk, IsErrOf, IsOkUnless, MatchOption};
 ghost use Rattle.ibc_ids.specs.Names.{is_base_denom, hop, came_over};
 ghost use Rattle.ibc_ids.specs.declared.refusal.Refusal.TheVariants.{NoMemory};
 
@@ -48,7 +48,7 @@ impl Name<DenomKind> {
         channel: &ChannelId,
     ) -> Result<Option<Denom>, Refusal>
         ensures ok { IfOk result (λ rest. MatchOption rest (came_over port.now channel.now self.now ≡ false) (λ denom. self.now ≡ hop port.now channel.now ++ denom)) }
-        ensures memory { IfErr result (λ e. e ≡ NoMemory) }
+        ensures memory { IsOkUnless result NoMemory }
     {
         match behind_hop(self.as_str(), port.as_str(), channel.as_str()) {
             Some(denom) => Ok(Some(Name::parse(alloc, denom)?)),

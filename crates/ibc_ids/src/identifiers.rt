@@ -1,6 +1,6 @@
 //! The identifiers that a chain gives (ICS 24), by a number that it counts up.
 
-ghost use Rattle.std.specs.Prelude.{◌≡◌, IfOk, IfErr};
+ghost use Rattle.std.specs.Prelude.{◌≡◌, IfOk, IsOkUnless};
 ghost use Rattle.ibc_ids.specs.Paths.{nth_client, nth_connection, nth_channel};
 ghost use Rattle.ibc_ids.specs.declared.refusal.Refusal.TheVariants.{NoMemory};
 
@@ -12,7 +12,7 @@ use std::alloc::Global;
 #[tactic(auto, using(crate::proofs::Numbered::nth_client_is_one))]
 pub fn nth_client(alloc: Global, number: u64) -> Result<ClientId, Refusal>
     ensures ok { IfOk result (λ id. id ≡ nth_client number) }
-    ensures memory { IfErr result (λ e. e ≡ NoMemory) }
+    ensures memory { IsOkUnless result NoMemory }
 {
     let room = "inprocess-".len() + MOST_DIGITS;
     Name::from_text(written(alloc, room, format_args!("inprocess-{number}"))?)
@@ -22,7 +22,7 @@ pub fn nth_client(alloc: Global, number: u64) -> Result<ClientId, Refusal>
 #[tactic(auto, using(crate::proofs::Numbered::nth_connection_is_one))]
 pub fn nth_connection(alloc: Global, number: u64) -> Result<ConnectionId, Refusal>
     ensures ok { IfOk result (λ id. id ≡ nth_connection number) }
-    ensures memory { IfErr result (λ e. e ≡ NoMemory) }
+    ensures memory { IsOkUnless result NoMemory }
 {
     let room = "connection-".len() + MOST_DIGITS;
     Name::from_text(written(alloc, room, format_args!("connection-{number}"))?)
@@ -32,7 +32,7 @@ pub fn nth_connection(alloc: Global, number: u64) -> Result<ConnectionId, Refusa
 #[tactic(auto, using(crate::proofs::Numbered::nth_channel_is_one))]
 pub fn nth_channel(alloc: Global, number: u64) -> Result<ChannelId, Refusal>
     ensures ok { IfOk result (λ id. id ≡ nth_channel number) }
-    ensures memory { IfErr result (λ e. e ≡ NoMemory) }
+    ensures memory { IsOkUnless result NoMemory }
 {
     let room = "channel-".len() + MOST_DIGITS;
     Name::from_text(written(alloc, room, format_args!("channel-{number}"))?)

@@ -1,5 +1,5 @@
 //! The keys of the records that a chain proves to others.
-ghost use Rattle.std.specs.Prelude.{◌≡◌, ◌++◌, ◌&&◌, ◌<◌, ◌^◌, string_bytes, IfOk, IfErr, IsTrue};
+ghost use Rattle.std.specs.Prelude.{◌≡◌, ◌++◌, ◌&&◌, ◌<◌, ◌^◌, string_bytes, IfOk, IsTrue, IsOkUnless};
 ghost use Rattle.ibc_ids.specs.Names.{is_client, is_connection, is_port, is_channel};
 ghost use Rattle.ibc_ids.specs.Paths.{path, channel_path, sequence_path, DifferentPaths};
 ghost use Rattle.ibc_ids.specs.declared.key.Key.TheVariants as key;
@@ -42,7 +42,7 @@ impl Key {
     /// The key's path (ICS 24, "Path-space"). Refused: `NoMemory`.
     pub fn path(&self, alloc: Global) -> Result<String, Refusal>
         ensures ok { IfOk result (λ text. string_bytes text ≡ path self.now) }
-        ensures memory { IfErr result (λ e. e ≡ NoMemory) }
+        ensures memory { IsOkUnless result NoMemory }
     {
         match self {
             Key::ClientState(id) => client_path(alloc, id),
@@ -75,7 +75,7 @@ impl Key {
 pub fn client_path(alloc: Global, id: &ClientId) -> Result<String, Refusal>
     ensures ok { IfOk result (λ text. string_bytes text ≡ path (key.ClientState id.now)) }
     ensures named { IsTrue (is_client id.now) }
-    ensures memory { IfErr result (λ e. e ≡ NoMemory) }
+    ensures memory { IsOkUnless result NoMemory }
 {
     let id = id.as_str();
     let room = id.len() + "clients//clientState".len();
@@ -86,7 +86,7 @@ pub fn client_path(alloc: Global, id: &ClientId) -> Result<String, Refusal>
 pub fn connection_path(alloc: Global, id: &ConnectionId) -> Result<String, Refusal>
     ensures ok { IfOk result (λ text. string_bytes text ≡ path (key.Connection id.now)) }
     ensures named { IsTrue (is_connection id.now) }
-    ensures memory { IfErr result (λ e. e ≡ NoMemory) }
+    ensures memory { IsOkUnless result NoMemory }
 {
     let id = id.as_str();
     let room = id.len() + "connections/".len();
@@ -103,7 +103,7 @@ pub fn channel_path(
 ) -> Result<String, Refusal>
     ensures ok { IfOk result (λ text. string_bytes text ≡ kind.now ++ channel_path port.now channel.now) }
     ensures named { IsTrue (is_port port.now && is_channel channel.now) }
-    ensures memory { IfErr result (λ e. e ≡ NoMemory) }
+    ensures memory { IsOkUnless result NoMemory }
 {
     let port = port.as_str();
     let channel = channel.as_str();
@@ -128,7 +128,7 @@ pub fn sequence_path(
     ensures ok { IfOk result (λ text. string_bytes text ≡ kind.now ++ sequence_path port.now channel.now sequence) }
     ensures named { IsTrue (is_port port.now && is_channel channel.now) }
     ensures fits { sequence < 2 ^ 64 }
-    ensures memory { IfErr result (λ e. e ≡ NoMemory) }
+    ensures memory { IsOkUnless result NoMemory }
 {
     let port = port.as_str();
     let channel = channel.as_str();

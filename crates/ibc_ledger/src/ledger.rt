@@ -1,6 +1,6 @@
 //! A ledger: a chain with its history, its records and its pass of the table.
 
-ghost use Rattle.std.specs.Prelude.{◌≡◌, ◌<◌, ◌⊎◌, ◌↔◌, ◌++◌, ℕ, [], false, Some, Err, length, map, option_map, IfOk, IfErr, IsNone, IsTrue};
+ghost use Rattle.std.specs.Prelude.{◌≡◌, ◌<◌, ◌⊎◌, ◌↔◌, ◌++◌, ℕ, [], false, Some, Err, length, map, option_map, IfOk, IfErr, IsNone, IsTrue, IsOkUnless};
 ghost use Rattle.std.specs.Option.{IsSomeAnd};
 ghost use mathlib.Core.List.{IsPrefix};
 ghost use Rattle.ibc_ids.specs.Texts.{text_cmp};
@@ -131,7 +131,7 @@ impl Ledger {
     /// refused.
     pub fn query(&self, key: &Key) -> Result<Option<Bytes>, Refusal>
         ensures ok { IfOk result (λ value. value ≡ at text_cmp (path key.now) (image (state_of self.now.ledger).chain.records.core)) }
-        ensures err { IfErr result (λ refusal. refusal ≡ NoMemory) }
+        ensures err { IsOkUnless result NoMemory }
     {
         let path = key.path(self.node.alloc)?;
         match self.node.records.value(path.as_str()) {
@@ -155,7 +155,7 @@ impl Ledger {
     /// then of the denominations. `NoMemory` where a growth is refused.
     pub fn balances(&self) -> Result<Vec<(Account, Denom, u128)>, Refusal>
         ensures ok { IfOk result (λ list. map abstract_holding list.items ≡ (state_of self.now.ledger).chain.records.apps.balances) }
-        ensures err { IfErr result (λ refusal. refusal ≡ NoMemory) }
+        ensures err { IsOkUnless result NoMemory }
     {
         let bank = self.node.applications.transfers.bank();
         Ok(bank.list(self.node.alloc)?)
@@ -165,7 +165,7 @@ impl Ledger {
     /// of their names. `NoMemory` where a growth is refused.
     pub fn all_notes(&self) -> Result<Vec<(ChannelId, Vec<Bytes>)>, Refusal>
         ensures ok { IfOk result (λ list. map abstract_notes list.items ≡ (state_of self.now.ledger).chain.records.apps.notes) }
-        ensures err { IfErr result (λ refusal. refusal ≡ NoMemory) }
+        ensures err { IsOkUnless result NoMemory }
     {
         Ok(self.node.applications.notes.all(self.node.alloc)?)
     }
@@ -180,7 +180,7 @@ impl Ledger {
         sequence: u64,
     ) -> Result<Option<Packet>, Refusal>
         ensures ok { IfOk result (λ packet. packet ≡ packet_on self.now.ledger port.now channel.now sequence) }
-        ensures err { IfErr result (λ refusal. refusal ≡ NoMemory) }
+        ensures err { IsOkUnless result NoMemory }
     {
         let Some(mine) = self.node.records.channel(port, channel)? else {
             return Ok(None);
@@ -206,7 +206,7 @@ impl Ledger {
         sequence: u64,
     ) -> Result<Option<Bytes>, Refusal>
         ensures ok { IfOk result (λ ack. ack ≡ ack_on self.now.ledger port.now channel.now sequence) }
-        ensures err { IfErr result (λ refusal. refusal ≡ NoMemory) }
+        ensures err { IsOkUnless result NoMemory }
     {
         let Some(mine) = self.node.records.channel(port, channel)? else {
             return Ok(None);

@@ -1,6 +1,6 @@
 //! What stands in the working block: ends of channels, and what accounts hold.
 
-ghost use Rattle.std.specs.Prelude.{◌≡◌, true, Some, None, IfOk, IfErr, MatchOption, option_copied, option_map};
+ghost use Rattle.std.specs.Prelude.{◌≡◌, true, Some, None, IfOk, MatchOption, option_copied, option_map, IsOkUnless};
 ghost use Rattle.std.specs.List.{list_all};
 ghost use Rattle.ibc_ids.specs.Names.{is_denom};
 ghost use Rattle.ibc_ids.specs.Paths.{account_text};
@@ -20,7 +20,7 @@ impl Ledger {
     /// The end of a channel in the working block, or none (ICS 4, "Channel paths"). `NoMemory` where a growth is refused.
     pub fn channel(&self, port: &PortId, channel: &ChannelId) -> Result<Option<&Channel>, Refusal>
         ensures ok { IfOk result (λ found. option_copied found ≡ channel_at (state_of self.now.ledger).chain.records.core port.now channel.now) }
-        ensures err { IfErr result (λ refusal. refusal ≡ NoMemory) }
+        ensures err { IsOkUnless result NoMemory }
     {
         self.node.records.channel(port, channel)
     }
@@ -32,7 +32,7 @@ impl Ledger {
         end: &'a ChannelEnd,
     ) -> Result<Option<(&'a ChannelId, &'a Channel)>, Refusal>
         ensures ok { IfOk result (λ found. MatchOption found (channel_at (state_of self.now.ledger).chain.records.core end.now.peer_port (peer_channel_of end.now) ≡ None) (λ named. (end.now.peer_channel ≡ Some named.0.now) × (channel_at (state_of self.now.ledger).chain.records.core end.now.peer_port named.0.now ≡ Some named.1.now))) }
-        ensures err { IfErr result (λ refusal. refusal ≡ NoMemory) }
+        ensures err { IsOkUnless result NoMemory }
     {
         named_in(&self.node.records, end)
     }
@@ -81,7 +81,7 @@ fn named_in<'a>(
     end: &'a ChannelEnd,
 ) -> Result<Option<(&'a ChannelId, &'a Channel)>, Refusal>
     ensures ok { IfOk result (λ found. MatchOption found (channel_at (core_of records.now) end.now.peer_port (peer_channel_of end.now) ≡ None) (λ named. (end.now.peer_channel ≡ Some named.0.now) × (channel_at (core_of records.now) end.now.peer_port named.0.now ≡ Some named.1.now))) }
-    ensures err { IfErr result (λ refusal. refusal ≡ NoMemory) }
+    ensures err { IsOkUnless result NoMemory }
 {
     records.lemma_names_have_form();
     let Some(name) = &end.peer_channel else {

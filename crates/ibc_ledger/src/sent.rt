@@ -1,6 +1,6 @@
 //! The packets that messages sent.
 
-ghost use Rattle.std.specs.Prelude.{◌≡◌, Some, option_map, IfOk, IfErr};
+ghost use Rattle.std.specs.Prelude.{◌≡◌, Some, option_map, IfOk, IsOkUnless};
 ghost use Rattle.ibc_ids.specs.declared.refusal.Refusal.TheVariants.{NoMemory};
 ghost use Rattle.ibc_wire.specs.declared.messages.Message.TheVariants as message;
 ghost use Rattle.ibc_ledger.specs.SentNames.{commitment_by, commitment_in, packet_to};
@@ -24,7 +24,7 @@ pub fn packet_in(
     peer: &ChannelId,
 ) -> Result<Option<Packet>, Refusal>
     ensures ok { IfOk result (λ packet. packet ≡ option_map (λ c. packet_to port.now channel.now sequence end.now peer.now c) (commitment_in event.now)) }
-    ensures err { IfErr result (λ refusal. refusal ≡ NoMemory) }
+    ensures err { IsOkUnless result NoMemory }
 {
     let Some(commitment) = commitment_in(alloc, event)? else {
         return Ok(None);
@@ -35,7 +35,7 @@ pub fn packet_in(
 // What was committed of the packet that an event sent, or none where it sends none.
 fn commitment_in(alloc: Global, event: &Event) -> Result<Option<Commitment>, Refusal>
     ensures ok { IfOk result (λ commitment. commitment ≡ commitment_in event.now) }
-    ensures err { IfErr result (λ refusal. refusal ≡ NoMemory) }
+    ensures err { IsOkUnless result NoMemory }
 {
     match event {
         Event::Message { message, .. } => commitment_by(alloc, message),
@@ -46,7 +46,7 @@ fn commitment_in(alloc: Global, event: &Event) -> Result<Option<Commitment>, Ref
 // What is committed of the packet that a message sends, or none.
 fn commitment_by(alloc: Global, message: &Message) -> Result<Option<Commitment>, Refusal>
     ensures ok { IfOk result (λ commitment. commitment ≡ commitment_by message.now) }
-    ensures err { IfErr result (λ refusal. refusal ≡ NoMemory) }
+    ensures err { IsOkUnless result NoMemory }
 {
     match message {
         Message::SendNote(note) => Ok(Some(Commitment {
@@ -63,7 +63,7 @@ fn commitment_by(alloc: Global, message: &Message) -> Result<Option<Commitment>,
 // What is committed of the packet of a transfer of one token.
 fn transfer_by(alloc: Global, sent: &Transfer) -> Result<Commitment, Refusal>
     ensures ok { IfOk result (λ commitment. Some commitment ≡ commitment_by (message.Transfer sent.now)) }
-    ensures err { IfErr result (λ refusal. refusal ≡ NoMemory) }
+    ensures err { IsOkUnless result NoMemory }
 {
     let version = Version::parse(alloc, "ics20-1")?;
     let told = TokenData::of_transfer(alloc, sent)?;
@@ -77,7 +77,7 @@ fn transfer_by(alloc: Global, sent: &Transfer) -> Result<Commitment, Refusal>
 // What is committed of the packet of a transfer of several tokens.
 fn transfer_many_by(alloc: Global, sent: &TransferMany) -> Result<Commitment, Refusal>
     ensures ok { IfOk result (λ commitment. Some commitment ≡ commitment_by (message.TransferMany sent.now)) }
-    ensures err { IfErr result (λ refusal. refusal ≡ NoMemory) }
+    ensures err { IsOkUnless result NoMemory }
 {
     let version = Version::parse(alloc, "ics20-own-2")?;
     let told = TokenData::of_transfer_many(alloc, sent)?;

@@ -1,6 +1,6 @@
 //! A view of a chain.
 
-ghost use Rattle.std.specs.Prelude.{◌≡◌, ◌&&◌, ◌^◌, ◌<◌, nat_lt, IsTrue, IfOk, IfErr};
+ghost use Rattle.std.specs.Prelude.{◌≡◌, ◌&&◌, ◌^◌, ◌<◌, nat_lt, IsTrue, IfOk, IsOkUnless};
 ghost use Rattle.ibc_ids.specs.Names.{is_port, is_channel};
 ghost use Rattle.ibc_ids.specs.Paths.{path, is_key};
 ghost use Rattle.ibc_ids.specs.declared.refusal.Refusal.TheVariants.{NoMemory};
@@ -129,7 +129,7 @@ impl View {
     pub fn prove(&self, alloc: Global, key: &Key) -> Result<Bytes, Refusal>
         requires { 0 < self.now.height }
         ensures ok { IfOk result (λ bytes. bytes ≡ proof_bytes (written_proof (image self.now.core) (path key.now))) }
-        ensures err { IfErr result (λ refusal. refusal ≡ NoMemory) }
+        ensures err { IsOkUnless result NoMemory }
     {
         lemma_is_named(key);
         let Some(tree) = &self.tree else {

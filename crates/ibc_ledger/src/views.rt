@@ -1,6 +1,6 @@
 //! What a relayer sees of a ledger.
 
-ghost use Rattle.std.specs.Prelude.{◌≡◌, ◌<◌, IsSome, IfOk, IfErr, option_map};
+ghost use Rattle.std.specs.Prelude.{◌≡◌, ◌<◌, IsSome, IfOk, option_map, IsOkUnless};
 ghost use Rattle.ibc_ids.specs.declared.refusal.Refusal.TheVariants.{NoMemory};
 ghost use Rattle.ibc_machine.specs.ledger.Ledgers.{state_of};
 ghost use Rattle.ibc_machine.specs.ics18.Relay.{view_of};
@@ -17,7 +17,7 @@ impl Ledger {
     /// refused; nothing has changed then.
     pub fn view(&self) -> Result<View, Refusal>
         ensures ok { IfOk result (λ view. view ≡ view_of self.now.ledger.chain (state_of self.now.ledger).chain) }
-        ensures err { IfErr result (λ refusal. refusal ≡ NoMemory) }
+        ensures err { IsOkUnless result NoMemory }
     {
         self.table.lemma_holds_what_is_seen(&self.pass);
         let records = &self.node.records;
@@ -33,7 +33,7 @@ impl Ledger {
 fn tree_at(records: &Records, height: u64) -> Result<Option<CommittedTree>, Refusal>
     requires kept { 0 < height → IsSome (kept_at records.now.store height) }
     ensures ok { IfOk result (λ tree. 0 < height → tree ≡ option_map (λ kept. kept.0) (kept_at records.now.store height)) }
-    ensures err { IfErr result (λ refusal. refusal ≡ NoMemory) }
+    ensures err { IsOkUnless result NoMemory }
 {
     if height == 0 {
         return Ok(None);

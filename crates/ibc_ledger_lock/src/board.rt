@@ -1,6 +1,6 @@
 //! The views that chains post, in one row that only grows and that is read without a lock.
 
-ghost use Rattle.std.specs.Prelude.{◌≡◌, IfErr, IfSome};
+ghost use Rattle.std.specs.Prelude.{◌≡◌, IfSome, IsOkUnless};
 ghost use Rattle.ibc_ids.specs.declared.refusal.Refusal.TheVariants.{NoMemory};
 ghost use Rattle.ibc_ledger_lock.specs.ReceiptsAndReadings.{IsViewOf, ShowsEnd};
 
@@ -35,7 +35,7 @@ pub struct Board<W: WorldBrand> {
 impl<W: WorldBrand> Board<W> {
     /// A board with no views. `NoMemory` where a growth is refused.
     pub fn new(alloc: Global) -> Result<Board<W>, Refusal>
-        ensures { IfErr result (λ refusal. refusal ≡ NoMemory) }
+        ensures { IsOkUnless result NoMemory }
     {
         let mut hints = Vec::with_capacity(alloc, 256)?;
         for _ in 0..256 {

@@ -1,6 +1,6 @@
 //! The writing of proofs (ICS 23, "CreateMembershipProof" and "CreateNonMembershipProof").
 
-ghost use Rattle.std.specs.Prelude.{◌≡◌, ◌<◌, ◌≤◌, ◌++◌, Some, length, slice_get, IsTrue, IsSome, IsNone, IfOk, IfErr};
+ghost use Rattle.std.specs.Prelude.{◌≡◌, ◌<◌, ◌≤◌, ◌++◌, Some, length, slice_get, IsTrue, IsSome, IsNone, IfOk, IsOkUnless};
 ghost use Rattle.std.specs.Option.{IsSomeAnd};
 ghost use Rattle.std.specs.FinMap.{is_sorted};
 ghost use Rattle.ibc_ids.specs.Texts.{text_cmp};
@@ -24,7 +24,7 @@ use std::alloc::{AllocError, Global};
 pub fn prove(alloc: Global, entries: &[KeyValue], key: &[u8]) -> Result<Proof, Refusal>
     requires { IsTrue (is_sorted text_cmp entries.now) }
     ensures ok { IfOk result (λ proof. proof ≡ written_proof entries.now key.now) }
-    ensures err { IfErr result (λ refusal. refusal ≡ NoMemory) }
+    ensures err { IsOkUnless result NoMemory }
 {
     let digests = digests_of(alloc, entries)?;
     Ok(prove_by(alloc, entries, digests.as_slice(), key)?)
@@ -53,7 +53,7 @@ pub fn prove_present(alloc: Global, entries: &[KeyValue], key: &[u8]) -> Result<
     requires sorted { IsTrue (is_sorted text_cmp entries.now) }
     requires there { IsSome (at text_cmp key.now entries.now) }
     ensures ok { IfOk result (λ proof. proof ≡ written_proof entries.now key.now) }
-    ensures err { IfErr result (λ refusal. refusal ≡ NoMemory) }
+    ensures err { IsOkUnless result NoMemory }
 {
     prove(alloc, entries, key)
 }
@@ -64,7 +64,7 @@ pub fn prove_absent(alloc: Global, entries: &[KeyValue], key: &[u8]) -> Result<P
     requires sorted { IsTrue (is_sorted text_cmp entries.now) }
     requires missing { IsNone (at text_cmp key.now entries.now) }
     ensures ok { IfOk result (λ proof. proof ≡ written_proof entries.now key.now) }
-    ensures err { IfErr result (λ refusal. refusal ≡ NoMemory) }
+    ensures err { IsOkUnless result NoMemory }
 {
     prove(alloc, entries, key)
 }

@@ -1,6 +1,6 @@
 //! The notes of a chain, as the application of port `note`.
 
-ghost use Rattle.std.specs.Prelude.{◌≡◌, codes, [], ◌∷◌, ◌++◌, List, map, Ok, OnOk, OnErr, IfOk, IfErr};
+ghost use Rattle.std.specs.Prelude.{◌≡◌, codes, [], ◌∷◌, ◌++◌, List, map, Ok, OnOk, OnErr, IfOk, IsOkUnless};
 ghost use Rattle.std.specs.Option.{unwrap_or};
 ghost use Rattle.ibc_ids.specs.Texts.{Text, same_text, text_cmp};
 ghost use Rattle.ibc_ids.specs.Maps.{at, with};
@@ -69,7 +69,7 @@ impl Notes {
     // A note joins those of its channel.
     fn add(&mut self, channel: &ChannelId, note: Bytes) -> Result<(), Refusal>
         ensures ok { OnOk result (self.new ≡ with text_cmp channel.now (unwrap_or (at text_cmp channel.now self.old) [] ++ note ∷ []) self.old) }
-        ensures err { IfErr result (λ refusal. refusal ≡ NoMemory) }
+        ensures err { IsOkUnless result NoMemory }
         ensures unchanged { OnErr result (self.new ≡ self.old) }
     {
         if let Some(list) = self.notes.get_mut(channel) {

@@ -1,6 +1,6 @@
 //! Sending notes.
 
-ghost use Rattle.std.specs.Prelude.{◌≡◌, ◌-◌, ◌^◌, ◌<◌, ℕ, Some, IfOk, IfErr};
+ghost use Rattle.std.specs.Prelude.{◌≡◌, ◌-◌, ◌^◌, ◌<◌, ℕ, Some, IfOk, IsOkUnless};
 ghost use Rattle.ibc_ids.specs.declared.refusal.Refusal.TheVariants.{NoMemory};
 ghost use Rattle.ibc_machine.specs.declared.reply.Effect.TheVariants as effect;
 ghost use Rattle.ibc_machine.specs.chain.Notes as notes;
@@ -39,7 +39,7 @@ pub fn send_note(alloc: Global, records: &mut Records, message: &SendNote) -> Re
 // The port of notes.
 fn note_port(alloc: Global) -> Result<PortId, Refusal>
     ensures ok { IfOk result (λ port. port ≡ notes.note_port) }
-    ensures err { IfErr result (λ refusal. refusal ≡ NoMemory) }
+    ensures err { IsOkUnless result NoMemory }
 {
     PortId::parse(alloc, "note")
 }

@@ -1,6 +1,6 @@
 //! What messages of packets claim of the peer.
 
-ghost use Rattle.std.specs.Prelude.{◌≡◌, ℕ, true, Some, IfOk, IfErr};
+ghost use Rattle.std.specs.Prelude.{◌≡◌, ℕ, true, Some, IfOk, IsOkUnless};
 ghost use Rattle.ibc_ids.specs.declared.refusal.Refusal.TheVariants.{NoMemory};
 ghost use Rattle.ibc_machine.specs.ics04.Packets.{not_received, was_acknowledged, was_sent};
 ghost use Rattle.ibc_machine.specs.chain.Records.{commitment_of, connection_at, is_known_height};
@@ -42,7 +42,7 @@ pub fn check_sent(
 // The bytes that are committed of a packet.
 fn sent_value(alloc: Global, packet: &Packet) -> Result<Bytes, Refusal>
     ensures ok { IfOk result (λ bytes. bytes ≡ value_bytes (CommitmentIs (commitment_of packet.now))) }
-    ensures err { IfErr result (λ refusal. refusal ≡ NoMemory) }
+    ensures err { IsOkUnless result NoMemory }
 {
     let commitment = Commitment {
         payload: packet.payload.clone()?,

@@ -1,6 +1,6 @@
 //! A store of records by path, with its committed heights.
 
-ghost use Rattle.std.specs.Prelude.{◌≡◌, ◌⊎◌, ◌↔◌, ◌+◌, ◌-◌, ◌*◌, ◌^◌, ◌≤◌, ◌<◌, ◌∷◌, ◌++◌, ℕ, [], length, min, IsTrue, IsOk, OnOk, OnErr, IfSome, IfOk, IfErr, IsNone, Some, None, slice_index_or, option_map, string_bytes};
+ghost use Rattle.std.specs.Prelude.{◌≡◌, ◌⊎◌, ◌↔◌, ◌+◌, ◌-◌, ◌*◌, ◌^◌, ◌≤◌, ◌<◌, ◌∷◌, ◌++◌, ℕ, [], length, min, IsTrue, IsOk, OnOk, OnErr, IfSome, IfOk, IfErr, IsNone, Some, None, slice_index_or, option_map, string_bytes, IsOkUnless};
 ghost use Rattle.std.specs.Option.{IsSomeAnd};
 ghost use Rattle.ibc_ids.specs.Texts.{text_cmp};
 ghost use Rattle.ibc_ids.specs.Maps.{at, with, without};
@@ -110,7 +110,7 @@ impl Store {
         ensures same { self.new ≡ record self.old { room = self.new.room } }
         ensures room { self.old.room ≤ self.new.room }
         ensures ok { OnOk result (paths ≤ self.new.room) }
-        ensures err { IfErr result (λ refusal. refusal ≡ NoMemory) }
+        ensures err { IsOkUnless result NoMemory }
     {
         Ok(self.map.reserve(paths)?)
     }
@@ -121,7 +121,7 @@ impl Store {
         ensures ok { OnOk result (self.new ≡ record self.old { pairs = with text_cmp (string_bytes path) value self.old.pairs; room = self.new.room }) }
         ensures reserved { 0 < self.old.room → IsOk result }
         ensures room { self.old.room ≤ self.new.room + 1 }
-        ensures err { IfErr result (λ refusal. refusal ≡ NoMemory) }
+        ensures err { IsOkUnless result NoMemory }
         ensures unchanged { OnErr result (self.new ≡ record self.old { room = self.new.room }) }
     {
         Ok(self.map.set(path, value)?)

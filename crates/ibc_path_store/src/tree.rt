@@ -1,6 +1,6 @@
 //! The tree of a committed height.
 
-ghost use Rattle.std.specs.Prelude.{◌≡◌, ◌<◌, length, IfOk, IfErr};
+ghost use Rattle.std.specs.Prelude.{◌≡◌, ◌<◌, length, IfOk, IsOkUnless};
 ghost use Rattle.ibc_ids.specs.declared.refusal.Refusal.TheVariants.{NoMemory};
 ghost use Rattle.ibc_merkle.specs.Tree.{tree_root};
 ghost use Rattle.ibc_merkle.specs.Written.{written_proof};
@@ -46,7 +46,7 @@ impl CommittedTree {
     /// (ICS 23, "CommitmentProof"). Nothing is hashed for it. `NoMemory` where a growth is refused.
     pub fn prove(&self, alloc: Global, key: &[u8]) -> Result<Proof, Refusal>
         ensures ok { IfOk result (λ proof. proof ≡ written_proof self.now key.now) }
-        ensures err { IfErr result (λ refusal. refusal ≡ NoMemory) }
+        ensures err { IsOkUnless result NoMemory }
     {
         self.shared.prove(alloc, key)
     }

@@ -33,7 +33,7 @@ pub fn begin(alloc: Global, genesis: &Genesis) -> Result<Vec<(Ledger, UnusedBook
 // The ledgers, each with an unused book.
 fn with_books(alloc: Global, ledgers: Vec<Ledger>) -> Result<Vec<(Ledger, UnusedBook)>, Refusal>
     ensures ok { IfOk result (λ booked. map (λ p. p.0) booked.items ≡ ledgers.items) }
-    ensures err { IfErr result (λ refusal. refusal ≡ NoMemory) }
+    ensures err { IsOkUnless result NoMemory }
 {
     let mut booked = Vec::with_capacity(alloc, ledgers.len())?;
     for ledger in ledgers {
@@ -45,7 +45,7 @@ fn with_books(alloc: Global, ledgers: Vec<Ledger>) -> Result<Vec<(Ledger, Unused
 // A ledger with an unused book.
 fn with_book(alloc: Global, ledger: Ledger) -> Result<(Ledger, UnusedBook), Refusal>
     ensures ok { IfOk result (λ booked. booked.0 ≡ ledger) }
-    ensures err { IfErr result (λ refusal. refusal ≡ NoMemory) }
+    ensures err { IsOkUnless result NoMemory }
 {
     match UnusedBook::new(alloc) {
         Ok(opened) => Ok((ledger, opened)),
@@ -65,7 +65,7 @@ pub fn share<R: Wait, W: WorldBrand>(
 ) -> Result<Vec<Chain<W>>, Refusal>
     requires { All (HasItsBook W.table W.genesis W.book) ledgers.items }
     ensures chains { IfOk result (λ chains. chains.items ≡ map (λ p. p.0.ledger.chain) ledgers.items) }
-    ensures err { IfErr result (λ refusal. refusal ≡ NoMemory) }
+    ensures err { IsOkUnless result NoMemory }
 {
     let board = Arc::new(alloc, Board::new(alloc)?)?;
     let mut chains = Vec::with_capacity(alloc, ledgers.len())?;
@@ -84,7 +84,7 @@ fn shared<R: Wait, W: WorldBrand>(
 ) -> Result<Chain<W>, Refusal>
     requires { HasItsBook W.table W.genesis W.book (ledger, opened) }
     ensures ok { IfOk result (λ chain. chain ≡ ledger.ledger.chain) }
-    ensures err { IfErr result (λ refusal. refusal ≡ NoMemory) }
+    ensures err { IsOkUnless result NoMemory }
 {
     match Arc::try_clone(board) {
         Ok(board) => Chain::new(rt, ledger, opened, board).map_err(refusal_of),

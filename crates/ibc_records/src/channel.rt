@@ -1,6 +1,6 @@
 //! An end of a channel with its counters and its packets.
 
-ghost use Rattle.std.specs.Prelude.{◌≡◌, ◌⊎◌, ◌-◌, ◌^◌, ◌<◌, ◌≤◌, true, Ok, Err, IfOk, IfErr, OnOk, OnErr, IsTrue, option_copied};
+ghost use Rattle.std.specs.Prelude.{◌≡◌, ◌⊎◌, ◌-◌, ◌^◌, ◌<◌, ◌≤◌, true, Ok, Err, IfOk, IfErr, OnOk, OnErr, IsTrue, option_copied, IsOkUnless};
 ghost use Rattle.std.specs.FinMap.{is_sorted};
 ghost use Rattle.std.specs.Ordering.{nat_cmp};
 ghost use Rattle.ibc_ids.specs.Maps.{at, without};
@@ -181,7 +181,7 @@ impl Channel {
         ensures copy { IfOk result (λ acks. acks.copy ≡ acks.reply) }
         ensures value { IfOk result (λ acks. acks.value ≡ value_bytes (AckIs acks.reply)) }
         ensures ok { IfOk result (λ acks. self.new ≡ after_receive packet.now.sequence acks.reply self.old) }
-        ensures err { IfErr result (λ refusal. refusal ≡ NoMemory) }
+        ensures err { IsOkUnless result NoMemory }
         ensures unchanged { OnErr result ((self.new ≡ self.old) × (app.new ≡ app.old)) }
     {
         let in_order = self.is_ordered();

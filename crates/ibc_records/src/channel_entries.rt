@@ -1,6 +1,6 @@
 //! What stands at the paths of a new channel.
 
-ghost use Rattle.std.specs.Prelude.{◌≡◌, ◌+◌, ◌++◌, ◌&&◌, ◌≤◌, ◌∷◌, [], IsTrue, IfOk, IfErr, OnOk, string_bytes};
+ghost use Rattle.std.specs.Prelude.{◌≡◌, ◌+◌, ◌++◌, ◌&&◌, ◌≤◌, ◌∷◌, [], IsTrue, IfOk, OnOk, string_bytes, IsOkUnless};
 ghost use Rattle.ibc_ids.specs.Names.{is_port, is_channel};
 ghost use Rattle.ibc_ids.specs.declared.refusal.Refusal.TheVariants.{NoMemory};
 ghost use Rattle.ibc_records.specs.Entries.{with_all, new_entries};
@@ -50,7 +50,7 @@ impl ChannelEntries {
     ) -> Result<ChannelEntries, Refusal>
         ensures ok { IfOk result (λ entries. entries ≡ new_entries port.now id.now end.now next) }
         ensures named { IsTrue (is_port port.now && is_channel id.now) }
-        ensures err { IfErr result (λ refusal. refusal ≡ NoMemory) }
+        ensures err { IsOkUnless result NoMemory }
     {
         let path = channel_path(alloc, "channelEnds", port, id)?;
         Ok(ChannelEntries {
@@ -76,7 +76,7 @@ pub fn reserve_entries(
     ensures room { OnOk result (5 ≤ store.new.room) }
     ensures same { store.new ≡ record store.old { room = store.new.room } }
     ensures named { OnOk result (IsTrue (is_port port.now && is_channel id.now)) }
-    ensures err { IfErr result (λ refusal. refusal ≡ NoMemory) }
+    ensures err { IsOkUnless result NoMemory }
 {
     store.reserve(5)?;
     ChannelEntries::new(alloc, port, id, end, next)

@@ -1,6 +1,6 @@
 //! Clients with what they know.
 
-ghost use Rattle.std.specs.Prelude.{◌≡◌, OnOk, OnErr, IfErr, option_copied};
+ghost use Rattle.std.specs.Prelude.{◌≡◌, OnOk, OnErr, option_copied, IsOkUnless};
 ghost use Rattle.std.specs.Ordering.{nat_cmp};
 ghost use Rattle.ibc_ids.specs.Maps.{at};
 ghost use Rattle.ibc_ids.specs.declared.refusal.Refusal.TheVariants.{NoMemory};
@@ -62,7 +62,7 @@ impl Client {
     /// Tells the client of a height. `NoMemory` where a growth is refused; the client is then as before.
     pub fn learn(&mut self, height: u64, known: ConsensusState) -> Result<(), Refusal>
         ensures ok { OnOk result (self.new ≡ with_height height known self.old) }
-        ensures err { IfErr result (λ refusal. refusal ≡ NoMemory) }
+        ensures err { IsOkUnless result NoMemory }
         ensures unchanged { OnErr result (self.new ≡ self.old) }
     {
         self.known.reserve(1)?;

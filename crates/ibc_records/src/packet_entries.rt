@@ -1,6 +1,6 @@
 //! What stands at a channel's paths once a packet is received, acknowledged or timed out, beside the packet's own records.
 
-ghost use Rattle.std.specs.Prelude.{◌≡◌, ◌-◌, ◌^◌, ◌<◌, true, IfOk, IfErr, option_map, string_bytes};
+ghost use Rattle.std.specs.Prelude.{◌≡◌, ◌-◌, ◌^◌, ◌<◌, true, IfOk, option_map, string_bytes, IsOkUnless};
 ghost use Rattle.ibc_ids.specs.Texts.{text_cmp};
 ghost use Rattle.ibc_ids.specs.Maps.{without};
 ghost use Rattle.ibc_ids.specs.declared.refusal.Refusal.TheVariants.{NoMemory};
@@ -27,7 +27,7 @@ pub fn received_entry(
 ) -> Result<(String, Bytes), Refusal>
     requires { is_ordered channel.now ≡ true → channel.now.next_recv < 2 ^ 64 - 1 }
     ensures ok { IfOk result (λ entry. (string_bytes entry.0, entry.1) ≡ entry_of port.now id.now (part_after_receive sequence channel.now)) }
-    ensures err { IfErr result (λ refusal. refusal ≡ NoMemory) }
+    ensures err { IsOkUnless result NoMemory }
 {
     if channel.is_ordered() {
         channel_counter(alloc, "nextSequenceRecv", port, id, channel.next_recv() + 1)
@@ -46,7 +46,7 @@ pub fn acknowledged_entry(
 ) -> Result<Option<(String, Bytes)>, Refusal>
     requires { is_ordered channel.now ≡ true → channel.now.next_ack < 2 ^ 64 - 1 }
     ensures ok { IfOk result (λ found. option_map (λ entry. (string_bytes entry.0, entry.1)) found ≡ option_map (entry_of port.now id.now) (part_after_ack channel.now)) }
-    ensures err { IfErr result (λ refusal. refusal ≡ NoMemory) }
+    ensures err { IsOkUnless result NoMemory }
 {
     if !channel.is_ordered() {
         return Ok(None);
@@ -63,7 +63,7 @@ pub fn closed_entry(
     channel: &Channel,
 ) -> Result<Option<(String, Bytes)>, Refusal>
     ensures ok { IfOk result (λ found. option_map (λ entry. (string_bytes entry.0, entry.1)) found ≡ option_map (entry_of port.now id.now) (part_after_timeout channel.now)) }
-    ensures err { IfErr result (λ refusal. refusal ≡ NoMemory) }
+    ensures err { IsOkUnless result NoMemory }
 {
     if !channel.is_ordered() {
         return Ok(None);

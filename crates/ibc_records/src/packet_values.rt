@@ -1,6 +1,6 @@
 //! Paths and values of packets as they stand in the store.
 
-ghost use Rattle.std.specs.Prelude.{◌≡◌, ◌++◌, IfOk, IfErr, string_bytes};
+ghost use Rattle.std.specs.Prelude.{◌≡◌, ◌++◌, IfOk, string_bytes, IsOkUnless};
 ghost use Rattle.ibc_ids.specs.Paths.{channel_path as path_of_channel};
 ghost use Rattle.ibc_ids.specs.declared.refusal.Refusal.TheVariants.{NoMemory};
 ghost use Rattle.ibc_machine.specs.ics24.Values.{value_bytes, AckIs, CommitmentIs, NumberIs};
@@ -14,7 +14,7 @@ use std::alloc::Global;
 /// the revision 0 and of its payload's hash. `NoMemory` where a growth is refused.
 pub fn commitment_value(alloc: Global, commitment: &Commitment) -> Result<Bytes, Refusal>
     ensures ok { IfOk result (λ bytes. bytes ≡ value_bytes (CommitmentIs commitment.now)) }
-    ensures err { IfErr result (λ refusal. refusal ≡ NoMemory) }
+    ensures err { IsOkUnless result NoMemory }
 {
     let mut steps = Steps::new();
     let payload = hash_value(commitment.payload.as_slice(), &mut steps);
@@ -29,7 +29,7 @@ pub fn commitment_value(alloc: Global, commitment: &Commitment) -> Result<Bytes,
 /// The bytes of an acknowledgement (ICS 4, "Packet acknowledgement"): its hash. `NoMemory` where a growth is refused.
 pub fn ack_value(alloc: Global, ack: &[u8]) -> Result<Bytes, Refusal>
     ensures ok { IfOk result (λ bytes. bytes ≡ value_bytes (AckIs ack.now)) }
-    ensures err { IfErr result (λ refusal. refusal ≡ NoMemory) }
+    ensures err { IsOkUnless result NoMemory }
 {
     Ok(Bytes::copy_of(alloc, &hash_value(ack, &mut Steps::new()))?)
 }
@@ -44,7 +44,7 @@ pub fn channel_counter(
 ) -> Result<(String, Bytes), Refusal>
     ensures path { IfOk result (λ entry. string_bytes entry.0 ≡ kind.now ++ path_of_channel port.now id.now) }
     ensures number { IfOk result (λ entry. entry.1 ≡ value_bytes (NumberIs sequence)) }
-    ensures err { IfErr result (λ refusal. refusal ≡ NoMemory) }
+    ensures err { IsOkUnless result NoMemory }
 {
     let path = channel_path(alloc, kind, port, id)?;
     Ok((path, Bytes::copy_of(alloc, &sequence.to_be_bytes())?))

@@ -1,6 +1,6 @@
 //! The records of a chain, kept in plain and as a store.
 
-ghost use Rattle.std.specs.Prelude.{◌≡◌, ◌⊎◌, ◌↔◌, ◌+◌, ◌-◌, ◌^◌, ◌<◌, length, min, is_some, IsNone, IsSome, IfSome, IfOk, IfErr, OnOk, OnErr, option_map, option_copied};
+ghost use Rattle.std.specs.Prelude.{◌≡◌, ◌⊎◌, ◌↔◌, ◌+◌, ◌-◌, ◌^◌, ◌<◌, length, min, is_some, IsNone, IsSome, IfSome, IfOk, IfErr, OnOk, OnErr, option_map, option_copied, IsOkUnless};
 ghost use Rattle.ibc_ids.specs.Texts.{text_cmp};
 ghost use Rattle.ibc_ids.specs.Maps.{at, with};
 ghost use Rattle.ibc_ids.specs.Paths.{path};
@@ -74,7 +74,7 @@ impl Records {
     /// working block has the given time, and the last `window` heights are kept. `NoMemory` where a growth is refused.
     pub fn new(alloc: Global, window: u64, time: u64) -> Result<Records, Refusal>
         ensures ok { IfOk result (λ records. IsNew window time records) }
-        ensures err { IfErr result (λ refusal. refusal ≡ NoMemory) }
+        ensures err { IsOkUnless result NoMemory }
     {
         let next = NextNumbers {
             client: 0,
@@ -93,7 +93,7 @@ impl Records {
         next: NextNumbers,
     ) -> Result<Records, Refusal>
         ensures ok { IfOk result (λ records. IsCountingFrom window time next records) }
-        ensures err { IfErr result (λ refusal. refusal ≡ NoMemory) }
+        ensures err { IsOkUnless result NoMemory }
     {
         let last = nothing(alloc)?;
         let mut store = Store::new(alloc, window, time);
@@ -160,7 +160,7 @@ impl Records {
     pub fn add_client(&mut self, id: ClientId, chain: u8) -> Result<(), Refusal>
         requires { self.old.next_client < 2 ^ 64 - 1 }
         ensures ok { OnOk result (AddsClient self.old id chain self.new) }
-        ensures err { IfErr result (λ refusal. refusal ≡ NoMemory) }
+        ensures err { IsOkUnless result NoMemory }
         ensures unchanged { OnErr result (IsUnchanged self.old self.new) }
     {
         let client = Client::new(self.alloc, chain);
@@ -186,7 +186,7 @@ impl Records {
     ) -> Result<(), Refusal>
         ensures ok { OnOk result (UpdatesClient self.old id.now height known self.new) }
         ensures unknown { IsNone (at text_cmp id.now self.old.clients) → result ≡ Err UnknownClient }
-        ensures known { IsSome (at text_cmp id.now self.old.clients) → IfErr result (λ refusal. refusal ≡ NoMemory) }
+        ensures known { IsSome (at text_cmp id.now self.old.clients) → IsOkUnless result NoMemory }
         ensures unchanged { OnErr result (IsUnchanged self.old self.new) }
     {
         let state = match self.clients.get(id) {
@@ -243,7 +243,7 @@ impl Records {
     /// is while the records go on; it isn't copied. `NoMemory` where too many share it.
     pub fn last(&self) -> Result<Arc<CoreRecords, Global>, Refusal>
         ensures ok { IfOk result (λ last. last.value ≡ self.now.last.core) }
-        ensures err { IfErr result (λ refusal. refusal ≡ NoMemory) }
+        ensures err { IsOkUnless result NoMemory }
     {
         Ok(Arc::try_clone(&self.last)?)
     }
@@ -269,7 +269,7 @@ impl Records {
     // A copy of what the working block proves.
     fn plain(&self) -> Result<Arc<CoreRecords, Global>, Refusal>
         ensures ok { IfOk result (λ plain. plain.value ≡ core_of self.now) }
-        ensures err { IfErr result (λ refusal. refusal ≡ NoMemory) }
+        ensures err { IsOkUnless result NoMemory }
     {
         let plain = CoreRecords::copy_of(
             &self.clients,
@@ -319,7 +319,7 @@ fn learn(
 ) -> Result<(), Refusal>
     ensures ok { OnOk result (IfSome (at text_cmp id.now clients.old.pairs) (λ client. clients.new.pairs ≡ with text_cmp id.now (with_height height known client) clients.old.pairs)) }
     ensures unknown { IsNone (at text_cmp id.now clients.old.pairs) → result ≡ Err UnknownClient }
-    ensures known { IsSome (at text_cmp id.now clients.old.pairs) → IfErr result (λ refusal. refusal ≡ NoMemory) }
+    ensures known { IsSome (at text_cmp id.now clients.old.pairs) → IsOkUnless result NoMemory }
     ensures unchanged { OnErr result (clients.new.pairs ≡ clients.old.pairs) }
 {
     if !contains(clients, id) {

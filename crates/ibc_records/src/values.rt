@@ -1,6 +1,6 @@
 //! Paths and values as they stand in the store.
 
-ghost use Rattle.std.specs.Prelude.{◌≡◌, ◌<◌, ◌≤◌, ◌+◌, ◌++◌, IfOk, IfErr, OnOk, string_bytes};
+ghost use Rattle.std.specs.Prelude.{◌≡◌, ◌<◌, ◌≤◌, ◌+◌, ◌++◌, IfOk, OnOk, string_bytes, IsOkUnless};
 ghost use Rattle.ibc_ids.specs.Texts.{text_cmp};
 ghost use Rattle.ibc_ids.specs.Maps.{with};
 ghost use Rattle.ibc_ids.specs.Paths.{path};
@@ -29,7 +29,7 @@ pub fn set_reserved(store: &mut Store, path: String, value: Bytes)
 pub fn counter(alloc: Global, key: &Key, n: u64) -> Result<(String, Bytes), Refusal>
     ensures path { IfOk result (λ entry. string_bytes entry.0 ≡ path key.now) }
     ensures number { IfOk result (λ entry. entry.1 ≡ value_bytes (NumberIs n)) }
-    ensures err { IfErr result (λ refusal. refusal ≡ NoMemory) }
+    ensures err { IsOkUnless result NoMemory }
 {
     let path = key.path(alloc)?;
     Ok((path, Bytes::copy_of(alloc, &n.to_be_bytes())?))
@@ -38,7 +38,7 @@ pub fn counter(alloc: Global, key: &Key, n: u64) -> Result<(String, Bytes), Refu
 /// The bytes of a client's state.
 pub fn client_value(alloc: Global, state: ClientState) -> Result<Bytes, Refusal>
     ensures ok { IfOk result (λ bytes. bytes ≡ value_bytes (ClientIs state)) }
-    ensures err { IfErr result (λ refusal. refusal ≡ NoMemory) }
+    ensures err { IsOkUnless result NoMemory }
 {
     Ok(Bytes::from_vec(encode(alloc, &state)?))
 }
@@ -46,7 +46,7 @@ pub fn client_value(alloc: Global, state: ClientState) -> Result<Bytes, Refusal>
 /// The bytes of an end of a connection (ICS 3, "ConnectionEnd"): its fields in order.
 pub fn connection_value(alloc: Global, end: &ConnectionEnd) -> Result<Bytes, Refusal>
     ensures ok { IfOk result (λ bytes. bytes ≡ value_bytes (ConnectionIs end.now)) }
-    ensures err { IfErr result (λ refusal. refusal ≡ NoMemory) }
+    ensures err { IsOkUnless result NoMemory }
 {
     let mut bytes = Vec::new(alloc);
     match write_connection(&mut bytes, end) {
@@ -73,7 +73,7 @@ fn write_connection(bytes: &mut Vec<u8>, end: &ConnectionEnd) -> Result<(), Refu
 /// The bytes of an end of a channel (ICS 4, "ChannelEnd"): its fields in order.
 pub fn channel_value(alloc: Global, end: &ChannelEnd) -> Result<Bytes, Refusal>
     ensures ok { IfOk result (λ bytes. bytes ≡ value_bytes (ChannelIs end.now)) }
-    ensures err { IfErr result (λ refusal. refusal ≡ NoMemory) }
+    ensures err { IsOkUnless result NoMemory }
 {
     let mut bytes = Vec::new(alloc);
     match write_channel(&mut bytes, end) {

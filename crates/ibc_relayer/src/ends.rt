@@ -1,6 +1,6 @@
 //! The ends of channels, with their peers.
 
-ghost use Rattle.std.specs.Prelude.{◌≡◌, ◌<◌, ◌++◌, ◌&&◌, ◌||◌, [], Some, is_some, option_copied, IsTrue, IfSome, IfOk, IfErr, OnOk};
+ghost use Rattle.std.specs.Prelude.{◌≡◌, ◌<◌, ◌++◌, ◌&&◌, ◌||◌, [], Some, is_some, option_copied, IsTrue, IfSome, IfOk, OnOk, IsOkUnless};
 ghost use Rattle.std.specs.FinMap.{is_sorted};
 ghost use Rattle.std.specs.Ordering.{nat_cmp};
 ghost use Rattle.std.specs.List.{filter_map, cons_option};
@@ -54,7 +54,7 @@ impl<'v> Ends<'v> {
         requires height { 0 < self.now.a.now.height }
         requires peer { self.now.mine.now.end.peer_channel ≡ Some self.now.peer.now }
         ensures ok { OnOk result (messages.new.items ≡ messages.old.items ++ end_messages self.now.a.now self.now.b.now (self.now.port.now, self.now.channel.now) self.now.mine.now self.now.theirs.now) }
-        ensures err { IfErr result (λ refusal. refusal ≡ NoMemory) }
+        ensures err { IsOkUnless result NoMemory }
     {
         match self.mine.end().state {
             ChannelState::Open => {
@@ -72,7 +72,7 @@ impl<'v> Ends<'v> {
         requires height { 0 < self.now.a.now.height }
         requires peer { self.now.mine.now.end.peer_channel ≡ Some self.now.peer.now }
         ensures ok { OnOk result (messages.new.items ≡ messages.old.items ++ filter_map (receive_message_at self.now.a.now self.now.b.now (self.now.port.now, self.now.channel.now) self.now.mine.now) self.now.theirs.now.commitments) }
-        ensures err { IfErr result (λ refusal. refusal ≡ NoMemory) }
+        ensures err { IsOkUnless result NoMemory }
     {
         for (sequence, commitment) in self.theirs.commitments() {
             add(messages, self.receive(alloc, *sequence, commitment)?)?;
@@ -85,7 +85,7 @@ impl<'v> Ends<'v> {
         requires height { 0 < self.now.a.now.height }
         requires peer { self.now.mine.now.end.peer_channel ≡ Some self.now.peer.now }
         ensures ok { OnOk result (messages.new.items ≡ messages.old.items ++ filter_map (ack_message_at self.now.a.now (self.now.port.now, self.now.channel.now) self.now.mine.now self.now.theirs.now) self.now.mine.now.commitments) }
-        ensures err { IfErr result (λ refusal. refusal ≡ NoMemory) }
+        ensures err { IsOkUnless result NoMemory }
     {
         for (sequence, commitment) in self.mine.commitments() {
             add(messages, self.acknowledge(alloc, *sequence, commitment)?)?;
@@ -98,7 +98,7 @@ impl<'v> Ends<'v> {
         requires height { 0 < self.now.a.now.height }
         requires peer { self.now.mine.now.end.peer_channel ≡ Some self.now.peer.now }
         ensures ok { OnOk result (messages.new.items ≡ messages.old.items ++ filter_map (timeout_message_at self.now.a.now (self.now.port.now, self.now.channel.now) self.now.mine.now self.now.theirs.now) self.now.mine.now.commitments) }
-        ensures err { IfErr result (λ refusal. refusal ≡ NoMemory) }
+        ensures err { IsOkUnless result NoMemory }
     {
         for (sequence, commitment) in self.mine.commitments() {
             add(messages, self.time_out(alloc, *sequence, commitment)?)?;
@@ -127,7 +127,7 @@ pub fn ends_of<'v>(
     mine: &'v Channel,
 ) -> Result<Option<Ends<'v>>, Refusal>
     ensures ok { IfOk result (IsFoundEndPair a.now b.now port.now channel.now mine.now) }
-    ensures err { IfErr result (λ refusal. refusal ≡ NoMemory) }
+    ensures err { IsOkUnless result NoMemory }
 {
     a.lemma_names_have_form();
     let Some(client) = tracking(a, b, mine) else {

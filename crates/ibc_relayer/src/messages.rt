@@ -1,6 +1,6 @@
 //! The messages about packets, with their proofs.
 
-ghost use Rattle.std.specs.Prelude.{◌≡◌, ◌<◌, Some, IfOk, IfErr, IfSome};
+ghost use Rattle.std.specs.Prelude.{◌≡◌, ◌<◌, Some, IfOk, IfSome, IsOkUnless};
 ghost use Rattle.ibc_ids.specs.declared.refusal.Refusal.TheVariants.{NoMemory};
 ghost use Rattle.ibc_ids.specs.declared.key.Key.TheVariants as key;
 ghost use Rattle.ibc_machine.specs.ics04.Channels.{peer_channel_of};
@@ -26,7 +26,7 @@ impl Ends<'_> {
         requires height { 0 < self.now.a.now.height }
         requires peer { self.now.mine.now.end.peer_channel ≡ Some self.now.peer.now }
         ensures ok { IfOk result (λ made. made ≡ receive_message_at self.now.a.now self.now.b.now (self.now.port.now, self.now.channel.now) self.now.mine.now (sequence, commitment.now)) }
-        ensures err { IfErr result (λ refusal. refusal ≡ NoMemory) }
+        ensures err { IsOkUnless result NoMemory }
     {
         if !is_to_receive(self.b, self.mine, sequence, commitment) {
             return Ok(None);
@@ -45,7 +45,7 @@ impl Ends<'_> {
         requires height { 0 < self.now.a.now.height }
         requires peer { self.now.mine.now.end.peer_channel ≡ Some self.now.peer.now }
         ensures ok { IfOk result (λ made. made ≡ ack_message_at self.now.a.now (self.now.port.now, self.now.channel.now) self.now.mine.now self.now.theirs.now (sequence, commitment.now)) }
-        ensures err { IfErr result (λ refusal. refusal ≡ NoMemory) }
+        ensures err { IsOkUnless result NoMemory }
     {
         match self.theirs.ack(sequence) {
             Some(ack) => Ok(Some(self.ack_message(alloc, sequence, commitment, ack)?)),
@@ -64,7 +64,7 @@ impl Ends<'_> {
         requires height { 0 < self.now.a.now.height }
         requires peer { self.now.mine.now.end.peer_channel ≡ Some self.now.peer.now }
         ensures ok { IfOk result (λ made. made ≡ timeout_message_at self.now.a.now (self.now.port.now, self.now.channel.now) self.now.mine.now self.now.theirs.now (sequence, commitment.now)) }
-        ensures err { IfErr result (λ refusal. refusal ≡ NoMemory) }
+        ensures err { IsOkUnless result NoMemory }
     {
         if has_received(self.theirs, sequence) {
             return Ok(None);
@@ -89,7 +89,7 @@ impl Ends<'_> {
         requires peer { self.now.mine.now.end.peer_channel ≡ Some self.now.peer.now }
         ensures ok { IfOk result (λ made. let packet = packet_between (peer_of self.now.mine.now) (self.now.port.now, self.now.channel.now) sequence commitment.now in
             made ≡ recv_message packet self.now.a.now.height (proof_at self.now.a.now (commitment_key packet))) }
-        ensures err { IfErr result (λ refusal. refusal ≡ NoMemory) }
+        ensures err { IsOkUnless result NoMemory }
     {
         let proof = self.committed(alloc, sequence)?;
         let port = self.peer_port();
@@ -120,7 +120,7 @@ impl Ends<'_> {
         requires peer { self.now.mine.now.end.peer_channel ≡ Some self.now.peer.now }
         ensures ok { IfOk result (λ made. let packet = packet_between (self.now.port.now, self.now.channel.now) (peer_of self.now.mine.now) sequence commitment.now in
             made ≡ ack_message packet self.now.a.now.height ack.now (proof_at self.now.a.now (ack_key packet))) }
-        ensures err { IfErr result (λ refusal. refusal ≡ NoMemory) }
+        ensures err { IsOkUnless result NoMemory }
     {
         let proof = self.acknowledged(alloc, sequence)?;
         let ack = ack.clone()?;
@@ -152,7 +152,7 @@ impl Ends<'_> {
         requires peer { self.now.mine.now.end.peer_channel ≡ Some self.now.peer.now }
         ensures ok { IfOk result (λ made. let packet = packet_between (self.now.port.now, self.now.channel.now) (peer_of self.now.mine.now) sequence commitment.now in
             made ≡ timeout_message packet self.now.a.now.height (next_recv self.now.mine.now self.now.theirs.now) (proof_at self.now.a.now (unreceived_key self.now.mine.now packet))) }
-        ensures err { IfErr result (λ refusal. refusal ≡ NoMemory) }
+        ensures err { IsOkUnless result NoMemory }
     {
         let proof = self.unreceived(alloc, sequence)?;
         let port = self.peer_port();
@@ -183,7 +183,7 @@ impl Ends<'_> {
         requires peer { self.now.mine.now.end.peer_channel ≡ Some self.now.peer.now }
         ensures ok { IfOk result (λ made. let packet = packet_between (self.now.port.now, self.now.channel.now) (peer_of self.now.mine.now) sequence commitment.now in
             made ≡ timeout_on_close_message packet self.now.a.now.height (next_recv self.now.mine.now self.now.theirs.now) (proof_at self.now.a.now (unreceived_key self.now.mine.now packet)) (proof_at self.now.a.now (destination_key packet))) }
-        ensures err { IfErr result (λ refusal. refusal ≡ NoMemory) }
+        ensures err { IsOkUnless result NoMemory }
     {
         let proof = self.unreceived(alloc, sequence)?;
         let proof_close = self.closed(alloc)?;
@@ -210,7 +210,7 @@ impl Ends<'_> {
         requires height { 0 < self.now.a.now.height }
         requires peer { self.now.mine.now.end.peer_channel ≡ Some self.now.peer.now }
         ensures ok { IfOk result (λ proof. proof ≡ proof_at self.now.a.now (key.Commitment self.now.mine.now.end.peer_port (peer_channel_of self.now.mine.now.end) sequence)) }
-        ensures err { IfErr result (λ refusal. refusal ≡ NoMemory) }
+        ensures err { IsOkUnless result NoMemory }
     {
         let port = self.peer_port().clone()?;
         let channel = self.peer.clone()?;
@@ -222,7 +222,7 @@ impl Ends<'_> {
         requires height { 0 < self.now.a.now.height }
         requires peer { self.now.mine.now.end.peer_channel ≡ Some self.now.peer.now }
         ensures ok { IfOk result (λ proof. proof ≡ proof_at self.now.a.now (key.Acknowledgement self.now.mine.now.end.peer_port (peer_channel_of self.now.mine.now.end) sequence)) }
-        ensures err { IfErr result (λ refusal. refusal ≡ NoMemory) }
+        ensures err { IsOkUnless result NoMemory }
     {
         let port = self.peer_port().clone()?;
         let channel = self.peer.clone()?;
@@ -234,7 +234,7 @@ impl Ends<'_> {
         requires height { 0 < self.now.a.now.height }
         requires peer { self.now.mine.now.end.peer_channel ≡ Some self.now.peer.now }
         ensures ok { IfOk result (λ proof. proof ≡ proof_at self.now.a.now (key.ChannelEnd self.now.mine.now.end.peer_port (peer_channel_of self.now.mine.now.end))) }
-        ensures err { IfErr result (λ refusal. refusal ≡ NoMemory) }
+        ensures err { IsOkUnless result NoMemory }
     {
         let port = self.peer_port().clone()?;
         let channel = self.peer.clone()?;
@@ -246,7 +246,7 @@ impl Ends<'_> {
         requires height { 0 < self.now.a.now.height }
         requires peer { self.now.mine.now.end.peer_channel ≡ Some self.now.peer.now }
         ensures ok { IfOk result (λ proof. proof ≡ proof_at self.now.a.now (unreceived_at self.now.mine.now sequence)) }
-        ensures err { IfErr result (λ refusal. refusal ≡ NoMemory) }
+        ensures err { IsOkUnless result NoMemory }
     {
         let port = self.peer_port().clone()?;
         let channel = self.peer.clone()?;
@@ -262,7 +262,7 @@ impl Ends<'_> {
     fn proof(&self, alloc: Global, key: Key) -> Result<Bytes, Refusal>
         requires { 0 < self.now.a.now.height }
         ensures ok { IfOk result (λ proof. proof ≡ proof_at self.now.a.now key) }
-        ensures err { IfErr result (λ refusal. refusal ≡ NoMemory) }
+        ensures err { IsOkUnless result NoMemory }
     {
         let proof = self.a.prove(alloc, &key);
         drop(key);
@@ -298,7 +298,7 @@ fn packet(
     commitment: &Commitment,
 ) -> Result<Packet, Refusal>
     ensures ok { IfOk result (λ packet. packet ≡ packet_between (source_port.now, source_channel.now) (destination_port.now, destination_channel.now) sequence commitment.now) }
-    ensures err { IfErr result (λ refusal. refusal ≡ NoMemory) }
+    ensures err { IsOkUnless result NoMemory }
 {
     Ok(Packet {
         sequence,

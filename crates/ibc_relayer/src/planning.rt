@@ -1,6 +1,6 @@
 //! What is planned for a chain.
 
-ghost use Rattle.std.specs.Prelude.{◌≡◌, ◌<◌, ◌&&◌, ◌||◌, ◌++◌, [], map, Some, is_some, IfOk, IfErr, OnOk};
+ghost use Rattle.std.specs.Prelude.{◌≡◌, ◌<◌, ◌&&◌, ◌||◌, ◌++◌, [], map, Some, is_some, IfOk, OnOk, IsOkUnless};
 ghost use Rattle.std.specs.List.{filter, filter_map, flat_map};
 ghost use Rattle.ibc_ids.specs.Texts.{Text, same_text, text_cmp};
 ghost use Rattle.ibc_ids.specs.Maps.{at};
@@ -31,7 +31,7 @@ type Used = BTreeMap<ClientId, ()>;
 /// where a growth is refused.
 pub fn plan(alloc: Global, a: &View, b: &View) -> Result<Vec<Message>, Refusal>
     ensures ok { IfOk result (λ plan. plan.items ≡ relay.plan a.now b.now) }
-    ensures err { IfErr result (λ refusal. refusal ≡ NoMemory) }
+    ensures err { IsOkUnless result NoMemory }
 {
     if a.height() == 0 {
         return Ok(Vec::new(alloc));
@@ -54,7 +54,7 @@ fn plan_packets(
     requires empty { messages.old.items ≡ [] }
     ensures ok { OnOk result (messages.new.items ≡ filter_map (pending_message a.now b.now) (flat_map (pending_at a.now b.now) b.now.core.channels)) }
     ensures used { IfOk result (λ used. AreUsed b.now (flat_map (pending_at a.now b.now) b.now.core.channels) used.entries) }
-    ensures err { IfErr result (λ refusal. refusal ≡ NoMemory) }
+    ensures err { IsOkUnless result NoMemory }
 {
     let mut used = Used::new(alloc);
     let all = b.plain().channels();
@@ -79,7 +79,7 @@ fn plan_end(
     requires there { channel_at ends.now.b.now.core ends.now.port.now ends.now.channel.now ≡ Some ends.now.mine.now }
     ensures ok { OnOk result (messages.new.items ≡ messages.old.items ++ filter_map (pending_message ends.now.a.now ends.now.b.now) (pending_at ends.now.a.now ends.now.b.now ((ends.now.port.now, ends.now.channel.now), ends.now.mine.now))) }
     ensures used { OnOk result ((id : Text) → is_some (at text_cmp id used.new.entries) ≡ (is_over_client ends.now.b.now id (pending_at ends.now.a.now ends.now.b.now ((ends.now.port.now, ends.now.channel.now), ends.now.mine.now)) || is_some (at text_cmp id used.old.entries))) }
-    ensures err { IfErr result (λ refusal. refusal ≡ NoMemory) }
+    ensures err { IsOkUnless result NoMemory }
 {
     if !has_messages(alloc, ends, messages)? {
         return Ok(());
@@ -95,7 +95,7 @@ fn has_messages(alloc: Global, ends: &Ends, messages: &mut Vec<Message>) -> Resu
     requires there { channel_at ends.now.b.now.core ends.now.port.now ends.now.channel.now ≡ Some ends.now.mine.now }
     ensures ok { OnOk result (messages.new.items ≡ messages.old.items ++ filter_map (pending_message ends.now.a.now ends.now.b.now) (pending_at ends.now.a.now ends.now.b.now ((ends.now.port.now, ends.now.channel.now), ends.now.mine.now))) }
     ensures over { IfOk result (λ any. (id : Text) → is_over_client ends.now.b.now id (pending_at ends.now.a.now ends.now.b.now ((ends.now.port.now, ends.now.channel.now), ends.now.mine.now)) ≡ (any && same_text ends.now.client.now id)) }
-    ensures err { IfErr result (λ refusal. refusal ≡ NoMemory) }
+    ensures err { IsOkUnless result NoMemory }
 {
     ends.lemma_in_order();
     let before = messages.len();
@@ -107,7 +107,7 @@ fn has_messages(alloc: Global, ends: &Ends, messages: &mut Vec<Message>) -> Resu
 fn updates(alloc: Global, a: &View, b: &View, used: &Used) -> Result<Vec<Message>, Refusal>
     requires { 0 < a.now.height }
     ensures ok { IfOk result (λ updates. updates.items ≡ map (update_of a.now) (filter (is_to_update a.now used.now.entries) b.now.core.clients)) }
-    ensures err { IfErr result (λ refusal. refusal ≡ NoMemory) }
+    ensures err { IsOkUnless result NoMemory }
 {
     let mut updates = Vec::new(alloc);
     for (id, client) in b.plain().clients().iter() {
@@ -129,7 +129,7 @@ fn is_told(a: &View, used: &Used, id: &ClientId, client: &Client) -> bool
 fn update(a: &View, id: &ClientId) -> Result<Message, Refusal>
     requires { 0 < a.now.height }
     ensures ok { IfOk result (λ message. message ≡ message_of.UpdateClient (record { client = id.now; header = record { chain = a.now.chain; height = a.now.height; time = a.now.time; root = core_root a.now.core } })) }
-    ensures err { IfErr result (λ refusal. refusal ≡ NoMemory) }
+    ensures err { IsOkUnless result NoMemory }
 {
     Ok(Message::UpdateClient(UpdateClient {
         client: id.clone()?,

@@ -1,6 +1,6 @@
 //! The turns of a relayer.
 
-ghost use Rattle.std.specs.Prelude.{◌≡◌, ◌≤◌, IfOk, IfErr, length};
+ghost use Rattle.std.specs.Prelude.{◌≡◌, ◌≤◌, IfOk, length, IsOkUnless};
 ghost use Rattle.ibc_ids.specs.declared.refusal.Refusal.TheVariants.{NoMemory};
 ghost use Rattle.ibc_machine.specs.ics18.Relay as relayer;
 
@@ -22,7 +22,7 @@ pub fn plans(
 ) -> Result<(Vec<Message>, Vec<Message>), Refusal>
     ensures second { IfOk result (λ plans. plans.0.items ≡ relayer.plan first.now second.now) }
     ensures first { IfOk result (λ plans. plans.1.items ≡ relayer.plan second.now first.now) }
-    ensures err { IfErr result (λ refusal. refusal ≡ NoMemory) }
+    ensures err { IsOkUnless result NoMemory }
 {
     let for_second = plan(alloc, first, second)?;
     Ok((for_second, plan(alloc, second, first)?))
@@ -38,7 +38,7 @@ pub fn relay<R: Wait, X: Gate, Y: Gate>(
     y: &Y,
     turns: u16,
 ) -> Result<u64, Refusal>
-    ensures { IfErr result (λ refusal. refusal ≡ NoMemory) }
+    ensures { IsOkUnless result NoMemory }
 {
     let mut accepted = 0u64;
     for _turn in 0..turns {
@@ -54,7 +54,7 @@ fn relay_once<R: Wait, X: Gate, Y: Gate>(
     x: &X,
     y: &Y,
 ) -> Result<u64, Refusal>
-    ensures { IfErr result (λ refusal. refusal ≡ NoMemory) }
+    ensures { IsOkUnless result NoMemory }
 {
     let (for_y, for_x) = plans(alloc, x.view(), y.view())?;
     let accepted = submit_each(rt, y, for_y);

@@ -1,6 +1,6 @@
 //! Relayers that work at the same time.
 
-ghost use Rattle.std.specs.Prelude.{◌≡◌, ◌≤◌, IfErr};
+ghost use Rattle.std.specs.Prelude.{◌≡◌, ◌≤◌, IsOkUnless};
 ghost use Rattle.ibc_ids.specs.declared.refusal.Refusal.TheVariants.{NoMemory};
 
 use crate::turns::relay;
@@ -24,7 +24,7 @@ pub fn relay_all<R: Threads + Wait + Sync, X: Gate, Y: Gate>(
     turns: u16,
 ) -> Result<u64, Refusal>
     requires { 1 ≤ relayers × relayers ≤ 8 }
-    ensures { IfErr result (λ refusal. refusal ≡ NoMemory) }
+    ensures { IsOkUnless result NoMemory }
 {
     let mut handles = Vec::with_capacity(alloc, usize::from(relayers))?;
     let all_made = thread::scope(thread::scope_env(), rt, |scope| {
@@ -47,7 +47,7 @@ pub fn relay_all<R: Threads + Wait + Sync, X: Gate, Y: Gate>(
 
 // What the relayers' threads return, added up. `NoMemory` where one of them returns nothing.
 fn sum_of<R: Threads>(rt: &R, handles: Vec<JoinHandle<Option<u64>>>) -> Result<u64, Refusal>
-    ensures { IfErr result (λ refusal. refusal ≡ NoMemory) }
+    ensures { IsOkUnless result NoMemory }
 {
     let mut sum = Ok(0u64);
     for handle in handles {

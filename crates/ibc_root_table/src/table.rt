@@ -1,5 +1,5 @@
 //! The table as its callers see it.
-ghost use Rattle.std.specs.Prelude.{◌≡◌, ◌+◌, ◌<◌, ◌≤◌, List, [], ◌∷◌, ◌++◌, Some, None, IfOk, IfErr, IfSome, IfNone, IsSome, OnOk, OnSome, slice_index, slice_get};
+ghost use Rattle.std.specs.Prelude.{◌≡◌, ◌+◌, ◌<◌, ◌≤◌, List, [], ◌∷◌, ◌++◌, Some, None, IfOk, IfErr, IfSome, IfNone, IsSome, OnOk, OnSome, slice_index, slice_get, IsOkUnless};
 ghost use mathlib.Core.List.{IsPrefix};
 ghost use Rattle.ibc_ids.specs.declared.refusal.Refusal.TheVariants.{NoMemory, TableFull};
 ghost use Rattle.ibc_ids.specs.declared.publication.Publication.{Publication};
@@ -77,7 +77,7 @@ impl RootTable {
         requires { (0 < chains) × (0 < window) }
         ensures ok { IfOk result (λ made. (made.0.shape ≡ record { chains = chains; window = window; capacity = capacity })
             × AreDealt chains readers made.0 made.1.items) }
-        ensures err { IfErr result (λ refusal. refusal ≡ NoMemory) }
+        ensures err { IsOkUnless result NoMemory }
     {
         let shape = Shape {
             chains,

@@ -1,6 +1,6 @@
 //! The applications that channels are opened for.
 
-ghost use Rattle.std.specs.Prelude.{◌≡◌, IfOk, IfErr};
+ghost use Rattle.std.specs.Prelude.{◌≡◌, IfOk, IsOkUnless};
 ghost use Rattle.ibc_script.specs.Applications.{port_of, order_of, version_of};
 
 use crate::Fault;
@@ -23,7 +23,7 @@ impl Application {
     /// The port of the application, the same on all chains. Fault: `NoMemory`.
     pub fn port(self, alloc: Global) -> Result<PortId, Fault>
         ensures port { IfOk result (λ port. port ≡ port_of self) }
-        ensures memory { IfErr result (λ fault. fault ≡ Fault.NoMemory) }
+        ensures memory { IsOkUnless result Fault.NoMemory }
     {
         match self {
             Application::Note => Name::parse(alloc, "note").map_err(Fault::of_refusal),
@@ -46,7 +46,7 @@ impl Application {
     /// The version of the application's channels. Fault: `NoMemory`.
     pub fn version(self, alloc: Global) -> Result<Version, Fault>
         ensures version { IfOk result (λ version. version ≡ version_of self) }
-        ensures memory { IfErr result (λ fault. fault ≡ Fault.NoMemory) }
+        ensures memory { IsOkUnless result Fault.NoMemory }
     {
         match self {
             Application::Note => Name::parse(alloc, "note-1").map_err(Fault::of_refusal),

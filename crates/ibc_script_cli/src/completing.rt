@@ -1,6 +1,6 @@
 //! The messages of steps are completed from what the chains answer.
 
-ghost use Rattle.std.specs.Prelude.{◌≡◌, Some, IfOk, IfErr, IfSome};
+ghost use Rattle.std.specs.Prelude.{◌≡◌, Some, IfOk, IfSome, IsOkUnless};
 ghost use Rattle.ibc_wire.specs.Kinds.{kind_of};
 ghost use Rattle.ibc_script.specs.EventKinds.{draft_kind};
 ghost use Rattle.ibc_script_cli.specs.Completing.{IsEncoding, IsClaim, IsProofBytesAt, IsClaimAt, MakesMessage};
@@ -37,7 +37,7 @@ struct ClientClaim {
 /// The encoding of a proof, `None` where it has none.
 fn encoding_of(alloc: Global, proof: &Proof) -> Result<Option<Bytes>, Fault>
     ensures is { IfOk result (IsEncoding (Some proof.now)) }
-    ensures err { IfErr result (λ fault. fault ≡ Fault.NoMemory) }
+    ensures err { IsOkUnless result Fault.NoMemory }
 {
     match encode(alloc, proof) {
         Ok(bytes) => Ok(Some(Bytes::from_vec(bytes))),
@@ -51,7 +51,7 @@ impl<C: Chains + Drop> Completer<'_, C> {
     pub fn complete(&self, on: u8, draft: Draft) -> Result<Option<Message>, Fault>
         ensures made { IfOk result (MakesMessage (C.answers self.now.chains.now) self.now.heights.now on draft) }
         ensures kind { IfOk result (λ made. IfSome made (λ message. kind_of message ≡ draft_kind draft)) }
-        ensures err { IfErr result (λ fault. fault ≡ Fault.NoMemory) }
+        ensures err { IsOkUnless result Fault.NoMemory }
     {
         match draft {
             Draft::Client(draft) => Ok(Some(self.client_message(on, draft)?)),
@@ -64,7 +64,7 @@ impl<C: Chains + Drop> Completer<'_, C> {
     // What a chain proves of a key at a height, `None` where there is nothing.
     fn found(&self, from: ProofSource, key: Key) -> Result<Option<Proof>, Fault>
         ensures found { IfOk result ((C.answers self.now.chains.now).proof from.chain from.height key) }
-        ensures err { IfErr result (λ fault. fault ≡ Fault.NoMemory) }
+        ensures err { IsOkUnless result Fault.NoMemory }
     {
         let found = self.chains.proof(from.chain, from.height, &key);
         drop(key);
@@ -74,7 +74,7 @@ impl<C: Chains + Drop> Completer<'_, C> {
     /// The encoding of the proof of a key at a height, `None` where there is none.
     pub fn proof(&self, from: ProofSource, key: Key) -> Result<Option<Bytes>, Fault>
         ensures is { IfOk result (IsProofBytesAt (C.answers self.now.chains.now) from key) }
-        ensures err { IfErr result (λ fault. fault ≡ Fault.NoMemory) }
+        ensures err { IsOkUnless result Fault.NoMemory }
     {
         match self.found(from, key)? {
             Some(proof) => {
@@ -89,7 +89,7 @@ impl<C: Chains + Drop> Completer<'_, C> {
     /// The state of a client at a height, with the encoding of the proof that shows it; `None` where there is none.
     fn claim(&self, from: ProofSource, client: &ClientId) -> Result<Option<ClientClaim>, Fault>
         ensures is { IfOk result (IsClaimAt (C.answers self.now.chains.now) from client.now) }
-        ensures err { IfErr result (λ fault. fault ≡ Fault.NoMemory) }
+        ensures err { IsOkUnless result Fault.NoMemory }
     {
         match self.found(from, Key::ClientState(client.clone()?))? {
             Some(proof) => {
@@ -105,7 +105,7 @@ impl<C: Chains + Drop> Completer<'_, C> {
 /// What a proof shows of a client, `None` where it shows no state.
 fn claim_of(alloc: Global, proof: &Proof) -> Result<Option<ClientClaim>, Fault>
     ensures is { IfOk result (IsClaim (Some proof.now)) }
-    ensures err { IfErr result (λ fault. fault ≡ Fault.NoMemory) }
+    ensures err { IsOkUnless result Fault.NoMemory }
 {
     let Proof::Present(Presence { value, .. }) = proof else {
         return Ok(None);

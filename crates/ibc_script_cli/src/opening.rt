@@ -1,6 +1,6 @@
 //! What the step `open` does in turn, and what the chains have given it.
 
-ghost use Rattle.std.specs.Prelude.{◌≡◌, IfOk, IfErr};
+ghost use Rattle.std.specs.Prelude.{◌≡◌, IfOk, IsOkUnless};
 ghost use Rattle.ibc_script_cli.specs.Opening.{new_party, with_effect, origin_of, own_of, turn_draft, with_effect_at};
 
 mod drafts;
@@ -178,7 +178,7 @@ impl Handshake {
         kind: MessageKind,
     ) -> Result<Option<Draft>, Fault>
         ensures made { IfOk result (λ made. made ≡ turn_draft side kind self.now) }
-        ensures memory { IfErr result (λ fault. fault ≡ Fault.NoMemory) }
+        ensures memory { IsOkUnless result Fault.NoMemory }
     {
         let (own, peer) = match side {
             HandshakeSide::First => (&self.first, &self.second),

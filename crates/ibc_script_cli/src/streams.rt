@@ -1,6 +1,6 @@
 //! The input and the output of the program.
 
-ghost use Rattle.std.specs.Prelude.{◌≡◌, ◌≢◌, ◌⊎◌, ◌↔◌, ◌++◌, codes, take, IfOk, IfErr, IfSome, OnOk};
+ghost use Rattle.std.specs.Prelude.{◌≡◌, ◌≢◌, ◌⊎◌, ◌↔◌, ◌++◌, codes, take, IfOk, IfErr, IfSome, OnOk, IsOkUnless};
 ghost use Rattle.std.specs.Io.KnownBytes.{Appends};
 ghost use Rattle.std.specs.IoError.{error_kind};
 
@@ -37,7 +37,7 @@ pub fn read_input<R: Read + Drop>(alloc: Global, input: R) -> Result<Vec<u8>, Fa
 /// Writes a line and a line feed. Fault: `CannotWrite`; the writer may have taken a beginning of the line then.
 pub fn write_line<W: Write>(output: &mut W, line: &str) -> Result<(), Fault>
     ensures ok { OnOk result (Appends (W.contents output.old) (W.contents output.new) (line.now ++ codes "\n")) }
-    ensures fault { IfErr result (λ fault. fault ≡ Fault.CannotWrite) }
+    ensures fault { IsOkUnless result Fault.CannotWrite }
 {
     match writeln!(output, "{line}") {
         Ok(()) => Ok(()),

@@ -1,6 +1,6 @@
 //! The words of the program.
 
-ghost use Rattle.std.specs.Prelude.{◌≡◌, ◌≢◌, ◌⊎◌, ◌↔◌, map, true, false, codes, Some, option_and_then, option_map, IfOk, IfErr, IsErrOf};
+ghost use Rattle.std.specs.Prelude.{◌≡◌, ◌≢◌, ◌⊎◌, ◌↔◌, map, true, false, codes, Some, option_and_then, option_map, IfOk, IfErr, IsErrOf, IsOkUnless};
 ghost use Rattle.clap.specs.Words.{app_of, kind_of, rule_of, subcommand_rows_of};
 ghost use Rattle.ibc_script_cli.specs.Words.{IsPossible, are_words, command_by, command_in, command_of, ibcworld, relayers_of, relayers_rule};
 
@@ -32,7 +32,7 @@ fn fault_of(error: Error) -> Fault
 #[tactic(auto, unfolding(crate::specs::Words::ibcworld))]
 fn parser<'a>(alloc: Global) -> Result<Parser<'a>, Fault>
     ensures app { IfOk result (λ parser. app_of parser ≡ ibcworld) }
-    ensures memory { IfErr result (λ fault. fault ≡ Fault.NoMemory) }
+    ensures memory { IsOkUnless result Fault.NoMemory }
 {
     let run = Parser::new(alloc, "run");
     let race = Parser::new(alloc, "race").arg(relayers(alloc))?;

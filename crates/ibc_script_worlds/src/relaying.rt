@@ -1,6 +1,6 @@
 //! What relayers plan between two ledgers.
 
-ghost use Rattle.std.specs.Prelude.{◌≡◌, IfOk, IfErr};
+ghost use Rattle.std.specs.Prelude.{◌≡◌, IfOk, IsOkUnless};
 ghost use Rattle.ibc_ids.specs.declared.refusal.Refusal.TheVariants.{NoMemory};
 ghost use Rattle.ibc_machine.specs.ics18.Relay as relay;
 ghost use Rattle.ibc_script_worlds.specs.Relaying.{view_of_ledger};
@@ -20,7 +20,7 @@ pub fn plans_between(
 ) -> Result<(Vec<Message>, Vec<Message>), Refusal>
     ensures second { IfOk result (λ plans. plans.0.items ≡ relay.plan (view_of_ledger first.now.ledger) (view_of_ledger second.now.ledger)) }
     ensures first { IfOk result (λ plans. plans.1.items ≡ relay.plan (view_of_ledger second.now.ledger) (view_of_ledger first.now.ledger)) }
-    ensures err { IfErr result (λ refusal. refusal ≡ NoMemory) }
+    ensures err { IsOkUnless result NoMemory }
 {
     let first = first.view()?;
     let second = second.view()?;

@@ -1,6 +1,6 @@
 //! Chains that threads share, as the steps of a script see them.
 
-ghost use Rattle.std.specs.Prelude.{◌≡◌, ◌≤◌, IfErr};
+ghost use Rattle.std.specs.Prelude.{◌≡◌, ◌≤◌, IsOkUnless};
 ghost use Rattle.ibc_ids.specs.declared.refusal.Refusal.TheVariants.{NoMemory};
 
 use crate::worlds::decoded;
@@ -69,7 +69,7 @@ impl<R: Threads + Wait + Sync, W: WorldBrand + Send + Sync> Shared<'_, R, W> {
         turns: u16,
     ) -> Result<(Vec<EndedBlock>, Vec<EndedBlock>), Refusal>
         requires { 1 ≤ relayers × relayers ≤ 8 }
-        ensures { IfErr result (λ refusal. refusal ≡ NoMemory) }
+        ensures { IsOkUnless result NoMemory }
     {
         match (self.chain(chains.0), self.chain(chains.1)) {
             (Some(first), Some(second)) => self.relay_on(relayers, first, second, turns),
@@ -86,7 +86,7 @@ impl<R: Threads + Wait + Sync, W: WorldBrand + Send + Sync> Shared<'_, R, W> {
         turns: u16,
     ) -> Result<(Vec<EndedBlock>, Vec<EndedBlock>), Refusal>
         requires { 1 ≤ relayers × relayers ≤ 8 }
-        ensures { IfErr result (λ refusal. refusal ≡ NoMemory) }
+        ensures { IsOkUnless result NoMemory }
     {
         let places = (self.entries(first), self.entries(second));
         relay_all(self.rt, self.alloc, first, second, relayers, turns)?;

@@ -1,6 +1,6 @@
 //! The data of a packet of tokens.
 
-ghost use Rattle.std.specs.Prelude.{◌≡◌, ◌↔◌, ◌<◌, ◌^◌, Some, None, IsTrue, IfOk, IfErr, IsErrOf, MatchResult, SomeIff, option_map};
+ghost use Rattle.std.specs.Prelude.{◌≡◌, ◌↔◌, ◌<◌, ◌^◌, Some, None, IsTrue, IfOk, IsErrOf, MatchResult, SomeIff, option_map, IsOkUnless};
 ghost use Rattle.ibc_ids.specs.declared.refusal.Refusal.TheVariants.{NoMemory};
 ghost use Rattle.ibc_machine.specs.ics20.TokenData.{Data, amount_of, data_of, data_text};
 ghost use Rattle.ibc_machine.specs.ics20.Transfers.{transfer_data, transfer_many_data};
@@ -65,7 +65,7 @@ impl TokenData {
         payload: &[u8],
     ) -> Result<Option<TokenData>, Refusal>
         ensures ok { IfOk result (λ told. option_map abstract_data told ≡ data_of version.now payload.now) }
-        ensures err { IfErr result (λ refusal. refusal ≡ NoMemory) }
+        ensures err { IsOkUnless result NoMemory }
     {
         match spelled_data(alloc, version, payload) {
             Ok(told) => Ok(Some(told)),
@@ -77,7 +77,7 @@ impl TokenData {
     /// The one spelling of the data over a channel of the version. Refused: `NoMemory`.
     pub fn write(&self, alloc: Global, version: &Version) -> Result<Bytes, Refusal>
         ensures ok { IfOk result (λ text. text ≡ data_text version.now (abstract_data self.now)) }
-        ensures err { IfErr result (λ refusal. refusal ≡ NoMemory) }
+        ensures err { IsOkUnless result NoMemory }
     {
         let text = spelling(alloc, version, self, likely_length(self))?;
         Ok(Bytes::from_vec(text.into_bytes()))

@@ -1,6 +1,6 @@
 //! The moves that bring the tokens of a packet that came.
 
-ghost use Rattle.std.specs.Prelude.{◌≡◌, ◌↔◌, IfOk, IfErr, IsTrue, option_map, Some, MatchOption};
+ghost use Rattle.std.specs.Prelude.{◌≡◌, ◌↔◌, IfOk, IsTrue, option_map, Some, MatchOption, IsOkUnless};
 ghost use Rattle.ibc_ids.specs.Names.{is_user};
 ghost use Rattle.ibc_ids.specs.declared.refusal.Refusal.TheVariants.{NoMemory};
 ghost use Rattle.ibc_transfer.specs.TokenArrival.{mint_move, receive_move, receive_moves, arrival_moves};
@@ -21,7 +21,7 @@ pub(crate) fn read_arrival(
     packet: &Packet,
 ) -> Result<Result<Vec<Move>, Failure>, Refusal>
     ensures ok { IfOk result (λ arrived. abstract_arrival arrived ≡ arrival_moves version.now packet.now) }
-    ensures err { IfErr result (λ refusal. refusal ≡ NoMemory) }
+    ensures err { IsOkUnless result NoMemory }
 {
     let Some(data) = TokenData::read(alloc, version, packet.payload.as_slice())? else {
         return Ok(Err(Failure::BadData));
@@ -36,7 +36,7 @@ pub(crate) fn read_arrival(
 // The user with the receiver's name, or none where it is no user's. Refused: `NoMemory`.
 fn user_named(alloc: Global, receiver: &Receiver) -> Result<Option<UserName>, Refusal>
     ensures ok { IfOk result (λ user. MatchOption user (¬ IsTrue (is_user receiver.now)) (λ name. (name ≡ receiver.now) × IsTrue (is_user receiver.now))) }
-    ensures err { IfErr result (λ refusal. refusal ≡ NoMemory) }
+    ensures err { IsOkUnless result NoMemory }
 {
     match UserName::parse(alloc, receiver.as_str()) {
         Ok(user) => Ok(Some(user)),
@@ -53,7 +53,7 @@ fn receive_moves(
     tokens: &[Token],
 ) -> Result<Option<Vec<Move>>, Refusal>
     ensures ok { IfOk result (λ moves. option_map abstract_moves moves ≡ receive_moves packet.now user.now tokens.now) }
-    ensures err { IfErr result (λ refusal. refusal ≡ NoMemory) }
+    ensures err { IsOkUnless result NoMemory }
 {
     let mut moves = Vec::with_capacity(alloc, tokens.len())?;
     for token in tokens {
@@ -74,7 +74,7 @@ fn receive_move(
     token: &Token,
 ) -> Result<Option<Move>, Refusal>
     ensures ok { IfOk result (λ step. step ≡ receive_move packet.now user.now token.now) }
-    ensures err { IfErr result (λ refusal. refusal ≡ NoMemory) }
+    ensures err { IsOkUnless result NoMemory }
 {
     let home = token
         .denom
@@ -99,7 +99,7 @@ fn mint_move(
     token: &Token,
 ) -> Result<Option<Move>, Refusal>
     ensures ok { IfOk result (λ step. step ≡ mint_move packet.now user.now token.now) }
-    ensures err { IfErr result (λ refusal. refusal ≡ NoMemory) }
+    ensures err { IsOkUnless result NoMemory }
 {
     let hopped = token.denom.hop(alloc, &packet.destination_port, &packet.destination_channel);
     match hopped {

@@ -1,6 +1,6 @@
 //! The moves of tokens that are sent.
 
-ghost use Rattle.std.specs.Prelude.{◌≡◌, IfOk, IfErr, map};
+ghost use Rattle.std.specs.Prelude.{◌≡◌, IfOk, map, IsOkUnless};
 ghost use Rattle.ibc_ids.specs.declared.refusal.Refusal.TheVariants.{NoMemory};
 ghost use Rattle.ibc_transfer.specs.BankTransfers.{send_move};
 
@@ -18,7 +18,7 @@ pub(crate) fn send_moves(
     tokens: &[Token],
 ) -> Result<Vec<Move>, Refusal>
     ensures ok { IfOk result (λ moves. moves.items ≡ map (send_move channel.now user.now) tokens.now) }
-    ensures err { IfErr result (λ refusal. refusal ≡ NoMemory) }
+    ensures err { IsOkUnless result NoMemory }
 {
     let mut moves = Vec::with_capacity(alloc, tokens.len())?;
     for token in tokens {
@@ -36,7 +36,7 @@ fn send_move(
     token: &Token,
 ) -> Result<Move, Refusal>
     ensures ok { IfOk result (λ step. step ≡ send_move channel.now user.now token.now) }
-    ensures err { IfErr result (λ refusal. refusal ≡ NoMemory) }
+    ensures err { IsOkUnless result NoMemory }
 {
     if came_over(alloc, channel, &token.denom)? {
         Ok(Move::Burn {

@@ -1,6 +1,6 @@
 //! The port of transfers and its versions.
 
-ghost use Rattle.std.specs.Prelude.{◌≡◌, [], ◌∷◌, IfOk, IfErr};
+ghost use Rattle.std.specs.Prelude.{◌≡◌, [], ◌∷◌, IfOk, IsOkUnless};
 ghost use Rattle.std.specs.List.{list_any};
 ghost use Rattle.ibc_ids.specs.Texts.{same_text};
 ghost use Rattle.ibc_ids.specs.declared.refusal.Refusal.TheVariants.{NoMemory};
@@ -33,7 +33,7 @@ pub(crate) fn is_transfer_version(version: &Version) -> bool
 /// The port of transfers. Refused: `NoMemory`.
 pub fn transfer_port(alloc: Global) -> Result<PortId, Refusal>
     ensures ok { IfOk result (λ port. port ≡ transfers.transfer_port) }
-    ensures err { IfErr result (λ refusal. refusal ≡ NoMemory) }
+    ensures err { IsOkUnless result NoMemory }
 {
     PortId::parse(alloc, PORT)
 }
@@ -41,7 +41,7 @@ pub fn transfer_port(alloc: Global) -> Result<PortId, Refusal>
 /// The version of one token a packet.
 pub(crate) fn one_token(alloc: Global) -> Result<Version, Refusal>
     ensures ok { IfOk result (λ version. version ≡ plain.one_token) }
-    ensures err { IfErr result (λ refusal. refusal ≡ NoMemory) }
+    ensures err { IsOkUnless result NoMemory }
 {
     Version::parse(alloc, ONE_TOKEN)
 }
@@ -49,7 +49,7 @@ pub(crate) fn one_token(alloc: Global) -> Result<Version, Refusal>
 /// The version of several tokens a packet.
 pub(crate) fn several_tokens(alloc: Global) -> Result<Version, Refusal>
     ensures ok { IfOk result (λ version. version ≡ plain.several_tokens) }
-    ensures err { IfErr result (λ refusal. refusal ≡ NoMemory) }
+    ensures err { IsOkUnless result NoMemory }
 {
     Version::parse(alloc, SEVERAL_TOKENS)
 }
@@ -57,7 +57,7 @@ pub(crate) fn several_tokens(alloc: Global) -> Result<Version, Refusal>
 /// Whether a denomination came over a channel, and so goes back over it. Refused: `NoMemory`.
 pub fn came_over(alloc: Global, channel: &ChannelId, denom: &Denom) -> Result<bool, Refusal>
     ensures ok { IfOk result (λ came. came ≡ transfers.came_over transfers.transfer_port channel.now denom.now) }
-    ensures err { IfErr result (λ refusal. refusal ≡ NoMemory) }
+    ensures err { IsOkUnless result NoMemory }
 {
     let port = transfer_port(alloc)?;
     Ok(denom.strip(alloc, &port, channel)?.is_some())

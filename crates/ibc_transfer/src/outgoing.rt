@@ -1,6 +1,6 @@
 //! What the messages of transfers send.
 
-ghost use Rattle.std.specs.Prelude.{◌≡◌, not, IfOk, IfErr};
+ghost use Rattle.std.specs.Prelude.{◌≡◌, not, IfOk, IsOkUnless};
 ghost use Rattle.std.specs.List.{list_any};
 ghost use Rattle.ibc_ids.specs.declared.refusal.Refusal.TheVariants.{NoMemory};
 ghost use Rattle.ibc_machine.specs.ics20.Transfers.{is_zero};
@@ -33,7 +33,7 @@ impl Outgoing {
     /// What a transfer of one token sends. Refused: `NoMemory`.
     pub(crate) fn of_transfer(alloc: Global, message: &Transfer) -> Result<Outgoing, Refusal>
         ensures ok { IfOk result (λ parcel. abstract_outgoing parcel ≡ one_outgoing message.now) }
-        ensures err { IfErr result (λ refusal. refusal ≡ NoMemory) }
+        ensures err { IsOkUnless result NoMemory }
     {
         let data = TokenData::of_transfer(alloc, message)?;
         let version = one_token(alloc)?;
@@ -62,7 +62,7 @@ impl Outgoing {
         message: &TransferMany,
     ) -> Result<Outgoing, Refusal>
         ensures ok { IfOk result (λ parcel. abstract_outgoing parcel ≡ many_outgoing message.now) }
-        ensures err { IfErr result (λ refusal. refusal ≡ NoMemory) }
+        ensures err { IsOkUnless result NoMemory }
     {
         let data = TokenData::of_transfer_many(alloc, message)?;
         let version = several_tokens(alloc)?;

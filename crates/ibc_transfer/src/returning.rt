@@ -1,6 +1,6 @@
 //! The moves of a packet's tokens once the packet is settled.
 
-ghost use Rattle.std.specs.Prelude.{◌≡◌, IfOk, IfErr, map};
+ghost use Rattle.std.specs.Prelude.{◌≡◌, IfOk, map, IsOkUnless};
 ghost use Rattle.ibc_ids.specs.declared.refusal.Refusal.TheVariants.{NoMemory};
 ghost use Rattle.ibc_bank.specs.declared.moves.Move.TheVariants as move;
 ghost use Rattle.ibc_transfer.specs.BankCallbacks.{refund_move};
@@ -22,7 +22,7 @@ pub(crate) fn refunds(
     packet: &Packet,
 ) -> Result<Vec<Move>, Refusal>
     ensures ok { IfOk result (λ moves. moves.items ≡ refund_moves version.now packet.now) }
-    ensures err { IfErr result (λ refusal. refusal ≡ NoMemory) }
+    ensures err { IsOkUnless result NoMemory }
 {
     match TokenData::read(alloc, version, packet.payload.as_slice())? {
         Some(data) => refund_moves(
@@ -44,7 +44,7 @@ pub(crate) fn acknowledged(
     ack: &[u8],
 ) -> Result<Vec<Move>, Refusal>
     ensures ok { IfOk result (λ moves. moves.items ≡ moves_after_ack version.now packet.now ack.now) }
-    ensures err { IfErr result (λ refusal. refusal ≡ NoMemory) }
+    ensures err { IsOkUnless result NoMemory }
 {
     if is_success(ack) {
         settlements(alloc, version, packet)
@@ -57,7 +57,7 @@ pub(crate) fn acknowledged(
 // Refused: `NoMemory`.
 fn settlements(alloc: Global, version: &Version, packet: &Packet) -> Result<Vec<Move>, Refusal>
     ensures ok { IfOk result (λ moves. moves.items ≡ settlement_moves version.now packet.now) }
-    ensures err { IfErr result (λ refusal. refusal ≡ NoMemory) }
+    ensures err { IsOkUnless result NoMemory }
 {
     match TokenData::read(alloc, version, packet.payload.as_slice())? {
         Some(data) => settle_moves(alloc, &packet.source_channel, data.tokens.as_slice()),
@@ -73,7 +73,7 @@ fn refund_moves(
     tokens: &[Token],
 ) -> Result<Vec<Move>, Refusal>
     ensures ok { IfOk result (λ moves. moves.items ≡ map (refund_move channel.now user.now) tokens.now) }
-    ensures err { IfErr result (λ refusal. refusal ≡ NoMemory) }
+    ensures err { IsOkUnless result NoMemory }
 {
     let mut moves = Vec::with_capacity(alloc, tokens.len())?;
     for token in tokens {
@@ -91,7 +91,7 @@ fn refund_move(
     token: &Token,
 ) -> Result<Move, Refusal>
     ensures ok { IfOk result (λ step. step ≡ refund_move channel.now user.now token.now) }
-    ensures err { IfErr result (λ refusal. refusal ≡ NoMemory) }
+    ensures err { IsOkUnless result NoMemory }
 {
     let source = if came_over(alloc, channel, &token.denom)? {
         Source::Burnt
@@ -109,7 +109,7 @@ fn refund_move(
 // The settling of those tokens that went back over the channel. Refused: `NoMemory`.
 fn settle_moves(alloc: Global, channel: &ChannelId, tokens: &[Token]) -> Result<Vec<Move>, Refusal>
     ensures ok { IfOk result (λ moves. moves.items ≡ settle_moves channel.now tokens.now) }
-    ensures err { IfErr result (λ refusal. refusal ≡ NoMemory) }
+    ensures err { IsOkUnless result NoMemory }
 {
     let mut moves = Vec::with_capacity(alloc, tokens.len())?;
     for token in tokens {
@@ -123,7 +123,7 @@ fn settle_moves(alloc: Global, channel: &ChannelId, tokens: &[Token]) -> Result<
 // The settling of a token. Refused: `NoMemory`.
 fn settle_move(token: &Token) -> Result<Move, Refusal>
     ensures ok { IfOk result (λ step. step ≡ move.Settle token.now.denom token.now.amount) }
-    ensures err { IfErr result (λ refusal. refusal ≡ NoMemory) }
+    ensures err { IsOkUnless result NoMemory }
 {
     Ok(Move::Settle {
         denom: token.denom.clone()?,

@@ -1,6 +1,6 @@
 //! The application of port `transfer`.
 
-ghost use Rattle.std.specs.Prelude.{◌≡◌, ◌⊎◌, [], refl, Ok, Err, IsTrue, IfOk, IfErr, OnOk, OnErr};
+ghost use Rattle.std.specs.Prelude.{◌≡◌, ◌⊎◌, [], refl, Ok, Err, IsTrue, IfOk, OnOk, OnErr, IsOkUnless};
 ghost use Rattle.std.specs.List.{list_all};
 ghost use Rattle.ibc_ids.specs.declared.refusal.Refusal.TheVariants.{NoMemory};
 ghost use Rattle.ibc_machine.specs.chain.Genesis.{starting_balances, is_fair};
@@ -60,7 +60,7 @@ impl Transfers {
     // Makes the moves of tokens that came, or none, and answers the acknowledgement. Refused: `NoMemory`.
     fn take(&mut self, moves: &[Move]) -> Result<Bytes, Refusal>
         ensures ok { IfOk result (λ ack. (ack, self.new) ≡ arrival_result self.old (after_moves moves.now self.old)) }
-        ensures err { IfErr result (λ refusal. refusal ≡ NoMemory) }
+        ensures err { IsOkUnless result NoMemory }
         ensures unchanged { OnErr result (self.new ≡ self.old) }
     {
         let taken = success(self.alloc)?;

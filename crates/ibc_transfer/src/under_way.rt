@@ -1,6 +1,6 @@
 //! What is under way of a denomination.
 
-ghost use Rattle.std.specs.Prelude.{◌≡◌, ◌<◌, ◌^◌, Some, IfOk, IfErr, SomeIff};
+ghost use Rattle.std.specs.Prelude.{◌≡◌, ◌<◌, ◌^◌, Some, IfOk, SomeIff, IsOkUnless};
 ghost use Rattle.ibc_ids.specs.declared.refusal.Refusal.TheVariants.{NoMemory};
 ghost use Rattle.ibc_machine.specs.promises.Totals.{has_succeeded, amount_under_way, flight_between};
 
@@ -20,7 +20,7 @@ pub fn in_flight(
     denom: &Denom,
 ) -> Result<Option<u128>, Refusal>
     ensures ok { IfOk result (λ sum. SomeIff sum (flight_between denom.now (Some mine.now) (Some theirs.now) < 2 ^ 128) (flight_between denom.now (Some mine.now) (Some theirs.now))) }
-    ensures err { IfErr result (λ refusal. refusal ≡ NoMemory) }
+    ensures err { IsOkUnless result NoMemory }
 {
     let version = &mine.end().version;
     let mut sum: u128 = 0;
@@ -48,7 +48,7 @@ fn amount_under_way(
     commitment: &Commitment,
 ) -> Result<Option<u128>, Refusal>
     ensures ok { IfOk result (λ amount. SomeIff amount (amount_under_way version.now denom.now theirs.now (sequence, commitment.now) < 2 ^ 128) (amount_under_way version.now denom.now theirs.now (sequence, commitment.now))) }
-    ensures err { IfErr result (λ refusal. refusal ≡ NoMemory) }
+    ensures err { IsOkUnless result NoMemory }
 {
     if has_succeeded(theirs, sequence) {
         return Ok(Some(0));

@@ -1,6 +1,6 @@
 //! What the ledgers of a world hold, by the numbers of their chains.
 
-ghost use Rattle.std.specs.Prelude.{◌≡◌, ◌≤◌, ◌<◌, ◌+◌, ◌++◌, ◌∷◌, [], length, map, IfOk, IfErr, OnOk};
+ghost use Rattle.std.specs.Prelude.{◌≡◌, ◌≤◌, ◌<◌, ◌+◌, ◌++◌, ◌∷◌, [], length, map, IfOk, OnOk, IsOkUnless};
 ghost use Rattle.std.specs.List.{flat_map, range_with_len};
 ghost use Rattle.ibc_ids.specs.declared.refusal.Refusal.TheVariants.{NoMemory};
 ghost use Rattle.ibc_machine.specs.promises.Worlds.{of_chain};
@@ -24,7 +24,7 @@ pub struct Audit {
 pub(crate) fn holdings_of(alloc: Global, ledgers: &[Ledger]) -> Result<Audit, Refusal>
     requires { 0 < length ledgers.now }
     ensures ok { IfOk result (TellsAll ledgers.now) }
-    ensures err { IfErr result (λ refusal. refusal ≡ NoMemory) }
+    ensures err { IsOkUnless result NoMemory }
 {
     let mut audit = Audit {
         balances: Vec::new(alloc),
@@ -39,7 +39,7 @@ fn add_chains(ledgers: &[Ledger], from: u8, chains: u8, audit: &mut Audit) -> Re
     requires { from + chains ≤ 255 }
     ensures balances { OnOk result (balances_in audit.new ≡ balances_in audit.old ++ map balances_of (flat_map (λ k. of_chain k (ledgers_alone ledgers.now)) (range_with_len from chains))) }
     ensures notes { OnOk result (notes_in audit.new ≡ notes_in audit.old ++ map notes_of (flat_map (λ k. of_chain k (ledgers_alone ledgers.now)) (range_with_len from chains))) }
-    ensures err { IfErr result (λ refusal. refusal ≡ NoMemory) }
+    ensures err { IsOkUnless result NoMemory }
 {
     if chains == 0 {
         return Ok(());
@@ -52,7 +52,7 @@ fn add_chains(ledgers: &[Ledger], from: u8, chains: u8, audit: &mut Audit) -> Re
 fn add_chain(ledgers: &[Ledger], chain: u8, audit: &mut Audit) -> Result<(), Refusal>
     ensures balances { OnOk result (balances_in audit.new ≡ balances_in audit.old ++ map balances_of (of_chain chain (ledgers_alone ledgers.now))) }
     ensures notes { OnOk result (notes_in audit.new ≡ notes_in audit.old ++ map notes_of (of_chain chain (ledgers_alone ledgers.now))) }
-    ensures err { IfErr result (λ refusal. refusal ≡ NoMemory) }
+    ensures err { IsOkUnless result NoMemory }
 {
     match ledgers {
         [] => Ok(()),
@@ -69,7 +69,7 @@ fn add_chain(ledgers: &[Ledger], chain: u8, audit: &mut Audit) -> Result<(), Ref
 fn add_one(ledger: &Ledger, audit: &mut Audit) -> Result<(), Refusal>
     ensures balances { OnOk result (balances_in audit.new ≡ balances_in audit.old ++ balances_of ledger.now.ledger ∷ []) }
     ensures notes { OnOk result (notes_in audit.new ≡ notes_in audit.old ++ notes_of ledger.now.ledger ∷ []) }
-    ensures err { IfErr result (λ refusal. refusal ≡ NoMemory) }
+    ensures err { IsOkUnless result NoMemory }
 {
     audit.balances.push(ledger.balances()?)?;
     audit.notes.push(ledger.all_notes()?)?;

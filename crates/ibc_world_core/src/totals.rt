@@ -1,6 +1,6 @@
 //! The totals of a channel: what is escrowed, present and under way.
 
-ghost use Rattle.std.specs.Prelude.{◌≡◌, ◌≤◌, ◌^◌, ◌⊎◌, ◌<◌, length, Some, None, Ok, Err, IfOk, IfErr, MatchOption};
+ghost use Rattle.std.specs.Prelude.{◌≡◌, ◌≤◌, ◌^◌, ◌⊎◌, ◌<◌, length, Some, None, Ok, Err, IfOk, IfErr, MatchOption, IsOkUnless};
 ghost use Rattle.ibc_ids.specs.declared.refusal.Refusal.TheVariants.{NoMemory, TooLarge};
 ghost use Rattle.ibc_machine.specs.ics20.Bank.{balance, escrow};
 ghost use Rattle.ibc_machine.specs.ics04.Channels.{is_established};
@@ -95,7 +95,7 @@ impl World {
     // The end that an end names as its peer, on the chain that its client tracks, or none. Refused: `NoMemory`.
     fn peer_end<'a>(&'a self, mine: LedgerEnd<'a>) -> Result<Option<LedgerEnd<'a>>, Refusal>
         ensures ok { IfOk result (λ found. MatchOption found (peer_at (machine_of self.now.ledgers) (state_of mine.entry.ledger.now.ledger).chain.records.core mine.entry.end.now ≡ None) (λ peer. IsPeerEnd (machine_of self.now.ledgers) mine.entry.ledger.now.ledger mine.entry.end.now peer.ledger.now.ledger peer.name.now peer.end.now)) }
-        ensures err { IfErr result (λ refusal. refusal ≡ NoMemory) }
+        ensures err { IsOkUnless result NoMemory }
     {
         let end = mine.end.end();
         let Some(chain) = mine.ledger.tracked_over(&end.connection) else {
@@ -131,7 +131,7 @@ fn is_established(end: &Channel) -> bool
 fn escrowed(mine: LedgerEnd<'_>, denom: &Denom) -> Result<u128, Refusal>
     ensures ok { IfOk result (λ amount. amount ≡ balance (state_of mine.entry.ledger.now.ledger).chain.records.apps.balances (escrow mine.entry.name.now) denom.now) }
     ensures small { IfOk result (λ amount. amount < 2 ^ 128) }
-    ensures err { IfErr result (λ refusal. refusal ≡ NoMemory) }
+    ensures err { IsOkUnless result NoMemory }
 {
     let account = Account::Escrow(mine.name.clone()?);
     Ok(mine.ledger.balance(&account, denom))

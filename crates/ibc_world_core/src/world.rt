@@ -1,6 +1,6 @@
 //! A world: one ledger for each chain of a genesis.
 
-ghost use Rattle.std.specs.Prelude.{◌≡◌, ◌⊎◌, ◌↔◌, ◌<◌, ◌++◌, ◌∷◌, ℕ, [], true, false, length, map, option_map, Some, slice_get, IfOk, IfErr, OnErr, IsTrue};
+ghost use Rattle.std.specs.Prelude.{◌≡◌, ◌⊎◌, ◌↔◌, ◌<◌, ◌++◌, ◌∷◌, ℕ, [], true, false, length, map, option_map, Some, slice_get, IfOk, IfErr, OnErr, IsTrue, IsOkUnless};
 ghost use Rattle.ibc_ids.specs.declared.refusal.Refusal.TheVariants.{NoMemory, BadMessage};
 ghost use Rattle.ibc_machine.specs.declared.reply.Reply.TheVariants as reply_of;
 ghost use Rattle.ibc_machine.specs.chain.Genesis.{genesis_state, is_allowed};
@@ -188,7 +188,7 @@ fn ask(ledger: &mut Ledger, event: Event) -> Reply
 fn ledgers_of(alloc: Global, genesis: &Genesis) -> Result<Vec<Ledger>, Refusal>
     requires { IsTrue (is_allowed (genesis_state genesis.now)) }
     ensures ok { IfOk result (λ ledgers. (table : TableName) × AreBegun (genesis_state genesis.now) table ledgers.items) }
-    ensures err { IfErr result (λ refusal. refusal ≡ NoMemory) }
+    ensures err { IsOkUnless result NoMemory }
 {
     let chains = genesis.chains.len() as u8;
     let (table, passes) = RootTable::new(alloc, chains, 0, genesis.window, genesis.capacity)?;
@@ -207,7 +207,7 @@ fn begin(
     requires table { table.now.value.shape ≡ shape_of (genesis_state genesis.now) }
     requires passes { AreDealt (length genesis.now.chains.items) 0 table.now.value passes.items }
     ensures ok { IfOk result (λ ledgers. AreBegun (genesis_state genesis.now) table.now.value ledgers.items) }
-    ensures err { IfErr result (λ refusal. refusal ≡ NoMemory) }
+    ensures err { IsOkUnless result NoMemory }
 {
     let mut ledgers = Vec::with_capacity(alloc, passes.len())?;
     for pass in passes {

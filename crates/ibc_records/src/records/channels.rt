@@ -1,6 +1,6 @@
 //! The channels of a chain.
 
-ghost use Rattle.std.specs.Prelude.{◌≡◌, ◌&&◌, IsTrue, string_bytes, ◌-◌, ◌^◌, ◌<◌, IfSome, IsNone, IsSome, IfOk, IfErr, OnOk, OnErr, option_copied};
+ghost use Rattle.std.specs.Prelude.{◌≡◌, ◌&&◌, IsTrue, string_bytes, ◌-◌, ◌^◌, ◌<◌, IfSome, IsNone, IsSome, IfOk, OnOk, OnErr, option_copied, IsOkUnless};
 ghost use Rattle.ibc_ids.specs.Texts.{pair_cmp};
 ghost use Rattle.ibc_ids.specs.Maps.{at, with};
 ghost use Rattle.ibc_ids.specs.Names.{is_port, is_channel};
@@ -24,7 +24,7 @@ impl Records {
     /// A channel by its port and its identifier, or none. Refused: `NoMemory`.
     pub fn channel(&self, port: &PortId, id: &ChannelId) -> Result<Option<&Channel>, Refusal>
         ensures ok { IfOk result (λ found. option_copied found ≡ at pair_cmp (port.now, id.now) self.now.channels) }
-        ensures err { IfErr result (λ refusal. refusal ≡ NoMemory) }
+        ensures err { IsOkUnless result NoMemory }
     {
         let name = (port.clone()?, id.clone()?);
         Ok(self.channels.get(&name))
@@ -49,7 +49,7 @@ impl Records {
         requires room { self.old.next_channel < 2 ^ 64 - 1 }
         requires next { id ≡ nth_channel self.old.next_channel }
         ensures ok { OnOk result (AddsChannel self.old port id end self.new) }
-        ensures err { IfErr result (λ refusal. refusal ≡ NoMemory) }
+        ensures err { IsOkUnless result NoMemory }
         ensures unchanged { OnErr result (IsUnchanged self.old self.new) }
     {
         let next = self.next_channel + 1;
@@ -78,7 +78,7 @@ impl Records {
     ) -> Result<(), Refusal>
         ensures ok { OnOk result (SetsChannelEnd self.old port id end self.new) }
         ensures unknown { IsNone (at pair_cmp (port, id) self.old.channels) → result ≡ Err UnknownChannel }
-        ensures known { IsSome (at pair_cmp (port, id) self.old.channels) → IfErr result (λ refusal. refusal ≡ NoMemory) }
+        ensures known { IsSome (at pair_cmp (port, id) self.old.channels) → IsOkUnless result NoMemory }
         ensures unchanged { OnErr result (IsUnchanged self.old self.new) }
     {
         let name = (port, id);
@@ -111,7 +111,7 @@ fn reserve_end(
     ensures named { OnOk result (IsTrue (is_port name.now.0 && is_channel name.now.1)) }
     ensures room { OnOk result (0 < store.new.room) }
     ensures same { store.new ≡ record store.old { room = store.new.room } }
-    ensures err { IfErr result (λ refusal. refusal ≡ NoMemory) }
+    ensures err { IsOkUnless result NoMemory }
 {
     let path = channel_path(alloc, "channelEnds", &name.0, &name.1)?;
     let value = channel_value(alloc, end)?;
@@ -127,7 +127,7 @@ fn set_end(
 ) -> Result<(), Refusal>
     requires { IsSome (at pair_cmp name channels.old.pairs) }
     ensures ok { OnOk result (IfSome (at pair_cmp name channels.old.pairs) (λ channel. channels.new.pairs ≡ with pair_cmp name (record channel { end = end }) channels.old.pairs)) }
-    ensures err { IfErr result (λ refusal. refusal ≡ NoMemory) }
+    ensures err { IsOkUnless result NoMemory }
     ensures unchanged { OnErr result (channels.new.pairs ≡ channels.old.pairs) }
 {
     let mut channel = take(channels, &name)?;

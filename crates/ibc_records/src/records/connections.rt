@@ -1,6 +1,6 @@
 //! The connections of a chain.
 
-ghost use Rattle.std.specs.Prelude.{◌≡◌, ◌-◌, ◌^◌, ◌<◌, IfErr, OnOk, OnErr, option_copied};
+ghost use Rattle.std.specs.Prelude.{◌≡◌, ◌-◌, ◌^◌, ◌<◌, OnOk, OnErr, option_copied, IsOkUnless};
 ghost use Rattle.ibc_ids.specs.Texts.{text_cmp};
 ghost use Rattle.ibc_ids.specs.Maps.{at};
 ghost use Rattle.ibc_ids.specs.declared.refusal.Refusal.TheVariants.{NoMemory};
@@ -32,7 +32,7 @@ impl Records {
     pub fn add_connection(&mut self, id: ConnectionId, end: ConnectionEnd) -> Result<(), Refusal>
         requires { self.old.next_connection < 2 ^ 64 - 1 }
         ensures ok { OnOk result (AddsConnection self.old id end self.new) }
-        ensures err { IfErr result (λ refusal. refusal ≡ NoMemory) }
+        ensures err { IsOkUnless result NoMemory }
         ensures unchanged { OnErr result (IsUnchanged self.old self.new) }
     {
         let path = connection_path(self.alloc, &id)?;
@@ -51,7 +51,7 @@ impl Records {
     /// refused; the records are then as before.
     pub fn set_connection(&mut self, id: ConnectionId, end: ConnectionEnd) -> Result<(), Refusal>
         ensures ok { OnOk result (SetsConnection self.old id end self.new) }
-        ensures err { IfErr result (λ refusal. refusal ≡ NoMemory) }
+        ensures err { IsOkUnless result NoMemory }
         ensures unchanged { OnErr result (IsUnchanged self.old self.new) }
     {
         let path = connection_path(self.alloc, &id)?;

@@ -1,6 +1,6 @@
 //! The packets of a chain's channels.
 
-ghost use Rattle.std.specs.Prelude.{◌≡◌, ◌⊎◌, ◌&&◌, ◌+◌, ◌-◌, ◌^◌, ◌<◌, ◌≤◌, true, Ok, Err, IsSome, IfSome, IfOk, IfErr, OnOk, OnErr, IsTrue, option_map, string_bytes};
+ghost use Rattle.std.specs.Prelude.{◌≡◌, ◌⊎◌, ◌&&◌, ◌+◌, ◌-◌, ◌^◌, ◌<◌, ◌≤◌, true, Ok, Err, IsSome, IfSome, IfOk, IfErr, OnOk, OnErr, IsTrue, option_map, string_bytes, IsOkUnless};
 ghost use Rattle.std.specs.Option.{IsSomeAnd};
 ghost use Rattle.ibc_ids.specs.Texts.{pair_cmp};
 ghost use Rattle.ibc_ids.specs.Maps.{at, with};
@@ -40,7 +40,7 @@ impl Records {
     ) -> Result<u64, Refusal>
         requires { IsSomeAnd (channel_at (core_of self.old) port.now id.now) (λ mine. mine.next_send < 2 ^ 64 - 1) }
         ensures ok { IfOk result (λ n. SendsPacket self.old port.now id.now commitment n self.new) }
-        ensures err { IfErr result (λ refusal. refusal ≡ NoMemory) }
+        ensures err { IsOkUnless result NoMemory }
         ensures unchanged { OnErr result (IsUnchanged self.old self.new) }
     {
         self.send_paid(&mut NoPayer, &(), port, id, commitment)
@@ -91,7 +91,7 @@ impl Records {
         requires { IsSomeAnd (channel_at (core_of self.old) packet.now.destination_port packet.now.destination_channel) (λ mine. is_ordered mine ≡ true → mine.next_recv < 2 ^ 64 - 1) }
         ensures ok { IfOk result (λ acks. ReceivesPacket A.receives self.old app.old packet.now acks.0 self.new app.new) }
         ensures copy { IfOk result (λ acks. acks.1 ≡ acks.0) }
-        ensures err { IfErr result (λ refusal. refusal ≡ NoMemory) }
+        ensures err { IsOkUnless result NoMemory }
         ensures unchanged { OnErr result (IsUnchanged self.old self.new × (app.new ≡ app.old)) }
     {
         self.ack_room.reserve()?;
@@ -171,7 +171,7 @@ impl Records {
 // The name of an end of a channel.
 fn name_of(port: &PortId, id: &ChannelId) -> Result<(PortId, ChannelId), Refusal>
     ensures ok { IfOk result (λ name. name ≡ (port.now, id.now)) }
-    ensures err { IfErr result (λ refusal. refusal ≡ NoMemory) }
+    ensures err { IsOkUnless result NoMemory }
 {
     Ok((port.clone()?, id.clone()?))
 }
@@ -192,7 +192,7 @@ fn reserve_send(
     ensures named { OnOk result (IsTrue (is_port name.now.0 && is_channel name.now.1)) }
     ensures room { OnOk result (2 ≤ store.new.room) }
     ensures same { store.new ≡ record store.old { room = store.new.room } }
-    ensures err { IfErr result (λ refusal. refusal ≡ NoMemory) }
+    ensures err { IsOkUnless result NoMemory }
 {
     store.reserve(2)?;
     let path = sequence_path(alloc, "commitments", &name.0, &name.1, sequence)?;
@@ -237,7 +237,7 @@ fn reserve_receive(
     ensures fits { sequence < 2 ^ 64 }
     ensures room { OnOk result (2 ≤ store.new.room) }
     ensures same { store.new ≡ record store.old { room = store.new.room } }
-    ensures err { IfErr result (λ refusal. refusal ≡ NoMemory) }
+    ensures err { IsOkUnless result NoMemory }
 {
     store.reserve(2)?;
     let path = sequence_path(alloc, "acks", &name.0, &name.1, sequence)?;
@@ -261,7 +261,7 @@ fn receive_on<A: App>(
     ensures copy { IfOk result (λ acks. acks.copy ≡ acks.reply) }
     ensures value { IfOk result (λ acks. acks.value ≡ value_bytes (AckIs acks.reply)) }
     ensures ok { IfOk result (λ acks. IfSome (at pair_cmp name channels.old.pairs) (λ mine. channels.new.pairs ≡ with pair_cmp name (after_receive packet.now.sequence acks.reply mine) channels.old.pairs)) }
-    ensures err { IfErr result (λ refusal. refusal ≡ NoMemory) }
+    ensures err { IsOkUnless result NoMemory }
     ensures unchanged { OnErr result ((channels.new.pairs ≡ channels.old.pairs) × (app.new ≡ app.old)) }
 {
     let mut channel = take(channels, &name)?;
@@ -285,7 +285,7 @@ fn reserve_acknowledged(
     ensures fits { sequence < 2 ^ 64 }
     ensures room { OnOk result (0 < store.new.room) }
     ensures same { store.new ≡ record store.old { room = store.new.room } }
-    ensures err { IfErr result (λ refusal. refusal ≡ NoMemory) }
+    ensures err { IsOkUnless result NoMemory }
 {
     store.reserve(1)?;
     let path = sequence_path(alloc, "commitments", &name.0, &name.1, sequence)?;
@@ -326,7 +326,7 @@ fn reserve_timed_out(
     ensures fits { sequence < 2 ^ 64 }
     ensures room { OnOk result (0 < store.new.room) }
     ensures same { store.new ≡ record store.old { room = store.new.room } }
-    ensures err { IfErr result (λ refusal. refusal ≡ NoMemory) }
+    ensures err { IsOkUnless result NoMemory }
 {
     store.reserve(1)?;
     let path = sequence_path(alloc, "commitments", &name.0, &name.1, sequence)?;

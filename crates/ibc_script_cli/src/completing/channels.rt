@@ -1,6 +1,6 @@
 //! Messages for channels.
 
-ghost use Rattle.std.specs.Prelude.{◌≡◌, IfOk, IfErr};
+ghost use Rattle.std.specs.Prelude.{◌≡◌, IfOk, IsOkUnless};
 ghost use Rattle.ibc_script_cli.specs.Completing.{channel_message, peer_key, answer_key, IsAnswerProof, IsPeerProof, IsChannelProof, MakesChannelMessage};
 ghost use Rattle.ibc_ids.specs.declared.key.Key.TheVariants as key;
 
@@ -131,7 +131,7 @@ impl<C: Chains + Drop> Completer<'_, C> {
         from: ProofSource,
     ) -> Result<Option<Bytes>, Fault>
         ensures is { IfOk result (IsAnswerProof (C.answers self.now.chains.now) on port.now channel.now peer_channel.now from) }
-        ensures err { IfErr result (λ fault. fault ≡ Fault.NoMemory) }
+        ensures err { IsOkUnless result Fault.NoMemory }
     {
         let own = self.chains.channel(on, port, channel);
         match own.map_err(Fault::no_memory)? {
@@ -149,7 +149,7 @@ impl<C: Chains + Drop> Completer<'_, C> {
         from: ProofSource,
     ) -> Result<Option<Bytes>, Fault>
         ensures is { IfOk result (IsPeerProof (C.answers self.now.chains.now) on port.now channel.now from) }
-        ensures err { IfErr result (λ fault. fault ≡ Fault.NoMemory) }
+        ensures err { IsOkUnless result Fault.NoMemory }
     {
         let own = self.chains.channel(on, port, channel);
         match own.map_err(Fault::no_memory)?.and_then(peer_key) {
@@ -161,7 +161,7 @@ impl<C: Chains + Drop> Completer<'_, C> {
     // The proof that a step needs.
     fn channel_proof(&self, on: u8, draft: &ChannelDraft) -> Result<Option<Bytes>, Fault>
         ensures is { IfOk result (IsChannelProof (C.answers self.now.chains.now) on draft.now) }
-        ensures err { IfErr result (λ fault. fault ≡ Fault.NoMemory) }
+        ensures err { IsOkUnless result Fault.NoMemory }
     {
         match draft {
             ChannelDraft::OpenInit(_) | ChannelDraft::CloseInit(_) => Ok(None),
@@ -191,7 +191,7 @@ impl<C: Chains + Drop> Completer<'_, C> {
     /// Fault: `NoMemory`.
     pub fn channel_message(&self, on: u8, draft: ChannelDraft) -> Result<Option<Message>, Fault>
         ensures made { IfOk result (MakesChannelMessage (C.answers self.now.chains.now) on draft) }
-        ensures err { IfErr result (λ fault. fault ≡ Fault.NoMemory) }
+        ensures err { IsOkUnless result Fault.NoMemory }
     {
         match self.channel_proof(on, &draft) {
             Ok(proof) => Ok(channel_message(draft, proof)),

@@ -1,6 +1,6 @@
 //! Messages for clients.
 
-ghost use Rattle.std.specs.Prelude.{◌≡◌, None, IfOk, IfErr};
+ghost use Rattle.std.specs.Prelude.{◌≡◌, None, IfOk, IsOkUnless};
 ghost use Rattle.ibc_script_cli.specs.Completing.{header_from, header_of, MakesClientMessage};
 ghost use Rattle.ibc_script_cli.specs.Heights.{kept_at};
 ghost use Rattle.ibc_script.specs.declared.draft.ClientDraft.TheVariants as client_draft;
@@ -56,7 +56,7 @@ impl<C: Chains + Drop> Completer<'_, C> {
 
     fn update_client(&self, on: u8, client: ClientId, height: u64) -> Result<Message, Fault>
         ensures made { IfOk result (MakesClientMessage (C.answers self.now.chains.now) self.now.heights.now on (client_draft.Update client height)) }
-        ensures err { IfErr result (λ fault. fault ≡ Fault.NoMemory) }
+        ensures err { IsOkUnless result Fault.NoMemory }
     {
         let state = self.chains.client_state(on, &client);
         let state = state.map_err(Fault::no_memory)?;
@@ -67,7 +67,7 @@ impl<C: Chains + Drop> Completer<'_, C> {
     /// The message for clients that a step of a chain sends. Fault: `NoMemory`.
     pub fn client_message(&self, on: u8, draft: ClientDraft) -> Result<Message, Fault>
         ensures made { IfOk result (MakesClientMessage (C.answers self.now.chains.now) self.now.heights.now on draft) }
-        ensures err { IfErr result (λ fault. fault ≡ Fault.NoMemory) }
+        ensures err { IsOkUnless result Fault.NoMemory }
     {
         match draft {
             ClientDraft::Create { of } => Ok(Message::CreateClient(CreateClient { chain: of })),

@@ -1,6 +1,6 @@
 //! Messages for connections.
 
-ghost use Rattle.std.specs.Prelude.{◌≡◌, Some, IfOk, IfErr};
+ghost use Rattle.std.specs.Prelude.{◌≡◌, Some, IfOk, IsOkUnless};
 ghost use Rattle.ibc_script_cli.specs.Completing.{connection_message, peer_connection_key, AreBothProofs, AreConnectionProofs, MakesConnectionMessage};
 ghost use Rattle.ibc_script.specs.declared.draft.ConnectionDraft.TheVariants as connection_draft;
 
@@ -120,7 +120,7 @@ impl<C: Chains + Drop> Completer<'_, C> {
         peer_client: &ClientId,
     ) -> Result<Shown, Fault>
         ensures shown { IfOk result (λ shown. AreBothProofs (C.answers self.now.chains.now) from peer_connection.now peer_client.now shown.end shown.claim) }
-        ensures err { IfErr result (λ fault. fault ≡ Fault.NoMemory) }
+        ensures err { IsOkUnless result Fault.NoMemory }
     {
         let end = self.proof(from, Key::Connection(peer_connection.clone()?))?;
         match self.claim(from, peer_client) {
@@ -141,7 +141,7 @@ impl<C: Chains + Drop> Completer<'_, C> {
         from: ProofSource,
     ) -> Result<Shown, Fault>
         ensures shown { IfOk result (λ shown. AreConnectionProofs (C.answers self.now.chains.now) on (connection_draft.OpenAck connection.now peer_connection.now from) shown.end shown.claim) }
-        ensures err { IfErr result (λ fault. fault ≡ Fault.NoMemory) }
+        ensures err { IsOkUnless result Fault.NoMemory }
     {
         let own = self.chains.connection(on, connection);
         match own.map_err(Fault::no_memory)? {
@@ -162,7 +162,7 @@ impl<C: Chains + Drop> Completer<'_, C> {
         from: ProofSource,
     ) -> Result<Shown, Fault>
         ensures shown { IfOk result (λ shown. AreConnectionProofs (C.answers self.now.chains.now) on (connection_draft.OpenConfirm connection.now from) shown.end shown.claim) }
-        ensures err { IfErr result (λ fault. fault ≡ Fault.NoMemory) }
+        ensures err { IsOkUnless result Fault.NoMemory }
     {
         let own = self.chains.connection(on, connection);
         match own.map_err(Fault::no_memory)?.and_then(peer_connection_key) {
@@ -177,7 +177,7 @@ impl<C: Chains + Drop> Completer<'_, C> {
     // What a step needs.
     fn connection_shown(&self, on: u8, draft: &ConnectionDraft) -> Result<Shown, Fault>
         ensures shown { IfOk result (λ shown. AreConnectionProofs (C.answers self.now.chains.now) on draft.now shown.end shown.claim) }
-        ensures err { IfErr result (λ fault. fault ≡ Fault.NoMemory) }
+        ensures err { IsOkUnless result Fault.NoMemory }
     {
         match draft {
             ConnectionDraft::OpenInit { .. } => Ok(nothing()),
@@ -206,7 +206,7 @@ impl<C: Chains + Drop> Completer<'_, C> {
         draft: ConnectionDraft,
     ) -> Result<Option<Message>, Fault>
         ensures made { IfOk result (MakesConnectionMessage (C.answers self.now.chains.now) on draft) }
-        ensures err { IfErr result (λ fault. fault ≡ Fault.NoMemory) }
+        ensures err { IsOkUnless result Fault.NoMemory }
     {
         match self.connection_shown(on, &draft) {
             Ok(shown) => Ok(connection_message(draft, shown)),

@@ -1,6 +1,6 @@
 //! Messages for packets.
 
-ghost use Rattle.std.specs.Prelude.{◌≡◌, Some, IfOk, IfErr};
+ghost use Rattle.std.specs.Prelude.{◌≡◌, Some, IfOk, IsOkUnless};
 ghost use Rattle.ibc_machine.specs.ics04.Proving.{commitment_key, ack_key, destination_key};
 ghost use Rattle.ibc_wire.specs.declared.records.Order.TheVariants.{Unordered, Ordered};
 ghost use Rattle.ibc_script_cli.specs.Completing.{number_in, acknowledged_message, closed_message, IsProofBytesAt, IsNextRecv, IsUnreceived, IsUnreceivedAt, MakesRecv, MakesAck, MakesTimeout, MakesTimeoutOnClose, MakesPacketAction, MakesFromSentPacket, MakesPacketMessage};
@@ -50,7 +50,7 @@ fn number_in(bytes: &[u8]) -> Option<u64>
 /// What a proof shows of the sequence that is received next, `None` where it shows none.
 fn next_recv_of(alloc: Global, proof: &Proof) -> Result<Option<Unreceived>, Fault>
     ensures is { IfOk result (IsNextRecv (Some proof.now)) }
-    ensures err { IfErr result (λ fault. fault ≡ Fault.NoMemory) }
+    ensures err { IsOkUnless result Fault.NoMemory }
 {
     let Proof::Present(Presence { value, .. }) = proof else {
         return Ok(None);
@@ -117,7 +117,7 @@ impl<C: Chains + Drop> Completer<'_, C> {
     /// The packet that a step names, `None` where it wasn't sent.
     fn sent_packet(&self, sent: SentPacket) -> Result<Option<Packet>, Fault>
         ensures found { IfOk result ((C.answers self.now.chains.now).packet sent.chain sent.port sent.channel sent.sequence) }
-        ensures err { IfErr result (λ fault. fault ≡ Fault.NoMemory) }
+        ensures err { IsOkUnless result Fault.NoMemory }
     {
         let found = self
             .chains
@@ -129,7 +129,7 @@ impl<C: Chains + Drop> Completer<'_, C> {
     /// The acknowledgement of a packet that a chain wrote, `None` where it wrote none.
     fn written_ack(&self, chain: u8, packet: &Packet) -> Result<Option<Bytes>, Fault>
         ensures found { IfOk result ((C.answers self.now.chains.now).ack chain packet.now.destination_port packet.now.destination_channel packet.now.sequence) }
-        ensures err { IfErr result (λ fault. fault ≡ Fault.NoMemory) }
+        ensures err { IsOkUnless result Fault.NoMemory }
     {
         self.chains
             .ack(
@@ -148,7 +148,7 @@ impl<C: Chains + Drop> Completer<'_, C> {
         from: ProofSource,
     ) -> Result<Option<Unreceived>, Fault>
         ensures is { IfOk result (IsUnreceived (C.answers self.now.chains.now) from packet.now Ordered) }
-        ensures err { IfErr result (λ fault. fault ≡ Fault.NoMemory) }
+        ensures err { IsOkUnless result Fault.NoMemory }
     {
         match self.found(from, next_recv_key(packet)?)? {
             Some(proof) => {
@@ -167,7 +167,7 @@ impl<C: Chains + Drop> Completer<'_, C> {
         from: ProofSource,
     ) -> Result<Option<Unreceived>, Fault>
         ensures is { IfOk result (IsUnreceived (C.answers self.now.chains.now) from packet.now Unordered) }
-        ensures err { IfErr result (λ fault. fault ≡ Fault.NoMemory) }
+        ensures err { IsOkUnless result Fault.NoMemory }
     {
         match self.proof(from, receipt_key(packet)?)? {
             Some(proof) => Ok(Some(Unreceived {
@@ -186,7 +186,7 @@ impl<C: Chains + Drop> Completer<'_, C> {
         from: ProofSource,
     ) -> Result<Option<Unreceived>, Fault>
         ensures is { IfOk result (IsUnreceivedAt (C.answers self.now.chains.now) on from packet.now) }
-        ensures err { IfErr result (λ fault. fault ≡ Fault.NoMemory) }
+        ensures err { IsOkUnless result Fault.NoMemory }
     {
         let own = self
             .chains
@@ -201,7 +201,7 @@ impl<C: Chains + Drop> Completer<'_, C> {
     // The proof that a packet was committed.
     fn commitment_proof(&self, packet: &Packet, from: ProofSource) -> Result<Option<Bytes>, Fault>
         ensures is { IfOk result (IsProofBytesAt (C.answers self.now.chains.now) from (commitment_key packet.now)) }
-        ensures err { IfErr result (λ fault. fault ≡ Fault.NoMemory) }
+        ensures err { IsOkUnless result Fault.NoMemory }
     {
         self.proof(from, commitment_key(packet)?)
     }
@@ -209,7 +209,7 @@ impl<C: Chains + Drop> Completer<'_, C> {
     // The proof of what a packet's destination has of its acknowledgement.
     fn ack_proof(&self, packet: &Packet, from: ProofSource) -> Result<Option<Bytes>, Fault>
         ensures is { IfOk result (IsProofBytesAt (C.answers self.now.chains.now) from (ack_key packet.now)) }
-        ensures err { IfErr result (λ fault. fault ≡ Fault.NoMemory) }
+        ensures err { IsOkUnless result Fault.NoMemory }
     {
         self.proof(from, ack_key(packet)?)
     }
@@ -217,7 +217,7 @@ impl<C: Chains + Drop> Completer<'_, C> {
     // The proof of the end of a packet's destination.
     fn close_proof(&self, packet: &Packet, from: ProofSource) -> Result<Option<Bytes>, Fault>
         ensures is { IfOk result (IsProofBytesAt (C.answers self.now.chains.now) from (destination_key packet.now)) }
-        ensures err { IfErr result (λ fault. fault ≡ Fault.NoMemory) }
+        ensures err { IsOkUnless result Fault.NoMemory }
     {
         self.proof(from, destination_key(packet)?)
     }
@@ -226,7 +226,7 @@ impl<C: Chains + Drop> Completer<'_, C> {
     fn acknowledged(&self, packet: &Packet, from: ProofSource) -> Result<Acknowledged, Fault>
         ensures ack { IfOk result (λ shown. (C.answers self.now.chains.now).ack from.chain packet.now.destination_port packet.now.destination_channel packet.now.sequence shown.ack) }
         ensures proof { IfOk result (λ shown. IsProofBytesAt (C.answers self.now.chains.now) from (ack_key packet.now) shown.proof) }
-        ensures err { IfErr result (λ fault. fault ≡ Fault.NoMemory) }
+        ensures err { IsOkUnless result Fault.NoMemory }
     {
         let ack = self.written_ack(from.chain, packet)?;
         match self.ack_proof(packet, from) {
@@ -242,7 +242,7 @@ impl<C: Chains + Drop> Completer<'_, C> {
     fn closed(&self, on: u8, packet: &Packet, from: ProofSource) -> Result<Closed, Fault>
         ensures unreceived { IfOk result (λ shown. IsUnreceivedAt (C.answers self.now.chains.now) on from packet.now shown.unreceived) }
         ensures proof { IfOk result (λ shown. IsProofBytesAt (C.answers self.now.chains.now) from (destination_key packet.now) shown.proof) }
-        ensures err { IfErr result (λ fault. fault ≡ Fault.NoMemory) }
+        ensures err { IsOkUnless result Fault.NoMemory }
     {
         let unreceived = self.unreceived(on, packet, from)?;
         match self.close_proof(packet, from) {
@@ -256,7 +256,7 @@ impl<C: Chains + Drop> Completer<'_, C> {
 
     fn recv_packet(&self, packet: Packet, from: ProofSource) -> Result<Option<Message>, Fault>
         ensures made { IfOk result (MakesRecv (C.answers self.now.chains.now) from packet) }
-        ensures err { IfErr result (λ fault. fault ≡ Fault.NoMemory) }
+        ensures err { IsOkUnless result Fault.NoMemory }
     {
         match self.commitment_proof(&packet, from) {
             Ok(Some(proof)) => Ok(Some(Message::RecvPacket(RecvPacket {
@@ -277,7 +277,7 @@ impl<C: Chains + Drop> Completer<'_, C> {
 
     fn ack_packet(&self, packet: Packet, from: ProofSource) -> Result<Option<Message>, Fault>
         ensures made { IfOk result (MakesAck (C.answers self.now.chains.now) from packet) }
-        ensures err { IfErr result (λ fault. fault ≡ Fault.NoMemory) }
+        ensures err { IsOkUnless result Fault.NoMemory }
     {
         match self.acknowledged(&packet, from) {
             Ok(shown) => Ok(ack_message(packet, from.height, shown)),
@@ -290,7 +290,7 @@ impl<C: Chains + Drop> Completer<'_, C> {
 
     fn timeout(&self, on: u8, packet: Packet, from: ProofSource) -> Result<Option<Message>, Fault>
         ensures made { IfOk result (MakesTimeout (C.answers self.now.chains.now) on from packet) }
-        ensures err { IfErr result (λ fault. fault ≡ Fault.NoMemory) }
+        ensures err { IsOkUnless result Fault.NoMemory }
     {
         match self.unreceived(on, &packet, from) {
             Ok(Some(shown)) => Ok(Some(Message::Timeout(Timeout {
@@ -317,7 +317,7 @@ impl<C: Chains + Drop> Completer<'_, C> {
         from: ProofSource,
     ) -> Result<Option<Message>, Fault>
         ensures made { IfOk result (MakesTimeoutOnClose (C.answers self.now.chains.now) on from packet) }
-        ensures err { IfErr result (λ fault. fault ≡ Fault.NoMemory) }
+        ensures err { IsOkUnless result Fault.NoMemory }
     {
         match self.closed(on, &packet, from) {
             Ok(shown) => Ok(timeout_on_close_message(packet, from.height, shown)),
@@ -337,7 +337,7 @@ impl<C: Chains + Drop> Completer<'_, C> {
         from: ProofSource,
     ) -> Result<Option<Message>, Fault>
         ensures made { IfOk result (MakesPacketAction (C.answers self.now.chains.now) on handling from packet) }
-        ensures err { IfErr result (λ fault. fault ≡ Fault.NoMemory) }
+        ensures err { IsOkUnless result Fault.NoMemory }
     {
         match handling {
             PacketAction::Recv => self.recv_packet(packet, from),
@@ -356,7 +356,7 @@ impl<C: Chains + Drop> Completer<'_, C> {
         from: ProofSource,
     ) -> Result<Option<Message>, Fault>
         ensures made { IfOk result (MakesFromSentPacket (C.answers self.now.chains.now) sent (MakesPacketAction (C.answers self.now.chains.now) on handling from)) }
-        ensures err { IfErr result (λ fault. fault ≡ Fault.NoMemory) }
+        ensures err { IsOkUnless result Fault.NoMemory }
     {
         match self.sent_packet(sent)? {
             Some(packet) => self.handled(on, handling, packet, from),
@@ -368,7 +368,7 @@ impl<C: Chains + Drop> Completer<'_, C> {
     /// Fault: `NoMemory`.
     pub fn packet_message(&self, on: u8, draft: PacketDraft) -> Result<Option<Message>, Fault>
         ensures made { IfOk result (MakesPacketMessage (C.answers self.now.chains.now) on draft) }
-        ensures err { IfErr result (λ fault. fault ≡ Fault.NoMemory) }
+        ensures err { IsOkUnless result Fault.NoMemory }
     {
         match draft {
             PacketDraft::Transfer(message) => Ok(Some(Message::Transfer(message))),

@@ -1,6 +1,6 @@
 //! The messages of the turns of an `open`.
 
-ghost use Rattle.std.specs.Prelude.{◌≡◌, IfOk, IfErr};
+ghost use Rattle.std.specs.Prelude.{◌≡◌, IfOk, IsOkUnless};
 ghost use Rattle.std.specs.Option.{option_zip};
 ghost use Rattle.ibc_script.specs.Applications.{port_of, version_of};
 ghost use Rattle.ibc_script_cli.specs.Opening.{update_draft, init_draft, try_draft, ack_draft, confirm_draft, channel_init_draft, channel_try_draft, channel_ack_draft, channel_confirm_draft, draft_of};
@@ -46,7 +46,7 @@ fn both<K: NameKind, L: NameKind>(
 impl DraftWriter<'_> {
     fn update_client(&self) -> Result<Option<Draft>, Fault>
         ensures made { IfOk result (λ made. made ≡ update_draft self.now.own.now self.now.peer.now) }
-        ensures memory { IfErr result (λ fault. fault ≡ Fault.NoMemory) }
+        ensures memory { IsOkUnless result Fault.NoMemory }
     {
         let Some(client) = &self.own.client else {
             return Ok(None);
@@ -59,7 +59,7 @@ impl DraftWriter<'_> {
 
     fn conn_open_init(&self) -> Result<Option<Draft>, Fault>
         ensures made { IfOk result (λ made. made ≡ init_draft self.now.own.now self.now.peer.now) }
-        ensures memory { IfErr result (λ fault. fault ≡ Fault.NoMemory) }
+        ensures memory { IsOkUnless result Fault.NoMemory }
     {
         match both(&self.own.client, &self.peer.client)? {
             Some((client, peer_client)) => {
@@ -74,7 +74,7 @@ impl DraftWriter<'_> {
 
     fn conn_open_try(&self) -> Result<Option<Draft>, Fault>
         ensures made { IfOk result (λ made. made ≡ try_draft self.now.own.now self.now.peer.now) }
-        ensures memory { IfErr result (λ fault. fault ≡ Fault.NoMemory) }
+        ensures memory { IsOkUnless result Fault.NoMemory }
     {
         let Some(peer_connection) = &self.peer.connection else {
             return Ok(None);
@@ -92,7 +92,7 @@ impl DraftWriter<'_> {
 
     fn conn_open_ack(&self) -> Result<Option<Draft>, Fault>
         ensures made { IfOk result (λ made. made ≡ ack_draft self.now.own.now self.now.peer.now) }
-        ensures memory { IfErr result (λ fault. fault ≡ Fault.NoMemory) }
+        ensures memory { IsOkUnless result Fault.NoMemory }
     {
         match both(&self.own.connection, &self.peer.connection)? {
             Some((connection, peer_connection)) => {
@@ -108,7 +108,7 @@ impl DraftWriter<'_> {
 
     fn conn_open_confirm(&self) -> Result<Option<Draft>, Fault>
         ensures made { IfOk result (λ made. made ≡ confirm_draft self.now.own.now self.now.peer.now) }
-        ensures memory { IfErr result (λ fault. fault ≡ Fault.NoMemory) }
+        ensures memory { IsOkUnless result Fault.NoMemory }
     {
         let Some(connection) = &self.own.connection else {
             return Ok(None);
@@ -124,7 +124,7 @@ impl DraftWriter<'_> {
         ensures port { IfOk result (λ terms. terms.port ≡ port_of self.now.application) }
         ensures peer_port { IfOk result (λ terms. terms.peer_port ≡ port_of self.now.application) }
         ensures version { IfOk result (λ terms. terms.version ≡ version_of self.now.application) }
-        ensures memory { IfErr result (λ fault. fault ≡ Fault.NoMemory) }
+        ensures memory { IsOkUnless result Fault.NoMemory }
     {
         Ok(Terms {
             port: self.application.port(self.alloc)?,
@@ -135,7 +135,7 @@ impl DraftWriter<'_> {
 
     fn chan_open_init(&self) -> Result<Option<Draft>, Fault>
         ensures made { IfOk result (λ made. made ≡ channel_init_draft self.now.application self.now.own.now) }
-        ensures memory { IfErr result (λ fault. fault ≡ Fault.NoMemory) }
+        ensures memory { IsOkUnless result Fault.NoMemory }
     {
         let Some(connection) = &self.own.connection else {
             return Ok(None);
@@ -153,7 +153,7 @@ impl DraftWriter<'_> {
 
     fn chan_open_try(&self) -> Result<Option<Draft>, Fault>
         ensures made { IfOk result (λ made. made ≡ channel_try_draft self.now.application self.now.own.now self.now.peer.now) }
-        ensures memory { IfErr result (λ fault. fault ≡ Fault.NoMemory) }
+        ensures memory { IsOkUnless result Fault.NoMemory }
     {
         let Some((connection, peer_channel)) = both(&self.own.connection, &self.peer.channel)?
         else {
@@ -173,7 +173,7 @@ impl DraftWriter<'_> {
 
     fn chan_open_ack(&self) -> Result<Option<Draft>, Fault>
         ensures made { IfOk result (λ made. made ≡ channel_ack_draft self.now.application self.now.own.now self.now.peer.now) }
-        ensures memory { IfErr result (λ fault. fault ≡ Fault.NoMemory) }
+        ensures memory { IsOkUnless result Fault.NoMemory }
     {
         let Some((channel, peer_channel)) = both(&self.own.channel, &self.peer.channel)? else {
             return Ok(None);
@@ -188,7 +188,7 @@ impl DraftWriter<'_> {
 
     fn chan_open_confirm(&self) -> Result<Option<Draft>, Fault>
         ensures made { IfOk result (λ made. made ≡ channel_confirm_draft self.now.application self.now.own.now self.now.peer.now) }
-        ensures memory { IfErr result (λ fault. fault ≡ Fault.NoMemory) }
+        ensures memory { IsOkUnless result Fault.NoMemory }
     {
         let Some(channel) = &self.own.channel else {
             return Ok(None);
@@ -204,7 +204,7 @@ impl DraftWriter<'_> {
     /// Fault: `NoMemory`.
     pub fn draft(&self, kind: MessageKind) -> Result<Option<Draft>, Fault>
         ensures made { IfOk result (λ made. made ≡ draft_of self.now.application kind self.now.own.now self.now.peer.now) }
-        ensures memory { IfErr result (λ fault. fault ≡ Fault.NoMemory) }
+        ensures memory { IsOkUnless result Fault.NoMemory }
     {
         match kind {
             MessageKind::CreateClient => Ok(Some(Draft::Client(ClientDraft::Create {
