@@ -1,6 +1,6 @@
 //! Messages, and the ends of blocks.
 
-ghost use Rattle.std.specs.Prelude.{◌≡◌, Some};
+ghost use Rattle.std.specs.Prelude.{Some};
 ghost use Rattle.ibc_c.specs.Events.{AppliesMessage, EndsBlock, IsApplied, IsBlockEnded, LedgerGoesOn};
 
 use crate::Refused;

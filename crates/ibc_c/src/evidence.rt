@@ -1,6 +1,4 @@
 //! What proofs and messages carry, with no ledger.
-
-ghost use Rattle.std.specs.Prelude.{◌≡◌};
 ghost use Rattle.ibc_c.specs.ProofReads.{FindsKey, FindsShown, TellsProof};
 ghost use Rattle.ibc_c.specs.Handles.{Finds};
 

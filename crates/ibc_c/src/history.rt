@@ -2,7 +2,7 @@
 
 ghost use Rattle.std.specs.Prelude.{◌≡◌, Some};
 ghost use Rattle.ibc_c.specs.Handles.{IsWritten};
-ghost use Rattle.ibc_c.specs.History.{IsEventText, WritesSpelledEvent, WritesReply, TellsEvent, TellsLength, TellsReply, event_code, reply_bytes, reply_code};
+ghost use Rattle.ibc_c.specs.History.{IsEventText, WritesSpelledEvent, TellsEvent, TellsLength, TellsReply, event_code, reply_bytes, reply_code};
 
 use crate::Refused;
 use crate::handles::write_out;

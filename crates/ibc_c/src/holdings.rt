@@ -1,7 +1,6 @@
 //! What accounts hold, one after another.
 
-ghost use Rattle.std.specs.Prelude.{◌≡◌, ◌++◌, Ok, Err, None, Some, IfOk, IfErr};
-ghost use Rattle.ibc_ids.specs.Paths.{account_text};
+ghost use Rattle.std.specs.Prelude.{◌≡◌, Ok, Err, None, Some, IfOk, IfErr};
 ghost use Rattle.ibc_c.specs.Handles.{Finds};
 ghost use Rattle.ibc_c.specs.Holdings.{AreBalancesOf, FindsHolding, IsHoldingText, MakesBalances, TellsHolding, holding_at, holding_text};
 

@@ -9,7 +9,7 @@ use crate::genesis::names_of;
 use crate::handles::give;
 use crate::views::key_of;
 use ibc_handle::{Handle, HandleValue};
-use ibc_ids::{Account, Bytes, Refusal};
+use ibc_ids::{Account, Bytes};
 use ibc_ledger::Ledger;
 use ibc_message_codec::encode;
 use ibc_wire::Message;

@@ -5,7 +5,7 @@
 use crate::lines::Lines;
 use crate::mistake::{Mistake, Unmade, Wrong, number_of, size_of};
 use crate::spelled::SpelledMessage;
-use ibc_ids::{Key, Refusal};
+use ibc_ids::Key;
 use ibc_script_cli::Chains;
 use ibc_wire::{MessageKind, encode};
 use std::alloc::{AllocError, Global};

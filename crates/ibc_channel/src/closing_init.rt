@@ -1,6 +1,6 @@
 //! Closing a channel from this side.
 
-ghost use Rattle.std.specs.Prelude.{◌≡◌, ℕ, IsSome, IfOk};
+ghost use Rattle.std.specs.Prelude.{ℕ, IsSome, IfOk};
 ghost use Rattle.ibc_machine.specs.declared.reply.Effect.TheVariants as effect;
 ghost use Rattle.ibc_machine.specs.ics04.Channels.{chan_close_init};
 ghost use Rattle.ibc_records.specs.RecordsModel.{core_of};

@@ -12,7 +12,7 @@ ghost use Rattle.ibc_records.specs.RecordsModel.{core_of};
 ghost use Rattle.ibc_records.specs.HandlerContract.{IsHandled};
 ghost use Rattle.ibc_client.specs.ProofVerdicts.{IsJudged};
 ghost use Rattle.ibc_client.specs.Peers.{IsPeerShown};
-ghost use Rattle.ibc_channel.specs.ChannelHandshake.{new_end, expected_init_end, try_end};
+ghost use Rattle.ibc_channel.specs.ChannelHandshake.{new_end, expected_init_end};
 
 use crate::checks::{check_connection, check_number, check_open};
 use crate::ends::{add_channel, new_end};

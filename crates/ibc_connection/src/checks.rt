@@ -11,7 +11,7 @@ ghost use Rattle.ibc_path_store.specs.StoreModel.{height_of};
 ghost use Rattle.ibc_records.specs.RecordsModel.{core_of, IsUnchanged};
 ghost use Rattle.ibc_records.specs.HandlerContract.{AreWrittenRecords};
 
-use ibc_ids::{ClientId, ConnectionId, Refusal, nth_connection};
+use ibc_ids::{ConnectionId, Refusal, nth_connection};
 use ibc_records::Records;
 use ibc_wire::{ClientState, ConnectionEnd, ConnectionState};
 use std::alloc::Global;

@@ -1,6 +1,6 @@
 //! What messages claim of the peer, and the proofs that they bring.
 
-ghost use Rattle.std.specs.Prelude.{◌≡◌, ◌&&◌, ◌⊎◌, true, false, Some, is_some, IfOk, IfErr, IsErrOf};
+ghost use Rattle.std.specs.Prelude.{◌≡◌, ◌&&◌, ◌⊎◌, true, false, is_some, IfOk, IfErr, IsErrOf};
 ghost use Rattle.ibc_machine.specs.ics03.Connections.{has_connection, has_client};
 ghost use Rattle.ibc_machine.specs.chain.Records.{is_known_height};
 ghost use Rattle.ibc_wire.specs.Reading.{proof_of};

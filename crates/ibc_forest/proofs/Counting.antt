@@ -1,5 +1,5 @@
 -- Counts that stop at 2^64 - 1, one after another.
-use Rattle.std.proofs.Common.{◌≡◌, ℕ, ◌+◌, ◌≤◌, arith}
+use Rattle.std.proofs.Common.{◌≡◌, ℕ, ◌+◌, arith}
 use Rattle.ibc_forest.specs.Counts.{CountsAtLeast}
 
 -- so many texts more, and so many fewer to come

@@ -1,7 +1,7 @@
 -- How pairs are found among the last ones: both rise, so each is looked for in all of them.
 use Rattle.std.proofs.Common.{◌≡◌, ℕ, zero, suc, ◌+◌, ◌-◌, ◌<◌, ◌≤◌, is_lt, Less, [], ◌∷◌, length, get_or, take, drop, refl, sym, ap, ap₂, ◌∙◌, subst, arith, inl, inr, length-drop}
 use Rattle.std.proofs.lemmas.Bool.{cases_Bool}
-use Rattle.std.proofs.lemmas.List.{drop_more, drop-drop, get_or-drop, get_or-take, get_or_default}
+use Rattle.std.proofs.lemmas.List.{drop_more, get_or-drop, get_or-take, get_or_default}
 use Rattle.ibc_ids.specs.Texts.{Text, same_text, text_cmp}
 use Rattle.ibc_ids.proofs.Texts.{text_same, same_text_itself, text_ties, lt_is_less, text_cmp_total}
 use Rattle.ibc_merkle.specs.Tree.{Pairs}

@@ -1,9 +1,10 @@
 -- The tree by halves is the tree by levels.
-use Rattle.std.proofs.Common.{◌≡◌, ℕ, zero, suc, ◌+◌, ◌*◌, ◌^◌, ◌<◌, ◌≤◌, true, false, nat_lt, List, [], ◌∷◌, length, take, drop, map, refl, sym, ap, ap₂, ◌∙◌, subst, arith, ltb-true, ltb-false, length-take, length-drop, pow_mono, pow-suc, inl, inr}
+use Rattle.std.proofs.Common.{◌≡◌, ℕ, zero, suc, ◌+◌, ◌*◌, ◌^◌, ◌<◌, ◌≤◌, List, [], ◌∷◌, length, take, drop, map, refl, sym, ap, ap₂, ◌∙◌, arith, length-take, length-drop, pow_mono, pow-suc, inl, inr}
 use Rattle.std.proofs.lemmas.Bool.{cases_lt}
 use Rattle.std.proofs.lemmas.Nat.{pow_pos}
 use Rattle.std.proofs.lemmas.List.{take-map, drop-map, length-map}
-use Rattle.ibc_merkle.specs.Tree.{Pairs, Tree, Node, tree, tree_within, doubled_below, largest_power_below}
+use Rattle.ibc_merkle.specs.Tree.{Pairs, Tree, Node, tree, tree_within, largest_power_below}
+use Rattle.ibc_merkle.proofs.Depths.{below_power, doubled_power}
 use Rattle.ibc_merkle.proofs.Trees.{split_within}
 use Rattle.ibc_forest.specs.Levels.{pair_up, tree_over_within, tree_over, leaf_of}
 
@@ -59,21 +60,6 @@ over-halves (tree ∷ next ∷ trees) split more is =
     ∙ ap (λ split. Node (tree_over (take split all)) (tree_over (drop split all))) (sym is)
 
 -- ---- the split is the power of two that is below and whose double isn't
-
-below_power : (n : ℕ) → n < 2 ^ n
-below_power zero = omega arith
-below_power (suc n) = let h = below_power n in rw pow-suc (omega arith)
-
-doubled_power : (times c n i : ℕ) → c ≡ 2 ^ i → c < n → n ≤ c * 2 ^ suc times → (j : ℕ) × (doubled_below times c n ≡ 2 ^ j) × (2 ^ j < n) × (n ≤ 2 * 2 ^ j)
-doubled_power zero c n i e low high = (i, e, subst (λ x. x < n) e low, let h : n ≤ c * 2 = high in subst (λ x. n ≤ 2 * x) e (omega arith))
-doubled_power (suc times) c n i e low high =
-    elim (nat_lt (2 * c) n) as (λ p. nat_lt (2 * c) n ≡ p → (j : ℕ) × ((elim p as (λ _. ℕ) [ true ↦ doubled_below times (2 * c) n | false ↦ c ]) ≡ 2 ^ j) × (2 ^ j < n) × (n ≤ 2 * 2 ^ j)) [
-      | true ↦ λ p.
-          let more : 2 * c ≡ 2 ^ suc i = rw pow-suc (omega (arith, e)) in
-          let enough : n ≤ 2 * c * 2 ^ suc times = let h : n ≤ c * (2 ^ suc times * 2) = rw pow-suc at high in grind arith in
-          doubled_power times (2 * c) n (suc i) more (ltb-true (2 * c) n p) enough
-      | false ↦ λ p. let h = ltb-false (2 * c) n p in (i, e, subst (λ x. x < n) e low, subst (λ x. n ≤ 2 * x) e (omega arith))
-    ] refl
 
 pub split_power : (n : ℕ) → 2 ≤ n → (j : ℕ) × (largest_power_below n ≡ 2 ^ j) × (2 ^ j < n) × (n ≤ 2 * 2 ^ j)
 split_power n more =

@@ -1,6 +1,6 @@
 //! Nodes that are moved to another arena, so that the others are given back. Nothing is hashed.
 
-ghost use Rattle.std.specs.Prelude.{◌≡◌, ◌<◌, ◌++◌, length, map, IfOk};
+ghost use Rattle.std.specs.Prelude.{◌≡◌, ◌<◌, length, map, IfOk};
 ghost use Rattle.ibc_forest.specs.Forest.{AreSortedHeights, kept_pairs};
 ghost use Rattle.ibc_forest.specs.Levels.{tree_at, trees_at};
 ghost use Rattle.ibc_forest.specs.NodeMoves.{AreMoved, AllStand};

@@ -1,9 +1,9 @@
 //! The rows of a tree, and what a commit changes in them.
 
-ghost use Rattle.std.specs.Prelude.{◌≡◌, ◌+◌, ◌-◌, ◌*◌, ◌^◌, ◌<◌, ◌≤◌, ℕ, [], length, take, drop, slice_set, slice_index_or, IfOk, OnOk, OnErr};
+ghost use Rattle.std.specs.Prelude.{◌≡◌, ◌+◌, ◌-◌, ◌*◌, ◌<◌, ◌≤◌, [], length, take, drop, slice_set, slice_index_or, IfOk, OnOk, OnErr};
 ghost use Rattle.ibc_forest.specs.Counts.{CountsAtLeast};
 ghost use Rattle.ibc_forest.specs.Levels.{tree_over, tree_at, trees_at};
-ghost use Rattle.ibc_forest.specs.Leaves.{row_pairs, count_new, keys, differ_count, differing_count};
+ghost use Rattle.ibc_forest.specs.Leaves.{differ_count, differing_count};
 ghost use Rattle.ibc_forest.specs.Nodes.{Grows};
 ghost use Rattle.ibc_forest.specs.NodeLevels.{Stand, IsPyramid, AreKnown, HasLevelsOver, rows_of, first_row};
 

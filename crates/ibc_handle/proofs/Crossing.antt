@@ -1,6 +1,5 @@
 -- A ledger may go to another thread. The check shows it of a type by its fields' types, but not where a `Snapshot` is among
 -- them, as in a ledger and its entries: so it is shown here, from the ledger's entries up to what a handle holds.
-use mathlib.Core.List.{[], ◌∷◌}
 use denote.RattleType.{RattleType}
 use denote.Param.Send.{IsSend, view_send, sendable}
 use denote.Param.SendFields.{declared_send, variants_send}

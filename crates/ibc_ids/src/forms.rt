@@ -1,6 +1,6 @@
 //! Which texts have the form of a name (ICS 24, "Identifiers"; ICS 20 for denominations).
 
-ghost use Rattle.std.specs.Prelude.{◌≡◌, ◌<◌, ℕ, length, [], ◌∷◌, MatchOption};
+ghost use Rattle.std.specs.Prelude.{◌≡◌, ◌<◌, length, [], ◌∷◌, MatchOption};
 ghost use Rattle.std.specs.List.{list_all, position, slice_split};
 ghost use Rattle.ibc_ids.specs.Names.{is_made_of, is_letter_or_digit, is_identifier_byte, is_plain_byte, is_version_byte, is_version, is_slash, are_hops_and_base, is_denom};
 

@@ -1,8 +1,8 @@
 //! Which genesis a world may begin with.
 
-ghost use Rattle.std.specs.Prelude.{◌≡◌, ◌+◌, ◌^◌, nat_lt};
+ghost use Rattle.std.specs.Prelude.{◌≡◌, ◌^◌, nat_lt};
 ghost use Rattle.std.specs.List.{list_all, count_by};
-ghost use Rattle.ibc_machine.specs.chain.Genesis.{genesis_state, chain_state, has_limits, is_same_holding, is_fair, is_allowed, total_of};
+ghost use Rattle.ibc_machine.specs.chain.Genesis.{genesis_state, has_limits, is_same_holding, is_fair, is_allowed, total_of};
 
 use ibc_ids::{Denom, UserName};
 use ibc_machine::{ChainStart, Genesis};

@@ -1,6 +1,6 @@
 //! A ledger: a chain with its history, its records and its pass of the table.
 
-ghost use Rattle.std.specs.Prelude.{◌≡◌, ◌<◌, ◌⊎◌, ◌↔◌, ◌++◌, ℕ, [], false, Some, Err, length, map, option_map, IfOk, IfErr, IsNone, IsTrue, IsOkUnless};
+ghost use Rattle.std.specs.Prelude.{◌≡◌, ◌<◌, ◌⊎◌, ◌↔◌, ℕ, [], false, Some, Err, length, map, IfOk, IfErr, IsNone, IsTrue, IsOkUnless};
 ghost use Rattle.std.specs.Option.{IsSomeAnd};
 ghost use mathlib.Core.List.{IsPrefix};
 ghost use Rattle.ibc_ids.specs.Texts.{text_cmp};

@@ -3,7 +3,7 @@
 ghost use Rattle.std.specs.Prelude.{◌≡◌, None, Err, IfOk, IsOk, IsErr};
 ghost use Rattle.ibc_ids.specs.declared.refusal.Refusal.TheVariants.{NoMemory};
 ghost use Rattle.ibc_machine.specs.declared.reply.Effect.TheVariants as effect_of;
-ghost use Rattle.ibc_ledger.specs.MessageReplies.{effect_twice, result_effects, caller_reply, history_reply};
+ghost use Rattle.ibc_ledger.specs.MessageReplies.{result_effects, caller_reply, history_reply};
 
 use ibc_ids::{Bytes, Refusal, Root};
 use ibc_machine::{Effect, Reading, Reply};

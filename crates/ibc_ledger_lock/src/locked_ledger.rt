@@ -1,6 +1,6 @@
 //! What lies under a lock: a ledger, and the book's seat that knows it as it is.
 
-ghost use Rattle.std.specs.Prelude.{◌≡◌, ◌<◌, [], All, IfSome, None, Some, drop, length, map, true};
+ghost use Rattle.std.specs.Prelude.{◌≡◌, ◌<◌, [], All, IfSome, None, Some, drop, length, map};
 ghost use Rattle.ibc_ids.specs.declared.refusal.Refusal.TheVariants.{NoMemory};
 ghost use Rattle.ibc_machine.specs.declared.event.Event.TheVariants as event_of;
 ghost use Rattle.ibc_machine.specs.declared.reply.Reply.TheVariants as reply_of;

@@ -1,6 +1,6 @@
 //! One chunk of a row, which copies of the row share.
 
-ghost use Rattle.std.specs.Prelude.{◌≡◌, ◌<◌, ◌∷◌, ◌++◌, [], length, take, drop, OnOk, OnErr, IfOk};
+ghost use Rattle.std.specs.Prelude.{◌≡◌, ◌<◌, ◌∷◌, [], length, take, drop, OnOk, OnErr, IfOk};
 ghost use Rattle.std.specs.Arc.{arc_value};
 ghost use Rattle.ibc_ids.specs.Maps.{with, without};
 ghost use Rattle.ibc_maps.specs.Chunks.{CopiesAreSame};

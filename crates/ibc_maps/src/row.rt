@@ -1,6 +1,6 @@
 //! A map in chunks that copies share.
 
-ghost use Rattle.std.specs.Prelude.{◌≡◌, ◌<◌, ◌+◌, ◌∷◌, [], length, take, drop, OnOk, OnErr, IfOk, option_copied};
+ghost use Rattle.std.specs.Prelude.{◌≡◌, ◌<◌, ◌+◌, [], length, take, drop, OnOk, OnErr, IfOk, option_copied};
 ghost use Rattle.std.specs.Arc.{arc_value};
 ghost use Rattle.ibc_ids.specs.Maps.{at, with, without};
 ghost use Rattle.ibc_maps.specs.Sides.{AllBelow, AllAbove};

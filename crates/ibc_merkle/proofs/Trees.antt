@@ -2,7 +2,7 @@
 use Rattle.std.proofs.Common.{◌≡◌, ℕ, zero, suc, ◌+◌, ◌*◌, ◌<◌, ◌≤◌, true, false, nat_lt, [], ◌∷◌, ◌++◌, length, take, drop, get_or, refl, sym, ap, ap₂, ◌∙◌, arith, ltb-true, lt-ltb, le-ltb, length-take, length-drop, take-append-drop}
 use Rattle.ibc_ids.specs.Texts.{Text}
 use Rattle.ibc_merkle.specs.Hash.{hash, leaf_text, leaf_mark, inner_text}
-use Rattle.ibc_merkle.specs.Tree.{Pairs, Tree, Leaf, Node, tree, tree_within, doubled_below, largest_power_below, root, tree_root, leaves}
+use Rattle.ibc_merkle.specs.Tree.{Pairs, Node, tree, tree_within, doubled_below, largest_power_below, root, tree_root, leaves}
 
 doubled_within : (times k n : ℕ) → 0 < k → k < n → (0 < doubled_below times k n) × (doubled_below times k n < n)
 doubled_within zero k n some below = (some, below)

@@ -7,7 +7,7 @@ use crate::parts::{write_proof, write_proofs};
 use crate::payload::Payload;
 use ibc_ids::Refusal;
 use ibc_wire::fields::{read_name, write_name};
-use ibc_wire::{ClientState, ConnOpenAck, ConnOpenConfirm, ConnOpenInit, ConnOpenTry, Wire};
+use ibc_wire::{ConnOpenAck, ConnOpenConfirm, ConnOpenInit, ConnOpenTry, Wire};
 use std::alloc::Global;
 
 impl Payload for ConnOpenInit {

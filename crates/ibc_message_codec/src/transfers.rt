@@ -7,7 +7,7 @@ use crate::parts::write_delivery;
 use crate::payload::Payload;
 use ibc_ids::Refusal;
 use ibc_wire::fields::{read_name, write_n8, write_n16, write_name, write_str};
-use ibc_wire::{SendNote, Tokens, Transfer, TransferMany, Wire};
+use ibc_wire::{SendNote, Transfer, TransferMany, Wire};
 use std::alloc::Global;
 
 impl Payload for Transfer {

@@ -1,6 +1,6 @@
 //! What messages of packets claim of the peer.
 
-ghost use Rattle.std.specs.Prelude.{◌≡◌, ℕ, true, Some, IfOk, IsOkUnless};
+ghost use Rattle.std.specs.Prelude.{◌≡◌, true, Some, IfOk, IsOkUnless};
 ghost use Rattle.ibc_ids.specs.declared.refusal.Refusal.TheVariants.{NoMemory};
 ghost use Rattle.ibc_machine.specs.ics04.Packets.{not_received, was_acknowledged, was_sent};
 ghost use Rattle.ibc_machine.specs.chain.Records.{commitment_of, connection_at, is_known_height};

@@ -4,7 +4,6 @@
 ghost use Rattle.std.specs.Prelude.{◌≡◌, ◌⊎◌, ◌↔◌, All, Err, IfErr, IfOk, IsOkUnless, false, length, map};
 ghost use Rattle.ibc_ids.specs.declared.refusal.Refusal.TheVariants.{BadMessage, NoMemory};
 ghost use Rattle.ibc_machine.specs.chain.Genesis.{genesis_state, is_allowed};
-ghost use Rattle.ibc_ledger_lock.specs.ReceiptsAndReadings.{IsOfWorld};
 ghost use Rattle.ibc_refinement.specs.World.{AreNew};
 ghost use Rattle.ibc_world_core.specs.WorldModel.{ledgers_alone};
 ghost use Rattle.ibc_race.specs.SharedWorlds.{AreGathered, HasItsBook, IsAuditOf, book_of, table_of};

@@ -1,6 +1,6 @@
 //! What stands at the paths of a new channel.
 
-ghost use Rattle.std.specs.Prelude.{◌≡◌, ◌+◌, ◌++◌, ◌&&◌, ◌≤◌, ◌∷◌, [], IsTrue, IfOk, OnOk, string_bytes, IsOkUnless};
+ghost use Rattle.std.specs.Prelude.{◌≡◌, ◌+◌, ◌&&◌, ◌≤◌, ◌∷◌, [], IsTrue, IfOk, OnOk, string_bytes, IsOkUnless};
 ghost use Rattle.ibc_ids.specs.Names.{is_port, is_channel};
 ghost use Rattle.ibc_ids.specs.declared.refusal.Refusal.TheVariants.{NoMemory};
 ghost use Rattle.ibc_records.specs.Entries.{with_all, new_entries};

@@ -1,6 +1,6 @@
 //! Clients with what they know.
 
-ghost use Rattle.std.specs.Prelude.{◌≡◌, OnOk, OnErr, option_copied, IsOkUnless};
+ghost use Rattle.std.specs.Prelude.{◌≡◌, OnOk, OnErr, IsOkUnless};
 ghost use Rattle.std.specs.Ordering.{nat_cmp};
 ghost use Rattle.ibc_ids.specs.Maps.{at};
 ghost use Rattle.ibc_ids.specs.declared.refusal.Refusal.TheVariants.{NoMemory};

@@ -1,12 +1,8 @@
 //! What a chain proves, in plain, as a value of its own.
 
 ghost use Rattle.std.specs.Prelude.{◌≡◌, map, IfOk};
-ghost use Rattle.ibc_ids.specs.Texts.{text_cmp, pair_cmp};
-ghost use Rattle.ibc_ids.specs.Maps.{at};
-ghost use Rattle.ibc_ids.specs.declared.refusal.Refusal.TheVariants.{NoMemory};
 ghost use Rattle.ibc_machine.specs.chain.Genesis.{empty_core};
 ghost use Rattle.ibc_records.specs.RecordsModel.{abstract_client_entry, core_from};
-ghost use Rattle.ibc_records.specs.ClientModels.{abstract_client};
 
 use crate::NextNumbers;
 use crate::maps::{Channels, Clients, Connections, no_channels, no_clients, no_connections};

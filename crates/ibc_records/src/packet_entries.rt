@@ -5,7 +5,6 @@ ghost use Rattle.ibc_ids.specs.Texts.{text_cmp};
 ghost use Rattle.ibc_ids.specs.Maps.{without};
 ghost use Rattle.ibc_ids.specs.declared.refusal.Refusal.TheVariants.{NoMemory};
 ghost use Rattle.ibc_machine.specs.ics04.Packets.{is_ordered};
-ghost use Rattle.ibc_machine.specs.ics24.Values.{value_bytes};
 ghost use Rattle.ibc_machine.specs.ics04.Parts.{part_after_receive, part_after_ack, part_after_timeout, entry_of};
 ghost use Rattle.ibc_records.specs.Entries.{with_entry};
 

@@ -1,6 +1,6 @@
 //! The records of a chain, kept in plain and as a store.
 
-ghost use Rattle.std.specs.Prelude.{◌≡◌, ◌⊎◌, ◌↔◌, ◌+◌, ◌-◌, ◌^◌, ◌<◌, length, min, is_some, IsNone, IsSome, IfSome, IfOk, IfErr, OnOk, OnErr, option_map, option_copied, IsOkUnless};
+ghost use Rattle.std.specs.Prelude.{◌≡◌, ◌⊎◌, ◌↔◌, ◌+◌, ◌-◌, ◌^◌, ◌<◌, length, min, IsNone, IsSome, IfSome, IfOk, IfErr, OnOk, OnErr, option_map, option_copied, IsOkUnless};
 ghost use Rattle.ibc_ids.specs.Texts.{text_cmp};
 ghost use Rattle.ibc_ids.specs.Maps.{at, with};
 ghost use Rattle.ibc_ids.specs.Paths.{path};

@@ -49,6 +49,7 @@ pub mod MergeReadings
 pub mod EntryEnds
 pub mod PlacedLedgers
 pub mod PublishedAlong
+pub mod PublishedLists
 pub mod StampsMerged
 pub mod Audited
 pub mod Growing

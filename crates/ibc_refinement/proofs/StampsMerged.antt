@@ -1,7 +1,6 @@
 -- The stamps merge the histories of ledgers of one genesis and one table.
-use Rattle.std.proofs.Common.{◌≡◌, ℕ, true, false, cond, nat_lt, List, [], ◌∷◌, length, map, filter, refl, sym, ap, ◌∙◌, subst, Some, option_map, slice_get, arith, eq-eqb, ltb-true, drop, unwrap_or, ◌+◌}
+use Rattle.std.proofs.Common.{◌≡◌, ℕ, true, false, cond, nat_lt, List, [], ◌∷◌, length, map, filter, refl, sym, ap, ◌∙◌, Some, option_map, slice_get, arith, drop, unwrap_or, ◌+◌}
 use Rattle.std.specs.List.{list_all}
-use Rattle.std.proofs.lemmas.Bool.{and_parts}
 use Rattle.std.proofs.lemmas.List.{length-map}
 use Rattle.std.proofs.lemmas.Option.{slice_get-map}
 use Rattle.ibc_ids.specs.declared.publication.Publication.{Publication}
@@ -10,20 +9,20 @@ use Rattle.ibc_machine.specs.chain.Records.{MachineChain}
 use Rattle.ibc_machine.specs.chain.Genesis.{GenesisState, start, starting_chain}
 use Rattle.ibc_machine.specs.ledger.Replay.{StampedEntry, starting_state, empty_chain}
 use Rattle.ibc_machine.specs.ledger.Ledgers.{Ledger, chain_of, published_as, state_of}
-use Rattle.ibc_machine.specs.ledger.Merge.{is_of_chain, published_along, Merges}
+use Rattle.ibc_machine.specs.ledger.Merge.{is_of_chain, Merges}
 use Rattle.ibc_machine.specs.promises.Worlds.{entries}
 use Rattle.ibc_refinement.specs.Stamps.{by_stamps, merged_by_stamps, StampsMerge, StampedIsRun}
 use Rattle.ibc_refinement.proofs.ChangedPlaces.{get_within, get_there}
 use Rattle.ibc_refinement.proofs.EntrySteps.{ledger_of}
 use Rattle.ibc_refinement.proofs.RunStates.{AreOfWorld, IsLedgerAt, ledger_at, ledger_from}
-use Rattle.ibc_refinement.proofs.RunNext.{begins_with, own_first}
 use Rattle.ibc_refinement.proofs.MergedRun.{AreWithin}
 use Rattle.ibc_refinement.proofs.Refined.{merged_is_run}
 use Rattle.ibc_refinement.proofs.StageLists.{Histories, history_at, own}
 use Rattle.ibc_refinement.proofs.MergeStages.{entries_of, own_merged}
 use Rattle.ibc_refinement.proofs.MergeReadings.{Reads, merged_reads}
 use Rattle.ibc_refinement.proofs.PlacedLedgers.{at_place, typed_begin, staged_start}
-use Rattle.ibc_refinement.proofs.PublishedAlong.{block_chains, Publishing, AllPublishing, published_here}
+use Rattle.ibc_refinement.proofs.PublishedLists.{published_list}
+use Rattle.ibc_refinement.proofs.PublishedAlong.{AllPublishing}
 
 own_entries : (k : ℕ) (xs : List StampedEntry) → filter (is_of_chain k) (entries_of xs) ≡ entries_of (own k xs)
 own_entries k [] = refl
@@ -34,29 +33,6 @@ own_entries k (x ∷ xs) =
     ]
 
 module _ (genesis : GenesisState) (ledgers : List Ledger) (publications : List Publication) (are : AreOfWorld genesis ledgers publications) where
-  -- ---- what is published along
-
-  published_list : (rest : List Entry) (times : List ℕ) (ps : List Publication) → AllPublishing genesis ledgers publications are times ps rest → AreWithin (length ledgers) rest
-      → block_chains rest ≡ map (λ (p : Publication). p.chain) ps → published_along times rest ≡ ps
-  published_list [] times [] all within chains = refl
-  published_list [] times (p ∷ ps) all within chains = absurd (cc)
-  published_list (e ∷ rest) times ps all within chains =
-      let parts = and_parts (nat_lt (chain_of e.event) (length ledgers)) (list_all (λ (entry : Entry). nat_lt (chain_of entry.event) (length ledgers)) rest) within in
-      let at = ledger_at genesis ledgers are.of (chain_of e.event) (ltb-true (chain_of e.event) (length ledgers) parts.0) in
-      let r = all (chain_of e.event) at.history at.seen at.there in
-      let b = begins_with e (filter (is_of_chain (chain_of e.event)) rest) r.left (r.remaining ∙ own_first (chain_of e.event) e rest (eq-eqb (chain_of e.event) (chain_of e.event) refl)) in
-      by_entry (λ after qs all chains. published_list rest after qs all parts.1 chains) b.first b.later e b.entry all at r b.whole b.remaining chains
-    where
-      by_entry : ((after : List ℕ) (qs : List Publication) → AllPublishing genesis ledgers publications are after qs rest → block_chains rest ≡ map (λ (p : Publication). p.chain) qs → published_along after rest ≡ qs)
-          → (s : StampedEntry) (later : List StampedEntry) (e : Entry) → s.entry ≡ e → AllPublishing genesis ledgers publications are times ps (e ∷ rest)
-          → (at : IsLedgerAt genesis ledgers (chain_of e.event)) (r : Publishing genesis times ps (e ∷ rest) (chain_of e.event) at.history at.seen) → r.left ≡ s ∷ later
-          → map (λ (s : StampedEntry). s.entry) later ≡ filter (is_of_chain (chain_of e.event)) rest → block_chains (e ∷ rest) ≡ map (λ (p : Publication). p.chain) ps → published_along times (e ∷ rest) ≡ ps
-      by_entry next s later e same =
-          subst (λ (e : Entry). AllPublishing genesis ledgers publications are times ps (e ∷ rest)
-          → (at : IsLedgerAt genesis ledgers (chain_of e.event)) (r : Publishing genesis times ps (e ∷ rest) (chain_of e.event) at.history at.seen) → r.left ≡ s ∷ later
-          → map (λ (s : StampedEntry). s.entry) later ≡ filter (is_of_chain (chain_of e.event)) rest → block_chains (e ∷ rest) ≡ map (λ (p : Publication). p.chain) ps → published_along times (e ∷ rest) ≡ ps) same
-          (λ all at r whole remaining chains. published_here genesis ledgers publications are times ps rest s later all at r whole remaining next chains)
-
   abbrev times : List ℕ
   times = map (λ (c : MachineChain). c.time) (start genesis)
 
@@ -109,7 +85,7 @@ module _ (genesis : GenesisState) (ledgers : List Ledger) (publications : List P
         let one : entries (ledger_of genesis k at.history at.seen) ≡ history = cc in
         each_own k at ∙ one;
     no_others = ap (λ n. list_all (λ (entry : Entry). nat_lt (chain_of entry.event) n) list) (length-map ledgers entries) ∙ within;
-    blocks = published_list list times publications (all_publishing list each_own) within reads.blocks;
+    blocks = published_list genesis ledgers publications are list times publications (all_publishing list each_own) within reads.blocks;
     readings = reads.reads;
   }
 

@@ -1,4 +1,4 @@
 pub mod Lists
 pub mod EndMessages
 pub mod Tracking
-pub mod Plans
+pub mod PlannedMessages

@@ -1,6 +1,6 @@
 //! The ends of channels, with their peers.
 
-ghost use Rattle.std.specs.Prelude.{◌≡◌, ◌<◌, ◌++◌, ◌&&◌, ◌||◌, [], Some, is_some, option_copied, IsTrue, IfSome, IfOk, OnOk, IsOkUnless};
+ghost use Rattle.std.specs.Prelude.{◌≡◌, ◌<◌, ◌++◌, [], Some, is_some, option_copied, IsTrue, IfSome, IfOk, OnOk, IsOkUnless};
 ghost use Rattle.std.specs.FinMap.{is_sorted};
 ghost use Rattle.std.specs.Ordering.{nat_cmp};
 ghost use Rattle.std.specs.List.{filter_map, cons_option};

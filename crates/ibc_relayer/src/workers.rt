@@ -1,6 +1,6 @@
 //! Relayers that work at the same time.
 
-ghost use Rattle.std.specs.Prelude.{◌≡◌, ◌≤◌, IsOkUnless};
+ghost use Rattle.std.specs.Prelude.{◌≤◌, IsOkUnless};
 ghost use Rattle.ibc_ids.specs.declared.refusal.Refusal.TheVariants.{NoMemory};
 
 use crate::turns::relay;

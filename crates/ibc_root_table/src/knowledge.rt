@@ -1,6 +1,6 @@
 //! What a seat at the table knows, and the rule that each step keeps.
 use crate::shape::Shape;
-use atomic_table::{Seat, Shared, Table, TableRule};
+use atomic_table::{Seat, Table, TableRule};
 use ibc_ids::Publication;
 use std::alloc::Global;
 use std::collections::LinkedList;

@@ -1,6 +1,6 @@
 //! Scripts are read from JSON.
 
-ghost use Rattle.std.specs.Prelude.{◌≡◌, ◌<◌, length, IfErr, IsErrOf};
+ghost use Rattle.std.specs.Prelude.{◌<◌, length, IfErr, IsErrOf};
 ghost use Rattle.ibc_script.specs.Faults.{IsScriptFault};
 
 mod chains;

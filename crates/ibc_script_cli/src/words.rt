@@ -1,6 +1,6 @@
 //! The words of the program.
 
-ghost use Rattle.std.specs.Prelude.{◌≡◌, ◌≢◌, ◌⊎◌, ◌↔◌, map, true, false, codes, Some, option_and_then, option_map, IfOk, IfErr, IsErrOf, IsOkUnless};
+ghost use Rattle.std.specs.Prelude.{◌≡◌, ◌≢◌, ◌⊎◌, ◌↔◌, map, true, false, Some, option_and_then, option_map, IfOk, IfErr, IsErrOf, IsOkUnless};
 ghost use Rattle.clap.specs.Words.{app_of, kind_of, rule_of, subcommand_rows_of};
 ghost use Rattle.ibc_script_cli.specs.Words.{IsPossible, are_words, command_by, command_in, command_of, ibcworld, relayers_of, relayers_rule};
 

@@ -1,6 +1,6 @@
 //! Chains that threads share, as the steps of a script see them.
 
-ghost use Rattle.std.specs.Prelude.{◌≡◌, ◌≤◌, IsOkUnless};
+ghost use Rattle.std.specs.Prelude.{◌≤◌, IsOkUnless};
 ghost use Rattle.ibc_ids.specs.declared.refusal.Refusal.TheVariants.{NoMemory};
 
 use crate::worlds::decoded;

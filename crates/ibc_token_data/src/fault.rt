@@ -3,7 +3,6 @@
 ghost use Rattle.std.specs.Prelude.{◌≡◌};
 ghost use Rattle.ibc_token_data.specs.declared.fault.TokenDataFault.TheVariants.{NoMemory};
 
-use ibc_ids::Refusal;
 use std::alloc::{AllocError, AllocFailed};
 
 /// Why no data is read from bytes.

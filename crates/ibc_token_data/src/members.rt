@@ -1,6 +1,6 @@
 //! The members of JSON objects.
 
-ghost use Rattle.std.specs.Prelude.{◌≡◌, IsTrue, IsErrOf, IsUtf8, IfOk, Some, None, [], decimal, codes, ok_or, option_map, unwrap_or, ℕ};
+ghost use Rattle.std.specs.Prelude.{◌≡◌, IsTrue, IsErrOf, IsUtf8, IfOk, Some, None, [], decimal, codes, option_map, unwrap_or, ℕ};
 ghost use Rattle.ibc_ids.specs.Texts.{Text};
 ghost use Rattle.ibc_ids.specs.Names.{is_memo};
 ghost use Rattle.ibc_wire.specs.declared.token.Token.{Token};

@@ -1,6 +1,6 @@
 //! The moves that bring the tokens of a packet that came.
 
-ghost use Rattle.std.specs.Prelude.{◌≡◌, ◌↔◌, IfOk, IsTrue, option_map, Some, MatchOption, IsOkUnless};
+ghost use Rattle.std.specs.Prelude.{◌≡◌, IfOk, IsTrue, option_map, Some, MatchOption, IsOkUnless};
 ghost use Rattle.ibc_ids.specs.Names.{is_user};
 ghost use Rattle.ibc_ids.specs.declared.refusal.Refusal.TheVariants.{NoMemory};
 ghost use Rattle.ibc_transfer.specs.TokenArrival.{mint_move, receive_move, receive_moves, arrival_moves};

@@ -1,6 +1,6 @@
 //! The application of port `transfer`.
 
-ghost use Rattle.std.specs.Prelude.{◌≡◌, ◌⊎◌, [], refl, Ok, Err, IsTrue, IfOk, OnOk, OnErr, IsOkUnless};
+ghost use Rattle.std.specs.Prelude.{◌≡◌, [], refl, Ok, Err, IsTrue, IfOk, OnErr, IsOkUnless};
 ghost use Rattle.std.specs.List.{list_all};
 ghost use Rattle.ibc_ids.specs.declared.refusal.Refusal.TheVariants.{NoMemory};
 ghost use Rattle.ibc_machine.specs.chain.Genesis.{starting_balances, is_fair};

@@ -1,6 +1,6 @@
 //! The fields of encodings: each is read at the front of bytes, and written behind bytes.
 
-ghost use Rattle.std.specs.Prelude.{◌≡◌, ◌==◌, ◌∷◌, [], codes, IsTrue, List};
+ghost use Rattle.std.specs.Prelude.{◌∷◌, []};
 ghost use Rattle.std.specs.Int.{w64};
 ghost use Rattle.ibc_wire.specs.Fields.{one_byte, be64, be128, name as a_name, root32, str_up_to, count_between};
 ghost use Rattle.ibc_wire.specs.Spelling.{peer};

@@ -1,6 +1,6 @@
 //! Encoding and decoding, for all types that have a spelling.
 
-ghost use Rattle.std.specs.Prelude.{◌≡◌, ◌⊎◌, ℕ, List, Option, IsTrue, IfOk, IfErr, IsErrOf, IsOkUnless};
+ghost use Rattle.std.specs.Prelude.{◌≡◌, ◌⊎◌, List, IsTrue, IfOk, IfErr, IsErrOf, IsOkUnless};
 ghost use Rattle.ibc_ids.specs.Texts.{Text};
 ghost use Rattle.ibc_wire.specs.Fields.{Field, Spells, HasOneValue, have_form};
 ghost use Rattle.ibc_wire.specs.Reading.{Front};

@@ -1,14 +1,14 @@
 //! A world: one ledger for each chain of a genesis.
 
-ghost use Rattle.std.specs.Prelude.{◌≡◌, ◌⊎◌, ◌↔◌, ◌<◌, ◌++◌, ◌∷◌, ℕ, [], true, false, length, map, option_map, Some, slice_get, IfOk, IfErr, OnErr, IsTrue, IsOkUnless};
+ghost use Rattle.std.specs.Prelude.{◌≡◌, ◌⊎◌, ◌↔◌, ◌<◌, ◌∷◌, [], true, false, length, option_map, slice_get, IfOk, IfErr, OnErr, IsTrue, IsOkUnless};
 ghost use Rattle.ibc_ids.specs.declared.refusal.Refusal.TheVariants.{NoMemory, BadMessage};
 ghost use Rattle.ibc_machine.specs.declared.reply.Reply.TheVariants as reply_of;
 ghost use Rattle.ibc_machine.specs.chain.Genesis.{genesis_state, is_allowed};
 ghost use Rattle.ibc_machine.specs.ledger.Ledgers.{chain_of};
 ghost use Rattle.ibc_root_table.specs.Passes.{TableName, AreDealt};
-ghost use Rattle.ibc_ledger.specs.LedgerModel.{LedgerModel, shape_of};
+ghost use Rattle.ibc_ledger.specs.LedgerModel.{shape_of};
 ghost use Rattle.ibc_ledger.specs.HistoryGrowth.{AddsOrNot};
-ghost use Rattle.ibc_refinement.specs.World.{AreNew, HasItsPast, new_ledger};
+ghost use Rattle.ibc_refinement.specs.World.{AreNew, HasItsPast};
 ghost use Rattle.ibc_refinement.specs.Steps.{IsStep, GoesOnBy};
 ghost use Rattle.ibc_world_core.specs.WorldModel.{ledgers_alone, AreBegun, AreNumbered, IsPutTo, SameTables};
 ghost use Rattle.ibc_world_core.specs.WorldAudits.{AreOfOneWorld};

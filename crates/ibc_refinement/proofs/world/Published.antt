@@ -1,48 +1,25 @@
 -- A list that has each ledger's entries in their order, and whose blocks are of the chains that published,
 -- publishes what the ledgers published.
-use Rattle.std.proofs.Common.{◌≡◌, ℕ, nat_lt, List, [], ◌∷◌, length, map, filter, drop, refl, sym, ap, ◌∙◌, subst, Some, option_map, unwrap_or, slice_get, eq-eqb, ltb-true}
-use Rattle.std.specs.List.{list_all}
-use Rattle.std.proofs.lemmas.Bool.{and_parts}
+use Rattle.std.proofs.Common.{◌≡◌, ℕ, List, length, map, filter, drop, refl, sym, ap, ◌∙◌, subst, Some, option_map, unwrap_or, slice_get}
 use Rattle.std.proofs.lemmas.Option.{slice_get-map}
 use Rattle.ibc_ids.specs.declared.publication.Publication.{Publication}
 use Rattle.ibc_machine.specs.declared.entry.Entry.{Entry}
 use Rattle.ibc_machine.specs.chain.Records.{MachineChain}
 use Rattle.ibc_machine.specs.chain.Genesis.{GenesisState, start, starting_chain}
-use Rattle.ibc_machine.specs.ledger.Replay.{StampedEntry, starting_state, empty_chain}
-use Rattle.ibc_machine.specs.ledger.Ledgers.{Ledger, chain_of, published_as, state_of}
+use Rattle.ibc_machine.specs.ledger.Replay.{starting_state, empty_chain}
+use Rattle.ibc_machine.specs.ledger.Ledgers.{Ledger, published_as, state_of}
 use Rattle.ibc_machine.specs.ledger.Merge.{is_of_chain, published_along}
 use Rattle.ibc_machine.specs.promises.Worlds.{entries}
 use Rattle.ibc_refinement.proofs.ChangedPlaces.{get_there}
 use Rattle.ibc_refinement.proofs.Typed.{IsTyped}
 use Rattle.ibc_refinement.proofs.EntrySteps.{ledger_of}
-use Rattle.ibc_refinement.proofs.RunStates.{AreOfWorld, IsLedgerAt, ledger_at, ledger_from}
-use Rattle.ibc_refinement.proofs.RunNext.{begins_with, own_first}
+use Rattle.ibc_refinement.proofs.RunStates.{AreOfWorld, ledger_from}
 use Rattle.ibc_refinement.proofs.MergedRun.{AreWithin, typed_start}
-use Rattle.ibc_refinement.proofs.PublishedAlong.{Publishing, AllPublishing, published_here}
+use Rattle.ibc_refinement.proofs.PublishedLists.{published_list}
+use Rattle.ibc_refinement.proofs.PublishedAlong.{AllPublishing}
 use Rattle.ibc_refinement.specs.World.{block_chains}
 
 module _ (genesis : GenesisState) (ledgers : List Ledger) (publications : List Publication) (are : AreOfWorld genesis ledgers publications) where
-  published_list : (rest : List Entry) (times : List ℕ) (ps : List Publication) → AllPublishing genesis ledgers publications are times ps rest → AreWithin (length ledgers) rest
-      → block_chains rest ≡ map (λ (p : Publication). p.chain) ps → published_along times rest ≡ ps
-  published_list [] times [] all within chains = refl
-  published_list [] times (p ∷ ps) all within chains = absurd (cc)
-  published_list (e ∷ rest) times ps all within chains =
-      let parts = and_parts (nat_lt (chain_of e.event) (length ledgers)) (list_all (λ (entry : Entry). nat_lt (chain_of entry.event) (length ledgers)) rest) within in
-      let at = ledger_at genesis ledgers are.of (chain_of e.event) (ltb-true (chain_of e.event) (length ledgers) parts.0) in
-      let r = all (chain_of e.event) at.history at.seen at.there in
-      let b = begins_with e (filter (is_of_chain (chain_of e.event)) rest) r.left (r.remaining ∙ own_first (chain_of e.event) e rest (eq-eqb (chain_of e.event) (chain_of e.event) refl)) in
-      by_entry (λ after qs all chains. published_list rest after qs all parts.1 chains) b.first b.later e b.entry all at r b.whole b.remaining chains
-    where
-      by_entry : ((after : List ℕ) (qs : List Publication) → AllPublishing genesis ledgers publications are after qs rest → block_chains rest ≡ map (λ (p : Publication). p.chain) qs → published_along after rest ≡ qs)
-          → (s : StampedEntry) (later : List StampedEntry) (e : Entry) → s.entry ≡ e → AllPublishing genesis ledgers publications are times ps (e ∷ rest)
-          → (at : IsLedgerAt genesis ledgers (chain_of e.event)) (r : Publishing genesis times ps (e ∷ rest) (chain_of e.event) at.history at.seen) → r.left ≡ s ∷ later
-          → map (λ (s : StampedEntry). s.entry) later ≡ filter (is_of_chain (chain_of e.event)) rest → block_chains (e ∷ rest) ≡ map (λ (p : Publication). p.chain) ps → published_along times (e ∷ rest) ≡ ps
-      by_entry next s later e same =
-          subst (λ (e : Entry). AllPublishing genesis ledgers publications are times ps (e ∷ rest)
-          → (at : IsLedgerAt genesis ledgers (chain_of e.event)) (r : Publishing genesis times ps (e ∷ rest) (chain_of e.event) at.history at.seen) → r.left ≡ s ∷ later
-          → map (λ (s : StampedEntry). s.entry) later ≡ filter (is_of_chain (chain_of e.event)) rest → block_chains (e ∷ rest) ≡ map (λ (p : Publication). p.chain) ps → published_along times (e ∷ rest) ≡ ps) same
-          (λ all at r whole remaining chains. published_here genesis ledgers publications are times ps rest s later all at r whole remaining next chains)
-
   abbrev times : List ℕ
   times = map (λ (c : MachineChain). c.time) (start genesis)
 
@@ -67,4 +44,4 @@ module _ (genesis : GenesisState) (ledgers : List Ledger) (publications : List P
 
   pub published : (list : List Entry) → ((k : ℕ) (ledger : Ledger) → slice_get ledgers k ≡ Some ledger → filter (is_of_chain k) list ≡ entries ledger) → AreWithin (length ledgers) list
       → block_chains list ≡ map (λ (p : Publication). p.chain) publications → published_along times list ≡ publications
-  published list each within turns = published_list list times publications (all_publishing list each) within turns
+  published list each within turns = published_list genesis ledgers publications are list times publications (all_publishing list each) within turns

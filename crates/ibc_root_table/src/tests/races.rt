@@ -1,5 +1,5 @@
 //! Threads that publish and read at the same time.
-ghost use Rattle.std.specs.Prelude.{◌≡◌, ◌≤◌, IsSome, None, Some};
+ghost use Rattle.std.specs.Prelude.{◌≡◌, IsSome, None, Some};
 ghost use denote.Param.Send.{IsSync};
 ghost use Rattle.ibc_ids.specs.Publications.{height_of};
 ghost use Rattle.ibc_root_table.specs.Passes.{unused_pass};

@@ -1,8 +1,8 @@
 //! What meetings say of readings, by the public contracts alone.
-ghost use Rattle.std.specs.Prelude.{◌≡◌, ◌≤◌, Some, length};
+ghost use Rattle.std.specs.Prelude.{◌≡◌, Some, length};
 ghost use mathlib.Core.List.{IsPrefix};
 ghost use Rattle.ibc_ids.specs.Publications.{height_of, height_among};
-ghost use Rattle.ibc_root_table.specs.Passes.{SamePass, KeepsOwn};
+ghost use Rattle.ibc_root_table.specs.Passes.{SamePass};
 
 use super::root_at;
 use crate::{Pass, RootTable};

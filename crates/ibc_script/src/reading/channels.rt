@@ -1,6 +1,6 @@
 //! The steps that send messages for channels.
 
-ghost use Rattle.std.specs.Prelude.{◌≡◌, ◌<◌, length, IfOk, IfErr};
+ghost use Rattle.std.specs.Prelude.{◌<◌, length, IfOk, IfErr};
 ghost use Rattle.ibc_script.specs.Faults.{IsScriptFault};
 ghost use Rattle.ibc_script.specs.Scripts.{IsChannelAmong};
 

@@ -1,6 +1,6 @@
 //! The members of a step.
 
-ghost use Rattle.std.specs.Prelude.{◌≡◌, ◌≢◌, ◌≤◌, ◌<◌, length, IfOk, IfErr};
+ghost use Rattle.std.specs.Prelude.{◌≢◌, ◌≤◌, ◌<◌, length, IfOk, IfErr};
 ghost use Rattle.ibc_script.specs.Faults.{IsScriptFault};
 
 use super::parse_name;

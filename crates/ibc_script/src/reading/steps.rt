@@ -1,6 +1,6 @@
 //! The steps of a script.
 
-ghost use Rattle.std.specs.Prelude.{◌≡◌, ◌≤◌, ◌<◌, length, All, IfOk, IfErr};
+ghost use Rattle.std.specs.Prelude.{◌≤◌, ◌<◌, length, All, IfOk, IfErr};
 ghost use Rattle.ibc_script.specs.Faults.{IsScriptFault};
 ghost use Rattle.ibc_script.specs.Scripts.{IsAmong, IsDraftAmong};
 

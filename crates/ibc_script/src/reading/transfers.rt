@@ -1,6 +1,6 @@
 //! The steps that send tokens.
 
-ghost use Rattle.std.specs.Prelude.{◌≡◌, length, IfOk, IfErr, IsTrue};
+ghost use Rattle.std.specs.Prelude.{length, IfOk, IfErr, IsTrue};
 ghost use Rattle.ibc_wire.specs.Tokens.{is_listed};
 ghost use Rattle.ibc_script.specs.Faults.{IsScriptFault};
 ghost use Rattle.ibc_script.specs.Scripts.{IsPacketAmong};

@@ -1,6 +1,6 @@
 //! How proofs are spelled.
 
-ghost use Rattle.std.specs.Prelude.{◌≡◌, ◌∷◌, length};
+ghost use Rattle.std.specs.Prelude.{◌∷◌, length};
 ghost use Rattle.std.specs.List.{flat_map};
 ghost use Rattle.ibc_wire.specs.Fields.{count_between};
 ghost use Rattle.ibc_wire.specs.Spelling.{operation_fields, presence_fields, neighbour_fields, proof_fields};

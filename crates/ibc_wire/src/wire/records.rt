@@ -1,9 +1,9 @@
 //! How the records of clients, connections and channels are spelled.
 
-ghost use Rattle.std.specs.Prelude.{◌≡◌, ◌==◌, ◌∷◌, [], codes};
-ghost use Rattle.ibc_wire.specs.Fields.{one_byte, str};
+ghost use Rattle.std.specs.Prelude.{◌==◌, ◌∷◌, [], codes};
+ghost use Rattle.ibc_wire.specs.Fields.{one_byte};
 ghost use Rattle.ibc_wire.specs.Spelling.{client_state_fields, connection_end_fields, channel_end_fields, connection_state_number, channel_state_number, order_number};
-ghost use Rattle.ibc_wire.specs.Fronts.{Gives, Writes, coded_at_front, same_at_front};
+ghost use Rattle.ibc_wire.specs.Fronts.{Gives, coded_at_front, same_at_front};
 ghost use Rattle.ibc_wire.specs.RecordFronts.{client_state_at_front, connection_end_at_front, channel_end_at_front, connection_state_of, channel_state_of, order_of};
 
 use crate::fields::{

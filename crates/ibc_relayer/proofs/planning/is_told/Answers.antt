@@ -6,7 +6,7 @@ use Rattle.ibc_ids.specs.Texts.{text_cmp}
 use Rattle.ibc_ids.specs.Maps.{at}
 use Rattle.ibc_machine.specs.chain.Records.{is_one_of}
 use Rattle.ibc_records.proofs.Knowing.{is_key_of}
-use Rattle.ibc_relayer.proofs.Plans.{told}
+use Rattle.ibc_relayer.proofs.PlannedMessages.{told}
 use Rattle.ibc_relayer.proofs.planning.is_told.Goals as goal
 
 pub returns-then-contains_key : goal.returns-then-contains_key

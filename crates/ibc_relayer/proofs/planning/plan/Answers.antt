@@ -1,6 +1,6 @@
 -- The plan is the updates of clients and then what is pending.
 use Rattle.std.proofs.Common.{◌≡◌, ◌++◌, ◌∙◌, ◌<◌, sym, arith}
-use Rattle.ibc_relayer.proofs.Plans.{no_plan, plan_is}
+use Rattle.ibc_relayer.proofs.PlannedMessages.{no_plan, plan_is}
 use Rattle.ibc_relayer.proofs.planning.plan.Goals as goal
 
 pub returns-then-height-eq0-clause-ok : goal.returns-then-height-eq0-clause-ok

@@ -2,7 +2,7 @@
 use Rattle.std.proofs.Common.{rules, ◌≡◌, ◌∙◌, ◌||◌, ◌&&◌, true, is_some, sym, ap}
 use Rattle.ibc_ids.specs.Texts.{Text, text_cmp, same_text}
 use Rattle.ibc_ids.specs.Maps.{Map, at, with}
-use Rattle.ibc_relayer.proofs.Plans.{used_more}
+use Rattle.ibc_relayer.proofs.PlannedMessages.{used_more}
 use Rattle.ibc_relayer.proofs.planning.plan_end.Goals as goal
 
 pub returns-clause-used : goal.returns-clause-used

@@ -12,7 +12,7 @@ use Rattle.ibc_machine.proofs.FiniteMaps.{pair_cmp_total}
 use Rattle.ibc_machine.proofs.SortedMaps.{Sorted-from}
 use Rattle.ibc_relayer.specs.EndPairs.{IsEndPair, IsFoundEndPair}
 use Rattle.ibc_relayer.specs.UsedClients.{is_over_client}
-use Rattle.ibc_relayer.proofs.Plans.{one_end, one_used, same_messages, same_over, each_there}
+use Rattle.ibc_relayer.proofs.PlannedMessages.{one_end, one_used, same_messages, same_over, each_there}
 use Rattle.ibc_relayer.proofs.planning.plan_packets.Goals as goal
 
 pub loop-port-init : goal.loop-port-init

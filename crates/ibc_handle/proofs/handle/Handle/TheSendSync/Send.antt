@@ -1,5 +1,4 @@
 -- What a handle holds may go to another thread, where the value may.
-use Prim.Native.Nat.{ℕ}
 use mir.Raw.{raw}
 use base.Shift.{Keyless}
 use denote.Memory.{lone}
