@@ -1,5 +1,5 @@
 //! The table as its callers see it.
-ghost use Rattle.std.specs.Prelude.{◌+◌, ◌<◌, ◌≤◌, [], ◌∷◌, ◌++◌, Some, None, IfOk, IfErr, IfSome, IfNone, IsSome, OnOk, OnSome, slice_index, slice_get, IsOkUnless};
+ghost use Rattle.std.specs.Prelude.{◌≡◌, ◌+◌, ◌<◌, ◌≤◌, [], ◌∷◌, ◌++◌, Some, None, IfOk, IfErr, IfSome, IfNone, IsSome, OnOk, OnSome, slice_index, slice_get, IsOkUnless};
 ghost use mathlib.Core.List.{IsPrefix};
 ghost use Rattle.ibc_ids.specs.declared.refusal.Refusal.TheVariants.{NoMemory, TableFull};
 ghost use Rattle.ibc_ids.specs.declared.publication.Publication.{Publication};
