@@ -19,6 +19,7 @@ use Rattle.ibc_c.specs.declared.history.ReplyCode.{ReplyCode}
 use Rattle.ibc_c.specs.CallAnswers.{Answer}
 use Rattle.ibc_c.specs.Handles.{IsWritten}
 use Rattle.ibc_c.specs.Reads.{IsSpelling}
+use Rattle.ibc_machine.specs.declared.reply.Effect.{Effect}
 
 -- ---- lengths
 
