@@ -14,6 +14,8 @@ top=$PWD
 
 parts=(
     "tools/statements"
+    "tools/house --gate"
+    "tools/frozen --selftest"
     "rt ci"
     "tools/check_statuses"
     "tools/check_cases"
