@@ -40,7 +40,10 @@ def theorem():
 
 def printed():
     """Each line of the README's first run that the program doesn't print, in its order."""
-    left = iter(text_of(PRINTED).split("\n"))
+    lines = text_of(PRINTED).strip("\n").split("\n")
+    if f"of {len(lines)} lines" not in text_of("README.md"):
+        yield f"README.md: the first run prints {len(lines)} lines ({PRINTED})"
+    left = iter(lines)
     block = next(it for it in code_blocks(text_of("README.md")) if it.startswith("$ ./run.sh"))
     for line in block.split("\n")[1:]:
         if line != ".." and line not in left:
