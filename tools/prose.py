@@ -35,13 +35,13 @@ def blocks(text):
 def plain(block):
     """A block without the marks of links and stress; code counts as one word."""
     block = re.sub(r"\[([^\]]*)\]\([^)]*\)", r"\1", block)
-    block = re.sub(r"`[^`]*`", "code", block)
+    block = re.sub(r"`[^`]*`", "Code", block)
     return re.sub(r"[*_]{1,2}", "", block)
 
 
 def sentences(block):
     """The sentences of a block."""
-    return [it for it in re.split(r"(?<=[.!?])[)\"']*\s+(?=[A-Z0-9(\"'c])", plain(block)) if it.strip()]
+    return [it for it in re.split(r"(?<=[.!?])[)\"']*\s+(?=[A-Z0-9(\"'])", plain(block)) if it.strip()]
 
 
 def length(text):
