@@ -3,7 +3,8 @@ import os
 import re
 
 import prose
-from counts import ROOT, THEOREM, all_counts, definitions, wrong_numbers
+from counts import THEOREM, all_counts, definitions, wrong_numbers
+from crates import ROOT, uses
 
 # The pages whose numbers are compared with what is counted.
 COUNTED = ("README.md", "docs/READING.md", "docs/TRUST.md", "docs/PROVED.md")
@@ -58,6 +59,14 @@ def reading():
     yield from (f"docs/READING.md: {it} isn't behind the theorem" for it in listed if it not in files)
 
 
+def libraries():
+    """Each library of the kit that a crate names, and that TRUST doesn't."""
+    found = uses()
+    for name in sorted({it for names in found.values() for it in names if it not in found}):
+        if f"`{name}`" not in text_of("docs/TRUST.md"):
+            yield f"docs/TRUST.md: the library {name} of the kit isn't named"
+
+
 def sentences():
     """Each sentence that is too long, in the pages that a reader meets first."""
     for page in prose.MEASURED:
@@ -67,7 +76,7 @@ def sentences():
 
 def faults():
     """All of it."""
-    for part in (numbers, theorem, printed, reading, sentences):
+    for part in (numbers, theorem, printed, reading, libraries, sentences):
         yield from part()
 
 
