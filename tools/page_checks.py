@@ -81,7 +81,9 @@ def faults():
 
 
 def lengths():
-    """A line for each page that is measured: its longest sentence and its longest cell."""
+    """A line for each page that is measured: its longest sentence and its longest cell. And one for the words of all pages."""
     for page in prose.MEASURED:
         text = text_of(page)
         yield f"{page}: longest sentence {prose.longest_sentence(text)[0]} words, longest cell {prose.longest_cell(text)[0]}"
+    pages = ["README.md", *(f"docs/{it}" for it in sorted(os.listdir(f"{ROOT}/docs")) if it.endswith(".md"))]
+    yield f"the README and the {len(pages) - 1} pages of docs have {sum(len(text_of(it).split()) for it in pages):,} words"
