@@ -14,6 +14,7 @@ top=$PWD
 
 parts=(
     "tools/statements"
+    "tools/refusals --check"
     "rt ci"
     "tools/check_statuses"
     "tools/check_cases"
@@ -29,6 +30,7 @@ parts=(
 beside="tools/try_edits"
 quick_parts=(
     "tools/statements"
+    "tools/refusals --check"
     "rt ci"
 )
 
