@@ -15,6 +15,7 @@ top=$PWD
 parts=(
     "tools/statements"
     "tools/refusals --check"
+    "tools/check_rules"
     "rt ci"
     "tools/check_statuses"
     "tools/check_cases"
@@ -31,6 +32,7 @@ beside="tools/try_edits"
 quick_parts=(
     "tools/statements"
     "tools/refusals --check"
+    "tools/check_rules"
     "rt ci"
 )
 
