@@ -32,7 +32,6 @@ beside="tools/try_edits"
 quick_parts=(
     "tools/statements"
     "tools/refusals --check"
-    "tools/check_rules"
     "rt ci"
 )
 
