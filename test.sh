@@ -16,6 +16,8 @@ parts=(
     "tools/statements"
     "tools/house --gate"
     "tools/frozen --selftest"
+    "tools/refusals --check"
+    "tools/check_rules"
     "rt ci"
     "tools/trust LOG"
     "tools/check_statuses"
@@ -33,6 +35,7 @@ parts=(
 beside="tools/try_edits"
 quick_parts=(
     "tools/statements"
+    "tools/refusals --check"
     "rt ci"
     "tools/trust LOG"
 )
