@@ -133,7 +133,10 @@ fn made_and_taken<R: Wait, W: WorldBrand>(
     requires { HasItsBook W.table W.genesis W.book (ledger, opened) }
 {
     match Chain::new(rt, ledger, opened, board) {
-        Ok(chain) => chain.into_ledger(&[], &[]),
+        Ok(chain) => {
+            let (_, reading) = chain.view();
+            chain.into_ledger(&[], &[reading])
+        }
         Err((_, ledger)) => ledger,
     }
 }

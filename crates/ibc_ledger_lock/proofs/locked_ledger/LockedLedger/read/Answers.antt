@@ -6,11 +6,11 @@ use Rattle.ibc_ledger_lock.proofs.locked_ledger.LockedLedger.read.Goals as goal
 
 pub invariant_of-result : goal.invariant_of-result
 invariant_of-result g c =
-    ap (λ (m : BookPlace). m.book) c.mark.ensures ∙ c.self.invariant.2 ∙ ap g.W.World.book (sym c.chain.ensures)
+    ap (λ (m : BookPlace). m.book) c.mark.ensures ∙ c.self.invariant.2 ∙ ap g.W.WorldBrand.book (sym c.chain.ensures)
 
 pub returns : goal.returns
 returns g c =
     let i = c.self.invariant in
-    ap (λ (m : BookPlace). ledger_as g.W.World.table g.W.World.genesis c.chain.result m.known) c.mark.ensures
-    ∙ ap (ledger_as g.W.World.table g.W.World.genesis c.chain.result) i.3
-    ∙ as_read g.W.World.table g.W.World.genesis c.chain.result c.self.inside.ledger i.0 i.1 c.chain.ensures ∙ c.self.view_is
+    ap (λ (m : BookPlace). ledger_as g.W.WorldBrand.table g.W.WorldBrand.genesis c.chain.result m.known) c.mark.ensures
+    ∙ ap (ledger_as g.W.WorldBrand.table g.W.WorldBrand.genesis c.chain.result) i.3
+    ∙ as_read g.W.WorldBrand.table g.W.WorldBrand.genesis c.chain.result c.self.inside.ledger i.0 i.1 c.chain.ensures ∙ c.self.view_is

@@ -20,13 +20,13 @@ invariant_of-self g c =
     let i = c.self.invariant in
     let old = c.self.inside.ledger.ledger in
     let stays = same old c.apply-reply.new.self.ledger (event.Message old.chain c.args.message) c.apply-reply.result c.apply-reply.ensures.adds in
-    (c.apply-reply.ensures.table ∙ i.0, stays.1 ∙ i.1, c.note-mark.ensures.keeper.0 ∙ i.2 ∙ ap g.W.World.book (sym stays.0), c.note-mark.ensures.keeper.1)
+    (c.apply-reply.ensures.table ∙ i.0, stays.1 ∙ i.1, c.note-mark.ensures.keeper.0 ∙ i.2 ∙ ap g.W.WorldBrand.book (sym stays.0), c.note-mark.ensures.keeper.1)
 
 pub invariant_of-result : goal.invariant_of-result
 invariant_of-result g c =
     let old = c.self.inside.ledger.ledger in
-    (says old c.apply-reply.new.self.ledger (event.Message old.chain c.args.message) c.apply-reply.result c.chain-chain.result (g.W.World.book c.chain-chain.result) c.note-mark.result c.claimed.result
-    (ap (λ (m : BookPlace). m.book) c.note-mark.ensures.mark ∙ c.note-mark.ensures.keeper.0 ∙ c.self.invariant.2 ∙ ap g.W.World.book (sym c.chain-chain.ensures))
+    (says old c.apply-reply.new.self.ledger (event.Message old.chain c.args.message) c.apply-reply.result c.chain-chain.result (g.W.WorldBrand.book c.chain-chain.result) c.note-mark.result c.claimed.result
+    (ap (λ (m : BookPlace). m.book) c.note-mark.ensures.mark ∙ c.note-mark.ensures.keeper.0 ∙ c.self.invariant.2 ∙ ap g.W.WorldBrand.book (sym c.chain-chain.ensures))
     (ap (λ (m : BookPlace). m.known) c.note-mark.ensures.mark ∙ c.note-mark.ensures.keeper.1)
     c.apply-reply.ensures.adds c.claimed.ensures.nothing c.claimed.ensures.one).2
 
@@ -34,8 +34,8 @@ pub returns-clause-told : goal.returns-clause-told
 returns-clause-told g c =
     let old = c.self.inside.ledger.ledger in
     subst (λ (h : LedgerModel). IsReceiptOf (event.Message h.ledger.chain c.args.message) (record { chain = c.chain-chain.result; reply = c.apply-reply.result; claim = claims c.claimed.result })) c.self.view_is
-    (says old c.apply-reply.new.self.ledger (event.Message old.chain c.args.message) c.apply-reply.result c.chain-chain.result (g.W.World.book c.chain-chain.result) c.note-mark.result c.claimed.result
-    (ap (λ (m : BookPlace). m.book) c.note-mark.ensures.mark ∙ c.note-mark.ensures.keeper.0 ∙ c.self.invariant.2 ∙ ap g.W.World.book (sym c.chain-chain.ensures))
+    (says old c.apply-reply.new.self.ledger (event.Message old.chain c.args.message) c.apply-reply.result c.chain-chain.result (g.W.WorldBrand.book c.chain-chain.result) c.note-mark.result c.claimed.result
+    (ap (λ (m : BookPlace). m.book) c.note-mark.ensures.mark ∙ c.note-mark.ensures.keeper.0 ∙ c.self.invariant.2 ∙ ap g.W.WorldBrand.book (sym c.chain-chain.ensures))
     (ap (λ (m : BookPlace). m.known) c.note-mark.ensures.mark ∙ c.note-mark.ensures.keeper.1)
     c.apply-reply.ensures.adds c.claimed.ensures.nothing c.claimed.ensures.one).0
 
@@ -43,7 +43,7 @@ pub returns-clause-place : goal.returns-clause-place
 returns-clause-place g c =
     let old = c.self.inside.ledger.ledger in
     subst (λ (h : LedgerModel). IfSome (claims c.claimed.result) (λ x. x.place ≡ length h.ledger.history)) c.self.view_is
-    (says old c.apply-reply.new.self.ledger (event.Message old.chain c.args.message) c.apply-reply.result c.chain-chain.result (g.W.World.book c.chain-chain.result) c.note-mark.result c.claimed.result
-    (ap (λ (m : BookPlace). m.book) c.note-mark.ensures.mark ∙ c.note-mark.ensures.keeper.0 ∙ c.self.invariant.2 ∙ ap g.W.World.book (sym c.chain-chain.ensures))
+    (says old c.apply-reply.new.self.ledger (event.Message old.chain c.args.message) c.apply-reply.result c.chain-chain.result (g.W.WorldBrand.book c.chain-chain.result) c.note-mark.result c.claimed.result
+    (ap (λ (m : BookPlace). m.book) c.note-mark.ensures.mark ∙ c.note-mark.ensures.keeper.0 ∙ c.self.invariant.2 ∙ ap g.W.WorldBrand.book (sym c.chain-chain.ensures))
     (ap (λ (m : BookPlace). m.known) c.note-mark.ensures.mark ∙ c.note-mark.ensures.keeper.1)
     c.apply-reply.ensures.adds c.claimed.ensures.nothing c.claimed.ensures.one).1
