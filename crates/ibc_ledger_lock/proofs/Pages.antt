@@ -26,6 +26,9 @@ begins_itself all = (prefix_self all.history, prefix_self all.seen)
 pub begins_on : (a b c : KnownLedger) → IsKnownBeginning a b → IsKnownBeginning b c → IsKnownBeginning a c
 begins_on a b c p q = (prefix_on a.history b.history c.history p.0 q.0, prefix_on a.seen b.seen c.seen p.1 q.1)
 
+pub nothing_begins : (all : KnownLedger) → IsKnownBeginning nothing_known all
+nothing_begins all = ((all.history, refl), (all.seen, refl))
+
 -- ---- words at home
 
 abbrev IsHome : List Cell → ℕ → Type 0
@@ -122,8 +125,7 @@ pub found : (cells : List Cell) (keeper mark all : List Page) (used : ℕ) → (
 found cells [] mark all used begun key pre marked is unused = absurd (begun refl)
 found cells (p ∷ keeper) mark [] used begun key pre marked is unused = absurd (cc (pre.1))
 found cells (p ∷ keeper) [] (q ∷ all) used begun key pre marked is unused =
-    let known = known_after p.known keeper in
-    ((known.history, refl), (known.seen, refl))
+    nothing_begins (known_after p.known keeper)
 found cells (p ∷ keeper) (r ∷ mark) (q ∷ all) used begun key pre marked is unused =
     let first : p ≡ q = cc (pre.1) in
     let rest = whole keeper all used q.next (pre.0, cc (pre.1)) (ap (λ (x : Page). key_after x.next keeper) (sym first) ∙ sym key) (unused q all refl) in
@@ -176,6 +178,9 @@ either_way : (b : Bool) (X : Type 0) → X → MatchBool b X ⊤
 either_way true X x = x
 either_way false X x = tt
 
+no_begin : (X : Type 0) (head : Cell) → head ≡ (1, true) → MatchBool (head.0 == 0) X ⊤
+no_begin X head is = subst (λ (c : Cell). MatchBool (c.0 == 0) X ⊤) (sym is) tt
+
 pub begins_moves : (v : List Page) (ask : Page)
     → Moves IsBook shown moved 0 (v, (no_nib, None)) once (Begins (step 0 0 1 ask) (v, (no_nib, None)))
 begins_moves v ask cells [] is pre away =
@@ -202,7 +207,7 @@ begins_moves v ask cells (p ∷ pages) is pre away =
     ) in (
       is.0,
       ap (λ (c : Cell). c.1) is.1,
-      (keeps, [], None, tt, no_more put (p ∷ pages) same, inl (refl, refl), subst (λ (c : Cell). MatchBool (c.0 == 0) _ ⊤) (sym is.1) tt),
+      (keeps, [], None, tt, no_more put (p ∷ pages) same, inl (refl, refl), no_begin _ (cell cells 0) is.1),
     )
 
 pub gives_moves : (v : List Page) (ask : Page)

@@ -9,11 +9,13 @@ use Rattle.ibc_ledger_lock.proofs.Claims.{claims, says}
 use Rattle.ibc_ledger_lock.proofs.Noting.{goes_on, same}
 use Rattle.ibc_ledger_lock.proofs.locked_ledger.LockedLedger.produce.Goals as goal
 
-pub note-mark-requires-clause-later : goal.note-mark-requires-clause-later
-note-mark-requires-clause-later g c =
+pub note-mark-requires : goal.note-mark-requires
+note-mark-requires g c =
     let old = c.self.inside.ledger.ledger in
-    subst (λ (known : KnownLedger). IsKnownBeginning known (known_of c.ended-reply.new.ledger.ledger)) (sym c.self.invariant.3)
-    (goes_on old c.ended-reply.new.ledger.ledger (event.Block old.chain c.args.next_time) c.ended-reply.result c.ended-reply.ensures.adds)
+    record {
+      later = subst (λ (known : KnownLedger). IsKnownBeginning known (known_of c.ended-reply.new.ledger.ledger)) (sym c.self.invariant.3)
+          (goes_on old c.ended-reply.new.ledger.ledger (event.Block old.chain c.args.next_time) c.ended-reply.result c.ended-reply.ensures.adds);
+    }
 
 pub invariant_of-self : goal.invariant_of-self
 invariant_of-self g c =

@@ -9,11 +9,13 @@ use Rattle.ibc_ledger_lock.proofs.Claims.{claims, says}
 use Rattle.ibc_ledger_lock.proofs.Noting.{goes_on, same}
 use Rattle.ibc_ledger_lock.proofs.locked_ledger.LockedLedger.submit.Goals as goal
 
-pub note-mark-requires-clause-later : goal.note-mark-requires-clause-later
-note-mark-requires-clause-later g c =
+pub note-mark-requires : goal.note-mark-requires
+note-mark-requires g c =
     let old = c.self.inside.ledger.ledger in
-    subst (λ (known : KnownLedger). IsKnownBeginning known (known_of c.apply-reply.new.self.ledger)) (sym c.self.invariant.3)
-    (goes_on old c.apply-reply.new.self.ledger (event.Message old.chain c.args.message) c.apply-reply.result c.apply-reply.ensures.adds)
+    record {
+      later = subst (λ (known : KnownLedger). IsKnownBeginning known (known_of c.apply-reply.new.self.ledger)) (sym c.self.invariant.3)
+          (goes_on old c.apply-reply.new.self.ledger (event.Message old.chain c.args.message) c.apply-reply.result c.apply-reply.ensures.adds);
+    }
 
 pub invariant_of-self : goal.invariant_of-self
 invariant_of-self g c =
