@@ -3,10 +3,9 @@ use Rattle.std.proofs.Common.{◌≡◌, ◌∙◌, ◌++◌, ◌∷◌, [], Lis
 use Rattle.std.specs.List.{AllByRecursion, last_or}
 use Rattle.std.proofs.lemmas.Bool.{false≢true}
 use Rattle.std.proofs.lemmas.Option.{slice_get-map}
-use Rattle.ibc_ids.specs.declared.publication.Publication.{Publication}
 use Rattle.ibc_machine.specs.chain.Genesis.{GenesisState, start, starting_chain, empty_core}
 use Rattle.ibc_machine.specs.chain.Records.{Block, MachineChain}
-use Rattle.ibc_machine.specs.ics18.Relay.{View, view_at, view_of}
+use Rattle.ibc_machine.specs.ics18.Relay.{view_at, view_of}
 use Rattle.ibc_machine.specs.ledger.Ledgers.{Ledger, IsLedger, IsOwnEntry, is_accepted_block, is_block_reply, state_of}
 use Rattle.ibc_machine.specs.ledger.Replay.{LedgerState, StampedEntry, empty_chain, entry_answer, met_states, replay, starting_state}
 use Rattle.ibc_refinement.proofs.ChangedPlaces.{get_there}
@@ -15,7 +14,7 @@ use Rattle.ibc_refinement.proofs.EntrySteps.{answer_commits, own_typed}
 use Rattle.ibc_refinement.proofs.MergedRun.{typed_start}
 use Rattle.ibc_refinement.proofs.SeenMore.{replay_stays}
 use Rattle.ibc_refinement.proofs.Typed.{IsTyped}
-use Rattle.ibc_ledger_lock.specs.ReceiptsAndReadings.{HasShown, IsEarlier, ends_a_block, state_after}
+use Rattle.ibc_ledger_lock.specs.ReceiptsAndReadings.{HasShown, IsEarlier, ends_a_block}
 
 -- what is shown stays, where the working block goes on
 same_view : (k : ℕ) (old new : MachineChain) → new.time ≡ old.time → new.committed ≡ old.committed → view_of k new ≡ view_of k old

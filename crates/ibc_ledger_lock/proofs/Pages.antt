@@ -1,10 +1,10 @@
 -- Each step keeps the book.
-use Rattle.std.proofs.Common.{◌≡◌, ◌≢◌, ◌<◌, ◌==◌, ℕ, zero, suc, Bool, List, [], ◌∷◌, ◌++◌, set, length, true, false, true≢false, refl, sym, ap, ◌∙◌, append_assoc, subst, arith, inl, None, Option}
+use Rattle.std.proofs.Common.{◌≡◌, ◌≢◌, ◌<◌, ◌==◌, ℕ, zero, suc, Bool, List, [], ◌∷◌, ◌++◌, set, length, true, false, true≢false, refl, sym, ap, ◌∙◌, append_assoc, subst, arith, inl, None}
 use Rattle.std.specs.Prelude.{⊤, MatchBool}
 use Rattle.std.proofs.lemmas.List.{append-nil, get_or-set_other, length-set}
 use mathlib.Core.List.{IsPrefix}
 use prog.Atomic.{either}
-use Rattle.logbook.specs.Pages.{Cell, Nib, cell, nib, no_nib, may_make, may_write, keeps, gives, adds, step, Moves, Goes}
+use Rattle.logbook.specs.Pages.{Cell, Nib, cell, no_nib, may_write, keeps, gives, adds, step, Moves}
 use Rattle.ibc_ledger_lock.specs.KnownLedgers.{KnownLedger, nothing_known}
 use Rattle.ibc_ledger_lock.specs.declared.book.Page.{Page}
 use Rattle.ibc_ledger_lock.specs.Books.{IsKnownBeginning, first_page, key_after, known_after, key_in, known_in, AreWritten, IsBook, IsUnused, Begins, GivesPen, Writes, FindsUnused}

@@ -185,7 +185,9 @@ impl UnusedBook {
         let mut seen = seen;
         let head = Word::tracked(0, &mut first);
         let mut pen = seen.no_pen();
-        let mut offer: Offer<Page, (), OneKeeper, NoTrade> = seen.plain::<NoTrade, (), NoTrade>(&());
+        let mut offer: Offer<Page, (), OneKeeper, NoTrade> = seen.plain::<NoTrade, (), NoTrade>(
+            &(),
+        );
         let found = head.compare_exchange::<Begin, NoTrade>(0, 1, &mut seen, &mut offer, &mut pen);
         if found != 0 {
             return None;
@@ -234,8 +236,11 @@ impl Keeper {
     {
         let mut both = self.seen.again();
         both.learn(&mark.seen);
-        let mut offer: Offer<Page, (), OneKeeper, NoTrade> = both.plain::<NoTrade, (), NoTrade>(&());
-        self.head.compare_exchange::<FindUnused, NoTrade>(1, 1, &mut both, &mut offer, &mut self.pen);
+        let mut offer: Offer<Page, (), OneKeeper, NoTrade> = both.plain::<NoTrade, (), NoTrade>(
+            &(),
+        );
+        self.head
+            .compare_exchange::<FindUnused, NoTrade>(1, 1, &mut both, &mut offer, &mut self.pen);
     }
 
     // A pen with which no page was written yet.
@@ -244,8 +249,11 @@ impl Keeper {
     {
         let mut seen = self.seen.again();
         let mut pen = seen.no_pen();
-        let mut offer: Offer<Page, (), OneKeeper, NoTrade> = seen.plain::<NoTrade, (), NoTrade>(&());
-        self.head.compare_exchange::<GivePen, NoTrade>(1, 1, &mut seen, &mut offer, &mut pen);
+        let mut offer: Offer<Page, (), OneKeeper, NoTrade> = seen.plain::<NoTrade, (), NoTrade>(
+            &(),
+        );
+        self.head
+            .compare_exchange::<GivePen, NoTrade>(1, 1, &mut seen, &mut offer, &mut pen);
         make_word(&mut pen);
         pen
     }
@@ -257,8 +265,11 @@ impl Keeper {
         requires later { IsKnownBeginning self.old.known (known_of ledger.now.ledger) }
         ensures { (self.new.book ≡ self.old.book) × (self.new.known ≡ known_of ledger.now.ledger) }
     {
-        let mut offer: Offer<Page, (), OneKeeper, NoTrade> = self.seen.plain::<NoTrade, (), NoTrade>(&());
-        self.head.compare_exchange::<Write<X>, NoTrade>(1, 1, &mut self.seen, &mut offer, &mut self.pen);
+        let mut offer: Offer<Page, (), OneKeeper, NoTrade> = self
+            .seen
+            .plain::<NoTrade, (), NoTrade>(&());
+        self.head
+            .compare_exchange::<Write<X>, NoTrade>(1, 1, &mut self.seen, &mut offer, &mut self.pen);
         self.pen = next;
     }
 }

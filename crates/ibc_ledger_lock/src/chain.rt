@@ -222,11 +222,7 @@ impl<W: WorldBrand> Chain<W> {
 
     /// The ledger, which is of the world's table and genesis. What each receipt of its chain's number claims is so: it has
     /// that event with that reply at the place. And it was once as each reading of its chain's number has it.
-    pub fn into_ledger(
-        self,
-        receipts: &[Receipt<W>],
-        readings: &[LedgerReading<W>],
-    ) -> Ledger
+    pub fn into_ledger(self, receipts: &[Receipt<W>], readings: &[LedgerReading<W>]) -> Ledger
         ensures world { IsOfWorld W.table W.genesis result }
         ensures held { All (ClaimHoldsOnItsChain result) receipts.now }
         ensures once { All (IsEarlierOnItsChain result) readings.now }

@@ -1,4 +1,4 @@
-use Rattle.std.proofs.Common.{◌≡◌, ◌∙◌, List, sym, ap, subst}
+use Rattle.std.proofs.Common.{◌∙◌, List, sym, ap, subst}
 use mathlib.Core.List.{IsPrefix}
 use Rattle.ibc_ledger_lock.specs.Books.{BookPlace, IsKnownBeginning, known_in}
 use Rattle.ibc_ledger_lock.specs.declared.book.Page.{Page}

@@ -1,8 +1,7 @@
-use Rattle.std.proofs.Common.{◌≡◌, ◌∙◌, ◌∷◌, ◌++◌, [], List, ℕ, sym, ap, subst, refl, true}
+use Rattle.std.proofs.Common.{◌≡◌, ◌∙◌, ◌∷◌, ◌++◌, [], sym, ap, subst, true}
 use Rattle.ibc_ledger_lock.specs.KnownLedgers.{KnownLedger}
 use Rattle.ibc_ledger_lock.specs.Books.{BookPlace, IsKnownBeginning, key_in, known_in}
 use Rattle.ibc_ledger_lock.specs.ReceiptsAndReadings.{known_of}
-use Rattle.ibc_ledger_lock.specs.declared.book.Page.{Page}
 use Rattle.ibc_ledger_lock.proofs.Pages.{writes_moves, key_last, known_last, not_none}
 use Rattle.ibc_ledger_lock.proofs.book.Keeper.write.Goals as goal
 
