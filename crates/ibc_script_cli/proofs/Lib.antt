@@ -1,3 +1,4 @@
 pub mod AskedWords
-mod MadeKinds
 mod PrintedLines
+pub mod Reaching
+pub mod Writing

@@ -3,7 +3,6 @@
 
 mod chains;
 mod completing;
-mod heights;
 mod line;
 mod opening;
 mod printing;
@@ -13,7 +12,7 @@ mod runner;
 mod streams;
 mod words;
 
-pub use chains::{Chains, EndedBlock, Holdings};
+pub use chains::{Chains, CommittedBlock, Holdings};
 pub use line::{Line, line_text};
 pub use program::{Races, Worlds, drive};
 pub use racing::{Race, RaceAudit};

@@ -4,10 +4,9 @@ ghost use Rattle.std.specs.Prelude.{⊤, ◌≡◌, ◌⊎◌, ◌<◌, ◌≤�
 ghost use Rattle.ibc_script.specs.Faults.{IsRunFault, IsScriptFault};
 ghost use Rattle.ibc_script_cli.specs.Words.{are_words};
 
-use crate::heights::{CommittedHeights, heights_at};
-use crate::printing::print_audited;
+use crate::printing::{print_balances, print_notes};
 use crate::runner::Runner;
-use crate::{Chains, Command, Holdings, Race, RaceAudit, read_input, read_words};
+use crate::{Command, Holdings, Race, RaceAudit, read_input, read_words};
 use ibc_ids::Refusal;
 use ibc_machine::Genesis;
 use ibc_script::{ChainName, Fault, Script, read_script};
@@ -17,7 +16,7 @@ use std::io::{Read, Write};
 /// What makes the chains that a script is run on.
 pub trait Worlds {
     /// The chains that are made.
-    type Chains: Chains + Holdings + Drop;
+    type Chains: Holdings + Drop;
 
     /// The chains of a genesis in the beginning. Refused: `BadMessage` where no chains begin so; `NoMemory`.
     fn begin(&self, genesis: &Genesis) -> Result<Self::Chains, Refusal>;
@@ -65,32 +64,6 @@ pub fn drive<S: Worlds, Q: Races, R: Read + Drop, W: Write>(
     }
 }
 
-/// What a script begins with: the heights of its chains, none committed yet, and the chains.
-#[derive(Drop)]
-struct StartedScript<C: Chains + Drop> {
-    heights: Vec<CommittedHeights>,
-    chains: C,
-}
-
-/// The beginning of a genesis. Faults: `BadScript` where no chains begin so; `NoMemory`.
-fn begin<S: Worlds>(
-    alloc: Global,
-    worlds: &S,
-    genesis: &Genesis,
-) -> Result<StartedScript<S::Chains>, Fault>
-    ensures one_each { IfOk result (λ begun. length begun.heights.items ≡ length genesis.now.chains.items) }
-    ensures faults { IfErr result IsScriptFault }
-{
-    let heights = heights_at(alloc, genesis)?;
-    match worlds.begin(genesis) {
-        Ok(chains) => Ok(StartedScript { heights, chains }),
-        Err(refusal) => {
-            drop(heights);
-            Err(Fault::of_refusal(refusal))
-        }
-    }
-}
-
 /// Runs a script on the chains of its genesis. Faults: `BadScript` where no chains begin so, and then nothing was
 /// written; `CannotWrite`, `NoMemory`, and then what was written stays written.
 fn run_script<S: Worlds, W: Write>(
@@ -101,18 +74,17 @@ fn run_script<S: Worlds, W: Write>(
 ) -> Result<(), Fault>
     ensures faults { IfErr result (λ fault. IsRunFault fault ⊎ ((fault ≡ Fault.BadScript) × (output.new ≡ output.old))) }
 {
-    match begin(alloc, worlds, &script.genesis) {
-        Ok(beginning) => {
+    match worlds.begin(&script.genesis) {
+        Ok(mut chains) => {
             let Script { names, steps, .. } = script;
-            let StartedScript { heights, chains } = beginning;
-            let mut runner = Runner::new(alloc, names, heights, chains);
-            let ran = runner.run_all(steps, output);
-            drop(runner);
+            let ran = Runner::new(alloc, names.as_slice()).run(&mut chains, steps, output);
+            drop(chains);
+            drop(names);
             flush_after(ran, output)
         }
-        Err(fault) => {
+        Err(refusal) => {
             drop(script);
-            Err(fault)
+            Err(Fault::of_refusal(refusal))
         }
     }
 }
@@ -132,7 +104,7 @@ fn race_script<Q: Races, W: Write>(
 {
     let names: Result<Vec<ChainName>, AllocError> = script.names.clone();
     let race = Race::new(alloc, script);
-    let audited = races.race(relayers, race?)?;
+    let audited = races.race(relayers, race)?;
     print_race(alloc, names?.as_slice(), &audited, output)
 }
 
@@ -146,6 +118,36 @@ fn print_race<W: Write>(
     ensures { IfErr result IsRunFault }
 {
     flush_after(print_audited(alloc, names, audited, output), output)
+}
+
+// Prints what an audit tells: the balances of all chains, and then the notes, in the chains' order.
+fn print_audited<W: Write>(
+    alloc: Global,
+    names: &[ChainName],
+    audited: &RaceAudit,
+    output: &mut W,
+) -> Result<(), Fault>
+    ensures { IfErr result IsRunFault }
+{
+    for (chain, balances) in names.iter().zip(audited.balances.iter()) {
+        print_balances(alloc, chain.as_str(), balances.as_slice(), output)?;
+    }
+    print_audited_notes(alloc, names, audited, output)
+}
+
+// Prints the notes that an audit tells.
+fn print_audited_notes<W: Write>(
+    alloc: Global,
+    names: &[ChainName],
+    audited: &RaceAudit,
+    output: &mut W,
+) -> Result<(), Fault>
+    ensures { IfErr result IsRunFault }
+{
+    for (chain, notes) in names.iter().zip(audited.notes.iter()) {
+        print_notes(alloc, chain.as_str(), notes.as_slice(), output)?;
+    }
+    Ok(())
 }
 
 /// Gives on what the output holds back, also where the run has stopped.
