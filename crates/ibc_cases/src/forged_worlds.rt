@@ -45,6 +45,8 @@ impl<'l> Worlds for ForgedWorlds<'l> {
             ledgers: WorldFactory::new(self.alloc).begin(genesis)?,
         })
     }
+
+    fn lemma_keeps(&self, _chains: &ForgedChains<'l>) {}
 }
 
 // Why a message can't be sent: want of memory, or nothing but that it was spelled so.

@@ -1,4 +1,6 @@
 pub mod AskedWords
 mod PrintedLines
+pub mod Looks
 pub mod Reaching
+pub mod Turns
 pub mod Writing

@@ -1,13 +1,13 @@
 -- Runs of acts, one after another.
 use Rattle.std.proofs.Common.{◌≡◌, ◌∙◌, ℕ, zero, suc, List, [], ◌∷◌, ◌++◌, append_assoc, append-nil, Option, None, Some, Result, Ok, Err, sym, ap, subst, refl, inl, inr, ◌⊎◌}
-use Rattle.std.specs.Io.KnownBytes.{Appends}
+use Rattle.std.specs.Io.KnownBytes.{Appends, Keeps}
 use Rattle.ibc_ids.specs.Texts.{Text}
 use Rattle.ibc_machine.specs.declared.reply.Effect.{Effect}
 use Rattle.ibc_machine.specs.declared.reply.Reply.{Reply}
 use Rattle.ibc_script_cli.specs.Runs.{Act, Does, Reaches, Reached, StopsIn, Runs, RunsTo, IsCut, IsTold, WritesText, given_by, unwritten}
 use Rattle.ibc_script_cli.specs.Runs.Act.{Write}
 use Rattle.ibc_script_cli.specs.ScriptChains.{ScriptChains}
-use Rattle.ibc_script_cli.proofs.Writing.{appends_both, nothing_more}
+use Rattle.ibc_script_cli.proofs.Writing.{appends_both, appends_kept, nothing_more}
 
 module _ {C : Type 0} (chains : ScriptChains C) (names : List Text) where
   abbrev R : ℕ → List Act → C → Text → List Act → C → Type 0
@@ -62,6 +62,24 @@ module _ {C : Type 0} (chains : ScriptChains C) (names : List Text) where
         reached = record { count = all.0; text = first.text ++ r.text; reaches = all.1; appends = appends_both before between after first.text r.text first.appends r.appends };
       }
 
+  -- what was left is done in part
+  pub and_then : {acts : List Act} {old : C} {before : Option Text} {some : List Act} {mid : C} {between : Option Text} {left : List Act} {new : C} {after : Option Text}
+      → Reached chains names acts old before some mid between → Reached chains names some mid between left new after
+      → Reached chains names acts old before left new after
+  and_then {acts} {old} {before} {some} {mid} {between} {left} {new} {after} first second =
+      let all = one_after_another first.count second.count acts old first.text some mid second.text left new first.reaches second.reaches in
+      record { count = all.0; text = first.text ++ second.text; reaches = all.1; appends = appends_both before between after first.text second.text first.appends second.appends }
+
+  -- an output that is kept afterwards
+  pub kept_reached : {acts left : List Act} {old new : C} {before mid after : Option Text} → Reached chains names acts old before left new mid → Keeps mid after
+      → Reached chains names acts old before left new after
+  kept_reached {before = before} {mid = mid} {after = after} r keeps =
+      record { count = r.count; text = r.text; reaches = r.reaches; appends = appends_kept before mid after r.text r.appends keeps }
+
+  pub kept_stopped : {acts : List Act} {old : C} {before mid after : Option Text} → StopsIn chains names acts old before mid → Keeps mid after
+      → StopsIn chains names acts old before after
+  kept_stopped s keeps = record { left = s.left; new = s.new; reached = kept_reached s.reached keeps }
+
   -- one act is done, by which nothing is written
   pub leads : (act : Act) (others next : List Act) {old mid : C} {output : Option Text} → Does chains names act old [] next mid
       → Reached chains names (act ∷ others) old output (next ++ others) mid output
@@ -91,6 +109,14 @@ module _ {C : Type 0} (chains : ScriptChains C) (names : List Text) where
     };
   }
 
+  -- the last acts
+  pub finishes : {T E : Type 0} {acts : List Act} {old : C} {before : Option Text} {mid : C} {between : Option Text} (some : List Act) (result : Result T E) (new : C)
+      (after : Option Text) → Reached chains names acts old before some mid between → Runs chains names some result mid between new after
+      → Runs chains names acts result old before new after
+  finishes some (Ok x) new after first last = and_then first last
+  finishes {acts = acts} {old = old} {before = before} {mid = mid} {between = between} some (Err fault) new after first last =
+      stops_on some [] (subst (λ (l : List Act). Reached chains names acts old before l mid between) (sym (append-nil some)) first) last
+
   -- one act is done, and then what comes in its place
   pub replaced : {act : Act} {old mid new : C} {before after : Option Text} (next : List Act) → Does chains names act old [] next mid
       → Reached chains names next mid before [] new after → Reached chains names (act ∷ []) old before [] new after
@@ -100,16 +126,16 @@ module _ {C : Type 0} (chains : ScriptChains C) (names : List Text) where
       → StopsIn chains names next mid before after → StopsIn chains names (act ∷ []) old before after
   stopped_behind {act} next does rest = stops_on next [] (leads act [] next does) rest
 
-  pub in_its_place : {T E : Type 0} {result : Result T E} {act : Act} {old mid new : C} {before after : Option Text} (next : List Act) → Does chains names act old [] next mid
+  pub in_its_place : {T E : Type 0} (result : Result T E) (act : Act) (old mid new : C) (before after : Option Text) (next : List Act) → Does chains names act old [] next mid
       → Runs chains names next result mid before new after → Runs chains names (act ∷ []) result old before new after
-  in_its_place {result = Ok x} next does runs = replaced next does runs
-  in_its_place {result = Err fault} next does stops = stopped_behind next does stops
+  in_its_place (Ok x) act old mid new before after next does runs = replaced next does runs
+  in_its_place (Err fault) act old mid new before after next does stops = stopped_behind next does stops
 
   -- one act is done, and a text is written for it
-  pub told_text : {T E : Type 0} {result : Result T E} {act : Act} {old mid : C} {before after : Option Text} (text : Text)
+  pub told_text : {T E : Type 0} (result : Result T E) (act : Act) (old mid : C) (before after : Option Text) (text : Text)
       → Does chains names act old [] (Write text ∷ []) mid → WritesText result before after text → Runs chains names (act ∷ []) result old before mid after
-  told_text {result = Ok x} text does has = replaced (Write text ∷ []) does (written text [] has)
-  told_text {result = Err fault} text does part = stopped_behind (Write text ∷ []) does (cut text [] part)
+  told_text (Ok x) act old mid before after text does has = replaced (Write text ∷ []) does (written text [] has)
+  told_text (Err fault) act old mid before after text does part = stopped_behind (Write text ∷ []) does (cut text [] part)
 
   -- an answer is told: the act is done, and what follows it is left
   module _ (asked : Option Reply → C → Type 0) (line : Option Reply → Text) (act : Act) (follows : Option Effect → List Act) (old : C)

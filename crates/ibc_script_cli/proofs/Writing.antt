@@ -1,8 +1,8 @@
 -- What outputs have after one text and another.
-use Rattle.std.proofs.Common.{◌≡◌, ◌∙◌, ℕ, ◌+◌, List, [], ◌++◌, append_assoc, append-nil, Option, None, Some, sym, ap, subst, refl}
+use Rattle.std.proofs.Common.{◌≡◌, ◌∙◌, ℕ, ◌+◌, List, [], ◌++◌, append_assoc, append-nil, Option, None, Some, Result, Ok, Err, sym, ap, subst, refl}
 use Rattle.std.specs.Io.KnownBytes.{Appends, Keeps}
 use Rattle.ibc_ids.specs.Texts.{Text}
-use Rattle.ibc_script_cli.specs.Runs.{IsCut}
+use Rattle.ibc_script_cli.specs.Runs.{IsCut, WritesText}
 
 -- an output that is kept has nothing more
 pub nothing_more : (old : Option Text) → Appends old old []
@@ -47,3 +47,23 @@ module _ (rest : ℕ → Text) where
     ∙ sym (append_assoc done front (left ++ rest (i + 1))),
     appends_both before mid now done front has more,
   )
+
+pub appends_kept : (old mid new : Option Text) (text : Text) → Appends old mid text → Keeps mid new → Appends old new text
+appends_kept None mid new text has keeps = tt
+appends_kept (Some xs) None new text has keeps = absurd has
+appends_kept (Some xs) (Some ys) None text has keeps = absurd keeps
+appends_kept (Some xs) (Some ys) (Some zs) text has keeps = keeps ∙ has
+
+-- ---- texts
+
+-- a part of the front is written
+pub front_cut : (old new : Option Text) (front back : Text) → IsCut old new front → IsCut old new (front ++ back)
+front_cut old new front back (done, rest, is, has) =
+    (done, rest ++ back, ap (λ (t : Text). t ++ back) is ∙ append_assoc done rest back, has)
+
+-- the front is written, and then the back or a part of it
+pub both_written : {T E : Type 0} (result : Result T E) (old mid new : Option Text) (front back : Text) → Appends old mid front → WritesText result mid new back
+    → WritesText result old new (front ++ back)
+both_written (Ok x) old mid new front back first second = appends_both old mid new front back first second
+both_written (Err fault) old mid new front back first (done, rest, is, has) =
+    (front ++ done, rest, ap (λ (t : Text). front ++ t) is ∙ sym (append_assoc front done rest), appends_both old mid new front done first has)

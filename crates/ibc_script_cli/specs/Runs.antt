@@ -253,4 +253,4 @@ asking_acts s = Take s ∷ []
 -- what is done for a script: its steps in turn, and then the balances and the notes of all chains are told
 abbrev pub acts_of : List Step → ℕ → List Act
 acts_of steps chains =
-    map Take steps ++ map TellBalances (range_with_len 0 chains) ++ map TellNotes (range_with_len 0 chains)
+    map Take steps ++ (map TellBalances (range_with_len 0 chains) ++ map TellNotes (range_with_len 0 chains))

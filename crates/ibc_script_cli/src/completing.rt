@@ -1,8 +1,6 @@
 //! The messages of steps are completed from what the chains answer.
 
-ghost use Rattle.std.specs.Prelude.{◌≡◌, Some, IfOk, IfSome, IsOkUnless};
-ghost use Rattle.ibc_wire.specs.Kinds.{kind_of};
-ghost use Rattle.ibc_script.specs.EventKinds.{draft_kind};
+ghost use Rattle.std.specs.Prelude.{Some, IfOk, IsOkUnless};
 ghost use Rattle.ibc_script_cli.specs.Completing.{IsEncoding, IsClaim, IsProofBytesAt, IsClaimAt, IsRecord, MakesMessage, Stands};
 
 mod channels;
@@ -64,7 +62,6 @@ impl<C: Chains + Drop> Completer<'_, C> {
     /// The message that a step of a chain sends, `None` where something that it needs isn't there. Fault: `NoMemory`.
     pub fn complete(&self, on: u8, draft: Draft) -> Result<Option<Message>, Fault>
         ensures made { IfOk result (MakesMessage (C.known.answers self.now.chains.now) on draft) }
-        ensures kind { IfOk result (λ made. IfSome made (λ message. kind_of message ≡ draft_kind draft)) }
         ensures err { IsOkUnless result Fault.NoMemory }
     {
         match draft {

@@ -14,7 +14,7 @@ mod words;
 
 pub use chains::{Chains, CommittedBlock, Holdings};
 pub use line::{Line, line_text};
-pub use program::{Races, Worlds, drive};
+pub use program::{Races, Worlds, drive, run_script};
 pub use racing::{Race, RaceAudit};
 pub use runner::Runner;
 pub use streams::{read_input, write_line};

@@ -1,7 +1,10 @@
 //! The program, from its words and its input to the lines on its output.
 
-ghost use Rattle.std.specs.Prelude.{⊤, ◌≡◌, ◌⊎◌, ◌<◌, ◌≤◌, map, true, false, length, IfOk, IfErr, IfSome, IsErrOf, Err};
+ghost use Rattle.std.specs.Prelude.{⊤, ◌≡◌, ◌⊎◌, ◌<◌, ◌≤◌, map, true, false, length, IfOk, IfErr, IfSome, IsErrOf, IsOk, OnErr, OnOk, Err};
+ghost use Rattle.std.specs.Io.KnownBytes.{Keeps};
+ghost use Rattle.ibc_machine.specs.chain.Genesis.{GenesisState, genesis_state};
 ghost use Rattle.ibc_script.specs.Faults.{IsRunFault, IsScriptFault};
+ghost use Rattle.ibc_script_cli.specs.Program.{HasBegun, HasRun};
 ghost use Rattle.ibc_script_cli.specs.Words.{are_words};
 
 use crate::printing::{print_balances, print_notes};
@@ -18,8 +21,18 @@ pub trait Worlds {
     /// The chains that are made.
     type Chains: Holdings + Drop;
 
+    // Which chains begin with a genesis, and what is so of chains at all times.
+    ghost begins: { GenesisState → Self.Chains → Type 0 } = { λ _ _. ⊤ };
+
+    ghost keeps: { Self.Chains → Type 0 } = { λ _. ⊤ };
+
     /// The chains of a genesis in the beginning. Refused: `BadMessage` where no chains begin so; `NoMemory`.
-    fn begin(&self, genesis: &Genesis) -> Result<Self::Chains, Refusal>;
+    fn begin(&self, genesis: &Genesis) -> Result<Self::Chains, Refusal>
+        ensures { IfOk result (begins (genesis_state genesis.now)) };
+
+    /// What is so of chains at all times is so of these.
+    fn lemma_keeps(&self, chains: &Self::Chains)
+        ensures { keeps chains.now };
 }
 
 /// What runs races.
@@ -64,29 +77,47 @@ pub fn drive<S: Worlds, Q: Races, R: Read + Drop, W: Write>(
     }
 }
 
-/// Runs a script on the chains of its genesis. Faults: `BadScript` where no chains begin so, and then nothing was
-/// written; `CannotWrite`, `NoMemory`, and then what was written stays written.
-fn run_script<S: Worlds, W: Write>(
+/// Runs a script on the chains of its genesis: its lines are written. Faults: `BadScript` where no chains begin so, and then
+/// nothing was written; `CannotWrite`, `NoMemory`, and then a beginning of the lines of a run was written.
+pub fn run_script<S: Worlds, W: Write>(
     alloc: Global,
     worlds: &S,
     script: Script,
     output: &mut W,
 ) -> Result<(), Fault>
+    ensures ran { OnOk result (HasRun S.begins S.keeps S.Chains.known script (W.contents output.old) (W.contents output.new)) }
+    ensures stopped { OnErr result (Keeps (W.contents output.old) (W.contents output.new) ⊎ HasBegun S.begins S.Chains.known script (W.contents output.old) (W.contents output.new)) }
     ensures faults { IfErr result (λ fault. IsRunFault fault ⊎ ((fault ≡ Fault.BadScript) × (output.new ≡ output.old))) }
 {
     match worlds.begin(&script.genesis) {
-        Ok(mut chains) => {
-            let Script { names, steps, .. } = script;
-            let ran = Runner::new(alloc, names.as_slice()).run(&mut chains, steps, output);
-            drop(chains);
-            drop(names);
-            flush_after(ran, output)
-        }
+        Ok(chains) => run_on(alloc, worlds, chains, script, output),
         Err(refusal) => {
             drop(script);
             Err(Fault::of_refusal(refusal))
         }
     }
+}
+
+// Runs a script on chains that its genesis begins.
+fn run_on<S: Worlds, W: Write>(
+    alloc: Global,
+    worlds: &S,
+    chains: S::Chains,
+    script: Script,
+    output: &mut W,
+) -> Result<(), Fault>
+    requires { S.begins (genesis_state script.genesis) chains }
+    ensures ran { OnOk result (HasRun S.begins S.keeps S.Chains.known script (W.contents output.old) (W.contents output.new)) }
+    ensures stopped { OnErr result (HasBegun S.begins S.Chains.known script (W.contents output.old) (W.contents output.new)) }
+    ensures faults { IfErr result IsRunFault }
+{
+    let mut chains = chains;
+    let Script { names, steps, .. } = script;
+    let ran = Runner::new(alloc, names.as_slice()).run(&mut chains, steps, output);
+    worlds.lemma_keeps(&chains);
+    drop(chains);
+    drop(names);
+    flush_after(ran, output)
 }
 
 /// Runs a script as a race, and prints what the audit tells. Faults: `BadScript` where no chains begin so, and then nothing
@@ -153,7 +184,9 @@ fn print_audited_notes<W: Write>(
 /// Gives on what the output holds back, also where the run has stopped.
 fn flush_after<W: Write>(ran: Result<(), Fault>, output: &mut W) -> Result<(), Fault>
     requires { IfErr ran IsRunFault }
-    ensures { IfErr result IsRunFault }
+    ensures faults { IfErr result IsRunFault }
+    ensures same { Keeps (W.contents output.old) (W.contents output.new) }
+    ensures ran { OnOk result (IsOk ran) }
 {
     let flushed = output.flush();
     ran?;

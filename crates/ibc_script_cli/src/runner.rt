@@ -29,6 +29,14 @@ pub struct Runner<'n> {
     ghost few: { length names.now ≤ 8 },
 }
 
+// Asks a chain for an event.
+fn ask<C: Chains + Drop>(chains: &mut C, event: Event) -> Result<Reply, Fault>
+    ensures reply { IfOk result (λ reply. C.known.asked chains.old event reply chains.new) }
+    ensures fault { IsOkUnless result Fault.NoMemory }
+{
+    chains.ask(event).map_err(Fault::no_memory)
+}
+
 // Sends a chain the message of a step as the chains stand, and gives what it answers; `None` where something that the message
 // needs isn't there.
 fn submit<C: Chains + Drop>(
@@ -46,8 +54,7 @@ fn submit<C: Chains + Drop>(
     };
     match completer.complete(on, draft)? {
         Some(message) => {
-            let event = Event::Message { chain: on, message };
-            let reply = chains.ask(event).map_err(Fault::no_memory)?;
+            let reply = ask(chains, Event::Message { chain: on, message })?;
             Ok(Some(reply))
         }
         None => Ok(None),
@@ -67,7 +74,7 @@ fn end_block<C: Chains + Drop>(chains: &mut C, on: u8, time: Option<u64>) -> Res
         chain: on,
         next_time,
     };
-    chains.ask(event).map_err(Fault::no_memory)
+    ask(chains, event)
 }
 
 // What an accepted event gave, `None` where it was refused or nothing was asked.
@@ -258,7 +265,9 @@ impl<'n> Runner<'n> {
                 second,
                 turns,
             } => self.relay(chains, first, second, turns, output),
-            Step::Root { .. } | Step::Prove { .. } | Step::Totals { .. } => Ok(()),
+            Step::Root { .. } => Ok(()),
+            Step::Prove { .. } => Ok(()),
+            Step::Totals { .. } => Ok(()),
         }
     }
 

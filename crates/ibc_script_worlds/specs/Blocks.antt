@@ -1,5 +1,5 @@
 -- The blocks that a ledger's history tells of (ICS 2, "ConsensusState").
-use Rattle.std.specs.Prelude.{◌≡◌, ℕ, zero, suc, ◌-◌, nat_lt, List, [], ◌∷◌, length, map, slice_get, Option, None, Some, if◌then◌else◌}
+use Rattle.std.specs.Prelude.{◌≡◌, ℕ, zero, suc, ◌-◌, nat_lt, List, [], ◌∷◌, length, map, slice_get, Option, None, Some, true, false}
 use Rattle.ibc_machine.specs.declared.entry.Entry.{Entry}
 use Rattle.ibc_machine.specs.declared.event.Event.{Event}
 use Rattle.ibc_machine.specs.declared.event.Event.TheVariants as event
@@ -35,7 +35,7 @@ block_of (suc k) blocks = slice_get blocks k
 
 -- the block of a height, where it is one of the last so many
 abbrev pub kept_block : ℕ → List CommittedBlock → ℕ → Option CommittedBlock
-kept_block window blocks height = if nat_lt (length blocks - window) height then block_of height blocks else None
+kept_block window blocks height = elim (nat_lt (length blocks - window) height) [ true ↦ block_of height blocks | false ↦ None ]
 
 -- how the chains of a genesis begin
 abbrev pub AreStartsOf : GenesisState → ChainStarts → Type 0

@@ -9,6 +9,7 @@ use Rattle.ibc_ids.specs.declared.refusal.Refusal.{Refusal}
 use Rattle.ibc_ids.specs.declared.refusal.Refusal.TheVariants.{NoMemory}
 use Rattle.ibc_merkle.specs.Written.{written_proof}
 use Rattle.ibc_merkle.specs.declared.proof.Proof.{Proof}
+use Rattle.ibc_machine.specs.chain.Genesis.{GenesisState}
 use Rattle.ibc_machine.specs.chain.Records.{Block, MachineChain}
 use Rattle.ibc_machine.specs.ics18.Relay.{plan}
 use Rattle.ibc_machine.specs.ics20.Bank.{Balances}
@@ -19,7 +20,7 @@ use Rattle.ibc_machine.specs.declared.totals.Totals.{Totals}
 use Rattle.ibc_wire.specs.declared.messages.Message.{Message}
 use Rattle.ibc_ledger.specs.ReplayedState.{provable_block}
 use Rattle.ibc_ledger.specs.SentPackets.{ack_on, packet_on}
-use Rattle.ibc_refinement.specs.World.{WorldState}
+use Rattle.ibc_refinement.specs.World.{AreNew, WorldState}
 use Rattle.ibc_refinement.specs.Steps.{IsStep}
 use Rattle.ibc_world_core.specs.Totals.{abstract_totals}
 use Rattle.ibc_script_cli.specs.ScriptChains.{ChainAnswers, ScriptChains}
@@ -78,3 +79,9 @@ ledger_answers ledgers = record {
 -- a world that goes on by its steps, and whose ledgers answer
 abbrev pub world_chains : ScriptChains WorldState
 world_chains = record { asked = IsStep; answers = λ world. ledger_answers world.ledgers }
+
+-- a world that a genesis begins
+pub record IsBegun (genesis : GenesisState) (world : WorldState) : Type 0 where
+  pub genesis_is : world.genesis ≡ genesis
+  pub ledgers : AreNew genesis world.ledgers
+  pub order : world.order ≡ []

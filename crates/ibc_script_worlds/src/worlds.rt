@@ -1,15 +1,12 @@
 //! Worlds, as the steps of a script see them.
 
-ghost use Rattle.std.specs.Prelude.{◌≡◌, map, IfOk};
-ghost use Rattle.ibc_machine.specs.chain.Genesis.{genesis_state};
-ghost use Rattle.ibc_refinement.specs.World.{AreNew};
-
 use crate::blocks::ChainStarts;
 use crate::relaying::plans_between;
 use ibc_ids::{Account, Bytes, ChannelId, Denom, Key, PortId, Refusal};
 use ibc_machine::{Event, Genesis, Reply, Totals};
 use ibc_merkle::Proof;
 use ibc_script_cli::{Chains, CommittedBlock, Holdings, Worlds};
+use ibc_theorem::lemma_what_every_world_keeps;
 use ibc_wire::{Message, Packet};
 use ibc_world_core::World;
 use std::alloc::Global;
@@ -48,7 +45,14 @@ impl Model for ScriptWorld {
 }
 
 impl Worlds for WorldFactory {
+    ghost use Rattle.ibc_script_worlds.specs.LedgerAnswers.{IsBegun};
+    ghost use Rattle.ibc_theorem.specs.EveryWorld.{IsLawfulUnlessClash};
+
     type Chains = ScriptWorld;
+
+    ghost begins = { IsBegun };
+
+    ghost keeps = { IsLawfulUnlessClash };
 
     fn begin(&self, genesis: &Genesis) -> Result<ScriptWorld, Refusal> {
         let world = World::new(self.alloc, genesis)?;
@@ -63,6 +67,10 @@ impl Worlds for WorldFactory {
                 Err(Refusal::from(error))
             }
         }
+    }
+
+    fn lemma_keeps(&self, chains: &ScriptWorld) {
+        lemma_what_every_world_keeps(&chains.world);
     }
 }
 

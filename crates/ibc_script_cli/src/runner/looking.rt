@@ -67,8 +67,11 @@ impl Runner<'_> {
         ensures ran { Runs C.known self.now.names.now (Take (step.Root on height) ∷ []) result chains.now (W.contents output.old) chains.now (W.contents output.new) }
         ensures faults { IfErr result IsRunFault }
     {
-        let root = chains.block(on, height).map(|block| block.root);
-        print_root_of(self.alloc, self.name(on), height, root.as_ref(), output)
+        let chain = self.name(on);
+        match chains.block(on, height) {
+            Some(block) => print_root_of(self.alloc, chain, height, Some(&block.root), output),
+            None => print_root_of(self.alloc, chain, height, None, output),
+        }
     }
 
     /// Prints the proof of what a height of a chain has at a key.
@@ -86,11 +89,16 @@ impl Runner<'_> {
             alloc: self.alloc,
             chains,
         };
-        let proof = completer.proof(from, key)?;
         let chain = self.name(from.chain);
-        let printed = print_proof_of(self.alloc, chain, from.height, proof.as_ref(), output);
-        drop(proof);
-        printed
+        match completer.proof(from, key)? {
+            Some(proof) => {
+                let shown = Some(&proof);
+                let printed = print_proof_of(self.alloc, chain, from.height, shown, output);
+                drop(proof);
+                printed
+            }
+            None => print_proof_of(self.alloc, chain, from.height, None, output),
+        }
     }
 
     /// Prints what a channel of a chain has of a denomination.
@@ -124,10 +132,15 @@ impl Runner<'_> {
         ensures ran { Runs C.known self.now.names.now (TellBalances on ∷ []) result chains.now (W.contents output.old) chains.now (W.contents output.new) }
         ensures faults { IfErr result IsRunFault }
     {
-        let balances = chains.balances(on).map_err(Fault::no_memory)?;
-        let printed = print_balances(self.alloc, self.name(on), balances.as_slice(), output);
-        drop(balances);
-        printed
+        let chain = self.name(on);
+        match chains.balances(on) {
+            Ok(balances) => {
+                let printed = print_balances(self.alloc, chain, balances.as_slice(), output);
+                drop(balances);
+                printed
+            }
+            Err(refusal) => Err(Fault::no_memory(refusal)),
+        }
     }
 
     // Prints the notes of a chain.
@@ -140,10 +153,15 @@ impl Runner<'_> {
         ensures ran { Runs C.known self.now.names.now (TellNotes on ∷ []) result chains.now (W.contents output.old) chains.now (W.contents output.new) }
         ensures faults { IfErr result IsRunFault }
     {
-        let notes = chains.notes(on).map_err(Fault::no_memory)?;
-        let printed = print_notes(self.alloc, self.name(on), notes.as_slice(), output);
-        drop(notes);
-        printed
+        let chain = self.name(on);
+        match chains.notes(on) {
+            Ok(notes) => {
+                let printed = print_notes(self.alloc, chain, notes.as_slice(), output);
+                drop(notes);
+                printed
+            }
+            Err(refusal) => Err(Fault::no_memory(refusal)),
+        }
     }
 
     /// Prints the balances of all chains, in the chains' order. Faults: `CannotWrite`, `NoMemory`.

@@ -1,17 +1,29 @@
 //! The steps `relay`.
 
-ghost use Rattle.std.specs.Prelude.{◌≡◌, ◌∷◌, [], None, map, IfErr};
+ghost use Rattle.std.specs.Prelude.{◌∷◌, [], None, map, IfErr, IfOk, IsOkUnless};
 ghost use Rattle.ibc_script.specs.Faults.{IsRunFault};
 ghost use Rattle.ibc_script.specs.declared.script.Step.TheVariants as step;
 ghost use Rattle.ibc_script_cli.specs.Runs.{Runs, relay_acts};
 ghost use Rattle.ibc_script_cli.specs.Runs.Act.{Send, SendPlans, Take};
 
-use super::Runner;
+use super::{Runner, ask};
 use crate::Chains;
 use ibc_machine::Event;
 use ibc_script::{EventKind, Fault};
 use ibc_wire::Message;
 use std::io::Write;
+
+// What relayers plan between two chains: the messages for the second, and those for the first.
+fn plans<C: Chains + Drop>(
+    chains: &C,
+    first: u8,
+    second: u8,
+) -> Result<(Vec<Message>, Vec<Message>), Fault>
+    ensures plans { IfOk result (λ plans. (C.known.answers chains.now).plans first second (plans.0.items, plans.1.items)) }
+    ensures fault { IsOkUnless result Fault.NoMemory }
+{
+    chains.plans(first, second).map_err(Fault::no_memory)
+}
 
 impl Runner<'_> {
     // Ends the working block of a chain, whose next one has the same time, and prints the reply.
@@ -40,8 +52,7 @@ impl Runner<'_> {
         ensures faults { IfErr result IsRunFault }
     {
         let kind = EventKind::Message(message.kind());
-        let event = Event::Message { chain: on, message };
-        let reply = chains.ask(event).map_err(Fault::no_memory)?;
+        let reply = ask(chains, Event::Message { chain: on, message })?;
         self.tell(on, kind, Some(reply), output)?;
         Ok(())
     }
@@ -74,7 +85,7 @@ impl Runner<'_> {
         ensures ran { Runs C.known self.now.names.now (SendPlans first second ∷ []) result chains.old (W.contents output.old) chains.new (W.contents output.new) }
         ensures faults { IfErr result IsRunFault }
     {
-        let (for_second, for_first) = chains.plans(first, second).map_err(Fault::no_memory)?;
+        let (for_second, for_first) = plans(chains, first, second)?;
         match self.send_each(chains, second, for_second, output) {
             Ok(()) => self.send_each(chains, first, for_first, output),
             Err(fault) => {
