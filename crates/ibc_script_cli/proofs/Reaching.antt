@@ -18,16 +18,24 @@ module _ {C : Type 0} (chains : ScriptChains C) (names : List Text) where
       → R n (acts ++ others) old text (left ++ others) new
   before_others zero acts others old text left new r = (r.0, ap (λ (l : List Act). l ++ others) r.1, r.2)
   before_others (suc n) [] others old text left new r = absurd r
-  before_others (suc n) (act ∷ acts) others old text left new (written, rest, next, mid, does, on, is) =
-      (written, rest, next, mid, does,
-        subst (λ (l : List Act). R n l mid rest (left ++ others) new) (append_assoc next acts others) (before_others n (next ++ acts) others mid rest left new on), is)
+  before_others (suc n) (act ∷ acts) others old text left new (written, rest, next, mid, does, on, is) = (
+    written,
+    rest,
+    next,
+    mid,
+    does,
+    subst (λ (l : List Act). R n l mid rest (left ++ others) new) (append_assoc next acts others) (before_others n (next ++ acts) others mid rest left new on),
+    is,
+  )
 
   -- first some acts, and then what they left
   one_after_another : (n k : ℕ) (acts : List Act) (old : C) (text : Text) (mid_acts : List Act) (mid : C) (more : Text) (left : List Act) (new : C)
       → R n acts old text mid_acts mid → R k mid_acts mid more left new → (j : ℕ) × R j acts old (text ++ more) left new
-  one_after_another zero k acts old text mid_acts mid more left new (none, same, stays) after =
-      (k, subst (λ (t : Text). R k acts old (t ++ more) left new) (sym none)
-        (subst (λ (w : C). R k acts w more left new) stays (subst (λ (l : List Act). R k l mid more left new) same after)))
+  one_after_another zero k acts old text mid_acts mid more left new (none, same, stays) after = (
+    k,
+    subst (λ (t : Text). R k acts old (t ++ more) left new) (sym none)
+        (subst (λ (w : C). R k acts w more left new) stays (subst (λ (l : List Act). R k l mid more left new) same after)),
+  )
   one_after_another (suc n) k [] old text mid_acts mid more left new r after = absurd r
   one_after_another (suc n) k (act ∷ acts) old text mid_acts mid more left new (written, rest, next, there, does, on, is) after =
       let all = one_after_another n k (next ++ acts) there rest mid_acts mid more left new on after in

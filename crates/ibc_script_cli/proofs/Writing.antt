@@ -9,6 +9,10 @@ pub nothing_more : (old : Option Text) → Appends old old []
 nothing_more None = tt
 nothing_more (Some xs) = sym (append-nil xs)
 
+pub keeps_same : (output : Option Text) → Keeps output output
+keeps_same None = tt
+keeps_same (Some xs) = refl
+
 pub kept_is_nothing : (old new : Option Text) → Keeps old new → Appends old new []
 kept_is_nothing None new keeps = tt
 kept_is_nothing (Some xs) None keeps = keeps
@@ -44,7 +48,7 @@ module _ (rest : ℕ → Text) where
     done ++ front,
     left ++ rest (i + 1),
     is ∙ ap (λ (t : Text). done ++ t) (next ∙ ap (λ (t : Text). t ++ rest (i + 1)) cut_is ∙ append_assoc front left (rest (i + 1)))
-    ∙ sym (append_assoc done front (left ++ rest (i + 1))),
+        ∙ sym (append_assoc done front (left ++ rest (i + 1))),
     appends_both before mid now done front has more,
   )
 

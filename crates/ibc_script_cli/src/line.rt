@@ -328,9 +328,7 @@ fn text_of(alloc: Global, printed: Line<'_>) -> Result<String, AllocError>
     ensures { IfOk result (λ text. string_bytes text ≡ line printed.entry) }
 {
     match printed {
-        Line::Reply { chain, kind, reply } => {
-            reply_line(alloc, chain, kind.name(), reply)
-        }
+        Line::Reply { chain, kind, reply } => { reply_line(alloc, chain, kind.name(), reply) }
         Line::Missing { chain, kind } => missing_line(alloc, chain, kind.name()),
         Line::Balance {
             chain,
@@ -343,13 +341,7 @@ fn text_of(alloc: Global, printed: Line<'_>) -> Result<String, AllocError>
             channel,
             index,
             bytes,
-        } => note_line(
-            alloc,
-            chain,
-            channel.as_str(),
-            index,
-            bytes.as_slice(),
-        ),
+        } => note_line(alloc, chain, channel.as_str(), index, bytes.as_slice()),
         Line::Root {
             chain,
             height,
@@ -371,13 +363,7 @@ fn text_of(alloc: Global, printed: Line<'_>) -> Result<String, AllocError>
             channel,
             denom,
             totals,
-        } => totals_line(
-            alloc,
-            chain,
-            channel.as_str(),
-            denom.as_str(),
-            totals,
-        ),
+        } => totals_line(alloc, chain, channel.as_str(), denom.as_str(), totals),
     }
 }
 

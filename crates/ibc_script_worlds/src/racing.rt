@@ -1,6 +1,6 @@
 //! Races on the chains of a world that threads share.
 
-ghost use Rattle.std.specs.Prelude.{◌≡◌, ◌⊎◌, ◌≤◌, [], List, length, All, IfErr, IfOk, OnOk};
+ghost use Rattle.std.specs.Prelude.{◌≡◌, ◌⊎◌, ◌≤◌, [], List, All, IfErr, IfOk, OnOk};
 ghost use Rattle.std.specs.List.{flat_map};
 ghost use denote.Param.Send.{IsSync};
 ghost use Rattle.ibc_script.specs.Faults.{IsScriptFault, IsRunFault};
@@ -106,7 +106,7 @@ fn shared_chains<'r, R: Wait, W: WorldBrand>(
     genesis: &Genesis,
 ) -> Result<Shared<'r, R, W>, Fault>
     requires { All (HasItsBook W.table W.genesis W.book) ledgers.items }
-    ensures new { IfOk result (λ shared. shared.receipts ≡ []) }
+    ensures new { IfOk result (λ shared. shared ≡ []) }
     ensures faults { IfErr result IsScriptFault }
 {
     let chains = share::<R, W>(rt, alloc, ledgers).map_err(Fault::of_refusal)?;
@@ -127,8 +127,8 @@ fn take_all<R: Threads + Wait + Sync, W: WorldBrand + Send + Sync>(
     steps: Vec<Step>,
 ) -> Result<(Vec<Chain<W>>, Vec<Receipt<W>>), Fault>
     requires few { 1 ≤ relayers × relayers ≤ 8 }
-    requires new { shared.receipts ≡ [] }
-    ensures taken { IfOk result (λ done. AreTaken (length done.0.items) steps.items done.1.items) }
+    requires new { shared ≡ [] }
+    ensures taken { IfOk result (λ done. AreTaken steps.items done.1.items) }
     ensures faults { IfErr result IsRunFault }
 {
     match take_each(relayers, runner, &mut shared, steps) {
@@ -148,7 +148,7 @@ fn take_each<R: Threads + Wait + Sync, W: WorldBrand + Send + Sync>(
     steps: Vec<Step>,
 ) -> Result<(), Fault>
     requires few { 1 ≤ relayers × relayers ≤ 8 }
-    ensures taken { OnOk result (Takes (flat_map asking_acts steps.items) shared.old shared.new) }
+    ensures taken { OnOk result (Takes runner.now.names.now (flat_map asking_acts steps.items) shared.old shared.new) }
     ensures faults { IfErr result IsRunFault }
 {
     for step in steps {
@@ -165,7 +165,7 @@ fn take<R: Threads + Wait + Sync, W: WorldBrand + Send + Sync>(
     step: Step,
 ) -> Result<(), Fault>
     requires { 1 ≤ relayers × relayers ≤ 8 }
-    ensures taken { OnOk result (Takes (asking_acts step) shared.old shared.new) }
+    ensures taken { OnOk result (Takes runner.now.names.now (asking_acts step) shared.old shared.new) }
     ensures faults { IfErr result IsRunFault }
 {
     let raced = match &step {
@@ -191,7 +191,7 @@ fn audited<W: WorldBrand>(
     chains: Vec<Chain<W>>,
     receipts: Vec<Receipt<W>>,
 ) -> Result<RaceAudit, Fault>
-    ensures raced { (steps : List TakenStep) → AreTaken (length chains.items) steps receipts.items → IfOk result (IsRaceOf W.genesis steps) }
+    ensures raced { (steps : List TakenStep) → AreTaken steps receipts.items → IfOk result (IsRaceOf W.genesis steps) }
     ensures faults { IfErr result IsScriptFault }
 {
     let mut receipts = receipts;

@@ -1,6 +1,6 @@
 //! Chains that threads share, as the steps of a script see them.
 
-ghost use Rattle.std.specs.Prelude.{◌≡◌, ◌≤◌, ◌++◌, ◌∷◌, [], length, IfOk, IsNone, IsOkUnless, OnOk};
+ghost use Rattle.std.specs.Prelude.{◌≡◌, ◌≤◌, ◌++◌, ◌∷◌, [], IfOk, IsOkUnless, OnOk};
 ghost use Rattle.ibc_ids.specs.declared.refusal.Refusal.TheVariants.{NoMemory};
 ghost use Rattle.ibc_script_worlds.specs.Racing.{raced_chains};
 
@@ -28,12 +28,12 @@ pub struct Shared<'r, R: Wait, W: WorldBrand> {
 }
 
 impl<'r, R: Wait, W: WorldBrand> Model for Shared<'r, R, W> {
-    ghost use Rattle.std.specs.Prelude.{length};
-    ghost use Rattle.ibc_script_worlds.specs.Racing.{RaceState};
+    ghost use Rattle.std.specs.Prelude.{List};
+    ghost use Rattle.ibc_ledger_lock.specs.ReceiptsAndReadings.{ReceiptModel};
 
-    ghost Value = { RaceState };
+    ghost Value = { List ReceiptModel };
 
-    ghost view = { λ s. record { chains = length s.chains.items; receipts = s.receipts.items } };
+    ghost view = { λ s. s.receipts.items };
 }
 
 impl<'r, R: Wait, W: WorldBrand> Shared<'r, R, W> {
@@ -44,7 +44,7 @@ impl<'r, R: Wait, W: WorldBrand> Shared<'r, R, W> {
         starts: ChainStarts,
         chains: Vec<Chain<W>>,
     ) -> Shared<'r, R, W>
-        ensures { result ≡ record { chains = length chains.items; receipts = [] } }
+        ensures { result ≡ [] }
     {
         Shared {
             rt,
@@ -57,8 +57,7 @@ impl<'r, R: Wait, W: WorldBrand> Shared<'r, R, W> {
 
     /// The chains, and the receipts of what they were asked.
     pub fn into_parts(self) -> (Vec<Chain<W>>, Vec<Receipt<W>>)
-        ensures chains { length result.0.items ≡ self.chains }
-        ensures receipts { result.1.items ≡ self.receipts }
+        ensures { result.1.items ≡ self }
     {
         (self.chains, self.receipts)
     }
@@ -67,7 +66,7 @@ impl<'r, R: Wait, W: WorldBrand> Shared<'r, R, W> {
 impl<R: Wait, W: WorldBrand> Shared<'_, R, W> {
     // Keeps a receipt, and tells its reply.
     fn keep(&mut self, receipt: Receipt<W>) -> Result<Reply, Refusal>
-        ensures kept { OnOk result (self.new ≡ record self.old { receipts = self.old.receipts ++ receipt ∷ [] }) }
+        ensures kept { OnOk result (self.new ≡ self.old ++ receipt ∷ []) }
         ensures told { IfOk result (λ reply. reply ≡ receipt.reply) }
         ensures err { IsOkUnless result NoMemory }
     {
@@ -82,21 +81,14 @@ impl<R: Wait, W: WorldBrand> Shared<'_, R, W> {
     }
 
     // The chain of a number, or none.
-    fn chain(&self, chain: u8) -> Option<&Chain<W>>
-        ensures { IsNone result → self.now.chains ≤ chain }
-    {
+    fn chain(&self, chain: u8) -> Option<&Chain<W>> {
         self.chains.get(usize::from(chain))
     }
 }
 
 impl<R: Threads + Wait + Sync, W: WorldBrand + Send + Sync> Shared<'_, R, W> {
     /// Has so many relayers relay between two chains at the same time. Refused: `NoMemory`.
-    pub fn relay_between(
-        &self,
-        relayers: u8,
-        chains: (u8, u8),
-        turns: u16,
-    ) -> Result<(), Refusal>
+    pub fn relay_between(&self, relayers: u8, chains: (u8, u8), turns: u16) -> Result<(), Refusal>
         requires { 1 ≤ relayers × relayers ≤ 8 }
         ensures { IsOkUnless result NoMemory }
     {
@@ -131,7 +123,7 @@ impl<R: Wait, W: WorldBrand> Chains for Shared<'_, R, W> {
         };
         let Some(chain) = self.chain(number) else {
             drop(event);
-            return Ok(Reply::No(Refusal::UnknownChain));
+            return Err(Refusal::UnknownChain);
         };
         let receipt = match event {
             Event::Message { message, .. } => chain.submit(self.rt, message),

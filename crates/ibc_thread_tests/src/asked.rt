@@ -98,9 +98,10 @@ fn keep(answers: &mut Vec<Answer>, chain: u8, reply: Reply) -> Result<Reply, Ref
 // The time of the working block of a chain that began at a time, by its history.
 fn time_in(start: u64, history: &[StampedEntry]) -> u64 {
     for stamped in history.iter().rev() {
-        if let (Event::Block { next_time, .. }, Reply::Ok(_)) =
-            (&stamped.entry.event, &stamped.entry.reply)
-        {
+        if let (Event::Block { next_time, .. }, Reply::Ok(_)) = (
+            &stamped.entry.event,
+            &stamped.entry.reply,
+        ) {
             return *next_time;
         }
     }
@@ -177,7 +178,10 @@ impl<R: Wait, G: Gate> Chains for GatedChains<'_, R, G> {
     }
 
     fn working_time(&self, chain: u8) -> Result<u64, Refusal> {
-        match (self.gates.get(usize::from(chain)), self.starts.times.get(usize::from(chain))) {
+        match (
+            self.gates.get(usize::from(chain)),
+            self.starts.times.get(usize::from(chain)),
+        ) {
             (Some(gate), Some(start)) => {
                 let start = *start;
                 Ok(gate.events_from(self.rt, 0, |history| time_in(start, history)))

@@ -175,7 +175,10 @@ impl<C: Chains + Drop> Completer<'_, C> {
         ensures shown { IfOk result (λ shown. AreConnectionProofs (C.known.answers self.now.chains.now) on (connection_draft.OpenConfirm connection.now from) shown.end shown.claim) }
         ensures err { IsOkUnless result Fault.NoMemory }
     {
-        match self.own_connection(on, connection)?.and_then(peer_connection_key) {
+        match self
+            .own_connection(on, connection)?
+            .and_then(peer_connection_key)
+        {
             Some(key) => Ok(Shown {
                 end: self.proof(from, key)?,
                 claim: None,

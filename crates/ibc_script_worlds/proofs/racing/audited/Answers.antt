@@ -2,5 +2,5 @@ use Rattle.ibc_script_worlds.proofs.Raced.{raced}
 use Rattle.ibc_script_worlds.proofs.racing.audited.Goals as goal
 
 pub returns-in-Ok-clause-raced : goal.returns-in-Ok-clause-raced
-returns-in-Ok-clause-raced g c =
-    raced g.W.World.table g.W.World.genesis _ _ _ c.in-Ok.audit c.told.result c.in-Ok.ensures.audited c.told.ensures.0 c.told.ensures.1
+returns-in-Ok-clause-raced g c steps taken =
+    raced g.W.WorldBrand.table g.W.WorldBrand.genesis _ _ _ steps c.in-Ok.audit c.told.result c.in-Ok.ensures.audited taken c.told.ensures.0 c.told.ensures.1

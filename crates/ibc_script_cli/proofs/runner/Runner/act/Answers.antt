@@ -52,7 +52,7 @@ returns-in-Prove-clause-ran g c =
     subst (λ (s : Step). Reached g.C.Chains.known c.args.self.now.names.now (asking_acts s) c.args.chains.now (g.W.Write.contents c.args.output.now) [] c.args.chains.now (g.W.Write.contents c.args.output.now)) (sym c.in-Prove.is)
     (begins g.C.Chains.known c.args.self.now.names.now)
 
-pub returns-in-Totals-clause-ran : goal.returns-in-Totals-clause-ran
-returns-in-Totals-clause-ran g c =
+pub returns-clause-ran : goal.returns-clause-ran
+returns-clause-ran g c =
     subst (λ (s : Step). Reached g.C.Chains.known c.args.self.now.names.now (asking_acts s) c.args.chains.now (g.W.Write.contents c.args.output.now) [] c.args.chains.now (g.W.Write.contents c.args.output.now)) (sym c.in-Totals.is)
     (begins g.C.Chains.known c.args.self.now.names.now)
