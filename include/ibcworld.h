@@ -37,7 +37,7 @@ typedef struct {
 
 enum {
     IBCW_DONE = 0,
-    /* the core's refusals: 1 to 31, as in the table of docs/LIBRARY.md */
+    /* the core's refusals: 1 to 31, as in the table of docs/REFUSALS.md */
     IBCW_NO_MEMORY = 1,
     IBCW_BAD_NAME = 2,
     IBCW_UNKNOWN_CHAIN = 3,
