@@ -194,14 +194,7 @@ fn audited<W: WorldBrand>(
     ensures raced { (steps : List TakenStep) → AreTaken steps receipts.items → IfOk result (IsRaceOf W.genesis steps) }
     ensures faults { IfErr result IsScriptFault }
 {
-    let mut receipts = receipts;
-    let mut readings = Vec::new(alloc);
-    let audit = audit_chains::<W>(
-        alloc,
-        chains,
-        receipts.as_mut_slice(),
-        readings.as_mut_slice(),
-    );
+    let audit = audit_chains::<W>(alloc, chains, receipts.as_slice(), &[]);
     drop(receipts);
     match audit {
         Ok(audit) => Ok(told(audit)),
