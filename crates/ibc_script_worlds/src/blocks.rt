@@ -1,8 +1,8 @@
 //! What a ledger's history tells of the blocks that its chain committed.
 
-ghost use Rattle.std.specs.Prelude.{◌≡◌, map};
+ghost use Rattle.std.specs.Prelude.{◌≡◌, IfOk, length, map, option_and_then, slice_get};
 ghost use Rattle.ibc_ledger.specs.LedgerModel.{abstract_entry};
-ghost use Rattle.ibc_script_worlds.specs.Blocks.{ended_by, kept_block, told_blocks};
+ghost use Rattle.ibc_script_worlds.specs.Blocks.{block_of, ended_by, kept_block, told_blocks};
 
 use ibc_ids::Root;
 use ibc_ledger::StampedEntry;
@@ -19,12 +19,13 @@ pub struct ChainStarts {
 
 impl ChainStarts {
     /// How the chains of a genesis begin. Error: no memory.
-    pub fn of(alloc: Global, genesis: &Genesis) -> Result<ChainStarts, AllocError> {
-        let times: Vec<u64> = genesis
-            .chains
-            .iter()
-            .map(|start| start.time)
-            .collect(alloc)?;
+    pub fn of(alloc: Global, genesis: &Genesis) -> Result<ChainStarts, AllocError>
+        ensures { IfOk result (λ starts. (starts.window ≡ genesis.now.window) × (starts.times.items ≡ map (λ start. start.time) genesis.now.chains.items)) }
+    {
+        let mut times = Vec::with_capacity(alloc, genesis.chains.len())?;
+        for start in &genesis.chains {
+            times.push(start.time)?;
+        }
         Ok(ChainStarts {
             window: genesis.window,
             times,
@@ -37,9 +38,13 @@ impl ChainStarts {
         chain: u8,
         history: &[StampedEntry],
         height: u64,
-    ) -> Option<CommittedBlock> {
-        let time = self.times.get(usize::from(chain))?;
-        block_in(*time, self.window, history, height)
+    ) -> Option<CommittedBlock>
+        ensures { result ≡ option_and_then (λ time. kept_block self.now.window (told_blocks time (map abstract_entry history.now)) height) (slice_get self.now.times.items chain) }
+    {
+        match self.times.get(usize::from(chain)) {
+            Some(time) => block_in(*time, self.window, history, height),
+            None => None,
+        }
     }
 }
 
@@ -55,7 +60,44 @@ fn ended_by(entry: &Entry) -> Option<(Root, u64)>
     }
 }
 
-// What a chain that began at a time committed at a height, by its history.
+// How many blocks a history tells of.
+fn blocks_in(start: u64, history: &[StampedEntry]) -> u64
+    ensures { result ≡ length (told_blocks start (map abstract_entry history.now)) }
+{
+    let mut time = start;
+    let mut blocks = 0;
+    for stamped in history {
+        if let Some((_, next_time)) = ended_by(&stamped.entry) {
+            blocks += 1;
+            time = next_time;
+        }
+    }
+    let _time = time;
+    blocks
+}
+
+// The block of a height, from 1, of which a history tells.
+fn told_block(start: u64, history: &[StampedEntry], height: u64) -> Option<CommittedBlock>
+    ensures { result ≡ block_of height (told_blocks start (map abstract_entry history.now)) }
+{
+    if height == 0 {
+        return None;
+    }
+    let mut time = start;
+    let mut left = height;
+    for stamped in history {
+        if let Some((root, next_time)) = ended_by(&stamped.entry) {
+            if left == 1 {
+                return Some(CommittedBlock { root, time });
+            }
+            left -= 1;
+            time = next_time;
+        }
+    }
+    None
+}
+
+// What a chain that began at a time committed at a height, by its history; `None` where it isn't kept.
 fn block_in(
     start: u64,
     window: u64,
@@ -64,20 +106,9 @@ fn block_in(
 ) -> Option<CommittedBlock>
     ensures { result ≡ kept_block window (told_blocks start (map abstract_entry history.now)) height }
 {
-    let mut time = start;
-    let mut last: u64 = 0;
-    let mut found = None;
-    for stamped in history {
-        if let Some((root, next_time)) = ended_by(&stamped.entry) {
-            last += 1;
-            if last == height {
-                found = Some(CommittedBlock { root, time });
-            }
-            time = next_time;
-        }
+    if height > blocks_in(start, history).saturating_sub(window) {
+        told_block(start, history, height)
+    } else {
+        None
     }
-    if height <= last && window <= last - height {
-        return None;
-    }
-    found
 }
