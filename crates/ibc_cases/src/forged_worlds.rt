@@ -6,12 +6,12 @@ use crate::log::Log;
 use crate::mistake::Unmade;
 use crate::spelled::SpelledMessage;
 use crate::wrong_bytes::{Numbers, WrongBytes};
-use ibc_ids::{Account, Bytes, ChannelId, ClientId, ConnectionId, Denom, Key, PortId, Refusal};
+use ibc_ids::{Account, Bytes, ChannelId, Denom, Key, PortId, Refusal};
 use ibc_machine::{Effect, Event, Genesis, Reply, Totals};
 use ibc_merkle::Proof;
-use ibc_script_cli::{Chains, Holdings, Worlds};
+use ibc_script_cli::{Chains, CommittedBlock, Holdings, Worlds};
 use ibc_script_worlds::{ScriptWorld, WorldFactory};
-use ibc_wire::{ChannelEnd, ClientState, ConnectionEnd, Message, MessageKind, Packet};
+use ibc_wire::{Message, MessageKind, Packet};
 use std::alloc::{AllocError, Global};
 
 /// Makes the world of a genesis, and has it sent these groups of forgeries, which stand in the order of the messages that they
@@ -45,6 +45,8 @@ impl<'l> Worlds for ForgedWorlds<'l> {
             ledgers: WorldFactory::new(self.alloc).begin(genesis)?,
         })
     }
+
+    fn lemma_keeps(&self, _chains: &ForgedChains<'l>) {}
 }
 
 // Why a message can't be sent: want of memory, or nothing but that it was spelled so.
@@ -273,25 +275,8 @@ impl Chains for ForgedChains<'_> {
         }
     }
 
-    fn client_state(&self, chain: u8, client: &ClientId) -> Result<Option<ClientState>, Refusal> {
-        self.ledgers.client_state(chain, client)
-    }
-
-    fn connection(
-        &self,
-        chain: u8,
-        connection: &ConnectionId,
-    ) -> Result<Option<ConnectionEnd>, Refusal> {
-        self.ledgers.connection(chain, connection)
-    }
-
-    fn channel(
-        &self,
-        chain: u8,
-        port: &PortId,
-        channel: &ChannelId,
-    ) -> Result<Option<ChannelEnd>, Refusal> {
-        self.ledgers.channel(chain, port, channel)
+    fn value(&self, chain: u8, key: &Key) -> Result<Option<Bytes>, Refusal> {
+        self.ledgers.value(chain, key)
     }
 
     fn packet(
@@ -316,6 +301,14 @@ impl Chains for ForgedChains<'_> {
 
     fn proof(&self, chain: u8, height: u64, key: &Key) -> Result<Option<Proof>, Refusal> {
         self.ledgers.proof(chain, height, key)
+    }
+
+    fn block(&self, chain: u8, height: u64) -> Option<CommittedBlock> {
+        self.ledgers.block(chain, height)
+    }
+
+    fn working_time(&self, chain: u8) -> Result<u64, Refusal> {
+        self.ledgers.working_time(chain)
     }
 
     fn plans(&self, first: u8, second: u8) -> Result<(Vec<Message>, Vec<Message>), Refusal> {

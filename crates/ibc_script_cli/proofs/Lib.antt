@@ -1,3 +1,6 @@
 pub mod AskedWords
-mod MadeKinds
 mod PrintedLines
+pub mod Looks
+pub mod Reaching
+pub mod Turns
+pub mod Writing

@@ -1,5 +1,5 @@
 -- The messages that a script's steps become: the steps' own fields, and what the chains answer.
-use Rattle.std.specs.Prelude.{◌≡◌, ◌⊎◌, ℕ, false, ◌==◌, if◌then◌else◌, List, length, Option, None, Some, slice_get, option_map, option_and_then, unwrap_or, replicate}
+use Rattle.std.specs.Prelude.{◌≡◌, ◌⊎◌, ℕ, false, ◌==◌, if◌then◌else◌, List, length, Option, None, Some, option_map, option_and_then, replicate}
 use Rattle.std.specs.Int.{w64, from_be_bytes}
 use Rattle.ibc_ids.specs.Texts.{Text}
 use Rattle.ibc_ids.specs.declared.key.Key.{Key}
@@ -7,8 +7,8 @@ use Rattle.ibc_ids.specs.declared.key.Key.TheVariants as key
 use Rattle.ibc_machine.specs.ics04.Proving.{commitment_key, ack_key, receipt_key, next_recv_key, destination_key, recv_message, ack_message, timeout_message, timeout_on_close_message}
 use Rattle.ibc_merkle.specs.declared.proof.Proof.{Proof}
 use Rattle.ibc_merkle.specs.declared.proof.Proof.TheVariants.{Present, Absent}
-use Rattle.ibc_wire.specs.Fields.{Spells, have_form}
-use Rattle.ibc_wire.specs.Spelling.{client_state_fields, proof_fields, proof_bytes}
+use Rattle.ibc_wire.specs.Fields.{Field, Spells, have_form}
+use Rattle.ibc_wire.specs.Spelling.{client_state_fields, connection_end_fields, channel_end_fields, proof_fields, proof_bytes}
 use Rattle.ibc_wire.specs.declared.header.Header.{Header}
 use Rattle.ibc_wire.specs.declared.messages.Message.{Message}
 use Rattle.ibc_wire.specs.declared.messages.Message.TheVariants as message
@@ -18,8 +18,8 @@ use Rattle.ibc_wire.specs.declared.records.ConnectionEnd.{ConnectionEnd}
 use Rattle.ibc_wire.specs.declared.records.ChannelEnd.{ChannelEnd}
 use Rattle.ibc_wire.specs.declared.records.Order.{Order}
 use Rattle.ibc_wire.specs.declared.records.Order.TheVariants.{Unordered, Ordered}
-use Rattle.ibc_script_cli.specs.ChainAnswers.{ChainAnswers}
-use Rattle.ibc_script_cli.specs.Heights.{kept_at}
+use Rattle.ibc_script_cli.specs.ScriptChains.{ChainAnswers}
+use Rattle.ibc_script_cli.specs.declared.chains.CommittedBlock.{CommittedBlock}
 use Rattle.ibc_script_cli.specs.declared.completing.ClientClaim.{ClientClaim}
 use Rattle.ibc_script_cli.specs.declared.completing.packets.PacketAction.{PacketAction}
 use Rattle.ibc_script_cli.specs.declared.completing.packets.PacketAction.TheVariants as handling
@@ -36,8 +36,27 @@ use Rattle.ibc_script.specs.declared.draft.SentPacket.{SentPacket}
 use Rattle.ibc_script.specs.declared.draft.Draft.{Draft}
 use Rattle.ibc_script.specs.declared.draft.Draft.TheVariants as draft
 use Rattle.ibc_script.specs.declared.draft.ProofSource.{ProofSource}
-use Rattle.ibc_script_cli.specs.declared.heights.Committed.{Committed}
-use Rattle.ibc_script_cli.specs.declared.heights.CommittedHeights.{CommittedHeights}
+
+-- ---- what stands
+
+-- the record that bytes spell, none where there are none
+abbrev pub IsRecord : {T : Type 0} → (T → List Field) → Option Text → Option T → Type 0
+IsRecord fields None found = found ≡ None
+IsRecord fields (Some bytes) None = ⊥
+IsRecord fields (Some bytes) (Some found) = Spells (fields found) bytes
+
+-- the record that a chain has at a key as it stands
+abbrev pub Stands : {T : Type 0} → ChainAnswers → (T → List Field) → ℕ → Key → Option T → Type 0
+Stands told fields on k found = (bytes : Option Text) × told.value on k bytes × IsRecord fields bytes found
+
+abbrev pub IsClientOf : ChainAnswers → ℕ → Text → Option ClientState → Type 0
+IsClientOf told on id = Stands told client_state_fields on (key.ClientState id)
+
+abbrev pub IsConnectionOf : ChainAnswers → ℕ → Text → Option ConnectionEnd → Type 0
+IsConnectionOf told on id = Stands told connection_end_fields on (key.Connection id)
+
+abbrev pub IsChannelOf : ChainAnswers → ℕ → Text → Text → Option ChannelEnd → Type 0
+IsChannelOf told on port id = Stands told channel_end_fields on (key.ChannelEnd port id)
 
 -- ---- what is proved
 
@@ -75,25 +94,22 @@ IsClaimAt told from id claim =
 -- ---- messages for clients
 
 -- the true header of a committed height, or one with time 0 and a zero root
-abbrev pub header_from : ℕ → ℕ → Option Committed → Header
+abbrev pub header_from : ℕ → ℕ → Option CommittedBlock → Header
 header_from chain height None = record { chain = chain; height = height; time = 0; root = replicate 32 0 }
-header_from chain height (Some known) =
-    record { chain = chain; height = height; time = known.time; root = known.root }
+header_from chain height (Some block) =
+    record { chain = chain; height = height; time = block.time; root = block.root }
 
-abbrev pub header_at : ℕ → ℕ → Option CommittedHeights → Option Header
-header_at chain height = option_map (λ heights. header_from chain height (kept_at heights.window heights.committed.items height))
+-- the header of an update: of the chain that the client tracks; where there is no client, an empty one of the own chain
+abbrev pub IsHeader : ChainAnswers → ℕ → ℕ → Option ClientState → Header → Type 0
+IsHeader told on height None header = header ≡ header_from on height None
+IsHeader told on height (Some state) header =
+    (found : Option CommittedBlock) × told.block state.chain height found × (header ≡ header_from state.chain height found)
 
--- the header of an update: of the chain that the client tracks, and else of the step's own
-abbrev pub header_of : List CommittedHeights → ℕ → ℕ → Option ClientState → Header
-header_of heights on height None = header_from on height None
-header_of heights on height (Some state) =
-    unwrap_or (header_at state.chain height (slice_get heights state.chain)) (header_from on height None)
-
-abbrev pub MakesClientMessage : ChainAnswers → List CommittedHeights → ℕ → ClientDraft → Message → Type 0
-MakesClientMessage told heights on (client.Create of) made = made ≡ message.CreateClient (record { chain = of })
-MakesClientMessage told heights on (client.Update id height) made =
-    (state : Option ClientState) × told.client on id state
-    × (made ≡ message.UpdateClient (record { client = id; header = header_of heights on height state }))
+abbrev pub MakesClientMessage : ChainAnswers → ℕ → ClientDraft → Message → Type 0
+MakesClientMessage told on (client.Create of) made = made ≡ message.CreateClient (record { chain = of })
+MakesClientMessage told on (client.Update id height) made =
+    (state : Option ClientState) × (header : Header) × IsClientOf told on id state × IsHeader told on height state header
+    × (made ≡ message.UpdateClient (record { client = id; header = header }))
 
 -- ---- messages for connections
 
@@ -146,9 +162,9 @@ AreConnectionProofs told on (connection.OpenInit id peer_client) proof_end claim
 AreConnectionProofs told on (connection.OpenTry id peer_client peer_connection from) proof_end claim =
     AreBothProofs told from peer_connection peer_client proof_end claim
 AreConnectionProofs told on (connection.OpenAck id peer_connection from) proof_end claim =
-    (own : Option ConnectionEnd) × told.connection on id own × AreProofsFor told from peer_connection own proof_end claim
+    (own : Option ConnectionEnd) × IsConnectionOf told on id own × AreProofsFor told from peer_connection own proof_end claim
 AreConnectionProofs told on (connection.OpenConfirm id from) proof claim =
-    (own : Option ConnectionEnd) × told.connection on id own
+    (own : Option ConnectionEnd) × IsConnectionOf told on id own
     × IsProofBytesOf told from (option_and_then peer_connection_key own) proof × (claim ≡ None)
 
 -- the message that a step becomes, none where something that it needs isn't there
@@ -199,12 +215,12 @@ answer_key peer_channel end = key.ChannelEnd end.peer_port peer_channel
 -- the proof of the end that the own end names as the peer's
 abbrev pub IsPeerProof : ChainAnswers → ℕ → Text → Text → ProofSource → Option Text → Type 0
 IsPeerProof told on port id from proof =
-    (own : Option ChannelEnd) × told.channel on port id own × IsProofBytesOf told from (option_and_then peer_key own) proof
+    (own : Option ChannelEnd) × IsChannelOf told on port id own × IsProofBytesOf told from (option_and_then peer_key own) proof
 
 -- the proof of the end that a message names as the peer's
 abbrev pub IsAnswerProof : ChainAnswers → ℕ → Text → Text → Text → ProofSource → Option Text → Type 0
 IsAnswerProof told on port id peer_channel from proof =
-    (own : Option ChannelEnd) × told.channel on port id own
+    (own : Option ChannelEnd) × IsChannelOf told on port id own
     × IsProofBytesOf told from (option_map (answer_key peer_channel) own) proof
 
 -- what a step needs
@@ -257,7 +273,7 @@ IsUnreceivedBy told from p (Some own) shown = IsUnreceived told from p own.order
 -- the own end is that of the packet's source, on the chain that is told
 abbrev pub IsUnreceivedAt : ChainAnswers → ℕ → ProofSource → Packet → Option Unreceived → Type 0
 IsUnreceivedAt told on from p shown =
-    (own : Option ChannelEnd) × told.channel on p.source_port p.source_channel own × IsUnreceivedBy told from p own shown
+    (own : Option ChannelEnd) × IsChannelOf told on p.source_port p.source_channel own × IsUnreceivedBy told from p own shown
 
 -- the packet was committed
 abbrev pub MakesRecv : ChainAnswers → ProofSource → Packet → Option Message → Type 0
@@ -327,9 +343,8 @@ MakesPacketMessage told on (packet.TimeoutOnClose sent from) made =
 -- ---- all messages
 
 -- the message that a step becomes, none where something that it needs isn't there
-abbrev pub MakesMessage : ChainAnswers → List CommittedHeights → ℕ → Draft → Option Message → Type 0
-MakesMessage told heights on (draft.Client d) made =
-    (sent : Message) × (made ≡ Some sent) × MakesClientMessage told heights on d sent
-MakesMessage told heights on (draft.Connection d) made = MakesConnectionMessage told on d made
-MakesMessage told heights on (draft.Channel d) made = MakesChannelMessage told on d made
-MakesMessage told heights on (draft.Packet d) made = MakesPacketMessage told on d made
+abbrev pub MakesMessage : ChainAnswers → ℕ → Draft → Option Message → Type 0
+MakesMessage told on (draft.Client d) made = (sent : Message) × (made ≡ Some sent) × MakesClientMessage told on d sent
+MakesMessage told on (draft.Connection d) made = MakesConnectionMessage told on d made
+MakesMessage told on (draft.Channel d) made = MakesChannelMessage told on d made
+MakesMessage told on (draft.Packet d) made = MakesPacketMessage told on d made

@@ -1,6 +1,8 @@
-pub mod ChainAnswers
+pub mod Balances
+pub mod ScriptChains
 pub mod Completing
-pub mod Heights
 pub mod Lines
 pub mod Opening
+pub mod Program
+pub mod Runs
 pub mod Words

@@ -1,5 +1,5 @@
 -- The messages of the step `open`, by what its two chains have given so far.
-use Rattle.std.specs.Prelude.{ℕ, Option, None, Some, option_map}
+use Rattle.std.specs.Prelude.{ℕ, List, [], ◌∷◌, Option, None, Some, option_map}
 use Rattle.std.specs.Option.{option_zip}
 use Rattle.ibc_machine.specs.declared.reply.Effect.{Effect}
 use Rattle.ibc_machine.specs.declared.reply.Effect.TheVariants as effect
@@ -13,6 +13,8 @@ use Rattle.ibc_script.specs.declared.draft.ConnectionDraft.TheVariants as connec
 use Rattle.ibc_script.specs.declared.draft.Draft.{Draft}
 use Rattle.ibc_script.specs.declared.draft.Draft.TheVariants as draft
 use Rattle.ibc_script.specs.declared.draft.ProofSource.{ProofSource}
+use Rattle.ibc_script.specs.declared.event_kind.EventKind.{EventKind}
+use Rattle.ibc_script.specs.declared.event_kind.EventKind.TheVariants.{Message, Block}
 use Rattle.ibc_wire.specs.declared.messages.MessageKind.{MessageKind}
 use Rattle.ibc_wire.specs.declared.messages.MessageKind.TheVariants as kind
 use Rattle.ibc_script_cli.specs.declared.opening.Handshake.{Handshake}
@@ -126,3 +128,19 @@ turn_draft side k o = draft_of o.application k (own_of side o) (peer_of side o)
 abbrev pub with_effect_at : HandshakeSide → Effect → Handshake → Handshake
 with_effect_at First given o = record o { first = with_effect given o.first }
 with_effect_at Second given o = record o { second = with_effect given o.second }
+
+-- ---- the turns
+
+-- Clients of each other, then a connection (ICS 3, "Opening Handshake"), then a channel over it (ICS 4, "Opening
+-- handshake"). The peer is told of each height whose records a message proves.
+abbrev pub turns_of_open : List (HandshakeSide × EventKind)
+turns_of_open =
+    (First, Message kind.CreateClient) ∷ (Second, Message kind.CreateClient)
+    ∷ (First, Message kind.ConnOpenInit) ∷ (First, Block)
+    ∷ (Second, Message kind.UpdateClient) ∷ (Second, Message kind.ConnOpenTry) ∷ (Second, Block)
+    ∷ (First, Message kind.UpdateClient) ∷ (First, Message kind.ConnOpenAck)
+    ∷ (First, Message kind.ChanOpenInit) ∷ (First, Block)
+    ∷ (Second, Message kind.UpdateClient) ∷ (Second, Message kind.ConnOpenConfirm)
+    ∷ (Second, Message kind.ChanOpenTry) ∷ (Second, Block)
+    ∷ (First, Message kind.UpdateClient) ∷ (First, Message kind.ChanOpenAck) ∷ (First, Block)
+    ∷ (Second, Message kind.UpdateClient) ∷ (Second, Message kind.ChanOpenConfirm) ∷ []

@@ -1,9 +1,7 @@
 //! The messages of steps are completed from what the chains answer.
 
-ghost use Rattle.std.specs.Prelude.{◌≡◌, Some, IfOk, IfSome, IsOkUnless};
-ghost use Rattle.ibc_wire.specs.Kinds.{kind_of};
-ghost use Rattle.ibc_script.specs.EventKinds.{draft_kind};
-ghost use Rattle.ibc_script_cli.specs.Completing.{IsEncoding, IsClaim, IsProofBytesAt, IsClaimAt, MakesMessage};
+ghost use Rattle.std.specs.Prelude.{Some, IfOk, IsOkUnless};
+ghost use Rattle.ibc_script_cli.specs.Completing.{IsEncoding, IsClaim, IsProofBytesAt, IsClaimAt, IsRecord, MakesMessage, Stands};
 
 mod channels;
 mod clients;
@@ -12,18 +10,16 @@ mod packet_keys;
 mod packets;
 
 use crate::Chains;
-use crate::heights::CommittedHeights;
 use ibc_ids::{Bytes, ClientId, Key, Refusal};
 use ibc_merkle::{Presence, Proof};
 use ibc_script::{Draft, Fault, ProofSource};
-use ibc_wire::{ClientState, Message, decode, encode};
+use ibc_wire::{ClientState, Message, Wire, decode, encode};
 use std::alloc::Global;
 
-/// What completes the messages of a script: the heights that its chains have committed, and the chains.
+/// What completes the messages of a script: its chains.
 #[derive(Drop)]
 pub struct Completer<'r, C: Chains + Drop> {
     pub alloc: Global,
-    pub heights: &'r [CommittedHeights],
     pub chains: &'r C,
 }
 
@@ -32,6 +28,22 @@ pub struct Completer<'r, C: Chains + Drop> {
 struct ClientClaim {
     state: ClientState,
     proof: Bytes,
+}
+
+// The record that bytes spell, `None` where there are none. They are a chain's own: only for want of memory is none read.
+fn record_of<T: Wire + Drop>(alloc: Global, bytes: Option<Bytes>) -> Result<Option<T>, Fault>
+    ensures is { IfOk result (IsRecord T.fields bytes) }
+    ensures err { IsOkUnless result Fault.NoMemory }
+{
+    let Some(bytes) = bytes else {
+        return Ok(None);
+    };
+    let record = decode(alloc, bytes.as_slice());
+    drop(bytes);
+    match record {
+        Ok(record) => Ok(Some(record)),
+        Err(refusal) => Err(Fault::no_memory(refusal)),
+    }
 }
 
 /// The encoding of a proof, `None` where it has none.
@@ -49,8 +61,7 @@ fn encoding_of(alloc: Global, proof: &Proof) -> Result<Option<Bytes>, Fault>
 impl<C: Chains + Drop> Completer<'_, C> {
     /// The message that a step of a chain sends, `None` where something that it needs isn't there. Fault: `NoMemory`.
     pub fn complete(&self, on: u8, draft: Draft) -> Result<Option<Message>, Fault>
-        ensures made { IfOk result (MakesMessage (C.answers self.now.chains.now) self.now.heights.now on draft) }
-        ensures kind { IfOk result (λ made. IfSome made (λ message. kind_of message ≡ draft_kind draft)) }
+        ensures made { IfOk result (MakesMessage (C.known.answers self.now.chains.now) on draft) }
         ensures err { IsOkUnless result Fault.NoMemory }
     {
         match draft {
@@ -61,9 +72,22 @@ impl<C: Chains + Drop> Completer<'_, C> {
         }
     }
 
+    /// The record that a chain has at a key as it stands, `None` where there is none. Fault: `NoMemory`.
+    fn standing<T: Wire + Drop>(&self, on: u8, key: Key) -> Result<Option<T>, Fault>
+        ensures is { IfOk result (Stands (C.known.answers self.now.chains.now) T.fields on key) }
+        ensures err { IsOkUnless result Fault.NoMemory }
+    {
+        let value = self.chains.value(on, &key);
+        drop(key);
+        match value {
+            Ok(bytes) => record_of(self.alloc, bytes),
+            Err(refusal) => Err(Fault::no_memory(refusal)),
+        }
+    }
+
     // What a chain proves of a key at a height, `None` where there is nothing.
     fn found(&self, from: ProofSource, key: Key) -> Result<Option<Proof>, Fault>
-        ensures found { IfOk result ((C.answers self.now.chains.now).proof from.chain from.height key) }
+        ensures found { IfOk result ((C.known.answers self.now.chains.now).proof from.chain from.height key) }
         ensures err { IsOkUnless result Fault.NoMemory }
     {
         let found = self.chains.proof(from.chain, from.height, &key);
@@ -73,7 +97,7 @@ impl<C: Chains + Drop> Completer<'_, C> {
 
     /// The encoding of the proof of a key at a height, `None` where there is none.
     pub fn proof(&self, from: ProofSource, key: Key) -> Result<Option<Bytes>, Fault>
-        ensures is { IfOk result (IsProofBytesAt (C.answers self.now.chains.now) from key) }
+        ensures is { IfOk result (IsProofBytesAt (C.known.answers self.now.chains.now) from key) }
         ensures err { IsOkUnless result Fault.NoMemory }
     {
         match self.found(from, key)? {
@@ -88,7 +112,7 @@ impl<C: Chains + Drop> Completer<'_, C> {
 
     /// The state of a client at a height, with the encoding of the proof that shows it; `None` where there is none.
     fn claim(&self, from: ProofSource, client: &ClientId) -> Result<Option<ClientClaim>, Fault>
-        ensures is { IfOk result (IsClaimAt (C.answers self.now.chains.now) from client.now) }
+        ensures is { IfOk result (IsClaimAt (C.known.answers self.now.chains.now) from client.now) }
         ensures err { IsOkUnless result Fault.NoMemory }
     {
         match self.found(from, Key::ClientState(client.clone()?))? {

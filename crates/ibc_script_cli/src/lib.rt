@@ -3,7 +3,6 @@
 
 mod chains;
 mod completing;
-mod heights;
 mod line;
 mod opening;
 mod printing;
@@ -13,9 +12,9 @@ mod runner;
 mod streams;
 mod words;
 
-pub use chains::{Chains, EndedBlock, Holdings};
+pub use chains::{Chains, CommittedBlock, Holdings};
 pub use line::{Line, line_text};
-pub use program::{Races, Worlds, drive};
+pub use program::{Races, Worlds, drive, run_script};
 pub use racing::{Race, RaceAudit};
 pub use runner::Runner;
 pub use streams::{read_input, write_line};

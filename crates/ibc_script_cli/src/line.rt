@@ -10,7 +10,7 @@ ghost use Rattle.ibc_script_cli.specs.Lines.{line, printed_byte, spaced_words, e
 use base64::engine::general_purpose::STANDARD;
 use ibc_ids::{Account, Bytes, ChannelId, Denom, Refusal, Root};
 use ibc_machine::{Effect, Reply, Totals};
-use ibc_script::{ChainName, EventKind};
+use ibc_script::EventKind;
 use std::alloc::{AllocError, Global};
 
 /// A line that the program prints, without its line feed.
@@ -18,44 +18,44 @@ use std::alloc::{AllocError, Global};
 pub enum Line<'a> {
     /// The reply to an event.
     Reply {
-        chain: &'a ChainName,
+        chain: &'a str,
         kind: EventKind,
         reply: &'a Reply,
     },
     /// Something that the message needs doesn't exist, and nothing was asked of the chain.
     Missing {
-        chain: &'a ChainName,
+        chain: &'a str,
         kind: EventKind,
     },
     /// What an account has at the end.
     Balance {
-        chain: &'a ChainName,
+        chain: &'a str,
         account: &'a Account,
         denom: &'a Denom,
         amount: u128,
     },
     /// A note that was received, by its number on its channel, from 1.
     Note {
-        chain: &'a ChainName,
+        chain: &'a str,
         channel: &'a ChannelId,
         index: u64,
         bytes: &'a Bytes,
     },
     /// The root of a height, `None` where the chain doesn't keep the height.
     Root {
-        chain: &'a ChainName,
+        chain: &'a str,
         height: u64,
         root: Option<&'a Root>,
     },
     /// The encoding of a proof at a height, `None` where the chain doesn't keep the height.
     Prove {
-        chain: &'a ChainName,
+        chain: &'a str,
         height: u64,
         proof: Option<&'a Bytes>,
     },
     /// The totals of a channel: what it has of a denomination, or why there are none.
     Totals {
-        chain: &'a ChainName,
+        chain: &'a str,
         channel: &'a ChannelId,
         denom: &'a Denom,
         totals: Result<Totals, Refusal>,
@@ -328,35 +328,27 @@ fn text_of(alloc: Global, printed: Line<'_>) -> Result<String, AllocError>
     ensures { IfOk result (λ text. string_bytes text ≡ line printed.entry) }
 {
     match printed {
-        Line::Reply { chain, kind, reply } => {
-            reply_line(alloc, chain.as_str(), kind.name(), reply)
-        }
-        Line::Missing { chain, kind } => missing_line(alloc, chain.as_str(), kind.name()),
+        Line::Reply { chain, kind, reply } => { reply_line(alloc, chain, kind.name(), reply) }
+        Line::Missing { chain, kind } => missing_line(alloc, chain, kind.name()),
         Line::Balance {
             chain,
             account,
             denom,
             amount,
-        } => balance_line(alloc, chain.as_str(), account, denom.as_str(), amount),
+        } => balance_line(alloc, chain, account, denom.as_str(), amount),
         Line::Note {
             chain,
             channel,
             index,
             bytes,
-        } => note_line(
-            alloc,
-            chain.as_str(),
-            channel.as_str(),
-            index,
-            bytes.as_slice(),
-        ),
+        } => note_line(alloc, chain, channel.as_str(), index, bytes.as_slice()),
         Line::Root {
             chain,
             height,
             root,
         } => {
             let bytes = root.map(|root| root.bytes().as_slice());
-            height_line(alloc, chain.as_str(), "root", height, bytes)
+            height_line(alloc, chain, "root", height, bytes)
         }
         Line::Prove {
             chain,
@@ -364,20 +356,14 @@ fn text_of(alloc: Global, printed: Line<'_>) -> Result<String, AllocError>
             proof,
         } => {
             let bytes = proof.map(|proof| proof.as_slice());
-            height_line(alloc, chain.as_str(), "prove", height, bytes)
+            height_line(alloc, chain, "prove", height, bytes)
         }
         Line::Totals {
             chain,
             channel,
             denom,
             totals,
-        } => totals_line(
-            alloc,
-            chain.as_str(),
-            channel.as_str(),
-            denom.as_str(),
-            totals,
-        ),
+        } => totals_line(alloc, chain, channel.as_str(), denom.as_str(), totals),
     }
 }
 

@@ -1,13 +1,17 @@
 //! The program, from its words and its input to the lines on its output.
 
-ghost use Rattle.std.specs.Prelude.{⊤, ◌≡◌, ◌⊎◌, ◌<◌, ◌≤◌, map, true, false, length, IfOk, IfErr, IfSome, IsErrOf, Err};
+ghost use Rattle.std.specs.Prelude.{⊤, ◌≡◌, ◌⊎◌, ◌<◌, ◌≤◌, map, true, false, length, Some, IfOk, IfErr, IfSome, IsErrOf, IsOk, OnErr, OnOk, Err};
+ghost use Rattle.std.specs.Io.KnownBytes.{Keeps};
+ghost use Rattle.ibc_machine.specs.chain.Genesis.{GenesisState, genesis_state};
 ghost use Rattle.ibc_script.specs.Faults.{IsRunFault, IsScriptFault};
-ghost use Rattle.ibc_script_cli.specs.Words.{are_words};
+ghost use Rattle.ibc_script_cli.specs.Program.{HasBegun, HasRun};
+ghost use Rattle.ibc_script.specs.declared.script.Script.{Script as AnyScript};
+ghost use Rattle.ibc_script_cli.specs.Words.{are_words, command_of};
+ghost use Rattle.ibc_script_cli.specs.declared.words.Command.TheVariants as Asked;
 
-use crate::heights::{CommittedHeights, heights_at};
-use crate::printing::print_audited;
+use crate::printing::{print_balances, print_notes};
 use crate::runner::Runner;
-use crate::{Chains, Command, Holdings, Race, RaceAudit, read_input, read_words};
+use crate::{Command, Holdings, Race, RaceAudit, read_input, read_words};
 use ibc_ids::Refusal;
 use ibc_machine::Genesis;
 use ibc_script::{ChainName, Fault, Script, read_script};
@@ -17,10 +21,20 @@ use std::io::{Read, Write};
 /// What makes the chains that a script is run on.
 pub trait Worlds {
     /// The chains that are made.
-    type Chains: Chains + Holdings + Drop;
+    type Chains: Holdings + Drop;
+
+    // Which chains begin with a genesis, and what is so of chains at all times.
+    ghost begins: { GenesisState → Self.Chains → Type 0 } = { λ _ _. ⊤ };
+
+    ghost keeps: { Self.Chains → Type 0 } = { λ _. ⊤ };
 
     /// The chains of a genesis in the beginning. Refused: `BadMessage` where no chains begin so; `NoMemory`.
-    fn begin(&self, genesis: &Genesis) -> Result<Self::Chains, Refusal>;
+    fn begin(&self, genesis: &Genesis) -> Result<Self::Chains, Refusal>
+        ensures { IfOk result (begins (genesis_state genesis.now)) };
+
+    /// What is so of chains at all times is so of these.
+    fn lemma_keeps(&self, chains: &Self::Chains)
+        ensures { keeps chains.now };
 }
 
 /// What runs races.
@@ -55,6 +69,8 @@ pub fn drive<S: Worlds, Q: Races, R: Read + Drop, W: Write>(
     ensures words_first { are_words (map (λ word. word.now) words.now) ≡ false → (result ≡ Err Fault.BadArguments) ⊎ (result ≡ Err Fault.NoMemory) }
     ensures too_long { IfOk result (λ _. IfSome (R.remaining input) (λ known. length known < 1048577)) }
     ensures unwritten { IfErr result (λ fault. IsRunFault fault ⊎ (output.new ≡ output.old)) }
+    ensures lines { command_of (map (λ word. word.now) words.now) ≡ Some Asked.Run → OnOk result ((script : AnyScript) × HasRun S.begins S.keeps S.Chains.known script (W.contents output.old) (W.contents output.new)) }
+    ensures begun { command_of (map (λ word. word.now) words.now) ≡ Some Asked.Run → OnErr result (Keeps (W.contents output.old) (W.contents output.new) ⊎ ((script : AnyScript) × HasBegun S.begins S.Chains.known script (W.contents output.old) (W.contents output.new))) }
 {
     let command = read_words(alloc, words)?;
     let bytes = read_input(alloc, input)?;
@@ -65,56 +81,47 @@ pub fn drive<S: Worlds, Q: Races, R: Read + Drop, W: Write>(
     }
 }
 
-/// What a script begins with: the heights of its chains, none committed yet, and the chains.
-#[derive(Drop)]
-struct StartedScript<C: Chains + Drop> {
-    heights: Vec<CommittedHeights>,
-    chains: C,
-}
-
-/// The beginning of a genesis. Faults: `BadScript` where no chains begin so; `NoMemory`.
-fn begin<S: Worlds>(
-    alloc: Global,
-    worlds: &S,
-    genesis: &Genesis,
-) -> Result<StartedScript<S::Chains>, Fault>
-    ensures one_each { IfOk result (λ begun. length begun.heights.items ≡ length genesis.now.chains.items) }
-    ensures faults { IfErr result IsScriptFault }
-{
-    let heights = heights_at(alloc, genesis)?;
-    match worlds.begin(genesis) {
-        Ok(chains) => Ok(StartedScript { heights, chains }),
-        Err(refusal) => {
-            drop(heights);
-            Err(Fault::of_refusal(refusal))
-        }
-    }
-}
-
-/// Runs a script on the chains of its genesis. Faults: `BadScript` where no chains begin so, and then nothing was
-/// written; `CannotWrite`, `NoMemory`, and then what was written stays written.
-fn run_script<S: Worlds, W: Write>(
+/// Runs a script on the chains of its genesis: its lines are written. Faults: `BadScript` where no chains begin so, and then
+/// nothing was written; `CannotWrite`, `NoMemory`, and then a beginning of the lines of a run was written.
+pub fn run_script<S: Worlds, W: Write>(
     alloc: Global,
     worlds: &S,
     script: Script,
     output: &mut W,
 ) -> Result<(), Fault>
+    ensures ran { OnOk result (HasRun S.begins S.keeps S.Chains.known script (W.contents output.old) (W.contents output.new)) }
+    ensures stopped { OnErr result (Keeps (W.contents output.old) (W.contents output.new) ⊎ HasBegun S.begins S.Chains.known script (W.contents output.old) (W.contents output.new)) }
     ensures faults { IfErr result (λ fault. IsRunFault fault ⊎ ((fault ≡ Fault.BadScript) × (output.new ≡ output.old))) }
 {
-    match begin(alloc, worlds, &script.genesis) {
-        Ok(beginning) => {
-            let Script { names, steps, .. } = script;
-            let StartedScript { heights, chains } = beginning;
-            let mut runner = Runner::new(alloc, names, heights, chains);
-            let ran = runner.run_all(steps, output);
-            drop(runner);
-            flush_after(ran, output)
-        }
-        Err(fault) => {
+    match worlds.begin(&script.genesis) {
+        Ok(chains) => run_on(alloc, worlds, chains, script, output),
+        Err(refusal) => {
             drop(script);
-            Err(fault)
+            Err(Fault::of_refusal(refusal))
         }
     }
+}
+
+// Runs a script on chains that its genesis begins.
+fn run_on<S: Worlds, W: Write>(
+    alloc: Global,
+    worlds: &S,
+    chains: S::Chains,
+    script: Script,
+    output: &mut W,
+) -> Result<(), Fault>
+    requires { S.begins (genesis_state script.genesis) chains }
+    ensures ran { OnOk result (HasRun S.begins S.keeps S.Chains.known script (W.contents output.old) (W.contents output.new)) }
+    ensures stopped { OnErr result (HasBegun S.begins S.Chains.known script (W.contents output.old) (W.contents output.new)) }
+    ensures faults { IfErr result IsRunFault }
+{
+    let mut chains = chains;
+    let Script { names, steps, .. } = script;
+    let ran = Runner::new(alloc, names.as_slice()).run(&mut chains, steps, output);
+    worlds.lemma_keeps(&chains);
+    drop(chains);
+    drop(names);
+    flush_after(ran, output)
 }
 
 /// Runs a script as a race, and prints what the audit tells. Faults: `BadScript` where no chains begin so, and then nothing
@@ -132,7 +139,7 @@ fn race_script<Q: Races, W: Write>(
 {
     let names: Result<Vec<ChainName>, AllocError> = script.names.clone();
     let race = Race::new(alloc, script);
-    let audited = races.race(relayers, race?)?;
+    let audited = races.race(relayers, race)?;
     print_race(alloc, names?.as_slice(), &audited, output)
 }
 
@@ -148,10 +155,42 @@ fn print_race<W: Write>(
     flush_after(print_audited(alloc, names, audited, output), output)
 }
 
+// Prints what an audit tells: the balances of all chains, and then the notes, in the chains' order.
+fn print_audited<W: Write>(
+    alloc: Global,
+    names: &[ChainName],
+    audited: &RaceAudit,
+    output: &mut W,
+) -> Result<(), Fault>
+    ensures { IfErr result IsRunFault }
+{
+    for (chain, balances) in names.iter().zip(audited.balances.iter()) {
+        print_balances(alloc, chain.as_str(), balances.as_slice(), output)?;
+    }
+    print_audited_notes(alloc, names, audited, output)
+}
+
+// Prints the notes that an audit tells.
+fn print_audited_notes<W: Write>(
+    alloc: Global,
+    names: &[ChainName],
+    audited: &RaceAudit,
+    output: &mut W,
+) -> Result<(), Fault>
+    ensures { IfErr result IsRunFault }
+{
+    for (chain, notes) in names.iter().zip(audited.notes.iter()) {
+        print_notes(alloc, chain.as_str(), notes.as_slice(), output)?;
+    }
+    Ok(())
+}
+
 /// Gives on what the output holds back, also where the run has stopped.
 fn flush_after<W: Write>(ran: Result<(), Fault>, output: &mut W) -> Result<(), Fault>
     requires { IfErr ran IsRunFault }
-    ensures { IfErr result IsRunFault }
+    ensures faults { IfErr result IsRunFault }
+    ensures same { Keeps (W.contents output.old) (W.contents output.new) }
+    ensures ran { OnOk result (IsOk ran) }
 {
     let flushed = output.flush();
     ran?;

@@ -1,16 +1,14 @@
 //! Races: the steps of a script on chains that threads share.
 
-ghost use Rattle.std.specs.Prelude.{◌≡◌, length, All, IfErr};
+ghost use Rattle.std.specs.Prelude.{◌≡◌, ◌≤◌, length, IfErr};
 ghost use Rattle.ibc_script.specs.Faults.{IsRunFault};
-ghost use Rattle.ibc_script.specs.Scripts.{IsAmong};
 
 use crate::Chains;
-use crate::heights::{CommittedHeights, heights_at};
 use crate::runner::Runner;
 use ibc_ids::{Account, Bytes, ChannelId, Denom};
 use ibc_machine::Genesis;
-use ibc_script::{Fault, Script, Step};
-use std::alloc::{AllocError, Global};
+use ibc_script::{ChainName, Fault, Script, Step};
+use std::alloc::Global;
 use std::io;
 
 /// What an audit of chains tells, by their numbers.
@@ -27,24 +25,14 @@ pub struct RaceAudit {
 pub struct Race {
     alloc: Global,
     script: Script,
-    heights: Vec<CommittedHeights>,
-    ghost one_each: { length heights.items ≡ length script.names.items },
 }
 
 impl Race {
-    /// The race of a script. Error: no memory.
-    pub(crate) fn new(alloc: Global, script: Script) -> Result<Race, AllocError> {
-        match heights_at(alloc, &script.genesis) {
-            Ok(heights) => Ok(Race {
-                alloc,
-                script,
-                heights,
-            }),
-            Err(error) => {
-                drop(script);
-                Err(error)
-            }
-        }
+    /// The race of a script.
+    pub(crate) fn new(alloc: Global, script: Script) -> Race
+        ensures { result.script ≡ script }
+    {
+        Race { alloc, script }
     }
 
     /// The genesis of the chains that the steps are taken on.
@@ -54,32 +42,45 @@ impl Race {
         &self.script.genesis
     }
 
-    /// A run on chains that have committed nothing yet, and the steps that are to be taken, which name these chains alone.
-    pub fn begin<C: Chains + Drop>(self, chains: C) -> (Runner<C>, Vec<Step>)
-        ensures { All (IsAmong (length result.0.names.items)) result.1.items }
+    /// The names of the chains, at most 8, and the steps.
+    pub fn into_parts(self) -> (Vec<ChainName>, Vec<Step>)
+        ensures steps { result.1 ≡ self.script.steps }
+        ensures names { result.0 ≡ self.script.names }
+        ensures few { length result.0.items ≤ 8 }
     {
-        let Race {
-            alloc,
-            script,
-            heights,
-            ..
-        } = self;
+        let Race { script, .. } = self;
         let Script { names, steps, .. } = script;
-        (Runner::new(alloc, names, heights, chains), steps)
+        (names, steps)
     }
 
-    /// Takes the steps on chains that have committed nothing yet, and gives the chains back. Replies are not printed, and steps
-    /// that only ask what chains have are passed over. Faults: those that stop a run.
-    pub fn run_on<C: Chains + Drop>(self, chains: C) -> Result<C, Fault>
+    /// Takes the steps on chains, and gives the chains back. Replies are not printed, and steps that only look at what chains
+    /// have are passed over. Faults: those that stop a run.
+    pub fn run_on<C: Chains + Drop>(self, mut chains: C) -> Result<C, Fault>
         ensures { IfErr result IsRunFault }
     {
-        let (mut runner, steps) = self.begin(chains);
-        match runner.act_each(steps, &mut io::sink()) {
-            Ok(()) => Ok(runner.into_chains()),
+        let alloc = self.alloc;
+        let (names, steps) = self.into_parts();
+        let runner = Runner::new(alloc, names.as_slice());
+        match act_each(&runner, &mut chains, steps) {
+            Ok(()) => Ok(chains),
             Err(fault) => {
-                drop(runner);
+                drop(chains);
                 Err(fault)
             }
         }
     }
+}
+
+// Takes steps in turn.
+fn act_each<C: Chains + Drop>(
+    runner: &Runner<'_>,
+    chains: &mut C,
+    steps: Vec<Step>,
+) -> Result<(), Fault>
+    ensures { IfErr result IsRunFault }
+{
+    for step in steps {
+        runner.act(chains, step, &mut io::sink())?;
+    }
+    Ok(())
 }

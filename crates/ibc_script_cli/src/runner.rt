@@ -1,353 +1,327 @@
 //! The steps of a script are run.
 
-ghost use Rattle.std.specs.Prelude.{◌≡◌, ◌<◌, ◌≤◌, length, All, IfOk, IfErr};
+ghost use Rattle.std.specs.Prelude.{◌≡◌, ◌∷◌, ◌≤◌, [], List, length, map, IfOk, IfErr, IsOkUnless};
 ghost use Rattle.ibc_script.specs.Faults.{IsRunFault};
-ghost use Rattle.ibc_script.specs.Scripts.{IsAmong};
-ghost use Rattle.ibc_script_cli.specs.Opening.{own_of, effect_given_by};
+ghost use Rattle.ibc_script.specs.declared.event_kind.EventKind.{EventKind as Kind};
+ghost use Rattle.ibc_script.specs.EventKinds.{draft_kind};
+ghost use Rattle.ibc_script_cli.specs.Runs.{Ends, EndsBy, IsTold, Runs, RunsTo, Submits, WritesText, acts_of, answer_line, asking_acts, given_by, name_of, opened};
+ghost use Rattle.ibc_script_cli.specs.Runs.Act.{Open, Take};
+ghost use Rattle.ibc_script_cli.specs.Opening.{turns_of_open};
+ghost use Rattle.ibc_script_cli.specs.declared.opening.HandshakeSide.{HandshakeSide as Side};
 
 mod looking;
 mod relaying;
 
 use crate::completing::Completer;
-use crate::heights::CommittedHeights;
 use crate::opening::{Handshake, HandshakeSide, PLAN};
-use crate::printing::{print, print_balances, print_notes};
-use crate::{Chains, EndedBlock, Holdings, Line};
+use crate::printing::print;
+use crate::{Chains, Holdings, Line};
 use ibc_machine::{Effect, Event, Reply};
-use ibc_script::{ChainName, Draft, EventKind, Fault, Step};
-use ibc_wire::Message;
-use std::alloc::{AllocError, Global};
+use ibc_script::{ChainName, Draft, EventKind, Fault, ProofSource, Step};
+use std::alloc::Global;
 use std::io::Write;
 
-/// A run of a script: the names of its chains, what they have committed, and the chains.
-#[derive(Drop)]
-pub struct Runner<C: Chains + Drop> {
+/// What runs the steps of a script on its chains: the chains' names, at most 8.
+#[derive(Clone, Copy)]
+pub struct Runner<'n> {
     alloc: Global,
-    names: Vec<ChainName>,
-    heights: Vec<CommittedHeights>,
-    chains: C,
-    ghost one_each: { length heights.items ≡ length names.items },
-    ghost few: { length names.items ≤ 8 },
+    names: &'n [ChainName],
+    ghost few: { length names.now ≤ 8 },
 }
 
-/// What an accepted event gives, `None` where it was refused.
-fn given_by(reply: Reply) -> Option<Effect>
-    ensures { result ≡ effect_given_by reply }
+// Asks a chain for an event.
+fn ask<C: Chains + Drop>(chains: &mut C, event: Event) -> Result<Reply, Fault>
+    ensures reply { IfOk result (λ reply. C.known.asked chains.old event reply chains.new) }
+    ensures fault { IsOkUnless result Fault.NoMemory }
 {
-    match reply {
-        Reply::Ok(effect) => Some(effect),
-        Reply::No(_) => None,
+    chains.ask(event).map_err(Fault::no_memory)
+}
+
+// Sends a chain the message of a step as the chains stand, and gives what it answers; `None` where something that the message
+// needs isn't there.
+fn submit<C: Chains + Drop>(
+    alloc: Global,
+    chains: &mut C,
+    on: u8,
+    draft: Draft,
+) -> Result<Option<Reply>, Fault>
+    ensures answer { IfOk result (λ answer. Submits C.known chains.old on draft answer chains.new) }
+    ensures fault { IsOkUnless result Fault.NoMemory }
+{
+    let completer = Completer {
+        alloc,
+        chains: &*chains,
+    };
+    match completer.complete(on, draft)? {
+        Some(message) => {
+            let reply = ask(chains, Event::Message { chain: on, message })?;
+            Ok(Some(reply))
+        }
+        None => Ok(None),
     }
 }
 
-impl<C: Chains + Drop> Runner<C> {
-    /// A run on chains that have committed nothing yet.
-    pub fn new(
-        alloc: Global,
-        names: Vec<ChainName>,
-        heights: Vec<CommittedHeights>,
-        chains: C,
-    ) -> Runner<C>
-        requires few { length names.items ≤ 8 }
-        requires one_each { length heights.items ≡ length names.items }
-        ensures { result.names ≡ names }
+// Ends the working block of a chain, and gives what it answers.
+fn end_block<C: Chains + Drop>(chains: &mut C, on: u8, time: Option<u64>) -> Result<Reply, Fault>
+    ensures answer { IfOk result (λ answer. Ends C.known chains.old on time answer chains.new) }
+    ensures fault { IsOkUnless result Fault.NoMemory }
+{
+    let next_time = match time {
+        Some(time) => time,
+        None => chains.working_time(on).map_err(Fault::no_memory)?,
+    };
+    let event = Event::Block {
+        chain: on,
+        next_time,
+    };
+    ask(chains, event)
+}
+
+// What an accepted event gave, `None` where it was refused or nothing was asked.
+fn given_by(answer: Option<Reply>) -> Option<Effect>
+    ensures { result ≡ given_by answer }
+{
+    match answer {
+        Some(Reply::Ok(effect)) => Some(effect),
+        Some(Reply::No(_)) | None => None,
+    }
+}
+
+impl<'n> Runner<'n> {
+    /// What runs the steps of a script whose chains have these names.
+    pub fn new(alloc: Global, names: &'n [ChainName]) -> Runner<'n>
+        requires { length names.now ≤ 8 }
+        ensures { result.names.now ≡ names.now }
     {
-        Runner {
-            alloc,
-            names,
-            heights,
-            chains,
+        Runner { alloc, names }
+    }
+
+    // The name of a chain.
+    fn name(&self, chain: u8) -> &'n str
+        ensures { result.now ≡ name_of self.now.names.now chain }
+    {
+        match self.names.get(usize::from(chain)) {
+            Some(name) => name.as_str(),
+            None => "",
         }
     }
 
-    /// Prints a reply of a chain, and gives what the accepted event gives.
-    fn print_reply<W: Write>(
+    // Prints what a chain answered to an event of a kind.
+    fn print_answer<W: Write>(
         &self,
         on: u8,
         kind: EventKind,
-        reply: Reply,
+        answer: &Option<Reply>,
         output: &mut W,
-    ) -> Result<Option<Effect>, Fault>
-        requires { on < length self.now.names.items }
-        ensures given { IfOk result (λ given. given ≡ effect_given_by reply) }
+    ) -> Result<(), Fault>
+        ensures written { WritesText result (W.contents output.old) (W.contents output.new) (answer_line self.now.names.now on kind answer.now) }
         ensures faults { IfErr result IsRunFault }
     {
-        let line = Line::Reply {
-            chain: &self.names[on as usize],
-            kind,
-            reply: &reply,
+        let chain = self.name(on);
+        let line = match answer {
+            Some(reply) => Line::Reply { chain, kind, reply },
+            None => Line::Missing { chain, kind },
         };
-        match print(self.alloc, output, line) {
-            Ok(()) => Ok(given_by(reply)),
+        print(self.alloc, line, output)
+    }
+
+    // Prints what a chain answered to an event of a kind, and gives what the accepted event gave.
+    fn tell<W: Write>(
+        &self,
+        on: u8,
+        kind: EventKind,
+        answer: Option<Reply>,
+        output: &mut W,
+    ) -> Result<Option<Effect>, Fault>
+        ensures written { WritesText result (W.contents output.old) (W.contents output.new) (answer_line self.now.names.now on kind answer) }
+        ensures given { IfOk result (λ given. given ≡ given_by answer) }
+        ensures faults { IfErr result IsRunFault }
+    {
+        match self.print_answer(on, kind, &answer, output) {
+            Ok(()) => Ok(given_by(answer)),
             Err(fault) => {
-                drop(reply);
+                drop(answer);
                 Err(fault)
             }
         }
     }
 
-    /// Sends a message to a chain, and prints the reply. The result is what the accepted event gives.
-    fn send<W: Write>(
-        &mut self,
-        on: u8,
-        message: Message,
-        output: &mut W,
-    ) -> Result<Option<Effect>, Fault>
-        requires { on < length self.old.names.items }
-        ensures same { self.new.names.items ≡ self.old.names.items }
-        ensures faults { IfErr result IsRunFault }
-    {
-        let kind = EventKind::Message(message.kind());
-        let event = Event::Message { chain: on, message };
-        let reply = self.chains.ask(event).map_err(Fault::no_memory)?;
-        self.print_reply(on, kind, reply, output)
-    }
-
-    /// Prints that something that a message needs isn't there.
-    fn print_missing<W: Write>(&self, on: u8, kind: EventKind, output: &mut W) -> Result<(), Fault>
-        requires { on < length self.now.names.items }
-        ensures { IfErr result IsRunFault }
-    {
-        let chain = &self.names[on as usize];
-        print(self.alloc, output, Line::Missing { chain, kind })
-    }
-
-    /// What completes the messages of steps as the chains stand.
-    fn completer(&self) -> Completer<'_, C>
-        ensures { (result.heights.now ≡ self.now.heights.items) × (result.chains.now ≡ self.now.chains) }
-    {
-        Completer {
-            alloc: self.alloc,
-            heights: self.heights.as_slice(),
-            chains: &self.chains,
-        }
-    }
-
-    /// Sends the message that a step names, and prints the reply; where something that it needs isn't there, nothing
-    /// is sent, and the line says so. The result is what the accepted event gives.
-    fn submit<W: Write>(
-        &mut self,
+    // Sends a chain the message of a step and prints the answer.
+    fn submit_and_tell<C: Chains + Drop, W: Write>(
+        &self,
+        chains: &mut C,
         on: u8,
         draft: Draft,
         output: &mut W,
     ) -> Result<Option<Effect>, Fault>
-        requires { on < length self.old.names.items }
-        ensures same { self.new.names.items ≡ self.old.names.items }
+        ensures told { IsTold (Submits C.known chains.old on draft) (answer_line self.now.names.now on (Kind.Message (draft_kind draft))) result chains.new (W.contents output.old) (W.contents output.new) }
         ensures faults { IfErr result IsRunFault }
     {
-        let kind = draft.kind();
-        match self.completer().complete(on, draft)? {
-            Some(message) => self.send(on, message, output),
-            None => {
-                self.print_missing(on, EventKind::Message(kind), output)?;
-                Ok(None)
-            }
-        }
+        let kind = EventKind::Message(draft.kind());
+        let answer = submit(self.alloc, chains, on, draft)?;
+        self.tell(on, kind, answer, output)
     }
 
-    // Keeps what a chain has committed, where its block was accepted.
-    fn keep(&mut self, on: u8, reply: &Reply, next_time: u64) -> Result<(), AllocError>
-        requires { on < length self.old.names.items }
-        ensures { self.new.names.items ≡ self.old.names.items }
-    {
-        match reply {
-            Reply::Ok(Effect::Block(_, root)) => {
-                self.heights[on as usize].commit(*root, next_time)
-            }
-            _ => Ok(()),
-        }
-    }
-
-    /// Ends the working block of a chain, and prints the reply. The result is what the accepted event gives.
-    fn end_block<W: Write>(
-        &mut self,
+    // Ends the working block of a chain and prints the answer.
+    fn end_and_tell<C: Chains + Drop, W: Write>(
+        &self,
+        chains: &mut C,
         on: u8,
         time: Option<u64>,
         output: &mut W,
     ) -> Result<Option<Effect>, Fault>
-        requires { on < length self.old.names.items }
-        ensures same { self.new.names.items ≡ self.old.names.items }
+        ensures told { IsTold (EndsBy C.known chains.old on time) (answer_line self.now.names.now on Kind.Block) result chains.new (W.contents output.old) (W.contents output.new) }
         ensures faults { IfErr result IsRunFault }
     {
-        let next_time = time.unwrap_or(self.heights[on as usize].working_time);
-        let event = Event::Block {
-            chain: on,
-            next_time,
-        };
-        let reply = self.chains.ask(event).map_err(Fault::no_memory)?;
-        match self.keep(on, &reply, next_time) {
-            Ok(()) => self.print_reply(on, EventKind::Block, reply, output),
-            Err(error) => {
-                drop(reply);
-                Err(Fault::from(error))
-            }
-        }
+        let reply = end_block(chains, on, time)?;
+        self.tell(on, EventKind::Block, Some(reply), output)
     }
 
-    /// Takes one turn of an `open`. The result is what the accepted event gives.
-    fn take<W: Write>(
-        &mut self,
+    // Takes one turn of an `open`, and gives what the accepted event gave; `None` where the rest is to be left out.
+    fn take_turn<C: Chains + Drop, W: Write>(
+        &self,
+        chains: &mut C,
         opening: &Handshake,
         side: HandshakeSide,
         kind: EventKind,
         output: &mut W,
     ) -> Result<Option<Effect>, Fault>
-        requires { (own_of side opening.now).chain < length self.old.names.items }
-        ensures same { self.new.names.items ≡ self.old.names.items }
+        ensures ran { (turns : List (Side × Kind)) → RunsTo C.known self.now.names.now (opened turns side opening.now) (Open ((side, kind) ∷ turns) opening.now ∷ []) result chains.old (W.contents output.old) chains.new (W.contents output.new) }
         ensures faults { IfErr result IsRunFault }
     {
         let on = opening.chain(side);
         let EventKind::Message(kind) = kind else {
-            return self.end_block(on, None, output);
+            return self.end_and_tell(chains, on, None, output);
         };
         match opening.draft(self.alloc, side, kind)? {
-            Some(draft) => self.submit(on, draft, output),
+            Some(draft) => self.submit_and_tell(chains, on, draft, output),
             None => Ok(None),
         }
     }
 
-    // Takes one turn of an `open`, which learns what it gives. The result is whether the next turn is to be taken.
-    fn take_and_learn<W: Write>(
-        &mut self,
+    // Takes turns of an `open`, up to the first that gives nothing.
+    fn take_turns<C: Chains + Drop, W: Write>(
+        &self,
+        chains: &mut C,
         opening: &mut Handshake,
-        side: HandshakeSide,
-        kind: EventKind,
+        turns: &[(HandshakeSide, EventKind)],
         output: &mut W,
-    ) -> Result<bool, Fault>
-        requires first { opening.old.first.chain < length self.old.names.items }
-        requires second { opening.old.second.chain < length self.old.names.items }
-        ensures same { self.new.names.items ≡ self.old.names.items }
-        ensures first { opening.new.first.chain ≡ opening.old.first.chain }
-        ensures second { opening.new.second.chain ≡ opening.old.second.chain }
+    ) -> Result<(), Fault>
+        ensures ran { Runs C.known self.now.names.now (Open turns.now opening.old ∷ []) result chains.old (W.contents output.old) chains.new (W.contents output.new) }
         ensures faults { IfErr result IsRunFault }
     {
-        match self.take(opening, side, kind, output)? {
-            Some(effect) => {
-                opening.learn(side, effect);
-                Ok(true)
-            }
-            None => Ok(false),
-        }
-    }
-
-    // Takes the turns of an `open`, up to the first that gives nothing.
-    fn take_each<W: Write>(&mut self, opening: &mut Handshake, output: &mut W) -> Result<(), Fault>
-        requires first { opening.old.first.chain < length self.old.names.items }
-        requires second { opening.old.second.chain < length self.old.names.items }
-        ensures same { self.new.names.items ≡ self.old.names.items }
-        ensures faults { IfErr result IsRunFault }
-    {
-        for (side, kind) in &PLAN {
-            if !self.take_and_learn(opening, *side, *kind, output)? {
-                return Ok(());
+        for (side, kind) in turns {
+            match self.take_turn(chains, opening, *side, *kind, output)? {
+                Some(effect) => opening.learn(*side, effect),
+                None => return Ok(()),
             }
         }
         Ok(())
     }
 
-    /// Opens a channel of an application between two chains, on a new connection between new clients. After a refusal,
-    /// and where something that a message needs isn't there, the rest is left out.
-    fn open<W: Write>(&mut self, mut opening: Handshake, output: &mut W) -> Result<(), Fault>
-        requires first { opening.first.chain < length self.old.names.items }
-        requires second { opening.second.chain < length self.old.names.items }
-        ensures same { self.new.names.items ≡ self.old.names.items }
+    // Opens a channel of an application between two chains, on a new connection between new clients. After a refusal,
+    // and where something that a message needs isn't there, the rest is left out.
+    fn open<C: Chains + Drop, W: Write>(
+        &self,
+        chains: &mut C,
+        mut opening: Handshake,
+        output: &mut W,
+    ) -> Result<(), Fault>
+        ensures ran { Runs C.known self.now.names.now (Open turns_of_open opening ∷ []) result chains.old (W.contents output.old) chains.new (W.contents output.new) }
         ensures faults { IfErr result IsRunFault }
     {
-        let opened = self.take_each(&mut opening, output);
+        let opened = self.take_turns(chains, &mut opening, &PLAN, output);
         drop(opening);
         opened
     }
 
-    /// Takes a step of the chains, and prints the replies. A step that only asks what chains have is passed over. Faults:
-    /// `CannotWrite`, `NoMemory`; what was written stays written.
-    pub fn act<W: Write>(&mut self, step: Step, output: &mut W) -> Result<(), Fault>
-        requires { IsAmong (length self.old.names.items) step }
-        ensures same { self.new.names.items ≡ self.old.names.items }
+    /// Takes a step that asks the chains for events, and prints the replies; a step that only looks at what the chains have
+    /// is passed over. Faults: `CannotWrite`, `NoMemory`; what was written stays written.
+    pub fn act<C: Chains + Drop, W: Write>(
+        &self,
+        chains: &mut C,
+        step: Step,
+        output: &mut W,
+    ) -> Result<(), Fault>
+        ensures ran { Runs C.known self.now.names.now (asking_acts step) result chains.old (W.contents output.old) chains.new (W.contents output.new) }
         ensures faults { IfErr result IsRunFault }
     {
         match step {
-            Step::Message { on, draft } => self.submit(on, draft, output).map(drop),
-            Step::Block { on, time } => self.end_block(on, time, output).map(drop),
+            Step::Message { on, draft } => {
+                self.submit_and_tell(chains, on, draft, output)?;
+                Ok(())
+            }
+            Step::Block { on, time } => {
+                self.end_and_tell(chains, on, time, output)?;
+                Ok(())
+            }
             Step::Open {
                 first,
                 second,
                 application,
-            } => self.open(Handshake::new(application, first, second), output),
+            } => self.open(chains, Handshake::new(application, first, second), output),
             Step::Relay {
                 first,
                 second,
                 turns,
-            } => self.relay(first, second, turns, output),
-            Step::Root { .. } | Step::Prove { .. } | Step::Totals { .. } => Ok(()),
+            } => self.relay(chains, first, second, turns, output),
+            Step::Root { .. } => Ok(()),
+            Step::Prove { .. } => Ok(()),
+            Step::Totals { .. } => Ok(()),
         }
     }
 
-    /// Takes the steps of the chains in turn, and prints the replies; steps that only ask what chains have are passed over.
-    /// Faults: `CannotWrite`, `NoMemory`; what was written stays written.
-    pub fn act_each<W: Write>(&mut self, steps: Vec<Step>, output: &mut W) -> Result<(), Fault>
-        requires { All (IsAmong (length self.old.names.items)) steps.items }
-        ensures same { self.new.names.items ≡ self.old.names.items }
-        ensures faults { IfErr result IsRunFault }
-    {
-        for step in steps {
-            self.act(step, output)?;
-        }
-        Ok(())
-    }
-
-    /// The chains.
-    pub fn chains(&self) -> &C {
-        &self.chains
-    }
-
-    /// Keeps the blocks that a chain was seen to end, one after another. Error: no memory; a beginning of them is kept then.
-    pub fn keep_ended(&mut self, on: u8, blocks: &[EndedBlock]) -> Result<(), AllocError>
-        requires { on < length self.old.names.items }
-        ensures { self.new.names.items ≡ self.old.names.items }
-    {
-        self.heights[on as usize].commit_each(blocks)
-    }
-
-    /// The chains, taken out.
-    pub fn into_chains(self) -> C {
-        self.chains
-    }
-}
-
-impl<C: Chains + Holdings + Drop> Runner<C> {
-    fn run<W: Write>(&mut self, step: Step, output: &mut W) -> Result<(), Fault>
-        requires { IsAmong (length self.old.names.items) step }
-        ensures same { self.new.names.items ≡ self.old.names.items }
+    // Takes a step, and prints its lines.
+    fn take<C: Holdings + Drop, W: Write>(
+        &self,
+        chains: &mut C,
+        step: Step,
+        output: &mut W,
+    ) -> Result<(), Fault>
+        ensures ran { Runs C.known self.now.names.now (Take step ∷ []) result chains.old (W.contents output.old) chains.new (W.contents output.new) }
         ensures faults { IfErr result IsRunFault }
     {
         match step {
-            Step::Root { on, height } => self.print_root(on, height, output),
-            Step::Prove { on, height, key } => self.print_proof(on, height, key, output),
-            Step::Totals { on, channel, denom } => self.print_totals(on, channel, denom, output),
-            step => self.act(step, output),
+            Step::Root { on, height } => self.print_root(chains, on, height, output),
+            Step::Prove { on, height, key } => {
+                self.print_proof(chains, ProofSource { chain: on, height }, key, output)
+            }
+            Step::Totals { on, channel, denom } => {
+                self.print_totals(chains, on, channel, denom, output)
+            }
+            step => self.act(chains, step, output),
         }
     }
 
-    /// Runs steps in turn, and prints their lines.
-    fn run_each<W: Write>(&mut self, steps: Vec<Step>, output: &mut W) -> Result<(), Fault>
-        requires { All (IsAmong (length self.old.names.items)) steps.items }
-        ensures { IfErr result IsRunFault }
+    // Takes steps in turn, and prints their lines.
+    fn take_each<C: Holdings + Drop, W: Write>(
+        &self,
+        chains: &mut C,
+        steps: Vec<Step>,
+        output: &mut W,
+    ) -> Result<(), Fault>
+        ensures ran { Runs C.known self.now.names.now (map Take steps.items) result chains.old (W.contents output.old) chains.new (W.contents output.new) }
+        ensures faults { IfErr result IsRunFault }
     {
         for step in steps {
-            self.run(step, output)?;
+            self.take(chains, step, output)?;
         }
         Ok(())
     }
 
-    /// Runs steps in turn and prints their lines, and then the balances and the notes. Faults: `CannotWrite`,
-    /// `NoMemory`; what was written stays written.
-    pub fn run_all<W: Write>(&mut self, steps: Vec<Step>, output: &mut W) -> Result<(), Fault>
-        requires { All (IsAmong (length self.old.names.items)) steps.items }
-        ensures { IfErr result IsRunFault }
+    /// Takes steps in turn and prints their lines, and then tells what the chains hold: the balances, and then the notes.
+    /// Faults: `CannotWrite`, `NoMemory`; what was written stays written.
+    pub fn run<C: Holdings + Drop, W: Write>(
+        &self,
+        chains: &mut C,
+        steps: Vec<Step>,
+        output: &mut W,
+    ) -> Result<(), Fault>
+        ensures ran { Runs C.known self.now.names.now (acts_of steps.items (length self.now.names.now)) result chains.old (W.contents output.old) chains.new (W.contents output.new) }
+        ensures faults { IfErr result IsRunFault }
     {
-        self.run_each(steps, output)?;
-        let names = self.names.as_slice();
-        print_balances(self.alloc, names, &self.chains, output)?;
-        print_notes(self.alloc, names, &self.chains, output)
+        self.take_each(chains, steps, output)?;
+        self.tell_balances(chains, output)?;
+        self.tell_notes(chains, output)
     }
 }

@@ -1,8 +1,8 @@
 //! The input and the output of the program.
 
-ghost use Rattle.std.specs.Prelude.{◌≡◌, ◌≢◌, ◌⊎◌, ◌↔◌, ◌++◌, codes, take, IfOk, IfErr, IfSome, OnOk, IsOkUnless};
-ghost use Rattle.std.specs.Io.KnownBytes.{Appends};
+ghost use Rattle.std.specs.Prelude.{◌≡◌, ◌≢◌, ◌⊎◌, ◌↔◌, ◌++◌, codes, take, IfOk, IfErr, IfSome, IsOkUnless};
 ghost use Rattle.std.specs.IoError.{error_kind};
+ghost use Rattle.ibc_script_cli.specs.Runs.{WritesText};
 
 use ibc_script::{Fault, MOST_BYTES};
 use std::alloc::Global;
@@ -34,13 +34,31 @@ pub fn read_input<R: Read + Drop>(alloc: Global, input: R) -> Result<Vec<u8>, Fa
     }
 }
 
-/// Writes a line and a line feed. Fault: `CannotWrite`; the writer may have taken a beginning of the line then.
-pub fn write_line<W: Write>(output: &mut W, line: &str) -> Result<(), Fault>
-    ensures ok { OnOk result (Appends (W.contents output.old) (W.contents output.new) (line.now ++ codes "\n")) }
+// Writes bytes. Fault: `CannotWrite`, also where the writer takes none; a beginning of the bytes is written then.
+fn write_bytes<W: Write>(output: &mut W, bytes: &[u8]) -> Result<(), Fault>
+    ensures written { WritesText result (W.contents output.old) (W.contents output.new) bytes.now }
     ensures fault { IsOkUnless result Fault.CannotWrite }
 {
-    match writeln!(output, "{line}") {
-        Ok(()) => Ok(()),
-        Err(_) => Err(Fault::CannotWrite),
+    let mut rest = bytes;
+    for _turn in 0..u64::MAX {
+        if rest.is_empty() {
+            return Ok(());
+        }
+        match output.write(rest) {
+            Ok(0) => return Err(Fault::CannotWrite),
+            Ok(taken) => rest = &rest[taken..],
+            Err(error) if error.kind() == ErrorKind::Interrupted => {}
+            Err(_) => return Err(Fault::CannotWrite),
+        }
     }
+    Err(Fault::CannotWrite)
+}
+
+/// Writes a line and a line feed. Fault: `CannotWrite`; a beginning of them is written then.
+pub fn write_line<W: Write>(output: &mut W, line: &str) -> Result<(), Fault>
+    ensures written { WritesText result (W.contents output.old) (W.contents output.new) (line.now ++ codes "\n") }
+    ensures fault { IsOkUnless result Fault.CannotWrite }
+{
+    write_bytes(output, line.as_bytes())?;
+    write_bytes(output, b"\n")
 }

@@ -1,2 +1,4 @@
+pub mod Blocks
+pub mod LedgerAnswers
 pub mod Relaying
 pub mod Racing

@@ -1,11 +1,13 @@
 //! The chains of a script are the ledgers of a world.
 #![tactic(auto)]
 
+mod blocks;
 mod racing;
 mod relaying;
 mod sharing;
 mod worlds;
 
+pub use blocks::ChainStarts;
 pub use racing::{RaceRunner, race_on_ledgers};
 pub use relaying::plans_between;
 pub use sharing::Shared;

@@ -1,16 +1,20 @@
 //! Races on the chains of a world that threads share.
 
-ghost use Rattle.std.specs.Prelude.{◌≡◌, ◌⊎◌, ◌<◌, ◌≤◌, length, All, IfErr, IfOk};
+ghost use Rattle.std.specs.Prelude.{◌≡◌, ◌⊎◌, ◌≤◌, [], List, All, IfErr, IfOk, OnOk};
+ghost use Rattle.std.specs.List.{flat_map};
 ghost use denote.Param.Send.{IsSync};
 ghost use Rattle.ibc_script.specs.Faults.{IsScriptFault, IsRunFault};
-ghost use Rattle.ibc_script.specs.Scripts.{IsAmong};
+ghost use Rattle.ibc_script.specs.declared.script.Step.{Step as TakenStep};
+ghost use Rattle.ibc_script_cli.specs.Runs.{asking_acts};
 ghost use Rattle.ibc_machine.specs.chain.Genesis.{genesis_state};
 ghost use Rattle.ibc_race.specs.SharedWorlds.{HasItsBook};
-ghost use Rattle.ibc_script_worlds.specs.Racing.{IsRaceOf};
+ghost use Rattle.ibc_script_worlds.specs.Racing.{AreTaken, IsRaceOf, Takes};
 
+use crate::blocks::ChainStarts;
 use crate::sharing::Shared;
 use ibc_ledger::Ledger;
-use ibc_ledger_lock::{Chain, UnusedBook, WorldBrand};
+use ibc_ledger_lock::{Chain, Receipt, UnusedBook, WorldBrand};
+use ibc_machine::Genesis;
 use ibc_race::{audit_chains, begin, share};
 use ibc_script::{Fault, Step};
 use ibc_script_cli::{Race, RaceAudit, Races, Runner};
@@ -53,7 +57,7 @@ pub fn race_on_ledgers<R: Threads + Wait + Sync>(
     race: Race,
 ) -> Result<RaceAudit, Fault>
     requires { 1 ≤ relayers × relayers ≤ 8 }
-    ensures raced { IfOk result (IsRaceOf (genesis_state race.script.genesis)) }
+    ensures raced { IfOk result (IsRaceOf (genesis_state race.script.genesis) race.script.steps.items) }
     ensures faults { IfErr result (λ fault. IsRunFault fault ⊎ IsScriptFault fault) }
 {
     match begin(alloc, race.genesis()) {
@@ -75,24 +79,62 @@ fn race_on<R: Threads + Wait + Sync, W: WorldBrand + Send + Sync>(
 ) -> Result<RaceAudit, Fault>
     requires few { 1 ≤ relayers × relayers ≤ 8 }
     requires books { All (HasItsBook W.table W.genesis W.book) ledgers.items }
-    ensures raced { IfOk result (IsRaceOf W.genesis) }
+    ensures raced { IfOk result (IsRaceOf W.genesis race.script.steps.items) }
     ensures faults { IfErr result (λ fault. IsRunFault fault ⊎ IsScriptFault fault) }
 {
-    let chains = match share::<R, W>(rt, alloc, ledgers) {
-        Ok(chains) => chains,
-        Err(refusal) => {
-            drop(race);
-            return Err(Fault::of_refusal(refusal));
-        }
-    };
-    let (mut runner, steps) = race.begin(Shared { rt, alloc, chains });
-    match take_each(relayers, &mut runner, steps) {
-        Ok(()) => {
-            let Shared { chains, .. } = runner.into_chains();
-            audited(alloc, chains)
+    match shared_chains::<R, W>(rt, alloc, ledgers, race.genesis()) {
+        Ok(shared) => {
+            let (names, steps) = race.into_parts();
+            let runner = Runner::new(alloc, names.as_slice());
+            let taken = take_all(relayers, &runner, shared, steps);
+            drop(names);
+            let (chains, receipts) = taken?;
+            audited(alloc, chains, receipts)
         }
         Err(fault) => {
-            drop(runner);
+            drop(race);
+            Err(fault)
+        }
+    }
+}
+
+// The chains of ledgers of the world, which were asked nothing yet.
+fn shared_chains<'r, R: Wait, W: WorldBrand>(
+    rt: &'r R,
+    alloc: Global,
+    ledgers: Vec<(Ledger, UnusedBook)>,
+    genesis: &Genesis,
+) -> Result<Shared<'r, R, W>, Fault>
+    requires { All (HasItsBook W.table W.genesis W.book) ledgers.items }
+    ensures new { IfOk result (λ shared. shared ≡ []) }
+    ensures faults { IfErr result IsScriptFault }
+{
+    let chains = share::<R, W>(rt, alloc, ledgers).map_err(Fault::of_refusal)?;
+    match ChainStarts::of(alloc, genesis) {
+        Ok(starts) => Ok(Shared::new(rt, alloc, starts, chains)),
+        Err(error) => {
+            drop(chains);
+            Err(Fault::from(error))
+        }
+    }
+}
+
+// Takes the steps, and gives the chains with the receipts of what they were asked.
+fn take_all<R: Threads + Wait + Sync, W: WorldBrand + Send + Sync>(
+    relayers: u8,
+    runner: &Runner<'_>,
+    mut shared: Shared<'_, R, W>,
+    steps: Vec<Step>,
+) -> Result<(Vec<Chain<W>>, Vec<Receipt<W>>), Fault>
+    requires few { 1 ≤ relayers × relayers ≤ 8 }
+    requires new { shared ≡ [] }
+    ensures taken { IfOk result (λ done. AreTaken steps.items done.1.items) }
+    ensures faults { IfErr result IsRunFault }
+{
+    match take_each(relayers, runner, &mut shared, steps) {
+        Ok(()) => Ok(shared.into_parts()),
+        Err(fault) => {
+            drop(shared);
             Err(fault)
         }
     }
@@ -101,15 +143,16 @@ fn race_on<R: Threads + Wait + Sync, W: WorldBrand + Send + Sync>(
 // Takes the steps in turn.
 fn take_each<R: Threads + Wait + Sync, W: WorldBrand + Send + Sync>(
     relayers: u8,
-    runner: &mut Runner<Shared<'_, R, W>>,
+    runner: &Runner<'_>,
+    shared: &mut Shared<'_, R, W>,
     steps: Vec<Step>,
 ) -> Result<(), Fault>
     requires few { 1 ≤ relayers × relayers ≤ 8 }
-    requires among { All (IsAmong (length runner.old.names.items)) steps.items }
-    ensures { IfErr result IsRunFault }
+    ensures taken { OnOk result (Takes runner.now.names.now (flat_map asking_acts steps.items) shared.old shared.new) }
+    ensures faults { IfErr result IsRunFault }
 {
     for step in steps {
-        take(relayers, runner, step)?;
+        take(relayers, runner, shared, step)?;
     }
     Ok(())
 }
@@ -117,12 +160,12 @@ fn take_each<R: Threads + Wait + Sync, W: WorldBrand + Send + Sync>(
 // Takes a step; at a `relay`, relayers work at the same time first.
 fn take<R: Threads + Wait + Sync, W: WorldBrand + Send + Sync>(
     relayers: u8,
-    runner: &mut Runner<Shared<'_, R, W>>,
+    runner: &Runner<'_>,
+    shared: &mut Shared<'_, R, W>,
     step: Step,
 ) -> Result<(), Fault>
-    requires few { 1 ≤ relayers × relayers ≤ 8 }
-    requires among { IsAmong (length runner.old.names.items) step }
-    ensures same { runner.new.names.items ≡ runner.old.names.items }
+    requires { 1 ≤ relayers × relayers ≤ 8 }
+    ensures taken { OnOk result (Takes runner.now.names.now (asking_acts step) shared.old shared.new) }
     ensures faults { IfErr result IsRunFault }
 {
     let raced = match &step {
@@ -130,48 +173,30 @@ fn take<R: Threads + Wait + Sync, W: WorldBrand + Send + Sync>(
             first,
             second,
             turns,
-        } => relay_at_once(relayers, runner, (*first, *second), *turns),
+        } => shared.relay_between(relayers, (*first, *second), *turns),
         _ => Ok(()),
     };
     match raced {
-        Ok(()) => runner.act(step, &mut io::sink()),
-        Err(fault) => {
+        Ok(()) => runner.act(shared, step, &mut io::sink()),
+        Err(refusal) => {
             drop(step);
-            Err(fault)
+            Err(Fault::no_memory(refusal))
         }
     }
 }
 
-// Has relayers work at the same time between two chains, and keeps the blocks that these ended meanwhile.
-fn relay_at_once<R: Threads + Wait + Sync, W: WorldBrand + Send + Sync>(
-    relayers: u8,
-    runner: &mut Runner<Shared<'_, R, W>>,
-    chains: (u8, u8),
-    turns: u16,
-) -> Result<(), Fault>
-    requires few { 1 ≤ relayers × relayers ≤ 8 }
-    requires first { chains.0 < length runner.old.names.items }
-    requires second { chains.1 < length runner.old.names.items }
-    ensures same { runner.new.names.items ≡ runner.old.names.items }
-    ensures faults { IfErr result IsRunFault }
-{
-    let (first, second) = chains;
-    let ended = runner.chains().relay_between(relayers, chains, turns);
-    let (of_first, of_second) = ended.map_err(Fault::no_memory)?;
-    let kept = runner.keep_ended(first, of_first.as_slice());
-    drop(of_first);
-    let kept_too = runner.keep_ended(second, of_second.as_slice());
-    drop(of_second);
-    kept?;
-    Ok(kept_too?)
-}
-
-// What chains of the world come to.
-fn audited<W: WorldBrand>(alloc: Global, chains: Vec<Chain<W>>) -> Result<RaceAudit, Fault>
-    ensures raced { IfOk result (IsRaceOf W.genesis) }
+// What chains of the world come to, which were asked for the steps of a script.
+fn audited<W: WorldBrand>(
+    alloc: Global,
+    chains: Vec<Chain<W>>,
+    receipts: Vec<Receipt<W>>,
+) -> Result<RaceAudit, Fault>
+    ensures raced { (steps : List TakenStep) → AreTaken steps receipts.items → IfOk result (IsRaceOf W.genesis steps) }
     ensures faults { IfErr result IsScriptFault }
 {
-    match audit_chains::<W>(alloc, chains, &[], &[]) {
+    let audit = audit_chains::<W>(alloc, chains, receipts.as_slice(), &[]);
+    drop(receipts);
+    match audit {
         Ok(audit) => Ok(told(audit)),
         Err(refusal) => Err(Fault::of_refusal(refusal)),
     }

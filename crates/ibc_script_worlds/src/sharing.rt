@@ -1,79 +1,100 @@
 //! Chains that threads share, as the steps of a script see them.
 
-ghost use Rattle.std.specs.Prelude.{◌≤◌, IsOkUnless};
+ghost use Rattle.std.specs.Prelude.{◌≡◌, ◌≤◌, ◌++◌, ◌∷◌, [], IfOk, IsOkUnless, OnOk};
 ghost use Rattle.ibc_ids.specs.declared.refusal.Refusal.TheVariants.{NoMemory};
+ghost use Rattle.ibc_script_worlds.specs.Racing.{raced_chains};
 
-use crate::worlds::decoded;
-use ibc_ids::{Bytes, ChannelId, ClientId, ConnectionId, Key, PortId, Refusal};
-use ibc_ledger::StampedEntry;
-use ibc_ledger_lock::{Chain, WorldBrand};
-use ibc_machine::{Effect, Entry, Event, Reply};
+use crate::blocks::ChainStarts;
+use ibc_ids::{Bytes, ChannelId, Key, PortId, Refusal};
+use ibc_ledger_lock::{Chain, Receipt, WorldBrand};
+use ibc_machine::{Event, Reply};
 use ibc_merkle::Proof;
 use ibc_relayer::{plans, relay_all};
-use ibc_script_cli::{Chains, EndedBlock};
-use ibc_wire::{ChannelEnd, ClientState, ConnectionEnd, Message, Packet, Wire};
+use ibc_script_cli::{Chains, CommittedBlock};
+use ibc_wire::{Message, Packet};
 use std::alloc::{AllocError, Global};
+use std::marker::Model;
 use std::sync::Wait;
 use std::thread::Threads;
 
-/// Chains that threads share, as the steps of a script see them.
+/// Chains that threads share, as the steps of a script see them, with the receipts of what these asked, in its order.
 #[derive(Drop)]
 pub struct Shared<'r, R: Wait, W: WorldBrand> {
-    pub rt: &'r R,
-    pub alloc: Global,
-    pub chains: Vec<Chain<W>>,
+    rt: &'r R,
+    alloc: Global,
+    starts: ChainStarts,
+    chains: Vec<Chain<W>>,
+    receipts: Vec<Receipt<W>>,
+}
+
+impl<'r, R: Wait, W: WorldBrand> Model for Shared<'r, R, W> {
+    ghost use Rattle.std.specs.Prelude.{List};
+    ghost use Rattle.ibc_ledger_lock.specs.ReceiptsAndReadings.{ReceiptModel};
+
+    ghost Value = { List ReceiptModel };
+
+    ghost view = { λ s. s.receipts.items };
+}
+
+impl<'r, R: Wait, W: WorldBrand> Shared<'r, R, W> {
+    /// Chains that were asked nothing yet, which begin so.
+    pub fn new(
+        rt: &'r R,
+        alloc: Global,
+        starts: ChainStarts,
+        chains: Vec<Chain<W>>,
+    ) -> Shared<'r, R, W>
+        ensures { result ≡ [] }
+    {
+        Shared {
+            rt,
+            alloc,
+            starts,
+            chains,
+            receipts: Vec::new(alloc),
+        }
+    }
+
+    /// The chains, and the receipts of what they were asked.
+    pub fn into_parts(self) -> (Vec<Chain<W>>, Vec<Receipt<W>>)
+        ensures { result.1.items ≡ self }
+    {
+        (self.chains, self.receipts)
+    }
 }
 
 impl<R: Wait, W: WorldBrand> Shared<'_, R, W> {
+    // Keeps a receipt, and tells its reply.
+    fn keep(&mut self, receipt: Receipt<W>) -> Result<Reply, Refusal>
+        ensures kept { OnOk result (self.new ≡ self.old ++ receipt ∷ []) }
+        ensures told { IfOk result (λ reply. reply ≡ receipt.reply) }
+        ensures err { IsOkUnless result NoMemory }
+    {
+        let reply: Result<Reply, AllocError> = receipt.reply().clone();
+        match self.receipts.push(receipt) {
+            Ok(()) => Ok(reply?),
+            Err(error) => {
+                drop(reply);
+                Err(Refusal::from(error))
+            }
+        }
+    }
+
     // The chain of a number, or none.
     fn chain(&self, chain: u8) -> Option<&Chain<W>> {
         self.chains.get(usize::from(chain))
     }
-
-    // What a chain has at a key as it stands, none where there is nothing. Refused: `NoMemory`.
-    fn record<T: Wire + Drop>(&self, chain: u8, key: Key) -> Result<Option<T>, Refusal> {
-        let value = self.value(chain, &key);
-        drop(key);
-        decoded(self.alloc, value?)
-    }
-
-    // The bytes that a chain has at a key.
-    fn value(&self, chain: u8, key: &Key) -> Result<Option<Bytes>, Refusal> {
-        match self.chain(chain) {
-            Some(chain) => chain.query(self.rt, key).0,
-            None => Ok(None),
-        }
-    }
-
-    // How many entries the history of a chain has.
-    fn entries(&self, chain: &Chain<W>) -> usize {
-        chain.events_from(self.rt, 0, |entries| entries.len()).0
-    }
-
-    // The blocks that a chain ended from a place of its history on.
-    fn ended(&self, chain: &Chain<W>, place: usize) -> Result<Vec<EndedBlock>, AllocError> {
-        let alloc = self.alloc;
-        chain
-            .events_from(self.rt, place, |entries| ended_in(alloc, entries))
-            .0
-    }
 }
 
 impl<R: Threads + Wait + Sync, W: WorldBrand + Send + Sync> Shared<'_, R, W> {
-    /// Has so many relayers relay between two chains at the same time. The result is the blocks that each of both ended
-    /// meanwhile, in order. Refused: `NoMemory`.
-    pub fn relay_between(
-        &self,
-        relayers: u8,
-        chains: (u8, u8),
-        turns: u16,
-    ) -> Result<(Vec<EndedBlock>, Vec<EndedBlock>), Refusal>
+    /// Has so many relayers relay between two chains at the same time. Refused: `NoMemory`.
+    pub fn relay_between(&self, relayers: u8, chains: (u8, u8), turns: u16) -> Result<(), Refusal>
         requires { 1 ≤ relayers × relayers ≤ 8 }
         ensures { IsOkUnless result NoMemory }
     {
         match (self.chain(chains.0), self.chain(chains.1)) {
             (Some(first), Some(second)) => self.relay_on(relayers, first, second, turns),
-            _ => Ok((Vec::new(self.alloc), Vec::new(self.alloc))),
+            _ => Ok(()),
         }
     }
 
@@ -84,75 +105,38 @@ impl<R: Threads + Wait + Sync, W: WorldBrand + Send + Sync> Shared<'_, R, W> {
         first: &Chain<W>,
         second: &Chain<W>,
         turns: u16,
-    ) -> Result<(Vec<EndedBlock>, Vec<EndedBlock>), Refusal>
+    ) -> Result<(), Refusal>
         requires { 1 ≤ relayers × relayers ≤ 8 }
         ensures { IsOkUnless result NoMemory }
     {
-        let places = (self.entries(first), self.entries(second));
         relay_all(self.rt, self.alloc, first, second, relayers, turns)?;
-        let of_first = self.ended(first, places.0)?;
-        Ok((of_first, self.ended(second, places.1)?))
-    }
-}
-
-// The blocks that were ended in a part of a history.
-fn ended_in(alloc: Global, entries: &[StampedEntry]) -> Result<Vec<EndedBlock>, AllocError> {
-    let mut blocks = Vec::new(alloc);
-    for stamped in entries {
-        if let Some(block) = ended_by(&stamped.entry) {
-            blocks.push(block)?;
-        }
-    }
-    Ok(blocks)
-}
-
-// The block that an entry tells the end of.
-fn ended_by(entry: &Entry) -> Option<EndedBlock> {
-    match (&entry.event, &entry.reply) {
-        (Event::Block { next_time, .. }, Reply::Ok(Effect::Block(_, root))) => Some(EndedBlock {
-            root: *root,
-            next_time: *next_time,
-        }),
-        _ => None,
+        Ok(())
     }
 }
 
 impl<R: Wait, W: WorldBrand> Chains for Shared<'_, R, W> {
+    ghost known = { raced_chains };
+
     fn ask(&mut self, event: Event) -> Result<Reply, Refusal> {
         let number = match &event {
             Event::Message { chain, .. } | Event::Block { chain, .. } => *chain,
         };
         let Some(chain) = self.chain(number) else {
             drop(event);
-            return Ok(Reply::No(Refusal::UnknownChain));
+            return Err(Refusal::UnknownChain);
         };
         let receipt = match event {
             Event::Message { message, .. } => chain.submit(self.rt, message),
             Event::Block { next_time, .. } => chain.produce(self.rt, next_time),
         };
-        Ok(receipt.into_reply())
+        self.keep(receipt)
     }
 
-    fn client_state(&self, chain: u8, client: &ClientId) -> Result<Option<ClientState>, Refusal> {
-        self.record(chain, Key::ClientState(client.clone()?))
-    }
-
-    fn connection(
-        &self,
-        chain: u8,
-        connection: &ConnectionId,
-    ) -> Result<Option<ConnectionEnd>, Refusal> {
-        self.record(chain, Key::Connection(connection.clone()?))
-    }
-
-    fn channel(
-        &self,
-        chain: u8,
-        port: &PortId,
-        channel: &ChannelId,
-    ) -> Result<Option<ChannelEnd>, Refusal> {
-        let port = port.clone()?;
-        self.record(chain, Key::ChannelEnd(port, channel.clone()?))
+    fn value(&self, chain: u8, key: &Key) -> Result<Option<Bytes>, Refusal> {
+        match self.chain(chain) {
+            Some(chain) => chain.query(self.rt, key).0,
+            None => Ok(None),
+        }
     }
 
     fn packet(
@@ -190,6 +174,24 @@ impl<R: Wait, W: WorldBrand> Chains for Shared<'_, R, W> {
             Ok(proof) => Ok(Some(proof)),
             Err(Refusal::NoConsensus) => Ok(None),
             Err(refusal) => Err(refusal),
+        }
+    }
+
+    fn block(&self, chain: u8, height: u64) -> Option<CommittedBlock> {
+        let starts = &self.starts;
+        let shared = self.chain(chain)?;
+        let read = shared.events_from(self.rt, 0, |history| starts.block(chain, history, height));
+        read.0
+    }
+
+    fn working_time(&self, chain: u8) -> Result<u64, Refusal> {
+        match self.chain(chain) {
+            Some(chain) => {
+                let looked = chain.look(self.rt);
+                let time = looked.0.map(|view| view.working_time());
+                time
+            }
+            None => Ok(0),
         }
     }
 

@@ -1,13 +1,16 @@
 //! Worlds, as the steps of a script see them.
 
+use crate::blocks::ChainStarts;
 use crate::relaying::plans_between;
-use ibc_ids::{Account, Bytes, ChannelId, ClientId, ConnectionId, Denom, Key, PortId, Refusal};
+use ibc_ids::{Account, Bytes, ChannelId, Denom, Key, PortId, Refusal};
 use ibc_machine::{Event, Genesis, Reply, Totals};
 use ibc_merkle::Proof;
-use ibc_script_cli::{Chains, Holdings, Worlds};
-use ibc_wire::{ChannelEnd, ClientState, ConnectionEnd, Message, Packet, Wire, decode};
+use ibc_script_cli::{Chains, CommittedBlock, Holdings, Worlds};
+use ibc_theorem::lemma_what_every_world_keeps;
+use ibc_wire::{Message, Packet};
 use ibc_world_core::World;
 use std::alloc::Global;
+use std::marker::Model;
 
 /// Makes the world of each genesis.
 #[derive(Drop)]
@@ -26,70 +29,65 @@ impl WorldFactory {
 #[derive(Drop)]
 pub struct ScriptWorld {
     alloc: Global,
+    starts: ChainStarts,
     world: World,
 }
 
-impl ScriptWorld {
-    // What a chain has at a key as it stands, none where there is nothing. Refused: `NoMemory`.
-    fn record<T: Wire + Drop>(&self, chain: u8, key: Key) -> Result<Option<T>, Refusal> {
-        let value = self.value(chain, &key);
-        drop(key);
-        decoded(self.alloc, value?)
+impl Model for ScriptWorld {
+    ghost use Rattle.ibc_refinement.specs.World.{WorldState};
+    ghost use Rattle.ibc_script_worlds.specs.Blocks.{AreStartsOf};
+
+    ghost Value = { WorldState };
+
+    ghost view = { λ s. s.world };
+
+    ghost invariant = { λ s. AreStartsOf s.world.genesis s.starts };
+}
+
+impl Worlds for WorldFactory {
+    ghost use Rattle.ibc_script_worlds.specs.LedgerAnswers.{IsBegun};
+    ghost use Rattle.ibc_theorem.specs.EveryWorld.{IsLawfulUnlessClash};
+
+    type Chains = ScriptWorld;
+
+    ghost begins = { IsBegun };
+
+    ghost keeps = { IsLawfulUnlessClash };
+
+    fn begin(&self, genesis: &Genesis) -> Result<ScriptWorld, Refusal> {
+        let world = World::new(self.alloc, genesis)?;
+        match ChainStarts::of(self.alloc, genesis) {
+            Ok(starts) => Ok(ScriptWorld {
+                alloc: self.alloc,
+                starts,
+                world,
+            }),
+            Err(error) => {
+                drop(world);
+                Err(Refusal::from(error))
+            }
+        }
     }
 
-    // The bytes that a chain has at a key.
+    fn lemma_keeps(&self, chains: &ScriptWorld) {
+        lemma_what_every_world_keeps(&chains.world);
+    }
+}
+
+impl Chains for ScriptWorld {
+    ghost use Rattle.ibc_script_worlds.specs.LedgerAnswers.{world_chains};
+
+    ghost known = { world_chains };
+
+    fn ask(&mut self, event: Event) -> Result<Reply, Refusal> {
+        Ok(self.world.step(event))
+    }
+
     fn value(&self, chain: u8, key: &Key) -> Result<Option<Bytes>, Refusal> {
         match self.world.ledger(chain) {
             Some(ledger) => ledger.query(key),
             None => Ok(None),
         }
-    }
-}
-
-// The record that bytes spell, none where there are none. Refused: `NoMemory`.
-pub fn decoded<T: Wire + Drop>(alloc: Global, bytes: Option<Bytes>) -> Result<Option<T>, Refusal> {
-    match bytes {
-        Some(bytes) => Ok(Some(decode(alloc, bytes.as_slice())?)),
-        None => Ok(None),
-    }
-}
-
-impl Worlds for WorldFactory {
-    type Chains = ScriptWorld;
-
-    fn begin(&self, genesis: &Genesis) -> Result<ScriptWorld, Refusal> {
-        Ok(ScriptWorld {
-            alloc: self.alloc,
-            world: World::new(self.alloc, genesis)?,
-        })
-    }
-}
-
-impl Chains for ScriptWorld {
-    fn ask(&mut self, event: Event) -> Result<Reply, Refusal> {
-        Ok(self.world.step(event))
-    }
-
-    fn client_state(&self, chain: u8, client: &ClientId) -> Result<Option<ClientState>, Refusal> {
-        self.record(chain, Key::ClientState(client.clone()?))
-    }
-
-    fn connection(
-        &self,
-        chain: u8,
-        connection: &ConnectionId,
-    ) -> Result<Option<ConnectionEnd>, Refusal> {
-        self.record(chain, Key::Connection(connection.clone()?))
-    }
-
-    fn channel(
-        &self,
-        chain: u8,
-        port: &PortId,
-        channel: &ChannelId,
-    ) -> Result<Option<ChannelEnd>, Refusal> {
-        let port = port.clone()?;
-        self.record(chain, Key::ChannelEnd(port, channel.clone()?))
     }
 
     fn packet(
@@ -126,6 +124,21 @@ impl Chains for ScriptWorld {
             Ok(proof) => Ok(Some(proof)),
             Err(Refusal::NoConsensus) => Ok(None),
             Err(refusal) => Err(refusal),
+        }
+    }
+
+    fn block(&self, chain: u8, height: u64) -> Option<CommittedBlock> {
+        let ledger = self.world.ledger(chain)?;
+        self.starts.block(chain, ledger.history(), height)
+    }
+
+    fn working_time(&self, chain: u8) -> Result<u64, Refusal> {
+        match self.world.ledger(chain) {
+            Some(ledger) => {
+                let view = ledger.view()?;
+                Ok(view.working_time())
+            }
+            None => Ok(0),
         }
     }
 

@@ -1,13 +1,15 @@
 //! Chains that are asked by the calls of `Gate`.
 
-use ibc_ids::{Bytes, ChannelId, ClientId, ConnectionId, Key, PortId, Refusal};
-use ibc_ledger_lock::Gate;
+use ibc_ids::{Bytes, ChannelId, Key, PortId, Refusal};
+use ibc_ledger::StampedEntry;
+use ibc_ledger_lock::{Gate, Receipt, WorldBrand};
 use ibc_machine::{Event, Reply};
 use ibc_merkle::Proof;
 use ibc_relayer::plans;
 use ibc_script::Fault;
-use ibc_script_cli::{Chains, Race};
-use ibc_wire::{ChannelEnd, ClientState, ConnectionEnd, Message, Packet, Wire, decode};
+use ibc_script_cli::{Chains, CommittedBlock, Race};
+use ibc_script_worlds::ChainStarts;
+use ibc_wire::{Message, Packet};
 use std::alloc::{AllocError, Global};
 use std::sync::Wait;
 
@@ -24,6 +26,7 @@ pub struct GatedChains<'g, R: Wait, G: Gate> {
     pub rt: &'g R,
     pub alloc: Global,
     pub gates: &'g [G],
+    pub starts: ChainStarts,
     pub answers: Vec<Answer>,
 }
 
@@ -34,14 +37,50 @@ pub fn take_steps<R: Wait, G: Gate>(
     gates: &[G],
     race: Race,
 ) -> Result<Vec<Answer>, Fault> {
+    let starts = match ChainStarts::of(alloc, race.genesis()) {
+        Ok(starts) => starts,
+        Err(error) => {
+            drop(race);
+            return Err(Fault::from(error));
+        }
+    };
     let asked = GatedChains {
         rt,
         alloc,
         gates,
+        starts,
         answers: Vec::new(alloc),
     };
     let GatedChains { answers, .. } = race.run_on(asked)?;
     Ok(answers)
+}
+
+/// What receipts tell. Refused: `NoMemory`.
+pub fn answers_of<W: WorldBrand>(
+    alloc: Global,
+    receipts: &[Receipt<W>],
+) -> Result<Vec<Answer>, Refusal> {
+    let mut answers = Vec::with_capacity(alloc, receipts.len())?;
+    match push_answers(&mut answers, receipts) {
+        Ok(()) => Ok(answers),
+        Err(refusal) => {
+            drop(answers);
+            Err(refusal)
+        }
+    }
+}
+
+// Adds what receipts tell to other answers.
+fn push_answers<W: WorldBrand>(
+    answers: &mut Vec<Answer>,
+    receipts: &[Receipt<W>],
+) -> Result<(), Refusal> {
+    for receipt in receipts {
+        let chain = receipt.chain();
+        let reply = receipt.reply().clone()?;
+        answers.push(Answer { chain, reply })?;
+    }
+    Ok(())
 }
 
 // Keeps what a chain answered, and tells its reply.
@@ -56,16 +95,17 @@ fn keep(answers: &mut Vec<Answer>, chain: u8, reply: Reply) -> Result<Reply, Ref
     }
 }
 
-// The record that bytes spell. Refused: `NoMemory`.
-fn read<T: Wire + Drop>(alloc: Global, bytes: Option<Bytes>) -> Result<Option<T>, Refusal> {
-    match bytes {
-        Some(bytes) => {
-            let record = decode(alloc, bytes.as_slice());
-            drop(bytes);
-            Ok(Some(record?))
+// The time of the working block of a chain that began at a time, by its history.
+fn time_in(start: u64, history: &[StampedEntry]) -> u64 {
+    for stamped in history.iter().rev() {
+        if let (Event::Block { next_time, .. }, Reply::Ok(_)) = (
+            &stamped.entry.event,
+            &stamped.entry.reply,
+        ) {
+            return *next_time;
         }
-        None => Ok(None),
     }
+    start
 }
 
 // A call of a function whose bounds this block assumes isn't covered by the borrow checker where a bound is `Sync`: so each
@@ -87,44 +127,11 @@ impl<R: Wait, G: Gate> Chains for GatedChains<'_, R, G> {
         }
     }
 
-    fn client_state(&self, chain: u8, client: &ClientId) -> Result<Option<ClientState>, Refusal> {
-        let key = Key::ClientState(client.clone()?);
-        let bytes = match self.gates.get(usize::from(chain)) {
-            Some(gate) => gate.query(self.rt, &key),
+    fn value(&self, chain: u8, key: &Key) -> Result<Option<Bytes>, Refusal> {
+        match self.gates.get(usize::from(chain)) {
+            Some(gate) => gate.query(self.rt, key),
             None => Ok(None),
-        };
-        drop(key);
-        read(self.alloc, bytes?)
-    }
-
-    fn connection(
-        &self,
-        chain: u8,
-        connection: &ConnectionId,
-    ) -> Result<Option<ConnectionEnd>, Refusal> {
-        let key = Key::Connection(connection.clone()?);
-        let bytes = match self.gates.get(usize::from(chain)) {
-            Some(gate) => gate.query(self.rt, &key),
-            None => Ok(None),
-        };
-        drop(key);
-        read(self.alloc, bytes?)
-    }
-
-    fn channel(
-        &self,
-        chain: u8,
-        port: &PortId,
-        channel: &ChannelId,
-    ) -> Result<Option<ChannelEnd>, Refusal> {
-        let port = port.clone()?;
-        let key = Key::ChannelEnd(port, channel.clone()?);
-        let bytes = match self.gates.get(usize::from(chain)) {
-            Some(gate) => gate.query(self.rt, &key),
-            None => Ok(None),
-        };
-        drop(key);
-        read(self.alloc, bytes?)
+        }
     }
 
     fn packet(
@@ -161,6 +168,25 @@ impl<R: Wait, G: Gate> Chains for GatedChains<'_, R, G> {
             Ok(proof) => Ok(Some(proof)),
             Err(Refusal::NoConsensus) => Ok(None),
             Err(refusal) => Err(refusal),
+        }
+    }
+
+    fn block(&self, chain: u8, height: u64) -> Option<CommittedBlock> {
+        let starts = &self.starts;
+        let gate = self.gates.get(usize::from(chain))?;
+        gate.events_from(self.rt, 0, |history| starts.block(chain, history, height))
+    }
+
+    fn working_time(&self, chain: u8) -> Result<u64, Refusal> {
+        match (
+            self.gates.get(usize::from(chain)),
+            self.starts.times.get(usize::from(chain)),
+        ) {
+            (Some(gate), Some(start)) => {
+                let start = *start;
+                Ok(gate.events_from(self.rt, 0, |history| time_in(start, history)))
+            }
+            _ => Ok(0),
         }
     }
 

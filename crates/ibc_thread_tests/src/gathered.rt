@@ -4,13 +4,13 @@ ghost use Rattle.std.specs.Prelude.{◌⊎◌, IfErr};
 ghost use Rattle.ibc_script.specs.Faults.{IsScriptFault, IsRunFault};
 
 use crate::spelled::{SpelledEvent, is_no_memory};
-use ibc_ids::{Bytes, ChannelId, ClientId, ConnectionId, Key, PortId, Refusal};
+use ibc_ids::{Bytes, ChannelId, Key, PortId, Refusal};
 use ibc_machine::{Event, Genesis, Reply};
 use ibc_merkle::Proof;
 use ibc_script::Fault;
-use ibc_script_cli::{Chains, Race, Worlds};
+use ibc_script_cli::{Chains, CommittedBlock, Race, Worlds};
 use ibc_script_worlds::{ScriptWorld, WorldFactory};
-use ibc_wire::{ChannelEnd, ClientState, ConnectionEnd, Message, Packet};
+use ibc_wire::{Message, Packet};
 use std::alloc::{AllocError, Global};
 
 /// What a world was asked, as it is spelled, and what it answered.
@@ -108,25 +108,8 @@ impl Chains for Gathering {
         self.list.answer(reply)
     }
 
-    fn client_state(&self, chain: u8, client: &ClientId) -> Result<Option<ClientState>, Refusal> {
-        self.ledgers.client_state(chain, client)
-    }
-
-    fn connection(
-        &self,
-        chain: u8,
-        connection: &ConnectionId,
-    ) -> Result<Option<ConnectionEnd>, Refusal> {
-        self.ledgers.connection(chain, connection)
-    }
-
-    fn channel(
-        &self,
-        chain: u8,
-        port: &PortId,
-        channel: &ChannelId,
-    ) -> Result<Option<ChannelEnd>, Refusal> {
-        self.ledgers.channel(chain, port, channel)
+    fn value(&self, chain: u8, key: &Key) -> Result<Option<Bytes>, Refusal> {
+        self.ledgers.value(chain, key)
     }
 
     fn packet(
@@ -151,6 +134,14 @@ impl Chains for Gathering {
 
     fn proof(&self, chain: u8, height: u64, key: &Key) -> Result<Option<Proof>, Refusal> {
         self.ledgers.proof(chain, height, key)
+    }
+
+    fn block(&self, chain: u8, height: u64) -> Option<CommittedBlock> {
+        self.ledgers.block(chain, height)
+    }
+
+    fn working_time(&self, chain: u8) -> Result<u64, Refusal> {
+        self.ledgers.working_time(chain)
     }
 
     fn plans(&self, first: u8, second: u8) -> Result<(Vec<Message>, Vec<Message>), Refusal> {

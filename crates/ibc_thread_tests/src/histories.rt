@@ -29,7 +29,7 @@ fn kind_of(event: &Event) -> EventKind {
 // The line of an entry of a chain.
 fn line_of(alloc: Global, chain: &ChainName, entry: &StampedEntry) -> Result<String, Refusal> {
     let line = Line::Reply {
-        chain,
+        chain: chain.as_str(),
         kind: kind_of(&entry.entry.event),
         reply: &entry.entry.reply,
     };

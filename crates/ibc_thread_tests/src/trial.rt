@@ -4,9 +4,8 @@ ghost use denote.Param.Send.{IsSync};
 ghost use Rattle.std.specs.Prelude.{All};
 ghost use Rattle.ibc_race.specs.SharedWorlds.{HasItsBook};
 
-use crate::asked::{Answer, take_steps};
+use crate::asked::{Answer, answers_of, take_steps};
 use crate::histories::{HistoryLines, are_told};
-use crate::kept::{ReceiptedChains, answers_of};
 use crate::looks::{received_thirty, take_steps_watched};
 use crate::relayed::{eight_race, two_pairs_relay};
 use crate::turns::{blocks_end, sent_again, there_and_back, two_turns};
@@ -16,7 +15,7 @@ use ibc_ledger_lock::{Chain, Gate, Receipt, UnusedBook, WorldBrand};
 use ibc_race::{audit_chains, begin, share};
 use ibc_script::Fault;
 use ibc_script_cli::{Race, RaceAudit, Races};
-use ibc_script_worlds::Shared;
+use ibc_script_worlds::{ChainStarts, Shared};
 use ibc_world_core::Audit;
 use std::alloc::Global;
 use std::cell::Cell;
@@ -120,13 +119,16 @@ fn try_own_calls<R: Threads + Wait + Sync, W: WorldBrand + Send + Sync>(
     race: Race,
 ) -> Result<RaceAudit, Fault> {
     let (rt, alloc) = (trial.rt, trial.alloc);
-    let shared = Shared { rt, alloc, chains };
-    let kept = ReceiptedChains {
-        shared,
-        receipts: Vec::new(alloc),
+    let starts = match ChainStarts::of(alloc, race.genesis()) {
+        Ok(starts) => starts,
+        Err(error) => {
+            drop(chains);
+            drop(race);
+            return Err(Fault::from(error));
+        }
     };
-    let ReceiptedChains { shared, receipts } = race.run_on(kept)?;
-    let Shared { chains, .. } = shared;
+    let shared = race.run_on(Shared::new(rt, alloc, starts, chains))?;
+    let (chains, receipts) = shared.into_parts();
     let done = is_done_by_receipts(trial, chains.as_slice(), receipts.as_slice());
     audited(trial, chains, receipts, done)
 }

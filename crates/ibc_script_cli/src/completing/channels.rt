@@ -1,7 +1,7 @@
 //! Messages for channels.
 
 ghost use Rattle.std.specs.Prelude.{◌≡◌, IfOk, IsOkUnless};
-ghost use Rattle.ibc_script_cli.specs.Completing.{channel_message, peer_key, answer_key, IsAnswerProof, IsPeerProof, IsChannelProof, MakesChannelMessage};
+ghost use Rattle.ibc_script_cli.specs.Completing.{channel_message, peer_key, answer_key, IsAnswerProof, IsChannelOf, IsPeerProof, IsChannelProof, MakesChannelMessage};
 ghost use Rattle.ibc_ids.specs.declared.key.Key.TheVariants as key;
 
 use super::Completer;
@@ -121,6 +121,19 @@ fn channel_message(draft: ChannelDraft, proof: Option<Bytes>) -> Option<Message>
 }
 
 impl<C: Chains + Drop> Completer<'_, C> {
+    /// The end of a channel of a chain as it stands.
+    pub(super) fn own_end(
+        &self,
+        on: u8,
+        port: &PortId,
+        channel: &ChannelId,
+    ) -> Result<Option<ChannelEnd>, Fault>
+        ensures found { IfOk result (IsChannelOf (C.known.answers self.now.chains.now) on port.now channel.now) }
+        ensures err { IsOkUnless result Fault.NoMemory }
+    {
+        self.standing(on, end_key(port, channel)?)
+    }
+
     /// The proof of the peer's end that the message names, on the port that the own end names.
     fn answer_proof(
         &self,
@@ -130,11 +143,10 @@ impl<C: Chains + Drop> Completer<'_, C> {
         peer_channel: &ChannelId,
         from: ProofSource,
     ) -> Result<Option<Bytes>, Fault>
-        ensures is { IfOk result (IsAnswerProof (C.answers self.now.chains.now) on port.now channel.now peer_channel.now from) }
+        ensures is { IfOk result (IsAnswerProof (C.known.answers self.now.chains.now) on port.now channel.now peer_channel.now from) }
         ensures err { IsOkUnless result Fault.NoMemory }
     {
-        let own = self.chains.channel(on, port, channel);
-        match own.map_err(Fault::no_memory)? {
+        match self.own_end(on, port, channel)? {
             Some(own) => self.proof(from, answer_key(own, peer_channel)?),
             None => Ok(None),
         }
@@ -148,11 +160,10 @@ impl<C: Chains + Drop> Completer<'_, C> {
         channel: &ChannelId,
         from: ProofSource,
     ) -> Result<Option<Bytes>, Fault>
-        ensures is { IfOk result (IsPeerProof (C.answers self.now.chains.now) on port.now channel.now from) }
+        ensures is { IfOk result (IsPeerProof (C.known.answers self.now.chains.now) on port.now channel.now from) }
         ensures err { IsOkUnless result Fault.NoMemory }
     {
-        let own = self.chains.channel(on, port, channel);
-        match own.map_err(Fault::no_memory)?.and_then(peer_key) {
+        match self.own_end(on, port, channel)?.and_then(peer_key) {
             Some(key) => self.proof(from, key),
             None => Ok(None),
         }
@@ -160,7 +171,7 @@ impl<C: Chains + Drop> Completer<'_, C> {
 
     // The proof that a step needs.
     fn channel_proof(&self, on: u8, draft: &ChannelDraft) -> Result<Option<Bytes>, Fault>
-        ensures is { IfOk result (IsChannelProof (C.answers self.now.chains.now) on draft.now) }
+        ensures is { IfOk result (IsChannelProof (C.known.answers self.now.chains.now) on draft.now) }
         ensures err { IsOkUnless result Fault.NoMemory }
     {
         match draft {
@@ -190,7 +201,7 @@ impl<C: Chains + Drop> Completer<'_, C> {
     /// The message for channels that a step of a chain sends, `None` where something that it needs isn't there.
     /// Fault: `NoMemory`.
     pub fn channel_message(&self, on: u8, draft: ChannelDraft) -> Result<Option<Message>, Fault>
-        ensures made { IfOk result (MakesChannelMessage (C.answers self.now.chains.now) on draft) }
+        ensures made { IfOk result (MakesChannelMessage (C.known.answers self.now.chains.now) on draft) }
         ensures err { IsOkUnless result Fault.NoMemory }
     {
         match self.channel_proof(on, &draft) {

@@ -1,7 +1,7 @@
 //! Messages for connections.
 
 ghost use Rattle.std.specs.Prelude.{◌≡◌, Some, IfOk, IsOkUnless};
-ghost use Rattle.ibc_script_cli.specs.Completing.{connection_message, peer_connection_key, AreBothProofs, AreConnectionProofs, MakesConnectionMessage};
+ghost use Rattle.ibc_script_cli.specs.Completing.{connection_message, peer_connection_key, AreBothProofs, AreConnectionProofs, IsConnectionOf, MakesConnectionMessage};
 ghost use Rattle.ibc_script.specs.declared.draft.ConnectionDraft.TheVariants as connection_draft;
 
 use super::{ClientClaim, Completer};
@@ -112,6 +112,18 @@ fn connection_message(draft: ConnectionDraft, shown: Shown) -> Option<Message>
 }
 
 impl<C: Chains + Drop> Completer<'_, C> {
+    // The end of a connection of a chain as it stands.
+    fn own_connection(
+        &self,
+        on: u8,
+        connection: &ConnectionId,
+    ) -> Result<Option<ConnectionEnd>, Fault>
+        ensures found { IfOk result (IsConnectionOf (C.known.answers self.now.chains.now) on connection.now) }
+        ensures err { IsOkUnless result Fault.NoMemory }
+    {
+        self.standing(on, Key::Connection(connection.clone()?))
+    }
+
     // The proof of the peer's end of a connection, and what is claimed of its client.
     fn peer_shown(
         &self,
@@ -119,7 +131,7 @@ impl<C: Chains + Drop> Completer<'_, C> {
         peer_connection: &ConnectionId,
         peer_client: &ClientId,
     ) -> Result<Shown, Fault>
-        ensures shown { IfOk result (λ shown. AreBothProofs (C.answers self.now.chains.now) from peer_connection.now peer_client.now shown.end shown.claim) }
+        ensures shown { IfOk result (λ shown. AreBothProofs (C.known.answers self.now.chains.now) from peer_connection.now peer_client.now shown.end shown.claim) }
         ensures err { IsOkUnless result Fault.NoMemory }
     {
         let end = self.proof(from, Key::Connection(peer_connection.clone()?))?;
@@ -140,11 +152,10 @@ impl<C: Chains + Drop> Completer<'_, C> {
         peer_connection: &ConnectionId,
         from: ProofSource,
     ) -> Result<Shown, Fault>
-        ensures shown { IfOk result (λ shown. AreConnectionProofs (C.answers self.now.chains.now) on (connection_draft.OpenAck connection.now peer_connection.now from) shown.end shown.claim) }
+        ensures shown { IfOk result (λ shown. AreConnectionProofs (C.known.answers self.now.chains.now) on (connection_draft.OpenAck connection.now peer_connection.now from) shown.end shown.claim) }
         ensures err { IsOkUnless result Fault.NoMemory }
     {
-        let own = self.chains.connection(on, connection);
-        match own.map_err(Fault::no_memory)? {
+        match self.own_connection(on, connection)? {
             Some(own) => {
                 let shown = self.peer_shown(from, peer_connection, &own.peer_client);
                 drop(own);
@@ -161,11 +172,13 @@ impl<C: Chains + Drop> Completer<'_, C> {
         connection: &ConnectionId,
         from: ProofSource,
     ) -> Result<Shown, Fault>
-        ensures shown { IfOk result (λ shown. AreConnectionProofs (C.answers self.now.chains.now) on (connection_draft.OpenConfirm connection.now from) shown.end shown.claim) }
+        ensures shown { IfOk result (λ shown. AreConnectionProofs (C.known.answers self.now.chains.now) on (connection_draft.OpenConfirm connection.now from) shown.end shown.claim) }
         ensures err { IsOkUnless result Fault.NoMemory }
     {
-        let own = self.chains.connection(on, connection);
-        match own.map_err(Fault::no_memory)?.and_then(peer_connection_key) {
+        match self
+            .own_connection(on, connection)?
+            .and_then(peer_connection_key)
+        {
             Some(key) => Ok(Shown {
                 end: self.proof(from, key)?,
                 claim: None,
@@ -176,7 +189,7 @@ impl<C: Chains + Drop> Completer<'_, C> {
 
     // What a step needs.
     fn connection_shown(&self, on: u8, draft: &ConnectionDraft) -> Result<Shown, Fault>
-        ensures shown { IfOk result (λ shown. AreConnectionProofs (C.answers self.now.chains.now) on draft.now shown.end shown.claim) }
+        ensures shown { IfOk result (λ shown. AreConnectionProofs (C.known.answers self.now.chains.now) on draft.now shown.end shown.claim) }
         ensures err { IsOkUnless result Fault.NoMemory }
     {
         match draft {
@@ -205,7 +218,7 @@ impl<C: Chains + Drop> Completer<'_, C> {
         on: u8,
         draft: ConnectionDraft,
     ) -> Result<Option<Message>, Fault>
-        ensures made { IfOk result (MakesConnectionMessage (C.answers self.now.chains.now) on draft) }
+        ensures made { IfOk result (MakesConnectionMessage (C.known.answers self.now.chains.now) on draft) }
         ensures err { IsOkUnless result Fault.NoMemory }
     {
         match self.connection_shown(on, &draft) {

@@ -1,4 +1,8 @@
-use Rattle.std.proofs.Common.{◌≡◌, ℕ, ◌<◌, ◌+◌, List, length, take, Option, None, Some, IfSome, IfOk, Result, Ok, Err, ap, ◌∙◌, arith}
+use Rattle.std.proofs.Common.{◌≡◌, ◌⊎◌, ℕ, ◌<◌, ◌+◌, List, length, take, Option, None, Some, IfSome, IfOk, OnOk, OnErr, Result, Ok, Err, ap, ◌∙◌, arith, inl, inr}
+use Rattle.std.proofs.lemmas.Result.{err_from_is_err_and}
+use Rattle.ibc_script_cli.specs.declared.words.Command.{Command}
+use Rattle.ibc_script_cli.specs.declared.words.Command.TheVariants.{Race, Run}
+use Rattle.ibc_script_cli.proofs.Writing.{keeps_same}
 use Rattle.std.proofs.lemmas.List.{length-take}
 use Rattle.ibc_script_cli.proofs.program.drive.Goals as goal
 
@@ -27,3 +31,43 @@ returns-clause-too_long g c =
     let same : length c.as_slice.result.now ≡ length c.in_ok-bytes.bytes.items = cc in
     let short : length c.as_slice.result.now < 1048577 = few c.read_script.result c.in_ok-script.script _ 1048576 (length c.as_slice.result.now) c.read_script.ensures.too_long c.in_ok-script.was in
     whatever c.race_script.result _ (whole (g.R.Read.remaining c.args.input) 1048577 c.in_ok-bytes.bytes.items c.in_ok-bytes.ensures.bytes (omega arith))
+
+-- the lines of a run
+on_ok : {T E : Type 0} (r : Result T E) (P Q : Type 0) → (P → Q) → OnOk r P → OnOk r Q
+on_ok (Ok v) P Q f p = f p
+on_ok (Err e) P Q f p = tt
+
+on_err : {T E : Type 0} (r : Result T E) (P Q : Type 0) → (P → Q) → OnErr r P → OnErr r Q
+on_err (Ok v) P Q f p = tt
+on_err (Err e) P Q f p = f p
+
+no_race : (asked : Option Command) (found : Command) (n : ℕ) → asked ≡ Some found → found ≡ Race n → asked ≡ Some Run → ⊥
+no_race asked found n first race run = absurd cc
+
+pub returns-in_err-command-clause-begun : goal.returns-in_err-command-clause-begun
+returns-in_err-command-clause-begun g c =
+    let p = err_from_is_err_and c.from_residual.result c.from_residual.ensures.1 in rw p.1 (λ is. inl (keeps_same (g.W.Write.contents c.args.output.now)))
+
+pub returns-in_err-bytes-clause-begun : goal.returns-in_err-bytes-clause-begun
+returns-in_err-bytes-clause-begun g c =
+    let p = err_from_is_err_and c.from_residual-in_err-bytes.result c.from_residual-in_err-bytes.ensures.1 in rw p.1 (λ is. inl (keeps_same (g.W.Write.contents c.args.output.now)))
+
+pub returns-in_err-script-clause-begun : goal.returns-in_err-script-clause-begun
+returns-in_err-script-clause-begun g c =
+    let p = err_from_is_err_and c.from_residual-in_err-script.result c.from_residual-in_err-script.ensures.1 in rw p.1 (λ is. inl (keeps_same (g.W.Write.contents c.args.output.now)))
+
+pub returns-in-Run-clause-lines : goal.returns-in-Run-clause-lines
+returns-in-Run-clause-lines g c =
+    λ is. on_ok c.run_script.result _ _ (λ ran. (c.in_ok-script.script, ran)) c.run_script.ensures.ran
+
+pub returns-in-Run-clause-begun : goal.returns-in-Run-clause-begun
+returns-in-Run-clause-begun g c =
+    λ is. on_err c.run_script.result _ _ (λ stopped. elim stopped [ inl kept ↦ inl kept | inr begun ↦ inr (c.in_ok-script.script, begun) ]) c.run_script.ensures.stopped
+
+pub returns-clause-lines : goal.returns-clause-lines
+returns-clause-lines g c =
+    λ is. absurd (no_race _ _ _ c.in_ok-command.ensures.asked c.in-Race.is is)
+
+pub returns-clause-begun : goal.returns-clause-begun
+returns-clause-begun g c =
+    λ is. absurd (no_race _ _ _ c.in_ok-command.ensures.asked c.in-Race.is is)

@@ -1,6 +1,10 @@
+use Rattle.std.proofs.Common.{List, subst, sym}
+use Rattle.ibc_ledger_lock.specs.ReceiptsAndReadings.{ReceiptModel}
+use Rattle.ibc_script_worlds.specs.Racing.{AreTaken}
 use Rattle.ibc_script_worlds.proofs.Raced.{raced}
 use Rattle.ibc_script_worlds.proofs.racing.audited.Goals as goal
 
 pub returns-in-Ok-clause-raced : goal.returns-in-Ok-clause-raced
-returns-in-Ok-clause-raced g c =
-    raced g.W.WorldBrand.table g.W.WorldBrand.genesis _ _ _ c.in-Ok.audit c.told.result c.in-Ok.ensures.audited c.told.ensures.0 c.told.ensures.1
+returns-in-Ok-clause-raced g c steps taken =
+    raced g.W.WorldBrand.table g.W.WorldBrand.genesis _ c.as_slice.result.now _ steps c.in-Ok.audit c.told.result c.in-Ok.ensures.audited
+    (subst (λ (r : List ReceiptModel). AreTaken steps r) (sym c.as_slice.ensures.value) taken) c.told.ensures.0 c.told.ensures.1
