@@ -1,0 +1,2 @@
+pub mod StoredSteps
+pub mod SameStates
