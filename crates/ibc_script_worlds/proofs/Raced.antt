@@ -38,6 +38,8 @@ nothing_done names acts old = record { count = 0; text = []; reaches = (refl, re
 -- the receipts of a race that began with none
 pub all_taken : (names : List Text) (steps : List Step) (old new : List ReceiptModel) (receipts : List ReceiptModel) → old ≡ [] → receipts ≡ new
     → Takes names (flat_map asking_acts steps) old new → AreTaken steps receipts
-all_taken names steps old new receipts none same taken =
-    (names, subst (λ (r : List ReceiptModel). Takes names (flat_map asking_acts steps) [] r) (sym same)
-      (subst (λ (r : List ReceiptModel). Takes names (flat_map asking_acts steps) r new) none taken))
+all_taken names steps old new receipts none same taken = (
+  names,
+  subst (λ (r : List ReceiptModel). Takes names (flat_map asking_acts steps) [] r) (sym same)
+      (subst (λ (r : List ReceiptModel). Takes names (flat_map asking_acts steps) r new) none taken),
+)
