@@ -1,17 +1,12 @@
 -- A chain may be shared by threads. The check shows it of a type by its fields' types, but not where a `Snapshot` is among
 -- them, as in a ledger and its entries: so it is shown here, from the ledger's entries up.
-use denote.Builtin.{unit}
 use denote.RattleType.{RattleType}
 use denote.Param.Send.{IsSend, IsSync, view_send, sendable}
 use denote.Param.SendFields.{declared_send}
 use Rattle.std.proofs.Crossing.{crosses}
-use Rattle.std.proofs.Crossing as std
-use Rattle.std.specs.contracts.alloc.Global as Global
-use Rattle.std.specs.contracts.impls.GlobalAllocator.TheImpl as alloc
 use Rattle.ibc_machine.proofs.entry.Entry.TheSendSync as entry
 use Rattle.ibc_root_table.proofs.table.RootTable.TheSendSync as root_table
 use Rattle.ibc_root_table.proofs.table.Pass.TheSendSync as pass
-use Rattle.ibc_ledger.proofs.view.View.TheSendSync as view
 use Rattle.ibc_ledger.proofs.host_state.HostState.TheSendSync as node
 use Rattle.ibc_ledger.specs.contracts.entry.StampedEntry as StampedEntry
 use Rattle.ibc_ledger.specs.contracts.ledger.Ledger as Ledger

@@ -6,5 +6,5 @@ use Rattle.ibc_race.proofs.ledgers_of.Given as goal
 abbrev pub invariant-loop-chain : goal.invariant-loop-chain
 invariant-loop-chain g l = record {
   many : length l.ledgers.items + length (into_iter_items l.chain-iterator) ≡ length l.fn.chains.items;
-  gathered : AreGathered g.W.WorldBrand.table g.W.WorldBrand.genesis l.receipts l.readings l.ledgers.items;
+  gathered : AreGathered g.W.WorldBrand.table g.W.WorldBrand.genesis l.fn.receipts l.fn.readings l.ledgers.items;
 }
