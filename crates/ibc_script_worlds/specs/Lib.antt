@@ -1,4 +1,2 @@
-pub mod Blocks
-pub mod LedgerAnswers
 pub mod Relaying
 pub mod Racing

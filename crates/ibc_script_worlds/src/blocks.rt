@@ -1,9 +1,5 @@
 //! What a ledger's history tells of the blocks that its chain committed.
 
-ghost use Rattle.std.specs.Prelude.{◌≡◌, IfOk, length, map, option_and_then, slice_get};
-ghost use Rattle.ibc_ledger.specs.LedgerModel.{abstract_entry};
-ghost use Rattle.ibc_script_worlds.specs.Blocks.{block_of, ended_by, kept_block, told_blocks};
-
 use ibc_ids::Root;
 use ibc_ledger::StampedEntry;
 use ibc_machine::{Effect, Entry, Event, Genesis, Reply};
@@ -19,9 +15,7 @@ pub struct ChainStarts {
 
 impl ChainStarts {
     /// How the chains of a genesis begin. Error: no memory.
-    pub fn of(alloc: Global, genesis: &Genesis) -> Result<ChainStarts, AllocError>
-        ensures { IfOk result (λ starts. (starts.window ≡ genesis.now.window) × (starts.times.items ≡ map (λ start. start.time) genesis.now.chains.items)) }
-    {
+    pub fn of(alloc: Global, genesis: &Genesis) -> Result<ChainStarts, AllocError> {
         let mut times = Vec::with_capacity(alloc, genesis.chains.len())?;
         for start in &genesis.chains {
             times.push(start.time)?;
@@ -38,9 +32,7 @@ impl ChainStarts {
         chain: u8,
         history: &[StampedEntry],
         height: u64,
-    ) -> Option<CommittedBlock>
-        ensures { result ≡ option_and_then (λ time. kept_block self.now.window (told_blocks time (map abstract_entry history.now)) height) (slice_get self.now.times.items chain) }
-    {
+    ) -> Option<CommittedBlock> {
         match self.times.get(usize::from(chain)) {
             Some(time) => block_in(*time, self.window, history, height),
             None => None,
@@ -49,9 +41,7 @@ impl ChainStarts {
 }
 
 // The block that an entry tells the end of: its root, and the time of the next one.
-fn ended_by(entry: &Entry) -> Option<(Root, u64)>
-    ensures { result ≡ ended_by entry.now }
-{
+fn ended_by(entry: &Entry) -> Option<(Root, u64)> {
     match (&entry.event, &entry.reply) {
         (Event::Block { next_time, .. }, Reply::Ok(Effect::Block(_, root))) => {
             Some((*root, *next_time))
@@ -61,25 +51,18 @@ fn ended_by(entry: &Entry) -> Option<(Root, u64)>
 }
 
 // How many blocks a history tells of.
-fn blocks_in(start: u64, history: &[StampedEntry]) -> u64
-    ensures { result ≡ length (told_blocks start (map abstract_entry history.now)) }
-{
-    let mut time = start;
-    let mut blocks = 0;
+fn blocks_in(history: &[StampedEntry]) -> u64 {
+    let mut blocks: u64 = 0;
     for stamped in history {
-        if let Some((_, next_time)) = ended_by(&stamped.entry) {
-            blocks += 1;
-            time = next_time;
+        if ended_by(&stamped.entry).is_some() {
+            blocks = blocks.saturating_add(1);
         }
     }
-    let _time = time;
     blocks
 }
 
 // The block of a height, from 1, of which a history tells.
-fn told_block(start: u64, history: &[StampedEntry], height: u64) -> Option<CommittedBlock>
-    ensures { result ≡ block_of height (told_blocks start (map abstract_entry history.now)) }
-{
+fn told_block(start: u64, history: &[StampedEntry], height: u64) -> Option<CommittedBlock> {
     if height == 0 {
         return None;
     }
@@ -90,7 +73,7 @@ fn told_block(start: u64, history: &[StampedEntry], height: u64) -> Option<Commi
             if left == 1 {
                 return Some(CommittedBlock { root, time });
             }
-            left -= 1;
+            left = left.saturating_sub(1);
             time = next_time;
         }
     }
@@ -103,10 +86,8 @@ fn block_in(
     window: u64,
     history: &[StampedEntry],
     height: u64,
-) -> Option<CommittedBlock>
-    ensures { result ≡ kept_block window (told_blocks start (map abstract_entry history.now)) height }
-{
-    if height > blocks_in(start, history).saturating_sub(window) {
+) -> Option<CommittedBlock> {
+    if height > blocks_in(history).saturating_sub(window) {
         told_block(start, history, height)
     } else {
         None

@@ -1,6 +1,6 @@
 //! Races on the chains of a world that threads share.
 
-ghost use Rattle.std.specs.Prelude.{◌≡◌, ◌⊎◌, ◌≤◌, [], List, All, IfErr, IfOk, OnOk};
+ghost use Rattle.std.specs.Prelude.{◌≡◌, ◌⊎◌, ◌≤◌, [], List, All, IfErr, IfOk, OnOk, length};
 ghost use Rattle.std.specs.List.{flat_map};
 ghost use denote.Param.Send.{IsSync};
 ghost use Rattle.ibc_script.specs.Faults.{IsScriptFault, IsRunFault};
@@ -16,7 +16,7 @@ use ibc_ledger::Ledger;
 use ibc_ledger_lock::{Chain, Receipt, UnusedBook, WorldBrand};
 use ibc_machine::Genesis;
 use ibc_race::{audit_chains, begin, share};
-use ibc_script::{Fault, Step};
+use ibc_script::{ChainName, Fault, Step};
 use ibc_script_cli::{Race, RaceAudit, Races, Runner};
 use ibc_world_core::Audit;
 use std::alloc::Global;
@@ -85,11 +85,9 @@ fn race_on<R: Threads + Wait + Sync, W: WorldBrand + Send + Sync>(
     match shared_chains::<R, W>(rt, alloc, ledgers, race.genesis()) {
         Ok(shared) => {
             let (names, steps) = race.into_parts();
-            let runner = Runner::new(alloc, names.as_slice());
-            let taken = take_all(relayers, &runner, shared, steps);
+            let raced = take_and_audit(alloc, relayers, names.as_slice(), shared, steps);
             drop(names);
-            let (chains, receipts) = taken?;
-            audited(alloc, chains, receipts)
+            raced
         }
         Err(fault) => {
             drop(race);
@@ -117,6 +115,25 @@ fn shared_chains<'r, R: Wait, W: WorldBrand>(
             Err(Fault::from(error))
         }
     }
+}
+
+// Takes the steps, and gives what the chains come to.
+fn take_and_audit<R: Threads + Wait + Sync, W: WorldBrand + Send + Sync>(
+    alloc: Global,
+    relayers: u8,
+    names: &[ChainName],
+    shared: Shared<'_, R, W>,
+    steps: Vec<Step>,
+) -> Result<RaceAudit, Fault>
+    requires few { 1 ≤ relayers × relayers ≤ 8 }
+    requires names { length names.now ≤ 8 }
+    requires new { shared ≡ [] }
+    ensures raced { IfOk result (IsRaceOf W.genesis steps.items) }
+    ensures faults { IfErr result (λ fault. IsRunFault fault ⊎ IsScriptFault fault) }
+{
+    let runner = Runner::new(alloc, names);
+    let (chains, receipts) = take_all(relayers, &runner, shared, steps)?;
+    audited(alloc, chains, receipts)
 }
 
 // Takes the steps, and gives the chains with the receipts of what they were asked.

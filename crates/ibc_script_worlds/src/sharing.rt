@@ -2,7 +2,8 @@
 
 ghost use Rattle.std.specs.Prelude.{◌≡◌, ◌≤◌, ◌++◌, ◌∷◌, [], IfOk, IsOkUnless, OnOk};
 ghost use Rattle.ibc_ids.specs.declared.refusal.Refusal.TheVariants.{NoMemory};
-ghost use Rattle.ibc_script_worlds.specs.Racing.{raced_chains};
+ghost use Rattle.ibc_ledger_lock.specs.ReceiptsAndReadings.{IsReceiptOf};
+ghost use Rattle.ibc_script_worlds.specs.Racing.{on_chain, raced_chains};
 
 use crate::blocks::ChainStarts;
 use ibc_ids::{Bytes, ChannelId, Key, PortId, Refusal};
@@ -114,6 +115,16 @@ impl<R: Threads + Wait + Sync, W: WorldBrand + Send + Sync> Shared<'_, R, W> {
     }
 }
 
+// Asks a chain for an event.
+fn asked<R: Wait, W: WorldBrand>(rt: &R, chain: &Chain<W>, event: Event) -> Receipt<W>
+    ensures { IsReceiptOf (on_chain result.chain event) result }
+{
+    match event {
+        Event::Message { message, .. } => chain.submit(rt, message),
+        Event::Block { next_time, .. } => chain.produce(rt, next_time),
+    }
+}
+
 impl<R: Wait, W: WorldBrand> Chains for Shared<'_, R, W> {
     ghost known = { raced_chains };
 
@@ -125,10 +136,7 @@ impl<R: Wait, W: WorldBrand> Chains for Shared<'_, R, W> {
             drop(event);
             return Err(Refusal::UnknownChain);
         };
-        let receipt = match event {
-            Event::Message { message, .. } => chain.submit(self.rt, message),
-            Event::Block { next_time, .. } => chain.produce(self.rt, next_time),
-        };
+        let receipt = asked(self.rt, chain, event);
         self.keep(receipt)
     }
 

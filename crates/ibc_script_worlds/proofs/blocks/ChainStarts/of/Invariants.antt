@@ -1,5 +1,0 @@
-use Rattle.std.proofs.Common.{◌≡◌, map, take}
-use Rattle.ibc_script_worlds.proofs.blocks.ChainStarts.of.Given as goal
-
-abbrev pub invariant-loop-start : goal.invariant-loop-start
-invariant-loop-start l = l.times.items ≡ map (λ start. start.time) (take l.start-index l.genesis.chains.items)
