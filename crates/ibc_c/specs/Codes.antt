@@ -7,8 +7,8 @@ use Rattle.ibc_wire.specs.Kinds.{kind_of, tag_of}
 use Rattle.ibc_wire.specs.Messages.{message_fields}
 use Rattle.ibc_wire.specs.declared.messages.Message.{Message}
 use Rattle.ibc_machine.specs.chain.Checks.{Checked}
-use Rattle.ibc_c.specs.declared.proofs.ProofKind.{ProofKind}
-use Rattle.ibc_c.specs.declared.proofs.ProofKind.TheVariants.{Present, Absent}
+use Rattle.ibc_calls.specs.declared.proofs.ProofKind.{ProofKind}
+use Rattle.ibc_calls.specs.declared.proofs.ProofKind.TheVariants.{Present, Absent}
 
 -- 0 where nothing was refused, else the number of the refusal
 abbrev pub code_of : Checked ⊤ → ℕ
