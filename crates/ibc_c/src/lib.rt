@@ -4,6 +4,7 @@
 
 mod light;
 mod notes;
+mod packets;
 mod reads;
 mod views;
 mod worlds;

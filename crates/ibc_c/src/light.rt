@@ -104,7 +104,7 @@ pub extern "C" fn ibcw_message_proof(
     number(ibc_calls::message_proof(alloc, message, index, height, proof, size))
 }
 
-/// Tells the tag, 1 to 19, of the message that the bytes spell, and answers 0. Answers the number of `BadMessage` exactly where they
+/// Tells the tag, 1 to 19, of the message that the bytes spell, and answers 0. Answers the number of `NoMessage` exactly where they
 /// spell none, and 1 where memory ran out: then no tag is told.
 #[unsafe(no_mangle)]
 pub extern "C" fn ibcw_message_tag(alloc: Global, message: &[u8], tag: &mut u8) -> u32
@@ -115,7 +115,7 @@ pub extern "C" fn ibcw_message_tag(alloc: Global, message: &[u8], tag: &mut u8) 
             *tag = found;
             0
         }
-        Err(refusal) => u32::from(refusal.number()),
+        Err(refused) => number(Err(refused)),
     }
 }
 

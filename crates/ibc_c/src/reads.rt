@@ -6,13 +6,13 @@ ghost use Rattle.ibc_calls.specs.Handles.{Finds};
 ghost use Rattle.ibc_calls.specs.Holdings.{FindsHolding, MakesBalances, TellsHolding};
 ghost use Rattle.ibc_calls.specs.History.{TellsEvent, TellsLength, TellsReply};
 ghost use Rattle.ibc_calls.specs.ViewProofs.{FindsProved};
-ghost use Rattle.ibc_calls.specs.Reads.{FindsValue, TellsBalance};
+ghost use Rattle.ibc_calls.specs.Reads.{FindsValue, TellsBalance, TellsEscrow};
 
 use ibc_calls::{Amount, EventCode, ReplyCode, number};
 use ibc_handle::Handle;
 use std::alloc::Global;
 
-/// Tells how many entries a ledger's history has, or a plan, a list of balances or one of notes. As `length`.
+/// Tells how many entries a ledger's history has, or a plan, a list of balances, one of notes or an audit. As `length`.
 #[unsafe(no_mangle)]
 pub extern "C" fn ibcw_length(alloc: Global, handle: &mut Handle, count: &mut u64) -> u32
     ensures kept { handle.new.value ≡ handle.old.value }
@@ -141,4 +141,19 @@ pub extern "C" fn ibcw_balance(
     ensures told { Numbered (TellsBalance user.now denom.now ledger.old.value amount.old amount.new) result }
 {
     number(ibc_calls::balance(alloc, ledger, user, denom, amount))
+}
+
+/// Tells what the escrow account of a channel holds of a denomination. As `escrow`.
+#[unsafe(no_mangle)]
+pub extern "C" fn ibcw_escrow(
+    alloc: Global,
+    ledger: &mut Handle,
+    channel: &[u8],
+    denom: &[u8],
+    amount: &mut Amount,
+) -> u32
+    ensures kept { ledger.new.value ≡ ledger.old.value }
+    ensures told { Numbered (TellsEscrow channel.now denom.now ledger.old.value amount.old amount.new) result }
+{
+    number(ibc_calls::escrow(alloc, ledger, channel, denom, amount))
 }

@@ -8,7 +8,7 @@ ghost use Rattle.ibc_calls.specs.GenesisHandles.{BalanceAdded, BeginsGenesis, Ch
 ghost use Rattle.ibc_calls.specs.Handles.{freed};
 ghost use Rattle.ibc_calls.specs.WorldHandles.{MakesLedgers, TakesLedger};
 
-use ibc_calls::number;
+use ibc_calls::{ReplyCode, number};
 use ibc_handle::Handle;
 use std::alloc::Global;
 
@@ -50,7 +50,7 @@ pub extern "C" fn ibcw_add_balance(
 
 /// Makes all ledgers of a genesis in an empty handle, under the number of their world. As `make_ledgers`.
 #[unsafe(no_mangle)]
-pub extern "C" fn ibcw_make_ledgers(
+pub extern "C" fn ibcw_make_numbered_ledgers(
     alloc: Global,
     genesis: &mut Handle,
     world: u64,
@@ -79,28 +79,42 @@ pub extern "C" fn ibcw_join_ledger(alloc: Global, ledgers: &mut Handle, ledger: 
     number(ibc_calls::join_ledger(alloc, ledgers, ledger))
 }
 
-/// Audits the ledgers of a world, and puts what they hold into an empty handle. As `audit`.
+/// Audits the ledgers of a world, which stay, and puts what they hold into an empty handle. As `make_audit`.
 #[unsafe(no_mangle)]
-pub extern "C" fn ibcw_audit(alloc: Global, ledgers: &mut Handle, audit: &mut Handle) -> u32
+pub extern "C" fn ibcw_make_audit(alloc: Global, ledgers: &mut Handle, audit: &mut Handle) -> u32
     ensures { Numbered (Audits ledgers.old.value ledgers.new.value audit.old.value audit.new.value) result }
 {
-    number(ibc_calls::audit(alloc, ledgers, audit))
+    number(ibc_calls::make_audit(alloc, ledgers, audit))
 }
 
-/// Applies the message that the bytes spell to a ledger. As `apply`.
+/// Applies the message that the bytes spell to a ledger, and tells its reply. As `apply`.
 #[unsafe(no_mangle)]
-pub extern "C" fn ibcw_apply(alloc: Global, ledger: &mut Handle, message: &[u8]) -> u32
-    ensures { Numbered (AppliesMessage message.now ledger.old.value ledger.new.value) result }
+pub extern "C" fn ibcw_apply(
+    alloc: Global,
+    ledger: &mut Handle,
+    message: &[u8],
+    told: &mut ReplyCode,
+    bytes: &mut [u8],
+    size: &mut usize,
+) -> u32
+    ensures { Numbered (AppliesMessage message.now ledger.old.value ledger.new.value (record { told = told.old; bytes = bytes.old; size = size.old }) (record { told = told.new; bytes = bytes.new; size = size.new })) result }
 {
-    number(ibc_calls::apply(alloc, ledger, message))
+    number(ibc_calls::apply(alloc, ledger, message, told, bytes, size))
 }
 
-/// Ends the working block of a ledger. As `end_block`.
+/// Ends the working block of a ledger, and tells its reply. As `end_block`.
 #[unsafe(no_mangle)]
-pub extern "C" fn ibcw_end_block(alloc: Global, ledger: &mut Handle, next_time: u64) -> u32
-    ensures { Numbered (EndsBlock next_time ledger.old.value ledger.new.value) result }
+pub extern "C" fn ibcw_end_block(
+    alloc: Global,
+    ledger: &mut Handle,
+    next_time: u64,
+    told: &mut ReplyCode,
+    bytes: &mut [u8],
+    size: &mut usize,
+) -> u32
+    ensures { Numbered (EndsBlock next_time ledger.old.value ledger.new.value (record { told = told.old; bytes = bytes.old; size = size.old }) (record { told = told.new; bytes = bytes.new; size = size.new })) result }
 {
-    number(ibc_calls::end_block(alloc, ledger, next_time))
+    number(ibc_calls::end_block(alloc, ledger, next_time, told, bytes, size))
 }
 
 /// Frees what a handle holds. As `free`.
@@ -110,4 +124,12 @@ pub extern "C" fn ibcw_free(alloc: Global, handle: &mut Handle) -> u32
     ensures answer { result ≡ answer_number (freed handle.old.value) }
 {
     number(ibc_calls::free(alloc, handle))
+}
+
+/// The version of the library: 10,000 times its first number, 100 times the second, and the third.
+#[unsafe(no_mangle)]
+pub extern "C" fn ibcw_version() -> u32
+    ensures { result ≡ 10000 }
+{
+    10_000
 }

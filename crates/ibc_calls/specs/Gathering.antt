@@ -3,7 +3,7 @@ use Rattle.std.specs.Prelude.{◌≡◌, Bool, true, false, Option, Some, None, 
 use Rattle.ibc_ids.specs.declared.refusal.Refusal.TheVariants.{NoMemory, BadMessage}
 use Rattle.ibc_world_core.specs.WorldAudits.{IsAudit, is_whole}
 use Rattle.ibc_theorem.specs.EveryAudit.{AreLawful}
-use Rattle.ibc_handle.specs.LedgersModel.{LedgersModel}
+use Rattle.ibc_handle.specs.LedgersModel.{LedgersModel, AreStill}
 use Rattle.ibc_handle.specs.Joining.{MemberJoinsIfSameNumber, IsJoined}
 use Rattle.ibc_handle.specs.declared.handle_value.HandleValue.{HandleValue}
 use Rattle.ibc_handle.specs.declared.handle_value.HandleValue.TheVariants as held
@@ -47,9 +47,15 @@ abbrev pub MakesIfWhole : Bool → LedgersModel → Option HandleValue → Answe
 MakesIfWhole true all new answer = IsMade (IsAuditValue all) new answer
 MakesIfWhole false all new answer = StaysEmpty (Core BadMessage) new answer
 
--- Ledgers are audited, and gone then; any other value stays.
+-- Ledgers are audited, and stay, having at most seen more; any other value stays as it is.
+abbrev pub AuditsValue : HandleValue → HandleValue → Option HandleValue → Answer → Type 0
+AuditsValue (held.Ledgers all) (held.Ledgers all') new answer =
+    AreStill all all' × MakesIfWhole (is_whole all.ledgers) all new answer
+AuditsValue (held.Ledgers all) other new answer = ⊥
+AuditsValue old old' new answer = (old' ≡ old) × StaysEmpty OtherKind new answer
+
 unfoldable pub Audits : Option HandleValue → Option HandleValue → Option HandleValue → Option HandleValue → Answer → Type 0
 Audits all all' (Some old) new answer = (all' ≡ all) × (new ≡ Some old) × (answer ≡ Err Full)
 Audits None all' None new answer = (all' ≡ None) × StaysEmpty Empty new answer
-Audits (Some (held.Ledgers all)) all' None new answer = (all' ≡ None) × MakesIfWhole (is_whole all.ledgers) all new answer
-Audits (Some other) all' None new answer = (all' ≡ Some other) × StaysEmpty OtherKind new answer
+Audits (Some value) (Some value') None new answer = AuditsValue value value' new answer
+Audits (Some value) None None new answer = ⊥

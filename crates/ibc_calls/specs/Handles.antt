@@ -40,6 +40,10 @@ IsWritten bytes old new size answer =
     × (((length bytes ≤ length old) × (answer ≡ Ok tt) × (new ≡ bytes ++ drop (length bytes) old))
     ⊎ ((length old < length bytes) × (answer ≡ Err TooShort) × (new ≡ old)))
 
+-- the bytes stand at the beginning of the place where there is room, and their number is told
+abbrev pub IsPut : Text → Text → Text → ℕ → Type 0
+IsPut bytes old new size = (written : Answer) × IsWritten bytes old new size written
+
 -- the bytes that were found are written; where it was refused nothing is
 abbrev pub WritesFound : Result Text Refused → Text → Text → ℕ → ℕ → Answer → Type 0
 WritesFound (Ok bytes) old new size size' answer = IsWritten bytes old new size' answer

@@ -6,6 +6,8 @@ use Rattle.ibc_ids.specs.Refusals.{number_of}
 use Rattle.ibc_wire.specs.Kinds.{kind_of, tag_of}
 use Rattle.ibc_machine.specs.declared.event.Event.{Event}
 use Rattle.ibc_machine.specs.declared.event.Event.TheVariants as event
+use Rattle.ibc_machine.specs.declared.entry.Entry.{Entry}
+use Rattle.ibc_machine.specs.declared.entry.Reading.{Reading}
 use Rattle.ibc_machine.specs.declared.reply.Reply.{Reply}
 use Rattle.ibc_machine.specs.declared.reply.Reply.TheVariants as reply
 use Rattle.ibc_machine.specs.declared.reply.Effect.TheVariants as effect
@@ -28,6 +30,7 @@ TellsLength (Some (held.Ledger l)) old new answer = (new ≡ length l.ledger.led
 TellsLength (Some (held.Plan messages)) old new answer = (new ≡ length messages.items) × (answer ≡ Ok tt)
 TellsLength (Some (held.Balances list)) old new answer = (new ≡ length list.items) × (answer ≡ Ok tt)
 TellsLength (Some (held.Notes list)) old new answer = (new ≡ length list.items) × (answer ≡ Ok tt)
+TellsLength (Some (held.Audit audit)) old new answer = (new ≡ length audit.balances.items) × (answer ≡ Ok tt)
 TellsLength (Some other) old new answer = (new ≡ old) × (answer ≡ Err OtherKind)
 
 -- ---- replies
@@ -71,10 +74,18 @@ TellsReply index (Some other) old new answer = (new ≡ old) × (answer ≡ Err 
 
 -- ---- what was asked
 
--- the tag of a message; 0 for the end of a block, and then the time of the next one
-abbrev pub event_code : Event → EventCode
-event_code (event.Message _ m) = record { kind = tag_of (kind_of m); next_time = 0 }
-event_code (event.Block _ next_time) = record { kind = 0; next_time = next_time }
+-- how many heights an update's chain had published when that was read, 0 where nothing was read
+abbrev pub published_in : Option Reading → ℕ
+published_in None = 0
+published_in (Some reading) = reading.published
+
+-- the tag of a message; 0 for the end of a block, and then the time of the next one; and what an update read
+abbrev pub asked_code : Event → ℕ → EventCode
+asked_code (event.Message _ m) published = record { kind = tag_of (kind_of m); next_time = 0; published = published }
+asked_code (event.Block _ next_time) published = record { kind = 0; next_time = next_time; published = published }
+
+abbrev pub event_code : Entry → EventCode
+event_code entry = asked_code entry.event (published_in entry.reading)
 
 -- the bytes that spell what was asked: those of a message, none of the end of a block
 abbrev pub IsEventText : Event → Result Text Refused → Type 0
@@ -88,16 +99,16 @@ pub record EventOutput : Type 0 where
   pub size : ℕ
 
 -- what was asked is told with the bytes that spell it, where they could be written out
-abbrev pub WritesEventCode : Event → Result Text Refused → EventOutput → EventOutput → Answer → Type 0
+abbrev pub WritesEventCode : Entry → Result Text Refused → EventOutput → EventOutput → Answer → Type 0
 WritesEventCode given (Ok bytes) old new answer = (new.asked ≡ event_code given) × IsWritten bytes old.bytes new.bytes new.size answer
 WritesEventCode given (Err why) old new answer = (new ≡ old) × (answer ≡ Err why)
 
-abbrev pub WritesSpelledEvent : Event → EventOutput → EventOutput → Answer → Type 0
-WritesSpelledEvent given old new answer = (found : Result Text Refused) × IsEventText given found × WritesEventCode given found old new answer
+abbrev pub WritesSpelledEvent : Entry → EventOutput → EventOutput → Answer → Type 0
+WritesSpelledEvent given old new answer = (found : Result Text Refused) × IsEventText given.event found × WritesEventCode given found old new answer
 
 abbrev pub WritesEvent : Option StampedEntry → EventOutput → EventOutput → Answer → Type 0
 WritesEvent None old new answer = (new ≡ old) × (answer ≡ Err NothingThere)
-WritesEvent (Some e) old new answer = WritesSpelledEvent e.entry.event old new answer
+WritesEvent (Some e) old new answer = WritesSpelledEvent e.entry old new answer
 
 unfoldable pub TellsEvent : ℕ → Option HandleValue → EventOutput → EventOutput → Answer → Type 0
 TellsEvent index None old new answer = (new ≡ old) × (answer ≡ Err Empty)

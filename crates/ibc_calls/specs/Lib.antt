@@ -13,3 +13,4 @@ pub mod ViewProofs
 pub mod Reads
 pub mod Views
 pub mod WorldHandles
+pub mod PacketReads

@@ -1,7 +1,7 @@
 -- What proofs and messages carry that are given as their bytes (ICS 23, "Proofs").
 use Rattle.std.specs.Prelude.{◌≡◌, ◌⊎◌, ℕ, Option, Some, None, Result, Ok, Err}
 use Rattle.ibc_ids.specs.Texts.{Text}
-use Rattle.ibc_ids.specs.declared.refusal.Refusal.TheVariants.{NoMemory, BadMessage}
+use Rattle.ibc_ids.specs.declared.refusal.Refusal.TheVariants.{NoMemory}
 use Rattle.ibc_wire.specs.Fields.{Spells}
 use Rattle.ibc_wire.specs.Messages.{message_fields}
 use Rattle.ibc_wire.specs.Reading.{proof_of}
@@ -11,7 +11,7 @@ use Rattle.ibc_calls.specs.CarriedProofs.{carried_proof}
 use Rattle.ibc_calls.specs.JudgedProofs.{key_in, value_in}
 use Rattle.ibc_calls.specs.declared.messages.Carried.{Carried}
 use Rattle.ibc_calls.specs.declared.answer.Refused.{Refused}
-use Rattle.ibc_calls.specs.declared.answer.Refused.TheVariants.{Core, NothingThere}
+use Rattle.ibc_calls.specs.declared.answer.Refused.TheVariants.{Core, NothingThere, NoMessage}
 use Rattle.ibc_calls.specs.CallAnswers.{Answer}
 use Rattle.ibc_calls.specs.Handles.{IsWritten}
 
@@ -52,4 +52,4 @@ WritesProof (Some c) old new answer = (new.height ≡ c.height) × IsWritten c.p
 unfoldable pub TellsProof : ℕ → Text → ProofOutput → ProofOutput → Answer → Type 0
 TellsProof index bytes old new answer =
     ((m : Message) × Spells (message_fields m) bytes × WritesProof (carried_proof index m) old new answer)
-    ⊎ ((new ≡ old) × (((answer ≡ Err (Core BadMessage)) × ((m : Message) → Spells (message_fields m) bytes → ⊥)) ⊎ (answer ≡ Err (Core NoMemory))))
+    ⊎ ((new ≡ old) × (((answer ≡ Err NoMessage) × ((m : Message) → Spells (message_fields m) bytes → ⊥)) ⊎ (answer ≡ Err (Core NoMemory))))

@@ -3,13 +3,14 @@ use Rattle.std.specs.Prelude.{◌≡◌, ◌⊎◌, ◌+◌, ◌*◌, ◌^◌, �
 use Rattle.std.specs.List.{slice_get}
 use Rattle.ibc_ids.specs.Texts.{Text, text_cmp}
 use Rattle.ibc_ids.specs.Maps.{at}
+use Rattle.ibc_ids.specs.Names.{is_channel, is_denom}
 use Rattle.ibc_ids.specs.Paths.{path}
 use Rattle.ibc_ids.specs.declared.refusal.Refusal.TheVariants.{NoMemory, BadMessage, BadName}
 use Rattle.ibc_wire.specs.Fields.{Spells, have_form}
 use Rattle.ibc_wire.specs.Messages.{message_fields}
 use Rattle.ibc_wire.specs.declared.messages.Message.{Message}
 use Rattle.ibc_machine.specs.ics24.Image.{image}
-use Rattle.ibc_machine.specs.ics20.Bank.{balance}
+use Rattle.ibc_machine.specs.ics20.Bank.{balance, escrow}
 use Rattle.ibc_machine.specs.ledger.Ledgers.{Ledger, state_of}
 use Rattle.ibc_handle.specs.declared.handle_value.HandleValue.{HandleValue}
 use Rattle.ibc_handle.specs.declared.handle_value.HandleValue.TheVariants as held
@@ -65,3 +66,19 @@ unfoldable pub TellsBalance : Text → Text → Option HandleValue → Amount �
 TellsBalance user denom None old new answer = (new ≡ old) × (answer ≡ Err Empty)
 TellsBalance user denom (Some (held.Ledger l)) old new answer = IsBalance user denom l.ledger.ledger old new answer
 TellsBalance user denom (Some other) old new answer = (new ≡ old) × (answer ≡ Err OtherKind)
+
+-- a channel and a denomination
+abbrev pub AreEscrow : Text → Text → Type 0
+AreEscrow channel denom = IsTrue (is_channel channel) × IsTrue (is_denom denom)
+
+-- What the escrow account of a channel holds in the working block; or a name is none of its kind, or memory ran out.
+abbrev pub IsEscrow : Text → Text → Ledger → Amount → Amount → Answer → Type 0
+IsEscrow channel denom ledger old new answer =
+    ((answer ≡ Ok tt) × AreEscrow channel denom
+    × (amount_of new ≡ balance (state_of ledger).chain.records.apps.balances (escrow channel) denom))
+    ⊎ ((new ≡ old) × (((answer ≡ Err (Core BadName)) × (AreEscrow channel denom → ⊥)) ⊎ (answer ≡ Err (Core NoMemory))))
+
+unfoldable pub TellsEscrow : Text → Text → Option HandleValue → Amount → Amount → Answer → Type 0
+TellsEscrow channel denom None old new answer = (new ≡ old) × (answer ≡ Err Empty)
+TellsEscrow channel denom (Some (held.Ledger l)) old new answer = IsEscrow channel denom l.ledger.ledger old new answer
+TellsEscrow channel denom (Some other) old new answer = (new ≡ old) × (answer ≡ Err OtherKind)

@@ -23,6 +23,8 @@ pub enum Refused {
     NothingThere,
     /// The ledger is of another world: 106.
     OtherWorld,
+    /// The bytes spell no message: 107.
+    NoMessage,
 }
 
 impl From<Refusal> for Refused {
@@ -48,6 +50,7 @@ pub fn number(answer: Result<(), Refused>) -> u32
         Err(Refused::TooShort) => 104,
         Err(Refused::NothingThere) => 105,
         Err(Refused::OtherWorld) => 106,
+        Err(Refused::NoMessage) => 107,
     }
 }
 

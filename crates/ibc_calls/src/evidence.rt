@@ -56,7 +56,7 @@ fn value_found(alloc: Global, proof: &[u8]) -> Result<Bytes, Refused>
 }
 
 /// Writes the proof at an index, 0 or 1, of those that the message carries which the bytes spell, and tells the height of the
-/// other chain at which it is; which proofs they are `carried_proof` says. Refused: `Core(BadMessage)` exactly
+/// other chain at which it is; which proofs they are `carried_proof` says. Refused: `NoMessage` exactly
 /// where they spell no message; `NothingThere` where it carries no such proof; `Core(NoMemory)`: then nothing is told.
 /// `TooShort`: then the numbers alone are told.
 #[tactic(auto, unfolding(crate::specs::ProofReads::TellsProof))]
@@ -76,6 +76,6 @@ pub fn message_proof(
             write_out(found.proof.as_slice(), proof, size)
         }
         Ok(None) => Err(Refused::NothingThere),
-        Err(refusal) => Err(Refused::Core(refusal)),
+        Err(refused) => Err(refused),
     }
 }

@@ -2,7 +2,8 @@
 
 ghost use Rattle.std.specs.Prelude.{◌≡◌, None, Some};
 ghost use Rattle.ibc_world_core.specs.WorldAudits.{is_whole};
-ghost use Rattle.ibc_calls.specs.Gathering.{AreApart, Audits, MakesIfWhole, JoinsLedger, JoinsTo, answer_of_join};
+ghost use Rattle.ibc_handle.specs.LedgersModel.{AreStill};
+ghost use Rattle.ibc_calls.specs.Gathering.{AreApart, Audits, AuditsValue, MakesIfWhole, JoinsLedger, JoinsTo, answer_of_join};
 
 use crate::Refused;
 use crate::handles::put_new;
@@ -56,26 +57,39 @@ fn answer_of_join(joined: Result<(), NotJoined>) -> Result<(), Refused>
 /// handle that holds nothing. To be answered with 0 is to know that what they did together is a run of the machine, of which the
 /// laws hold, where no two different texts that they hashed share a digest. Refused, by the first check that fails: `Full`;
 /// `Empty` and `OtherKind` where the first handle holds no ledgers; `Core(BadMessage)` exactly where a chain of their genesis is
-/// missing among them; `Core(NoMemory)`. By the last two, as by success, the ledgers are gone.
+/// missing among them; `Core(NoMemory)`. The ledgers stay in their handle, whatever the answer, and have at most seen more.
 #[tactic(auto, unfolding(crate::specs::Gathering::Audits))]
-pub fn audit(alloc: Global, ledgers: &mut Handle, audit: &mut Handle) -> Result<(), Refused>
+pub fn make_audit(alloc: Global, ledgers: &mut Handle, audit: &mut Handle) -> Result<(), Refused>
     ensures { Audits ledgers.old.value ledgers.new.value audit.old.value audit.new.value result }
 {
     if !audit.is_empty(alloc) {
         return Err(Refused::Full);
     }
-    if ledgers.is_empty(alloc) {
-        return Err(Refused::Empty);
-    }
-    match ledgers.take_ledgers(alloc) {
-        None => Err(Refused::OtherKind),
-        Some(all) => audit_of(alloc, all, audit),
+    match ledgers.take(alloc) {
+        None => Err(Refused::Empty),
+        Some(held) => {
+            let mut held = held;
+            let answer = audit_at(alloc, &mut held, audit);
+            ledgers.set(alloc, held);
+            answer
+        }
     }
 }
 
-fn audit_of(alloc: Global, all: WorldLedgers, audit: &mut Handle) -> Result<(), Refused>
+fn audit_at(alloc: Global, held: &mut HandleValue, audit: &mut Handle) -> Result<(), Refused>
     requires { audit.old.value ≡ None }
-    ensures { MakesIfWhole (is_whole all.ledgers) all audit.new.value result }
+    ensures { AuditsValue held.old held.new audit.new.value result }
+{
+    match held {
+        HandleValue::Ledgers(all) => audit_of(alloc, all, audit),
+        _ => Err(Refused::OtherKind),
+    }
+}
+
+fn audit_of(alloc: Global, all: &mut WorldLedgers, audit: &mut Handle) -> Result<(), Refused>
+    requires { audit.old.value ≡ None }
+    ensures stay { AreStill all.old all.new }
+    ensures made { MakesIfWhole (is_whole all.old.ledgers) all.old audit.new.value result }
 {
     match all.audit(alloc) {
         Ok(told) => put_new(alloc, audit, HandleValue::Audit(told)),

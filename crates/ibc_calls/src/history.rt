@@ -2,7 +2,8 @@
 
 ghost use Rattle.std.specs.Prelude.{◌≡◌, Some};
 ghost use Rattle.ibc_calls.specs.Handles.{IsWritten};
-ghost use Rattle.ibc_calls.specs.History.{IsEventText, WritesSpelledEvent, TellsEvent, TellsLength, TellsReply, event_code, reply_bytes, reply_code};
+ghost use Rattle.ibc_calls.specs.Events.{IsReplyTold};
+ghost use Rattle.ibc_calls.specs.History.{IsEventText, WritesSpelledEvent, TellsEvent, TellsLength, TellsReply, event_code, published_in, reply_bytes, reply_code};
 
 use crate::Refused;
 use crate::handles::write_out;
@@ -10,7 +11,7 @@ use crate::reads::spelling_of;
 use ibc_handle::{Handle, HandleValue};
 use ibc_ids::Bytes;
 use ibc_ledger::StampedEntry;
-use ibc_machine::{Effect, Event, Reply};
+use ibc_machine::{Effect, Entry, Event, Reading, Reply};
 use std::alloc::Global;
 
 /// What a reply tells in numbers. Its kind is 0 for a refusal, whose number is told; 1 where there is nothing to tell; 2, 3 and 4
@@ -25,16 +26,18 @@ pub struct ReplyCode {
 }
 
 /// What a ledger was asked, in numbers. Its kind is the tag of a message, 1 to 19; or 0 for the end of a block, and then the time
-/// of the next one is told, which else is 0.
+/// of the next one is told, which else is 0. Of an update of a client it is told how many heights the client's chain had published
+/// when the ledger read that; else, and where nothing was read, that is 0.
 #[repr(C)]
 #[derive(Clone, Copy, Debug, PartialEq, Eq, Drop)]
 pub struct EventCode {
     pub kind: u64,
     pub next_time: u64,
+    pub published: u64,
 }
 
-/// Tells how many entries the history of a ledger has, how many messages a plan, how many holdings a list of balances, or how
-/// many channels a list of notes. Refused: `Empty`; `OtherKind`.
+/// Tells how many entries the history of a ledger has, how many messages a plan, how many holdings a list of balances, how many
+/// channels a list of notes, or how many chains an audit. Refused: `Empty`; `OtherKind`.
 #[tactic(auto, unfolding(crate::specs::History::TellsLength))]
 pub fn length(alloc: Global, handle: &mut Handle, length: &mut u64) -> Result<(), Refused>
     ensures kept { handle.new.value ≡ handle.old.value }
@@ -69,6 +72,10 @@ fn length_of(held: &HandleValue, length: &mut u64) -> Result<(), Refused>
         }
         HandleValue::Notes(list) => {
             *length = list.len() as u64;
+            Ok(())
+        }
+        HandleValue::Audit(audit) => {
+            *length = audit.balances.len() as u64;
             Ok(())
         }
         _ => Err(Refused::OtherKind),
@@ -128,9 +135,32 @@ fn tell(
     ensures told { told.new ≡ reply_code stamped.now.entry.reply }
     ensures bytes { IsWritten (reply_bytes stamped.now.entry.reply) bytes.old bytes.new size.new result }
 {
-    let reply = &stamped.entry.reply;
+    write_reply(&stamped.entry.reply, told, bytes, size)
+}
+
+fn write_reply(
+    reply: &Reply,
+    told: &mut ReplyCode,
+    bytes: &mut [u8],
+    size: &mut usize,
+) -> Result<(), Refused>
+    ensures told { told.new ≡ reply_code reply.now }
+    ensures bytes { IsWritten (reply_bytes reply.now) bytes.old bytes.new size.new result }
+{
     *told = told_of(reply);
     write_out(text_of(reply), bytes, size)
+}
+
+/// Tells a reply, and writes the bytes that go with it where there is room. Their number is told.
+pub(crate) fn put_reply(
+    reply: &Reply,
+    told: &mut ReplyCode,
+    bytes: &mut [u8],
+    size: &mut usize,
+)
+    ensures { IsReplyTold reply.now (record { told = told.old; bytes = bytes.old; size = size.old }) (record { told = told.new; bytes = bytes.new; size = size.new }) }
+{
+    let _ = write_reply(reply, told, bytes, size);
 }
 
 fn told_of(reply: &Reply) -> ReplyCode
@@ -201,7 +231,7 @@ fn event_at(
 {
     match held {
         HandleValue::Ledger(member) => match member.ledger.history().get(index as usize) {
-            Some(stamped) => tell_event(alloc, &stamped.entry.event, asked, bytes, size),
+            Some(stamped) => tell_event(alloc, &stamped.entry, asked, bytes, size),
             None => Err(Refused::NothingThere),
         },
         _ => Err(Refused::OtherKind),
@@ -210,16 +240,16 @@ fn event_at(
 
 fn tell_event(
     alloc: Global,
-    event: &Event,
+    entry: &Entry,
     asked: &mut EventCode,
     bytes: &mut [u8],
     size: &mut usize,
 ) -> Result<(), Refused>
-    ensures { WritesSpelledEvent event.now (record { asked = asked.old; bytes = bytes.old; size = size.old }) (record { asked = asked.new; bytes = bytes.new; size = size.new }) result }
+    ensures { WritesSpelledEvent entry.now (record { asked = asked.old; bytes = bytes.old; size = size.old }) (record { asked = asked.new; bytes = bytes.new; size = size.new }) result }
 {
-    match asked_text(alloc, event) {
+    match asked_text(alloc, &entry.event) {
         Ok(text) => {
-            *asked = asked_of(event);
+            *asked = asked_of(entry);
             write_out(text.as_slice(), bytes, size)
         }
         Err(refused) => Err(refused),
@@ -236,12 +266,25 @@ fn asked_text(alloc: Global, event: &Event) -> Result<Bytes, Refused>
     }
 }
 
-fn asked_of(event: &Event) -> EventCode
-    ensures { result ≡ event_code event.now }
+fn asked_of(entry: &Entry) -> EventCode
+    ensures { result ≡ event_code entry.now }
 {
-    let (kind, next_time) = match event {
+    let (kind, next_time) = match &entry.event {
         Event::Message { message, .. } => (u64::from(message.kind().tag()), 0),
         Event::Block { next_time, .. } => (0, *next_time),
     };
-    EventCode { kind, next_time }
+    EventCode {
+        kind,
+        next_time,
+        published: published_in(&entry.reading),
+    }
+}
+
+fn published_in(reading: &Option<Reading>) -> u64
+    ensures { result ≡ published_in reading.now }
+{
+    match reading {
+        Some(reading) => reading.published,
+        None => 0,
+    }
 }

@@ -1,28 +1,45 @@
 //! Messages as their bytes.
 
-ghost use Rattle.std.specs.Prelude.{◌≡◌, ◌⊎◌, None, Some, Err, IfOk, IfErr, IsErrOf, MatchOption, IsOkUnless};
-ghost use Rattle.ibc_ids.specs.declared.refusal.Refusal.TheVariants.{BadMessage, NoMemory};
+ghost use Rattle.std.specs.Prelude.{◌≡◌, ◌⊎◌, None, Some, Err, IfOk, IfErr, IsErrOf, MatchOption};
+ghost use Rattle.ibc_ids.specs.declared.refusal.Refusal.TheVariants.{NoMemory};
 ghost use Rattle.ibc_wire.specs.Fields.{Spells};
 ghost use Rattle.ibc_wire.specs.Messages.{message_fields};
 ghost use Rattle.ibc_wire.specs.declared.messages.Message.{Message as AMessage};
 ghost use Rattle.ibc_wire.specs.Kinds.{kind_of, tag_of};
 ghost use Rattle.ibc_message_codec.specs.MessageFront.{kind_at_front};
+ghost use Rattle.ibc_calls.specs.declared.answer.Refused.TheVariants.{Core, NoMessage};
 ghost use Rattle.ibc_calls.specs.CarriedProofs.{carried_proof, first_in, height_in, proof_in, second_in};
 
+use crate::Refused;
 use ibc_ids::{Bytes, Refusal};
 use ibc_message_codec::decode;
 use ibc_wire::Message;
 use std::alloc::Global;
 
-/// The tag, 1 to 19, of the message that the bytes spell. Refused as by `decode`: `BadMessage` only where they spell none, and
-/// always where they begin with the tag of no message; `NoMemory`.
-pub fn tag_of(alloc: Global, bytes: &[u8]) -> Result<u8, Refusal>
-    ensures ok { IfOk result (λ tag. (message : AMessage) × Spells (message_fields message) bytes.now × (tag ≡ tag_of (kind_of message))) }
-    ensures bad { IsErrOf result BadMessage → (message : AMessage) → ¬ Spells (message_fields message) bytes.now }
-    ensures unknown { kind_at_front bytes.now ≡ None → result ≡ Err BadMessage }
-    ensures err { IfErr result (λ refusal. (refusal ≡ BadMessage) ⊎ (refusal ≡ NoMemory)) }
+/// The message that the bytes spell. Refused as by `decode`: `NoMessage` only where they spell none, and always where they begin
+/// with the tag of no message; `Core(NoMemory)`.
+pub(crate) fn message_of(alloc: Global, bytes: &[u8]) -> Result<Message, Refused>
+    ensures ok { IfOk result (λ message. Spells (message_fields message) bytes.now) }
+    ensures none { IsErrOf result NoMessage → (message : AMessage) → ¬ Spells (message_fields message) bytes.now }
+    ensures unknown { kind_at_front bytes.now ≡ None → result ≡ Err NoMessage }
+    ensures err { IfErr result (λ why. (why ≡ NoMessage) ⊎ (why ≡ Core NoMemory)) }
 {
-    let message = decode(alloc, bytes)?;
+    match decode(alloc, bytes) {
+        Ok(message) => Ok(message),
+        Err(Refusal::BadMessage) => Err(Refused::NoMessage),
+        Err(_) => Err(Refused::Core(Refusal::NoMemory)),
+    }
+}
+
+/// The tag, 1 to 19, of the message that the bytes spell. Refused: `NoMessage` only where they spell none, and always where they
+/// begin with the tag of no message; `Core(NoMemory)`.
+pub fn tag_of(alloc: Global, bytes: &[u8]) -> Result<u8, Refused>
+    ensures ok { IfOk result (λ tag. (message : AMessage) × Spells (message_fields message) bytes.now × (tag ≡ tag_of (kind_of message))) }
+    ensures none { IsErrOf result NoMessage → (message : AMessage) → ¬ Spells (message_fields message) bytes.now }
+    ensures unknown { kind_at_front bytes.now ≡ None → result ≡ Err NoMessage }
+    ensures err { IfErr result (λ why. (why ≡ NoMessage) ⊎ (why ≡ Core NoMemory)) }
+{
+    let message = message_of(alloc, bytes)?;
     let tag = message.kind().tag();
     drop(message);
     Ok(tag)
@@ -38,30 +55,33 @@ pub struct Carried {
 /// The proof at an index, 0 or 1, of those that the message carries which the bytes spell, or none where it carries none there.
 /// ConnOpenTry and ConnOpenAck carry that of the end and that of the client, TimeoutOnClose that of the packet and that of the
 /// closed channel; each other message that needs the other chain's word carries one. Refused: as by `tag_of`.
-pub fn carried_proof(alloc: Global, bytes: &[u8], index: u64) -> Result<Option<Carried>, Refusal>
+pub fn carried_proof(alloc: Global, bytes: &[u8], index: u64) -> Result<Option<Carried>, Refused>
     ensures ok { IfOk result (λ found. (message : AMessage) × Spells (message_fields message) bytes.now × (found ≡ carried_proof index message)) }
-    ensures bad { IsErrOf result BadMessage → (message : AMessage) → ¬ Spells (message_fields message) bytes.now }
-    ensures unknown { kind_at_front bytes.now ≡ None → result ≡ Err BadMessage }
-    ensures err { IfErr result (λ refusal. (refusal ≡ BadMessage) ⊎ (refusal ≡ NoMemory)) }
+    ensures none { IsErrOf result NoMessage → (message : AMessage) → ¬ Spells (message_fields message) bytes.now }
+    ensures unknown { kind_at_front bytes.now ≡ None → result ≡ Err NoMessage }
+    ensures err { IfErr result (λ why. (why ≡ NoMessage) ⊎ (why ≡ Core NoMemory)) }
 {
-    let message = decode(alloc, bytes)?;
+    let message = message_of(alloc, bytes)?;
     let found = copied(alloc, &message, index);
     drop(message);
     found
 }
 
 // A copy of the proof at an index, and its height.
-fn copied(alloc: Global, message: &Message, index: u64) -> Result<Option<Carried>, Refusal>
+fn copied(alloc: Global, message: &Message, index: u64) -> Result<Option<Carried>, Refused>
     ensures ok { IfOk result (λ found. found ≡ carried_proof index message.now) }
-    ensures err { IsOkUnless result NoMemory }
+    ensures err { IfErr result (λ why. why ≡ Core NoMemory) }
 {
     let Some(proof) = proof_in(message, index) else {
         return Ok(None);
     };
-    Ok(Some(Carried {
-        height: height_in(message),
-        proof: Bytes::copy_of(alloc, proof)?,
-    }))
+    match Bytes::copy_of(alloc, proof) {
+        Ok(proof) => Ok(Some(Carried {
+            height: height_in(message),
+            proof,
+        })),
+        Err(_) => Err(Refused::Core(Refusal::NoMemory)),
+    }
 }
 
 // The proof at an index.

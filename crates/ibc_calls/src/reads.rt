@@ -1,15 +1,17 @@
 //! What is read of ledgers and of plans.
 
-ghost use Rattle.std.specs.Prelude.{◌≡◌, Some};
+ghost use Rattle.std.specs.Prelude.{◌≡◌, ◌⊎◌, Some, IfOk, IfErr};
+ghost use Rattle.ibc_ids.specs.declared.refusal.Refusal.TheVariants.{BadName, NoMemory};
+ghost use Rattle.ibc_calls.specs.declared.answer.Refused.TheVariants.{Core};
 ghost use Rattle.ibc_calls.specs.Handles.{Finds};
-ghost use Rattle.ibc_calls.specs.Reads.{FindsMessage, FindsValue, IsBalance, IsSpelling, IsValueAt, TellsBalance, amount_of};
+ghost use Rattle.ibc_calls.specs.Reads.{AreEscrow, FindsMessage, FindsValue, IsBalance, IsEscrow, IsSpelling, IsValueAt, TellsBalance, TellsEscrow, amount_of};
 
 use crate::Refused;
 use crate::genesis::names_of;
 use crate::handles::give;
 use crate::views::key_of;
 use ibc_handle::{Handle, HandleValue};
-use ibc_ids::{Account, Bytes};
+use ibc_ids::{Account, Bytes, ChannelId, Denom};
 use ibc_ledger::Ledger;
 use ibc_message_codec::encode;
 use ibc_wire::Message;
@@ -182,6 +184,69 @@ fn balance_of(
     let (user, denom) = names_of(alloc, user, denom)?;
     *amount = parts_of(ledger.balance(&Account::User(user), &denom));
     Ok(())
+}
+
+/// Tells what the escrow account of a channel holds of a denomination in the working block of a ledger (ICS 20, "escrow address").
+/// Refused: `Empty`; `OtherKind`; `Core(BadName)` exactly where a name is none of its kind; `Core(NoMemory)`. Then nothing is told.
+#[tactic(auto, unfolding(crate::specs::Reads::TellsEscrow))]
+pub fn escrow(
+    alloc: Global,
+    ledger: &mut Handle,
+    channel: &[u8],
+    denom: &[u8],
+    amount: &mut Amount,
+) -> Result<(), Refused>
+    ensures kept { ledger.new.value ≡ ledger.old.value }
+    ensures told { TellsEscrow channel.now denom.now ledger.old.value amount.old amount.new result }
+{
+    match ledger.take(alloc) {
+        None => Err(Refused::Empty),
+        Some(held) => {
+            let answer = escrow_at(alloc, &held, channel, denom, amount);
+            ledger.set(alloc, held);
+            answer
+        }
+    }
+}
+
+#[tactic(auto, unfolding(crate::specs::Reads::TellsEscrow))]
+fn escrow_at(
+    alloc: Global,
+    held: &HandleValue,
+    channel: &[u8],
+    denom: &[u8],
+    amount: &mut Amount,
+) -> Result<(), Refused>
+    ensures { TellsEscrow channel.now denom.now (Some held.now) amount.old amount.new result }
+{
+    match held {
+        HandleValue::Ledger(member) => escrow_of(alloc, &member.ledger, channel, denom, amount),
+        _ => Err(Refused::OtherKind),
+    }
+}
+
+fn escrow_of(
+    alloc: Global,
+    ledger: &Ledger,
+    channel: &[u8],
+    denom: &[u8],
+    amount: &mut Amount,
+) -> Result<(), Refused>
+    ensures { IsEscrow channel.now denom.now ledger.now.ledger amount.old amount.new result }
+{
+    let (channel, denom) = escrow_names(alloc, channel, denom)?;
+    *amount = parts_of(ledger.balance(&Account::Escrow(channel), &denom));
+    Ok(())
+}
+
+// The channel and the denomination of these names.
+fn escrow_names(alloc: Global, channel: &[u8], denom: &[u8]) -> Result<(ChannelId, Denom), Refused>
+    ensures ok { IfOk result (λ names. (names.0 ≡ channel.now) × (names.1 ≡ denom.now) × AreEscrow channel.now denom.now) }
+    ensures err { IfErr result (λ refused. ((refused ≡ Core BadName) × ¬ AreEscrow channel.now denom.now) ⊎ (refused ≡ Core NoMemory)) }
+{
+    let channel = ChannelId::from_bytes(alloc, channel)?;
+    let denom = Denom::from_bytes(alloc, denom)?;
+    Ok((channel, denom))
 }
 
 pub(crate) fn parts_of(amount: u128) -> Amount
