@@ -1,5 +1,5 @@
 -- Packets that are taken apart, and those that ledgers sent, with their acknowledgements (ICS 4, "Packet flow & handling").
-use Rattle.std.specs.Prelude.{◌≡◌, ◌⊎◌, ℕ, Option, Some, None, Result, Ok, Err, IsTrue}
+use Rattle.std.specs.Prelude.{◌≡◌, ◌⊎◌, ◌==◌, ℕ, Option, Some, None, Result, Ok, Err, IsTrue, if◌then◌else◌}
 use Rattle.ibc_ids.specs.Texts.{Text}
 use Rattle.ibc_ids.specs.Names.{is_port, is_channel}
 use Rattle.ibc_ids.specs.declared.refusal.Refusal.TheVariants.{NoMemory, BadMessage, BadName}
@@ -69,12 +69,13 @@ TellsPacket bytes old new answer =
 
 -- 1 and 2 the port and the channel that it left, 3 and 4 those that it goes to, 5 its data
 abbrev pub part_of : ℕ → Packet → Option Text
-part_of 1 p = Some p.source_port
-part_of 2 p = Some p.source_channel
-part_of 3 p = Some p.destination_port
-part_of 4 p = Some p.destination_channel
-part_of 5 p = Some p.payload
-part_of _ p = None
+part_of part p =
+    if part == 1 then Some p.source_port
+    else if part == 2 then Some p.source_channel
+    else if part == 3 then Some p.destination_port
+    else if part == 4 then Some p.destination_channel
+    else if part == 5 then Some p.payload
+    else None
 
 -- The bytes spell a packet, whose part is found; or they spell none, or memory ran out.
 unfoldable pub FindsPart : ℕ → Text → Result Text Refused → Type 0

@@ -208,12 +208,17 @@ fn part_found(alloc: Global, bytes: &[u8], part: u64) -> Result<Bytes, Refused>
 fn part_in(alloc: Global, packet: &Packet, part: u64) -> Result<Bytes, Refused>
     ensures { IsCopied (part_of part packet.now) result }
 {
-    match part {
-        1 => copy_of(alloc, packet.source_port.as_str().as_bytes()),
-        2 => copy_of(alloc, packet.source_channel.as_str().as_bytes()),
-        3 => copy_of(alloc, packet.destination_port.as_str().as_bytes()),
-        4 => copy_of(alloc, packet.destination_channel.as_str().as_bytes()),
-        5 => copy_of(alloc, packet.payload.as_slice()),
-        _ => Err(Refused::NothingThere),
+    if part == 1 {
+        copy_of(alloc, packet.source_port.as_str().as_bytes())
+    } else if part == 2 {
+        copy_of(alloc, packet.source_channel.as_str().as_bytes())
+    } else if part == 3 {
+        copy_of(alloc, packet.destination_port.as_str().as_bytes())
+    } else if part == 4 {
+        copy_of(alloc, packet.destination_channel.as_str().as_bytes())
+    } else if part == 5 {
+        copy_of(alloc, packet.payload.as_slice())
+    } else {
+        Err(Refused::NothingThere)
     }
 }
