@@ -14,7 +14,12 @@ top=$PWD
 
 parts=(
     "tools/statements"
+    "tools/house --gate"
+    "tools/frozen --selftest"
+    "tools/refusals --check"
+    "tools/check_rules"
     "rt ci"
+    "tools/trust LOG"
     "tools/check_statuses"
     "tools/check_cases"
     "tools/build_library --gated"
@@ -24,17 +29,21 @@ parts=(
     "tools/wrong_bytes --count 100000"
     "tools/test_try_edits"
 )
+# LOG is what `rt ci` said.
 # What goes on beside `rt ci` and the parts behind it, with the time that these leave. It reads along what `rt ci` says, and tries a
 # crate's wrong bodies once the crate is proved.
 beside="tools/try_edits"
 quick_parts=(
     "tools/statements"
+    "tools/refusals --check"
     "rt ci"
+    "tools/trust LOG"
 )
 
 work=$(mktemp -d)
 follower=""
 behind=""
+proved=""
 passed=0
 failed=0
 processor=0
@@ -98,7 +107,11 @@ part() {
     read -ra words <<<"$title"
     echo "test.sh: $title"
     : >"$files.said"
-    [ "$title" != "rt ci" ] || follow "$files.said"
+    if [ "$title" = "rt ci" ]; then
+        proved="$files.said"
+        follow "$proved"
+    fi
+    words=("${words[@]/#LOG/$proved}")
     if is_there "$title" "$files"; then
         run "$files" "${words[@]}" | tee -a "$files.said"
     fi

@@ -70,7 +70,7 @@ typedef struct { ibcw_handle handle; } ibcw_audit;    /* what the ledgers of a w
 
 enum {
     IBCW_DONE = 0,
-    /* the core's refusals: 1 to 31; ibcw_refusal_text (ibcworld_messages.h) says each in a sentence */
+    /* the core's refusals: 1 to 31, as in the table of docs/REFUSALS.md; ibcw_refusal_text (ibcworld_messages.h) says each in a sentence */
     IBCW_NO_MEMORY = 1,
     IBCW_BAD_NAME = 2,
     IBCW_UNKNOWN_CHAIN = 3,

@@ -6,7 +6,7 @@ use Rattle.ibc_ids.specs.Maps.{Map}
 use Rattle.ibc_ids.specs.declared.refusal.Refusal.TheVariants.{Poor, TooLarge}
 use Rattle.ibc_wire.specs.declared.token.Token.{Token}
 use Rattle.ibc_machine.specs.ics20.Bank.{Balances, give, pay, into_escrow, out_of_escrow, mint}
-use Rattle.ibc_machine.specs.chain.Checks.{Checked, expect}
+use Rattle.ibc_machine.specs.chain.Checks.{Checked, expect, ◌>>=◌}
 use Rattle.ibc_bank.specs.Amounts.{amount_at, with_amount}
 use Rattle.ibc_bank.specs.declared.moves.Move.{Move}
 use Rattle.ibc_bank.specs.declared.moves.Move.TheVariants as move

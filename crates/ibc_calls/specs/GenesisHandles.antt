@@ -1,5 +1,5 @@
 -- How a genesis is made, chain by chain (ICS 24, "Host environment").
-use Rattle.std.specs.Prelude.{◌≡◌, ◌⊎◌, ◌++◌, ℕ, List, [], ◌∷◌, Option, Some, Ok, Err, IsTrue}
+use Rattle.std.specs.Prelude.{◌≡◌, ◌⊎◌, ◌++◌, ℕ, List, [], ◌∷◌, Option, Some, Ok, Err, IsTrue, None}
 use Rattle.ibc_ids.specs.Texts.{Text}
 use Rattle.ibc_ids.specs.Names.{is_user, is_denom}
 use Rattle.ibc_ids.specs.declared.refusal.Refusal.TheVariants.{NoMemory, BadName}

@@ -1,5 +1,5 @@
 -- What a proof shows that is given as its bytes (ICS 23, "Verification").
-use Rattle.std.specs.Prelude.{Bool, ◌==◌, length, Option, Some, None, Ok, Err, ⊤, if◌then◌else◌}
+use Rattle.std.specs.Prelude.{Bool, ◌==◌, length, Option, Some, None, Ok, Err, ⊤, if◌then◌else◌, ℕ, true, false}
 use Rattle.ibc_ids.specs.Texts.{Text}
 use Rattle.ibc_ids.specs.declared.refusal.Refusal.TheVariants.{BadMessage, BadProof}
 use Rattle.ibc_merkle.specs.declared.proof.Proof.{Proof}

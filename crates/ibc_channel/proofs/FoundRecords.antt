@@ -14,7 +14,7 @@ use Rattle.ibc_wire.specs.declared.records.Order.{Order}
 use Rattle.ibc_wire.specs.declared.records.ChannelEnd.{ChannelEnd}
 use Rattle.ibc_machine.specs.chain.Records.{Core, Channel, connection_at, channel_at, with_channel}
 use Rattle.ibc_machine.specs.ics24.Values.{same_channel_state}
-use Rattle.ibc_machine.specs.chain.Checks.{Checked, expect, go_on}
+use Rattle.ibc_machine.specs.chain.Checks.{Checked, expect, go_on, ◌>>=◌}
 use Rattle.ibc_machine.specs.ics04.Channels.{channel_end}
 use Rattle.ibc_records.specs.RecordsModel.{RecordsModel, core_of, SetsChannelEnd}
 use Rattle.ibc_records.specs.HandlerContract.{AreWrittenRecords}

@@ -22,7 +22,7 @@ use Rattle.ibc_machine.specs.declared.reply.Effect.TheVariants as effect
 use Rattle.ibc_machine.specs.chain.Records.{Core, Channel, connection_at, channel_at, with_channel}
 use Rattle.ibc_machine.specs.ledger.Replay.{LedgerState, proof_evidence}
 use Rattle.ibc_machine.specs.ics24.Values.{same_connection_state, same_channel_state}
-use Rattle.ibc_machine.specs.chain.Checks.{Checked, require, expect, go_on, and_then}
+use Rattle.ibc_machine.specs.chain.Checks.{Checked, require, expect, go_on, and_then, ◌>>=◌, ◌>>◌}
 use Rattle.ibc_machine.specs.ics24.Evidence.{Host, Evidence, require_number, require_known, require_proof}
 use Rattle.ibc_machine.specs.ics04.Channels.{client_of, peer_channel_of, counterpart, has_channel, chan_open_init, chan_open_try, chan_open_ack, chan_close_init}
 use Rattle.ibc_machine.proofs.PassedChecks.{pass, find, unused}

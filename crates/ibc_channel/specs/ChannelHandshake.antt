@@ -14,7 +14,7 @@ use Rattle.ibc_wire.specs.declared.messages.ChanOpenAck.{ChanOpenAck}
 use Rattle.ibc_machine.specs.declared.reply.Effect.{Effect}
 use Rattle.ibc_machine.specs.declared.reply.Effect.TheVariants as effect
 use Rattle.ibc_machine.specs.chain.Records.{Core, Channel, connection_at, channel_at, with_channel}
-use Rattle.ibc_machine.specs.chain.Checks.{Checked, require, expect}
+use Rattle.ibc_machine.specs.chain.Checks.{Checked, require, expect, ◌>>=◌}
 use Rattle.ibc_machine.specs.ics04.Channels.{is_open, channel_end, counterpart, with_new_channel}
 
 -- ---- ends of this chain

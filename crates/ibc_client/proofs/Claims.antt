@@ -12,7 +12,7 @@ use Rattle.ibc_ids.specs.declared.refusal.Refusal.TheVariants.{UnknownClient, No
 use Rattle.ibc_merkle.specs.Proofs.{accepts, accepts_present, accepts_absent}
 use Rattle.ibc_merkle.specs.declared.proof.Proof.{Proof}
 use Rattle.ibc_wire.specs.Reading.{proof_of}
-use Rattle.ibc_machine.specs.chain.Checks.{Checked, require, expect, go_on}
+use Rattle.ibc_machine.specs.chain.Checks.{Checked, require, expect, go_on, ◌>>=◌}
 use Rattle.ibc_machine.specs.ics24.Evidence.{require_proof}
 use Rattle.ibc_machine.specs.chain.Records.{is_known_height}
 use Rattle.ibc_machine.specs.ledger.Replay.{LedgerState, Consensus, proof_evidence, is_shown}

@@ -13,7 +13,7 @@ use Rattle.ibc_wire.specs.Reading.{proof_of, ReadsWhatIsSpelled}
 use Rattle.ibc_machine.specs.declared.reply.Effect.{Effect}
 use Rattle.ibc_machine.specs.declared.reply.Effect.TheVariants as effect
 use Rattle.ibc_machine.specs.chain.Records.{Core, Client}
-use Rattle.ibc_machine.specs.chain.Checks.{Checked, require, expect, go_on}
+use Rattle.ibc_machine.specs.chain.Checks.{Checked, require, expect, go_on, ◌>>=◌, ◌>>◌}
 use Rattle.ibc_machine.proofs.PassedChecks.{pass, fail, miss}
 use Rattle.ibc_records.specs.ClientModels.{ClientModel, abstract_client}
 use Rattle.ibc_records.specs.RecordsModel.{RecordsModel, core_of, IsUnchanged}

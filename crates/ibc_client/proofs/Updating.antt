@@ -13,7 +13,7 @@ use Rattle.ibc_wire.specs.declared.messages.UpdateClient.{UpdateClient}
 use Rattle.ibc_machine.specs.declared.entry.Reading.{Reading}
 use Rattle.ibc_machine.specs.declared.reply.Effect.TheVariants as effect
 use Rattle.ibc_machine.specs.chain.Records.{Core, Client, client_at, with_client}
-use Rattle.ibc_machine.specs.chain.Checks.{Checked, require, expect, go_on, and_then}
+use Rattle.ibc_machine.specs.chain.Checks.{Checked, require, expect, go_on, and_then, ◌>>=◌, ◌>>◌}
 use Rattle.ibc_machine.specs.ics24.Evidence.{Host, Evidence, require_row}
 use Rattle.ibc_machine.proofs.PassedChecks.{grouped}
 use Rattle.ibc_machine.specs.ics02.Clients.{update_client, with_known_height, is_of_client}

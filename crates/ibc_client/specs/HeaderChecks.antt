@@ -8,7 +8,7 @@ use Rattle.ibc_wire.specs.declared.header.Header.{Header}
 use Rattle.ibc_wire.specs.declared.messages.UpdateClient.{UpdateClient}
 use Rattle.ibc_machine.specs.declared.entry.Reading.{Reading}
 use Rattle.ibc_machine.specs.chain.Records.{Core, Client, client_at}
-use Rattle.ibc_machine.specs.chain.Checks.{Checked, require, expect}
+use Rattle.ibc_machine.specs.chain.Checks.{Checked, require, expect, ◌>>=◌, ◌>>◌}
 use Rattle.ibc_machine.specs.ics24.Evidence.{PublishedRow, Gone, require_row}
 use Rattle.ibc_machine.specs.ics02.Clients.{is_of_client}
 use Rattle.ibc_machine.specs.chain.Machine.{row_if}

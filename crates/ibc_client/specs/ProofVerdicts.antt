@@ -7,7 +7,7 @@ use Rattle.ibc_ids.specs.declared.refusal.Refusal.TheVariants.{NoMemory, Unknown
 use Rattle.ibc_merkle.specs.declared.proof.Proof.{Proof}
 use Rattle.ibc_wire.specs.Reading.{proof_of}
 use Rattle.ibc_machine.specs.chain.Records.{Core, Client, client_at}
-use Rattle.ibc_machine.specs.chain.Checks.{Checked, expect}
+use Rattle.ibc_machine.specs.chain.Checks.{Checked, expect, ◌>>=◌}
 use Rattle.ibc_machine.specs.ics24.Values.{Claim}
 use Rattle.ibc_machine.specs.ics24.Evidence.{Host, Evidence, require_proof}
 use Rattle.ibc_machine.specs.ledger.Replay.{LedgerState, proof_evidence}

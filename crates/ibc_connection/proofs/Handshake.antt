@@ -18,7 +18,7 @@ use Rattle.ibc_machine.specs.declared.reply.Effect.TheVariants as effect
 use Rattle.ibc_machine.specs.chain.Records.{Core, Client, client_at, connection_at, with_connection}
 use Rattle.ibc_machine.specs.ledger.Replay.{LedgerState, proof_evidence}
 use Rattle.ibc_machine.specs.ics24.Values.{same_connection_state}
-use Rattle.ibc_machine.specs.chain.Checks.{Checked, require, expect}
+use Rattle.ibc_machine.specs.chain.Checks.{Checked, require, expect, ◌>>=◌, ◌>>◌}
 use Rattle.ibc_machine.specs.ics24.Evidence.{Host, Evidence, require_number, require_known, require_proof}
 use Rattle.ibc_machine.specs.ics03.Connections.{has_connection, has_client, may_conn_try, may_conn_ack, conn_open_init, conn_open_try, conn_open_ack, conn_open_confirm}
 use Rattle.ibc_machine.proofs.PassedChecks.{pass, fail, find, unused}

@@ -1,5 +1,5 @@
 -- Ledgers of one world under the number that their owner gave it.
-use Rattle.std.specs.Prelude.{◌≡◌, ℕ, List, [], ◌∷◌, ⊤}
+use Rattle.std.specs.Prelude.{◌≡◌, ℕ, List, [], ◌∷◌, ⊤, None, Some, Option}
 use Rattle.ibc_ledger.specs.LedgerModel.{LedgerModel}
 use Rattle.ibc_world_core.specs.WorldAudits.{HaveStayed}
 

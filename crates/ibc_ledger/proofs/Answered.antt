@@ -1,6 +1,6 @@
 -- A message that reads nothing is answered as its handler's call says, also where what its application keeps is a part of
 -- something more.
-use Rattle.ibc_ledger.proofs.Common.{IsErrAnd, ◌∙◌, ◌≡◌, ℕ, false, [], refl, sym, ap, subst, Result, Ok, Err, None, inl, inr, ⊎_elim, Refusal, NoMemory, Text, Message, Packet, RecvPacket, Effect, Core, Apps, Checked, go_on, Host}
+use Rattle.ibc_ledger.proofs.Common.{IsErrAnd, ◌∙◌, ◌≡◌, ℕ, false, [], refl, sym, ap, subst, Result, Ok, Err, None, inl, inr, ⊎_elim, Refusal, NoMemory, Text, Message, Packet, RecvPacket, Effect, Core, Apps, Checked, go_on, Host, ◌>>=◌}
 use Rattle.ibc_ledger.proofs.Common.{Evidence, CoreHandler, Handler, core_handler, handle, is_block_reply, LedgerState, proof_evidence, Channel, recv_packet, recv_checked, with_received, RecordsModel, core_of, IsTakenMessage, IsTakenWith, IsHandled}
 use Rattle.ibc_ledger.proofs.Common.{IsHandledWith, host_with, IsInFlight, same_flight, Applications, HostState, EffectTwice, abstract_apps, result_effects, IsReady, IsAnswered}
 use Rattle.std.proofs.lemmas.Result.{err_from_is_err_and}

@@ -1,5 +1,5 @@
 -- What the applications answer by the bank is what the definitions say, where the bank knows what is burnt in flight.
-use Rattle.ibc_ledger.proofs.Common.{◌≡◌, ℕ, ◌≤◌, Bool, true, false, refl, sym, ap, ◌∙◌, subst, Ok, Err, if◌then◌else◌, Text, same_text, Map, Message, Packet, RecvPacket, ack_checked, timeout_checked, timeout_on_close_checked, Handler}
+use Rattle.ibc_ledger.proofs.Common.{◌≡◌, ℕ, ◌≤◌, Bool, true, false, refl, sym, ap, ◌∙◌, subst, Ok, Err, if◌then◌else◌, Text, same_text, Map, Message, Packet, RecvPacket, ack_checked, timeout_checked, timeout_on_close_checked, Handler, ◌>>=◌}
 use Rattle.ibc_ledger.proofs.Common.{Host, Evidence, Effect, Core, Channel, Apps, commitment_of, Checked, go_on, tokens_of, transfer_port, burnt_amount, receive_transfer, acknowledge_transfer, refund_transfer, receive_note, recv_packet}
 use Rattle.ibc_ledger.proofs.Common.{recv_checked, with_received, ack_packet, timeout, timeout_on_close, on_recv, on_ack, on_timeout, with_balances, handle, core_of, IsInFlight, transfer_keeps_flight, transfer_many_keeps_flight}
 use Rattle.ibc_ledger.proofs.Common.{ack_keeps_flight, timeout_keeps_flight, timeout_on_close_keeps_flight, same_flight, Applications, HostState, abstract_apps, IsReady, List}

@@ -1,6 +1,6 @@
 -- What the receipt of a call claims.
-use Rattle.std.proofs.Common.{◌≡◌, ◌∙◌, ℕ, [], ◌-◌, Option, Some, None, refl, ap, sym, subst, length, ⊎_elim, inl, inr}
-use Rattle.std.specs.Prelude.{◌⊎◌, IfSome, IsNone, IsSome}
+use Rattle.std.proofs.Common.{◌≡◌, ◌∙◌, ℕ, [], ◌-◌, Option, Some, None, refl, ap, sym, subst, length, ⊎_elim, inl, inr, true, List}
+use Rattle.std.specs.Prelude.{◌⊎◌, IfSome, IsNone, IsSome, slice_get}
 use Rattle.std.specs.List.{last_or}
 use Rattle.std.specs.Option.{IsSomeAnd, option_and_then, option_map}
 use Rattle.atomic_table.specs.Seated.{TableId}

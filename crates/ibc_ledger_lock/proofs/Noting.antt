@@ -1,5 +1,5 @@
 -- What a call adds to what is known of a ledger.
-use Rattle.std.proofs.Common.{◌≡◌, ◌∙◌, ℕ, zero, suc, List, [], ◌∷◌, ◌++◌, ◌-◌, Some, None, refl, ap, sym, subst, arith, length, length-append, map, slice_get, ⊎_elim}
+use Rattle.std.proofs.Common.{◌≡◌, ◌∙◌, ℕ, zero, suc, List, [], ◌∷◌, ◌++◌, ◌-◌, Some, None, refl, ap, sym, subst, arith, length, length-append, map, slice_get, ⊎_elim, Option}
 use Rattle.std.specs.List.{last_or}
 use Rattle.std.proofs.lemmas.List.{append-nil}
 use Rattle.ibc_ids.specs.declared.refusal.Refusal.TheVariants.{NoMemory}
@@ -21,6 +21,7 @@ use Rattle.ibc_ledger_lock.specs.KnownLedgers.{KnownLedger}
 use Rattle.ibc_ledger_lock.specs.Books.{IsKnownBeginning, keeper, reader}
 use Rattle.ibc_ledger_lock.specs.declared.book.BookKnowledge.{BookKnowledge}
 use Rattle.ibc_ledger_lock.specs.ReceiptsAndReadings.{IsEarlier, IsEarlierOnItsChain, known_of, ledger_as, state_after}
+use mathlib.Core.List.{IsPrefix}
 
 -- ---- what a call adds
 

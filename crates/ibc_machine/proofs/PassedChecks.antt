@@ -2,7 +2,7 @@
 use Rattle.std.proofs.Common.{◌≡◌, refl, ap, ◌∙◌, Option, Some, None, Ok, Err}
 use Rattle.std.specs.Prelude.{⊤}
 use Rattle.ibc_ids.specs.declared.refusal.Refusal.{Refusal}
-use Rattle.ibc_machine.specs.chain.Checks.{Checked, expect, go_on, and_then}
+use Rattle.ibc_machine.specs.chain.Checks.{Checked, expect, go_on, and_then, ◌>>=◌, ◌>>◌}
 
 -- ---- checks that give nothing
 

@@ -2,7 +2,7 @@
 use Rattle.std.proofs.Common.{Ok}
 use Rattle.ibc_machine.specs.declared.reply.Effect.{Effect}
 use Rattle.ibc_machine.specs.chain.Records.{Core, Apps}
-use Rattle.ibc_machine.specs.chain.Checks.{Checked}
+use Rattle.ibc_machine.specs.chain.Checks.{Checked, ◌>>=◌}
 use Rattle.ibc_machine.specs.ics20.Bank.{Balances}
 use Rattle.ibc_machine.specs.chain.Applications.{with_balances}
 use Rattle.ibc_machine.proofs.PassedRows.{Gives, gives_ok, gives_bind}

@@ -2,7 +2,7 @@
 use Rattle.std.proofs.Common.{◌≡◌, Bool, true, false, refl, ap, subst, Option, Some, None, Ok, Err}
 use Rattle.std.specs.Prelude.{⊤}
 use Rattle.ibc_ids.specs.declared.refusal.Refusal.{Refusal}
-use Rattle.ibc_machine.specs.chain.Checks.{Checked, require, expect, go_on, and_then}
+use Rattle.ibc_machine.specs.chain.Checks.{Checked, require, expect, go_on, and_then, ◌>>=◌, ◌>>◌}
 
 pub require_passed : {B : Type 0} (b : Bool) (r : Refusal) (rest : Checked B) {y : B} → (require b r >> rest) ≡ Ok y → (b ≡ true) × (rest ≡ Ok y)
 unfolding and_then

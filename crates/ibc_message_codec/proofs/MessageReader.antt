@@ -3,7 +3,7 @@ use Rattle.std.proofs.Common.{◌≡◌, ℕ, [], ◌∷◌, Some, refl, ap, ◌
 use Rattle.ibc_ids.specs.Texts.{Text}
 use Rattle.ibc_wire.specs.Messages.{message_fields}
 use Rattle.ibc_wire.specs.Kinds.{kind_of_tag, tag_of}
-use Rattle.ibc_wire.specs.Reading.{Front, byte_at_front}
+use Rattle.ibc_wire.specs.Reading.{Front, byte_at_front, ◌>>=◌}
 use Rattle.ibc_message_codec.specs.MessageFront.{message_behind, message_at_front}
 use Rattle.ibc_wire.specs.Lawful.{AreBytes, Begins, IsReader}
 use Rattle.ibc_wire.specs.declared.messages.Message.{Message}

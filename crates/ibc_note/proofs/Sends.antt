@@ -8,7 +8,7 @@ use Rattle.ibc_wire.specs.declared.messages.SendNote.{SendNote}
 use Rattle.ibc_machine.specs.declared.reply.Effect.{Effect}
 use Rattle.ibc_machine.specs.declared.reply.Effect.TheVariants as effect
 use Rattle.ibc_machine.specs.chain.Records.{Core, Channel, Commitment, channel_at, with_channel}
-use Rattle.ibc_machine.specs.chain.Checks.{Checked, require}
+use Rattle.ibc_machine.specs.chain.Checks.{Checked, require, ◌>>=◌, ◌>>◌}
 use Rattle.ibc_machine.specs.ics24.Evidence.{Host, Evidence, require_number}
 use Rattle.ibc_machine.specs.ics04.Packets.{has_size, sending_end, require_timeouts, after_send, with_sent}
 use Rattle.ibc_machine.specs.chain.Notes.{note_port, note_commitment, send_note}

@@ -6,7 +6,7 @@ use Rattle.ibc_ids.specs.Maps.{at}
 use Rattle.ibc_ids.specs.declared.publication.Publication.{Publication}
 use Rattle.ibc_wire.specs.declared.records.ConnectionEnd.{ConnectionEnd}
 use Rattle.ibc_ids.specs.declared.refusal.Refusal.TheVariants.{NoTimeout, TimeoutPassed}
-use Rattle.ibc_machine.specs.chain.Checks.{require, and_then}
+use Rattle.ibc_machine.specs.chain.Checks.{require, and_then, ◌>>◌}
 use Rattle.ibc_machine.specs.ics24.Evidence.{Evidence}
 use Rattle.ibc_machine.specs.chain.Records.{Core, Client, Channel, Commitment, client_at, connection_at, is_known_height}
 use Rattle.ibc_machine.specs.ledger.Replay.{LedgerState, proof_evidence}

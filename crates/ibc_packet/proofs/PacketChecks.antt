@@ -12,7 +12,7 @@ use Rattle.ibc_wire.specs.declared.messages.Timeout.{Timeout}
 use Rattle.ibc_wire.specs.declared.messages.TimeoutOnClose.{TimeoutOnClose}
 use Rattle.ibc_machine.specs.chain.Records.{Core, Channel, channel_at}
 use Rattle.ibc_machine.specs.ledger.Replay.{LedgerState, proof_evidence}
-use Rattle.ibc_machine.specs.chain.Checks.{Checked, require, expect}
+use Rattle.ibc_machine.specs.chain.Checks.{Checked, require, expect, ◌>>=◌, ◌>>◌}
 use Rattle.ibc_machine.specs.ics24.Evidence.{Host, Evidence, require_known, require_proof}
 use Rattle.ibc_machine.specs.ics04.Channels.{client_of, has_channel, is_in_state}
 use Rattle.ibc_machine.specs.ics04.Packets.{sending_end, has_size, has_form, may_receive, may_acknowledge, is_pending, was_sent, was_acknowledged, not_received, waits_for, recv_checked, ack_checked, timeout_checked, timeout_on_close_checked}

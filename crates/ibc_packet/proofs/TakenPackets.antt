@@ -18,7 +18,7 @@ use Rattle.ibc_machine.specs.declared.reply.Effect.{Effect}
 use Rattle.ibc_machine.specs.declared.reply.Effect.TheVariants as effect
 use Rattle.ibc_machine.specs.chain.Records.{Core, Channel, connection_at, channel_at, with_channel}
 use Rattle.ibc_machine.specs.ics24.Values.{Claim}
-use Rattle.ibc_machine.specs.chain.Checks.{Checked, require}
+use Rattle.ibc_machine.specs.chain.Checks.{Checked, require, ◌>>=◌}
 use Rattle.ibc_machine.specs.ics24.Evidence.{Host, Evidence, require_proof}
 use Rattle.ibc_machine.specs.ics04.Channels.{client_of}
 use Rattle.ibc_machine.specs.ics04.Packets.{with_received, after_receive, after_ack, after_timeout, with_timed_out, recv_checked, recv_packet, ack_checked, ack_packet, timeout_checked, timeout, timeout_on_close_checked, timeout_on_close}

@@ -1,7 +1,7 @@
 -- When two rows of checks give the same.
 use Rattle.std.proofs.Common.{◌≡◌, refl, ap, ◌∙◌, Ok, Err}
 use Rattle.std.specs.Prelude.{⊤}
-use Rattle.ibc_machine.specs.chain.Checks.{Checked, go_on, and_then}
+use Rattle.ibc_machine.specs.chain.Checks.{Checked, go_on, and_then, ◌>>=◌, ◌>>◌}
 
 -- they agree where they are reached
 pub then_same : {B : Type 0} (x x' : Checked ⊤) (rest rest' : Checked B) → x ≡ x' → (x' ≡ Ok tt → rest ≡ rest') → (x >> rest) ≡ (x' >> rest')

@@ -18,7 +18,7 @@ use Rattle.ibc_machine.specs.declared.reply.Effect.{Effect}
 use Rattle.ibc_machine.specs.declared.reply.Effect.TheVariants as effect
 use Rattle.ibc_machine.specs.chain.Records.{Core, Channel, Commitment, commitment_of}
 use Rattle.ibc_machine.specs.ics20.Bank.{Balances}
-use Rattle.ibc_machine.specs.chain.Checks.{Checked, require, expect, go_on}
+use Rattle.ibc_machine.specs.chain.Checks.{Checked, require, expect, go_on, ◌>>=◌, ◌>>◌}
 use Rattle.ibc_machine.specs.ics24.Evidence.{Host, Evidence, require_number}
 use Rattle.ibc_machine.specs.ics04.Packets.{has_size, sending_end, require_timeouts, with_sent}
 use Rattle.ibc_machine.specs.ics20.TokenData.{Data, one_token, several_tokens, data_of, tokens_of, success}

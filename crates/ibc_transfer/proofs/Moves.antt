@@ -11,7 +11,7 @@ use Rattle.ibc_ids.specs.Maps.{Map}
 use Rattle.ibc_ids.proofs.Texts.{text_cmp_total, same_text_itself}
 use Rattle.ibc_wire.specs.declared.token.Token.{Token}
 use Rattle.ibc_machine.specs.ics20.Bank.{Balances, give, pay, into_escrow, out_of_escrow}
-use Rattle.ibc_machine.specs.chain.Checks.{Checked, expect, go_on}
+use Rattle.ibc_machine.specs.chain.Checks.{Checked, expect, go_on, ◌>>=◌}
 use Rattle.ibc_machine.specs.ics20.TokenData.{amount_of}
 use Rattle.ibc_machine.specs.ics20.Transfers.{transfer_port, came_over, each_token, send_token, refund_token}
 use Rattle.ibc_machine.proofs.FiniteMaps.{by_text}

@@ -11,7 +11,7 @@ use Rattle.ibc_ids.proofs.Hops.{came_over_by}
 use Rattle.ibc_wire.specs.declared.packet.Packet.{Packet}
 use Rattle.ibc_wire.specs.declared.token.Token.{Token}
 use Rattle.ibc_machine.specs.ics20.Bank.{Balances, out_of_escrow, mint}
-use Rattle.ibc_machine.specs.chain.Checks.{Checked, expect, go_on}
+use Rattle.ibc_machine.specs.chain.Checks.{Checked, expect, go_on, ◌>>=◌}
 use Rattle.ibc_machine.specs.ics20.TokenData.{Data, data_of, success, error}
 use Rattle.ibc_machine.specs.ics20.Transfers.{without_hop, with_hop, each_token, receive_token, receive_result, receive_data, receive_transfer}
 use Rattle.ibc_bank.specs.Moves.{BankState, burnt_of, with_balances, after_move, after_moves}

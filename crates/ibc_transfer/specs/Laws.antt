@@ -11,7 +11,7 @@ use Rattle.ibc_wire.specs.declared.token.Token.{Token}
 use Rattle.ibc_machine.specs.ics24.Values.{same_order}
 use Rattle.ibc_machine.specs.ics04.Packets.{has_size}
 use Rattle.ibc_machine.specs.ics20.Bank.{Balances}
-use Rattle.ibc_machine.specs.chain.Checks.{Checked, expect, go_on}
+use Rattle.ibc_machine.specs.chain.Checks.{Checked, expect, go_on, ◌>>=◌}
 use Rattle.ibc_machine.specs.ics20.TokenData.{Data, data_of, one_token, several_tokens, success}
 use Rattle.ibc_machine.specs.ics20.Transfers.{transfer_port, came_over, opens_for_transfers, receive_result, each_token, receive_token, receive_data, receive_transfer}
 use Rattle.ibc_app_port.specs.Openings.{order_or_version}

@@ -10,7 +10,7 @@ use Rattle.std.proofs.lemmas.Bool.{and_parts, and_from}
 use Rattle.ibc_ids.specs.Texts.{Text}
 use Rattle.ibc_wire.specs.Fields.{Field, bytes_of, have_form, str_up_to, with_length, one_byte, count_between}
 use Rattle.ibc_wire.specs.Lawful.{AreBytes, Begins}
-use Rattle.ibc_wire.specs.Reading.{byte_at_front, bytes_at_front, str_at_front}
+use Rattle.ibc_wire.specs.Reading.{byte_at_front, bytes_at_front, str_at_front, ◌>>=◌}
 
 -- ---- readers
 

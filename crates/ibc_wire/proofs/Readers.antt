@@ -11,7 +11,7 @@ use Rattle.std.proofs.lemmas.Slice.Eq.{bytes_eq-Decides}
 use Rattle.ibc_ids.specs.Texts.{Text}
 use Rattle.ibc_wire.specs.Fields.{Field, one_byte, be64, be128, str, str_up_to, with_length, name, root32, form_condition}
 use Rattle.ibc_wire.specs.Spelling.{peer}
-use Rattle.ibc_wire.specs.Reading.{Front, byte_at_front, bytes_at_front, str_at_front}
+use Rattle.ibc_wire.specs.Reading.{Front, byte_at_front, bytes_at_front, str_at_front, ◌>>=◌}
 use Rattle.ibc_wire.specs.Fronts.{number_at_front, amount_at_front, name_at_front, same_at_front, coded_at_front, peer_at_front}
 use Rattle.ibc_wire.specs.Lawful.{AreBytes, Begins, IsReader}
 use Rattle.ibc_wire.proofs.Fronts.{bind_some, some_same, if_some, bytes_behind, bytes_parts, bytes_at, bytes_from, byte_read, u8_read, u8_front, bytes_read, bytes_front, str_read, str_front}

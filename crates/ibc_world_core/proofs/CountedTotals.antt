@@ -11,7 +11,7 @@ use Rattle.ibc_wire.specs.declared.records.ChannelEnd.{ChannelEnd}
 use Rattle.ibc_machine.specs.chain.Records.{Core, MachineChain, Client, Channel, Records, client_at, channel_at}
 use Rattle.ibc_machine.specs.ics04.Channels.{is_established, client_of, peer_channel_of}
 use Rattle.ibc_machine.specs.ics20.Bank.{Balances, balance, supply, escrow}
-use Rattle.ibc_machine.specs.chain.Checks.{Checked, require, go_on, and_then}
+use Rattle.ibc_machine.specs.chain.Checks.{Checked, require, go_on, and_then, ◌>>◌}
 use Rattle.ibc_machine.specs.ics20.Transfers.{transfer_port, came_over}
 use Rattle.ibc_machine.specs.chain.Machine.{World}
 use Rattle.ibc_machine.specs.promises.Histories.{End}

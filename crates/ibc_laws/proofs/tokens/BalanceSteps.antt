@@ -7,7 +7,7 @@ use Rattle.ibc_ids.specs.Names.{is_user}
 use Rattle.ibc_ids.specs.declared.refusal.Refusal.TheVariants as refusal
 use Rattle.ibc_wire.specs.declared.packet.Packet.{Packet}
 use Rattle.ibc_machine.specs.chain.Records.{Apps, Records}
-use Rattle.ibc_machine.specs.chain.Checks.{Checked}
+use Rattle.ibc_machine.specs.chain.Checks.{Checked, ◌>>=◌}
 use Rattle.ibc_machine.specs.ics20.TokenData.{Data, data_of, success, error}
 use Rattle.ibc_machine.specs.ics20.Bank.{Balances, with_balance}
 use Rattle.ibc_machine.specs.chain.Genesis.{Holding, starting_balances}

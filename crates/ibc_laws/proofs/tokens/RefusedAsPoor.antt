@@ -11,7 +11,7 @@ use Rattle.ibc_wire.specs.declared.messages.AckPacket.{AckPacket}
 use Rattle.ibc_wire.specs.declared.messages.Timeout.{Timeout}
 use Rattle.ibc_wire.specs.declared.messages.TimeoutOnClose.{TimeoutOnClose}
 use Rattle.ibc_machine.specs.chain.Records.{Core, Apps, Channel}
-use Rattle.ibc_machine.specs.chain.Checks.{Checked, require, expect, go_on, and_then}
+use Rattle.ibc_machine.specs.chain.Checks.{Checked, require, expect, go_on, and_then, ◌>>=◌, ◌>>◌}
 use Rattle.ibc_machine.specs.ics24.Evidence.{Host, Evidence}
 use Rattle.ibc_machine.specs.ics04.Packets.{may_acknowledge, is_pending, ack_checked, timeout_checked, timeout_on_close_checked}
 use Rattle.ibc_machine.specs.ics20.TokenData.{Data, data_of, success}

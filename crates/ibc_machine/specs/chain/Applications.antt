@@ -6,7 +6,7 @@ use Rattle.ibc_ids.specs.declared.refusal.Refusal.TheVariants.{UnknownPort}
 use Rattle.ibc_wire.specs.declared.records.Order.{Order}
 use Rattle.ibc_wire.specs.declared.packet.Packet.{Packet}
 use Rattle.ibc_machine.specs.chain.Records.{Core, Apps}
-use Rattle.ibc_machine.specs.chain.Checks.{Checked, require}
+use Rattle.ibc_machine.specs.chain.Checks.{Checked, require, ◌>>=◌}
 use Rattle.ibc_machine.specs.ics20.Bank.{Balances}
 use Rattle.ibc_machine.specs.ics20.Transfers.{transfer_port, opens_for_transfers, closes_for_transfers, burnt_amount, receive_transfer, refund_transfer, acknowledge_transfer}
 use Rattle.ibc_machine.specs.chain.Notes.{note_port, opens_for_notes, closes_for_notes, receive_note}

@@ -7,7 +7,7 @@ use Rattle.ibc_wire.specs.declared.header.Header.{Header}
 use Rattle.ibc_machine.specs.declared.reply.Effect.{Effect}
 use Rattle.ibc_machine.specs.chain.Records.{Core, is_known_height}
 use Rattle.ibc_machine.specs.ics24.Values.{Claim}
-use Rattle.ibc_machine.specs.chain.Checks.{Checked, require}
+use Rattle.ibc_machine.specs.chain.Checks.{Checked, require, ◌>>=◌}
 
 -- the chain's number among so many chains, and its working height and time
 pub record Host : Type 0 where

@@ -1,4 +1,4 @@
-use Rattle.std.proofs.Common.{◌∙◌, sym, subst, All}
+use Rattle.std.proofs.Common.{◌∙◌, sym, subst, All, ◌≡◌}
 use Rattle.ibc_ledger.specs.LedgerModel.{LedgerModel}
 use Rattle.ibc_ledger_lock.specs.ReceiptsAndReadings.{ClaimHoldsOnItsChain, IsEarlierOnItsChain}
 use Rattle.ibc_ledger_lock.proofs.chain.Chain.into_ledger.Goals as goal

@@ -1,4 +1,4 @@
-use Rattle.std.proofs.Common.{◌∙◌, ℕ, List, ap, subst, All, rules, get_or, set}
+use Rattle.std.proofs.Common.{◌∙◌, ℕ, List, ap, subst, All, rules, get_or, set, ◌≡◌}
 use Rattle.std.proofs.lemmas.List.{set-get_or, take_all}
 use Rattle.std.proofs.lemmas.List.Elements.{All-more}
 use Rattle.ibc_ledger.specs.LedgerModel.{LedgerModel}

@@ -1,0 +1,89 @@
+"""What the documents say beside names: numbers, printed lines, the theorem's text, the list of files to read, and long sentences."""
+import os
+import re
+
+import prose
+from counts import THEOREM, all_counts, definitions, wrong_numbers
+from crates import ROOT, uses
+
+# The pages whose numbers are compared with what is counted.
+COUNTED = ("README.md", "docs/READING.md", "docs/TRUST.md", "docs/PROVED.md")
+# What the first command of the README prints.
+PRINTED = "examples/library/relay.txt"
+
+
+def text_of(path):
+    with open(os.path.join(ROOT, path), encoding="utf-8") as it:
+        return it.read()
+
+
+def code_blocks(text):
+    """The blocks of code of a page, without their indentation."""
+    for block in re.findall(r"(?m)(?:^    .*\n|^\n(?=    ))+", text):
+        yield re.sub(r"(?m)^    ", "", block).strip("\n")
+
+
+def numbers():
+    """Each number in a page that isn't what is counted."""
+    counted = all_counts()
+    for page in COUNTED:
+        if os.path.isfile(os.path.join(ROOT, page)):
+            yield from (f"{page}: {it}" for it in wrong_numbers(text_of(page), counted))
+
+
+def theorem():
+    """Whether the README has the theorem as it stands in its file."""
+    lines = text_of(THEOREM).split("\n")
+    begin = next(k for k, line in enumerate(lines) if line.startswith("-- all that happened"))
+    if "\n".join(lines[begin:]).strip("\n") not in list(code_blocks(text_of("README.md"))):
+        yield f"README.md: the theorem isn't as in {THEOREM}"
+
+
+def printed():
+    """Each line of the README's first run that the program doesn't print, in its order."""
+    lines = text_of(PRINTED).strip("\n").split("\n")
+    if f"of {len(lines)} lines" not in text_of("README.md"):
+        yield f"README.md: the first run prints {len(lines)} lines ({PRINTED})"
+    left = iter(lines)
+    block = next(it for it in code_blocks(text_of("README.md")) if it.startswith("$ ./run.sh"))
+    for line in block.split("\n")[1:]:
+        if line != ".." and line not in left:
+            yield f"README.md: the program doesn't print '{line}' there ({PRINTED})"
+
+
+def reading():
+    """Each file of definitions behind the theorem that READING doesn't list, and each that it lists beside them."""
+    files = [it.removeprefix("crates/").removesuffix(".antt") for it in definitions()[0]]
+    listed = re.findall(r"(?m)^\| `(ibc_\w+/specs/[\w/]+)`", text_of("docs/READING.md"))
+    yield from (f"docs/READING.md: {it} isn't listed" for it in files if it not in listed)
+    yield from (f"docs/READING.md: {it} isn't behind the theorem" for it in listed if it not in files)
+
+
+def libraries():
+    """Each library of the kit that a crate names, and that TRUST doesn't."""
+    found = uses()
+    for name in sorted({it for names in found.values() for it in names if it not in found}):
+        if f"`{name}`" not in text_of("docs/TRUST.md"):
+            yield f"docs/TRUST.md: the library {name} of the kit isn't named"
+
+
+def sentences():
+    """Each sentence that is too long, in the pages that a reader meets first."""
+    for page in prose.MEASURED:
+        for it in prose.too_long(text_of(page)):
+            yield f"{page}: {prose.length(it)} words, and at most {prose.LONGEST} are allowed: {it[:60]} .."
+
+
+def faults():
+    """All of it."""
+    for part in (numbers, theorem, printed, reading, libraries, sentences):
+        yield from part()
+
+
+def lengths():
+    """A line for each page that is measured: its longest sentence and its longest cell. And one for the words of all pages."""
+    for page in prose.MEASURED:
+        text = text_of(page)
+        yield f"{page}: longest sentence {prose.longest_sentence(text)[0]} words, longest cell {prose.longest_cell(text)[0]}"
+    pages = ["README.md", *(f"docs/{it}" for it in sorted(os.listdir(f"{ROOT}/docs")) if it.endswith(".md"))]
+    yield f"the README and the {len(pages) - 1} pages of docs have {sum(len(text_of(it).split()) for it in pages):,} words"
