@@ -3,15 +3,9 @@ use Rattle.std.specs.Prelude.{◌≡◌, ◌⊎◌, ◌≤◌, ◌<◌, ◌++◌
 use Rattle.ibc_ids.specs.Texts.{Text}
 use Rattle.ibc_ids.specs.declared.refusal.Refusal.TheVariants.{NoMemory}
 use Rattle.ibc_handle.specs.declared.handle_value.HandleValue.{HandleValue}
-<<<<<<< HEAD:crates/ibc_calls/specs/Handles.antt
 use Rattle.ibc_calls.specs.declared.answer.Refused.{Refused}
-use Rattle.ibc_calls.specs.declared.answer.Refused.TheVariants.{Core, Empty, Full, TooShort}
+use Rattle.ibc_calls.specs.declared.answer.Refused.TheVariants.{Core, Empty, Full, TooShort, OtherKind}
 use Rattle.ibc_calls.specs.CallAnswers.{Answer}
-=======
-use Rattle.ibc_c.specs.declared.answer.Refused.{Refused}
-use Rattle.ibc_c.specs.declared.answer.Refused.TheVariants.{Core, Empty, Full, TooShort, OtherKind}
-use Rattle.ibc_c.specs.CallAnswers.{Answer}
->>>>>>> 5f65feeccb68ee32a49a27a28db0a2858d7f51bc:crates/ibc_c/specs/Handles.antt
 
 -- a handle that holds nothing is refused, and stays so
 abbrev pub OfValueOrEmpty : (HandleValue → Option HandleValue → Answer → Type 0) → Option HandleValue → Option HandleValue → Answer → Type 0

@@ -11,10 +11,10 @@ use Rattle.ibc_machine.specs.declared.entry.Reading.{Reading}
 use Rattle.ibc_machine.specs.declared.reply.Reply.{Reply}
 use Rattle.ibc_machine.specs.declared.reply.Reply.TheVariants as reply
 use Rattle.ibc_machine.specs.declared.reply.Effect.TheVariants as effect
+use Rattle.ibc_machine.specs.declared.reply.Effect.{Effect}
 use Rattle.ibc_machine.specs.ledger.Replay.{StampedEntry}
 use Rattle.ibc_handle.specs.declared.handle_value.HandleValue.{HandleValue}
 use Rattle.ibc_handle.specs.declared.handle_value.HandleValue.TheVariants as held
-<<<<<<< HEAD:crates/ibc_calls/specs/History.antt
 use Rattle.ibc_calls.specs.declared.answer.Refused.{Refused}
 use Rattle.ibc_calls.specs.declared.answer.Refused.TheVariants.{Empty, OtherKind, NothingThere}
 use Rattle.ibc_calls.specs.declared.history.EventCode.{EventCode}
@@ -22,16 +22,6 @@ use Rattle.ibc_calls.specs.declared.history.ReplyCode.{ReplyCode}
 use Rattle.ibc_calls.specs.CallAnswers.{Answer}
 use Rattle.ibc_calls.specs.Handles.{IsWritten}
 use Rattle.ibc_calls.specs.Reads.{IsSpelling}
-=======
-use Rattle.ibc_c.specs.declared.answer.Refused.{Refused}
-use Rattle.ibc_c.specs.declared.answer.Refused.TheVariants.{Empty, OtherKind, NothingThere}
-use Rattle.ibc_c.specs.declared.history.EventCode.{EventCode}
-use Rattle.ibc_c.specs.declared.history.ReplyCode.{ReplyCode}
-use Rattle.ibc_c.specs.CallAnswers.{Answer}
-use Rattle.ibc_c.specs.Handles.{IsWritten}
-use Rattle.ibc_c.specs.Reads.{IsSpelling}
-use Rattle.ibc_machine.specs.declared.reply.Effect.{Effect}
->>>>>>> 5f65feeccb68ee32a49a27a28db0a2858d7f51bc:crates/ibc_c/specs/History.antt
 
 -- ---- lengths
 
