@@ -9,6 +9,7 @@
 
 mod genesis;
 mod history;
+mod ics23;
 mod ledger;
 mod lists;
 mod message;
