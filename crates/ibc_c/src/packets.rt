@@ -75,9 +75,7 @@ pub extern "C" fn ibcw_packet(
     ensures kept { ledger.new.value ≡ ledger.old.value }
     ensures found { Numbered (Finds (FindsSent port.now channel.now sequence ledger.old.value) packet.old packet.new size.old size.new) result }
 {
-    number(ibc_calls::sent_packet(
-        alloc, ledger, port, channel, sequence, packet, size,
-    ))
+    number(ibc_calls::sent_packet(alloc, ledger, port, channel, sequence, packet, size))
 }
 
 /// Writes the acknowledgement that a ledger wrote at an end for a sequence. As `written_ack`.
@@ -94,7 +92,5 @@ pub extern "C" fn ibcw_ack(
     ensures kept { ledger.new.value ≡ ledger.old.value }
     ensures found { Numbered (Finds (FindsAck port.now channel.now sequence ledger.old.value) ack.old ack.new size.old size.new) result }
 {
-    number(ibc_calls::written_ack(
-        alloc, ledger, port, channel, sequence, ack, size,
-    ))
+    number(ibc_calls::written_ack(alloc, ledger, port, channel, sequence, ack, size))
 }

@@ -152,12 +152,7 @@ fn write_reply(
 }
 
 /// Tells a reply, and writes the bytes that go with it where there is room. Their number is told.
-pub(crate) fn put_reply(
-    reply: &Reply,
-    told: &mut ReplyCode,
-    bytes: &mut [u8],
-    size: &mut usize,
-)
+pub(crate) fn put_reply(reply: &Reply, told: &mut ReplyCode, bytes: &mut [u8], size: &mut usize)
     ensures { IsReplyTold reply.now (record { told = told.old; bytes = bytes.old; size = size.old }) (record { told = told.new; bytes = bytes.new; size = size.new }) }
 {
     let _ = write_reply(reply, told, bytes, size);
