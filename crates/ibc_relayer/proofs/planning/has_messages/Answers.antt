@@ -7,7 +7,6 @@ use Rattle.ibc_relayer.specs.UsedClients.{has_any}
 use Rattle.ibc_relayer.proofs.EndMessages.{messages_are, goes_over_client}
 use Rattle.ibc_relayer.proofs.PlannedMessages.{is_longer}
 use Rattle.ibc_relayer.proofs.planning.has_messages.Goals as goal
-use Rattle.ibc_relayer.proofs.Plans.{is_longer}
 
 pub returns-clause-ok : goal.returns-clause-ok
 returns-clause-ok c =

@@ -8,7 +8,6 @@ use Rattle.ibc_machine.specs.chain.Records.{is_one_of}
 use Rattle.ibc_records.proofs.Knowing.{is_key_of}
 use Rattle.ibc_relayer.proofs.PlannedMessages.{told}
 use Rattle.ibc_relayer.proofs.planning.is_told.Goals as goal
-use Rattle.ibc_relayer.proofs.Plans.{told}
 
 pub returns-then-contains_key : goal.returns-then-contains_key
 returns-then-contains_key c =

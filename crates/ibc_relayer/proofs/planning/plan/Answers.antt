@@ -2,7 +2,6 @@
 use Rattle.std.proofs.Common.{◌≡◌, ◌++◌, ◌∙◌, ◌<◌, sym, arith}
 use Rattle.ibc_relayer.proofs.PlannedMessages.{no_plan, plan_is}
 use Rattle.ibc_relayer.proofs.planning.plan.Goals as goal
-use Rattle.ibc_relayer.proofs.Plans.{no_plan, plan_is}
 
 pub returns-then-height-eq0-clause-ok : goal.returns-then-height-eq0-clause-ok
 returns-then-height-eq0-clause-ok c =

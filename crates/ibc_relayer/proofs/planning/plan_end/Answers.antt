@@ -4,7 +4,6 @@ use Rattle.ibc_ids.specs.Texts.{Text, text_cmp, same_text}
 use Rattle.ibc_ids.specs.Maps.{Map, at, with}
 use Rattle.ibc_relayer.proofs.PlannedMessages.{used_more}
 use Rattle.ibc_relayer.proofs.planning.plan_end.Goals as goal
-use Rattle.ibc_relayer.proofs.Plans.{used_more}
 
 pub returns-clause-used : goal.returns-clause-used
 returns-clause-used c =

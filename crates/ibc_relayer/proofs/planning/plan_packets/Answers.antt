@@ -14,7 +14,6 @@ use Rattle.ibc_relayer.specs.EndPairs.{IsEndPair, IsFoundEndPair}
 use Rattle.ibc_relayer.specs.UsedClients.{is_over_client}
 use Rattle.ibc_relayer.proofs.PlannedMessages.{one_end, one_used, same_messages, same_over, each_there}
 use Rattle.ibc_relayer.proofs.planning.plan_packets.Goals as goal
-use Rattle.ibc_relayer.proofs.Plans.{one_used, one_end, same_messages, each_there, same_over}
 
 pub loop-port-init : goal.loop-port-init
 loop-port-init c =

@@ -21,6 +21,6 @@ returns-clause-holds g c =
     ] in
     let told : ReceiptModel = record { chain = r.chain; reply = r.reply; claim = claims r.seat } in
     let holds : ClaimHolds c.self.inside.ledger.ledger told =
-    holds_found c.self.inside.ledger.ledger r.chain (g.W.World.book r.chain) r.reply r.seat c.receipt.invariant begins in
+    holds_found c.self.inside.ledger.ledger r.chain (g.W.WorldBrand.book r.chain) r.reply r.seat c.receipt.invariant begins in
     λ number. subst (λ (t : ReceiptModel). ClaimHolds c.args.self.now.ledger t) c.receipt.view_is
     (subst (λ (h : LedgerModel). ClaimHolds h.ledger told) c.self.view_is holds)

@@ -20,28 +20,28 @@ invariant_of-self g c =
     let i = c.self.invariant in
     let old = c.self.inside.ledger.ledger in
     let stays = same old c.ended-reply.new.ledger.ledger (event.Block old.chain c.args.next_time) c.ended-reply.result c.ended-reply.ensures.adds in
-    let book = ap g.W.World.book (sym stays.0) in
+    let book = ap g.W.WorldBrand.book (sym stays.0) in
     (c.ended-reply.ensures.table ∙ i.0, stays.1 ∙ i.1, i.2 ∙ book, i.3, c.noted-seat.ensures.seat.0 ∙ i.4 ∙ book, c.noted-seat.ensures.seat.1)
 
 pub invariant_of-result : goal.invariant_of-result
 invariant_of-result g c =
     let old = c.self.inside.ledger.ledger in
-    (says old c.ended-reply.new.ledger.ledger (event.Block old.chain c.args.next_time) c.ended-reply.result c.chain-chain.result (g.W.World.book c.chain-chain.result) c.noted-seat.result c.claimed.result
-    (c.noted-seat.ensures.reader.0 ∙ c.self.invariant.4 ∙ ap g.W.World.book (sym c.chain-chain.ensures)) c.noted-seat.ensures.reader.1
+    (says old c.ended-reply.new.ledger.ledger (event.Block old.chain c.args.next_time) c.ended-reply.result c.chain-chain.result (g.W.WorldBrand.book c.chain-chain.result) c.noted-seat.result c.claimed.result
+    (c.noted-seat.ensures.reader.0 ∙ c.self.invariant.4 ∙ ap g.W.WorldBrand.book (sym c.chain-chain.ensures)) c.noted-seat.ensures.reader.1
     c.ended-reply.ensures.adds c.claimed.ensures.nothing c.claimed.ensures.one).2
 
 pub returns-clause-told : goal.returns-clause-told
 returns-clause-told g c =
     let old = c.self.inside.ledger.ledger in
     subst (λ (h : LedgerModel). IsReceiptOf (event.Block h.ledger.chain c.args.next_time) (record { chain = c.chain-chain.result; reply = c.ended-reply.result; claim = claims c.claimed.result })) c.self.view_is
-    (says old c.ended-reply.new.ledger.ledger (event.Block old.chain c.args.next_time) c.ended-reply.result c.chain-chain.result (g.W.World.book c.chain-chain.result) c.noted-seat.result c.claimed.result
-    (c.noted-seat.ensures.reader.0 ∙ c.self.invariant.4 ∙ ap g.W.World.book (sym c.chain-chain.ensures)) c.noted-seat.ensures.reader.1
+    (says old c.ended-reply.new.ledger.ledger (event.Block old.chain c.args.next_time) c.ended-reply.result c.chain-chain.result (g.W.WorldBrand.book c.chain-chain.result) c.noted-seat.result c.claimed.result
+    (c.noted-seat.ensures.reader.0 ∙ c.self.invariant.4 ∙ ap g.W.WorldBrand.book (sym c.chain-chain.ensures)) c.noted-seat.ensures.reader.1
     c.ended-reply.ensures.adds c.claimed.ensures.nothing c.claimed.ensures.one).0
 
 pub returns-clause-place : goal.returns-clause-place
 returns-clause-place g c =
     let old = c.self.inside.ledger.ledger in
     subst (λ (h : LedgerModel). IfSome (claims c.claimed.result) (λ x. x.place ≡ length h.ledger.history)) c.self.view_is
-    (says old c.ended-reply.new.ledger.ledger (event.Block old.chain c.args.next_time) c.ended-reply.result c.chain-chain.result (g.W.World.book c.chain-chain.result) c.noted-seat.result c.claimed.result
-    (c.noted-seat.ensures.reader.0 ∙ c.self.invariant.4 ∙ ap g.W.World.book (sym c.chain-chain.ensures)) c.noted-seat.ensures.reader.1
+    (says old c.ended-reply.new.ledger.ledger (event.Block old.chain c.args.next_time) c.ended-reply.result c.chain-chain.result (g.W.WorldBrand.book c.chain-chain.result) c.noted-seat.result c.claimed.result
+    (c.noted-seat.ensures.reader.0 ∙ c.self.invariant.4 ∙ ap g.W.WorldBrand.book (sym c.chain-chain.ensures)) c.noted-seat.ensures.reader.1
     c.ended-reply.ensures.adds c.claimed.ensures.nothing c.claimed.ensures.one).1

@@ -9,10 +9,10 @@ use Rattle.ibc_ledger_lock.proofs.locked_ledger.LockedLedger.produce_and_look.Go
 pub returns-clause-view : goal.returns-clause-view
 returns-clause-view g c =
     let told = c.produce-receipt in
-    let P : Option View → Type 0 = λ o. IfSome o (λ view. IsViewOf g.W.World.table g.W.World.genesis view × ShowsEnd told.result view) in
+    let P : Option View → Type 0 = λ o. IfSome o (λ view. IsViewOf g.W.WorldBrand.table g.W.WorldBrand.genesis view × ShowsEnd told.result view) in
     elim c.if-is_end.branch [
       | then-is_end w ↦
           let end : is_block_reply told.result.reply ≡ true = ap is_block_reply (sym c.reply.ensures.reply) ∙ sym c.is_end.ensures ∙ w.if-is_end.true in
-          subst P (sym w.view-is) (looked g.W.World.table g.W.World.genesis c.args.self.now.ledger told.new.self c.args.next_time told.result told.ensures.adds told.ensures.chain w.look-view.ensures.world w.look-view.ensures.is end w.look-view.result w.look-view.ensures.view)
+          subst P (sym w.view-is) (looked g.W.WorldBrand.table g.W.WorldBrand.genesis c.args.self.now.ledger told.new.self c.args.next_time told.result told.ensures.adds told.ensures.chain w.look-view.ensures.world w.look-view.ensures.is end w.look-view.result w.look-view.ensures.view)
       | else-is_end w ↦ subst P (sym w.view-is) tt
     ]

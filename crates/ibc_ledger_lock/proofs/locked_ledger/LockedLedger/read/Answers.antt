@@ -12,11 +12,11 @@ noted-requires-clause-later g c = later_of _ _ _ c.self.invariant.5 (begins_itse
 
 pub invariant_of-result : goal.invariant_of-result
 invariant_of-result g c =
-    (c.noted.ensures.reader.0 ∙ c.self.invariant.4 ∙ ap g.W.World.book (sym c.chain.ensures), reads_part _ _ c.noted.ensures.reader.1)
+    (c.noted.ensures.reader.0 ∙ c.self.invariant.4 ∙ ap g.W.WorldBrand.book (sym c.chain.ensures), reads_part _ _ c.noted.ensures.reader.1)
 
 pub returns-clause-now : goal.returns-clause-now
 returns-clause-now g c =
     let i = c.self.invariant in
-    let held = ledger_as g.W.World.table g.W.World.genesis c.chain.result in
+    let held = ledger_as g.W.WorldBrand.table g.W.WorldBrand.genesis c.chain.result in
     ap held (ap (λ m. m.0.part) c.noted.ensures.reader.1)
-    ∙ as_read g.W.World.table g.W.World.genesis c.chain.result c.self.inside.ledger i.0 i.1 c.chain.ensures ∙ c.self.view_is
+    ∙ as_read g.W.WorldBrand.table g.W.WorldBrand.genesis c.chain.result c.self.inside.ledger i.0 i.1 c.chain.ensures ∙ c.self.view_is
