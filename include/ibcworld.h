@@ -1,15 +1,18 @@
-/* The core as a static library, libibc_c.a. docs/LIBRARY.md says how to link it, and what is proved of a call.
+/* The core as a static library, libibcworld.a, by calls whose answers are proved. docs/LIBRARY.md says how to build and link it, and what is
+   proved of a call. ibcworld_messages.h, beside this header, spells messages and reads them, says what numbers mean, and has helpers that open
+   channels and relay.
 
    Answers. Each call answers 0, or the number of why it was refused: 1 to 31 as the core refuses (IBCW_NO_MEMORY and the
    numbers behind it), from 101 on as a call does. What is refused changes nothing, but where a call says so. Any call may
    answer IBCW_NO_MEMORY, since malloc may.
 
-   Handles. A handle holds one value, of one of several kinds, or nothing. It begins as {0}, which holds nothing. Only these
-   calls write it. The caller owns it, and what it holds, until ibcw_free. A handle that is copied by `=` is the same value
-   twice: use one of the two from then on. The handles of one call are different ones.
+   Handles. A handle holds one value of its kind, or nothing: a genesis, ledgers, a ledger, a view, a plan, a list of balances, a list of notes, or
+   an audit. It begins as IBCW_HANDLE_INIT (or all bytes 0), which holds nothing. Only these calls write it. The caller owns it, and what it holds,
+   until ibcw_free. A handle that is copied by `=` is the same value twice: use one of the two from then on. The handles of one call are
+   different ones. Calls that take handles of several kinds take the member `handle` that each of them has: ibcw_free(&view.handle).
 
-   Threads. A handle is used by one call at a time, and may go from thread to thread where that is ordered, as by a lock or by
-   a thread's start and end. Different handles may be used by different threads at the same time: ledgers of one world meet in a
+   Threads. A handle is used by one call at a time, also where the call only reads, and may go from thread to thread where that is ordered, as by
+   a lock or by a thread's start and end. Different handles may be used by different threads at the same time: ledgers of one world meet in a
    table that any threads share, and no call takes a lock or waits.
 
    Bytes. A text goes in as a pointer and a number of bytes; a null pointer is allowed where that number is 0. Bytes come out
@@ -18,26 +21,56 @@
 
    What the caller owes, and nothing checks. Pointers to handles, numbers and structs are not null and point to one of their
    type; a pointer and a number of bytes name so many bytes that are there, and a place to write is not read or written by
-   another thread meanwhile; places of one call do not overlap. A handle was begun as {0} and written by these calls alone.
+   another thread meanwhile; places of one call do not overlap. A handle was begun as IBCW_HANDLE_INIT and written by these calls alone.
    malloc, realloc and free are one allocator's. No call is made from a signal handler, nor from the forked child of a process
-   with threads. */
+   with threads. Worlds are told apart by the library, but for those of ibcw_make_numbered_ledgers. */
 #ifndef IBCWORLD_H
 #define IBCWORLD_H
 
 #include <stddef.h>
 #include <stdint.h>
 
+/* The version of this header: 10,000 times its first number, 100 times the second, and the third. Numbers of refusals, structs and
+   calls stay as they are where the first number does. */
+#define IBCWORLD_VERSION 10000
+#define IBCWORLD_VERSION_TEXT "1.0.0"
+
+#if defined(__GNUC__) || defined(__clang__)
+/* An answer that is dropped is warned of, and so is a null pointer where a handle, a number or a struct is wanted. */
+#define IBCW_MUST_USE __attribute__((warn_unused_result))
+#define IBCW_NONNULL(...) __attribute__((nonnull(__VA_ARGS__)))
+#else
+#define IBCW_MUST_USE
+#define IBCW_NONNULL(...)
+#endif
+
+#if defined(__cplusplus) && __cplusplus >= 201103L
+#define IBCW_HANDLE_INIT {{nullptr}}
+#else
+#define IBCW_HANDLE_INIT {{NULL}}
+#endif
+
 #ifdef __cplusplus
 extern "C" {
 #endif
 
+/* A handle of any kind. */
 typedef struct {
     unsigned char *at;
 } ibcw_handle;
 
+typedef struct { ibcw_handle handle; } ibcw_genesis;  /* how a world begins */
+typedef struct { ibcw_handle handle; } ibcw_ledgers;  /* ledgers of one world */
+typedef struct { ibcw_handle handle; } ibcw_ledger;   /* a ledger */
+typedef struct { ibcw_handle handle; } ibcw_view;     /* what a chain proves at its last committed height */
+typedef struct { ibcw_handle handle; } ibcw_plan;     /* the messages that a relayer owes a chain */
+typedef struct { ibcw_handle handle; } ibcw_balances; /* who holds how much of what */
+typedef struct { ibcw_handle handle; } ibcw_notes;    /* the notes that came over each channel */
+typedef struct { ibcw_handle handle; } ibcw_audit;    /* what the ledgers of a world hold */
+
 enum {
     IBCW_DONE = 0,
-    /* the core's refusals: 1 to 31, as in the table of docs/REFUSALS.md */
+    /* the core's refusals: 1 to 31, as in the table of docs/REFUSALS.md; ibcw_refusal_text (ibcworld_messages.h) says each in a sentence */
     IBCW_NO_MEMORY = 1,
     IBCW_BAD_NAME = 2,
     IBCW_UNKNOWN_CHAIN = 3,
@@ -75,78 +108,69 @@ enum {
     IBCW_OTHER_KIND = 103,    /* the handle holds a value of another kind */
     IBCW_TOO_SHORT = 104,     /* the place is too short for the bytes */
     IBCW_NOTHING_THERE = 105, /* there is nothing there */
-    IBCW_OTHER_WORLD = 106    /* the ledger is of another world */
+    IBCW_OTHER_WORLD = 106,   /* the ledger is of another world */
+    IBCW_NO_MESSAGE = 107     /* the bytes spell no message */
 };
+
+/* The version of the archive that is linked: IBCWORLD_VERSION of its header. */
+IBCW_MUST_USE
+uint32_t ibcw_version(void);
 
 /* ---- a world */
 
 /* Makes a genesis with no chains in an empty handle. A chain publishes at most `capacity` heights, 1 to 1,000,000, and keeps
    the last `window` of them, 1 to 4,096 and at most the capacity (ibcw_make_ledgers checks this). IBCW_FULL. */
-uint32_t ibcw_make_genesis(ibcw_handle *genesis, uint64_t capacity, uint64_t window);
+IBCW_MUST_USE IBCW_NONNULL(1)
+uint32_t ibcw_make_genesis(ibcw_genesis *genesis, uint64_t capacity, uint64_t window);
 
 /* Adds a chain behind the others, whose first block has this time. IBCW_EMPTY, IBCW_OTHER_KIND. */
-uint32_t ibcw_add_chain(ibcw_handle *genesis, uint64_t time);
+IBCW_MUST_USE IBCW_NONNULL(1)
+uint32_t ibcw_add_chain(ibcw_genesis *genesis, uint64_t time);
 
 /* Lets a user hold high * 2^64 + low of a denomination at the last chain. IBCW_EMPTY, IBCW_OTHER_KIND;
    IBCW_BAD_NAME exactly where the user or the denomination is no name of its kind; IBCW_NOTHING_THERE where there is no chain. */
-uint32_t ibcw_add_balance(ibcw_handle *genesis, const uint8_t *user, size_t user_size,
+IBCW_MUST_USE IBCW_NONNULL(1)
+uint32_t ibcw_add_balance(ibcw_genesis *genesis, const uint8_t *user, size_t user_size,
                           const uint8_t *denom, size_t denom_size, uint64_t high, uint64_t low);
 
-/* Makes all ledgers of a genesis in an empty handle, under a number by which the caller tells worlds apart: different worlds
-   have different numbers. The genesis stays. IBCW_FULL; IBCW_EMPTY and IBCW_OTHER_KIND of the genesis; IBCW_BAD_MESSAGE where
-   no world begins so: 2 to 8 chains, base denominations, no user and denomination twice at a chain, and of no denomination
-   more than 2^128 - 1 at a chain. */
-uint32_t ibcw_make_ledgers(ibcw_handle *genesis, uint64_t world, ibcw_handle *ledgers);
+/* Makes all ledgers of a genesis in an empty handle: a world of its own, which the library tells from every other of the process. The genesis
+   stays. IBCW_FULL; IBCW_EMPTY and IBCW_OTHER_KIND of the genesis; IBCW_BAD_MESSAGE where no world begins so: 2 to 8 chains, base denominations,
+   no user and denomination twice at a chain, and of no denomination more than 2^128 - 1 at a chain. */
+IBCW_MUST_USE IBCW_NONNULL(1, 2)
+uint32_t ibcw_make_ledgers(ibcw_genesis *genesis, ibcw_ledgers *ledgers);
+
+/* The same under a number by which the caller tells worlds apart, for bindings that count worlds themselves: different worlds have
+   different numbers, at least 2^63, which nothing checks. ibcw_make_ledgers gives out smaller ones. */
+IBCW_MUST_USE IBCW_NONNULL(1, 3)
+uint32_t ibcw_make_numbered_ledgers(ibcw_genesis *genesis, uint64_t world, ibcw_ledgers *ledgers);
 
 /* Moves the first of the ledgers, which stand by the numbers of their chains, to an empty handle. IBCW_FULL; IBCW_EMPTY and
    IBCW_OTHER_KIND of the ledgers; IBCW_NOTHING_THERE where all were taken. */
-uint32_t ibcw_take_ledger(ibcw_handle *ledgers, ibcw_handle *ledger);
+IBCW_MUST_USE IBCW_NONNULL(1, 2)
+uint32_t ibcw_take_ledger(ibcw_ledgers *ledgers, ibcw_ledger *ledger);
 
-/* Moves a ledger to others of its world. IBCW_EMPTY and IBCW_OTHER_KIND of both handles; IBCW_OTHER_WORLD where the numbers of
-   their worlds differ. */
-uint32_t ibcw_join_ledger(ibcw_handle *ledgers, ibcw_handle *ledger);
+/* Moves a ledger to others of its world. IBCW_EMPTY and IBCW_OTHER_KIND of both handles; IBCW_OTHER_WORLD where it is of another world. */
+IBCW_MUST_USE IBCW_NONNULL(1, 2)
+uint32_t ibcw_join_ledger(ibcw_ledgers *ledgers, ibcw_ledger *ledger);
 
 /* Audits the ledgers of a world, which were driven by any threads and joined in any order, and puts what they hold into an empty
    handle (ibcw_holding). The answer 0 says that what they did together is a run of the machine, of which the laws of IBC
    hold, unless two different texts that they hashed have one digest. IBCW_FULL; IBCW_EMPTY and IBCW_OTHER_KIND of the ledgers;
-   IBCW_BAD_MESSAGE where a chain is missing among them. The ledgers are gone then, and also by 0, IBCW_BAD_MESSAGE and
-   IBCW_NO_MEMORY. */
-uint32_t ibcw_audit(ibcw_handle *ledgers, ibcw_handle *audit);
+   IBCW_BAD_MESSAGE where a chain is missing among them. The ledgers stay where they are, whatever the answer: they can be taken out
+   again and go on, and be audited again. */
+IBCW_MUST_USE IBCW_NONNULL(1, 2)
+uint32_t ibcw_make_audit(ibcw_ledgers *ledgers, ibcw_audit *audit);
 
 /* Frees what a handle holds, and leaves it empty. IBCW_EMPTY. */
+IBCW_NONNULL(1)
 uint32_t ibcw_free(ibcw_handle *handle);
 
-/* ---- a ledger */
-
-/* Applies the message that the bytes spell to the working block, and answers the number of its reply. The history has an
-   entry more, in which the reply stands whole, but where the answer is IBCW_NO_MEMORY, IBCW_EMPTY, IBCW_OTHER_KIND, or
-   IBCW_BAD_MESSAGE because the bytes spell no message. */
-uint32_t ibcw_apply(ibcw_handle *ledger, const uint8_t *message, size_t message_size);
-
-/* Ends the working block: it is committed as the next height and published, and the next block has this time. The history has
-   an entry more, but where the answer is IBCW_NO_MEMORY, IBCW_EMPTY or IBCW_OTHER_KIND. IBCW_TIME_BACK, IBCW_TABLE_FULL. */
-uint32_t ibcw_end_block(ibcw_handle *ledger, uint64_t next_time);
-
-/* Tells how many entries a ledger's history has, how many messages a plan, how many holdings a list of balances, or how many
-   channels a list of notes. IBCW_EMPTY, IBCW_OTHER_KIND. */
+/* Tells how many entries a ledger's history has, how many messages a plan, how many holdings a list of balances, how many
+   channels a list of notes, or how many chains an audit. IBCW_EMPTY, IBCW_OTHER_KIND. */
+IBCW_MUST_USE IBCW_NONNULL(1, 2)
 uint32_t ibcw_length(ibcw_handle *handle, uint64_t *count);
 
-/* What a ledger was asked: the tag of a message, 1 to 19; or IBCW_ASKED_BLOCK for the end of a block, and then the time of the
-   next one, which else is 0. */
-typedef struct {
-    uint64_t kind;
-    uint64_t next_time;
-} ibcw_asked;
-
-enum {
-    IBCW_ASKED_BLOCK = 0
-};
-
-/* Tells what the ledger was asked by an entry of its history, which are numbered from 0, and writes the bytes that spell the message:
-   those that ibcw_apply was given. Of the end of a block they are none. IBCW_EMPTY, IBCW_OTHER_KIND, IBCW_NOTHING_THERE;
-   IBCW_TOO_SHORT, and then *asked and *size are told. */
-uint32_t ibcw_event(ibcw_handle *ledger, uint64_t index, ibcw_asked *asked, uint8_t *message, size_t room,
-                    size_t *size);
+/* ---- a ledger */
 
 /* What a reply tells: its kind, and the number that goes with it. */
 typedef struct {
@@ -165,21 +189,64 @@ enum {
     IBCW_TOLD_BLOCK = 7       /* number: the height; bytes: its root, 32 bytes */
 };
 
+enum {
+    IBCW_REPLY_ROOM = 1024 /* no reply has more bytes */
+};
+
+/* Applies the message that the bytes spell to the working block, and tells its reply. The answer is the reply's number: 0, or that of the
+   refusal. *told is the reply, *size the number of the bytes that go with it, and they are written where there is room (IBCW_REPLY_ROOM is
+   always enough; ibcw_reply gives them again). The history has an entry more, whose reply this is. Nothing is told and no entry is made where the answer
+   is IBCW_EMPTY, IBCW_OTHER_KIND or IBCW_NO_MESSAGE, which is answered exactly where the bytes spell no message. Where it is IBCW_NO_MEMORY no
+   entry is made. */
+IBCW_MUST_USE IBCW_NONNULL(1, 4, 7)
+uint32_t ibcw_apply(ibcw_ledger *ledger, const uint8_t *message, size_t message_size, ibcw_told *told,
+                    uint8_t *bytes, size_t room, size_t *size);
+
+/* Ends the working block: it is committed as the next height and published, and the next block has this time. The reply is told as by ibcw_apply.
+   The history has an entry more, but where the answer is IBCW_NO_MEMORY, IBCW_EMPTY or IBCW_OTHER_KIND. IBCW_TIME_BACK, IBCW_TABLE_FULL. */
+IBCW_MUST_USE IBCW_NONNULL(1, 3, 6)
+uint32_t ibcw_end_block(ibcw_ledger *ledger, uint64_t next_time, ibcw_told *told, uint8_t *bytes, size_t room,
+                        size_t *size);
+
 /* Tells the reply of an entry of the history, which are numbered from 0, and writes the bytes that go with it. IBCW_EMPTY,
    IBCW_OTHER_KIND, IBCW_NOTHING_THERE; IBCW_TOO_SHORT, and then *told and *size are told. */
-uint32_t ibcw_reply(ibcw_handle *ledger, uint64_t index, ibcw_told *told, uint8_t *bytes, size_t room,
+IBCW_MUST_USE IBCW_NONNULL(1, 3, 6)
+uint32_t ibcw_reply(ibcw_ledger *ledger, uint64_t index, ibcw_told *told, uint8_t *bytes, size_t room,
+                    size_t *size);
+
+/* What a ledger was asked: the tag of a message, 1 to 19; or IBCW_ASKED_BLOCK for the end of a block, and then the time of the
+   next one, which else is 0. Of an UpdateClient, `published` is how many heights the client's chain had published when the ledger
+   read that; else, and where nothing was read, it is 0. Who keeps the entries of all ledgers of a world, and puts an UpdateClient behind so many
+   blocks of the other chain, can make the world again. */
+typedef struct {
+    uint64_t kind;
+    uint64_t next_time;
+    uint64_t published;
+} ibcw_asked;
+
+enum {
+    IBCW_ASKED_BLOCK = 0
+};
+
+/* Tells what the ledger was asked by an entry of its history, which are numbered from 0, and writes the bytes that spell the message:
+   those that ibcw_apply was given. Of the end of a block they are none. IBCW_EMPTY, IBCW_OTHER_KIND, IBCW_NOTHING_THERE;
+   IBCW_TOO_SHORT, and then *asked and *size are told. */
+IBCW_MUST_USE IBCW_NONNULL(1, 3, 6)
+uint32_t ibcw_event(ibcw_ledger *ledger, uint64_t index, ibcw_asked *asked, uint8_t *message, size_t room,
                     size_t *size);
 
 /* Writes the value at the path of a key (ICS 24) in the working block. IBCW_EMPTY, IBCW_OTHER_KIND, IBCW_BAD_NAME where no key
    has the path, IBCW_NOTHING_THERE where the key has no value, IBCW_TOO_SHORT. */
-uint32_t ibcw_query(ibcw_handle *ledger, const uint8_t *path, size_t path_size, uint8_t *value,
+IBCW_MUST_USE IBCW_NONNULL(1, 6)
+uint32_t ibcw_query(ibcw_ledger *ledger, const uint8_t *path, size_t path_size, uint8_t *value,
                     size_t room, size_t *size);
 
 /* Writes the bytes of the proof of what a committed height has at the path of a key (ICS 23): of its presence where it is there, of
-   its absence where not. The reply of the block tells the height's root (ibcw_reply). IBCW_EMPTY, IBCW_OTHER_KIND;
+   its absence where not. The reply of the block tells the height's root. IBCW_EMPTY, IBCW_OTHER_KIND;
    IBCW_BAD_NAME exactly where no key has the path; IBCW_NO_CONSENSUS exactly where the height isn't among the last ones that were
    committed, as many as the window says; IBCW_TOO_SHORT. */
-uint32_t ibcw_prove(ibcw_handle *ledger, uint64_t height, const uint8_t *path, size_t path_size, uint8_t *proof,
+IBCW_MUST_USE IBCW_NONNULL(1, 7)
+uint32_t ibcw_prove(ibcw_ledger *ledger, uint64_t height, const uint8_t *path, size_t path_size, uint8_t *proof,
                     size_t room, size_t *size);
 
 /* high * 2^64 + low */
@@ -190,37 +257,64 @@ typedef struct {
 
 /* Tells what a user holds of a denomination in the working block. IBCW_EMPTY, IBCW_OTHER_KIND, IBCW_BAD_NAME exactly where one
    is no name of its kind. */
-uint32_t ibcw_balance(ibcw_handle *ledger, const uint8_t *user, size_t user_size, const uint8_t *denom,
+IBCW_MUST_USE IBCW_NONNULL(1, 6)
+uint32_t ibcw_balance(ibcw_ledger *ledger, const uint8_t *user, size_t user_size, const uint8_t *denom,
                       size_t denom_size, ibcw_amount *amount);
+
+/* Tells what the escrow account of a channel of port transfer holds of a denomination (ICS 20). IBCW_EMPTY, IBCW_OTHER_KIND, IBCW_BAD_NAME exactly
+   where one is no name of its kind. */
+IBCW_MUST_USE IBCW_NONNULL(1, 6)
+uint32_t ibcw_escrow(ibcw_ledger *ledger, const uint8_t *channel, size_t channel_size, const uint8_t *denom,
+                     size_t denom_size, ibcw_amount *amount);
+
+/* Writes the bytes of the packet that the ledger sent from an end of a channel under a sequence, whether its commitment stands or not (ICS 4).
+   IBCW_EMPTY, IBCW_OTHER_KIND, IBCW_BAD_NAME exactly where the port or the channel is no name of its kind, IBCW_NOTHING_THERE where no such
+   packet was sent, IBCW_TOO_SHORT. */
+IBCW_MUST_USE IBCW_NONNULL(1, 9)
+uint32_t ibcw_packet(ibcw_ledger *ledger, const uint8_t *port, size_t port_size, const uint8_t *channel,
+                     size_t channel_size, uint64_t sequence, uint8_t *packet, size_t room, size_t *size);
+
+/* Writes the acknowledgement that the ledger wrote at an end of a channel for a sequence (ICS 4). Refused as by ibcw_packet. */
+IBCW_MUST_USE IBCW_NONNULL(1, 9)
+uint32_t ibcw_ack(ibcw_ledger *ledger, const uint8_t *port, size_t port_size, const uint8_t *channel,
+                  size_t channel_size, uint64_t sequence, uint8_t *ack, size_t room, size_t *size);
 
 /* Makes the list of what accounts hold in the working block, in an empty handle: the amounts above 0, in the byte order of the
    accounts and then of the denominations. IBCW_FULL; IBCW_EMPTY, IBCW_OTHER_KIND of the ledger. */
-uint32_t ibcw_make_balances(ibcw_handle *ledger, ibcw_handle *balances);
+IBCW_MUST_USE IBCW_NONNULL(1, 2)
+uint32_t ibcw_make_balances(ibcw_ledger *ledger, ibcw_balances *balances);
 
 /* Writes who holds what: the account (a user, or escrow/transfer/ and a channel), a blank, and the denomination. It is the holding
    at an index, from 0 on, of a list of balances, and then the chain is not looked at; or of an audit, at an index of what that
-   chain's accounts hold. IBCW_EMPTY, IBCW_OTHER_KIND, IBCW_NOTHING_THERE, IBCW_TOO_SHORT. */
+   chain's accounts hold. ibcw_length tells how many a list has, and how many chains an audit has. IBCW_EMPTY, IBCW_OTHER_KIND, IBCW_NOTHING_THERE,
+   IBCW_TOO_SHORT. */
+IBCW_MUST_USE IBCW_NONNULL(1, 6)
 uint32_t ibcw_holding(ibcw_handle *balances, uint64_t chain, uint64_t index, uint8_t *text, size_t room,
                       size_t *size);
 
 /* Tells how much is held there. IBCW_EMPTY, IBCW_OTHER_KIND, IBCW_NOTHING_THERE. */
+IBCW_MUST_USE IBCW_NONNULL(1, 4)
 uint32_t ibcw_holding_amount(ibcw_handle *balances, uint64_t chain, uint64_t index, ibcw_amount *amount);
 
 /* Makes the list of the notes that came to a ledger over channels of port note, as the working block has them, in an empty
    handle. Its channels are those over which a note came, in the byte order of their names; ibcw_length tells how many.
    IBCW_FULL; IBCW_EMPTY, IBCW_OTHER_KIND of the ledger. */
-uint32_t ibcw_make_notes(ibcw_handle *ledger, ibcw_handle *notes);
+IBCW_MUST_USE IBCW_NONNULL(1, 2)
+uint32_t ibcw_make_notes(ibcw_ledger *ledger, ibcw_notes *notes);
 
 /* Writes the name of a channel: that at an index, from 0 on, of a list of notes, and then the chain is not looked at; or of an
    audit, at an index of the channels of that chain. IBCW_EMPTY, IBCW_OTHER_KIND, IBCW_NOTHING_THERE, IBCW_TOO_SHORT. */
+IBCW_MUST_USE IBCW_NONNULL(1, 6)
 uint32_t ibcw_note_channel(ibcw_handle *notes, uint64_t chain, uint64_t channel, uint8_t *name, size_t room,
                            size_t *size);
 
 /* Tells how many notes came over that channel, 1 or more. IBCW_EMPTY, IBCW_OTHER_KIND, IBCW_NOTHING_THERE. */
+IBCW_MUST_USE IBCW_NONNULL(1, 4)
 uint32_t ibcw_note_count(ibcw_handle *notes, uint64_t chain, uint64_t channel, uint64_t *count);
 
 /* Writes the note at an index, from 0 on, of those that came over that channel, in the order in which they came. IBCW_EMPTY,
    IBCW_OTHER_KIND, IBCW_NOTHING_THERE where there is no such channel or no such note, IBCW_TOO_SHORT. */
+IBCW_MUST_USE IBCW_NONNULL(1, 7)
 uint32_t ibcw_note(ibcw_handle *notes, uint64_t chain, uint64_t channel, uint64_t index, uint8_t *note,
                    size_t room, size_t *size);
 
@@ -228,7 +322,8 @@ uint32_t ibcw_note(ibcw_handle *notes, uint64_t chain, uint64_t channel, uint64_
 
 /* Makes the view of a ledger in an empty handle: what its chain proves at its last committed height. It stays as it is while
    the ledger goes on, and may be freed before or after it. IBCW_FULL; IBCW_EMPTY, IBCW_OTHER_KIND of the ledger. */
-uint32_t ibcw_make_view(ibcw_handle *ledger, ibcw_handle *view);
+IBCW_MUST_USE IBCW_NONNULL(1, 2)
+uint32_t ibcw_make_view(ibcw_ledger *ledger, ibcw_view *view);
 
 /* The number of a view's chain, its last committed height (0 if there is none), the time of that height and that of the
    working block. */
@@ -240,34 +335,42 @@ typedef struct {
 } ibcw_heights;
 
 /* IBCW_EMPTY, IBCW_OTHER_KIND. */
-uint32_t ibcw_view_heights(ibcw_handle *view, ibcw_heights *heights);
+IBCW_MUST_USE IBCW_NONNULL(1, 2)
+uint32_t ibcw_view_heights(ibcw_view *view, ibcw_heights *heights);
 
 /* Writes the root of a view's height, 32 bytes. IBCW_EMPTY, IBCW_OTHER_KIND, IBCW_NOTHING_THERE at height 0, IBCW_TOO_SHORT. */
-uint32_t ibcw_view_root(ibcw_handle *view, uint8_t *root, size_t room, size_t *size);
+IBCW_MUST_USE IBCW_NONNULL(1, 4)
+uint32_t ibcw_view_root(ibcw_view *view, uint8_t *root, size_t room, size_t *size);
 
 /* Writes the bytes of the proof of what the height has at the path of a key (ICS 23): of its presence where it is there, of
    its absence where not. IBCW_EMPTY, IBCW_OTHER_KIND, IBCW_NOTHING_THERE at height 0, IBCW_BAD_NAME where no key has the path,
    IBCW_TOO_SHORT. */
-uint32_t ibcw_view_proof(ibcw_handle *view, const uint8_t *path, size_t path_size, uint8_t *proof,
+IBCW_MUST_USE IBCW_NONNULL(1, 6)
+uint32_t ibcw_view_proof(ibcw_view *view, const uint8_t *path, size_t path_size, uint8_t *proof,
                          size_t room, size_t *size);
 
 /* Makes the plan of the messages that the chain of `to` is owed and that are proved from `from` (ICS 18), in an empty handle.
    `from` and `to` are different handles. IBCW_FULL; IBCW_EMPTY, IBCW_OTHER_KIND of the views. */
-uint32_t ibcw_make_plan(ibcw_handle *from, ibcw_handle *to, ibcw_handle *plan);
+IBCW_MUST_USE IBCW_NONNULL(1, 2, 3)
+uint32_t ibcw_make_plan(ibcw_view *from, ibcw_view *to, ibcw_plan *plan);
 
 /* Writes the bytes of a plan's message, which are numbered from 0 (ibcw_length). IBCW_EMPTY, IBCW_OTHER_KIND,
    IBCW_NOTHING_THERE, IBCW_TOO_SHORT; IBCW_BAD_MESSAGE where the message is too long for a spelling. */
-uint32_t ibcw_plan_message(ibcw_handle *plan, uint64_t index, uint8_t *message, size_t room, size_t *size);
+IBCW_MUST_USE IBCW_NONNULL(1, 5)
+uint32_t ibcw_plan_message(ibcw_plan *plan, uint64_t index, uint8_t *message, size_t room, size_t *size);
 
-/* ---- proofs and messages, with no ledger */
+/* ---- proofs, messages and packets, with no ledger */
 
 /* Whether the bytes spell a proof that shows that the key has the value under the root (ICS 23): 0 where it does,
-   IBCW_BAD_MESSAGE where the root hasn't 32 bytes or the bytes spell no proof, IBCW_BAD_PROOF where it doesn't. */
+   IBCW_BAD_MESSAGE where the root hasn't 32 bytes or the bytes spell no proof, IBCW_BAD_PROOF where it doesn't. 0 is yes: ibcw_is_present
+   (ibcworld_messages.h) answers by a truth value. */
+IBCW_MUST_USE
 uint32_t ibcw_verify_present(const uint8_t *root, size_t root_size, const uint8_t *key, size_t key_size,
                              const uint8_t *value, size_t value_size, const uint8_t *proof,
                              size_t proof_size);
 
 /* Whether the bytes spell a proof that shows that the key isn't there under the root. Answers as ibcw_verify_present. */
+IBCW_MUST_USE
 uint32_t ibcw_verify_absent(const uint8_t *root, size_t root_size, const uint8_t *key, size_t key_size,
                             const uint8_t *proof, size_t proof_size);
 
@@ -277,27 +380,71 @@ enum {
 };
 
 /* Tells what the proof shows that the bytes spell: IBCW_PRESENT or IBCW_ABSENT. IBCW_BAD_MESSAGE where they spell no proof. */
+IBCW_MUST_USE IBCW_NONNULL(3)
 uint32_t ibcw_proof_kind(const uint8_t *proof, size_t proof_size, uint8_t *kind);
 
 /* Writes the key, as its path, of which the proof speaks. IBCW_BAD_MESSAGE where the bytes spell no proof, IBCW_TOO_SHORT. */
+IBCW_MUST_USE IBCW_NONNULL(5)
 uint32_t ibcw_proof_key(const uint8_t *proof, size_t proof_size, uint8_t *key, size_t room, size_t *size);
 
 /* Writes the value that the proof shows its key to have. IBCW_BAD_MESSAGE where the bytes spell no proof, IBCW_NOTHING_THERE
    where it shows that the key isn't there, IBCW_TOO_SHORT. What a proof says of itself is true under a root where
    ibcw_verify_present or ibcw_verify_absent answers 0 of that key and value. */
+IBCW_MUST_USE IBCW_NONNULL(5)
 uint32_t ibcw_proof_value(const uint8_t *proof, size_t proof_size, uint8_t *value, size_t room, size_t *size);
 
-/* Tells the tag, 1 to 19, of the message that the bytes spell. IBCW_BAD_MESSAGE where they spell none. How messages are spelled
-   stands in docs/LIBRARY.md: a message has one spelling, and no bytes spell two messages. */
+/* Tells the tag, 1 to 19, of the message that the bytes spell. IBCW_NO_MESSAGE where they spell none. How messages are spelled
+   stands in docs/LIBRARY.md: a message has one spelling, and no bytes spell two messages. A ledger keeps each message that it refuses, whole,
+   for ever: who takes messages from strangers asks this first, and looks how long their proofs are (IBCW_LONGEST_PROOF). */
+IBCW_MUST_USE IBCW_NONNULL(3)
 uint32_t ibcw_message_tag(const uint8_t *message, size_t message_size, uint8_t *tag);
+
+enum {
+    IBCW_LONGEST_PROOF = 18835 /* bytes that are more spell no proof */
+};
 
 /* Writes the proof at an index, 0 or 1, that the message carries which the bytes spell, and tells the height of the other chain at
    which it is. ConnOpenTry and ConnOpenAck carry that of the end and that of the client, TimeoutOnClose that of the packet and that
    of the closed channel; ConnOpenConfirm, ChanOpenTry, ChanOpenAck, ChanOpenConfirm, ChanCloseConfirm, RecvPacket, AckPacket and
-   Timeout carry one. IBCW_BAD_MESSAGE where the bytes spell no message, IBCW_NOTHING_THERE where it carries no such proof;
+   Timeout carry one. IBCW_NO_MESSAGE where the bytes spell no message, IBCW_NOTHING_THERE where it carries no such proof;
    IBCW_TOO_SHORT, and then *height and *size are told. */
+IBCW_MUST_USE IBCW_NONNULL(4, 7)
 uint32_t ibcw_message_proof(const uint8_t *message, size_t message_size, uint64_t index, uint64_t *height,
                             uint8_t *proof, size_t room, size_t *size);
+
+/* Writes the bytes of the packet that the message carries which the bytes spell: of RecvPacket, AckPacket, Timeout and TimeoutOnClose.
+   IBCW_NO_MESSAGE, IBCW_NOTHING_THERE where it carries none, IBCW_TOO_SHORT. */
+IBCW_MUST_USE IBCW_NONNULL(5)
+uint32_t ibcw_message_packet(const uint8_t *message, size_t message_size, uint8_t *packet, size_t room,
+                             size_t *size);
+
+/* Writes the acknowledgement that an AckPacket carries. Refused as by ibcw_message_packet. */
+IBCW_MUST_USE IBCW_NONNULL(5)
+uint32_t ibcw_message_ack(const uint8_t *message, size_t message_size, uint8_t *ack, size_t room, size_t *size);
+
+/* The sequence and the timeouts of a packet (ICS 4). A timeout of 0 is none. */
+typedef struct {
+    uint64_t sequence;
+    uint64_t timeout_height;
+    uint64_t timeout_time;
+} ibcw_packet_numbers_told;
+
+/* Tells them of the packet that the bytes spell. IBCW_BAD_MESSAGE where they spell none. */
+IBCW_MUST_USE IBCW_NONNULL(3)
+uint32_t ibcw_packet_numbers(const uint8_t *packet, size_t packet_size, ibcw_packet_numbers_told *numbers);
+
+enum {
+    IBCW_SOURCE_PORT = 1,
+    IBCW_SOURCE_CHANNEL = 2,
+    IBCW_DESTINATION_PORT = 3,
+    IBCW_DESTINATION_CHANNEL = 4,
+    IBCW_DATA = 5
+};
+
+/* Writes a part of the packet that the bytes spell. IBCW_BAD_MESSAGE where they spell none, IBCW_NOTHING_THERE for another part, IBCW_TOO_SHORT. */
+IBCW_MUST_USE IBCW_NONNULL(6)
+uint32_t ibcw_packet_part(const uint8_t *packet, size_t packet_size, uint64_t part, uint8_t *text, size_t room,
+                          size_t *size);
 
 #ifdef __cplusplus
 }

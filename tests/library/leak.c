@@ -5,12 +5,14 @@
 
 static void lose(void)
 {
-    ibcw_handle genesis = {0}, ledgers = {0};
-    ibcw_make_genesis(&genesis, 64, 64);
-    ibcw_add_chain(&genesis, 100);
-    ibcw_add_chain(&genesis, 100);
-    ibcw_make_ledgers(&genesis, 1, &ledgers);
-    ibcw_free(&genesis);
+    ibcw_genesis genesis = IBCW_HANDLE_INIT;
+    ibcw_ledgers ledgers = IBCW_HANDLE_INIT;
+    uint32_t answer = ibcw_make_genesis(&genesis, 64, 64);
+    answer |= ibcw_add_chain(&genesis, 100);
+    answer |= ibcw_add_chain(&genesis, 100);
+    answer |= ibcw_make_ledgers(&genesis, &ledgers);
+    if (answer != IBCW_DONE) return;
+    ibcw_free(&genesis.handle);
     memset(&ledgers, 0, sizeof ledgers);
 }
 

@@ -68,6 +68,44 @@ static uint64_t length_of(ibcw_handle *handle)
     return count;
 }
 
+/* Applies bytes. What the reply tells is what the history's last entry tells, where there is one more. */
+static uint32_t apply(ibcw_handle *ledger, const uint8_t *message, size_t message_size)
+{
+    uint8_t bytes[IBCW_REPLY_ROOM], again[IBCW_REPLY_ROOM];
+    ibcw_told told = {77, 77}, last = {88, 88};
+    size_t size = 77, last_size = 88;
+    long held = granted;
+    uint64_t before, after;
+    uint32_t answer;
+    granted = -1;
+    before = length_of(ledger);
+    granted = held;
+    answer = ibcw_apply(ledger, message, message_size, &told, bytes, sizeof bytes, &size);
+    held = granted;
+    granted = -1;
+    after = length_of(ledger);
+    if (after == before) {
+        int is_reply = answer == IBCW_NO_MEMORY && told.kind == IBCW_TOLD_REFUSAL && told.number == IBCW_NO_MEMORY && size == 0;
+        want(is_reply || (told.kind == 77 && told.number == 77 && size == 77), 1, "what isn't told");
+    } else {
+        want(ibcw_reply(ledger, before, &last, again, sizeof again, &last_size), IBCW_DONE, "the last reply");
+        want(told.kind == last.kind && told.number == last.number && size == last_size && memcmp(bytes, again, size) == 0, 1,
+             "the reply that is told is the history's last");
+    }
+    granted = held;
+    return answer;
+}
+
+static uint32_t block(ibcw_handle *ledger, uint64_t next_time)
+{
+    uint8_t root[32];
+    ibcw_told told = {77, 77};
+    size_t size = 77;
+    uint32_t answer = ibcw_end_block(ledger, next_time, &told, root, sizeof root, &size);
+    want(answer != IBCW_DONE || (told.kind == IBCW_TOLD_BLOCK && size == 32), 1, "a block's reply");
+    return answer;
+}
+
 /* The ledger answers the message so. The reply is the last of its history, or the bytes are no message and it has no reply. */
 static void answer(ibcw_handle *ledger, const text *message, uint32_t wanted, const char *what)
 {
@@ -77,7 +115,7 @@ static void answer(ibcw_handle *ledger, const text *message, uint32_t wanted, co
     uint32_t found;
     uint64_t before = length_of(ledger);
     uint64_t adds = ibcw_message_tag(message->data, message->size, &tag) == IBCW_DONE;
-    WITH_REFUSALS(found, ibcw_apply(ledger, message->data, message->size), "a message");
+    WITH_REFUSALS(found, apply(ledger, message->data, message->size), "a message");
     meet(found, wanted, what);
     want((uint32_t)(length_of(ledger) - before), (uint32_t)adds, what);
     if (adds) {
@@ -95,7 +133,7 @@ static void end_block(ibcw_handle *ledger)
 {
     uint32_t found;
     uint64_t before = length_of(ledger);
-    WITH_REFUSALS(found, ibcw_end_block(ledger, TIME), "a block");
+    WITH_REFUSALS(found, block(ledger, TIME), "a block");
     want(found, IBCW_DONE, "a block");
     want((uint32_t)(length_of(ledger) - before), 1, "a block");
     want_block(ledger, before, TIME);
@@ -114,7 +152,7 @@ static void add_balance(ibcw_handle *genesis, const char *user, const char *deno
          "a balance");
 }
 
-static world begin_world(uint64_t capacity, uint64_t window, uint64_t number)
+static world begin_world(uint64_t capacity, uint64_t window)
 {
     uint32_t found;
     world w = {{0}, {0}, {0}, {0}};
@@ -122,7 +160,7 @@ static world begin_world(uint64_t capacity, uint64_t window, uint64_t number)
     want(ibcw_add_chain(&w.genesis, TIME), IBCW_DONE, "a chain");
     add_balance(&w.genesis, "alice", "atom", 1000);
     want(ibcw_add_chain(&w.genesis, TIME), IBCW_DONE, "a chain");
-    WITH_REFUSALS(found, ibcw_make_ledgers(&w.genesis, number, &w.ledgers), "ledgers");
+    WITH_REFUSALS(found, ibcw_make_ledgers(&w.genesis, &w.ledgers), "ledgers");
     want(found, IBCW_DONE, "ledgers");
     WITH_REFUSALS(found, ibcw_take_ledger(&w.ledgers, &w.x), "a ledger");
     want(found, IBCW_DONE, "a ledger");
@@ -359,18 +397,19 @@ static void want_note(ibcw_handle *notes, uint64_t chain, uint64_t index, const 
     want((uint32_t)memcmp(note.data, wanted, note.size), 0, "the bytes of a note");
 }
 
-/* Two notes came over channel-1. */
-static void want_notes(ibcw_handle *notes, uint64_t chain)
+/* So many notes came over channel-1, 2 or 3. */
+static void want_notes(ibcw_handle *notes, uint64_t chain, uint64_t wanted)
 {
     static text name;
     uint64_t count = 0;
     want(ibcw_note_channel(notes, chain, 0, name.data, ROOM, &name.size), IBCW_DONE, "a channel of notes");
     want((uint32_t)memcmp(name.data, "channel-1", 9), 0, "the name of a channel");
     want(ibcw_note_count(notes, chain, 0, &count), IBCW_DONE, "how many notes");
-    want((uint32_t)count, 2, "how many notes");
+    want((uint32_t)count, (uint32_t)wanted, "how many notes");
     want_note(notes, chain, 0, "one");
     want_note(notes, chain, 1, "two");
-    meet(ibcw_note(notes, chain, 0, 2, name.data, ROOM, &name.size), IBCW_NOTHING_THERE, "a third note");
+    if (wanted == 3) want_note(notes, chain, 2, "three");
+    meet(ibcw_note(notes, chain, 0, wanted, name.data, ROOM, &name.size), IBCW_NOTHING_THERE, "a note more");
     want(ibcw_note_channel(notes, chain, 1, name.data, ROOM, &name.size), IBCW_NOTHING_THERE, "a second channel");
     want(ibcw_note_count(notes, chain, 1, &count), IBCW_NOTHING_THERE, "a second channel");
 }
@@ -399,7 +438,7 @@ static void refuse_notes(world *w)
     WITH_REFUSALS(found, ibcw_make_notes(&w->y, &notes), "notes");
     want(found, IBCW_DONE, "notes");
     want((uint32_t)length_of(&notes), 1, "how many channels");
-    want_notes(&notes, 7);
+    want_notes(&notes, 7, 2);
     want(ibcw_free(&notes), IBCW_DONE, "free");
 }
 
@@ -466,7 +505,7 @@ static void prove_heights(void)
     static text message;
     static uint8_t roots[4][32];
     size_t size = 77;
-    world w = begin_world(8, 2, 4);
+    world w = begin_world(8, 2);
     create_client(&message, 1);
     meet(ibcw_prove(&w.x, 0, bytes("nextClientSequence"), 18, NULL, 0, &size), IBCW_NO_CONSENSUS, "a proof of height 0");
     for (int n = 1; n <= 3; n++) {
@@ -486,15 +525,15 @@ static void prove_heights(void)
 static void refuse_blocks(void)
 {
     static text message, old;
-    world w = begin_world(2, 1, 2);
-    meet(ibcw_end_block(&w.x, TIME - 1), IBCW_TIME_BACK, "a block of an earlier time");
+    world w = begin_world(2, 1);
+    meet(block(&w.x, TIME - 1), IBCW_TIME_BACK, "a block of an earlier time");
     create_client(&message, 1);
     answer(&w.x, &message, IBCW_DONE, "a client");
     end_block(&w.y);
     update_client(&old, &w.y);
     end_block(&w.y);
     answer(&w.x, &old, IBCW_PRUNED, "an update with a height that is gone");
-    meet(ibcw_end_block(&w.y, TIME), IBCW_TABLE_FULL, "a block more than may be");
+    meet(block(&w.y, TIME), IBCW_TABLE_FULL, "a block more than may be");
     free_world(&w);
 }
 
@@ -507,9 +546,9 @@ static void refuse_texts(world *w)
     uint8_t kind = 9, tag = 9;
     uint32_t found;
     size_t size = 77;
-    answer(&w->x, &message, IBCW_BAD_MESSAGE, "bytes of no message");
-    want(ibcw_apply(&w->x, NULL, 0), IBCW_BAD_MESSAGE, "no bytes");
-    want(ibcw_message_tag(NULL, 0, &tag), IBCW_BAD_MESSAGE, "the tag of no bytes");
+    answer(&w->x, &message, IBCW_NO_MESSAGE, "bytes of no message");
+    want(apply(&w->x, NULL, 0), IBCW_NO_MESSAGE, "no bytes");
+    want(ibcw_message_tag(NULL, 0, &tag), IBCW_NO_MESSAGE, "the tag of no bytes");
     want(ibcw_proof_kind(NULL, 0, &kind), IBCW_BAD_MESSAGE, "the kind of no bytes");
     want(ibcw_proof_key(message.data, message.size, NULL, 0, &size), IBCW_BAD_MESSAGE, "the key of no proof");
     want(ibcw_proof_value(message.data, message.size, NULL, 0, &size), IBCW_BAD_MESSAGE, "the value of no proof");
@@ -535,7 +574,7 @@ typedef struct {
     unsigned takes;
 } asking;
 
-enum { OF_LISTS = 1 << LEDGER | 1 << PLAN | 1 << BALANCES | 1 << NOTES, OF_HOLDINGS = 1 << BALANCES | 1 << AUDIT, OF_NOTES = 1 << NOTES | 1 << AUDIT };
+enum { OF_LISTS = 1 << LEDGER | 1 << PLAN | 1 << BALANCES | 1 << NOTES | 1 << AUDIT, OF_HOLDINGS = 1 << BALANCES | 1 << AUDIT, OF_NOTES = 1 << NOTES | 1 << AUDIT };
 
 static uint64_t number;
 static size_t written;
@@ -543,11 +582,27 @@ static ibcw_handle made;
 
 static uint32_t ask_add_chain(ibcw_handle *h) { return ibcw_add_chain(h, TIME); }
 static uint32_t ask_add_balance(ibcw_handle *h) { return ibcw_add_balance(h, bytes("a"), 1, bytes("b"), 1, 0, 1); }
-static uint32_t ask_make_ledgers(ibcw_handle *h) { return ibcw_make_ledgers(h, 9, &made); }
+static uint32_t ask_make_ledgers(ibcw_handle *h) { return ibcw_make_ledgers(h, &made); }
 static uint32_t ask_take_ledger(ibcw_handle *h) { return ibcw_take_ledger(h, &made); }
-static uint32_t ask_audit(ibcw_handle *h) { return ibcw_audit(h, &made); }
-static uint32_t ask_apply(ibcw_handle *h) { return ibcw_apply(h, bytes("?"), 1); }
-static uint32_t ask_end_block(ibcw_handle *h) { return ibcw_end_block(h, TIME); }
+static uint32_t ask_make_audit(ibcw_handle *h) { return ibcw_make_audit(h, &made); }
+static uint32_t ask_make_numbered_ledgers(ibcw_handle *h) { return ibcw_make_numbered_ledgers(h, 9, &made); }
+static uint32_t ask_apply(ibcw_handle *h)
+{
+    ibcw_told told = {77, 77};
+    return ibcw_apply(h, bytes("?"), 1, &told, NULL, 0, &written);
+}
+static uint32_t ask_end_block(ibcw_handle *h)
+{
+    ibcw_told told = {77, 77};
+    return ibcw_end_block(h, TIME, &told, NULL, 0, &written);
+}
+static uint32_t ask_escrow(ibcw_handle *h)
+{
+    ibcw_amount amount;
+    return ibcw_escrow(h, bytes("channel-0"), 9, bytes("b"), 1, &amount);
+}
+static uint32_t ask_packet(ibcw_handle *h) { return ibcw_packet(h, bytes("note"), 4, bytes("channel-0"), 9, 1, NULL, 0, &written); }
+static uint32_t ask_ack(ibcw_handle *h) { return ibcw_ack(h, bytes("note"), 4, bytes("channel-0"), 9, 1, NULL, 0, &written); }
 static uint32_t ask_length(ibcw_handle *h) { return ibcw_length(h, &number); }
 static uint32_t ask_event(ibcw_handle *h)
 {
@@ -592,7 +647,8 @@ static const asking CALLS[] = {
     {"ibcw_add_balance", ask_add_balance, 1 << GENESIS},
     {"ibcw_make_ledgers", ask_make_ledgers, 1 << GENESIS},
     {"ibcw_take_ledger", ask_take_ledger, 1 << LEDGERS},
-    {"ibcw_audit", ask_audit, 1 << LEDGERS},
+    {"ibcw_make_audit", ask_make_audit, 1 << LEDGERS},
+    {"ibcw_make_numbered_ledgers", ask_make_numbered_ledgers, 1 << GENESIS},
     {"ibcw_apply", ask_apply, 1 << LEDGER},
     {"ibcw_end_block", ask_end_block, 1 << LEDGER},
     {"ibcw_length", ask_length, OF_LISTS},
@@ -601,6 +657,9 @@ static const asking CALLS[] = {
     {"ibcw_query", ask_query, 1 << LEDGER},
     {"ibcw_prove", ask_prove, 1 << LEDGER},
     {"ibcw_balance", ask_balance, 1 << LEDGER},
+    {"ibcw_escrow", ask_escrow, 1 << LEDGER},
+    {"ibcw_packet", ask_packet, 1 << LEDGER},
+    {"ibcw_ack", ask_ack, 1 << LEDGER},
     {"ibcw_make_balances", ask_make_balances, 1 << LEDGER},
     {"ibcw_holding", ask_holding, OF_HOLDINGS},
     {"ibcw_holding_amount", ask_holding_amount, OF_HOLDINGS},
@@ -643,9 +702,9 @@ static void refuse_full(ibcw_handle *values[KINDS])
 {
     ibcw_handle a = view_of(values[LEDGER]);
     meet(ibcw_make_genesis(values[VIEW], 1, 1), IBCW_FULL, "ibcw_make_genesis");
-    meet(ibcw_make_ledgers(values[GENESIS], 9, values[VIEW]), IBCW_FULL, "ibcw_make_ledgers");
+    meet(ibcw_make_ledgers(values[GENESIS], values[VIEW]), IBCW_FULL, "ibcw_make_ledgers");
     meet(ibcw_take_ledger(values[LEDGERS], values[VIEW]), IBCW_FULL, "ibcw_take_ledger");
-    meet(ibcw_audit(values[LEDGERS], values[VIEW]), IBCW_FULL, "ibcw_audit");
+    meet(ibcw_make_audit(values[LEDGERS], values[VIEW]), IBCW_FULL, "ibcw_make_audit");
     meet(ibcw_make_view(values[LEDGER], values[VIEW]), IBCW_FULL, "ibcw_make_view");
     meet(ibcw_make_plan(values[VIEW], &a, values[PLAN]), IBCW_FULL, "ibcw_make_plan");
     meet(ibcw_make_balances(values[LEDGER], values[VIEW]), IBCW_FULL, "ibcw_make_balances");
@@ -653,39 +712,145 @@ static void refuse_full(ibcw_handle *values[KINDS])
     want(ibcw_free(&a), IBCW_DONE, "free");
 }
 
-/* The ledgers of the world are gone afterwards. */
+/* The ledgers of a world are audited, with each allocation refused in turn, and stay: they are taken out again, go on, and are audited again. A ledger of
+   another world isn't taken. Without a chain there is no audit, and the ledgers stay then too. */
+static void audit_again(world *w, world *other, ibcw_handle *audit)
+{
+    uint32_t found;
+    ibcw_handle nothing = {0};
+    uint64_t x, y;
+    meet(ibcw_join_ledger(&w->ledgers, &other->y), IBCW_OTHER_WORLD, "a ledger of another world");
+    want(ibcw_join_ledger(&w->ledgers, &w->y), IBCW_DONE, "a ledger joins");
+    want(ibcw_join_ledger(&w->ledgers, &w->y), IBCW_EMPTY, "a ledger that has joined");
+    meet(ibcw_make_audit(&w->ledgers, &nothing), IBCW_BAD_MESSAGE, "an audit without a chain");
+    x = length_of(&w->x);
+    want(ibcw_join_ledger(&w->ledgers, &w->x), IBCW_DONE, "a ledger joins");
+    WITH_REFUSALS(found, ibcw_make_audit(&w->ledgers, audit), "an audit");
+    want(found, IBCW_DONE, "an audit");
+    want((uint32_t)length_of(audit), 2, "how many chains an audit has");
+    want(ibcw_free(audit), IBCW_DONE, "free");
+    want(ibcw_take_ledger(&w->ledgers, &w->y), IBCW_DONE, "a ledger behind an audit");
+    want(ibcw_take_ledger(&w->ledgers, &w->x), IBCW_DONE, "a ledger behind an audit");
+    want((uint32_t)length_of(&w->x), (uint32_t)x, "a history behind an audit");
+    y = length_of(&w->y);
+    end_block(&w->y);
+    want((uint32_t)length_of(&w->y), (uint32_t)y + 1, "a history behind an audit");
+    want(ibcw_join_ledger(&w->ledgers, &w->x), IBCW_DONE, "a ledger joins");
+    want(ibcw_join_ledger(&w->ledgers, &w->y), IBCW_DONE, "a ledger joins");
+    want(ibcw_make_audit(&w->ledgers, audit), IBCW_DONE, "an audit again");
+}
+
 static void refuse_handles(world *w)
 {
     uint32_t found;
-    world other = begin_world(8, 8, 3);
+    world other = begin_world(8, 8);
     ibcw_handle view = view_of(&w->x), plan = plan_of(&w->x, &w->y);
     ibcw_handle balances = {0}, notes = {0}, audit = {0}, nothing = {0};
     ibcw_handle *values[KINDS] = {&w->genesis, &other.ledgers, &other.x, &view, &plan, &balances, &notes, &audit, &nothing};
-    ibcw_handle *rest[] = {&w->genesis, &view, &plan, &balances, &notes, &audit};
+    ibcw_handle *rest[] = {&w->genesis, &w->ledgers, &view, &plan, &balances, &notes, &audit};
     WITH_REFUSALS(found, ibcw_make_balances(&w->x, &balances), "balances");
     want(found, IBCW_DONE, "balances");
     want(ibcw_make_notes(&w->y, &notes), IBCW_DONE, "notes");
-    meet(ibcw_join_ledger(&w->ledgers, &other.y), IBCW_OTHER_WORLD, "a ledger of another world");
-    want(ibcw_join_ledger(&w->ledgers, &w->y), IBCW_DONE, "a ledger joins");
-    want(ibcw_join_ledger(&w->ledgers, &w->y), IBCW_EMPTY, "a ledger that has joined");
-    want(ibcw_join_ledger(&w->ledgers, &w->x), IBCW_DONE, "a ledger joins");
-    want(ibcw_audit(&w->ledgers, &audit), IBCW_DONE, "an audit");
-    want_notes(&audit, 1);
-    want(ibcw_audit(&w->ledgers, &nothing), IBCW_EMPTY, "ledgers that are gone");
+    audit_again(w, &other, &audit);
+    want_notes(&audit, 1, 3);
+    meet(ibcw_holding(&audit, 2, 0, NULL, 0, &written), IBCW_NOTHING_THERE, "a holding of a chain that isn't there");
     refuse_kinds(values, &other.y);
     refuse_full(values);
-    want(ibcw_audit(&other.ledgers, &nothing), IBCW_BAD_MESSAGE, "an audit without a chain");
-    want(ibcw_free(&other.ledgers), IBCW_EMPTY, "ledgers that are gone");
-    want(ibcw_make_ledgers(&other.genesis, 4, &other.ledgers), IBCW_DONE, "ledgers");
+    want(ibcw_make_audit(&other.ledgers, &nothing), IBCW_BAD_MESSAGE, "an audit of no ledgers");
+    want(ibcw_free(&other.ledgers), IBCW_DONE, "free");
+    want(ibcw_make_ledgers(&other.genesis, &other.ledgers), IBCW_DONE, "ledgers");
     free_world(&other);
-    free_all(rest, 6);
+    free_all(rest, 7);
     want(ibcw_free(&nothing), IBCW_EMPTY, "free of an empty handle");
+}
+
+/* ---- packets, taken apart */
+
+static void want_part(const text *packet, uint64_t part, const char *wanted)
+{
+    static text found;
+    uint32_t answer;
+    WITH_REFUSALS(answer, ibcw_packet_part(packet->data, packet->size, part, found.data, ROOM, &found.size), "a part");
+    want(answer, IBCW_DONE, "a part of a packet");
+    want((uint32_t)found.size, (uint32_t)strlen(wanted), "the size of a part");
+    want((uint32_t)memcmp(found.data, wanted, found.size), 0, "the bytes of a part");
+}
+
+/* The bytes are of this packet of notes. */
+static void want_packet(const text *packet, uint64_t sequence, const char *note)
+{
+    ibcw_packet_numbers_told numbers = {77, 77, 77};
+    uint32_t answer;
+    size_t size = 77;
+    WITH_REFUSALS(answer, ibcw_packet_numbers(packet->data, packet->size, &numbers), "a packet's numbers");
+    want(answer, IBCW_DONE, "a packet's numbers");
+    want((uint32_t)numbers.sequence, (uint32_t)sequence, "a packet's sequence");
+    want((uint32_t)numbers.timeout_height, 1000, "a packet's timeout");
+    want((uint32_t)numbers.timeout_time, 0, "a packet's timeout");
+    want_part(packet, IBCW_SOURCE_PORT, "note");
+    want_part(packet, IBCW_SOURCE_CHANNEL, "channel-1");
+    want_part(packet, IBCW_DESTINATION_PORT, "note");
+    want_part(packet, IBCW_DESTINATION_CHANNEL, "channel-1");
+    want_part(packet, IBCW_DATA, note);
+    want(ibcw_packet_part(packet->data, packet->size, 6, NULL, 0, &size), IBCW_NOTHING_THERE, "a sixth part");
+    want(ibcw_packet_part(packet->data, packet->size, 0, NULL, 0, &size), IBCW_NOTHING_THERE, "a part 0");
+    want(ibcw_packet_part(packet->data, packet->size - 1, 1, NULL, 0, &size), IBCW_BAD_MESSAGE, "a part of no packet");
+    want(ibcw_packet_numbers(packet->data, packet->size - 1, &numbers), IBCW_BAD_MESSAGE, "numbers of no packet");
+    want((uint32_t)size, 77, "what isn't told");
+}
+
+/* A channel of notes is opened, a note goes over it and is acknowledged: the packet and the acknowledgement are read from messages and from
+   ledgers, whether the commitment stands or not. */
+static void take_packets_apart(world *w)
+{
+    static text message, packet, again, ack, written_ack;
+    uint32_t found;
+    send_note(&message, "channel-1", "three", 1000);
+    answer(&w->x, &message, IBCW_DONE, "a note");
+    first_owed(&w->x, &w->y, &message);
+    WITH_REFUSALS(found, ibcw_message_packet(message.data, message.size, packet.data, ROOM, &packet.size), "a carried packet");
+    want(found, IBCW_DONE, "a carried packet");
+    want_packet(&packet, 3, "three");
+    want(ibcw_message_ack(message.data, message.size, NULL, 0, &ack.size), IBCW_NOTHING_THERE, "an acknowledgement of a packet that comes");
+    answer(&w->y, &message, IBCW_DONE, "a note comes");
+    first_owed(&w->y, &w->x, &message);
+    WITH_REFUSALS(found, ibcw_message_ack(message.data, message.size, ack.data, ROOM, &ack.size), "a carried acknowledgement");
+    want(found, IBCW_DONE, "a carried acknowledgement");
+    answer(&w->x, &message, IBCW_DONE, "an acknowledgement");
+    WITH_REFUSALS(found, ibcw_packet(&w->x, bytes("note"), 4, bytes("channel-1"), 9, 3, again.data, ROOM, &again.size), "a sent packet");
+    want(found, IBCW_DONE, "a sent packet");
+    want((uint32_t)again.size, (uint32_t)packet.size, "the size of a sent packet");
+    want((uint32_t)memcmp(again.data, packet.data, again.size), 0, "the bytes of a sent packet");
+    WITH_REFUSALS(found, ibcw_ack(&w->y, bytes("note"), 4, bytes("channel-1"), 9, 3, written_ack.data, ROOM, &written_ack.size), "a written acknowledgement");
+    want(found, IBCW_DONE, "a written acknowledgement");
+    want((uint32_t)written_ack.size, (uint32_t)ack.size, "the size of an acknowledgement");
+    want((uint32_t)memcmp(written_ack.data, ack.data, ack.size), 0, "the bytes of an acknowledgement");
+    meet(ibcw_packet(&w->x, bytes("note"), 4, bytes("channel-1"), 9, 4, NULL, 0, &again.size), IBCW_NOTHING_THERE, "a packet to come");
+    meet(ibcw_packet(&w->x, bytes("n"), 1, bytes("channel-1"), 9, 1, NULL, 0, &again.size), IBCW_BAD_NAME, "a packet of no port");
+    meet(ibcw_ack(&w->x, bytes("note"), 4, bytes("channel-1"), 9, 3, NULL, 0, &again.size), IBCW_NOTHING_THERE, "an acknowledgement at the sender");
+    meet(ibcw_ack(&w->x, bytes("note"), 4, bytes("x"), 1, 3, NULL, 0, &again.size), IBCW_BAD_NAME, "an acknowledgement of no channel");
+    meet(ibcw_message_packet(packet.data, packet.size, NULL, 0, &again.size), IBCW_NO_MESSAGE, "a packet's bytes as a message");
+    meet(ibcw_message_ack(packet.data, packet.size, NULL, 0, &again.size), IBCW_NO_MESSAGE, "a packet's bytes as a message");
+    create_client(&message, 1);
+    meet(ibcw_message_packet(message.data, message.size, NULL, 0, &again.size), IBCW_NOTHING_THERE, "a packet of a message that has none");
+}
+
+static void want_escrow(ibcw_handle *ledger, const char *denom, uint64_t wanted)
+{
+    ibcw_amount amount = {7, 7};
+    uint32_t found;
+    WITH_REFUSALS(found, ibcw_escrow(ledger, bytes("channel-0"), 9, bytes(denom), strlen(denom), &amount), "an escrow account");
+    want(found, IBCW_DONE, "an escrow account");
+    want((uint32_t)(amount.high + amount.low), (uint32_t)wanted, "what an escrow account holds");
+    meet(ibcw_escrow(ledger, bytes("channel"), 7, bytes(denom), strlen(denom), &amount), IBCW_BAD_NAME, "an escrow account of no channel");
 }
 
 int main(void)
 {
     int count = 0;
-    world w = begin_world(64, 64, 1);
+    world w;
+    want(ibcw_version(), IBCWORLD_VERSION, "the version of the archive");
+    w = begin_world(64, 64);
     refuse_clients(&w);
     open_connection(&w);
     refuse_channels(&w);
@@ -693,14 +858,17 @@ int main(void)
     open_channel(&w, "note", ORDERED, "note-1", "channel-1");
     refuse_sending(&w);
     refuse_packets(&w);
+    want_escrow(&w.x, "atom", 5);
+    want_escrow(&w.y, "atom", 0);
     refuse_timeouts(&w);
     refuse_notes(&w);
+    take_packets_apart(&w);
     close_notes(&w);
     refuse_blocks();
     prove_heights();
     refuse_texts(&w);
     refuse_handles(&w);
-    for (int n = IBCW_NO_MEMORY; n <= IBCW_OTHER_WORLD; n++) {
+    for (int n = IBCW_NO_MEMORY; n <= IBCW_NO_MESSAGE; n++) {
         int is_number = n <= IBCW_PRUNED || n >= IBCW_EMPTY;
         if (is_number && n != IBCW_NUMBER_FULL) want((uint32_t)met[n], 1, "a number is met");
         count += met[n];

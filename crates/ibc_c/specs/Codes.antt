@@ -7,19 +7,19 @@ use Rattle.ibc_wire.specs.Kinds.{kind_of, tag_of}
 use Rattle.ibc_wire.specs.Messages.{message_fields}
 use Rattle.ibc_wire.specs.declared.messages.Message.{Message}
 use Rattle.ibc_machine.specs.chain.Checks.{Checked}
-use Rattle.ibc_c.specs.declared.proofs.ProofKind.{ProofKind}
-use Rattle.ibc_c.specs.declared.proofs.ProofKind.TheVariants.{Present, Absent}
+use Rattle.ibc_calls.specs.declared.proofs.ProofKind.{ProofKind}
+use Rattle.ibc_calls.specs.declared.proofs.ProofKind.TheVariants.{Present, Absent}
 
 -- 0 where nothing was refused, else the number of the refusal
 abbrev pub code_of : Checked ⊤ → ℕ
 code_of (Ok x) = 0
 code_of (Err refusal) = number_of refusal
 
--- The bytes spell a message, whose tag is told; or they spell none (30), or memory ran out (1), and no tag is told.
+-- The bytes spell a message, whose tag is told; or they spell none (107), or memory ran out (1), and no tag is told.
 abbrev pub IsTagged : Text → ℕ → ℕ → ℕ → Type 0
 IsTagged bytes old new answer =
     ((answer ≡ 0) × (m : Message) × Spells (message_fields m) bytes × (new ≡ tag_of (kind_of m)))
-    ⊎ ((answer ≡ 30) × (new ≡ old) × ((m : Message) → Spells (message_fields m) bytes → ⊥))
+    ⊎ ((answer ≡ 107) × (new ≡ old) × ((m : Message) → Spells (message_fields m) bytes → ⊥))
     ⊎ ((answer ≡ 1) × (new ≡ old))
 
 -- what a proof shows in a number: 1 that a key has a value, 2 that it isn't there

@@ -1,37 +1,10 @@
-//! The calls of this library for programs that are not Rattle's, by handles and bytes, and what a verifier asks that has no ledger: whether bytes are a
-//! message or a proof, and what a proof shows under a root. `exports` has them as C's by `include/ibcworld.h` and Rust's by `bindings/rust`: each export calls
-//! one function of this crate, and says again what that function says. It answers a number: 0, or that of why it was refused.
+//! The static library: the calls of `ibc_calls` by the names that C has for them by `include/ibcworld.h`, and Rust by `bindings/rust`. Each export
+//! calls one of them, and says again what it says. It answers a number: 0, or that of why it was refused.
 #![tactic(auto)]
 
-mod answer;
-mod events;
-mod evidence;
-mod exports;
-mod gathering;
-mod genesis;
-mod handles;
-mod history;
-mod holdings;
-mod messages;
+mod light;
 mod notes;
-mod proofs;
-mod proving;
+mod packets;
 mod reads;
 mod views;
 mod worlds;
-
-pub use answer::{Refused, number};
-pub use events::{apply, end_block};
-pub use evidence::{message_proof, proof_key, proof_value};
-pub use gathering::{audit, join_ledger};
-pub use genesis::{add_balance, add_chain, make_genesis};
-pub use handles::free;
-pub use history::{EventCode, ReplyCode, history_event, history_reply, length};
-pub use holdings::{holding, holding_amount, make_balances};
-pub use messages::{Carried, carried_proof, tag_of};
-pub use notes::{make_notes, note, note_channel, note_count};
-pub use proofs::{ProofKind, key_of, kind_of, show_absent, show_present, value_of};
-pub use proving::prove;
-pub use reads::{Amount, balance, plan_message, query};
-pub use views::{ViewHeights, make_plan, make_view, view_heights, view_proof, view_root};
-pub use worlds::{make_ledgers, take_ledger};

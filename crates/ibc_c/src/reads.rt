@@ -1,194 +1,159 @@
-//! What is read of ledgers and of plans.
+//! What is read of ledgers.
 
-ghost use Rattle.std.specs.Prelude.{◌≡◌, Some};
-ghost use Rattle.ibc_c.specs.Handles.{Finds};
-ghost use Rattle.ibc_c.specs.Reads.{FindsMessage, FindsValue, IsBalance, IsSpelling, IsValueAt, TellsBalance, amount_of};
+ghost use Rattle.std.specs.Prelude.{◌≡◌};
+ghost use Rattle.ibc_calls.specs.CallAnswers.{Numbered};
+ghost use Rattle.ibc_calls.specs.Handles.{Finds};
+ghost use Rattle.ibc_calls.specs.Holdings.{FindsHolding, MakesBalances, TellsHolding};
+ghost use Rattle.ibc_calls.specs.History.{TellsEvent, TellsLength, TellsReply};
+ghost use Rattle.ibc_calls.specs.ViewProofs.{FindsProved};
+ghost use Rattle.ibc_calls.specs.Reads.{FindsValue, TellsBalance, TellsEscrow};
 
-use crate::Refused;
-use crate::genesis::names_of;
-use crate::handles::give;
-use crate::views::key_of;
-use ibc_handle::{Handle, HandleValue};
-use ibc_ids::{Account, Bytes};
-use ibc_ledger::Ledger;
-use ibc_message_codec::encode;
-use ibc_wire::Message;
+use ibc_calls::{Amount, EventCode, ReplyCode, number};
+use ibc_handle::Handle;
 use std::alloc::Global;
 
-/// An amount: `high` times 2^64 and `low`.
-#[repr(C)]
-#[derive(Clone, Copy, Debug, PartialEq, Eq, Drop)]
-pub struct Amount {
-    pub high: u64,
-    pub low: u64,
+/// Tells how many entries a ledger's history has, or a plan, a list of balances, one of notes or an audit. As `length`.
+#[unsafe(no_mangle)]
+pub extern "C" fn ibcw_length(alloc: Global, handle: &mut Handle, count: &mut u64) -> u32
+    ensures kept { handle.new.value ≡ handle.old.value }
+    ensures told { Numbered (TellsLength handle.old.value count.old count.new) result }
+{
+    number(ibc_calls::length(alloc, handle, count))
 }
 
-/// Writes the value at the path of a key in the working block of a ledger (ICS 24). Refused: `Empty`; `OtherKind`;
-/// `Core(BadName)` exactly where no key has the path; `NothingThere` where the key has no value; `TooShort`; `Core(NoMemory)`.
-#[tactic(auto, unfolding(crate::specs::Handles::Finds))]
-pub fn query(
+/// Tells the reply of an entry of a ledger's history. As `history_reply`.
+#[unsafe(no_mangle)]
+pub extern "C" fn ibcw_reply(
+    alloc: Global,
+    ledger: &mut Handle,
+    index: u64,
+    told: &mut ReplyCode,
+    bytes: &mut [u8],
+    size: &mut usize,
+) -> u32
+    ensures kept { ledger.new.value ≡ ledger.old.value }
+    ensures told { Numbered (TellsReply index ledger.old.value (record { told = told.old; bytes = bytes.old; size = size.old }) (record { told = told.new; bytes = bytes.new; size = size.new })) result }
+{
+    number(ibc_calls::history_reply(alloc, ledger, index, told, bytes, size))
+}
+
+/// Tells what a ledger was asked by an entry of its history. As `history_event`.
+#[unsafe(no_mangle)]
+pub extern "C" fn ibcw_event(
+    alloc: Global,
+    ledger: &mut Handle,
+    index: u64,
+    asked: &mut EventCode,
+    bytes: &mut [u8],
+    size: &mut usize,
+) -> u32
+    ensures kept { ledger.new.value ≡ ledger.old.value }
+    ensures told { Numbered (TellsEvent index ledger.old.value (record { asked = asked.old; bytes = bytes.old; size = size.old }) (record { asked = asked.new; bytes = bytes.new; size = size.new })) result }
+{
+    number(ibc_calls::history_event(alloc, ledger, index, asked, bytes, size))
+}
+
+/// Writes the value at the path of a key in the working block of a ledger. As `query`.
+#[unsafe(no_mangle)]
+pub extern "C" fn ibcw_query(
     alloc: Global,
     ledger: &mut Handle,
     path: &[u8],
     value: &mut [u8],
     size: &mut usize,
-) -> Result<(), Refused>
+) -> u32
     ensures kept { ledger.new.value ≡ ledger.old.value }
-    ensures found { Finds (FindsValue path.now ledger.old.value) value.old value.new size.old size.new result }
+    ensures found { Numbered (Finds (FindsValue path.now ledger.old.value) value.old value.new size.old size.new) result }
 {
-    give(value_in(alloc, ledger, path), value, size)
+    number(ibc_calls::query(alloc, ledger, path, value, size))
 }
 
-#[tactic(auto, unfolding(crate::specs::Reads::FindsValue))]
-fn value_in(alloc: Global, ledger: &mut Handle, path: &[u8]) -> Result<Bytes, Refused>
-    ensures kept { ledger.new.value ≡ ledger.old.value }
-    ensures found { FindsValue path.now ledger.old.value result }
-{
-    match ledger.take(alloc) {
-        None => Err(Refused::Empty),
-        Some(held) => {
-            let found = value_at(alloc, &held, path);
-            ledger.set(alloc, held);
-            found
-        }
-    }
-}
-
-#[tactic(auto, unfolding(crate::specs::Reads::FindsValue))]
-fn value_at(alloc: Global, held: &HandleValue, path: &[u8]) -> Result<Bytes, Refused>
-    ensures { FindsValue path.now (Some held.now) result }
-{
-    match held {
-        HandleValue::Ledger(member) => value_of(alloc, &member.ledger, path),
-        _ => Err(Refused::OtherKind),
-    }
-}
-
-fn value_of(alloc: Global, ledger: &Ledger, path: &[u8]) -> Result<Bytes, Refused>
-    ensures { IsValueAt path.now ledger.now.ledger result }
-{
-    match key_of(alloc, path) {
-        Ok(key) => match ledger.query(&key) {
-            Ok(Some(value)) => Ok(value),
-            Ok(None) => Err(Refused::NothingThere),
-            Err(refusal) => Err(Refused::Core(refusal)),
-        },
-        Err(refusal) => Err(Refused::Core(refusal)),
-    }
-}
-
-/// Writes the bytes of a plan's message, which are numbered from 0. Refused: `Empty`; `OtherKind`; `NothingThere` where there is
-/// no such message; `Core(BadMessage)` where a message has no spelling; `TooShort`; `Core(NoMemory)`.
-#[tactic(auto, unfolding(crate::specs::Handles::Finds))]
-pub fn plan_message(
+/// Writes the bytes of the proof of what a committed height of a ledger has at the path of a key. As `prove`.
+#[unsafe(no_mangle)]
+pub extern "C" fn ibcw_prove(
     alloc: Global,
-    plan: &mut Handle,
-    index: u64,
-    message: &mut [u8],
+    ledger: &mut Handle,
+    height: u64,
+    path: &[u8],
+    proof: &mut [u8],
     size: &mut usize,
-) -> Result<(), Refused>
-    ensures kept { plan.new.value ≡ plan.old.value }
-    ensures found { Finds (FindsMessage index plan.old.value) message.old message.new size.old size.new result }
+) -> u32
+    ensures kept { ledger.new.value ≡ ledger.old.value }
+    ensures found { Numbered (Finds (FindsProved height path.now ledger.old.value) proof.old proof.new size.old size.new) result }
 {
-    give(message_in(alloc, plan, index), message, size)
+    number(ibc_calls::prove(alloc, ledger, height, path, proof, size))
 }
 
-#[tactic(auto, unfolding(crate::specs::Reads::FindsMessage))]
-fn message_in(alloc: Global, plan: &mut Handle, index: u64) -> Result<Bytes, Refused>
-    ensures kept { plan.new.value ≡ plan.old.value }
-    ensures found { FindsMessage index plan.old.value result }
+/// Makes the list of what accounts hold in an empty handle. As `make_balances`.
+#[unsafe(no_mangle)]
+pub extern "C" fn ibcw_make_balances(
+    alloc: Global,
+    ledger: &mut Handle,
+    balances: &mut Handle,
+) -> u32
+    ensures kept { ledger.new.value ≡ ledger.old.value }
+    ensures made { Numbered (MakesBalances ledger.old.value balances.old.value balances.new.value) result }
 {
-    match plan.take(alloc) {
-        None => Err(Refused::Empty),
-        Some(held) => {
-            let found = message_at(alloc, &held, index);
-            plan.set(alloc, held);
-            found
-        }
-    }
+    number(ibc_calls::make_balances(alloc, ledger, balances))
 }
 
-#[tactic(auto, unfolding(crate::specs::Reads::FindsMessage))]
-fn message_at(alloc: Global, held: &HandleValue, index: u64) -> Result<Bytes, Refused>
-    ensures { FindsMessage index (Some held.now) result }
+/// Writes who holds what at an index. As `holding`.
+#[unsafe(no_mangle)]
+pub extern "C" fn ibcw_holding(
+    alloc: Global,
+    balances: &mut Handle,
+    chain: u64,
+    index: u64,
+    text: &mut [u8],
+    size: &mut usize,
+) -> u32
+    ensures kept { balances.new.value ≡ balances.old.value }
+    ensures found { Numbered (Finds (FindsHolding chain index balances.old.value) text.old text.new size.old size.new) result }
 {
-    match held {
-        HandleValue::Plan(messages) => match messages.get(index as usize) {
-            Some(message) => spelling_of(alloc, message),
-            None => Err(Refused::NothingThere),
-        },
-        _ => Err(Refused::OtherKind),
-    }
+    number(ibc_calls::holding(alloc, balances, chain, index, text, size))
 }
 
-/// The bytes that spell a message. Refused: `Core(BadMessage)` where it has no spelling; `Core(NoMemory)`.
-pub(crate) fn spelling_of(alloc: Global, message: &Message) -> Result<Bytes, Refused>
-    ensures { IsSpelling (Some message.now) result }
+/// Tells how much is held at an index. As `holding_amount`.
+#[unsafe(no_mangle)]
+pub extern "C" fn ibcw_holding_amount(
+    alloc: Global,
+    balances: &mut Handle,
+    chain: u64,
+    index: u64,
+    amount: &mut Amount,
+) -> u32
+    ensures kept { balances.new.value ≡ balances.old.value }
+    ensures told { Numbered (TellsHolding chain index balances.old.value amount.old amount.new) result }
 {
-    match encode(alloc, message) {
-        Ok(bytes) => Ok(Bytes::from_vec(bytes)),
-        Err(refusal) => Err(Refused::Core(refusal)),
-    }
+    number(ibc_calls::holding_amount(alloc, balances, chain, index, amount))
 }
 
-/// Tells what a user holds of a denomination in the working block of a ledger. Refused: `Empty`; `OtherKind`; `Core(BadName)`
-/// exactly where a name is none of its kind; `Core(NoMemory)`. Then nothing is told.
-#[tactic(auto, unfolding(crate::specs::Reads::TellsBalance))]
-pub fn balance(
+/// Tells what a user holds of a denomination. As `balance`.
+#[unsafe(no_mangle)]
+pub extern "C" fn ibcw_balance(
     alloc: Global,
     ledger: &mut Handle,
     user: &[u8],
     denom: &[u8],
     amount: &mut Amount,
-) -> Result<(), Refused>
+) -> u32
     ensures kept { ledger.new.value ≡ ledger.old.value }
-    ensures told { TellsBalance user.now denom.now ledger.old.value amount.old amount.new result }
+    ensures told { Numbered (TellsBalance user.now denom.now ledger.old.value amount.old amount.new) result }
 {
-    match ledger.take(alloc) {
-        None => Err(Refused::Empty),
-        Some(held) => {
-            let answer = balance_at(alloc, &held, user, denom, amount);
-            ledger.set(alloc, held);
-            answer
-        }
-    }
+    number(ibc_calls::balance(alloc, ledger, user, denom, amount))
 }
 
-#[tactic(auto, unfolding(crate::specs::Reads::TellsBalance))]
-fn balance_at(
+/// Tells what the escrow account of a channel holds of a denomination. As `escrow`.
+#[unsafe(no_mangle)]
+pub extern "C" fn ibcw_escrow(
     alloc: Global,
-    held: &HandleValue,
-    user: &[u8],
+    ledger: &mut Handle,
+    channel: &[u8],
     denom: &[u8],
     amount: &mut Amount,
-) -> Result<(), Refused>
-    ensures { TellsBalance user.now denom.now (Some held.now) amount.old amount.new result }
+) -> u32
+    ensures kept { ledger.new.value ≡ ledger.old.value }
+    ensures told { Numbered (TellsEscrow channel.now denom.now ledger.old.value amount.old amount.new) result }
 {
-    match held {
-        HandleValue::Ledger(member) => balance_of(alloc, &member.ledger, user, denom, amount),
-        _ => Err(Refused::OtherKind),
-    }
-}
-
-fn balance_of(
-    alloc: Global,
-    ledger: &Ledger,
-    user: &[u8],
-    denom: &[u8],
-    amount: &mut Amount,
-) -> Result<(), Refused>
-    ensures { IsBalance user.now denom.now ledger.now.ledger amount.old amount.new result }
-{
-    let (user, denom) = names_of(alloc, user, denom)?;
-    *amount = parts_of(ledger.balance(&Account::User(user), &denom));
-    Ok(())
-}
-
-pub(crate) fn parts_of(amount: u128) -> Amount
-    ensures { amount_of result ≡ amount }
-{
-    Amount {
-        high: (amount / (1 << 64)) as u64,
-        low: (amount % (1 << 64)) as u64,
-    }
+    number(ibc_calls::escrow(alloc, ledger, channel, denom, amount))
 }

@@ -1,119 +1,135 @@
-//! The ledgers of a world.
+//! How a world is made, and how its ledgers go on.
 
-ghost use Rattle.std.specs.Prelude.{◌≡◌, None, Some};
-ghost use Rattle.ibc_machine.specs.chain.Genesis.{genesis_state, is_allowed};
-ghost use Rattle.ibc_c.specs.WorldHandles.{AreMadeOf, MakesIfAllowed, TakesFirstLedger, MakesLedgers, TakesFrom, TakesLedger};
+ghost use Rattle.std.specs.Prelude.{◌≡◌, ◌+◌, ◌*◌, ◌^◌, None};
+ghost use Rattle.ibc_calls.specs.CallAnswers.{Numbered, answer_number};
+ghost use Rattle.ibc_calls.specs.Events.{AppliesMessage, EndsBlock};
+ghost use Rattle.ibc_calls.specs.Gathering.{AreApart, Audits, JoinsLedger};
+ghost use Rattle.ibc_calls.specs.GenesisHandles.{BalanceAdded, BeginsGenesis, ChainAdded};
+ghost use Rattle.ibc_calls.specs.Handles.{freed};
+ghost use Rattle.ibc_calls.specs.WorldHandles.{MakesLedgers, TakesLedger};
 
-use crate::Refused;
-use crate::handles::put_new;
-use ibc_handle::{Handle, HandleValue, WorldLedger, WorldLedgers};
-use ibc_ids::Refusal;
-use ibc_machine::Genesis;
+use ibc_calls::{ReplyCode, number};
+use ibc_handle::Handle;
 use std::alloc::Global;
 
-/// Makes all ledgers of a genesis in a handle that holds nothing, under a number by which the caller tells worlds apart. The
-/// genesis stays. Refused, by the first check that fails: `Full` where the second handle holds something; `Empty` and
-/// `OtherKind` where the first holds no genesis; `Core(BadMessage)` exactly where no world begins so; `Core(NoMemory)`.
-#[tactic(auto, unfolding(crate::specs::WorldHandles::MakesLedgers))]
-pub fn make_ledgers(
+/// Makes a genesis with no chains in an empty handle. As `make_genesis`.
+#[unsafe(no_mangle)]
+pub extern "C" fn ibcw_make_genesis(
     alloc: Global,
     genesis: &mut Handle,
-    number: u64,
-    ledgers: &mut Handle,
-) -> Result<(), Refused>
-    ensures kept { genesis.new.value ≡ genesis.old.value }
-    ensures made { MakesLedgers number genesis.old.value ledgers.old.value ledgers.new.value result }
+    capacity: u64,
+    window: u64,
+) -> u32
+    ensures { Numbered (BeginsGenesis capacity window genesis.old.value genesis.new.value) result }
 {
-    if !ledgers.is_empty(alloc) {
-        return Err(Refused::Full);
-    }
-    match genesis.take(alloc) {
-        None => Err(Refused::Empty),
-        Some(held) => {
-            let answer = make_at(alloc, &held, number, ledgers);
-            genesis.set(alloc, held);
-            answer
-        }
-    }
+    number(ibc_calls::make_genesis(alloc, genesis, capacity, window))
 }
 
-fn make_at(
+/// Adds a chain to a genesis. As `add_chain`.
+#[unsafe(no_mangle)]
+pub extern "C" fn ibcw_add_chain(alloc: Global, genesis: &mut Handle, time: u64) -> u32
+    ensures { Numbered (ChainAdded time genesis.old.value genesis.new.value) result }
+{
+    number(ibc_calls::add_chain(alloc, genesis, time))
+}
+
+/// Lets a user hold so much at the last chain of a genesis. As `add_balance`.
+#[unsafe(no_mangle)]
+pub extern "C" fn ibcw_add_balance(
     alloc: Global,
-    held: &HandleValue,
-    number: u64,
+    genesis: &mut Handle,
+    user: &[u8],
+    denom: &[u8],
+    high: u64,
+    low: u64,
+) -> u32
+    ensures { Numbered (BalanceAdded user.now denom.now (high * 2 ^ 64 + low) genesis.old.value genesis.new.value) result }
+{
+    number(ibc_calls::add_balance(alloc, genesis, user, denom, high, low))
+}
+
+/// Makes all ledgers of a genesis in an empty handle, under the number of their world. As `make_ledgers`.
+#[unsafe(no_mangle)]
+pub extern "C" fn ibcw_make_numbered_ledgers(
+    alloc: Global,
+    genesis: &mut Handle,
+    world: u64,
     ledgers: &mut Handle,
-) -> Result<(), Refused>
-    requires { ledgers.old.value ≡ None }
-    ensures { AreMadeOf number (Some held.now) ledgers.new.value result }
+) -> u32
+    ensures kept { genesis.new.value ≡ genesis.old.value }
+    ensures made { Numbered (MakesLedgers world genesis.old.value ledgers.old.value ledgers.new.value) result }
 {
-    match held {
-        HandleValue::Genesis(genesis) => begin(alloc, genesis, number, ledgers),
-        _ => Err(Refused::OtherKind),
-    }
+    number(ibc_calls::make_ledgers(alloc, genesis, world, ledgers))
 }
 
-fn begin(alloc: Global, genesis: &Genesis, number: u64, ledgers: &mut Handle) -> Result<(), Refused>
-    requires { ledgers.old.value ≡ None }
-    ensures { MakesIfAllowed (is_allowed (genesis_state genesis.now)) (genesis_state genesis.now) number ledgers.new.value result }
+/// Moves the first of the ledgers to an empty handle. As `take_ledger`.
+#[unsafe(no_mangle)]
+pub extern "C" fn ibcw_take_ledger(alloc: Global, ledgers: &mut Handle, ledger: &mut Handle) -> u32
+    ensures { Numbered (TakesLedger ledgers.old.value ledgers.new.value ledger.old.value ledger.new.value) result }
 {
-    match WorldLedgers::begin(alloc, genesis, number) {
-        Ok(all) => put_new(alloc, ledgers, HandleValue::Ledgers(all)),
-        Err(refusal) => Err(Refused::Core(refusal)),
-    }
+    number(ibc_calls::take_ledger(alloc, ledgers, ledger))
 }
 
-/// Moves the first of the ledgers to a handle that holds nothing. Refused, by the first check that fails: `Full` where the
-/// second handle holds something; `Empty` and `OtherKind` where the first holds no ledgers; `Core(NoMemory)`; `NothingThere`
-/// where all were taken. Then nothing has changed.
-#[tactic(auto, unfolding(crate::specs::WorldHandles::TakesLedger))]
-pub fn take_ledger(alloc: Global, ledgers: &mut Handle, ledger: &mut Handle) -> Result<(), Refused>
-    ensures { TakesLedger ledgers.old.value ledgers.new.value ledger.old.value ledger.new.value result }
+/// Moves a ledger to others of its world. The caller gave different worlds different numbers. As `join_ledger`.
+#[unsafe(no_mangle)]
+pub extern "C" fn ibcw_join_ledger(alloc: Global, ledgers: &mut Handle, ledger: &mut Handle) -> u32
+    requires { AreApart ledgers.old.value ledger.old.value }
+    ensures { Numbered (JoinsLedger ledgers.old.value ledgers.new.value ledger.old.value ledger.new.value) result }
 {
-    if !ledger.is_empty(alloc) {
-        return Err(Refused::Full);
-    }
-    match ledgers.take(alloc) {
-        None => Err(Refused::Empty),
-        Some(held) => {
-            let mut held = held;
-            let answer = take_at(alloc, &mut held, ledger);
-            ledgers.set(alloc, held);
-            answer
-        }
-    }
+    number(ibc_calls::join_ledger(alloc, ledgers, ledger))
 }
 
-fn take_at(alloc: Global, held: &mut HandleValue, ledger: &mut Handle) -> Result<(), Refused>
-    requires { ledger.old.value ≡ None }
-    ensures { TakesFrom held.old held.new ledger.new.value result }
+/// Audits the ledgers of a world, which stay, and puts what they hold into an empty handle. As `make_audit`.
+#[unsafe(no_mangle)]
+pub extern "C" fn ibcw_make_audit(alloc: Global, ledgers: &mut Handle, audit: &mut Handle) -> u32
+    ensures { Numbered (Audits ledgers.old.value ledgers.new.value audit.old.value audit.new.value) result }
 {
-    match held {
-        HandleValue::Ledgers(all) => take_first(alloc, all, ledger),
-        _ => Err(Refused::OtherKind),
-    }
+    number(ibc_calls::make_audit(alloc, ledgers, audit))
 }
 
-// The place of the ledger is made first, and holds an empty plan until the ledger is there.
-fn take_first(alloc: Global, all: &mut WorldLedgers, ledger: &mut Handle) -> Result<(), Refused>
-    requires { ledger.old.value ≡ None }
-    ensures { TakesFirstLedger all.old all.new ledger.new.value result }
+/// Applies the message that the bytes spell to a ledger, and tells its reply. As `apply`.
+#[unsafe(no_mangle)]
+pub extern "C" fn ibcw_apply(
+    alloc: Global,
+    ledger: &mut Handle,
+    message: &[u8],
+    told: &mut ReplyCode,
+    bytes: &mut [u8],
+    size: &mut usize,
+) -> u32
+    ensures { Numbered (AppliesMessage message.now ledger.old.value ledger.new.value (record { told = told.old; bytes = bytes.old; size = size.old }) (record { told = told.new; bytes = bytes.new; size = size.new })) result }
 {
-    let Ok(()) = ledger.fill(alloc, HandleValue::Plan(Vec::new(alloc))) else {
-        return Err(Refused::Core(Refusal::NoMemory));
-    };
-    let number = all.number();
-    match all.take_first() {
-        None => {
-            ledger.free(alloc);
-            Err(Refused::NothingThere)
-        }
-        Some(first) => {
-            let held = HandleValue::Ledger(WorldLedger {
-                number,
-                ledger: first,
-            });
-            ledger.replace(alloc, held);
-            Ok(())
-        }
-    }
+    number(ibc_calls::apply(alloc, ledger, message, told, bytes, size))
+}
+
+/// Ends the working block of a ledger, and tells its reply. As `end_block`.
+#[unsafe(no_mangle)]
+pub extern "C" fn ibcw_end_block(
+    alloc: Global,
+    ledger: &mut Handle,
+    next_time: u64,
+    told: &mut ReplyCode,
+    bytes: &mut [u8],
+    size: &mut usize,
+) -> u32
+    ensures { Numbered (EndsBlock next_time ledger.old.value ledger.new.value (record { told = told.old; bytes = bytes.old; size = size.old }) (record { told = told.new; bytes = bytes.new; size = size.new })) result }
+{
+    number(ibc_calls::end_block(alloc, ledger, next_time, told, bytes, size))
+}
+
+/// Frees what a handle holds. As `free`.
+#[unsafe(no_mangle)]
+pub extern "C" fn ibcw_free(alloc: Global, handle: &mut Handle) -> u32
+    ensures left { handle.new.value ≡ None }
+    ensures answer { result ≡ answer_number (freed handle.old.value) }
+{
+    number(ibc_calls::free(alloc, handle))
+}
+
+/// The version of the library: 10,000 times its first number, 100 times the second, and the third.
+#[unsafe(no_mangle)]
+pub extern "C" fn ibcw_version() -> u32
+    ensures { result ≡ 10000 }
+{
+    10_000
 }

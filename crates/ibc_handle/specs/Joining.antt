@@ -36,11 +36,6 @@ abbrev pub HoldsNoLedger : HandleValue → Type 0
 HoldsNoLedger (held.Ledger member) = ⊥
 HoldsNoLedger _ = ⊤
 
--- a value that is no ledgers
-abbrev pub HoldsNoLedgers : Option HandleValue → Type 0
-HoldsNoLedgers (Some (held.Ledgers all)) = ⊥
-HoldsNoLedgers _ = ⊤
-
 -- what a handle holds afterwards: nothing where the ledger was moved
 abbrev pub value_after_join : Result ⊤ NotJoined → HandleValue → Option HandleValue
 value_after_join (Ok x) value = None

@@ -1,6 +1,7 @@
 -- Ledgers of one world under the number that their owner gave it.
 use Rattle.std.specs.Prelude.{◌≡◌, ℕ, List, [], ◌∷◌, ⊤, None, Some, Option}
 use Rattle.ibc_ledger.specs.LedgerModel.{LedgerModel}
+use Rattle.ibc_world_core.specs.WorldAudits.{HaveStayed}
 
 -- some ledgers of a world
 pub record LedgersModel : Type 0 where
@@ -15,3 +16,7 @@ HaveOneTable a b = (a.table ≡ b.table) × (a.ledger.genesis ≡ b.ledger.genes
 abbrev pub Joins : LedgerModel → List LedgerModel → Type 0
 Joins ledger [] = ⊤
 Joins ledger (first ∷ others) = HaveOneTable ledger first
+
+-- the same ledgers, under the same number, which have at most seen more
+abbrev pub AreStill : LedgersModel → LedgersModel → Type 0
+AreStill old new = (new.number ≡ old.number) × HaveStayed old.ledgers new.ledgers

@@ -3,9 +3,8 @@ ghost use Rattle.std.specs.Prelude.{◌≡◌, IsSome, OnOk, OnErr, is_none, is_
 ghost use Rattle.std.specs.Option.{MatchOption};
 ghost use Rattle.std.specs.declared.option.Option.{Option};
 ghost use Rattle.std.specs.declared.option.Option.TheVariants.{None, Some};
-ghost use Rattle.ibc_handle.specs.Joining.{MemberJoinsIfSameNumber, HoldsNoLedgers, IsJoined};
+ghost use Rattle.ibc_handle.specs.Joining.{MemberJoinsIfSameNumber, IsJoined};
 ghost use Rattle.ibc_handle.specs.declared.handle_value.HandleValue.{HandleValue as Value};
-ghost use Rattle.ibc_handle.specs.declared.handle_value.HandleValue.TheVariants as held;
 
 use crate::handle_value::HandleValue;
 use crate::{BoxParts, NotJoined, WorldLedgers};
@@ -130,29 +129,6 @@ impl Handle {
                 let mut held = held;
                 held.put(value);
                 self.set(alloc, held);
-            }
-        }
-    }
-
-    /// Takes the ledgers that the handle holds. Where it holds none, it keeps what it holds.
-    pub fn take_ledgers(&mut self, alloc: Global) -> Option<WorldLedgers>
-        ensures { MatchOption result ((self.new.value ≡ self.old.value) × HoldsNoLedgers self.old.value) (λ all. (self.old.value ≡ Some (held.Ledgers all)) × (self.new.value ≡ None)) }
-    {
-        match self.take(alloc) {
-            None => None,
-            Some(held) => {
-                let mut held = held;
-                let taken = held.take_ledgers(alloc);
-                match taken {
-                    Some(all) => {
-                        drop(held);
-                        Some(all)
-                    }
-                    None => {
-                        self.set(alloc, held);
-                        None
-                    }
-                }
             }
         }
     }

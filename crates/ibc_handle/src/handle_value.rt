@@ -1,7 +1,7 @@
 //! The kinds of values.
 
-ghost use Rattle.std.specs.Prelude.{◌≡◌, IfOk, IfErr, MatchOption, Some};
-ghost use Rattle.ibc_handle.specs.Joining.{MemberJoinsIfSameNumber, HoldsNoLedger, HoldsNoLedgers, IsJoined, IsMemberJoined, JoinsIfSameNumber, value_after_join};
+ghost use Rattle.std.specs.Prelude.{◌≡◌, IfOk, IfErr, Some};
+ghost use Rattle.ibc_handle.specs.Joining.{MemberJoinsIfSameNumber, HoldsNoLedger, IsJoined, IsMemberJoined, JoinsIfSameNumber, value_after_join};
 ghost use Rattle.ibc_handle.specs.declared.handle_value.HandleValue.TheVariants as held;
 
 use crate::{NotJoined, WorldLedgers};
@@ -56,17 +56,6 @@ impl HandleValue {
         replace(self, HandleValue::Plan(Vec::new(alloc)))
     }
 
-    // The ledgers, or else the value.
-    fn into_ledgers(self) -> Result<WorldLedgers, HandleValue>
-        ensures ok { IfOk result (λ all. self ≡ held.Ledgers all) }
-        ensures err { IfErr result (λ other. (other ≡ self) × HoldsNoLedgers (Some self)) }
-    {
-        match self {
-            HandleValue::Ledgers(all) => Ok(all),
-            other => Err(other),
-        }
-    }
-
     // The ledger, or else the value.
     fn into_ledger(self) -> Result<WorldLedger, HandleValue>
         ensures ok { IfOk result (λ member. self ≡ held.Ledger member) }
@@ -75,19 +64,6 @@ impl HandleValue {
         match self {
             HandleValue::Ledger(member) => Ok(member),
             other => Err(other),
-        }
-    }
-
-    // Takes the ledgers out, where the value is ledgers. Else it stays.
-    pub(crate) fn take_ledgers(&mut self, alloc: Global) -> Option<WorldLedgers>
-        ensures { MatchOption result ((self.new ≡ self.old) × HoldsNoLedgers (Some self.old)) (λ all. self.old ≡ held.Ledgers all) }
-    {
-        match self.take_out(alloc).into_ledgers() {
-            Ok(all) => Some(all),
-            Err(other) => {
-                self.put(other);
-                None
-            }
         }
     }
 

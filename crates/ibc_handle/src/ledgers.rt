@@ -7,7 +7,7 @@ ghost use Rattle.ibc_refinement.specs.World.{AreNew};
 ghost use Rattle.ibc_world_core.specs.WorldModel.{ledgers_alone};
 ghost use Rattle.ibc_world_core.specs.WorldAudits.{IsAudit, is_whole};
 ghost use Rattle.ibc_theorem.specs.EveryAudit.{AreLawful};
-ghost use Rattle.ibc_handle.specs.LedgersModel.{Joins};
+ghost use Rattle.ibc_handle.specs.LedgersModel.{AreStill, Joins};
 ghost use Rattle.ibc_handle.specs.Joining.{JoinsIfSameNumber, with_member};
 ghost use Rattle.ibc_handle.specs.declared.ledgers.NotJoined.TheVariants.{OtherWorld, NoMemory as NoRoom};
 
@@ -15,7 +15,7 @@ use crate::WorldLedger;
 use ibc_ids::Refusal;
 use ibc_ledger::Ledger;
 use ibc_machine::Genesis;
-use ibc_theorem::lawful_audit;
+use ibc_theorem::lawful_audit_in_place;
 use ibc_world_core::{Audit, World};
 use std::alloc::Global;
 use std::marker::Model;
@@ -127,13 +127,14 @@ impl WorldLedgers {
 
     /// What the ledgers hold, and that what they did together is lawful, where no two different texts that they hashed share a
     /// digest. Refused: `BadMessage` exactly where a chain of their genesis is missing or twice, or there are none; `NoMemory`.
-    /// The ledgers are let go.
-    pub fn audit(self, alloc: Global) -> Result<Audit, Refusal>
-        ensures lawful { IfOk result (AreLawful self.ledgers) }
-        ensures audited { IfOk result (IsAudit self.ledgers) }
-        ensures bad { (result ≡ Err BadMessage) ↔ (is_whole self.ledgers ≡ false) }
+    /// The ledgers stay in every case, and have at most seen more.
+    pub fn audit(&mut self, alloc: Global) -> Result<Audit, Refusal>
+        ensures stay { AreStill self.old self.new }
+        ensures lawful { IfOk result (AreLawful self.old.ledgers) }
+        ensures audited { IfOk result (IsAudit self.old.ledgers) }
+        ensures bad { (result ≡ Err BadMessage) ↔ (is_whole self.old.ledgers ≡ false) }
         ensures err { IfErr result (λ refusal. (refusal ≡ BadMessage) ⊎ (refusal ≡ NoMemory)) }
     {
-        lawful_audit(alloc, self.ledgers)
+        lawful_audit_in_place(alloc, self.ledgers.as_mut_slice())
     }
 }

@@ -2,13 +2,13 @@
 
 ghost use Rattle.std.specs.Prelude.{◌≡◌, ◌⊎◌, ◌↔◌, Err, false, IfOk, IfErr};
 ghost use Rattle.ibc_ids.specs.declared.refusal.Refusal.TheVariants.{BadMessage, NoMemory};
-ghost use Rattle.ibc_world_core.specs.WorldAudits.{AreOfOneWorld, IsAudit, is_whole};
+ghost use Rattle.ibc_world_core.specs.WorldAudits.{AreOfOneWorld, HaveStayed, IsAudit, is_whole};
 ghost use Rattle.ibc_theorem.specs.EveryAudit.{AreLawful};
 
 use crate::lemma_the_laws_hold;
 use ibc_ids::Refusal;
 use ibc_ledger::Ledger;
-use ibc_world_core::{Audit, audit};
+use ibc_world_core::{Audit, audit, audit_in_place};
 use std::alloc::Global;
 
 /// What `audit` answers. Where no two different texts that the chains hashed share a digest, what the ledgers did together is
@@ -22,4 +22,18 @@ pub fn lawful_audit(alloc: Global, ledgers: Vec<Ledger>) -> Result<Audit, Refusa
 {
     lemma_the_laws_hold();
     audit(alloc, ledgers)
+}
+
+/// What `lawful_audit` answers of ledgers that stay where they are, whatever the answer. They have at most seen more.
+pub fn lawful_audit_in_place(alloc: Global, ledgers: &mut [Ledger]) -> Result<Audit, Refusal>
+    requires { AreOfOneWorld ledgers.old }
+    ensures stay { HaveStayed ledgers.old ledgers.new }
+    ensures world { AreOfOneWorld ledgers.new }
+    ensures lawful { IfOk result (AreLawful ledgers.old) }
+    ensures audited { IfOk result (IsAudit ledgers.old) }
+    ensures bad { (result ≡ Err BadMessage) ↔ (is_whole ledgers.old ≡ false) }
+    ensures err { IfErr result (λ refusal. (refusal ≡ BadMessage) ⊎ (refusal ≡ NoMemory)) }
+{
+    lemma_the_laws_hold();
+    audit_in_place(alloc, ledgers)
 }

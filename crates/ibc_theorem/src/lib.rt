@@ -8,7 +8,7 @@ mod totals;
 ghost use Rattle.ibc_laws.specs.EveryLaw.{EveryLaw};
 ghost use Rattle.ibc_theorem.specs.EveryWorld.{IsLawfulUnlessClash};
 
-pub use audits::lawful_audit;
+pub use audits::{lawful_audit, lawful_audit_in_place};
 use ibc_laws::{
     lemma_acknowledgements_are_taken_as_written, lemma_each_end_has_one_peer,
     lemma_each_event_has_its_moment, lemma_each_ordered_channel_delivers_in_order,

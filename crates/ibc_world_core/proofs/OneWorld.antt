@@ -1,21 +1,22 @@
 -- Ledgers of one world that are gathered, in any order, are audited.
-use Rattle.std.proofs.Common.{◌≡◌, ℕ, zero, suc, true, false, List, [], ◌∷◌, ◌++◌, length, map, refl, sym, ap, ◌∙◌, subst, Some, None, slice_get}
+use Rattle.std.proofs.Common.{◌≡◌, ℕ, zero, suc, ◌<◌, true, false, List, [], ◌∷◌, ◌++◌, length, map, refl, sym, ap, ◌∙◌, subst, Some, None, slice_get}
 use Rattle.std.proofs.lemmas.Bool.{false≢true}
 use Rattle.ibc_machine.specs.chain.Records.{MachineChain}
 use Rattle.ibc_machine.specs.chain.Genesis.{GenesisState}
 use Rattle.ibc_machine.specs.ledger.Ledgers.{Ledger, IsLedger, state_of, machine_of}
 use Rattle.ibc_machine.specs.promises.Worlds.{IsAudited, by_number, is_complete}
 use Rattle.ibc_refinement.specs.Audits.{AreOfGenesis}
-use Rattle.ibc_refinement.proofs.ChangedPlaces.{get_more}
+use Rattle.ibc_refinement.proofs.ChangedPlaces.{get_more, get_there, get_within}
 use Rattle.ibc_refinement.proofs.Audited.{audit_is_run}
 use Rattle.ibc_ledger.specs.LedgerModel.{LedgerModel}
 use Rattle.ibc_refinement.specs.Meetings.{HaveMet}
 use Rattle.ibc_refinement.proofs.world.Gathered.{as_many, one_table}
+use Rattle.ibc_refinement.proofs.world.Meetings.{all_see_themselves}
 use Rattle.ibc_world_core.specs.declared.holdings.Audit.{Audit}
 use Rattle.ibc_world_core.specs.declared.world.World.TheInside.{Inside}
 use Rattle.ibc_world_core.specs.WorldFields.{IsSoundWorld}
-use Rattle.ibc_world_core.specs.WorldModel.{ledgers_alone, AreLedgers, AreAllowed}
-use Rattle.ibc_world_core.specs.WorldAudits.{AreOfOneWorld, is_whole, balances_of, notes_of, balances_in, notes_in, TellsAll, IsAudit}
+use Rattle.ibc_world_core.specs.WorldModel.{ledgers_alone, AllAtTable, AreLedgers, AreAllowed}
+use Rattle.ibc_world_core.specs.WorldAudits.{AreOfOneWorld, HaveStayed, is_whole, balances_of, notes_of, balances_in, notes_in, TellsAll, IsAudit}
 use Rattle.ibc_world_core.proofs.Rounds.{plain_length, plain_get}
 use Rattle.ibc_world_core.proofs.Firsts.{first_of}
 
@@ -110,3 +111,40 @@ world_is w held first at k h there =
       held.tables first at k h there,
       (held.world.of.each k h.ledger (plain_get ledgers k h there)).0 ∙ sym (held.world.of.each 0 first.ledger (plain_get ledgers 0 first at)).0,
     )
+
+-- ---- ledgers that stay
+
+-- nothing was done
+pub stays_itself : (ledgers : List LedgerModel) → HaveStayed ledgers ledgers
+stays_itself ledgers = record {
+  as_many = refl;
+  tables = λ k g h there here. let both : Some g ≡ Some h = sym there ∙ here in let same : g ≡ h = cc in ap (λ (l : LedgerModel). l.table) (sym same);
+  more = all_see_themselves (ledgers_alone ledgers);
+}
+
+-- they met
+pub stays_met : (old new : List LedgerModel) → is_whole old ≡ true → AreOfOneWorld old → HaveMet (ledgers_alone old) (ledgers_alone new)
+    → ((h : LedgerModel) → slice_get old 0 ≡ Some h → AllAtTable h.table new) → HaveStayed old new
+stays_met old new whole world met tables =
+    let first = first_of old whole in record {
+      as_many = sym (plain_length new) ∙ met.as_many ∙ plain_length old;
+      tables = λ k g h there here. tables first.0 first.1 k h here ∙ sym (world first.0 first.1 k g there).0;
+      more = met.each;
+    }
+
+-- ledgers of one world that stay are of one world
+module _ (old new : List LedgerModel) (world : AreOfOneWorld old) (stay : HaveStayed old new) where
+  was_there : (k : ℕ) (h : LedgerModel) → slice_get new k ≡ Some h → (g : LedgerModel) × (slice_get old k ≡ Some g)
+  was_there k h there = get_there old k (subst (λ n. k < n) stay.as_many (get_within new k h there))
+
+  same_genesis : (k : ℕ) (g h : LedgerModel) → slice_get old k ≡ Some g → slice_get new k ≡ Some h → h.ledger.genesis ≡ g.ledger.genesis
+  same_genesis k g h there here = ap (λ (l : Ledger). l.genesis) (stay.more k g.ledger h.ledger (plain_get old k g there) (plain_get new k h here)).1
+
+  pub still_one_world : AreOfOneWorld new
+  still_one_world first at k h here =
+      let begun = was_there 0 first at in
+      let was = was_there k h here in
+      let one = world begun.0 begun.1 k was.0 was.1 in (
+        stay.tables k was.0 h was.1 here ∙ one.0 ∙ sym (stay.tables 0 begun.0 first begun.1 at),
+        same_genesis k was.0 h was.1 here ∙ one.1 ∙ sym (same_genesis 0 begun.0 first begun.1 at),
+      )

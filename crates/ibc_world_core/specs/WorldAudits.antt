@@ -1,5 +1,5 @@
 -- Ledgers that are gathered, in any order: what they hold, and that they did what the machine does.
-use Rattle.std.specs.Prelude.{◌≡◌, ℕ, Bool, false, List, [], ◌∷◌, map, Some, slice_get, IsTrue}
+use Rattle.std.specs.Prelude.{◌≡◌, ℕ, Bool, false, List, [], ◌∷◌, length, map, Some, slice_get, IsTrue}
 use Rattle.ibc_ids.specs.Texts.{Text}
 use Rattle.ibc_ids.specs.Maps.{Map}
 use Rattle.ibc_machine.specs.ics20.Bank.{Balances}
@@ -10,12 +10,19 @@ use Rattle.ibc_bank.specs.ListedHoldings.{abstract_holding}
 use Rattle.ibc_note.specs.AbstractNotes.{abstract_notes}
 use Rattle.ibc_ledger.specs.LedgerModel.{LedgerModel}
 use Rattle.ibc_world_core.specs.declared.holdings.Audit.{Audit}
-use Rattle.ibc_world_core.specs.WorldModel.{ledgers_alone}
+use Rattle.ibc_refinement.specs.Steps.{AllSeeMore}
+use Rattle.ibc_world_core.specs.WorldModel.{ledgers_alone, SameTables}
 
 -- ledgers of one table and one genesis, or none
 abbrev pub AreOfOneWorld : List LedgerModel → Type 0
 AreOfOneWorld ledgers = (first : LedgerModel) → slice_get ledgers 0 ≡ Some first → (k : ℕ) (h : LedgerModel)
     → slice_get ledgers k ≡ Some h → (h.table ≡ first.table) × (h.ledger.genesis ≡ first.ledger.genesis)
+
+-- the same ledgers at the same tables, which have at most seen more
+pub record HaveStayed (old new : List LedgerModel) : Type 0 where
+  pub as_many : length new ≡ length old
+  pub tables : SameTables old new
+  pub more : AllSeeMore (ledgers_alone old) (ledgers_alone new)
 
 -- each chain of their genesis has a ledger there, and none has two
 abbrev pub is_whole : List LedgerModel → Bool

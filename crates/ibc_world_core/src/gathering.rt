@@ -5,7 +5,7 @@ ghost use Rattle.std.specs.List.{list_all, range_with_len};
 ghost use Rattle.ibc_ids.specs.declared.refusal.Refusal.TheVariants.{BadMessage, NoMemory};
 ghost use Rattle.ibc_machine.specs.promises.Worlds.{of_chain};
 ghost use Rattle.ibc_world_core.specs.WorldModel.{ledgers_alone, AreLedgers, AreAllowed};
-ghost use Rattle.ibc_world_core.specs.WorldAudits.{is_whole, AreOfOneWorld, IsAudit};
+ghost use Rattle.ibc_world_core.specs.WorldAudits.{is_whole, AreOfOneWorld, HaveStayed, IsAudit};
 
 use crate::holdings::{Audit, holdings_of};
 use crate::meeting::meet_all;
@@ -23,14 +23,17 @@ pub fn audit(alloc: Global, ledgers: Vec<Ledger>) -> Result<Audit, Refusal>
     ensures err { IfErr result (λ refusal. (refusal ≡ BadMessage) ⊎ (refusal ≡ NoMemory)) }
 {
     let mut ledgers = ledgers;
-    let answer = audit_of(alloc, ledgers.as_mut_slice());
+    let answer = audit_in_place(alloc, ledgers.as_mut_slice());
     drop(ledgers);
     answer
 }
 
-// The ledgers meet, so that there is one list of all that they have published.
-fn audit_of(alloc: Global, ledgers: &mut [Ledger]) -> Result<Audit, Refusal>
+/// What `audit` answers of ledgers that stay where they are, whatever the answer. They have at most seen more: they meet, so that
+/// there is one list of all that they have published.
+pub fn audit_in_place(alloc: Global, ledgers: &mut [Ledger]) -> Result<Audit, Refusal>
     requires { AreOfOneWorld ledgers.old }
+    ensures stay { HaveStayed ledgers.old ledgers.new }
+    ensures world { AreOfOneWorld ledgers.new }
     ensures audited { IfOk result (IsAudit ledgers.old) }
     ensures bad { (result ≡ Err BadMessage) ↔ (is_whole ledgers.old ≡ false) }
     ensures err { IfErr result (λ refusal. (refusal ≡ BadMessage) ⊎ (refusal ≡ NoMemory)) }

@@ -7,6 +7,6 @@ mod meeting;
 mod totals;
 mod world;
 
-pub use gathering::audit;
+pub use gathering::{audit, audit_in_place};
 pub use holdings::Audit;
 pub use world::{NotRun, World};

@@ -3,7 +3,7 @@
 //! (tools/library_throughput).
 //!
 //!     throughput ROUNDS
-use ibcworld::{Genesis, Ledger, Refused};
+use ibcworld::{relay, Genesis, Ledger, Message, Refused, Relayed};
 use library_examples::{open, transfer, Failure};
 
 /// The time of all blocks.
@@ -15,36 +15,24 @@ const TRANSFERS: usize = 100;
 /// How often a relayer goes there and back behind each round.
 const TURNS: usize = 2;
 
-fn relay(x: &mut Ledger, y: &mut Ledger) -> Result<(), Refused> {
-    x.end_block(TIME)?;
-    y.end_block(TIME)?;
-    let (mut from_x, mut from_y) = (x.view()?, y.view()?);
-    let to_y = from_x.plan_for(&mut from_y)?;
-    let to_x = from_y.plan_for(&mut from_x)?;
-    to_y.iter().try_for_each(|message| y.apply(message))?;
-    to_x.iter().try_for_each(|message| x.apply(message))
-}
-
 fn run(x: &mut Ledger, y: &mut Ledger, rounds: usize) -> Result<(), Refused> {
     open(x, y, TIME)?;
-    let sent = transfer("u", "t", 1, "v", (0, 9));
+    let sent = Message::from(transfer("u", "t", 1, "v", (0, 9))).encode()?;
+    let mut done = Relayed::default();
     for _ in 0..rounds {
         for _ in 0..TRANSFERS {
-            x.apply(sent.bytes())?;
+            x.apply_bytes(&sent)?;
         }
         for _ in 0..TURNS {
-            relay(x, y)?;
+            relay(x, y, TIME, &mut done)?;
         }
     }
     Ok(())
 }
 
-fn print(ledger: &mut Ledger, name: &str) -> Result<(), Refused> {
+fn print(ledger: &Ledger, name: &str) -> Result<(), Refused> {
     for held in ledger.balances()? {
-        println!(
-            "balance {name} {} {} {}",
-            held.account, held.denom, held.amount
-        );
+        println!("balance {name} {held}");
     }
     Ok(())
 }
@@ -59,8 +47,8 @@ fn main() -> Result<(), Failure> {
     let mut x = world.take()?.ok_or("no first ledger")?;
     let mut y = world.take()?.ok_or("no second ledger")?;
     run(&mut x, &mut y, rounds.parse()?)?;
-    println!("events {}", x.history_length()? + y.history_length()?);
-    print(&mut x, "a")?;
-    print(&mut y, "b")?;
+    println!("events {}", x.history()?.len() + y.history()?.len());
+    print(&x, "a")?;
+    print(&y, "b")?;
     Ok(())
 }

@@ -6,7 +6,10 @@
 //! message of the largest kind), `plan` (both views and both plans between two chains while 100 packets stand, after so many thousand
 //! were received and acknowledged), `view` (the view of a chain that ended so many times 30 blocks) or `block` (a message that makes one record,
 //! and the end of the block, over so many thousand records). SIZE is 1 where it isn't given.
-use ibcworld::{message_tag, Genesis, Ledger, Message, Refused, World};
+use ibcworld::{
+    message_tag, relay, ConnOpenInit, CreateClient, Genesis, Ledger, Message, Packet, Refused,
+    Relayed, TimeoutOnClose, World,
+};
 use library_examples::{open, transfer, Failure};
 use std::time::Instant;
 
@@ -34,17 +37,22 @@ fn chains() -> Result<Chains, Failure> {
 }
 
 /// A message that makes a connection, once there is a client.
-fn opening() -> Message {
-    Message::new(3).text("inprocess-0").text("inprocess-0")
+fn opening() -> Result<Vec<u8>, Refused> {
+    let client = "inprocess-0".to_owned();
+    Message::from(ConnOpenInit {
+        peer_client: client.clone(),
+        client,
+    })
+    .encode()
 }
 
 /// Two chains, of which the first has committed so many thousand connections.
 fn connected(thousands: usize) -> Result<Chains, Failure> {
     let (world, mut x, y) = chains()?;
-    x.apply(Message::new(1).byte(1).bytes())?;
-    let opening = opening();
+    x.apply(CreateClient { chain: 1 })?;
+    let opening = opening()?;
     for _ in 0..thousands * 1_000 {
-        x.apply(opening.bytes())?;
+        x.apply_bytes(&opening)?;
     }
     x.end_block(TIME)?;
     Ok((world, x, y))
@@ -67,10 +75,10 @@ fn count(
 }
 
 fn judge_proofs(call: &str, times: usize, thousands: usize) -> Result<(), Failure> {
-    let (_world, mut x, _y) = connected(thousands)?;
+    let (_world, x, _y) = connected(thousands)?;
     let path = format!("connections/connection-{}", thousands * 500);
     let value = x.query(&path)?.ok_or("no connection")?;
-    let mut view = x.view()?;
+    let view = x.view()?;
     let (root, proof) = (view.root()?, view.proof(&path)?);
     if call == "verify" {
         count(call, times, || {
@@ -84,66 +92,76 @@ fn judge_proofs(call: &str, times: usize, thousands: usize) -> Result<(), Failur
 }
 
 /// A message with a payload and two proofs, each as long as one may be: but for longer names no message has more bytes.
-fn largest() -> Message {
-    let long = [7; LONGEST];
-    let packet = Message::new(18).number(1).number(1).number(1);
-    let from = packet.text("note").text("channel-0");
-    let ends = from.text("note").text("channel-0");
-    let proved = ends.text(long).number(1).number(1);
-    proved.text(long).text(long)
+fn largest() -> Result<Vec<u8>, Refused> {
+    let long = vec![7; LONGEST];
+    let (port, channel) = ("note".to_owned(), "channel-0".to_owned());
+    let packet = Packet {
+        sequence: 1,
+        timeout_height: 1,
+        timeout_time: 1,
+        source_port: port.clone(),
+        source_channel: channel.clone(),
+        destination_port: port,
+        destination_channel: channel,
+        data: long.clone(),
+    };
+    let late = TimeoutOnClose {
+        packet,
+        next_recv: 1,
+        height: 1,
+        proof: long.clone(),
+        proof_close: long,
+    };
+    Message::from(late).encode()
 }
 
 fn read_messages(call: &str, times: usize) -> Result<(), Failure> {
-    let message = largest();
-    count(call, times, || Ok(message_tag(message.bytes())? == 18))
-}
-
-/// Ends both blocks, and sends what is owed there and back.
-fn relay(x: &mut Ledger, y: &mut Ledger) -> Result<(), Refused> {
-    x.end_block(TIME)?;
-    y.end_block(TIME)?;
-    let (mut from_x, mut from_y) = (x.view()?, y.view()?);
-    let to_y = from_x.plan_for(&mut from_y)?;
-    let to_x = from_y.plan_for(&mut from_x)?;
-    to_y.iter().try_for_each(|message| y.apply(message))?;
-    to_x.iter().try_for_each(|message| x.apply(message))
+    let message = largest()?;
+    count(call, times, || Ok(message_tag(&message)? == 18))
 }
 
 /// Both views, and whether the plan for the second chain has the packets that stand, and that for the first nothing.
-fn is_planned(x: &mut Ledger, y: &mut Ledger) -> Result<bool, Refused> {
-    let (mut from_x, mut from_y) = (x.view()?, y.view()?);
-    let to_y = from_x.plan_for(&mut from_y)?;
-    let to_x = from_y.plan_for(&mut from_x)?;
-    Ok(to_y.len() == STANDING + 1 && to_x.is_empty())
+fn is_planned(x: &Ledger, y: &Ledger) -> Result<bool, Refused> {
+    let (from_x, from_y) = (x.view()?, y.view()?);
+    let to_y = from_x.plan_for(&from_y)?.collect::<Result<Vec<_>, _>>()?;
+    let to_x = from_y.plan_for(&from_x)?;
+    Ok(to_y.len() == STANDING + 1 && to_x.len() == 0)
 }
 
 fn plan(call: &str, times: usize, thousands: usize) -> Result<(), Failure> {
     let (_world, mut x, mut y) = chains()?;
     open(&mut x, &mut y, TIME)?;
-    let sent = transfer("u", "t", 1, "v", (0, 9));
+    let sent = Message::from(transfer("u", "t", 1, "v", (0, 9))).encode()?;
+    let mut done = Relayed::default();
     for _ in 0..thousands * 10 {
-        (0..STANDING).try_for_each(|_| x.apply(sent.bytes()))?;
-        relay(&mut x, &mut y)?;
-        relay(&mut x, &mut y)?;
+        for _ in 0..STANDING {
+            x.apply_bytes(&sent)?;
+        }
+        relay(&mut x, &mut y, TIME, &mut done)?;
+        relay(&mut x, &mut y, TIME, &mut done)?;
     }
-    (0..STANDING).try_for_each(|_| x.apply(sent.bytes()))?;
+    for _ in 0..STANDING {
+        x.apply_bytes(&sent)?;
+    }
     x.end_block(TIME)?;
     y.end_block(TIME)?;
-    count(call, times, || is_planned(&mut x, &mut y))
+    count(call, times, || is_planned(&x, &y))
 }
 
 fn look(call: &str, times: usize, size: usize) -> Result<(), Failure> {
     let (_world, mut x, _y) = chains()?;
     let blocks = 30 * size as u64;
-    (0..blocks).try_for_each(|_| x.end_block(TIME))?;
+    for _ in 0..blocks {
+        x.end_block(TIME)?;
+    }
     count(call, times, || Ok(x.view()?.heights()?.height == blocks))
 }
 
 fn end_blocks(call: &str, times: usize, thousands: usize) -> Result<(), Failure> {
     let (_world, mut x, _y) = connected(thousands)?;
-    let opening = opening();
+    let opening = opening()?;
     count(call, times, || {
-        x.apply(opening.bytes())?;
+        x.apply_bytes(&opening)?;
         x.end_block(TIME)?;
         Ok(true)
     })

@@ -1,6 +1,6 @@
 //! Tokens go both ways between two chains, each driven by a thread of its own that is also the relayer to it: the script
 //! examples/race.json. It prints what the program prints of a race of that script: the balances that the audit tells.
-use ibcworld::{message_proof, message_tag, Audit, Genesis, Ledger, Refused, View, World};
+use ibcworld::{message_proof, message_tag, Audit, Genesis, Ledger, Refused, Root, View, World};
 use library_examples::{open, transfer, Failure};
 use std::sync::mpsc::{channel, Receiver, Sender};
 use std::thread;
@@ -27,7 +27,7 @@ fn begin() -> Result<World, Refused> {
 }
 
 /// A packet's message is judged by its bytes and the root alone, as the ledger will judge it: its proof shows what it says.
-fn judge(message: &[u8], root: &[u8]) -> Result<(), Refused> {
+fn judge(message: &[u8], root: &Root) -> Result<(), Refused> {
     if message_tag(message)? == RECV_PACKET {
         message_proof(message, 0)?.1.verify(root)?;
     }
@@ -41,25 +41,23 @@ fn drive(mut ledger: Ledger, to: &Sender<View>, from: &Receiver<View>) -> Result
         ledger.end_block(TIME)?;
         let sent = to.send(ledger.view()?);
         sent.map_err(|_| "the other thread has ended")?;
-        let mut theirs = from.recv()?;
-        let mut mine = ledger.view()?;
+        let theirs = from.recv()?;
+        let mine = ledger.view()?;
         let proof = ledger.prove(mine.heights()?.height, CONNECTION)?;
         proof.verify(&mine.root()?)?;
         let root = theirs.root()?;
-        for message in theirs.plan_for(&mut mine)? {
+        for message in theirs.plan_for(&mine)? {
+            let message = message?;
             judge(&message, &root)?;
-            ledger.apply(&message)?;
+            ledger.apply_bytes(&message)?;
         }
     }
     Ok(ledger)
 }
 
-fn print(audit: &mut Audit, name: &str, chain: u64) -> Result<(), Refused> {
+fn print(audit: &Audit, name: &str, chain: u64) -> Result<(), Refused> {
     for held in audit.balances(chain)? {
-        println!(
-            "balance {name} {} {} {}",
-            held.account, held.denom, held.amount
-        );
+        println!("balance {name} {held}");
     }
     Ok(())
 }
@@ -69,9 +67,9 @@ fn main() -> Result<(), Failure> {
     let mut harbour = world.take()?.ok_or("no first ledger")?;
     let mut island = world.take()?.ok_or("no second ledger")?;
     open(&mut harbour, &mut island, TIME)?;
-    harbour.apply(transfer("alice", "atom", 100, "bob", (1000, 0)).bytes())?;
-    harbour.apply(transfer("alice", "atom", 20, "bob", (1000, 0)).bytes())?;
-    island.apply(transfer("carol", "gold", 5, "alice", (1000, 0)).bytes())?;
+    harbour.apply(transfer("alice", "atom", 100, "bob", (1000, 0)))?;
+    harbour.apply(transfer("alice", "atom", 20, "bob", (1000, 0)))?;
+    island.apply(transfer("carol", "gold", 5, "alice", (1000, 0)))?;
 
     let (to_island, from_harbour) = channel();
     let (to_harbour, from_island) = channel();
@@ -80,10 +78,10 @@ fn main() -> Result<(), Failure> {
     let harbour = harbour.join().map_err(|_| "a thread has panicked")??;
     let island = island.join().map_err(|_| "a thread has panicked")??;
 
-    world.join(island).map_err(|(refused, _)| refused)?;
-    world.join(harbour).map_err(|(refused, _)| refused)?;
-    let mut audit = world.audit()?;
-    print(&mut audit, "harbour", 0)?;
-    print(&mut audit, "island", 1)?;
+    world.join(island).map_err(|not| not.refused)?;
+    world.join(harbour).map_err(|not| not.refused)?;
+    let audit = world.audit()?;
+    print(&audit, "harbour", 0)?;
+    print(&audit, "island", 1)?;
     Ok(())
 }

@@ -1,0 +1,426 @@
+//! The calls of `libibcworld`, as `ibcworld.h` has them. Each says there what it answers, and what its caller owes: pointers to handles, numbers
+//! and structs point to one, a pointer and a size name so many bytes, and a handle is used by one call at a time.
+#![no_std]
+#![deny(missing_docs)]
+
+/// The version of the header for which this crate is written: 10,000 times the first number, 100 times the second, and the third.
+pub const VERSION: u32 = 10_000;
+
+/// A handle of any kind. It begins as a null pointer, and is written by calls alone.
+#[repr(C)]
+#[derive(Debug)]
+pub struct Handle {
+    /// Where the value lies, or null.
+    pub at: *mut u8,
+}
+
+/// What a reply tells: its kind, and the number that goes with it.
+#[repr(C)]
+#[derive(Clone, Copy, Debug, Default)]
+pub struct Told {
+    /// 0 a refusal, 1 nothing, 2 a client, 3 a connection, 4 a channel, 5 a packet that was sent, 6 an acknowledgement, 7 a block.
+    pub kind: u64,
+    /// The number of the refusal, the sequence of the packet, or the height of the block.
+    pub number: u64,
+}
+
+/// What a ledger was asked.
+#[repr(C)]
+#[derive(Clone, Copy, Debug, Default)]
+pub struct Asked {
+    /// The tag of a message, 1 to 19, or 0 for the end of a block.
+    pub kind: u64,
+    /// The time of the next block.
+    pub next_time: u64,
+    /// How many heights the other chain had published when an update of a client read that.
+    pub published: u64,
+}
+
+/// An amount: `high` times 2^64, and `low`.
+#[repr(C)]
+#[derive(Clone, Copy, Debug, Default)]
+pub struct Amount {
+    /// The high half.
+    pub high: u64,
+    /// The low half.
+    pub low: u64,
+}
+
+/// What a view tells of itself.
+#[repr(C)]
+#[derive(Clone, Copy, Debug, Default)]
+pub struct Heights {
+    /// The number of the chain.
+    pub chain: u64,
+    /// Its last committed height, 0 if there is none.
+    pub height: u64,
+    /// The time of that height.
+    pub time: u64,
+    /// The time of the working block.
+    pub working_time: u64,
+}
+
+/// The sequence and the timeouts of a packet. A timeout of 0 is none.
+#[repr(C)]
+#[derive(Clone, Copy, Debug, Default)]
+pub struct PacketNumbers {
+    /// The sequence, from 1 on.
+    pub sequence: u64,
+    /// The height of the other chain from which on it has timed out.
+    pub timeout_height: u64,
+    /// The time of the other chain from which on it has timed out.
+    pub timeout_time: u64,
+}
+
+extern "C" {
+    /// The version of the archive that is linked: [`VERSION`] of its header.
+    pub fn ibcw_version() -> u32;
+    /// Makes a genesis with no chains in an empty handle. A chain publishes at most `capacity` heights, 1 to
+    /// 1,000,000, and keeps the last `window` of them, 1 to 4,096 and at most the capacity (ibcw_make_ledgers
+    /// checks this). IBCW_FULL.
+    pub fn ibcw_make_genesis(genesis: *mut Handle, capacity: u64, window: u64) -> u32;
+    /// Adds a chain behind the others, whose first block has this time. IBCW_EMPTY, IBCW_OTHER_KIND.
+    pub fn ibcw_add_chain(genesis: *mut Handle, time: u64) -> u32;
+    /// Lets a user hold high * 2^64 + low of a denomination at the last chain. IBCW_EMPTY, IBCW_OTHER_KIND;
+    /// IBCW_BAD_NAME exactly where the user or the denomination is no name of its kind; IBCW_NOTHING_THERE where
+    /// there is no chain.
+    pub fn ibcw_add_balance(
+        genesis: *mut Handle,
+        user: *const u8,
+        user_size: usize,
+        denom: *const u8,
+        denom_size: usize,
+        high: u64,
+        low: u64,
+    ) -> u32;
+    /// Makes all ledgers of a genesis in an empty handle: a world of its own, which the library tells from every
+    /// other of the process. The genesis stays. IBCW_FULL; IBCW_EMPTY and IBCW_OTHER_KIND of the genesis;
+    /// IBCW_BAD_MESSAGE where no world begins so: 2 to 8 chains, base denominations, no user and denomination twice
+    /// at a chain, and of no denomination more than 2^128 - 1 at a chain.
+    pub fn ibcw_make_ledgers(genesis: *mut Handle, ledgers: *mut Handle) -> u32;
+    /// The same under a number by which the caller tells worlds apart, for bindings that count worlds themselves:
+    /// different worlds have different numbers, at least 2^63, which nothing checks. ibcw_make_ledgers gives out
+    /// smaller ones.
+    pub fn ibcw_make_numbered_ledgers(
+        genesis: *mut Handle,
+        world: u64,
+        ledgers: *mut Handle,
+    ) -> u32;
+    /// Moves the first of the ledgers, which stand by the numbers of their chains, to an empty handle. IBCW_FULL;
+    /// IBCW_EMPTY and IBCW_OTHER_KIND of the ledgers; IBCW_NOTHING_THERE where all were taken.
+    pub fn ibcw_take_ledger(ledgers: *mut Handle, ledger: *mut Handle) -> u32;
+    /// Moves a ledger to others of its world. IBCW_EMPTY and IBCW_OTHER_KIND of both handles; IBCW_OTHER_WORLD
+    /// where it is of another world.
+    pub fn ibcw_join_ledger(ledgers: *mut Handle, ledger: *mut Handle) -> u32;
+    /// Audits the ledgers of a world, which were driven by any threads and joined in any order, and puts what they
+    /// hold into an empty handle (ibcw_holding). The answer 0 says that what they did together is a run of the
+    /// machine, of which the laws of IBC hold, unless two different texts that they hashed have one digest.
+    /// IBCW_FULL; IBCW_EMPTY and IBCW_OTHER_KIND of the ledgers; IBCW_BAD_MESSAGE where a chain is missing among
+    /// them. The ledgers stay where they are, whatever the answer: they can be taken out again and go on, and be
+    /// audited again.
+    pub fn ibcw_make_audit(ledgers: *mut Handle, audit: *mut Handle) -> u32;
+    /// Frees what a handle holds, and leaves it empty. IBCW_EMPTY.
+    pub fn ibcw_free(handle: *mut Handle) -> u32;
+    /// Tells how many entries a ledger's history has, how many messages a plan, how many holdings a list of
+    /// balances, how many channels a list of notes, or how many chains an audit. IBCW_EMPTY, IBCW_OTHER_KIND.
+    pub fn ibcw_length(handle: *mut Handle, count: *mut u64) -> u32;
+    /// Applies the message that the bytes spell to the working block, and tells its reply. The answer is the
+    /// reply's number: 0, or that of the refusal. *told is the reply, *size the number of the bytes that go with
+    /// it, and they are written where there is room (IBCW_REPLY_ROOM is always enough; ibcw_reply gives them
+    /// again). The history has an entry more, whose reply this is. Nothing is told and no entry is made where the
+    /// answer is IBCW_EMPTY, IBCW_OTHER_KIND or IBCW_NO_MESSAGE, which is answered exactly where the bytes spell no
+    /// message. Where it is IBCW_NO_MEMORY no entry is made.
+    pub fn ibcw_apply(
+        ledger: *mut Handle,
+        message: *const u8,
+        message_size: usize,
+        told: *mut Told,
+        bytes: *mut u8,
+        room: usize,
+        size: *mut usize,
+    ) -> u32;
+    /// Ends the working block: it is committed as the next height and published, and the next block has this time.
+    /// The reply is told as by ibcw_apply. The history has an entry more, but where the answer is IBCW_NO_MEMORY,
+    /// IBCW_EMPTY or IBCW_OTHER_KIND. IBCW_TIME_BACK, IBCW_TABLE_FULL.
+    pub fn ibcw_end_block(
+        ledger: *mut Handle,
+        next_time: u64,
+        told: *mut Told,
+        bytes: *mut u8,
+        room: usize,
+        size: *mut usize,
+    ) -> u32;
+    /// Tells the reply of an entry of the history, which are numbered from 0, and writes the bytes that go with it.
+    /// IBCW_EMPTY, IBCW_OTHER_KIND, IBCW_NOTHING_THERE; IBCW_TOO_SHORT, and then *told and *size are told.
+    pub fn ibcw_reply(
+        ledger: *mut Handle,
+        index: u64,
+        told: *mut Told,
+        bytes: *mut u8,
+        room: usize,
+        size: *mut usize,
+    ) -> u32;
+    /// Tells what the ledger was asked by an entry of its history, which are numbered from 0, and writes the bytes
+    /// that spell the message: those that ibcw_apply was given. Of the end of a block they are none. IBCW_EMPTY,
+    /// IBCW_OTHER_KIND, IBCW_NOTHING_THERE; IBCW_TOO_SHORT, and then *asked and *size are told.
+    pub fn ibcw_event(
+        ledger: *mut Handle,
+        index: u64,
+        asked: *mut Asked,
+        message: *mut u8,
+        room: usize,
+        size: *mut usize,
+    ) -> u32;
+    /// Writes the value at the path of a key (ICS 24) in the working block. IBCW_EMPTY, IBCW_OTHER_KIND,
+    /// IBCW_BAD_NAME where no key has the path, IBCW_NOTHING_THERE where the key has no value, IBCW_TOO_SHORT.
+    pub fn ibcw_query(
+        ledger: *mut Handle,
+        path: *const u8,
+        path_size: usize,
+        value: *mut u8,
+        room: usize,
+        size: *mut usize,
+    ) -> u32;
+    /// Writes the bytes of the proof of what a committed height has at the path of a key (ICS 23): of its presence
+    /// where it is there, of its absence where not. The reply of the block tells the height's root. IBCW_EMPTY,
+    /// IBCW_OTHER_KIND; IBCW_BAD_NAME exactly where no key has the path; IBCW_NO_CONSENSUS exactly where the height
+    /// isn't among the last ones that were committed, as many as the window says; IBCW_TOO_SHORT.
+    pub fn ibcw_prove(
+        ledger: *mut Handle,
+        height: u64,
+        path: *const u8,
+        path_size: usize,
+        proof: *mut u8,
+        room: usize,
+        size: *mut usize,
+    ) -> u32;
+    /// Tells what a user holds of a denomination in the working block. IBCW_EMPTY, IBCW_OTHER_KIND, IBCW_BAD_NAME
+    /// exactly where one is no name of its kind.
+    pub fn ibcw_balance(
+        ledger: *mut Handle,
+        user: *const u8,
+        user_size: usize,
+        denom: *const u8,
+        denom_size: usize,
+        amount: *mut Amount,
+    ) -> u32;
+    /// Tells what the escrow account of a channel of port transfer holds of a denomination (ICS 20). IBCW_EMPTY,
+    /// IBCW_OTHER_KIND, IBCW_BAD_NAME exactly where one is no name of its kind.
+    pub fn ibcw_escrow(
+        ledger: *mut Handle,
+        channel: *const u8,
+        channel_size: usize,
+        denom: *const u8,
+        denom_size: usize,
+        amount: *mut Amount,
+    ) -> u32;
+    /// Writes the bytes of the packet that the ledger sent from an end of a channel under a sequence, whether its
+    /// commitment stands or not (ICS 4). IBCW_EMPTY, IBCW_OTHER_KIND, IBCW_BAD_NAME exactly where the port or the
+    /// channel is no name of its kind, IBCW_NOTHING_THERE where no such packet was sent, IBCW_TOO_SHORT.
+    pub fn ibcw_packet(
+        ledger: *mut Handle,
+        port: *const u8,
+        port_size: usize,
+        channel: *const u8,
+        channel_size: usize,
+        sequence: u64,
+        packet: *mut u8,
+        room: usize,
+        size: *mut usize,
+    ) -> u32;
+    /// Writes the acknowledgement that the ledger wrote at an end of a channel for a sequence (ICS 4). Refused as
+    /// by ibcw_packet.
+    pub fn ibcw_ack(
+        ledger: *mut Handle,
+        port: *const u8,
+        port_size: usize,
+        channel: *const u8,
+        channel_size: usize,
+        sequence: u64,
+        ack: *mut u8,
+        room: usize,
+        size: *mut usize,
+    ) -> u32;
+    /// Makes the list of what accounts hold in the working block, in an empty handle: the amounts above 0, in the
+    /// byte order of the accounts and then of the denominations. IBCW_FULL; IBCW_EMPTY, IBCW_OTHER_KIND of the
+    /// ledger.
+    pub fn ibcw_make_balances(ledger: *mut Handle, balances: *mut Handle) -> u32;
+    /// Writes who holds what: the account (a user, or escrow/transfer/ and a channel), a blank, and the
+    /// denomination. It is the holding at an index, from 0 on, of a list of balances, and then the chain is not
+    /// looked at; or of an audit, at an index of what that chain's accounts hold. ibcw_length tells how many a list
+    /// has, and how many chains an audit has. IBCW_EMPTY, IBCW_OTHER_KIND, IBCW_NOTHING_THERE, IBCW_TOO_SHORT.
+    pub fn ibcw_holding(
+        balances: *mut Handle,
+        chain: u64,
+        index: u64,
+        text: *mut u8,
+        room: usize,
+        size: *mut usize,
+    ) -> u32;
+    /// Tells how much is held there. IBCW_EMPTY, IBCW_OTHER_KIND, IBCW_NOTHING_THERE.
+    pub fn ibcw_holding_amount(
+        balances: *mut Handle,
+        chain: u64,
+        index: u64,
+        amount: *mut Amount,
+    ) -> u32;
+    /// Makes the list of the notes that came to a ledger over channels of port note, as the working block has them,
+    /// in an empty handle. Its channels are those over which a note came, in the byte order of their names;
+    /// ibcw_length tells how many. IBCW_FULL; IBCW_EMPTY, IBCW_OTHER_KIND of the ledger.
+    pub fn ibcw_make_notes(ledger: *mut Handle, notes: *mut Handle) -> u32;
+    /// Writes the name of a channel: that at an index, from 0 on, of a list of notes, and then the chain is not
+    /// looked at; or of an audit, at an index of the channels of that chain. IBCW_EMPTY, IBCW_OTHER_KIND,
+    /// IBCW_NOTHING_THERE, IBCW_TOO_SHORT.
+    pub fn ibcw_note_channel(
+        notes: *mut Handle,
+        chain: u64,
+        channel: u64,
+        name: *mut u8,
+        room: usize,
+        size: *mut usize,
+    ) -> u32;
+    /// Tells how many notes came over that channel, 1 or more. IBCW_EMPTY, IBCW_OTHER_KIND, IBCW_NOTHING_THERE.
+    pub fn ibcw_note_count(notes: *mut Handle, chain: u64, channel: u64, count: *mut u64) -> u32;
+    /// Writes the note at an index, from 0 on, of those that came over that channel, in the order in which they
+    /// came. IBCW_EMPTY, IBCW_OTHER_KIND, IBCW_NOTHING_THERE where there is no such channel or no such note,
+    /// IBCW_TOO_SHORT.
+    pub fn ibcw_note(
+        notes: *mut Handle,
+        chain: u64,
+        channel: u64,
+        index: u64,
+        note: *mut u8,
+        room: usize,
+        size: *mut usize,
+    ) -> u32;
+    /// Makes the view of a ledger in an empty handle: what its chain proves at its last committed height. It stays
+    /// as it is while the ledger goes on, and may be freed before or after it. IBCW_FULL; IBCW_EMPTY,
+    /// IBCW_OTHER_KIND of the ledger.
+    pub fn ibcw_make_view(ledger: *mut Handle, view: *mut Handle) -> u32;
+    /// IBCW_EMPTY, IBCW_OTHER_KIND.
+    pub fn ibcw_view_heights(view: *mut Handle, heights: *mut Heights) -> u32;
+    /// Writes the root of a view's height, 32 bytes. IBCW_EMPTY, IBCW_OTHER_KIND, IBCW_NOTHING_THERE at height 0,
+    /// IBCW_TOO_SHORT.
+    pub fn ibcw_view_root(view: *mut Handle, root: *mut u8, room: usize, size: *mut usize) -> u32;
+    /// Writes the bytes of the proof of what the height has at the path of a key (ICS 23): of its presence where it
+    /// is there, of its absence where not. IBCW_EMPTY, IBCW_OTHER_KIND, IBCW_NOTHING_THERE at height 0,
+    /// IBCW_BAD_NAME where no key has the path, IBCW_TOO_SHORT.
+    pub fn ibcw_view_proof(
+        view: *mut Handle,
+        path: *const u8,
+        path_size: usize,
+        proof: *mut u8,
+        room: usize,
+        size: *mut usize,
+    ) -> u32;
+    /// Makes the plan of the messages that the chain of `to` is owed and that are proved from `from` (ICS 18), in
+    /// an empty handle. `from` and `to` are different handles. IBCW_FULL; IBCW_EMPTY, IBCW_OTHER_KIND of the views.
+    pub fn ibcw_make_plan(from: *mut Handle, to: *mut Handle, plan: *mut Handle) -> u32;
+    /// Writes the bytes of a plan's message, which are numbered from 0 (ibcw_length). IBCW_EMPTY, IBCW_OTHER_KIND,
+    /// IBCW_NOTHING_THERE, IBCW_TOO_SHORT; IBCW_BAD_MESSAGE where the message is too long for a spelling.
+    pub fn ibcw_plan_message(
+        plan: *mut Handle,
+        index: u64,
+        message: *mut u8,
+        room: usize,
+        size: *mut usize,
+    ) -> u32;
+    /// Whether the bytes spell a proof that shows that the key has the value under the root (ICS 23): 0 where it
+    /// does, IBCW_BAD_MESSAGE where the root hasn't 32 bytes or the bytes spell no proof, IBCW_BAD_PROOF where it
+    /// doesn't. 0 is yes: ibcw_is_present (ibcworld_messages.h) answers by a truth value.
+    pub fn ibcw_verify_present(
+        root: *const u8,
+        root_size: usize,
+        key: *const u8,
+        key_size: usize,
+        value: *const u8,
+        value_size: usize,
+        proof: *const u8,
+        proof_size: usize,
+    ) -> u32;
+    /// Whether the bytes spell a proof that shows that the key isn't there under the root. Answers as
+    /// ibcw_verify_present.
+    pub fn ibcw_verify_absent(
+        root: *const u8,
+        root_size: usize,
+        key: *const u8,
+        key_size: usize,
+        proof: *const u8,
+        proof_size: usize,
+    ) -> u32;
+    /// Tells what the proof shows that the bytes spell: IBCW_PRESENT or IBCW_ABSENT. IBCW_BAD_MESSAGE where they
+    /// spell no proof.
+    pub fn ibcw_proof_kind(proof: *const u8, proof_size: usize, kind: *mut u8) -> u32;
+    /// Writes the key, as its path, of which the proof speaks. IBCW_BAD_MESSAGE where the bytes spell no proof,
+    /// IBCW_TOO_SHORT.
+    pub fn ibcw_proof_key(
+        proof: *const u8,
+        proof_size: usize,
+        key: *mut u8,
+        room: usize,
+        size: *mut usize,
+    ) -> u32;
+    /// Writes the value that the proof shows its key to have. IBCW_BAD_MESSAGE where the bytes spell no proof,
+    /// IBCW_NOTHING_THERE where it shows that the key isn't there, IBCW_TOO_SHORT. What a proof says of itself is
+    /// true under a root where ibcw_verify_present or ibcw_verify_absent answers 0 of that key and value.
+    pub fn ibcw_proof_value(
+        proof: *const u8,
+        proof_size: usize,
+        value: *mut u8,
+        room: usize,
+        size: *mut usize,
+    ) -> u32;
+    /// Tells the tag, 1 to 19, of the message that the bytes spell. IBCW_NO_MESSAGE where they spell none. How
+    /// messages are spelled stands in docs/LIBRARY.md: a message has one spelling, and no bytes spell two messages.
+    /// A ledger keeps each message that it refuses, whole, for ever: who takes messages from strangers asks this
+    /// first, and looks how long their proofs are (IBCW_LONGEST_PROOF).
+    pub fn ibcw_message_tag(message: *const u8, message_size: usize, tag: *mut u8) -> u32;
+    /// Writes the proof at an index, 0 or 1, that the message carries which the bytes spell, and tells the height
+    /// of the other chain at which it is. ConnOpenTry and ConnOpenAck carry that of the end and that of the client,
+    /// TimeoutOnClose that of the packet and that of the closed channel; ConnOpenConfirm, ChanOpenTry, ChanOpenAck,
+    /// ChanOpenConfirm, ChanCloseConfirm, RecvPacket, AckPacket and Timeout carry one. IBCW_NO_MESSAGE where the
+    /// bytes spell no message, IBCW_NOTHING_THERE where it carries no such proof; IBCW_TOO_SHORT, and then *height
+    /// and *size are told.
+    pub fn ibcw_message_proof(
+        message: *const u8,
+        message_size: usize,
+        index: u64,
+        height: *mut u64,
+        proof: *mut u8,
+        room: usize,
+        size: *mut usize,
+    ) -> u32;
+    /// Writes the bytes of the packet that the message carries which the bytes spell: of RecvPacket, AckPacket,
+    /// Timeout and TimeoutOnClose. IBCW_NO_MESSAGE, IBCW_NOTHING_THERE where it carries none, IBCW_TOO_SHORT.
+    pub fn ibcw_message_packet(
+        message: *const u8,
+        message_size: usize,
+        packet: *mut u8,
+        room: usize,
+        size: *mut usize,
+    ) -> u32;
+    /// Writes the acknowledgement that an AckPacket carries. Refused as by ibcw_message_packet.
+    pub fn ibcw_message_ack(
+        message: *const u8,
+        message_size: usize,
+        ack: *mut u8,
+        room: usize,
+        size: *mut usize,
+    ) -> u32;
+    /// Tells them of the packet that the bytes spell. IBCW_BAD_MESSAGE where they spell none.
+    pub fn ibcw_packet_numbers(
+        packet: *const u8,
+        packet_size: usize,
+        numbers: *mut PacketNumbers,
+    ) -> u32;
+    /// Writes a part of the packet that the bytes spell. IBCW_BAD_MESSAGE where they spell none, IBCW_NOTHING_THERE
+    /// for another part, IBCW_TOO_SHORT.
+    pub fn ibcw_packet_part(
+        packet: *const u8,
+        packet_size: usize,
+        part: u64,
+        text: *mut u8,
+        room: usize,
+        size: *mut usize,
+    ) -> u32;
+}

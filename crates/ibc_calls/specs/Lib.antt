@@ -1,0 +1,16 @@
+pub mod CarriedProofs
+pub mod JudgedProofs
+pub mod CallAnswers
+pub mod Events
+pub mod ProofReads
+pub mod Gathering
+pub mod GenesisHandles
+pub mod Handles
+pub mod History
+pub mod Holdings
+pub mod NoteReads
+pub mod ViewProofs
+pub mod Reads
+pub mod Views
+pub mod WorldHandles
+pub mod PacketReads
