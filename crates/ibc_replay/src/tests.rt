@@ -154,7 +154,13 @@ fn changed_replies_are_found_at_their_places(rt: HostRuntime) {
     let run = run(&rt, alloc);
     check_refusal(&rt, alloc, &run, 0, Refusal::Poor);
     check_refusal(&rt, alloc, &run, 14, Refusal::BadProof);
-    check_refusal(&rt, alloc, &run, run.stored.len() - 1, Refusal::NoMemory);
+    check_refusal(
+        &rt,
+        alloc,
+        &run,
+        run.stored.len().saturating_sub(1),
+        Refusal::NoMemory,
+    );
     drop(run);
 }
 
@@ -234,6 +240,8 @@ fn no_world_begins_with_one_chain(rt: HostRuntime) {
 // Replays the entries behind a place.
 fn go_on(rt: &impl Abort, alloc: Global, world: &mut World, run: &Run, from: usize, to: usize) {
     let list = entries(rt, alloc, run, from, to);
+    let is_short = from < 1000 && list.len() < 1000;
+    assert!(rt; is_short);
     let answer = replay_on(world, from, list);
     let is_replayed = answer.is_ok();
     drop(answer);
