@@ -211,9 +211,8 @@ fn audited<W: WorldBrand>(
     ensures raced { (steps : List TakenStep) → AreTaken steps receipts.items → IfOk result (IsRaceOf W.genesis steps) }
     ensures faults { IfErr result IsScriptFault }
 {
-    let audit = audit_chains::<W>(alloc, chains, receipts.as_slice(), &[]);
-    drop(receipts);
-    match audit {
+    let readings = Vec::new(alloc);
+    match audit_chains::<W>(alloc, chains, receipts.as_slice(), readings.as_slice()) {
         Ok(audit) => Ok(told(audit)),
         Err(refusal) => Err(Fault::of_refusal(refusal)),
     }

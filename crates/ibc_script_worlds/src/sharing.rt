@@ -58,7 +58,7 @@ impl<'r, R: Wait, W: WorldBrand> Shared<'r, R, W> {
 
     /// The chains, and the receipts of what they were asked.
     pub fn into_parts(self) -> (Vec<Chain<W>>, Vec<Receipt<W>>)
-        ensures { result.1.items ≡ self }
+        ensures { result.1.items ≡ self.entry }
     {
         (self.chains, self.receipts)
     }
