@@ -1,2 +1,0 @@
-mod Statements
-mod ChainedRows

@@ -1,2 +1,0 @@
-pub mod StoredSteps
-pub mod SameStates
