@@ -59,6 +59,13 @@ def reading():
     yield from (f"docs/READING.md: {it} isn't behind the theorem" for it in listed if it not in files)
 
 
+def verdict_words():
+    """Each word of the prover's verdicts that TRUST doesn't explain."""
+    for word in sorted(set(re.findall(r" ([a-z-]+=)", text_of("tests/trust.txt")))):
+        if word not in text_of("docs/TRUST.md"):
+            yield f"docs/TRUST.md: the word {word} of a verdict isn't explained"
+
+
 def libraries():
     """Each library of the kit that a crate names, and that TRUST doesn't."""
     found = uses()
@@ -76,7 +83,7 @@ def sentences():
 
 def faults():
     """All of it."""
-    for part in (numbers, theorem, printed, reading, libraries, sentences):
+    for part in (numbers, theorem, printed, reading, verdict_words, libraries, sentences):
         yield from part()
 
 

@@ -1,10 +1,9 @@
 -- What the receipt of a call claims.
-use Rattle.std.proofs.Common.{◌≡◌, ◌∙◌, ℕ, [], ◌-◌, Option, Some, None, refl, ap, sym, subst, length, ⊎_elim, inl, inr, true, List}
-use Rattle.std.specs.Prelude.{◌⊎◌, IfSome, IsNone, IsSome, slice_get}
+use Rattle.std.proofs.Common.{◌≡◌, ◌∙◌, ℕ, ◌-◌, Option, Some, None, refl, ap, sym, subst, length, ⊎_elim, inl, inr}
+use Rattle.std.specs.Prelude.{◌⊎◌, IfSome, IsNone, IsSome}
 use Rattle.std.specs.List.{last_or}
 use Rattle.std.specs.Option.{IsSomeAnd, option_and_then, option_map}
-use Rattle.atomic_table.specs.Seated.{TableId}
-use Rattle.atomic_table.specs.declared.shared.Seat.{Seat}
+use Rattle.logbook.specs.Pages.{Book}
 use Rattle.ibc_ids.specs.declared.refusal.Refusal.TheVariants.{NoMemory}
 use Rattle.ibc_machine.specs.declared.event.Event.{Event}
 use Rattle.ibc_machine.specs.declared.reply.Reply.{Reply}
@@ -13,26 +12,22 @@ use Rattle.ibc_machine.specs.ledger.Ledgers.{Ledger, SeesMore, AddsNext}
 use Rattle.ibc_machine.specs.ledger.Replay.{StampedEntry}
 use Rattle.ibc_ledger.specs.HistoryGrowth.{AddsOrNot}
 use Rattle.ibc_ledger_lock.specs.KnownLedgers.{KnownLedger}
-use Rattle.ibc_ledger_lock.specs.Books.{IsKnownBeginning, reader}
+use Rattle.ibc_ledger_lock.specs.Books.{BookPlace, IsKnownBeginning}
 use Rattle.ibc_ledger_lock.specs.ReceiptsAndReadings.{ReceiptClaim, ClaimHolds, IsReceiptOf, claim_of, known_of}
-use Rattle.ibc_ledger_lock.specs.declared.book.BookKnowledge.{BookKnowledge}
 use Rattle.ibc_ledger_lock.proofs.Noting.{last_is, stands}
 
-abbrev pub Claiming : Type 0
-Claiming = Seat (Unit {0}) BookKnowledge
-
--- what a seat claims
-abbrev pub claims : Option Claiming → Option ReceiptClaim
-claims = option_and_then (λ c. claim_of c.me.0.part.history)
+-- what a bookmark claims
+abbrev pub claims : Option BookPlace → Option ReceiptClaim
+claims = option_and_then (λ m. claim_of m.known.history)
 
 -- a receipt of this reply is kept
-abbrev pub IsReceipt : TableId → Reply → Option Claiming → Type 0
+abbrev pub IsReceipt : Book → Reply → Option BookPlace → Type 0
 IsReceipt book given o =
     (((given ≡ reply.No NoMemory) × IsNone o) ⊎ ((given ≡ reply.No NoMemory → ⊥) × IsSome o))
-    × IfSome o (λ c. (c.table_id ≡ book) × (c.me ≡ (reader c.me.0.part, [])) × IsSomeAnd (last_or None c.me.0.part.history) (λ e. e.entry.reply ≡ given))
+    × IfSome o (λ m. (m.book ≡ book) × IsSomeAnd (last_or None m.known.history) (λ e. e.entry.reply ≡ given))
 
-module _ (old new : Ledger) (event : Event) (given : Reply) (chain : ℕ) (book : TableId) (seat : Claiming) (o : Option Claiming)
-    (of_book : seat.table_id ≡ book) (knows : seat.me ≡ (reader (known_of new), [])) where
+module _ (old new : Ledger) (event : Event) (given : Reply) (chain : ℕ) (book : Book) (mark : BookPlace) (o : Option BookPlace)
+    (of_book : mark.book ≡ book) (knows : mark.known ≡ known_of new) where
   -- all that is to be said of it
   abbrev pub Says : Type 0
   Says = IsReceiptOf event (record { chain = chain; reply = given; claim = claims o })
@@ -41,30 +36,27 @@ module _ (old new : Ledger) (event : Event) (given : Reply) (chain : ℕ) (book 
   says_nothing : given ≡ reply.No NoMemory → o ≡ None → Says
   says_nothing refused none = (
     inl (refused, ap claims none),
-    subst (λ (p : Option Claiming). IfSome (claims p) (λ c. c.place ≡ length old.history)) (sym none) tt,
+    subst (λ (p : Option BookPlace). IfSome (claims p) (λ c. c.place ≡ length old.history)) (sym none) tt,
     subst (IsReceipt book given) (sym none) (inl (refused, refl), tt),
   )
 
-  part_is : seat.me.0.part ≡ known_of new
-  part_is = ap (λ m. m.0.part) knows
-
-  says_last : (given ≡ reply.No NoMemory → ⊥) → AddsNext old event given new → o ≡ Some seat → Says
+  says_last : (given ≡ reply.No NoMemory → ⊥) → AddsNext old event given new → o ≡ Some mark → Says
   says_last answered adds some =
       let w = last_is old new event given adds in
       let e = w.0 in
       let claim : claims o ≡ Some (record { place = length new.history - 1; event = e.entry.event }) =
-      ap claims some ∙ ap (λ (k : KnownLedger). claim_of k.history) part_is
+      ap claims some ∙ ap (λ (k : KnownLedger). claim_of k.history) knows
       ∙ ap (option_map (λ (x : StampedEntry). record { place = length new.history - 1; event = x.entry.event })) w.1.last in
-      let last : IsSomeAnd (last_or None seat.me.0.part.history) (λ x. x.entry.reply ≡ given) =
-      subst (λ (k : KnownLedger). IsSomeAnd (last_or None k.history) (λ x. x.entry.reply ≡ given)) (sym part_is)
+      let last : IsSomeAnd (last_or None mark.known.history) (λ x. x.entry.reply ≡ given) =
+      subst (λ (k : KnownLedger). IsSomeAnd (last_or None k.history) (λ x. x.entry.reply ≡ given)) (sym knows)
       (subst (λ (p : Option StampedEntry). IsSomeAnd p (λ x. x.entry.reply ≡ given)) (sym w.1.last) w.1.answered) in (
         inr (answered, subst (λ (p : Option ReceiptClaim). IsSomeAnd p (λ c. c.event ≡ event)) (sym claim) w.1.asked),
         subst (λ (p : Option ReceiptClaim). IfSome p (λ c. c.place ≡ length old.history)) (sym claim) w.1.place,
         subst (IsReceipt book given) (sym some)
-            (inr (answered, refl), (of_book, knows ∙ ap (λ (k : KnownLedger). (reader k, [])) (sym part_is), last)),
+            (inr (answered, refl), (of_book, last)),
       )
 
-  pub says : AddsOrNot old event given new → (given ≡ reply.No NoMemory → o ≡ None) → ((given ≡ reply.No NoMemory → ⊥) → o ≡ Some seat) → Says
+  pub says : AddsOrNot old event given new → (given ≡ reply.No NoMemory → o ≡ None) → ((given ≡ reply.No NoMemory → ⊥) → o ≡ Some mark) → Says
   says adds nothing one =
       ⊎_elim
       (λ (no : (given ≡ reply.No NoMemory) × SeesMore old new). says_nothing no.0 (nothing no.0))
@@ -86,7 +78,7 @@ found ledger chain given part begins last = by_last (last_or None part.history) 
         subst (λ (c : Option ReceiptClaim). ClaimHolds ledger (record { chain = chain; reply = given; claim = c })) (sym claim)
         (stands ledger part e begins is ∙ ap (λ (r : Reply). Some (e.entry.event, r)) replied)
 
-pub holds_found : (ledger : Ledger) (chain : ℕ) (book : TableId) (given : Reply) (o : Option Claiming) → IsReceipt book given o
-    → ((c : Claiming) → o ≡ Some c → IsKnownBeginning c.me.0.part (known_of ledger)) → ClaimHolds ledger (record { chain = chain; reply = given; claim = claims o })
+pub holds_found : (ledger : Ledger) (chain : ℕ) (book : Book) (given : Reply) (o : Option BookPlace) → IsReceipt book given o
+    → ((m : BookPlace) → o ≡ Some m → IsKnownBeginning m.known (known_of ledger)) → ClaimHolds ledger (record { chain = chain; reply = given; claim = claims o })
 holds_found ledger chain book given None is begins = tt
-holds_found ledger chain book given (Some c) is begins = found ledger chain given c.me.0.part (begins c refl) is.1.2
+holds_found ledger chain book given (Some m) is begins = found ledger chain given m.known (begins m refl) is.1.1

@@ -14,14 +14,13 @@ use Rattle.ibc_machine.specs.chain.Genesis.{GenesisState}
 use Rattle.ibc_machine.specs.chain.Handlers.{after_block, block_answer}
 use Rattle.ibc_machine.specs.ledger.Ledgers.{Ledger, IsLedger, IsOwnEntry, SeesMore, AddsNext, is_block_reply, state_of}
 use Rattle.ibc_machine.specs.chain.Records.{Block, MachineChain}
-use Rattle.ibc_machine.specs.ics18.Relay.{View, view_at, view_of}
+use Rattle.ibc_machine.specs.ics18.Relay.{view_at, view_of}
 use Rattle.ibc_machine.specs.ledger.Replay.{LedgerState, StampedEntry, entry_answer, ledger_answer, met_states, replay, starting_state, with_chain}
 use Rattle.ibc_merkle.proofs.Sorted.{last-push}
-use Rattle.ibc_root_table.specs.Passes.{TableName}
 use Rattle.ibc_refinement.proofs.EntrySteps.{replay_more}
 use Rattle.ibc_ledger.specs.HistoryGrowth.{AddsOrNot}
 use Rattle.ibc_ledger.specs.LedgerModel.{LedgerModel}
-use Rattle.ibc_ledger_lock.specs.ReceiptsAndReadings.{ReceiptModel, IsOfWorld, IsViewOf, IsEndOf, ShowsEnd}
+use Rattle.ibc_ledger_lock.specs.ReceiptsAndReadings.{ReceiptModel, IsEndOf, ShowsEnd, view_shown}
 use Rattle.ibc_ledger_lock.proofs.Noting.{same}
 
 last_met : (P : LedgerState × StampedEntry → Type 0) (genesis : GenesisState) (k : ℕ) (seen : List Publication) (state : LedgerState) (history : List StampedEntry) (e : StampedEntry)
@@ -92,14 +91,11 @@ of_chain k chain = by_last (last_or None chain.committed)
     by_last None = refl
     by_last (Some last) = refl
 
-module _ (table : TableName) (genesis : GenesisState) (old : Ledger) (new : LedgerModel) (t : ℕ) (told : ReceiptModel)
+module _ (old : Ledger) (new : LedgerModel) (t : ℕ) (told : ReceiptModel)
     (adds : AddsOrNot old (event.Block old.chain t) told.reply new.ledger) (chain : told.chain ≡ old.chain)
-    (world : IsOfWorld table genesis new) (is : IsLedger new.ledger) (end : is_block_reply told.reply ≡ true) where
-  abbrev seen : View
-  seen = view_of new.ledger.chain (state_of new.ledger).chain
-
-  shows : ShowsEnd told seen
-  shows =
+    (end : is_block_reply told.reply ≡ true) where
+  shows : IsLedger new.ledger → ShowsEnd told (view_shown new)
+  shows is =
       let w = told_height told.reply end in
       let height = shows_end old new.ledger t w.0 w.1.0 (subst (λ given. AddsOrNot old (event.Block old.chain t) given new.ledger) w.1.1 adds) is in
       let numbers = same old new.ledger (event.Block old.chain t) told.reply adds in (
@@ -108,6 +104,8 @@ module _ (table : TableName) (genesis : GenesisState) (old : Ledger) (new : Ledg
       )
 
   -- what is seen after the end of a block may be posted
-  pub looked : (o : Option View) → IfSome o (λ view. view ≡ seen) → IfSome o (λ view. IsViewOf table genesis view × ShowsEnd told view)
+  pub looked : (o : Option LedgerModel) → IfSome o (λ held. (held ≡ new) × IsLedger held.ledger)
+      → IfSome o (λ held. (held ≡ new) × ShowsEnd told (view_shown held))
   looked None e = tt
-  looked (Some view) e = ((new, (world, is), e), subst (ShowsEnd told) (sym e) shows)
+  looked (Some held) e =
+      (e.0, subst (λ (l : LedgerModel). ShowsEnd told (view_shown l)) (sym e.0) (shows (subst (λ (l : LedgerModel). IsLedger l.ledger) e.0 e.1)))

@@ -1,4 +1,5 @@
 pub mod Claims
 pub mod Ending
-pub mod Moves
+pub mod LastBlocks
 pub mod Noting
+pub mod Pages

@@ -1,5 +1,5 @@
 -- What a call adds to what is known of a ledger.
-use Rattle.std.proofs.Common.{◌≡◌, ◌∙◌, ℕ, zero, suc, List, [], ◌∷◌, ◌++◌, ◌-◌, Some, None, refl, ap, sym, subst, arith, length, length-append, map, slice_get, ⊎_elim, Option}
+use Rattle.std.proofs.Common.{◌≡◌, ◌∙◌, ℕ, zero, suc, List, [], ◌∷◌, ◌++◌, ◌-◌, Some, None, refl, ap, sym, subst, arith, length, length-append, map, slice_get, ⊎_elim}
 use Rattle.std.specs.List.{last_or}
 use Rattle.std.proofs.lemmas.List.{append-nil}
 use Rattle.ibc_ids.specs.declared.refusal.Refusal.TheVariants.{NoMemory}
@@ -16,12 +16,9 @@ use Rattle.ibc_machine.specs.chain.Genesis.{GenesisState}
 use Rattle.ibc_ledger.specs.HistoryGrowth.{AddsOrNot}
 use Rattle.ibc_ledger.specs.LedgerModel.{LedgerModel}
 use Rattle.ibc_ledger.specs.SentPackets.{happened_of, happened_on}
-use Rattle.atomic_table.specs.Table.{Me}
 use Rattle.ibc_ledger_lock.specs.KnownLedgers.{KnownLedger}
-use Rattle.ibc_ledger_lock.specs.Books.{IsKnownBeginning, keeper, reader}
-use Rattle.ibc_ledger_lock.specs.declared.book.BookKnowledge.{BookKnowledge}
+use Rattle.ibc_ledger_lock.specs.Books.{IsKnownBeginning}
 use Rattle.ibc_ledger_lock.specs.ReceiptsAndReadings.{IsEarlier, IsEarlierOnItsChain, known_of, ledger_as, state_after}
-use mathlib.Core.List.{IsPrefix}
 
 -- ---- what a call adds
 
@@ -62,17 +59,6 @@ last_is old new event given (e, more, asked, answered, is, _, _) = (
     answered = answered;
   },
 )
-
--- ---- seats
-
-pub keeps_whole : (me : Me (Unit {0}) BookKnowledge) (all : KnownLedger) → me ≡ (keeper all, []) → me ≡ (keeper me.0.whole, [])
-keeps_whole me all is = is ∙ ap (λ (k : KnownLedger). (keeper k, [])) (sym (ap (λ m. m.0.whole) is))
-
-pub reads_part : (me : Me (Unit {0}) BookKnowledge) (part : KnownLedger) → me ≡ (reader part, []) → me ≡ (reader me.0.part, [])
-reads_part me part is = is ∙ ap (λ (k : KnownLedger). (reader k, [])) (sym (ap (λ m. m.0.part) is))
-
-pub later_of : (me : Me (Unit {0}) BookKnowledge) (all now : KnownLedger) → me ≡ (keeper all, []) → IsKnownBeginning all now → IsKnownBeginning me.0.whole now
-later_of me all now is begins = subst (λ (k : KnownLedger). IsKnownBeginning k now) (sym (ap (λ m. m.0.whole) is)) begins
 
 -- ---- what was so once
 

@@ -1,7 +1,7 @@
 -- What is of a world, what receipts tell, and what was read.
-use Rattle.std.specs.Prelude.{◌≡◌, ◌⊎◌, ◌++◌, ◌-◌, ℕ, List, [], length, take, Option, Some, None, slice_get, IfSome}
+use Rattle.std.specs.Prelude.{◌≡◌, ◌⊎◌, ◌++◌, ◌-◌, ◌≤◌, Bool, true, ℕ, List, [], length, take, Option, Some, None, slice_get, IfSome}
 use Rattle.std.specs.List.{last_or}
-use Rattle.std.specs.Option.{IsSomeAnd, option_map}
+use Rattle.std.specs.Option.{IsSomeAnd, option_map, option_map_or}
 use Rattle.ibc_ids.specs.declared.publication.Publication.{Publication}
 use Rattle.ibc_ids.specs.Texts.{Text}
 use Rattle.ibc_machine.specs.declared.event.Event.{Event}
@@ -10,14 +10,13 @@ use Rattle.ibc_machine.specs.declared.reply.Reply.TheVariants as reply
 use Rattle.ibc_ids.specs.declared.refusal.Refusal.TheVariants.{NoMemory}
 use Rattle.ibc_machine.specs.chain.Genesis.{GenesisState}
 use Rattle.ibc_machine.specs.declared.reply.Effect.TheVariants as effect
-use Rattle.ibc_machine.specs.ledger.Ledgers.{Ledger, IsLedger, state_of}
+use Rattle.ibc_machine.specs.ledger.Ledgers.{Ledger, IsLedger, is_accepted_block, state_of}
 use Rattle.ibc_machine.specs.ics18.Relay.{View, view_of}
 use Rattle.ibc_machine.specs.ledger.Replay.{LedgerState, StampedEntry}
 use Rattle.ibc_root_table.specs.Passes.{TableName}
 use Rattle.ibc_ledger.specs.LedgerModel.{LedgerModel}
 use Rattle.ibc_ledger.specs.SentPackets.{happened_on}
 use Rattle.ibc_ledger_lock.specs.KnownLedgers.{KnownLedger}
-use Rattle.ibc_ledger_lock.specs.Books.{no_book}
 
 -- what a receipt claims of the history of its chain: that the event stands at the place
 pub record ReceiptClaim : Type 0 where
@@ -76,14 +75,22 @@ ClaimHoldsOnItsChain held told = told.chain ≡ held.ledger.chain → ClaimHolds
 abbrev pub state_after : ℕ → Ledger → LedgerState
 state_after n ledger = state_of (record ledger { history = take n ledger.history })
 
+-- the last of these entries ended a block, or there is none
+abbrev pub ends_a_block : List StampedEntry → Bool
+ends_a_block history = option_map_or (λ e. is_accepted_block e.entry) (last_or None history) true
+
+-- the view is what the ledger showed after a block of its history, or in the beginning
+abbrev pub HasShown : Ledger → View → Type 0
+HasShown ledger view = (n : ℕ) × (n ≤ length ledger.history) × (ends_a_block (take n ledger.history) ≡ true)
+    × (view ≡ view_of ledger.chain (state_after n ledger).chain)
+
 -- the ledger was once as it was read, if that was read of its chain
 abbrev pub IsEarlierOnItsChain : LedgerModel → LedgerModel → Type 0
 IsEarlierOnItsChain held read = read.ledger.chain ≡ held.ledger.chain → IsEarlier read.ledger held.ledger
 
--- the view of a ledger of this table and this genesis (ICS 18, "Relayer algorithm")
-abbrev pub IsViewOf : TableName → GenesisState → View → Type 0
-IsViewOf table genesis view = (held : LedgerModel) × IsLedgerOf table genesis held
-    × (view ≡ view_of held.ledger.chain (state_of held.ledger).chain)
+-- the view of a ledger as it stands (ICS 18, "Relayer algorithm")
+abbrev pub view_shown : LedgerModel → View
+view_shown held = view_of held.ledger.chain (state_of held.ledger).chain
 
 -- the reply tells that a block of this height was ended
 abbrev pub IsEndOf : Reply → ℕ → Type 0
@@ -93,8 +100,12 @@ IsEndOf given height = (root : Text) × (given ≡ reply.Ok (effect.Block height
 abbrev pub ShowsEnd : ReceiptModel → View → Type 0
 ShowsEnd told view = (view.chain ≡ told.chain) × IsEndOf told.reply view.height
 
+-- the name of no table
 abbrev pub no_table : TableName
-no_table = record { id = no_book; shape = record { chains = 0; window = 0; capacity = 0 } }
+no_table = record {
+  id = record { words = 0; slots = 0; views_name = 0; atom = 0; block = 0; offset = 0; slot_names = [] };
+  shape = record { chains = 0; window = 0; capacity = 0 };
+}
 
 abbrev pub no_genesis : GenesisState
 no_genesis = record { capacity = 0; window = 0; chains = [] }

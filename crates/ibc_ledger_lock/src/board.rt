@@ -2,32 +2,21 @@
 
 ghost use Rattle.std.specs.Prelude.{◌≡◌, IfSome, IsOkUnless};
 ghost use Rattle.ibc_ids.specs.declared.refusal.Refusal.TheVariants.{NoMemory};
-ghost use Rattle.ibc_ledger_lock.specs.ReceiptsAndReadings.{IsViewOf, ShowsEnd};
+ghost use Rattle.ibc_ledger_lock.specs.ReceiptsAndReadings.{IsLedgerOf, ShowsEnd, view_shown};
 
+use crate::posted_view::PostedView;
 use crate::receipt::Receipt;
 use crate::world::WorldBrand;
-use boxcar::Keeps;
-use boxcar::tag::Tag;
 use ibc_ids::Refusal;
 use ibc_ledger::View;
 use std::alloc::Global;
-use std::marker::PhantomData;
 use std::sync::Wait;
 use std::sync::atomic::{AtomicUsize, Ordering};
-
-/// What stands on the board is the view of a ledger of the world.
-pub struct OfWorld<W: WorldBrand>(PhantomData<W>);
-
-impl<W: WorldBrand> Keeps<View> for OfWorld<W> {
-    ghost use Rattle.ibc_ledger_lock.specs.ReceiptsAndReadings.{IsViewOf};
-
-    ghost holds = { λ tag index view. IsViewOf W.table W.genesis view };
-}
 
 /// The views that the chains of a world posted. It only grows, and reading it takes no lock.
 #[derive(Drop)]
 pub struct Board<W: WorldBrand> {
-    views: boxcar::Vec<View, Global, OfWorld<W>>,
+    views: boxcar::Vec<PostedView<W>>,
     // for each chain the index of its newest view that is known; an old one costs a longer scan and nothing else
     hints: Vec<AtomicUsize>,
 }
@@ -42,45 +31,42 @@ impl<W: WorldBrand> Board<W> {
             hints.push(AtomicUsize::new(0))?;
         }
         Ok(Board {
-            views: boxcar::Vec::with_rule(alloc, Tag::empty())?,
+            views: boxcar::Vec::new(alloc)?,
             hints,
         })
     }
 
     /// The view of the greatest height that it finds for a chain, none where none was posted.
-    pub fn latest(&self, chain: u8) -> Option<&View>
-        ensures { IfSome result (λ view. IsViewOf W.table W.genesis view.now × (view.now.chain ≡ chain)) }
+    pub fn latest(&self, chain: u8) -> Option<&PostedView<W>>
+        ensures { IfSome result (λ posted. IsLedgerOf W.table W.genesis posted.now × (posted.now.ledger.chain ≡ chain)) }
     {
-        let mut best: Option<&View> = None;
+        let mut best: Option<&PostedView<W>> = None;
         for index in self.hint(chain)..usize::MAX {
-            let Some(view) = self.views.get(index) else {
+            let Some(posted) = self.views.get(index) else {
                 break;
             };
-            if view.chain() == chain && is_newer(view, best) {
-                best = Some(view);
+            if posted.chain() == chain && is_newer(posted.view(), best) {
+                best = Some(posted);
             }
         }
         best
     }
 
-    /// Posts the view of a ledger as it stands. Where a growth is refused, it isn't there, and nothing else has changed.
-    pub(crate) fn post<R: Wait>(&self, rt: &R, view: View)
-        requires { IsViewOf W.table W.genesis view }
-    {
-        let chain = view.chain();
-        if let Ok(index) = self.views.push(rt, view) {
+    /// Posts the view of a ledger as it stood. Where a growth is refused, it isn't there, and nothing else has changed.
+    pub(crate) fn post<R: Wait>(&self, rt: &R, posted: PostedView<W>) {
+        let chain = posted.chain();
+        if let Ok(index) = self.views.push(rt, posted) {
             self.raise(chain, index);
         }
     }
 
     /// Posts the view after the end of a block, as the receipt tells it. Where a growth is refused, it isn't there, and
     /// nothing else has changed.
-    pub(crate) fn post_end<R: Wait>(&self, rt: &R, receipt: &Receipt<W>, view: View)
-        requires world { IsViewOf W.table W.genesis view }
-        requires shows { ShowsEnd receipt.now view }
+    pub(crate) fn post_end<R: Wait>(&self, rt: &R, receipt: &Receipt<W>, posted: PostedView<W>)
+        requires { ShowsEnd receipt.now (view_shown posted) }
     {
         let _chain = receipt.chain();
-        self.post(rt, view);
+        self.post(rt, posted);
     }
 
     // The index from which a chain's newest view is looked for.
@@ -100,9 +86,9 @@ impl<W: WorldBrand> Board<W> {
 }
 
 // Whether the view is as high as the best so far.
-fn is_newer(view: &View, best: Option<&View>) -> bool {
+fn is_newer<W: WorldBrand>(view: &View, best: Option<&PostedView<W>>) -> bool {
     match best {
-        Some(best) => view.height() >= best.height(),
+        Some(best) => view.height() >= best.view().height(),
         None => true,
     }
 }

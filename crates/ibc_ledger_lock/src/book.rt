@@ -1,13 +1,12 @@
-//! The book of a chain: its keeper knows the ledger as it is, and others each know it as it was once. It exists in proofs
+//! The book of a chain: its keeper knows the ledger as it is, and each bookmark knows it as it was once. It exists in proofs
 //! alone, but for one word.
-ghost use Rattle.std.specs.Prelude.{◌≡◌, ◌<◌, []};
-ghost use Rattle.ibc_ledger_lock.specs.KnownLedgers.{nothing_known};
-ghost use Rattle.ibc_ledger_lock.specs.Books.{IsKnownBeginning, keeper, reader};
+ghost use Rattle.std.specs.Prelude.{◌≡◌};
+ghost use Rattle.logbook.specs.Pages.{may_make, may_write};
+ghost use Rattle.ibc_ledger_lock.specs.Books.{IsKnownBeginning};
 ghost use Rattle.ibc_ledger_lock.specs.ReceiptsAndReadings.{known_of};
 
-use atomic_table::{Join, Play, Seat, Split, Table, TableRule};
 use ibc_ledger::Ledger;
-use std::alloc::{AllocError, Global};
+use logbook::{Gain, Offer, Pen, Plain, Play, Rule, Seen, Start, Word};
 use std::marker::{Brand, Model, PhantomData};
 
 /// What is known of a ledger. No value of it is made.
@@ -21,140 +20,256 @@ impl Model for LedgerKnowledge {
     ghost view = { λ _. nothing_known };
 }
 
-/// What a seat knows: the keeper all, and another a beginning. No value of it is made.
-pub struct BookKnowledge {
-    pub keeps: bool,
-    pub whole: LedgerKnowledge,
-    pub claims: bool,
-    pub part: LedgerKnowledge,
+/// A page of a book: a ledger as it is known, and the key with which the next page is written. No value of it is made.
+pub struct Page {
+    pub known: LedgerKnowledge,
+    pub next: u64,
 }
 
-/// There is one keeper, and what others know is a beginning of what it knows.
-pub struct OneHistory;
+/// Each page is written with the key that the page before it names, which one pen has.
+pub struct OneKeeper;
 
-impl TableRule<(), BookKnowledge, ()> for OneHistory {
-    ghost use Rattle.ibc_ledger_lock.specs.KnownLedgers.{nothing_known};
-    ghost use Rattle.ibc_ledger_lock.specs.Books.{keeper, IsBookState};
+impl Rule<Page, ()> for OneKeeper {
+    ghost use Rattle.std.specs.Prelude.{[]};
+    ghost use base.Fml.{ftrue};
+    ghost use Rattle.ibc_ledger_lock.specs.Books.{IsBook};
 
-    ghost holds = { λ _ s. IsBookState s };
+    ghost holds = { λ words pages. IsBook words pages };
 
-    ghost first = { λ _. keeper nothing_known };
+    ghost first = { [] };
+
+    ghost hinted = { λ n pages. Unit {0} };
+
+    ghost shows = { λ pages. [] };
+
+    ghost keeps = { λ names pages. ftrue };
+
+    ghost moves = { λ ask before after answer. Unit {0} };
 }
 
-pub type Book = Table<(), BookKnowledge, (), OneHistory, Global>;
+/// Nothing is traded beside the book.
+pub struct NoTrade;
 
-pub type BookSeat = Seat<(), BookKnowledge>;
+impl Gain<Page, ()> for NoTrade {
+    ghost use base.Fml.{ftrue};
 
-/// What is known of a ledger that a proof picks.
-pub trait PickedKnowledge {
-    ghost use Rattle.ibc_ledger_lock.specs.KnownLedgers.{KnownLedger};
-
-    ghost account: { KnownLedger };
+    ghost after = { λ names about answer. ftrue };
 }
 
-impl PickedKnowledge for Brand {
-    ghost use Rattle.ibc_ledger_lock.specs.KnownLedgers.{nothing_known};
+impl Plain<(), Page, ()> for NoTrade {
+    ghost use Rattle.std.specs.Prelude.{None};
+    ghost use Rattle.ibc_ledger_lock.specs.Books.{first_page};
 
-    ghost account = { nothing_known };
+    ghost ask = { λ about. first_page 0 };
+
+    ghost state = { λ about. None };
 }
 
-/// The keeper knows more, and the new seat knows as much.
-struct KeeperGrows<X: PickedKnowledge>(PhantomData<X>);
+/// The book is begun.
+struct Begin;
 
-impl<X: PickedKnowledge> Split<BookKnowledge> for KeeperGrows<X> {
-    ghost use Rattle.ibc_ledger_lock.specs.Books.{keeper, reader};
+impl Play<Page, ()> for Begin {
+    ghost use Rattle.ibc_ledger_lock.specs.Books.{Begins};
 
-    ghost left = { λ v. keeper X.account };
-
-    ghost right = { λ v. reader X.account };
+    ghost then = { Begins };
 }
 
-/// What is claimed once more.
-struct Again;
+/// A pen is made.
+struct GivePen;
 
-impl Split<BookKnowledge> for Again {
-    ghost use Rattle.ibc_ledger_lock.specs.Books.{reader};
+impl Play<Page, ()> for GivePen {
+    ghost use Rattle.ibc_ledger_lock.specs.Books.{GivesPen};
 
-    ghost left = { λ v. v };
-
-    ghost right = { λ v. reader v.part };
+    ghost then = { GivesPen };
 }
 
-/// The keeper is shown a beginning.
-struct Shows;
+/// No page was written with the pen.
+struct FindUnused;
 
-impl Join<BookKnowledge> for Shows {
-    ghost use Rattle.ibc_ledger_lock.specs.Books.{no_knowledge, claim_to_keeper};
+impl Play<Page, ()> for FindUnused {
+    ghost use Rattle.ibc_ledger_lock.specs.Books.{FindsUnused};
 
-    ghost both = { claim_to_keeper };
-
-    ghost spent = { no_knowledge };
+    ghost then = { FindsUnused };
 }
 
-/// The keeper finds that the beginning is one.
-struct Checks;
+/// A page that a proof picks.
+pub trait PickedPage {
+    ghost use Rattle.ibc_ledger_lock.specs.declared.book.Page.{Page};
 
-impl Play<(), BookKnowledge> for Checks {
-    ghost use Rattle.ibc_ledger_lock.specs.Books.{ChecksClaim};
+    ghost page: { Page };
+}
 
-    ghost then = { λ st m found m'. ChecksClaim m m' };
+impl PickedPage for Brand {
+    ghost use Rattle.ibc_ledger_lock.specs.Books.{first_page};
+
+    ghost page = { first_page 0 };
+}
+
+/// The page is written.
+struct Write<X: PickedPage>(PhantomData<X>);
+
+impl<X: PickedPage> Play<Page, ()> for Write<X> {
+    ghost use Rattle.ibc_ledger_lock.specs.Books.{Writes};
+
+    ghost then = { Writes X.page };
+}
+
+/// A place in a book. It may be copied. Contracts see the book's name, and the ledger as it was known at the place.
+#[derive(Drop)]
+pub struct Bookmark {
+    seen: Seen<Page, (), OneKeeper>,
+}
+
+impl Model for Bookmark {
+    ghost use Rattle.ibc_ledger_lock.specs.Books.{BookPlace, known_in};
+
+    ghost Value = { BookPlace };
+
+    ghost view = { λ mark. record { book = mark.seen.book; known = known_in mark.seen.log } };
+}
+
+impl Bookmark {
+    /// A copy.
+    pub(crate) fn again(&self) -> Bookmark
+        ensures { result ≡ self.now }
+    {
+        Bookmark {
+            seen: self.seen.again(),
+        }
+    }
+}
+
+/// Who alone writes a book, and so knows the ledger as it is. Contracts see the book's name, and the ledger as it is known.
+#[derive(Drop)]
+pub struct Keeper {
+    head: Word<Page, (), OneKeeper>,
+    seen: Seen<Page, (), OneKeeper>,
+    pen: Pen,
+}
+
+impl Model for Keeper {
+    ghost use Rattle.std.specs.Prelude.{◌≡◌, []};
+    ghost use Rattle.logbook.specs.Pages.{may_write};
+    ghost use Rattle.ibc_ledger_lock.specs.Books.{BookPlace, head_of, key_in, known_in};
+
+    ghost Value = { BookPlace };
+
+    ghost view = { λ k. record { book = k.seen.book; known = known_in k.seen.log } };
+
+    ghost invariant = { λ k. (k.head ≡ head_of k.seen.book) × (k.seen.names ≡ []) × (k.seen.log ≡ [] → ⊥)
+        × (k.pen.book ≡ k.seen.book) × (k.pen.nib.right ≡ may_write) × (k.pen.nib.key ≡ key_in k.seen.log) };
 }
 
 /// A book in which nothing is known yet, for one chain. Contracts see its name.
 #[derive(Drop)]
 pub struct UnusedBook {
-    pub(crate) book: Book,
-    pub(crate) seat: BookSeat,
+    pub(crate) keeper: Keeper,
 }
 
 impl Model for UnusedBook {
-    ghost use Rattle.std.specs.Prelude.{◌≡◌, ◌<◌, []};
-    ghost use Rattle.atomic_table.specs.Seated.{TableId};
+    ghost use Rattle.std.specs.Prelude.{◌≡◌};
+    ghost use Rattle.logbook.specs.Pages.{Book};
     ghost use Rattle.ibc_ledger_lock.specs.KnownLedgers.{nothing_known};
-    ghost use Rattle.ibc_ledger_lock.specs.Books.{keeper};
 
-    ghost Value = { TableId };
+    ghost Value = { Book };
 
-    ghost view = { λ o. o.book.shared.table_id };
+    ghost view = { λ unused. unused.keeper.book };
 
-    ghost invariant = { λ o. (o.seat.table_id ≡ o.book.shared.table_id) × (0 < o.book.shared.table_id.words) × (o.seat.me ≡ (keeper nothing_known, [])) };
+    ghost invariant = { λ unused. unused.keeper.known ≡ nothing_known };
 }
 
 impl UnusedBook {
-    /// A new book. The error is that a growth was refused.
-    pub fn new(alloc: Global) -> Result<UnusedBook, AllocError> {
-        let words = [0u64; 1];
-        let (book, seat): (Book, BookSeat) = Table::of_words(alloc, &words, &())?;
-        Ok(UnusedBook { book, seat })
+    /// A new book. It would be none if another keeper had begun it, and a new book has no other; no clause says so.
+    pub fn new() -> Option<UnusedBook> {
+        let (seen, mut first, _) = Seen::open(Start::alone(), 0, 0);
+        let mut seen = seen;
+        let head = Word::tracked(0, &mut first);
+        let mut pen = seen.no_pen();
+        let mut offer: Offer<Page, (), OneKeeper, NoTrade> = seen.plain::<NoTrade, (), NoTrade>(
+            &(),
+        );
+        let found = head.compare_exchange::<Begin, NoTrade>(0, 1, &mut seen, &mut offer, &mut pen);
+        if found != 0 {
+            return None;
+        }
+        make_word(&mut pen);
+        Some(UnusedBook {
+            keeper: Keeper { head, seen, pen },
+        })
     }
 }
 
-/// The keeper knows a ledger that has gone on, and the new seat knows it as it is now.
-pub(crate) fn note<X: PickedKnowledge>(
-    book: &Book,
-    seat: &mut BookSeat,
-    ledger: &Ledger,
-) -> BookSeat
-    requires told { known_of ledger.now.ledger ≡ X.account }
-    requires book { (seat.old.table_id ≡ book.now.shared.table_id) × (0 < book.now.shared.table_id.words) }
-    requires keeps { seat.old.me ≡ (keeper seat.old.me.0.whole, []) }
-    requires later { IsKnownBeginning seat.old.me.0.whole X.account }
-    ensures seat { (seat.new.table_id ≡ seat.old.table_id) × (seat.new.me ≡ (keeper X.account, [])) }
-    ensures reader { (result.table_id ≡ seat.old.table_id) × (result.me ≡ (reader X.account, [])) }
+// The pen may write the word that it was the right to make.
+fn make_word(pen: &mut Pen)
+    requires { pen.old.nib.right ≡ may_make }
+    ensures { (pen.new.book ≡ pen.old.book) × (pen.new.nib.right ≡ may_write) × (pen.new.nib.key ≡ pen.old.nib.key) }
 {
-    book.shared.split_seat::<KeeperGrows<X>>(seat)
+    let _word: Word<Page, (), OneKeeper> = Word::tracked(0, pen);
 }
 
-/// What is claimed is a beginning of what the keeper knows.
-pub(crate) fn check(book: &Book, seat: &mut BookSeat, claimed: &mut BookSeat)
-    requires book { (seat.old.table_id ≡ book.now.shared.table_id) × (0 < book.now.shared.table_id.words) }
-    requires keeps { seat.old.me ≡ (keeper seat.old.me.0.whole, []) }
-    requires claims { (claimed.old.table_id ≡ book.now.shared.table_id) × (claimed.old.me ≡ (reader claimed.old.me.0.part, [])) }
-    ensures seat { (seat.new.table_id ≡ seat.old.table_id) × (seat.new.me ≡ seat.old.me) }
-    ensures claimed { (claimed.new.table_id ≡ claimed.old.table_id) × (claimed.new.me ≡ claimed.old.me) }
-    ensures found { IsKnownBeginning claimed.old.me.0.part seat.old.me.0.whole }
-{
-    let copy = book.shared.split_seat::<Again>(claimed);
-    book.shared.join_seat::<Shows>(seat, copy);
-    book.shared.load::<Checks>(seat, 0);
+impl Keeper {
+    /// A bookmark at the last page.
+    pub(crate) fn mark(&self) -> Bookmark
+        ensures { result ≡ self.now }
+    {
+        Bookmark {
+            seen: self.seen.again(),
+        }
+    }
+
+    /// Writes down the ledger as it is now, which has gone on, and puts a bookmark there.
+    pub(crate) fn note(&mut self, ledger: &Ledger) -> Bookmark
+        requires later { IsKnownBeginning self.old.known (known_of ledger.now.ledger) }
+        ensures keeper { (self.new.book ≡ self.old.book) × (self.new.known ≡ known_of ledger.now.ledger) }
+        ensures mark { result ≡ self.new }
+    {
+        let next = self.next_pen();
+        self.write::<Brand>(next, ledger);
+        self.mark()
+    }
+
+    /// What was known at a bookmark of this book is a beginning of what the keeper knows.
+    pub(crate) fn check(&mut self, mark: &Bookmark)
+        requires book { mark.now.book ≡ self.old.book }
+        ensures same { self.new ≡ self.old }
+        ensures begins { IsKnownBeginning mark.now.known self.old.known }
+    {
+        let mut both = self.seen.again();
+        both.learn(&mark.seen);
+        let mut offer: Offer<Page, (), OneKeeper, NoTrade> = both.plain::<NoTrade, (), NoTrade>(
+            &(),
+        );
+        self.head
+            .compare_exchange::<FindUnused, NoTrade>(1, 1, &mut both, &mut offer, &mut self.pen);
+    }
+
+    // A pen with which no page was written yet.
+    fn next_pen(&self) -> Pen
+        ensures { (result.book ≡ self.now.book) × (result.nib.right ≡ may_write) }
+    {
+        let mut seen = self.seen.again();
+        let mut pen = seen.no_pen();
+        let mut offer: Offer<Page, (), OneKeeper, NoTrade> = seen.plain::<NoTrade, (), NoTrade>(
+            &(),
+        );
+        self.head
+            .compare_exchange::<GivePen, NoTrade>(1, 1, &mut seen, &mut offer, &mut pen);
+        make_word(&mut pen);
+        pen
+    }
+
+    // Writes a page with the keeper's pen. It names the key of the next pen, which the keeper has from then on.
+    fn write<X: PickedPage>(&mut self, next: Pen, ledger: &Ledger)
+        requires picked { (X.page.known ≡ known_of ledger.now.ledger) × (X.page.next ≡ next.nib.key) }
+        requires next { (next.book ≡ self.old.book) × (next.nib.right ≡ may_write) }
+        requires later { IsKnownBeginning self.old.known (known_of ledger.now.ledger) }
+        ensures { (self.new.book ≡ self.old.book) × (self.new.known ≡ known_of ledger.now.ledger) }
+    {
+        let mut offer: Offer<Page, (), OneKeeper, NoTrade> = self
+            .seen
+            .plain::<NoTrade, (), NoTrade>(&());
+        self.head
+            .compare_exchange::<Write<X>, NoTrade>(1, 1, &mut self.seen, &mut offer, &mut self.pen);
+        self.pen = next;
+    }
 }

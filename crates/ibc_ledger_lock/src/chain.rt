@@ -11,17 +11,17 @@ ghost use Rattle.ibc_merkle.specs.Written.{written_proof};
 ghost use Rattle.ibc_machine.specs.declared.event.Event.TheVariants as event_of;
 ghost use Rattle.ibc_machine.specs.ics24.Image.{image};
 ghost use Rattle.ibc_machine.specs.ledger.Ledgers.{state_of};
-ghost use Rattle.ibc_machine.specs.ics18.Relay.{view_of};
 ghost use Rattle.ibc_ledger.specs.declared.entry.StampedEntry.{StampedEntry as KeptEntry};
 ghost use Rattle.ibc_ledger.specs.LedgerModel.{abstract_entry};
 ghost use Rattle.ibc_ledger.specs.SentPackets.{ack_on, packet_on};
 ghost use Rattle.ibc_ledger.specs.ReplayedState.{provable_block};
-ghost use Rattle.ibc_ledger_lock.specs.ReceiptsAndReadings.{ClaimHoldsOnItsChain, IsLedgerOf, IsOfWorld, IsReceiptOf, IsViewOf, IsEarlierOnItsChain};
+ghost use Rattle.ibc_ledger_lock.specs.ReceiptsAndReadings.{ClaimHoldsOnItsChain, IsLedgerOf, IsOfWorld, IsReceiptOf, IsEarlierOnItsChain, view_shown};
 
 use crate::board::Board;
 use crate::book::UnusedBook;
 use crate::gate::Gate;
 use crate::locked_ledger::LockedLedger;
+use crate::posted_view::PostedView;
 use crate::reading::LedgerReading;
 use crate::receipt::Receipt;
 use crate::world::WorldBrand;
@@ -40,18 +40,17 @@ pub struct Chain<W: WorldBrand> {
     number: u8,
     desk: Mutex<LockedLedger<W>>,
     board: Arc<Board<W>, Global>,
-    opening: View,
+    opening: PostedView<W>,
 }
 
 impl<W: WorldBrand> Model for Chain<W> {
     ghost use Rattle.std.specs.Prelude.{◌≡◌, ℕ};
-    ghost use Rattle.ibc_ledger_lock.specs.ReceiptsAndReadings.{IsViewOf};
 
     ghost Value = { ℕ };
 
     ghost view = { λ c. c.number };
 
-    ghost invariant = { λ c. IsViewOf W.table W.genesis c.opening × (c.opening.chain ≡ c.number) };
+    ghost invariant = { λ c. c.opening.ledger.chain ≡ c.number };
 }
 
 impl<W: WorldBrand> Chain<W> {
@@ -69,21 +68,20 @@ impl<W: WorldBrand> Chain<W> {
         ensures ok { IfOk result (λ chain. chain ≡ ledger.ledger.chain) }
         ensures err { IfErr result (λ back. (back.0 ≡ NoMemory) × (back.1 ≡ ledger)) }
     {
-        ledger.lemma_is_its_history();
         let number = ledger.chain();
-        let opening = match ledger.view() {
-            Ok(view) => view,
-            Err(refusal) => return Err((refusal, ledger)),
-        };
-        if let Ok(view) = ledger.view() {
-            board.post(rt, view);
+        let desk = LockedLedger::new(ledger, opened);
+        if let Some(posted) = desk.look() {
+            board.post(rt, posted);
         }
-        Ok(Chain {
-            number,
-            desk: Mutex::new(LockedLedger::new(ledger, opened)),
-            board,
-            opening,
-        })
+        match desk.look() {
+            Some(opening) => Ok(Chain {
+                number,
+                desk: Mutex::new(desk),
+                board,
+                opening,
+            }),
+            None => Err((Refusal::NoMemory, desk.into_ledger())),
+        }
     }
 
     /// Applies a message to the ledger, as its `apply` does. The receipt claims the message with its reply.
@@ -100,34 +98,36 @@ impl<W: WorldBrand> Chain<W> {
         ensures { IsReceiptOf (event_of.Block result.chain next_time) result }
     {
         let mut desk = self.desk.lock(rt);
-        let (receipt, view) = desk.produce_and_look(next_time);
-        if let Some(view) = view {
-            self.board.post_end(rt, &receipt, view);
+        let (receipt, posted) = desk.produce_and_look(next_time);
+        if let Some(posted) = posted {
+            self.board.post_end(rt, &receipt, posted);
         }
         drop(desk);
         receipt
     }
 
-    /// The newest view of the chain that the board shows, or else that of the ledger as the chain was made. It may be older
-    /// than the ledger. Takes no lock.
-    pub fn view(&self) -> &View
-        ensures world { IsViewOf W.table W.genesis result.now }
-        ensures chain { result.now.chain ≡ self.now }
+    /// The newest view of the chain that the board shows, or else that of the ledger as the chain was made, and the reading of
+    /// the ledger that it shows. It may be older than the ledger. Takes no lock.
+    pub fn view(&self) -> (&View, LedgerReading<W>)
+        ensures is { IsLedgerOf W.table W.genesis result.1 }
+        ensures shows { result.0.now ≡ view_shown result.1 }
+        ensures chain { result.1.ledger.chain ≡ self.now }
     {
-        match self.board.latest(self.number) {
-            Some(view) => view,
+        let posted = match self.board.latest(self.number) {
+            Some(posted) => posted,
             None => &self.opening,
-        }
+        };
+        (posted.view(), posted.reading())
     }
 
     /// The view of the ledger as it stands, as its `view` gives it, and the reading of that ledger. Unlike `view` it takes the
     /// lock. Refused: `NoMemory`.
     pub fn look<R: Wait>(&self, rt: &R) -> (Result<View, Refusal>, LedgerReading<W>)
         ensures is { IsLedgerOf W.table W.genesis result.1 }
-        ensures ok { IfOk result.0 (λ view. view ≡ view_of result.1.ledger.chain (state_of result.1.ledger).chain) }
+        ensures ok { IfOk result.0 (λ view. view ≡ view_shown result.1) }
         ensures err { IsOkUnless result.0 NoMemory }
     {
-        let mut desk = self.desk.lock(rt);
+        let desk = self.desk.lock(rt);
         let reading = desk.read();
         (desk.ledger().view(), reading)
     }
@@ -143,7 +143,7 @@ impl<W: WorldBrand> Chain<W> {
         ensures ok { IfOk result.0 (λ value. value ≡ at text_cmp (path key.now) (image (state_of result.1.ledger).chain.records.core)) }
         ensures err { IsOkUnless result.0 NoMemory }
     {
-        let mut desk = self.desk.lock(rt);
+        let desk = self.desk.lock(rt);
         let reading = desk.read();
         (desk.ledger().query(key), reading)
     }
@@ -161,7 +161,7 @@ impl<W: WorldBrand> Chain<W> {
         ensures unknown { (result.0 ≡ Err NoConsensus) ↔ IsNone (provable_block result.1.ledger.genesis.window (state_of result.1.ledger).chain.committed height) }
         ensures err { IfErr result.0 (λ refusal. (refusal ≡ NoConsensus) ⊎ (refusal ≡ NoMemory)) }
     {
-        let mut desk = self.desk.lock(rt);
+        let desk = self.desk.lock(rt);
         let reading = desk.read();
         (desk.ledger().query_proof(height, key), reading)
     }
@@ -179,7 +179,7 @@ impl<W: WorldBrand> Chain<W> {
         ensures ok { IfOk result.0 (λ packet. packet ≡ packet_on result.1.ledger port.now channel.now sequence) }
         ensures err { IsOkUnless result.0 NoMemory }
     {
-        let mut desk = self.desk.lock(rt);
+        let desk = self.desk.lock(rt);
         let reading = desk.read();
         (desk.ledger().packet(port, channel, sequence), reading)
     }
@@ -197,7 +197,7 @@ impl<W: WorldBrand> Chain<W> {
         ensures ok { IfOk result.0 (λ ack. ack ≡ ack_on result.1.ledger port.now channel.now sequence) }
         ensures err { IsOkUnless result.0 NoMemory }
     {
-        let mut desk = self.desk.lock(rt);
+        let desk = self.desk.lock(rt);
         let reading = desk.read();
         (desk.ledger().ack(port, channel, sequence), reading)
     }
@@ -214,7 +214,7 @@ impl<W: WorldBrand> Chain<W> {
         ensures is { IsLedgerOf W.table W.genesis result.1 }
         ensures given { (entries : List KeptEntry) × (map abstract_entry entries ≡ drop place result.1.ledger.history) × FnOnceReturnsAt F.FnOnce read entries result.0 }
     {
-        let mut desk = self.desk.lock(rt);
+        let desk = self.desk.lock(rt);
         let reading = desk.read();
         desk.ledger();
         (read(desk.entries_from(place)), reading)
@@ -222,15 +222,10 @@ impl<W: WorldBrand> Chain<W> {
 
     /// The ledger, which is of the world's table and genesis. What each receipt of its chain's number claims is so: it has
     /// that event with that reply at the place. And it was once as each reading of its chain's number has it.
-    pub fn into_ledger(
-        self,
-        receipts: &mut [Receipt<W>],
-        readings: &mut [LedgerReading<W>],
-    ) -> Ledger
+    pub fn into_ledger(self, receipts: &[Receipt<W>], readings: &[LedgerReading<W>]) -> Ledger
         ensures world { IsOfWorld W.table W.genesis result }
-        ensures same { (receipts.new ≡ receipts.old) × (readings.new ≡ readings.old) }
-        ensures held { All (ClaimHoldsOnItsChain result) receipts.old }
-        ensures once { All (IsEarlierOnItsChain result) readings.old }
+        ensures held { All (ClaimHoldsOnItsChain result) receipts.now }
+        ensures once { All (IsEarlierOnItsChain result) readings.now }
     {
         let mut desk = self.desk.into_inner();
         desk.find_all(receipts);
@@ -249,7 +244,7 @@ impl<W: WorldBrand + Send + Sync> Gate for Chain<W> {
     }
 
     fn view(&self) -> &View {
-        Chain::view(self)
+        Chain::view(self).0
     }
 
     fn query<R: Wait>(&self, rt: &R, key: &Key) -> Result<Option<Bytes>, Refusal> {

@@ -1,40 +1,36 @@
-//! What lies under a lock: a ledger, and the book's seat that knows it as it is.
+//! What lies under a lock: a ledger, and the keeper of its book, who knows it as it is.
 
-ghost use Rattle.std.specs.Prelude.{◌≡◌, ◌<◌, [], All, IfSome, None, Some, drop, length, map};
+ghost use Rattle.std.specs.Prelude.{◌≡◌, All, IfSome, None, Some, drop, length, map};
 ghost use Rattle.ibc_ids.specs.declared.refusal.Refusal.TheVariants.{NoMemory};
 ghost use Rattle.ibc_machine.specs.declared.event.Event.TheVariants as event_of;
 ghost use Rattle.ibc_machine.specs.declared.reply.Reply.TheVariants as reply_of;
-ghost use Rattle.ibc_machine.specs.ledger.Ledgers.{IsLedger, is_block_reply, state_of};
-ghost use Rattle.ibc_machine.specs.ics18.Relay.{view_of};
+ghost use Rattle.ibc_machine.specs.ledger.Ledgers.{IsLedger, is_block_reply};
 ghost use Rattle.ibc_ledger.specs.HistoryGrowth.{AddsOrNot};
 ghost use Rattle.ibc_ledger.specs.LedgerModel.{abstract_entry};
-ghost use Rattle.ibc_ledger_lock.specs.KnownLedgers.{nothing_known};
-ghost use Rattle.ibc_ledger_lock.specs.Books.{IsKnownBeginning, keeper, reader};
-ghost use Rattle.ibc_ledger_lock.specs.ReceiptsAndReadings.{ClaimHoldsOnItsChain, IsOfWorld, IsReceiptOf, IsViewOf, ShowsEnd, IsEarlierOnItsChain, known_of};
+ghost use Rattle.ibc_ledger_lock.specs.ReceiptsAndReadings.{ClaimHoldsOnItsChain, IsOfWorld, IsReceiptOf, ShowsEnd, IsEarlierOnItsChain, view_shown};
 
-use crate::book::{Book, BookSeat, UnusedBook, check, note};
+use crate::book::{Bookmark, Keeper, UnusedBook};
+use crate::posted_view::PostedView;
 use crate::reading::LedgerReading;
 use crate::receipt::Receipt;
 use crate::world::WorldBrand;
 use ibc_ids::Refusal;
-use ibc_ledger::{Ledger, StampedEntry, View};
+use ibc_ledger::{Ledger, StampedEntry};
 use ibc_machine::{Effect, Reply};
 use ibc_wire::Message;
-use std::marker::{Brand, Model, PhantomData};
+use std::marker::{Model, PhantomData};
 
-/// A ledger of the world, with the book of its chain. Contracts see the ledger.
+/// A ledger of the world, with the keeper of its chain's book. Contracts see the ledger.
 #[derive(Drop)]
 pub struct LockedLedger<W: WorldBrand> {
     ledger: Ledger,
-    book: Book,
-    seat: BookSeat,
+    keeper: Keeper,
     of: PhantomData<W>,
 }
 
 impl<W: WorldBrand> Model for LockedLedger<W> {
-    ghost use Rattle.std.specs.Prelude.{◌≡◌, ◌<◌, []};
+    ghost use Rattle.std.specs.Prelude.{◌≡◌};
     ghost use Rattle.ibc_ledger.specs.LedgerModel.{LedgerModel};
-    ghost use Rattle.ibc_ledger_lock.specs.Books.{keeper};
     ghost use Rattle.ibc_ledger_lock.specs.ReceiptsAndReadings.{known_of};
 
     ghost Value = { LedgerModel };
@@ -42,24 +38,22 @@ impl<W: WorldBrand> Model for LockedLedger<W> {
     ghost view = { λ d. d.ledger };
 
     ghost invariant = { λ d. (d.ledger.table ≡ W.table) × (d.ledger.ledger.genesis ≡ W.genesis)
-        × (d.book.shared.table_id ≡ W.book d.ledger.ledger.chain) × (0 < d.book.shared.table_id.words)
-        × (d.seat.table_id ≡ W.book d.ledger.ledger.chain) × (d.seat.me ≡ (keeper (known_of d.ledger.ledger), [])) };
+        × (d.keeper.book ≡ W.book d.ledger.ledger.chain) × (d.keeper.known ≡ known_of d.ledger.ledger) };
 }
 
 impl<W: WorldBrand> LockedLedger<W> {
-    /// The desk of a ledger of the world, with the unused book that is the world's for its chain.
+    /// A ledger of the world, with the unused book that is the world's for its chain.
     pub fn new(ledger: Ledger, opened: UnusedBook) -> LockedLedger<W>
         requires world { IsOfWorld W.table W.genesis ledger }
         requires book { opened ≡ W.book ledger.ledger.chain }
         ensures { result ≡ ledger }
     {
-        let UnusedBook { book, seat } = opened;
-        let mut seat = seat;
-        started(&book, &mut seat, &ledger);
+        let UnusedBook { keeper } = opened;
+        let mut keeper = keeper;
+        keeper.note(&ledger);
         LockedLedger {
             ledger,
-            book,
-            seat,
+            keeper,
             of: PhantomData,
         }
     }
@@ -74,10 +68,10 @@ impl<W: WorldBrand> LockedLedger<W> {
     {
         let chain = self.ledger.chain();
         let reply = self.ledger.apply(message);
-        let seat = noted(&self.book, &mut self.seat, &self.ledger);
+        let mark = self.keeper.note(&self.ledger);
         Receipt {
             chain,
-            seat: claimed(seat, &reply),
+            mark: claimed(mark, &reply),
             reply,
             of: PhantomData,
         }
@@ -93,23 +87,22 @@ impl<W: WorldBrand> LockedLedger<W> {
     {
         let chain = self.ledger.chain();
         let reply = ended(&mut self.ledger, next_time);
-        let seat = noted(&self.book, &mut self.seat, &self.ledger);
+        let mark = self.keeper.note(&self.ledger);
         Receipt {
             chain,
-            seat: claimed(seat, &reply),
+            mark: claimed(mark, &reply),
             reply,
             of: PhantomData,
         }
     }
 
     /// What may be claimed later of the ledger as it is now.
-    pub fn read(&mut self) -> LedgerReading<W>
-        ensures same { self.new ≡ self.old }
-        ensures now { result ≡ self.old }
+    pub fn read(&self) -> LedgerReading<W>
+        ensures { result ≡ self.now }
     {
         LedgerReading {
             chain: self.ledger.chain(),
-            seat: noted(&self.book, &mut self.seat, &self.ledger),
+            mark: self.keeper.mark(),
             of: PhantomData,
         }
     }
@@ -138,70 +131,74 @@ impl<W: WorldBrand> LockedLedger<W> {
 
     /// Ends the ledger's working block, and gives the view after it; none where the block's end was refused, and where a
     /// growth is refused for the view.
-    pub fn produce_and_look(&mut self, next_time: u64) -> (Receipt<W>, Option<View>)
+    pub fn produce_and_look(&mut self, next_time: u64) -> (Receipt<W>, Option<PostedView<W>>)
         ensures adds { AddsOrNot self.old.ledger (event_of.Block self.old.ledger.chain next_time) result.0.reply self.new.ledger }
         ensures chain { result.0.chain ≡ self.old.ledger.chain }
         ensures told { IsReceiptOf (event_of.Block self.old.ledger.chain next_time) result.0 }
-        ensures view { IfSome result.1 (λ view. IsViewOf W.table W.genesis view × ShowsEnd result.0 view) }
+        ensures view { IfSome result.1 (λ posted. (posted ≡ self.new) × ShowsEnd result.0 (view_shown posted)) }
     {
         let receipt = self.produce(next_time);
-        let view = if is_end(receipt.reply()) {
+        let posted = if is_end(receipt.reply()) {
             self.look()
         } else {
             None
         };
-        (receipt, view)
+        (receipt, posted)
     }
 
-    // The view of the ledger as it stands, none where a growth is refused.
-    fn look(&self) -> Option<View>
-        ensures view { IfSome result (λ view. view ≡ view_of self.now.ledger.chain (state_of self.now.ledger).chain) }
-        ensures world { IsOfWorld W.table W.genesis self.now }
-        ensures is { IsLedger self.now.ledger }
+    /// The view of the ledger as it stands, none where a growth is refused.
+    pub fn look(&self) -> Option<PostedView<W>>
+        ensures { IfSome result (λ posted. (posted ≡ self.now) × IsLedger posted.ledger) }
     {
-        self.ledger().view().ok()
+        match self.ledger().view() {
+            Ok(view) => Some(PostedView {
+                view,
+                reading: self.read(),
+            }),
+            Err(_) => None,
+        }
     }
 
     /// What a receipt of this chain claims stands in the history.
-    pub fn find(&mut self, receipt: &mut Receipt<W>)
-        ensures same { (self.new ≡ self.old) × (receipt.new ≡ receipt.old) }
-        ensures holds { ClaimHoldsOnItsChain self.old receipt.old }
+    pub fn find(&mut self, receipt: &Receipt<W>)
+        ensures same { self.new ≡ self.old }
+        ensures holds { ClaimHoldsOnItsChain self.old receipt.now }
     {
         if receipt.chain != self.ledger.chain() {
             return;
         }
-        if let Some(seat) = &mut receipt.seat {
-            check(&self.book, &mut self.seat, seat);
+        if let Some(mark) = &receipt.mark {
+            self.keeper.check(mark);
         }
     }
 
     /// What the receipts of this chain claim stands in the history.
-    pub fn find_all(&mut self, receipts: &mut [Receipt<W>])
-        ensures same { (self.new ≡ self.old) × (receipts.new ≡ receipts.old) }
-        ensures hold { All (ClaimHoldsOnItsChain self.old) receipts.old }
+    pub fn find_all(&mut self, receipts: &[Receipt<W>])
+        ensures same { self.new ≡ self.old }
+        ensures hold { All (ClaimHoldsOnItsChain self.old) receipts.now }
     {
         for k in 0..receipts.len() {
-            self.find(&mut receipts[k]);
+            self.find(&receipts[k]);
         }
     }
 
     /// The ledger was once as it was read, if that was read of its chain.
-    pub fn recall(&mut self, reading: &mut LedgerReading<W>)
-        ensures same { (self.new ≡ self.old) × (reading.new ≡ reading.old) }
-        ensures once { IsEarlierOnItsChain self.old reading.old }
+    pub fn recall(&mut self, reading: &LedgerReading<W>)
+        ensures same { self.new ≡ self.old }
+        ensures once { IsEarlierOnItsChain self.old reading.now }
     {
         if reading.chain == self.ledger.chain() {
-            check(&self.book, &mut self.seat, &mut reading.seat);
+            self.keeper.check(&reading.mark);
         }
     }
 
     /// The ledger was once as each reading of its chain has it.
-    pub fn recall_all(&mut self, readings: &mut [LedgerReading<W>])
-        ensures same { (self.new ≡ self.old) × (readings.new ≡ readings.old) }
-        ensures once { All (IsEarlierOnItsChain self.old) readings.old }
+    pub fn recall_all(&mut self, readings: &[LedgerReading<W>])
+        ensures same { self.new ≡ self.old }
+        ensures once { All (IsEarlierOnItsChain self.old) readings.now }
     {
         for k in 0..readings.len() {
-            self.recall(&mut readings[k]);
+            self.recall(&readings[k]);
         }
     }
 
@@ -222,34 +219,14 @@ fn ended(ledger: &mut Ledger, next_time: u64) -> Reply
     ledger.end_block(next_time)
 }
 
-// The keeper begins to know a ledger.
-fn started(book: &Book, seat: &mut BookSeat, ledger: &Ledger)
-    requires book { (seat.old.table_id ≡ book.now.shared.table_id) × (0 < book.now.shared.table_id.words) }
-    requires first { seat.old.me ≡ (keeper nothing_known, []) }
-    ensures { (seat.new.table_id ≡ seat.old.table_id) × (seat.new.me ≡ (keeper (known_of ledger.now.ledger), [])) }
-{
-    noted(book, seat, ledger);
-}
-
-// The keeper knows the ledger as it is now, which has gone on, and the new seat knows it too.
-fn noted(book: &Book, seat: &mut BookSeat, ledger: &Ledger) -> BookSeat
-    requires book { (seat.old.table_id ≡ book.now.shared.table_id) × (0 < book.now.shared.table_id.words) }
-    requires keeps { seat.old.me ≡ (keeper seat.old.me.0.whole, []) }
-    requires later { IsKnownBeginning seat.old.me.0.whole (known_of ledger.now.ledger) }
-    ensures seat { (seat.new.table_id ≡ seat.old.table_id) × (seat.new.me ≡ (keeper (known_of ledger.now.ledger), [])) }
-    ensures reader { (result.table_id ≡ seat.old.table_id) × (result.me ≡ (reader (known_of ledger.now.ledger), [])) }
-{
-    note::<Brand>(book, seat, ledger)
-}
-
 // What a call's receipt claims by: nothing where the call added no entry.
-fn claimed(seat: BookSeat, reply: &Reply) -> Option<BookSeat>
+fn claimed(mark: Bookmark, reply: &Reply) -> Option<Bookmark>
     ensures nothing { reply.now ≡ reply_of.No NoMemory → result ≡ None }
-    ensures one { (reply.now ≡ reply_of.No NoMemory → ⊥) → result ≡ Some seat }
+    ensures one { (reply.now ≡ reply_of.No NoMemory → ⊥) → result ≡ Some mark }
 {
     match reply {
         Reply::No(Refusal::NoMemory) => None,
-        _ => Some(seat),
+        _ => Some(mark),
     }
 }
 

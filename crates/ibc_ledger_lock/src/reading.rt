@@ -2,9 +2,10 @@
 
 ghost use Rattle.std.specs.Prelude.{◌≡◌, length};
 ghost use Rattle.ibc_machine.specs.ledger.Ledgers.{Ledger, IsLedger, state_of};
-ghost use Rattle.ibc_ledger_lock.specs.ReceiptsAndReadings.{IsEarlier, state_after};
+ghost use Rattle.ibc_machine.specs.ics18.Relay.{view_of};
+ghost use Rattle.ibc_ledger_lock.specs.ReceiptsAndReadings.{HasShown, IsEarlier, state_after};
 
-use crate::book::BookSeat;
+use crate::book::Bookmark;
 use crate::world::WorldBrand;
 use std::marker::{Model, PhantomData};
 
@@ -12,21 +13,20 @@ use std::marker::{Model, PhantomData};
 #[derive(Drop)]
 pub struct LedgerReading<W: WorldBrand> {
     pub(crate) chain: u8,
-    pub(crate) seat: BookSeat,
+    pub(crate) mark: Bookmark,
     pub(crate) of: PhantomData<W>,
 }
 
 impl<W: WorldBrand> Model for LedgerReading<W> {
-    ghost use Rattle.std.specs.Prelude.{◌≡◌, []};
+    ghost use Rattle.std.specs.Prelude.{◌≡◌};
     ghost use Rattle.ibc_ledger.specs.LedgerModel.{LedgerModel};
-    ghost use Rattle.ibc_ledger_lock.specs.Books.{reader};
     ghost use Rattle.ibc_ledger_lock.specs.ReceiptsAndReadings.{ledger_as};
 
     ghost Value = { LedgerModel };
 
-    ghost view = { λ r. ledger_as W.table W.genesis r.chain r.seat.me.0.part };
+    ghost view = { λ r. ledger_as W.table W.genesis r.chain r.mark.known };
 
-    ghost invariant = { λ r. (r.seat.table_id ≡ W.book r.chain) × (r.seat.me ≡ (reader r.seat.me.0.part, [])) };
+    ghost invariant = { λ r. r.mark.book ≡ W.book r.chain };
 }
 
 impl<W: WorldBrand> LedgerReading<W> {
@@ -36,9 +36,25 @@ impl<W: WorldBrand> LedgerReading<W> {
     {
         self.chain
     }
+
+    /// A copy.
+    pub fn again(&self) -> LedgerReading<W>
+        ensures { result ≡ self.now }
+    {
+        LedgerReading {
+            chain: self.chain,
+            mark: self.mark.again(),
+            of: PhantomData,
+        }
+    }
 }
 
 /// What a ledger had once is what the first entries of its history leave, as many as it had then.
 pub fn lemma_had_then()
     ensures { (old new : Ledger) → IsLedger old → IsEarlier old new → state_of old ≡ state_after (length old.history) new }
+{}
+
+/// What a ledger showed once, it showed after one of its blocks, or in the beginning.
+pub fn lemma_has_shown()
+    ensures { (old new : Ledger) → IsLedger old → IsEarlier old new → HasShown new (view_of old.chain (state_of old).chain) }
 {}

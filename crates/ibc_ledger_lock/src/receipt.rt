@@ -3,7 +3,7 @@ ghost use Rattle.std.specs.Prelude.{◌≡◌, ◌⊎◌, IsSome};
 ghost use Rattle.ibc_ids.specs.declared.refusal.Refusal.TheVariants.{NoMemory};
 ghost use Rattle.ibc_machine.specs.declared.reply.Reply.TheVariants as answer;
 
-use crate::book::BookSeat;
+use crate::book::Bookmark;
 use crate::world::WorldBrand;
 use ibc_machine::Reply;
 use std::marker::{Model, PhantomData};
@@ -14,25 +14,24 @@ use std::marker::{Model, PhantomData};
 pub struct Receipt<W: WorldBrand> {
     pub(crate) chain: u8,
     pub(crate) reply: Reply,
-    pub(crate) seat: Option<BookSeat>,
+    pub(crate) mark: Option<Bookmark>,
     pub(crate) of: PhantomData<W>,
 }
 
 impl<W: WorldBrand> Model for Receipt<W> {
-    ghost use Rattle.std.specs.Prelude.{◌≡◌, ◌⊎◌, [], None, IfSome, IsNone, IsSome};
+    ghost use Rattle.std.specs.Prelude.{◌≡◌, ◌⊎◌, None, IfSome, IsNone, IsSome};
     ghost use Rattle.std.specs.List.{last_or};
     ghost use Rattle.std.specs.Option.{IsSomeAnd, option_and_then};
     ghost use Rattle.ibc_ids.specs.declared.refusal.Refusal.TheVariants.{NoMemory};
     ghost use Rattle.ibc_machine.specs.declared.reply.Reply.TheVariants as answer;
-    ghost use Rattle.ibc_ledger_lock.specs.Books.{reader};
     ghost use Rattle.ibc_ledger_lock.specs.ReceiptsAndReadings.{ReceiptModel, claim_of};
 
     ghost Value = { ReceiptModel };
 
-    ghost view = { λ r. record { chain = r.chain; reply = r.reply; claim = option_and_then (λ c. claim_of c.me.0.part.history) r.seat } };
+    ghost view = { λ r. record { chain = r.chain; reply = r.reply; claim = option_and_then (λ m. claim_of m.known.history) r.mark } };
 
-    ghost invariant = { λ r. (((r.reply ≡ answer.No NoMemory) × IsNone r.seat) ⊎ ((r.reply ≡ answer.No NoMemory → ⊥) × IsSome r.seat))
-        × IfSome r.seat (λ c. (c.table_id ≡ W.book r.chain) × (c.me ≡ (reader c.me.0.part, [])) × IsSomeAnd (last_or None c.me.0.part.history) (λ e. e.entry.reply ≡ r.reply)) };
+    ghost invariant = { λ r. (((r.reply ≡ answer.No NoMemory) × IsNone r.mark) ⊎ ((r.reply ≡ answer.No NoMemory → ⊥) × IsSome r.mark))
+        × IfSome r.mark (λ m. (m.book ≡ W.book r.chain) × IsSomeAnd (last_or None m.known.history) (λ e. e.entry.reply ≡ r.reply)) };
 }
 
 impl<W: WorldBrand> Receipt<W> {

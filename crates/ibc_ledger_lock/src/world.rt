@@ -4,7 +4,7 @@ use std::marker::Brand;
 /// One table and one genesis, and the books of their chains. A program picks them at a call, once they are made.
 pub trait WorldBrand {
     ghost use Rattle.std.specs.Prelude.{ℕ};
-    ghost use Rattle.atomic_table.specs.Seated.{TableId};
+    ghost use Rattle.logbook.specs.Pages.{Book};
     ghost use Rattle.ibc_machine.specs.chain.Genesis.{GenesisState};
     ghost use Rattle.ibc_root_table.specs.Passes.{TableName};
 
@@ -12,7 +12,7 @@ pub trait WorldBrand {
 
     ghost genesis: { GenesisState };
     /// The book of the chain of a number.
-    ghost book: { ℕ → TableId };
+    ghost book: { ℕ → Book };
 }
 
 impl WorldBrand for Brand {

@@ -3,7 +3,7 @@ use Rattle.std.proofs.Common.{◌≡◌, ◌∙◌, ℕ, zero, suc, List, [], �
 use Rattle.std.specs.List.{All}
 use Rattle.std.specs.Option.{option_map_or}
 use Rattle.std.proofs.lemmas.List.Elements.{All-nil, All-cons, All-head, All-tail}
-use Rattle.atomic_table.specs.Seated.{TableId}
+use Rattle.logbook.specs.Pages.{Book}
 use Rattle.ibc_machine.specs.chain.Genesis.{GenesisState}
 use Rattle.ibc_machine.specs.ledger.Ledgers.{Ledger}
 use Rattle.ibc_ledger.specs.LedgerModel.{LedgerModel}
@@ -31,7 +31,7 @@ module _ {X : Type 0} (P : X → Type 0) where
 -- ---- new ledgers
 
 abbrev pub Booked : Type 0
-Booked = LedgerModel × TableId
+Booked = LedgerModel × Book
 
 -- each of the ledgers of a genesis in the beginning has the book of its chain's number
 pub are_booked : (genesis : GenesisState) (pairs : List Booked) (ledgers : List LedgerModel) → map (λ (p : Booked). p.0) pairs ≡ ledgers

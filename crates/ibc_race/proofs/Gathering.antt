@@ -40,19 +40,19 @@ as_many before after x left rest y n pushed next many =
     omega arith
 
 -- one ledger more is taken out
-module _ (table : TableName) (genesis : GenesisState) (receipts claims : List ReceiptModel) (readings reads : List LedgerModel) where
-  pub gathered : (ledgers after : List LedgerModel) (held : LedgerModel) → claims ≡ receipts → reads ≡ readings → after ≡ ledgers ++ held ∷ []
+module _ (table : TableName) (genesis : GenesisState) (receipts : List ReceiptModel) (readings : List LedgerModel) where
+  pub gathered : (ledgers after : List LedgerModel) (held : LedgerModel) → after ≡ ledgers ++ held ∷ []
       → AreGathered table genesis receipts readings ledgers → IsOfWorld table genesis held
-      → All (ClaimHoldsOnItsChain held) claims → All (IsEarlierOnItsChain held) reads → AreGathered table genesis receipts readings after
-  gathered ledgers after held same_claims same_reads pushed before world holds once =
+      → All (ClaimHoldsOnItsChain held) receipts → All (IsEarlierOnItsChain held) readings → AreGathered table genesis receipts readings after
+  gathered ledgers after held pushed before world holds once =
       let Claimed : LedgerModel → Type 0 = λ h. All (ClaimHoldsOnItsChain h) receipts in
       let Read : LedgerModel → Type 0 = λ h. All (IsEarlierOnItsChain h) readings in
       let with_one : (P : LedgerModel → Type 0) → All P ledgers → P held → All P (ledgers ++ held ∷ []) =
       λ P all one. All-append P ledgers (held ∷ []) all (All-cons P held [] one (All-nil P)) in
       subst (AreGathered table genesis receipts readings) (sym pushed) (
         with_one (IsOfWorld table genesis) before.0 world,
-        with_one Claimed before.1 (subst (All (ClaimHoldsOnItsChain held)) same_claims holds),
-        with_one Read before.2 (subst (All (IsEarlierOnItsChain held)) same_reads once),
+        with_one Claimed before.1 holds,
+        with_one Read before.2 once,
       )
 
 pub audited : (table : TableName) (genesis : GenesisState) (n : ℕ) (receipts : List ReceiptModel) (readings ledgers : List LedgerModel) (answer : Result Audit Refusal)

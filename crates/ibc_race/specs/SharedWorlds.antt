@@ -2,7 +2,7 @@
 use Rattle.std.specs.Prelude.{◌≡◌, ℕ, List, [], ◌∷◌, length, slice_get}
 use Rattle.std.specs.Option.{option_map_or}
 use Rattle.std.specs.List.{All}
-use Rattle.atomic_table.specs.Seated.{TableId}
+use Rattle.logbook.specs.Pages.{Book}
 use Rattle.ibc_machine.specs.chain.Genesis.{GenesisState}
 use Rattle.ibc_root_table.specs.Passes.{TableName}
 use Rattle.ibc_ledger.specs.LedgerModel.{LedgerModel}
@@ -13,16 +13,16 @@ use Rattle.ibc_world_core.specs.declared.holdings.Audit.{Audit}
 use Rattle.ibc_theorem.specs.EveryAudit.{AreLawful}
 
 -- the ledger is of this table and this genesis, and the book is the one of its chain's number
-abbrev pub HasItsBook : TableName → GenesisState → (ℕ → TableId) → LedgerModel × TableId → Type 0
+abbrev pub HasItsBook : TableName → GenesisState → (ℕ → Book) → LedgerModel × Book → Type 0
 HasItsBook table genesis book (held, opened) = IsOfWorld table genesis held × (opened ≡ book held.ledger.chain)
 
 -- the table of the first of the ledgers
-abbrev pub table_of : List (LedgerModel × TableId) → TableName
+abbrev pub table_of : List (LedgerModel × Book) → TableName
 table_of [] = no_table
 table_of ((held, opened) ∷ rest) = held.table
 
 -- the book of a chain's number, where the ledgers stand by their numbers
-abbrev pub book_of : List (LedgerModel × TableId) → ℕ → TableId
+abbrev pub book_of : List (LedgerModel × Book) → ℕ → Book
 book_of ledgers n = option_map_or (λ p. p.1) (slice_get ledgers n) no_book
 
 -- Ledgers of this table and this genesis, in whose histories stands what the receipts claim, and which were once as they

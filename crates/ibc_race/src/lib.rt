@@ -36,21 +36,21 @@ fn with_books(alloc: Global, ledgers: Vec<Ledger>) -> Result<Vec<(Ledger, Unused
 {
     let mut booked = Vec::with_capacity(alloc, ledgers.len())?;
     for ledger in ledgers {
-        booked.push(with_book(alloc, ledger)?)?;
+        booked.push(with_book(ledger)?)?;
     }
     Ok(booked)
 }
 
-// A ledger with an unused book.
-fn with_book(alloc: Global, ledger: Ledger) -> Result<(Ledger, UnusedBook), Refusal>
+// A ledger with an unused book. That there is none, which a new book never is, is told as want of memory.
+fn with_book(ledger: Ledger) -> Result<(Ledger, UnusedBook), Refusal>
     ensures ok { IfOk result (λ booked. booked.0 ≡ ledger) }
     ensures err { IsOkUnless result NoMemory }
 {
-    match UnusedBook::new(alloc) {
-        Ok(opened) => Ok((ledger, opened)),
-        Err(error) => {
+    match UnusedBook::new() {
+        Some(opened) => Ok((ledger, opened)),
+        None => {
             drop(ledger);
-            Err(Refusal::from(error))
+            Err(Refusal::NoMemory)
         }
     }
 }
@@ -109,11 +109,10 @@ fn refusal_of(back: (Refusal, Ledger)) -> Refusal
 pub fn audit_chains<W: WorldBrand>(
     alloc: Global,
     chains: Vec<Chain<W>>,
-    receipts: &mut [Receipt<W>],
-    readings: &mut [LedgerReading<W>],
+    receipts: &[Receipt<W>],
+    readings: &[LedgerReading<W>],
 ) -> Result<Audit, Refusal>
-    ensures audited { IfOk result (IsAuditOf W.table W.genesis (length chains.items) receipts.old readings.old) }
-    ensures same { (receipts.new ≡ receipts.old) × (readings.new ≡ readings.old) }
+    ensures audited { IfOk result (IsAuditOf W.table W.genesis (length chains.items) receipts.now readings.now) }
     ensures err { IfErr result (λ refusal. (refusal ≡ BadMessage) ⊎ (refusal ≡ NoMemory)) }
 {
     lawful_audit(alloc, ledgers_of(alloc, chains, receipts, readings)?)
@@ -124,12 +123,11 @@ pub fn audit_chains<W: WorldBrand>(
 fn ledgers_of<W: WorldBrand>(
     alloc: Global,
     chains: Vec<Chain<W>>,
-    receipts: &mut [Receipt<W>],
-    readings: &mut [LedgerReading<W>],
+    receipts: &[Receipt<W>],
+    readings: &[LedgerReading<W>],
 ) -> Result<Vec<Ledger>, Refusal>
     ensures as_many { IfOk result (λ ledgers. length ledgers.items ≡ length chains.items) }
-    ensures gathered { IfOk result (λ ledgers. AreGathered W.table W.genesis receipts.old readings.old ledgers.items) }
-    ensures same { (receipts.new ≡ receipts.old) × (readings.new ≡ readings.old) }
+    ensures gathered { IfOk result (λ ledgers. AreGathered W.table W.genesis receipts.now readings.now ledgers.items) }
     ensures err { IsOkUnless result NoMemory }
 {
     let mut ledgers = Vec::with_capacity(alloc, chains.len())?;

@@ -171,14 +171,7 @@ fn audited<W: WorldBrand>(alloc: Global, chains: Vec<Chain<W>>) -> Result<RaceAu
     ensures raced { IfOk result (IsRaceOf W.genesis) }
     ensures faults { IfErr result IsScriptFault }
 {
-    let mut receipts = Vec::new(alloc);
-    let mut readings = Vec::new(alloc);
-    match audit_chains::<W>(
-        alloc,
-        chains,
-        receipts.as_mut_slice(),
-        readings.as_mut_slice(),
-    ) {
+    match audit_chains::<W>(alloc, chains, &[], &[]) {
         Ok(audit) => Ok(told(audit)),
         Err(refusal) => Err(Fault::of_refusal(refusal)),
     }

@@ -195,7 +195,11 @@ impl<R: Wait, W: WorldBrand> Chains for Shared<'_, R, W> {
 
     fn plans(&self, first: u8, second: u8) -> Result<(Vec<Message>, Vec<Message>), Refusal> {
         match (self.chain(first), self.chain(second)) {
-            (Some(first), Some(second)) => plans(self.alloc, first.view(), second.view()),
+            (Some(first), Some(second)) => {
+                let (of_first, _) = first.view();
+                let (of_second, _) = second.view();
+                plans(self.alloc, of_first, of_second)
+            }
             _ => Ok((Vec::new(self.alloc), Vec::new(self.alloc))),
         }
     }

@@ -92,7 +92,7 @@ fn comes_back<R: Wait, W: WorldBrand>(
     let held = ledger.balances();
     match board_of::<W>(alloc) {
         Ok(board) => {
-            let back = made_and_taken(rt, alloc, ledger, opened, board);
+            let back = made_and_taken(rt, ledger, opened, board);
             let is_number = back.chain() == number;
             let again = back.balances();
             drop(back);
@@ -126,7 +126,6 @@ fn board_of<W: WorldBrand>(alloc: Global) -> Result<Arc<Board<W>, Global>, Refus
 // The ledger of the chain that was made of a ledger, or the ledger that was handed back.
 fn made_and_taken<R: Wait, W: WorldBrand>(
     rt: &R,
-    alloc: Global,
     ledger: Ledger,
     opened: UnusedBook,
     board: Arc<Board<W>, Global>,
@@ -135,8 +134,8 @@ fn made_and_taken<R: Wait, W: WorldBrand>(
 {
     match Chain::new(rt, ledger, opened, board) {
         Ok(chain) => {
-            let mut readings = Vec::new(alloc);
-            chain.into_ledger(Vec::new(alloc).as_mut_slice(), readings.as_mut_slice())
+            let (_, reading) = chain.view();
+            chain.into_ledger(&[], &[reading])
         }
         Err((_, ledger)) => ledger,
     }

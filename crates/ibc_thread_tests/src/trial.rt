@@ -199,17 +199,11 @@ fn is_done<R: Threads + Wait + Sync, G: Gate>(
 fn audited<R: Threads + Wait + Sync, W: WorldBrand>(
     trial: &Trial<'_, R>,
     chains: Vec<Chain<W>>,
-    mut receipts: Vec<Receipt<W>>,
+    receipts: Vec<Receipt<W>>,
     done: Result<bool, Refusal>,
 ) -> Result<RaceAudit, Fault> {
     trial.is_done.set(done == Ok(true));
-    let mut readings = Vec::new(trial.alloc);
-    match audit_chains(
-        trial.alloc,
-        chains,
-        receipts.as_mut_slice(),
-        readings.as_mut_slice(),
-    ) {
+    match audit_chains(trial.alloc, chains, receipts.as_slice(), &[]) {
         Ok(Audit { balances, notes }) => Ok(RaceAudit { balances, notes }),
         Err(refusal) => Err(Fault::of_refusal(refusal)),
     }

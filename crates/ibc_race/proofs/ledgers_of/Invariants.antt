@@ -5,8 +5,6 @@ use Rattle.ibc_race.proofs.ledgers_of.Given as goal
 
 abbrev pub invariant-loop-chain : goal.invariant-loop-chain
 invariant-loop-chain g l = record {
-  receipts : l.receipts ≡ l.initial.receipts;
-  readings : l.readings ≡ l.initial.readings;
   many : length l.ledgers.items + length (into_iter_items l.chain-iterator) ≡ length l.fn.chains.items;
-  gathered : AreGathered g.W.World.table g.W.World.genesis l.initial.receipts l.initial.readings l.ledgers.items;
+  gathered : AreGathered g.W.WorldBrand.table g.W.WorldBrand.genesis l.fn.receipts l.fn.readings l.ledgers.items;
 }

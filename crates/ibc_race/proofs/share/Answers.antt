@@ -9,12 +9,12 @@ use Rattle.ibc_race.proofs.share.Goals as goal
 
 pub shared-requires : goal.shared-requires
 shared-requires g c =
-    let P : Booked → Type 0 = HasItsBook g.W.World.table g.W.World.genesis g.W.World.book in
+    let P : Booked → Type 0 = HasItsBook g.W.WorldBrand.table g.W.WorldBrand.genesis g.W.WorldBrand.book in
     All-head P (c.in-Some.ledger, c.in-Some.opened) (into_iter_items c.next.new.self) (subst (All P) c.in-Some.ensures.steps.0 c.loop-ledger.invariant.left)
 
 pub loop-ledger-preserved : goal.loop-ledger-preserved
 loop-ledger-preserved g c =
-    let P : Booked → Type 0 = HasItsBook g.W.World.table g.W.World.genesis g.W.World.book in
+    let P : Booked → Type 0 = HasItsBook g.W.WorldBrand.table g.W.WorldBrand.genesis g.W.WorldBrand.book in
     let at = c.loop-ledger in
     let booked : Booked = (c.in-Some.ledger, c.in-Some.opened) in
     let chain : Booked → ℕ = λ p. p.0.ledger.chain in

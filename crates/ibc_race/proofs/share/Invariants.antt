@@ -6,7 +6,7 @@ use Rattle.ibc_race.proofs.share.Given as goal
 
 abbrev pub invariant-loop-ledger : goal.invariant-loop-ledger
 invariant-loop-ledger g l = record {
-  left : All (HasItsBook g.W.World.table g.W.World.genesis g.W.World.book) (into_iter_items l.ledger-iterator);
+  left : All (HasItsBook g.W.WorldBrand.table g.W.WorldBrand.genesis g.W.WorldBrand.book) (into_iter_items l.ledger-iterator);
   counted : into_iter_len l.ledger-iterator ≡ length (into_iter_items l.ledger-iterator);
   made : l.chains.items ++ map (λ p. p.0.ledger.chain) (into_iter_items l.ledger-iterator) ≡ map (λ p. p.0.ledger.chain) l.fn.ledgers.items;
 }

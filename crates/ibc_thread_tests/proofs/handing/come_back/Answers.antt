@@ -6,12 +6,12 @@ use Rattle.ibc_thread_tests.proofs.handing.come_back.Goals as goal
 
 pub comes_back-requires : goal.comes_back-requires
 comes_back-requires g c =
-    let P = HasItsBook g.W.World.table g.W.World.genesis g.W.World.book in
+    let P = HasItsBook g.W.WorldBrand.table g.W.WorldBrand.genesis g.W.WorldBrand.book in
     All-head P (c.in-Some.ledger, c.in-Some.opened) (into_iter_items c.next.new.self) (subst (All P) c.in-Some.ensures.steps.0 c.loop-ledger.invariant.left)
 
 pub loop-ledger-preserved : goal.loop-ledger-preserved
 loop-ledger-preserved g c =
-    let P = HasItsBook g.W.World.table g.W.World.genesis g.W.World.book in
+    let P = HasItsBook g.W.WorldBrand.table g.W.WorldBrand.genesis g.W.WorldBrand.book in
     let at = c.loop-ledger in
     record {
       left = All-tail P (c.in-Some.ledger, c.in-Some.opened) (into_iter_items c.next.new.self) (subst (All P) c.in-Some.ensures.steps.0 at.invariant.left);

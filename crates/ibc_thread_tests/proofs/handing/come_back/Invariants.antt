@@ -6,6 +6,6 @@ use Rattle.ibc_thread_tests.proofs.handing.come_back.Given as goal
 
 abbrev pub invariant-loop-ledger : goal.invariant-loop-ledger
 invariant-loop-ledger g l = record {
-  left : All (HasItsBook g.W.World.table g.W.World.genesis g.W.World.book) (into_iter_items l.ledger-iterator);
+  left : All (HasItsBook g.W.WorldBrand.table g.W.WorldBrand.genesis g.W.WorldBrand.book) (into_iter_items l.ledger-iterator);
   counted : into_iter_len l.ledger-iterator ≡ length (into_iter_items l.ledger-iterator);
 }

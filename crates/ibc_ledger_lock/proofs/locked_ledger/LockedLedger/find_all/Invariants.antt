@@ -3,5 +3,4 @@ use Rattle.ibc_ledger_lock.specs.ReceiptsAndReadings.{ClaimHoldsOnItsChain}
 use Rattle.ibc_ledger_lock.proofs.locked_ledger.LockedLedger.find_all.Given as goal
 
 abbrev pub invariant-loop-k : goal.invariant-loop-k
-invariant-loop-k g l = (l.self ≡ l.initial.self) × (l.receipts ≡ l.initial.receipts)
-    × All (ClaimHoldsOnItsChain l.initial.self) (take l.k l.initial.receipts)
+invariant-loop-k g l = (l.self ≡ l.initial.self) × All (ClaimHoldsOnItsChain l.initial.self) (take l.k l.fn.receipts)
