@@ -59,11 +59,7 @@ fn keep(answers: &mut Vec<Answer>, chain: u8, reply: Reply) -> Result<Reply, Ref
 // The record that bytes spell. Refused: `NoMemory`.
 fn read<T: Wire + Drop>(alloc: Global, bytes: Option<Bytes>) -> Result<Option<T>, Refusal> {
     match bytes {
-        Some(bytes) => {
-            let record = decode(alloc, bytes.as_slice());
-            drop(bytes);
-            Ok(Some(record?))
-        }
+        Some(bytes) => Ok(Some(decode(alloc, bytes.as_slice())?)),
         None => Ok(None),
     }
 }

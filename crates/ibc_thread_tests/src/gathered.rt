@@ -34,20 +34,14 @@ pub fn list_of(alloc: Global, race: Race) -> Result<List, Fault>
     ensures { IfErr result (λ fault. IsRunFault fault ⊎ IsScriptFault fault) }
 {
     match begin(alloc, race.genesis()) {
-        Ok(gathering) => Ok(race.run_on(gathering)?.into_list()),
+        Ok(gathering) => {
+            let Gathering { list, .. } = race.run_on(gathering)?;
+            Ok(list)
+        }
         Err(refusal) => {
             drop(race);
             Err(Fault::of_refusal(refusal))
         }
-    }
-}
-
-impl Gathering {
-    // What was asked and answered.
-    fn into_list(self) -> List {
-        let Gathering { ledgers, list, .. } = self;
-        drop(ledgers);
-        list
     }
 }
 

@@ -4,7 +4,6 @@ ghost use denote.Param.Send.{IsSync};
 ghost use Rattle.std.specs.Prelude.{◌≡◌, All};
 ghost use Rattle.ibc_race.specs.SharedWorlds.{HasItsBook};
 
-use crate::equal::are_equal;
 use ibc_ids::Refusal;
 use ibc_ledger::Ledger;
 use ibc_ledger_lock::{Board, Chain, UnusedBook, WorldBrand};
@@ -65,17 +64,12 @@ fn come_back<R: Wait, W: WorldBrand>(
     requires { All (HasItsBook W.table W.genesis W.book) ledgers.items }
 {
     drop(race);
-    let mut are_same = Ok(true);
+    let mut are_same = true;
     for (ledger, opened) in ledgers {
-        let is_same = comes_back::<R, W>(returning.rt, returning.alloc, ledger, opened);
-        are_same = are_both(are_same, is_same);
+        let is_same = comes_back::<R, W>(returning.rt, returning.alloc, ledger, opened)?;
+        are_same &= is_same;
     }
-    are_same
-}
-
-// Whether both are so, or the first refusal.
-fn are_both(one: Result<bool, Refusal>, other: Result<bool, Refusal>) -> Result<bool, Refusal> {
-    Ok(one? & other?)
+    Ok(are_same)
 }
 
 // Whether a ledger comes back as it was.
@@ -90,20 +84,17 @@ fn comes_back<R: Wait, W: WorldBrand>(
     let ledger = with_a_client(ledger);
     let number = ledger.chain();
     let held = ledger.balances();
-    match board_of::<W>(alloc) {
-        Ok(board) => {
-            let back = made_and_taken(rt, alloc, ledger, opened, board);
-            let is_number = back.chain() == number;
-            let again = back.balances();
-            drop(back);
-            Ok(are_equal(again, held)? && is_number)
-        }
+    let back = match board_of::<W>(alloc) {
+        Ok(board) => made_and_taken(rt, alloc, ledger, opened, board),
         Err(refusal) => {
             drop(ledger);
-            drop(held);
-            Err(refusal)
+            return Err(refusal);
         }
-    }
+    };
+    let is_number = back.chain() == number;
+    let again = back.balances();
+    drop(back);
+    Ok(is_number && again? == held?)
 }
 
 // The ledger once it has made a client and ended a block: a view of it asks for memory.

@@ -68,24 +68,10 @@ fn says<G: Gate, R: Wait>(
 ) -> Result<bool, Refusal> {
     let end = lines.lines().count();
     Ok(
-        says_from(alloc, rt, chain, (name, 0), lines)?
-            && says_from(alloc, rt, chain, (name, end), "")?
-            && says_from(alloc, rt, chain, (name, usize::MAX), "")?,
+        history_of(alloc, rt, chain, name, 0)?.as_str() == lines
+            && history_of(alloc, rt, chain, name, end)?.is_empty()
+            && history_of(alloc, rt, chain, name, usize::MAX)?.is_empty(),
     )
-}
-
-// Whether a chain's history says these lines from a place on.
-fn says_from<G: Gate, R: Wait>(
-    alloc: Global,
-    rt: &R,
-    chain: &G,
-    (name, place): (&str, usize),
-    lines: &str,
-) -> Result<bool, Refusal> {
-    let told = history_of(alloc, rt, chain, name, place)?;
-    let is_told = told.as_str() == lines;
-    drop(told);
-    Ok(is_told)
 }
 
 // Whether what a chain answered is what its entries have, one after the other.

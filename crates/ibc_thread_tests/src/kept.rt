@@ -39,26 +39,14 @@ pub fn answers_of<W: WorldBrand>(
     receipts: &[Receipt<W>],
 ) -> Result<Vec<Answer>, Refusal> {
     let mut answers = Vec::with_capacity(alloc, receipts.len())?;
-    match push_answers(&mut answers, receipts) {
-        Ok(()) => Ok(answers),
-        Err(refusal) => {
-            drop(answers);
-            Err(refusal)
-        }
-    }
-}
-
-// Adds what receipts tell to other answers.
-fn push_answers<W: WorldBrand>(
-    answers: &mut Vec<Answer>,
-    receipts: &[Receipt<W>],
-) -> Result<(), Refusal> {
     for receipt in receipts {
-        let chain = receipt.chain();
         let reply = receipt.reply().clone()?;
-        answers.push(Answer { chain, reply })?;
+        answers.push(Answer {
+            chain: receipt.chain(),
+            reply,
+        })?;
     }
-    Ok(())
+    Ok(answers)
 }
 
 impl<R: Wait, W: WorldBrand> Chains for ReceiptedChains<'_, R, W> {

@@ -7,8 +7,6 @@ mod asked;
 #[cfg(test)]
 mod committing;
 #[cfg(test)]
-mod equal;
-#[cfg(test)]
 mod gathered;
 #[cfg(test)]
 mod handing;

@@ -3,7 +3,6 @@
 ghost use Rattle.std.specs.Prelude.{◌⊎◌, IfErr};
 ghost use Rattle.ibc_script.specs.Faults.{IsScriptFault, IsRunFault};
 
-use crate::equal::are_equal;
 use crate::gathered::{List, list_of};
 use crate::spelled::{SpelledEvent, answered, are_spelled, is_no_memory, read_back};
 use ibc_ids::Refusal;
@@ -167,10 +166,7 @@ impl Pair {
         let is_as_before = are_same_worlds(alloc, &self.first, &self.second);
         let came = match self.first.run(events) {
             Ok(replies) => self.judge_replies(alloc, list, replies),
-            Err(not_run) => {
-                drop(not_run);
-                Err(Refusal::NoMemory)
-            }
+            Err(_) => Err(Refusal::NoMemory),
         };
         if came? == Came::Answered && are_back? && is_as_before? && refusal == Refusal::NoMemory {
             Ok(Came::HandedBack)
@@ -188,26 +184,18 @@ impl Pair {
         replies: &[Reply],
     ) -> Result<bool, Refusal> {
         let events = answered(alloc, events, replies)?;
-        match self.second.run(events) {
-            Ok(others) => {
-                let are_others = are_ample_others(replies, others.as_slice());
-                drop(others);
-                Ok(are_others? && are_same_worlds(alloc, &self.first, &self.second)?)
-            }
-            Err(not_run) => {
-                drop(not_run);
-                Err(Refusal::NoMemory)
-            }
+        let Ok(others) = self.second.run(events) else {
+            return Err(Refusal::NoMemory);
+        };
+        let are_ample = !others.iter().any(is_no_memory);
+        let are_others = are_others(replies, others.as_slice());
+        drop(others);
+        if are_ample {
+            Ok(are_others && are_same_worlds(alloc, &self.first, &self.second)?)
+        } else {
+            Err(Refusal::NoMemory)
         }
     }
-}
-
-// Whether these are the other replies, but for `NoMemory`, of which there is none among them. Refused: `NoMemory`, where one is.
-fn are_ample_others(replies: &[Reply], others: &[Reply]) -> Result<bool, Refusal> {
-    if others.iter().any(is_no_memory) {
-        return Err(Refusal::NoMemory);
-    }
-    Ok(are_others(replies, others))
 }
 
 // Whether these are the other replies, but for `NoMemory`.
@@ -274,9 +262,13 @@ fn have_same_entries(
 }
 
 fn have_same_balances(one: &Ledger, other: &Ledger) -> Result<bool, Refusal> {
-    are_equal(one.balances(), other.balances())
+    let balances = one.balances()?;
+    let others = other.balances();
+    Ok(others? == balances)
 }
 
 fn have_same_notes(one: &Ledger, other: &Ledger) -> Result<bool, Refusal> {
-    are_equal(one.all_notes(), other.all_notes())
+    let notes = one.all_notes()?;
+    let others = other.all_notes();
+    Ok(others? == notes)
 }

@@ -7,7 +7,7 @@ use ibc_wire::{Message, Packet};
 use std::alloc::Global;
 
 /// An event, with its message as it is spelled.
-#[derive(PartialEq, Eq, Drop)]
+#[derive(Debug, PartialEq, Eq, Drop)]
 pub enum SpelledEvent {
     Message { chain: u8, bytes: Vec<u8> },
     Block { chain: u8, next_time: u64 },
@@ -72,28 +72,12 @@ pub fn answered(
     replies: &[Reply],
 ) -> Result<Vec<Event>, Refusal> {
     let mut events = Vec::with_capacity(alloc, list.len())?;
-    match push_answered(alloc, &mut events, list, replies) {
-        Ok(()) => Ok(events),
-        Err(refusal) => {
-            drop(events);
-            Err(refusal)
-        }
-    }
-}
-
-// Adds those events to others.
-fn push_answered(
-    alloc: Global,
-    events: &mut Vec<Event>,
-    list: &[SpelledEvent],
-    replies: &[Reply],
-) -> Result<(), Refusal> {
     for (spelled, reply) in list.iter().zip(replies) {
         if !is_no_memory(reply) {
             events.push(spelled.event(alloc)?)?;
         }
     }
-    Ok(())
+    Ok(events)
 }
 
 // The packet that a message carries, if it does.
@@ -110,12 +94,8 @@ fn packet_of(message: &Message) -> Option<&Packet> {
 // Whether a packet is spelled so that the same is read back. Refused: `NoMemory`.
 fn packet_comes_back(alloc: Global, packet: &Packet) -> Result<bool, Refusal> {
     let bytes = ibc_wire::encode(alloc, packet)?;
-    let back: Result<Packet, Refusal> = ibc_wire::decode(alloc, bytes.as_slice());
-    drop(bytes);
-    let back = back?;
-    let is_same = back == *packet;
-    drop(back);
-    Ok(is_same)
+    let back: Packet = ibc_wire::decode(alloc, bytes.as_slice())?;
+    Ok(back == *packet)
 }
 
 // Whether the message that bytes spell is spelled by these bytes, and so is the packet that it carries. Refused: `NoMemory`.

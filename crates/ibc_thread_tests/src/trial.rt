@@ -138,9 +138,7 @@ fn is_done_by_receipts<R: Threads + Wait + Sync, W: WorldBrand + Send + Sync>(
     receipts: &[Receipt<W>],
 ) -> Result<bool, Refusal> {
     let answers = answers_of(trial.alloc, receipts)?;
-    let done = is_done(trial, chains, answers.as_slice());
-    drop(answers);
-    done
+    is_done(trial, chains, answers.as_slice())
 }
 
 // Takes the steps by the calls of `Gate`.
@@ -168,12 +166,8 @@ fn is_done_by_gates<R: Threads + Wait + Sync, G: Gate>(
         Calls::Watched => take_steps_watched(trial.rt, trial.alloc, gates, race)?,
         Calls::Own | Calls::OfGates => (take_steps(trial.rt, trial.alloc, gates, race)?, true),
     };
-    let done = is_done(trial, gates, answers.as_slice());
-    drop(answers);
-    match done {
-        Ok(done) => Ok(done && saw),
-        Err(refusal) => Err(Fault::of_refusal(refusal)),
-    }
+    let done = is_done(trial, gates, answers.as_slice()).map_err(Fault::of_refusal)?;
+    Ok(done && saw)
 }
 
 // Whether the chains do what they must once they have given the answers. Refused: `NoMemory`.
