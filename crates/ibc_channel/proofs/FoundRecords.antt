@@ -1,10 +1,15 @@
 -- What the code finds in the records, beside the definitions' words for it.
-use Rattle.std.proofs.Common.{◌≡◌, false, Option, Some, None, Ok, Err, refl, sym, ap, ◌∙◌}
-use Rattle.std.specs.Prelude.{⊤, [], ◌∷◌, IsSome}
+use Rattle.std.proofs.Common.{◌≡◌, ℕ, true, false, Option, Some, None, Ok, Err, refl, sym, ap, ◌∙◌}
+use Rattle.std.specs.Prelude.{⊤, [], ◌∷◌, IsSome, Result}
 use Rattle.std.specs.Option.{option_map, option_map_or}
 use Rattle.ibc_ids.specs.Texts.{Text}
 use Rattle.ibc_ids.specs.Names.{is_port, is_channel, is_connection, is_version}
+use Rattle.ibc_ids.specs.Paths.{path}
+use Rattle.ibc_ids.specs.declared.key.Key.TheVariants as key
+use Rattle.ibc_ids.specs.declared.refusal.Refusal.{Refusal}
 use Rattle.ibc_ids.specs.declared.refusal.Refusal.TheVariants.{UnknownConnection}
+use Rattle.ibc_merkle.specs.Proofs.{accepts_present}
+use Rattle.ibc_merkle.specs.declared.proof.Proof.{Proof}
 use Rattle.ibc_wire.specs.Fields.{one_byte, name, bytes_of}
 use Rattle.ibc_wire.specs.Spelling.{channel_state_number, order_number, peer, channel_end_bytes}
 use Rattle.ibc_wire.specs.declared.records.ConnectionEnd.{ConnectionEnd}
@@ -12,14 +17,16 @@ use Rattle.ibc_wire.specs.declared.records.ChannelState.{ChannelState}
 use Rattle.ibc_wire.specs.declared.records.ChannelState.TheVariants.{Init}
 use Rattle.ibc_wire.specs.declared.records.Order.{Order}
 use Rattle.ibc_wire.specs.declared.records.ChannelEnd.{ChannelEnd}
-use Rattle.ibc_machine.specs.chain.Records.{Core, Channel, connection_at, channel_at, with_channel}
+use Rattle.ibc_machine.specs.chain.Records.{Core, Channel, connection_at, channel_at, with_channel, is_known_height}
 use Rattle.ibc_machine.specs.ics24.Values.{same_channel_state}
 use Rattle.ibc_machine.specs.chain.Checks.{Checked, expect, go_on, ◌>>=◌}
-use Rattle.ibc_machine.specs.ics04.Channels.{channel_end}
+use Rattle.ibc_machine.specs.ics04.Channels.{channel_end, peer_channel_of, counterpart}
 use Rattle.ibc_records.specs.RecordsModel.{RecordsModel, core_of, SetsChannelEnd}
 use Rattle.ibc_records.specs.HandlerContract.{AreWrittenRecords}
 use Rattle.ibc_records.proofs.WrittenRecords.{sets_channel_end_written}
-use Rattle.ibc_client.specs.Peers.{end_bytes}
+use Rattle.ibc_client.specs.Claims.{proof_checked}
+use Rattle.ibc_client.specs.Peers.{IsPeerShown, end_bytes, text_of}
+use Rattle.ibc_client.proofs.Claimed.{peer_shown}
 use Rattle.ibc_channel.specs.ChannelHandshake.{end_at, with_end, require_connection}
 
 -- ---- a connection
@@ -66,3 +73,17 @@ pub named_bytes : (state : ChannelState) (order : Order) (port channel connectio
 named_bytes state order port channel connection version apart =
     ap (λ b. bytes_of (one_byte (channel_state_number state) ∷ one_byte (order_number order) ∷ name is_port port ∷ peer is_channel b (Some channel) ∷ name is_connection connection ∷ name is_version version ∷ []))
     (sym apart)
+
+-- the end of the peer that is followed is looked for where the claim says
+pub followed_shown : (held : RecordsModel) (mine : ChannelEnd) (connection : ConnectionEnd) (height : ℕ) → connection_at (core_of held) mine.connection ≡ Some connection
+    → is_known_height (core_of held) connection.client height ≡ true → (port channel : Text) (to : ChannelState) → same_channel_state to Init ≡ false
+    → (proof : Proof) (result : Result ⊤ Refusal) {text bytes name spelled : Text} → text ≡ path (key.ChannelEnd mine.peer_port name) → name ≡ peer_channel_of mine
+    → bytes ≡ end_bytes to mine.order port spelled (text_of connection.peer_connection) mine.version → spelled ≡ channel
+    → result ≡ proof_checked held connection.client height (λ root. accepts_present proof root text bytes)
+    → IsPeerShown held mine height (peer_channel_of mine) (counterpart (core_of held) mine port (Some channel) to) proof result
+followed_shown held mine connection height there known port channel to apart proof result path_is named value_is spelled checked =
+    let over = text_of connection.peer_connection in
+    peer_shown held mine connection height there known (peer_channel_of mine) port (Some channel) to proof result
+    (path_is ∙ ap (λ text. path (key.ChannelEnd mine.peer_port text)) named)
+    (value_is ∙ ap (λ text. end_bytes to mine.order port text over mine.version) spelled ∙ named_bytes to mine.order port channel over mine.version apart)
+    checked

@@ -1,16 +1,18 @@
 -- The checks of the handshakes in a row, as the code makes them.
-use Rattle.std.proofs.Common.{◌≡◌, ℕ, List, Option, Some, None, Ok, is_some, refl, sym, ap}
-use Rattle.std.specs.Prelude.{⊤, [], false}
+use Rattle.std.proofs.Common.{◌≡◌, ◌⊎◌, ℕ, List, Option, Some, None, Ok, Err, is_some, refl, sym, ap, subst, ◌∙◌}
+use Rattle.std.specs.Prelude.{⊤, [], false, Result, IsErrAnd}
 use Rattle.std.specs.Option.{option_map, option_map_or}
+use Rattle.std.proofs.lemmas.Result.{err_from_is_err_and}
 use Rattle.ibc_ids.specs.Texts.{Text}
 use Rattle.ibc_ids.specs.declared.publication.Publication.{Publication}
-use Rattle.ibc_ids.specs.declared.refusal.Refusal.TheVariants.{UnknownConnection, UnknownChannel, WrongState, BadMessage}
+use Rattle.ibc_ids.specs.declared.refusal.Refusal.{Refusal}
+use Rattle.ibc_ids.specs.declared.refusal.Refusal.TheVariants.{UnknownPort, UnknownConnection, UnknownChannel, WrongState, BadMessage, NoMemory}
 use Rattle.ibc_merkle.specs.declared.proof.Proof.{Proof}
 use Rattle.ibc_wire.specs.Reading.{proof_of}
 use Rattle.ibc_wire.specs.declared.records.ConnectionState.TheVariants as conn
 use Rattle.ibc_wire.specs.declared.records.ConnectionEnd.{ConnectionEnd}
 use Rattle.ibc_wire.specs.declared.records.ChannelState.{ChannelState}
-use Rattle.ibc_wire.specs.declared.records.ChannelState.TheVariants.{Init, Open, Closed}
+use Rattle.ibc_wire.specs.declared.records.ChannelState.TheVariants.{Init, TryOpen, Open, Closed}
 use Rattle.ibc_wire.specs.declared.records.ChannelEnd.{ChannelEnd}
 use Rattle.ibc_wire.specs.declared.records.Order.{Order}
 use Rattle.ibc_wire.specs.declared.messages.ChanOpenInit.{ChanOpenInit}
@@ -24,10 +26,31 @@ use Rattle.ibc_machine.specs.ledger.Replay.{LedgerState, proof_evidence}
 use Rattle.ibc_machine.specs.ics24.Values.{same_connection_state, same_channel_state}
 use Rattle.ibc_machine.specs.chain.Checks.{Checked, require, expect, go_on, and_then, ◌>>=◌, ◌>>◌}
 use Rattle.ibc_machine.specs.ics24.Evidence.{Host, Evidence, require_number, require_known, require_proof}
-use Rattle.ibc_machine.specs.ics04.Channels.{client_of, peer_channel_of, counterpart, has_channel, chan_open_init, chan_open_try, chan_open_ack, chan_close_init}
+use Rattle.ibc_machine.specs.ics04.Channels.{channel_end, client_of, peer_channel_of, counterpart, has_channel, chan_open_init, chan_open_try, chan_open_ack, chan_close_init}
 use Rattle.ibc_machine.proofs.PassedChecks.{pass, find, unused}
+use Rattle.ibc_records.specs.RecordsModel.{RecordsModel, core_of}
+use Rattle.ibc_records.specs.HandlerContract.{IsTakenMessage, host_with}
+use Rattle.ibc_client.specs.ProofVerdicts.{IsPassed}
+use Rattle.ibc_client.specs.Peers.{IsPeerShown}
+use Rattle.ibc_client.proofs.Judging.{IsRefusedBy, refuses, unread, untaken}
 use Rattle.ibc_channel.specs.ChannelHandshake.{end_at, with_end, new_end, init_end, try_end, after_ack, end_in_state, require_connection, require_open, expected_init_end, expected_try_end}
 use Rattle.ibc_channel.specs.FollowedPeers.{require_follows, follow_peer}
+
+-- ---- the exit of a check
+
+-- the result of checks of which one refused
+pub refused : {A B : Type 0} {checked : Checked B} (given : A → B) (result : Result A Refusal) {r : Refusal} → IsErrAnd result (λ e. e ≡ r) → IsRefusedBy checked r → IsPassed checked given result
+refused {checked = checked} given result is why = let p = err_from_is_err_and result is in refuses checked given result p.1 p.2 why
+
+-- the answer to a message that a check refused, which leaves the records
+pub refused_message : {A : Type 0} (effect_of : A → Effect) {checked : Checked (Effect × Core)} (old : RecordsModel) (result : Result A Refusal) {r : Refusal} → IsErrAnd result (λ e. e ≡ r) → IsRefusedBy checked r
+    → IsTakenMessage effect_of checked old result old
+refused_message effect_of {checked = checked} old result is why = let p = err_from_is_err_and result is in untaken effect_of checked old result old p.1 p.2 why refl
+
+-- bytes that are no proof, or want of memory
+pub no_proof : {bytes text : Text} {r : Refusal} → bytes ≡ text → (r ≡ BadMessage → is_some (proof_of bytes) ≡ false) → (r ≡ BadMessage) ⊎ (r ≡ NoMemory)
+    → IsRefusedBy (require (is_some (proof_of text)) BadMessage) r
+no_proof {bytes} {text} {r} same bad err = subst (λ text. IsRefusedBy (require (is_some (proof_of text)) BadMessage) r) same (unread bad err)
 
 -- ---- a new channel
 
@@ -71,6 +94,22 @@ module _ (evidence : Evidence) (host : Host) (core : Core) (has_port : Checked �
   try_checks m =
       ap (λ rest. require (evidence.is_proof m.proof) BadMessage >> (has_port >> rest))
       (over_connection (connection_at core m.connection) (try_over m))
+
+-- the port has an application, or none
+pub port_there : {A : Type 0} {app : Option A} {a : A} → app ≡ Some a → require (is_some app) UnknownPort ≡ Ok tt
+port_there is = ap (λ o. require (is_some o) UnknownPort) is
+
+pub port_gone : {A : Type 0} {app : Option A} → app ≡ None → require (is_some app) UnknownPort ≡ Err UnknownPort
+port_gone is = ap (λ o. require (is_some o) UnknownPort) is
+
+-- the end that answers is made of the message, and its peer is shown
+pub made_try : (m : ChanOpenTry) {peer : Text} {end : ChannelEnd} → end ≡ channel_end TryOpen m.order m.peer_port (Some peer) m.connection m.version → peer ≡ m.peer_channel → end ≡ try_end m
+made_try m is same = is ∙ ap (λ (peer : Text). channel_end TryOpen m.order m.peer_port (Some peer) m.connection m.version) same
+
+pub shown_try : (old : RecordsModel) (m : ChanOpenTry) (proof : Proof) (result : Result ⊤ Refusal) {end : ChannelEnd} → end ≡ try_end m
+    → IsPeerShown old end m.height m.peer_channel (expected_init_end (core_of old) m end) proof result
+    → IsPeerShown old (try_end m) m.height m.peer_channel (expected_init_end (core_of old) m (try_end m)) proof result
+shown_try old m proof result made shown = subst (λ (end : ChannelEnd). IsPeerShown old end m.height m.peer_channel (expected_init_end (core_of old) m end) proof result) made shown
 
 -- ---- a channel that is there
 
@@ -136,28 +175,37 @@ module _ (evidence : Evidence) (host : Host) (core : Core) where
     unfolding chan_close_init
     close_init_checks = of_end core m.port m.channel close_init_sets (end_in_state Closed)
 
+    pub close_init_found : (mine : ChannelEnd) → end_at core m.port m.channel ≡ Some mine → chan_close_init closes m evidence host core ≡ close_init_after mine
+    close_init_found mine there = find close_init_after (ap (λ o. expect o UnknownChannel) there) close_init_checks
+
 -- ---- behind the proof that was read, and behind the end that is there
 
-module _ (seen : List Publication) (state : LedgerState) (host : Host) (core : Core) where
+module _ (held : RecordsModel) (chain chains : ℕ) (seen : List Publication) (state : LedgerState) where
   abbrev roots : Evidence
   roots = proof_evidence seen None state
 
-  module _ (has_port : Checked ⊤) (opens : Order → Text → Checked ⊤) (m : ChanOpenTry) (proof : Proof) (read : proof_of m.proof ≡ Some proof) where
-    pub try_begun : chan_open_try has_port opens m roots host core ≡ (has_port >> try_after roots host core has_port opens m)
-    try_begun = pass (λ i. require (is_some (read i)) BadMessage) (try_checks roots host core has_port opens m)
+  abbrev here : Host
+  here = host_with chain chains held
+
+  abbrev core : Core
+  core = core_of held
+
+  pub try_begun : (has_port : Checked ⊤) (opens : Order → Text → Checked ⊤) (m : ChanOpenTry) (proof : Proof) → proof_of m.proof ≡ Some proof
+      → chan_open_try has_port opens m roots here core ≡ (has_port >> try_after roots here core has_port opens m)
+  try_begun has_port opens m proof read = pass (λ i. require (is_some (read i)) BadMessage) (try_checks roots here core has_port opens m)
 
   module _ (m : ChanOpenAck) (proof : Proof) (read : proof_of m.proof ≡ Some proof) where
-    pub ack_begun : chan_open_ack m roots host core ≡ (expect (end_at core m.port m.channel) UnknownChannel >>= ack_after roots host core m)
-    ack_begun = pass (λ i. require (is_some (read i)) BadMessage) (ack_checks roots host core m)
+    pub ack_begun : chan_open_ack m roots here core ≡ (expect (end_at core m.port m.channel) UnknownChannel >>= ack_after roots here core m)
+    ack_begun = pass (λ i. require (is_some (read i)) BadMessage) (ack_checks roots here core m)
 
-    pub ack_found : (mine : ChannelEnd) → end_at core m.port m.channel ≡ Some mine → chan_open_ack m roots host core ≡ ack_after roots host core m mine
-    ack_found mine there = find (ack_after roots host core m) (ap (λ o. expect o UnknownChannel) there) ack_begun
+    pub ack_found : (mine : ChannelEnd) → end_at core m.port m.channel ≡ Some mine → chan_open_ack m roots here core ≡ ack_after roots here core m mine
+    ack_found mine there = find (ack_after roots here core m) (ap (λ o. expect o UnknownChannel) there) ack_begun
 
   module _ (to : ChannelState) (port channel : Text) (height : ℕ) (bytes : Text) (proof : Proof) (read : proof_of bytes ≡ Some proof) where
-    pub follow_begun : follow_peer to port channel height bytes roots host core
-        ≡ (expect (end_at core port channel) UnknownChannel >>= follow_after roots host core to port channel height bytes)
-    follow_begun = pass (λ i. require (is_some (read i)) BadMessage) (follow_checks roots host core to port channel height bytes)
+    pub follow_begun : follow_peer to port channel height bytes roots here core
+        ≡ (expect (end_at core port channel) UnknownChannel >>= follow_after roots here core to port channel height bytes)
+    follow_begun = pass (λ i. require (is_some (read i)) BadMessage) (follow_checks roots here core to port channel height bytes)
 
     pub follow_found : (mine : ChannelEnd) → end_at core port channel ≡ Some mine
-        → follow_peer to port channel height bytes roots host core ≡ follow_after roots host core to port channel height bytes mine
-    follow_found mine there = find (follow_after roots host core to port channel height bytes) (ap (λ o. expect o UnknownChannel) there) follow_begun
+        → follow_peer to port channel height bytes roots here core ≡ follow_after roots here core to port channel height bytes mine
+    follow_found mine there = find (follow_after roots here core to port channel height bytes) (ap (λ o. expect o UnknownChannel) there) follow_begun

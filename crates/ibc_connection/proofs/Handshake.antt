@@ -1,6 +1,7 @@
 -- The checks of the handshake in a row, as the code makes them.
-use Rattle.std.proofs.Common.{◌≡◌, ◌&&◌, List, is_some, Some, None, Ok, Err, refl, ap, sym, ◌∙◌}
-use Rattle.std.specs.Prelude.{⊤}
+use Rattle.std.proofs.Common.{◌≡◌, ◌&&◌, ℕ, List, is_some, Some, None, Ok, Err, refl, ap, sym, ◌∙◌}
+use Rattle.std.specs.Prelude.{⊤, Result, IsErrAnd}
+use Rattle.std.proofs.lemmas.Result.{err_from_is_err_and}
 use Rattle.ibc_ids.specs.Texts.{Text}
 use Rattle.ibc_ids.specs.declared.publication.Publication.{Publication}
 use Rattle.ibc_ids.specs.declared.refusal.Refusal.{Refusal}
@@ -21,10 +22,24 @@ use Rattle.ibc_machine.specs.ics24.Values.{same_connection_state}
 use Rattle.ibc_machine.specs.chain.Checks.{Checked, require, expect, ◌>>=◌, ◌>>◌}
 use Rattle.ibc_machine.specs.ics24.Evidence.{Host, Evidence, require_number, require_known, require_proof}
 use Rattle.ibc_machine.specs.ics03.Connections.{has_connection, has_client, may_conn_try, may_conn_ack, conn_open_init, conn_open_try, conn_open_ack, conn_open_confirm}
-use Rattle.ibc_machine.proofs.PassedChecks.{pass, fail, find, unused}
-use Rattle.ibc_client.specs.ProofVerdicts.{require_client}
+use Rattle.ibc_machine.proofs.PassedChecks.{pass, fail, find, miss, unused}
+use Rattle.ibc_records.specs.RecordsModel.{RecordsModel, core_of}
+use Rattle.ibc_records.specs.HandlerContract.{IsTakenMessage, host_with}
+use Rattle.ibc_client.specs.ProofVerdicts.{require_client, IsPassed}
+use Rattle.ibc_client.proofs.Judging.{IsRefusedBy, refuses, untaken}
 use Rattle.ibc_connection.specs.declared.claims.Proofs.{Proofs}
 use Rattle.ibc_connection.specs.ConnectionHandshake.{AreProofs, new_end, init_end, try_end, after_ack, after_confirm, expected_init_end, expected_try_end, expected_open_end}
+
+-- ---- the exit of a check
+
+-- the result of checks of which one refused
+pub refused : {A B : Type 0} {checked : Checked B} (given : A → B) (result : Result A Refusal) {r : Refusal} → IsErrAnd result (λ e. e ≡ r) → IsRefusedBy checked r → IsPassed checked given result
+refused {checked = checked} given result is why = let p = err_from_is_err_and result is in refuses checked given result p.1 p.2 why
+
+-- the answer to a message that a check refused, which leaves the records
+pub refused_message : {A : Type 0} (effect_of : A → Effect) {checked : Checked (Effect × Core)} (old : RecordsModel) (result : Result A Refusal) {r : Refusal} → IsErrAnd result (λ e. e ≡ r) → IsRefusedBy checked r
+    → IsTakenMessage effect_of checked old result old
+refused_message effect_of {checked = checked} old result is why = let p = err_from_is_err_and result is in untaken effect_of checked old result old p.1 p.2 why refl
 
 -- ---- the client is there, and no more is asked of it
 
@@ -88,23 +103,40 @@ module _ (evidence : Evidence) (host : Host) (core : Core) where
 
 -- ---- behind the proofs, and behind the connection that is there
 
-module _ (seen : List Publication) (state : LedgerState) (host : Host) (core : Core) where
+module _ (held : RecordsModel) (chain chains : ℕ) (seen : List Publication) (state : LedgerState) where
   abbrev roots : Evidence
   roots = proof_evidence seen None state
 
-  pub try_begun : (m : ConnOpenTry) (proofs : Proofs) → AreProofs m.proof_end m.proof_client proofs → conn_open_try m roots host core ≡ try_after roots host core m
-  try_begun m proofs read = pass (λ i. require (is_some (read.0 i) && is_some (read.1 i)) BadMessage) (try_checks roots host core m)
+  abbrev here : Host
+  here = host_with chain chains held
+
+  abbrev core : Core
+  core = core_of held
+
+  pub try_begun : (m : ConnOpenTry) (proofs : Proofs) → AreProofs m.proof_end m.proof_client proofs → conn_open_try m roots here core ≡ try_after roots here core m
+  try_begun m proofs read = pass (λ i. require (is_some (read.0 i) && is_some (read.1 i)) BadMessage) (try_checks roots here core m)
 
   module _ (m : ConnOpenAck) (proofs : Proofs) (read : AreProofs m.proof_end m.proof_client proofs) where
-    pub ack_begun : conn_open_ack m roots host core ≡ (expect (connection_at core m.connection) UnknownConnection >>= ack_after roots host core m)
-    ack_begun = pass (λ i. require (is_some (read.0 i) && is_some (read.1 i)) BadMessage) (ack_checks roots host core m)
+    pub ack_begun : conn_open_ack m roots here core ≡ (expect (connection_at core m.connection) UnknownConnection >>= ack_after roots here core m)
+    ack_begun = pass (λ i. require (is_some (read.0 i) && is_some (read.1 i)) BadMessage) (ack_checks roots here core m)
 
-    pub ack_found : (mine : ConnectionEnd) → connection_at core m.connection ≡ Some mine → conn_open_ack m roots host core ≡ ack_after roots host core m mine
-    ack_found mine there = find (ack_after roots host core m) (ap (λ o. expect o UnknownConnection) there) ack_begun
+    pub ack_gone : None ≡ connection_at core m.connection → conn_open_ack m roots here core ≡ Err UnknownConnection
+    ack_gone none = miss _ (ap (λ o. expect o UnknownConnection) (sym none)) ack_begun
+
+    pub ack_found : (mine : ConnectionEnd) → connection_at core m.connection ≡ Some mine → conn_open_ack m roots here core ≡ ack_after roots here core m mine
+    ack_found mine there = find (ack_after roots here core m) (ap (λ o. expect o UnknownConnection) there) ack_begun
 
   module _ (m : ConnOpenConfirm) (proof : Proof) (read : proof_of m.proof ≡ Some proof) where
-    pub confirm_begun : conn_open_confirm m roots host core ≡ (expect (connection_at core m.connection) UnknownConnection >>= confirm_rest roots host core m)
-    confirm_begun = pass (λ i. require (is_some (read i)) BadMessage) (confirm_checks roots host core m)
+    confirm_begun : conn_open_confirm m roots here core ≡ (expect (connection_at core m.connection) UnknownConnection >>= confirm_rest roots here core m)
+    confirm_begun = pass (λ i. require (is_some (read i)) BadMessage) (confirm_checks roots here core m)
 
-    pub confirm_found : (mine : ConnectionEnd) → connection_at core m.connection ≡ Some mine → conn_open_confirm m roots host core ≡ confirm_rest roots host core m mine
-    confirm_found mine there = find (confirm_rest roots host core m) (ap (λ o. expect o UnknownConnection) there) confirm_begun
+    pub confirm_gone : None ≡ connection_at core m.connection → conn_open_confirm m roots here core ≡ Err UnknownConnection
+    confirm_gone none = miss _ (ap (λ o. expect o UnknownConnection) (sym none)) confirm_begun
+
+    pub confirm_found : (mine : ConnectionEnd) → Some mine ≡ connection_at core m.connection → conn_open_confirm m roots here core ≡ confirm_rest roots here core m mine
+    confirm_found mine there = find (confirm_rest roots here core m) (ap (λ o. expect o UnknownConnection) (sym there)) confirm_begun
+
+    -- the peer's name is there too
+    pub confirm_named : (mine : ConnectionEnd) (peer : Text) → Some mine ≡ connection_at core m.connection → require (same_connection_state mine.state TryOpen) WrongState ≡ Ok tt
+        → mine.peer_connection ≡ Some peer → conn_open_confirm m roots here core ≡ confirm_after roots here core m mine peer
+    confirm_named mine peer there begun named = find (confirm_after roots here core m mine) (ap (λ o. expect o WrongState) named) (pass begun (confirm_found mine there))

@@ -1,5 +1,5 @@
 -- The checks of packets in a row, as the code makes them.
-use Rattle.std.proofs.Common.{◌≡◌, ◌&&◌, true, List, Some, None, Ok, is_some, refl, ap}
+use Rattle.std.proofs.Common.{◌≡◌, ◌&&◌, ℕ, true, List, Some, None, Ok, is_some, refl, ap}
 use Rattle.ibc_ids.specs.Texts.{Text}
 use Rattle.ibc_ids.specs.declared.publication.Publication.{Publication}
 use Rattle.ibc_ids.specs.declared.refusal.Refusal.TheVariants.{BadMessage, UnknownChannel, WrongState, NotTimedOut}
@@ -17,6 +17,8 @@ use Rattle.ibc_machine.specs.ics24.Evidence.{Host, Evidence, require_known, requ
 use Rattle.ibc_machine.specs.ics04.Channels.{client_of, has_channel, is_in_state}
 use Rattle.ibc_machine.specs.ics04.Packets.{sending_end, has_size, has_form, may_receive, may_acknowledge, is_pending, was_sent, was_acknowledged, not_received, waits_for, recv_checked, ack_checked, timeout_checked, timeout_on_close_checked}
 use Rattle.ibc_machine.proofs.PassedChecks.{pass, find}
+use Rattle.ibc_records.specs.RecordsModel.{RecordsModel, core_of}
+use Rattle.ibc_records.specs.HandlerContract.{host_with}
 use Rattle.ibc_packet.specs.TimeoutChecks.{require_timed_out, expected_closed_end}
 
 -- ---- the definitions, in two parts: the form, and what is checked of the end that is there
@@ -80,37 +82,43 @@ module _ (evidence : Evidence) (host : Host) (core : Core) where
 
 -- ---- behind the form, and behind the channel that is there
 
-module _ (seen : List Publication) (state : LedgerState) (host : Host) (core : Core) (proof : Proof) where
+module _ (held : RecordsModel) (chain chains : ℕ) (seen : List Publication) (state : LedgerState) where
   abbrev roots : Evidence
   roots = proof_evidence seen None state
 
-  module _ (m : RecvPacket) (form : has_form m.packet ≡ true) (reads : proof_of m.proof ≡ Some proof) where
-    pub recv_begun : recv_checked m roots host core ≡ (expect (channel_at core m.packet.destination_port m.packet.destination_channel) UnknownChannel >>= recv_rest roots host core m)
-    recv_begun = pass (λ i. require (form i && is_some (reads i)) BadMessage) (recv_row roots host core m)
+  abbrev here : Host
+  here = host_with chain chains held
 
-    pub recv_found : (mine : Channel) → channel_at core m.packet.destination_port m.packet.destination_channel ≡ Some mine → recv_checked m roots host core ≡ recv_rest roots host core m mine
-    recv_found mine there = find (recv_rest roots host core m) (ap (λ o. expect o UnknownChannel) there) recv_begun
+  abbrev core : Core
+  core = core_of held
 
-  module _ (m : AckPacket) (form : (has_form m.packet && has_size m.ack) ≡ true) (reads : proof_of m.proof ≡ Some proof) where
-    pub ack_begun : ack_checked m roots host core ≡ (expect (channel_at core m.packet.source_port m.packet.source_channel) UnknownChannel >>= ack_rest roots host core m)
-    ack_begun = pass (λ i. require (form i && is_some (reads i)) BadMessage) (ack_row roots host core m)
+  module _ (m : RecvPacket) (proof : Proof) (form : has_form m.packet ≡ true) (reads : proof_of m.proof ≡ Some proof) where
+    pub recv_begun : recv_checked m roots here core ≡ (expect (channel_at core m.packet.destination_port m.packet.destination_channel) UnknownChannel >>= recv_rest roots here core m)
+    recv_begun = pass (λ i. require (form i && is_some (reads i)) BadMessage) (recv_row roots here core m)
 
-    pub ack_found : (mine : Channel) → channel_at core m.packet.source_port m.packet.source_channel ≡ Some mine → ack_checked m roots host core ≡ ack_rest roots host core m mine
-    ack_found mine there = find (ack_rest roots host core m) (ap (λ o. expect o UnknownChannel) there) ack_begun
+    pub recv_found : (mine : Channel) → channel_at core m.packet.destination_port m.packet.destination_channel ≡ Some mine → recv_checked m roots here core ≡ recv_rest roots here core m mine
+    recv_found mine there = find (recv_rest roots here core m) (ap (λ o. expect o UnknownChannel) there) recv_begun
 
-  module _ (m : Timeout) (form : has_form m.packet ≡ true) (reads : proof_of m.proof ≡ Some proof) where
-    pub timeout_begun : timeout_checked m roots host core ≡ (expect (channel_at core m.packet.source_port m.packet.source_channel) UnknownChannel >>= timeout_rest roots host core m)
-    timeout_begun = pass (λ i. require (form i && is_some (reads i)) BadMessage) (timeout_row roots host core m)
+  module _ (m : AckPacket) (proof : Proof) (form : (has_form m.packet && has_size m.ack) ≡ true) (reads : proof_of m.proof ≡ Some proof) where
+    pub ack_begun : ack_checked m roots here core ≡ (expect (channel_at core m.packet.source_port m.packet.source_channel) UnknownChannel >>= ack_rest roots here core m)
+    ack_begun = pass (λ i. require (form i && is_some (reads i)) BadMessage) (ack_row roots here core m)
 
-    pub timeout_found : (mine : Channel) → channel_at core m.packet.source_port m.packet.source_channel ≡ Some mine → timeout_checked m roots host core ≡ timeout_rest roots host core m mine
-    timeout_found mine there = find (timeout_rest roots host core m) (ap (λ o. expect o UnknownChannel) there) timeout_begun
+    pub ack_found : (mine : Channel) → channel_at core m.packet.source_port m.packet.source_channel ≡ Some mine → ack_checked m roots here core ≡ ack_rest roots here core m mine
+    ack_found mine there = find (ack_rest roots here core m) (ap (λ o. expect o UnknownChannel) there) ack_begun
 
-  module _ (m : TimeoutOnClose) (closing : Proof) (form : has_form m.packet ≡ true) (reads : proof_of m.proof ≡ Some proof) (reads_close : proof_of m.proof_close ≡ Some closing) where
-    pub close_begun : timeout_on_close_checked m roots host core ≡ (expect (channel_at core m.packet.source_port m.packet.source_channel) UnknownChannel >>= close_rest roots host core m)
-    close_begun = pass (λ i. require (form i && is_some (reads i) && is_some (reads_close i)) BadMessage) (close_row roots host core m)
+  module _ (m : Timeout) (proof : Proof) (form : has_form m.packet ≡ true) (reads : proof_of m.proof ≡ Some proof) where
+    pub timeout_begun : timeout_checked m roots here core ≡ (expect (channel_at core m.packet.source_port m.packet.source_channel) UnknownChannel >>= timeout_rest roots here core m)
+    timeout_begun = pass (λ i. require (form i && is_some (reads i)) BadMessage) (timeout_row roots here core m)
 
-    pub close_found : (mine : Channel) → channel_at core m.packet.source_port m.packet.source_channel ≡ Some mine → timeout_on_close_checked m roots host core ≡ close_rest roots host core m mine
-    close_found mine there = find (close_rest roots host core m) (ap (λ o. expect o UnknownChannel) there) close_begun
+    pub timeout_found : (mine : Channel) → channel_at core m.packet.source_port m.packet.source_channel ≡ Some mine → timeout_checked m roots here core ≡ timeout_rest roots here core m mine
+    timeout_found mine there = find (timeout_rest roots here core m) (ap (λ o. expect o UnknownChannel) there) timeout_begun
+
+  module _ (m : TimeoutOnClose) (proof : Proof) (closing : Proof) (form : has_form m.packet ≡ true) (reads : proof_of m.proof ≡ Some proof) (reads_close : proof_of m.proof_close ≡ Some closing) where
+    pub close_begun : timeout_on_close_checked m roots here core ≡ (expect (channel_at core m.packet.source_port m.packet.source_channel) UnknownChannel >>= close_rest roots here core m)
+    close_begun = pass (λ i. require (form i && is_some (reads i) && is_some (reads_close i)) BadMessage) (close_row roots here core m)
+
+    pub close_found : (mine : Channel) → channel_at core m.packet.source_port m.packet.source_channel ≡ Some mine → timeout_on_close_checked m roots here core ≡ close_rest roots here core m mine
+    close_found mine there = find (close_rest roots here core m) (ap (λ o. expect o UnknownChannel) there) close_begun
 
 -- ---- sending
 

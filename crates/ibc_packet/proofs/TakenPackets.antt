@@ -1,7 +1,8 @@
 -- What became of a packet is what its checks and the application say.
 use Rattle.std.proofs.Common.{◌≡◌, ◌⊎◌, ◌&&◌, ℕ, Bool, true, false, is_some, Option, Some, None, List, Ok, Err, inl, inr, refl, sym, ap, subst, ◌∙◌}
-use Rattle.std.specs.Prelude.{⊤, [], Result, IfOk, IfErr, OnOk, OnErr, IfSome}
+use Rattle.std.specs.Prelude.{⊤, [], Result, IsErrAnd, IfOk, IfErr, OnOk, OnErr, IfSome}
 use Rattle.std.specs.Option.{option_map_or}
+use Rattle.std.proofs.lemmas.Result.{err_from_is_err_and}
 use Rattle.ibc_ids.specs.Texts.{Text}
 use Rattle.ibc_ids.specs.declared.publication.Publication.{Publication}
 use Rattle.ibc_ids.specs.declared.refusal.Refusal.{Refusal}
@@ -28,16 +29,17 @@ use Rattle.ibc_records.specs.RecordsModel.{RecordsModel, core_of, IsUnchanged}
 use Rattle.ibc_records.specs.Knowledge.{Knows}
 use Rattle.ibc_records.specs.HandlerContract.{IsTakenWith}
 use Rattle.ibc_records.specs.Packets.{ReceivesPacket, AcknowledgesPacket, TimesOutPacket}
-use Rattle.ibc_client.specs.ProofVerdicts.{IsUnlessMemory, IsShown, IsEvident}
-use Rattle.ibc_client.proofs.Judging.{IsRefusedBy, failed, passed, stops_at}
+use Rattle.ibc_client.specs.ProofVerdicts.{IsUnlessMemory, IsShown, IsEvident, IsPassed}
+use Rattle.ibc_packet.specs.TimeoutChecks.{require_timed_out}
+use Rattle.ibc_client.proofs.Judging.{IsRefusedBy, failed, passed, stops_at, refuses}
 
 -- ---- the client under a connection that is there
 
-module _ (held : RecordsModel) (id : Text) (connection : ConnectionEnd) (there : connection_at (core_of held) id ≡ Some connection) where
+module _ (held : RecordsModel) (seen : List Publication) (state : LedgerState) (id : Text) (connection : ConnectionEnd) (there : connection_at (core_of held) id ≡ Some connection) where
   client_is : connection.client ≡ client_of (core_of held) id
   client_is = sym (ap (λ (o : Option ConnectionEnd). option_map_or (λ (c : ConnectionEnd). c.client) o []) there)
 
-  module _ (seen : List Publication) (state : LedgerState) (knowledge : Knows held state) (height : ℕ) where
+  module _ (knowledge : Knows held state) (height : ℕ) where
     module _ (claim : Claim) (bytes : Text) (proof : Proof) (reads : proof_of bytes ≡ Some proof) where
       shown_over : (result : Result ⊤ Refusal) → IsShown held connection.client height claim proof result
           → IsUnlessMemory (require_proof (proof_evidence seen None state) (client_of (core_of held) id) height claim bytes) result
@@ -51,10 +53,10 @@ module _ (held : RecordsModel) (id : Text) (connection : ConnectionEnd) (there :
           → require_proof (proof_evidence seen None state) (client_of (core_of held) id) height claim bytes ≡ Ok tt
       was_shown shown = passed (shown_over (Ok tt) shown)
 
-    -- what the evidence says of the connection's client
-    pub evident_over : {A : Type 0} (says : Text → Evidence → A) (result : A) → IsEvident held (says connection.client) result
-        → says (client_of (core_of held) id) (proof_evidence seen None state) ≡ result
-    evident_over says result evident = sym (subst (λ client. IsEvident held (says client) result) client_is evident seen state knowledge)
+    -- what the evidence says of the connection's client, of a packet that times out
+    pub timed_out_over : (packet : Packet) (result : Result ⊤ Refusal) → IsEvident held (require_timed_out connection.client height packet) result
+        → require_timed_out (client_of (core_of held) id) height packet (proof_evidence seen None state) ≡ result
+    timed_out_over packet result evident = sym (subst (λ client. IsEvident held (require_timed_out client height packet) result) client_is evident seen state knowledge)
 
 -- ---- refusals
 
@@ -73,10 +75,21 @@ refused_before false b (inl e) = inl e
 pub refused_behind : {a : Bool} (b : Bool) {r : Refusal} → a ≡ true → IsRefusedBy (require b BadMessage) r → IsRefusedBy (require (a && b) BadMessage) r
 refused_behind {a} b {r} holds why = subst (λ t. IsRefusedBy (require (t && b) BadMessage) r) (sym holds) why
 
+-- the result of checks of which one refused
+pub refused : {A B : Type 0} {checked : Checked B} (given : A → B) (result : Result A Refusal) {r : Refusal} → IsErrAnd result (λ e. e ≡ r) → IsRefusedBy checked r → IsPassed checked given result
+refused {checked = checked} given result is why = let p = err_from_is_err_and result is in refuses checked given result p.1 p.2 why
+
 pub untaken_with : {A App : Type 0} (effect_of : A → Effect) (checked : Checked (Effect × Core × App)) (old : RecordsModel) (app : App) (result : Result A Refusal) (new : RecordsModel) (after : App) {e r : Refusal}
     → result ≡ Err e → e ≡ r → IsRefusedBy checked r → IsUnchanged old new → after ≡ app → IsTakenWith effect_of checked old app result new after
 untaken_with effect_of checked old app result new after is same why unchanged kept =
     subst (λ r. IsTakenWith effect_of checked old app r new after) (sym is) (subst (IsRefusedBy checked) (sym same) why, unchanged, kept)
+
+-- the answer to a message that a check refused, which leaves the records and the application
+pub refused_message : {A App : Type 0} (effect_of : A → Effect) {checked : Checked (Effect × Core × App)} (old : RecordsModel) (app : App) (result : Result A Refusal) {r : Refusal}
+    → IsErrAnd result (λ e. e ≡ r) → IsRefusedBy checked r → IsTakenWith effect_of checked old app result old app
+refused_message effect_of {checked = checked} old app result is why =
+    let p = err_from_is_err_and result is in
+    untaken_with effect_of checked old app result old app p.1 p.2 why refl refl
 
 -- ---- receiving
 

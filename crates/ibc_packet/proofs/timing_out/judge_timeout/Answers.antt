@@ -1,95 +1,36 @@
--- Each check of the code is the definition's.
-use Rattle.std.proofs.Common.{None, Ok, Err, sym, inl}
-use Rattle.std.proofs.lemmas.Result.{err_from_is_err_and}
-use Rattle.ibc_machine.specs.ics04.Packets.{not_received, timeout_checked}
-use Rattle.ibc_machine.specs.ledger.Replay.{proof_evidence}
+-- Each check of the code is the definition's, behind those before it.
+use Rattle.std.proofs.Common.{sym, inl}
+use Rattle.ibc_machine.specs.ics04.Packets.{not_received}
 use Rattle.ibc_machine.proofs.PassedChecks.{pass, fail}
-use Rattle.ibc_records.specs.RecordsModel.{core_of}
-use Rattle.ibc_records.specs.HandlerContract.{host_with}
-use Rattle.ibc_client.proofs.Judging.{stops, stops_at, refuses}
-use Rattle.ibc_packet.specs.TimeoutChecks.{require_timed_out}
+use Rattle.ibc_client.proofs.Judging.{stops, stops_at}
 use Rattle.ibc_packet.proofs.PacketChecks.{timeout_begun, timeout_found}
-use Rattle.ibc_packet.proofs.TakenPackets.{not_shown, was_shown, evident_over}
+use Rattle.ibc_packet.proofs.TakenPackets.{refused, not_shown, was_shown, timed_out_over}
 use Rattle.ibc_packet.proofs.timing_out.judge_timeout.Goals as goal
 
 pub returns-in_err-mine-clause-judged : goal.returns-in_err-mine-clause-judged
-returns-in_err-mine-clause-judged c =
-    let p = err_from_is_err_and c.from_residual.result c.from_residual.ensures.1 in
-    let core = core_of c.args.records.now in
-    let m = c.args.message.now in
-    λ chain chains seen state knowledge.
-    let host = host_with chain chains c.args.records.now in
-    refuses (timeout_checked m (proof_evidence seen None state) host core) _ c.from_residual.result p.1 p.2 (stops_at _ c.in_err-mine.ensures.err (timeout_begun seen state host core c.args.proof.now m c.requires.form c.requires.reads))
+returns-in_err-mine-clause-judged c = λ chain chains seen state knowledge.
+    refused _ c.from_residual.result c.from_residual.ensures.1 (stops_at _ c.in_err-mine.ensures.err (timeout_begun c.args.records.now chain chains seen state c.args.message.now _ c.requires.form c.requires.reads))
 
 pub returns-in_err-check_pending-clause-judged : goal.returns-in_err-check_pending-clause-judged
-returns-in_err-check_pending-clause-judged c =
-    let p = err_from_is_err_and c.from_residual-in_err-check_pending.result c.from_residual-in_err-check_pending.ensures.1 in
-    let core = core_of c.args.records.now in
-    let m = c.args.message.now in
-    λ chain chains seen state knowledge.
-    let host = host_with chain chains c.args.records.now in
-    let found = timeout_found seen state host core c.args.proof.now m c.requires.form c.requires.reads c.in_ok-mine.mine.now c.in_ok-mine.ensures.ok in
-    refuses (timeout_checked m (proof_evidence seen None state) host core) _ c.from_residual-in_err-check_pending.result p.1 p.2 (inl (fail _ (sym c.in_err-check_pending.ensures) found))
+returns-in_err-check_pending-clause-judged c = λ chain chains seen state knowledge.
+    refused _ c.from_residual-in_err-check_pending.result c.from_residual-in_err-check_pending.ensures.1 (inl (fail _ (sym c.in_err-check_pending.ensures) (timeout_found c.args.records.now chain chains seen state c.args.message.now _ c.requires.form c.requires.reads _ c.in_ok-mine.ensures.ok)))
 
 pub returns-in_err-connection-clause-judged : goal.returns-in_err-connection-clause-judged
-returns-in_err-connection-clause-judged c =
-    let p = err_from_is_err_and c.from_residual-in_err-connection.result c.from_residual-in_err-connection.ensures.1 in
-    let core = core_of c.args.records.now in
-    let m = c.args.message.now in
-    λ chain chains seen state knowledge.
-    let host = host_with chain chains c.args.records.now in
-    let found = timeout_found seen state host core c.args.proof.now m c.requires.form c.requires.reads c.in_ok-mine.mine.now c.in_ok-mine.ensures.ok in
-    let pending = pass (sym c.in_ok-check_pending.ensures) found in
-    refuses (timeout_checked m (proof_evidence seen None state) host core) _ c.from_residual-in_err-connection.result p.1 p.2 (inl (fail _ c.in_err-connection.ensures.failed pending))
+returns-in_err-connection-clause-judged c = λ chain chains seen state knowledge.
+    refused _ c.from_residual-in_err-connection.result c.from_residual-in_err-connection.ensures.1 (inl (fail _ c.in_err-connection.ensures.failed (pass (sym c.in_ok-check_pending.ensures) (timeout_found c.args.records.now chain chains seen state c.args.message.now _ c.requires.form c.requires.reads _ c.in_ok-mine.ensures.ok))))
 
 pub returns-in_err-check_timed_out-clause-judged : goal.returns-in_err-check_timed_out-clause-judged
-returns-in_err-check_timed_out-clause-judged c =
-    let p = err_from_is_err_and c.from_residual-in_err-check_timed_out.result c.from_residual-in_err-check_timed_out.ensures.1 in
-    let core = core_of c.args.records.now in
-    let m = c.args.message.now in
-    λ chain chains seen state knowledge.
-    let host = host_with chain chains c.args.records.now in
-    let found = timeout_found seen state host core c.args.proof.now m c.requires.form c.requires.reads c.in_ok-mine.mine.now c.in_ok-mine.ensures.ok in
-    let pending = pass (sym c.in_ok-check_pending.ensures) found in
-    let known = pass c.in_ok-connection.ensures.passed pending in
-    refuses (timeout_checked m (proof_evidence seen None state) host core) _ c.from_residual-in_err-check_timed_out.result p.1 p.2 (inl (fail _ (evident_over c.args.records.now c.in_ok-mine.mine.now.end.connection c.in_ok-connection.connection.now c.in_ok-connection.ensures.there seen state knowledge m.height (λ client. require_timed_out client m.height m.packet) (Err c.in_err-check_timed_out.field-0.0) c.in_err-check_timed_out.ensures) known))
+returns-in_err-check_timed_out-clause-judged c = λ chain chains seen state knowledge.
+    refused _ c.from_residual-in_err-check_timed_out.result c.from_residual-in_err-check_timed_out.ensures.1 (inl (fail _ (timed_out_over c.args.records.now seen state _ _ c.in_ok-connection.ensures.there knowledge c.args.message.now.height c.args.message.now.packet _ c.in_err-check_timed_out.ensures) (pass c.in_ok-connection.ensures.passed (pass (sym c.in_ok-check_pending.ensures) (timeout_found c.args.records.now chain chains seen state c.args.message.now _ c.requires.form c.requires.reads _ c.in_ok-mine.ensures.ok)))))
 
 pub returns-in_err-check_waiting-clause-judged : goal.returns-in_err-check_waiting-clause-judged
-returns-in_err-check_waiting-clause-judged c =
-    let p = err_from_is_err_and c.from_residual-in_err-check_waiting.result c.from_residual-in_err-check_waiting.ensures.1 in
-    let core = core_of c.args.records.now in
-    let m = c.args.message.now in
-    λ chain chains seen state knowledge.
-    let host = host_with chain chains c.args.records.now in
-    let found = timeout_found seen state host core c.args.proof.now m c.requires.form c.requires.reads c.in_ok-mine.mine.now c.in_ok-mine.ensures.ok in
-    let pending = pass (sym c.in_ok-check_pending.ensures) found in
-    let known = pass c.in_ok-connection.ensures.passed pending in
-    let late = pass (evident_over c.args.records.now c.in_ok-mine.mine.now.end.connection c.in_ok-connection.connection.now c.in_ok-connection.ensures.there seen state knowledge m.height (λ client. require_timed_out client m.height m.packet) (Ok tt) c.in_ok-check_timed_out.ensures) known in
-    refuses (timeout_checked m (proof_evidence seen None state) host core) _ c.from_residual-in_err-check_waiting.result p.1 p.2 (inl (fail _ (sym c.in_err-check_waiting.ensures) late))
+returns-in_err-check_waiting-clause-judged c = λ chain chains seen state knowledge.
+    refused _ c.from_residual-in_err-check_waiting.result c.from_residual-in_err-check_waiting.ensures.1 (inl (fail _ (sym c.in_err-check_waiting.ensures) (pass (timed_out_over c.args.records.now seen state _ _ c.in_ok-connection.ensures.there knowledge c.args.message.now.height c.args.message.now.packet _ c.in_ok-check_timed_out.ensures) (pass c.in_ok-connection.ensures.passed (pass (sym c.in_ok-check_pending.ensures) (timeout_found c.args.records.now chain chains seen state c.args.message.now _ c.requires.form c.requires.reads _ c.in_ok-mine.ensures.ok))))))
 
 pub returns-in_err-check_not_received-clause-judged : goal.returns-in_err-check_not_received-clause-judged
-returns-in_err-check_not_received-clause-judged c =
-    let p = err_from_is_err_and c.from_residual-in_err-check_not_received.result c.from_residual-in_err-check_not_received.ensures.1 in
-    let core = core_of c.args.records.now in
-    let m = c.args.message.now in
-    λ chain chains seen state knowledge.
-    let host = host_with chain chains c.args.records.now in
-    let found = timeout_found seen state host core c.args.proof.now m c.requires.form c.requires.reads c.in_ok-mine.mine.now c.in_ok-mine.ensures.ok in
-    let pending = pass (sym c.in_ok-check_pending.ensures) found in
-    let known = pass c.in_ok-connection.ensures.passed pending in
-    let late = pass (evident_over c.args.records.now c.in_ok-mine.mine.now.end.connection c.in_ok-connection.connection.now c.in_ok-connection.ensures.there seen state knowledge m.height (λ client. require_timed_out client m.height m.packet) (Ok tt) c.in_ok-check_timed_out.ensures) known in
-    let waiting = pass (sym c.in_ok-check_waiting.ensures) late in
-    refuses (timeout_checked m (proof_evidence seen None state) host core) _ c.from_residual-in_err-check_not_received.result p.1 p.2 (stops _ (not_shown c.args.records.now c.in_ok-mine.mine.now.end.connection c.in_ok-connection.connection.now c.in_ok-connection.ensures.there seen state knowledge m.height (not_received c.in_ok-mine.mine.now m.packet m.next_recv) m.proof c.args.proof.now c.requires.reads c.in_err-check_not_received.ensures) waiting)
+returns-in_err-check_not_received-clause-judged c = λ chain chains seen state knowledge.
+    refused _ c.from_residual-in_err-check_not_received.result c.from_residual-in_err-check_not_received.ensures.1 (stops _ (not_shown c.args.records.now seen state _ _ c.in_ok-connection.ensures.there knowledge c.args.message.now.height (not_received c.in_ok-mine.mine.now c.args.message.now.packet c.args.message.now.next_recv) _ _ c.requires.reads c.in_err-check_not_received.ensures) (pass (sym c.in_ok-check_waiting.ensures) (pass (timed_out_over c.args.records.now seen state _ _ c.in_ok-connection.ensures.there knowledge c.args.message.now.height c.args.message.now.packet _ c.in_ok-check_timed_out.ensures) (pass c.in_ok-connection.ensures.passed (pass (sym c.in_ok-check_pending.ensures) (timeout_found c.args.records.now chain chains seen state c.args.message.now _ c.requires.form c.requires.reads _ c.in_ok-mine.ensures.ok))))))
 
 pub returns-clause-judged : goal.returns-clause-judged
-returns-clause-judged c =
-    let core = core_of c.args.records.now in
-    let m = c.args.message.now in
-    λ chain chains seen state knowledge.
-    let host = host_with chain chains c.args.records.now in
-    let found = timeout_found seen state host core c.args.proof.now m c.requires.form c.requires.reads c.in_ok-mine.mine.now c.in_ok-mine.ensures.ok in
-    let pending = pass (sym c.in_ok-check_pending.ensures) found in
-    let known = pass c.in_ok-connection.ensures.passed pending in
-    let late = pass (evident_over c.args.records.now c.in_ok-mine.mine.now.end.connection c.in_ok-connection.connection.now c.in_ok-connection.ensures.there seen state knowledge m.height (λ client. require_timed_out client m.height m.packet) (Ok tt) c.in_ok-check_timed_out.ensures) known in
-    let waiting = pass (sym c.in_ok-check_waiting.ensures) late in
-    pass (was_shown c.args.records.now c.in_ok-mine.mine.now.end.connection c.in_ok-connection.connection.now c.in_ok-connection.ensures.there seen state knowledge m.height (not_received c.in_ok-mine.mine.now m.packet m.next_recv) m.proof c.args.proof.now c.requires.reads c.in_ok-check_not_received.ensures) waiting
+returns-clause-judged c = λ chain chains seen state knowledge.
+    pass (was_shown c.args.records.now seen state _ _ c.in_ok-connection.ensures.there knowledge c.args.message.now.height (not_received c.in_ok-mine.mine.now c.args.message.now.packet c.args.message.now.next_recv) _ _ c.requires.reads c.in_ok-check_not_received.ensures) (pass (sym c.in_ok-check_waiting.ensures) (pass (timed_out_over c.args.records.now seen state _ _ c.in_ok-connection.ensures.there knowledge c.args.message.now.height c.args.message.now.packet _ c.in_ok-check_timed_out.ensures) (pass c.in_ok-connection.ensures.passed (pass (sym c.in_ok-check_pending.ensures) (timeout_found c.args.records.now chain chains seen state c.args.message.now _ c.requires.form c.requires.reads _ c.in_ok-mine.ensures.ok)))))
