@@ -34,7 +34,7 @@ def numbers():
 def theorem():
     """Whether the README has the theorem as it stands in its file."""
     lines = text_of(THEOREM).split("\n")
-    begin = next(k for k, line in enumerate(lines) if line.startswith("-- all that happened"))
+    begin = next(k for k, line in enumerate(lines) if line.startswith("pub record IsLawful "))
     if "\n".join(lines[begin:]).strip("\n") not in list(code_blocks(text_of("README.md"))):
         yield f"README.md: the theorem isn't as in {THEOREM}"
 
