@@ -22,6 +22,7 @@ parts=(
     "tools/trust LOG"
     "tools/check_statuses"
     "tools/check_cases"
+    "tools/check_outputs"
     "tools/build_library --gated"
     "tools/refuse_growths"
     "tools/refuse_by_call"
