@@ -9,7 +9,7 @@ import subprocess
 
 from crates import ROOT
 
-PAGES = ("README.md", "docs/TUTORIAL.md", "docs/SCRIPTS.md")
+PAGES = ("README.md", "docs/TUTORIAL.md", "docs/SCRIPTS.md", "docs/HOSTILE.md")
 BLOCK = re.compile(r"(?:^    .*\n|^\n(?=    ))+", re.M)
 COMMAND = re.compile(r"(\./run\.sh|\./test\.sh|tools/[a-z_]+|\$\(tools/[a-z_]+ ibc_[a-z_]+\)|rt)( |$)")
 SCRIPT = re.compile(r"\./run\.sh (race --relayers [1-8] )?([\w./-]+)")
