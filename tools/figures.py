@@ -1,5 +1,5 @@
-"""Numbers of pages that come from elsewhere: the sums of the files in docs/figures, the gate's own numbers, the kit, and what is counted.
-Other numbers are compared by tools/check_docs."""
+"""Numbers of pages that come from elsewhere: the sums of the files in docs/figures, the answers of cases, the gate's own numbers, the kit,
+and what is counted. Other numbers are compared by tools/check_docs."""
 import re
 
 from counts import all_counts, wrong_numbers
@@ -38,6 +38,25 @@ def sums():
             yield f"{HOSTILE}: {number:,} of docs/figures/{name}.txt", "" if is_there else "the page doesn't have it"
 
 
+def stored():
+    """What the gate compares of each case: what it prints, by its title."""
+    parts = re.split(r"(?m)^# ", read("crates/ibc_cases/stdout"))
+    return {title: said for title, _, said in (it.partition("\n") for it in parts)}
+
+
+def attacks():
+    """Each line of HOSTILE's table of attacks: the cases that it names have each answer that it tells."""
+    said, tried = stored(), []
+    for attack, answers, named in re.findall(r"(?m)^\| ([^|]+) \| ([^|]+) \| ([^|]+) \|$", read(HOSTILE)):
+        files = re.findall(r"`(\w+)`", named)
+        tried = [*(tried if named.startswith("the same") else []), *files]
+        titles = [it for file in tried for it in re.findall(r"(?m)^# (.*)", read(f"crates/ibc_cases/data/{file}.txt"))]
+        lines = "\n".join(said.get(it, "") for it in titles)
+        if numbers := re.findall(r"\b(\d+) `[A-Z]", answers):
+            lacking = [it for it in numbers if not re.search(rf"\bno {it}\b", lines)]
+            yield f"{HOSTILE}: {attack}", f"no case of {', '.join(tried)} is answered {', '.join(lacking)}" if lacking else ""
+
+
 def sent():
     """How many messages with wrong bytes the gate sends, as cases and by a tool."""
     lines = re.findall(r"^wrong bytes \d+ (\d+)$", read("crates/ibc_cases/data/wrong_bytes.txt"), re.M)
@@ -62,5 +81,5 @@ def counted():
 
 def faults():
     """Each number, and what is wrong with it."""
-    for part in (sums, sent, kit, counted):
+    for part in (sums, attacks, sent, kit, counted):
         yield from part()
