@@ -52,11 +52,21 @@ def printed():
 
 
 def reading():
-    """Each file of definitions behind the theorem that READING doesn't list, and each that it lists beside them."""
+    """Each file of definitions behind the theorem that READING doesn't list, each that it lists beside them, and each sum of minutes that is wrong."""
     files = [it.removeprefix("crates/").removesuffix(".antt") for it in definitions()[0]]
-    listed = re.findall(r"(?m)^\| `(ibc_\w+/specs/[\w/]+)`", text_of("docs/READING.md"))
+    text = text_of("docs/READING.md")
+    listed = re.findall(r"(?m)^- `(ibc_\w+/specs/[\w/]+)` \(\d+\):", text)
     yield from (f"docs/READING.md: {it} isn't listed" for it in files if it not in listed)
     yield from (f"docs/READING.md: {it} isn't behind the theorem" for it in listed if it not in files)
+    hours = 0
+    for title, minutes, part in re.findall(r"(?ms)^### ([^\n]*): (\d+) minutes$(.*?)(?=^##)", text):
+        found = sum(map(int, re.findall(r"(?m)^- `ibc_[^`]*` \((\d+)\):", part)))
+        hours += found / 60
+        if found != int(minutes):
+            yield f"docs/READING.md: {title}: the files take {found} minutes"
+    told = re.search(r"some\s+(\w+)\s+hours", text)
+    if not told or told.group(1) != dict(enumerate("no one two three four five six seven eight nine ten".split())).get(round(hours)):
+        yield f"docs/READING.md: the files take {hours:.1f} hours"
 
 
 def verdict_words():
