@@ -2,6 +2,7 @@
 import os
 import re
 
+import page_numbers
 import prose
 from counts import THEOREM, all_counts, definitions, wrong_numbers
 from crates import ROOT, uses
@@ -29,6 +30,21 @@ def numbers():
     for page in COUNTED:
         if os.path.isfile(os.path.join(ROOT, page)):
             yield from (f"{page}: {it}" for it in wrong_numbers(text_of(page), counted))
+
+
+def compared():
+    """Each number of a page that isn't what another tool or the source says."""
+    yield from page_numbers.faults()
+
+
+def speed():
+    """Each row of SPEED's table with a number that the file of figures doesn't have."""
+    rows = [it.split() for it in text_of("docs/figures/speed.txt").split("\n")]
+    for row in re.findall(r"(?m)^\| `\w+` \|.*\|$", text_of("docs/SPEED.md")):
+        name, size, *numbers = [it.strip(" `") for it in row.strip("|").split("|")]
+        there = next((it for it in rows if it[:2] == [name, size]), [])
+        if any(it not in there for it in numbers[:4]):
+            yield f"docs/SPEED.md: docs/figures/speed.txt has no such row: {row}"
 
 
 def theorem():
@@ -85,15 +101,17 @@ def libraries():
 
 
 def sentences():
-    """Each sentence that is too long, in the pages that a reader meets first."""
+    """Each sentence that is too long, in the pages that a reader meets first, and each of these whose sentences are too long on the average."""
     for page in prose.MEASURED:
         for it in prose.too_long(text_of(page)):
             yield f"{page}: {prose.length(it)} words, and at most {prose.LONGEST} are allowed: {it[:60]} .."
+        if prose.average(text_of(page)) > prose.AVERAGE:
+            yield f"{page}: {prose.average(text_of(page)):.1f} words a sentence, and at most {prose.AVERAGE} are allowed"
 
 
 def faults():
     """All of it."""
-    for part in (numbers, theorem, printed, reading, verdict_words, libraries, sentences):
+    for part in (numbers, compared, speed, theorem, printed, reading, verdict_words, libraries, sentences):
         yield from part()
 
 
@@ -101,6 +119,6 @@ def lengths():
     """A line for each page that is measured: its longest sentence and its longest cell. And one for the words of all pages."""
     for page in prose.MEASURED:
         text = text_of(page)
-        yield f"{page}: longest sentence {prose.longest_sentence(text)[0]} words, longest cell {prose.longest_cell(text)[0]}"
+        yield f"{page}: {prose.average(text):.1f} words a sentence, longest {prose.longest_sentence(text)[0]}, longest cell {prose.longest_cell(text)[0]}"
     pages = ["README.md", *(f"docs/{it}" for it in sorted(os.listdir(f"{ROOT}/docs")) if it.endswith(".md"))]
     yield f"the README and the {len(pages) - 1} pages of docs have {sum(len(text_of(it).split()) for it in pages):,} words"
