@@ -144,11 +144,19 @@ def faults():
         yield from (f"{page}: {fault}" for rule in RULES for _, fault in rule(text) if fault)
 
 
+def sums_of(text):
+    """The sums of the numbers that stand at one place of the lines of a text."""
+    rows = [[plain(it) for it in re.findall(r"\b\d+\b", line)] for line in text.split("\n")]
+    return [f"{sum(it):,}" for size in {len(it) for it in rows} for it in zip(*(row for row in rows if len(row) == size))]
+
+
 def known_to_tools(page):
-    """The numbers that the page's blocks of code have, or the files of figures that it names: tools/check_outputs compares these."""
+    """The numbers that the page's blocks of code have, or the files of figures that it names, and the sums of these. tools/check_outputs compares
+    them."""
     text = read(page)
-    shown = re.findall(r"(?m)^    .*$", text) + [read(f"docs/{it}") for it in re.findall(r"\bfigures/\w+\.txt", text)]
-    return set(re.findall(r"(?<![\w.])\d[\d,.]*\d|(?<![\w.])\d", " ".join(shown)))
+    figures = [read(f"docs/{it}") for it in re.findall(r"\bfigures/\w+\.txt", text)]
+    shown = " ".join(re.findall(r"(?m)^    .*$", text) + figures)
+    return {*re.findall(r"(?<![\w.])\d[\d,.]*\d|(?<![\w.])\d", shown), *(number for it in figures for number in sums_of(it))}
 
 
 def uncompared():
