@@ -20,16 +20,19 @@ CALLS = "crates/ibc_calls/specs/CallAnswers.antt"
 # Where a page says a limit, and where the source has it. The numbers of the groups are the same, one behind another.
 LIMITS = [
     (r"(?:object .{0,30}at most|script has) ([\d,]+) bytes", SCRIPT, r"MOST_BYTES: usize = ([\d_]+)"),
-    (r"how many heights a chain may publish: (\d+) to ([\d,]+)", GENESIS, r"nat_le (\d+) genesis\.capacity && nat_le genesis\.capacity (\d+)"),
+    (r"how many heights a chain may publish: (\d+) to ([\d,]+)", GENESIS,
+     r"nat_le (\d+) genesis\.capacity && nat_le genesis\.capacity (\d+)"),
     (r"keeps for others, (\d+) to ([\d,]+)", GENESIS, r"nat_le (\d+) genesis\.window\s*&& nat_le genesis\.window (\d+)"),
     (r"capacity says, ([\d,]+) at most", GENESIS, r"nat_le genesis\.capacity (\d+)"),
     (r"smaller of the capacity and ([\d,]+)", "crates/ibc_script/src/reading.rt", r"USUAL_WINDOW: u64 = ([\d_]+)"),
     (r"\| (\d+) to (\d+) chains", GENESIS, r"nat_le (\d+) \(length genesis\.chains\) && nat_le \(length genesis\.chains\) (\d+)"),
     (r"at most ([\d,]+) steps", SCRIPT, r"MOST_STEPS: usize = ([\d_]+)"),
     (r"`turns`, 1 to ([\d,]+)", SCRIPT, r"MOST_TURNS: u16 = ([\d_]+)"),
-    (r"(?:list of|script names|\(1 byte,) (\d+) to (\d+)(?: tokens| `\[denom|\))", "crates/ibc_wire/specs/Tokens.antt", r"nat_le (\d+) .*nat_le .* (\d+)"),
-    (r"(?:relayers, |digit from |thread for each of )(\d) to (\d)", "crates/ibc_script_cli/src/program.rt", r"(\d) ≤ relayers × relayers ≤ (\d)"),
-    (r"(?:acknowledgement has|Acknowledgements of) (\d+) to ([\d,]+) bytes", "crates/ibc_machine/specs/ics04/Packets.antt", r"nat_le (\d+) \(length text\) && nat_le \(length text\) (\d+)"),
+    (r"(?:list of|script names|\(1 byte,) (\d+) to (\d+)(?: tokens| `\[denom|\))", "crates/ibc_wire/specs/Tokens.antt",
+     r"nat_le (\d+) .*nat_le .* (\d+)"),
+    (r"(?:relayers, |threads, |digit from )(\d) to (\d)", "crates/ibc_script_cli/src/program.rt", r"(\d) ≤ relayers × relayers ≤ (\d)"),
+    (r"(?:acknowledgement has|Acknowledgements of) (\d+) to ([\d,]+) bytes", "crates/ibc_machine/specs/ics04/Packets.antt",
+     r"nat_le (\d+) \(length text\) && nat_le \(length text\) (\d+)"),
     (r"below 2\^(\d+)", GENESIS, r"2 \^ (\d+)"),
     (r"fit (\d+) bits together", GENESIS, r"2 \^ (\d+)"),
     (r"\| chain \| (\d+) to (\d+)", "crates/ibc_script/specs/", r"is_made_of is_chain_name_byte (\d+) (\d+)"),
@@ -125,6 +128,29 @@ def by_examples(text):
         yield found.span(2), "" if size == int(found[2]) else f"{found[1]} has {size} bytes, and not {found[2]}"
 
 
+@functools.lru_cache
+def widths():
+    """How many bytes a field has, by the last part of its name."""
+    fields = "".join(read(f"crates/ibc_wire/specs/{it}.antt") for it in ("Messages", "Spelling"))
+    sizes = {"one_byte": 1, "be64": 8, "be128": 16, "root32": 32}
+    found = re.findall(r"\b(one_byte|be64|be128|root32) \(?(?:\w+ )?[\w.]*?([a-z]+)\b(?!\.)", fields)
+    return {name: sizes[kind] for kind, name in found}
+
+
+def by_widths(text):
+    """How many bytes a field of a message has."""
+    for found in re.finditer(r"\b([a-z]+) \((\d+) bytes?\b", text):
+        width = widths().get(found[1])
+        if width:
+            yield found.span(2), "" if width == int(found[2]) else f"the field {found[1]} has {width} bytes, and not {found[2]}"
+
+
+def by_printed(text):
+    """How many lines the README's first run prints: page_checks.printed compares it."""
+    for found in re.finditer(r"\bof (\d+) lines", text):
+        yield found.span(1), ""
+
+
 def by_the_crates(text):
     """How many wrong definitions there are, and how many messages connections, channels and packets have."""
     wrong = len(glob.glob(f"{ROOT}/crates/ibc_machine/must-fail/*.edit"))
@@ -134,7 +160,7 @@ def by_the_crates(text):
             yield found.span(1), "" if int(found[1]) == number else f"it says {found[1]} {noun}, and there are {number}"
 
 
-RULES = (by_names, by_counts, by_refusals, by_tags, by_limits, by_powers, by_examples, by_the_crates)
+RULES = (by_names, by_counts, by_refusals, by_tags, by_limits, by_powers, by_examples, by_widths, by_printed, by_the_crates)
 
 
 def faults():
@@ -151,11 +177,11 @@ def sums_of(text):
 
 
 def known_to_tools(page):
-    """The numbers that the page's blocks of code have, or the files of figures that it names, and the sums of these. tools/check_outputs compares
-    them."""
+    """The numbers of the page's blocks of code, of the scripts that it names, and of the files of figures, with the sums of these."""
     text = read(page)
+    scripts = [read(it) for it in re.findall(r"\bexamples/\w+\.json", text)]
     figures = [read(f"docs/{it}") for it in re.findall(r"\bfigures/\w+\.txt", text)]
-    shown = " ".join(re.findall(r"(?m)^    .*$", text) + figures)
+    shown = " ".join(re.findall(r"(?m)^    .*$", text) + scripts + figures)
     return {*re.findall(r"(?<![\w.])\d[\d,.]*\d|(?<![\w.])\d", shown), *(number for it in figures for number in sums_of(it))}
 
 
