@@ -4,11 +4,11 @@ import re
 
 import page_numbers
 import prose
-from counts import THEOREM, all_counts, definitions, wrong_numbers
+from counts import THEOREM, all_counts, corrected, definitions, wrong_numbers
 from crates import ROOT, uses
 
 # The pages whose numbers are compared with what is counted.
-COUNTED = ("README.md", "docs/READING.md", "docs/TRUST.md", "docs/PROVED.md")
+COUNTED = (*prose.MEASURED, "docs/READING.md", "docs/TRUST.md", "docs/PROVED.md")
 # What the first command of the README prints.
 PRINTED = "examples/library/relay.txt"
 
@@ -30,6 +30,16 @@ def numbers():
     for page in COUNTED:
         if os.path.isfile(os.path.join(ROOT, page)):
             yield from (f"{page}: {it}" for it in wrong_numbers(text_of(page), counted))
+
+
+def write_numbers():
+    """Writes into the pages the numbers of what is counted, where they differ."""
+    counted = all_counts()
+    for page in COUNTED:
+        text = text_of(page)
+        if corrected(text, counted) != text:
+            with open(os.path.join(ROOT, page), "w", encoding="utf-8") as it:
+                it.write(corrected(text, counted))
 
 
 def compared():
