@@ -80,7 +80,7 @@ def all_counts():
 def wrong_numbers(text, counted):
     """Each number in a text that isn't what is counted. A number behind `about` may be rounded."""
     for noun, number in counted.items():
-        for about, told in re.findall(rf"(?i)\b(about )?([\d,]*\d)\s+{noun}\b", re.sub(r"\s+", " ", text)):
+        for about, told in re.findall(rf"(?i)\b(about )?([1-9][\d,]*)\s+{noun}\b", re.sub(r"\s+", " ", text)):
             said = int(told.replace(",", ""))
             if said != number if not about else abs(said - number) > ROUNDED * number:
                 yield f"it says {about}{told} {noun}, and there are {number:,}"
