@@ -95,6 +95,16 @@ def reading():
         yield f"docs/READING.md: the files take {hours:.1f} hours"
 
 
+def laws():
+    """Each law of the page for which READING has no run, and each run for what is none."""
+    record = text_of(THEOREM).partition("pub record IsLawful ")[2]
+    found = re.findall(r"(?m)^  pub (\w+) :", record)
+    rows = re.findall(r"(?m)^\| ((?:`\w+`(?:, )?)+) \|", text_of("docs/READING.md").partition("| law (`IsLawful`)")[2])
+    told = re.findall(r"`(\w+)`", " ".join(rows))
+    yield from (f"docs/READING.md: no run for the law {it}" for it in found if it not in told)
+    yield from (f"docs/READING.md: {it} is no law of the page" for it in told if it not in found)
+
+
 def verdict_words():
     """Each word of the prover's verdicts that TRUST doesn't explain."""
     for word in sorted(set(re.findall(r" ([a-z-]+=)", text_of("tests/trust.txt")))):
@@ -121,7 +131,7 @@ def sentences():
 
 def faults():
     """All of it."""
-    for part in (numbers, compared, speed, theorem, printed, reading, verdict_words, libraries, sentences):
+    for part in (numbers, compared, speed, theorem, printed, reading, laws, verdict_words, libraries, sentences):
         yield from part()
 
 
