@@ -80,7 +80,27 @@ def all_counts():
 def wrong_numbers(text, counted):
     """Each number in a text that isn't what is counted. A number behind `about` may be rounded."""
     for noun, number in counted.items():
-        for about, told in re.findall(rf"(?i)\b(about )?([\d,]*\d)\s+{noun}\b", re.sub(r"\s+", " ", text)):
+        for about, told in re.findall(rf"(?i)\b(about )?([1-9][\d,]*)\s+{noun}\b", re.sub(r"\s+", " ", text)):
             said = int(told.replace(",", ""))
             if said != number if not about else abs(said - number) > ROUNDED * number:
                 yield f"it says {about}{told} {noun}, and there are {number:,}"
+
+
+def rounded(number):
+    """A number with as few digits as `about` allows."""
+    for digits in range(1, len(str(number)) + 1):
+        step = 10 ** (len(str(number)) - digits)
+        near = (number + step // 2) // step * step
+        if abs(near - number) <= ROUNDED * number:
+            return near
+
+
+def corrected(text, counted):
+    """The text with each number as it is counted, where it isn't."""
+    for noun, number in counted.items():
+        def written(found):
+            right = rounded(number) if found[1] else number
+            return found[0] if not list(wrong_numbers(found[0], {noun: number})) else f"{found[1] or ''}{right:,}{found[3]}"
+
+        text = re.sub(rf"(?i)\b(about\s+)?([\d,]*\d)(\s+{noun.replace(' ', chr(92) + 's+')})\b", written, text)
+    return text

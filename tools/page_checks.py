@@ -2,12 +2,13 @@
 import os
 import re
 
+import page_numbers
 import prose
-from counts import THEOREM, all_counts, definitions, wrong_numbers
+from counts import THEOREM, all_counts, corrected, definitions, wrong_numbers
 from crates import ROOT, uses
 
 # The pages whose numbers are compared with what is counted.
-COUNTED = ("README.md", "docs/READING.md", "docs/TRUST.md", "docs/PROVED.md")
+COUNTED = (*prose.MEASURED, "docs/READING.md", "docs/TRUST.md", "docs/PROVED.md")
 # What the first command of the README prints.
 PRINTED = "examples/library/relay.txt"
 
@@ -31,6 +32,31 @@ def numbers():
             yield from (f"{page}: {it}" for it in wrong_numbers(text_of(page), counted))
 
 
+def write_numbers():
+    """Writes into the pages the numbers of what is counted, where they differ."""
+    counted = all_counts()
+    for page in COUNTED:
+        text = text_of(page)
+        if corrected(text, counted) != text:
+            with open(os.path.join(ROOT, page), "w", encoding="utf-8") as it:
+                it.write(corrected(text, counted))
+
+
+def compared():
+    """Each number of a page that isn't what another tool or the source says."""
+    yield from page_numbers.faults()
+
+
+def speed():
+    """Each row of SPEED's table with a number that the file of figures doesn't have."""
+    rows = [it.split() for it in text_of("docs/figures/speed.txt").split("\n")]
+    for row in re.findall(r"(?m)^\| `\w+` \|.*\|$", text_of("docs/SPEED.md")):
+        name, size, *numbers = [it.strip(" `") for it in row.strip("|").split("|")]
+        there = next((it for it in rows if it[:2] == [name, size]), [])
+        if any(it not in there for it in numbers[:4]):
+            yield f"docs/SPEED.md: docs/figures/speed.txt has no such row: {row}"
+
+
 def theorem():
     """Whether the README has the theorem as it stands in its file."""
     lines = text_of(THEOREM).split("\n")
@@ -52,11 +78,31 @@ def printed():
 
 
 def reading():
-    """Each file of definitions behind the theorem that READING doesn't list, and each that it lists beside them."""
+    """Each file of definitions behind the theorem that READING doesn't list, each that it lists beside them, and each sum of minutes that is wrong."""
     files = [it.removeprefix("crates/").removesuffix(".antt") for it in definitions()[0]]
-    listed = re.findall(r"(?m)^\| `(ibc_\w+/specs/[\w/]+)`", text_of("docs/READING.md"))
+    text = text_of("docs/READING.md")
+    listed = re.findall(r"(?m)^- `(ibc_\w+/specs/[\w/]+)` \(\d+\):", text)
     yield from (f"docs/READING.md: {it} isn't listed" for it in files if it not in listed)
     yield from (f"docs/READING.md: {it} isn't behind the theorem" for it in listed if it not in files)
+    hours = 0
+    for title, minutes, part in re.findall(r"(?ms)^### ([^\n]*): (\d+) minutes$(.*?)(?=^##)", text):
+        found = sum(map(int, re.findall(r"(?m)^- `ibc_[^`]*` \((\d+)\):", part)))
+        hours += found / 60
+        if found != int(minutes):
+            yield f"docs/READING.md: {title}: the files take {found} minutes"
+    told = re.search(r"some\s+(\w+)\s+hours", text)
+    if not told or told.group(1) != dict(enumerate("no one two three four five six seven eight nine ten".split())).get(round(hours)):
+        yield f"docs/READING.md: the files take {hours:.1f} hours"
+
+
+def laws():
+    """Each law of the page for which READING has no run, and each run for what is none."""
+    record = text_of(THEOREM).partition("pub record IsLawful ")[2]
+    found = re.findall(r"(?m)^  pub (\w+) :", record)
+    rows = re.findall(r"(?m)^\| ((?:`\w+`(?:, )?)+) \|", text_of("docs/READING.md").partition("| law (`IsLawful`)")[2])
+    told = re.findall(r"`(\w+)`", " ".join(rows))
+    yield from (f"docs/READING.md: no run for the law {it}" for it in found if it not in told)
+    yield from (f"docs/READING.md: {it} is no law of the page" for it in told if it not in found)
 
 
 def verdict_words():
@@ -75,15 +121,17 @@ def libraries():
 
 
 def sentences():
-    """Each sentence that is too long, in the pages that a reader meets first."""
+    """Each sentence that is too long, in the pages that a reader meets first, and each of these whose sentences are too long on the average."""
     for page in prose.MEASURED:
         for it in prose.too_long(text_of(page)):
             yield f"{page}: {prose.length(it)} words, and at most {prose.LONGEST} are allowed: {it[:60]} .."
+        if prose.average(text_of(page)) > prose.AVERAGE:
+            yield f"{page}: {prose.average(text_of(page)):.1f} words a sentence, and at most {prose.AVERAGE} are allowed"
 
 
 def faults():
     """All of it."""
-    for part in (numbers, theorem, printed, reading, verdict_words, libraries, sentences):
+    for part in (numbers, compared, speed, theorem, printed, reading, laws, verdict_words, libraries, sentences):
         yield from part()
 
 
@@ -91,6 +139,6 @@ def lengths():
     """A line for each page that is measured: its longest sentence and its longest cell. And one for the words of all pages."""
     for page in prose.MEASURED:
         text = text_of(page)
-        yield f"{page}: longest sentence {prose.longest_sentence(text)[0]} words, longest cell {prose.longest_cell(text)[0]}"
+        yield f"{page}: {prose.average(text):.1f} words a sentence, longest {prose.longest_sentence(text)[0]}, longest cell {prose.longest_cell(text)[0]}"
     pages = ["README.md", *(f"docs/{it}" for it in sorted(os.listdir(f"{ROOT}/docs")) if it.endswith(".md"))]
     yield f"the README and the {len(pages) - 1} pages of docs have {sum(len(text_of(it).split()) for it in pages):,} words"

@@ -1,9 +1,10 @@
 """The words of the documents: sentences and cells of tables, and how long they are."""
 import re
 
-# In these pages no sentence is longer than LONGEST words: a reader meets them first.
+# In these pages no sentence is longer than LONGEST words, and on the average AVERAGE at most: a reader meets them first.
 MEASURED = ("README.md", "docs/TUTORIAL.md", "docs/SCRIPTS.md", "docs/HOSTILE.md", "docs/LIBRARY.md")
 LONGEST = 45
+AVERAGE = 25
 
 
 def blocks(text):
@@ -53,6 +54,12 @@ def longest_sentence(text):
     """The longest sentence of a page, and how many words it has."""
     found = [it for block, _ in blocks(text) for it in sentences(block)]
     return max(((length(it), it) for it in found), default=(0, ""))
+
+
+def average(text):
+    """How many words a sentence of a page has on the average, cells of tables left out."""
+    found = [length(it) for block, is_cell in blocks(text) if not is_cell for it in sentences(block)]
+    return sum(found) / max(len(found), 1)
 
 
 def longest_cell(text):
