@@ -7,7 +7,7 @@ ghost use Rattle.ibc_race.specs.SharedWorlds.{HasItsBook};
 use crate::equal::are_equal;
 use ibc_ids::Refusal;
 use ibc_ledger::Ledger;
-use ibc_ledger_lock::{Board, Chain, UnusedBook, WorldBrand};
+use ibc_ledger_lock::{Board, Chain, Receipt, UnusedBook, WorldBrand};
 use ibc_race::begin;
 use ibc_script::Fault;
 use ibc_script_cli::{Race, RaceAudit, Races};
@@ -135,7 +135,9 @@ fn made_and_taken<R: Wait, W: WorldBrand>(
     match Chain::new(rt, ledger, opened, board) {
         Ok(chain) => {
             let (_, reading) = chain.view();
-            chain.into_ledger(&[], &[reading])
+            let receipts: [Receipt<W>; 0] = [];
+            let readings = [reading];
+            chain.into_ledger(&receipts, &readings)
         }
         Err((_, ledger)) => ledger,
     }

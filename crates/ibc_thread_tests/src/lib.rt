@@ -17,7 +17,6 @@ mod histories;
 #[cfg(test)]
 mod holding;
 #[cfg(test)]
-#[cfg(test)]
 mod list_tests;
 #[cfg(test)]
 mod lists;
