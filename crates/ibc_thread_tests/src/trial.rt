@@ -206,7 +206,12 @@ fn audited<R: Threads + Wait + Sync, W: WorldBrand>(
 ) -> Result<RaceAudit, Fault> {
     trial.is_done.set(done == Ok(true));
     let readings = Vec::new(trial.alloc);
-    match audit_chains(trial.alloc, chains, receipts.as_slice(), readings.as_slice()) {
+    match audit_chains(
+        trial.alloc,
+        chains,
+        receipts.as_slice(),
+        readings.as_slice(),
+    ) {
         Ok(Audit { balances, notes }) => Ok(RaceAudit { balances, notes }),
         Err(refusal) => Err(Fault::of_refusal(refusal)),
     }
