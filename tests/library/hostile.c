@@ -143,10 +143,10 @@ static void add_wrongly(void)
     ibcw_ledgers ledgers = IBCW_HANDLE_INIT;
     want(ibcw_make_genesis(&genesis, 64, 64), "a genesis");
     tried(ibcw_add_balance(&genesis, bytes("a"), 1, bytes("b"), 1, 0, 1), IBCW_NOTHING_THERE, "a balance before any chain");
-    want(ibcw_add_chain(&genesis, UINT64_MAX), "a chain");
+    want(ibcw_add_chain(&genesis, TIME), "a chain");
     tried(ibcw_add_balance(&genesis, NULL, 0, NULL, 0, 0, 1), IBCW_BAD_NAME, "a balance of no user");
     tried(ibcw_add_balance(&genesis, bytes("a\0b"), 3, bytes("b"), 1, 0, 1), IBCW_BAD_NAME, "a user with a zero within");
-    want(ibcw_add_chain(&genesis, 0), "a chain");
+    want(ibcw_add_chain(&genesis, TIME), "a chain");
     want(ibcw_add_balance(&genesis, bytes("a"), 1, bytes("b"), 1, UINT64_MAX, UINT64_MAX), "a balance");
     want(ibcw_add_balance(&genesis, bytes("c"), 1, bytes("b"), 1, 0, 1), "a balance");
     tried(ibcw_make_ledgers(&genesis, &ledgers), IBCW_BAD_MESSAGE, "more than 2^128 - 1 of a denomination");

@@ -216,14 +216,18 @@ static void play_round(world *w, world *twin)
 /* How much the accounts of a chain hold of a denomination, of which less than 2^64 is held. */
 static uint64_t held_of(ibcw_audit *audit, uint64_t chain, const char *denom)
 {
-    uint8_t holding[512];
+    uint8_t holding[1024];
     size_t size, wanted = strlen(denom);
     ibcw_amount amount;
     uint64_t held = 0, k;
-    for (k = 0; ibcw_holding(&audit->handle, chain, k, holding, sizeof holding, &size) == IBCW_DONE; k++) {
+    uint32_t answer;
+    for (k = 0;; k++) {
+        answer = ibcw_holding(&audit->handle, chain, k, holding, sizeof holding, &size);
+        if (answer != IBCW_DONE) break;
         want(ibcw_holding_amount(&audit->handle, chain, k, &amount), IBCW_DONE, "an amount");
         if (size > wanted && holding[size - wanted - 1] == ' ' && memcmp(holding + size - wanted, denom, wanted) == 0) held += amount.low;
     }
+    want(answer, IBCW_NOTHING_THERE, "the end of the holdings");
     return held;
 }
 
