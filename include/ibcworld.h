@@ -395,7 +395,7 @@ uint32_t ibcw_proof_value(const uint8_t *proof, size_t proof_size, uint8_t *valu
 
 /* Tells the tag, 1 to 19, of the message that the bytes spell. IBCW_NO_MESSAGE where they spell none. How messages are spelled
    stands in docs/LIBRARY.md: a message has one spelling, and no bytes spell two messages. A ledger keeps each message that it refuses, whole,
-   for ever: who takes messages from strangers asks this first, and looks how long their proofs are (IBCW_LONGEST_PROOF). */
+   for ever: who takes messages from strangers asks ibcw_screen_message (ibcworld_messages.h) first, by this call and ibcw_message_proof. */
 IBCW_MUST_USE IBCW_NONNULL(3)
 uint32_t ibcw_message_tag(const uint8_t *message, size_t message_size, uint8_t *tag);
 

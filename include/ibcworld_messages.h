@@ -478,6 +478,26 @@ static inline uint32_t ibcw_read_packet(const uint8_t *bytes, size_t size, ibcw_
     return from.is_short || from.left > 0 ? (uint32_t)IBCW_BAD_MESSAGE : (uint32_t)IBCW_DONE;
 }
 
+/* ---- messages of strangers */
+
+/* Whether the bytes spell a message whose proofs are proofs, whatever they show. A ledger keeps each message that it refuses, whole and for ever, so who takes
+   messages from strangers asks this first. IBCW_NO_MESSAGE where they spell none; IBCW_BAD_PROOF where a proof that it carries is none, as one
+   of more than IBCW_LONGEST_PROOF bytes; IBCW_NO_MEMORY. */
+IBCW_MUST_USE static inline uint32_t ibcw_screen_message(const uint8_t *message, size_t message_size)
+{
+    uint8_t proof[IBCW_LONGEST_PROOF], kind;
+    uint64_t index, height;
+    size_t size;
+    for (index = 0; index < 2; index++) {
+        uint32_t answer = ibcw_message_proof(message, message_size, index, &height, proof, sizeof proof, &size);
+        if (answer == IBCW_NOTHING_THERE) return IBCW_DONE;
+        if (answer == IBCW_DONE) answer = ibcw_proof_kind(proof, size, &kind);
+        if (answer == IBCW_TOO_SHORT || answer == IBCW_BAD_MESSAGE) return IBCW_BAD_PROOF;
+        if (answer != IBCW_DONE) return answer;
+    }
+    return IBCW_DONE;
+}
+
 /* ---- truth values of a verifier */
 
 /* Whether the proof shows under the root that the key has the value: 1, or 0, also where memory ran out. */

@@ -1,10 +1,14 @@
-/* Messages with a few bytes changed, cut or doubled, as many as the first word says: none brings a report of a sanitizer, a refusal changes no root, and tokens stay
-   as many as there were. It prints how many messages were tried, taken and refused, and how many bytes were none. */
+/* Messages with a few bytes changed, cut or doubled, as many as the first word says, and none brings a report of a sanitizer. A twin of each world is told what was taken,
+   and never what was refused: it answers the same, and its roots are the same, so a refusal changes nothing that is proved. Tokens stay as many as there were.
+   It prints how many messages were tried, how many were taken, and how many were no message. */
 #include "ibcworld_messages.h"
 
 #include <stdio.h>
 
 enum { TIME = 100, ROOM = 70000, SUPPLY = 1000000 };
+
+/* A world has so many tries, of which so many come before a block, and so many before packets go to and fro and are what is changed from then on. */
+enum { OF_WORLD = 50000, OF_BLOCK = 500, OF_ROUND = 5000 };
 
 typedef struct {
     uint8_t data[ROOM];
@@ -14,12 +18,22 @@ typedef struct {
 enum { MOST = 64 };
 
 static text *seeds[MOST];
-static int count;
+static uint64_t count, next;
+
+static long taken, none;
 
 static void want(uint32_t answer, uint32_t wanted, const char *what)
 {
     if (answer != wanted) {
         fprintf(stderr, "%s: %s in place of %s\n", what, ibcw_refusal_text(answer), ibcw_refusal_text(wanted));
+        exit(1);
+    }
+}
+
+static void want_true(int is_so, const char *what)
+{
+    if (!is_so) {
+        fprintf(stderr, "%s\n", what);
         exit(1);
     }
 }
@@ -34,26 +48,100 @@ static uint64_t drawn(void)
     return state;
 }
 
-/* The messages of a ledger's history are what is changed. */
-static void take_seeds(ibcw_ledger *ledger)
+/* ---- two worlds that begin alike */
+
+/* Two chains, of which the first has tokens. */
+typedef struct {
+    ibcw_ledgers rest;
+    ibcw_ledger chains[2];
+} world;
+
+static world begin(void)
 {
-    uint64_t length = 0, k;
+    world w = {IBCW_HANDLE_INIT, {IBCW_HANDLE_INIT, IBCW_HANDLE_INIT}};
+    ibcw_genesis genesis = IBCW_HANDLE_INIT;
+    want(ibcw_make_genesis(&genesis, 10000, 64), IBCW_DONE, "a genesis");
+    want(ibcw_add_chain(&genesis, TIME), IBCW_DONE, "a chain");
+    want(ibcw_add_balance(&genesis, (const uint8_t *)"alice", 5, (const uint8_t *)"atom", 4, 0, SUPPLY), IBCW_DONE, "a balance");
+    want(ibcw_add_chain(&genesis, TIME), IBCW_DONE, "a chain");
+    want(ibcw_make_ledgers(&genesis, &w.rest), IBCW_DONE, "ledgers");
+    want(ibcw_take_ledger(&w.rest, &w.chains[0]), IBCW_DONE, "a ledger");
+    want(ibcw_take_ledger(&w.rest, &w.chains[1]), IBCW_DONE, "a ledger");
+    ibcw_free(&genesis.handle);
+    return w;
+}
+
+static void open_channel(world *w)
+{
+    ibcw_opened of_x, of_y;
+    ibcw_opening what = {{NULL, 0}, IBCW_UNORDERED, {NULL, 0}, TIME};
+    what.port = ibcw_text("transfer");
+    what.version = ibcw_text("ics20-1");
+    want(ibcw_open(&w->chains[0], &of_x, &w->chains[1], &of_y, &what), IBCW_DONE, "a channel");
+}
+
+/* A transfer goes there, and its acknowledgement comes back; none where changed transfers have left too little. */
+static void send_and_relay(world *w)
+{
+    ibcw_replied reply;
+    ibcw_relayed relayed = {0, 0, 0};
+    ibcw_message message = ibcw_message_of(IBCW_TRANSFER);
+    uint32_t sent;
+    int k;
+    message.channel = ibcw_text("channel-0");
+    message.user = ibcw_text("alice");
+    message.denom = ibcw_text("atom");
+    message.receiver = ibcw_text("bob");
+    message.amount.low = 10;
+    message.timeout_height = 10000;
+    sent = ibcw_send(&w->chains[0], &message, &reply);
+    want_true(sent == IBCW_DONE || sent == IBCW_POOR, "a transfer");
+    for (k = 0; k < 2; k++) want(ibcw_relay(&w->chains[0], &w->chains[1], TIME, &relayed), IBCW_DONE, "a turn");
+}
+
+static uint64_t length_of(ibcw_handle *handle)
+{
+    uint64_t length = 0;
+    want(ibcw_length(handle, &length), IBCW_DONE, "a length");
+    return length;
+}
+
+/* ---- what is changed */
+
+static void keep_seed(text *seed)
+{
+    if (count < MOST) {
+        seeds[count++] = seed;
+    } else {
+        free(seeds[next]);
+        seeds[next] = seed;
+    }
+    next = (next + 1) % MOST;
+}
+
+/* The last messages of a ledger's history that were taken. */
+static void take_seeds(ibcw_ledger *ledger, uint64_t most)
+{
+    uint64_t k;
     ibcw_asked asked;
-    want(ibcw_length(&ledger->handle, &length), IBCW_DONE, "length");
-    for (k = 0; k < length && count < MOST; k++) {
-        text *seed = (text *)malloc(sizeof *seed);
-        if (seed == NULL) exit(1);
-        want(ibcw_event(ledger, k, &asked, seed->data, ROOM, &seed->size), IBCW_DONE, "an event");
-        if (asked.kind == IBCW_ASKED_BLOCK)
-            free(seed);
-        else
-            seeds[count++] = seed;
+    ibcw_told told;
+    size_t size;
+    for (k = length_of(&ledger->handle); k > 0 && most > 0; k--) {
+        text *seed;
+        uint32_t told_all = ibcw_reply(ledger, k - 1, &told, NULL, 0, &size);
+        want_true(told_all == IBCW_DONE || told_all == IBCW_TOO_SHORT, "a reply");
+        if (told.kind == IBCW_TOLD_REFUSAL || told.kind == IBCW_TOLD_BLOCK) continue;
+        seed = (text *)malloc(sizeof *seed);
+        want_true(seed != NULL, "memory");
+        want(ibcw_event(ledger, k - 1, &asked, seed->data, ROOM, &seed->size), IBCW_DONE, "an event");
+        keep_seed(seed);
+        most--;
     }
 }
 
 static void mutate(text *message)
 {
-    const text *seed = seeds[drawn() % (uint64_t)count];
+    const text *seed = seeds[drawn() % count];
     uint64_t changes = 1 + drawn() % 4;
     memcpy(message->data, seed->data, seed->size);
     message->size = seed->size;
@@ -66,111 +154,123 @@ static void mutate(text *message)
         case 3:
             if (message->size < ROOM) message->data[message->size++] = (uint8_t)drawn();
             break;
-        default: message->data[at] = seeds[drawn() % (uint64_t)count]->data[at % 32]; break;
+        default: message->data[at] = seeds[drawn() % count]->data[at % 32]; break;
         }
     }
 }
 
-/* The values of counters and of some records, by which a change would show. */
-static void digest(ibcw_ledger *ledger, uint8_t out[80])
+/* ---- a world and its twin */
+
+static void want_same(const ibcw_replied *one, const ibcw_replied *other, const char *what)
 {
-    static const char *const paths[] = {"nextClientSequence", "nextConnectionSequence", "nextChannelSequence",
-                                        "nextSequenceSend/ports/transfer/channels/channel-0", "nextSequenceRecv/ports/transfer/channels/channel-0",
-                                        "clients/inprocess-0/clientState"};
-    size_t k, size, at = 0;
-    ibcw_amount amount;
-    memset(out, 0, 80);
-    for (k = 0; k < sizeof paths / sizeof paths[0]; k++) {
-        uint32_t answer = ibcw_query(ledger, (const uint8_t *)paths[k], strlen(paths[k]), out + at, 80 - at, &size);
-        want(answer == IBCW_DONE || answer == IBCW_NOTHING_THERE, 1, paths[k]);
-        if (answer == IBCW_DONE) at += size;
-    }
-    want(ibcw_balance(ledger, (const uint8_t *)"alice", 5, (const uint8_t *)"atom", 4, &amount), IBCW_DONE, "a balance");
-    memcpy(out + at, &amount, sizeof amount);
+    want_true(one->told.kind == other->told.kind && one->told.number == other->told.number && one->size == other->size &&
+                  memcmp(one->bytes, other->bytes, one->size) == 0,
+              what);
 }
 
-/* What alice and the escrow account of the first channel hold at home. */
-static uint64_t held_at_home(ibcw_ledger *ledger)
+static uint32_t ask(ibcw_ledger *ledger, const text *message, ibcw_replied *reply)
 {
-    ibcw_amount users, escrow;
-    want(ibcw_balance(ledger, (const uint8_t *)"alice", 5, (const uint8_t *)"atom", 4, &users), IBCW_DONE, "a balance");
-    want(ibcw_escrow(ledger, (const uint8_t *)"channel-0", 9, (const uint8_t *)"atom", 4, &escrow), IBCW_DONE, "a balance");
-    return users.low + escrow.low;
+    return ibcw_apply(ledger, message->data, message->size, &reply->told, reply->bytes, sizeof reply->bytes, &reply->size);
 }
 
-static void begin(ibcw_genesis *genesis, ibcw_ledgers *ledgers, ibcw_ledger *x, ibcw_ledger *y)
+/* A ledger is asked, and its twin where it took the message. An entry is made of each message, taken or not. */
+static void try_message(ibcw_ledger *ledger, ibcw_ledger *twin, const text *message)
 {
-    want(ibcw_make_genesis(genesis, 100000, 64), IBCW_DONE, "a genesis");
-    want(ibcw_add_chain(genesis, TIME), IBCW_DONE, "a chain");
-    want(ibcw_add_balance(genesis, (const uint8_t *)"alice", 5, (const uint8_t *)"atom", 4, 0, SUPPLY), IBCW_DONE, "a balance");
-    want(ibcw_add_chain(genesis, TIME), IBCW_DONE, "a chain");
-    want(ibcw_make_ledgers(genesis, ledgers), IBCW_DONE, "ledgers");
-    want(ibcw_take_ledger(ledgers, x), IBCW_DONE, "a ledger");
-    want(ibcw_take_ledger(ledgers, y), IBCW_DONE, "a ledger");
+    ibcw_replied reply, again;
+    uint8_t tag = 0;
+    uint64_t before = length_of(&ledger->handle);
+    uint32_t answer = ask(ledger, message, &reply);
+    int is_none = answer == IBCW_NO_MESSAGE;
+    want_true((ibcw_message_tag(message->data, message->size, &tag) == IBCW_NO_MESSAGE) == is_none, "a message or none");
+    want_true(length_of(&ledger->handle) == before + !is_none, "an entry of each message");
+    none += is_none;
+    if (answer != IBCW_DONE) return;
+    taken++;
+    want(ask(twin, message, &again), IBCW_DONE, "what the twin takes");
+    want_same(&reply, &again, "what the twin answers");
 }
 
-static void open_and_relay(ibcw_ledger *x, ibcw_ledger *y)
+/* Both worlds end their blocks: the heights and roots are the same. */
+static void end_blocks(world *w, world *twin)
 {
-    ibcw_opened of_x, of_y;
-    ibcw_opening what = {{NULL, 0}, IBCW_UNORDERED, {NULL, 0}, TIME};
-    ibcw_replied reply;
-    ibcw_relayed relayed = {0, 0, 0};
-    ibcw_message message = ibcw_message_of(IBCW_TRANSFER);
+    ibcw_replied reply, again;
     int k;
-    what.port = ibcw_text("transfer");
-    what.version = ibcw_text("ics20-1");
-    want(ibcw_open(x, &of_x, y, &of_y, &what), IBCW_DONE, "a channel");
-    message.channel = ibcw_text("channel-0");
-    message.user = ibcw_text("alice");
-    message.denom = ibcw_text("atom");
-    message.receiver = ibcw_text("bob");
-    message.amount.low = 10;
-    message.timeout_height = 1000;
-    for (k = 0; k < 4; k++) want(ibcw_send(x, &message, &reply), IBCW_DONE, "a transfer");
-    for (k = 0; k < 2; k++) want(ibcw_relay(x, y, TIME, &relayed), IBCW_DONE, "a turn");
-    want((uint32_t)relayed.taken, 10, "what is relayed");
-    want((uint32_t)relayed.refused, 0, "what is refused");
+    for (k = 0; k < 2; k++) {
+        want(ibcw_end(&w->chains[k], TIME, &reply), IBCW_DONE, "a block");
+        want(ibcw_end(&twin->chains[k], TIME, &again), IBCW_DONE, "a block");
+        want_same(&reply, &again, "a root that a refusal changed");
+    }
+}
+
+static void play_round(world *w, world *twin)
+{
+    send_and_relay(w);
+    send_and_relay(twin);
+    end_blocks(w, twin);
+    take_seeds(&w->chains[0], 8);
+    take_seeds(&w->chains[1], 8);
+}
+
+/* ---- what the audit tells */
+
+/* How much the accounts of a chain hold of a denomination, of which less than 2^64 is held. */
+static uint64_t held_of(ibcw_audit *audit, uint64_t chain, const char *denom)
+{
+    uint8_t holding[1024];
+    size_t size, wanted = strlen(denom);
+    ibcw_amount amount;
+    uint64_t held = 0, k;
+    uint32_t answer;
+    for (k = 0;; k++) {
+        answer = ibcw_holding(&audit->handle, chain, k, holding, sizeof holding, &size);
+        if (answer != IBCW_DONE) break;
+        want(ibcw_holding_amount(&audit->handle, chain, k, &amount), IBCW_DONE, "an amount");
+        if (size > wanted && holding[size - wanted - 1] == ' ' && memcmp(holding + size - wanted, denom, wanted) == 0) held += amount.low;
+    }
+    want(answer, IBCW_NOTHING_THERE, "the end of the holdings");
+    return held;
+}
+
+/* The world's ledgers are joined and audited: all tokens of its genesis are there. */
+static void end_world(world *w)
+{
+    ibcw_audit audit = IBCW_HANDLE_INIT;
+    want(ibcw_join_ledger(&w->rest, &w->chains[1]), IBCW_DONE, "a ledger joins");
+    want(ibcw_join_ledger(&w->rest, &w->chains[0]), IBCW_DONE, "a ledger joins");
+    want(ibcw_make_audit(&w->rest, &audit), IBCW_DONE, "an audit");
+    want_true(held_of(&audit, 0, "atom") == SUPPLY, "as many tokens as there were");
+    want_true(held_of(&audit, 1, "transfer/channel-0/atom") <= SUPPLY, "no more vouchers than tokens");
+    ibcw_free(&audit.handle);
+    ibcw_free(&w->rest.handle);
+}
+
+static void try_in_new_worlds(long tries)
+{
+    static text message;
+    world w = begin(), twin = begin();
+    long k;
+    open_channel(&w);
+    open_channel(&twin);
+    take_seeds(&w.chains[0], 16);
+    take_seeds(&w.chains[1], 16);
+    for (k = 0; k < tries; k++) {
+        int side = (int)(drawn() % 2);
+        if (k % OF_ROUND == 0) play_round(&w, &twin);
+        mutate(&message);
+        try_message(&w.chains[side], &twin.chains[side], &message);
+        if (k % OF_BLOCK == OF_BLOCK - 1) end_blocks(&w, &twin);
+    }
+    end_blocks(&w, &twin);
+    end_world(&w);
+    end_world(&twin);
 }
 
 int main(int words, char **word)
 {
-    static text message;
-    static uint8_t before[80], after[80];
-    long tries = words > 1 ? atol(word[1]) : 1000, k, taken = 0, none = 0;
-    ibcw_genesis genesis = IBCW_HANDLE_INIT;
-    ibcw_ledgers ledgers = IBCW_HANDLE_INIT;
-    ibcw_ledger x = IBCW_HANDLE_INIT, y = IBCW_HANDLE_INIT;
-    ibcw_audit audit = IBCW_HANDLE_INIT;
-    ibcw_replied reply;
-    begin(&genesis, &ledgers, &x, &y);
-    open_and_relay(&x, &y);
-    take_seeds(&x);
-    take_seeds(&y);
-    for (k = 0; k < tries; k++) {
-        ibcw_ledger *to = drawn() % 2 ? &x : &y;
-        uint32_t answer;
-        uint8_t tag = 0;
-        mutate(&message);
-        digest(to, before);
-        answer = ibcw_apply(to, message.data, message.size, &reply.told, reply.bytes, sizeof reply.bytes, &reply.size);
-        digest(to, after);
-        want((uint32_t)((ibcw_message_tag(message.data, message.size, &tag) == IBCW_NO_MESSAGE) == (answer == IBCW_NO_MESSAGE)), 1, "a message or none");
-        if (answer != IBCW_DONE) want((uint32_t)memcmp(before, after, sizeof before), 0, "what a refusal leaves");
-        taken += answer == IBCW_DONE;
-        none += answer == IBCW_NO_MESSAGE;
-        if (k % 20000 == 19999) {
-            want(ibcw_end(&x, TIME, &reply), IBCW_DONE, "a block");
-            want(ibcw_end(&y, TIME, &reply), IBCW_DONE, "a block");
-        }
-    }
-    want((uint32_t)held_at_home(&x), SUPPLY, "tokens at home");
-    want(ibcw_join_ledger(&ledgers, &x), IBCW_DONE, "a ledger joins");
-    want(ibcw_join_ledger(&ledgers, &y), IBCW_DONE, "a ledger joins");
-    want(ibcw_make_audit(&ledgers, &audit), IBCW_DONE, "an audit");
+    long tries = words > 1 ? atol(word[1]) : 1000, left;
+    uint64_t k;
+    for (left = tries; left > 0; left -= OF_WORLD) try_in_new_worlds(left < OF_WORLD ? left : OF_WORLD);
     printf("%ld messages, %ld taken, %ld no message\n", tries, taken, none);
     for (k = 0; k < count; k++) free(seeds[k]);
-    ibcw_free(&audit.handle);
-    ibcw_free(&ledgers.handle);
-    ibcw_free(&genesis.handle);
     return 0;
 }

@@ -27,7 +27,7 @@ pub use history::{Effect, Entry, Event, History};
 pub use ledger::Ledger;
 pub use lists::{Account, ChannelNotes, Holding};
 pub use message::{
-    message_proof, message_tag, AckPacket, ChanCloseConfirm, ChanCloseInit, ChanOpenAck,
+    message_proof, message_tag, screen, AckPacket, ChanCloseConfirm, ChanCloseInit, ChanOpenAck,
     ChanOpenConfirm, ChanOpenInit, ChanOpenTry, ClaimedClient, ConnOpenAck, ConnOpenConfirm,
     ConnOpenInit, ConnOpenTry, CreateClient, Header, Message, Order, RecvPacket, SendNote, Timeout,
     TimeoutOnClose, Token, Transfer, TransferMany, UpdateClient,

@@ -414,8 +414,7 @@ fn at(bytes: &[u8]) -> *const u8 {
     }
 }
 
-/// The tag, 1 to 19, of the message that the bytes spell. A ledger keeps each message that it refuses, whole, for ever: who takes messages
-/// from strangers asks this first.
+/// The tag, 1 to 19, of the message that the bytes spell.
 ///
 /// # Errors
 /// `NoMessage` where they spell none, `NoMemory`.
@@ -423,6 +422,37 @@ pub fn message_tag(message: &[u8]) -> Result<u8, Refused> {
     let mut tag = 0;
     // SAFETY: the pointer and the length are those of a slice, or null and 0.
     Refused::check(unsafe { sys::ibcw_message_tag(at(message), message.len(), &mut tag) })?;
+    Ok(tag)
+}
+
+/// The tag of the message that the bytes spell, each of whose proofs is a proof, whatever it shows. A ledger keeps each message that it refuses,
+/// whole and for ever: who takes messages from strangers asks this first.
+///
+/// ```
+/// use ibcworld::{screen, ChanOpenConfirm, Message, Refused};
+/// let forged = ChanOpenConfirm {
+///     port: "transfer".into(),
+///     channel: "channel-0".into(),
+///     height: 1,
+///     proof: vec![0; 60_000],
+/// };
+/// assert_eq!(screen(&Message::from(forged).encode()?), Err(Refused::BadProof));
+/// assert_eq!(screen(&[1, 1]), Ok(1));
+/// # Ok::<(), Refused>(())
+/// ```
+///
+/// # Errors
+/// `NoMessage` where they spell none, `BadProof` where a proof that it carries is none, `NoMemory`.
+pub fn screen(message: &[u8]) -> Result<u8, Refused> {
+    let tag = message_tag(message)?;
+    for index in 0..2 {
+        match message_proof(message, index).and_then(|(_, proof)| proof.claim()) {
+            Ok(_) => (),
+            Err(Refused::NothingThere) => break,
+            Err(Refused::BadMessage) => return Err(Refused::BadProof),
+            Err(refused) => return Err(refused),
+        }
+    }
     Ok(tag)
 }
 
