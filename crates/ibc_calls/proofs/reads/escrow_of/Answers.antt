@@ -9,4 +9,4 @@ pub returns : goal.returns
 returns c =
     let names = c.in_ok-channel.ensures.ok in
     let held = (state_of c.args.ledger.now.ledger).chain.records.apps.balances in
-    inl (refl, (names.2, c.parts_of.ensures ∙ c.balance.ensures ∙ ap (λ (x : Text × Text). balance held (escrow x.0) x.1) (λ i. (names.0 i, names.1 i))))
+    inl (refl, names.2, c.parts_of.ensures ∙ c.balance.ensures ∙ ap (λ (x : Text × Text). balance held (escrow x.0) x.1) (λ i. (names.0 i, names.1 i)))
