@@ -139,21 +139,20 @@ static void take_seeds(ibcw_ledger *ledger, uint64_t most)
     }
 }
 
+/* Mostly one byte or a few are changed; one time in ten the message is cut, or has a byte more. */
 static void mutate(text *message)
 {
     const text *seed = seeds[drawn() % count];
-    uint64_t changes = 1 + drawn() % 4;
+    uint64_t changes = drawn() % 2 == 0 ? 1 : 1 + drawn() % 4;
     memcpy(message->data, seed->data, seed->size);
     message->size = seed->size;
+    if (drawn() % 20 == 0) message->size = (size_t)(drawn() % message->size);
+    if (drawn() % 20 == 0 && message->size < ROOM) message->data[message->size++] = (uint8_t)drawn();
     while (changes-- > 0 && message->size > 1) {
         size_t at = (size_t)(drawn() % message->size);
-        switch (drawn() % 5) {
+        switch (drawn() % 3) {
         case 0: message->data[at] ^= (uint8_t)(1 << drawn() % 8); break;
         case 1: message->data[at] = (uint8_t)drawn(); break;
-        case 2: message->size = at; break;
-        case 3:
-            if (message->size < ROOM) message->data[message->size++] = (uint8_t)drawn();
-            break;
         default: message->data[at] = seeds[drawn() % count]->data[at % 32]; break;
         }
     }
