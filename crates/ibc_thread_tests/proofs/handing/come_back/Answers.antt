@@ -4,8 +4,8 @@ use Rattle.std.specs.Vec.Iter.{into_iter_items}
 use Rattle.ibc_race.specs.SharedWorlds.{HasItsBook}
 use Rattle.ibc_thread_tests.proofs.handing.come_back.Goals as goal
 
-pub comes_back-requires : goal.comes_back-requires
-comes_back-requires g c =
+pub comes_back-is_same-requires : goal.comes_back-is_same-requires
+comes_back-is_same-requires g c =
     let P = HasItsBook g.W.WorldBrand.table g.W.WorldBrand.genesis g.W.WorldBrand.book in
     All-head P (c.in-Some.ledger, c.in-Some.opened) (into_iter_items c.next.new.self) (subst (All P) c.in-Some.ensures.steps.0 c.loop-ledger.invariant.left)
 
