@@ -1,0 +1,97 @@
+//! Runs the jobs that users of the libraries wait for, each on an input that a seed makes, and prints what the results come to.
+#![tactic(auto)]
+
+mod digest;
+mod lanes;
+mod log;
+mod names;
+mod network;
+mod random;
+mod relaying;
+mod run_error;
+mod tally;
+mod words;
+mod workloads;
+
+use run_error::RunError;
+use std::env::Env;
+use std::process::ExitCode;
+use std::{env, io};
+use tally::Tally;
+use words::{Request, read_words};
+use workloads::{SMALL, Workload};
+
+// The seed of the small runs.
+const SMALL_SEED: u64 = 1;
+
+// What the words after the program's name ask for.
+fn requested<R: Env + AllocGlobal>(rt: &R) -> Result<Request, RunError> {
+    let alloc = rt.alloc();
+    let Ok(words) = env::args(rt) else {
+        return Err(RunError::BadWords);
+    };
+    let mut texts = Vec::new(alloc);
+    for word in words.skip(1) {
+        texts.push(word)?;
+    }
+    let words: Vec<&str> = texts.iter().map(|word| word.as_str()).collect(alloc)?;
+    read_words(words.as_slice())
+}
+
+// Prints what the results of a run come to.
+fn print_tally<R: Print>(rt: &R, workload: Workload, tally: &Tally) -> io::Result<()> {
+    let name = workload.name();
+    let (accepted, refused) = (tally.accepted, tally.refused);
+    let (sent, received) = (tally.sent, tally.received);
+    let (blocks, proofs) = (tally.blocks, tally.proofs);
+    let digest = tally.digest.value();
+    println!(rt; "{name}: {accepted} accepted, {refused} refused")?;
+    println!(rt; "{sent} sent, {received} received, {blocks} blocks, {proofs} proofs")?;
+    println!(rt; "digest {digest:016x}")
+}
+
+// Runs a workload and prints what its results come to. The answer is the status.
+fn run_one<R: Print + Eprint + AllocGlobal>(
+    rt: &R,
+    workload: Workload,
+    size: u64,
+    seed: u64,
+) -> io::Result<u8> {
+    match workload.run(rt.alloc(), size, seed) {
+        Ok(tally) => {
+            print_tally(rt, workload, &tally)?;
+            Ok(0)
+        }
+        Err(error) => {
+            eprintln!(rt; "{error}")?;
+            Ok(error.status())
+        }
+    }
+}
+
+// Runs each workload at a small size. The answer is the status of the last one that fails, or 0.
+fn run_small<R: Print + Eprint + AllocGlobal>(rt: &R) -> io::Result<u8> {
+    let mut status = 0;
+    for (workload, size) in SMALL {
+        status = run_one(rt, workload, size, SMALL_SEED)?.max(status);
+    }
+    Ok(status)
+}
+
+fn main(rt: HostRuntime) -> io::Result<ExitCode> {
+    let status = match requested(&rt) {
+        Ok(Request::Small) => run_small(&rt)?,
+        Ok(
+            Request::One {
+                workload,
+                size,
+                seed,
+            },
+        ) => run_one(&rt, workload, size, seed)?,
+        Err(error) => {
+            eprintln!(rt; "{error}")?;
+            error.status()
+        }
+    };
+    Ok(ExitCode::from(status))
+}

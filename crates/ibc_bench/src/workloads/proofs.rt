@@ -1,0 +1,317 @@
+//! Messages and proofs of a chain with many records come as bytes. They are read, and checked under the root that is known: those
+//! of packets one after another, as a relayer sends them to the other chain, and those of keys at random, there or not. Some are
+//! changed on their way, and are accepted by nobody.
+
+use crate::lanes::{LaneEnd, Traffic, open_lane, send};
+use crate::network::Network;
+use crate::random::Random;
+use crate::run_error::RunError;
+use ibc_ics23_proof::{verify_absent, verify_present};
+use ibc_ids::{Bytes, Key, Refusal, Root};
+use ibc_ledger::View;
+use ibc_machine::{Event, Reply};
+use ibc_merkle::Proof;
+use ibc_message_codec as codec;
+use ibc_script::{Application, ClientDraft, Draft};
+use ibc_script_cli::Chains;
+use ibc_wire::{Message, RecvPacket};
+use std::alloc::Global;
+
+const TRAFFIC: Traffic = Traffic {
+    users: 100,
+    late: 0,
+};
+
+// Of so many packets one is delivered, and so many keys are looked up for one that is.
+const PACKETS_TO_DELIVERED: u64 = 4;
+
+// One in so many messages and proofs is changed on its way.
+const CHANGED: u64 = 8;
+
+/// Sends so many packets, and checks the proofs of some.
+pub fn drive(network: &mut Network, size: u64, random: &mut Random) -> Result<(), RunError> {
+    let mut ends = Vec::new(network.alloc);
+    open_lane(network, &mut ends, 0, 1, Application::Transfer)?;
+    let [end, peer] = ends.as_slice() else {
+        return Err(RunError::Unexpected("a channel has two ends"));
+    };
+    send_all(network, random, end, size)?;
+    tell_peer(network, peer)?;
+    check_all(network, random, end, size)
+}
+
+// Sends so many packets, and ends the block.
+fn send_all(
+    network: &mut Network,
+    random: &mut Random,
+    end: &LaneEnd,
+    size: u64,
+) -> Result<(), RunError> {
+    for _packet in 0..size {
+        send(network, random, end, TRAFFIC)?;
+    }
+    network.end_block(end.chain);
+    Ok(())
+}
+
+// Tells the other chain of the block.
+fn tell_peer(network: &mut Network, peer: &LaneEnd) -> Result<(), RunError> {
+    let draft = ClientDraft::Update {
+        client: peer.client.clone()?,
+        height: network.height(peer.peer),
+    };
+    network.submit(peer.chain, Draft::Client(draft))
+}
+
+// Checks the proofs of packets in a row, and of keys at random.
+fn check_all(
+    network: &mut Network,
+    random: &mut Random,
+    end: &LaneEnd,
+    size: u64,
+) -> Result<(), RunError> {
+    let view = match network.world.ledger(end.chain) {
+        Some(ledger) => ledger.view()?,
+        None => return Err(RunError::Unexpected("there is no such chain")),
+    };
+    let checked = check_each(network, random, &view, end, size);
+    drop(view);
+    checked
+}
+
+fn check_each(
+    network: &mut Network,
+    random: &mut Random,
+    view: &View,
+    end: &LaneEnd,
+    size: u64,
+) -> Result<(), RunError> {
+    let delivered = size.checked_div(PACKETS_TO_DELIVERED).unwrap_or(0);
+    for number in 0..delivered {
+        deliver(network, random, view, end, number.saturating_add(1))?;
+    }
+    for _look in 0..delivered {
+        look_up(network, random, view, end, size)?;
+    }
+    Ok(())
+}
+
+// The key of the commitment of a packet that an end sent.
+fn commitment(alloc: Global, end: &LaneEnd, sequence: u64) -> Result<Key, RunError> {
+    let channel = end.channel.clone()?;
+    Ok(Key::Commitment(end.port(alloc)?, channel, sequence))
+}
+
+// The bytes of the proof of what a chain has at a key, at its last block.
+fn proof_of(alloc: Global, view: &View, key: &Key) -> Result<Bytes, RunError> {
+    if view.height() == 0 {
+        return Err(RunError::Unexpected("no block has ended"));
+    }
+    Ok(view.prove(alloc, key)?)
+}
+
+// The root of a chain's last block, if there is one.
+fn root_of(view: &View) -> Option<Root> {
+    if view.height() == 0 {
+        None
+    } else {
+        Some(view.root())
+    }
+}
+
+// The bytes of the message by which the other chain receives a packet.
+fn spelled_delivery(
+    network: &Network,
+    view: &View,
+    end: &LaneEnd,
+    sequence: u64,
+) -> Result<Vec<u8>, RunError> {
+    let alloc = network.alloc;
+    let key = commitment(alloc, end, sequence)?;
+    let proof = proof_of(alloc, view, &key);
+    drop(key);
+    let proof = proof?;
+    let port = end.port(alloc)?;
+    match network.packet(end.chain, &port, &end.channel, sequence)? {
+        Some(packet) => {
+            let delivery = RecvPacket {
+                packet,
+                height: view.height(),
+                proof,
+            };
+            spelled(alloc, Message::RecvPacket(delivery))
+        }
+        None => Err(RunError::Unexpected("there is no such packet")),
+    }
+}
+
+// The bytes of a message.
+fn spelled(alloc: Global, message: Message) -> Result<Vec<u8>, RunError> {
+    let bytes = codec::encode(alloc, &message);
+    drop(message);
+    Ok(bytes?)
+}
+
+// Changes a byte now and then, and tells whether it did.
+fn change(random: &mut Random, bytes: &mut [u8]) -> bool {
+    if !random.is_one_in(CHANGED) {
+        return false;
+    }
+    let place = random.place(bytes.len());
+    let bits = u8::try_from(random.below(255))
+        .unwrap_or(0)
+        .saturating_add(1);
+    if let Some(byte) = bytes.get_mut(place) {
+        *byte ^= bits;
+    }
+    true
+}
+
+// Delivers a packet by bytes, which are read and checked, and then given to the other chain.
+fn deliver(
+    network: &mut Network,
+    random: &mut Random,
+    view: &View,
+    end: &LaneEnd,
+    sequence: u64,
+) -> Result<(), RunError> {
+    let mut bytes = spelled_delivery(network, view, end, sequence)?;
+    let is_changed = change(random, bytes.as_mut_slice());
+    let message = codec::decode(network.alloc, bytes.as_slice());
+    drop(bytes);
+    let is_accepted = match message {
+        Ok(message) => {
+            check_delivery(network, view, end, sequence, &message)?;
+            is_taken(network, end.peer, message)
+        }
+        Err(_) => false,
+    };
+    network.tally.verdict(is_accepted);
+    if is_accepted == is_changed {
+        return Err(RunError::Unexpected("a changed message is accepted, or another refused"));
+    }
+    Ok(())
+}
+
+// Whether a chain accepts a message.
+fn is_taken(network: &mut Network, chain: u8, message: Message) -> bool {
+    let reply = network.put(Event::Message { chain, message });
+    let is_taken = matches!(&reply, Reply::Ok(_));
+    drop(reply);
+    is_taken
+}
+
+// Checks the proof of a message apart from the chain that it goes to.
+fn check_delivery(
+    network: &mut Network,
+    view: &View,
+    end: &LaneEnd,
+    sequence: u64,
+    message: &Message,
+) -> Result<(), RunError> {
+    let alloc = network.alloc;
+    let Message::RecvPacket(delivery) = message else {
+        network.tally.verdict(false);
+        return Ok(());
+    };
+    let key = commitment(alloc, end, sequence)?;
+    let is_shown = is_shown(network, view, &key, end.chain, delivery.proof.as_slice());
+    drop(key);
+    network.tally.verdict(is_shown?);
+    Ok(())
+}
+
+// Whether the bytes are a proof of what a chain has at a key: of its presence where it is there, and of its absence where not.
+fn is_shown(
+    network: &Network,
+    view: &View,
+    key: &Key,
+    chain: u8,
+    bytes: &[u8],
+) -> Result<bool, RunError> {
+    let Some(root) = root_of(view) else {
+        return Err(RunError::Unexpected("no block has ended"));
+    };
+    let path = key.path(network.alloc)?;
+    let value = network.value(chain, key)?;
+    let is_shown = is_proof(network.alloc, root, path.as_bytes(), &value, bytes);
+    drop(value);
+    drop(path);
+    Ok(is_shown?)
+}
+
+// Whether the bytes are a proof under a root that a value stands at a path, or that none does.
+fn is_proof(
+    alloc: Global,
+    root: Root,
+    path: &[u8],
+    value: &Option<Bytes>,
+    bytes: &[u8],
+) -> Result<bool, Refusal> {
+    let proof: Proof = match ibc_wire::decode(alloc, bytes) {
+        Ok(proof) => proof,
+        Err(Refusal::BadMessage) => return Ok(false),
+        Err(refusal) => return Err(refusal),
+    };
+    let is_proof = match value {
+        Some(value) => verify_present(&proof, &root, path, value.as_slice()),
+        None => verify_absent(&proof, &root, path),
+    };
+    drop(proof);
+    Ok(is_proof)
+}
+
+// Looks a key up by a proof that comes as bytes: a packet's commitment, or one that isn't there.
+fn look_up(
+    network: &mut Network,
+    random: &mut Random,
+    view: &View,
+    end: &LaneEnd,
+    size: u64,
+) -> Result<(), RunError> {
+    let alloc = network.alloc;
+    let key = any_key(alloc, random, end, size)?;
+    let proof = proof_of(alloc, view, &key);
+    let verdict = match proof {
+        Ok(proof) => looked_up(network, random, view, &key, end.chain, proof),
+        Err(error) => Err(error),
+    };
+    drop(key);
+    network.tally.verdict(verdict?);
+    Ok(())
+}
+
+// A key at random: of a packet that was sent, of one that has yet to be, or of a receipt that isn't there.
+fn any_key(alloc: Global, random: &mut Random, end: &LaneEnd, size: u64) -> Result<Key, RunError> {
+    let sequence = random.below(size).saturating_add(1);
+    match random.below(4) {
+        0 => commitment(alloc, end, sequence.saturating_add(size)),
+        1 => {
+            let channel = end.channel.clone()?;
+            Ok(Key::Receipt(end.port(alloc)?, channel, sequence))
+        }
+        _ => commitment(alloc, end, sequence),
+    }
+}
+
+// Whether the proof of a key, with a byte changed now and then, is one. It has to be exactly where no byte was changed.
+fn looked_up(
+    network: &Network,
+    random: &mut Random,
+    view: &View,
+    key: &Key,
+    chain: u8,
+    proof: Bytes,
+) -> Result<bool, RunError> {
+    let copied = proof.as_slice().to_vec(network.alloc);
+    drop(proof);
+    let mut bytes = copied?;
+    let is_changed = change(random, bytes.as_mut_slice());
+    let is_shown = is_shown(network, view, key, chain, bytes.as_slice());
+    drop(bytes);
+    let is_shown = is_shown?;
+    if is_shown == is_changed {
+        return Err(RunError::Unexpected("a changed proof shows something, or another nothing"));
+    }
+    Ok(is_shown)
+}
