@@ -1,1 +1,2 @@
+pub mod NodeTexts
 pub mod PathTurns
