@@ -13,7 +13,8 @@ ghost use Rattle.ibc_channel.specs.FollowedPeers as plain;
 ghost use Rattle.ibc_channel.specs.FollowedPeers.{require_follows};
 
 use crate::ends::{find_end, move_end, set_end};
-use ibc_client::{check_claim, claim_peer, known_connection, name_or_none, read_proof};
+use ibc_client::{check_claim_with, claim_peer, known_connection, name_or_none, read_proof};
+use ibc_ics23_proof::NodeMemory;
 use ibc_ids::{Bytes, ChannelId, PortId, Refusal};
 use ibc_merkle::Proof;
 use ibc_records::Records;
@@ -37,8 +38,37 @@ pub fn follow_peer(
     requires { same_channel_state to ChannelState.Init ≡ false }
     ensures { (chain chains : ℕ) → IsHandled (λ _. effect.None) (plain.follow_peer to port.now channel.now height proof.now) chain chains records.old result records.new }
 {
+    let mut memory = records.take_memory();
+    let answer = follow_peer_with(
+        alloc,
+        records,
+        &mut memory,
+        to,
+        port,
+        channel,
+        height,
+        proof,
+    );
+    records.keep_memory(memory);
+    answer
+}
+
+// The same with the hashes of nodes that the records remember.
+fn follow_peer_with(
+    alloc: Global,
+    records: &mut Records,
+    memory: &mut NodeMemory,
+    to: ChannelState,
+    port: &PortId,
+    channel: &ChannelId,
+    height: u64,
+    proof: &Bytes,
+) -> Result<(), Refusal>
+    requires { same_channel_state to ChannelState.Init ≡ false }
+    ensures { (chain chains : ℕ) → IsHandled (λ _. effect.None) (plain.follow_peer to port.now channel.now height proof.now) chain chains records.old result records.new }
+{
     let read = read_proof(alloc, proof.as_slice())?;
-    let judged = judge_following(alloc, records, to, port, channel, height, &read);
+    let judged = judge_following(alloc, records, memory, to, port, channel, height, &read);
     drop(read);
     set_end(records, port, channel, judged?)
 }
@@ -47,6 +77,7 @@ pub fn follow_peer(
 fn judge_following(
     alloc: Global,
     records: &Records,
+    memory: &mut NodeMemory,
     to: ChannelState,
     port: &PortId,
     channel: &ChannelId,
@@ -62,7 +93,7 @@ fn judge_following(
     let connection = known_connection(records, &mine.connection, height)?;
     let peer = name_or_none(&mine.peer_channel);
     let claim = claim_peer(alloc, mine, connection, peer, port, channel.as_str(), to)?;
-    let shown = check_claim(records, &connection.client, height, &claim, proof);
+    let shown = check_claim_with(records, memory, &connection.client, height, &claim, proof);
     drop(claim);
     shown?;
     move_end(mine, to)

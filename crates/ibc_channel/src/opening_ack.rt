@@ -13,7 +13,8 @@ ghost use Rattle.ibc_channel.specs.ChannelHandshake.{expected_try_end, end_at, w
 
 use crate::checks::{check_open, check_state};
 use crate::ends::{find_end, new_end, set_end};
-use ibc_client::{check_claim, claim_peer, known_connection, read_proof};
+use ibc_client::{check_claim_with, claim_peer, known_connection, read_proof};
+use ibc_ics23_proof::NodeMemory;
 use ibc_ids::Refusal;
 use ibc_merkle::Proof;
 use ibc_records::Records;
@@ -27,8 +28,23 @@ use std::alloc::Global;
 pub fn open_ack(alloc: Global, records: &mut Records, message: &ChanOpenAck) -> Result<(), Refusal>
     ensures { (chain chains : ℕ) → IsHandled (λ _. effect.None) (chan_open_ack message.now) chain chains records.old result records.new }
 {
+    let mut memory = records.take_memory();
+    let answer = open_ack_with(alloc, records, &mut memory, message);
+    records.keep_memory(memory);
+    answer
+}
+
+// The same with the hashes of nodes that the records remember.
+fn open_ack_with(
+    alloc: Global,
+    records: &mut Records,
+    memory: &mut NodeMemory,
+    message: &ChanOpenAck,
+) -> Result<(), Refusal>
+    ensures { (chain chains : ℕ) → IsHandled (λ _. effect.None) (chan_open_ack message.now) chain chains records.old result records.new }
+{
     let proof = read_proof(alloc, message.proof.as_slice())?;
-    let judged = judge_ack(alloc, records, message, &proof);
+    let judged = judge_ack(alloc, records, memory, message, &proof);
     drop(proof);
     set_end(records, &message.port, &message.channel, judged?)
 }
@@ -37,6 +53,7 @@ pub fn open_ack(alloc: Global, records: &mut Records, message: &ChanOpenAck) -> 
 fn judge_ack(
     alloc: Global,
     records: &Records,
+    memory: &mut NodeMemory,
     message: &ChanOpenAck,
     proof: &Proof,
 ) -> Result<ChannelEnd, Refusal>
@@ -48,7 +65,7 @@ fn judge_ack(
     check_state(mine, ChannelState::Init)?;
     check_open(records, &mine.connection)?;
     let connection = known_connection(records, &mine.connection, message.height)?;
-    check_answered(alloc, records, message, mine, connection, proof)?;
+    check_answered(alloc, records, memory, message, mine, connection, proof)?;
     new_end(
         ChannelState::Open,
         mine.order,
@@ -63,6 +80,7 @@ fn judge_ack(
 fn check_answered(
     alloc: Global,
     records: &Records,
+    memory: &mut NodeMemory,
     message: &ChanOpenAck,
     mine: &ChannelEnd,
     connection: &ConnectionEnd,
@@ -77,5 +95,12 @@ fn check_answered(
     let channel = message.channel.as_str();
     let state = ChannelState::TryOpen;
     let claim = claim_peer(alloc, mine, connection, peer, port, channel, state)?;
-    check_claim(records, &connection.client, message.height, &claim, proof)
+    check_claim_with(
+        records,
+        memory,
+        &connection.client,
+        message.height,
+        &claim,
+        proof,
+    )
 }

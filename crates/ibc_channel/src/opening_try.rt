@@ -17,7 +17,8 @@ ghost use Rattle.ibc_channel.specs.ChannelHandshake.{new_end, expected_init_end}
 use crate::checks::{check_connection, check_number, check_open};
 use crate::ends::{add_channel, new_end};
 use ibc_app_port::App;
-use ibc_client::{check_claim, claim_peer, known_connection, read_proof};
+use ibc_client::{check_claim_with, claim_peer, known_connection, read_proof};
+use ibc_ics23_proof::NodeMemory;
 use ibc_ids::{ChannelId, Refusal};
 use ibc_merkle::Proof;
 use ibc_records::Records;
@@ -39,8 +40,25 @@ pub fn open_try<A: App>(
     ensures answer { (chain chains : ℕ) → IsHandled effect.Channel (chan_open_try (require (is_some app.entry) UnknownPort) A.opens message.now) chain chains records.old result records.new }
     ensures named { IfOk result (λ id. id ≡ nth_channel records.old.next_channel) }
 {
+    let mut memory = records.take_memory();
+    let answer = open_try_with(alloc, records, &mut memory, app, message);
+    records.keep_memory(memory);
+    answer
+}
+
+// The same with the hashes of nodes that the records remember.
+fn open_try_with<A: App>(
+    alloc: Global,
+    records: &mut Records,
+    memory: &mut NodeMemory,
+    app: Option<&A>,
+    message: &ChanOpenTry,
+) -> Result<ChannelId, Refusal>
+    ensures answer { (chain chains : ℕ) → IsHandled effect.Channel (chan_open_try (require (is_some app.entry) UnknownPort) A.opens message.now) chain chains records.old result records.new }
+    ensures named { IfOk result (λ id. id ≡ nth_channel records.old.next_channel) }
+{
     let proof = read_proof(alloc, message.proof.as_slice())?;
-    let judged = judge_try(alloc, records, app, message, &proof);
+    let judged = judge_try(alloc, records, memory, app, message, &proof);
     drop(proof);
     add_channel(alloc, records, &message.port, judged?)
 }
@@ -49,6 +67,7 @@ pub fn open_try<A: App>(
 fn judge_try<A: App>(
     alloc: Global,
     records: &Records,
+    memory: &mut NodeMemory,
     app: Option<&A>,
     message: &ChanOpenTry,
     proof: &Proof,
@@ -73,7 +92,7 @@ fn judge_try<A: App>(
         &message.connection,
         &message.version,
     )?;
-    match check_begun(alloc, records, message, &mine, connection, proof) {
+    match check_begun(alloc, records, memory, message, &mine, connection, proof) {
         Ok(()) => Ok(mine),
         Err(refusal) => Err(refusal),
     }
@@ -83,6 +102,7 @@ fn judge_try<A: App>(
 fn check_begun(
     alloc: Global,
     records: &Records,
+    memory: &mut NodeMemory,
     message: &ChanOpenTry,
     mine: &ChannelEnd,
     connection: &ConnectionEnd,
@@ -95,5 +115,12 @@ fn check_begun(
     let peer = message.peer_channel.as_str();
     let port = &message.port;
     let claim = claim_peer(alloc, mine, connection, peer, port, "", ChannelState::Init)?;
-    check_claim(records, &connection.client, message.height, &claim, proof)
+    check_claim_with(
+        records,
+        memory,
+        &connection.client,
+        message.height,
+        &claim,
+        proof,
+    )
 }

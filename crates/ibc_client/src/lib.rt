@@ -10,6 +10,9 @@ mod update_client;
 
 pub use create_client::create;
 pub use evidence::{check_client, check_known, check_number, known_connection, read_proof};
-pub use peers::{PeerClaim, check_claim, claim_peer, name_or_none};
-pub use proof_check::{check_absent, check_path, check_present, known_time, knows};
+pub use peers::{PeerClaim, check_claim, check_claim_with, claim_peer, name_or_none};
+pub use proof_check::{
+    check_absent, check_absent_with, check_path, check_path_with, check_present,
+    check_present_with, known_time, knows,
+};
 pub use update_client::{Updated, update};

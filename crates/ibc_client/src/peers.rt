@@ -8,7 +8,8 @@ ghost use Rattle.ibc_merkle.specs.Proofs.{accepts_present};
 ghost use Rattle.ibc_client.specs.Claims.{proof_checked};
 ghost use Rattle.ibc_client.specs.Peers.{end_bytes, text_of};
 
-use crate::check_path;
+use crate::{check_path, check_path_with};
+use ibc_ics23_proof::NodeMemory;
 use ibc_ids::{Bytes, ClientId, Name, NameKind, PortId, Refusal, Version};
 use ibc_merkle::Proof;
 use ibc_records::Records;
@@ -59,6 +60,22 @@ pub fn check_claim(
     let path = claim.path.as_str();
     let value = claim.value.as_slice();
     check_path(records, client, height, path, value, proof)
+}
+
+/// Checks as `check_claim`, with a memory of the hashes of nodes.
+pub fn check_claim_with(
+    records: &Records,
+    memory: &mut NodeMemory,
+    client: &ClientId,
+    height: u64,
+    claim: &PeerClaim,
+    proof: &Proof,
+) -> Result<(), Refusal>
+    ensures { result ≡ proof_checked records.now client.now height (λ root. accepts_present proof.now root (string_bytes claim.now.path) claim.now.value) }
+{
+    let path = claim.path.as_str();
+    let value = claim.value.as_slice();
+    check_path_with(records, memory, client, height, path, value, proof)
 }
 
 /// The text of a name, empty where there is none.

@@ -9,7 +9,9 @@ ghost use Rattle.ibc_machine.specs.chain.Records as plain;
 ghost use Rattle.ibc_records.specs.RecordsModel.{core_of, consensus_in};
 ghost use Rattle.ibc_client.specs.Claims.{proof_checked, IsKnown};
 
-use ibc_ics23_proof::{verify_absent, verify_present};
+use ibc_ics23_proof::{
+    NodeMemory, verify_absent, verify_absent_with, verify_present, verify_present_with,
+};
 use ibc_ids::{ClientId, Key, Refusal};
 use ibc_merkle::Proof;
 use ibc_records::{ConsensusState, Records};
@@ -64,6 +66,56 @@ pub fn check_absent(
     let known = known_at(records, client, height)?;
     let path = key.path(alloc)?;
     accept(verify_absent(proof, &known.root, path.as_bytes()))
+}
+
+/// Checks as `check_present`, with a memory of the hashes of nodes.
+pub fn check_present_with(
+    alloc: Global,
+    records: &Records,
+    memory: &mut NodeMemory,
+    client: &ClientId,
+    height: u64,
+    key: &Key,
+    value: &[u8],
+    proof: &Proof,
+) -> Result<(), Refusal>
+    ensures { (result ≡ Err NoMemory) ⊎ (result ≡ proof_checked records.now client.now height (λ root. accepts_present proof.now root (path key.now) value.now)) }
+{
+    let path = key.path(alloc)?;
+    check_path_with(records, memory, client, height, path.as_str(), value, proof)
+}
+
+/// Checks as `check_path`, with a memory of the hashes of nodes.
+pub fn check_path_with(
+    records: &Records,
+    memory: &mut NodeMemory,
+    client: &ClientId,
+    height: u64,
+    path: &str,
+    value: &[u8],
+    proof: &Proof,
+) -> Result<(), Refusal>
+    ensures { result ≡ proof_checked records.now client.now height (λ root. accepts_present proof.now root path.now value.now) }
+{
+    let known = known_at(records, client, height)?;
+    accept(verify_present_with(memory, proof, &known.root, path.as_bytes(), value))
+}
+
+/// Checks as `check_absent`, with a memory of the hashes of nodes.
+pub fn check_absent_with(
+    alloc: Global,
+    records: &Records,
+    memory: &mut NodeMemory,
+    client: &ClientId,
+    height: u64,
+    key: &Key,
+    proof: &Proof,
+) -> Result<(), Refusal>
+    ensures { (result ≡ Err NoMemory) ⊎ (result ≡ proof_checked records.now client.now height (λ root. accepts_absent proof.now root (path key.now))) }
+{
+    let known = known_at(records, client, height)?;
+    let path = key.path(alloc)?;
+    accept(verify_absent_with(memory, proof, &known.root, path.as_bytes()))
 }
 
 /// Whether a client knows a height (ICS 2, "Consensus state").

@@ -8,7 +8,8 @@ ghost use Rattle.ibc_records.specs.RecordsModel.{core_of};
 ghost use Rattle.ibc_client.specs.ProofVerdicts.{IsShown};
 ghost use Rattle.ibc_connection.specs.ConnectionHandshake.{AreProofs};
 
-use ibc_client::{check_present, read_proof};
+use ibc_client::{check_present_with, read_proof};
+use ibc_ics23_proof::NodeMemory;
 use ibc_ids::{Bytes, ClientId, ConnectionId, Key, Refusal};
 use ibc_merkle::Proof;
 use ibc_records::{Records, client_value, connection_value};
@@ -38,6 +39,7 @@ pub fn read_proofs(alloc: Global, end: &Bytes, client: &Bytes) -> Result<Proofs,
 pub fn check_connection(
     alloc: Global,
     records: &Records,
+    memory: &mut NodeMemory,
     client: &ClientId,
     height: u64,
     id: &ConnectionId,
@@ -49,9 +51,10 @@ pub fn check_connection(
 {
     let value = connection_value(alloc, end)?;
     let key = Key::Connection(id.clone()?);
-    check_present(
+    check_present_with(
         alloc,
         records,
+        memory,
         client,
         height,
         &key,
@@ -65,6 +68,7 @@ pub fn check_connection(
 pub fn check_client_state(
     alloc: Global,
     records: &Records,
+    memory: &mut NodeMemory,
     client: &ClientId,
     height: u64,
     id: &ClientId,
@@ -76,9 +80,10 @@ pub fn check_client_state(
 {
     let value = client_value(alloc, state)?;
     let key = Key::ClientState(id.clone()?);
-    check_present(
+    check_present_with(
         alloc,
         records,
+        memory,
         client,
         height,
         &key,

@@ -13,6 +13,7 @@ ghost use Rattle.ibc_connection.specs.ConnectionHandshake.{AreProofs, after_ack,
 use crate::checks::{is_in_state, names_host};
 use crate::claims::{Proofs, check_client_state, check_connection, read_proofs};
 use ibc_client::knows;
+use ibc_ics23_proof::NodeMemory;
 use ibc_ids::Refusal;
 use ibc_merkle::Proof;
 use ibc_records::Records;
@@ -32,8 +33,24 @@ pub fn open_ack(
 ) -> Result<(), Refusal>
     ensures { (chains : ℕ) → IsHandled (λ _. effect.None) (conn_open_ack message.now) chain chains records.old result records.new }
 {
+    let mut memory = records.take_memory();
+    let answer = open_ack_with(alloc, records, &mut memory, chain, message);
+    records.keep_memory(memory);
+    answer
+}
+
+// The same with the hashes of nodes that the records remember.
+fn open_ack_with(
+    alloc: Global,
+    records: &mut Records,
+    memory: &mut NodeMemory,
+    chain: u8,
+    message: &ConnOpenAck,
+) -> Result<(), Refusal>
+    ensures { (chains : ℕ) → IsHandled (λ _. effect.None) (conn_open_ack message.now) chain chains records.old result records.new }
+{
     let proofs = read_proofs(alloc, &message.proof_end, &message.proof_client)?;
-    let judged = judge_ack(alloc, records, chain, message, &proofs);
+    let judged = judge_ack(alloc, records, memory, chain, message, &proofs);
     drop(proofs);
     records.set_connection(message.connection.clone()?, judged?)
 }
@@ -42,6 +59,7 @@ pub fn open_ack(
 fn judge_ack(
     alloc: Global,
     records: &Records,
+    memory: &mut NodeMemory,
     chain: u8,
     message: &ConnOpenAck,
     proofs: &Proofs,
@@ -52,7 +70,7 @@ fn judge_ack(
     let Some(mine) = records.connection(&message.connection) else {
         return Err(Refusal::UnknownConnection);
     };
-    check_ack(alloc, records, chain, message, mine, proofs)?;
+    check_ack(alloc, records, memory, chain, message, mine, proofs)?;
     Ok(ConnectionEnd {
         state: ConnectionState::Open,
         client: mine.client.clone()?,
@@ -65,6 +83,7 @@ fn judge_ack(
 fn check_ack(
     alloc: Global,
     records: &Records,
+    memory: &mut NodeMemory,
     chain: u8,
     message: &ConnOpenAck,
     mine: &ConnectionEnd,
@@ -75,10 +94,11 @@ fn check_ack(
     ensures { (chains : ℕ) → IsJudged (conn_open_ack message.now) chain chains records.now (λ _. (effect.None, with_connection message.now.connection (after_ack message.now mine.now) (core_of records.now))) result }
 {
     may_ack(records, chain, message, mine)?;
-    check_answered(alloc, records, message, mine, &proofs.end)?;
+    check_answered(alloc, records, memory, message, mine, &proofs.end)?;
     check_client_state(
         alloc,
         records,
+        memory,
         &mine.client,
         message.height,
         &mine.peer_client,
@@ -114,6 +134,7 @@ fn may_ack(
 fn check_answered(
     alloc: Global,
     records: &Records,
+    memory: &mut NodeMemory,
     message: &ConnOpenAck,
     mine: &ConnectionEnd,
     proof: &Proof,
@@ -132,6 +153,7 @@ fn check_answered(
     check_connection(
         alloc,
         records,
+        memory,
         client,
         height,
         &message.peer_connection,

@@ -13,6 +13,7 @@ ghost use Rattle.ibc_connection.specs.ConnectionHandshake.{expected_open_end};
 use crate::checks::check_state;
 use crate::claims::check_connection;
 use ibc_client::{check_known, read_proof};
+use ibc_ics23_proof::NodeMemory;
 use ibc_ids::{ConnectionId, Refusal};
 use ibc_merkle::Proof;
 use ibc_records::Records;
@@ -30,8 +31,23 @@ pub fn open_confirm(
 ) -> Result<(), Refusal>
     ensures { (chain chains : ℕ) → IsHandled (λ _. effect.None) (conn_open_confirm message.now) chain chains records.old result records.new }
 {
+    let mut memory = records.take_memory();
+    let answer = open_confirm_with(alloc, records, &mut memory, message);
+    records.keep_memory(memory);
+    answer
+}
+
+// The same with the hashes of nodes that the records remember.
+fn open_confirm_with(
+    alloc: Global,
+    records: &mut Records,
+    memory: &mut NodeMemory,
+    message: &ConnOpenConfirm,
+) -> Result<(), Refusal>
+    ensures { (chain chains : ℕ) → IsHandled (λ _. effect.None) (conn_open_confirm message.now) chain chains records.old result records.new }
+{
     let proof = read_proof(alloc, message.proof.as_slice())?;
-    let judged = judge_confirm(alloc, records, message, &proof);
+    let judged = judge_confirm(alloc, records, memory, message, &proof);
     drop(proof);
     records.set_connection(message.connection.clone()?, judged?)
 }
@@ -40,6 +56,7 @@ pub fn open_confirm(
 fn judge_confirm(
     alloc: Global,
     records: &Records,
+    memory: &mut NodeMemory,
     message: &ConnOpenConfirm,
     proof: &Proof,
 ) -> Result<ConnectionEnd, Refusal>
@@ -54,7 +71,7 @@ fn judge_confirm(
         return Err(Refusal::WrongState);
     };
     check_known(records, &mine.client, message.height)?;
-    check_opened(alloc, records, message, mine, peer, proof)?;
+    check_opened(alloc, records, memory, message, mine, peer, proof)?;
     Ok(ConnectionEnd {
         state: ConnectionState::Open,
         client: mine.client.clone()?,
@@ -67,6 +84,7 @@ fn judge_confirm(
 fn check_opened(
     alloc: Global,
     records: &Records,
+    memory: &mut NodeMemory,
     message: &ConnOpenConfirm,
     mine: &ConnectionEnd,
     peer: &ConnectionId,
@@ -83,5 +101,5 @@ fn check_opened(
     };
     let client = &mine.client;
     let height = message.height;
-    check_connection(alloc, records, client, height, peer, &theirs, proof)
+    check_connection(alloc, records, memory, client, height, peer, &theirs, proof)
 }

@@ -13,6 +13,7 @@ ghost use Rattle.ibc_connection.specs.ConnectionHandshake.{AreProofs, new_end, e
 use crate::checks::{add_connection, check_number, names_host};
 use crate::claims::{Proofs, check_client_state, check_connection, read_proofs};
 use ibc_client::{check_client, check_known};
+use ibc_ics23_proof::NodeMemory;
 use ibc_ids::{ConnectionId, Refusal};
 use ibc_merkle::Proof;
 use ibc_records::Records;
@@ -33,8 +34,25 @@ pub fn open_try(
     ensures answer { (chains : ℕ) → IsHandled effect.Connection (conn_open_try message.now) chain chains records.old result records.new }
     ensures named { IfOk result (λ id. id ≡ nth_connection records.old.next_connection) }
 {
+    let mut memory = records.take_memory();
+    let answer = open_try_with(alloc, records, &mut memory, chain, message);
+    records.keep_memory(memory);
+    answer
+}
+
+// The same with the hashes of nodes that the records remember.
+fn open_try_with(
+    alloc: Global,
+    records: &mut Records,
+    memory: &mut NodeMemory,
+    chain: u8,
+    message: &ConnOpenTry,
+) -> Result<ConnectionId, Refusal>
+    ensures answer { (chains : ℕ) → IsHandled effect.Connection (conn_open_try message.now) chain chains records.old result records.new }
+    ensures named { IfOk result (λ id. id ≡ nth_connection records.old.next_connection) }
+{
     let proofs = read_proofs(alloc, &message.proof_end, &message.proof_client)?;
-    let checked = check_try(alloc, records, chain, message, &proofs);
+    let checked = check_try(alloc, records, memory, chain, message, &proofs);
     drop(proofs);
     checked?;
     let mine = ConnectionEnd {
@@ -50,6 +68,7 @@ pub fn open_try(
 fn check_try(
     alloc: Global,
     records: &Records,
+    memory: &mut NodeMemory,
     chain: u8,
     message: &ConnOpenTry,
     proofs: &Proofs,
@@ -59,10 +78,11 @@ fn check_try(
     ensures free { IfOk result (λ _. records.now.next_connection < 2 ^ 64 - 1) }
 {
     may_try(records, chain, message)?;
-    check_begun(alloc, records, message, &proofs.end)?;
+    check_begun(alloc, records, memory, message, &proofs.end)?;
     check_client_state(
         alloc,
         records,
+        memory,
         &message.client,
         message.height,
         &message.peer_client,
@@ -90,6 +110,7 @@ fn may_try(records: &Records, chain: u8, message: &ConnOpenTry) -> Result<(), Re
 fn check_begun(
     alloc: Global,
     records: &Records,
+    memory: &mut NodeMemory,
     message: &ConnOpenTry,
     proof: &Proof,
 ) -> Result<(), Refusal>
@@ -107,6 +128,7 @@ fn check_begun(
     check_connection(
         alloc,
         records,
+        memory,
         client,
         height,
         &message.peer_connection,

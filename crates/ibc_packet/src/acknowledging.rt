@@ -14,6 +14,7 @@ use crate::claims::check_acknowledged;
 use crate::ends::{find_channel, has_peer, is_committed, is_open, known_over};
 use crate::forms::{has_form, has_size, proof_in_form};
 use ibc_app_port::App;
+use ibc_ics23_proof::NodeMemory;
 use ibc_ids::Refusal;
 use ibc_merkle::Proof;
 use ibc_records::{Channel, Records};
@@ -35,9 +36,25 @@ pub fn acknowledge<A: App>(
 ) -> Result<(), Refusal>
     ensures { (chain chains : ℕ) → IsHandledWith (λ _. effect.None) (ack_packet A.is_acknowledged message.now) chain chains records.old app.old result records.new app.new }
 {
+    let mut memory = records.take_memory();
+    let answer = acknowledge_with(alloc, records, &mut memory, app, message);
+    records.keep_memory(memory);
+    answer
+}
+
+// The same with the hashes of nodes that the records remember.
+fn acknowledge_with<A: App>(
+    alloc: Global,
+    records: &mut Records,
+    memory: &mut NodeMemory,
+    app: &mut A,
+    message: &AckPacket,
+) -> Result<(), Refusal>
+    ensures { (chain chains : ℕ) → IsHandledWith (λ _. effect.None) (ack_packet A.is_acknowledged message.now) chain chains records.old app.old result records.new app.new }
+{
     let form = is_in_form(message);
     let proof = proof_in_form(alloc, form, message.proof.as_slice())?;
-    let judged = judge_ack(alloc, records, message, &proof);
+    let judged = judge_ack(alloc, records, memory, message, &proof);
     drop(proof);
     judged?;
     records.acknowledge(app, &message.packet, message.ack.as_slice())
@@ -55,6 +72,7 @@ fn is_in_form(message: &AckPacket) -> bool
 fn judge_ack<'a>(
     alloc: Global,
     records: &'a Records,
+    memory: &mut NodeMemory,
     message: &AckPacket,
     proof: &Proof,
 ) -> Result<&'a Channel, Refusal>
@@ -68,7 +86,7 @@ fn judge_ack<'a>(
     let mine = find_channel(records, &packet.source_port, &packet.source_channel)?;
     check_acknowledgeable(mine, packet)?;
     let connection = known_over(records, mine, message.height)?;
-    check_acknowledged(alloc, records, &connection.client, message, proof)?;
+    check_acknowledged(alloc, records, memory, &connection.client, message, proof)?;
     Ok(mine)
 }
 

@@ -10,7 +10,8 @@ ghost use Rattle.ibc_client.specs.ProofVerdicts.{IsShown};
 ghost use Rattle.ibc_client.specs.Peers.{IsPeerShown};
 ghost use Rattle.ibc_packet.specs.TimeoutChecks.{expected_closed_end};
 
-use ibc_client::{check_absent, check_claim, check_present, claim_peer};
+use ibc_client::{check_absent_with, check_claim_with, check_present_with, claim_peer};
+use ibc_ics23_proof::NodeMemory;
 use ibc_ids::{Bytes, ClientId, Key, Refusal};
 use ibc_merkle::Proof;
 use ibc_records::{Channel, Commitment, Records, ack_value, commitment_value};
@@ -21,6 +22,7 @@ use std::alloc::Global;
 pub fn check_sent(
     alloc: Global,
     records: &Records,
+    memory: &mut NodeMemory,
     client: &ClientId,
     message: &RecvPacket,
     proof: &Proof,
@@ -36,7 +38,16 @@ pub fn check_sent(
         packet.sequence,
     );
     let value = value.as_slice();
-    check_present(alloc, records, client, message.height, &key, value, proof)
+    check_present_with(
+        alloc,
+        records,
+        memory,
+        client,
+        message.height,
+        &key,
+        value,
+        proof,
+    )
 }
 
 // The bytes that are committed of a packet.
@@ -56,6 +67,7 @@ fn sent_value(alloc: Global, packet: &Packet) -> Result<Bytes, Refusal>
 pub fn check_acknowledged(
     alloc: Global,
     records: &Records,
+    memory: &mut NodeMemory,
     client: &ClientId,
     message: &AckPacket,
     proof: &Proof,
@@ -71,7 +83,16 @@ pub fn check_acknowledged(
         packet.sequence,
     );
     let value = value.as_slice();
-    check_present(alloc, records, client, message.height, &key, value, proof)
+    check_present_with(
+        alloc,
+        records,
+        memory,
+        client,
+        message.height,
+        &key,
+        value,
+        proof,
+    )
 }
 
 /// The peer hasn't received the packet, or else `BadProof`; `NoMemory`. A peer whose end is ordered receives the sequence
@@ -79,6 +100,7 @@ pub fn check_acknowledged(
 pub fn check_not_received(
     alloc: Global,
     records: &Records,
+    memory: &mut NodeMemory,
     client: &ClientId,
     height: u64,
     mine: &Channel,
@@ -94,10 +116,10 @@ pub fn check_not_received(
     if mine.is_ordered() {
         let key = Key::NextSequenceRecv(port, channel);
         let value = next_recv.to_be_bytes();
-        check_present(alloc, records, client, height, &key, &value, proof)
+        check_present_with(alloc, records, memory, client, height, &key, &value, proof)
     } else {
         let key = Key::Receipt(port, channel, packet.sequence);
-        check_absent(alloc, records, client, height, &key, proof)
+        check_absent_with(alloc, records, memory, client, height, &key, proof)
     }
 }
 
@@ -105,6 +127,7 @@ pub fn check_not_received(
 pub fn check_closed(
     alloc: Global,
     records: &Records,
+    memory: &mut NodeMemory,
     connection: &ConnectionEnd,
     mine: &Channel,
     message: &TimeoutOnClose,
@@ -121,5 +144,12 @@ pub fn check_closed(
     let channel = packet.source_channel.as_str();
     let state = ChannelState::Closed;
     let claim = claim_peer(alloc, end, connection, peer, port, channel, state)?;
-    check_claim(records, &connection.client, message.height, &claim, proof)
+    check_claim_with(
+        records,
+        memory,
+        &connection.client,
+        message.height,
+        &claim,
+        proof,
+    )
 }

@@ -15,6 +15,7 @@ use crate::ends::{find_channel, has_peer, is_open, is_repeat, known_over, waits_
 use crate::forms::{has_form, proof_in_form};
 use crate::times::is_late;
 use ibc_app_port::App;
+use ibc_ics23_proof::NodeMemory;
 use ibc_ids::{Bytes, Refusal};
 use ibc_merkle::Proof;
 use ibc_records::{Channel, Records};
@@ -37,9 +38,26 @@ pub fn recv<A: App>(
     ensures answer { (chain chains : ℕ) → IsHandledWith (λ acks. effect.Ack acks.0) (recv_packet A.receives message.now) chain chains records.old app.old result records.new app.new }
     ensures copy { IfOk result (λ acks. acks.1 ≡ acks.0) }
 {
+    let mut memory = records.take_memory();
+    let answer = recv_with(alloc, records, &mut memory, app, message);
+    records.keep_memory(memory);
+    answer
+}
+
+// The same with the hashes of nodes that the records remember.
+fn recv_with<A: App>(
+    alloc: Global,
+    records: &mut Records,
+    memory: &mut NodeMemory,
+    app: &mut A,
+    message: &RecvPacket,
+) -> Result<(Bytes, Bytes), Refusal>
+    ensures answer { (chain chains : ℕ) → IsHandledWith (λ acks. effect.Ack acks.0) (recv_packet A.receives message.now) chain chains records.old app.old result records.new app.new }
+    ensures copy { IfOk result (λ acks. acks.1 ≡ acks.0) }
+{
     let form = has_form(&message.packet);
     let proof = proof_in_form(alloc, form, message.proof.as_slice())?;
-    let judged = judge_recv(alloc, records, message, &proof);
+    let judged = judge_recv(alloc, records, memory, message, &proof);
     drop(proof);
     judged?;
     records.receive(app, &message.packet)
@@ -49,6 +67,7 @@ pub fn recv<A: App>(
 fn judge_recv<'a>(
     alloc: Global,
     records: &'a Records,
+    memory: &mut NodeMemory,
     message: &RecvPacket,
     proof: &Proof,
 ) -> Result<&'a Channel, Refusal>
@@ -66,7 +85,7 @@ fn judge_recv<'a>(
     )?;
     check_receivable(records, mine, packet)?;
     let connection = known_over(records, mine, message.height)?;
-    check_sent(alloc, records, &connection.client, message, proof)?;
+    check_sent(alloc, records, memory, &connection.client, message, proof)?;
     Ok(mine)
 }
 

@@ -19,6 +19,7 @@ use crate::forms::{has_form, proof_in_form};
 use crate::times::is_timed_out;
 use ibc_app_port::App;
 use ibc_client::known_time;
+use ibc_ics23_proof::NodeMemory;
 use ibc_ids::{ClientId, Refusal};
 use ibc_merkle::Proof;
 use ibc_records::{Channel, Records};
@@ -41,9 +42,25 @@ pub fn timeout<A: App>(
 ) -> Result<(), Refusal>
     ensures { (chain chains : ℕ) → IsHandledWith (λ _. effect.None) (plain.timeout A.times_out message.now) chain chains records.old app.old result records.new app.new }
 {
+    let mut memory = records.take_memory();
+    let answer = timeout_with(alloc, records, &mut memory, app, message);
+    records.keep_memory(memory);
+    answer
+}
+
+// The same with the hashes of nodes that the records remember.
+fn timeout_with<A: App>(
+    alloc: Global,
+    records: &mut Records,
+    memory: &mut NodeMemory,
+    app: &mut A,
+    message: &Timeout,
+) -> Result<(), Refusal>
+    ensures { (chain chains : ℕ) → IsHandledWith (λ _. effect.None) (plain.timeout A.times_out message.now) chain chains records.old app.old result records.new app.new }
+{
     let form = has_form(&message.packet);
     let proof = proof_in_form(alloc, form, message.proof.as_slice())?;
-    let judged = judge_timeout(alloc, records, message, &proof);
+    let judged = judge_timeout(alloc, records, memory, message, &proof);
     drop(proof);
     judged?;
     records.time_out(app, &message.packet)
@@ -53,6 +70,7 @@ pub fn timeout<A: App>(
 fn judge_timeout<'a>(
     alloc: Global,
     records: &'a Records,
+    memory: &mut NodeMemory,
     message: &Timeout,
     proof: &Proof,
 ) -> Result<&'a Channel, Refusal>
@@ -71,7 +89,7 @@ fn judge_timeout<'a>(
     check_timed_out(records, client, height, packet)?;
     check_waiting(mine, next_recv, packet.sequence)?;
     check_not_received(
-        alloc, records, client, height, mine, packet, next_recv, proof,
+        alloc, records, memory, client, height, mine, packet, next_recv, proof,
     )?;
     Ok(mine)
 }

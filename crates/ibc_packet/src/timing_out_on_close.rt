@@ -16,6 +16,7 @@ use crate::forms::{has_form, proof_in_form};
 use crate::timing_out::check_waiting;
 use ibc_app_port::App;
 use ibc_client::read_proof;
+use ibc_ics23_proof::NodeMemory;
 use ibc_ids::Refusal;
 use ibc_merkle::Proof;
 use ibc_records::{Channel, Records};
@@ -38,7 +39,23 @@ pub fn timeout_on_close<A: App>(
 ) -> Result<(), Refusal>
     ensures { (chain chains : ℕ) → IsHandledWith (λ _. effect.None) (plain.timeout_on_close A.times_out message.now) chain chains records.old app.old result records.new app.new }
 {
-    judge(alloc, records, message)?;
+    let mut memory = records.take_memory();
+    let answer = timeout_on_close_with(alloc, records, &mut memory, app, message);
+    records.keep_memory(memory);
+    answer
+}
+
+// The same with the hashes of nodes that the records remember.
+fn timeout_on_close_with<A: App>(
+    alloc: Global,
+    records: &mut Records,
+    memory: &mut NodeMemory,
+    app: &mut A,
+    message: &TimeoutOnClose,
+) -> Result<(), Refusal>
+    ensures { (chain chains : ℕ) → IsHandledWith (λ _. effect.None) (plain.timeout_on_close A.times_out message.now) chain chains records.old app.old result records.new app.new }
+{
+    judge(alloc, records, memory, message)?;
     records.time_out(app, &message.packet)
 }
 
@@ -46,6 +63,7 @@ pub fn timeout_on_close<A: App>(
 fn judge<'a>(
     alloc: Global,
     records: &'a Records,
+    memory: &mut NodeMemory,
     message: &TimeoutOnClose,
 ) -> Result<&'a Channel, Refusal>
     ensures judged { (chain chains : ℕ) → IsJudged (timeout_on_close_checked message.now) chain chains records.now (λ mine. mine.now) result }
@@ -60,7 +78,7 @@ fn judge<'a>(
             return Err(refusal);
         }
     };
-    let judged = judge_closed(alloc, records, message, &proof, &proof_close);
+    let judged = judge_closed(alloc, records, memory, message, &proof, &proof_close);
     drop(proof);
     drop(proof_close);
     judged
@@ -70,6 +88,7 @@ fn judge<'a>(
 fn judge_closed<'a>(
     alloc: Global,
     records: &'a Records,
+    memory: &mut NodeMemory,
     message: &TimeoutOnClose,
     proof: &Proof,
     proof_close: &Proof,
@@ -89,8 +108,16 @@ fn judge_closed<'a>(
     let client = &connection.client;
     check_waiting(mine, next_recv, packet.sequence)?;
     check_not_received(
-        alloc, records, client, height, mine, packet, next_recv, proof,
+        alloc, records, memory, client, height, mine, packet, next_recv, proof,
     )?;
-    check_closed(alloc, records, connection, mine, message, proof_close)?;
+    check_closed(
+        alloc,
+        records,
+        memory,
+        connection,
+        mine,
+        message,
+        proof_close,
+    )?;
     Ok(mine)
 }

@@ -26,12 +26,14 @@ use crate::maps::{
     take,
 };
 use crate::values::{client_value, counter, set_reserved};
+use ibc_ics23_proof::NodeMemory;
 use ibc_ids::{ClientId, Key, Refusal, Root, client_path};
 use ibc_merkle::Proof;
 use ibc_path_store::{CommittedTree, Store};
 use ibc_wire::ClientState;
 use std::alloc::{AllocError, Global};
 use std::marker::Model;
+use std::mem::replace;
 use std::sync::Arc;
 
 /// The numbers of the next client, connection and channel.
@@ -55,6 +57,7 @@ pub struct Records {
     last: Arc<CoreRecords, Global>,
     last_time: u64,
     ack_room: AckRoom,
+    memory: NodeMemory,
     alloc: Global,
 }
 
@@ -115,6 +118,7 @@ impl Records {
             last,
             last_time: 0,
             ack_room: AckRoom::none(alloc),
+            memory: NodeMemory::new(alloc),
             alloc,
         })
     }
@@ -300,6 +304,21 @@ impl Records {
         ensures err { IfErr result (λ refusal. (refusal ≡ NoConsensus) ⊎ (refusal ≡ NoMemory)) }
     {
         self.store.prove(height, key)
+    }
+
+    /// Takes out the hashes of nodes of proofs that the records remember, and leaves a memory of nothing. It asks for no
+    /// memory, and what the records are stays.
+    pub fn take_memory(&mut self) -> NodeMemory
+        ensures { self.new ≡ self.old }
+    {
+        replace(&mut self.memory, NodeMemory::new(self.alloc))
+    }
+
+    /// Keeps hashes of nodes of proofs for the next proof. What the records are stays.
+    pub fn keep_memory(&mut self, memory: NodeMemory)
+        ensures { self.new ≡ self.old }
+    {
+        self.memory = memory;
     }
 }
 

@@ -5,8 +5,10 @@ ghost use Rattle.std.specs.FinMap.{is_sorted};
 ghost use Rattle.ibc_ids.specs.Maps.{at};
 ghost use Rattle.ibc_ids.specs.Texts.{text_cmp};
 
-use ibc_ics23_proof::verify_absent;
-use ibc_ids::{Bytes, Refusal};
+use ibc_ics23_proof::{
+    NodeMemory, verify_absent, verify_absent_with, verify_present, verify_present_with,
+};
+use ibc_ids::{Bytes, Refusal, Root};
 use ibc_merkle::{
     KeyValue, Presence, Proof, Steps, hash_inner, hash_leaf, hash_value, place, prove,
     prove_absent, prove_present, root, split_of,
@@ -182,6 +184,58 @@ fn neighbours_of_absent_keys(rt: HostRuntime) {
     ] {
         assert!(rt;
             stands_between(rt.alloc(), left, key, right) == Ok(true),
+            "at {key}"
+        );
+    }
+}
+
+// Whether a proof of a counter is accepted with a memory just where it is without.
+fn is_shown_alike(
+    memory: &mut NodeMemory,
+    proof: &Proof,
+    root: &Root,
+    key: &[u8],
+    byte: u8,
+) -> bool {
+    let value = [byte; 8];
+    verify_present_with(memory, proof, root, key, value.as_slice())
+        == verify_present(proof, root, key, value.as_slice())
+}
+
+// The same of two values, and of the key's absence.
+fn is_accepted_alike(memory: &mut NodeMemory, proof: &Proof, root: &Root, key: &[u8]) -> bool {
+    is_shown_alike(memory, proof, root, key, 0)
+        && is_shown_alike(memory, proof, root, key, 1)
+        && verify_absent_with(memory, proof, root, key) == verify_absent(proof, root, key)
+}
+
+// Whether the proof of a key in a new chain is accepted alike under its root and under another.
+fn is_remembered(alloc: Global, memory: &mut NodeMemory, key: &str) -> Result<bool, Refusal> {
+    let entries = new_chain(alloc)?;
+    let proof = prove(alloc, entries.as_slice(), key.as_bytes())?;
+    let known = root(entries.as_slice());
+    let other = Root::from_bytes([7; 32]);
+    let is_alike = is_accepted_alike(memory, &proof, &known, key.as_bytes())
+        && is_accepted_alike(memory, &proof, &other, key.as_bytes());
+    drop(proof);
+    Ok(is_alike)
+}
+
+#[test]
+fn proofs_with_a_memory_of_nodes(rt: HostRuntime) {
+    let mut memory = NodeMemory::new(rt.alloc());
+    for key in [
+        "nextClientSequence",
+        "nextClient",
+        "nextConnectionSequence",
+        "nextClientSequence",
+        "receipts",
+        "acks",
+        "nextChannelSequence",
+        "nextClient",
+    ] {
+        assert!(rt;
+            is_remembered(rt.alloc(), &mut memory, key) == Ok(true),
             "at {key}"
         );
     }

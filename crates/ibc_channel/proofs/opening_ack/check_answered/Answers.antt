@@ -17,7 +17,7 @@ returns-in_err-claim c =
 pub returns : goal.returns
 returns c =
     peer_shown c.args.records.now c.args.mine.now c.args.connection.now c.args.message.now.height c.requires.there c.requires.known
-    c.args.message.now.peer_channel c.args.message.now.port (Some c.args.message.now.channel) TryOpen c.args.proof.now c.check_claim.result
+    c.args.message.now.peer_channel c.args.message.now.port (Some c.args.message.now.channel) TryOpen c.args.proof.now c.check_claim_with.result
     (c.in_ok-claim.ensures.path ∙ ap (λ text. path (key.ChannelEnd c.args.mine.now.peer_port text)) c.as_str-peer.ensures.text)
     (c.in_ok-claim.ensures.value ∙ ap (λ text. end_bytes TryOpen c.args.mine.now.order c.args.message.now.port text (text_of c.args.connection.now.peer_connection) c.args.mine.now.version) c.as_str-channel.ensures.text)
-    c.check_claim.ensures
+    c.check_claim_with.ensures

@@ -16,7 +16,7 @@ returns-in_err-claim c =
 pub returns : goal.returns
 returns c =
     peer_shown c.args.records.now c.args.mine.now c.args.connection.now c.args.message.now.height c.requires.there c.requires.known
-    c.args.message.now.peer_channel c.args.message.now.port None Init c.args.proof.now c.check_claim.result
+    c.args.message.now.peer_channel c.args.message.now.port None Init c.args.proof.now c.check_claim_with.result
     (c.in_ok-claim.ensures.path ∙ ap (λ text. path (key.ChannelEnd c.args.mine.now.peer_port text)) c.as_str-peer.ensures.text)
     (c.in_ok-claim.ensures.value)
-    c.check_claim.ensures
+    c.check_claim_with.ensures

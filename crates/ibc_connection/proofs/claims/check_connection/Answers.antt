@@ -19,5 +19,5 @@ returns-in_err-clone c =
 
 pub returns : goal.returns
 returns c =
-    is_shown c.args.records.now c.args.client.now c.args.height c.requires (key.Connection c.args.id.now) (ConnectionIs c.args.end.now) c.args.proof.now c.check_present.result
-    (ap (λ id. path (key.Connection id)) c.in_ok-clone.ensures.cases) (c.as_slice.ensures ∙ c.in_ok-value.ensures.ok) c.check_present.ensures
+    is_shown c.args.records.now c.args.client.now c.args.height c.requires (key.Connection c.args.id.now) (ConnectionIs c.args.end.now) c.args.proof.now c.check_present_with.result
+    (ap (λ id. path (key.Connection id)) c.in_ok-clone.ensures.cases) (c.as_slice.ensures ∙ c.in_ok-value.ensures.ok) c.check_present_with.ensures

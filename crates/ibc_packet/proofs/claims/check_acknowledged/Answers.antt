@@ -9,7 +9,7 @@ use Rattle.ibc_packet.proofs.claims.check_acknowledged.Goals as goal
 pub returns : goal.returns
 returns c =
     let p = c.args.message.now.packet in
-    is_shown c.args.records.now c.args.client.now c.args.message.now.height c.requires (key.Acknowledgement p.destination_port p.destination_channel p.sequence) (AckIs c.args.message.now.ack) c.args.proof.now c.check_present.result
+    is_shown c.args.records.now c.args.client.now c.args.message.now.height c.requires (key.Acknowledgement p.destination_port p.destination_channel p.sequence) (AckIs c.args.message.now.ack) c.args.proof.now c.check_present_with.result
     (λ i. path (key.Acknowledgement (c.in_ok-clone.ensures.cases i) (c.in_ok-clone-2.ensures.cases i) p.sequence))
     (c.as_slice-value.ensures ∙ c.in_ok-value.ensures.ok ∙ ap (λ text. value_bytes (AckIs text)) c.as_slice.ensures)
-    c.check_present.ensures
+    c.check_present_with.ensures

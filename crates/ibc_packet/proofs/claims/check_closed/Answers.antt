@@ -13,8 +13,8 @@ returns c =
     let mine = c.args.mine.now.end in
     let p = c.args.message.now.packet in
     peer_shown c.args.records.now mine c.args.connection.now c.args.message.now.height c.requires.there c.requires.known
-    p.destination_channel p.source_port (Some p.source_channel) Closed c.args.proof.now c.check_claim.result
+    p.destination_channel p.source_port (Some p.source_channel) Closed c.args.proof.now c.check_claim_with.result
     (c.in_ok-claim.ensures.path ∙ (λ i. path (key.ChannelEnd (ap (λ (e : ChannelEnd). e.peer_port) c.end-end.ensures i) (c.as_str-peer.ensures.text i))))
     (c.in_ok-claim.ensures.value
     ∙ (λ i. end_bytes Closed (ap (λ (e : ChannelEnd). e.order) c.end-end.ensures i) p.source_port (c.as_str-channel.ensures.text i) (text_of c.args.connection.now.peer_connection) (ap (λ (e : ChannelEnd). e.version) c.end-end.ensures i)))
-    c.check_claim.ensures
+    c.check_claim_with.ensures

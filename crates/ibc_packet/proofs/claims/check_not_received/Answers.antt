@@ -11,17 +11,17 @@ use Rattle.ibc_packet.proofs.claims.check_not_received.Goals as goal
 pub returns-then-is_ordered : goal.returns-then-is_ordered
 returns-then-is_ordered c =
     let p = c.args.packet.now in
-    subst (λ claim. IsShown c.args.records.now c.args.client.now c.args.height claim c.args.proof.now c.check_present.result)
+    subst (λ claim. IsShown c.args.records.now c.args.client.now c.args.height claim c.args.proof.now c.check_present_with.result)
     (not_received_in_order c.args.mine.now p c.args.next_recv c.if-is_ordered.ensures)
-    (is_shown c.args.records.now c.args.client.now c.args.height c.requires (key.NextSequenceRecv p.destination_port p.destination_channel) (NumberIs c.args.next_recv) c.args.proof.now c.check_present.result
+    (is_shown c.args.records.now c.args.client.now c.args.height c.requires (key.NextSequenceRecv p.destination_port p.destination_channel) (NumberIs c.args.next_recv) c.args.proof.now c.check_present_with.result
     (λ i. path (key.NextSequenceRecv (c.in_ok-port.ensures.cases i) (c.in_ok-channel.ensures.cases i)))
-    c.to_be_bytes-value.ensures c.check_present.ensures)
+    c.to_be_bytes-value.ensures c.check_present_with.ensures)
 
 pub returns-else-is_ordered : goal.returns-else-is_ordered
 returns-else-is_ordered c =
     let p = c.args.packet.now in
-    subst (λ claim. IsShown c.args.records.now c.args.client.now c.args.height claim c.args.proof.now c.check_absent.result)
+    subst (λ claim. IsShown c.args.records.now c.args.client.now c.args.height claim c.args.proof.now c.check_absent_with.result)
     (not_received_in_any_order c.args.mine.now p c.args.next_recv c.if-is_ordered.ensures)
-    (is_shown_absent c.args.records.now c.args.client.now c.args.height c.requires (key.Receipt p.destination_port p.destination_channel p.sequence) c.args.proof.now c.check_absent.result
+    (is_shown_absent c.args.records.now c.args.client.now c.args.height c.requires (key.Receipt p.destination_port p.destination_channel p.sequence) c.args.proof.now c.check_absent_with.result
     (λ i. path (key.Receipt (c.in_ok-port.ensures.cases i) (c.in_ok-channel.ensures.cases i) p.sequence))
-    c.check_absent.ensures)
+    c.check_absent_with.ensures)
