@@ -9,6 +9,7 @@ pub mod Counting
 pub mod InChunks
 pub mod LeafRows
 pub mod NewPairs
+pub mod NoGap
 pub mod Putting
 pub mod Turning
 pub mod KeysAroundPlaces
@@ -18,3 +19,4 @@ pub mod FirstLeaves
 pub mod OverGaps
 pub mod KnownRows
 pub mod OneLeaf
+pub mod OtherLeaves

@@ -11,4 +11,5 @@ pub mod NodeMoves
 pub mod NewPairs
 pub mod Nodes
 pub mod NodeLevels
+pub mod Replacements
 pub mod Shelves

@@ -44,7 +44,7 @@ fn stands_below(a: &[u8], b: &[u8]) -> bool
 }
 
 // The place of a row of leaves, from a place on, where the keys aren't below this one any more.
-fn place_from(arena: &Arena, row: &[usize], from: usize, key: &[u8]) -> usize
+pub(crate) fn place_from(arena: &Arena, row: &[usize], from: usize, key: &[u8]) -> usize
     requires leaves { AreLeaves arena.now.trees row.now }
     requires from { from ≤ length row.now }
     ensures rest { drop result (row_pairs arena.now.trees row.now) ≡ from_key key.now (drop from (row_pairs arena.now.trees row.now)) }
@@ -59,7 +59,7 @@ fn place_from(arena: &Arena, row: &[usize], from: usize, key: &[u8]) -> usize
 }
 
 // The place behind a place of a row of leaves, if a leaf of this key is there, and else the place.
-fn place_behind(arena: &Arena, row: &[usize], at: usize, key: &[u8]) -> usize
+pub(crate) fn place_behind(arena: &Arena, row: &[usize], at: usize, key: &[u8]) -> usize
     requires leaves { AreLeaves arena.now.trees row.now }
     requires within { at ≤ length row.now }
     ensures rest { drop result (row_pairs arena.now.trees row.now) ≡ behind_key key.now (drop at (row_pairs arena.now.trees row.now)) }
@@ -89,7 +89,7 @@ fn is_there(arena: &Arena, row: &[usize], at: usize, entry: &SharedEntry) -> boo
 
 // The leaf of a pair: the one at a place of a row, if it is that of the pair, and else a new one, for which two texts
 // are hashed.
-fn leaf_for(
+pub(crate) fn leaf_for(
     arena: &mut Arena,
     row: &[usize],
     at: usize,

@@ -15,6 +15,8 @@ mod node;
 mod nodes;
 mod place;
 mod proving;
+mod replacement;
+mod replacing;
 mod rows;
 mod shared_entry;
 mod shared_tree;

@@ -9,11 +9,13 @@ ghost use Rattle.ibc_forest.specs.Gaps.{DifferIn, IsOneOther};
 ghost use Rattle.ibc_forest.specs.Nodes.{Grows};
 ghost use Rattle.ibc_forest.specs.NodeLevels.{Stand, IsPyramid, rows_of, first_row};
 ghost use Rattle.ibc_forest.specs.Forest.{IsWorking, IsLast};
+ghost use Rattle.ibc_forest.specs.Replacements.{AreReplaced, come_count};
 ghost use Rattle.ibc_merkle.specs.Tree.{Pairs};
 
 use crate::arena::Arena;
 use crate::gap::Gap;
 use crate::leaves::{leaf_row, other_leaf};
+use crate::replacing::{put_others, replacements};
 use crate::shared_entry::SharedEntry;
 use crate::working::{copied, count_differing, first_of, put_leaf, put_leaves, raised};
 use std::alloc::{AllocError, Global};
@@ -157,8 +159,77 @@ fn put_other(
     put_leaf(arena, rows, &mut path, index, leaf)
 }
 
+// Whether no pair is gone and none has come in any gap: then the pairs are the last ones.
+fn are_empty(gaps: &[Gap]) -> bool
+    ensures { result ≡ true → (last pairs : Pairs) → DifferIn gaps.now last pairs → pairs ≡ last }
+{
+    for i in 0..gaps.len() {
+        if gaps[i].gone != 0 || gaps[i].come != 0 {
+            return false;
+        }
+    }
+    true
+}
+
+// The most places of a tree for each of which as many texts as there are rows above it make fewer than it has leaves.
+#[tactic(auto, using(crate::proofs::OtherLeaves::most_texts))]
+fn most_places(rows: &[Vec<usize>]) -> usize
+    ensures { result * (length rows.now - 1) ≤ length (first_row (rows_of rows.now)) - 1 }
+{
+    let above = rows.len().saturating_sub(1);
+    if above == 0 {
+        return 0;
+    }
+    first_of(rows).len().saturating_sub(1) / above
+}
+
+// Whether as many pairs came as are gone in each gap, and so many in all at most.
+fn are_replaced(gaps: &[Gap], most: usize) -> bool
+    ensures each { result ≡ true → AreReplaced gaps.now }
+    ensures few { result ≡ true → come_count gaps.now ≤ most }
+{
+    let mut left = most;
+    for i in 0..gaps.len() {
+        let gap = gaps[i];
+        if gap.gone != gap.come || gap.come > left {
+            return false;
+        }
+        left -= gap.come;
+    }
+    true
+}
+
+// Puts the leaves of the pairs in gaps, each as long as what is gone, into the rows: at most two texts are hashed for each new
+// one, and one a row above it. A refusal leaves the rows.
+fn put_replaced(
+    alloc: Global,
+    arena: &mut Arena,
+    rows: &mut [Vec<usize>],
+    entries: &[SharedEntry],
+    gaps: &[Gap],
+) -> Result<(), AllocError>
+    requires last { IsLast arena.old.trees (rows_of rows.old) }
+    requires some { 0 < length entries.now }
+    requires sorted { IsTrue (is_sorted text_cmp entries.now) }
+    requires sorted_last { IsTrue (is_sorted text_cmp (row_pairs arena.old.trees (first_row (rows_of rows.old)))) }
+    requires gaps { DifferIn gaps.now (row_pairs arena.old.trees (first_row (rows_of rows.old))) entries.now }
+    requires replaced { AreReplaced gaps.now }
+    requires few { come_count gaps.now * (length rows.old - 1) ≤ length (first_row (rows_of rows.old)) - 1 }
+    ensures working { IfOk result (λ _. IsWorking arena.new.trees (rows_of rows.new)) }
+    ensures pairs { IfOk result (λ _. row_pairs arena.new.trees (first_row (rows_of rows.new)) ≡ entries.now) }
+    ensures grows { Grows arena.old.trees arena.new.trees }
+    ensures steps { let new = count_new (row_pairs arena.old.trees (first_row (rows_of rows.old))) entries.now in IfOk result (λ _. arena.new.steps + 1 ≤ arena.old.steps + 2 * new + length entries.now) }
+    ensures least { OnOk result (CountsEachNewLeaf (row_pairs arena.old.trees (first_row (rows_of rows.old))) entries.now arena.old.steps arena.new.steps) }
+    ensures same { let last = row_pairs arena.old.trees (first_row (rows_of rows.old)) in keys entries.now ≡ keys last → (log : ℕ) → length entries.now ≤ 2 ^ log → IfOk result (λ _. arena.new.steps ≤ arena.old.steps + count_new last entries.now * (2 + log)) }
+    ensures err { OnErr result (rows_of rows.new ≡ rows_of rows.old) }
+{
+    let others = replacements(alloc, arena, first_of(rows), entries, gaps)?;
+    put_others(alloc, arena, rows, others.as_slice())
+}
+
 // Turns the rows of the tree over pairs to those of the next one, whose pairs differ in gaps, within the bounds of `next_rows`.
-// Where one pair may be another, nothing that grows with the pairs is read or written. A refusal leaves the rows.
+// Where the pairs are the same, or few are others at the same places, nothing that grows with the pairs is read or written. A
+// refusal leaves the rows.
 pub(crate) fn turn_rows(
     alloc: Global,
     arena: &mut Arena,
@@ -177,10 +248,16 @@ pub(crate) fn turn_rows(
     ensures steps { let new = count_new (row_pairs arena.old.trees (first_row (rows_of rows.old.items))) entries.now in IfOk result (λ _. arena.new.steps + 1 ≤ arena.old.steps + 2 * new + length entries.now) }
     ensures least { OnOk result (CountsEachNewLeaf (row_pairs arena.old.trees (first_row (rows_of rows.old.items))) entries.now arena.old.steps arena.new.steps) }
     ensures same { let last = row_pairs arena.old.trees (first_row (rows_of rows.old.items)) in keys entries.now ≡ keys last → (log : ℕ) → length entries.now ≤ 2 ^ log → IfOk result (λ _. arena.new.steps ≤ arena.old.steps + count_new last entries.now * (2 + log)) }
-    ensures err { OnErr result (rows.new.items ≡ rows.old.items) }
+    ensures err { OnErr result (rows_of rows.new.items ≡ rows_of rows.old.items) }
 {
+    if are_empty(gaps) {
+        return Ok(());
+    }
     if let Some(index) = one_place(gaps) {
         return put_other(alloc, arena, rows.as_mut_slice(), entries, index);
+    }
+    if are_replaced(gaps, most_places(rows.as_slice())) {
+        return put_replaced(alloc, arena, rows.as_mut_slice(), entries, gaps);
     }
     let next = next_rows(alloc, arena, rows.as_slice(), entries, gaps)?;
     *rows = next;

@@ -28,7 +28,7 @@ invariant_of-self-in_err-turn_rows c =
     let after = c.turn_rows.new.arena.trees in
     let g : Grows before after = subst (λ trees. Grows trees after) (ap (λ (a : ArenaModel). a.trees) c.restart.ensures) c.turn_rows.ensures.grows in
     let old = rows_of c.self.inside.rows.items in
-    let same : rows_of c.turn_rows.new.rows.items ≡ old = ap rows_of c.in_err-turn_rows.ensures.err in (
+    let same : rows_of c.turn_rows.new.rows.items ≡ old = c.in_err-turn_rows.ensures.err in (
       subst (IsLast after) (sym same) (last-grows before after old g c.self.invariant.0),
       subst (AreSortedHeights after) (sym c.reserve.ensures.items) (kept-grows before after c.self.inside.kept.items g c.self.invariant.1),
       ap (λ (rows : List (List ℕ)). is_sorted text_cmp (row_pairs after (first_row rows))) same
@@ -42,7 +42,7 @@ returns-in_err-turn_rows-clause-err c =
     let after = c.turn_rows.new.arena.trees in
     let g : Grows before after = subst (λ trees. Grows trees after) (ap (λ (a : ArenaModel). a.trees) c.restart.ensures) c.turn_rows.ensures.grows in
     let old = rows_of c.self.inside.rows.items in
-    let same : rows_of c.turn_rows.new.rows.items ≡ old = ap rows_of c.in_err-turn_rows.ensures.err in
+    let same : rows_of c.turn_rows.new.rows.items ≡ old = c.in_err-turn_rows.ensures.err in
     let digests = c.self.inside.digests in
     let held : Pairs → List (Pairs × ℕ) → ForestModel = λ last kept. record { last = last; kept = kept; digests = digests } in
     on_err c.from_residual-in_err-turn_rows.result _
