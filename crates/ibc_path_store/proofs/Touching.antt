@@ -1,10 +1,8 @@
 -- The gaps of a map that is touched at a place.
-use Rattle.std.proofs.Common.{◌≡◌, ℕ, suc, ◌+◌, ◌-◌, ◌<◌, ◌≤◌, Bool, true, false, cond, List, [], ◌∷◌, ◌++◌, length, get_or, take, drop, set, sym, ap, ap₂, ◌∙◌, subst, arith, inl, inr, length-drop, length-append, nat_lt, nat_le, Option, Some, None}
+use Rattle.std.proofs.Common.{◌≡◌, ℕ, suc, ◌+◌, ◌-◌, ◌<◌, ◌≤◌, Bool, true, false, cond, List, [], ◌∷◌, ◌++◌, length, get_or, take, drop, set, sym, ap, ap₂, ◌∙◌, subst, arith, inl, inr, length-drop, nat_lt, nat_le, Option, Some, None}
 use Rattle.std.proofs.lemmas.Bool.{cases_lt, lt-ltb, le-ltb, le-leb, lt-leb, cond-true, cond-false, false≢true}
-use Rattle.std.proofs.lemmas.List.{append-nil, append_assoc, take_all, drop_more, drop_all, drop-drop, drop-take, drop-set-lt, take-take, take_more, take-set-le, take_at, drop_at, length-set, length-take-le, set_split}
-use Rattle.std.proofs.Math.Seq.{drop-append-add}
-use Rattle.std.specs.List.{insert, remove}
-use Rattle.ibc_ids.specs.Texts.{Text}
+use Rattle.std.proofs.lemmas.List.{append-nil, append_assoc, take_all, drop_more, drop_all, drop-drop, drop-take, take-take, take_more, take_at, drop_at, length-take-le, set_split}
+use Rattle.std.specs.List.{insert}
 use Rattle.ibc_merkle.specs.Tree.{Pairs}
 use Rattle.ibc_forest.specs.Gaps.{DifferIn}
 use Rattle.ibc_forest.specs.declared.gap.Gap.{Gap}
@@ -212,49 +210,3 @@ pub shares_touched : (old : Option (List Gap)) (lost : Bool) (before gaps : List
 shares_touched old true before gaps index gone come view is one noted last pairs after shares new = tt
 shares_touched old false before gaps index gone come view is one noted last pairs after shares new =
     subst (λ (gs : List Gap). DifferIn gs last after) (sym noted) (differ_touched before last pairs after index gone come one (subst (λ held. Shares held last pairs) (sym view) shares) new)
-
--- ---- what happens to pairs
-
-pub replaced_value : (pairs after : Pairs) (i : ℕ) (pair : Text × Text) → i < length pairs → after ≡ set pairs i pair → IsReplaced pairs after i 1 1
-replaced_value pairs after i pair l is =
-    let counted : length after ≡ length pairs = ap length is ∙ length-set pairs i pair in
-    record {
-      there = omega arith;
-      counted = omega arith;
-      front = ap (take i) is ∙ take-set-le i pairs i pair (omega arith);
-      back = ap (drop (i + 1)) is ∙ drop-set-lt (i + 1) pairs i pair (omega arith);
-    }
-
-pub replaced_new : (pairs after : Pairs) (i : ℕ) (pair : Text × Text) → i ≤ length pairs → after ≡ insert pairs i pair → IsReplaced pairs after i 0 1
-replaced_new pairs after i pair l is =
-    let before : Pairs = take i pairs in
-    let its : length before ≡ i = length-take-le i pairs l in
-    let all = length-append before (pair ∷ drop i pairs) in
-    let e = ap length is in
-    let none : i ≡ i + 0 = omega arith in
-    record {
-      there = omega arith;
-      counted = omega arith;
-      front = ap (take i) is ∙ take_at before (pair ∷ drop i pairs) i its;
-      back =
-          ap (drop (i + 1)) is
-          ∙ ap (λ n. drop n (before ++ pair ∷ drop i pairs)) (let e : i + 1 ≡ length before + 1 = omega arith in e)
-          ∙ drop-append-add before (pair ∷ drop i pairs) 1
-          ∙ ap (λ n. drop n pairs) none;
-    }
-
-pub replaced_gone : (pairs after : Pairs) (i : ℕ) → i < length pairs → after ≡ remove pairs i → IsReplaced pairs after i 1 0
-replaced_gone pairs after i l is =
-    let before : Pairs = take i pairs in
-    let behind : Pairs = drop (suc i) pairs in
-    let its : length before ≡ i = length-take-le i pairs (omega arith) in
-    let rest = length-drop (suc i) pairs in
-    let all = length-append before behind in
-    let e = ap length is in
-    let none : i + 0 ≡ i = omega arith in
-    record {
-      there = omega arith;
-      counted = omega arith;
-      front = ap (take i) is ∙ take_at before behind i its;
-      back = ap (λ n. drop n after) none ∙ ap (drop i) is ∙ drop_at before behind i its ∙ ap (λ n. drop n pairs) (let e : suc i ≡ i + 1 = omega arith in e);
-    }

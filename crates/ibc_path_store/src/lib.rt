@@ -2,6 +2,7 @@
 #![tactic(auto)]
 
 mod path_map;
+mod rows;
 mod spare;
 mod store;
 mod touched;

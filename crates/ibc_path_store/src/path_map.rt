@@ -1,15 +1,13 @@
 //! A map from paths to values, in the order of the paths.
 
-ghost use Rattle.std.specs.Prelude.{◌≡◌, ◌+◌, ◌≤◌, ◌<◌, length, [], Some, IsTrue, IsOk, OnOk, OnErr, IfOk, IfErr, option_map, string_bytes};
-ghost use Rattle.std.specs.List.{HoldsAt};
-ghost use Rattle.std.specs.List.Sorted.{IsPartitionPoint};
+ghost use Rattle.std.specs.Prelude.{◌≡◌, ◌+◌, ◌≤◌, ◌<◌, [], Some, IsTrue, IsOk, OnOk, OnErr, option_map, string_bytes};
 ghost use Rattle.std.specs.FinMap.{is_sorted};
-ghost use Rattle.std.specs.declared.cmp.Ordering.TheVariants.{Less, Equal, Greater};
 ghost use Rattle.ibc_ids.specs.Texts.{text_cmp};
 ghost use Rattle.ibc_ids.specs.Maps.{at, with, without};
 ghost use Rattle.ibc_merkle.specs.Tree.{Pairs};
 ghost use Rattle.ibc_path_store.specs.GapChanges.{Shares};
 
+use crate::rows::{Position, find, merge, without_row};
 use crate::spare::Spare;
 use crate::touched::Touched;
 use ibc_forest::{Gap, SharedEntry};
@@ -19,28 +17,30 @@ use std::alloc::{AllocError, Global};
 use std::marker::Model;
 
 /// A map from paths to values, which shares its pairs with the trees over them, and in which room can be made beforehand.
+/// A new path waits behind the others, so that a set moves only the pairs that wait, until they are merged.
 #[derive(Drop, Debug)]
 pub struct PathMap {
     entries: Vec<SharedEntry>,
+    settled: usize,
     spare: Spare,
     touched: Touched,
 }
 
 impl Model for PathMap {
-    ghost use Rattle.std.specs.Prelude.{◌-◌, min, IsTrue, vec_len, vec_capacity};
-    ghost use Rattle.std.specs.FinMap.{is_sorted};
-    ghost use Rattle.ibc_ids.specs.Texts.{text_cmp};
+    ghost use Rattle.std.specs.Prelude.{◌-◌, min, vec_len, vec_capacity};
     ghost use Rattle.ibc_path_store.specs.StoreModel.{PathMapModel};
+    ghost use Rattle.ibc_path_store.specs.Waiting.{settled_pairs, AreRows};
 
     ghost Value = { PathMapModel };
 
     ghost view = { λ map. record {
-      pairs = map.entries.items;
+      pairs = settled_pairs map.settled map.entries.items;
+      waiting = vec_len map.entries - map.settled;
       room = min (vec_capacity map.entries - vec_len map.entries) map.spare;
       touched = map.touched;
     } };
 
-    ghost invariant = { λ map. IsTrue (is_sorted text_cmp map.entries.items) };
+    ghost invariant = { λ map. AreRows map.settled map.entries.items };
 }
 
 impl PathMap {
@@ -51,6 +51,7 @@ impl PathMap {
     {
         PathMap {
             entries: Vec::new(alloc),
+            settled: 0,
             spare: Spare::none(alloc),
             touched: Touched::none(alloc),
         }
@@ -82,16 +83,16 @@ impl PathMap {
         ensures shares { (last : Pairs) → Shares self.old.touched last self.old.pairs → Shares self.new.touched last self.new.pairs }
     {
         let key = Bytes::from_vec(path.into_bytes());
-        match self.place(key.as_slice()) {
-            Ok(index) => {
+        match find(self.entries.as_slice(), self.settled, key.as_slice()) {
+            Ok(Position { row, index }) => {
                 let entry = self.spare.share(KeyValue::new(key, value))?;
-                self.entries[index] = entry;
+                self.entries[row] = entry;
                 self.touched.touch(index, 1, 1);
                 Ok(())
             }
-            Err(index) => {
+            Err(Position { row, index }) => {
                 let entry = self.spare.share(KeyValue::new(key, value))?;
-                self.entries.insert(index, entry)?;
+                self.entries.insert(row, entry)?;
                 self.touched.touch(index, 0, 1);
                 Ok(())
             }
@@ -102,8 +103,8 @@ impl PathMap {
     pub fn get(&self, path: &str) -> Option<&[u8]>
         ensures { option_map (λ value. value.now) result ≡ at text_cmp path.now self.now.pairs }
     {
-        match self.place(path.as_bytes()) {
-            Ok(index) => Some(self.entries[index].value()),
+        match find(self.entries.as_slice(), self.settled, path.as_bytes()) {
+            Ok(place) => Some(self.entries[place.row].value()),
             Err(_) => None,
         }
     }
@@ -114,8 +115,13 @@ impl PathMap {
         ensures room { self.old.room ≤ self.new.room }
         ensures shares { (last : Pairs) → Shares self.old.touched last self.old.pairs → Shares self.new.touched last self.new.pairs }
     {
-        if let Ok(index) = self.place(path.as_bytes()) {
-            self.entries.remove(index);
+        if let Ok(Position { row, index }) = find(
+            self.entries.as_slice(),
+            self.settled,
+            path.as_bytes(),
+        ) {
+            self.entries.remove(row);
+            self.settled = without_row(self.settled, row);
             self.touched.touch(index, 1, 0);
         }
     }
@@ -135,23 +141,20 @@ impl PathMap {
         self.touched.gaps()
     }
 
-    /// The pairs; their keys strictly rise in byte order.
+    /// Puts the pairs that wait in their places.
+    pub fn merge(&mut self)
+        ensures { self.new ≡ record self.old { waiting = 0 } }
+    {
+        merge(self.entries.as_mut_slice(), self.settled);
+        self.settled = self.entries.len();
+    }
+
+    /// The pairs, of which none waits; their keys strictly rise in byte order.
     pub fn entries(&self) -> &[SharedEntry]
+        requires { self.now.waiting ≡ 0 }
         ensures pairs { result.now ≡ self.now.pairs }
         ensures sorted { IsTrue (is_sorted text_cmp result.now) }
     {
         self.entries.as_slice()
-    }
-
-    // Where a path stands, or where it would stand.
-    fn place(&self, path: &[u8]) -> Result<usize, usize>
-        ensures found { IfOk result (λ index. index < length self.now.pairs) }
-        ensures here { IfOk result (HoldsAt (λ entry. text_cmp entry.0 path.now ≡ Equal) self.now.pairs) }
-        ensures within { IfErr result (λ index. index ≤ length self.now.pairs) }
-        ensures gap { IfErr result (IsPartitionPoint (λ entry. text_cmp entry.0 path.now ≡ Less) (λ entry. text_cmp entry.0 path.now ≡ Greater) self.now.pairs) }
-    {
-        self.entries
-            .as_slice()
-            .binary_search_by(|entry| entry.key().cmp(path))
     }
 }

@@ -164,6 +164,7 @@ impl Store {
         if next_time < self.time {
             return Err(Refusal::TimeBack);
         }
+        self.map.merge();
         let root = commit_map(&mut self.forest, &self.map, self.time)?;
         self.map.settle();
         self.time = next_time;
@@ -221,6 +222,7 @@ impl Store {
 // Commits the pairs of a map with a time: in the gaps in which it was touched, if they are known.
 fn commit_map(forest: &mut Forest, map: &PathMap, time: u64) -> Result<Root, AllocError>
     requires some { 0 < length map.now.pairs }
+    requires merged { map.now.waiting ≡ 0 }
     requires shares { Shares map.now.touched forest.old.last map.now.pairs }
     ensures root { IfOk result (λ root. root ≡ tree_root map.now.pairs) }
     ensures last { OnOk result (forest.new.last ≡ map.now.pairs) }

@@ -1,0 +1,592 @@
+-- Pairs that wait, merged with those in their places.
+use Rattle.std.proofs.Common.{◌≡◌, ℕ, suc, ◌+◌, ◌-◌, ◌<◌, ◌≤◌, Bool, true, false, nat_lt, [], ◌∷◌, ◌++◌, length, get_or, set, take, drop, refl, sym, ap, ap₂, ◌∙◌, subst, arith, inl, inr, is_lt, Less, Equal, Greater, Some, take-append-drop, length-append, length-drop}
+use Rattle.std.specs.Prelude.{⊤}
+use Rattle.std.proofs.lemmas.Bool.{cases_Bool, cond-true, cond-false, lt-ltb, le-ltb, false≢true}
+use Rattle.std.proofs.lemmas.List.{append_assoc, take_at, drop_at, length-take-le, get_or_default, take-take, drop_all, get_or-take, get_or-drop}
+use Rattle.std.specs.List.{HoldsAt, insert, remove}
+use Rattle.std.specs.FinMap.{is_sorted}
+use Rattle.ibc_ids.specs.Texts.{Text, text_cmp}
+use Rattle.ibc_ids.specs.Maps.{at, with, without}
+use Rattle.ibc_ids.proofs.Texts.{text_cmp_total, text_tied, text_ties, lt_is_less}
+use Rattle.ibc_merkle.specs.Tree.{Pairs}
+use Rattle.ibc_merkle.specs.Proofs.{is_below}
+use Rattle.ibc_merkle.proofs.Sorted.{AllBelow, AllAbove, before_is_below, behind_is_above, rising_from_sorted, rising-left, below_further, below-append, greater_from, less_from, at-none, at-behind, at-here}
+use Rattle.ibc_merkle.proofs.Edits.{with-here, without-here, with-gap, without-gap, again_is_sorted, between_is_sorted, middle_is_sorted, sorted_from_rising}
+use Rattle.ibc_merkle.proofs.SearchedPairs.{IsGap, parts_at, gap_is_below, gap_is_above}
+use Rattle.ibc_forest.specs.Leaves.{from_key}
+use Rattle.ibc_path_store.specs.GapChanges.{IsReplaced}
+use Rattle.ibc_path_store.specs.Waiting.{up_to_key, merged, settled_pairs, AreRows, settled_without, turned_pairs, StandsAt, FitsAt}
+
+-- ---- pairs from a key on
+
+-- the first pair isn't below a key
+abbrev pub AtLeast : Text → Pairs → Type 0
+AtLeast key [] = ⊤
+AtLeast key (pair ∷ pairs) = is_below pair.0 key ≡ false
+
+pub from_above : (key : Text) (es : Pairs) → AllAbove key es → AtLeast key es
+from_above key [] h = tt
+from_above key (e ∷ es) h = ap is_lt (greater_from key e.0 h.0)
+
+pub from_itself : (key value : Text) (es : Pairs) → AtLeast key ((key, value) ∷ es)
+from_itself key value es = ap is_lt (text_ties key)
+
+-- what is below a key is below what isn't below it
+below_behind : (key next : Text) (es : Pairs) → is_below next key ≡ false → AllBelow key es → AllBelow next es
+below_behind key next es not below =
+    elim (text_cmp next key) as (λ o. text_cmp next key ≡ o → is_lt o ≡ false → AllBelow next es) [
+      | Less ↦ λ o e. absurd (false≢true (sym e))
+      | Equal ↦ λ o e. subst (λ k. AllBelow k es) (sym (text_tied next key o)) below
+      | Greater ↦ λ o e. below_further key next es (less_from next key o) below
+    ] refl not
+
+not_lower : (low key next : Text) → text_cmp low key ≡ Less → is_below next key ≡ false → is_below next low ≡ false
+not_lower low key next less not =
+    elim (cases_Bool (is_below next low)) [
+      | inl lower ↦ absurd (false≢true (sym not ∙ ap is_lt (text_cmp_total.trans next low key (lt_is_less _ lower) less)))
+      | inr other ↦ other
+    ]
+
+lower_from : (low key : Text) (es : Pairs) → text_cmp low key ≡ Less → AtLeast key es → AtLeast low es
+lower_from low key [] less from = tt
+lower_from low key (e ∷ es) less from = not_lower low key e.0 less from
+
+-- ---- parts at a key
+
+up_to_passed : (key : Text) (xs ys : Pairs) → AllBelow key xs → up_to_key key (xs ++ ys) ≡ xs ++ up_to_key key ys
+up_to_passed key [] ys below = refl
+up_to_passed key (x ∷ xs) ys below =
+    ap (λ (b : Bool). elim b as (λ _. Pairs) [ true ↦ x ∷ up_to_key key (xs ++ ys) | false ↦ [] ]) (ap is_lt below.0) ∙ ap (λ (es : Pairs). x ∷ es) (up_to_passed key xs ys below.1)
+
+from_passed : (key : Text) (xs ys : Pairs) → AllBelow key xs → from_key key (xs ++ ys) ≡ from_key key ys
+from_passed key [] ys below = refl
+from_passed key (x ∷ xs) ys below =
+    ap (λ (b : Bool). elim b as (λ _. Pairs) [ true ↦ from_key key (xs ++ ys) | false ↦ x ∷ (xs ++ ys) ]) (ap is_lt below.0) ∙ from_passed key xs ys below.1
+
+up_to_here : (key : Text) (es : Pairs) → AtLeast key es → up_to_key key es ≡ []
+up_to_here key [] from = refl
+up_to_here key (e ∷ es) from = ap (λ (b : Bool). elim b as (λ _. Pairs) [ true ↦ e ∷ up_to_key key es | false ↦ [] ]) from
+
+from_here : (key : Text) (es : Pairs) → AtLeast key es → from_key key es ≡ es
+from_here key [] from = refl
+from_here key (e ∷ es) from = ap (λ (b : Bool). elim b as (λ _. Pairs) [ true ↦ from_key key es | false ↦ e ∷ es ]) from
+
+up_to_lower : (low key : Text) (xs ys : Pairs) → text_cmp low key ≡ Less → AtLeast key ys → up_to_key low (xs ++ ys) ≡ up_to_key low xs
+up_to_lower low key [] ys less from = up_to_here low ys (lower_from low key ys less from)
+up_to_lower low key (x ∷ xs) ys less from =
+    ap (λ (es : Pairs). elim (is_below x.0 low) as (λ _. Pairs) [ true ↦ x ∷ es | false ↦ [] ]) (up_to_lower low key xs ys less from)
+
+from_lower : (low key : Text) (xs ys : Pairs) → text_cmp low key ≡ Less → AtLeast key ys → from_key low (xs ++ ys) ≡ from_key low xs ++ ys
+from_lower low key [] ys less from = from_here low ys (lower_from low key ys less from)
+from_lower low key (x ∷ xs) ys less from =
+    elim (is_below x.0 low) as (λ b. (elim b as (λ _. Pairs) [ true ↦ from_key low (xs ++ ys) | false ↦ x ∷ (xs ++ ys) ]) ≡ (elim b as (λ _. Pairs) [ true ↦ from_key low xs | false ↦ x ∷ xs ]) ++ ys) [
+      | true ↦ from_lower low key xs ys less from
+      | false ↦ refl
+    ]
+
+still_below : (low key : Text) (xs : Pairs) → AllBelow key xs → AllBelow key (from_key low xs)
+still_below low key [] below = tt
+still_below low key (x ∷ xs) below =
+    elim (is_below x.0 low) as (λ b. AllBelow key (elim b as (λ _. Pairs) [ true ↦ from_key low xs | false ↦ x ∷ xs ])) [
+      | true ↦ still_below low key xs below.1
+      | false ↦ below
+    ]
+
+front_below : (low key : Text) (xs : Pairs) → AllBelow key xs → AllBelow key (up_to_key low xs)
+front_below low key [] below = tt
+front_below low key (x ∷ xs) below =
+    elim (is_below x.0 low) as (λ b. AllBelow key (elim b as (λ _. Pairs) [ true ↦ x ∷ up_to_key low xs | false ↦ [] ])) [
+      | true ↦ (below.0, front_below low key xs below.1)
+      | false ↦ tt
+    ]
+
+still_above : (low key : Text) (xs : Pairs) → AllAbove key xs → AllAbove key (from_key low xs)
+still_above low key [] above = tt
+still_above low key (x ∷ xs) above =
+    elim (is_below x.0 low) as (λ b. AllAbove key (elim b as (λ _. Pairs) [ true ↦ from_key low xs | false ↦ x ∷ xs ])) [
+      | true ↦ still_above low key xs above.1
+      | false ↦ above
+    ]
+
+front_above : (low key : Text) (xs : Pairs) → AllAbove key xs → AllAbove key (up_to_key low xs)
+front_above low key [] above = tt
+front_above low key (x ∷ xs) above =
+    elim (is_below x.0 low) as (λ b. AllAbove key (elim b as (λ _. Pairs) [ true ↦ x ∷ up_to_key low xs | false ↦ [] ])) [
+      | true ↦ (above.0, front_above low key xs above.1)
+      | false ↦ tt
+    ]
+
+above-append : (key : Text) (xs ys : Pairs) → AllAbove key xs → AllAbove key ys → AllAbove key (xs ++ ys)
+above-append key [] ys f g = g
+above-append key (x ∷ xs) ys f g = (f.0, above-append key xs ys f.1 g)
+
+length-parts : (key : Text) (xs : Pairs) → length (up_to_key key xs) + length (from_key key xs) ≡ length xs
+length-parts key [] = refl
+length-parts key (x ∷ xs) =
+    elim (is_below x.0 key) as (λ b. length (elim b as (λ _. Pairs) [ true ↦ x ∷ up_to_key key xs | false ↦ [] ]) + length (elim b as (λ _. Pairs) [ true ↦ from_key key xs | false ↦ x ∷ xs ]) ≡ length (x ∷ xs)) [
+      | true ↦ let rest = length-parts key xs in omega arith
+      | false ↦ omega arith
+    ]
+
+-- ---- merged pairs
+
+pub length-merged : (pairs waiting : Pairs) → length (merged pairs waiting) ≡ length pairs + length waiting
+length-merged pairs [] = omega arith
+length-merged pairs (next ∷ waiting) =
+    let all = length-append (up_to_key next.0 pairs) (next ∷ merged (from_key next.0 pairs) waiting) in
+    let rest = length-merged (from_key next.0 pairs) waiting in
+    let parts = length-parts next.0 pairs in
+    omega arith
+
+pub merged_below : (key : Text) (pairs waiting : Pairs) → AllBelow key pairs → AllBelow key waiting → AllBelow key (merged pairs waiting)
+merged_below key pairs [] below wait = below
+merged_below key pairs (next ∷ waiting) below wait =
+    below-append key (up_to_key next.0 pairs) (next ∷ merged (from_key next.0 pairs) waiting) (front_below next.0 key pairs below)
+    (wait.0, merged_below key (from_key next.0 pairs) waiting (still_below next.0 key pairs below) wait.1)
+
+pub merged_above : (key : Text) (pairs waiting : Pairs) → AllAbove key pairs → AllAbove key waiting → AllAbove key (merged pairs waiting)
+merged_above key pairs [] above wait = above
+merged_above key pairs (next ∷ waiting) above wait =
+    above-append key (up_to_key next.0 pairs) (next ∷ merged (from_key next.0 pairs) waiting) (front_above next.0 key pairs above)
+    (wait.0, merged_above key (from_key next.0 pairs) waiting (still_above next.0 key pairs above) wait.1)
+
+cut_front : (key : Text) (low high waiting : Pairs) → AllBelow key low → AtLeast key waiting → merged (low ++ high) waiting ≡ low ++ merged high waiting
+cut_front key low high [] below from = refl
+cut_front key low high (next ∷ waiting) below from =
+    let all = below_behind key next.0 low from below in
+    ap₂ (λ (xs ys : Pairs). xs ++ next ∷ merged ys waiting) (up_to_passed next.0 low high all) (from_passed next.0 low high all)
+    ∙ append_assoc low (up_to_key next.0 high) (next ∷ merged (from_key next.0 high) waiting)
+
+-- both rows are cut at a key, and so are the merged pairs
+pub cut_merged : (key : Text) (low high early late : Pairs) → AllBelow key low → AtLeast key high → AllBelow key early → AtLeast key late
+    → merged (low ++ high) (early ++ late) ≡ merged low early ++ merged high late
+cut_merged key low high [] late below from before behind = cut_front key low high late below behind
+cut_merged key low high (next ∷ early) late below from before behind =
+    ap₂ (λ (xs ys : Pairs). xs ++ next ∷ merged ys (early ++ late)) (up_to_lower next.0 key low high before.0 from) (from_lower next.0 key low high before.0 from)
+    ∙ ap (λ (es : Pairs). up_to_key next.0 low ++ next ∷ es) (cut_merged key (from_key next.0 low) high early late (still_below next.0 key low below) from before.1 behind)
+    ∙ sym (append_assoc (up_to_key next.0 low) (next ∷ merged (from_key next.0 low) early) (merged high late))
+
+-- the first pair of all is the first in its place, or the first that waits
+pub first_placed : (x : Text × Text) (pairs waiting : Pairs) → AllAbove x.0 waiting → merged (x ∷ pairs) waiting ≡ x ∷ merged pairs waiting
+first_placed x pairs [] above = refl
+first_placed x pairs (next ∷ waiting) above =
+    ap₂ (λ (xs ys : Pairs). xs ++ next ∷ merged ys waiting) (ap (λ (b : Bool). elim b as (λ _. Pairs) [ true ↦ x ∷ up_to_key next.0 pairs | false ↦ [] ]) (ap is_lt above.0))
+    (ap (λ (b : Bool). elim b as (λ _. Pairs) [ true ↦ from_key next.0 pairs | false ↦ x ∷ pairs ]) (ap is_lt above.0))
+
+pub first_waiting : (x : Text × Text) (pairs waiting : Pairs) → AtLeast x.0 pairs → merged pairs (x ∷ waiting) ≡ x ∷ merged pairs waiting
+first_waiting x pairs waiting from =
+    ap₂ (λ (xs ys : Pairs). xs ++ x ∷ merged ys waiting) (up_to_here x.0 pairs from) (from_here x.0 pairs from)
+
+-- ---- rows
+
+pub pairs_cut : (xs ys : Pairs) (n : ℕ) → length xs ≡ n → settled_pairs n (xs ++ ys) ≡ merged xs ys
+pairs_cut xs ys n counted = ap₂ merged (take_at xs ys n counted) (drop_at xs ys n counted)
+
+pub rows_cut : (xs ys all : Pairs) (n : ℕ) → length xs ≡ n → is_sorted text_cmp xs ≡ true → is_sorted text_cmp ys ≡ true → merged xs ys ≡ all → is_sorted text_cmp all ≡ true
+    → AreRows n (xs ++ ys)
+rows_cut xs ys all n counted placed waiting is sorted =
+    let both = length-append xs ys in
+    record {
+      within = omega arith;
+      placed = ap (is_sorted text_cmp) (take_at xs ys n counted) ∙ placed;
+      waiting = ap (is_sorted text_cmp) (drop_at xs ys n counted) ∙ waiting;
+      sorted = ap (is_sorted text_cmp) (pairs_cut xs ys n counted ∙ is) ∙ sorted;
+    }
+
+-- pairs between two parts are replaced by others
+replaced : (low out new high : Pairs) (i gone come : ℕ) → length low ≡ i → length out ≡ gone → length new ≡ come
+    → IsReplaced (low ++ (out ++ high)) (low ++ (new ++ high)) i gone come
+replaced low out new high i gone come at_i out_gone new_come =
+    let a = length-append low (out ++ high) in
+    let b = length-append out high in
+    let c = length-append low (new ++ high) in
+    let d = length-append new high in
+    let e = length-append low out in
+    let f = length-append low new in
+    record {
+      there = omega arith;
+      counted = omega arith;
+      front = take_at low (new ++ high) i at_i ∙ sym (take_at low (out ++ high) i at_i);
+      back =
+          ap (drop (i + come)) (sym (append_assoc low new high))
+          ∙ drop_at (low ++ new) high (i + come) (let g : length (low ++ new) ≡ i + come = omega arith in g)
+          ∙ sym (ap (drop (i + gone)) (sym (append_assoc low out high)) ∙ drop_at (low ++ out) high (i + gone) (let g : length (low ++ out) ≡ i + gone = omega arith in g));
+    }
+
+set_front : (xs : Pairs) (y z : Text × Text) (ys : Pairs) (n : ℕ) → length xs ≡ n → set (xs ++ y ∷ ys) n z ≡ xs ++ z ∷ ys
+set_front [] y z ys n counted = ap (λ k. set (y ∷ ys) k z) (sym counted)
+set_front (x ∷ xs) y z ys n counted = ap (λ k. set (x ∷ (xs ++ y ∷ ys)) k z) (sym counted) ∙ ap (λ (es : Pairs). x ∷ es) (set_front xs y z ys (length xs) refl)
+
+drop_past : (xs : Pairs) (y : Text × Text) (ys : Pairs) (n : ℕ) → length xs ≡ n → drop (suc n) (xs ++ y ∷ ys) ≡ ys
+drop_past xs y ys n counted =
+    let a = length-append xs (y ∷ []) in
+    ap (drop (suc n)) (sym (append_assoc xs (y ∷ []) ys)) ∙ drop_at (xs ++ y ∷ []) ys (suc n) (let g : length (xs ++ y ∷ []) ≡ suc n = omega arith in g)
+
+got_front : (xs : Pairs) (y d : Text × Text) (ys : Pairs) (n : ℕ) → length xs ≡ n → get_or (xs ++ y ∷ ys) n d ≡ y
+got_front [] y d ys n counted = ap (λ k. get_or (y ∷ ys) k d) (sym counted)
+got_front (x ∷ xs) y d ys n counted = ap (λ k. get_or (x ∷ (xs ++ y ∷ ys)) k d) (sym counted) ∙ got_front xs y d ys (length xs) refl
+
+-- a pair in a row: what comes of the pairs where it has another value, and where it is gone
+stands : (settled : ℕ) (key old : Text) (row index : ℕ) (front back low high : Pairs) → length front ≡ row → length low ≡ index → AllBelow key low
+    → ((value : Text) → settled_pairs settled (front ++ (key, value) ∷ back) ≡ low ++ (key, value) ∷ high)
+    → ((value : Text) → AreRows settled (front ++ (key, value) ∷ back))
+    → settled_pairs (settled_without settled row) (front ++ back) ≡ low ++ high
+    → AreRows (settled_without settled row) (front ++ back)
+    → StandsAt settled (front ++ (key, old) ∷ back) key row index
+stands settled key old row index front back low high counted placed below are rows without_are without_rows =
+    let all = length-append front ((key, old) ∷ back) in
+    let set_is : (value : Text) → set (front ++ (key, old) ∷ back) row (key, value) ≡ front ++ (key, value) ∷ back = λ value. set_front front (key, old) (key, value) back row counted in
+    let removed_is : remove (front ++ (key, old) ∷ back) row ≡ front ++ back =
+    ap₂ (λ (xs ys : Pairs). xs ++ ys) (take_at front ((key, old) ∷ back) row counted) (drop_past front (key, old) back row counted)
+    in
+    let set_are : (value : Text) → settled_pairs settled (set (front ++ (key, old) ∷ back) row (key, value)) ≡ low ++ (key, value) ∷ high =
+    λ value. ap (settled_pairs settled) (set_is value) ∙ are value
+    in
+    let removed_are : settled_pairs (settled_without settled row) (remove (front ++ (key, old) ∷ back) row) ≡ low ++ high =
+    ap (settled_pairs (settled_without settled row)) removed_is ∙ without_are
+    in
+    record {
+      there = omega arith;
+      found =
+          λ d. ap (at text_cmp key) (are old) ∙ at-behind key low ((key, old) ∷ high) below ∙ at-here (key, old) high
+          ∙ ap (λ (pair : Text × Text). Some pair.1) (sym (got_front front (key, old) d back row counted));
+      set = λ value. set_are value ∙ sym (ap (with text_cmp key value) (are old) ∙ with-here low (key, old) high key value below (text_ties key));
+      set_rows = λ value. subst (AreRows settled) (sym (set_is value)) (rows value);
+      set_replaced =
+          λ value. subst (λ (after : Pairs). IsReplaced (settled_pairs settled (front ++ (key, old) ∷ back)) after index 1 1) (sym (set_are value))
+          (subst (λ (before : Pairs). IsReplaced before (low ++ (key, value) ∷ high) index 1 1) (sym (are old)) (replaced low ((key, old) ∷ []) ((key, value) ∷ []) high index 1 1 placed refl refl));
+      removed = removed_are ∙ sym (ap (without text_cmp key) (are old) ∙ without-here low (key, old) high key below (text_ties key));
+      removed_rows = subst (AreRows (settled_without settled row)) (sym removed_is) without_rows;
+      removed_replaced =
+          subst (λ (after : Pairs). IsReplaced (settled_pairs settled (front ++ (key, old) ∷ back)) after index 1 0) (sym removed_are)
+          (subst (λ (before : Pairs). IsReplaced before (low ++ high) index 1 0) (sym (are old)) (replaced low ((key, old) ∷ []) [] high index 1 0 placed refl refl));
+    }
+
+-- a pair that waits
+pub stands_waiting : (low high early late : Pairs) (key old : Text) (settled : ℕ) → length (low ++ high) ≡ settled → AllBelow key low → AtLeast key high → AllBelow key early → AllAbove key late
+    → AreRows settled ((low ++ high) ++ (early ++ (key, old) ∷ late))
+    → StandsAt settled ((low ++ high) ++ (early ++ (key, old) ∷ late)) key (settled + length early) (length low + length early)
+stands_waiting low high early late key old settled counted below from before above rows =
+    let pairs : Pairs = low ++ high in
+    let both = length-append pairs early in
+    let first : Pairs = merged low early in
+    let rest : Pairs = merged high late in
+    let front : Pairs = pairs ++ early in
+    let merged_with : (value : Text) → merged pairs (early ++ (key, value) ∷ late) ≡ first ++ (key, value) ∷ rest =
+    λ value. cut_merged key low high early ((key, value) ∷ late) below from before (from_itself key value late)
+    ∙ ap (λ (es : Pairs). first ++ es) (first_waiting (key, value) high late from)
+    in
+    let merged_without : merged pairs (early ++ late) ≡ first ++ rest = cut_merged key low high early late below from before (from_above key late above) in
+    let placed : is_sorted text_cmp pairs ≡ true = sym (ap (is_sorted text_cmp) (take_at pairs (early ++ (key, old) ∷ late) settled counted)) ∙ rows.placed in
+    let waits : is_sorted text_cmp (early ++ (key, old) ∷ late) ≡ true =
+    sym (ap (is_sorted text_cmp) (drop_at pairs (early ++ (key, old) ∷ late) settled counted)) ∙ rows.waiting
+    in
+    let sorted : is_sorted text_cmp (first ++ (key, old) ∷ rest) ≡ true =
+    sym (ap (is_sorted text_cmp) (pairs_cut pairs (early ++ (key, old) ∷ late) settled counted ∙ merged_with old)) ∙ rows.sorted
+    in
+    let same : settled_without settled (settled + length early) ≡ settled = cond-false (nat_lt (settled + length early) settled) _ _ (le-ltb (settled + length early) settled (omega arith)) in
+    let joins : (es : Pairs) → front ++ es ≡ pairs ++ (early ++ es) = λ es. append_assoc pairs early es in
+    subst (λ (items : Pairs). StandsAt settled items key (settled + length early) (length low + length early)) (joins ((key, old) ∷ late))
+    (stands settled key old (settled + length early) (length low + length early) front late first rest (omega arith) (length-merged low early) (merged_below key low early below before)
+    (λ value. ap (settled_pairs settled) (joins ((key, value) ∷ late)) ∙ pairs_cut pairs (early ++ (key, value) ∷ late) settled counted ∙ merged_with value)
+    (λ value. subst (AreRows settled) (sym (joins ((key, value) ∷ late)))
+    (rows_cut pairs (early ++ (key, value) ∷ late) (first ++ (key, value) ∷ rest) settled counted placed (again_is_sorted early (key, old) late value waits) (merged_with value)
+    (again_is_sorted first (key, old) rest value sorted)))
+    (ap₂ settled_pairs same (joins late) ∙ pairs_cut pairs (early ++ late) settled counted ∙ merged_without)
+    (subst (λ n. AreRows n (front ++ late)) (sym same) (subst (AreRows settled) (sym (joins late))
+    (rows_cut pairs (early ++ late) (first ++ rest) settled counted placed (middle_is_sorted early (key, old) late waits) merged_without (middle_is_sorted first (key, old) rest sorted)))))
+
+-- a pair in its place
+pub stands_placed : (low high early late : Pairs) (key old : Text) (settled : ℕ) → length (low ++ (key, old) ∷ high) ≡ settled → AllBelow key low → AllBelow key early → AllAbove key late
+    → AreRows settled ((low ++ (key, old) ∷ high) ++ (early ++ late))
+    → StandsAt settled ((low ++ (key, old) ∷ high) ++ (early ++ late)) key (length low) (length low + length early)
+stands_placed low high early late key old settled counted below before above rows =
+    let waiting : Pairs = early ++ late in
+    let pairs : Text → Pairs = λ value. low ++ (key, value) ∷ high in
+    let count : (value : Text) → length (pairs value) ≡ length low + suc (length high) = λ value. length-append low ((key, value) ∷ high) in
+    let counts : (value : Text) → length (pairs value) ≡ settled = λ value. count value ∙ sym (count old) ∙ counted in
+    let first : Pairs = merged low early in
+    let rest : Pairs = merged high late in
+    let from : AtLeast key late = from_above key late above in
+    let merged_with : (value : Text) → merged (pairs value) waiting ≡ first ++ (key, value) ∷ rest =
+    λ value. cut_merged key low ((key, value) ∷ high) early late below (from_itself key value high) before from
+    ∙ ap (λ (es : Pairs). first ++ es) (first_placed (key, value) high late above)
+    in
+    let placed : is_sorted text_cmp (pairs old) ≡ true = sym (ap (is_sorted text_cmp) (take_at (pairs old) waiting settled counted)) ∙ rows.placed in
+    let waits : is_sorted text_cmp waiting ≡ true = sym (ap (is_sorted text_cmp) (drop_at (pairs old) waiting settled counted)) ∙ rows.waiting in
+    let sorted : is_sorted text_cmp (first ++ (key, old) ∷ rest) ≡ true = sym (ap (is_sorted text_cmp) (pairs_cut (pairs old) waiting settled counted ∙ merged_with old)) ∙ rows.sorted in
+    let high_from : AtLeast key high = from_above key high (behind_is_above low (key, old) high (rising_from_sorted _ placed)) in
+    let merged_without : merged (low ++ high) waiting ≡ first ++ rest = cut_merged key low high early late below high_from before from in
+    let fewer : length (low ++ high) ≡ settled - 1 = let a = length-append low high in let b = count old in omega arith in
+    let same : settled_without settled (length low) ≡ settled - 1 = cond-true (nat_lt (length low) settled) _ _ (lt-ltb (length low) settled (let b = count old in omega arith)) in
+    let joins : (value : Text) → low ++ (key, value) ∷ (high ++ waiting) ≡ pairs value ++ waiting = λ value. sym (append_assoc low ((key, value) ∷ high) waiting) in
+    let joined : low ++ (high ++ waiting) ≡ (low ++ high) ++ waiting = sym (append_assoc low high waiting) in
+    subst (λ (items : Pairs). StandsAt settled items key (length low) (length low + length early)) (joins old)
+    (stands settled key old (length low) (length low + length early) low (high ++ waiting) first rest refl (length-merged low early) (merged_below key low early below before)
+    (λ value. ap (settled_pairs settled) (joins value) ∙ pairs_cut (pairs value) waiting settled (counts value) ∙ merged_with value)
+    (λ value. subst (AreRows settled) (sym (joins value))
+    (rows_cut (pairs value) waiting (first ++ (key, value) ∷ rest) settled (counts value) (again_is_sorted low (key, old) high value placed) waits (merged_with value)
+    (again_is_sorted first (key, old) rest value sorted)))
+    (ap₂ settled_pairs same joined ∙ pairs_cut (low ++ high) waiting (settled - 1) fewer ∙ merged_without)
+    (subst (λ n. AreRows n (low ++ (high ++ waiting))) (sym same) (subst (AreRows (settled - 1)) (sym joined)
+    (rows_cut (low ++ high) waiting (first ++ rest) (settled - 1) fewer (middle_is_sorted low (key, old) high placed) waits merged_without (middle_is_sorted first (key, old) rest sorted)))))
+
+-- no pair
+pub fits : (low high early late : Pairs) (key : Text) (settled : ℕ) → length (low ++ high) ≡ settled → AllBelow key low → AllAbove key high → AllBelow key early → AllAbove key late
+    → AreRows settled ((low ++ high) ++ (early ++ late))
+    → FitsAt settled ((low ++ high) ++ (early ++ late)) key (settled + length early) (length low + length early)
+fits low high early late key settled counted below higher before above rows =
+    let pairs : Pairs = low ++ high in
+    let both = length-append pairs early in
+    let all = length-append pairs (early ++ late) in
+    let some = length-append early late in
+    let first : Pairs = merged low early in
+    let rest : Pairs = merged high late in
+    let from : AtLeast key high = from_above key high higher in
+    let lower : AllBelow key first = merged_below key low early below before in
+    let upper : AllAbove key rest = merged_above key high late higher above in
+    let items : Pairs = pairs ++ (early ++ late) in
+    let row : ℕ = settled + length early in
+    let index : ℕ = length low + length early in
+    let are : settled_pairs settled items ≡ first ++ rest = pairs_cut pairs (early ++ late) settled counted ∙ cut_merged key low high early late below from before (from_above key late above) in
+    let with_it : Text → Pairs = λ value. pairs ++ (early ++ (key, value) ∷ late) in
+    let merged_with : (value : Text) → merged pairs (early ++ (key, value) ∷ late) ≡ first ++ (key, value) ∷ rest =
+    λ value. cut_merged key low high early ((key, value) ∷ late) below from before (from_itself key value late)
+    ∙ ap (λ (es : Pairs). first ++ es) (first_waiting (key, value) high late from)
+    in
+    let front : length (pairs ++ early) ≡ row = omega arith in
+    let inserted_is : (value : Text) → insert items row (key, value) ≡ with_it value =
+    λ value. ap (λ (es : Pairs). insert es row (key, value)) (sym (append_assoc pairs early late))
+    ∙ ap₂ (λ (xs ys : Pairs). xs ++ (key, value) ∷ ys) (take_at (pairs ++ early) late row front) (drop_at (pairs ++ early) late row front)
+    ∙ append_assoc pairs early ((key, value) ∷ late)
+    in
+    let inserted_are : (value : Text) → settled_pairs settled (insert items row (key, value)) ≡ first ++ (key, value) ∷ rest =
+    λ value. ap (settled_pairs settled) (inserted_is value) ∙ pairs_cut pairs (early ++ (key, value) ∷ late) settled counted ∙ merged_with value
+    in
+    let placed : is_sorted text_cmp pairs ≡ true = sym (ap (is_sorted text_cmp) (take_at pairs (early ++ late) settled counted)) ∙ rows.placed in
+    let waits : is_sorted text_cmp (early ++ late) ≡ true = sym (ap (is_sorted text_cmp) (drop_at pairs (early ++ late) settled counted)) ∙ rows.waiting in
+    let sorted : is_sorted text_cmp (first ++ rest) ≡ true = sym (ap (is_sorted text_cmp) are) ∙ rows.sorted in
+    record {
+      there = omega arith;
+      none = ap (at text_cmp key) are ∙ at-behind key first rest lower ∙ at-none key rest upper;
+      without_it = are ∙ sym (ap (without text_cmp key) are ∙ without-gap first rest key lower upper);
+      inserted = λ value. inserted_are value ∙ sym (ap (with text_cmp key value) are ∙ with-gap first rest key value lower upper);
+      inserted_rows =
+          λ value. subst (AreRows settled) (sym (inserted_is value))
+          (rows_cut pairs (early ++ (key, value) ∷ late) (first ++ (key, value) ∷ rest) settled counted placed (between_is_sorted early late key value waits before above) (merged_with value)
+          (between_is_sorted first rest key value sorted lower upper));
+      inserted_replaced =
+          λ value. subst (λ (after : Pairs). IsReplaced (settled_pairs settled items) after index 0 1) (sym (inserted_are value))
+          (subst (λ (pairs : Pairs). IsReplaced pairs (first ++ (key, value) ∷ rest) index 0 1) (sym are) (replaced first [] ((key, value) ∷ []) rest index 0 1 (length-merged low early) refl refl));
+    }
+
+-- ---- what a search of a row says
+
+pub record Found (row : Pairs) (key : Text) (i : ℕ) : Type 0 where
+  pub low : Pairs
+  pub high : Pairs
+  pub old : Text
+  pub parts : row ≡ low ++ (key, old) ∷ high
+  pub counted : length low ≡ i
+  pub below : AllBelow key low
+  pub above : AllAbove key high
+
+pub record Missed (row : Pairs) (key : Text) (i : ℕ) : Type 0 where
+  pub low : Pairs
+  pub high : Pairs
+  pub parts : row ≡ low ++ high
+  pub counted : length low ≡ i
+  pub below : AllBelow key low
+  pub above : AllAbove key high
+
+pub record Cut (row : Pairs) (key : Text) (i : ℕ) : Type 0 where
+  pub low : Pairs
+  pub high : Pairs
+  pub parts : row ≡ low ++ high
+  pub counted : length low ≡ i
+  pub below : AllBelow key low
+  pub from : AtLeast key high
+
+pub found_at : (row : Pairs) (key : Text) (i : ℕ) → is_sorted text_cmp row ≡ true → i < length row → HoldsAt (λ (e : Text × Text). text_cmp e.0 key ≡ Equal) row i → Found row key i
+found_at row key i sorted l equal =
+    let x = get_or row i ([], []) in
+    let same : x.0 ≡ key = text_tied x.0 key (equal ([], [])) in
+    let low : Pairs = take i row in
+    let high : Pairs = drop (suc i) row in
+    let parts : row ≡ low ++ (key, x.1) ∷ high = parts_at row i x l (get_or_default row i ([], []) x l) ∙ ap (λ (k : Text). low ++ (k, x.1) ∷ high) same in
+    let rising = rising_from_sorted (low ++ (key, x.1) ∷ high) (sym (ap (is_sorted text_cmp) parts) ∙ sorted) in
+    record {
+      low = low;
+      high = high;
+      old = x.1;
+      parts = parts;
+      counted = length-take-le i row (omega arith);
+      below = before_is_below low (key, x.1) high rising;
+      above = behind_is_above low (key, x.1) high rising;
+    }
+
+pub missed_at : (row : Pairs) (key : Text) (i : ℕ) → i ≤ length row → IsGap row key i → Missed row key i
+missed_at row key i l gap =
+    record {
+      low = take i row;
+      high = drop i row;
+      parts = sym (take-append-drop i row);
+      counted = length-take-le i row l;
+      below = gap_is_below row key i l gap;
+      above = gap_is_above row key i gap;
+    }
+
+pub cut_found : (row : Pairs) (key : Text) (i : ℕ) → Found row key i → Cut row key i
+cut_found row key i found =
+    record {
+      low = found.low;
+      high = (key, found.old) ∷ found.high;
+      parts = found.parts;
+      counted = found.counted;
+      below = found.below;
+      from = from_itself key found.old found.high;
+    }
+
+pub cut_missed : (row : Pairs) (key : Text) (i : ℕ) → Missed row key i → Cut row key i
+cut_missed row key i missed =
+    record {
+      low = missed.low;
+      high = missed.high;
+      parts = missed.parts;
+      counted = missed.counted;
+      below = missed.below;
+      from = from_above key missed.high missed.above;
+    }
+
+pub finds_waiting : (settled : ℕ) (items : Pairs) (key : Text) (i j : ℕ) → AreRows settled items → Cut (take settled items) key i → Found (drop settled items) key j
+    → StandsAt settled items key (settled + j) (i + j)
+finds_waiting settled items key i j rows cut found =
+    let all : items ≡ (cut.low ++ cut.high) ++ (found.low ++ (key, found.old) ∷ found.high) = sym (take-append-drop settled items) ∙ ap₂ (λ (xs ys : Pairs). xs ++ ys) cut.parts found.parts in
+    let counted : length (cut.low ++ cut.high) ≡ settled = sym (ap length cut.parts) ∙ length-take-le settled items rows.within in
+    subst (λ (its : Pairs). StandsAt settled its key (settled + j) (i + j)) (sym all)
+    (subst (λ n. StandsAt settled ((cut.low ++ cut.high) ++ (found.low ++ (key, found.old) ∷ found.high)) key (settled + j) (n + j)) cut.counted
+    (subst (λ n. StandsAt settled ((cut.low ++ cut.high) ++ (found.low ++ (key, found.old) ∷ found.high)) key (settled + n) (length cut.low + n)) found.counted
+    (stands_waiting cut.low cut.high found.low found.high key found.old settled counted cut.below cut.from found.below found.above (subst (AreRows settled) all rows))))
+
+pub finds_placed : (settled : ℕ) (items : Pairs) (key : Text) (i j : ℕ) → AreRows settled items → Found (take settled items) key i → Missed (drop settled items) key j
+    → StandsAt settled items key i (i + j)
+finds_placed settled items key i j rows found missed =
+    let all : items ≡ (found.low ++ (key, found.old) ∷ found.high) ++ (missed.low ++ missed.high) = sym (take-append-drop settled items) ∙ ap₂ (λ (xs ys : Pairs). xs ++ ys) found.parts missed.parts in
+    let counted : length (found.low ++ (key, found.old) ∷ found.high) ≡ settled = sym (ap length found.parts) ∙ length-take-le settled items rows.within in
+    subst (λ (its : Pairs). StandsAt settled its key i (i + j)) (sym all)
+    (subst (λ n. StandsAt settled ((found.low ++ (key, found.old) ∷ found.high) ++ (missed.low ++ missed.high)) key i (i + n)) missed.counted
+    (subst (λ n. StandsAt settled ((found.low ++ (key, found.old) ∷ found.high) ++ (missed.low ++ missed.high)) key n (n + length missed.low)) found.counted
+    (stands_placed found.low found.high missed.low missed.high key found.old settled counted found.below missed.below missed.above (subst (AreRows settled) all rows))))
+
+pub finds_none : (settled : ℕ) (items : Pairs) (key : Text) (i j : ℕ) → AreRows settled items → Missed (take settled items) key i → Missed (drop settled items) key j
+    → FitsAt settled items key (settled + j) (i + j)
+finds_none settled items key i j rows placed missed =
+    let all : items ≡ (placed.low ++ placed.high) ++ (missed.low ++ missed.high) = sym (take-append-drop settled items) ∙ ap₂ (λ (xs ys : Pairs). xs ++ ys) placed.parts missed.parts in
+    let counted : length (placed.low ++ placed.high) ≡ settled = sym (ap length placed.parts) ∙ length-take-le settled items rows.within in
+    subst (λ (its : Pairs). FitsAt settled its key (settled + j) (i + j)) (sym all)
+    (subst (λ n. FitsAt settled ((placed.low ++ placed.high) ++ (missed.low ++ missed.high)) key (settled + j) (n + j)) placed.counted
+    (subst (λ n. FitsAt settled ((placed.low ++ placed.high) ++ (missed.low ++ missed.high)) key (settled + n) (length placed.low + n)) missed.counted
+    (fits placed.low placed.high missed.low missed.high key settled counted placed.below placed.above missed.below missed.above (subst (AreRows settled) all rows))))
+
+-- ---- the last pair that waits is put in its place
+
+sorted_left : (xs ys : Pairs) → is_sorted text_cmp (xs ++ ys) ≡ true → is_sorted text_cmp xs ≡ true
+sorted_left xs ys sorted = sorted_from_rising xs (rising-left xs ys (rising_from_sorted (xs ++ ys) sorted))
+
+-- the last pair that waits
+last_waits : (items : Pairs) (n w : ℕ) (e : Text × Text) → 0 < w → n + w ≤ length items → e ≡ get_or items (n + w - 1) e
+    → drop n (take (n + w) items) ≡ take (w - 1) (drop n (take (n + w) items)) ++ e ∷ []
+last_waits items n w e some there is =
+    let first : Pairs = take (n + w) items in
+    let row : Pairs = drop n first in
+    let a : length first ≡ n + w = length-take-le (n + w) items there in
+    let b : length row ≡ length first - n = length-drop n first in
+    let here : e ≡ get_or row (w - 1) e =
+    is
+    ∙ sym (get_or-take (n + w) items (n + w - 1) e (omega arith))
+    ∙ ap (λ k. get_or first k e) (let s : n + w - 1 ≡ n + (w - 1) = omega arith in s)
+    ∙ sym (get_or-drop n first (w - 1) e)
+    in
+    parts_at row (w - 1) e (omega arith) here ∙ ap (λ (es : Pairs). take (w - 1) row ++ e ∷ es) (drop_all (suc (w - 1)) row (omega arith))
+
+pub record Turned (items new : Pairs) (n w p : ℕ) : Type 0 where
+  pub rows : AreRows p (take (p + (w - 1)) new)
+  pub same : turned_pairs new p (w - 1) ≡ turned_pairs items n w
+
+-- in parts
+turned_parts : (low high early rest : Pairs) (e : Text × Text) (n w p : ℕ) → 0 < w → length low ≡ p → length (low ++ high) ≡ n → length (early ++ e ∷ []) ≡ w → AllBelow e.0 low → AtLeast e.0 high
+    → AreRows n ((low ++ high) ++ (early ++ e ∷ []))
+    → Turned (((low ++ high) ++ (early ++ e ∷ [])) ++ rest) (low ++ (((early ++ e ∷ []) ++ high) ++ rest)) n w p
+turned_parts low high early rest e n w p some counted pairs_counted waits_counted below from rows =
+    let first : Pairs = (low ++ high) ++ (early ++ e ∷ []) in
+    let new : Pairs = low ++ (((early ++ e ∷ []) ++ high) ++ rest) in
+    let behind : Pairs = e ∷ (high ++ rest) in
+    let a = length-append early (e ∷ []) in
+    let b = length-append low early in
+    let c = length-append (low ++ high) (early ++ e ∷ []) in
+    let front : length (low ++ early) ≡ p + (w - 1) = omega arith in
+    let all : length first ≡ n + w = omega arith in
+    let new_is : new ≡ (low ++ early) ++ behind =
+    ap (λ (es : Pairs). low ++ es) (append_assoc (early ++ e ∷ []) high rest ∙ append_assoc early (e ∷ []) (high ++ rest)) ∙ sym (append_assoc low early behind)
+    in
+    let taken : take (p + (w - 1)) new ≡ low ++ early = ap (take (p + (w - 1))) new_is ∙ take_at (low ++ early) behind (p + (w - 1)) front in
+    let left : drop (p + (w - 1)) new ≡ behind = ap (drop (p + (w - 1))) new_is ∙ drop_at (low ++ early) behind (p + (w - 1)) front in
+    let placed : is_sorted text_cmp (low ++ high) ≡ true = sym (ap (is_sorted text_cmp) (take_at (low ++ high) (early ++ e ∷ []) n pairs_counted)) ∙ rows.placed in
+    let waits : is_sorted text_cmp (early ++ e ∷ []) ≡ true = sym (ap (is_sorted text_cmp) (drop_at (low ++ high) (early ++ e ∷ []) n pairs_counted)) ∙ rows.waiting in
+    let before : AllBelow e.0 early = before_is_below early e [] (rising_from_sorted (early ++ e ∷ []) waits) in
+    let are : settled_pairs n first ≡ merged low early ++ e ∷ high =
+    pairs_cut (low ++ high) (early ++ e ∷ []) n pairs_counted
+    ∙ cut_merged e.0 low high early (e ∷ []) below from before (from_itself e.0 e.1 [])
+    ∙ ap (λ (es : Pairs). merged low early ++ es) (first_waiting e high [] from)
+    in
+    let sorted : is_sorted text_cmp (merged low early ++ e ∷ high) ≡ true = sym (ap (is_sorted text_cmp) are) ∙ rows.sorted in
+    record {
+      rows =
+          subst (AreRows p) (sym taken)
+          (rows_cut low early (merged low early) p counted (sorted_left low high placed) (sorted_left early (e ∷ []) waits) refl (sorted_left (merged low early) (e ∷ high) sorted));
+      same =
+          ap₂ (λ (xs ys : Pairs). settled_pairs p xs ++ ys) taken left
+          ∙ ap (λ (es : Pairs). es ++ behind) (pairs_cut low early p counted)
+          ∙ sym (append_assoc (merged low early) (e ∷ high) rest)
+          ∙ sym (ap (λ (es : Pairs). es ++ rest) are)
+          ∙ sym (ap₂ (λ (xs ys : Pairs). settled_pairs n xs ++ ys) (take_at first rest (n + w) all) (drop_at first rest (n + w) all));
+    }
+
+pub turned : (items rotated : Pairs) (n w p : ℕ) (e : Text × Text) → 0 < w → n + w ≤ length items → e ≡ get_or items (n + w - 1) e → Cut (take n items) e.0 p → AreRows n (take (n + w) items)
+    → rotated ≡ drop (n - p) (take (n + w - p) (drop p items)) ++ take (n - p) (take (n + w - p) (drop p items))
+    → Turned items (take p items ++ (rotated ++ drop (n + w - p) (drop p items))) n w p
+turned items rotated n w p e some there is cut rows turns =
+    let first : Pairs = take (n + w) items in
+    let rest : Pairs = drop (n + w) items in
+    let early : Pairs = take (w - 1) (drop n first) in
+    let low : Pairs = cut.low in
+    let high : Pairs = cut.high in
+    let waits : Pairs = early ++ e ∷ [] in
+    let a = length-append low high in
+    let pairs_counted : length (low ++ high) ≡ n = sym (ap length cut.parts) ∙ length-take-le n items (omega arith) in
+    let waits_are : drop n first ≡ waits = last_waits items n w e some there is in
+    let waits_counted : length waits ≡ w = let f = length-take-le (n + w) items there in sym (ap length waits_are) ∙ length-drop n first ∙ (let s : length first - n ≡ w = omega arith in s) in
+    let first_are : first ≡ (low ++ high) ++ waits =
+    sym (take-append-drop n first) ∙ ap₂ (λ (xs ys : Pairs). xs ++ ys) (take-take n (n + w) items (omega arith) ∙ cut.parts) waits_are
+    in
+    let are : items ≡ ((low ++ high) ++ waits) ++ rest = sym (take-append-drop (n + w) items) ∙ ap (λ (es : Pairs). es ++ rest) first_are in
+    let by_low : items ≡ low ++ ((high ++ waits) ++ rest) =
+    are ∙ ap (λ (es : Pairs). es ++ rest) (append_assoc low high waits) ∙ append_assoc low (high ++ waits) rest
+    in
+    let b = length-append high waits in
+    let middle_counted : length (high ++ waits) ≡ n + w - p = let c = cut.counted in omega arith in
+    let high_counted : length high ≡ n - p = let c = cut.counted in omega arith in
+    let front : take p items ≡ low = ap (take p) by_low ∙ take_at low ((high ++ waits) ++ rest) p cut.counted in
+    let back : drop p items ≡ (high ++ waits) ++ rest = ap (drop p) by_low ∙ drop_at low ((high ++ waits) ++ rest) p cut.counted in
+    let middle : take (n + w - p) (drop p items) ≡ high ++ waits = ap (take (n + w - p)) back ∙ take_at (high ++ waits) rest (n + w - p) middle_counted in
+    let left : drop (n + w - p) (drop p items) ≡ rest = ap (drop (n + w - p)) back ∙ drop_at (high ++ waits) rest (n + w - p) middle_counted in
+    let rotated_are : rotated ≡ waits ++ high =
+    turns
+    ∙ ap₂ (λ (xs ys : Pairs). xs ++ ys) (ap (drop (n - p)) middle ∙ drop_at high waits (n - p) high_counted) (ap (take (n - p)) middle ∙ take_at high waits (n - p) high_counted)
+    in
+    let new_are : take p items ++ (rotated ++ drop (n + w - p) (drop p items)) ≡ low ++ ((waits ++ high) ++ rest) =
+    ap₂ (λ (xs ys : Pairs). xs ++ ys) front (ap₂ (λ (xs ys : Pairs). xs ++ ys) rotated_are left)
+    in
+    subst (λ (xs : Pairs). Turned xs (take p items ++ (rotated ++ drop (n + w - p) (drop p items))) n w p) (sym are)
+    (subst (λ (xs : Pairs). Turned (((low ++ high) ++ waits) ++ rest) xs n w p) (sym new_are)
+    (turned_parts low high early rest e n w p some cut.counted pairs_counted waits_counted cut.below cut.from (subst (AreRows n) first_are rows)))
