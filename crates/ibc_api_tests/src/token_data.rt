@@ -18,7 +18,7 @@ const LISTED: &[u8] =
     br#"{"memo":"m","receiver":"bob","sender":"alice","tokens":[{"amount":"1","denom":"atom"}]}"#;
 
 // Texts that are no data of one token, by their spelling or amount.
-const NOT_ONE: [&[u8]; 19] = [
+const NOT_ONE: [&[u8]; 26] = [
     b"",
     b"null",
     br#"{"amount":"100", "denom":"atom","receiver":"bob","sender":"alice"}"#,
@@ -38,10 +38,17 @@ const NOT_ONE: [&[u8]; 19] = [
     br#"{"amount":"","denom":"atom","receiver":"bob","sender":"alice"}"#,
     br#"{"amount":7,"denom":"atom","receiver":"bob","sender":"alice"}"#,
     br#"{"amount":"340282366920938463463374607431768211456","denom":"atom","receiver":"bob","sender":"alice"}"#,
+    br#"{"amount":"100","denom":"atom","receiver":"bob","sender":"alice""#,
+    br#"{"amount":"100","denom":"atom","receiver":"bob","sender":"alice"#,
+    br#"{"amount":"100","denom":"atom","receiver":"bob","sender":"alice"},"#,
+    br#"{"amount":"100","denom":"atom","memo":"m""receiver":"bob","sender":"alice"}"#,
+    br#"{"amount":"100","denom":"atom","memo":"\"","receiver":"bob","sender":"alice"}"#,
+    br#"{"amount":"100","denon":"atom","receiver":"bob","sender":"alice"}"#,
+    br#"{"amount":"1e2","denom":"atom","receiver":"bob","sender":"alice"}"#,
 ];
 
 // Texts that are no data of several tokens.
-const NOT_SEVERAL: [&[u8]; 7] = [
+const NOT_SEVERAL: [&[u8]; 10] = [
     br#"{"receiver":"bob","sender":"alice","tokens":[]}"#,
     br#"{"receiver":"bob","sender":"alice","tokens":[{"amount":"7","denom":"gold"},{"amount":"100","denom":"atom"}]}"#,
     br#"{"receiver":"bob","sender":"alice","tokens":[{"amount":"7","denom":"gold"},{"amount":"7","denom":"gold"}]}"#,
@@ -49,6 +56,9 @@ const NOT_SEVERAL: [&[u8]; 7] = [
     br#"{"receiver":"bob","sender":"alice","tokens":{"amount":"7","denom":"gold"}}"#,
     br#"{"receiver":"bob","sender":"alice","tokens":[{"amount":"1","denom":"a"},{"amount":"1","denom":"b"},{"amount":"1","denom":"c"},{"amount":"1","denom":"d"},{"amount":"1","denom":"e"},{"amount":"1","denom":"f"},{"amount":"1","denom":"g"},{"amount":"1","denom":"h"},{"amount":"1","denom":"i"}]}"#,
     br#"{"amount":"100","denom":"atom","receiver":"bob","sender":"alice"}"#,
+    br#"{"receiver":"bob","sender":"alice","tokens":[{"amount":"100","denom":"atom"},]}"#,
+    br#"{"receiver":"bob","sender":"alice","tokens":[{"amount":"100","denom":"atom"}]} "#,
+    br#"{"receiver":"bob","sender":"alice","tokens":[{"amount":"100","denom":"atom"},{"amount":"07","denom":"gold"}]}"#,
 ];
 
 // What is read of a channel of this version, or none.

@@ -107,7 +107,7 @@ parties_pushed d old front one comma new receiver sender same_receiver same_send
 
 -- ---- the whole
 
-by_several : (several : Bool) (d : Data) → codes "{" ++ members_text several d ++ codes "}"
+pub by_several : (several : Bool) (d : Data) → codes "{" ++ members_text several d ++ codes "}"
     ≡ (if several then object (party_members d ++ tokens_member d.tokens ∷ []) else object (members_of_first d.tokens ++ party_members d))
 by_several true d = ap (λ t. codes "{" ++ t ++ codes "}") (list_joined d.receiver d.sender d.memo d.tokens)
 by_several false d = ap (λ t. codes "{" ++ t ++ codes "}") (first_joined d.receiver d.sender d.memo d.tokens)

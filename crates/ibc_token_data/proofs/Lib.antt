@@ -1,10 +1,7 @@
 pub mod Amounts
-pub mod PlainTexts
-pub mod Typed
-pub mod AsciiTexts
 pub mod Joined
-pub mod SpelledData
-pub mod Read
-pub mod JsonMembers
 pub mod PartialSums
 pub mod DenomAmounts
+pub mod Cuts
+pub mod Told
+pub mod Rows

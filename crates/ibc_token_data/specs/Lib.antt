@@ -1,4 +1,3 @@
 pub mod AbstractData
-pub mod Json
 pub mod Spelling
-pub mod Members
+pub mod Cutting

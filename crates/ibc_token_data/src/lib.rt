@@ -1,9 +1,9 @@
 //! The data of a packet of tokens as its one JSON spelling (ICS 20, "FungibleTokenPacketData").
 #![tactic(auto)]
 
+mod cutting;
 mod fault;
 mod forms;
-mod members;
 mod reading;
 mod token_data;
 mod writing;

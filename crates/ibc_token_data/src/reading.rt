@@ -1,79 +1,114 @@
-//! How data is read from JSON.
+//! How data is read from its one spelling.
 
-ghost use Rattle.std.specs.Prelude.{◌≡◌, Some, List, [], ◌∷◌, map, codes, decimal, IsTrue, MatchResult};
-ghost use Rattle.std.specs.List.{list_all};
-ghost use Rattle.ibc_wire.specs.declared.token.Token.{Token};
-ghost use Rattle.ibc_machine.specs.ics20.TokenData.{Data, has_several, is_token, is_data};
-ghost use Rattle.json.specs.Find.{get};
-ghost use Rattle.json.specs.Value.{value_view};
-ghost use Rattle.ibc_token_data.specs.Members.{text_at};
-ghost use Rattle.ibc_token_data.specs.declared.fault.TokenDataFault.TheVariants.{NoMemory};
-ghost use Rattle.ibc_token_data.specs.Json.{data_json, token_json, tokens_json};
+ghost use Rattle.ibc_machine.specs.ics20.TokenData.{has_several};
 ghost use Rattle.ibc_token_data.specs.AbstractData.{abstract_data};
+ghost use Rattle.ibc_token_data.specs.Cutting.{Gives, only_if, token_of, tokens_in, told_with, one_told, several_told, told_by};
 
 use crate::TokenData;
+use crate::cutting::{Parties, behind, is_text, one_cut, parties_behind, token_at};
 use crate::fault::TokenDataFault;
 use crate::forms::has_several;
-use crate::members::{list_at, memo_at, name_at, token_at};
-use ibc_ids::Version;
+use ibc_ids::{Name, NameKind, Refusal, Version};
 use ibc_wire::Token;
-use json::Value;
 use std::alloc::Global;
 
-fn tokens_in(alloc: Global, values: &[Value<'_>]) -> Result<Vec<Token>, TokenDataFault>
-    ensures { (tokens : List Token) → map value_view values.now ≡ map token_json tokens → IsTrue (list_all is_token tokens) → MatchResult result (λ found. found.items ≡ tokens) (λ fault. fault ≡ NoMemory) }
+// The name with these bytes. Faults: `NotData` where they haven't the form of the kind; `NoMemory`.
+fn named<K: NameKind>(alloc: Global, text: &[u8]) -> Result<Name<K>, TokenDataFault>
+    ensures { Gives (λ name. name) result (only_if (K.form text.now) text.now) }
+{
+    match Name::from_bytes(alloc, text) {
+        Ok(name) => Ok(name),
+        Err(Refusal::NoMemory) => Err(TokenDataFault::NoMemory),
+        Err(_) => Err(TokenDataFault::NotData),
+    }
+}
+
+// The token of this amount and denomination. Faults: `NotData` where the bytes are no denomination; `NoMemory`.
+fn token_of(alloc: Global, amount: u128, denom: &[u8]) -> Result<Token, TokenDataFault>
+    ensures { Gives (λ token. token) result (token_of amount denom.now) }
+{
+    Ok(Token {
+        denom: named(alloc, denom)?,
+        amount,
+    })
+}
+
+// Up to 8 tokens and the end of their list. Faults: `NotData` where the text is none; `NoMemory`.
+fn tokens_in(alloc: Global, text: &[u8]) -> Result<Vec<Token>, TokenDataFault>
+    ensures { Gives (λ tokens. tokens.items) result (tokens_in 8 text.now) }
 {
     let mut tokens = Vec::new(alloc);
-    for value in values {
-        tokens.push(token_at(alloc, value)?)?;
+    let mut rest = text;
+    while tokens.len() < 8 {
+        let Some((amount, denom, next)) = token_at(rest) else {
+            return Err(TokenDataFault::NotData);
+        };
+        tokens.push(token_of(alloc, amount, denom)?)?;
+        if is_text(next, b"}]}") {
+            return Ok(tokens);
+        }
+        let Some(next) = behind(b"},", next) else {
+            return Err(TokenDataFault::NotData);
+        };
+        rest = next;
     }
-    Ok(tokens)
+    Err(TokenDataFault::NotData)
 }
 
-fn listed_tokens(alloc: Global, value: &Value<'_>) -> Result<Vec<Token>, TokenDataFault>
-    ensures { (tokens : List Token) → get (codes "tokens") (value_view value.now) ≡ Some (tokens_json tokens) → IsTrue (list_all is_token tokens) → MatchResult result (λ found. found.items ≡ tokens) (λ fault. fault ≡ NoMemory) }
-{
-    match list_at(value, "tokens") {
-        Some(values) => tokens_in(alloc, values),
-        None => Err(TokenDataFault::NotData),
-    }
-}
-
-fn one_token(alloc: Global, value: &Value<'_>) -> Result<Vec<Token>, TokenDataFault>
-    ensures { (token : Token) → text_at (codes "amount") (value_view value.now) ≡ Some (decimal token.amount) → text_at (codes "denom") (value_view value.now) ≡ Some token.denom → IsTrue (is_token token) → MatchResult result (λ found. found.items ≡ token ∷ []) (λ fault. fault ≡ NoMemory) }
-{
-    let mut tokens = Vec::new(alloc);
-    tokens.push(token_at(alloc, value)?)?;
-    Ok(tokens)
-}
-
-/// The tokens that the value says over a channel of the version. Faults: `NotData` where it says none; `NoMemory`.
-fn all_tokens(
+// The data with these tokens and parties. Faults: `NotData` where a party has not its form; `NoMemory`.
+fn told_with(
     alloc: Global,
-    version: &Version,
-    value: &Value<'_>,
-) -> Result<Vec<Token>, TokenDataFault>
-    ensures { (d : Data) → value_view value.now ≡ data_json (has_several version.now) d → IsTrue (is_data version.now d) → MatchResult result (λ found. found.items ≡ d.tokens) (λ fault. fault ≡ NoMemory) }
-{
-    if has_several(version) {
-        listed_tokens(alloc, value)
-    } else {
-        one_token(alloc, value)
-    }
-}
-
-/// The data that the value says over a channel of the version. Faults: `NotData` where it says none; `NoMemory`.
-pub(crate) fn data_in(
-    alloc: Global,
-    version: &Version,
-    value: &Value<'_>,
+    tokens: Vec<Token>,
+    parties: &Parties<'_>,
 ) -> Result<TokenData, TokenDataFault>
-    ensures { (d : Data) → value_view value.now ≡ data_json (has_several version.now) d → IsTrue (is_data version.now d) → MatchResult result (λ found. abstract_data found ≡ d) (λ fault. fault ≡ NoMemory) }
+    ensures { Gives abstract_data result (told_with tokens.items (parties.now.memo.now, parties.now.receiver.now, parties.now.sender.now, parties.now.rest.now)) }
 {
     Ok(TokenData {
-        tokens: all_tokens(alloc, version, value)?,
-        memo: memo_at(alloc, value)?,
-        receiver: name_at(alloc, value, "receiver")?,
-        sender: name_at(alloc, value, "sender")?,
+        tokens,
+        memo: named(alloc, parties.memo)?,
+        receiver: named(alloc, parties.receiver)?,
+        sender: named(alloc, parties.sender)?,
     })
+}
+
+// The data of one token that the text may spell. Faults: `NotData` where there is none; `NoMemory`.
+fn one_told(alloc: Global, text: &[u8]) -> Result<TokenData, TokenDataFault>
+    ensures { Gives abstract_data result (one_told text.now) }
+{
+    let Some((amount, denom, parties)) = one_cut(text) else {
+        return Err(TokenDataFault::NotData);
+    };
+    let mut tokens = Vec::new(alloc);
+    tokens.push(token_of(alloc, amount, denom)?)?;
+    told_with(alloc, tokens, &parties)
+}
+
+// The data of several tokens that the text may spell. Faults: `NotData` where there is none; `NoMemory`.
+fn several_told(alloc: Global, text: &[u8]) -> Result<TokenData, TokenDataFault>
+    ensures { Gives abstract_data result (several_told text.now) }
+{
+    let Some(parties) = parties_behind(b"{", text) else {
+        return Err(TokenDataFault::NotData);
+    };
+    let Some(list) = behind(b",\"tokens\":[", parties.rest) else {
+        return Err(TokenDataFault::NotData);
+    };
+    let tokens = tokens_in(alloc, list)?;
+    told_with(alloc, tokens, &parties)
+}
+
+/// The data of which the text may be the spelling over a channel of the version. Faults: `NotData` where there is none;
+/// `NoMemory`.
+pub(crate) fn told_by(
+    alloc: Global,
+    version: &Version,
+    text: &[u8],
+) -> Result<TokenData, TokenDataFault>
+    ensures { Gives abstract_data result (told_by (has_several version.now) text.now) }
+{
+    if has_several(version) {
+        several_told(alloc, text)
+    } else {
+        one_told(alloc, text)
+    }
 }

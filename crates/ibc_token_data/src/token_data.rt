@@ -1,20 +1,17 @@
 //! The data of a packet of tokens.
 
-ghost use Rattle.std.specs.Prelude.{◌≡◌, ◌↔◌, ◌<◌, ◌^◌, Some, None, IsTrue, IfOk, IsErrOf, MatchResult, SomeIff, option_map, IsOkUnless};
+ghost use Rattle.std.specs.Prelude.{◌≡◌, ◌<◌, ◌^◌, Some, None, IfOk, IsErrOf, SomeIff, option_map, IsOkUnless};
 ghost use Rattle.ibc_ids.specs.declared.refusal.Refusal.TheVariants.{NoMemory};
-ghost use Rattle.ibc_machine.specs.ics20.TokenData.{Data, amount_of, data_of, data_text};
+ghost use Rattle.ibc_machine.specs.ics20.TokenData.{amount_of, data_of, data_text};
 ghost use Rattle.ibc_machine.specs.ics20.Transfers.{transfer_data, transfer_many_data};
-ghost use Rattle.ibc_token_data.specs.declared.fault.TokenDataFault.TheVariants as fault;
 ghost use Rattle.ibc_token_data.specs.AbstractData.{abstract_data};
 
 use crate::fault::TokenDataFault;
 use crate::forms::is_data;
-use crate::members::parsed;
-use crate::reading::data_in;
+use crate::reading::told_by;
 use crate::writing::{likely_length, spelling};
 use ibc_ids::{Bytes, Denom, Memo, Receiver, Refusal, UserName, Version};
 use ibc_wire::{Token, Transfer, TransferMany};
-use json::Scratch;
 use std::alloc::{AllocError, Global};
 
 /// What a packet of tokens says (ICS 20, "FungibleTokenPacketData"): the tokens, a memo, who receives them and who sends
@@ -107,37 +104,7 @@ fn amount_in(tokens: &[Token], denom: &Denom) -> Option<u128>
     Some(amount)
 }
 
-// The data that the bytes may spell: if they spell any, it is this.
-fn told_by(alloc: Global, version: &Version, payload: &[u8]) -> Result<TokenData, TokenDataFault>
-    ensures { (d : Data) → data_of version.now payload.now ≡ Some d → MatchResult result (λ told. abstract_data told ≡ d) (λ e. e ≡ fault.NoMemory) }
-{
-    let mut scratch = Scratch::new(alloc);
-    let value = parsed(alloc, payload, &mut scratch)?;
-    data_in(alloc, version, &value)
-}
-
-fn is_same(left: &[u8], right: &[u8]) -> bool
-    ensures { IsTrue result ↔ (left.now ≡ right.now) }
-{
-    left == right
-}
-
-// Whether the bytes are the one spelling of the data, and a packet may have it.
-fn is_spelled_by(
-    alloc: Global,
-    version: &Version,
-    told: &TokenData,
-    payload: &[u8],
-) -> Result<bool, AllocError>
-    ensures { IfOk result (λ spelled. IsTrue spelled ↔ (data_of version.now payload.now ≡ Some (abstract_data told.now))) }
-{
-    if !is_data(version, told) {
-        return Ok(false);
-    }
-    let text = spelling(alloc, version, told, payload.len())?;
-    Ok(is_same(text.as_bytes(), payload))
-}
-
+// The data that the bytes spell over a channel of the version. Faults: `NotData` where they spell none; `NoMemory`.
 fn spelled_data(
     alloc: Global,
     version: &Version,
@@ -147,7 +114,7 @@ fn spelled_data(
     ensures bad { IsErrOf result TokenDataFault.NotData → data_of version.now payload.now ≡ None }
 {
     let told = told_by(alloc, version, payload)?;
-    if is_spelled_by(alloc, version, &told, payload)? {
+    if is_data(version, &told) {
         Ok(told)
     } else {
         Err(TokenDataFault::NotData)

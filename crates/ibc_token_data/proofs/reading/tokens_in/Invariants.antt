@@ -1,11 +1,15 @@
--- The tokens so far are those of the values before the place.
-use Rattle.std.proofs.Common.{◌≡◌, List, map, take, IsTrue}
-use Rattle.std.specs.List.{list_all}
-use Rattle.ibc_wire.specs.declared.token.Token.{Token}
-use Rattle.ibc_machine.specs.ics20.TokenData.{is_token}
-use Rattle.json.specs.Value.{value_view}
-use Rattle.ibc_token_data.specs.Json.{token_json}
+-- The tokens so far stand before those of the rest.
+use Rattle.std.proofs.Common.{◌≡◌, ◌≤◌, ◌-◌, length}
+use Rattle.ibc_token_data.specs.Cutting.{tokens_in}
+use Rattle.ibc_token_data.proofs.Rows.{before}
 use Rattle.ibc_token_data.proofs.reading.tokens_in.Given as goal
 
-abbrev pub invariant-loop-value : goal.invariant-loop-value
-invariant-loop-value l = (tokens : List Token) → map value_view l.values ≡ map token_json tokens → IsTrue (list_all is_token tokens) → l.tokens.items ≡ take l.value-index tokens
+abbrev pub invariant-loop-rest : goal.invariant-loop-rest
+invariant-loop-rest l =
+    record {
+      few : length l.tokens.items ≤ 8;
+      so_far : tokens_in 8 l.text ≡ before l.tokens.items (tokens_in (8 - length l.tokens.items) l.rest);
+    }
+
+abbrev pub decreases-loop-rest : goal.decreases-loop-rest
+decreases-loop-rest l = 8 - length l.tokens.items
