@@ -5,3 +5,5 @@ mod Carried
 mod Starts
 mod Changed
 mod MoveSequences
+pub mod AnyOrder
+mod StartOrders

@@ -4,3 +4,4 @@ pub mod Moves
 pub mod TokenPlaces
 pub mod BankModel
 pub mod ListedHoldings
+pub mod SortedStarts

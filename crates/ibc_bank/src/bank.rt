@@ -12,6 +12,7 @@ ghost use Rattle.ibc_bank.specs.BankModel.{IsBalanced, no_amount, state_of};
 ghost use Rattle.ibc_bank.specs.Moves.{BankState, token_of, burnt_of, after_escrow, after_release, after_burn, after_mint, after_refund, after_settlement, after_moves};
 ghost use Rattle.ibc_bank.specs.TokenPlaces.{after_carrying};
 ghost use Rattle.ibc_bank.specs.ListedHoldings.{abstract_holding};
+ghost use Rattle.ibc_bank.specs.SortedStarts.{shown};
 ghost use Rattle.ibc_ids.specs.declared.refusal.Refusal.{Refusal};
 ghost use Rattle.ibc_ids.specs.declared.refusal.Refusal.TheVariants.{NoMemory};
 
@@ -21,6 +22,7 @@ use crate::changes::Changes;
 use crate::holder::AccountRef;
 use crate::moves::{Move, Source};
 use crate::place::Place;
+use crate::sorted_starts::sorted_by_user;
 use ibc_ids::{Account, ChannelId, Denom, Refusal, UserName};
 use ibc_machine::ChainStart;
 use std::alloc::{AllocError, Global};
@@ -66,13 +68,43 @@ impl Bank {
         ensures balances { IfOk result (λ bank. bank.balances ≡ starting_balances start.now.balances.items) }
         ensures burnt { IfOk result (λ bank. bank.burnt ≡ []) }
     {
+        let holdings = start.balances.as_slice();
+        match sorted_by_user(alloc, holdings) {
+            Ok(sorted) => Bank::from_sorted(alloc, &sorted),
+            Err(AllocError) => Bank::from_listed(alloc, holdings),
+        }
+    }
+
+    // The bank of fair holdings, which are set one after another.
+    fn from_listed(alloc: Global, holdings: &[(UserName, Denom, u128)]) -> Result<Bank, AllocError>
+        requires { IsTrue (list_all (is_fair holdings.now) holdings.now) }
+        ensures balances { IfOk result (λ bank. bank.balances ≡ starting_balances holdings.now) }
+        ensures burnt { IfOk result (λ bank. bank.burnt ≡ []) }
+    {
         let mut books = BankMaps {
             held: Amounts::new(alloc),
             burnt: Amounts::new(alloc),
             totals: Amounts::new(alloc),
         };
-        for (user, denom, amount) in &start.balances {
+        for (user, denom, amount) in holdings {
             books.hold(user, denom, *amount)?;
+        }
+        Ok(Bank { books, alloc })
+    }
+
+    // The same of references to holdings.
+    fn from_sorted(alloc: Global, sorted: &[&(UserName, Denom, u128)]) -> Result<Bank, AllocError>
+        requires { IsTrue (list_all (is_fair (map shown sorted.now)) (map shown sorted.now)) }
+        ensures balances { IfOk result (λ bank. bank.balances ≡ starting_balances (map shown sorted.now)) }
+        ensures burnt { IfOk result (λ bank. bank.burnt ≡ []) }
+    {
+        let mut books = BankMaps {
+            held: Amounts::new(alloc),
+            burnt: Amounts::new(alloc),
+            totals: Amounts::new(alloc),
+        };
+        for holding in sorted {
+            books.hold(&holding.0, &holding.1, holding.2)?;
         }
         Ok(Bank { books, alloc })
     }

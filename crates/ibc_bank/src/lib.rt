@@ -8,6 +8,7 @@ mod changes;
 mod holder;
 mod moves;
 mod place;
+mod sorted_starts;
 
 pub use bank::Bank;
 pub use moves::{Move, Source};

@@ -14,3 +14,4 @@ pub mod NamedEnds
 pub mod LastBlocks
 pub mod SpelledProofs
 pub mod SentPlaces
+pub mod SortedRows

@@ -7,3 +7,4 @@ pub mod MessageReplies
 pub mod HistoryGrowth
 pub mod ProvedView
 pub mod SentNames
+pub mod SortedHoldings

@@ -4,8 +4,10 @@ ghost use Rattle.std.specs.Prelude.{◌≡◌, ◌^◌, nat_lt};
 ghost use Rattle.std.specs.List.{list_all, count_by};
 ghost use Rattle.ibc_machine.specs.chain.Genesis.{genesis_state, has_limits, is_same_holding, is_fair, is_allowed, total_of};
 
+use crate::sorted_holdings::{are_fair_in_order, sorted_holdings};
 use ibc_ids::{Denom, UserName};
 use ibc_machine::{ChainStart, Genesis};
+use std::alloc::AllocError;
 
 /// Whether a genesis is allowed: 2 to 8 chains; a capacity of 1 to 1,000,000 and a window of 1 to 4,096, at most the
 /// capacity; of each chain, balances of base denominations only, no user and denomination twice, and of no denomination
@@ -30,10 +32,20 @@ fn has_limits(genesis: &Genesis) -> bool
         && genesis.window <= genesis.capacity
 }
 
+// Sorted, n holdings are checked in n log n steps. Where memory for that is refused, each is compared with all.
 fn is_fair_start(start: &ChainStart) -> bool
     ensures { result ≡ list_all (is_fair start.now.balances.items) start.now.balances.items }
 {
     let holdings = start.balances.as_slice();
+    match sorted_holdings(*start.balances.allocator(), holdings) {
+        Ok(sorted) => are_fair_in_order(&sorted),
+        Err(AllocError) => are_fair(holdings),
+    }
+}
+
+fn are_fair(holdings: &[(UserName, Denom, u128)]) -> bool
+    ensures { result ≡ list_all (is_fair holdings.now) holdings.now }
+{
     holdings.iter().all(|holding| is_fair(holdings, holding))
 }
 

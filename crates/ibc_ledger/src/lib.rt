@@ -18,6 +18,7 @@ mod packets;
 mod places;
 mod reads;
 mod sent;
+mod sorted_holdings;
 mod view;
 mod views;
 

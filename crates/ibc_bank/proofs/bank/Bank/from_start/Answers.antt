@@ -1,16 +1,26 @@
--- What is held so far, and the holding at the place, fit together.
-use Rattle.std.proofs.Common.{◌≡◌, ap, sym, subst, true}
+-- The same holdings in another order.
+use Rattle.std.proofs.Common.{◌≡◌, ◌∙◌, map, ap, sym, subst, true}
+use Rattle.std.specs.Prelude.{IfOk}
 use Rattle.std.specs.List.{list_all}
-use Rattle.ibc_ids.specs.Texts.{text_cmp}
-use Rattle.ibc_machine.specs.chain.Genesis.{is_fair}
-use Rattle.ibc_bank.specs.Amounts.{amount_at}
-use Rattle.ibc_bank.proofs.Starts.{starting_fits, fits_alone}
+use Rattle.std.specs.List.Sorted.{IsPermutation}
+use Rattle.ibc_machine.specs.chain.Genesis.{is_fair, starting_balances}
+use Rattle.ibc_bank.specs.SortedStarts.{shown}
+use Rattle.ibc_bank.proofs.AnyOrder.{fair_in_any_order}
+use Rattle.ibc_bank.proofs.StartOrders.{start_in_any_order}
 use Rattle.ibc_bank.proofs.bank.Bank.from_start.Goals as goal
 
-pub hold-requires-clause-fits : goal.hold-requires-clause-fits
-hold-requires-clause-fits c =
-    let item = c.loop-user-item.result in
-    let inv = c.loop-user.invariant in
-    let fair = subst (λ hs. list_all (is_fair hs) hs ≡ true) (sym c.deref-user-items.ensures.value) c.requires in
-    let fits = starting_fits c.deref-user-items.result.now fair c.loop-user.user-index item c.loop-user-test.true c.loop-user-item.is c.loop-user.books.held.pairs inv.held inv.balanced.held_kept.sorted in
-    fits_alone _ _ (ap (λ m. amount_at text_cmp item.1 m) inv.unburnt) fits
+pub from_sorted-requires : goal.from_sorted-requires
+from_sorted-requires c =
+    let sorted = c.in-Ok.sorted.items in
+    let holdings = c.args.start.now.balances.items in
+    let same = subst (λ xs. IsPermutation xs (map shown sorted)) c.as_slice-holdings.ensures.value c.in-Ok.ensures in
+    subst (λ (ys : _). list_all (is_fair (map shown ys)) (map shown ys) ≡ true) (sym c.deref.ensures.value) (fair_in_any_order holdings (map shown sorted) same ∙ c.requires)
+
+pub returns-in-Ok-clause-balances : goal.returns-in-Ok-clause-balances
+returns-in-Ok-clause-balances c =
+    let sorted = c.in-Ok.sorted.items in
+    let holdings = c.args.start.now.balances.items in
+    let same = subst (λ xs. IsPermutation xs (map shown sorted)) c.as_slice-holdings.ensures.value c.in-Ok.ensures in
+    let fair = fair_in_any_order holdings (map shown sorted) same ∙ c.requires in
+    let alike = ap (λ (ys : _). starting_balances (map shown ys)) c.deref.ensures.value ∙ start_in_any_order holdings (map shown sorted) same c.requires fair in
+    subst (λ z. IfOk c.from_sorted.result (λ bank. bank.balances ≡ z)) alike c.from_sorted.ensures.balances

@@ -1,0 +1,14 @@
+-- The same holdings in another order.
+use Rattle.std.proofs.Common.{◌∙◌, map, subst, ◌≡◌}
+use Rattle.std.specs.List.{list_all}
+use Rattle.ibc_machine.specs.chain.Genesis.{is_fair}
+use Rattle.ibc_ledger.specs.SortedHoldings.{AreSortedHoldings, shown}
+use Rattle.ibc_ledger.proofs.SortedRows.{fair_in_any_order}
+use Rattle.ibc_ledger.proofs.genesis.is_fair_start.Goals as goal
+
+pub returns-in-Ok : goal.returns-in-Ok
+returns-in-Ok c =
+    let sorted = c.in-Ok.sorted.items in
+    let holdings = c.args.start.now.balances.items in
+    let same = subst (λ xs. AreSortedHoldings xs (map shown sorted)) c.as_slice-holdings.ensures.value c.in-Ok.ensures in
+    subst (λ (ys : _). c.are_fair_in_order.result ≡ list_all (is_fair (map shown ys)) (map shown ys)) c.deref.ensures.value c.are_fair_in_order.ensures ∙ fair_in_any_order holdings (map shown sorted) same.same
