@@ -25,7 +25,7 @@ use Rattle.ibc_relayer.specs.UsedClients.{is_over_client, has_any}
 use Rattle.ibc_relayer.proofs.Lists.{filter_map_on, kept_if, map_filter, all_filter_map, all_append, each_at}
 
 -- the end that names another back has its port and its name
-names_back : (theirs : Channel) (port channel : Text) → has_peer theirs port channel ≡ true → (theirs.end.peer_port ≡ port) × (peer_channel_of theirs.end ≡ channel)
+pub names_back : (theirs : Channel) (port channel : Text) → has_peer theirs port channel ≡ true → (theirs.end.peer_port ≡ port) × (peer_channel_of theirs.end ≡ channel)
 names_back theirs port channel named =
     let parts = and_parts (same_text port theirs.end.peer_port) (same_optional theirs.end.peer_channel (Some channel)) named in
     (sym (text_same port theirs.end.peer_port parts.0), peer theirs.end.peer_channel parts.1)

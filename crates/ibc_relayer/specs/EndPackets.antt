@@ -1,6 +1,6 @@
 -- What is planned for an end, where each message is made as its packet is found (ICS 18, "Relayer algorithm": pending
 -- datagrams).
-use Rattle.std.specs.Prelude.{ℕ, ◌||◌, Bool, true, false, List, [], ◌++◌, Option, Some, None, if◌then◌else◌}
+use Rattle.std.specs.Prelude.{◌≡◌, ℕ, ◌||◌, Bool, true, false, List, [], ◌++◌, Option, Some, None, IfSome, if◌then◌else◌}
 use Rattle.std.specs.List.{filter_map}
 use Rattle.std.specs.Option.{option_map}
 use Rattle.std.specs.Ordering.{nat_cmp}
@@ -43,6 +43,14 @@ abbrev pub unreceived_at : Channel → ℕ → Key
 unreceived_at mine n =
     if is_ordered mine then key.NextSequenceRecv mine.end.peer_port (peer_channel_of mine.end)
     else key.Receipt mine.end.peer_port (peer_channel_of mine.end) n
+
+-- the proof of the end's peer
+abbrev pub closed_proof : View → Channel → Text
+closed_proof a mine = proof_at a (key.ChannelEnd mine.end.peer_port (peer_channel_of mine.end))
+
+-- what is kept of it, if something is
+abbrev pub IsClosedProof : View → Channel → Option Text → Type 0
+IsClosedProof a mine kept = IfSome kept (λ proof. proof ≡ closed_proof a mine)
 
 abbrev pub message_if : Bool → Message → Option Message
 message_if true m = Some m

@@ -8,11 +8,11 @@ ghost use Rattle.ibc_ids.specs.declared.refusal.Refusal.TheVariants.{NoMemory};
 ghost use Rattle.ibc_machine.specs.ics04.Channels.{client_of};
 ghost use Rattle.ibc_machine.specs.chain.Records.{client_at, connection_at};
 ghost use Rattle.ibc_machine.specs.ics18.Relay as relay;
-ghost use Rattle.ibc_relayer.specs.EndPackets.{receive_message_at, ack_message_at, timeout_message_at, end_messages};
+ghost use Rattle.ibc_relayer.specs.EndPackets.{IsClosedProof, receive_message_at, ack_message_at, timeout_message_at, end_messages};
 ghost use Rattle.ibc_relayer.specs.EndPairs.{IsFoundEndPair, tracks_chain};
 
 use crate::due::has_peer;
-use ibc_ids::{ChannelId, ClientId, PortId, Refusal};
+use ibc_ids::{Bytes, ChannelId, ClientId, PortId, Refusal};
 use ibc_ledger::View;
 use ibc_records::Channel;
 use ibc_wire::{ChannelState, ConnectionEnd, Message};
@@ -100,8 +100,30 @@ impl<'v> Ends<'v> {
         ensures ok { OnOk result (messages.new.items ≡ messages.old.items ++ filter_map (timeout_message_at self.now.a.now (self.now.port.now, self.now.channel.now) self.now.mine.now self.now.theirs.now) self.now.mine.now.commitments) }
         ensures err { IsOkUnless result NoMemory }
     {
+        let mut closed = None;
+        let done = self.time_out_each(alloc, &mut closed, messages);
+        drop(closed);
+        done
+    }
+
+    // The packets that the peer won't receive any more. The proof of the peer's end is kept once it is made.
+    fn time_out_each(
+        &self,
+        alloc: Global,
+        closed: &mut Option<Bytes>,
+        messages: &mut Vec<Message>,
+    ) -> Result<(), Refusal>
+        requires height { 0 < self.now.a.now.height }
+        requires peer { self.now.mine.now.end.peer_channel ≡ Some self.now.peer.now }
+        requires closed { IsClosedProof self.now.a.now self.now.mine.now closed.old }
+        ensures ok { OnOk result (messages.new.items ≡ messages.old.items ++ filter_map (timeout_message_at self.now.a.now (self.now.port.now, self.now.channel.now) self.now.mine.now self.now.theirs.now) self.now.mine.now.commitments) }
+        ensures err { IsOkUnless result NoMemory }
+    {
         for (sequence, commitment) in self.mine.commitments() {
-            add(messages, self.time_out(alloc, *sequence, commitment)?)?;
+            add(
+                messages,
+                self.time_out(alloc, *sequence, commitment, closed)?,
+            )?;
         }
         Ok(())
     }

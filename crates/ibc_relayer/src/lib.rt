@@ -2,6 +2,7 @@
 //! turns, and several at the same time.
 #![tactic(auto)]
 
+mod awaiting;
 mod due;
 mod ends;
 mod messages;

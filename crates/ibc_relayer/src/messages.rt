@@ -6,7 +6,7 @@ ghost use Rattle.ibc_ids.specs.declared.key.Key.TheVariants as key;
 ghost use Rattle.ibc_machine.specs.ics04.Channels.{peer_channel_of};
 ghost use Rattle.ibc_machine.specs.ics04.Proving.{commitment_key, ack_key, destination_key, recv_message, ack_message, timeout_message, timeout_on_close_message};
 ghost use Rattle.ibc_machine.specs.ics18.Relay.{proof_at, unreceived_key, next_recv};
-ghost use Rattle.ibc_relayer.specs.EndPackets.{packet_between, peer_of, unreceived_at, receive_message_at, ack_message_at, timeout_message_at};
+ghost use Rattle.ibc_relayer.specs.EndPackets.{IsClosedProof, closed_proof, packet_between, peer_of, unreceived_at, receive_message_at, ack_message_at, timeout_message_at};
 
 use crate::due::{has_received, is_timed_out, is_to_receive};
 use crate::ends::Ends;
@@ -54,15 +54,18 @@ impl Ends<'_> {
     }
 
     /// The message that ends a packet that won't be received any more, if it is so: it is too late for it, or the peer is
-    /// CLOSED (ICS 4, "timeoutPacket" and "timeoutOnClose"). `NoMemory`.
+    /// CLOSED (ICS 4, "timeoutPacket" and "timeoutOnClose"). The proof of the peer's end is made once and then kept. `NoMemory`.
     pub fn time_out(
         &self,
         alloc: Global,
         sequence: u64,
         commitment: &Commitment,
+        closed: &mut Option<Bytes>,
     ) -> Result<Option<Message>, Refusal>
         requires height { 0 < self.now.a.now.height }
         requires peer { self.now.mine.now.end.peer_channel ≡ Some self.now.peer.now }
+        requires closed { IsClosedProof self.now.a.now self.now.mine.now closed.old }
+        ensures closed { IsClosedProof self.now.a.now self.now.mine.now closed.new }
         ensures ok { IfOk result (λ made. made ≡ timeout_message_at self.now.a.now (self.now.port.now, self.now.channel.now) self.now.mine.now self.now.theirs.now (sequence, commitment.now)) }
         ensures err { IsOkUnless result NoMemory }
     {
@@ -73,7 +76,8 @@ impl Ends<'_> {
             return Ok(Some(self.timeout(alloc, sequence, commitment)?));
         }
         if self.theirs.end().state == ChannelState::Closed {
-            return Ok(Some(self.timeout_on_close(alloc, sequence, commitment)?));
+            let message = self.timeout_on_close(alloc, sequence, commitment, closed)?;
+            return Ok(Some(message));
         }
         Ok(None)
     }
@@ -178,15 +182,18 @@ impl Ends<'_> {
         alloc: Global,
         sequence: u64,
         commitment: &Commitment,
+        closed: &mut Option<Bytes>,
     ) -> Result<Message, Refusal>
         requires height { 0 < self.now.a.now.height }
         requires peer { self.now.mine.now.end.peer_channel ≡ Some self.now.peer.now }
+        requires closed { IsClosedProof self.now.a.now self.now.mine.now closed.old }
+        ensures closed { IsClosedProof self.now.a.now self.now.mine.now closed.new }
         ensures ok { IfOk result (λ made. let packet = packet_between (self.now.port.now, self.now.channel.now) (peer_of self.now.mine.now) sequence commitment.now in
             made ≡ timeout_on_close_message packet self.now.a.now.height (next_recv self.now.mine.now self.now.theirs.now) (proof_at self.now.a.now (unreceived_key self.now.mine.now packet)) (proof_at self.now.a.now (destination_key packet))) }
         ensures err { IsOkUnless result NoMemory }
     {
         let proof = self.unreceived(alloc, sequence)?;
-        let proof_close = self.closed(alloc)?;
+        let proof_close = self.closed(alloc, closed)?;
         let port = self.peer_port();
         let packet = packet(
             self.port,
@@ -229,11 +236,28 @@ impl Ends<'_> {
         self.proof(alloc, Key::Acknowledgement(port, channel, sequence))
     }
 
-    // The proof of the peer's end.
-    fn closed(&self, alloc: Global) -> Result<Bytes, Refusal>
+    // The proof of the peer's end. Where one is kept it is copied, and a new one is kept where memory is there for a copy.
+    fn closed(&self, alloc: Global, kept: &mut Option<Bytes>) -> Result<Bytes, Refusal>
         requires height { 0 < self.now.a.now.height }
         requires peer { self.now.mine.now.end.peer_channel ≡ Some self.now.peer.now }
-        ensures ok { IfOk result (λ proof. proof ≡ proof_at self.now.a.now (key.ChannelEnd self.now.mine.now.end.peer_port (peer_channel_of self.now.mine.now.end))) }
+        requires kept { IsClosedProof self.now.a.now self.now.mine.now kept.old }
+        ensures kept { IsClosedProof self.now.a.now self.now.mine.now kept.new }
+        ensures ok { IfOk result (λ proof. proof ≡ closed_proof self.now.a.now self.now.mine.now) }
+        ensures err { IsOkUnless result NoMemory }
+    {
+        if let Some(proof) = kept {
+            return Ok(proof.clone()?);
+        }
+        let proof = self.new_closed(alloc)?;
+        *kept = proof.clone().ok();
+        Ok(proof)
+    }
+
+    // A new proof of the peer's end.
+    fn new_closed(&self, alloc: Global) -> Result<Bytes, Refusal>
+        requires height { 0 < self.now.a.now.height }
+        requires peer { self.now.mine.now.end.peer_channel ≡ Some self.now.peer.now }
+        ensures ok { IfOk result (λ proof. proof ≡ closed_proof self.now.a.now self.now.mine.now) }
         ensures err { IsOkUnless result NoMemory }
     {
         let port = self.peer_port().clone()?;

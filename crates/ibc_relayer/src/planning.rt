@@ -1,6 +1,6 @@
 //! What is planned for a chain.
 
-ghost use Rattle.std.specs.Prelude.{◌≡◌, ◌<◌, ◌&&◌, ◌||◌, ◌++◌, [], map, Some, is_some, IfOk, OnOk, IsOkUnless};
+ghost use Rattle.std.specs.Prelude.{◌≡◌, ◌<◌, ◌&&◌, ◌||◌, ◌++◌, [], map, Some, is_some, IfOk, IfSome, OnOk, IsOkUnless};
 ghost use Rattle.std.specs.List.{filter, filter_map, flat_map};
 ghost use Rattle.ibc_ids.specs.Texts.{Text, same_text, text_cmp};
 ghost use Rattle.ibc_ids.specs.Maps.{at};
@@ -11,13 +11,15 @@ ghost use Rattle.ibc_machine.specs.chain.Records.{channel_at};
 ghost use Rattle.ibc_machine.specs.ics18.Relay as relay;
 ghost use Rattle.ibc_machine.specs.ics18.Relay.{pending_at, pending_message, update_of};
 ghost use Rattle.ibc_records.specs.ClientModels.{abstract_client};
-ghost use Rattle.ibc_relayer.specs.EndPairs.{IsEndPair};
+ghost use Rattle.ibc_relayer.specs.EndPairs.{IsEndPair, IsFoundEndPair};
+ghost use Rattle.ibc_relayer.specs.AwaitingEnds.{AreAwaiting};
 ghost use Rattle.ibc_relayer.specs.UsedClients.{is_over_client, AreUsed, is_to_update};
 
+use crate::awaiting::{EndNames, awaiting_ends, is_idle};
 use crate::ends::{Ends, ends_of};
-use ibc_ids::{ClientId, Refusal};
+use ibc_ids::{ChannelId, ClientId, PortId, Refusal};
 use ibc_ledger::View;
-use ibc_records::Client;
+use ibc_records::{Channel, Client};
 use ibc_wire::{Header, Message, UpdateClient};
 use std::alloc::Global;
 use std::collections::BTreeMap;
@@ -43,7 +45,8 @@ pub fn plan(alloc: Global, a: &View, b: &View) -> Result<Vec<Message>, Refusal>
     Ok(plan)
 }
 
-// The messages about packets, and the clients over which they go.
+// The messages about packets, and the clients over which they go. Where memory runs out for the ends to which packets are on
+// the way, each end is looked up.
 fn plan_packets(
     alloc: Global,
     a: &View,
@@ -56,15 +59,57 @@ fn plan_packets(
     ensures used { IfOk result (λ used. AreUsed b.now (flat_map (pending_at a.now b.now) b.now.core.channels) used.entries) }
     ensures err { IsOkUnless result NoMemory }
 {
+    let awaiting = awaiting_ends(alloc, a.plain()).ok();
+    let used = plan_ends(alloc, a, b, &awaiting, messages);
+    drop(awaiting);
+    used
+}
+
+// The messages for the ends, and the clients over which they go.
+fn plan_ends(
+    alloc: Global,
+    a: &View,
+    b: &View,
+    awaiting: &Option<EndNames>,
+    messages: &mut Vec<Message>,
+) -> Result<Used, Refusal>
+    requires height { 0 < a.now.height }
+    requires awaiting { IfSome awaiting.now (λ names. AreAwaiting a.now.core.channels names.entries) }
+    requires empty { messages.old.items ≡ [] }
+    ensures ok { OnOk result (messages.new.items ≡ filter_map (pending_message a.now b.now) (flat_map (pending_at a.now b.now) b.now.core.channels)) }
+    ensures used { IfOk result (λ used. AreUsed b.now (flat_map (pending_at a.now b.now) b.now.core.channels) used.entries) }
+    ensures err { IsOkUnless result NoMemory }
+{
     let mut used = Used::new(alloc);
     let all = b.plain().channels();
     all.lemma_in_order();
-    for ((port, channel), mine) in all.iter() {
-        if let Some(ends) = ends_of(a, b, port, channel, mine)? {
+    for (end, mine) in all.iter() {
+        if let Some(ends) = busy_ends(a, b, awaiting, end, mine)? {
             plan_end(alloc, &ends, messages, &mut used)?;
         }
     }
     Ok(used)
+}
+
+// An end of `b` with its peer on `a`, where a message may be due there.
+#[tactic(auto, using(crate::proofs::Idle::idle_none))]
+fn busy_ends<'v>(
+    a: &'v View,
+    b: &'v View,
+    awaiting: &Option<EndNames>,
+    end: &'v (PortId, ChannelId),
+    mine: &'v Channel,
+) -> Result<Option<Ends<'v>>, Refusal>
+    requires { IfSome awaiting.now (λ names. AreAwaiting a.now.core.channels names.entries) }
+    ensures ok { IfOk result (IsFoundEndPair a.now b.now end.now.0 end.now.1 mine.now) }
+    ensures err { IsOkUnless result NoMemory }
+{
+    if let Some(names) = awaiting {
+        if is_idle(names, end, mine) {
+            return Ok(None);
+        }
+    }
+    ends_of(a, b, &end.0, &end.1, mine)
 }
 
 // The messages for an end, and its client, if there is a message.
