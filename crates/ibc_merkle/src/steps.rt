@@ -34,8 +34,8 @@ impl Steps {
         self.count
     }
 
-    // Counts a text.
-    pub(crate) fn add(&mut self)
+    /// Counts a text, which the caller hashes.
+    pub fn add(&mut self)
         ensures { self.new ≡ one_more self.old }
     {
         self.count = self.count.saturating_add(1);

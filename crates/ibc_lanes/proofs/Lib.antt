@@ -1,0 +1,8 @@
+mod Vectors
+mod Majorities
+mod Rotations
+mod Blocks
+mod Padded
+mod Digests
+mod Ends
+mod LeafTexts

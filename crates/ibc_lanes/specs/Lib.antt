@@ -1,0 +1,5 @@
+pub mod Lanes
+pub mod Rounds
+pub mod Inner
+pub mod Leaves
+pub mod Texts
