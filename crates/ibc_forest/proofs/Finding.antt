@@ -17,7 +17,7 @@ rising-drop zero pairs rising = rising
 rising-drop (suc n) [] rising = tt
 rising-drop (suc n) (pair ∷ pairs) rising = rising-drop n pairs rising.1
 
-above_at : (key : Text) (pairs : Pairs) (n : ℕ) (d : Text × Text) → AllAbove key pairs → n < length pairs → text_cmp key (get_or pairs n d).0 ≡ Less
+pub above_at : (key : Text) (pairs : Pairs) (n : ℕ) (d : Text × Text) → AllAbove key pairs → n < length pairs → text_cmp key (get_or pairs n d).0 ≡ Less
 above_at key [] n d above l = absurd (omega arith)
 above_at key (pair ∷ pairs) zero d above l = above.0
 above_at key (pair ∷ pairs) (suc n) d above l = above_at key pairs n d above.1 (omega arith)

@@ -1,5 +1,6 @@
 pub mod Levels
 pub mod Arenas
+pub mod AddedLeaves
 pub mod Pairing
 pub mod Descents
 pub mod Climbing
@@ -16,6 +17,7 @@ pub mod KeysAroundPlaces
 pub mod Moved
 pub mod Finding
 pub mod FirstLeaves
+pub mod FourLeaves
 pub mod OverGaps
 pub mod KnownRows
 pub mod OneLeaf

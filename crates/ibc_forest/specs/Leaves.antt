@@ -41,6 +41,11 @@ abbrev pub begins_with : Text × Text → Pairs → Bool
 begins_with pair [] = false
 begins_with pair (first ∷ pairs) = same_pair first pair
 
+-- whether a key is below that of the first pair, or there is none
+abbrev pub is_in_front : Text → Pairs → Bool
+is_in_front key [] = true
+is_in_front key (first ∷ pairs) = is_below key first.0
+
 -- 0 if the first pair is this one, and else 1
 abbrev pub is_new : Text × Text → Pairs → ℕ
 is_new pair pairs = elim (begins_with pair pairs) [ true ↦ 0 | false ↦ 1 ]

@@ -1,3 +1,4 @@
+pub mod AddedLeaves
 pub mod Codes
 pub mod Counts
 pub mod Forest

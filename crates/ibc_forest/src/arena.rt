@@ -1,15 +1,18 @@
 //! The nodes of a store's trees, and which pairs of them were hashed.
 
-ghost use Rattle.std.specs.Prelude.{◌≡◌, ◌+◌, ◌<◌, ◌≤◌, ◌∷◌, ◌++◌, [], length, OnOk, OnErr, IfSome, IfOk};
+ghost use Rattle.std.specs.Prelude.{◌≡◌, ◌+◌, ◌<◌, ◌≤◌, ◌∷◌, ◌++◌, [], length, map, OnOk, OnErr, IfSome, IfOk};
+ghost use Rattle.ibc_lanes.specs.Inner.{four_more};
 ghost use Rattle.ibc_merkle.specs.Hash.{one_more};
 ghost use Rattle.ibc_merkle.specs.Tree.{Node, root};
 ghost use Rattle.ibc_forest.specs.Counts.{CountsAtLeast};
-ghost use Rattle.ibc_forest.specs.Levels.{leaf_of, tree_at};
+ghost use Rattle.ibc_forest.specs.Levels.{leaf_of, tree_at, trees_at};
+ghost use Rattle.ibc_forest.specs.NodeLevels.{Stand};
 ghost use Rattle.ibc_forest.specs.Nodes.{tree_of_node, ChildrenStand, IsRight, Grows};
 
 use crate::node::{ArenaNode, Below, KnownParent};
 use crate::nodes::Nodes;
 use crate::shared_entry::SharedEntry;
+use ibc_lanes::{hash_four_leaves, hash_four_values};
 use ibc_merkle::{Steps, hash_inner, hash_leaf, hash_value};
 use std::alloc::{AllocError, Global};
 use std::marker::Model;
@@ -131,6 +134,65 @@ impl Arena {
             digest,
             first,
             below: Below::Record(entry),
+        })
+    }
+
+    /// Adds the leaves of four pairs, which are shared with them: eight texts are hashed, four at a time.
+    pub fn leaf_four(&mut self, entries: &[SharedEntry]) -> Result<[usize; 4], AllocError>
+        requires { length entries.now ≡ 4 }
+        ensures leaves { IfOk result (λ leaves. trees_at self.new.trees leaves ≡ map leaf_of entries.now) }
+        ensures stand { IfOk result (λ leaves. Stand self.new.trees leaves) }
+        ensures grows { Grows self.old.trees self.new.trees }
+        ensures steps { self.new.steps ≡ four_more (four_more self.old.steps) }
+    {
+        let digests = self.leaf_digests(entries);
+        let first = self.hashed_leaf(&entries[0], digests[0])?;
+        let second = self.hashed_leaf(&entries[1], digests[1])?;
+        let third = self.hashed_leaf(&entries[2], digests[2])?;
+        let fourth = self.hashed_leaf(&entries[3], digests[3])?;
+        Ok([first, second, third, fourth])
+    }
+
+    // The digests of the leaves of four pairs: eight texts are hashed.
+    fn leaf_digests(&mut self, entries: &[SharedEntry]) -> [[u8; 32]; 4]
+        requires { length entries.now ≡ 4 }
+        ensures digests { result ≡ map root (map leaf_of entries.now) }
+        ensures trees { self.new.trees ≡ self.old.trees }
+        ensures steps { self.new.steps ≡ four_more (four_more self.old.steps) }
+    {
+        let (first, second) = (&entries[0], &entries[1]);
+        let (third, fourth) = (&entries[2], &entries[3]);
+        let values = hash_four_values(
+            first.value(),
+            second.value(),
+            third.value(),
+            fourth.value(),
+            &mut self.steps,
+        );
+        hash_four_leaves(
+            first.key(),
+            second.key(),
+            third.key(),
+            fourth.key(),
+            &values,
+            &mut self.steps,
+        )
+    }
+
+    // Adds the leaf of a pair, which is shared with it, by its digest. Nothing is hashed.
+    #[tactic(auto, using(crate::proofs::Arenas::first_own))]
+    fn hashed_leaf(&mut self, entry: &SharedEntry, digest: [u8; 32]) -> Result<usize, AllocError>
+        requires { digest ≡ root (leaf_of entry.now) }
+        ensures leaf { IfOk result (λ leaf. tree_at self.new.trees leaf ≡ leaf_of entry.now) }
+        ensures there { IfOk result (λ leaf. leaf < length self.new.trees) }
+        ensures grows { Grows self.old.trees self.new.trees }
+        ensures steps { self.new.steps ≡ self.old.steps }
+    {
+        let first = self.count();
+        self.add(ArenaNode {
+            digest,
+            first,
+            below: Below::Record(entry.clone()?),
         })
     }
 

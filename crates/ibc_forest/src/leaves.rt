@@ -2,8 +2,9 @@
 
 ghost use Rattle.std.specs.Prelude.{◌≡◌, [], ◌+◌, ◌*◌, ◌<◌, ◌≤◌, ◌++◌, Ok, length, drop, map, slice_index_or, take, IsTrue, IfOk, OnOk};
 ghost use Rattle.std.specs.FinMap.{is_sorted};
+ghost use Rattle.ibc_forest.specs.AddedLeaves.{AreAdded};
 ghost use Rattle.ibc_forest.specs.Levels.{leaf_of, tree_at, trees_at};
-ghost use Rattle.ibc_forest.specs.Leaves.{pair_at, row_pairs, AreLeaves, from_key, behind_key, begins_with, is_new, count_new, keys, differ_count, differing_count};
+ghost use Rattle.ibc_forest.specs.Leaves.{pair_at, row_pairs, AreLeaves, from_key, behind_key, begins_with, is_in_front, is_new, count_new, keys, differ_count, differing_count};
 ghost use Rattle.ibc_forest.specs.Counts.{CountsAtLeast, CountsEachNewLeaf};
 ghost use Rattle.ibc_forest.specs.Gaps.{DifferIn, IsFoundFrom, IsOneOther, HasFirst};
 ghost use Rattle.ibc_forest.specs.Nodes.{Grows};
@@ -110,6 +111,99 @@ pub(crate) fn leaf_for(
     arena.leaf(entry.clone()?)
 }
 
+// Whether a key stands below that of the leaf at a place of a row of leaves, or no leaf is there.
+fn stands_in_front(arena: &Arena, row: &[usize], at: usize, key: &[u8]) -> bool
+    requires leaves { AreLeaves arena.now.trees row.now }
+    requires within { at ≤ length row.now }
+    ensures { result ≡ is_in_front key.now (drop at (row_pairs arena.now.trees row.now)) }
+{
+    at == row.len() || stands_below(key, leaf_at(arena, row[at]).key())
+}
+
+// Adds the leaf of the next pair: that of a row where it has the same pair, which is looked for from a place of it on, and else
+// a new one, for which two texts are hashed. Answers the place from which the next one is looked for.
+fn add_leaf(
+    arena: &mut Arena,
+    row: &mut Vec<usize>,
+    old: &[usize],
+    place: usize,
+    entries: &[SharedEntry],
+) -> Result<usize, AllocError>
+    requires leaves { AreLeaves arena.old.trees old.now }
+    requires sorted { IsTrue (is_sorted text_cmp entries.now) }
+    requires last { IsTrue (is_sorted text_cmp (row_pairs arena.old.trees old.now)) }
+    requires first { HasFirst arena.old.trees entries.now row.old.items }
+    requires place { place ≤ length old.now }
+    requires found { IsFoundFrom (row_pairs arena.old.trees old.now) place (drop (length row.old.items) entries.now) }
+    requires some { length row.old.items < length entries.now }
+    ensures more { IfOk result (λ _. length row.new.items ≡ length row.old.items + 1) }
+    ensures added { IfOk result (λ next. AreAdded (row_pairs arena.old.trees old.now) entries.now old.now row.old.items row.new.items arena.new.trees next arena.old.steps arena.new.steps) }
+    ensures grows { Grows arena.old.trees arena.new.trees }
+{
+    let entry = &entries[row.len()];
+    let found = place_from(arena, old, place, entry.key());
+    let leaf = leaf_for(arena, old, found, entry)?;
+    row.push(leaf)?;
+    Ok(place_behind(arena, old, found, entry.key()))
+}
+
+// Adds the leaves of the next four pairs, which stand all in front of a place of a row: eight texts are hashed. The next one
+// is looked for from the same place.
+fn add_four(
+    arena: &mut Arena,
+    row: &mut Vec<usize>,
+    old: &[usize],
+    place: usize,
+    entries: &[SharedEntry],
+) -> Result<usize, AllocError>
+    requires leaves { AreLeaves arena.old.trees old.now }
+    requires sorted { IsTrue (is_sorted text_cmp entries.now) }
+    requires last { IsTrue (is_sorted text_cmp (row_pairs arena.old.trees old.now)) }
+    requires first { HasFirst arena.old.trees entries.now row.old.items }
+    requires place { place ≤ length old.now }
+    requires found { IsFoundFrom (row_pairs arena.old.trees old.now) place (drop (length row.old.items) entries.now) }
+    requires some { length row.old.items + 4 ≤ length entries.now }
+    requires new { IsTrue (is_in_front (slice_index_or entries.now (length row.old.items + 3) ([], [])).0 (drop place (row_pairs arena.old.trees old.now))) }
+    ensures more { IfOk result (λ _. length row.new.items ≡ length row.old.items + 4) }
+    ensures added { IfOk result (λ next. AreAdded (row_pairs arena.old.trees old.now) entries.now old.now row.old.items row.new.items arena.new.trees next arena.old.steps arena.new.steps) }
+    ensures grows { Grows arena.old.trees arena.new.trees }
+{
+    let first = row.len();
+    let leaves = arena.leaf_four(&entries[first..first + 4])?;
+    row.extend_from_slice(&leaves)?;
+    Ok(place)
+}
+
+// Adds the leaves of the next pairs, of one or of four, up to a place at most. Answers the place from which the next one is
+// looked for.
+fn add_some(
+    arena: &mut Arena,
+    row: &mut Vec<usize>,
+    old: &[usize],
+    place: usize,
+    entries: &[SharedEntry],
+    end: usize,
+) -> Result<usize, AllocError>
+    requires leaves { AreLeaves arena.old.trees old.now }
+    requires sorted { IsTrue (is_sorted text_cmp entries.now) }
+    requires last { IsTrue (is_sorted text_cmp (row_pairs arena.old.trees old.now)) }
+    requires first { HasFirst arena.old.trees entries.now row.old.items }
+    requires place { place ≤ length old.now }
+    requires found { IsFoundFrom (row_pairs arena.old.trees old.now) place (drop (length row.old.items) entries.now) }
+    requires some { length row.old.items < end }
+    requires end { end ≤ length entries.now }
+    ensures more { IfOk result (λ _. length row.old.items < length row.new.items) }
+    ensures end { IfOk result (λ _. length row.new.items ≤ end) }
+    ensures added { IfOk result (λ next. AreAdded (row_pairs arena.old.trees old.now) entries.now old.now row.old.items row.new.items arena.new.trees next arena.old.steps arena.new.steps) }
+    ensures grows { Grows arena.old.trees arena.new.trees }
+{
+    let next = row.len();
+    if end - next >= 4 && stands_in_front(arena, old, place, entries[next + 3].key()) {
+        return add_four(arena, row, old, place, entries);
+    }
+    add_leaf(arena, row, old, place, entries)
+}
+
 // Adds the leaves of pairs up to a place to those of the pairs before: those of a row where they have the same pairs, which are
 // looked for from a place of it on, and two texts are hashed for each other one. Answers the place from which the next one
 // is looked for.
@@ -141,11 +235,10 @@ fn add_leaves(
 {
     let mut at = place;
     for i in row.len()..end {
-        let entry = &entries[i];
-        let found = place_from(arena, old, at, entry.key());
-        let leaf = leaf_for(arena, old, found, entry)?;
-        row.push(leaf)?;
-        at = place_behind(arena, old, found, entry.key());
+        // where four leaves came together the row is longer
+        if row.len() == i {
+            at = add_some(arena, row, old, at, entries, end)?;
+        }
     }
     Ok(at)
 }

@@ -1,123 +1,65 @@
--- One leaf more.
-use Rattle.std.proofs.Common.{◌≡◌, ℕ, ◌+◌, ◌*◌, ◌<◌, ◌≤◌, ◌∷◌, ◌++◌, [], Ok, Result, length, get_or, take, drop, sym, ap, ◌∙◌, arith, subst}
-use Rattle.std.proofs.lemmas.List.{length_push, take_all, take-append-le}
-use Rattle.std.specs.declared.alloc.AllocError.{AllocError}
+-- Some leaves more, until there are enough.
+use Rattle.std.proofs.Common.{ℕ, ◌+◌, List, length, drop, refl, sym, ap, ◌∙◌, arith, subst}
+use Rattle.std.specs.FinMap.{is_sorted}
+use Rattle.ibc_ids.specs.Texts.{text_cmp}
 use Rattle.ibc_merkle.specs.Tree.{Pairs}
-use Rattle.ibc_merkle.proofs.Sorted.{rising_from_sorted}
-use Rattle.ibc_forest.specs.Leaves.{row_pairs, from_key, behind_key, is_new, count_new, differing_count}
-use Rattle.ibc_forest.specs.Counts.{CountsAtLeast}
-use Rattle.ibc_forest.specs.Gaps.{HasFirst, IsFoundFrom}
-use Rattle.ibc_forest.proofs.Counting.{least_on, least_kept}
-use Rattle.ibc_forest.proofs.Finding.{stepped}
-use Rattle.ibc_forest.proofs.FirstLeaves.{first_more}
-use Rattle.ibc_forest.proofs.Pairing.{grows_on, grows_not}
-use Rattle.ibc_forest.proofs.LeafRows.{length-row_pairs, pairs-grows, leaves-grows, differing-push}
+use Rattle.ibc_forest.specs.Leaves.{row_pairs}
+use Rattle.ibc_forest.specs.Codes.{ArenaModel}
+use Rattle.ibc_forest.specs.Gaps.{IsFoundFrom}
+use Rattle.ibc_forest.proofs.LeafRows.{pairs-grows, leaves-grows}
+use Rattle.ibc_forest.proofs.AddedLeaves.{Going, going_on, going_first}
+use Rattle.ibc_forest.proofs.leaves.add_leaves.Goals.{then-len-i+in_ok-at, else-len-i}
 use Rattle.ibc_forest.proofs.leaves.add_leaves.Goals as goal
 
-pub place_from-found-requires-clause-leaves : goal.place_from-found-requires-clause-leaves
-place_from-found-requires-clause-leaves c = leaves-grows c.args.arena.now.trees c.loop-i.arena.trees c.args.old.now c.loop-i.invariant.grows c.requires.leaves
+pub add_some-requires-clause-leaves : goal.add_some-requires-clause-leaves
+add_some-requires-clause-leaves c = leaves-grows c.args.arena.now.trees c.loop-i.arena.trees c.args.old.now c.loop-i.invariant.going.grows c.requires.leaves
 
-pub leaf_for-requires-clause-leaves : goal.leaf_for-requires-clause-leaves
-leaf_for-requires-clause-leaves c = leaves-grows c.args.arena.now.trees c.loop-i.arena.trees c.args.old.now c.loop-i.invariant.grows c.requires.leaves
+pub add_some-requires-clause-last : goal.add_some-requires-clause-last
+add_some-requires-clause-last c = ap (is_sorted text_cmp) (pairs-grows c.args.arena.now.trees c.loop-i.arena.trees c.args.old.now c.loop-i.invariant.going.grows c.requires.leaves.0) ∙ c.requires.last
 
-pub place_behind-at-requires-clause-leaves : goal.place_behind-at-requires-clause-leaves
-place_behind-at-requires-clause-leaves c =
-    leaves-grows c.args.arena.now.trees c.leaf_for.new.arena.trees c.args.old.now (grows_on _ c.loop-i.arena.trees _ c.loop-i.invariant.grows c.leaf_for.ensures.grows) c.requires.leaves
-
-ok_is : (r : Result ℕ AllocError) (x y : ℕ) → r ≡ Ok x → r ≡ Ok y → x ≡ y
-ok_is r x y a b = cc
+pub add_some-requires-clause-found : goal.add_some-requires-clause-found
+add_some-requires-clause-found c =
+    subst (λ (pairs : Pairs). IsFoundFrom pairs c.loop-i.at (drop (length c.loop-i.row.items) c.args.entries.now))
+    (sym (pairs-grows c.args.arena.now.trees c.loop-i.arena.trees c.args.old.now c.loop-i.invariant.going.grows c.requires.leaves.0)) c.loop-i.invariant.going.added.found
 
 pub loop-i-preserved : goal.loop-i-preserved
 loop-i-preserved c =
     let before = c.args.arena.now.trees in
-    let trees = c.loop-i.arena.trees in
-    let after = c.leaf_for.new.arena.trees in
     let old = c.args.old.now in
-    let entries : Pairs = c.args.entries.now in
-    let i = c.loop-i.i in
-    let row = c.loop-i.row.items in
-    let leaf = c.in_ok-leaf.leaf in
-    let entry = c.index-entries-i.result in
-    let found = c.place_from-found.result in
-    let behind = c.place_behind-at.result in
     let last : Pairs = row_pairs before old in
-    let l : i < length entries = let within = c.requires.end in let test = c.loop-i-test.true in omega arith in
-    let is : entry ≡ get_or entries i entry = c.index-entries-i.is in
-    let all = grows_on before trees after c.loop-i.invariant.grows c.leaf_for.ensures.grows in
-    let held : row_pairs trees old ≡ last = pairs-grows before trees old c.loop-i.invariant.grows c.requires.leaves.0 in
-    let held_after : row_pairs after old ≡ last = pairs-grows before after old all c.requires.leaves.0 in
-    let rest : drop found last ≡ from_key entry.0 (drop c.loop-i.at last) =
-    subst (λ (ps : Pairs). drop found ps ≡ from_key entry.0 (drop c.loop-i.at ps)) held
-    (c.place_from-found.ensures.rest ∙ ap (λ key. from_key key (drop c.loop-i.at (row_pairs trees old))) c.key.ensures)
-    in
-    let past : drop behind last ≡ behind_key entry.0 (drop found last) =
-    subst (λ (ps : Pairs). drop behind ps ≡ behind_key entry.0 (drop found ps)) held_after
-    (c.place_behind-at.ensures.rest ∙ ap (λ key. behind_key key (drop found (row_pairs after old))) c.key-in-loop-i.ensures)
-    in
-    let counted_last = length-row_pairs before old in
-    let within : found ≤ length last = let w = c.place_from-found.ensures.within in omega arith in
-    let step =
-    stepped last entries i c.loop-i.at found behind entry (rising_from_sorted last c.requires.last) (rising_from_sorted entries c.requires.sorted) l is within c.loop-i.invariant.found rest past
-    in
-    let more = step.count in
-    let steps : c.leaf_for.new.arena.steps ≤ c.loop-i.arena.steps + 2 * is_new entry (drop found last) =
-    subst (λ (ps : Pairs). c.leaf_for.new.arena.steps ≤ c.loop-i.arena.steps + 2 * is_new entry (drop found ps)) held c.leaf_for.ensures.steps
-    in
-    let so_far = c.loop-i.invariant.steps in
-    let least : CountsAtLeast (2 * is_new entry (drop found last)) c.loop-i.arena.steps c.leaf_for.new.arena.steps =
-    subst (λ (ps : Pairs). CountsAtLeast (2 * is_new entry (drop found ps)) c.loop-i.arena.steps c.leaf_for.new.arena.steps) held c.in_ok-leaf.ensures.least
-    in
-    let all_steps : ℕ = 2 * count_new last (drop (length c.args.row.now.items) entries) in
-    let counted = c.loop-i.invariant.counted in
-    let items = c.in_ok-push.ensures.items in
-    let longer = ap length items ∙ length_push row leaf in
-    record {
-      first =
-          subst (HasFirst after entries) (sym items)
-          (first_more trees after entries row leaf entry c.loop-i.invariant.first c.leaf_for.ensures.grows (omega arith) (is ∙ ap (λ n. get_or entries n entry) (sym counted)) c.in_ok-leaf.ensures.leaf c.in_ok-leaf.ensures.there);
-      front =
-          ap (take (length c.args.row.now.items)) items
-          ∙ take-append-le (length c.args.row.now.items) row (leaf ∷ []) (let from = c.loop-i.auto.i in let n = c.len-i.ensures in let k = c.args.row.now.ok.0 in omega arith)
-          ∙ c.loop-i.invariant.front;
-      counted = omega arith;
-      grows = all;
-      place = c.place_behind-at.ensures.within;
-      found = step.next;
-      steps = omega arith;
-      least =
-          least_on all_steps (2 * is_new entry (drop found last)) (2 * count_new last (drop i entries)) (2 * count_new last (drop (i + 1) entries)) c.args.arena.now.steps c.loop-i.arena.steps
-          c.leaf_for.new.arena.steps (omega arith) least c.loop-i.invariant.least;
-      same = λ same.
-          let now = c.loop-i.invariant.same same in
-          let w = step.same same in
-          let there = w.0 in
-          let kept : is_new entry (drop found last) ≡ 0 → leaf ≡ get_or old (length row) 0 =
-          λ none.
-          ok_is c.leaf_for.result leaf (get_or old found 0) c.in_ok-leaf.was
-          (subst (λ (ps : Pairs). is_new entry (drop found ps) ≡ 0 → c.leaf_for.result ≡ Ok (get_or old found 0)) held c.leaf_for.ensures.kept none)
-          ∙ ap (λ n. get_or old n 0) (w.1 ∙ sym counted)
+    let start = c.args.row.now.items in
+    let going = c.loop-i.invariant.going in
+    let i = c.loop-i.i in
+    let goes = λ (arena : ArenaModel) (row : List ℕ) (at : ℕ). Going last c.args.entries.now before old start c.args.arena.now.steps c.args.end (i + 1) arena row at in
+    let counted = c.len.ensures in
+    let counts = c.loop-i.row.ok.0 in
+    let next : goes c.if-len-i.arena c.if-len-i.row.items c.if-len-i.at =
+    elim c.if-len-i.branch [
+      | then-len-i+in_ok-at w ↦
+          let same = w.if-len-i.true in
+          let on =
+          going_on last c.args.entries.now before old start c.loop-i.row.items w.add_some.new.row.items c.args.arena.now.steps c.args.end i c.loop-i.arena w.add_some.new.arena c.loop-i.at w.in_ok-at.at
+          c.requires.leaves refl going (omega arith) w.in_ok-at.ensures.more w.in_ok-at.ensures.end w.add_some.ensures.grows w.in_ok-at.ensures.added
           in
-          let pushed = differing-push row old leaf (is_new entry (drop found last)) (omega arith) kept in
-          let pushed_row : differing_count c.push.new.self.items old ≡ differing_count (row ++ leaf ∷ []) old = ap (λ row. differing_count row old) items in
-          omega arith;
-    }
+          subst (λ arena. goes arena c.if-len-i.row.items c.if-len-i.at) (sym w.arena-is)
+          (subst (λ row. goes w.add_some.new.arena row.items c.if-len-i.at) (sym w.row-is) (subst (goes w.add_some.new.arena w.add_some.new.row.items) (sym w.at-is) on))
+      | else-len-i w ↦
+          let other = w.if-len-i.false in
+          let stays : goes c.loop-i.arena c.loop-i.row.items c.loop-i.at =
+          record { added = going.added; longer = let longer = going.longer in omega arith; within = going.within; grows = going.grows }
+          in
+          subst (λ arena. goes arena c.if-len-i.row.items c.if-len-i.at) (sym w.arena-is)
+          (subst (λ row. goes c.loop-i.arena row.items c.if-len-i.at) (sym w.row-is) (subst (goes c.loop-i.arena c.loop-i.row.items) (sym w.at-is) stays))
+    ]
+    in
+    record { going = next }
 
 pub loop-i-init : goal.loop-i-init
 loop-i-init c =
-    let before = c.args.arena.now.trees in
-    let row = c.args.row.now.items in
-    let entries : Pairs = c.args.entries.now in
-    let last : Pairs = row_pairs before c.args.old.now in
-    let n : length row ≡ c.len-i.result = let a = c.len-i.ensures in let k = c.args.row.now.ok.0 in omega arith in
-    let counts : count_new last (drop (length row) entries) ≡ count_new last (drop c.len-i.result entries) = ap (λ n. count_new last (drop n entries)) n in
+    let n = c.len-i.ensures in
+    let k = c.args.row.now.ok.0 in
     record {
-      first = c.requires.first;
-      front = take_all (length row) row (omega arith);
-      counted = n;
-      grows = grows_not before;
-      place = c.requires.place;
-      found = subst (λ n. IsFoundFrom last c.args.place (drop n entries)) n c.requires.found;
-      steps = omega arith;
-      least = least_kept (2 * count_new last (drop (length row) entries)) (2 * count_new last (drop c.len-i.result entries)) c.args.arena.now.steps (omega arith);
-      same = λ same. omega arith;
+      going =
+          going_first (row_pairs c.args.arena.now.trees c.args.old.now) c.args.entries.now c.args.arena.now.trees c.args.old.now c.args.row.now.items c.args.end c.len-i.result c.args.arena.now c.args.place
+          c.requires.first c.requires.place c.requires.found refl (omega arith) c.requires.from;
     }
