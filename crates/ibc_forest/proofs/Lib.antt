@@ -2,6 +2,7 @@ pub mod Levels
 pub mod Arenas
 pub mod AddedLeaves
 pub mod Pairing
+pub mod Gathered
 pub mod Descents
 pub mod Climbing
 pub mod Workings

@@ -1,11 +1,11 @@
 -- Rows of nodes as nodes come.
 use Rattle.std.proofs.Common.{◌≡◌, ℕ, zero, suc, ◌+◌, ◌-◌, ◌*◌, ◌/◌, ◌%◌, ◌<◌, ◌≤◌, List, [], ◌∷◌, ◌++◌, length, get_or, take, drop, refl, sym, ap, ap₂, ◌∙◌, subst, arith, length-append, append_assoc, append-nil}
-use Rattle.std.proofs.lemmas.List.{length-map, length-drop, map-append, map_push, drop-map, drop_more, drop_all}
-use Rattle.std.proofs.lemmas.List.Elements.{All-head, All-tail, All-append, All-drop, All-push, All-weaker}
+use Rattle.std.proofs.lemmas.List.{length-map, length-drop, map-append, drop-map, drop_more, drop_all}
+use Rattle.std.proofs.lemmas.List.Elements.{All-head, All-tail, All-append, All-drop, All-weaker}
 use Rattle.ibc_merkle.specs.Tree.{Tree, Node}
 use Rattle.ibc_forest.specs.Levels.{pair_up, tree_over, tree_at, trees_at}
 use Rattle.ibc_forest.specs.Nodes.{Grows}
-use Rattle.ibc_forest.specs.NodeLevels.{Stand}
+use Rattle.ibc_forest.specs.NodeLevels.{AreFirstAbove, Stand}
 use Rattle.ibc_forest.proofs.Arenas.{tree_at-append}
 use Rattle.ibc_forest.proofs.Levels.{over-pair_up, length-pair_up}
 
@@ -31,7 +31,7 @@ trees_at-grows a b [] g all = refl
 trees_at-grows a b (n ∷ row) g all =
     ap₂ ◌∷◌ (tree_at-grows a b n g (All-head (λ n. n < length a) n row all)) (trees_at-grows a b row g (All-tail (λ n. n < length a) n row all))
 
--- ---- one pair more
+-- ---- pairs so far
 
 -- what is paired so far, and what is left to pair
 pub record Paired (trees : List Tree) (before : List Tree) (row above : List ℕ) (i : ℕ) : Type 0 where
@@ -39,11 +39,11 @@ pub record Paired (trees : List Tree) (before : List Tree) (row above : List ℕ
   pub level : trees_at trees above ++ pair_up (trees_at before (drop (2 * i) row)) ≡ pair_up (trees_at before row)
   pub counted : length above ≡ i
 
-abbrev double : ℕ → ℕ
+abbrev pub double : ℕ → ℕ
 double zero = zero
 double (suc n) = suc (suc (double n))
 
-double_is : (n : ℕ) → double n ≡ 2 * n
+pub double_is : (n : ℕ) → double n ≡ 2 * n
 double_is zero = refl
 double_is (suc n) = let rest = double_is n in omega arith
 
@@ -76,29 +76,10 @@ paired_known trees row known above stand is same =
       counted = refl;
     })
 
-pub paired_more : (before trees after : List Tree) (row above : List ℕ) (i parent : ℕ) → Paired trees before row above i → 2 * i + 1 < length row
-    → Grows trees after → parent < length after
-    → tree_at after parent ≡ Node (tree_at before (get_or row (2 * i) 0)) (tree_at before (get_or row (2 * i + 1) 0))
-    → Paired after before row (above ++ parent ∷ []) (i + 1)
-paired_more before trees after row above i parent paired within grows there made =
-    let left = get_or row (2 * i) 0 in
-    let right = get_or row (2 * i + 1) 0 in
-    let rest : List ℕ = drop (2 * (i + 1)) row in
-    let opened : drop (2 * i) row ≡ left ∷ right ∷ rest =
-    drop_more row (2 * i) 0 (omega arith)
-    ∙ ap (λ xs. left ∷ xs) (drop_more row (2 * i + 1) 0 within ∙ ap (λ n. right ∷ drop n row) (let e : 2 * i + 1 + 1 ≡ 2 * (i + 1) = omega arith in e))
-    in
-    let pair = Node (tree_at before left) (tree_at before right) in
-    let so_far = trees_at trees above in
-    record {
-      stand = All-push (λ n. n < length after) above parent (stand-grows trees after above grows paired.stand) there;
-      level =
-          ap (λ xs. xs ++ pair_up (trees_at before rest)) (map_push (tree_at after) above parent ∙ ap₂ (λ xs tree. xs ++ tree ∷ []) (trees_at-grows trees after above grows paired.stand) made)
-          ∙ append_assoc so_far (pair ∷ []) (pair_up (trees_at before rest))
-          ∙ ap (λ xs. so_far ++ pair_up (trees_at before xs)) (sym opened)
-          ∙ paired.level;
-      counted = let n = paired.counted in length-append above (parent ∷ []) ∙ (let e : length above + 1 ≡ i + 1 = omega arith in e);
-    }
+-- ---- the first nodes above a row, and what is paired so far
+
+pub paired_first : (trees : List Tree) (row above : List ℕ) (i : ℕ) → i ≡ length above → AreFirstAbove trees row above → Paired trees trees row above i
+paired_first trees row above i is first = subst (Paired trees trees row above) (sym is) (paired_known trees row above above first.0 first.2 refl)
 
 -- ---- an odd last node goes up as it is
 

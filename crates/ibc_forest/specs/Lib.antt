@@ -12,5 +12,6 @@ pub mod NodeMoves
 pub mod NewPairs
 pub mod Nodes
 pub mod NodeLevels
+pub mod Gathered
 pub mod Replacements
 pub mod Shelves

@@ -1,5 +1,5 @@
 -- Rows of nodes: the levels of a tree.
-use Rattle.std.specs.Prelude.{◌≡◌, ℕ, zero, suc, ◌+◌, ◌/◌, ◌^◌, ◌<◌, ◌≤◌, List, [], ◌∷◌, ◌++◌, length, map, slice_set, ⊤, Vec}
+use Rattle.std.specs.Prelude.{◌≡◌, ℕ, zero, suc, ◌+◌, ◌*◌, ◌/◌, ◌^◌, ◌<◌, ◌≤◌, List, [], ◌∷◌, ◌++◌, length, map, take, slice_set, ⊤, Vec}
 use Rattle.std.specs.List.{All}
 use Rattle.std.specs.declared.alloc.Global.{Global}
 use Rattle.ibc_merkle.specs.Tree.{Tree}
@@ -8,6 +8,11 @@ use Rattle.ibc_forest.specs.Levels.{pair_up, trees_at}
 -- all numbers of a row are those of nodes
 abbrev pub Stand : List Tree → List ℕ → Type 0
 Stand trees row = All (λ number. number < length trees) row
+
+-- the first nodes one level above a row
+abbrev pub AreFirstAbove : List Tree → List ℕ → List ℕ → Type 0
+AreFirstAbove trees row above =
+    Stand trees above × (2 * length above ≤ length row) × (trees_at trees above ≡ pair_up (take (2 * length above) (trees_at trees row)))
 
 -- each row is one level above the row before it, and the last has one node
 abbrev pub AreLevels : List Tree → List ℕ → List (List ℕ) → Type 0

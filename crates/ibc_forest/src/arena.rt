@@ -12,7 +12,7 @@ ghost use Rattle.ibc_forest.specs.Nodes.{tree_of_node, ChildrenStand, IsRight, G
 use crate::node::{ArenaNode, Below, KnownParent};
 use crate::nodes::Nodes;
 use crate::shared_entry::SharedEntry;
-use ibc_lanes::{hash_four_leaves, hash_four_values};
+use ibc_lanes::{InnerPair, hash_four_leaves, hash_four_values};
 use ibc_merkle::{Steps, hash_inner, hash_leaf, hash_value};
 use std::alloc::{AllocError, Global};
 use std::marker::Model;
@@ -216,8 +216,8 @@ impl Arena {
         }
     }
 
-    // The node over two nodes that the left one remembers, if it does.
-    fn remembered(&self, left: usize, right: usize) -> Option<usize>
+    /// The node over two nodes that the left one remembers, if it does.
+    pub fn remembered(&self, left: usize, right: usize) -> Option<usize>
         requires { left < length self.now.trees }
         ensures made { IfSome result (λ number. tree_at self.now.trees number ≡ Node (tree_at self.now.trees left) (tree_at self.now.trees right)) }
         ensures there { IfSome result (λ number. number < length self.now.trees) }
@@ -229,10 +229,9 @@ impl Arena {
         None
     }
 
-    // A new node over two nodes, which the left one remembers: one text is hashed.
+    /// A new node over two nodes, which the left one remembers: one text is hashed.
     #[inline(never)]
-    #[tactic(auto, using(crate::proofs::Arenas::first_left))]
-    fn join(&mut self, left: usize, right: usize) -> Result<usize, AllocError>
+    pub fn join(&mut self, left: usize, right: usize) -> Result<usize, AllocError>
         requires left { left < length self.old.trees }
         requires right { right < length self.old.trees }
         ensures made { IfOk result (λ number. tree_at self.new.trees number ≡ Node (tree_at self.old.trees left) (tree_at self.old.trees right)) }
@@ -243,6 +242,21 @@ impl Arena {
     {
         let (left_digest, right_digest) = (self.digest(left), self.digest(right));
         let digest = hash_inner(&left_digest, &right_digest, &mut self.steps);
+        self.add_over(left, right, digest)
+    }
+
+    // Adds the node over two nodes with its digest. The left one remembers it. Nothing is hashed.
+    #[tactic(auto, using(crate::proofs::Arenas::first_left))]
+    fn add_over(&mut self, left: usize, right: usize, digest: [u8; 32]) -> Result<usize, AllocError>
+        requires left { left < length self.old.trees }
+        requires right { right < length self.old.trees }
+        requires digest { digest ≡ root (Node (tree_at self.old.trees left) (tree_at self.old.trees right)) }
+        ensures made { IfOk result (λ number. tree_at self.new.trees number ≡ Node (tree_at self.old.trees left) (tree_at self.old.trees right)) }
+        ensures there { IfOk result (λ number. number < length self.new.trees) }
+        ensures number { IfOk result (λ number. number ≡ length self.old.trees) }
+        ensures grows { Grows self.old.trees self.new.trees }
+        ensures steps { self.new.steps ≡ self.old.steps }
+    {
         let first = self.nodes.first(left);
         let parent = self.add(ArenaNode {
             digest,
@@ -251,6 +265,38 @@ impl Arena {
         })?;
         self.note(left, right, parent);
         Ok(parent)
+    }
+
+    /// The digests of two nodes.
+    pub fn digests_of(&self, left: usize, right: usize) -> InnerPair
+        requires left { left < length self.now.trees }
+        requires right { right < length self.now.trees }
+        ensures left { result.left ≡ root (tree_at self.now.trees left) }
+        ensures right { result.right ≡ root (tree_at self.now.trees right) }
+    {
+        InnerPair {
+            left: self.digest(left),
+            right: self.digest(right),
+        }
+    }
+
+    /// Adds the node over two nodes with its digest, whose text is counted here. The left one remembers it.
+    pub fn join_hashed(
+        &mut self,
+        left: usize,
+        right: usize,
+        digest: [u8; 32],
+    ) -> Result<usize, AllocError>
+        requires left { left < length self.old.trees }
+        requires right { right < length self.old.trees }
+        requires digest { digest ≡ root (Node (tree_at self.old.trees left) (tree_at self.old.trees right)) }
+        ensures made { IfOk result (λ number. tree_at self.new.trees number ≡ Node (tree_at self.old.trees left) (tree_at self.old.trees right)) }
+        ensures there { IfOk result (λ number. number < length self.new.trees) }
+        ensures grows { Grows self.old.trees self.new.trees }
+        ensures steps { self.new.steps ≡ one_more self.old.steps }
+    {
+        self.steps.add();
+        self.add_over(left, right, digest)
     }
 
     // Lets the left one of two nodes remember the node over them, if their numbers are small enough.

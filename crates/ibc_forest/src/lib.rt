@@ -7,6 +7,7 @@ mod chunks;
 mod descent;
 mod forest;
 mod gap;
+mod joining;
 mod laws;
 mod leaves;
 mod moving;
@@ -21,6 +22,7 @@ mod rows;
 mod shared_entry;
 mod shared_tree;
 mod shelf;
+mod waiting;
 mod working;
 
 pub use forest::Forest;

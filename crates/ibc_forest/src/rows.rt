@@ -1,12 +1,15 @@
 //! Rows of nodes: the levels of a tree.
 
-ghost use Rattle.std.specs.Prelude.{◌≡◌, ◌+◌, ◌*◌, ◌/◌, ◌<◌, ◌≤◌, ◌++◌, length, take, drop, IfOk, OnOk};
+ghost use Rattle.std.specs.Prelude.{◌≡◌, ℕ, ◌+◌, ◌*◌, ◌/◌, ◌<◌, ◌≤◌, ◌++◌, length, take, drop, IfOk, OnOk};
 ghost use Rattle.ibc_forest.specs.Counts.{CountsAtLeast};
 ghost use Rattle.ibc_forest.specs.Levels.{pair_up, trees_at};
 ghost use Rattle.ibc_forest.specs.Nodes.{Grows};
-ghost use Rattle.ibc_forest.specs.NodeLevels.{Stand};
+ghost use Rattle.ibc_forest.specs.NodeLevels.{AreFirstAbove, Stand};
+ghost use Rattle.ibc_forest.specs.Gathered.{FrontStays, PairedBut, WaitBehind};
 
 use crate::arena::Arena;
+use crate::joining::make_waiting;
+use crate::waiting::Waiting;
 use std::alloc::{AllocError, Global};
 
 // Adds the last node of a row of an odd number of nodes.
@@ -18,6 +21,61 @@ fn add_odd(above: &mut Vec<usize>, row: &[usize]) -> Result<(), AllocError>
     }
     above.push(row[row.len() - 1])?;
     Ok(())
+}
+
+// Adds the node over the next pair of a row, if the left node remembers it. Else the place waits, and the number of the left node
+// stands there until the node is made. Four that wait are made at once.
+fn add_pair(
+    arena: &mut Arena,
+    above: &mut Vec<usize>,
+    row: &[usize],
+    place: usize,
+    waiting: &mut Waiting,
+) -> Result<(), AllocError>
+    requires row { Stand arena.old.trees row.now }
+    requires place { place ≡ length above.old.items }
+    requires within { 2 * place + 1 < length row.now }
+    requires room { length waiting.old < 4 }
+    requires gathered { PairedBut arena.old.trees row.now above.old.items waiting.old }
+    ensures gathered { OnOk result (PairedBut arena.new.trees row.now above.new.items waiting.new) }
+    ensures room { OnOk result (length waiting.new < 4) }
+    ensures counted { OnOk result (length above.new.items ≡ length above.old.items + 1) }
+    ensures front { OnOk result (FrontStays waiting.old above.old.items above.new.items) }
+    ensures behind { OnOk result ((first : ℕ) → first ≤ place → WaitBehind first waiting.old → WaitBehind first waiting.new) }
+    ensures grows { Grows arena.old.trees arena.new.trees }
+    ensures steps { OnOk result (arena.new.steps + length waiting.new ≤ arena.old.steps + length waiting.old + 1) }
+    ensures least { OnOk result (CountsAtLeast 0 arena.old.steps arena.new.steps) }
+{
+    let (left, right) = (row[2 * place], row[2 * place + 1]);
+    if let Some(parent) = arena.remembered(left, right) {
+        above.push(parent)?;
+        return Ok(());
+    }
+    above.push(left)?;
+    waiting.push(place);
+    if waiting.is_full() {
+        return make_waiting(arena, above, row, waiting);
+    }
+    Ok(())
+}
+
+// Adds the nodes over the next pairs of a row. Those that nobody remembers are made by fours.
+fn add_pairs(arena: &mut Arena, above: &mut Vec<usize>, row: &[usize]) -> Result<(), AllocError>
+    requires row { Stand arena.old.trees row.now }
+    requires above { AreFirstAbove arena.old.trees row.now above.old.items }
+    ensures above { OnOk result (AreFirstAbove arena.new.trees row.now above.new.items) }
+    ensures front { OnOk result (take (length above.old.items) above.new.items ≡ above.old.items) }
+    ensures half { OnOk result (length above.new.items ≡ length row.now / 2) }
+    ensures grows { Grows arena.old.trees arena.new.trees }
+    ensures steps { OnOk result (arena.new.steps + length above.old.items ≤ arena.old.steps + length above.new.items) }
+    ensures least { OnOk result (CountsAtLeast 0 arena.old.steps arena.new.steps) }
+{
+    let pairs = row.len() / 2;
+    let mut waiting = Waiting::new();
+    for place in above.len()..pairs {
+        add_pair(arena, above, row, place, &mut waiting)?;
+    }
+    make_waiting(arena, above, row, &mut waiting)
 }
 
 // The row one level above a row, whose first so many nodes are known. Each other pair is hashed that its left node doesn't
@@ -43,11 +101,7 @@ pub(crate) fn row_above(
 {
     let mut above = Vec::with_capacity(alloc, row.len().div_ceil(2))?;
     above.extend_from_slice(known)?;
-    let pairs = row.len() / 2;
-    for i in known.len()..pairs {
-        let parent = arena.pair(row[2 * i], row[2 * i + 1])?;
-        above.push(parent)?;
-    }
+    add_pairs(arena, &mut above, row)?;
     add_odd(&mut above, row)?;
     Ok(above)
 }
