@@ -79,8 +79,7 @@ impl Model for NodeMemory {
 }
 
 impl NodeMemory {
-    /// A memory of nothing yet. It asks for its room when it is first used, and where that is refused it remembers
-    /// nothing.
+    /// A memory of nothing yet, and without room.
     pub fn new(alloc: Global) -> NodeMemory {
         NodeMemory {
             alloc,
@@ -88,23 +87,23 @@ impl NodeMemory {
         }
     }
 
+    /// Asks for the room, where there is none yet. Where it is refused, nothing is remembered until it is asked for again.
+    pub(crate) fn ask(&mut self) {
+        if !self.nodes.is_empty() {
+            return;
+        }
+        if let Ok(nodes) = known_nodes(self.alloc) {
+            self.nodes = nodes;
+        }
+    }
+
     // The hash of a node's text.
     fn hash_of(&mut self, text: &[u8; NODE_LEN]) -> [u8; 32]
         ensures { result ≡ hash text.now }
     {
-        if self.nodes.is_empty() {
-            self.ask();
-        }
         match self.nodes.get_mut(slot_of(text)) {
             Some(node) => node.hash_of(text),
             None => Sha256::digest(text.as_slice()),
-        }
-    }
-
-    // Asks for the room. Where it is refused, there is none.
-    fn ask(&mut self) {
-        if let Ok(nodes) = known_nodes(self.alloc) {
-            self.nodes = nodes;
         }
     }
 }
@@ -118,10 +117,10 @@ impl NodeHasher for NodeMemory {
     }
 }
 
-// One node, in every slot.
+// One node, in every slot. Where there is no room, none is hashed.
 fn known_nodes(alloc: Global) -> Result<Vec<KnownNode>, AllocError> {
-    let first = KnownNode::of(&[0; NODE_LEN]);
     let mut nodes = Vec::with_capacity(alloc, SLOTS)?;
+    let first = KnownNode::of(&[0; NODE_LEN]);
     for _ in 0..SLOTS {
         nodes.push(first.copy())?;
     }

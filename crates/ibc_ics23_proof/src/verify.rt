@@ -29,6 +29,7 @@ pub fn verify_present_with(
 ) -> bool
     ensures { result ≡ proofs.accepts_present proof.now root.now key.now value.now }
 {
+    memory.ask();
     is_present(memory, proof, root, key, value)
 }
 
@@ -45,6 +46,7 @@ pub fn verify_absent(proof: &Proof, root: &Root, key: &[u8]) -> bool
 pub fn verify_absent_with(memory: &mut NodeMemory, proof: &Proof, root: &Root, key: &[u8]) -> bool
     ensures { result ≡ proofs.accepts_absent proof.now root.now key.now }
 {
+    memory.ask();
     is_absent(memory, proof, root, key)
 }
 
