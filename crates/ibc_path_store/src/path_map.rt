@@ -82,6 +82,19 @@ impl PathMap {
         ensures err { OnErr result (self.new.pairs ≡ self.old.pairs) }
         ensures shares { (last : Pairs) → Shares self.old.touched last self.old.pairs → Shares self.new.touched last self.new.pairs }
     {
+        let outcome = self.put(path, value);
+        self.merge_many();
+        outcome
+    }
+
+    // Sets the value of a path. A new one waits.
+    fn put(&mut self, path: String, value: Bytes) -> Result<(), AllocError>
+        ensures ok { OnOk result (self.new.pairs ≡ with text_cmp (string_bytes path) value self.old.pairs) }
+        ensures reserved { 0 < self.old.room → IsOk result }
+        ensures room { self.old.room ≤ self.new.room + 1 }
+        ensures err { OnErr result (self.new.pairs ≡ self.old.pairs) }
+        ensures shares { (last : Pairs) → Shares self.old.touched last self.old.pairs → Shares self.new.touched last self.new.pairs }
+    {
         let key = Bytes::from_vec(path.into_bytes());
         match find(self.entries.as_slice(), self.settled, key.as_slice()) {
             Ok(Position { row, index }) => {
@@ -96,6 +109,17 @@ impl PathMap {
                 self.touched.touch(index, 0, 1);
                 Ok(())
             }
+        }
+    }
+
+    // Puts the pairs that wait in their places where they are many, so that neither an insert nor a merge moves more than
+    // some few times the root of their number for each.
+    fn merge_many(&mut self)
+        ensures { self.new ≡ record self.old { waiting = self.new.waiting } }
+    {
+        let pairs = self.entries.len();
+        if are_many(pairs - self.settled, pairs) {
+            self.merge();
         }
     }
 
@@ -157,4 +181,9 @@ impl PathMap {
     {
         self.entries.as_slice()
     }
+}
+
+// Whether so many pairs that wait are more than twice the root of the number of all.
+fn are_many(waiting: usize, pairs: usize) -> bool {
+    waiting.saturating_mul(waiting) / 4 > pairs
 }
