@@ -1,12 +1,12 @@
 -- The gaps of a map that is touched at a place.
-use Rattle.std.proofs.Common.{◌≡◌, ℕ, suc, ◌+◌, ◌-◌, ◌<◌, ◌≤◌, Bool, true, false, cond, List, [], ◌∷◌, ◌++◌, length, get_or, take, drop, set, sym, ap, ap₂, ◌∙◌, subst, arith, inl, inr, length-drop, nat_lt, nat_le, Option, Some, None}
+use Rattle.std.proofs.Common.{◌≡◌, ℕ, suc, ◌+◌, ◌-◌, ◌<◌, ◌≤◌, Bool, true, false, cond, List, [], ◌∷◌, ◌++◌, length, get_or, take, drop, set, take-append-drop, refl, sym, ap, ap₂, ◌∙◌, subst, arith, inl, inr, length-drop, nat_lt, nat_le, Option, Some, None}
 use Rattle.std.proofs.lemmas.Bool.{cases_lt, lt-ltb, le-ltb, le-leb, lt-leb, cond-true, cond-false, false≢true}
 use Rattle.std.proofs.lemmas.List.{append-nil, append_assoc, take_all, drop_more, drop_all, drop-drop, drop-take, take-take, take_more, take_at, drop_at, length-take-le, set_split}
 use Rattle.std.specs.List.{insert}
 use Rattle.ibc_merkle.specs.Tree.{Pairs}
 use Rattle.ibc_forest.specs.Gaps.{DifferIn}
 use Rattle.ibc_forest.specs.declared.gap.Gap.{Gap}
-use Rattle.ibc_path_store.specs.GapChanges.{Shares, IsReplaced, no_gap, with_shorter_front, with_replacement}
+use Rattle.ibc_path_store.specs.GapChanges.{Shares, IsReplaced, IsMark, standing, no_gap, with_shorter_front, with_replacement}
 
 abbrev own : ℕ → ℕ → ℕ → Gap
 own index gone come = record { kept = index; gone = gone; come = come }
@@ -145,6 +145,40 @@ touched_further gaps i before gone come gap l is behind past =
     ap (λ (gs : List Gap). take i gaps ++ with_replacement gs before gone come) opened
     ∙ ap (λ (gs : List Gap). take i gaps ++ gs) (cond-false (nat_lt before gap.kept) _ _ (le-ltb before gap.kept behind) ∙ cond-false (nat_le (before - gap.kept + gone) gap.come) _ _ (lt-leb (before - gap.kept + gone) gap.come past))
     ∙ sym (ap (λ (gs : List Gap). gs ++ next) taken ∙ append_assoc (take i gaps) (gap ∷ []) next)
+
+-- ---- gaps that are passed
+
+standing-append : (xs ys : List Gap) → standing (xs ++ ys) ≡ standing xs + standing ys
+standing-append [] ys = let e : standing ys ≡ 0 + standing ys = omega arith in e
+standing-append (x ∷ xs) ys = let rest = standing-append xs ys in omega arith
+
+passed_all : (xs ys : List Gap) (index gone come : ℕ) → standing xs < index
+    → with_replacement (xs ++ ys) index gone come ≡ xs ++ with_replacement ys (index - standing xs) gone come
+passed_all [] ys index gone come past = ap (λ n. with_replacement ys n gone come) (let e : index ≡ index - 0 = omega arith in e)
+passed_all (gap ∷ xs) ys index gone come past =
+    let far : gap.kept + gap.come + standing xs < index = past in
+    let at : ℕ = index - gap.kept - gap.come in
+    cond-false (nat_lt index gap.kept) _ _ (le-ltb index gap.kept (omega arith))
+    ∙ cond-false (nat_le (index - gap.kept + gone) gap.come) _ _ (lt-leb (index - gap.kept + gone) gap.come (omega arith))
+    ∙ ap (λ (gs : List Gap). gap ∷ gs) (passed_all xs ys at gone come (omega arith))
+    ∙ ap (λ n. gap ∷ (xs ++ with_replacement ys n gone come)) (let e : at - standing xs ≡ index - (gap.kept + gap.come + standing xs) = omega arith in e)
+
+pub touched_behind : (gaps : List Gap) (number before index gone come : ℕ) → IsMark gaps number before → before < index
+    → with_replacement gaps index gone come ≡ take number gaps ++ with_replacement (drop number gaps) (index - before) gone come
+touched_behind gaps number before index gone come mark past =
+    sym (ap (λ (gs : List Gap). with_replacement gs index gone come) (take-append-drop number gaps))
+    ∙ passed_all (take number gaps) (drop number gaps) index gone come (subst (λ n. n < index) (sym mark.counted) past)
+    ∙ ap (λ n. take number gaps ++ with_replacement (drop number gaps) (index - n) gone come) mark.counted
+
+pub standing_further : (gaps : List Gap) (i before index gone : ℕ) (gap : Gap) → i < length gaps → gap ≡ get_or gaps i gap → gone ≤ 1 → gap.kept ≤ before
+    → gap.come < before - gap.kept + gone → standing (take i gaps) + before ≡ index → standing (take (i + 1) gaps) + (before - gap.kept - gap.come) ≡ index
+standing_further gaps i before index gone gap l is one behind past counted =
+    let taken : take (i + 1) gaps ≡ take i gaps ++ gap ∷ [] = take_more gaps i gap l ∙ ap (λ (g : Gap). take i gaps ++ g ∷ []) (sym is) in
+    let all : standing (take (i + 1) gaps) ≡ standing (take i gaps) + (gap.kept + gap.come + 0) = ap standing taken ∙ standing-append (take i gaps) (gap ∷ []) in
+    omega arith
+
+pub mark_none : (gaps : List Gap) → IsMark gaps 0 0
+mark_none gaps = record { there = omega arith; counted = refl }
 
 -- in front of a gap, or behind all
 pub touched_own : (gaps : List Gap) (number before gone come : ℕ) → number ≤ length gaps → (number < length gaps → before < (get_or gaps number no_gap).kept)

@@ -19,6 +19,16 @@ pub record IsReplaced (pairs after : Pairs) (index gone come : ℕ) : Type 0 whe
 abbrev pub no_gap : Gap
 no_gap = record { kept = 0; gone = 0; come = 0 }
 
+-- how many pairs stand in these gaps and in front of them
+abbrev pub standing : List Gap → ℕ
+standing [] = 0
+standing (gap ∷ gaps) = gap.kept + gap.come + standing gaps
+
+-- so many gaps are the first ones, and so many pairs stand in them and in front of them
+pub record IsMark (gaps : List Gap) (number before : ℕ) : Type 0 where
+  pub there : number ≤ length gaps
+  pub counted : standing (take number gaps) ≡ before
+
 -- in front of the first gap stay so many fewer
 abbrev pub with_shorter_front : List Gap → ℕ → List Gap
 with_shorter_front [] fewer = []

@@ -2,46 +2,75 @@
 
 ghost use Rattle.std.specs.Prelude.{◌≡◌, ◌+◌, ◌-◌, ◌<◌, ◌≤◌, ◌++◌, ◌∷◌, [], ℕ, true, false, Some, length, take, drop, slice_set, slice_index_or, option_map};
 ghost use Rattle.ibc_merkle.specs.Tree.{Pairs};
-ghost use Rattle.ibc_path_store.specs.GapChanges.{Shares, IsReplaced, no_gap, with_shorter_front, with_replacement};
+ghost use Rattle.ibc_path_store.specs.GapChanges.{Shares, IsReplaced, IsMark, standing, no_gap, with_shorter_front, with_replacement};
 
 use ibc_forest::Gap;
 use std::alloc::Global;
 use std::marker::Model;
 
+/// The first gaps, and how many pairs stand in them and in front of them.
+#[derive(Clone, Copy, Drop, Debug)]
+struct Mark {
+    number: usize,
+    before: usize,
+}
+
+impl Mark {
+    // No gap.
+    fn none() -> Mark
+        ensures number { result.number ≡ 0 }
+        ensures before { result.before ≡ 0 }
+    {
+        Mark {
+            number: 0,
+            before: 0,
+        }
+    }
+}
+
 /// The gaps in which a map was touched since it was settled, in the order of its pairs. Where there is no memory for one more,
-/// they are lost, and any pair may have been touched. Contracts see the gaps, or none where they are lost.
+/// they are lost, and any pair may have been touched. The mark stands before the gap that was touched last. Contracts see the
+/// gaps, or none where they are lost.
 #[derive(Drop, Debug)]
 pub struct Touched {
     gaps: Vec<Gap>,
     lost: bool,
+    mark: Mark,
 }
 
 impl Model for Touched {
     ghost use Rattle.std.specs.Prelude.{Option, Some, None, List, true, false};
     ghost use Rattle.ibc_forest.specs.declared.gap.Gap.{Gap};
+    ghost use Rattle.ibc_path_store.specs.GapChanges.{IsMark};
 
     ghost Value = { Option (List Gap) };
 
     ghost view = { λ with_replacement. elim with_replacement.lost [ true ↦ None | false ↦ Some with_replacement.gaps.items ] };
+
+    ghost invariant = { λ touched. IsMark touched.gaps.items touched.mark.number touched.mark.before };
 }
 
 impl Touched {
     /// No pair was touched.
+    #[tactic(auto, using(crate::proofs::Touching::mark_none))]
     pub fn none(alloc: Global) -> Touched
         ensures { result ≡ Some [] }
     {
         Touched {
             gaps: Vec::new(alloc),
             lost: false,
+            mark: Mark::none(),
         }
     }
 
     /// Begins anew: no pair was touched.
+    #[tactic(auto, using(crate::proofs::Touching::mark_none))]
     pub fn clear(&mut self)
         ensures { self.new ≡ Some [] }
     {
         self.gaps.clear();
         self.lost = false;
+        self.mark = Mark::none();
     }
 
     /// The gaps, or none where they are lost.
@@ -55,7 +84,7 @@ impl Touched {
     }
 
     /// Notes that at a place so many pairs, one at most, were replaced by so many others.
-    #[tactic(auto, using(crate::proofs::Touching::shares_lost, crate::proofs::Touching::shares_touched))]
+    #[tactic(auto, using(crate::proofs::Touching::shares_lost, crate::proofs::Touching::mark_none))]
     pub fn touch(&mut self, index: usize, gone: usize, come: usize)
         requires { gone ≤ 1 }
         ensures { (last pairs after : Pairs) → Shares self.old last pairs → IsReplaced pairs after index gone come → Shares self.new last after }
@@ -63,9 +92,15 @@ impl Touched {
         if self.lost {
             return;
         }
-        if touch_gaps(&mut self.gaps, index, gone, come) {
+        let (number, before) = place_of(self.gaps.as_slice(), self.mark, index, gone);
+        if touch_gaps(&mut self.gaps, number, before, gone, come) {
+            self.mark = Mark {
+                number,
+                before: index - before,
+            };
             return;
         }
+        self.mark = Mark::none();
         self.lost = true;
     }
 }
@@ -79,16 +114,34 @@ fn is_in(gap: Gap, before: usize, gone: usize) -> bool
     gone <= gap.come && before - gap.kept <= gap.come - gone
 }
 
-// The number of the gap in which or in front of which a place lies, and how many pairs stand between the gap before and the place.
-#[tactic(auto, using(crate::proofs::Touching::touched_further))]
-fn place_of(gaps: &[Gap], index: usize, gone: usize) -> (usize, usize)
-    requires { gone ≤ 1 }
+// The gaps that are in front of a place: those of the mark, where the place lies behind them, or none.
+#[tactic(auto, using(crate::proofs::Touching::touched_behind, crate::proofs::Touching::mark_none))]
+fn passed(gaps: &[Gap], mark: Mark, index: usize) -> Mark
+    requires { IsMark gaps.now mark.number mark.before }
+    ensures mark { IsMark gaps.now result.number result.before }
+    ensures behind { result.before ≤ index }
+    ensures rest { (gone come : ℕ) → with_replacement gaps.now index gone come ≡ take result.number gaps.now ++ with_replacement (drop result.number gaps.now) (index - result.before) gone come }
+{
+    if mark.before < index {
+        mark
+    } else {
+        Mark::none()
+    }
+}
+
+// The number of the gap in which or in front of which a place lies, and how many pairs stand between the gap before and the
+// place. The gaps of the mark are not looked at where they are in front of it.
+fn place_of(gaps: &[Gap], mark: Mark, index: usize, gone: usize) -> (usize, usize)
+    requires one { gone ≤ 1 }
+    requires mark { IsMark gaps.now mark.number mark.before }
     ensures within { result.0 ≤ length gaps.now }
+    ensures counted { standing (take result.0 gaps.now) + result.1 ≡ index }
     ensures rest { (come : ℕ) → with_replacement gaps.now index gone come ≡ take result.0 gaps.now ++ with_replacement (drop result.0 gaps.now) result.1 gone come }
     ensures inside { let gap = slice_index_or gaps.now result.0 no_gap in result.0 < length gaps.now → gap.kept ≤ result.1 → result.1 - gap.kept + gone ≤ gap.come }
 {
-    let mut before = index;
-    for i in 0..gaps.len() {
+    let first = passed(gaps, mark, index);
+    let mut before = index - first.before;
+    for i in first.number..gaps.len() {
         let gap = gaps[i];
         if before < gap.kept || is_in(gap, before, gone) {
             return (i, before);
@@ -138,13 +191,15 @@ fn put(gaps: &mut Vec<Gap>, number: usize, gap: Gap) -> bool
     gaps.insert(number, gap).is_ok()
 }
 
-// Notes among gaps that at a place so many pairs were replaced by so many others. Answers whether there is room for it.
+// Notes in a gap or in front of it, or behind all, that behind so many pairs so many were replaced by so many others. Answers
+// whether there is room for it.
 #[tactic(auto, using(crate::proofs::Touching::touched_own, crate::proofs::Touching::touched_wide))]
-fn touch_gaps(gaps: &mut Vec<Gap>, index: usize, gone: usize, come: usize) -> bool
-    requires { gone ≤ 1 }
-    ensures { result ≡ true → gaps.new.items ≡ with_replacement gaps.old.items index gone come }
+fn touch_gaps(gaps: &mut Vec<Gap>, number: usize, before: usize, gone: usize, come: usize) -> bool
+    requires one { gone ≤ 1 }
+    requires within { number ≤ length gaps.old.items }
+    requires inside { let gap = slice_index_or gaps.old.items number no_gap in number < length gaps.old.items → gap.kept ≤ before → before - gap.kept + gone ≤ gap.come }
+    ensures { result ≡ true → gaps.new.items ≡ take number gaps.old.items ++ with_replacement (drop number gaps.old.items) before gone come }
 {
-    let (number, before) = place_of(gaps.as_slice(), index, gone);
     if number < gaps.len() && gaps[number].kept <= before {
         return widen(gaps.as_mut_slice(), number, gone, come);
     }
