@@ -310,6 +310,22 @@ all_fair row i total fair done = list_all-from_AllPass (is_fair row) row (λ k d
         (eq-eqb (count_by (is_same_holding h) row) 1 (omega (arith, most, within, own)))
         (lt-ltb (total_of h.1 row) (2 ^ 128) small)
 
+-- ---- another denomination
+
+-- where a denomination is no base one, the holdings aren't fair
+pub not_base : (row : List Holding) → list_all (λ (h : Holding). is_base_denom h.1) row ≡ false → are_fair row ≡ false
+not_base row other = go (are_fair row) refl
+  where
+    go : (b : Bool) → are_fair row ≡ b → b ≡ false
+    go false e = refl
+    go true e =
+        let base = list_all-from_AllPass (λ (h : Holding). is_base_denom h.1) row
+        (λ k d inside. let h = get_or row k d in
+        let ok = AllPass-from_list_all (is_fair row) row e k d inside in
+        let three = (and_parts ((is_user h.0 && is_base_denom h.1) && eqb (count_by (is_same_holding h) row) 1) (ltb (total_of h.1 row) (2 ^ 128)) ok).0 in
+        (and_parts (is_user h.0) (is_base_denom h.1) (and_parts (is_user h.0 && is_base_denom h.1) (eqb (count_by (is_same_holding h) row) 1) three).0).1) in
+        sym base ∙ other
+
 -- ---- another order
 
 module _ (xs ys : List Holding) (same : IsPermutation xs ys) where

@@ -2,6 +2,7 @@
 
 ghost use Rattle.std.specs.Prelude.{◌≡◌, ◌^◌, nat_lt};
 ghost use Rattle.std.specs.List.{list_all, count_by};
+ghost use Rattle.ibc_ids.specs.Names.{is_base_denom};
 ghost use Rattle.ibc_machine.specs.chain.Genesis.{genesis_state, has_limits, is_same_holding, is_fair, is_allowed, total_of};
 
 use crate::sorted_holdings::{are_fair_in_order, sorted_holdings};
@@ -32,15 +33,26 @@ fn has_limits(genesis: &Genesis) -> bool
         && genesis.window <= genesis.capacity
 }
 
-// Sorted, n holdings are checked in n log n steps. Where memory for that is refused, each is compared with all.
+// The denominations alone are looked at first. Sorted, n holdings are checked in n log n steps. Where memory for that is
+// refused, each is compared with all.
 fn is_fair_start(start: &ChainStart) -> bool
     ensures { result ≡ list_all (is_fair start.now.balances.items) start.now.balances.items }
 {
     let holdings = start.balances.as_slice();
+    if !are_base(holdings) {
+        return false;
+    }
     match sorted_holdings(*start.balances.allocator(), holdings) {
         Ok(sorted) => are_fair_in_order(&sorted),
         Err(AllocError) => are_fair(holdings),
     }
+}
+
+// Whether all denominations are base ones.
+fn are_base(holdings: &[(UserName, Denom, u128)]) -> bool
+    ensures { result ≡ list_all (λ holding. is_base_denom holding.1) holdings.now }
+{
+    holdings.iter().all(|holding| holding.1.is_base())
 }
 
 fn are_fair(holdings: &[(UserName, Denom, u128)]) -> bool

@@ -1,10 +1,17 @@
--- The same holdings in another order.
-use Rattle.std.proofs.Common.{◌∙◌, map, subst, ◌≡◌}
+-- A denomination is no base one, or these are the same holdings in another order.
+use Rattle.std.proofs.Common.{◌∙◌, map, sym, subst, ◌≡◌, false}
 use Rattle.std.specs.List.{list_all}
-use Rattle.ibc_machine.specs.chain.Genesis.{is_fair}
+use Rattle.ibc_ids.specs.Names.{is_base_denom}
+use Rattle.ibc_machine.specs.chain.Genesis.{Holding, is_fair}
 use Rattle.ibc_ledger.specs.SortedHoldings.{AreSortedHoldings, shown}
-use Rattle.ibc_ledger.proofs.SortedRows.{fair_in_any_order}
+use Rattle.ibc_ledger.proofs.SortedRows.{not_base, fair_in_any_order}
 use Rattle.ibc_ledger.proofs.genesis.is_fair_start.Goals as goal
+
+pub returns-then-not-are_base : goal.returns-then-not-are_base
+returns-then-not-are_base c =
+    let holdings = c.args.start.now.balances.items in
+    let other = subst (λ xs. list_all (λ (h : Holding). is_base_denom h.1) xs ≡ false) c.as_slice-holdings.ensures.value (sym c.if-not-are_base.ensures) in
+    sym (not_base holdings other)
 
 pub returns-in-Ok : goal.returns-in-Ok
 returns-in-Ok c =
