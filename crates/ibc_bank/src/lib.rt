@@ -12,3 +12,4 @@ mod sorted_starts;
 
 pub use bank::Bank;
 pub use moves::{Move, Source};
+pub use sorted_starts::references;

@@ -20,8 +20,8 @@ pub(crate) fn sorted_by_user<'a>(
     Ok(sorted)
 }
 
-// References to the holdings.
-fn references<'a>(
+/// References to the holdings, in their order. Refused where there is no memory for 8 bytes a holding.
+pub fn references<'a>(
     alloc: Global,
     holdings: &'a [(UserName, Denom, u128)],
 ) -> Result<Vec<&'a (UserName, Denom, u128)>, AllocError>

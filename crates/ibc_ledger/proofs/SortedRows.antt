@@ -15,20 +15,17 @@ use Rattle.std.specs.Ordering.{ordering_index, ordering_then}
 use Rattle.std.proofs.lemmas.Bool.{and_parts, and_from, false≢true, le-ltb, lt-ltb}
 use Rattle.std.proofs.lemmas.Cmp.{tied_itself, on_total, then_total}
 use Rattle.std.proofs.lemmas.List.Folds.{list_all_at}
-use Rattle.std.proofs.lemmas.List.Sorted.{searchable_from_sorted, sum_by-IsPermutation, All-permutation, IsPermutation-sym}
+use Rattle.std.proofs.lemmas.List.Sorted.{searchable_from_sorted}
 use Rattle.std.proofs.lemmas.List.Sums.{sum_by-cons, sum_by_more, sum_by_more_le, count_by_more_yes, count_by_more_no, AllPass-from_list_all, list_all-from_AllPass}
 use Rattle.ibc_ids.specs.Texts.{Text, same_text, text_cmp}
 use Rattle.ibc_ids.specs.Names.{is_user, is_base_denom}
 use Rattle.ibc_ids.proofs.Texts.{text_same, same_text_itself, same_text_from, text_cmp_total, text_tied, text_ties}
 use Rattle.ibc_machine.specs.chain.Genesis.{Holding, is_same_holding, is_fair, total_of}
-use Rattle.ibc_ledger.specs.SortedHoldings.{AreSorted, AreFairSoFar, IsStanding, holding_cmp, shown}
+use Rattle.ibc_bank.specs.SortedStarts.{shown}
+use Rattle.ibc_bank.proofs.AnyOrder.{same_answer}
+use Rattle.ibc_ledger.specs.SortedHoldings.{AreSorted, AreFairSoFar, IsStanding, holding_cmp}
 
 -- ---- tests and orders
-
-same_answer : (a b : Bool) → (a ≡ true → b ≡ true) → (b ≡ true → a ≡ true) → a ≡ b
-same_answer true b f g = sym (f refl)
-same_answer false true f g = g refl
-same_answer false false f g = refl
 
 equal_from : (o : Ordering) → is_eq o ≡ true → o ≡ Equal
 equal_from Equal e = refl
@@ -107,13 +104,6 @@ none_yet f (suc i) (x ∷ xs) d within none =
     let here = none 0 (omega arith) in
     let rest = none_yet f i xs d (omega arith) (λ k below. none (suc k) (omega arith)) in
     sum_by-cons f x (take i xs) ∙ omega (arith, here, rest)
-
--- the row at place i, read through a reference
-pub read_at : (row : List (Bor Holding)) (i : ℕ) (r : Bor Holding) → i < length row → r ≡ get_or row i r → (d : Holding) → get_or (map shown row) i d ≡ r.now
-read_at row i r inside is d = get_or-map shown row i r d inside ∙ ap shown (sym is)
-
-pub shown_inside : (row : List (Bor Holding)) (i : ℕ) → i < length row → i < length (map shown row)
-shown_inside row i inside = let many = length-map row shown in omega arith
 
 -- what a test of two texts says
 bytes_eq-same : (x y : Text) → bytes_eq x y ≡ same_text x y
@@ -326,22 +316,7 @@ not_base row other = go (are_fair row) refl
         (and_parts (is_user h.0) (is_base_denom h.1) (and_parts (is_user h.0 && is_base_denom h.1) (eqb (count_by (is_same_holding h) row) 1) three).0).1) in
         sym base ∙ other
 
--- ---- another order
-
-module _ (xs ys : List Holding) (same : IsPermutation xs ys) where
-  as_fair : (h : Holding) → is_fair ys h ≡ is_fair xs h
-  as_fair h =
-      ap (λ n. ((is_user h.0 && is_base_denom h.1) && eqb n 1) && ltb (total_of h.1 ys) (2 ^ 128)) (sum_by-IsPermutation (one_if_same h) xs ys same)
-      ∙ ap (λ n. ((is_user h.0 && is_base_denom h.1) && eqb (count_by (is_same_holding h) xs) 1) && ltb n (2 ^ 128)) (sum_by-IsPermutation (amount h.1) xs ys same)
-
-  pass_alike : (p : Holding → Bool) → list_all p ys ≡ list_all p xs
-  pass_alike p =
-      same_answer (list_all p ys) (list_all p xs)
-      (λ e. list_all-from_AllPass p xs (All-permutation (λ x. p x ≡ true) ys xs (IsPermutation-sym xs ys same) (AllPass-from_list_all p ys e)))
-      (λ e. list_all-from_AllPass p ys (All-permutation (λ x. p x ≡ true) xs ys same (AllPass-from_list_all p xs e)))
-
-  pub fair_in_any_order : are_fair ys ≡ are_fair xs
-  fair_in_any_order = ap (λ p. list_all p ys) (λ i h. as_fair h i) ∙ pass_alike (is_fair xs)
+-- ---- references
 
 -- the references stand in the order of what they show
 pub sorted_shown : (row : List (Bor Holding)) → IsSortedBy (λ a b. is_lt (holding_cmp (shown a) (shown b))) row → AreSorted (map shown row)

@@ -1,7 +1,6 @@
 -- Holdings in the order of their denominations, and those of one denomination in the order of their users.
 use Rattle.std.specs.Prelude.{◌≡◌, ℕ, ◌<◌, ◌≤◌, ◌-◌, ◌^◌, true, false, List, take, slice_index_or, count_by}
 use Rattle.std.specs.Ordering.{ordering_then}
-use Rattle.std.specs.Borrow.{Bor}
 use Rattle.std.specs.List.Sorted.{IsPermutation, IsSorted}
 use Rattle.std.specs.declared.cmp.Ordering.{Ordering}
 use Rattle.ibc_ids.specs.Texts.{text_cmp}
@@ -14,10 +13,6 @@ holding_cmp a b = ordering_then (text_cmp a.1 b.1) (text_cmp a.0 b.0)
 
 abbrev pub AreSorted : List Holding → Type 0
 AreSorted holdings = IsSorted holding_cmp holdings
-
--- the holding behind a reference
-abbrev pub shown : Bor Holding → Holding
-shown reference = reference.now
 
 -- the same holdings, sorted
 pub record AreSortedHoldings (holdings row : List Holding) : Type 0 where

@@ -3,8 +3,10 @@
 ghost use Rattle.std.specs.Prelude.{◌≡◌, ◌<◌, ◌+◌, false, map, length, IfOk, IfSome, IfNone};
 ghost use Rattle.std.specs.List.{list_all};
 ghost use Rattle.ibc_machine.specs.chain.Genesis.{is_fair};
-ghost use Rattle.ibc_ledger.specs.SortedHoldings.{AreSorted, AreSortedHoldings, AreFairSoFar, IsStanding, holding_cmp, shown};
+ghost use Rattle.ibc_ledger.specs.SortedHoldings.{AreSorted, AreSortedHoldings, AreFairSoFar, IsStanding, holding_cmp};
+ghost use Rattle.ibc_bank.specs.SortedStarts.{shown};
 
+use ibc_bank::references;
 use ibc_ids::{Denom, UserName};
 use std::alloc::{AllocError, Global};
 use std::cmp::Ordering;
@@ -16,22 +18,9 @@ pub(crate) fn sorted_holdings<'a>(
 ) -> Result<Vec<&'a (UserName, Denom, u128)>, AllocError>
     ensures { IfOk result (λ sorted. AreSortedHoldings holdings.now (map shown sorted.items)) }
 {
-    let mut sorted = listed(alloc, holdings)?;
+    let mut sorted = references(alloc, holdings)?;
     sorted.sort_unstable_by(|a, b| compare(a, b));
     Ok(sorted)
-}
-
-fn listed<'a>(
-    alloc: Global,
-    holdings: &'a [(UserName, Denom, u128)],
-) -> Result<Vec<&'a (UserName, Denom, u128)>, AllocError>
-    ensures { IfOk result (λ list. map shown list.items ≡ holdings.now) }
-{
-    let mut list = Vec::with_capacity(alloc, holdings.len())?;
-    for holding in holdings {
-        list.push(holding)?;
-    }
-    Ok(list)
 }
 
 fn compare(a: &(UserName, Denom, u128), b: &(UserName, Denom, u128)) -> Ordering

@@ -3,8 +3,10 @@ use Rattle.std.proofs.Common.{◌∙◌, map, sym, subst, ◌≡◌, false}
 use Rattle.std.specs.List.{list_all}
 use Rattle.ibc_ids.specs.Names.{is_base_denom}
 use Rattle.ibc_machine.specs.chain.Genesis.{Holding, is_fair}
-use Rattle.ibc_ledger.specs.SortedHoldings.{AreSortedHoldings, shown}
-use Rattle.ibc_ledger.proofs.SortedRows.{not_base, fair_in_any_order}
+use Rattle.ibc_bank.specs.SortedStarts.{shown}
+use Rattle.ibc_bank.proofs.AnyOrder.{fair_in_any_order}
+use Rattle.ibc_ledger.specs.SortedHoldings.{AreSortedHoldings}
+use Rattle.ibc_ledger.proofs.SortedRows.{not_base}
 use Rattle.ibc_ledger.proofs.genesis.is_fair_start.Goals as goal
 
 pub returns-then-not-are_base : goal.returns-then-not-are_base

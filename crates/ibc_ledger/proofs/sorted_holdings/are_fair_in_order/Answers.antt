@@ -1,7 +1,7 @@
 -- At the end each is fair.
 use Rattle.std.proofs.Common.{map, sym, arith}
 use Rattle.std.proofs.lemmas.List.{length-map}
-use Rattle.ibc_ledger.specs.SortedHoldings.{shown}
+use Rattle.ibc_bank.specs.SortedStarts.{shown}
 use Rattle.ibc_ledger.proofs.SortedRows.{all_fair}
 use Rattle.ibc_ledger.proofs.sorted_holdings.are_fair_in_order.Goals as goal
 

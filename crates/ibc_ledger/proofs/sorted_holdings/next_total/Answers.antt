@@ -2,8 +2,10 @@
 use Rattle.std.proofs.Common.{◌≡◌, ◌+◌, ◌<◌, ◌^◌, map, sym, false}
 use Rattle.std.specs.List.{list_all}
 use Rattle.ibc_machine.specs.chain.Genesis.{is_fair}
-use Rattle.ibc_ledger.specs.SortedHoldings.{AreFairSoFar, shown}
-use Rattle.ibc_ledger.proofs.SortedRows.{read_at, shown_inside, no_base, one_more, too_large, if_fits, if_too_large}
+use Rattle.ibc_bank.specs.SortedStarts.{shown}
+use Rattle.ibc_bank.proofs.AnyOrder.{read_at, shown_inside}
+use Rattle.ibc_ledger.specs.SortedHoldings.{AreFairSoFar}
+use Rattle.ibc_ledger.proofs.SortedRows.{no_base, one_more, too_large, if_fits, if_too_large}
 use Rattle.ibc_ledger.proofs.sorted_holdings.next_total.Goals as goal
 
 pub returns-then-not-is_base-clause-unfair : goal.returns-then-not-is_base-clause-unfair

@@ -2,7 +2,8 @@
 use Rattle.std.proofs.Common.{map, ap, subst, is_lt, rules}
 use Rattle.std.specs.List.Sorted.{IsPermutation}
 use Rattle.std.proofs.lemmas.List.Sorted.{ranks_by, answers_always, IsPermutation-map}
-use Rattle.ibc_ledger.specs.SortedHoldings.{shown, holding_cmp}
+use Rattle.ibc_bank.specs.SortedStarts.{shown}
+use Rattle.ibc_ledger.specs.SortedHoldings.{holding_cmp}
 use Rattle.ibc_ledger.proofs.SortedRows.{holding_total, sorted_shown}
 use Rattle.ibc_ledger.proofs.sorted_holdings.sorted_holdings.Goals as goal
 

@@ -1,7 +1,8 @@
 -- The holding before is of another denomination, of another user, or the same.
 use Rattle.std.proofs.Common.{◌-◌, map, arith}
-use Rattle.ibc_ledger.specs.SortedHoldings.{shown}
-use Rattle.ibc_ledger.proofs.SortedRows.{read_at, shown_inside, text_answer, stands_apart, stands_more, twice}
+use Rattle.ibc_bank.specs.SortedStarts.{shown}
+use Rattle.ibc_bank.proofs.AnyOrder.{read_at, shown_inside}
+use Rattle.ibc_ledger.proofs.SortedRows.{text_answer, stands_apart, stands_more, twice}
 use Rattle.ibc_ledger.proofs.sorted_holdings.total_before.Goals as goal
 
 pub returns-then-ne-clause-standing : goal.returns-then-ne-clause-standing
