@@ -1,4 +1,4 @@
 pub mod EndPackets
 pub mod EndPairs
 pub mod UsedClients
-pub mod AwaitingEnds
+pub mod Senders

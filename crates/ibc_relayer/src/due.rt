@@ -64,5 +64,5 @@ pub fn has_peer(mine: &Channel, port: &PortId, channel: &ChannelId) -> bool
     let Some(peer) = &end.peer_channel else {
         return false;
     };
-    *port == end.peer_port && *peer == *channel
+    *peer == *channel && *port == end.peer_port
 }

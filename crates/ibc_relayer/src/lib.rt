@@ -2,11 +2,11 @@
 //! turns, and several at the same time.
 #![tactic(auto)]
 
-mod awaiting;
 mod due;
 mod ends;
 mod messages;
 mod planning;
+mod senders;
 mod turns;
 mod workers;
 

@@ -12,11 +12,11 @@ ghost use Rattle.ibc_machine.specs.ics18.Relay as relay;
 ghost use Rattle.ibc_machine.specs.ics18.Relay.{pending_at, pending_message, update_of};
 ghost use Rattle.ibc_records.specs.ClientModels.{abstract_client};
 ghost use Rattle.ibc_relayer.specs.EndPairs.{IsEndPair, IsFoundEndPair};
-ghost use Rattle.ibc_relayer.specs.AwaitingEnds.{AreAwaiting};
+ghost use Rattle.ibc_relayer.specs.Senders.{AreSenders};
 ghost use Rattle.ibc_relayer.specs.UsedClients.{is_over_client, AreUsed, is_to_update};
 
-use crate::awaiting::{EndNames, awaiting_ends, is_idle};
 use crate::ends::{Ends, ends_of};
+use crate::senders::{few_senders, is_open_or_closed, is_silent};
 use ibc_ids::{ChannelId, ClientId, PortId, Refusal};
 use ibc_ledger::View;
 use ibc_records::{Channel, Client};
@@ -45,8 +45,7 @@ pub fn plan(alloc: Global, a: &View, b: &View) -> Result<Vec<Message>, Refusal>
     Ok(plan)
 }
 
-// The messages about packets, and the clients over which they go. Where memory runs out for the ends to which packets are on
-// the way, each end is looked up.
+// The messages about packets, and the clients over which they go.
 fn plan_packets(
     alloc: Global,
     a: &View,
@@ -59,9 +58,9 @@ fn plan_packets(
     ensures used { IfOk result (λ used. AreUsed b.now (flat_map (pending_at a.now b.now) b.now.core.channels) used.entries) }
     ensures err { IsOkUnless result NoMemory }
 {
-    let awaiting = awaiting_ends(alloc, a.plain()).ok();
-    let used = plan_ends(alloc, a, b, &awaiting, messages);
-    drop(awaiting);
+    let senders = few_senders(alloc, a.plain(), b.plain());
+    let used = plan_ends(alloc, a, b, &senders, messages);
+    drop(senders);
     used
 }
 
@@ -70,11 +69,11 @@ fn plan_ends(
     alloc: Global,
     a: &View,
     b: &View,
-    awaiting: &Option<EndNames>,
+    senders: &Option<Vec<&Channel>>,
     messages: &mut Vec<Message>,
 ) -> Result<Used, Refusal>
     requires height { 0 < a.now.height }
-    requires awaiting { IfSome awaiting.now (λ names. AreAwaiting a.now.core.channels names.entries) }
+    requires senders { IfSome senders.now (λ senders. AreSenders a.now.core.channels senders.items) }
     requires empty { messages.old.items ≡ [] }
     ensures ok { OnOk result (messages.new.items ≡ filter_map (pending_message a.now b.now) (flat_map (pending_at a.now b.now) b.now.core.channels)) }
     ensures used { IfOk result (λ used. AreUsed b.now (flat_map (pending_at a.now b.now) b.now.core.channels) used.entries) }
@@ -84,7 +83,7 @@ fn plan_ends(
     let all = b.plain().channels();
     all.lemma_in_order();
     for (end, mine) in all.iter() {
-        if let Some(ends) = busy_ends(a, b, awaiting, end, mine)? {
+        if let Some(ends) = busy_ends(a, b, senders, end, mine)? {
             plan_end(alloc, &ends, messages, &mut used)?;
         }
     }
@@ -92,20 +91,23 @@ fn plan_ends(
 }
 
 // An end of `b` with its peer on `a`, where a message may be due there.
-#[tactic(auto, using(crate::proofs::Idle::idle_none))]
+#[tactic(auto, using(crate::proofs::Idle::silent_none, crate::proofs::Idle::unopened_none))]
 fn busy_ends<'v>(
     a: &'v View,
     b: &'v View,
-    awaiting: &Option<EndNames>,
+    senders: &Option<Vec<&Channel>>,
     end: &'v (PortId, ChannelId),
     mine: &'v Channel,
 ) -> Result<Option<Ends<'v>>, Refusal>
-    requires { IfSome awaiting.now (λ names. AreAwaiting a.now.core.channels names.entries) }
+    requires { IfSome senders.now (λ senders. AreSenders a.now.core.channels senders.items) }
     ensures ok { IfOk result (IsFoundEndPair a.now b.now end.now.0 end.now.1 mine.now) }
     ensures err { IsOkUnless result NoMemory }
 {
-    if let Some(names) = awaiting {
-        if is_idle(names, end, mine) {
+    if !is_open_or_closed(mine) {
+        return Ok(None);
+    }
+    if let Some(senders) = senders {
+        if is_silent(senders, end, mine) {
             return Ok(None);
         }
     }
