@@ -188,7 +188,9 @@ impl<R: Wait, W: WorldBrand> Chains for Shared<'_, R, W> {
     fn block(&self, chain: u8, height: u64) -> Option<CommittedBlock> {
         let starts = &self.starts;
         let shared = self.chain(chain)?;
-        let read = shared.events_from(self.rt, 0, |history| starts.block(chain, history, height));
+        let read = shared.events_from(self.rt, 0, |history| {
+            starts.ledger_block(chain, history, height)
+        });
         read.0
     }
 

@@ -103,7 +103,7 @@ impl Chains for ScriptWorld {
 
     fn block(&self, chain: u8, height: u64) -> Option<CommittedBlock> {
         let ledger = self.world.ledger(chain)?;
-        self.starts.block(chain, ledger.history(), height)
+        self.starts.ledger_block(chain, ledger.history(), height)
     }
 
     fn working_time(&self, chain: u8) -> Result<u64, Refusal> {

@@ -13,6 +13,8 @@ mod gathered;
 #[cfg(test)]
 mod handing;
 #[cfg(test)]
+mod heights;
+#[cfg(test)]
 mod histories;
 #[cfg(test)]
 mod holding;
