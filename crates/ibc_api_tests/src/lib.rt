@@ -14,6 +14,8 @@ mod genesis;
 #[cfg(test)]
 mod listed_tokens;
 #[cfg(test)]
+mod names;
+#[cfg(test)]
 mod pair;
 #[cfg(test)]
 mod path_store;

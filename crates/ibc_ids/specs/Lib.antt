@@ -4,3 +4,4 @@ pub mod Names
 pub mod Paths
 pub mod Publications
 pub mod Refusals
+pub mod Storage

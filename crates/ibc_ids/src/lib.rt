@@ -10,6 +10,7 @@ mod key;
 mod kinds;
 mod list;
 mod name;
+mod name_text;
 mod path;
 mod publication;
 mod refusal;

@@ -5,24 +5,26 @@ ghost use Rattle.std.specs.Ordering.{nat_cmp};
 ghost use Rattle.std.specs.Cmp.{on_equiv, on_total, on_po, on_per, partial_equiv_from_equiv};
 ghost use Rattle.std.specs.Cmp.Lexicographic.{slice_cmp, nat_list_eq_equiv, nat_list_cmp_total, texts_ties, texts_po};
 
+use crate::name_text::NameText;
 use crate::{NameKind, Refusal};
 use std::alloc::{AllocError, Global};
 use std::cmp::Ordering;
 use std::marker::{Model, PhantomData};
 
-/// A text of one kind, as a client's identifier or a denomination. Contracts see it as its bytes.
+/// A text of one kind, as a client's identifier or a denomination. Contracts see it as its bytes. A short one takes no
+/// memory of its own.
 #[derive(Drop, Debug)]
 pub struct Name<K: NameKind> {
-    text: String,
+    text: NameText,
     kind: PhantomData<K>,
 }
 
 impl<K: NameKind> Model for Name<K> {
     ghost Value = { List ℕ };
 
-    ghost view = { λ a. string_bytes a.text };
+    ghost view = { λ a. a.text };
 
-    ghost invariant = { λ a. IsTrue (K.form (string_bytes a.text)) };
+    ghost invariant = { λ a. IsTrue (K.form a.text) };
 }
 
 impl<K: NameKind> Name<K> {
@@ -36,7 +38,7 @@ impl<K: NameKind> Name<K> {
             return Err(Refusal::BadName);
         }
         Ok(Name {
-            text: String::from_str(alloc, text)?,
+            text: NameText::copy_of(alloc, text)?,
             kind: PhantomData,
         })
     }
@@ -48,7 +50,7 @@ impl<K: NameKind> Name<K> {
     {
         if K::has_form(text.as_bytes()) {
             Ok(Name {
-                text,
+                text: NameText::from_string(text),
                 kind: PhantomData,
             })
         } else {
@@ -81,7 +83,7 @@ impl<K: NameKind> Name<K> {
     pub fn lemma_has_form(&self)
         ensures { IsTrue (K.form self.now) }
     {
-        let _text = self.as_str();
+        let _text = &self.text;
     }
 }
 

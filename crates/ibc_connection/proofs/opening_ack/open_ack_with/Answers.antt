@@ -22,6 +22,6 @@ pub returns : goal.returns
 returns c =
     let old = c.args.records.now in
     λ chains seen state knows.
-    end_taken _ old c.set_connection.new.self c.in_ok-clone.field-0 c.in_ok-judged.field-0 c.set_connection.result
+    end_taken _ old c.set_connection-2.new.self c.in_ok-clone.field-0 c.in_ok-judged.field-0 c.set_connection-2.result
     (c.in_ok-judged.ensures chains seen state knows ∙ ap (λ id. Ok (effect.None, with_connection id c.in_ok-judged.field-0 (core_of old))) (sym c.in_ok-clone.ensures.cases))
-    c.set_connection.ensures.ok c.set_connection.ensures.err c.set_connection.ensures.unchanged
+    c.set_connection-2.ensures.ok c.set_connection-2.ensures.err c.set_connection-2.ensures.unchanged
