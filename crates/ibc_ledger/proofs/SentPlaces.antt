@@ -23,7 +23,7 @@ use Rattle.ibc_machine.specs.declared.event.Event.TheVariants as event
 use Rattle.ibc_machine.specs.declared.reply.Effect.TheVariants as effect
 use Rattle.ibc_machine.specs.declared.reply.Reply.TheVariants as reply
 
-by_sent_name : TellsApart sent_cmp
+pub by_sent_name : TellsApart sent_cmp
 by_sent_name = record {
   self = λ k. rw (by_pair.self k.0, by_number.self k.1);
   exact = λ x y e. exact_pairs pair_cmp nat_cmp by_pair.exact by_number.exact x y e;

@@ -7,7 +7,7 @@ ghost use Rattle.ibc_ledger.specs.SentNames.{sender_of, name_if_sent, sent_cmp, 
 
 use ibc_ids::{ChannelId, PortId};
 use ibc_machine::{Effect, Reply};
-use ibc_maps::SortedMap;
+use ibc_maps::SharedMap;
 use ibc_wire::Message;
 use std::alloc::{AllocError, Global};
 use std::marker::Model;
@@ -16,7 +16,7 @@ use std::marker::Model;
 pub type Sender = (PortId, ChannelId);
 
 // The places by the ends and sequences of the packets.
-type Places = SortedMap<(Sender, u64), usize>;
+type Places = SharedMap<(Sender, u64), usize>;
 
 /// The places in a history of the packets that were sent in it, by their ends and sequences (ICS 4, "sendPacket").
 /// Contracts see the places by name, and for how many more there is room.
