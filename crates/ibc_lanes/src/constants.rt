@@ -1,4 +1,4 @@
-// The constants of SHA-256 (FIPS 180-4, sections 4.2.2 and 5.3.3).
+//! The constants of SHA-256 (FIPS 180-4, sections 4.2.2 and 5.3.3).
 
 // K 0 to K 63.
 pub(crate) const ROUND_CONSTANTS: [u32; 64] = [

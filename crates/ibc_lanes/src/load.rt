@@ -1,4 +1,4 @@
-// The words of a block of each of four texts (FIPS 180-4, section 5.2.1).
+//! The words of a block of each of four texts (FIPS 180-4, section 5.2.1).
 
 ghost use Rattle.std.specs.Prelude.{◌≡◌, ℕ, ◌+◌, ◌<◌, ◌≤◌, [], drop, slice_index, slice_index_or, take};
 ghost use Rattle.sha2.specs.Sha256.{first_words, word_at};

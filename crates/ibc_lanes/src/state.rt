@@ -1,4 +1,4 @@
-// The hash values of four texts, before the first block and behind the last.
+//! The hash values of four texts, before the first block and behind the last.
 
 ghost use Rattle.std.specs.Prelude.{◌≡◌, ℕ, ◌<◌, [], ◌∷◌};
 ghost use Rattle.sha2.specs.Sha256.{digest_bytes, initial_hash_256};

@@ -1,3 +1,5 @@
+//! Four hashes at a time, beside the hash of each text.
+
 use crate::{InnerPair, digest_four, hash_four_inner, hash_four_leaves};
 use ibc_merkle::{Steps, hash_inner, hash_leaf, hash_value};
 

@@ -1,4 +1,4 @@
-// The functions of SHA-256 on words, four at a time (FIPS 180-4, section 4.1.2).
+//! The functions of SHA-256 on words, four at a time (FIPS 180-4, section 4.1.2).
 
 ghost use Rattle.std.specs.Prelude.{◌≡◌, ℕ, ◌/◌, ◌^◌, ◌<◌, bit_xor, slice_index};
 ghost use Rattle.std.specs.Int.{w32, rotate_right};
