@@ -48,17 +48,17 @@ fn digests_at(arena: &Arena, row: &[usize], places: &[usize]) -> [[u8; 32]; 4]
 #[inline(never)]
 fn make_together(
     arena: &mut Arena,
-    above: &mut Vec<usize>,
+    above: &mut [usize],
     row: &[usize],
     places: &[usize],
 ) -> Result<(), AllocError>
     requires some { 0 < length places.now }
     requires few { length places.now ≤ 4 }
     requires row { Stand arena.old.trees row.now }
-    requires gathered { PairedBut arena.old.trees row.now above.old.items places.now }
-    ensures gathered { OnOk result (PairedBut arena.new.trees row.now above.new.items []) }
-    ensures counted { OnOk result (length above.new.items ≡ length above.old.items) }
-    ensures front { OnOk result (FrontStays places.now above.old.items above.new.items) }
+    requires gathered { PairedBut arena.old.trees row.now above.old places.now }
+    ensures gathered { OnOk result (PairedBut arena.new.trees row.now above.new []) }
+    ensures counted { OnOk result (length above.new ≡ length above.old) }
+    ensures front { OnOk result (FrontStays places.now above.old above.new) }
     ensures grows { Grows arena.old.trees arena.new.trees }
     ensures steps { OnOk result (arena.new.steps ≤ arena.old.steps + length places.now) }
     ensures least { OnOk result (CountsAtLeast 0 arena.old.steps arena.new.steps) }
@@ -75,15 +75,15 @@ fn make_together(
 // Makes the node at one place.
 fn make_one(
     arena: &mut Arena,
-    above: &mut Vec<usize>,
+    above: &mut [usize],
     row: &[usize],
     place: usize,
 ) -> Result<(), AllocError>
     requires row { Stand arena.old.trees row.now }
-    requires gathered { PairedBut arena.old.trees row.now above.old.items (place ∷ []) }
-    ensures gathered { OnOk result (PairedBut arena.new.trees row.now above.new.items []) }
-    ensures counted { OnOk result (length above.new.items ≡ length above.old.items) }
-    ensures front { OnOk result (FrontStays (place ∷ []) above.old.items above.new.items) }
+    requires gathered { PairedBut arena.old.trees row.now above.old (place ∷ []) }
+    ensures gathered { OnOk result (PairedBut arena.new.trees row.now above.new []) }
+    ensures counted { OnOk result (length above.new ≡ length above.old) }
+    ensures front { OnOk result (FrontStays (place ∷ []) above.old above.new) }
     ensures grows { Grows arena.old.trees arena.new.trees }
     ensures steps { OnOk result (arena.new.steps ≤ arena.old.steps + 1) }
     ensures least { OnOk result (CountsAtLeast 0 arena.old.steps arena.new.steps) }
@@ -96,16 +96,16 @@ fn make_one(
 // Makes the nodes at up to four places.
 fn make_at(
     arena: &mut Arena,
-    above: &mut Vec<usize>,
+    above: &mut [usize],
     row: &[usize],
     places: &[usize],
 ) -> Result<(), AllocError>
     requires few { length places.now ≤ 4 }
     requires row { Stand arena.old.trees row.now }
-    requires gathered { PairedBut arena.old.trees row.now above.old.items places.now }
-    ensures gathered { OnOk result (PairedBut arena.new.trees row.now above.new.items []) }
-    ensures counted { OnOk result (length above.new.items ≡ length above.old.items) }
-    ensures front { OnOk result (FrontStays places.now above.old.items above.new.items) }
+    requires gathered { PairedBut arena.old.trees row.now above.old places.now }
+    ensures gathered { OnOk result (PairedBut arena.new.trees row.now above.new []) }
+    ensures counted { OnOk result (length above.new ≡ length above.old) }
+    ensures front { OnOk result (FrontStays places.now above.old above.new) }
     ensures grows { Grows arena.old.trees arena.new.trees }
     ensures steps { OnOk result (arena.new.steps ≤ arena.old.steps + length places.now) }
     ensures least { OnOk result (CountsAtLeast 0 arena.old.steps arena.new.steps) }
@@ -122,16 +122,16 @@ fn make_at(
 /// Makes the nodes of a row above at all places that wait. Then none waits.
 pub(crate) fn make_waiting(
     arena: &mut Arena,
-    above: &mut Vec<usize>,
+    above: &mut [usize],
     row: &[usize],
     waiting: &mut Waiting,
 ) -> Result<(), AllocError>
     requires row { Stand arena.old.trees row.now }
-    requires gathered { PairedBut arena.old.trees row.now above.old.items waiting.old }
-    ensures gathered { OnOk result (PairedBut arena.new.trees row.now above.new.items []) }
+    requires gathered { PairedBut arena.old.trees row.now above.old waiting.old }
+    ensures gathered { OnOk result (PairedBut arena.new.trees row.now above.new []) }
     ensures none { OnOk result (waiting.new ≡ []) }
-    ensures counted { OnOk result (length above.new.items ≡ length above.old.items) }
-    ensures front { OnOk result (FrontStays waiting.old above.old.items above.new.items) }
+    ensures counted { OnOk result (length above.new ≡ length above.old) }
+    ensures front { OnOk result (FrontStays waiting.old above.old above.new) }
     ensures grows { Grows arena.old.trees arena.new.trees }
     ensures steps { OnOk result (arena.new.steps ≤ arena.old.steps + length waiting.old) }
     ensures least { OnOk result (CountsAtLeast 0 arena.old.steps arena.new.steps) }

@@ -8,7 +8,7 @@ use Rattle.ibc_forest.proofs.joining.make_together.Goals as goal
 
 pub join_hashed-requires-clause-digest : goal.join_hashed-requires-clause-digest
 join_hashed-requires-clause-digest c =
-    digest_still c.args.arena.now.trees c.loop-k.arena.trees c.args.row.now c.args.above.now.items c.args.places.now c.digests_at-digests.result c.loop-k.k
+    digest_still c.args.arena.now.trees c.loop-k.arena.trees c.args.row.now c.args.above.now c.args.places.now c.digests_at-digests.result c.loop-k.k
     c.requires.row c.loop-k.invariant.grows c.requires.gathered c.digests_at-digests.ensures
     (let few = c.requires.few in let within = c.loop-k-test.true in omega arith) c.loop-k-test.true
 
@@ -18,7 +18,7 @@ loop-k-preserved c =
     let trees = c.loop-k.arena.trees in
     let after = c.join_hashed.new.self.trees in
     let row = c.args.row.now in
-    let above = c.loop-k.above.items in
+    let above = c.loop-k.above in
     let places = c.args.places.now in
     let k = c.loop-k.k in
     let node = c.in_ok-node.node in
@@ -29,7 +29,7 @@ loop-k-preserved c =
           c.in_ok-node.ensures.grows c.in_ok-node.ensures.there c.in_ok-node.ensures.made;
       counted = length-set above (get_or places k 0) node ∙ c.loop-k.invariant.counted;
       grows = grows_on before trees after c.loop-k.invariant.grows c.in_ok-node.ensures.grows;
-      front = front_next c.args.above.now.items above places k node c.loop-k-test.true c.loop-k.invariant.front;
+      front = front_next c.args.above.now above places k node c.loop-k-test.true c.loop-k.invariant.front;
       least = least_more 0 c.args.arena.now.steps c.loop-k.arena.steps c.join_hashed.new.self.steps c.loop-k.invariant.least (omega arith);
       steps = let so_far = c.loop-k.invariant.steps in omega arith;
     }
