@@ -8,7 +8,7 @@ use Rattle.ibc_merkle.specs.Tree.{Tree, Node, root}
 use Rattle.ibc_forest.specs.Levels.{pair_up, tree_at, trees_at}
 use Rattle.ibc_forest.specs.Nodes.{Grows}
 use Rattle.ibc_forest.specs.NodeLevels.{AreFirstAbove, Stand}
-use Rattle.ibc_forest.specs.Gathered.{pair_at, PairedBut, IsNoted, AreNoted, FrontStays, AreDigestsOver}
+use Rattle.ibc_forest.specs.Gathered.{node_over, PairedBut, IsNoted, AreNoted, FrontStays, AreDigestsOver}
 use Rattle.ibc_forest.proofs.Pairing.{double, double_is, grows_longer, stand-grows, tree_at-grows}
 
 -- ---- words
@@ -19,7 +19,7 @@ All-front P xs ys all = λ k d l. subst P (get_or_append_left xs ys d k l) (all 
 All-last : {X : Type 0} (P : X → Type 0) (xs : List X) (x : X) → All P (xs ++ x ∷ []) → P x
 All-last P xs x all = subst P (get_or_push xs x x (length xs) refl) (all (length xs) x (let n = length-append xs (x ∷ []) in omega arith))
 
-next_pair : (trees : List Tree) (left right : ℕ) (row : List ℕ) (place : ℕ) → pair_at trees (left ∷ right ∷ row) (suc place) ≡ pair_at trees row place
+next_pair : (trees : List Tree) (left right : ℕ) (row : List ℕ) (place : ℕ) → node_over trees (left ∷ right ∷ row) (suc place) ≡ node_over trees row place
 next_pair trees left right row place =
     let one : 2 * suc place ≡ suc (suc (2 * place)) = omega arith in
     ap₂ (λ m n. Node (tree_at trees (get_or (left ∷ right ∷ row) m 0)) (tree_at trees (get_or (left ∷ right ∷ row) n 0))) one
@@ -27,9 +27,9 @@ next_pair trees left right row place =
 
 -- ---- pairs as nodes come
 
-pub pair_at-grows : (before after : List Tree) (row : List ℕ) (place : ℕ) → Stand before row → 2 * place + 1 < length row → Grows before after
-    → pair_at after row place ≡ pair_at before row place
-pair_at-grows before after row place stand within grows =
+pub node_over-grows : (before after : List Tree) (row : List ℕ) (place : ℕ) → Stand before row → 2 * place + 1 < length row → Grows before after
+    → node_over after row place ≡ node_over before row place
+node_over-grows before after row place stand within grows =
     ap₂ Node (tree_at-grows before after (get_or row (2 * place) 0) grows (stand (2 * place) 0 (omega arith)))
     (tree_at-grows before after (get_or row (2 * place + 1) 0) grows (stand (2 * place + 1) 0 within))
 
@@ -42,13 +42,13 @@ gathered-grows before after row above waiting stand paired grows = record {
   paired = λ place within not.
       tree_at-grows before after (get_or above place 0) grows (paired.stand place 0 within)
       ∙ paired.paired place within not
-      ∙ sym (pair_at-grows before after row place stand (let few = paired.few in omega arith) grows);
+      ∙ sym (node_over-grows before after row place stand (let few = paired.few in omega arith) grows);
 }
 
 -- ---- the node of the first place that waits is made
 
 pub gathered-set : (before after : List Tree) (row above rest : List ℕ) (place node : ℕ) → Stand before row → PairedBut before row above (place ∷ rest) → Grows before after
-    → node < length after → tree_at after node ≡ pair_at before row place → PairedBut after row (set above place node) rest
+    → node < length after → tree_at after node ≡ node_over before row place → PairedBut after row (set above place node) rest
 gathered-set before after row above rest place node stand paired grows there made =
     let now = gathered-grows before after row above (place ∷ rest) stand paired grows in
     let many : length (set above place node) ≡ length above = length-set above place node in
@@ -64,8 +64,8 @@ gathered-set before after row above rest place node stand paired grows there mad
                 ap (λ p. tree_at after (get_or (set above place node) p 0)) same.1
                 ∙ ap (tree_at after) (get_or-set_same above place node 0 at)
                 ∙ made
-                ∙ sym (pair_at-grows before after row place stand (omega arith) grows)
-                ∙ ap (pair_at after row) (sym same.1)
+                ∙ sym (node_over-grows before after row place stand (omega arith) grows)
+                ∙ ap (node_over after row) (sym same.1)
             | inr apart ↦
                 ap (tree_at after) (get_or-set_other above place other node 0 apart.1)
                 ∙ now.paired other (omega arith) (All-cons (λ p. other ≢ p) place rest apart.1 not)
@@ -78,7 +78,7 @@ front-set above rest place node = λ first within behind. take-set-le first abov
 -- ---- the nodes of places are made in their order
 
 pub gathered_next : (before after : List Tree) (row above places : List ℕ) (k node : ℕ) → Stand before row → k < length places → PairedBut before row above (drop k places)
-    → Grows before after → node < length after → tree_at after node ≡ pair_at before row (get_or places k 0)
+    → Grows before after → node < length after → tree_at after node ≡ node_over before row (get_or places k 0)
     → PairedBut after row (set above (get_or places k 0) node) (drop (k + 1) places)
 gathered_next before after row above places k node stand within paired grows there made =
     gathered-set before after row above (drop (k + 1) places) (get_or places k 0) node stand (subst (PairedBut before row above) (drop_more places k 0 within) paired) grows there made
@@ -88,10 +88,10 @@ front_next before above places k node within stays =
     λ first inside behind. take-set-le first above (get_or places k 0) node (behind k 0 within) ∙ stays first inside behind
 
 pub digest_still : (before trees : List Tree) (row above places : List ℕ) (digests : List Text) (k : ℕ) → Stand before row → Grows before trees → PairedBut before row above places
-    → AreDigestsOver before row places digests → k < 4 → k < length places → get_or digests k [] ≡ root (pair_at trees row (get_or places k 0))
+    → AreDigestsOver before row places digests → k < 4 → k < length places → get_or digests k [] ≡ root (node_over trees row (get_or places k 0))
 digest_still before trees row above places digests k stand grows paired are few within =
     are k few within
-    ∙ sym (ap root (pair_at-grows before trees row (get_or places k 0) stand (let few = paired.few in let l = paired.places k 0 within in omega arith) grows))
+    ∙ sym (ap root (node_over-grows before trees row (get_or places k 0) stand (let few = paired.few in let l = paired.places k 0 within in omega arith) grows))
 
 -- ---- nodes are noted
 
@@ -101,7 +101,7 @@ noted-grows before after row place node stand within grows noted =
     let longer = grows_longer before after grows in
     let there = noted.0 in (
       omega arith,
-      λ some. tree_at-grows before after node grows noted.0 ∙ noted.1 some ∙ sym (pair_at-grows before after row place stand within grows),
+      λ some. tree_at-grows before after node grows noted.0 ∙ noted.1 some ∙ sym (node_over-grows before after row place stand within grows),
     )
 
 -- what was noted at a place stands there still
@@ -121,7 +121,7 @@ before_or_last place last within = elim (leb_tells (suc place) last) [ inl less 
 more_of : (trees : List Tree) (row above waiting rest : List ℕ) (node : ℕ) → PairedBut trees row above waiting → 2 * length above + 1 < length row → node < length trees
     → All (λ p. p < length above + 1) rest
     → ((place : ℕ) → place < length above → All (λ p. place ≢ p) rest → All (λ p. place ≢ p) waiting)
-    → (All (λ p. length above ≢ p) rest → tree_at trees node ≡ pair_at trees row (length above))
+    → (All (λ p. length above ≢ p) rest → tree_at trees node ≡ node_over trees row (length above))
     → PairedBut trees row (above ++ node ∷ []) rest
 more_of trees row above waiting rest node paired within there places fewer last =
     let many : length (above ++ node ∷ []) ≡ length above + 1 = length-append above (node ∷ []) in
@@ -136,7 +136,7 @@ more_of trees row above waiting rest node paired within there places fewer last 
             | inr same ↦
                 ap (tree_at trees) (get_or_push above node 0 place (sym same))
                 ∙ last (subst (λ p. All (λ q. p ≢ q) rest) same not)
-                ∙ ap (pair_at trees row) (sym same)
+                ∙ ap (node_over trees row) (sym same)
           ];
     }
 
@@ -162,7 +162,7 @@ gathered_waits trees row above waiting later place paired within few there waiti
 -- ---- all nodes are there
 
 pairs_at : (trees : List Tree) (row above : List ℕ) → double (length above) ≤ length row
-    → ((place : ℕ) → place < length above → tree_at trees (get_or above place 0) ≡ pair_at trees row place)
+    → ((place : ℕ) → place < length above → tree_at trees (get_or above place 0) ≡ node_over trees row place)
     → trees_at trees above ≡ pair_up (take (double (length above)) (trees_at trees row))
 pairs_at trees row [] few each = refl
 pairs_at trees [] (node ∷ above) few each = absurd (omega arith)
@@ -172,7 +172,7 @@ pairs_at trees (left ∷ right ∷ row) (node ∷ above) few each =
 
 at_pairs : (trees : List Tree) (row above : List ℕ) → double (length above) ≤ length row
     → trees_at trees above ≡ pair_up (take (double (length above)) (trees_at trees row))
-    → (place : ℕ) → place < length above → tree_at trees (get_or above place 0) ≡ pair_at trees row place
+    → (place : ℕ) → place < length above → tree_at trees (get_or above place 0) ≡ node_over trees row place
 at_pairs trees row [] few are place l = absurd (omega arith)
 at_pairs trees [] (node ∷ above) few are place l = absurd (omega arith)
 at_pairs trees (left ∷ []) (node ∷ above) few are place l = absurd (omega arith)

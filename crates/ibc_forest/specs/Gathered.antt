@@ -7,19 +7,19 @@ use Rattle.ibc_forest.specs.Levels.{tree_at}
 use Rattle.ibc_forest.specs.NodeLevels.{Stand}
 
 -- the tree over the pair of a row that stands below a place
-abbrev pub pair_at : List Tree → List ℕ → ℕ → Tree
-pair_at trees row place = Node (tree_at trees (slice_index_or row (2 * place) 0)) (tree_at trees (slice_index_or row (2 * place + 1) 0))
+abbrev pub node_over : List Tree → List ℕ → ℕ → Tree
+node_over trees row place = Node (tree_at trees (slice_index_or row (2 * place) 0)) (tree_at trees (slice_index_or row (2 * place + 1) 0))
 
 -- the nodes of a row above are those over pairs, but at the places that wait: there any nodes stand
 pub record PairedBut (trees : List Tree) (row above waiting : List ℕ) : Type 0 where
   pub stand : Stand trees above
   pub few : 2 * length above ≤ length row
   pub places : All (λ place. place < length above) waiting
-  pub paired : (place : ℕ) → place < length above → All (λ other. place ≢ other) waiting → tree_at trees (slice_index_or above place 0) ≡ pair_at trees row place
+  pub paired : (place : ℕ) → place < length above → All (λ other. place ≢ other) waiting → tree_at trees (slice_index_or above place 0) ≡ node_over trees row place
 
 -- the node over the pair below a place, or 0
 abbrev pub IsNoted : List Tree → List ℕ → ℕ → ℕ → Type 0
-IsNoted trees row place node = (node < length trees) × (0 < node → tree_at trees node ≡ pair_at trees row place)
+IsNoted trees row place node = (node < length trees) × (0 < node → tree_at trees node ≡ node_over trees row place)
 
 -- from a place on, and in front of another, the nodes of a row above are noted
 abbrev pub AreNoted : ℕ → ℕ → List Tree → List ℕ → List ℕ → Type 0
@@ -35,4 +35,4 @@ FrontStays waiting before after = (first : ℕ) → first ≤ length before → 
 
 -- the first digests are those of the pairs below places, in their order
 abbrev pub AreDigestsOver : List Tree → List ℕ → List ℕ → List Text → Type 0
-AreDigestsOver trees row places digests = (k : ℕ) → k < 4 → k < length places → slice_index_or digests k [] ≡ root (pair_at trees row (slice_index_or places k 0))
+AreDigestsOver trees row places digests = (k : ℕ) → k < 4 → k < length places → slice_index_or digests k [] ≡ root (node_over trees row (slice_index_or places k 0))

@@ -7,7 +7,7 @@ ghost use Rattle.ibc_lanes.specs.Inner.{pair_hash};
 ghost use Rattle.ibc_forest.specs.Counts.{CountsAtLeast};
 ghost use Rattle.ibc_forest.specs.Nodes.{Grows};
 ghost use Rattle.ibc_forest.specs.NodeLevels.{Stand};
-ghost use Rattle.ibc_forest.specs.Gathered.{pair_at, AreDigestsOver, FrontStays, PairedBut};
+ghost use Rattle.ibc_forest.specs.Gathered.{node_over, AreDigestsOver, FrontStays, PairedBut};
 
 use crate::arena::Arena;
 use crate::waiting::Waiting;
@@ -19,7 +19,7 @@ fn lane(arena: &Arena, row: &[usize], places: &[usize], index: usize) -> InnerPa
     requires some { 0 < length places.now }
     requires row { Stand arena.now.trees row.now }
     requires places { All (λ place. 2 * place + 1 < length row.now) places.now }
-    ensures { index < length places.now → pair_hash result ≡ root (pair_at arena.now.trees row.now (slice_index_or places.now index 0)) }
+    ensures { index < length places.now → pair_hash result ≡ root (node_over arena.now.trees row.now (slice_index_or places.now index 0)) }
 {
     let place = if index < places.len() {
         places[index]

@@ -4,10 +4,8 @@ ghost use Rattle.std.specs.Prelude.{◌≡◌, ◌<◌, ◌≤◌, ◌∷◌, �
 
 use std::marker::Model;
 
-// How many places wait at most: as many as there are lanes.
-const MOST: usize = 4;
-
-/// Up to four places of a row whose nodes are still to be made. Contracts see the places, in the order in which they came.
+/// Up to four places of a row, as many as there are lanes, whose nodes are still to be made. Contracts see the places, in the
+/// order in which they came.
 #[derive(Drop, Debug)]
 pub struct Waiting {
     places: [usize; 4],
@@ -48,7 +46,7 @@ impl Waiting {
         ensures full { result ≡ true → length self.now ≡ 4 }
         ensures room { result ≡ false → length self.now < 4 }
     {
-        self.count == MOST
+        self.count == self.places.len()
     }
 
     /// One place more.
