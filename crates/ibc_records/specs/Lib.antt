@@ -5,3 +5,6 @@ pub mod Knowledge
 pub mod HandlerContract
 pub mod Packets
 pub mod RecordsFields
+pub mod PacketsModel
+pub mod PacketsPlace
+pub mod LendingPackets
