@@ -43,7 +43,7 @@ impl ChainStarts {
     }
 
     /// What a chain committed at a height, by the whole history of its ledger: what `block` answers. The heights that such a
-    /// history tells of rise by one from 1, so the block is looked for by halves.
+    /// history tells of rise by one from 1, so the block is looked for by halves, up to the end of the last one.
     pub(crate) fn ledger_block(
         &self,
         chain: u8,
@@ -51,13 +51,14 @@ impl ChainStarts {
         height: u64,
     ) -> Option<CommittedBlock> {
         let start = self.times.get(usize::from(chain))?;
-        let (_, last) = last_ended(history)?;
+        let (end, last) = last_ended(history)?;
         let passed = last.height.saturating_sub(self.window);
         if height <= passed || height > last.height {
             return None;
         }
-        let (place, block) = ended_at(history, height)?;
-        let time = match last_ended(&history[..place]) {
+        let told = &history[..end + 1];
+        let (place, block) = ended_at(told, height)?;
+        let time = match last_ended(&told[..place]) {
             Some((_, before)) => before.next_time,
             None => *start,
         };
