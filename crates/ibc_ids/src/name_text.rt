@@ -76,16 +76,6 @@ impl NameText {
         }
     }
 
-    /// The text's bytes.
-    pub(crate) fn as_slice(&self) -> &[u8]
-        ensures { result.now ≡ self.now }
-    {
-        match &self.place {
-            TextStorage::Here(count, places) => &places[..usize::from(*count)],
-            TextStorage::Away(text) => text.as_bytes(),
-        }
-    }
-
     /// The text.
     pub(crate) fn as_str(&self) -> &str
         ensures { result.now ≡ self.now }
