@@ -13,8 +13,8 @@ pub record PacketsModel : Type 0 where
   pub acks : Map ℕ Text
 
 -- the packets of a channel that has received none
-abbrev pub sent_packets : Map ℕ Commitment → PacketsModel
-sent_packets commitments = record { commitments = commitments; receipts = []; acks = [] }
+abbrev pub none_received : Map ℕ Commitment → PacketsModel
+none_received commitments = record { commitments = commitments; receipts = []; acks = [] }
 
 -- the acknowledgement is kept, and a receipt where packets come in any order
 abbrev pub packets_after_receive : Bool → ℕ → Text → PacketsModel → PacketsModel

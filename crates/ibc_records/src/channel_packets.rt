@@ -6,7 +6,7 @@ ghost use Rattle.ibc_ids.specs.Maps.{at, with, without};
 ghost use Rattle.ibc_ids.specs.declared.refusal.Refusal.TheVariants.{NoMemory};
 ghost use Rattle.ibc_machine.specs.chain.Records.{is_one_of};
 ghost use Rattle.ibc_machine.specs.ics24.Values.{value_bytes, AckIs};
-ghost use Rattle.ibc_records.specs.PacketsModel.{sent_packets, packets_after_receive};
+ghost use Rattle.ibc_records.specs.PacketsModel.{none_received, packets_after_receive};
 
 use crate::acknowledgement::{AckCopies, AckRoom};
 use crate::commitment::Commitment;
@@ -42,7 +42,7 @@ impl Model for ChannelPackets {
 impl ChannelPackets {
     /// The packets of a channel that has received none.
     pub(crate) fn sent(alloc: Global, commitments: SharedMap<u64, Commitment>) -> ChannelPackets
-        ensures { result ≡ sent_packets commitments.pairs }
+        ensures { result ≡ none_received commitments.pairs }
     {
         ChannelPackets {
             commitments,

@@ -5,7 +5,7 @@ ghost use Rattle.std.specs.Borrow.{sem};
 ghost use Rattle.std.specs.Ordering.{nat_cmp};
 ghost use Rattle.ibc_ids.specs.Maps.{at};
 ghost use Rattle.ibc_machine.specs.chain.Records.{is_one_of};
-ghost use Rattle.ibc_records.specs.PacketsModel.{sent_packets};
+ghost use Rattle.ibc_records.specs.PacketsModel.{none_received};
 
 use crate::channel_packets::ChannelPackets;
 use crate::commitment::Commitment;
@@ -73,7 +73,7 @@ impl SharedPackets {
 
     /// No packets.
     pub(crate) fn new(alloc: Global) -> SharedPackets
-        ensures { result ≡ sent_packets [] }
+        ensures { result ≡ none_received [] }
     {
         SharedPackets {
             place: PacketsPlace::Sent(SharedMap::new(alloc)),
