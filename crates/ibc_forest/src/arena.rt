@@ -217,8 +217,8 @@ impl Arena {
         }
     }
 
-    /// The node over two nodes that the left one remembers, if it does.
-    pub fn remembered(&self, left: usize, right: usize) -> Option<usize>
+    // The node over two nodes that the left one remembers, if it does.
+    fn remembered(&self, left: usize, right: usize) -> Option<usize>
         requires { left < length self.now.trees }
         ensures made { IfSome result (λ number. tree_at self.now.trees number ≡ Node (tree_at self.now.trees left) (tree_at self.now.trees right)) }
         ensures there { IfSome result (λ number. number < length self.now.trees) }

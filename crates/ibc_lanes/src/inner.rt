@@ -3,12 +3,11 @@
 ghost use Rattle.std.specs.Prelude.{◌≡◌, map};
 ghost use Rattle.sha2.specs.Sha256.{padded_message};
 ghost use Rattle.ibc_merkle.specs.Hash.{inner_text};
-ghost use Rattle.ibc_lanes.specs.Inner.{four_more, pair_hash};
+ghost use Rattle.ibc_lanes.specs.Inner.{pair_hash};
 
 use crate::block::compress_each;
 use crate::load::block_words;
 use crate::state::{digests, initial_state};
-use ibc_merkle::Steps;
 
 /// The digests of the children of an inner node.
 #[derive(Clone, Copy)]
@@ -17,25 +16,6 @@ pub struct InnerPair {
     pub left: [u8; 32],
     /// The right child's.
     pub right: [u8; 32],
-}
-
-/// The hashes of four inner nodes, of their children's hashes. Four texts are hashed, and counted.
-pub fn hash_four_inner(pairs: &[InnerPair; 4], steps: &mut Steps) -> [[u8; 32]; 4]
-    ensures digests { result ≡ map pair_hash pairs.now }
-    ensures steps { steps.new ≡ four_more steps.old }
-{
-    count_four(steps);
-    digest_four_inner(pairs)
-}
-
-// Counts four texts.
-pub(crate) fn count_four(steps: &mut Steps)
-    ensures { steps.new ≡ four_more steps.old }
-{
-    steps.add();
-    steps.add();
-    steps.add();
-    steps.add();
 }
 
 /// The hashes of four inner nodes, of their children's hashes.

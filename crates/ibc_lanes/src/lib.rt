@@ -10,7 +10,7 @@ mod state;
 mod texts;
 mod words;
 
-pub use inner::{InnerPair, digest_four_inner, hash_four_inner};
+pub use inner::{InnerPair, digest_four_inner};
 pub use leaves::{hash_four_leaves, hash_four_values};
 pub use texts::digest_four;
 

@@ -1,6 +1,6 @@
 //! Four hashes at a time, beside the hash of each text.
 
-use crate::{InnerPair, digest_four, hash_four_inner, hash_four_leaves};
+use crate::{InnerPair, digest_four, digest_four_inner, hash_four_leaves, hash_four_values};
 use ibc_merkle::{Steps, hash_inner, hash_leaf, hash_value};
 
 // Bytes that look like chance.
@@ -22,18 +22,18 @@ fn made_pair(seed: u32) -> InnerPair {
 }
 
 // Four hashes, one by one.
-fn one_by_one(pairs: &[InnerPair; 4], steps: &mut Steps) -> [[u8; 32]; 4] {
+fn one_by_one(pairs: &[InnerPair; 4]) -> [[u8; 32]; 4] {
+    let mut steps = Steps::new();
     [
-        hash_inner(&pairs[0].left, &pairs[0].right, steps),
-        hash_inner(&pairs[1].left, &pairs[1].right, steps),
-        hash_inner(&pairs[2].left, &pairs[2].right, steps),
-        hash_inner(&pairs[3].left, &pairs[3].right, steps),
+        hash_inner(&pairs[0].left, &pairs[0].right, &mut steps),
+        hash_inner(&pairs[1].left, &pairs[1].right, &mut steps),
+        hash_inner(&pairs[2].left, &pairs[2].right, &mut steps),
+        hash_inner(&pairs[3].left, &pairs[3].right, &mut steps),
     ]
 }
 
 #[test]
 fn four_hashes_are_those_one_by_one(rt: HostRuntime) {
-    let (mut together, mut single) = (Steps::new(), Steps::new());
     for seed in 0..500 {
         let pairs = [
             made_pair(4 * seed),
@@ -41,10 +41,8 @@ fn four_hashes_are_those_one_by_one(rt: HostRuntime) {
             made_pair(4 * seed + 2),
             made_pair(4 * seed + 3),
         ];
-        let digests = hash_four_inner(&pairs, &mut together);
-        assert!(rt; digests == one_by_one(&pairs, &mut single));
+        assert!(rt; digest_four_inner(&pairs) == one_by_one(&pairs));
     }
-    assert!(rt; together.count() == single.count());
 }
 
 // The digests of four texts of these lengths are those that each has by itself.
@@ -53,14 +51,16 @@ fn are_same(bytes: &[u8; 200], lengths: [usize; 4]) -> bool {
     let second = &bytes[1..lengths[1].clamp(1, 200)];
     let third = &bytes[2..lengths[2].clamp(2, 200)];
     let fourth = &bytes[3..lengths[3].clamp(3, 200)];
-    let mut steps = Steps::new();
-    digest_four(first, second, third, fourth)
-        == [
-            hash_value(first, &mut steps),
-            hash_value(second, &mut steps),
-            hash_value(third, &mut steps),
-            hash_value(fourth, &mut steps),
-        ]
+    let (mut together, mut single) = (Steps::new(), Steps::new());
+    let digests = [
+        hash_value(first, &mut single),
+        hash_value(second, &mut single),
+        hash_value(third, &mut single),
+        hash_value(fourth, &mut single),
+    ];
+    digest_four(first, second, third, fourth) == digests
+        && hash_four_values(first, second, third, fourth, &mut together) == digests
+        && together.count() == single.count()
 }
 
 #[test]

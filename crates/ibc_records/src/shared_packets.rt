@@ -15,8 +15,8 @@ use std::alloc::{AllocError, Global};
 use std::marker::Model;
 use std::sync::Arc;
 
-// Where packets stand: before the first change what is committed by itself, so that a new channel asks for no memory, and from
-// then on all of them behind a pointer that copies share.
+// Where packets stand: a map without any before the first change, so that a new channel asks for no memory, and from then on
+// all of them behind a pointer that copies share.
 #[derive(Drop, Debug)]
 enum PacketsPlace {
     Sent(SharedMap<u64, Commitment>),
