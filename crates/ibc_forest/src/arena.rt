@@ -1,7 +1,7 @@
 //! The nodes of a store's trees, and which pairs of them were hashed.
 
 ghost use Rattle.std.specs.Prelude.{◌≡◌, ◌+◌, ◌*◌, ◌<◌, ◌≤◌, ◌∷◌, ◌++◌, [], length, map, take, OnOk, OnErr, IfSome, IfOk};
-ghost use Rattle.ibc_lanes.specs.Inner.{four_more};
+ghost use Rattle.ibc_lanes.specs.Inner.{four_more, pair_hash};
 ghost use Rattle.ibc_merkle.specs.Hash.{one_more};
 ghost use Rattle.ibc_merkle.specs.Tree.{Node, root};
 ghost use Rattle.ibc_forest.specs.Counts.{CountsAtLeast};
@@ -13,7 +13,7 @@ ghost use Rattle.ibc_forest.specs.Nodes.{tree_of_node, ChildrenStand, IsRight, G
 use crate::node::{ArenaNode, Below, KnownParent};
 use crate::nodes::Nodes;
 use crate::shared_entry::SharedEntry;
-use ibc_lanes::{InnerPair, hash_four_leaves, hash_four_values};
+use ibc_lanes::{InnerPair, hash_four_inner, hash_four_leaves, hash_four_values};
 use ibc_merkle::{Steps, hash_inner, hash_leaf, hash_value};
 use std::alloc::{AllocError, Global};
 use std::marker::Model;
@@ -57,7 +57,7 @@ impl Arena {
         }
     }
 
-    /// How many texts were hashed, and never above 2^64 - 1.
+    /// How many texts were hashed since the count began anew, and never above 2^64 - 1.
     pub fn steps(&self) -> u64
         ensures { result ≡ self.now.steps }
     {
@@ -274,9 +274,14 @@ impl Arena {
         self.add_over(left, right, digest)
     }
 
-    // Adds the node over two nodes with its digest. The left one remembers it. Nothing is hashed.
+    /// Adds the node over two nodes with its digest. The left one remembers it. Nothing is hashed.
     #[tactic(auto, using(crate::proofs::Arenas::first_left))]
-    fn add_over(&mut self, left: usize, right: usize, digest: [u8; 32]) -> Result<usize, AllocError>
+    pub fn add_over(
+        &mut self,
+        left: usize,
+        right: usize,
+        digest: [u8; 32],
+    ) -> Result<usize, AllocError>
         requires left { left < length self.old.trees }
         requires right { right < length self.old.trees }
         requires digest { digest ≡ root (Node (tree_at self.old.trees left) (tree_at self.old.trees right)) }
@@ -309,23 +314,13 @@ impl Arena {
         }
     }
 
-    /// Adds the node over two nodes with its digest, whose text is counted here. The left one remembers it.
-    pub fn join_hashed(
-        &mut self,
-        left: usize,
-        right: usize,
-        digest: [u8; 32],
-    ) -> Result<usize, AllocError>
-        requires left { left < length self.old.trees }
-        requires right { right < length self.old.trees }
-        requires digest { digest ≡ root (Node (tree_at self.old.trees left) (tree_at self.old.trees right)) }
-        ensures made { IfOk result (λ number. tree_at self.new.trees number ≡ Node (tree_at self.old.trees left) (tree_at self.old.trees right)) }
-        ensures there { IfOk result (λ number. number < length self.new.trees) }
-        ensures grows { Grows self.old.trees self.new.trees }
-        ensures steps { self.new.steps ≡ one_more self.old.steps }
+    /// The hashes of four nodes, of their children's digests: four texts are hashed, and counted. No node is added.
+    pub fn hash_four(&mut self, pairs: &[InnerPair; 4]) -> [[u8; 32]; 4]
+        ensures digests { result ≡ map pair_hash pairs.now }
+        ensures trees { self.new.trees ≡ self.old.trees }
+        ensures steps { self.new.steps ≡ four_more self.old.steps }
     {
-        self.steps.add();
-        self.add_over(left, right, digest)
+        hash_four_inner(pairs, &mut self.steps)
     }
 
     // Lets the left one of two nodes remember the node over them, if their numbers are small enough.

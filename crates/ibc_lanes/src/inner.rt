@@ -3,11 +3,13 @@
 ghost use Rattle.std.specs.Prelude.{◌≡◌, map};
 ghost use Rattle.sha2.specs.Sha256.{padded_message};
 ghost use Rattle.ibc_merkle.specs.Hash.{inner_text};
-ghost use Rattle.ibc_lanes.specs.Inner.{pair_hash};
+ghost use Rattle.ibc_lanes.specs.Inner.{four_more, pair_hash};
 
 use crate::block::compress_each;
+use crate::count::count_four;
 use crate::load::block_words;
 use crate::state::{digests, initial_state};
+use ibc_merkle::Steps;
 
 /// The digests of the children of an inner node.
 #[derive(Clone, Copy)]
@@ -18,8 +20,17 @@ pub struct InnerPair {
     pub right: [u8; 32],
 }
 
-/// The hashes of four inner nodes, of their children's hashes.
-pub fn digest_four_inner(pairs: &[InnerPair; 4]) -> [[u8; 32]; 4]
+/// The hashes of four inner nodes, of their children's hashes. Four texts are hashed, and counted.
+pub fn hash_four_inner(pairs: &[InnerPair; 4], steps: &mut Steps) -> [[u8; 32]; 4]
+    ensures digests { result ≡ map pair_hash pairs.now }
+    ensures steps { steps.new ≡ four_more steps.old }
+{
+    count_four(steps);
+    digest_four_inner(pairs)
+}
+
+// The hashes of four inner nodes, which the caller counts.
+pub(crate) fn digest_four_inner(pairs: &[InnerPair; 4]) -> [[u8; 32]; 4]
     ensures { result ≡ map pair_hash pairs.now }
 {
     let texts = [

@@ -5,6 +5,7 @@ ghost use Rattle.ibc_merkle.specs.Hash.{hash};
 ghost use Rattle.ibc_lanes.specs.Inner.{four_more};
 ghost use Rattle.ibc_lanes.specs.Leaves.{hash_of_leaf, text_of_leaf};
 
+use crate::count::count_four;
 use crate::texts::digest_four;
 use ibc_merkle::{Steps, hash_leaf};
 
@@ -52,17 +53,7 @@ pub fn hash_four_leaves(
     digest_short_leaves(first, second, third, fourth, values)
 }
 
-// Counts four texts.
-fn count_four(steps: &mut Steps)
-    ensures { steps.new ≡ four_more steps.old }
-{
-    steps.add();
-    steps.add();
-    steps.add();
-    steps.add();
-}
-
-// The hashes of four leaves with short keys.
+// The hashes of four leaves with short keys, which the caller counts.
 fn digest_short_leaves(
     first: &[u8],
     second: &[u8],

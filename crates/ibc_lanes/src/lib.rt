@@ -3,6 +3,7 @@
 
 mod block;
 mod constants;
+mod count;
 mod inner;
 mod leaves;
 mod load;
@@ -10,9 +11,8 @@ mod state;
 mod texts;
 mod words;
 
-pub use inner::{InnerPair, digest_four_inner};
+pub use inner::{InnerPair, hash_four_inner};
 pub use leaves::{hash_four_leaves, hash_four_values};
-pub use texts::digest_four;
 
 #[cfg(test)]
 mod tests;

@@ -1,6 +1,7 @@
 //! Four hashes at a time, beside the hash of each text.
 
-use crate::{InnerPair, digest_four, digest_four_inner, hash_four_leaves, hash_four_values};
+use crate::texts::digest_four;
+use crate::{InnerPair, hash_four_inner, hash_four_leaves, hash_four_values};
 use ibc_merkle::{Steps, hash_inner, hash_leaf, hash_value};
 
 // Bytes that look like chance.
@@ -22,18 +23,18 @@ fn made_pair(seed: u32) -> InnerPair {
 }
 
 // Four hashes, one by one.
-fn one_by_one(pairs: &[InnerPair; 4]) -> [[u8; 32]; 4] {
-    let mut steps = Steps::new();
+fn one_by_one(pairs: &[InnerPair; 4], steps: &mut Steps) -> [[u8; 32]; 4] {
     [
-        hash_inner(&pairs[0].left, &pairs[0].right, &mut steps),
-        hash_inner(&pairs[1].left, &pairs[1].right, &mut steps),
-        hash_inner(&pairs[2].left, &pairs[2].right, &mut steps),
-        hash_inner(&pairs[3].left, &pairs[3].right, &mut steps),
+        hash_inner(&pairs[0].left, &pairs[0].right, steps),
+        hash_inner(&pairs[1].left, &pairs[1].right, steps),
+        hash_inner(&pairs[2].left, &pairs[2].right, steps),
+        hash_inner(&pairs[3].left, &pairs[3].right, steps),
     ]
 }
 
 #[test]
 fn four_hashes_are_those_one_by_one(rt: HostRuntime) {
+    let (mut together, mut single) = (Steps::new(), Steps::new());
     for seed in 0..500 {
         let pairs = [
             made_pair(4 * seed),
@@ -41,8 +42,11 @@ fn four_hashes_are_those_one_by_one(rt: HostRuntime) {
             made_pair(4 * seed + 2),
             made_pair(4 * seed + 3),
         ];
-        assert!(rt; digest_four_inner(&pairs) == one_by_one(&pairs));
+        let digests = hash_four_inner(&pairs, &mut together);
+        assert!(rt; digests == one_by_one(&pairs, &mut single));
+        assert!(rt; together.count() == single.count());
     }
+    assert!(rt; together.count() == 2000);
 }
 
 // The digests of four texts of these lengths are those that each has by itself.

@@ -12,8 +12,9 @@ use crate::state::{digests, initial_state};
 use sha2::{Digest, Sha256};
 use std::simd::u32x4;
 
-/// The digests of four texts: together where they fill the same number of blocks with their padding, and else one by one.
-pub fn digest_four(first: &[u8], second: &[u8], third: &[u8], fourth: &[u8]) -> [[u8; 32]; 4]
+// The digests of four texts, which the caller counts: together where they fill the same number of blocks with their padding,
+// and else one by one.
+pub(crate) fn digest_four(first: &[u8], second: &[u8], third: &[u8], fourth: &[u8]) -> [[u8; 32]; 4]
     ensures { result ≡ hash first.now ∷ hash second.now ∷ hash third.now ∷ hash fourth.now ∷ [] }
 {
     let count = count_blocks(first);

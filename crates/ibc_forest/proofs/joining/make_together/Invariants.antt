@@ -1,5 +1,4 @@
-use Rattle.std.proofs.Common.{◌≡◌, ◌+◌, ◌≤◌, length, drop}
-use Rattle.ibc_forest.specs.Counts.{CountsAtLeast}
+use Rattle.std.proofs.Common.{◌≡◌, length, drop}
 use Rattle.ibc_forest.specs.Nodes.{Grows}
 use Rattle.ibc_forest.specs.Gathered.{FrontStays, PairedBut}
 use Rattle.ibc_forest.proofs.joining.make_together.Given as goal
@@ -10,6 +9,5 @@ invariant-loop-k l = record {
   counted : length l.above ≡ length l.initial.above;
   grows : Grows l.initial.arena.trees l.arena.trees;
   front : FrontStays l.places l.initial.above l.above;
-  least : CountsAtLeast 0 l.initial.arena.steps l.arena.steps;
-  steps : l.arena.steps ≤ l.initial.arena.steps + l.k;
+  steps : l.arena.steps ≡ l.initial.arena.steps;
 }
