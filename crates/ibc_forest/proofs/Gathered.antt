@@ -1,7 +1,7 @@
 -- Nodes of a row above as they are gathered.
-use Rattle.std.proofs.Common.{◌≡◌, ◌≢◌, ◌⊎◌, inl, inr, ℕ, zero, suc, ◌+◌, ◌*◌, ◌<◌, ◌≤◌, List, [], ◌∷◌, ◌++◌, length, get_or, set, take, drop, refl, sym, ap, ap₂, ◌∙◌, subst, arith, All, length-append}
+use Rattle.std.proofs.Common.{◌≡◌, ◌≢◌, ◌⊎◌, inl, inr, ℕ, zero, suc, ◌+◌, ◌*◌, ◌<◌, ◌≤◌, List, [], ◌∷◌, ◌++◌, length, get_or, set, take, drop, refl, sym, ap, ap₂, ◌∙◌, subst, arith, All, length-append, take-append-drop}
 use Rattle.std.proofs.lemmas.Bool.Decides.{eqb_tells, leb_tells}
-use Rattle.std.proofs.lemmas.List.{drop_more, get_or-drop, get_or-set_same, get_or-set_other, get_or_append_left, get_or_push, length-set, length-take-le, take_more, take-set-le}
+use Rattle.std.proofs.lemmas.List.{drop_more, get_or-drop, get_or-set_same, get_or-set_other, get_or_append_left, get_or_push, length-set, length-take-le, take_more, take-append-le, take-set-le}
 use Rattle.std.proofs.lemmas.List.Elements.{All-head, All-tail, All-cons, All-nil, All-push, All-set, All-weaker}
 use Rattle.ibc_ids.specs.Texts.{Text}
 use Rattle.ibc_merkle.specs.Tree.{Tree, Node, root}
@@ -158,6 +158,17 @@ gathered_waits trees row above waiting later place paired within few there waiti
     let wait = gathered-wait trees row front waiting (get_or above place 0) paired (omega arith) there in
     subst (λ xs. PairedBut trees row xs later) (sym (take_more above place 0 within))
     (subst (PairedBut trees row (front ++ get_or above place 0 ∷ [])) (sym (waiting_is ∙ ap (λ p. waiting ++ p ∷ []) (sym counted))) wait)
+
+-- what stands in front of all places that wait, and of one place more, still stands there where the nodes at them were made
+pub front_waits : (above after rest waiting later : List ℕ) (place first : ℕ) → place < length above → length after ≡ length (take (place + 1) above) → later ≡ waiting ++ place ∷ []
+    → FrontStays later (take (place + 1) above) after → first ≤ place → All (λ p. first ≤ p) waiting → take first (after ++ rest) ≡ take first above
+front_waits above after rest waiting later place first inside counted later_is stays within behind =
+    let n : length (take (place + 1) above) ≡ place + 1 = length-take-le (place + 1) above (omega arith) in
+    let all : All (λ p. first ≤ p) later = subst (λ xs. All (λ p. first ≤ p) xs) (sym later_is) (All-push (λ p. first ≤ p) waiting place behind within) in
+    take-append-le first after rest (omega arith)
+    ∙ stays first (omega arith) all
+    ∙ sym (take-append-le first (take (place + 1) above) (drop (place + 1) above) (omega arith))
+    ∙ ap (take first) (take-append-drop (place + 1) above)
 
 -- ---- all nodes are there
 

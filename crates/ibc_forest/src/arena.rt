@@ -21,6 +21,9 @@ use std::marker::Model;
 // The largest number that is remembered.
 const MOST: usize = u32::MAX as usize;
 
+// So many of four nodes come before the fourth.
+const BEFORE_FOURTH: usize = 3;
+
 /// The nodes of trees, by their numbers. Contracts see the tree of each node, and how many texts were hashed.
 #[derive(Drop, Debug)]
 pub struct Arena {
@@ -118,6 +121,13 @@ impl Arena {
             parent: 0,
         });
         Ok(number)
+    }
+
+    /// Whether no memory is asked for before the fourth node from here. Then all four texts may be hashed first: a
+    /// refusal finds as many counted as one by one.
+    pub fn has_room_for_four(&self) -> bool {
+        let known = self.known.capacity().saturating_sub(self.known.len());
+        known.min(self.nodes.room()) >= BEFORE_FOURTH
     }
 
     /// Adds a leaf, whose pair is moved in: two texts are hashed.

@@ -174,6 +174,17 @@ fn add_four(
     Ok(place)
 }
 
+// Whether no memory is asked for before the last leaf of the next four pairs.
+fn have_room(arena: &Arena, entries: &[SharedEntry], next: usize) -> bool
+    requires { next + 4 ≤ length entries.now }
+{
+    arena.has_room_for_four()
+        && entries[next].is_shared()
+        && entries[next + 1].is_shared()
+        && entries[next + 2].is_shared()
+        && entries[next + 3].is_shared()
+}
+
 // Adds the leaves of the next pairs, of one or of four, up to a place at most. Answers the place from which the next one is
 // looked for.
 fn add_some(
@@ -198,7 +209,10 @@ fn add_some(
     ensures grows { Grows arena.old.trees arena.new.trees }
 {
     let next = row.len();
-    if end - next >= 4 && stands_in_front(arena, old, place, entries[next + 3].key()) {
+    if end - next >= 4
+        && stands_in_front(arena, old, place, entries[next + 3].key())
+        && have_room(arena, entries, next)
+    {
         return add_four(arena, row, old, place, entries);
     }
     add_leaf(arena, row, old, place, entries)

@@ -90,6 +90,11 @@ impl Nodes {
         Ok(())
     }
 
+    /// How many nodes more come without a request for memory.
+    pub fn room(&self) -> usize {
+        self.shelf.room()
+    }
+
     /// The same nodes once more: all but the last few are shared.
     pub fn snapshot(&self) -> Result<Nodes, AllocError>
         ensures { IfOk result (λ copy. copy ≡ self.now) }

@@ -26,7 +26,8 @@ fn add_odd(above: &mut Vec<usize>, row: &[usize]) -> Result<(), AllocError>
     Ok(())
 }
 
-// Keeps the node that is noted at a place of a row above, if one is. Else the place waits. Four that wait are made at once.
+// Keeps the node that is noted at a place of a row above, if one is. Else the place waits, and four that wait are made at once.
+// Where memory is soon to be asked for, the node is made by itself.
 fn keep_or_make(
     arena: &mut Arena,
     above: &mut [usize],
@@ -53,8 +54,9 @@ fn keep_or_make(
     if above[place] != NONE_NOTED {
         return Ok(());
     }
+    let alone = waiting.places().is_empty() && !arena.has_room_for_four();
     waiting.push(place);
-    if waiting.is_full() {
+    if alone || waiting.is_full() {
         make_waiting(arena, &mut above[..place + 1], row, waiting)?;
     }
     Ok(())

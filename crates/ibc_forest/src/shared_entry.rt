@@ -68,6 +68,11 @@ impl SharedEntry {
         }
     }
 
+    /// Whether its clones take no memory.
+    pub(crate) fn is_shared(&self) -> bool {
+        matches!(self.hold, Hold::Shared(_))
+    }
+
     // The pair for one more to share, or a copy of it where one alone holds it.
     fn shared(&self) -> Result<Arc<KeyValue>, AllocError>
         ensures { IfOk result (λ shared. arc_value shared ≡ self.now) }

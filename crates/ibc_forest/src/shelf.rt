@@ -60,6 +60,14 @@ impl Shelf {
         Ok(())
     }
 
+    /// How many nodes more the open chunk has memory for.
+    pub fn room(&self) -> usize {
+        self.begun
+            .capacity()
+            .min(SIZE)
+            .saturating_sub(self.begun.len())
+    }
+
     /// A copy of the shelf: full chunks are shared, the open one is copied.
     pub fn snapshot(&self) -> Result<Shelf, AllocError>
         ensures { IfOk result (λ copy. copy ≡ self.now) }
