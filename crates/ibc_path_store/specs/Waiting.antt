@@ -1,5 +1,5 @@
 -- Pairs that wait behind others to be put in their places.
-use Rattle.std.specs.Prelude.{◌≡◌, ℕ, ◌+◌, ◌-◌, ◌≤◌, ◌<◌, true, false, cond, nat_lt, [], ◌∷◌, ◌++◌, length, take, drop, slice_set, slice_index_or, IsTrue, Some, None}
+use Rattle.std.specs.Prelude.{◌≡◌, ℕ, ◌+◌, ◌-◌, ◌*◌, ◌≤◌, ◌<◌, Bool, true, false, not, cond, nat_lt, [], ◌∷◌, ◌++◌, length, take, drop, slice_set, slice_index_or, IsTrue, Some, None}
 use Rattle.std.specs.List.{insert, remove}
 use Rattle.std.specs.FinMap.{is_sorted}
 use Rattle.ibc_ids.specs.Texts.{Text, text_cmp}
@@ -19,9 +19,19 @@ abbrev pub merged : Pairs → Pairs → Pairs
 merged pairs [] = pairs
 merged pairs (next ∷ waiting) = up_to_key next.0 pairs ++ next ∷ merged (from_key next.0 pairs) waiting
 
+-- whether the first pair that waits comes before those in their places
+abbrev pub waits_first : Pairs → Pairs → Bool
+waits_first pairs [] = false
+waits_first [] (next ∷ waiting) = true
+waits_first (pair ∷ pairs) (next ∷ waiting) = not (is_below pair.0 next.0)
+
 -- the same where so many first ones are in their places and the others wait
 abbrev pub settled_pairs : ℕ → Pairs → Pairs
 settled_pairs settled items = merged (take settled items) (drop settled items)
+
+-- so few wait of all: their square is below four times one more than the number of all, so they are at most twice its root, rounded up
+abbrev pub AreFew : ℕ → ℕ → Type 0
+AreFew waiting pairs = waiting * waiting < 4 * (pairs + 1)
 
 -- the pairs in their places are sorted, so are those that wait, and so are all of them
 pub record AreRows (settled : ℕ) (items : Pairs) : Type 0 where

@@ -1,6 +1,7 @@
 //! A chain's provable records: a map from paths to values, its committed heights, their roots and proofs.
 #![tactic(auto)]
 
+mod in_order;
 mod path_map;
 mod rows;
 mod spare;

@@ -1,12 +1,14 @@
 //! A map from paths to values, in the order of the paths.
 
-ghost use Rattle.std.specs.Prelude.{◌≡◌, ◌+◌, ◌≤◌, ◌<◌, [], Some, IsTrue, IsOk, OnOk, OnErr, option_map, string_bytes};
+ghost use Rattle.std.specs.Prelude.{◌≡◌, ◌+◌, ◌≤◌, ◌<◌, [], false, length, Some, IsTrue, IsOk, OnOk, OnErr, option_map, string_bytes};
 ghost use Rattle.std.specs.FinMap.{is_sorted};
 ghost use Rattle.ibc_ids.specs.Texts.{text_cmp};
 ghost use Rattle.ibc_ids.specs.Maps.{at, with, without};
 ghost use Rattle.ibc_merkle.specs.Tree.{Pairs};
 ghost use Rattle.ibc_path_store.specs.GapChanges.{Shares};
+ghost use Rattle.ibc_path_store.specs.Waiting.{AreFew};
 
+use crate::in_order::InOrder;
 use crate::rows::{Position, find, merge, without_row};
 use crate::spare::Spare;
 use crate::touched::Touched;
@@ -14,11 +16,12 @@ use ibc_forest::{Gap, SharedEntry};
 use ibc_ids::Bytes;
 use ibc_merkle::KeyValue;
 use std::alloc::{AllocError, Global};
+use std::fmt;
 use std::marker::Model;
 
 /// A map from paths to values, which shares its pairs with the trees over them, and in which room can be made beforehand.
-/// A new path waits behind the others, so that a set moves only the pairs that wait, until they are merged.
-#[derive(Drop, Debug)]
+/// A new path waits behind the others, so that a set moves only the pairs that wait, until they are merged. They are never many.
+#[derive(Drop)]
 pub struct PathMap {
     entries: Vec<SharedEntry>,
     settled: usize,
@@ -47,6 +50,7 @@ impl PathMap {
     /// An empty map.
     pub fn new(alloc: Global) -> PathMap
         ensures pairs { result.pairs ≡ [] }
+        ensures waiting { result.waiting ≡ 0 }
         ensures touched { result.touched ≡ Some [] }
     {
         PathMap {
@@ -81,6 +85,7 @@ impl PathMap {
         ensures room { self.old.room ≤ self.new.room + 1 }
         ensures err { OnErr result (self.new.pairs ≡ self.old.pairs) }
         ensures shares { (last : Pairs) → Shares self.old.touched last self.old.pairs → Shares self.new.touched last self.new.pairs }
+        ensures few { AreFew self.new.waiting (length self.new.pairs) }
     {
         let outcome = self.put(path, value);
         self.merge_many();
@@ -114,8 +119,10 @@ impl PathMap {
 
     // Puts the pairs that wait in their places where they are many, so that neither an insert nor a merge moves more than
     // some few times the root of their number for each.
+    #[tactic(auto, using(crate::proofs::Merging::rows_counted))]
     fn merge_many(&mut self)
-        ensures { self.new ≡ record self.old { waiting = self.new.waiting } }
+        ensures same { self.new ≡ record self.old { waiting = self.new.waiting } }
+        ensures few { AreFew self.new.waiting (length self.new.pairs) }
     {
         let pairs = self.entries.len();
         if are_many(pairs - self.settled, pairs) {
@@ -135,6 +142,17 @@ impl PathMap {
 
     /// Removes a path and its value, if it is there.
     pub fn remove(&mut self, path: &str)
+        ensures pairs { self.new.pairs ≡ without text_cmp path.now self.old.pairs }
+        ensures room { self.old.room ≤ self.new.room }
+        ensures shares { (last : Pairs) → Shares self.old.touched last self.old.pairs → Shares self.new.touched last self.new.pairs }
+        ensures few { AreFew self.new.waiting (length self.new.pairs) }
+    {
+        self.take_out(path);
+        self.merge_many();
+    }
+
+    // Takes out a path and its value, if it is there. Then as many wait as before, or one fewer, of fewer pairs.
+    fn take_out(&mut self, path: &str)
         ensures pairs { self.new.pairs ≡ without text_cmp path.now self.old.pairs }
         ensures room { self.old.room ≤ self.new.room }
         ensures shares { (last : Pairs) → Shares self.old.touched last self.old.pairs → Shares self.new.touched last self.new.pairs }
@@ -183,7 +201,22 @@ impl PathMap {
     }
 }
 
+impl fmt::Debug for PathMap {
+    // The pairs in the order of their keys, also while some wait.
+    fn fmt<W: fmt::Write>(&self, f: &mut fmt::Formatter<W>) -> fmt::Result {
+        let (placed, waiting) = self.entries.as_slice().split_at(self.settled);
+        f.debug_struct("PathMap")
+            .field("entries", &InOrder::new(placed, waiting))
+            .field("spare", &self.spare)
+            .field("touched", &self.touched)
+            .finish()
+    }
+}
+
 // Whether so many pairs that wait are more than twice the root of the number of all.
-fn are_many(waiting: usize, pairs: usize) -> bool {
-    waiting.saturating_mul(waiting) / 4 > pairs
+fn are_many(waiting: usize, pairs: usize) -> bool
+    ensures { result ≡ false → AreFew waiting pairs }
+{
+    let square = (waiting as u128) * (waiting as u128);
+    square / 4 > pairs as u128
 }

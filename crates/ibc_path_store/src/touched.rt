@@ -6,10 +6,11 @@ ghost use Rattle.ibc_path_store.specs.GapChanges.{Shares, IsReplaced, IsMark, st
 
 use ibc_forest::Gap;
 use std::alloc::Global;
+use std::fmt;
 use std::marker::Model;
 
 /// The first gaps, and how many pairs stand in them and in front of them.
-#[derive(Clone, Copy, Drop, Debug)]
+#[derive(Clone, Copy, Drop)]
 struct Mark {
     number: usize,
     before: usize,
@@ -31,7 +32,7 @@ impl Mark {
 /// The gaps in which a map was touched since it was settled, in the order of its pairs. Where there is no memory for one more,
 /// they are lost, and any pair may have been touched. The mark stands before the gap that was touched last. Contracts see the
 /// gaps, or none where they are lost.
-#[derive(Drop, Debug)]
+#[derive(Drop)]
 pub struct Touched {
     gaps: Vec<Gap>,
     lost: bool,
@@ -102,6 +103,16 @@ impl Touched {
         }
         self.mark = Mark::none();
         self.lost = true;
+    }
+}
+
+impl fmt::Debug for Touched {
+    // The mark is no part of the text.
+    fn fmt<W: fmt::Write>(&self, f: &mut fmt::Formatter<W>) -> fmt::Result {
+        f.debug_struct("Touched")
+            .field("gaps", &self.gaps)
+            .field("lost", &self.lost)
+            .finish()
     }
 }
 

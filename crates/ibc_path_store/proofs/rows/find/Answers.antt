@@ -5,7 +5,7 @@ use Rattle.std.specs.FinMap.{is_sorted}
 use Rattle.ibc_ids.specs.Texts.{Text, text_cmp}
 use Rattle.ibc_merkle.specs.Tree.{Pairs}
 use Rattle.ibc_merkle.proofs.SearchedPairs.{IsGap}
-use Rattle.ibc_path_store.proofs.Waiting.{Found, Missed, found_at, missed_at, cut_found, cut_missed, finds_waiting, finds_placed, finds_none}
+use Rattle.ibc_path_store.proofs.Standing.{Found, Missed, found_at, missed_at, cut_found, cut_missed, finds_waiting, finds_placed, finds_none}
 use Rattle.ibc_path_store.proofs.rows.find.Goals as goal
 
 -- what a search of a part says, of the list that the part is

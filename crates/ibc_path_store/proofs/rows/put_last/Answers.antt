@@ -4,7 +4,8 @@ use Rattle.std.proofs.lemmas.List.{take-take}
 use Rattle.std.specs.FinMap.{is_sorted}
 use Rattle.ibc_ids.specs.Texts.{Text, text_cmp}
 use Rattle.ibc_merkle.specs.Tree.{Pairs}
-use Rattle.ibc_path_store.proofs.Waiting.{Cut, Turned, found_at, missed_at, cut_found, cut_missed, turned}
+use Rattle.ibc_path_store.proofs.Standing.{Cut, found_at, missed_at, cut_found, cut_missed}
+use Rattle.ibc_path_store.proofs.Turning.{Turned, turned}
 use Rattle.ibc_path_store.proofs.rows.put_last.Goals as goal
 use Rattle.ibc_path_store.proofs.rows.put_last.Goals.{in-Ok, in-Err}
 
