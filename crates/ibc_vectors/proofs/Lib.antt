@@ -1,1 +1,2 @@
 mod TextsInBase64
+mod StandingPaths

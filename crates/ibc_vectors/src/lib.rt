@@ -10,4 +10,10 @@ mod proofs;
 #[cfg(test)]
 mod records;
 #[cfg(test)]
+mod store_digests;
+#[cfg(test)]
+mod store_texts;
+#[cfg(test)]
+mod stores;
+#[cfg(test)]
 mod trees;
