@@ -5,6 +5,3 @@ pub mod Knowledge
 pub mod HandlerContract
 pub mod Packets
 pub mod RecordsFields
-pub mod PacketsModel
-pub mod PacketsPlace
-pub mod LendingPackets

@@ -3,7 +3,7 @@
 ghost use Rattle.std.specs.Prelude.{◌≡◌, ◌⊎◌, ◌-◌, ◌^◌, ◌<◌, ◌≤◌, true, Ok, Err, IfOk, IfErr, OnOk, OnErr, IsTrue, option_copied, IsOkUnless};
 ghost use Rattle.std.specs.FinMap.{is_sorted};
 ghost use Rattle.std.specs.Ordering.{nat_cmp};
-ghost use Rattle.ibc_ids.specs.Maps.{at};
+ghost use Rattle.ibc_ids.specs.Maps.{at, without};
 ghost use Rattle.ibc_ids.specs.declared.refusal.Refusal.TheVariants.{NoMemory};
 ghost use Rattle.ibc_machine.specs.chain.Records.{is_one_of};
 ghost use Rattle.ibc_machine.specs.ics04.Channels.{new_channel};
@@ -11,12 +11,10 @@ ghost use Rattle.ibc_machine.specs.ics04.Packets.{is_ordered, after_send, after_
 ghost use Rattle.ibc_machine.specs.ics24.Values.{value_bytes, AckIs};
 
 use crate::acknowledgement::{AckCopies, AckRoom};
-use crate::channel_packets::ChannelPackets;
 use crate::commitment::Commitment;
-use crate::shared_packets::SharedPackets;
 use ibc_app_port::{App, Pays};
 use ibc_ids::{Bytes, Refusal};
-use ibc_maps::Pairs;
+use ibc_maps::{Pairs, SharedMap};
 use ibc_wire::{ChannelEnd, ChannelState, Order, Packet};
 use std::alloc::{AllocError, Global};
 use std::marker::Model;
@@ -31,10 +29,13 @@ pub struct Channel {
     next_send: u64,
     next_recv: u64,
     next_ack: u64,
-    packets: SharedPackets,
+    commitments: SharedMap<u64, Commitment>,
+    receipts: SharedMap<u64, ()>,
+    acks: SharedMap<u64, Bytes>,
 }
 
 impl Model for Channel {
+    ghost use Rattle.std.specs.Map.{keys_of};
     ghost use Rattle.ibc_machine.specs.chain.Records.{Channel as PlainChannel};
 
     ghost Value = { PlainChannel };
@@ -44,9 +45,9 @@ impl Model for Channel {
       next_send = channel.next_send;
       next_recv = channel.next_recv;
       next_ack = channel.next_ack;
-      commitments = channel.packets.commitments;
-      receipts = channel.packets.receipts;
-      acks = channel.packets.acks;
+      commitments = channel.commitments.pairs;
+      receipts = keys_of channel.receipts.pairs;
+      acks = channel.acks.pairs;
     } };
 }
 
@@ -61,7 +62,9 @@ impl Channel {
             next_send: 1,
             next_recv: 1,
             next_ack: 1,
-            packets: SharedPackets::new(alloc),
+            commitments: SharedMap::new(alloc),
+            receipts: SharedMap::new(alloc),
+            acks: SharedMap::new(alloc),
         }
     }
 
@@ -104,35 +107,35 @@ impl Channel {
     pub fn commitment(&self, sequence: u64) -> Option<&Commitment>
         ensures { option_copied result ≡ at nat_cmp sequence self.now.commitments }
     {
-        self.packets.commitments().get(&sequence)
+        self.commitments.get(&sequence)
     }
 
     /// What is committed of the packets that were sent and aren't settled, in the order of their sequences.
     pub fn commitments(&self) -> Pairs<'_, u64, Commitment>
         ensures { result ≡ self.now.commitments }
     {
-        self.packets.commitments().iter()
+        self.commitments.iter()
     }
 
     /// What is committed is in the order of the sequences.
     pub fn lemma_is_in_order(&self)
         ensures { IsTrue (is_sorted nat_cmp self.now.commitments) }
     {
-        self.packets.commitments().lemma_in_order();
+        self.commitments.lemma_in_order();
     }
 
     /// The packet of a sequence was received, where they come in any order.
     pub fn has_receipt(&self, sequence: u64) -> bool
         ensures { result ≡ is_one_of self.now.receipts sequence }
     {
-        self.packets.has_receipt(sequence)
+        self.receipts.get(&sequence).is_some()
     }
 
     /// The acknowledgement of the packet of a sequence that was received, or none.
     pub fn ack(&self, sequence: u64) -> Option<&Bytes>
         ensures { option_copied result ≡ at nat_cmp sequence self.now.acks }
     {
-        self.packets.ack(sequence)
+        self.acks.get(&sequence)
     }
 
     /// Sets the end, and leaves the counters and the packets.
@@ -156,8 +159,9 @@ impl Channel {
         ensures err { IfErr result (λ refusal. (refusal ≡ NoMemory) ⊎ (P.pays payer.old bill.now ≡ Err refusal)) }
         ensures unchanged { OnErr result ((self.new ≡ self.old) × (payer.new ≡ payer.old)) }
     {
-        let packets = self.packets.make_mut()?;
-        packets.send(payer, bill, self.next_send, commitment)?;
+        self.commitments.reserve(1)?;
+        payer.pay(bill)?;
+        let _ = self.commitments.set(self.next_send, commitment);
         self.next_send += 1;
         Ok(())
     }
@@ -181,10 +185,15 @@ impl Channel {
         ensures unchanged { OnErr result ((self.new ≡ self.old) × (app.new ≡ app.old)) }
     {
         let in_order = self.is_ordered();
-        let packets = self.packets.make_mut()?;
-        let copies = packets.receive(app, &self.end.version, packet, room, in_order)?;
+        self.acks.reserve(1)?;
+        self.receipts.reserve(1)?;
+        let ack = app.on_recv(&self.end.version, packet)?;
+        let copies = room.fill(ack.as_slice());
+        let _ = self.acks.set(packet.sequence, ack);
         if in_order {
             self.next_recv += 1;
+        } else {
+            let _ = self.receipts.set(packet.sequence, ());
         }
         Ok(copies)
     }
@@ -204,8 +213,9 @@ impl Channel {
         ensures err { IfErr result (λ refusal. (refusal ≡ NoMemory) ⊎ (A.is_acknowledged app.old self.old.end.version packet.now ack.now ≡ Err refusal)) }
         ensures unchanged { OnErr result ((self.new ≡ self.old) × (app.new ≡ app.old)) }
     {
-        let packets = self.packets.make_mut()?;
-        packets.acknowledge(app, &self.end.version, packet, ack)?;
+        make_room(&mut self.commitments)?;
+        app.on_ack(&self.end.version, packet, ack)?;
+        take_out(&mut self.commitments, packet.sequence);
         if self.end.order == Order::Ordered {
             self.next_ack += 1;
         }
@@ -221,8 +231,9 @@ impl Channel {
         ensures err { IfErr result (λ refusal. (refusal ≡ NoMemory) ⊎ (A.times_out app.old self.old.end.version packet.now ≡ Err refusal)) }
         ensures unchanged { OnErr result ((self.new ≡ self.old) × (app.new ≡ app.old)) }
     {
-        let packets = self.packets.make_mut()?;
-        packets.time_out(app, &self.end.version, packet)?;
+        make_room(&mut self.commitments)?;
+        app.on_timeout(&self.end.version, packet)?;
+        take_out(&mut self.commitments, packet.sequence);
         if self.end.order == Order::Ordered {
             self.end.state = ChannelState::Closed;
         }
@@ -239,7 +250,25 @@ impl Clone for Channel {
             next_send: self.next_send,
             next_recv: self.next_recv,
             next_ack: self.next_ack,
-            packets: self.packets.clone()?,
+            commitments: self.commitments.copy()?,
+            receipts: self.receipts.copy()?,
+            acks: self.acks.copy()?,
         })
     }
+}
+
+// Makes room to remove a commitment.
+fn make_room(commitments: &mut SharedMap<u64, Commitment>) -> Result<(), AllocError>
+    ensures pairs { commitments.new.pairs ≡ commitments.old.pairs }
+    ensures ok { OnOk result (0 < commitments.new.room) }
+{
+    commitments.reserve(1)
+}
+
+// Removes a commitment.
+fn take_out(commitments: &mut SharedMap<u64, Commitment>, sequence: u64)
+    requires { 0 < commitments.old.room }
+    ensures { commitments.new.pairs ≡ without nat_cmp sequence commitments.old.pairs }
+{
+    let _ = commitments.remove(sequence);
 }

@@ -4,7 +4,6 @@
 mod acknowledgement;
 mod channel;
 mod channel_entries;
-mod channel_packets;
 mod client;
 mod commitment;
 mod core_records;
@@ -12,7 +11,6 @@ mod maps;
 mod packet_entries;
 mod packet_values;
 mod records;
-mod shared_packets;
 mod values;
 
 pub use channel::Channel;
