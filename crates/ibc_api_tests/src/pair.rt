@@ -87,8 +87,8 @@ fn other(chain: u8) -> u8 {
     if chain == 0 { 1 } else { 0 }
 }
 
-// Ends the working block of a chain, and tells the other chain's client of the height, which is answered.
-fn publish(rt: &impl Abort, alloc: Global, world: &mut World, chain: u8) -> u64 {
+/// Ends the working block of a chain, and tells the other chain's client of the height, which is answered.
+pub fn publish(rt: &impl Abort, alloc: Global, world: &mut World, chain: u8) -> u64 {
     let reply = world.step(Event::Block {
         chain,
         next_time: 100,

@@ -7,6 +7,7 @@ use std::process::Abort;
 mod channels;
 mod clients;
 mod packets;
+mod texts;
 
 // The records of a new chain, with a window of two heights.
 fn new_records(rt: &impl Abort, alloc: Global) -> Records {

@@ -12,8 +12,8 @@ use std::process::Abort;
 const PACKET: &[u8] =
     b"\0\0\0\0\0\0\0\x01\0\0\0\0\0\0\0\0\0\0\0\0\0\0\0\x07\0\x08transfer\0\x09channel-7\0\x08transfer\0\x09channel-0\0\0";
 
-// 100 of `atom` come to bob.
-const ATOMS: &[u8] = br#"{"amount":"100","denom":"atom","receiver":"bob","sender":"alice"}"#;
+/// 100 of `atom` come to bob.
+pub const ATOMS: &[u8] = br#"{"amount":"100","denom":"atom","receiver":"bob","sender":"alice"}"#;
 
 const NO_USER: &[u8] = br#"{"amount":"100","denom":"atom","receiver":"b-b","sender":"alice"}"#;
 
@@ -34,8 +34,8 @@ fn version(rt: &impl Abort, alloc: Global) -> Version {
     Name::parse(alloc, "ics20-1").expect(rt, "a version")
 }
 
-// An application that holds nothing.
-fn empty(rt: &impl Abort, alloc: Global) -> Transfers {
+/// An application that holds nothing.
+pub fn empty(rt: &impl Abort, alloc: Global) -> Transfers {
     let start = ChainStart {
         time: 100,
         balances: Vec::new(alloc),

@@ -20,7 +20,8 @@ const ORDERED: &[u8] = b"\x03\x02\0\x04note\0\x09channel-0\0\x0cconnection-0\0\x
 
 const CLOSED: &[u8] = b"\x04\x02\0\x04note\0\x09channel-0\0\x0cconnection-0\0\x06note-1";
 
-const UNORDERED: &[u8] = b"\x03\x01\0\x04note\0\x09channel-0\0\x0cconnection-0\0\x06note-1";
+/// The end of a channel whose packets come in any order.
+pub const UNORDERED: &[u8] = b"\x03\x01\0\x04note\0\x09channel-0\0\x0cconnection-0\0\x06note-1";
 
 const PACKET: &[u8] =
     b"\0\0\0\0\0\0\0\x01\0\0\0\0\0\0\0\x0c\0\0\0\0\0\0\0\0\0\x04note\0\x09channel-0\0\x04note\0\x09channel-0\0\x05hello";
@@ -37,8 +38,8 @@ const ACK: [u8; 32] = [
     0x00, 0x1e, 0xdb, 0xaf, 0x21, 0x23, 0xa4, 0x77, 0xdf, 0x72, 0xa0, 0xa9, 0xf3, 0x64, 0x0a, 0x7c,
 ];
 
-// The channel is there, and its counters may be counted on.
-fn check_counters(records: &Records, port: &PortId, id: &ChannelId) -> Result<(), Refusal>
+/// The channel is there, and its counters may be counted on.
+pub fn check_counters(records: &Records, port: &PortId, id: &ChannelId) -> Result<(), Refusal>
     ensures send { OnOk result (IsSomeAnd (channel_at (core_of records.now) port.now id.now) (λ mine. mine.next_send < 2 ^ 64 - 1)) }
     ensures recv { OnOk result (IsSomeAnd (channel_at (core_of records.now) port.now id.now) (λ mine. mine.next_recv < 2 ^ 64 - 1)) }
     ensures ack { OnOk result (IsSomeAnd (channel_at (core_of records.now) port.now id.now) (λ mine. mine.next_ack < 2 ^ 64 - 1)) }
@@ -51,21 +52,27 @@ fn check_counters(records: &Records, port: &PortId, id: &ChannelId) -> Result<()
     check_number(mine.next_ack())
 }
 
-// The channel sends the packet.
-fn send(rt: &impl Abort, alloc: Global, records: &mut Records, packet: &Packet) {
-    let commitment = Commitment {
+/// What is committed of the packet.
+pub fn commitment(rt: &impl Abort, alloc: Global) -> Commitment {
+    Commitment {
         payload: Bytes::copy_of(alloc, b"hello").expect(rt, "memory"),
         timeout_height: 12,
         timeout_time: 0,
-    };
+    }
+}
+
+/// The channel sends the packet.
+pub fn send(rt: &impl Abort, alloc: Global, records: &mut Records, packet: &Packet) {
     let port = &packet.source_port;
     let channel = &packet.source_channel;
     check_counters(records, port, channel).expect(rt, "a channel");
-    records.send(port, channel, commitment).expect(rt, "sent");
+    records
+        .send(port, channel, commitment(rt, alloc))
+        .expect(rt, "sent");
 }
 
-// The channel receives the packet.
-fn receive(rt: &impl Abort, alloc: Global, records: &mut Records, packet: &Packet) {
+/// The channel receives the packet.
+pub fn receive(rt: &impl Abort, alloc: Global, records: &mut Records, packet: &Packet) {
     let mut notes = Notes::new(alloc);
     let port = &packet.destination_port;
     let channel = &packet.destination_channel;
@@ -75,8 +82,8 @@ fn receive(rt: &impl Abort, alloc: Global, records: &mut Records, packet: &Packe
     drop(notes);
 }
 
-// The packet is acknowledged.
-fn acknowledge(rt: &impl Abort, alloc: Global, records: &mut Records, packet: &Packet) {
+/// The packet is acknowledged.
+pub fn acknowledge(rt: &impl Abort, alloc: Global, records: &mut Records, packet: &Packet) {
     let mut notes = Notes::new(alloc);
     let port = &packet.source_port;
     let channel = &packet.source_channel;
@@ -140,7 +147,8 @@ fn counters(records: &Records) -> [bool; 3] {
     ]
 }
 
-fn packet(rt: &impl Abort, alloc: Global) -> Packet {
+/// The packet.
+pub fn packet(rt: &impl Abort, alloc: Global) -> Packet {
     decode(alloc, PACKET).expect(rt, "a packet")
 }
 
