@@ -3,5 +3,8 @@ pub mod Joined
 pub mod PartialSums
 pub mod DenomAmounts
 pub mod Cuts
+pub mod TokenTexts
+pub mod PartyTexts
+pub mod WrittenTexts
 pub mod Told
 pub mod Rows

@@ -1,11 +1,15 @@
 -- Tokens that are read one behind another.
-use Rattle.std.proofs.Common.{◌≡◌, ℕ, ◌<◌, ◌≤◌, ◌+◌, ◌-◌, suc, true, false, List, [], ◌∷◌, ◌++◌, length, Option, Some, None, Err, codes, option_map, if◌then◌else◌, refl, sym, ap, ◌∙◌, arith, append_assoc, length-append}
-use Rattle.ibc_ids.specs.Texts.{Text, same_text}
+use Rattle.std.proofs.Common.{◌≡◌, ℕ, Global, Vec, ◌<◌, ◌≤◌, ◌+◌, ◌-◌, suc, Bool, true, false, ◌&&◌, ◌||◌, List, [], ◌∷◌, ◌++◌, length, Option, Some, None, Err, codes, option_map, if◌then◌else◌, refl, sym, ap, ◌∙◌, arith, append_assoc, length-append}
+use Rattle.std.specs.Option.{option_map_or}
+use Rattle.std.specs.Ordering.{is_lt}
+use Rattle.ibc_ids.specs.Texts.{Text, same_text, text_cmp}
 use Rattle.ibc_wire.specs.Reading.{◌>>=◌}
 use Rattle.ibc_wire.specs.declared.token.Token.{Token}
+use Rattle.ibc_machine.specs.ics20.TokenData.{Data, is_token}
 use Rattle.ibc_token_data.specs.declared.fault.TokenDataFault.{TokenDataFault}
 use Rattle.ibc_token_data.specs.declared.fault.TokenDataFault.TheVariants.{NotData, NoMemory}
-use Rattle.ibc_token_data.specs.Cutting.{Gives, behind, token_at, token_of, tokens_in, parties_behind, told_with, several_told}
+use Rattle.ibc_token_data.specs.AbstractData.{abstract_data}
+use Rattle.ibc_token_data.specs.Cutting.{Gives, only_if, behind, value_behind, amount_of_digits, token_at, token_of, tokens_in, is_row, parties_behind, told_with, several_told}
 
 -- tokens before those that may be there
 abbrev pub before : List Token → Option (List Token) → Option (List Token)
@@ -95,13 +99,107 @@ pub fault_passes : {X Y : Type 0} (view : X → Y) (fault : TokenDataFault) (o :
 fault_passes view NotData o whole none ends = ends none
 fault_passes view NoMemory o whole none ends = tt
 
+-- ---- rows that are only seen
+
+module _ (n : ℕ) (last rest : Text) where
+  abbrev seen : ℕ × Text × Text → Bool
+  seen found =
+      is_lt (text_cmp last found.1)
+      && (same_text found.2 (codes "}]}") || option_map_or (is_row n found.1) (behind (codes "},") found.2) false)
+
+  one_seen : is_row (suc n) last rest ≡ option_map_or seen (token_at rest) false
+  unfolding is_row
+  one_seen = refl
+
+  pub no_row : None ≡ token_at rest → is_row (suc n) last rest ≡ false
+  no_row none = one_seen ∙ ap (λ (o : Option (ℕ × Text × Text)). option_map_or seen o false) (sym none)
+
+  module _ (amount : ℕ) (denom next : Text) (found : Some (amount, denom, next) ≡ token_at rest) where
+    found_seen : is_row (suc n) last rest ≡ seen (amount, denom, next)
+    found_seen = one_seen ∙ ap (λ (o : Option (ℕ × Text × Text)). option_map_or seen o false) (sym found)
+
+    more_seen : Bool
+    more_seen = same_text next (codes "}]}") || option_map_or (is_row n denom) (behind (codes "},") next) false
+
+    pub falls : false ≡ is_lt (text_cmp last denom) → is_row (suc n) last rest ≡ false
+    unfolding more_seen
+    falls not_before = found_seen ∙ ap (λ b. b && more_seen) (sym not_before)
+
+    module _ (before_it : true ≡ is_lt (text_cmp last denom)) where
+      risen : is_row (suc n) last rest ≡ more_seen
+      unfolding more_seen
+      risen = found_seen ∙ ap (λ b. b && more_seen) (sym before_it)
+
+      pub row_ends : true ≡ same_text next (codes "}]}") → is_row (suc n) last rest ≡ true
+      unfolding more_seen
+      row_ends ends = risen ∙ ap (λ b. b || option_map_or (is_row n denom) (behind (codes "},") next) false) (sym ends)
+
+      module _ (on : false ≡ same_text next (codes "}]}")) where
+        gone_on : is_row (suc n) last rest ≡ option_map_or (is_row n denom) (behind (codes "},") next) false
+        unfolding more_seen
+        gone_on = risen ∙ ap (λ b. b || option_map_or (is_row n denom) (behind (codes "},") next) false) (sym on)
+
+        pub row_breaks : None ≡ behind (codes "},") next → is_row (suc n) last rest ≡ false
+        row_breaks none = gone_on ∙ ap (λ (o : Option Text). option_map_or (is_row n denom) o false) (sym none)
+
+        pub row_goes_on : (more : Text) → Some more ≡ behind (codes "},") next → is_row (suc n) last rest ≡ is_row n denom more
+        row_goes_on more step = gone_on ∙ ap (λ (o : Option Text). option_map_or (is_row n denom) o false) (sym step)
+
+-- what is still to be seen, where something is left
+pub seen_so_far : (text last rest : Text) (left : ℕ) → 0 < left → is_row 8 [] text ≡ is_row left last rest → is_row 8 [] text ≡ is_row (suc (left - 1)) last rest
+seen_so_far text last rest left some so_far =
+    let one : left ≡ suc (left - 1) = omega (arith, some) in
+    so_far ∙ ap (λ n. is_row n last rest) one
+
+pub no_more : (last rest : Text) → is_row 0 last rest ≡ false
+unfolding is_row
+no_more last rest = refl
+
+-- ---- one token
+
+-- the steps that cut one
+pub token_cut : (text digits behind_digits : Text) (amount : ℕ) (denom rest : Text) → Some (digits, behind_digits) ≡ value_behind (codes "{\"amount\":\"") text → Some amount ≡ amount_of_digits digits
+    → Some (denom, rest) ≡ value_behind (codes ",\"denom\":\"") behind_digits → true ≡ is_token (record { denom = denom; amount = amount }) → Some (amount, denom, rest) ≡ token_at text
+token_cut text digits behind_digits amount denom rest first second third good =
+    ap (λ b. only_if b (amount, denom, rest)) good
+    ∙ ap (λ (o : Option (Text × Text)). o >>= λ name. only_if (is_token (record { denom = name.0; amount = amount })) (amount, name.0, name.1)) third
+    ∙ ap (λ (o : Option ℕ). o >>= λ n. value_behind (codes ",\"denom\":\"") behind_digits >>= λ name. only_if (is_token (record { denom = name.0; amount = n })) (n, name.0, name.1)) second
+    ∙ ap (λ (o : Option (Text × Text)). o >>= λ cut. amount_of_digits cut.0 >>= λ n. value_behind (codes ",\"denom\":\"") cut.1 >>= λ name. only_if (is_token (record { denom = name.0; amount = n })) (n, name.0, name.1)) first
+
 -- ---- the data of several
 
-pub several_found : (text memo receiver sender rest list : Text) (tokens : List Token) → Some (memo, receiver, sender, rest) ≡ parties_behind (codes "{") text
-    → Some list ≡ behind (codes ",\"tokens\":[") rest → tokens_in 8 list ≡ Some tokens → told_with tokens (memo, receiver, sender, rest) ≡ several_told text
-several_found text memo receiver sender rest list tokens parties step row =
+-- the same of a fault of their list
+pub list_fault_passes : (fault : TokenDataFault) (o : Option (List Token)) (whole : Option Data) → Gives (λ (tokens : Vec Token Global). tokens.items) (Err fault) o → (o ≡ None → whole ≡ None) → Gives abstract_data (Err fault) whole
+list_fault_passes NotData o whole none ends = ends none
+list_fault_passes NoMemory o whole none ends = tt
+
+-- no list stands behind the parties
+pub several_unlisted : (text memo receiver sender rest : Text) → Some (memo, receiver, sender, rest) ≡ parties_behind (codes "{") text → None ≡ behind (codes ",\"tokens\":[") rest
+    → several_told text ≡ None
+several_unlisted text memo receiver sender rest parties step =
     let p : Text × Text × Text × Text = (memo, receiver, sender, rest) in
-    sym
-    (ap (λ (o : Option (Text × Text × Text × Text)). o >>= λ x. behind (codes ",\"tokens\":[") x.3 >>= λ l. tokens_in 8 l >>= λ ts. told_with ts x) (sym parties)
-    ∙ ap (λ (o : Option Text). o >>= λ l. tokens_in 8 l >>= λ ts. told_with ts p) (sym step)
-    ∙ ap (λ (o : Option (List Token)). o >>= λ ts. told_with ts p) row)
+    ap (λ (o : Option (Text × Text × Text × Text)). o >>= λ x. behind (codes ",\"tokens\":[") x.3 >>= λ l. only_if (is_row 8 [] l) l >>= λ row. tokens_in 8 row >>= λ ts. told_with ts x) (sym parties)
+    ∙ ap (λ (o : Option Text). o >>= λ l. only_if (is_row 8 [] l) l >>= λ row. tokens_in 8 row >>= λ ts. told_with ts p) (sym step)
+
+module _ (text memo receiver sender rest list : Text) (parties : Some (memo, receiver, sender, rest) ≡ parties_behind (codes "{") text) (step : Some list ≡ behind (codes ",\"tokens\":[") rest) where
+  abbrev with_row : Bool → Option Data
+  with_row rises =
+      only_if rises list >>= λ row. tokens_in 8 row >>= λ tokens. told_with tokens (memo, receiver, sender, rest)
+
+  several_seen : several_told text ≡ with_row (is_row 8 [] list)
+  several_seen =
+      let p : Text × Text × Text × Text = (memo, receiver, sender, rest) in
+      ap (λ (o : Option (Text × Text × Text × Text)). o >>= λ x. behind (codes ",\"tokens\":[") x.3 >>= λ l. only_if (is_row 8 [] l) l >>= λ row. tokens_in 8 row >>= λ ts. told_with ts x) (sym parties)
+      ∙ ap (λ (o : Option Text). o >>= λ l. only_if (is_row 8 [] l) l >>= λ row. tokens_in 8 row >>= λ ts. told_with ts p) (sym step)
+
+  pub several_falls : false ≡ is_row 8 [] list → several_told text ≡ None
+  several_falls fallen = several_seen ∙ ap with_row (sym fallen)
+
+  pub several_none : true ≡ is_row 8 [] list → tokens_in 8 list ≡ None → several_told text ≡ None
+  several_none rises none =
+      several_seen ∙ ap with_row (sym rises) ∙ ap (λ (o : Option (List Token)). o >>= λ ts. told_with ts (memo, receiver, sender, rest)) none
+
+  pub several_found : (tokens : List Token) → true ≡ is_row 8 [] list → tokens_in 8 list ≡ Some tokens → told_with tokens (memo, receiver, sender, rest) ≡ several_told text
+  several_found tokens rises row =
+      sym
+      (several_seen ∙ ap with_row (sym rises) ∙ ap (λ (o : Option (List Token)). o >>= λ ts. told_with ts (memo, receiver, sender, rest)) row)

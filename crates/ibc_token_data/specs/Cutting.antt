@@ -1,11 +1,12 @@
 -- Data as it is cut out of its one spelling.
-use Rattle.std.specs.Prelude.{◌≡◌, ⊤, ◌==◌, ◌&&◌, ℕ, zero, suc, Bool, codes, decimal, List, [], ◌∷◌, Option, Some, None, Result, Ok, Err, if◌then◌else◌}
-use Rattle.std.specs.Option.{option_map}
-use Rattle.ibc_ids.specs.Texts.{Text, same_text}
+use Rattle.std.specs.Prelude.{◌≡◌, ⊤, ◌==◌, ◌&&◌, ◌||◌, ℕ, zero, suc, Bool, false, codes, decimal, List, [], ◌∷◌, Option, Some, None, Result, Ok, Err, if◌then◌else◌}
+use Rattle.std.specs.Option.{option_map, option_map_or}
+use Rattle.std.specs.Ordering.{is_lt}
+use Rattle.ibc_ids.specs.Texts.{Text, same_text, text_cmp}
 use Rattle.ibc_ids.specs.Names.{is_denom, is_memo, is_receiver, is_user}
 use Rattle.ibc_wire.specs.Reading.{◌>>=◌}
 use Rattle.ibc_wire.specs.declared.token.Token.{Token}
-use Rattle.ibc_machine.specs.ics20.TokenData.{Data, is_amount, number_of}
+use Rattle.ibc_machine.specs.ics20.TokenData.{Data, is_amount, is_token, number_of}
 use Rattle.ibc_token_data.specs.declared.fault.TokenDataFault.{TokenDataFault}
 use Rattle.ibc_token_data.specs.declared.fault.TokenDataFault.TheVariants.{NotData, NoMemory}
 
@@ -56,7 +57,7 @@ token_at text = do
   digits ← value_behind (codes "{\"amount\":\"") text
   amount ← amount_of_digits digits.0
   denom ← value_behind (codes ",\"denom\":\"") digits.1
-  Some (amount, denom.0, denom.1)
+  only_if (is_token (record { denom = denom.0; amount = amount })) (amount, denom.0, denom.1)
 
 abbrev pub token_of : ℕ → Text → Option Token
 token_of amount denom = only_if (is_denom denom) (record { denom = denom; amount = amount })
@@ -68,6 +69,14 @@ tokens_in (suc n) text =
     token_at text >>= λ found. token_of found.0 found.1 >>= λ token.
     if same_text found.2 (codes "}]}") then Some (token ∷ [])
     else (behind (codes "},") found.2 >>= λ next. option_map (λ tokens. token ∷ tokens) (tokens_in n next))
+
+-- whether up to so many tokens stand there, each denomination behind the last one, and the end of their list
+unfoldable pub is_row : ℕ → Text → Text → Bool
+is_row zero last text = false
+is_row (suc n) last text =
+    option_map_or (λ found. is_lt (text_cmp last found.1)
+    && (same_text found.2 (codes "}]}") || option_map_or (is_row n found.1) (behind (codes "},") found.2) false))
+    (token_at text) false
 
 -- ---- parties
 
@@ -90,19 +99,22 @@ pair_at text = do
   sender ← value_behind (codes ",\"sender\":\"") receiver.1
   Some (receiver.0, sender.0, sender.1)
 
+abbrev pub are_parties : Text → Text → Text → Bool
+are_parties memo receiver sender = is_memo memo && is_receiver receiver && is_user sender
+
 -- memo, receiver and sender behind the front, and what stands behind them
 abbrev pub parties_behind : Text → Text → Option (Text × Text × Text × Text)
 parties_behind front text = do
   start ← behind front text
   memo ← memo_at start
   pair ← pair_at memo.1
-  Some (memo.0, pair.0, pair.1, pair.2)
+  only_if (are_parties memo.0 pair.0 pair.1) (memo.0, pair.0, pair.1, pair.2)
 
 -- ---- data
 
 abbrev pub told_with : List Token → Text × Text × Text × Text → Option Data
 told_with tokens (memo, receiver, sender, rest) =
-    only_if (is_memo memo && is_receiver receiver && is_user sender)
+    only_if (are_parties memo receiver sender)
     (record { tokens = tokens; memo = memo; receiver = receiver; sender = sender })
 
 -- one token, and the parties up to the end
@@ -122,7 +134,8 @@ abbrev pub several_told : Text → Option Data
 several_told text = do
   parties ← parties_behind (codes "{") text
   list ← behind (codes ",\"tokens\":[") parties.3
-  tokens ← tokens_in 8 list
+  row ← only_if (is_row 8 [] list) list
+  tokens ← tokens_in 8 row
   told_with tokens parties
 
 -- the data of which the text may be the spelling

@@ -1,9 +1,12 @@
 //! The texts of data, cut out of its one spelling.
 
-ghost use Rattle.std.specs.Prelude.{◌≡◌, ◌&&◌, nat_le, slice_index, option_map};
+ghost use Rattle.std.specs.Prelude.{◌≡◌, ◌&&◌, [], nat_le, slice_index, option_map};
 ghost use Rattle.std.specs.List.{position};
-ghost use Rattle.ibc_ids.specs.Texts.{same_text};
-ghost use Rattle.ibc_token_data.specs.Cutting.{is_quote, behind, up_to_quote, value_behind, memo_at, pair_at, parties_behind, amount_of_digits, token_at, one_cut};
+ghost use Rattle.std.specs.Ordering.{is_lt};
+ghost use Rattle.ibc_ids.specs.Texts.{same_text, text_cmp};
+ghost use Rattle.ibc_token_data.specs.Cutting.{is_quote, behind, up_to_quote, value_behind, memo_at, pair_at, parties_behind, amount_of_digits, token_at, is_row, one_cut};
+
+use crate::forms::{are_parties, is_token};
 
 /// What stands behind the front, or `None` where the text doesn't begin with it.
 pub(crate) fn behind<'t>(front: &[u8], text: &'t [u8]) -> Option<&'t [u8]>
@@ -64,7 +67,38 @@ pub(crate) fn token_at(text: &[u8]) -> Option<(u128, &[u8], &[u8])>
     let (digits, rest) = value_behind(b"{\"amount\":\"", text)?;
     let amount = amount_of(digits)?;
     let (denom, rest) = value_behind(b",\"denom\":\"", rest)?;
-    Some((amount, denom, rest))
+    if is_token(amount, denom) {
+        Some((amount, denom, rest))
+    } else {
+        None
+    }
+}
+
+/// Whether up to 8 tokens whose denominations rise stand there, and the end of their list.
+pub(crate) fn is_row(text: &[u8]) -> bool
+    ensures { result ≡ is_row 8 [] text.now }
+{
+    let mut last: &[u8] = b"";
+    let mut rest = text;
+    let mut left: usize = 8;
+    while left > 0 {
+        let Some((_, denom, next)) = token_at(rest) else {
+            return false;
+        };
+        if !is_before(last, denom) {
+            return false;
+        }
+        if is_text(next, b"}]}") {
+            return true;
+        }
+        let Some(next) = behind(b"},", next) else {
+            return false;
+        };
+        last = denom;
+        rest = next;
+        left -= 1;
+    }
+    false
 }
 
 /// Memo, receiver and sender as they stand in a text, and what stands behind them.
@@ -83,6 +117,9 @@ pub(crate) fn parties_behind<'t>(front: &[u8], text: &'t [u8]) -> Option<Parties
     let start = behind(front, text)?;
     let (memo, rest) = memo_at(start)?;
     let (receiver, sender, rest) = pair_at(rest)?;
+    if !are_parties(memo, receiver, sender) {
+        return None;
+    }
     Some(Parties {
         memo,
         receiver,
@@ -131,4 +168,11 @@ pub(crate) fn is_text(left: &[u8], right: &[u8]) -> bool
     ensures { result ≡ same_text left.now right.now }
 {
     left == right
+}
+
+// Whether one text is before another in byte order.
+fn is_before(left: &[u8], right: &[u8]) -> bool
+    ensures { result ≡ is_lt (text_cmp left.now right.now) }
+{
+    left.cmp(right).is_lt()
 }

@@ -1,13 +1,11 @@
-//! Which data a packet of tokens may have.
+//! Which tokens and parties the data of a packet may have.
 
 ghost use Rattle.std.specs.Prelude.{◌≡◌, ◌&&◌};
-ghost use Rattle.std.specs.List.{list_all};
 ghost use Rattle.ibc_wire.specs.Tokens.{is_rising, is_short};
-ghost use Rattle.ibc_machine.specs.ics20.TokenData.{has_several, is_token, is_list_for, is_data};
-ghost use Rattle.ibc_token_data.specs.AbstractData.{abstract_data};
+ghost use Rattle.ibc_machine.specs.ics20.TokenData.{has_several, is_token};
+ghost use Rattle.ibc_token_data.specs.Cutting.{are_parties};
 
-use crate::TokenData;
-use ibc_ids::Version;
+use ibc_ids::{DenomKind, MemoKind, NameKind, ReceiverKind, UserKind, Version};
 use ibc_wire::{Token, is_listed};
 
 /// Whether packets of the version have several tokens.
@@ -24,37 +22,16 @@ pub fn are_few_and_rising(tokens: &[Token]) -> bool
     is_listed(tokens)
 }
 
-fn is_list_for(version: &Version, tokens: &[Token]) -> bool
-    ensures { result ≡ is_list_for version.now tokens.now }
+/// Whether a packet may have so much of the denomination with these bytes.
+pub(crate) fn is_token(amount: u128, denom: &[u8]) -> bool
+    ensures { result ≡ is_token (record { denom = denom.now; amount = amount }) }
 {
-    if has_several(version) {
-        are_few_and_rising(tokens)
-    } else {
-        tokens.len() == 1
-    }
+    1 <= amount && DenomKind::has_form(denom)
 }
 
-fn is_token(token: &Token) -> bool
-    ensures { result ≡ is_token token.now }
+/// Whether these are a memo, a receiver and a user's name.
+pub(crate) fn are_parties(memo: &[u8], receiver: &[u8], sender: &[u8]) -> bool
+    ensures { result ≡ are_parties memo.now receiver.now sender.now }
 {
-    let _denom = token.denom.as_str();
-    let amount = token.amount;
-    1 <= amount
-}
-
-fn are_tokens(tokens: &[Token]) -> bool
-    ensures { result ≡ list_all is_token tokens.now }
-{
-    tokens.iter().all(|token| is_token(token))
-}
-
-/// Whether a packet over a channel of the version may have the data.
-pub(crate) fn is_data(version: &Version, told: &TokenData) -> bool
-    ensures { result ≡ is_data version.now (abstract_data told.now) }
-{
-    let _memo = told.memo.as_str();
-    let _receiver = told.receiver.as_str();
-    let _sender = told.sender.as_str();
-    let tokens = told.tokens.as_slice();
-    is_list_for(version, tokens) && are_tokens(tokens)
+    MemoKind::has_form(memo) && ReceiverKind::has_form(receiver) && UserKind::has_form(sender)
 }

@@ -5,7 +5,7 @@ ghost use Rattle.ibc_token_data.specs.AbstractData.{abstract_data};
 ghost use Rattle.ibc_token_data.specs.Cutting.{Gives, only_if, token_of, tokens_in, told_with, one_told, several_told, told_by};
 
 use crate::TokenData;
-use crate::cutting::{Parties, behind, is_text, one_cut, parties_behind, token_at};
+use crate::cutting::{Parties, behind, is_row, is_text, one_cut, parties_behind, token_at};
 use crate::fault::TokenDataFault;
 use crate::forms::has_several;
 use ibc_ids::{Name, NameKind, Refusal, Version};
@@ -93,6 +93,9 @@ fn several_told(alloc: Global, text: &[u8]) -> Result<TokenData, TokenDataFault>
     let Some(list) = behind(b",\"tokens\":[", parties.rest) else {
         return Err(TokenDataFault::NotData);
     };
+    if !is_row(list) {
+        return Err(TokenDataFault::NotData);
+    }
     let tokens = tokens_in(alloc, list)?;
     told_with(alloc, tokens, &parties)
 }

@@ -1,13 +1,12 @@
 //! The data of a packet of tokens.
 
-ghost use Rattle.std.specs.Prelude.{◌≡◌, ◌<◌, ◌^◌, Some, None, IfOk, IsErrOf, SomeIff, option_map, IsOkUnless};
+ghost use Rattle.std.specs.Prelude.{◌≡◌, ◌<◌, ◌^◌, IfOk, SomeIff, option_map, IsOkUnless};
 ghost use Rattle.ibc_ids.specs.declared.refusal.Refusal.TheVariants.{NoMemory};
 ghost use Rattle.ibc_machine.specs.ics20.TokenData.{amount_of, data_of, data_text};
 ghost use Rattle.ibc_machine.specs.ics20.Transfers.{transfer_data, transfer_many_data};
 ghost use Rattle.ibc_token_data.specs.AbstractData.{abstract_data};
 
 use crate::fault::TokenDataFault;
-use crate::forms::is_data;
 use crate::reading::told_by;
 use crate::writing::{likely_length, spelling};
 use ibc_ids::{Bytes, Denom, Memo, Receiver, Refusal, UserName, Version};
@@ -56,6 +55,7 @@ impl TokenData {
 
     /// The data that the bytes spell over a channel of the version, or `None` where they aren't the one spelling of data
     /// that such a packet may have. Refused: `NoMemory`.
+    #[tactic(auto, using(crate::proofs::Told::told_data))]
     pub fn read(
         alloc: Global,
         version: &Version,
@@ -64,7 +64,7 @@ impl TokenData {
         ensures ok { IfOk result (λ told. option_map abstract_data told ≡ data_of version.now payload.now) }
         ensures err { IsOkUnless result NoMemory }
     {
-        match spelled_data(alloc, version, payload) {
+        match told_by(alloc, version, payload) {
             Ok(told) => Ok(Some(told)),
             Err(TokenDataFault::NotData) => Ok(None),
             Err(TokenDataFault::NoMemory) => Err(Refusal::NoMemory),
@@ -102,21 +102,4 @@ fn amount_in(tokens: &[Token], denom: &Denom) -> Option<u128>
         }
     }
     Some(amount)
-}
-
-// The data that the bytes spell over a channel of the version. Faults: `NotData` where they spell none; `NoMemory`.
-fn spelled_data(
-    alloc: Global,
-    version: &Version,
-    payload: &[u8],
-) -> Result<TokenData, TokenDataFault>
-    ensures ok { IfOk result (λ told. data_of version.now payload.now ≡ Some (abstract_data told)) }
-    ensures bad { IsErrOf result TokenDataFault.NotData → data_of version.now payload.now ≡ None }
-{
-    let told = told_by(alloc, version, payload)?;
-    if is_data(version, &told) {
-        Ok(told)
-    } else {
-        Err(TokenDataFault::NotData)
-    }
 }
