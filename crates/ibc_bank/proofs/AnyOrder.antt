@@ -23,7 +23,7 @@ module _ (xs ys : List Holding) (same : IsPermutation xs ys) where
       ap (λ n. ((is_user h.0 && is_base_denom h.1) && eqb n 1) && ltb (total_of h.1 ys) (2 ^ 128)) (sum_by-IsPermutation (λ x. cond (is_same_holding h x) 1 0) xs ys same)
       ∙ ap (λ n. ((is_user h.0 && is_base_denom h.1) && eqb (count_by (is_same_holding h) xs) 1) && ltb n (2 ^ 128)) (sum_by-IsPermutation (λ (x : Holding). cond (same_text x.1 h.1) x.2 0) xs ys same)
 
-  pass_alike : (p : Holding → Bool) → list_all p ys ≡ list_all p xs
+  pub pass_alike : (p : Holding → Bool) → list_all p ys ≡ list_all p xs
   pass_alike p =
       same_answer (list_all p ys) (list_all p xs)
       (λ e. list_all-from_AllPass p xs (All-permutation (λ x. p x ≡ true) ys xs (IsPermutation-sym xs ys same) (AllPass-from_list_all p ys e)))

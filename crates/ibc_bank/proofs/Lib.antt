@@ -7,3 +7,4 @@ mod Changed
 mod MoveSequences
 pub mod AnyOrder
 mod StartOrders
+mod Rising

@@ -12,4 +12,4 @@ mod sorted_starts;
 
 pub use bank::Bank;
 pub use moves::{Move, Source};
-pub use sorted_starts::references;
+pub use sorted_starts::heap_sorted;

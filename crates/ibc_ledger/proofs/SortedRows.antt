@@ -1,29 +1,28 @@
 -- Sorted holdings: those of one denomination stand in a row, and the same ones next to each other.
-use Rattle.std.proofs.Common.{◌≡◌, ◌∙◌, ℕ, Bool, ◌+◌, ◌-◌, ◌<◌, ◌≤◌, ◌^◌, ◌&&◌, true, false, cond, eqb, ltb, List, [], ◌∷◌, length, get_or, take, refl, sym, ap, subst, arith, Ordering, Less, Equal, Greater, is_lt, is_eq, suc, zero}
-use Rattle.std.proofs.Common.{map, eq-eqb, ne_eqb, not, Option, Some, None}
+use Rattle.std.proofs.Common.{◌≡◌, ◌∙◌, ℕ, Bool, ◌+◌, ◌-◌, ◌<◌, ◌≤◌, ◌^◌, ◌&&◌, true, false, cond, eqb, ltb, List, [], ◌∷◌, length, get_or, take, drop, refl, sym, ap, subst, arith, Ordering, Less, Equal, Greater, is_lt, is_eq, suc, zero}
+use Rattle.std.proofs.Common.{eq-eqb, ne_eqb, not, Option, Some, None}
 use Rattle.std.specs.Prelude.{IfSome, IfNone}
 use Rattle.std.specs.Option.{SomeIff}
 use Rattle.std.specs.Str.{bytes_eq}
-use Rattle.std.specs.Borrow.{Bor}
 use Rattle.std.specs.Prelude.{count_by}
-use Rattle.std.proofs.lemmas.List.{get_or-map, take_all, length-map}
+use Rattle.std.proofs.lemmas.List.{get_or-map, take_all, length-map, take-append-drop}
 use borrow.Author.Count.{below_more}
 use Rattle.std.specs.List.{sum_by, list_all}
-use Rattle.std.specs.List.Sorted.{IsPermutation, IsSortedBy}
+use Rattle.std.specs.List.Sorted.{IsSorted, IsSortedBy}
 use Rattle.std.specs.Cmp.{IsTotalOrder}
-use Rattle.std.specs.Ordering.{ordering_index, ordering_then}
+use Rattle.std.specs.Ordering.{ordering_index, ordering_then, nat_cmp}
 use Rattle.std.proofs.lemmas.Bool.{and_parts, and_from, false≢true, le-ltb, lt-ltb}
 use Rattle.std.proofs.lemmas.Cmp.{tied_itself, on_total, then_total}
-use Rattle.std.proofs.lemmas.List.Folds.{list_all_at}
+use Rattle.std.proofs.lemmas.List.Folds.{list_all_at, list_all-append}
 use Rattle.std.proofs.lemmas.List.Sorted.{searchable_from_sorted}
 use Rattle.std.proofs.lemmas.List.Sums.{sum_by-cons, sum_by_more, sum_by_more_le, count_by_more_yes, count_by_more_no, AllPass-from_list_all, list_all-from_AllPass}
 use Rattle.ibc_ids.specs.Texts.{Text, same_text, text_cmp}
 use Rattle.ibc_ids.specs.Names.{is_user, is_base_denom}
 use Rattle.ibc_ids.proofs.Texts.{text_same, same_text_itself, same_text_from, text_cmp_total, text_tied, text_ties}
 use Rattle.ibc_machine.specs.chain.Genesis.{Holding, is_same_holding, is_fair, total_of}
-use Rattle.ibc_bank.specs.SortedStarts.{shown}
 use Rattle.ibc_bank.proofs.AnyOrder.{same_answer}
-use Rattle.ibc_ledger.specs.SortedHoldings.{AreSorted, AreFairSoFar, IsStanding, holding_cmp}
+use Rattle.ibc_ledger.specs.SortedHoldings.{AreSorted, AreFairSoFar, IsStanding, holding_cmp, shown, all_shown, are_base}
+use Rattle.ibc_ledger.specs.declared.sorted_holdings.DenomHolding.{DenomHolding}
 
 -- ---- tests and orders
 
@@ -123,11 +122,6 @@ text_answer a x y e = sym (bytes_eq-same x y) ∙ flipped a (bytes_eq x y) e
 
 -- ---- unfair holdings
 
-fails_base : (a b c e : Bool) → b ≡ false → (((a && b) && c) && e) ≡ false
-fails_base false b c e is = refl
-fails_base true false c e is = refl
-fails_base true true c e is = absurd (false≢true (sym is))
-
 fails_single : (a b c e : Bool) → c ≡ false → (((a && b) && c) && e) ≡ false
 fails_single false b c e is = refl
 fails_single true false c e is = refl
@@ -164,9 +158,6 @@ are_fair row = list_all (is_fair row) row
 module _ (row : List Holding) (i : ℕ) (h : Holding) (inside : i < length row) (here : (d : Holding) → get_or row i d ≡ h) where
   unfair : is_fair row h ≡ false → are_fair row ≡ false
   unfair is = list_all_at (is_fair row) row i h inside (ap (is_fair row) (here h) ∙ is)
-
-  pub no_base : is_base_denom h.1 ≡ false → are_fair row ≡ false
-  no_base is = unfair (fails_base (is_user h.0) (is_base_denom h.1) (eqb (count_by (is_same_holding h) row) 1) (ltb (total_of h.1 row) (2 ^ 128)) is)
 
   same_itself : is_same_holding h h ≡ true
   same_itself = and_from (same_text h.0 h.0) (same_text h.1 h.1) (same_text_itself h.0) (same_text_itself h.1)
@@ -260,10 +251,9 @@ module _ (row : List Holding) (i : ℕ) (h : Holding) (inside : i < length row) 
     small_more small denom false is = let same = total_more denom false is in omega (arith, same, fair.small denom)
     small_more small denom true is = subst (λ x. total_of x (take (i + 1) row) < 2 ^ 128) (text_same h.1 denom is) (omega (arith, own_total, small))
 
-    pub one_more : is_user h.0 ≡ true → is_base_denom h.1 ≡ true → t + h.2 < 2 ^ 128 → AreFairSoFar row (i + 1) (t + h.2)
-    one_more user base small = record {
+    pub one_more : is_user h.0 ≡ true → t + h.2 < 2 ^ 128 → AreFairSoFar row (i + 1) (t + h.2)
+    one_more user small = record {
       named = λ k d below. below_more (λ j. is_user (get_or row j d).0 ≡ true) i (λ j b. fair.named j d b) (ap (λ (x : Holding). is_user x.0) (here d) ∙ user) k below;
-      base = λ k d below. below_more (λ j. is_base_denom (get_or row j d).1 ≡ true) i (λ j b. fair.base j d b) (ap (λ (x : Holding). is_base_denom x.1) (here d) ∙ base) k below;
       single = λ q. single_more q (is_same_holding q h) refl;
       small = λ denom. small_more small denom (same_text h.1 denom) refl;
       running = λ d some. subst (λ k. t + h.2 ≡ total_of (get_or row k d).1 (take (i + 1) row)) (the_place i) (own_total ∙ ap (λ x. total_of x.1 (take (i + 1) row)) (sym (here d)));
@@ -277,14 +267,13 @@ module _ (row : List Holding) (i : ℕ) (h : Holding) (inside : i < length row) 
 pub starts_fairly : (row : List Holding) → AreFairSoFar row 0 0
 starts_fairly row = record {
   named = λ k d below. absurd (omega arith);
-  base = λ k d below. absurd (omega arith);
   single = λ q. omega arith;
   small = λ denom. omega arith;
   running = λ d some. absurd (omega arith);
 }
 
-pub all_fair : (row : List Holding) (i total : ℕ) → AreFairSoFar row i total → length row ≤ i → are_fair row ≡ true
-all_fair row i total fair done = list_all-from_AllPass (is_fair row) row (λ k d inside. each k d inside)
+pub all_fair : (row : List Holding) (i total : ℕ) → are_base row ≡ true → AreFairSoFar row i total → length row ≤ i → are_fair row ≡ true
+all_fair row i total base fair done = list_all-from_AllPass (is_fair row) row (λ k d inside. each k d inside)
   where
     whole : take i row ≡ row
     whole = take_all i row done
@@ -296,14 +285,14 @@ all_fair row i total fair done = list_all-from_AllPass (is_fair row) row (λ k d
         let within = sum_by_more_le (one_if_same h) row k d inside in
         let own : one_if_same h h ≡ 1 = ap (λ x. cond x 1 0) (and_from (same_text h.0 h.0) (same_text h.1 h.1) (same_text_itself h.0) (same_text_itself h.1)) in
         let small : total_of h.1 row < 2 ^ 128 = subst (λ xs. total_of h.1 xs < 2 ^ 128) whole (fair.small h.1) in
-        passes_all (is_user h.0) (is_base_denom h.1) (eqb (count_by (is_same_holding h) row) 1) (ltb (total_of h.1 row) (2 ^ 128)) (fair.named k d (omega arith)) (fair.base k d (omega arith))
+        passes_all (is_user h.0) (is_base_denom h.1) (eqb (count_by (is_same_holding h) row) 1) (ltb (total_of h.1 row) (2 ^ 128)) (fair.named k d (omega arith)) (AllPass-from_list_all (λ (x : Holding). is_base_denom x.1) row base k d inside)
         (eq-eqb (count_by (is_same_holding h) row) 1 (omega (arith, most, within, own)))
         (lt-ltb (total_of h.1 row) (2 ^ 128) small)
 
 -- ---- another denomination
 
 -- where a denomination is no base one, the holdings aren't fair
-pub not_base : (row : List Holding) → list_all (λ (h : Holding). is_base_denom h.1) row ≡ false → are_fair row ≡ false
+pub not_base : (row : List Holding) → are_base row ≡ false → are_fair row ≡ false
 not_base row other = go (are_fair row) refl
   where
     go : (b : Bool) → are_fair row ≡ b → b ≡ false
@@ -316,23 +305,48 @@ not_base row other = go (are_fair row) refl
         (and_parts (is_user h.0) (is_base_denom h.1) (and_parts (is_user h.0 && is_base_denom h.1) (eqb (count_by (is_same_holding h) row) 1) three).0).1) in
         sym base ∙ other
 
--- ---- references
+-- ---- the first holdings
 
--- the references stand in the order of what they show
-pub sorted_shown : (row : List (Bor Holding)) → IsSortedBy (λ a b. is_lt (holding_cmp (shown a) (shown b))) row → AreSorted (map shown row)
+-- where one of the first is unfair, the holdings aren't fair
+pub unfair_first : (row few : List Holding) → few ≡ take (length few) row → list_all (is_fair row) few ≡ false → are_fair row ≡ false
+unfair_first row few first is =
+    let n = length few in
+    ap (list_all (is_fair row)) (sym (take-append-drop n row)) ∙ list_all-append (is_fair row) (take n row) (drop n row)
+    ∙ fails_first (list_all (is_fair row) (take n row)) (list_all (is_fair row) (drop n row)) (ap (list_all (is_fair row)) (sym first) ∙ is)
+
+-- ---- holdings that stand by their denominations
+
+pub read_at : (row : List DenomHolding) (i : ℕ) (r : DenomHolding) → i < length row → r ≡ get_or row i r → (d : Holding) → get_or (all_shown row) i d ≡ shown r
+read_at row i r inside is d = get_or-map shown row i r d inside ∙ ap shown (sym is)
+
+pub shown_inside : (row : List DenomHolding) (i : ℕ) → i < length row → i < length (all_shown row)
+shown_inside row i inside = let many = length-map row shown in omega arith
+
+not_less_pair : (o p q : Ordering) → is_lt (ordering_then o (ordering_then p q)) ≡ false → is_lt (ordering_then o p) ≡ false
+not_less_pair Equal p q e = not_less_first p q e
+not_less_pair Less p q e = e
+not_less_pair Greater p q e = refl
+
+-- the order in which they stand
+abbrev entry_cmp : DenomHolding → DenomHolding → Ordering
+entry_cmp a b = ordering_then (text_cmp a.denom.now b.denom.now) (ordering_then (text_cmp a.user.now b.user.now) (nat_cmp a.amount b.amount))
+
+pub sorted_shown : (row : List DenomHolding) → IsSorted entry_cmp row → AreSorted (all_shown row)
 sorted_shown row sorted k d low high =
     let many = length-map row shown in
     let inside : k + 1 < length row = omega (arith, many, high) in
-    below_bor row k d inside (sorted k)
+    rises row k d inside (sorted k)
   where
-    below_bor : (row : List (Bor Holding)) (k : ℕ) (d : Holding) → k + 1 < length row → ((e : Bor Holding) → 0 ≤ k → k + 1 < length row → is_lt (holding_cmp (shown (get_or row (k + 1) e)) (shown (get_or row k e))) ≡ false)
-        → is_lt (holding_cmp (get_or (map shown row) (k + 1) d) (get_or (map shown row) k d)) ≡ false
-    below_bor [] k d inside up = absurd (omega arith)
-    below_bor (r ∷ rest) k d inside up =
+    rises : (row : List DenomHolding) (k : ℕ) (d : Holding) → k + 1 < length row → ((e : DenomHolding) → 0 ≤ k → k + 1 < length row → is_lt (entry_cmp (get_or row (k + 1) e) (get_or row k e)) ≡ false)
+        → is_lt (holding_cmp (get_or (all_shown row) (k + 1) d) (get_or (all_shown row) k d)) ≡ false
+    rises [] k d inside up = absurd (omega arith)
+    rises (r ∷ rest) k d inside up =
         let all = r ∷ rest in
-        ap (λ x. is_lt (holding_cmp x (get_or (map shown all) k d))) (get_or-map shown all (k + 1) r d inside)
-        ∙ ap (λ x. is_lt (holding_cmp (shown (get_or all (k + 1) r)) x)) (get_or-map shown all k r d (omega (arith, inside)))
-        ∙ up r (omega arith) inside
+        let a = get_or all (k + 1) r in
+        let b = get_or all k r in
+        ap (λ x. is_lt (holding_cmp x (get_or (all_shown all) k d))) (get_or-map shown all (k + 1) r d inside)
+        ∙ ap (λ x. is_lt (holding_cmp (shown a) x)) (get_or-map shown all k r d (omega (arith, inside)))
+        ∙ not_less_pair (text_cmp a.denom.now b.denom.now) (text_cmp a.user.now b.user.now) (nat_cmp a.amount b.amount) (up r (omega arith) inside)
 
 -- ---- what a sum that may not fit says
 

@@ -1,42 +1,58 @@
 //! The holdings of a chain's start, in an order that shows whether they are fair.
 
-ghost use Rattle.std.specs.Prelude.{◌≡◌, ◌<◌, ◌+◌, false, map, length, IfOk, IfSome, IfNone};
+ghost use Rattle.std.specs.Prelude.{◌≡◌, ◌<◌, ◌+◌, false, length, IfOk, IfSome, IfNone, IsTrue};
 ghost use Rattle.std.specs.List.{list_all};
 ghost use Rattle.ibc_machine.specs.chain.Genesis.{is_fair};
-ghost use Rattle.ibc_ledger.specs.SortedHoldings.{AreSorted, AreSortedHoldings, AreFairSoFar, IsStanding, holding_cmp};
-ghost use Rattle.ibc_bank.specs.SortedStarts.{shown};
+ghost use Rattle.ibc_ledger.specs.SortedHoldings.{AreSorted, AreSortedHoldings, AreFairSoFar, IsStanding, all_shown, are_base};
 
-use ibc_bank::references;
+use ibc_bank::heap_sorted;
 use ibc_ids::{Denom, UserName};
 use std::alloc::{AllocError, Global};
-use std::cmp::Ordering;
 
-/// The holdings by their denominations, and those of one denomination by their users.
+/// A holding that stands by its denomination, and among those of one denomination by its user.
+#[derive(Clone, Copy, PartialEq, Eq, PartialOrd, Ord)]
+pub(crate) struct DenomHolding<'a> {
+    denom: &'a Denom,
+    user: &'a UserName,
+    amount: u128,
+}
+
+/// The holdings by their denominations, and those of one denomination by their users. Refused where there is no memory for
+/// 32 bytes a holding.
 pub(crate) fn sorted_holdings<'a>(
     alloc: Global,
     holdings: &'a [(UserName, Denom, u128)],
-) -> Result<Vec<&'a (UserName, Denom, u128)>, AllocError>
-    ensures { IfOk result (λ sorted. AreSortedHoldings holdings.now (map shown sorted.items)) }
+) -> Result<Vec<DenomHolding<'a>>, AllocError>
+    ensures { IfOk result (λ sorted. AreSortedHoldings holdings.now (all_shown sorted.items)) }
 {
-    let mut sorted = references(alloc, holdings)?;
-    sorted.sort_unstable_by(|a, b| compare(a, b));
-    Ok(sorted)
+    let list = listed(alloc, holdings)?;
+    Ok(heap_sorted(list))
 }
 
-fn compare(a: &(UserName, Denom, u128), b: &(UserName, Denom, u128)) -> Ordering
-    ensures { result ≡ holding_cmp a.now b.now }
+// The holdings in their order.
+fn listed<'a>(
+    alloc: Global,
+    holdings: &'a [(UserName, Denom, u128)],
+) -> Result<Vec<DenomHolding<'a>>, AllocError>
+    ensures { IfOk result (λ list. all_shown list.items ≡ holdings.now) }
 {
-    match a.1.cmp(&b.1) {
-        Ordering::Equal => a.0.cmp(&b.0),
-        apart => apart,
+    let mut list = Vec::with_capacity(alloc, holdings.len())?;
+    for holding in holdings {
+        list.push(DenomHolding {
+            denom: &holding.1,
+            user: &holding.0,
+            amount: holding.2,
+        })?;
     }
+    Ok(list)
 }
 
-/// Whether sorted holdings are fair. No two next to each other are of the same user and denomination, and the amounts
-/// of each denomination, which stand in a row, fit 128 bits together.
-pub(crate) fn are_fair_in_order(sorted: &[&(UserName, Denom, u128)]) -> bool
-    requires { AreSorted (map shown sorted.now) }
-    ensures { result ≡ list_all (is_fair (map shown sorted.now)) (map shown sorted.now) }
+/// Whether sorted holdings of base denominations are fair. No two next to each other are of the same user and
+/// denomination, and the amounts of each denomination, which stand in a row, fit 128 bits together.
+pub(crate) fn are_fair_in_order(sorted: &[DenomHolding<'_>]) -> bool
+    requires sorted { AreSorted (all_shown sorted.now) }
+    requires base { IsTrue (are_base (all_shown sorted.now)) }
+    ensures { result ≡ list_all (is_fair (all_shown sorted.now)) (all_shown sorted.now) }
 {
     let mut total: u128 = 0;
     for i in 0..sorted.len() {
@@ -49,38 +65,35 @@ pub(crate) fn are_fair_in_order(sorted: &[&(UserName, Denom, u128)]) -> bool
 }
 
 // The total of a denomination up to its holding at place i. None where the holdings aren't fair.
-fn next_total(sorted: &[&(UserName, Denom, u128)], i: usize, total: u128) -> Option<u128>
-    requires sorted { AreSorted (map shown sorted.now) }
+fn next_total(sorted: &[DenomHolding<'_>], i: usize, total: u128) -> Option<u128>
+    requires sorted { AreSorted (all_shown sorted.now) }
     requires inside { i < length sorted.now }
-    requires so_far { AreFairSoFar (map shown sorted.now) i total }
-    ensures more { IfSome result (AreFairSoFar (map shown sorted.now) (i + 1)) }
-    ensures unfair { IfNone result (list_all (is_fair (map shown sorted.now)) (map shown sorted.now) ≡ false) }
+    requires so_far { AreFairSoFar (all_shown sorted.now) i total }
+    ensures more { IfSome result (AreFairSoFar (all_shown sorted.now) (i + 1)) }
+    ensures unfair { IfNone result (list_all (is_fair (all_shown sorted.now)) (all_shown sorted.now) ≡ false) }
 {
-    let holding = sorted[i];
-    holding.0.lemma_has_form();
-    if !holding.1.is_base() {
-        return None;
-    }
+    let holding = &sorted[i];
+    holding.user.lemma_has_form();
     let standing = total_before(sorted, i, total)?;
-    standing.checked_add(holding.2)
+    standing.checked_add(holding.amount)
 }
 
 // What the holdings before place i come to in the denomination there. None where the one before is the same.
-fn total_before(sorted: &[&(UserName, Denom, u128)], i: usize, total: u128) -> Option<u128>
-    requires sorted { AreSorted (map shown sorted.now) }
+fn total_before(sorted: &[DenomHolding<'_>], i: usize, total: u128) -> Option<u128>
+    requires sorted { AreSorted (all_shown sorted.now) }
     requires inside { i < length sorted.now }
-    requires so_far { AreFairSoFar (map shown sorted.now) i total }
-    ensures standing { IfSome result (IsStanding (map shown sorted.now) i) }
-    ensures unfair { IfNone result (list_all (is_fair (map shown sorted.now)) (map shown sorted.now) ≡ false) }
+    requires so_far { AreFairSoFar (all_shown sorted.now) i total }
+    ensures standing { IfSome result (IsStanding (all_shown sorted.now) i) }
+    ensures unfair { IfNone result (list_all (is_fair (all_shown sorted.now)) (all_shown sorted.now) ≡ false) }
 {
     if i == 0 {
         return Some(0);
     }
-    let holding = sorted[i];
-    let before = sorted[i - 1];
-    if before.1 != holding.1 {
+    let holding = &sorted[i];
+    let before = &sorted[i - 1];
+    if before.denom != holding.denom {
         Some(0)
-    } else if before.0 != holding.0 {
+    } else if before.user != holding.user {
         Some(total)
     } else {
         None

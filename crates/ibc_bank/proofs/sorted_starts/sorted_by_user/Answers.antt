@@ -7,6 +7,6 @@ use Rattle.ibc_bank.proofs.sorted_starts.sorted_by_user.Goals as goal
 
 pub returns : goal.returns
 returns c =
-    let old = c.in_ok-sorted.sorted.items in
-    let new = c.sort_unstable_by.new.self.items in
-    subst (λ xs. IsPermutation xs (map shown new)) c.in_ok-sorted.ensures (IsPermutation-map shown old new c.sort_unstable_by.ensures.permutation)
+    let old = c.in_ok-list.list.items in
+    let new = c.heap_sorted.result.items in
+    subst (λ xs. IsPermutation xs (map shown new)) c.in_ok-list.ensures (IsPermutation-map shown old new c.heap_sorted.ensures.same)

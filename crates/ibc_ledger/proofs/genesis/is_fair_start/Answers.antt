@@ -1,23 +1,21 @@
--- A denomination is no base one, or these are the same holdings in another order.
-use Rattle.std.proofs.Common.{◌∙◌, map, sym, subst, ◌≡◌, false}
+-- One of the first holdings is unfair, or a denomination is no base one.
+use Rattle.std.proofs.Common.{◌≡◌, ◌∙◌, sym, subst, false}
 use Rattle.std.specs.List.{list_all}
-use Rattle.ibc_ids.specs.Names.{is_base_denom}
-use Rattle.ibc_machine.specs.chain.Genesis.{Holding, is_fair}
-use Rattle.ibc_bank.specs.SortedStarts.{shown}
-use Rattle.ibc_bank.proofs.AnyOrder.{fair_in_any_order}
-use Rattle.ibc_ledger.specs.SortedHoldings.{AreSortedHoldings}
-use Rattle.ibc_ledger.proofs.SortedRows.{not_base}
+use Rattle.ibc_machine.specs.chain.Genesis.{is_fair}
+use Rattle.ibc_ledger.specs.SortedHoldings.{are_base}
+use Rattle.ibc_ledger.proofs.SortedRows.{not_base, unfair_first}
+use Rattle.ibc_ledger.proofs.genesis.is_fair_start.Goals.{then-are_fair, else-are_fair}
 use Rattle.ibc_ledger.proofs.genesis.is_fair_start.Goals as goal
 
-pub returns-then-not-are_base : goal.returns-then-not-are_base
-returns-then-not-are_base c =
-    let holdings = c.args.start.now.balances.items in
-    let other = subst (λ xs. list_all (λ (h : Holding). is_base_denom h.1) xs ≡ false) c.as_slice-holdings.ensures.value (sym c.if-not-are_base.ensures) in
-    sym (not_base holdings other)
-
-pub returns-in-Ok : goal.returns-in-Ok
-returns-in-Ok c =
-    let sorted = c.in-Ok.sorted.items in
-    let holdings = c.args.start.now.balances.items in
-    let same = subst (λ xs. AreSortedHoldings xs (map shown sorted)) c.as_slice-holdings.ensures.value c.in-Ok.ensures in
-    subst (λ (ys : _). c.are_fair_in_order.result ≡ list_all (is_fair (map shown ys)) (map shown ys)) c.deref.ensures.value c.are_fair_in_order.ensures ∙ fair_in_any_order holdings (map shown sorted) same.same
+pub returns-else-are_base : goal.returns-else-are_base
+returns-else-are_base c =
+    let slice = c.as_slice-holdings.result.now in
+    let same = c.as_slice-holdings.ensures.value in
+    elim c.if-are_fair.branch [
+      | then-are_fair w ↦
+          let other = subst (λ xs. are_base xs ≡ false) same (sym w.are_base.ensures ∙ sym w.value-is ∙ c.if-are_base.false) in
+          c.if-are_base.false ∙ sym (not_base c.args.start.now.balances.items other)
+      | else-are_fair w ↦
+          let unfair = unfair_first slice c.first_few.result.now c.first_few.ensures.first (sym c.are_fair.ensures ∙ w.if-are_fair.false) in
+          c.if-are_base.false ∙ sym (subst (λ xs. list_all (is_fair xs) xs ≡ false) same unfair)
+    ]

@@ -1,8 +1,7 @@
 -- The holding before is of another denomination, of another user, or the same.
-use Rattle.std.proofs.Common.{◌-◌, map, arith}
-use Rattle.ibc_bank.specs.SortedStarts.{shown}
-use Rattle.ibc_bank.proofs.AnyOrder.{read_at, shown_inside}
-use Rattle.ibc_ledger.proofs.SortedRows.{text_answer, stands_apart, stands_more, twice}
+use Rattle.std.proofs.Common.{◌-◌, arith}
+use Rattle.ibc_ledger.specs.SortedHoldings.{shown, all_shown}
+use Rattle.ibc_ledger.proofs.SortedRows.{read_at, shown_inside, text_answer, stands_apart, stands_more, twice}
 use Rattle.ibc_ledger.proofs.sorted_holdings.total_before.Goals as goal
 
 pub returns-then-ne-clause-standing : goal.returns-then-ne-clause-standing
@@ -11,10 +10,10 @@ returns-then-ne-clause-standing c =
     let i = c.args.i in
     let h = c.index-sorted-i.result in
     let b = c.index-sorted-i-2.result in
-    stands_apart (map shown row) i h.now (shown_inside row i c.requires.inside) (read_at row i h c.requires.inside c.index-sorted-i.is) b.now c.requires.sorted
+    stands_apart (all_shown row) i (shown h) (shown_inside row i c.requires.inside) (read_at row i h c.requires.inside c.index-sorted-i.is) (shown b) c.requires.sorted
     (omega (arith, c.if-i-eq0.false))
     (read_at row (i - 1) b (omega (arith, c.requires.inside)) c.index-sorted-i-2.is)
-    (text_answer _ b.now.1 h.now.1 c.if-ne.ensures)
+    (text_answer _ b.denom.now h.denom.now c.if-ne.ensures)
 
 pub returns-then-ne-2-clause-standing : goal.returns-then-ne-2-clause-standing
 returns-then-ne-2-clause-standing c =
@@ -22,11 +21,11 @@ returns-then-ne-2-clause-standing c =
     let i = c.args.i in
     let h = c.index-sorted-i.result in
     let b = c.index-sorted-i-2.result in
-    stands_more (map shown row) i h.now (shown_inside row i c.requires.inside) (read_at row i h c.requires.inside c.index-sorted-i.is) c.args.total b.now c.requires.sorted c.requires.so_far
+    stands_more (all_shown row) i (shown h) (shown_inside row i c.requires.inside) (read_at row i h c.requires.inside c.index-sorted-i.is) c.args.total (shown b) c.requires.sorted c.requires.so_far
     (omega (arith, c.if-i-eq0.false))
     (read_at row (i - 1) b (omega (arith, c.requires.inside)) c.index-sorted-i-2.is)
-    (text_answer _ b.now.1 h.now.1 c.if-ne.ensures)
-    (text_answer _ b.now.0 h.now.0 c.if-ne-2.ensures)
+    (text_answer _ b.denom.now h.denom.now c.if-ne.ensures)
+    (text_answer _ b.user.now h.user.now c.if-ne-2.ensures)
 
 pub returns-else-ne-2-clause-unfair : goal.returns-else-ne-2-clause-unfair
 returns-else-ne-2-clause-unfair c =
@@ -34,8 +33,8 @@ returns-else-ne-2-clause-unfair c =
     let i = c.args.i in
     let h = c.index-sorted-i.result in
     let b = c.index-sorted-i-2.result in
-    twice (map shown row) i h.now (shown_inside row i c.requires.inside) (read_at row i h c.requires.inside c.index-sorted-i.is) b.now
+    twice (all_shown row) i (shown h) (shown_inside row i c.requires.inside) (read_at row i h c.requires.inside c.index-sorted-i.is) (shown b)
     (omega (arith, c.if-i-eq0.false))
     (read_at row (i - 1) b (omega (arith, c.requires.inside)) c.index-sorted-i-2.is)
-    (text_answer _ b.now.0 h.now.0 c.if-ne-2.ensures)
-    (text_answer _ b.now.1 h.now.1 c.if-ne.ensures)
+    (text_answer _ b.user.now h.user.now c.if-ne-2.ensures)
+    (text_answer _ b.denom.now h.denom.now c.if-ne.ensures)
