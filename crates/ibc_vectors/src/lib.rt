@@ -16,4 +16,6 @@ mod store_texts;
 #[cfg(test)]
 mod stores;
 #[cfg(test)]
+mod token_texts;
+#[cfg(test)]
 mod trees;
