@@ -20,6 +20,8 @@ mod pair;
 #[cfg(test)]
 mod path_store;
 #[cfg(test)]
+mod proof_checks;
+#[cfg(test)]
 mod records;
 #[cfg(test)]
 mod relayer;
