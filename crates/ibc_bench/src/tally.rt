@@ -73,6 +73,14 @@ impl Tally {
         self.digest.number(u64::from(is_shown));
     }
 
+    /// Adds what a chain has at a key, if anything.
+    pub fn value(&mut self, value: &Option<Bytes>) {
+        match value {
+            Some(value) => self.digest.bytes(value.as_slice()),
+            None => self.digest.number(0),
+        }
+    }
+
     /// Adds what the accounts of a chain hold.
     pub fn balances(&mut self, balances: &[(Account, Denom, u128)]) {
         for (account, denom, amount) in balances {

@@ -1,6 +1,6 @@
 //! Messages and proofs of a chain with many records come as bytes. They are read, and checked under the root that is known: those
-//! of packets one after another, as a relayer sends them to the other chain, and those of keys at random, there or not. Some are
-//! changed on their way, and are accepted by nobody.
+//! of packets one after another, as a relayer sends them to the other chain, and those of other keys at random, there or not. No
+//! key is proved twice. Some are changed on their way, and are accepted by nobody.
 
 use crate::lanes::{LaneEnd, Traffic, open_lane, send};
 use crate::network::Network;
@@ -27,6 +27,60 @@ const PACKETS_TO_DELIVERED: u64 = 4;
 
 // One in so many messages and proofs is changed on its way.
 const CHANGED: u64 = 8;
+
+/// The keys whose proofs nobody asked for yet, by their sequences.
+#[derive(Drop)]
+struct Unproved {
+    /// Of commitments of packets that were sent.
+    sent: Vec<u64>,
+    /// Of commitments of packets that have yet to be sent.
+    unsent: Vec<u64>,
+    /// Of receipts, none of which is there.
+    receipts: Vec<u64>,
+}
+
+impl Unproved {
+    // Those of a chain that sent so many packets, of which the first ones were delivered.
+    fn of(alloc: Global, size: u64, delivered: u64) -> Result<Unproved, RunError> {
+        Ok(Unproved {
+            sent: sequences(alloc, delivered, size)?,
+            unsent: sequences(alloc, size, size.saturating_mul(2))?,
+            receipts: sequences(alloc, 0, size)?,
+        })
+    }
+
+    // Takes a key at random: of a packet that was sent, of one that has yet to be, or of a receipt.
+    fn take(&mut self, alloc: Global, random: &mut Random, end: &LaneEnd) -> Result<Key, RunError> {
+        match random.below(4) {
+            0 => commitment(alloc, end, taken(random, &mut self.unsent)?),
+            1 => {
+                let sequence = taken(random, &mut self.receipts)?;
+                let channel = end.channel.clone()?;
+                Ok(Key::Receipt(end.port(alloc)?, channel, sequence))
+            }
+            _ => commitment(alloc, end, taken(random, &mut self.sent)?),
+        }
+    }
+}
+
+// The sequences behind one, up to another.
+fn sequences(alloc: Global, before: u64, last: u64) -> Result<Vec<u64>, RunError> {
+    let mut sequences = Vec::new(alloc);
+    for sequence in before..last {
+        sequences.push(sequence.saturating_add(1))?;
+    }
+    Ok(sequences)
+}
+
+// Takes one of the sequences at random.
+fn taken(random: &mut Random, sequences: &mut Vec<u64>) -> Result<u64, RunError> {
+    let place = random.place(sequences.len());
+    if place < sequences.len() {
+        Ok(sequences.swap_remove(place))
+    } else {
+        Err(RunError::Unexpected("each key was looked up"))
+    }
+}
 
 /// Sends so many packets, and checks the proofs of some.
 pub fn drive(network: &mut Network, size: u64, random: &mut Random) -> Result<(), RunError> {
@@ -63,7 +117,7 @@ fn tell_peer(network: &mut Network, peer: &LaneEnd) -> Result<(), RunError> {
     network.submit(peer.chain, Draft::Client(draft))
 }
 
-// Checks the proofs of packets in a row, and of keys at random.
+// Checks the proofs of packets in a row, and of other keys at random.
 fn check_all(
     network: &mut Network,
     random: &mut Random,
@@ -90,8 +144,23 @@ fn check_each(
     for number in 0..delivered {
         deliver(network, random, view, end, number.saturating_add(1))?;
     }
-    for _look in 0..delivered {
-        look_up(network, random, view, end, size)?;
+    let mut unproved = Unproved::of(network.alloc, size, delivered)?;
+    let looked = look_each(network, random, view, end, &mut unproved, delivered);
+    drop(unproved);
+    looked
+}
+
+// Looks up so many keys.
+fn look_each(
+    network: &mut Network,
+    random: &mut Random,
+    view: &View,
+    end: &LaneEnd,
+    unproved: &mut Unproved,
+    count: u64,
+) -> Result<(), RunError> {
+    for _look in 0..count {
+        look_up(network, random, view, end, unproved)?;
     }
     Ok(())
 }
@@ -102,12 +171,14 @@ fn commitment(alloc: Global, end: &LaneEnd, sequence: u64) -> Result<Key, RunErr
     Ok(Key::Commitment(end.port(alloc)?, channel, sequence))
 }
 
-// The bytes of the proof of what a chain has at a key, at its last block.
-fn proof_of(alloc: Global, view: &View, key: &Key) -> Result<Bytes, RunError> {
+// The bytes of the proof of what a chain has at a key, at its last block. The tally takes them in.
+fn proof_of(network: &mut Network, view: &View, key: &Key) -> Result<Bytes, RunError> {
     if view.height() == 0 {
         return Err(RunError::Unexpected("no block has ended"));
     }
-    Ok(view.prove(alloc, key)?)
+    let proof = view.prove(network.alloc, key)?;
+    network.tally.digest.long_bytes(proof.as_slice());
+    Ok(proof)
 }
 
 // The root of a chain's last block, if there is one.
@@ -121,14 +192,14 @@ fn root_of(view: &View) -> Option<Root> {
 
 // The bytes of the message by which the other chain receives a packet.
 fn spelled_delivery(
-    network: &Network,
+    network: &mut Network,
     view: &View,
     end: &LaneEnd,
     sequence: u64,
 ) -> Result<Vec<u8>, RunError> {
     let alloc = network.alloc;
     let key = commitment(alloc, end, sequence)?;
-    let proof = proof_of(alloc, view, &key);
+    let proof = proof_of(network, view, &key);
     drop(key);
     let proof = proof?;
     let port = end.port(alloc)?;
@@ -139,17 +210,19 @@ fn spelled_delivery(
                 height: view.height(),
                 proof,
             };
-            spelled(alloc, Message::RecvPacket(delivery))
+            spelled(network, Message::RecvPacket(delivery))
         }
         None => Err(RunError::Unexpected("there is no such packet")),
     }
 }
 
-// The bytes of a message.
-fn spelled(alloc: Global, message: Message) -> Result<Vec<u8>, RunError> {
-    let bytes = codec::encode(alloc, &message);
+// The bytes of a message. The tally takes them in.
+fn spelled(network: &mut Network, message: Message) -> Result<Vec<u8>, RunError> {
+    let bytes = codec::encode(network.alloc, &message);
     drop(message);
-    Ok(bytes?)
+    let bytes = bytes?;
+    network.tally.digest.long_bytes(bytes.as_slice());
+    Ok(bytes)
 }
 
 // Changes a byte now and then, and tells whether it did.
@@ -221,9 +294,10 @@ fn check_delivery(
     Ok(())
 }
 
-// Whether the bytes are a proof of what a chain has at a key: of its presence where it is there, and of its absence where not.
+// Whether the bytes are a proof of what a chain has at a key: of its presence where it is there, and of its absence where not. The
+// tally takes in what it has there.
 fn is_shown(
-    network: &Network,
+    network: &mut Network,
     view: &View,
     key: &Key,
     chain: u8,
@@ -234,6 +308,7 @@ fn is_shown(
     };
     let path = key.path(network.alloc)?;
     let value = network.value(chain, key)?;
+    network.tally.value(&value);
     let is_shown = is_proof(network.alloc, root, path.as_bytes(), &value, bytes);
     drop(value);
     drop(path);
@@ -267,11 +342,10 @@ fn look_up(
     random: &mut Random,
     view: &View,
     end: &LaneEnd,
-    size: u64,
+    unproved: &mut Unproved,
 ) -> Result<(), RunError> {
-    let alloc = network.alloc;
-    let key = any_key(alloc, random, end, size)?;
-    let proof = proof_of(alloc, view, &key);
+    let key = unproved.take(network.alloc, random, end)?;
+    let proof = proof_of(network, view, &key);
     let verdict = match proof {
         Ok(proof) => looked_up(network, random, view, &key, end.chain, proof),
         Err(error) => Err(error),
@@ -281,22 +355,9 @@ fn look_up(
     Ok(())
 }
 
-// A key at random: of a packet that was sent, of one that has yet to be, or of a receipt that isn't there.
-fn any_key(alloc: Global, random: &mut Random, end: &LaneEnd, size: u64) -> Result<Key, RunError> {
-    let sequence = random.below(size).saturating_add(1);
-    match random.below(4) {
-        0 => commitment(alloc, end, sequence.saturating_add(size)),
-        1 => {
-            let channel = end.channel.clone()?;
-            Ok(Key::Receipt(end.port(alloc)?, channel, sequence))
-        }
-        _ => commitment(alloc, end, sequence),
-    }
-}
-
 // Whether the proof of a key, with a byte changed now and then, is one. It has to be exactly where no byte was changed.
 fn looked_up(
-    network: &Network,
+    network: &mut Network,
     random: &mut Random,
     view: &View,
     key: &Key,
