@@ -9,7 +9,7 @@ use thiserror::Error;
 #[derive(Clone, Copy, Debug, PartialEq, Eq, Error)]
 pub enum RunError {
     /// The words after the program's name ask for nothing that it does.
-    #[error("ibc_bench: the words are neither WORKLOAD SIZE SEED nor small")]
+    #[error("ibc_bench: the words are neither WORKLOAD SIZE SEED nor parts PART SIZE SEED nor small")]
     BadWords,
     /// A growth was refused.
     #[error("ibc_bench: no memory")]

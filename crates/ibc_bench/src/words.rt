@@ -1,7 +1,7 @@
 //! The words after the program's name.
 
 use crate::run_error::RunError;
-use crate::workloads::Workload;
+use crate::workloads::{Part, Workload};
 
 /// What the words ask for.
 #[derive(Clone, Copy)]
@@ -24,18 +24,24 @@ fn number_of(word: &str) -> Result<u64, RunError> {
     }
 }
 
+// What asks for a workload at a size, on the input that a seed makes.
+fn one(workload: Option<Workload>, size: &str, seed: &str) -> Result<Request, RunError> {
+    match workload {
+        Some(workload) => Ok(Request::One {
+            workload,
+            size: number_of(size)?,
+            seed: number_of(seed)?,
+        }),
+        None => Err(RunError::BadWords),
+    }
+}
+
 /// What the words ask for. Error: `BadWords`.
 pub fn read_words(words: &[&str]) -> Result<Request, RunError> {
     match words {
         ["small"] => Ok(Request::Small),
-        [name, size, seed] => match Workload::of(name) {
-            Some(workload) => Ok(Request::One {
-                workload,
-                size: number_of(size)?,
-                seed: number_of(seed)?,
-            }),
-            None => Err(RunError::BadWords),
-        },
+        [name, size, seed] => one(Workload::of(name), size, seed),
+        ["parts", part, size, seed] => one(Part::of(part).map(Workload::Parts), size, seed),
         _ => Err(RunError::BadWords),
     }
 }

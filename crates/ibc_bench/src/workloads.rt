@@ -2,6 +2,7 @@
 
 mod handshakes;
 mod lived;
+mod parts;
 mod proofs;
 mod relay;
 mod replay;
@@ -11,6 +12,7 @@ use crate::network::Network;
 use crate::random::Random;
 use crate::run_error::RunError;
 use crate::tally::Tally;
+pub use parts::Part;
 use std::alloc::Global;
 
 /// A workload.
@@ -26,15 +28,22 @@ pub enum Workload {
     Proofs,
     /// A stored history is taken again step by step, and ledgers are audited.
     Replay,
+    /// Calls of a single library, each part by itself.
+    Parts(Part),
 }
 
 /// All of them, each with a size at which it is soon done.
-pub const SMALL: [(Workload, u64); 5] = [
+pub const SMALL: [(Workload, u64); 10] = [
     (Workload::Relay, 3),
     (Workload::Lived, 12),
     (Workload::Handshakes, 6),
     (Workload::Proofs, 200),
     (Workload::Replay, 2),
+    (Workload::Parts(Part::NewPaths), 60),
+    (Workload::Parts(Part::PathsBetween), 40),
+    (Workload::Parts(Part::ChangedValues), 40),
+    (Workload::Parts(Part::PathsInFront), 1),
+    (Workload::Parts(Part::PacketData), 60),
 ];
 
 impl Workload {
@@ -58,6 +67,7 @@ impl Workload {
             Workload::Handshakes => "handshakes",
             Workload::Proofs => "proofs",
             Workload::Replay => "replay",
+            Workload::Parts(part) => part.name(),
         }
     }
 
@@ -67,6 +77,7 @@ impl Workload {
         match self {
             Workload::Handshakes => handshakes::run(alloc, size, &mut random),
             Workload::Replay => replay::run(alloc, size, &mut random),
+            Workload::Parts(part) => part.run(alloc, size, &mut random),
             Workload::Relay => self.run_on_network(alloc, 3, 40, size, &mut random),
             Workload::Lived => self.run_on_network(alloc, 2, 100, size, &mut random),
             Workload::Proofs => self.run_on_network(alloc, 2, 100, size, &mut random),
@@ -98,7 +109,7 @@ impl Workload {
             Workload::Relay => relay::drive(network, size, random),
             Workload::Lived => lived::drive(network, size, random),
             Workload::Proofs => proofs::drive(network, size, random),
-            Workload::Handshakes | Workload::Replay => Ok(()),
+            Workload::Handshakes | Workload::Replay | Workload::Parts(_) => Ok(()),
         }
     }
 }
