@@ -3,6 +3,7 @@ import importlib.machinery
 import importlib.util
 import os
 import shutil
+import subprocess
 import sys
 
 ROOT = os.path.dirname(os.path.dirname(os.path.abspath(__file__)))
@@ -32,6 +33,16 @@ def sources(crate):
     """The files of a crate's code, in order."""
     found = [f"{at}/{it}" for at, _, names in os.walk(f"{ROOT}/crates/{crate}/src") for it in names]
     return sorted(it for it in found if it.endswith(".rt"))
+
+
+def kit_line():
+    """What the kit calls itself: its name, and its logic."""
+    if not shutil.which("rt"):
+        sys.exit(f"{os.path.basename(sys.argv[0])}: rt is missing (the Rattle kit's)")
+    told = subprocess.run(["rt", "version"], stdin=subprocess.DEVNULL, capture_output=True, text=True, check=False)
+    if told.returncode or not told.stdout.strip():
+        sys.exit(f"{os.path.basename(sys.argv[0])}: rt version says nothing of the kit: {told.stderr.strip()}")
+    return told.stdout.strip()
 
 
 def kit():
