@@ -5,10 +5,14 @@
 #   ./run.sh race --relayers 8 SCRIPT     the same with eight relayers at each `relay`, in threads
 #   ./run.sh --proved ..                  by the proved program
 #
-# The first run builds the program without its proofs, in a minute or two, and keeps it in out/unproved: later runs have it at once, until a
-# source changes. It has checks for what proofs exclude, and isn't made fast. With --proved all that the program stands on is proved
-# first, where that isn't done yet: up to an hour from nothing. The status is the program's.
+# Where the proved program of these sources stands in crates/ibcworld/out, it is started, at once. Else `rt try` builds the program without its proofs, in
+# a minute or two, and keeps nothing of it. That build has checks for what proofs exclude, and isn't made fast; `rt try` says how it ended, on standard
+# error, and gives no answer of more than a MiB. With --proved all that the program stands on is proved first, where that isn't done yet: about an hour from
+# nothing, and once. The status is the program's, or what `rt help` says of `rt try`.
 set -eu
+
+program=crates/ibcworld/out/ibcworld
+seconds=600 # that a run without proofs may take
 
 usage() {
     echo "usage: ./run.sh [--proved] [race --relayers N] SCRIPT" >&2
@@ -18,6 +22,16 @@ usage() {
 refuse() {
     echo "run.sh: $1" >&2
     exit 2
+}
+
+# Proves and builds the program, which is run once on its stored script, and has it noted what it was made of.
+prove() {
+    local sums
+    sums=$(tools/proved_program --sums ibcworld)
+    echo "run.sh: proving and building what isn't yet; from nothing that takes about an hour" >&2
+    (cd crates/ibcworld && rt run -- run <stdin >/dev/null) || refuse "the program isn't proved, or can't be built"
+    tools/proved_program --note <<<"$sums"
+    tools/proved_program ibcworld >/dev/null 2>&1 || refuse "a source was changed while the program was proved: call this again"
 }
 
 proved=no
@@ -38,11 +52,15 @@ words=("${@:1:$#-1}")
 [ -r "$script" ] || refuse "$script can't be read"
 exec <"$script"
 cd "$(dirname "$0")"
+command -v rt >/dev/null || refuse "rt is missing (the Rattle kit's)"
 
-if [ "$proved" = yes ]; then
-    cd crates/ibcworld
-    echo "run.sh: proving and building what isn't yet; from nothing that takes up to an hour" >&2
-    exec rt run -- "${words[@]}"
+if why=$(tools/proved_program ibcworld 2>&1 >/dev/null); then
+    exec "$program" "${words[@]}"
 fi
-program=$(tools/build_unproved ibcworld)
-exec "$program" "${words[@]}"
+if [ "$proved" = yes ]; then
+    prove
+    exec "$program" "${words[@]}"
+fi
+echo "run.sh: $why; this run builds it without proofs, in a minute or two, and keeps nothing (./run.sh --proved keeps it: about an hour, once)" >&2
+cd crates/ibcworld
+exec rt try --seconds "$seconds" -- "${words[@]}"

@@ -110,11 +110,15 @@ part() {
     : >"$files.said"
     if [ "$title" = "rt ci" ]; then
         proved="$files.said"
+        tools/proved_program --sums >"$work/sums"
         follow "$proved"
     fi
     words=("${words[@]/#LOG/$proved}")
     if is_there "$title" "$files"; then
         run "$files" "${words[@]}" | tee -a "$files.said"
+    fi
+    if [ "$title" = "rt ci" ] && [ "$(cat "$files.status")" = 0 ]; then
+        tools/proved_program --note <"$work/sums"
     fi
     note "$title" "$files" "$left"
 }
@@ -145,17 +149,30 @@ copy() {
     cd "$work/copy"
 }
 
-# What programs wrote in the copy, where a stored run failed and names it, is left where it would lie without the copy.
+# What programs wrote in the copy, where a stored run failed and names it, is left where it would lie without the copy; and so are the programs that
+# are noted as the proved ones of their sources.
 copy_back() {
-    local it
-    for it in crates/*/out/stdout*; do
-        [ -f "$it" ] && mkdir -p "$top/${it%/*}" && cp "$it" "$top/$it"
+    local it program
+    for it in crates/*/out/stdout* crates/*/out/*.sources; do
+        [ -f "$it" ] || continue
+        mkdir -p "$top/${it%/*}"
+        cp "$it" "$top/$it"
+        program=${it%.sources}
+        [ "$program" = "$it" ] || { cp "$program" "$top/$program.new" && mv "$top/$program.new" "$top/$program"; }
     done
 }
 
+# Whether the kit is there, without which no part can say anything.
+need_kit() {
+    command -v rt >/dev/null && return
+    echo "test.sh: rt is missing (the Rattle kit's)" >&2
+    exit 2
+}
+
 case "$#${1-}" in
-    0) ;;
+    0) need_kit ;;
     1--quick)
+        need_kit
         parts=("${quick_parts[@]}")
         beside=""
         behind="; this is not the gate: no wrong body was tried, and nothing in hostile surroundings"

@@ -1,7 +1,9 @@
 """The crates of this repository, as crates.txt names them, and the Rattle kit."""
+import hashlib
 import importlib.machinery
 import importlib.util
 import os
+import re
 import shutil
 import subprocess
 import sys
@@ -9,23 +11,33 @@ import sys
 ROOT = os.path.dirname(os.path.dirname(os.path.abspath(__file__)))
 
 
+def lines():
+    """Of each crate its line of crates.txt, in order."""
+    found = {}
+    with open(f"{ROOT}/crates.txt", encoding="utf-8") as file:
+        for line in file:
+            told = " ".join(line.partition("#")[0].split())
+            if ":" in told:
+                found[re.split(r"[ :]", told)[0]] = told
+    return found
+
+
 def uses():
     """Of each crate, in the order of crates.txt, the libraries that its line names."""
-    found = {}
-    with open(f"{ROOT}/crates.txt", encoding="utf-8") as lines:
-        for line in lines:
-            head, colon, names = line.partition("#")[0].partition(":")
-            if colon:
-                found[head.split()[0]] = names.split()
-    return found
+    return {name: line.partition(":")[2].split() for name, line in lines().items()}
 
 
 def below(crate, found):
     """The repository's libraries below a crate, each once and behind those that it uses."""
     names = []
-    for name in found[crate]:
-        if name in found:
-            names += [it for it in [*below(name, found), name] if it not in names]
+
+    def add(one):
+        for name in found[one]:
+            if name in found and name not in names:
+                add(name)
+                names.append(name)
+
+    add(crate)
     return names
 
 
@@ -35,14 +47,41 @@ def sources(crate):
     return sorted(it for it in found if it.endswith(".rt"))
 
 
+def is_program(crate):
+    return os.path.isfile(f"{ROOT}/crates/{crate}/src/main.rt")
+
+
+def proved_of(crate):
+    """The files of which a crate is proved: its code, its definitions and its proofs, in order."""
+    found = [f"{at}/{it}" for part in ("proofs", "specs", "src") for at, _, names in os.walk(f"{ROOT}/crates/{crate}/{part}") for it in names]
+    return sorted(it for it in found if it.endswith((".rt", ".antt")))
+
+
+def sum_of_file(path):
+    with open(path, "rb") as file:
+        return hashlib.sha256(file.read()).hexdigest()
+
+
+def sum_of(crate):
+    """A checksum of all of which a crate is proved: these files of it and of the crates below it, their lines of crates.txt, the leaves that
+    the repository has, and the kit."""
+    told, found = [kit_line(), sum_of_file(f"{ROOT}/HANDLES")], lines()
+    for name in [*below(crate, uses()), crate]:
+        told.append(found[name])
+        told += [f"{os.path.relpath(it, ROOT)} {sum_of_file(it)}" for it in proved_of(name)]
+    return hashlib.sha256("\n".join(told).encode()).hexdigest()
+
+
 def kit_line():
     """What the kit calls itself: its name, and its logic."""
-    if not shutil.which("rt"):
-        sys.exit(f"{os.path.basename(sys.argv[0])}: rt is missing (the Rattle kit's)")
-    told = subprocess.run(["rt", "version"], stdin=subprocess.DEVNULL, capture_output=True, text=True, check=False)
-    if told.returncode or not told.stdout.strip():
-        sys.exit(f"{os.path.basename(sys.argv[0])}: rt version says nothing of the kit: {told.stderr.strip()}")
-    return told.stdout.strip()
+    fault = "rt is missing (the Rattle kit's)"
+    if shutil.which("rt"):
+        told = subprocess.run(["rt", "version"], stdin=subprocess.DEVNULL, capture_output=True, text=True, check=False)
+        if told.returncode == 0 and told.stdout.strip():
+            return told.stdout.strip()
+        fault = f"rt version says nothing of the kit: {told.stderr.strip()}"
+    print(f"{os.path.basename(sys.argv[0])}: {fault}", file=sys.stderr)
+    sys.exit(2)
 
 
 def kit():
