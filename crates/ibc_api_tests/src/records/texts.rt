@@ -74,6 +74,17 @@ const RECEIVER: [u8; 32] = [
     0x19, 0xfc, 0xe7, 0x13, 0x25, 0xf1, 0xf1, 0x23, 0x63, 0x64, 0x8a, 0xbb, 0xe5, 0x20, 0xab, 0xb3,
 ];
 
+// The digests of what is written of their views, with all nodes of their trees.
+const SENDER_VIEW: [u8; 32] = [
+    0x6e, 0xd5, 0x65, 0x1b, 0xc9, 0x74, 0xee, 0xaf, 0xab, 0xe1, 0xfe, 0xff, 0xdc, 0x8c, 0x29, 0xb3,
+    0xc4, 0xd1, 0x5e, 0xfe, 0x9b, 0x9f, 0xe0, 0xb8, 0x24, 0x91, 0x9e, 0x88, 0x13, 0xfe, 0xf7, 0x45,
+];
+
+const RECEIVER_VIEW: [u8; 32] = [
+    0x0b, 0xa7, 0x86, 0xe5, 0x28, 0x2e, 0xf6, 0x55, 0x52, 0xae, 0x3e, 0x3e, 0xef, 0x08, 0xad, 0x02,
+    0xc2, 0x23, 0x33, 0xca, 0x71, 0xd2, 0x19, 0xfa, 0x0a, 0x92, 0x01, 0x19, 0x2c, 0x04, 0x4b, 0x31,
+];
+
 // What is written of a value.
 fn written<T: Debug>(rt: &impl Abort, alloc: Global, value: &T) -> String {
     format!(in alloc; "{value:?}").expect(rt, "memory")
@@ -244,11 +255,12 @@ fn new_records_are_written(rt: HostRuntime) {
     drop(records);
 }
 
-// What a chain proves at its last height is written with this digest.
-fn check_chain(rt: &impl Abort, alloc: Global, world: &World, chain: u8, due: &[u8; 32]) {
+// What a chain proves at its last height is written with these digests: its records in plain, and the whole view with its tree.
+fn check_chain(rt: &impl Abort, alloc: Global, world: &World, chain: u8, due: [&[u8; 32]; 2]) {
     let ledger = world.ledger(chain).expect(rt, "a chain");
     let view = ledger.view().expect(rt, "memory");
-    check_digest(rt, alloc, view.plain(), due);
+    check_digest(rt, alloc, view.plain(), due[0]);
+    check_digest(rt, alloc, &view, due[1]);
     drop(view);
 }
 
@@ -265,7 +277,7 @@ fn relay_tokens(rt: &impl Abort, alloc: Global, world: &mut World) {
 fn records_whose_proofs_were_checked_are_written(rt: HostRuntime) {
     let mut world = pair::open(&rt, rt.alloc());
     relay_tokens(&rt, rt.alloc(), &mut world);
-    check_chain(&rt, rt.alloc(), &world, 0, &SENDER);
-    check_chain(&rt, rt.alloc(), &world, 1, &RECEIVER);
+    check_chain(&rt, rt.alloc(), &world, 0, [&SENDER, &SENDER_VIEW]);
+    check_chain(&rt, rt.alloc(), &world, 1, [&RECEIVER, &RECEIVER_VIEW]);
     drop(world);
 }
