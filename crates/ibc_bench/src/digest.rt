@@ -41,13 +41,19 @@ impl Digest {
     /// Adds bytes, and how many they are. For many bytes this is faster than `bytes`, and it gives another number.
     pub fn long_bytes(&mut self, bytes: &[u8]) {
         self.number(bytes.len() as u64);
-        let mut left = bytes;
-        while let Some((eight, behind)) = left.split_first_chunk::<8>() {
-            self.number(u64::from_be_bytes(*eight));
-            left = behind;
-        }
-        for byte in left {
-            self.number(u64::from(*byte));
+        let whole = bytes.len().saturating_sub(bytes.len() % 8);
+        let mut eight: u64 = 0;
+        for place in 0..bytes.len() {
+            let byte = u64::from(bytes[place]);
+            if place >= whole {
+                self.number(byte);
+            } else {
+                // the last eight bytes, since what is shifted out is gone
+                eight = (eight << 8) | byte;
+                if place % 8 == 7 {
+                    self.number(eight);
+                }
+            }
         }
     }
 
