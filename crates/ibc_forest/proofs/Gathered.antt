@@ -1,15 +1,15 @@
 -- Nodes of a row above as they are gathered.
-use Rattle.std.proofs.Common.{◌≡◌, ◌≢◌, ◌⊎◌, inl, inr, ℕ, zero, suc, ◌+◌, ◌*◌, ◌<◌, ◌≤◌, List, [], ◌∷◌, ◌++◌, length, get_or, set, take, drop, refl, sym, ap, ap₂, ◌∙◌, subst, arith, All, length-append, take-append-drop}
+use Rattle.std.proofs.Common.{◌≡◌, ◌≢◌, ◌⊎◌, inl, inr, ℕ, zero, suc, ◌+◌, ◌*◌, ◌<◌, ◌≤◌, List, [], ◌∷◌, ◌++◌, length, get_or, set, take, drop, refl, sym, ap, ap₂, ◌∙◌, subst, arith, All, length-append}
 use Rattle.std.proofs.lemmas.Bool.Decides.{eqb_tells, leb_tells}
-use Rattle.std.proofs.lemmas.List.{drop_more, get_or-drop, get_or-set_same, get_or-set_other, get_or_append_left, get_or_push, length-set, length-take-le, take_more, take-append-le, take-set-le}
+use Rattle.std.proofs.lemmas.List.{drop_more, get_or-set_same, get_or-set_other, get_or_append_left, get_or_push, length-set, take-set-le, take-append-le}
 use Rattle.std.proofs.lemmas.List.Elements.{All-head, All-tail, All-cons, All-nil, All-push, All-set, All-weaker}
 use Rattle.ibc_ids.specs.Texts.{Text}
 use Rattle.ibc_merkle.specs.Tree.{Tree, Node, root}
 use Rattle.ibc_forest.specs.Levels.{pair_up, tree_at, trees_at}
 use Rattle.ibc_forest.specs.Nodes.{Grows}
 use Rattle.ibc_forest.specs.NodeLevels.{AreFirstAbove, Stand}
-use Rattle.ibc_forest.specs.Gathered.{node_over, PairedBut, IsNoted, AreNoted, FrontStays, AreDigestsOver}
-use Rattle.ibc_forest.proofs.Pairing.{double, double_is, grows_longer, stand-grows, tree_at-grows}
+use Rattle.ibc_forest.specs.Gathered.{node_over, PairedBut, WaitBehind, FrontStays, AreDigestsOver}
+use Rattle.ibc_forest.proofs.Pairing.{double, double_is, stand-grows, tree_at-grows}
 
 -- ---- words
 
@@ -93,25 +93,6 @@ digest_still before trees row above places digests k stand grows paired are few 
     are k few within
     ∙ sym (ap root (node_over-grows before trees row (get_or places k 0) stand (let few = paired.few in let l = paired.places k 0 within in omega arith) grows))
 
--- ---- nodes are noted
-
-pub noted-grows : (before after : List Tree) (row : List ℕ) (place node : ℕ) → Stand before row → 2 * place + 1 < length row → Grows before after → IsNoted before row place node
-    → IsNoted after row place node
-noted-grows before after row place node stand within grows noted =
-    let longer = grows_longer before after grows in
-    let there = noted.0 in (
-      omega arith,
-      λ some. tree_at-grows before after node grows noted.0 ∙ noted.1 some ∙ sym (node_over-grows before after row place stand within grows),
-    )
-
--- what was noted at a place stands there still
-pub noted_still : (before after : List Tree) (row noted above : List ℕ) (first place : ℕ) → Stand before row → 2 * length noted ≤ length row → Grows before after
-    → AreNoted first (length noted) before row noted → first ≤ place → place < length noted → drop place above ≡ drop place noted → IsNoted after row place (get_or above place 0)
-noted_still before after row noted above first place stand few grows are from within rest =
-    let at : (xs : List ℕ) → get_or (drop place xs) 0 0 ≡ get_or xs place 0 = λ xs. get_or-drop place xs 0 0 ∙ ap (λ k. get_or xs k 0) (let e : place + 0 ≡ place = omega arith in e) in
-    let same : get_or above place 0 ≡ get_or noted place 0 = sym (at above) ∙ ap (λ xs. get_or xs 0 0) rest ∙ at noted in
-    subst (IsNoted after row place) (sym same) (noted-grows before after row place (get_or noted place 0) stand (omega arith) grows (are place from within))
-
 -- ---- one node more
 
 before_or_last : (place last : ℕ) → place < last + 1 → (place < last) ⊎ (place ≡ last)
@@ -140,6 +121,13 @@ more_of trees row above waiting rest node paired within there places fewer last 
           ];
     }
 
+pub gathered-push : (trees : List Tree) (row above waiting : List ℕ) (node : ℕ) → PairedBut trees row above waiting → 2 * length above + 1 < length row → node < length trees
+    → tree_at trees node ≡ node_over trees row (length above) → PairedBut trees row (above ++ node ∷ []) waiting
+gathered-push trees row above waiting node paired within there made =
+    more_of trees row above waiting waiting node paired within there
+    (All-weaker (λ p. p < length above) (λ p. p < length above + 1) (λ p l. omega arith) waiting paired.places)
+    (λ place less not. not) (λ not. made)
+
 pub gathered-wait : (trees : List Tree) (row above waiting : List ℕ) (node : ℕ) → PairedBut trees row above waiting → 2 * length above + 1 < length row → node < length trees
     → PairedBut trees row (above ++ node ∷ []) (waiting ++ length above ∷ [])
 gathered-wait trees row above waiting node paired within there =
@@ -149,26 +137,22 @@ gathered-wait trees row above waiting node paired within there =
     (λ place less not. All-front (λ p. place ≢ p) waiting (n ∷ []) not)
     (λ not. absurd (All-last (λ p. n ≢ p) waiting n not refl))
 
--- any node may stand at a place that waits now
-pub gathered_waits : (trees : List Tree) (row above waiting later : List ℕ) (place : ℕ) → PairedBut trees row (take place above) waiting → place < length above
-    → 2 * length above ≤ length row → get_or above place 0 < length trees → later ≡ waiting ++ place ∷ [] → PairedBut trees row (take (place + 1) above) later
-gathered_waits trees row above waiting later place paired within few there waiting_is =
-    let front : List ℕ = take place above in
-    let counted : length front ≡ place = length-take-le place above (omega arith) in
-    let wait = gathered-wait trees row front waiting (get_or above place 0) paired (omega arith) there in
-    subst (λ xs. PairedBut trees row xs later) (sym (take_more above place 0 within))
-    (subst (PairedBut trees row (front ++ get_or above place 0 ∷ [])) (sym (waiting_is ∙ ap (λ p. waiting ++ p ∷ []) (sym counted))) wait)
+-- a node stands in for that of a place, which waits now
+pub gathered_waits : (trees : List Tree) (row above waiting after later : List ℕ) (place node : ℕ) → PairedBut trees row above waiting → place ≡ length above
+    → 2 * place + 1 < length row → node < length trees → after ≡ above ++ node ∷ [] → later ≡ waiting ++ place ∷ [] → PairedBut trees row after later
+gathered_waits trees row above waiting after later place node paired is within there above_is waiting_is =
+    subst (λ xs. PairedBut trees row xs later) (sym above_is)
+    (subst (PairedBut trees row (above ++ node ∷ [])) (sym (waiting_is ∙ ap (λ p. waiting ++ p ∷ []) is)) (gathered-wait trees row above waiting node paired (omega arith) there))
 
--- what stands in front of all places that wait, and of one place more, still stands there where the nodes at them were made
-pub front_waits : (above after rest waiting later : List ℕ) (place first : ℕ) → place < length above → length after ≡ length (take (place + 1) above) → later ≡ waiting ++ place ∷ []
-    → FrontStays later (take (place + 1) above) after → first ≤ place → All (λ p. first ≤ p) waiting → take first (after ++ rest) ≡ take first above
-front_waits above after rest waiting later place first inside counted later_is stays within behind =
-    let n : length (take (place + 1) above) ≡ place + 1 = length-take-le (place + 1) above (omega arith) in
-    let all : All (λ p. first ≤ p) later = subst (λ xs. All (λ p. first ≤ p) xs) (sym later_is) (All-push (λ p. first ≤ p) waiting place behind within) in
-    take-append-le first after rest (omega arith)
-    ∙ stays first (omega arith) all
-    ∙ sym (take-append-le first (take (place + 1) above) (drop (place + 1) above) (omega arith))
-    ∙ ap (take first) (take-append-drop (place + 1) above)
+pub front_waits : (above waiting after later made : List ℕ) (place node : ℕ) → place ≡ length above → after ≡ above ++ node ∷ [] → later ≡ waiting ++ place ∷ []
+    → FrontStays later after made → FrontStays waiting above made
+front_waits above waiting after later made place node is above_is waiting_is stays =
+    λ first within behind.
+    let many = ap length above_is in
+    let counted = length-append above (node ∷ []) in
+    stays first (omega arith) (subst (WaitBehind first) (sym waiting_is) (All-push (λ p. first ≤ p) waiting place behind (omega arith)))
+    ∙ ap (take first) above_is
+    ∙ take-append-le first above (node ∷ []) within
 
 -- ---- all nodes are there
 

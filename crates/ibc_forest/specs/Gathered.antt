@@ -17,14 +17,6 @@ pub record PairedBut (trees : List Tree) (row above waiting : List ℕ) : Type 0
   pub places : All (λ place. place < length above) waiting
   pub paired : (place : ℕ) → place < length above → All (λ other. place ≢ other) waiting → tree_at trees (slice_index_or above place 0) ≡ node_over trees row place
 
--- the node over the pair below a place, or 0
-abbrev pub IsNoted : List Tree → List ℕ → ℕ → ℕ → Type 0
-IsNoted trees row place node = (node < length trees) × (0 < node → tree_at trees node ≡ node_over trees row place)
-
--- from a place on, and in front of another, the nodes of a row above are noted
-abbrev pub AreNoted : ℕ → ℕ → List Tree → List ℕ → List ℕ → Type 0
-AreNoted first last trees row above = (place : ℕ) → first ≤ place → place < last → IsNoted trees row place (slice_index_or above place 0)
-
 -- all places that wait stand behind the first so many
 abbrev pub WaitBehind : ℕ → List ℕ → Type 0
 WaitBehind first waiting = All (λ place. first ≤ place) waiting

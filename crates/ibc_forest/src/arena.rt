@@ -1,12 +1,11 @@
 //! The nodes of a store's trees, and which pairs of them were hashed.
 
-ghost use Rattle.std.specs.Prelude.{◌≡◌, ◌+◌, ◌*◌, ◌<◌, ◌≤◌, ◌∷◌, ◌++◌, [], length, map, take, OnOk, OnErr, IfSome, IfOk};
+ghost use Rattle.std.specs.Prelude.{◌≡◌, ◌+◌, ◌<◌, ◌≤◌, ◌∷◌, ◌++◌, [], length, map, OnOk, OnErr, IfSome, IfOk};
 ghost use Rattle.ibc_lanes.specs.Inner.{four_more, pair_hash};
 ghost use Rattle.ibc_merkle.specs.Hash.{one_more};
 ghost use Rattle.ibc_merkle.specs.Tree.{Node, root};
 ghost use Rattle.ibc_forest.specs.Counts.{CountsAtLeast};
 ghost use Rattle.ibc_forest.specs.Levels.{leaf_of, tree_at, trees_at};
-ghost use Rattle.ibc_forest.specs.Gathered.{AreNoted};
 ghost use Rattle.ibc_forest.specs.NodeLevels.{Stand};
 ghost use Rattle.ibc_forest.specs.Nodes.{tree_of_node, ChildrenStand, IsRight, Grows};
 
@@ -227,8 +226,8 @@ impl Arena {
         }
     }
 
-    // The node over two nodes that the left one remembers, if it does.
-    fn remembered(&self, left: usize, right: usize) -> Option<usize>
+    /// The node over two nodes that the left one remembers, if it does.
+    pub fn remembered(&self, left: usize, right: usize) -> Option<usize>
         requires { left < length self.now.trees }
         ensures made { IfSome result (λ number. tree_at self.now.trees number ≡ Node (tree_at self.now.trees left) (tree_at self.now.trees right)) }
         ensures there { IfSome result (λ number. number < length self.now.trees) }
@@ -238,34 +237,6 @@ impl Arena {
             return Some(known.parent as usize);
         }
         None
-    }
-
-    // The number of the node over two nodes that the left one remembers, or 0.
-    fn noted(&self, left: usize, right: usize) -> usize
-        requires { left < length self.now.trees }
-        ensures there { result < length self.now.trees }
-        ensures made { 0 < result → tree_at self.now.trees result ≡ Node (tree_at self.now.trees left) (tree_at self.now.trees right) }
-    {
-        let known = self.known[left];
-        if known.right as usize == right {
-            known.parent as usize
-        } else {
-            0
-        }
-    }
-
-    /// Notes at each place of a row above, from a first one on, the node over its pair that the left node remembers, or 0.
-    /// The body of the loop has no branch, so many of the reads are under way at once.
-    pub fn remembered_over(&self, above: &mut [usize], row: &[usize], first: usize)
-        requires row { Stand self.now.trees row.now }
-        requires few { 2 * length above.old ≤ length row.now }
-        ensures noted { AreNoted first (length above.new) self.now.trees row.now above.new }
-        ensures front { take first above.new ≡ take first above.old }
-        ensures counted { length above.new ≡ length above.old }
-    {
-        for place in first..above.len() {
-            above[place] = self.noted(row[2 * place], row[2 * place + 1]);
-        }
     }
 
     /// A new node over two nodes, which the left one remembers: one text is hashed.

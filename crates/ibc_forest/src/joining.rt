@@ -48,16 +48,16 @@ fn hash_at(arena: &mut Arena, row: &[usize], places: &[usize]) -> [[u8; 32]; 4]
 #[inline(never)]
 fn make_together(
     arena: &mut Arena,
-    above: &mut [usize],
+    above: &mut Vec<usize>,
     row: &[usize],
     places: &[usize],
 ) -> Result<(), AllocError>
     requires four { length places.now ≡ 4 }
     requires row { Stand arena.old.trees row.now }
-    requires gathered { PairedBut arena.old.trees row.now above.old places.now }
-    ensures gathered { OnOk result (PairedBut arena.new.trees row.now above.new []) }
-    ensures counted { OnOk result (length above.new ≡ length above.old) }
-    ensures front { OnOk result (FrontStays places.now above.old above.new) }
+    requires gathered { PairedBut arena.old.trees row.now above.old.items places.now }
+    ensures gathered { OnOk result (PairedBut arena.new.trees row.now above.new.items []) }
+    ensures counted { OnOk result (length above.new.items ≡ length above.old.items) }
+    ensures front { OnOk result (FrontStays places.now above.old.items above.new.items) }
     ensures grows { Grows arena.old.trees arena.new.trees }
     ensures steps { arena.new.steps ≡ four_more arena.old.steps }
 {
@@ -73,15 +73,15 @@ fn make_together(
 // Makes the nodes at places one after another: one text is hashed for each, and counted.
 fn make_each(
     arena: &mut Arena,
-    above: &mut [usize],
+    above: &mut Vec<usize>,
     row: &[usize],
     places: &[usize],
 ) -> Result<(), AllocError>
     requires row { Stand arena.old.trees row.now }
-    requires gathered { PairedBut arena.old.trees row.now above.old places.now }
-    ensures gathered { OnOk result (PairedBut arena.new.trees row.now above.new []) }
-    ensures counted { OnOk result (length above.new ≡ length above.old) }
-    ensures front { OnOk result (FrontStays places.now above.old above.new) }
+    requires gathered { PairedBut arena.old.trees row.now above.old.items places.now }
+    ensures gathered { OnOk result (PairedBut arena.new.trees row.now above.new.items []) }
+    ensures counted { OnOk result (length above.new.items ≡ length above.old.items) }
+    ensures front { OnOk result (FrontStays places.now above.old.items above.new.items) }
     ensures grows { Grows arena.old.trees arena.new.trees }
     ensures steps { OnOk result (arena.new.steps ≤ arena.old.steps + length places.now) }
     ensures least { OnOk result (CountsAtLeast (length places.now) arena.old.steps arena.new.steps) }
@@ -97,16 +97,16 @@ fn make_each(
 // Makes the nodes at up to four places: four together, and fewer one after another.
 fn make_at(
     arena: &mut Arena,
-    above: &mut [usize],
+    above: &mut Vec<usize>,
     row: &[usize],
     places: &[usize],
 ) -> Result<(), AllocError>
     requires few { length places.now ≤ 4 }
     requires row { Stand arena.old.trees row.now }
-    requires gathered { PairedBut arena.old.trees row.now above.old places.now }
-    ensures gathered { OnOk result (PairedBut arena.new.trees row.now above.new []) }
-    ensures counted { OnOk result (length above.new ≡ length above.old) }
-    ensures front { OnOk result (FrontStays places.now above.old above.new) }
+    requires gathered { PairedBut arena.old.trees row.now above.old.items places.now }
+    ensures gathered { OnOk result (PairedBut arena.new.trees row.now above.new.items []) }
+    ensures counted { OnOk result (length above.new.items ≡ length above.old.items) }
+    ensures front { OnOk result (FrontStays places.now above.old.items above.new.items) }
     ensures grows { Grows arena.old.trees arena.new.trees }
     ensures steps { OnOk result (arena.new.steps ≤ arena.old.steps + length places.now) }
     ensures least { OnOk result (CountsAtLeast (length places.now) arena.old.steps arena.new.steps) }
@@ -120,16 +120,16 @@ fn make_at(
 /// Makes the nodes of a row above at all places that wait. Then none waits.
 pub(crate) fn make_waiting(
     arena: &mut Arena,
-    above: &mut [usize],
+    above: &mut Vec<usize>,
     row: &[usize],
     waiting: &mut Waiting,
 ) -> Result<(), AllocError>
     requires row { Stand arena.old.trees row.now }
-    requires gathered { PairedBut arena.old.trees row.now above.old waiting.old }
-    ensures gathered { OnOk result (PairedBut arena.new.trees row.now above.new []) }
+    requires gathered { PairedBut arena.old.trees row.now above.old.items waiting.old }
+    ensures gathered { OnOk result (PairedBut arena.new.trees row.now above.new.items []) }
     ensures none { OnOk result (waiting.new ≡ []) }
-    ensures counted { OnOk result (length above.new ≡ length above.old) }
-    ensures front { OnOk result (FrontStays waiting.old above.old above.new) }
+    ensures counted { OnOk result (length above.new.items ≡ length above.old.items) }
+    ensures front { OnOk result (FrontStays waiting.old above.old.items above.new.items) }
     ensures grows { Grows arena.old.trees arena.new.trees }
     ensures steps { OnOk result (arena.new.steps ≤ arena.old.steps + length waiting.old) }
     ensures least { OnOk result (CountsAtLeast (length waiting.old) arena.old.steps arena.new.steps) }

@@ -1,19 +1,16 @@
 //! Rows of nodes: the levels of a tree.
 
-ghost use Rattle.std.specs.Prelude.{◌≡◌, ℕ, ◌+◌, ◌*◌, ◌/◌, ◌<◌, ◌≤◌, ◌++◌, length, take, drop, slice_index_or, IfOk, OnOk};
+ghost use Rattle.std.specs.Prelude.{◌≡◌, ℕ, ◌+◌, ◌*◌, ◌/◌, ◌<◌, ◌≤◌, ◌++◌, length, take, drop, IfOk, OnOk};
 ghost use Rattle.ibc_forest.specs.Counts.{CountsAtLeast};
 ghost use Rattle.ibc_forest.specs.Levels.{pair_up, trees_at};
 ghost use Rattle.ibc_forest.specs.Nodes.{Grows};
 ghost use Rattle.ibc_forest.specs.NodeLevels.{AreFirstAbove, Stand};
-ghost use Rattle.ibc_forest.specs.Gathered.{IsNoted, PairedBut, WaitBehind};
+ghost use Rattle.ibc_forest.specs.Gathered.{FrontStays, PairedBut, WaitBehind};
 
 use crate::arena::Arena;
 use crate::joining::make_waiting;
 use crate::waiting::Waiting;
 use std::alloc::{AllocError, Global};
-
-// Stands at a place of a row above over whose pair no node is remembered.
-const NONE_NOTED: usize = 0;
 
 // Adds the last node of a row of an odd number of nodes.
 fn add_odd(above: &mut Vec<usize>, row: &[usize]) -> Result<(), AllocError>
@@ -26,69 +23,45 @@ fn add_odd(above: &mut Vec<usize>, row: &[usize]) -> Result<(), AllocError>
     Ok(())
 }
 
-// Keeps the node that is noted at a place of a row above, if one is. Else the place waits, and four that wait are made at once.
-// Where memory is soon to be asked for, the node is made by itself.
-fn keep_or_make(
+// Adds the node over the next pair of a row, if the left node remembers it. Else the place waits, and the number of the left node
+// stands there until the node is made. Four that wait are made at once. Where memory is soon to be asked for, the node is made by
+// itself.
+fn add_pair(
     arena: &mut Arena,
-    above: &mut [usize],
+    above: &mut Vec<usize>,
     row: &[usize],
     place: usize,
     waiting: &mut Waiting,
 ) -> Result<(), AllocError>
     requires row { Stand arena.old.trees row.now }
-    requires within { place < length above.old }
-    requires few { 2 * length above.old ≤ length row.now }
+    requires place { place ≡ length above.old.items }
+    requires within { 2 * place + 1 < length row.now }
     requires room { length waiting.old < 4 }
-    requires noted { IsNoted arena.old.trees row.now place (slice_index_or above.old place 0) }
-    requires gathered { PairedBut arena.old.trees row.now (take place above.old) waiting.old }
-    ensures gathered { OnOk result (PairedBut arena.new.trees row.now (take (place + 1) above.new) waiting.new) }
+    requires gathered { PairedBut arena.old.trees row.now above.old.items waiting.old }
+    ensures gathered { OnOk result (PairedBut arena.new.trees row.now above.new.items waiting.new) }
     ensures room { OnOk result (length waiting.new < 4) }
-    ensures rest { OnOk result (drop (place + 1) above.new ≡ drop (place + 1) above.old) }
-    ensures front { OnOk result ((first : ℕ) → first ≤ place → WaitBehind first waiting.old → take first above.new ≡ take first above.old) }
+    ensures counted { OnOk result (length above.new.items ≡ length above.old.items + 1) }
+    ensures front { OnOk result (FrontStays waiting.old above.old.items above.new.items) }
     ensures behind { OnOk result ((first : ℕ) → first ≤ place → WaitBehind first waiting.old → WaitBehind first waiting.new) }
-    ensures counted { OnOk result (length above.new ≡ length above.old) }
     ensures grows { Grows arena.old.trees arena.new.trees }
     ensures steps { OnOk result (arena.new.steps + length waiting.new ≤ arena.old.steps + length waiting.old + 1) }
     ensures least { OnOk result (CountsAtLeast 0 arena.old.steps arena.new.steps) }
 {
-    if above[place] != NONE_NOTED {
+    let (left, right) = (row[2 * place], row[2 * place + 1]);
+    if let Some(parent) = arena.remembered(left, right) {
+        above.push(parent)?;
         return Ok(());
     }
+    above.push(left)?;
     let alone = waiting.places().is_empty() && !arena.has_room_for_four();
     waiting.push(place);
     if alone || waiting.is_full() {
-        make_waiting(arena, &mut above[..place + 1], row, waiting)?;
+        make_waiting(arena, above, row, waiting)?;
     }
     Ok(())
 }
 
-// Fills a row above from a place on. The nodes that are remembered are noted first. The others are made by fours.
-fn fill_from(
-    arena: &mut Arena,
-    above: &mut [usize],
-    row: &[usize],
-    start: usize,
-) -> Result<(), AllocError>
-    requires row { Stand arena.old.trees row.now }
-    requires few { 2 * length above.old ≤ length row.now }
-    requires within { start ≤ length above.old }
-    requires above { AreFirstAbove arena.old.trees row.now (take start above.old) }
-    ensures above { OnOk result (AreFirstAbove arena.new.trees row.now above.new) }
-    ensures front { OnOk result (take start above.new ≡ take start above.old) }
-    ensures counted { OnOk result (length above.new ≡ length above.old) }
-    ensures grows { Grows arena.old.trees arena.new.trees }
-    ensures steps { OnOk result (arena.new.steps + start ≤ arena.old.steps + length above.old) }
-    ensures least { OnOk result (CountsAtLeast 0 arena.old.steps arena.new.steps) }
-{
-    arena.remembered_over(above, row, start);
-    let mut waiting = Waiting::new();
-    for place in start..above.len() {
-        keep_or_make(arena, above, row, place, &mut waiting)?;
-    }
-    make_waiting(arena, above, row, &mut waiting)
-}
-
-// Adds the nodes over the next pairs of a row.
+// Adds the nodes over the next pairs of a row. Those that nobody remembers are made by fours.
 fn add_pairs(arena: &mut Arena, above: &mut Vec<usize>, row: &[usize]) -> Result<(), AllocError>
     requires row { Stand arena.old.trees row.now }
     requires above { AreFirstAbove arena.old.trees row.now above.old.items }
@@ -99,9 +72,12 @@ fn add_pairs(arena: &mut Arena, above: &mut Vec<usize>, row: &[usize]) -> Result
     ensures steps { OnOk result (arena.new.steps + length above.old.items ≤ arena.old.steps + length above.new.items) }
     ensures least { OnOk result (CountsAtLeast 0 arena.old.steps arena.new.steps) }
 {
-    let start = above.len();
-    above.resize(row.len() / 2, NONE_NOTED)?;
-    fill_from(arena, above, row, start)
+    let pairs = row.len() / 2;
+    let mut waiting = Waiting::new();
+    for place in above.len()..pairs {
+        add_pair(arena, above, row, place, &mut waiting)?;
+    }
+    make_waiting(arena, above, row, &mut waiting)
 }
 
 // The row one level above a row, whose first so many nodes are known. Each other pair is hashed that its left node doesn't

@@ -11,7 +11,7 @@ loop-i-preserved c =
     let trees = c.loop-i.arena.trees in
     let after = c.join.new.self.trees in
     let row = c.args.row.now in
-    let above = c.loop-i.above in
+    let above = c.loop-i.above.items in
     let places = c.args.places.now in
     let i = c.loop-i.i in
     let node = c.in_ok-node.node in
@@ -23,7 +23,7 @@ loop-i-preserved c =
           c.in_ok-node.ensures.grows c.in_ok-node.ensures.there c.in_ok-node.ensures.made;
       counted = length-set above (get_or places i 0) node ∙ so_far.counted;
       grows = grows_on before trees after so_far.grows c.in_ok-node.ensures.grows;
-      front = front_next c.args.above.now above places i node c.loop-i-test.true so_far.front;
+      front = front_next c.args.above.now.items above places i node c.loop-i-test.true so_far.front;
       least = let least = so_far.least in omega arith;
       steps = let most = so_far.steps in omega arith;
     }

@@ -6,10 +6,10 @@ use Rattle.ibc_forest.proofs.joining.make_each.Given as goal
 
 abbrev pub invariant-loop-i : goal.invariant-loop-i
 invariant-loop-i l = record {
-  gathered : PairedBut l.arena.trees l.row l.above (drop l.i l.places);
-  counted : length l.above ≡ length l.initial.above;
+  gathered : PairedBut l.arena.trees l.row l.above.items (drop l.i l.places);
+  counted : length l.above.items ≡ length l.initial.above.items;
   grows : Grows l.initial.arena.trees l.arena.trees;
-  front : FrontStays l.places l.initial.above l.above;
+  front : FrontStays l.places l.initial.above.items l.above.items;
   least : CountsAtLeast l.i l.initial.arena.steps l.arena.steps;
   steps : l.arena.steps ≤ l.initial.arena.steps + l.i;
 }

@@ -5,9 +5,9 @@ use Rattle.ibc_forest.proofs.joining.make_together.Given as goal
 
 abbrev pub invariant-loop-k : goal.invariant-loop-k
 invariant-loop-k l = record {
-  gathered : PairedBut l.arena.trees l.row l.above (drop l.k l.places);
-  counted : length l.above ≡ length l.initial.above;
+  gathered : PairedBut l.arena.trees l.row l.above.items (drop l.k l.places);
+  counted : length l.above.items ≡ length l.initial.above.items;
   grows : Grows l.initial.arena.trees l.arena.trees;
-  front : FrontStays l.places l.initial.above l.above;
+  front : FrontStays l.places l.initial.above.items l.above.items;
   steps : l.arena.steps ≡ l.initial.arena.steps;
 }
