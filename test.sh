@@ -1,9 +1,10 @@
 #!/usr/bin/env bash
 # All that is proved and tested.
 #
-#   ./test.sh              the gate: every proof, every wrong body, every test, and the built programs in hostile surroundings
-#   ./test.sh --quick      proves what changed, and runs the tests and the stored runs. It is not the gate
-#   ./test.sh --unproved   runs every test, case and example, and proves nothing
+#   ./test.sh                  the gate: every proof, every test, that every wrong body was refused, and the built programs in hostile surroundings
+#   ./test.sh --quick          proves what changed, and runs the tests and the stored runs. It is not the gate
+#   ./test.sh --unproved       runs every test, case and example by `rt try`, and proves nothing
+#   ./test.sh --wrong-bodies   tries every wrong body anew
 #
 # What a part says is printed, then how it went and which parts are left, and in the end a table of all parts. The last line says how much
 # passed and failed in all, and the status is 0 where nothing failed. A part that isn't there, or that passed nothing, is a failure.
@@ -13,6 +14,8 @@ cd "$(dirname "$0")"
 top=$PWD
 
 parts=(
+    "tools/kit_commands"
+    "tools/kit_commands --selftest"
     "tools/statements"
     "tools/house --gate"
     "tools/frozen --selftest"
@@ -20,21 +23,25 @@ parts=(
     "tools/check_rules"
     "rt ci"
     "tools/trust LOG"
+    "tools/try_edits"
     "tools/check_statuses"
     "tools/check_cases"
     "tools/check_outputs"
-    "tools/build_library --gated"
+    "tools/build_library"
     "tools/refuse_growths"
     "tools/refuse_by_call"
     "tools/broken_streams"
     "tools/wrong_bytes --count 100000"
     "tools/test_try_edits"
+    "tools/test_commands"
 )
 # LOG is what `rt ci` said.
-# What goes on beside `rt ci` and the parts behind it, with the time that these leave. It reads along what `rt ci` says, and tries a
-# crate's wrong bodies once the crate is proved.
-beside="tools/try_edits"
+# What goes on beside `rt ci` and the parts behind it, with the time that these leave, in a copy of the repository: `rt lib` takes nothing of what `rt ci`
+# proved. The part that needs the library waits for it.
+beside="tools/static_library"
+waits="tools/build_library"
 quick_parts=(
+    "tools/kit_commands"
     "tools/statements"
     "tools/refusals --check"
     "rt ci"
@@ -111,8 +118,9 @@ part() {
     if [ "$title" = "rt ci" ]; then
         proved="$files.said"
         tools/proved_program --sums >"$work/sums"
-        follow "$proved"
+        follow
     fi
+    [ "$title" != "$waits" ] || join
     words=("${words[@]/#LOG/$proved}")
     if is_there "$title" "$files"; then
         run "$files" "${words[@]}" | tee -a "$files.said"
@@ -125,28 +133,30 @@ part() {
 
 # Begins what goes on beside, in a group of processes of its own.
 follow() {
-    [ -n "$beside" ] && is_there "$beside" "$work/beside" || return
+    [ -n "$beside" ] || return 0
+    copy "$work/beside-copy"
     set -m
-    run "$work/beside" nice -n 10 "$beside" --follow "$1" >"$work/beside.said" &
+    (cd "$work/beside-copy" && run "$work/beside" nice -n 10 "$beside") >"$work/beside.said" &
     follower=$!
     set +m
 }
 
-# Waits for what goes on beside, and prints what it said.
+# Waits for what goes on beside, and prints what it said. What it came to is told by the part that needs it.
 join() {
-    [ -n "$beside" ] || return
-    [ -z "$follower" ] || wait "$follower"
+    local wall used
+    [ -n "$follower" ] || return 0
+    wait "$follower"
     follower=""
-    touch "$work/beside.said"
     cat "$work/beside.said"
-    note "$beside" "$work/beside" ""
+    read -r wall used < <(awk 'END { printf "%.0f %.0f\n", $1, $2 + $3 }' "$work/beside.time")
+    processor=$((processor + used))
+    rows+=("| \`$beside\`, beside | | | $(clock "$wall") | $used |")
 }
 
-# The repository without what is built and without the edits that `rt ci` tries. What it proves in it is kept for every copy.
+# A copy of the repository without what is built and without the edits that `rt ci` tries. What is proved in it is kept for every copy.
 copy() {
-    mkdir -p "$work/copy/.git"
-    tar -c --exclude=./.git --exclude=out --exclude=target --exclude=must-fail . | tar -x -C "$work/copy"
-    cd "$work/copy"
+    mkdir -p "$1/.git"
+    tar -c --exclude=./.git --exclude=out --exclude=target --exclude=must-fail . | tar -x -C "$1"
 }
 
 # What programs wrote in the copy, where a stored run failed and names it, is left where it would lie without the copy; and so are the programs that
@@ -176,20 +186,24 @@ case "$#${1-}" in
         parts=("${quick_parts[@]}")
         beside=""
         behind="; this is not the gate: no wrong body was tried, and nothing in hostile surroundings"
-        copy
+        copy "$work/copy"
+        cd "$work/copy"
         ;;
     1--unproved) exec tools/test_unproved ;;
+    1--wrong-bodies)
+        need_kit
+        exec tools/try_edits --anew
+        ;;
     *)
-        echo "usage: ./test.sh [--quick | --unproved]" >&2
+        echo "usage: ./test.sh [--quick | --unproved | --wrong-bodies]" >&2
         exit 2
         ;;
 esac
 
 for number in "${!parts[@]}"; do
-    left=$(printf '%s, ' "${parts[@]:number+1}" $beside)
+    left=$(printf '%s, ' "${parts[@]:number+1}")
     part "${parts[number]}" "$number" "${left%, }"
 done
-join
 [ "$PWD" = "$top" ] || copy_back
 
 printf '\n| part | passed | failed | minutes | processor seconds |\n|---|---|---|---|---|\n'

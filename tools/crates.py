@@ -1,7 +1,5 @@
 """The crates of this repository, as crates.txt names them, and the Rattle kit."""
 import hashlib
-import importlib.machinery
-import importlib.util
 import os
 import re
 import shutil
@@ -82,20 +80,3 @@ def kit_line():
         fault = f"rt version says nothing of the kit: {told.stderr.strip()}"
     print(f"{os.path.basename(sys.argv[0])}: {fault}", file=sys.stderr)
     sys.exit(2)
-
-
-def kit():
-    """The folder of the kit."""
-    rt = shutil.which("rt")
-    if not rt:
-        sys.exit(f"{os.path.basename(sys.argv[0])}: rt is missing (the Rattle kit's)")
-    return os.path.dirname(os.path.dirname(os.path.realpath(rt)))
-
-
-def kit_command():
-    """The kit's command `rt` as a module."""
-    sys.dont_write_bytecode = True
-    loader = importlib.machinery.SourceFileLoader("kit_rt", f"{kit()}/bin/rt")
-    made = importlib.util.module_from_spec(importlib.util.spec_from_loader("kit_rt", loader))
-    loader.exec_module(made)
-    return made

@@ -5,18 +5,16 @@ A block of commands has nothing but commands. Any other block stands in the file
 """
 import os
 import re
-import subprocess
 
 from crates import ROOT
 
 PAGES = ("README.md", "docs/TUTORIAL.md", "docs/SCRIPTS.md", "docs/HOSTILE.md")
 BLOCK = re.compile(r"(?:^    .*\n|^\n(?=    ))+", re.M)
-COMMAND = re.compile(r"(\./run\.sh|\./test\.sh|tools/[a-z_]+|\$\(tools/[a-z_]+ ibc_[a-z_]+\)|rt)( |$)")
+COMMAND = re.compile(r"(\./run\.sh|\./test\.sh|tools/[a-z_]+|\(cd crates/[a-z_]+; rt|rt)( |$)")
 SCRIPT = re.compile(r"\./run\.sh (race --relayers [1-8] )?([\w./-]+)")
-CASES = re.compile(r"\$\(tools/build_unproved ibc_cases\) ([\w./-]+)")
+CASES = re.compile(r"\(cd crates/ibc_cases; rt try -- ([\w./-]+)\)")
 NAMED = re.compile(r"`([a-z][\w-]*(?:/[\w.-]+)+)`")
 LEFT_OUT = ".."
-SECONDS = 300  # that a run may take
 
 
 def read(path):
@@ -32,16 +30,25 @@ def blocks(page):
         yield text[: found.start()], lines
 
 
-def printed(command, program, cases):
-    """The lines that a command prints, or none where it isn't one of those that print what a page can show."""
-    if of_script := SCRIPT.fullmatch(command):
-        words, given = [program, *(of_script[1] or "run").split()], read(of_script[2])
-    elif of_cases := CASES.fullmatch(command):
-        words, given = [cases, of_cases[1]], ""
-    else:
-        return None
-    ended = subprocess.run(words, input=given.encode(), capture_output=True, cwd=ROOT, timeout=SECONDS)
-    return ended.stdout.decode("utf-8", "replace").split("\n")[:-1] if ended.returncode == 0 and not ended.stderr else None
+def run_of(command):
+    """The run that a command shows: the program, its words, and what it is given. None where it isn't one of those that a page can show."""
+    of_script = SCRIPT.fullmatch(command)
+    if of_script and os.path.isfile(os.path.join(ROOT, of_script[2])):
+        return "ibcworld", tuple((of_script[1] or "run").split()), read(of_script[2]).encode()
+    if of_cases := CASES.fullmatch(command):
+        return "ibc_cases", (of_cases[1],), b""
+    return None
+
+
+def command_of(lines):
+    """The command of a block that shows a run."""
+    return lines[0].removeprefix("$ ").partition("  #")[0].strip()
+
+
+def runs(pages=PAGES):
+    """The runs that pages show."""
+    shown = [run_of(command_of(lines)) for page in pages for _, lines in blocks(page) if lines[0].startswith("$ ")]
+    return [it for it in shown if it]
 
 
 def pieces(shown):
@@ -77,13 +84,13 @@ def is_shown(shown, lines):
     return len(lines) - len(last) >= at and lines[len(lines) - len(last) :] == last
 
 
-def run_fault(lines, program, cases):
-    """What is wrong with a run that a page shows."""
-    command = lines[0].removeprefix("$ ").partition("  #")[0].strip()
-    told = printed(command, program, cases)
-    if told is None:
+def run_fault(lines, ended_of):
+    """What is wrong with a run that a page shows, by how such a run ended."""
+    run = run_of(command_of(lines))
+    ended = ended_of(run) if run else None
+    if not ended or ended.status != 0 or ended.err:
         return "it isn't run, or doesn't end well"
-    return "" if is_shown(lines[1:], told) else "it doesn't print what the page shows"
+    return "" if is_shown(lines[1:], ended.out.decode("utf-8", "replace").split("\n")[:-1]) else "it doesn't print what the page shows"
 
 
 def command_fault(line):
@@ -102,11 +109,11 @@ def quote_fault(before, lines):
     return "" if place_of([it.rstrip() for it in lines], whole, 0) is not None else f"it isn't in {path}"
 
 
-def faults(page, program, cases):
-    """Each block of a page: its first line, and what is wrong with it."""
+def faults(page, ended_of):
+    """Each block of a page: its first line, and what is wrong with it. How a run ended, a function tells."""
     for before, lines in blocks(page):
         if lines[0].startswith("$ "):
-            wrong = run_fault(lines, program, cases)
+            wrong = run_fault(lines, ended_of)
         elif all(COMMAND.match(it) for it in lines if it):
             wrong = next((it for it in map(command_fault, filter(None, lines)) if it), "")
         else:

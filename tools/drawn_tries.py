@@ -1,0 +1,44 @@
+"""Tries of a few wrong bodies by `rt ci`, in a copy of a checkout in which they are its only must-fail edits.
+
+`rt ci` begins with what it proved in any checkout of this machine, so nothing below a crate is proved for them again; and the verdict is the kit's.
+"""
+import os
+import re
+import shutil
+
+from tries import Clone
+from verdicts import BAD, MISSED, REFUSED, UNSURE
+
+# How the kit's verdict on a must-fail edit begins, and what that means here.
+WORDS = (("refused, as it must be (only because", BAD), ("refused, as it must be", REFUSED), ("NOT REFUSED", MISSED), ("BAD EDIT", BAD))
+
+
+def said_of(edit, text):
+    """What `rt ci` said of an edit, in which words."""
+    found = re.search(rf"(?m)^rt: must-fail {re.escape(crate_of(edit))}/{re.escape(os.path.basename(edit.file))}: (.*)$", text)
+    if not found:
+        return UNSURE, f"`rt ci` says nothing of it: {text.strip().rpartition(chr(10))[2][:160]}"
+    kinds = [kind for words, kind in WORDS if found[1].startswith(words)]
+    return kinds[0] if kinds else UNSURE, found[1][:200]
+
+
+def place(root, edits):
+    """Leaves of the must-fail edits of a copy these alone, each under the name of its file."""
+    for crate in os.listdir(f"{root}/crates"):
+        shutil.rmtree(f"{root}/crates/{crate}/must-fail", ignore_errors=True)
+    for edit in edits:
+        folder = f"{root}/crates/{crate_of(edit)}/must-fail"
+        os.makedirs(folder, exist_ok=True)
+        shutil.copy(edit.file, folder)
+
+
+def crate_of(edit):
+    return edit.label.partition("/")[0]
+
+
+def try_drawn(root, folder, edits, minutes):
+    """What `rt ci` says of each of these edits."""
+    clone = Clone(root, folder, 0, minutes)
+    place(clone.folder, edits)
+    _, text = clone.run(["ci", *dict.fromkeys(crate_of(it) for it in edits)], clone.folder)
+    return {it: said_of(it, text) for it in edits}
