@@ -21,6 +21,7 @@ pub mod NeverShort
 pub mod BalancesMoved
 pub mod Supplies
 pub mod WhoPays
+pub mod WhoIsPaid
 pub mod RefusedAsPoor
 pub mod NeverPoor
 pub mod BalancedTotals

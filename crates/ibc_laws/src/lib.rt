@@ -6,6 +6,7 @@ ghost use Rattle.ibc_machine.specs.promises.Laws.{Conserved, ExactlyOnce, InOrde
 ghost use Rattle.ibc_machine.specs.ics20.TokenData.{ReadsData};
 ghost use Rattle.ibc_laws.specs.Moments.{EachMoment};
 ghost use Rattle.ibc_laws.specs.Packets.{ReceivedWasSent, TakenAsWritten};
+ghost use Rattle.ibc_laws.specs.Payments.{EachBalance, WhoIsPaid};
 ghost use Rattle.ibc_laws.specs.Tokens.{NoVoucherWithoutEscrow, SupplyStays, WasNeverShort, WhoPays};
 ghost use Rattle.ibc_laws.specs.WrongMachines.{WrongMachines};
 
@@ -70,6 +71,18 @@ pub fn lemma_no_voucher_is_without_escrow()
 /// A user's balance falls only by an accepted transfer of that user, and by no more than it sends.
 pub fn lemma_only_the_sender_pays()
     ensures { WhoPays }
+{}
+
+/// A user's balance changes in each step by just what the user receives, gets back and sends: what is received is paid
+/// to the receiver that the packet's data names, and a refund to the sender that it names.
+pub fn lemma_the_named_are_paid()
+    ensures { WhoIsPaid }
+{}
+
+/// A user's balance is what the genesis gave, with all that the user received and got back, less all that the user
+/// sent.
+pub fn lemma_a_balance_is_its_history()
+    ensures { EachBalance }
 {}
 
 /// No escrow held too little at any receive of the past.
