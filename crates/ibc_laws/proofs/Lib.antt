@@ -3,4 +3,5 @@ pub mod steps
 pub mod peers
 pub mod packets
 pub mod tokens
+pub mod notes
 pub mod wrong

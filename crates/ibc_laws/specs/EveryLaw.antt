@@ -3,9 +3,10 @@ use Rattle.ibc_machine.specs.promises.Laws.{Laws}
 use Rattle.ibc_laws.specs.Moments.{EachMoment}
 use Rattle.ibc_laws.specs.Packets.{ReceivedWasSent, TakenAsWritten}
 use Rattle.ibc_laws.specs.Payments.{WhoIsPaid, EachBalance}
+use Rattle.ibc_laws.specs.StoredNotes.{NotesAreReceived, NotesStay, NotesWereSent}
 use Rattle.ibc_laws.specs.Tokens.{SupplyStays, NoVoucherWithoutEscrow, WhoPays, WasNeverShort}
 
--- the four laws with what follows from the fourth, and four more with what goes with them
+-- the four laws with what follows from the fourth, and five more with what goes with them
 pub record EveryLaw : Type 0 where
   pub laws : Laws
   pub each_moment : EachMoment
@@ -17,3 +18,6 @@ pub record EveryLaw : Type 0 where
   pub who_is_paid : WhoIsPaid
   pub each_balance : EachBalance
   pub was_never_short : WasNeverShort
+  pub notes_are_received : NotesAreReceived
+  pub notes_stay : NotesStay
+  pub notes_were_sent : NotesWereSent

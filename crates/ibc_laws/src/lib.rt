@@ -7,6 +7,7 @@ ghost use Rattle.ibc_machine.specs.ics20.TokenData.{ReadsData};
 ghost use Rattle.ibc_laws.specs.Moments.{EachMoment};
 ghost use Rattle.ibc_laws.specs.Packets.{ReceivedWasSent, TakenAsWritten};
 ghost use Rattle.ibc_laws.specs.Payments.{EachBalance, WhoIsPaid};
+ghost use Rattle.ibc_laws.specs.StoredNotes.{NotesAreReceived, NotesStay, NotesWereSent};
 ghost use Rattle.ibc_laws.specs.Tokens.{NoVoucherWithoutEscrow, SupplyStays, WasNeverShort, WhoPays};
 ghost use Rattle.ibc_laws.specs.WrongMachines.{WrongMachines};
 
@@ -83,6 +84,21 @@ pub fn lemma_the_named_are_paid()
 /// sent.
 pub fn lemma_a_balance_is_its_history()
     ensures { EachBalance }
+{}
+
+/// The notes that a chain keeps under a channel are those of the packets that the channel's end received, in order.
+pub fn lemma_notes_are_as_received()
+    ensures { NotesAreReceived }
+{}
+
+/// A note that is kept stays, at its place.
+pub fn lemma_notes_stay()
+    ensures { NotesStay }
+{}
+
+/// The notes that are kept are the first of those that the peer sent, in the order in which it sent them.
+pub fn lemma_notes_are_as_sent()
+    ensures { NotesWereSent }
 {}
 
 /// No escrow held too little at any receive of the past.
