@@ -5,3 +5,4 @@ pub mod Payments
 pub mod StoredNotes
 pub mod EveryLaw
 pub mod WrongMachines
+pub mod OneLawAlone

@@ -1,27 +1,33 @@
--- Four machines that are wrong, each in one place. Of a run of each the four laws hold, with what follows from the
--- fourth, and one of the further laws fails: so that law says more than those.
-use Rattle.std.specs.Prelude.{◌≡◌, ◌<◌, ℕ, ◌+◌, ◌==◌, ◌&&◌, ◌||◌, not, Bool, true, false, nat_le, codes, List, [], ◌∷◌, map, length, Option, Some, slice_get, slice_set, IsTrue, if◌then◌else◌}
-use Rattle.std.specs.List.{Contains, list_all}
+-- Machines that are wrong, each in one place. Of a run of each the four laws hold, with what follows from the fourth,
+-- and one of the further laws fails: so that law says more than those.
+use Rattle.std.specs.Prelude.{◌≡◌, ◌<◌, ℕ, ◌+◌, ◌==◌, ◌&&◌, ◌||◌, not, Bool, true, false, nat_le, codes, List, [], ◌∷◌, map, length, Option, Some, None, slice_get, slice_set, IsTrue, if◌then◌else◌}
+use Rattle.std.specs.List.{Contains, list_all, list_any}
 use Rattle.std.specs.Option.{option_map_or}
 use Rattle.ibc_ids.specs.Texts.{Text, same_text}
 use Rattle.ibc_ids.specs.Names.{is_user, is_base_denom}
+use Rattle.ibc_ids.specs.declared.key.Key.{Key}
+use Rattle.ibc_ids.specs.declared.key.Key.TheVariants as key
 use Rattle.ibc_ids.specs.declared.refusal.Refusal.TheVariants.{Poor}
 use Rattle.ibc_wire.specs.declared.packet.Packet.{Packet}
 use Rattle.ibc_wire.specs.declared.token.Token.{Token}
+use Rattle.ibc_wire.specs.declared.messages.RecvPacket.{RecvPacket}
+use Rattle.ibc_wire.specs.declared.messages.AckPacket.{AckPacket}
 use Rattle.ibc_wire.specs.declared.messages.Message.TheVariants as message
 use Rattle.ibc_machine.specs.declared.event.Event.{Event}
 use Rattle.ibc_machine.specs.declared.event.Event.TheVariants as event
 use Rattle.ibc_machine.specs.declared.reply.Reply.{Reply}
 use Rattle.ibc_machine.specs.declared.reply.Reply.TheVariants as reply
-use Rattle.ibc_machine.specs.chain.Records.{Core, MachineChain, Channel}
-use Rattle.ibc_machine.specs.ics24.Values.{Value, CommitmentIs, AckIs, value_at, same_value}
+use Rattle.ibc_machine.specs.chain.Records.{Core, MachineChain, Channel, channel_at}
+use Rattle.ibc_machine.specs.ics24.Values.{Value, CommitmentIs, AckIs, Claim, value_at, same_value}
 use Rattle.ibc_machine.specs.ics24.Evidence.{Evidence}
-use Rattle.ibc_machine.specs.ics04.Packets.{is_ordered}
-use Rattle.ibc_machine.specs.ics20.TokenData.{one_token, tokens_of, success}
+use Rattle.ibc_machine.specs.ics04.Packets.{is_ordered, recv_packet, ack_packet}
+use Rattle.ibc_machine.specs.ics20.TokenData.{Data, one_token, data_text, data_of, tokens_of}
 use Rattle.ibc_machine.specs.ics20.Bank.{balance, escrow, give}
 use Rattle.ibc_machine.specs.ics20.Transfers.{transfer_port, came_over, without_hop}
 use Rattle.ibc_machine.specs.chain.Genesis.{GenesisState, start, is_allowed}
-use Rattle.ibc_machine.specs.chain.Handlers.{message_answer, block_answer}
+use Rattle.ibc_machine.specs.chain.Notes.{note_port}
+use Rattle.ibc_machine.specs.chain.Applications.{on_recv, on_ack}
+use Rattle.ibc_machine.specs.chain.Handlers.{host_of, after_message, message_answer, block_answer}
 use Rattle.ibc_machine.specs.chain.Machine.{World, Marks, direct_evidence, block_seen, at_chain}
 use Rattle.ibc_machine.specs.promises.Histories.{Happened, End, sent_packets, received_packets, ack_written}
 use Rattle.ibc_machine.specs.promises.Peers.{end_at, are_peers}
@@ -29,6 +35,8 @@ use Rattle.ibc_machine.specs.promises.Totals.{balances_of, escrow_balance, vouch
 use Rattle.ibc_machine.specs.promises.Laws.{HasOnePeer, IsExactlyOnce, IsBeginning, settles}
 use Rattle.ibc_laws.specs.Packets.{taken_acks}
 use Rattle.ibc_laws.specs.Tokens.{supply_at, balance_at, amount_paid_by}
+use Rattle.ibc_laws.specs.Payments.{amount_received_by, amount_refunded_to}
+use Rattle.ibc_laws.specs.StoredNotes.{notes_at, note_end, payloads}
 
 -- ---- machines, and what happens where one is asked events in turn
 
@@ -101,27 +109,34 @@ all_of steps = map (λ (step : WorldStep). step.1) steps
 abbrev pub unhashed_marks : Marks
 unhashed_marks = record { is_root = λ core root. true; is_proof = λ bytes. true; is_written = λ core key bytes. true }
 
+-- which of another chain's records make a claim true
+abbrev pub Judgement : Type 0
+Judgement = Core → Claim → Bool
+
+-- a chain that judges so
+abbrev pub judging_evidence : Judgement → ℕ → World → Core → Evidence
+judging_evidence holds window world core = record (direct_evidence unhashed_marks window true world core) {
+  shows = λ client height claim proof.
+      option_map_or (λ block. holds block.records.core claim) (block_seen world core client height) false;
+}
+
+-- the machine, but for how its chains judge
+abbrev pub machine_judging : Judgement → GenesisState → Machine
+machine_judging holds genesis world (event.Message k m) =
+    at_chain world k
+    (λ chain. message_answer (judging_evidence holds genesis.window world chain.records.core)
+    (length genesis.chains) k chain m)
+    (slice_get world k)
+machine_judging holds genesis world (event.Block k next_time) =
+    at_chain world k (λ chain. block_answer genesis.capacity chain next_time) (slice_get world k)
+
 -- two values are taken for the same
 abbrev pub Likeness : Type 0
 Likeness = Option Value → Option Value → Bool
 
--- a chain that compares so
-abbrev pub comparing_evidence : Likeness → ℕ → World → Core → Evidence
-comparing_evidence alike window world core = record (direct_evidence unhashed_marks window true world core) {
-  shows = λ client height claim proof.
-      option_map_or (λ block. alike (value_at block.records.core claim.key) claim.value)
-      (block_seen world core client height) false;
-}
-
 -- the machine, but for how its chains compare
 unfoldable pub machine_comparing : Likeness → GenesisState → Machine
-machine_comparing alike genesis world (event.Message k m) =
-    at_chain world k
-    (λ chain. message_answer (comparing_evidence alike genesis.window world chain.records.core)
-    (length genesis.chains) k chain m)
-    (slice_get world k)
-machine_comparing alike genesis world (event.Block k next_time) =
-    at_chain world k (λ chain. block_answer genesis.capacity chain next_time) (slice_get world k)
+machine_comparing alike = machine_judging (λ core claim. alike (value_at core claim.key) claim.value)
 
 -- ---- 1. one that compares of a packet's data amount and denomination only
 
@@ -150,13 +165,22 @@ pub record ReceivesWhatWasNotSent (genesis : GenesisState) (steps : List WorldSt
   pub received_it : Contains (received_packets f (all_of steps)) packet
   pub not_sent : ¬ (Contains (sent_packets e mine (all_of steps)) packet)
 
--- ---- 2. one that takes any acknowledgement of the same outcome for the one that was written
+-- ---- 2. one that takes any written acknowledgement, of whatever packet its peer wrote it
 
-abbrev pub alike_in_outcome : Likeness
-alike_in_outcome (Some (AckIs a)) (Some (AckIs b)) = if same_text a success then same_text b success else not (same_text b success)
-alike_in_outcome a b = same_value a b
+-- the peer's end wrote it under any sequence
+abbrev pub is_written_ack : Core → Text → Text → Text → Bool
+is_written_ack core port id ack =
+    option_map_or (λ (theirs : Channel). list_any (λ (entry : ℕ × Text). same_text entry.1 ack) theirs.acks)
+    (channel_at core port id) false
 
--- so an acknowledgement is taken that was never written
+abbrev pub shows_any_ack : Core → Key → Option Value → Bool
+shows_any_ack core (key.Acknowledgement port id n) (Some (AckIs ack)) = is_written_ack core port id ack
+shows_any_ack core other value = same_value (value_at core other) value
+
+unfoldable pub machine_taking_any_ack : GenesisState → Machine
+machine_taking_any_ack = machine_judging (λ core claim. shows_any_ack core claim.key claim.value)
+
+-- so an acknowledgement is taken that was written for another packet
 pub record TakesWhatWasNotWritten (genesis : GenesisState) (steps : List WorldStep) (world : World) : Type 0 where
   pub e : End
   pub f : End
@@ -166,13 +190,13 @@ pub record TakesWhatWasNotWritten (genesis : GenesisState) (steps : List WorldSt
   pub took_it : Contains (taken_acks e (all_of steps)) (packet, ack)
   pub not_written : ¬ (ack_written f (all_of steps) packet.sequence ≡ Some ack)
 
--- ---- 3. one that gives alice an atom at each block
+-- ---- 3. one that puts an atom into an escrow at each block
 
 abbrev pub chain_with_gift : MachineChain → MachineChain
 chain_with_gift chain = record chain {
   records = record chain.records {
     apps = record chain.records.apps {
-      balances = give (codes "alice") (record { denom = codes "atom"; amount = 1 }) chain.records.apps.balances;
+      balances = give (escrow (codes "channel-0")) (record { denom = codes "atom"; amount = 1 }) chain.records.apps.balances;
     };
   };
 }
@@ -211,10 +235,78 @@ pub record AnotherPays (genesis : GenesisState) (steps : List WorldStep) (world 
   pub is_one : IsTrue (is_user user)
   pub lost : balance_at step.2 chain user denom + amount_paid_by chain user denom step.1 < balance_at step.0 chain user denom
 
--- ---- all four
+-- ---- 5. one whose application reads carol for the receiver, whoever the packet's data names
 
-pub record WrongMachines : Type 0 where
-  pub forged : HasRun (machine_comparing alike_in_tokens) ReceivesWhatWasNotSent
-  pub unwritten : HasRun (machine_comparing alike_in_outcome) TakesWhatWasNotWritten
-  pub gifts : HasRun machine_with_gifts SupplyGrew
-  pub robbed : HasRun machine_robbing_alice AnotherPays
+-- the packet as the application is told of it
+abbrev pub Telling : Type 0
+Telling = Packet → Packet
+
+abbrev pub answer_telling : Telling → Evidence → ℕ → ℕ → MachineChain → RecvPacket → Reply × MachineChain
+answer_telling told evidence chains k chain m =
+    after_message chain (recv_packet
+    (λ apps version p. on_recv chain.records.core m.packet.destination_port apps version (told p)) m evidence
+    (host_of chains k chain) chain.records.core chain.records.apps)
+
+unfoldable pub machine_telling : Telling → GenesisState → Machine
+machine_telling told genesis world (event.Message k (message.RecvPacket m)) =
+    at_chain world k
+    (λ chain. answer_telling told
+    (judging_evidence (λ core claim. same_value (value_at core claim.key) claim.value) genesis.window world chain.records.core)
+    (length genesis.chains) k chain m)
+    (slice_get world k)
+machine_telling told genesis world e = machine_comparing same_value genesis world e
+
+abbrev pub payload_if_read : Packet → (Data → Data) → Option Data → Packet
+payload_if_read p change (Some d) = record p { payload = data_text one_token (change d) }
+payload_if_read p change None = p
+
+abbrev pub with_data : (Data → Data) → Packet → Packet
+with_data change p = payload_if_read p change (data_of one_token p.payload)
+
+abbrev pub for_carol : Telling
+for_carol = with_data (λ d. record d { receiver = codes "carol" })
+
+-- so a user doesn't get what names the user, or gets what doesn't
+pub record AnotherIsPaid (genesis : GenesisState) (steps : List WorldStep) (world : World) : Type 0 where
+  pub step : WorldStep
+  pub among : Contains steps step
+  pub chain : ℕ
+  pub user : Text
+  pub denom : Text
+  pub is_one : IsTrue (is_user user)
+  pub due : ℕ
+  pub is_due : amount_received_by step.0 chain user denom step.1 + amount_refunded_to step.0 chain user denom step.1 ≡ due
+  pub not_paid : ¬ (balance_at step.2 chain user denom + amount_paid_by chain user denom step.1 ≡ balance_at step.0 chain user denom + due)
+
+-- ---- 6. one whose application reads carol for the sender of a packet that it refunds
+
+abbrev pub answer_refunding : Telling → Evidence → ℕ → ℕ → MachineChain → AckPacket → Reply × MachineChain
+answer_refunding told evidence chains k chain m =
+    after_message chain (ack_packet
+    (λ apps version p ack. on_ack m.packet.source_port apps version (told p) ack) m evidence
+    (host_of chains k chain) chain.records.core chain.records.apps)
+
+unfoldable pub machine_refunding : Telling → GenesisState → Machine
+machine_refunding told genesis world (event.Message k (message.AckPacket m)) =
+    at_chain world k
+    (λ chain. answer_refunding told
+    (judging_evidence (λ core claim. same_value (value_at core claim.key) claim.value) genesis.window world chain.records.core)
+    (length genesis.chains) k chain m)
+    (slice_get world k)
+machine_refunding told genesis world e = machine_comparing same_value genesis world e
+
+abbrev pub from_carol : Telling
+from_carol = with_data (λ d. record d { sender = codes "carol" })
+
+-- ---- 7. one that keeps another note than the packet carries
+
+abbrev pub with_other_note : Telling
+with_other_note p = if same_text p.destination_port note_port then record p { payload = codes "forged" } else p
+
+-- so a note is kept that never came
+pub record KeepsAnotherNote (genesis : GenesisState) (steps : List WorldStep) (world : World) : Type 0 where
+  pub chain : ℕ
+  pub channel : Text
+  pub note : Text
+  pub kept : Contains (notes_at world chain channel) note
+  pub never_came : ¬ (Contains (payloads (received_packets (note_end chain channel) (all_of steps))) note)

@@ -9,7 +9,7 @@ ghost use Rattle.ibc_laws.specs.Packets.{ReceivedWasSent, TakenAsWritten};
 ghost use Rattle.ibc_laws.specs.Payments.{EachBalance, WhoIsPaid};
 ghost use Rattle.ibc_laws.specs.StoredNotes.{NotesAreReceived, NotesStay, NotesWereSent};
 ghost use Rattle.ibc_laws.specs.Tokens.{NoVoucherWithoutEscrow, SupplyStays, WasNeverShort, WhoPays};
-ghost use Rattle.ibc_laws.specs.WrongMachines.{WrongMachines};
+ghost use Rattle.ibc_laws.specs.OneLawAlone.{OneLawAlone};
 
 /// Each end of a channel that is OPEN or CLOSED has exactly one peer, and no end has two.
 pub fn lemma_each_end_has_one_peer()
@@ -106,9 +106,10 @@ pub fn lemma_no_escrow_was_short()
     ensures { WasNeverShort }
 {}
 
-/// Four machines that are wrong have runs of which the first six of these laws hold, and one of the others doesn't.
+/// Seven machines that are wrong have runs that one further law alone refuses: the first six of these laws hold of
+/// them, and all other further laws.
 pub fn lemma_the_further_laws_refuse_more()
-    ensures { WrongMachines }
+    ensures { OneLawAlone }
 {}
 
 /// The data that a packet of tokens is read as is the good data that its payload spells, and good data is read back

@@ -2,7 +2,18 @@ use Rattle.ibc_laws.proofs.wrong.Forged.{lemma_forged}
 use Rattle.ibc_laws.proofs.wrong.Unwritten.{lemma_unwritten}
 use Rattle.ibc_laws.proofs.wrong.Gifts.{lemma_gifts}
 use Rattle.ibc_laws.proofs.wrong.Robbed.{lemma_robbed}
+use Rattle.ibc_laws.proofs.wrong.Misdirected.{lemma_misdirected}
+use Rattle.ibc_laws.proofs.wrong.Misrefunded.{lemma_misrefunded}
+use Rattle.ibc_laws.proofs.wrong.OtherNote.{lemma_other_note}
 use Rattle.ibc_laws.proofs.lemma_the_further_laws_refuse_more.Goals as goal
 
 pub returns : goal.returns
-returns c = record { forged = lemma_forged; unwritten = lemma_unwritten; gifts = lemma_gifts; robbed = lemma_robbed }
+returns c = record {
+  forged = lemma_forged;
+  unwritten = lemma_unwritten;
+  gifts = lemma_gifts;
+  robbed = lemma_robbed;
+  misdirected = lemma_misdirected;
+  misrefunded = lemma_misrefunded;
+  other_note = lemma_other_note;
+}

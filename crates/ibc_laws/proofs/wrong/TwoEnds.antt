@@ -204,7 +204,7 @@ module _ (w : World) (a b : MachineChain) (two : w ≡ a ∷ b ∷ []) (on_a : a
       go (suc zero) there = none b on_b (cc there)
       go (suc (suc k)) there = absurd (cc there)
 
-  lemma_no_peers : (e f : End) → are_peers w e f ≡ true → ⊥
+  pub lemma_no_peers : (e f : End) → are_peers w e f ≡ true → ⊥
   lemma_no_peers e f is = let p = true_peers w e f is in lemma_nobody e p.mine p.here
 
   pub lemma_laws_of_none : (steps : List WorldStep) (happened : List Happened) → list_all is_not_poor happened ≡ true → list_all holds_enough steps ≡ true → FirstLaws steps happened w
