@@ -1,7 +1,7 @@
 -- What every world keeps. Its chains see one another through published roots and proofs alone, and were asked any list
 -- of messages and blocks, in any order, with any message missing, repeated or forged.
 use Rattle.std.specs.Prelude.{◌≡◌, ◌≤◌, ◌⊎◌, ℕ, ◌+◌, true, false, nat_lt, List, ◌∷◌, ◌++◌, filter, length, Some, slice_get, IsTrue}
-use Rattle.std.specs.List.{Contains, list_all}
+use Rattle.std.specs.List.{Contains, list_all, sum_by}
 use Rattle.ibc_ids.specs.Texts.{Text}
 use Rattle.ibc_ids.specs.Names.{is_user, is_base_denom}
 use Rattle.ibc_ids.specs.declared.refusal.Refusal.TheVariants.{Poor}
@@ -17,6 +17,7 @@ use Rattle.ibc_machine.specs.declared.entry.Entry.{Entry}
 use Rattle.ibc_machine.specs.chain.Records.{Channel}
 use Rattle.ibc_machine.specs.ics04.Packets.{is_ordered}
 use Rattle.ibc_machine.specs.ics20.Transfers.{transfer_port, came_over}
+use Rattle.ibc_machine.specs.chain.Notes.{note_port}
 use Rattle.ibc_machine.specs.chain.Genesis.{start}
 use Rattle.ibc_machine.specs.chain.Machine.{World, Step}
 use Rattle.ibc_machine.specs.ledger.Ledgers.{Ledger, chain_of, machine_of, is_typed}
@@ -29,6 +30,8 @@ use Rattle.ibc_machine.specs.ledger.Merge.{is_of_chain}
 use Rattle.ibc_machine.specs.promises.Worlds.{entries, happened_by}
 use Rattle.ibc_laws.specs.Moments.{IsMoment}
 use Rattle.ibc_laws.specs.Packets.{taken_acks}
+use Rattle.ibc_laws.specs.Payments.{amount_received_by, amount_refunded_to}
+use Rattle.ibc_laws.specs.StoredNotes.{IsFront, note_end, notes_at, payloads}
 use Rattle.ibc_laws.specs.Tokens.{IsBacked, BringsTo, balance_at, amount_paid_by, supply_at}
 use Rattle.ibc_refinement.specs.World.{WorldState, kept_entries}
 
@@ -100,6 +103,28 @@ pub record IsLawful (world : WorldState) : Type 0 where
   pub who_pays : (before : List Happened) (h : Happened) (old new : World) (chain : ℕ) (user denom : Text)
       → IsMomentOf world before h old new → IsTrue (is_user user)
       → balance_at old chain user denom ≤ balance_at new chain user denom + amount_paid_by chain user denom h
+  -- It changes by just what the user receives, gets back and sends: what is received is paid to the receiver that the
+  -- packet's data names, and a refund to the sender that it names (ICS 20, onRecvPacket and refundTokens).
+  pub who_is_paid : (before : List Happened) (h : Happened) (old new : World) (chain : ℕ) (user denom : Text)
+      → IsMomentOf world before h old new → IsTrue (is_user user)
+      → balance_at new chain user denom + amount_paid_by chain user denom h
+      ≡ balance_at old chain user denom + amount_received_by old chain user denom h + amount_refunded_to old chain user denom h
+  -- So it is what the genesis gave, with all that the user received and got back, less all that the user sent.
+  pub each_balance : (chain : ℕ) (user denom : Text) → IsTrue (is_user user)
+      → balance_at (states_of world) chain user denom + sum_by (amount_paid_by chain user denom) (happened_in world)
+      ≡ balance_at (start world.genesis) chain user denom
+      + sum_by (amount_received_by (states_of world) chain user denom) (happened_in world)
+      + sum_by (amount_refunded_to (states_of world) chain user denom) (happened_in world)
+  -- The notes that a chain keeps under a channel are those of the packets that the channel's end received, in order.
+  pub notes_are_received : (chain : ℕ) (channel : Text)
+      → notes_at (states_of world) chain channel ≡ payloads (received_packets (note_end chain channel) (happened_in world))
+  -- A note that is kept stays, at its place.
+  pub notes_stay : (before : List Happened) (h : Happened) (old new : World) (chain : ℕ) (channel : Text)
+      → IsMomentOf world before h old new → IsFront (notes_at old chain channel) (notes_at new chain channel)
+  -- The notes that are kept are the first of those that the peer sent, in the order in which it sent them.
+  pub notes_were_sent : (e f : End) (mine : Channel) → ArePeers world e f → f.port ≡ note_port
+      → end_at (states_of world) e ≡ Some mine
+      → IsFront (notes_at (states_of world) f.chain f.channel) (payloads (sent_packets e mine (happened_in world)))
   -- No acknowledgement and no timeout was refused because an escrow holds too little for the refund.
   pub never_poor : (event : Event) → IsTrue (settles event) → ¬ (Contains (happened_in world) (event, reply.No Poor))
   -- No escrow held too little at a receive: what the packet brought home was held by the escrow of its channel.

@@ -16,5 +16,10 @@ returns c = record {
   supply_stays = c.lemma_the_supply_at_home_stays.ensures;
   no_voucher_without_escrow = c.lemma_no_voucher_is_without_escrow.ensures;
   who_pays = c.lemma_only_the_sender_pays.ensures;
+  who_is_paid = c.lemma_the_named_are_paid.ensures;
+  each_balance = c.lemma_a_balance_is_its_history.ensures;
   was_never_short = c.lemma_no_escrow_was_short.ensures;
+  notes_are_received = c.lemma_notes_are_as_received.ensures;
+  notes_stay = c.lemma_notes_stay.ensures;
+  notes_were_sent = c.lemma_notes_are_as_sent.ensures;
 }
