@@ -11,3 +11,4 @@ pub mod Robbed
 pub mod Misdirected
 pub mod Misrefunded
 pub mod OtherNote
+pub mod OfTheMachine

@@ -10,8 +10,10 @@ use Rattle.ibc_machine.specs.chain.Notes.{note_port}
 use Rattle.ibc_machine.specs.chain.Genesis.{GenesisState, start}
 use Rattle.ibc_machine.specs.chain.Machine.{World}
 use Rattle.ibc_machine.specs.ledger.Ledgers.{is_typed}
-use Rattle.ibc_machine.specs.promises.Histories.{End, sent_packets, received_packets, ack_written}
+use Rattle.ibc_machine.specs.promises.Histories.{Happened, End, sent_packets, received_packets, ack_written}
 use Rattle.ibc_machine.specs.promises.Peers.{end_at, are_peers}
+use Rattle.ibc_machine.specs.promises.Laws.{IsPast}
+use Rattle.ibc_laws.specs.Moments.{IsMoment}
 use Rattle.ibc_laws.specs.Packets.{taken_acks}
 use Rattle.ibc_laws.specs.Tokens.{IsBacked, supply_at, balance_at, amount_paid_by}
 use Rattle.ibc_laws.specs.Payments.{amount_received_by, amount_refunded_to}
@@ -75,6 +77,18 @@ HoldsOf Supplies genesis steps world = KeepsSupplies genesis world
 HoldsOf Payments genesis steps world = PaysAsNamed genesis steps world
 HoldsOf Notes genesis steps world = KeepsNotes steps world
 
+-- the worlds before and after each event of a past
+pub record AreMoments (genesis : GenesisState) (happened : List Happened) (world : World) (steps : List WorldStep) : Type 0 where
+  pub all : all_of steps ≡ happened
+  pub each : (step : WorldStep) → Contains steps step
+      → (before : List Happened) × IsMoment genesis happened world before step.1 step.0 step.2
+
+-- all of them hold of every run of the machine itself
+abbrev pub HoldOfTheMachine : Type 0
+HoldOfTheMachine =
+    (law : FurtherLaw) (genesis : GenesisState) (happened : List Happened) (world : World) (steps : List WorldStep)
+    → IsPast genesis happened world → AreMoments genesis happened world steps → HoldsOf law genesis steps world
+
 -- ---- alone
 
 -- The machine has a run of typed events, of which the first laws hold and this. The law fails, and every other further
@@ -95,6 +109,7 @@ pub record PaysAnother (genesis : GenesisState) (steps : List WorldStep) (world 
   pub who_pays : OnlySendersPay steps
 
 pub record OneLawAlone : Type 0 where
+  pub of_the_machine : HoldOfTheMachine
   pub forged : IsRefusedBy ReceivedAsSent (machine_comparing alike_in_tokens) ReceivesWhatWasNotSent
   pub unwritten : IsRefusedBy TakenAsWritten machine_taking_any_ack TakesWhatWasNotWritten
   pub gifts : IsRefusedBy Supplies machine_with_gifts SupplyGrew

@@ -5,10 +5,12 @@ use Rattle.ibc_laws.proofs.wrong.Robbed.{lemma_robbed}
 use Rattle.ibc_laws.proofs.wrong.Misdirected.{lemma_misdirected}
 use Rattle.ibc_laws.proofs.wrong.Misrefunded.{lemma_misrefunded}
 use Rattle.ibc_laws.proofs.wrong.OtherNote.{lemma_other_note}
+use Rattle.ibc_laws.proofs.wrong.OfTheMachine.{lemma_hold_of_the_machine}
 use Rattle.ibc_laws.proofs.lemma_the_further_laws_refuse_more.Goals as goal
 
 pub returns : goal.returns
 returns c = record {
+  of_the_machine = lemma_hold_of_the_machine;
   forged = lemma_forged;
   unwritten = lemma_unwritten;
   gifts = lemma_gifts;
