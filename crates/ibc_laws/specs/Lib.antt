@@ -1,5 +1,6 @@
 pub mod Moments
 pub mod Packets
+pub mod Ends
 pub mod Tokens
 pub mod Payments
 pub mod StoredNotes
