@@ -5,5 +5,8 @@ pub mod Tokens
 pub mod Payments
 pub mod StoredNotes
 pub mod EveryLaw
-pub mod WrongMachines
+pub mod Runs
+pub mod WrongPackets
+pub mod WrongEnds
+pub mod WrongTokens
 pub mod OneLawAlone

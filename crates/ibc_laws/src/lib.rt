@@ -65,7 +65,7 @@ pub fn lemma_acknowledgements_are_taken_as_written()
     ensures { TakenAsWritten }
 {}
 
-/// Seven machines that are wrong have runs that one further law alone refuses: the first six of these laws hold of
+/// Thirteen machines that are wrong have runs that one further law alone refuses: the first six of these laws hold of
 /// them, and all other further laws.
 /// What an end took as acknowledged or timed out, also on close, is what it sent under that number, equal in every
 /// field. What was acknowledged was received, equal in every field.
@@ -140,7 +140,7 @@ pub fn lemma_notes_are_as_sent()
     ensures { NotesWereSent }
 {}
 
-/// Seven machines that are wrong have runs that one further law alone refuses: the first six of these laws hold of
+/// Thirteen machines that are wrong have runs that one further law alone refuses: the first six of these laws hold of
 /// them, and all other further laws.
 pub fn lemma_the_further_laws_refuse_more()
     ensures { OneLawAlone }

@@ -7,7 +7,6 @@ use Rattle.ibc_wire.specs.declared.packet.Packet.{Packet}
 use Rattle.ibc_machine.specs.declared.event.Event.{Event}
 use Rattle.ibc_machine.specs.chain.Genesis.{GenesisState, start, is_allowed}
 use Rattle.ibc_machine.specs.chain.Machine.{World}
-use Rattle.ibc_machine.specs.ics04.Packets.{is_ordered}
 use Rattle.ibc_machine.specs.ledger.Ledgers.{is_typed}
 use Rattle.ibc_machine.specs.promises.Histories.{Happened, End, sent_packets, received_packets}
 use Rattle.ibc_machine.specs.promises.Peers.{end_at, are_peers}
@@ -17,14 +16,14 @@ use Rattle.ibc_machine.proofs.Scripts.{a, b, alice, bob, carol, atom, a_and_b, f
 use Rattle.ibc_machine.proofs.Openings.{opening}
 use Rattle.ibc_machine.proofs.PacketScripts.{send, recv, tokens, there}
 use Rattle.ibc_laws.specs.Tokens.{transfer_end}
-use Rattle.ibc_laws.specs.WrongMachines.{machine_comparing, alike_in_tokens, ReceivesWhatWasNotSent}
-use Rattle.ibc_laws.specs.WrongMachines.{Machine, WorldStep, FirstLaws, steps_by, happened_by, world_by}
-use Rattle.ibc_laws.specs.OneLawAlone.{IsRefusedBy, FurtherLaw, ReceivedAsSent, TakenAsWritten, Supplies, Payments, Notes, HoldsOf}
+use Rattle.ibc_laws.specs.Runs.{Machine, WorldStep, steps_by, world_by, all_of, FirstLaws, IsRefusedByAlone, ReceivedAsSent}
+use Rattle.ibc_laws.specs.WrongPackets.{machine_comparing, alike_in_tokens, ReceivesWhatWasNotSent}
+use Rattle.ibc_laws.specs.WrongTokens.{for_carol}
 use Rattle.ibc_laws.proofs.basics.Lists.{lemma_contains_one}
-use Rattle.ibc_laws.proofs.wrong.TwoEnds.{IsConserved, chain_in, mine_in, lemma_entry_of}
-use Rattle.ibc_laws.proofs.wrong.Tested.{lemma_pays_as_named, lemma_keeps_supplies, lemma_keeps_no_notes}
 use Rattle.ibc_laws.proofs.wrong.TypedEvents.{typed}
-use Rattle.ibc_laws.proofs.wrong.OneChannel.{lemma_no_order, lemma_first_laws, lemma_holds_taken}
+use Rattle.ibc_laws.proofs.wrong.EachEnd.{mine_in, each_pair}
+use Rattle.ibc_laws.proofs.wrong.TestedFirst.{keeps_first_laws, lemma_first_laws, IsConserved, lemma_entry_of, are_the_two, lemma_two_ends}
+use Rattle.ibc_laws.proofs.wrong.TestedAll.{passes_all_but, lemma_others_hold}
 
 abbrev genesis : GenesisState
 genesis = a_and_b
@@ -43,7 +42,7 @@ abbrev steps : List WorldStep
 steps = steps_by machine (start genesis) events
 
 abbrev happened : List Happened
-happened = happened_by machine (start genesis) events
+happened = all_of steps
 
 abbrev world : World
 world = world_by machine (start genesis) events
@@ -75,10 +74,24 @@ lemma_conserved_back : IsConserved world there_ here
 unfolding computing machine_comparing
 lemma_conserved_back denom over = refl
 
-lemma_laws : FirstLaws steps happened world
+lemma_first : keeps_first_laws steps world ≡ true
 unfolding computing machine_comparing
-lemma_laws = lemma_first_laws here.port world (chain_in world 0) (chain_in world 1) a.channel (mine_in world here) (mine_in world there_) refl refl refl
-    refl refl refl refl steps refl refl (lemma_no_order (is_ordered (mine_in world here)) refl) (lemma_no_order (is_ordered (mine_in world there_)) refl) (λ port. lemma_conserved) (λ port. lemma_conserved_back) refl refl
+lemma_first = refl
+
+lemma_two : each_pair world (are_the_two here there_) ≡ true
+unfolding computing machine_comparing
+lemma_two = refl
+
+lemma_laws : FirstLaws steps world
+lemma_laws = lemma_first_laws steps world lemma_first (lemma_two_ends world here there_ lemma_two lemma_conserved lemma_conserved_back)
+
+-- ---- the other laws
+
+lemma_pass : passes_all_but ReceivedAsSent genesis steps world ≡ true
+unfolding computing machine_comparing
+lemma_pass = refl
+
+-- ---- the law that fails
 
 lemma_peers : IsTrue (are_peers world here there_)
 unfolding computing machine_comparing
@@ -101,25 +114,14 @@ lemma_not_sent has =
     let alike : same_text there.payload there.payload ≡ true = refl in
     absurd (cc (differ, alike, ap (λ (p : Packet). same_text there.payload p.payload) same))
 
-lemma_others : (other : FurtherLaw) → ¬ (other ≡ ReceivedAsSent) → HoldsOf other genesis steps world
-unfolding computing machine_comparing
-lemma_others ReceivedAsSent apart = absurd (apart refl)
-lemma_others TakenAsWritten apart = lemma_holds_taken here.port world (chain_in world 0) (chain_in world 1) a.channel (mine_in world here) (mine_in world there_) refl refl refl
-    refl refl refl refl steps refl refl
-lemma_others Supplies apart = lemma_keeps_supplies genesis world a.channel refl
-lemma_others Payments apart = lemma_pays_as_named genesis steps world refl
-lemma_others Notes apart = lemma_keeps_no_notes steps world refl
-
-pub lemma_forged : IsRefusedBy ReceivedAsSent (machine_comparing alike_in_tokens) ReceivesWhatWasNotSent
+pub lemma_forged : IsRefusedByAlone ReceivedAsSent (machine_comparing alike_in_tokens) ReceivesWhatWasNotSent
 lemma_forged = record {
-  run = record {
-    genesis = genesis;
-    allowed = lemma_allowed;
-    events = events;
-    first_laws = lemma_laws;
-    but = record { e = here; f = there_; mine = mine_in world here; packet = for_carol; peers = lemma_peers; own = lemma_own; received_it = lemma_received_it; not_sent = lemma_not_sent };
-  };
+  genesis = genesis;
+  allowed = lemma_allowed;
+  events = events;
   typed = lemma_typed;
+  first_laws = lemma_laws;
   fails = λ all. lemma_not_sent (all here there_ (mine_in world here) for_carol lemma_peers lemma_own lemma_received_it);
-  others = lemma_others;
+  so = record { e = here; f = there_; mine = mine_in world here; packet = for_carol; peers = lemma_peers; own = lemma_own; received_it = lemma_received_it; not_sent = lemma_not_sent };
+  others = lemma_others_hold ReceivedAsSent genesis steps world lemma_pass;
 }

@@ -7,7 +7,6 @@ use Rattle.ibc_wire.specs.declared.packet.Packet.{Packet}
 use Rattle.ibc_machine.specs.declared.event.Event.{Event}
 use Rattle.ibc_machine.specs.chain.Genesis.{GenesisState, start, is_allowed}
 use Rattle.ibc_machine.specs.chain.Machine.{World}
-use Rattle.ibc_machine.specs.ics04.Packets.{is_ordered}
 use Rattle.ibc_machine.specs.ics20.TokenData.{error}
 use Rattle.ibc_machine.specs.ledger.Ledgers.{is_typed}
 use Rattle.ibc_machine.specs.promises.Histories.{Happened, End, ack_written}
@@ -18,13 +17,12 @@ use Rattle.ibc_machine.proofs.Openings.{opening}
 use Rattle.ibc_machine.proofs.PacketScripts.{send, recv, ack, tokens}
 use Rattle.ibc_laws.specs.Packets.{taken_acks}
 use Rattle.ibc_laws.specs.Tokens.{transfer_end}
-use Rattle.ibc_laws.specs.WrongMachines.{machine_taking_any_ack, TakesWhatWasNotWritten}
-use Rattle.ibc_laws.specs.WrongMachines.{Machine, WorldStep, FirstLaws, steps_by, happened_by, world_by}
-use Rattle.ibc_laws.specs.OneLawAlone.{IsRefusedBy, FurtherLaw, ReceivedAsSent, TakenAsWritten, Supplies, Payments, Notes, HoldsOf}
-use Rattle.ibc_laws.proofs.wrong.TwoEnds.{IsConserved, chain_in, mine_in}
-use Rattle.ibc_laws.proofs.wrong.Tested.{lemma_pays_as_named, lemma_keeps_supplies, lemma_keeps_no_notes}
+use Rattle.ibc_laws.specs.Runs.{Machine, WorldStep, steps_by, world_by, all_of, FirstLaws, IsRefusedByAlone, TakenAsWritten}
+use Rattle.ibc_laws.specs.WrongPackets.{machine_taking_any_ack, TakesWhatWasNotWritten}
 use Rattle.ibc_laws.proofs.wrong.TypedEvents.{typed}
-use Rattle.ibc_laws.proofs.wrong.OneChannel.{lemma_no_order, lemma_first_laws, lemma_holds_received}
+use Rattle.ibc_laws.proofs.wrong.EachEnd.{each_pair}
+use Rattle.ibc_laws.proofs.wrong.TestedFirst.{keeps_first_laws, lemma_first_laws, IsConserved, are_the_two, lemma_two_ends}
+use Rattle.ibc_laws.proofs.wrong.TestedAll.{passes_all_but, lemma_others_hold}
 
 abbrev much : ℕ
 much = 2 ^ 127
@@ -65,7 +63,7 @@ abbrev steps : List WorldStep
 steps = steps_by machine (start genesis) events
 
 abbrev happened : List Happened
-happened = happened_by machine (start genesis) events
+happened = all_of steps
 
 abbrev world : World
 world = world_by machine (start genesis) events
@@ -92,10 +90,24 @@ lemma_conserved_back : IsConserved world there_ here
 unfolding computing machine_taking_any_ack
 lemma_conserved_back denom over = refl
 
-lemma_laws : FirstLaws steps happened world
+lemma_first : keeps_first_laws steps world ≡ true
 unfolding computing machine_taking_any_ack
-lemma_laws = lemma_first_laws here.port world (chain_in world 0) (chain_in world 1) a.channel (mine_in world here) (mine_in world there_) refl refl refl
-    refl refl refl refl steps refl refl (lemma_no_order (is_ordered (mine_in world here)) refl) (lemma_no_order (is_ordered (mine_in world there_)) refl) (λ port. lemma_conserved) (λ port. lemma_conserved_back) refl refl
+lemma_first = refl
+
+lemma_two : each_pair world (are_the_two here there_) ≡ true
+unfolding computing machine_taking_any_ack
+lemma_two = refl
+
+lemma_laws : FirstLaws steps world
+lemma_laws = lemma_first_laws steps world lemma_first (lemma_two_ends world here there_ lemma_two lemma_conserved lemma_conserved_back)
+
+-- ---- the other laws
+
+lemma_pass : passes_all_but TakenAsWritten genesis steps world ≡ true
+unfolding computing machine_taking_any_ack
+lemma_pass = refl
+
+-- ---- the law that fails
 
 lemma_peers : IsTrue (are_peers world here there_)
 unfolding computing machine_taking_any_ack
@@ -116,25 +128,14 @@ lemma_not_written is =
     let alike : same_text bad_receiver bad_receiver ≡ true = refl in
     absurd (cc (differ, alike, ap (λ x. same_text x bad_receiver) same))
 
-lemma_others : (other : FurtherLaw) → ¬ (other ≡ TakenAsWritten) → HoldsOf other genesis steps world
-unfolding computing machine_taking_any_ack
-lemma_others ReceivedAsSent apart = lemma_holds_received here.port world (chain_in world 0) (chain_in world 1) a.channel (mine_in world here) (mine_in world there_) refl refl refl
-    refl refl refl refl steps refl refl
-lemma_others TakenAsWritten apart = absurd (apart refl)
-lemma_others Supplies apart = lemma_keeps_supplies genesis world a.channel refl
-lemma_others Payments apart = lemma_pays_as_named genesis steps world refl
-lemma_others Notes apart = lemma_keeps_no_notes steps world refl
-
-pub lemma_unwritten : IsRefusedBy TakenAsWritten machine_taking_any_ack TakesWhatWasNotWritten
+pub lemma_unwritten : IsRefusedByAlone TakenAsWritten machine_taking_any_ack TakesWhatWasNotWritten
 lemma_unwritten = record {
-  run = record {
-    genesis = genesis;
-    allowed = lemma_allowed;
-    events = events;
-    first_laws = lemma_laws;
-    but = record { e = here; f = there_; packet = again; ack = bad_receiver; peers = lemma_peers; took_it = lemma_took_it; not_written = lemma_not_written };
-  };
+  genesis = genesis;
+  allowed = lemma_allowed;
+  events = events;
   typed = lemma_typed;
+  first_laws = lemma_laws;
   fails = λ all. lemma_not_written (all here there_ again bad_receiver lemma_peers lemma_took_it);
-  others = lemma_others;
+  so = record { e = here; f = there_; packet = again; ack = bad_receiver; peers = lemma_peers; took_it = lemma_took_it; not_written = lemma_not_written };
+  others = lemma_others_hold TakenAsWritten genesis steps world lemma_pass;
 }

@@ -1,45 +1,33 @@
--- Laws of a computed run of two chains, by tests that compute: payments, supplies, and that no note is kept.
+-- Laws of tokens in a computed run of two chains, by tests that compute: payments and supplies.
 use Rattle.std.specs.Prelude.{IsTrue, ◌≤◌}
-use Rattle.std.proofs.Common.{◌≡◌, ℕ, zero, suc, ◌+◌, Bool, true, false, refl, ap, sym, ◌∙◌, subst, List, [], ◌∷◌, ◌++◌, length, drop, map, Some, None, ◌⊎◌, inl, inr, arith, ◌==◌, ◌&&◌, ◌||◌, not, eqb-true, ltb-true, leb-true, nat_le, nat_lt, slice_get, if◌then◌else◌, Contains, filter_map, cond, unwrap_or}
-use Rattle.std.specs.List.{list_all, list_any, sum_by, cons_option}
+use Rattle.std.proofs.Common.{◌≡◌, ℕ, zero, suc, ◌+◌, Bool, true, false, refl, ap, sym, ◌∙◌, subst, List, [], ◌∷◌, ◌++◌, length, drop, map, None, ◌⊎◌, inl, inr, arith, ◌==◌, ◌&&◌, ◌||◌, not, eqb-true, ltb-true, leb-true, nat_le, nat_lt, slice_get, if◌then◌else◌, Contains}
+use Rattle.std.specs.List.{list_all, sum_by}
 use Rattle.std.specs.FinMap.{is_sorted}
 use Rattle.std.specs.Option.{option_map_or}
 use Rattle.std.proofs.lemmas.List.Sums.{sum_by-cons, sum_by-append}
-use Rattle.ibc_ids.specs.Texts.{Text, same_text, text_cmp, pair_cmp}
-use Rattle.ibc_ids.specs.Maps.{Map, at}
+use Rattle.ibc_ids.specs.Texts.{Text, pair_cmp}
 use Rattle.ibc_ids.specs.Names.{is_user, is_base_denom, hop}
 use Rattle.ibc_ids.proofs.Texts.{text_same}
 use Rattle.ibc_ids.proofs.Hops.{came_over_is}
-use Rattle.ibc_wire.specs.declared.packet.Packet.{Packet}
-use Rattle.ibc_wire.specs.declared.messages.Message.TheVariants as message
-use Rattle.ibc_machine.specs.declared.event.Event.{Event}
-use Rattle.ibc_machine.specs.declared.event.Event.TheVariants as event
-use Rattle.ibc_machine.specs.declared.reply.Reply.TheVariants as reply
-use Rattle.ibc_machine.specs.chain.Records.{MachineChain, Channel}
+use Rattle.ibc_machine.specs.chain.Records.{MachineChain}
 use Rattle.ibc_machine.specs.chain.Genesis.{GenesisState, ChainState, start, starting_chain}
 use Rattle.ibc_machine.specs.chain.Machine.{World}
-use Rattle.ibc_machine.specs.chain.Notes.{note_port}
 use Rattle.ibc_machine.specs.ics20.Bank.{Balances, balance, supply}
 use Rattle.ibc_machine.specs.ics20.Transfers.{transfer_port, came_over}
-use Rattle.ibc_machine.specs.ics24.Values.{same_optional}
 use Rattle.ibc_machine.specs.ledger.Ledgers.{chain_of}
-use Rattle.ibc_machine.specs.promises.Histories.{Happened, End, packet_if, received_by, received_packets, sent_packets, history_of, ack_written}
+use Rattle.ibc_machine.specs.promises.Histories.{Happened}
 use Rattle.ibc_machine.specs.promises.Peers.{are_peers}
 use Rattle.ibc_machine.specs.promises.Totals.{balances_of, escrow_balance}
 use Rattle.ibc_machine.proofs.Measures.{amount_in, measure}
 use Rattle.ibc_machine.proofs.SortedMaps.{Sorted-from}
-use Rattle.ibc_machine.proofs.SameValues.{same_optional_is}
-use Rattle.ibc_laws.specs.Packets.{taken_acks}
 use Rattle.ibc_laws.specs.Tokens.{IsBacked, transfer_end, supply_at, balance_at, amount_paid_by}
 use Rattle.ibc_laws.specs.Payments.{data_at, amount_received_by, amount_refunded_to}
-use Rattle.ibc_laws.specs.StoredNotes.{IsFront, notes_at, note_end, payloads}
-use Rattle.ibc_laws.specs.WrongMachines.{Machine, WorldStep, steps_by, world_by, all_of}
-use Rattle.ibc_laws.specs.OneLawAlone.{KeepsSupplies, OnlySendersPay, PaysAsNamed, KeepsNotes}
-use Rattle.ibc_laws.proofs.basics.PassedTests.{both, either, no_longer}
+use Rattle.ibc_laws.specs.Runs.{WorldStep, all_of, KeepsSupplies, OnlySendersPay, PaysAsNamed}
+use Rattle.ibc_laws.proofs.basics.PassedTests.{both, either}
 use Rattle.ibc_laws.proofs.tokens.HeldAndIssued.{at_key, of_denom, balance_is, sum-plus}
 use Rattle.ibc_laws.proofs.tokens.WhoIsPaid.{by_event, paid_elsewhere, gained, received_and_refunded}
 use Rattle.ibc_laws.proofs.steps.Told.{told_of}
-use Rattle.ibc_laws.proofs.wrong.TwoEnds.{lemma_passes}
+use Rattle.ibc_laws.proofs.basics.ListTests.{lemma_passes}
 use Rattle.ibc_laws.proofs.wrong.Entries.{Entry, paid_entries, got_entries, all_entries, measure-append, measure-all, measure_paid, measure_got, are_same_for_users, lemma_same_for_users, are_no_more_for_users, lemma_no_more_for_users, lemma_entry_or_none}
 
 -- ---- two chains
@@ -76,15 +64,6 @@ lemma_sum_zero test f (x ∷ xs) all zero_ =
     let here = zero_ x parts.0 in
     let cons = sum_by-cons f x xs in
     omega arith
-
--- ---- the last step of a run
-
-pub lemma_last_step : (machine : Machine) (w : World) (earlier : List Event) (last : Event)
-    → Contains (steps_by machine w (earlier ++ last ∷ []))
-    (world_by machine w earlier, (last, (machine (world_by machine w earlier) last).0), (machine (world_by machine w earlier) last).1)
-lemma_last_step machine w [] last = (0, omega arith, refl)
-lemma_last_step machine w (e ∷ earlier) last =
-    let h = lemma_last_step machine (machine w e).1 earlier last in (suc h.0, (let lt = h.1 in omega arith), h.2)
 
 -- ---- payments
 
@@ -402,137 +381,3 @@ module _ (genesis : GenesisState) (world : World) (id : Text) (passed : keeps_su
 
   pub lemma_keeps_supplies : KeepsSupplies genesis world
   lemma_keeps_supplies = record { stays = supply_stays; backed = supply_backed }
-
--- ---- no notes
-
--- nothing comes on port `note`
-abbrev pub brings_no_note : Happened → Bool
-brings_no_note (event.Message k (message.RecvPacket m), given) = not (same_text m.packet.destination_port note_port)
-brings_no_note h = true
-
-abbrev pub has_no_notes : World → Bool
-has_no_notes world = list_all (λ (c : MachineChain). length c.records.apps.notes == 0) world
-
-abbrev pub no_notes_in : WorldStep → Bool
-no_notes_in (old, h, new) = has_no_notes old && (has_no_notes new && brings_no_note h)
-
-abbrev pub keeps_no_notes : List WorldStep → World → Bool
-keeps_no_notes steps world = list_all no_notes_in steps && has_no_notes world
-
-lemma_none_at : (world : World) → has_no_notes world ≡ true → (chain : ℕ) (channel : Text) → notes_at world chain channel ≡ []
-lemma_none_at [] none chain channel = refl
-lemma_none_at (c ∷ world) none zero channel =
-    let parts = both (length c.records.apps.notes == 0) (has_no_notes world) none in
-    ap (λ (notes : Map Text (List Text)). unwrap_or (at text_cmp channel notes) []) (empty c.records.apps.notes (eqb-true (length c.records.apps.notes) 0 parts.0))
-  where
-    empty : (notes : Map Text (List Text)) → length notes ≡ 0 → notes ≡ []
-    empty [] none = refl
-    empty (n ∷ notes) none = absurd (omega arith)
-lemma_none_at (c ∷ world) none (suc chain) channel =
-    lemma_none_at world (both (length c.records.apps.notes == 0) (has_no_notes world) none).1 chain channel
-
-lemma_no_note : (chain : ℕ) (channel : Text) (h : Happened) → brings_no_note h ≡ true → received_by (note_end chain channel) h ≡ None
-lemma_no_note chain channel (event.Message k (message.RecvPacket m), reply.Ok given) none =
-    let other = no_longer (same_text m.packet.destination_port note_port) none in
-    ap (λ b. packet_if (b && same_text m.packet.destination_channel channel) m.packet) other
-lemma_no_note chain channel (event.Message k (message.RecvPacket m), reply.No why) none = refl
-lemma_no_note chain channel (event.Message k _, given) none = refl
-lemma_no_note chain channel (event.Block k t, given) none = refl
-
-lemma_none_received : (chain : ℕ) (channel : Text) (hs : List Happened) → list_all brings_no_note hs ≡ true → received_packets (note_end chain channel) hs ≡ []
-lemma_none_received chain channel [] none = refl
-lemma_none_received chain channel (h ∷ hs) none =
-    let parts = both (brings_no_note h) (list_all brings_no_note hs) none in
-    go (chain_of h.0 == chain) parts.0 (lemma_none_received chain channel hs parts.1)
-  where
-    go : (b : Bool) → brings_no_note h ≡ true → received_packets (note_end chain channel) hs ≡ []
-        → filter_map (received_by (note_end chain channel)) (cond b (h ∷ history_of chain hs) (history_of chain hs)) ≡ []
-    go true own rest = ap (λ o. cons_option o (received_packets (note_end chain channel) hs)) (lemma_no_note chain channel h own) ∙ rest
-    go false own rest = rest
-
-lemma_none_brought : (steps : List WorldStep) → list_all no_notes_in steps ≡ true → list_all brings_no_note (all_of steps) ≡ true
-lemma_none_brought [] none = refl
-lemma_none_brought (step ∷ steps) none =
-    let parts = both (no_notes_in step) (list_all no_notes_in steps) none in
-    let own = (both (has_no_notes step.2) (brings_no_note step.1) (both (has_no_notes step.0) _ parts.0).1).1 in
-    ap (λ b. b && list_all brings_no_note (all_of steps)) own ∙ lemma_none_brought steps parts.1
-
-module _ (steps : List WorldStep) (world : World) (passed : keeps_no_notes steps world ≡ true) where
-  notes_parts : (list_all no_notes_in steps ≡ true) × (has_no_notes world ≡ true)
-  notes_parts = both (list_all no_notes_in steps) (has_no_notes world) passed
-
-  none_now : (chain : ℕ) (channel : Text) → notes_at world chain channel ≡ []
-  none_now = lemma_none_at world notes_parts.1
-
-  front_of_all : (xs ys : List Text) → xs ≡ [] → IsFront xs ys
-  front_of_all xs ys none = (ys, ap (λ zs. zs ++ ys) none)
-
-  pub lemma_keeps_no_notes : KeepsNotes steps world
-  lemma_keeps_no_notes = record {
-    are_received = λ chain channel. none_now chain channel ∙ sym (ap payloads (lemma_none_received chain channel (all_of steps) (lemma_none_brought steps notes_parts.0)));
-    stay = λ step chain channel among.
-        let own = both (has_no_notes step.0) _ (lemma_passes no_notes_in steps step notes_parts.0 among) in
-        front_of_all (notes_at step.0 chain channel) (notes_at step.2 chain channel) (lemma_none_at step.0 own.0 chain channel);
-    were_sent = λ e f mine peers port is. front_of_all (notes_at world f.chain f.channel) _ (none_now f.chain f.channel);
-  }
-
--- ---- packets, at two ends
-
-abbrev pub same_packet : Packet → Packet → Bool
-same_packet p q =
-    (p.sequence == q.sequence) && ((p.timeout_height == q.timeout_height) && ((p.timeout_time == q.timeout_time)
-    && (same_text p.source_port q.source_port && (same_text p.source_channel q.source_channel
-    && (same_text p.destination_port q.destination_port && (same_text p.destination_channel q.destination_channel
-    && same_text p.payload q.payload))))))
-
-lemma_same_packet : (p q : Packet) → same_packet p q ≡ true → p ≡ q
-lemma_same_packet p q is =
-    let a = both (p.sequence == q.sequence) _ is in
-    let b = both (p.timeout_height == q.timeout_height) _ a.1 in
-    let c = both (p.timeout_time == q.timeout_time) _ b.1 in
-    let d = both (same_text p.source_port q.source_port) _ c.1 in
-    let e = both (same_text p.source_channel q.source_channel) _ d.1 in
-    let f = both (same_text p.destination_port q.destination_port) _ e.1 in
-    let g = both (same_text p.destination_channel q.destination_channel) _ f.1 in
-    let n = eqb-true p.sequence q.sequence a.0 in
-    let height = eqb-true p.timeout_height q.timeout_height b.0 in
-    let time = eqb-true p.timeout_time q.timeout_time c.0 in
-    let source_port = text_same p.source_port q.source_port d.0 in
-    let source_channel = text_same p.source_channel q.source_channel e.0 in
-    let destination_port = text_same p.destination_port q.destination_port f.0 in
-    let destination_channel = text_same p.destination_channel q.destination_channel g.0 in
-    let payload = text_same p.payload q.payload g.1 in
-    λ i. record {
-      sequence = n i;
-      timeout_height = height i;
-      timeout_time = time i;
-      source_port = source_port i;
-      source_channel = source_channel i;
-      destination_port = destination_port i;
-      destination_channel = destination_channel i;
-      payload = payload i;
-    }
-
-lemma_among : (p : Packet) (qs : List Packet) → list_any (same_packet p) qs ≡ true → Contains qs p
-lemma_among p [] any = absurd (cc any)
-lemma_among p (q ∷ qs) any = elim (either (same_packet p q) (list_any (same_packet p) qs) any) [
-  | inl here ↦ (0, (omega arith), sym (lemma_same_packet p q here))
-  | inr later ↦ (let h = lemma_among p qs later in (suc h.0, (let lt = h.1 in omega arith), h.2))
-]
-
-abbrev pub received_as_sent : List Happened → End → End → Channel → Bool
-received_as_sent happened e f mine = list_all (λ (p : Packet). list_any (same_packet p) (sent_packets e mine happened)) (received_packets f happened)
-
-pub lemma_received_as_sent : (happened : List Happened) (e f : End) (mine : Channel) → received_as_sent happened e f mine ≡ true
-    → (p : Packet) → Contains (received_packets f happened) p → Contains (sent_packets e mine happened) p
-lemma_received_as_sent happened e f mine passed p has =
-    lemma_among p (sent_packets e mine happened) (lemma_passes (λ (p : Packet). list_any (same_packet p) (sent_packets e mine happened)) (received_packets f happened) p passed has)
-
-abbrev pub taken_as_written : List Happened → End → End → Bool
-taken_as_written happened e f = list_all (λ (x : Packet × Text). same_optional (ack_written f happened x.0.sequence) (Some x.1)) (taken_acks e happened)
-
-pub lemma_taken_so : (happened : List Happened) (e f : End) → taken_as_written happened e f ≡ true
-    → (p : Packet) (ack : Text) → Contains (taken_acks e happened) (p, ack) → ack_written f happened p.sequence ≡ Some ack
-lemma_taken_so happened e f passed p ack has =
-    same_optional_is (ack_written f happened p.sequence) (Some ack)
-    (lemma_passes (λ (x : Packet × Text). same_optional (ack_written f happened x.0.sequence) (Some x.1)) (taken_acks e happened) (p, ack) passed has)
