@@ -30,9 +30,10 @@ use Rattle.ibc_machine.specs.ledger.Merge.{is_of_chain}
 use Rattle.ibc_machine.specs.promises.Worlds.{entries, happened_by}
 use Rattle.ibc_laws.specs.Moments.{IsMoment}
 use Rattle.ibc_laws.specs.Packets.{taken_acks}
+use Rattle.ibc_laws.specs.Ends.{SettlesWhatWasSent, ReceivesInTime, AcknowledgesInOrder, SilencesClosed, TakesOfPeers, Agree}
+use Rattle.ibc_laws.specs.Tokens.{IsBacked, BringsTo, balance_at, amount_paid_by, supply_at}
 use Rattle.ibc_laws.specs.Payments.{amount_received_by, amount_refunded_to}
 use Rattle.ibc_laws.specs.StoredNotes.{IsFront, note_end, notes_at, payloads}
-use Rattle.ibc_laws.specs.Tokens.{IsBacked, BringsTo, balance_at, amount_paid_by, supply_at}
 use Rattle.ibc_refinement.specs.World.{WorldState, kept_entries}
 
 -- all that happened since genesis: each event with its reply, in the order in which the world kept them
@@ -67,18 +68,14 @@ pub record IsLawful (world : WorldState) : Type 0 where
       → filter (is_of_chain k) (kept_entries world) ≡ entries ledger
   pub no_others : list_all (λ (entry : Entry). nat_lt (chain_of entry.event) (length world.ledgers)) (kept_entries world)
       ≡ true
+  -- Each event came at a moment: there were a state of all chains just before it, and one just after.
+  pub each_moment : (before after : List Happened) (h : Happened) → happened_in world ≡ before ++ h ∷ after
+      → (old : World) × (new : World) × IsMomentOf world before h old new
   -- An end of a channel that is OPEN or CLOSED has exactly one peer, and no end has two (ICS 4, channel exclusivity).
   pub one_peer : HasOnePeer (states_of world)
   -- Between peers no packet is both received and timed out. Each is received at most once, and acknowledged or timed
   -- out at most once in all; one that was acknowledged was received (ICS 4, exactly-once delivery).
   pub exactly_once : (e f : End) → ArePeers world e f → IsExactlyOnce (happened_in world) e f
-  -- Whatever an end received, on any channel, its peer sent, equal in every field (ICS 4).
-  pub received_was_sent : (e f : End) (mine : Channel) (p : Packet) → ArePeers world e f
-      → end_at (states_of world) e ≡ Some mine → Contains (received_packets f (happened_in world)) p
-      → Contains (sent_packets e mine (happened_in world)) p
-  -- The acknowledgement that is taken of a packet is the one that its receiver wrote (ICS 4).
-  pub taken_as_written : (e f : End) (p : Packet) (ack : Text) → ArePeers world e f
-      → Contains (taken_acks e (happened_in world)) (p, ack) → ack_written f (happened_in world) p.sequence ≡ Some ack
   -- What an end of an ordered channel received is a beginning of what its peer sent, equal in every field (ICS 4,
   -- ordering).
   pub in_order : (e f : End) (mine : Channel) → ArePeers world e f → end_at (states_of world) e ≡ Some mine
@@ -89,6 +86,44 @@ pub record IsLawful (world : WorldState) : Type 0 where
       → came_over e.port e.channel denom ≡ false
       → escrow_balance (states_of world) e denom ≡ vouchers (states_of world) f denom + flight (states_of world) e f denom
       + flight (states_of world) f e (denom_with_hop f denom)
+  -- No acknowledgement and no timeout was refused because an escrow holds too little for the refund.
+  pub never_poor : (event : Event) → IsTrue (settles event) → ¬ (Contains (happened_in world) (event, reply.No Poor))
+  -- No escrow holds too little at a receive that comes next: what the packet brings home is held by the escrow of its
+  -- channel.
+  pub never_short : (chain : ℕ) (m : RecvPacket) (token : Token) → TakesNext world chain m
+      → BringsTo (states_of world) chain m.packet token → IsEscrowed (states_of world) chain m.packet token
+  -- Nor did one hold too little at a receive of the past.
+  pub was_never_short : (before : List Happened) (chain : ℕ) (m : RecvPacket) (given : Effect) (old new : World)
+      (token : Token) → IsMomentOf world before (event.Message chain (message.RecvPacket m), reply.Ok given) old new
+      → BringsTo old chain m.packet token → IsEscrowed old chain m.packet token
+  -- Whatever an end received, on any channel, its peer sent, equal in every field (ICS 4, recvPacket).
+  pub received_was_sent : (e f : End) (mine : Channel) (p : Packet) → ArePeers world e f
+      → end_at (states_of world) e ≡ Some mine → Contains (received_packets f (happened_in world)) p
+      → Contains (sent_packets e mine (happened_in world)) p
+  -- The acknowledgement that is taken of a packet is the one that its receiver wrote (ICS 4, acknowledgePacket).
+  pub taken_as_written : (e f : End) (p : Packet) (ack : Text) → ArePeers world e f
+      → Contains (taken_acks e (happened_in world)) (p, ack) → ack_written f (happened_in world) p.sequence ≡ Some ack
+  -- What an end took as acknowledged or timed out, also on close, is the packet that it sent under that number, equal in
+  -- every field. What was acknowledged was received, equal in every field (ICS 4, acknowledgePacket, timeoutPacket and
+  -- timeoutOnClose).
+  pub settled_was_sent : SettlesWhatWasSent (happened_in world) (states_of world)
+  -- Nothing was received at or behind its timeout, by height or time of the working block of the receiver's chain (ICS 4,
+  -- recvPacket).
+  pub received_in_time : (before : List Happened) (h : Happened) (old new : World) → IsMomentOf world before h old new
+      → ReceivesInTime old h
+  -- What an end of an ordered channel took as acknowledged is a beginning of what it sent, equal in every field (ICS 4,
+  -- acknowledgePacket).
+  pub acknowledged_in_order : AcknowledgesInOrder (happened_in world) (states_of world)
+  -- A CLOSED end stays CLOSED, and sends, receives and acknowledges nothing. It may time out a packet that it sent and
+  -- that was not settled (ICS 4, closing handshake).
+  pub closed_is_silent : (before : List Happened) (h : Happened) (old new : World) → IsMomentOf world before h old new
+      → SilencesClosed old h new
+  -- An end without a peer takes nothing: whatever an end received, acknowledged or timed out, it has a peer (ICS 4,
+  -- recvPacket, acknowledgePacket and timeoutPacket).
+  pub taken_of_peer : TakesOfPeers (happened_in world) (states_of world)
+  -- Peers agree on the channel's order and version (ICS 4, opening handshake).
+  pub peers_agree : (e f : End) (mine theirs : Channel) → ArePeers world e f → end_at (states_of world) e ≡ Some mine
+      → end_at (states_of world) f ≡ Some theirs → Agree mine theirs
   -- The supply of a base denomination on a chain, escrows included, is what the genesis gave (ICS 20, total supply).
   pub supply_stays : (chain : ℕ) (denom : Text) → IsTrue (is_base_denom denom)
       → supply_at (states_of world) chain denom ≡ supply_at (start world.genesis) chain denom
@@ -96,9 +131,6 @@ pub record IsLawful (world : WorldState) : Type 0 where
   -- it in escrow (ICS 20).
   pub backed : (chain : ℕ) (denom : Text) → 1 ≤ supply_at (states_of world) chain denom
       → IsTrue (is_base_denom denom) ⊎ IsBacked (states_of world) chain denom
-  -- Each event came at a moment: there were a state of all chains just before it, and one just after.
-  pub each_moment : (before after : List Happened) (h : Happened) → happened_in world ≡ before ++ h ∷ after
-      → (old : World) × (new : World) × IsMomentOf world before h old new
   -- A user's balance falls only by an accepted transfer of that user, and by no more than it sends.
   pub who_pays : (before : List Happened) (h : Happened) (old new : World) (chain : ℕ) (user denom : Text)
       → IsMomentOf world before h old new → IsTrue (is_user user)
@@ -125,15 +157,6 @@ pub record IsLawful (world : WorldState) : Type 0 where
   pub notes_were_sent : (e f : End) (mine : Channel) → ArePeers world e f → f.port ≡ note_port
       → end_at (states_of world) e ≡ Some mine
       → IsFront (notes_at (states_of world) f.chain f.channel) (payloads (sent_packets e mine (happened_in world)))
-  -- No acknowledgement and no timeout was refused because an escrow holds too little for the refund.
-  pub never_poor : (event : Event) → IsTrue (settles event) → ¬ (Contains (happened_in world) (event, reply.No Poor))
-  -- No escrow held too little at a receive: what the packet brought home was held by the escrow of its channel.
-  pub was_never_short : (before : List Happened) (chain : ℕ) (m : RecvPacket) (given : Effect) (old new : World)
-      (token : Token) → IsMomentOf world before (event.Message chain (message.RecvPacket m), reply.Ok given) old new
-      → BringsTo old chain m.packet token → IsEscrowed old chain m.packet token
-  -- Nor will one at a receive that comes next.
-  pub never_short : (chain : ℕ) (m : RecvPacket) (token : Token) → TakesNext world chain m
-      → BringsTo (states_of world) chain m.packet token → IsEscrowed (states_of world) chain m.packet token
 
 -- All of it stands where no two different texts that the chains hashed share a digest.
 abbrev pub IsLawfulUnlessClash : WorldState → Type 0
