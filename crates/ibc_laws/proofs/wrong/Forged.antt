@@ -18,7 +18,6 @@ use Rattle.ibc_machine.proofs.PacketScripts.{send, recv, tokens, there}
 use Rattle.ibc_laws.specs.Tokens.{transfer_end}
 use Rattle.ibc_laws.specs.Runs.{Machine, WorldStep, steps_by, world_by, all_of, FirstLaws, IsRefusedByAlone, ReceivedAsSent}
 use Rattle.ibc_laws.specs.WrongPackets.{machine_comparing, alike_in_tokens, ReceivesWhatWasNotSent}
-use Rattle.ibc_laws.specs.WrongTokens.{for_carol}
 use Rattle.ibc_laws.proofs.basics.Lists.{lemma_contains_one}
 use Rattle.ibc_laws.proofs.wrong.TypedEvents.{typed}
 use Rattle.ibc_laws.proofs.wrong.EachEnd.{mine_in, each_pair}

@@ -14,7 +14,7 @@ use Rattle.ibc_machine.specs.promises.Peers.{end_at, are_peers}
 use Rattle.ibc_machine.proofs.Computing.{computing}
 use Rattle.ibc_machine.proofs.Scripts.{a, b, a_and_b, for_notes, block, update}
 use Rattle.ibc_machine.proofs.Openings.{opening}
-use Rattle.ibc_machine.proofs.PacketScripts.{recv, there, note, noted}
+use Rattle.ibc_machine.proofs.PacketScripts.{recv, note, noted}
 use Rattle.ibc_laws.specs.StoredNotes.{note_end}
 use Rattle.ibc_laws.specs.Runs.{Machine, WorldStep, steps_by, world_by, all_of, FirstLaws, HoldsOf, IsRefusedByAlone, TakenOfPeer}
 use Rattle.ibc_laws.specs.WrongPackets.{machine_comparing}
