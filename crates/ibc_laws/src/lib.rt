@@ -65,8 +65,6 @@ pub fn lemma_acknowledgements_are_taken_as_written()
     ensures { TakenAsWritten }
 {}
 
-/// Thirteen machines that are wrong have runs that one further law alone refuses: the first six of these laws hold of
-/// them, and all other further laws.
 /// What an end took as acknowledged or timed out, also on close, is what it sent under that number, equal in every
 /// field. What was acknowledged was received, equal in every field.
 pub fn lemma_what_is_settled_was_sent()
