@@ -12,7 +12,6 @@ use Rattle.ibc_laws.specs.Tokens.{supply_at}
 use Rattle.ibc_laws.specs.Runs.{Machine, WorldStep, steps_by, world_by, FirstLaws, HoldsOf, IsRefusedByAlone, Supplies}
 use Rattle.ibc_laws.specs.WrongPackets.{machine_comparing}
 use Rattle.ibc_laws.specs.WrongTokens.{machine_with_gifts, SupplyGrew}
-use Rattle.ibc_laws.proofs.wrong.TypedEvents.{typed}
 use Rattle.ibc_laws.proofs.wrong.EachEnd.{each_end}
 use Rattle.ibc_laws.proofs.wrong.TestedFirst.{keeps_first_laws, lemma_first_laws, has_no_tokens, lemma_no_tokens}
 use Rattle.ibc_laws.proofs.wrong.TestedAll.{passes_all_but, lemma_others_hold}

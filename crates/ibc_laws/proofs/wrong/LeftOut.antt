@@ -1,5 +1,5 @@
 -- The second note is acknowledged, and the first is not.
-use Rattle.std.proofs.Common.{◌≡◌, true, refl, ap, List, [], ◌∷◌, ◌++◌, arith, Some, codes}
+use Rattle.std.proofs.Common.{◌≡◌, ℕ, true, refl, ap, List, [], ◌∷◌, ◌++◌, arith, Some, codes}
 use Rattle.std.specs.Prelude.{IsTrue}
 use Rattle.std.specs.List.{list_all}
 use Rattle.ibc_ids.proofs.Texts.{heads_same}
@@ -93,7 +93,7 @@ unfolding computing machine_comparing machine_acknowledging_any
 lemma_no_beginning begins =
     let front : IsBeginning (second_note ∷ []) (first_note ∷ second_note ∷ []) = begins in
     let same : second_note ≡ first_note = heads_same second_note first_note front.0 (second_note ∷ []) front.1 in
-    let number : 2 ≡ 1 = ap (λ (p : Packet). p.sequence) same in
+    let number : ◌≡◌ {A = ℕ} 2 1 = ap (λ (p : Packet). p.sequence) same in
     absurd (omega arith)
 
 pub lemma_left_out : IsRefusedByAlone AcknowledgedInOrder machine_acknowledging_any LeavesOutAnAck

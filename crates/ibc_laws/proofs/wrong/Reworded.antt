@@ -101,9 +101,8 @@ lemma_not_sent x =
     let said : packet_sent here (mine_in world here) happened 1 ≡ Some reworded = subst (λ (m : Channel). packet_sent here m happened 1 ≡ Some reworded) own x.2 in
     let was : packet_sent here (mine_in world here) happened 1 ≡ Some as_sent = refl in
     let same : reworded ≡ as_sent = some_is said was in
-    let differ : same_text other written ≡ false = refl in
-    let alike : same_text other other ≡ true = refl in
-    absurd (cc (differ, alike, ap (λ (p : Packet). same_text other p.payload) same))
+    let never : true ≡ false = ap (λ (p : Packet). same_text other p.payload) same in
+    absurd (cc never)
 
 pub lemma_reworded : IsRefusedByAlone SettledAsSent machine_reading_numbers SettlesWhatWasNotSent
 lemma_reworded = record {
