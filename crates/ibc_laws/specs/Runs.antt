@@ -158,6 +158,12 @@ pub record AreMoments (genesis : GenesisState) (happened : List Happened) (world
   pub each : (step : WorldStep) → Contains steps step
       → (before : List Happened) × IsMoment genesis happened world before step.1 step.0 step.2
 
+-- every past has such steps
+abbrev pub EachPastHasSteps : Type 0
+EachPastHasSteps =
+    (genesis : GenesisState) (happened : List Happened) (world : World) → IsPast genesis happened world
+    → (steps : List WorldStep) × AreMoments genesis happened world steps
+
 -- all of the further laws hold of every run of it
 abbrev pub HoldOfTheMachine : Type 0
 HoldOfTheMachine =

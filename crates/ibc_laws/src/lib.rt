@@ -138,8 +138,9 @@ pub fn lemma_notes_are_as_sent()
     ensures { NotesWereSent }
 {}
 
-/// Thirteen machines that are wrong have runs that one further law alone refuses: the first six of these laws hold of
-/// them, and all other further laws.
+/// Thirteen machines that are wrong have runs that one further law alone refuses: the four laws hold of them, with what
+/// follows from the fourth, and all other further laws. Of each run of the machine itself all further laws hold, in the
+/// same words.
 pub fn lemma_the_further_laws_refuse_more()
     ensures { OneLawAlone }
 {}

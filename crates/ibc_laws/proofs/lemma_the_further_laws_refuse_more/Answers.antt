@@ -1,4 +1,4 @@
-use Rattle.ibc_laws.proofs.wrong.OfTheMachine.{lemma_hold_of_the_machine}
+use Rattle.ibc_laws.proofs.wrong.OfTheMachine.{lemma_each_past_has_steps, lemma_hold_of_the_machine}
 use Rattle.ibc_laws.proofs.wrong.Forged.{lemma_forged}
 use Rattle.ibc_laws.proofs.wrong.Unwritten.{lemma_unwritten}
 use Rattle.ibc_laws.proofs.wrong.Reworded.{lemma_reworded}
@@ -16,6 +16,7 @@ use Rattle.ibc_laws.proofs.lemma_the_further_laws_refuse_more.Goals as goal
 
 pub returns : goal.returns
 returns c = record {
+  steps_of_the_machine = lemma_each_past_has_steps;
   of_the_machine = lemma_hold_of_the_machine;
   forged = lemma_forged;
   unwritten = lemma_unwritten;
