@@ -28,7 +28,7 @@ use Rattle.ibc_machine.specs.ledger.Ledgers.{chain_of, is_typed}
 use Rattle.ibc_machine.specs.promises.Histories.{Happened}
 use Rattle.ibc_machine.specs.promises.Laws.{IsPast}
 use Rattle.ibc_machine.proofs.Measures.{IsSorted, Moved, weigh}
-use Rattle.ibc_laws.specs.Tokens.{amount_paid_by, own_sending, balance_at}
+use Rattle.ibc_laws.specs.Tokens.{WhoPays, amount_paid_by, own_sending, balance_at}
 use Rattle.ibc_laws.specs.Payments.{WhoIsPaid, EachBalance, data_at, denom_on_arrival, own_receiving, amount_received_by, amount_refunded_to}
 use Rattle.ibc_laws.proofs.basics.PassedTests.{number-self}
 use Rattle.ibc_laws.proofs.basics.ListPlaces.{same_or_not, get-set_same, get-set_other}
@@ -414,18 +414,18 @@ module _ (user denom : Text) (is : is_user user ≡ true) where
   abbrev held : Option MachineChain → ℕ
   held o = balance (option_map_or (λ (c : MachineChain). c.records.apps.balances) o []) user denom
 
-  abbrev Balances_change : World → World → World → ℕ → Happened → Type 0
-  Balances_change x w v k h = balance_at v k user denom + amount_paid_by k user denom h ≡ balance_at w k user denom + gained_on x k h
+  abbrev BalanceChanges : World → World → World → ℕ → Happened → Type 0
+  BalanceChanges x w v k h = balance_at v k user denom + amount_paid_by k user denom h ≡ balance_at w k user denom + gained_on x k h
 
   lemma_of_step : (chains : ℕ) (w : World) (h : Happened) (v x : World) (k : ℕ) → Keeps w x → ((y : ℕ) (c : MachineChain) → slice_get w y ≡ Some c → IsSorted c.records.apps.balances)
-      → Stepped chains w h v → Balances_change x w v k h
+      → Stepped chains w h v → BalanceChanges x w v k h
   lemma_of_step chains w h v x k keeps sorted (rests refused same) =
       let e = ap (λ (y : World). balance_at y k user denom) same in
       let paid : amount_paid_by k user denom h ≡ 0 = ap (λ (r : Reply). amount_paid_by k user denom (h.0, r)) refused.1 ∙ paid_refused h.0 refused.0 k in
       let none : gained_on x k h ≡ 0 = gained_refused x h k refused in
       omega arith
   lemma_of_step chains w h v x k keeps sorted (moves s) = elim (same_or_not k s.k) [
-    | inl here ↦ subst (λ j. Balances_change x w v j h) (sym here) there
+    | inl here ↦ subst (λ j. BalanceChanges x w v j h) (sym here) there
     | inr other ↦ (
         let apart = differs (chain_of h.0) k (λ e. other (sym e ∙ s.chain_is)) in
         let same : balance_at v k user denom ≡ balance_at w k user denom = ap (λ (y : World). held (slice_get y k)) s.after ∙ ap held (get-set_other w s.k k s.now other) in
@@ -442,7 +442,7 @@ module _ (user denom : Text) (is : is_user user ≡ true) where
           go true is = absurd (other (eqb-true i j is))
           go false is = is
 
-      there : Balances_change x w v s.k h
+      there : BalanceChanges x w v s.k h
       there =
           let old : balance_at w s.k user denom ≡ balance s.before.records.apps.balances user denom = ap held s.there in
           let new : balance_at v s.k user denom ≡ balance s.now.records.apps.balances user denom = ap (λ (y : World). held (slice_get y s.k)) s.after
@@ -454,13 +454,13 @@ module _ (user denom : Text) (is : is_user user ≡ true) where
 
   -- ---- runs
 
-  record Told_so (genesis : GenesisState) (hs : List Happened) (w : World) : Type 0 where
+  record BalancesTold (genesis : GenesisState) (hs : List Happened) (w : World) : Type 0 where
     conserving : Conserving hs w
     total : (x : World) → Keeps w x → (k : ℕ) → balance_at w k user denom + sum_by (amount_paid_by k user denom) hs
         ≡ balance_at (start genesis) k user denom + sum_by (received_and_refunded x k) hs
 
-  lemma_told_step : (genesis : GenesisState) (hs : List Happened) (w : World) (h : Happened) (v : World) → is_typed h.0 ≡ true → Told_so genesis hs w
-      → Stepped (length genesis.chains) w h v → Told_so genesis (hs ++ h ∷ []) v
+  lemma_told_step : (genesis : GenesisState) (hs : List Happened) (w : World) (h : Happened) (v : World) → is_typed h.0 ≡ true → BalancesTold genesis hs w
+      → Stepped (length genesis.chains) w h v → BalancesTold genesis (hs ++ h ∷ []) v
   lemma_told_step genesis hs w h v typed was step = record {
     conserving = conserving_step (length genesis.chains) hs w h v was.conserving typed step;
     total = λ x keeps k.
@@ -475,8 +475,8 @@ module _ (user denom : Text) (is : is_user user ≡ true) where
         omega arith;
   }
 
-  lemma_told_so : (genesis : GenesisState) (happened : List Happened) (world : World) → IsPast genesis happened world → Told_so genesis happened world
-  lemma_told_so genesis happened world past = past_has genesis (Told_so genesis)
+  lemma_told_so : (genesis : GenesisState) (happened : List Happened) (world : World) → IsPast genesis happened world → BalancesTold genesis happened world
+  lemma_told_so genesis happened world past = past_has genesis (BalancesTold genesis)
       (λ happened old h new typed was step. lemma_told_step genesis happened old h new typed was (stepped genesis old h new step))
       (record { conserving = conserving_start genesis past.allowed; total = λ x keeps k. refl }) happened world past
 
@@ -486,6 +486,12 @@ lemma_who_is_paid genesis happened world before h old new chain user denom momen
     let now = lemma_of_step user denom is (length genesis.chains) old h new old chain (Keeps-refl old) (λ x c there. (all.known.kinds.each x c there).sorted)
     (stepped genesis old h new moment.step) in
     let told = by_event user denom is old chain h in
+    omega arith
+
+-- so it falls by no more than the user sends
+pub lemma_who_pays : WhoPays
+lemma_who_pays genesis happened world before h old new chain user denom moment is =
+    let changed = lemma_who_is_paid genesis happened world before h old new chain user denom moment is in
     omega arith
 
 pub lemma_each_balance : EachBalance

@@ -17,8 +17,7 @@ use Rattle.ibc_laws.proofs.ends.ClosedIsSilent.{lemma_closed_is_silent}
 use Rattle.ibc_laws.proofs.ends.TakenOfPeer.{lemma_taken_of_peer}
 use Rattle.ibc_laws.proofs.ends.PeersAgree.{lemma_peers_agree}
 use Rattle.ibc_laws.proofs.tokens.Supplies.{lemma_supply_stays, lemma_no_voucher_without_escrow}
-use Rattle.ibc_laws.proofs.tokens.WhoPays.{lemma_who_pays}
-use Rattle.ibc_laws.proofs.tokens.WhoIsPaid.{lemma_who_is_paid, lemma_each_balance}
+use Rattle.ibc_laws.proofs.tokens.WhoIsPaid.{lemma_who_pays, lemma_who_is_paid, lemma_each_balance}
 use Rattle.ibc_laws.proofs.notes.StoredNotes.{lemma_notes_are_received, lemma_notes_stay, lemma_notes_were_sent}
 
 -- ---- the steps of a past
