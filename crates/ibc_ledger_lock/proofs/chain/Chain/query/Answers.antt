@@ -1,0 +1,6 @@
+use Rattle.std.proofs.Common.{◌∙◌, ap}
+use Rattle.ibc_ledger.specs.LedgerModel.{LedgerModel}
+use Rattle.ibc_ledger_lock.proofs.chain.Chain.query.Goals as goal
+
+pub returns-clause-chain : goal.returns-clause-chain
+returns-clause-chain g c = ap (λ (l : LedgerModel). l.ledger.chain) c.read-reading.ensures ∙ c.lock-desk.ensures
