@@ -1,2 +1,2 @@
 pub mod Crossing
-mod Raced
+pub mod Raced

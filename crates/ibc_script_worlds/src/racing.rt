@@ -1,6 +1,6 @@
 //! Races on the chains of a world that threads share.
 
-ghost use Rattle.std.specs.Prelude.{◌≡◌, ◌⊎◌, ◌≤◌, [], List, All, IfErr, IfOk, OnOk, length};
+ghost use Rattle.std.specs.Prelude.{◌≡◌, ◌⊎◌, ◌≤◌, [], List, All, IfErr, IfOk, OnOk, length, map};
 ghost use Rattle.std.specs.List.{flat_map};
 ghost use denote.Param.Send.{IsSync};
 ghost use Rattle.ibc_script.specs.Faults.{IsScriptFault, IsRunFault};
@@ -8,7 +8,7 @@ ghost use Rattle.ibc_script.specs.declared.script.Step.{Step as TakenStep};
 ghost use Rattle.ibc_script_cli.specs.Runs.{asking_acts};
 ghost use Rattle.ibc_machine.specs.chain.Genesis.{genesis_state};
 ghost use Rattle.ibc_race.specs.SharedWorlds.{HasItsBook};
-ghost use Rattle.ibc_script_worlds.specs.Racing.{AreTaken, IsRaceOf, Takes};
+ghost use Rattle.ibc_script_worlds.specs.Racing.{AreNumbered, AreOfChains, AreTaken, IsRaceOf, Takes};
 
 use crate::blocks::ChainStarts;
 use crate::sharing::Shared;
@@ -48,7 +48,8 @@ impl<R: Threads + Wait + Sync> Races for RaceRunner<'_, R> {
 }
 
 /// Runs a race on chains of its genesis that threads share, with so many relayers at each `relay`. What is told is what ledgers
-/// of that genesis hold that together did one lawful run of the machine. Faults: `BadScript` where no chains begin so; those that
+/// of that genesis hold that together did one lawful run of the machine. Each was asked what the script's own steps ask of its
+/// chain, in their order, and answered as they went by. Faults: `BadScript` where no chains begin so; those that
 /// stop a run.
 pub fn race_on_ledgers<R: Threads + Wait + Sync>(
     rt: &R,
@@ -79,6 +80,7 @@ fn race_on<R: Threads + Wait + Sync, W: WorldBrand + Send + Sync>(
 ) -> Result<RaceAudit, Fault>
     requires few { 1 ≤ relayers × relayers ≤ 8 }
     requires books { All (HasItsBook W.table W.genesis W.book) ledgers.items }
+    requires numbered { AreNumbered (map (λ p. p.0.ledger.chain) ledgers.items) }
     ensures raced { IfOk result (IsRaceOf W.genesis race.script.steps.items) }
     ensures faults { IfErr result (λ fault. IsRunFault fault ⊎ IsScriptFault fault) }
 {
@@ -103,7 +105,8 @@ fn shared_chains<'r, R: Wait, W: WorldBrand>(
     ledgers: Vec<(Ledger, UnusedBook)>,
     genesis: &Genesis,
 ) -> Result<Shared<'r, R, W>, Fault>
-    requires { All (HasItsBook W.table W.genesis W.book) ledgers.items }
+    requires books { All (HasItsBook W.table W.genesis W.book) ledgers.items }
+    requires numbered { AreNumbered (map (λ p. p.0.ledger.chain) ledgers.items) }
     ensures new { IfOk result (λ shared. shared ≡ []) }
     ensures faults { IfErr result IsScriptFault }
 {
@@ -146,6 +149,8 @@ fn take_all<R: Threads + Wait + Sync, W: WorldBrand + Send + Sync>(
     requires few { 1 ≤ relayers × relayers ≤ 8 }
     requires new { shared ≡ [] }
     ensures taken { IfOk result (λ done. AreTaken steps.items done.1.items) }
+    ensures numbered { IfOk result (λ done. AreNumbered done.0.items) }
+    ensures of { IfOk result (λ done. AreOfChains (length done.0.items) done.1.items) }
     ensures faults { IfErr result IsRunFault }
 {
     match take_each(relayers, runner, &mut shared, steps) {
@@ -208,6 +213,8 @@ fn audited<W: WorldBrand>(
     chains: Vec<Chain<W>>,
     receipts: Vec<Receipt<W>>,
 ) -> Result<RaceAudit, Fault>
+    requires numbered { AreNumbered chains.items }
+    requires of { AreOfChains (length chains.items) receipts.items }
     ensures raced { (steps : List TakenStep) → AreTaken steps receipts.items → IfOk result (IsRaceOf W.genesis steps) }
     ensures faults { IfErr result IsScriptFault }
 {

@@ -1,9 +1,10 @@
 //! Chains that threads share, as the steps of a script see them.
 
-ghost use Rattle.std.specs.Prelude.{◌≡◌, ◌≤◌, ◌++◌, ◌∷◌, [], IfOk, IsOkUnless, OnOk};
+ghost use Rattle.std.specs.Prelude.{◌≡◌, ◌<◌, ◌≤◌, ◌++◌, ◌∷◌, [], IfSome, IsOkUnless, OnErr, OnOk, IfOk, length, option_map};
 ghost use Rattle.ibc_ids.specs.declared.refusal.Refusal.TheVariants.{NoMemory};
-ghost use Rattle.ibc_ledger_lock.specs.ReceiptsAndReadings.{IsReceiptOf};
-ghost use Rattle.ibc_script_worlds.specs.Racing.{on_chain, raced_chains};
+ghost use Rattle.ibc_machine.specs.ledger.Ledgers.{chain_of};
+ghost use Rattle.ibc_ledger_lock.specs.ReceiptsAndReadings.{IsBehind, IsReceiptOf};
+ghost use Rattle.ibc_script_worlds.specs.Racing.{AreInOrder, AreNumbered, AreOfChains, IsLastOf, raced_chains};
 
 use crate::blocks::ChainStarts;
 use ibc_ids::{Bytes, ChannelId, Key, PortId, Refusal};
@@ -18,7 +19,8 @@ use std::marker::Model;
 use std::sync::Wait;
 use std::thread::Threads;
 
-/// Chains that threads share, as the steps of a script see them, with the receipts of what these asked, in its order.
+/// Chains that threads share, as the steps of a script see them, each at its number's place, with the receipts of what these
+/// asked, in its order.
 #[derive(Drop)]
 pub struct Shared<'r, R: Wait, W: WorldBrand> {
     rt: &'r R,
@@ -29,22 +31,26 @@ pub struct Shared<'r, R: Wait, W: WorldBrand> {
 }
 
 impl<'r, R: Wait, W: WorldBrand> Model for Shared<'r, R, W> {
-    ghost use Rattle.std.specs.Prelude.{List};
+    ghost use Rattle.std.specs.Prelude.{List, length};
     ghost use Rattle.ibc_ledger_lock.specs.ReceiptsAndReadings.{ReceiptModel};
+    ghost use Rattle.ibc_script_worlds.specs.Racing.{AreInOrder, AreNumbered, AreOfChains};
 
     ghost Value = { List ReceiptModel };
 
     ghost view = { λ s. s.receipts.items };
+
+    ghost invariant = { λ s. AreNumbered s.chains.items × AreInOrder s.receipts.items × AreOfChains (length s.chains.items) s.receipts.items };
 }
 
 impl<'r, R: Wait, W: WorldBrand> Shared<'r, R, W> {
-    /// Chains that were asked nothing yet, which begin so.
+    /// Chains, each at its number's place, that were asked nothing yet, which begin so.
     pub fn new(
         rt: &'r R,
         alloc: Global,
         starts: ChainStarts,
         chains: Vec<Chain<W>>,
     ) -> Shared<'r, R, W>
+        requires { AreNumbered chains.items }
         ensures { result ≡ [] }
     {
         Shared {
@@ -58,29 +64,15 @@ impl<'r, R: Wait, W: WorldBrand> Shared<'r, R, W> {
 
     /// The chains, and the receipts of what they were asked.
     pub fn into_parts(self) -> (Vec<Chain<W>>, Vec<Receipt<W>>)
-        ensures { result.1.items ≡ self.entry }
+        ensures receipts { result.1.items ≡ self.entry }
+        ensures numbered { AreNumbered result.0.items }
+        ensures of { AreOfChains (length result.0.items) result.1.items }
     {
         (self.chains, self.receipts)
     }
 }
 
 impl<R: Wait, W: WorldBrand> Shared<'_, R, W> {
-    // Keeps a receipt, and tells its reply.
-    fn keep(&mut self, receipt: Receipt<W>) -> Result<Reply, Refusal>
-        ensures kept { OnOk result (self.new ≡ self.old ++ receipt ∷ []) }
-        ensures told { IfOk result (λ reply. reply ≡ receipt.reply) }
-        ensures err { IsOkUnless result NoMemory }
-    {
-        let reply: Result<Reply, AllocError> = receipt.reply().clone();
-        match self.receipts.push(receipt) {
-            Ok(()) => Ok(reply?),
-            Err(error) => {
-                drop(reply);
-                Err(Refusal::from(error))
-            }
-        }
-    }
-
     // The chain of a number, or none.
     fn chain(&self, chain: u8) -> Option<&Chain<W>> {
         self.chains.get(usize::from(chain))
@@ -115,13 +107,81 @@ impl<R: Threads + Wait + Sync, W: WorldBrand + Send + Sync> Shared<'_, R, W> {
     }
 }
 
-// Asks a chain for an event.
-fn asked<R: Wait, W: WorldBrand>(rt: &R, chain: &Chain<W>, event: Event) -> Receipt<W>
-    ensures { IsReceiptOf (on_chain result.chain event) result }
+// The number of the chain that the event is for.
+fn number_of(event: &Event) -> u8
+    ensures { result ≡ chain_of event.now }
 {
     match event {
-        Event::Message { message, .. } => chain.submit(rt, message),
-        Event::Block { next_time, .. } => chain.produce(rt, next_time),
+        Event::Message { chain, .. } | Event::Block { chain, .. } => *chain,
+    }
+}
+
+// The chain of a number, which stands at its place, or none.
+fn chain_at<W: WorldBrand>(chains: &[Chain<W>], number: u8) -> Option<&Chain<W>>
+    requires { AreNumbered chains.now }
+    ensures { IfSome result (λ chain. (chain.now ≡ number) × (number < length chains.now)) }
+{
+    chains.get(usize::from(number))
+}
+
+// The last of these receipts that is of the chain, none where none is.
+fn last_of<W: WorldBrand>(receipts: &[Receipt<W>], chain: u8) -> Option<&Receipt<W>>
+    requires { AreInOrder receipts.now }
+    ensures { IsLastOf chain receipts.now (option_map (λ last. last.now) result) }
+{
+    for behind in 0..receipts.len() {
+        let receipt = &receipts[receipts.len() - 1 - behind];
+        if receipt.chain() == chain {
+            return Some(receipt);
+        }
+    }
+    None
+}
+
+// Asks the event's chain for it, which was asked before as the earlier receipt tells.
+fn asked<R: Wait, W: WorldBrand>(
+    rt: &R,
+    chain: &Chain<W>,
+    earlier: Option<&Receipt<W>>,
+    event: Event,
+) -> Receipt<W>
+    requires { chain.now ≡ chain_of event }
+    ensures told { IsReceiptOf event result }
+    ensures behind { IfSome earlier (λ before. IsBehind result before.now) }
+{
+    match (event, earlier) {
+        (Event::Message { message, .. }, None) => chain.submit(rt, message),
+        (Event::Message { message, .. }, Some(earlier)) => chain.submit_after(rt, earlier, message),
+        (Event::Block { next_time, .. }, None) => chain.produce(rt, next_time),
+        (Event::Block { next_time, .. }, Some(earlier)) => {
+            chain.produce_after(rt, earlier, next_time)
+        }
+    }
+}
+
+// Keeps a receipt, and tells its reply.
+fn keep<W: WorldBrand>(
+    receipts: &mut Vec<Receipt<W>>,
+    receipt: Receipt<W>,
+) -> Result<Reply, Refusal>
+    ensures kept { OnOk result (receipts.new.items ≡ receipts.old.items ++ receipt ∷ []) }
+    ensures left { OnErr result (receipts.new.items ≡ receipts.old.items) }
+    ensures told { IfOk result (λ reply. reply ≡ receipt.reply) }
+    ensures err { IsOkUnless result NoMemory }
+{
+    let reply: Result<Reply, AllocError> = receipt.reply().clone();
+    match reply {
+        Ok(reply) => match receipts.push(receipt) {
+            Ok(()) => Ok(reply),
+            Err(error) => {
+                drop(reply);
+                Err(Refusal::from(error))
+            }
+        },
+        Err(error) => {
+            drop(receipt);
+            Err(Refusal::from(error))
+        }
     }
 }
 
@@ -129,15 +189,14 @@ impl<R: Wait, W: WorldBrand> Chains for Shared<'_, R, W> {
     ghost known = { raced_chains };
 
     fn ask(&mut self, event: Event) -> Result<Reply, Refusal> {
-        let number = match &event {
-            Event::Message { chain, .. } | Event::Block { chain, .. } => *chain,
-        };
-        let Some(chain) = self.chain(number) else {
+        let number = number_of(&event);
+        let Some(chain) = chain_at(self.chains.as_slice(), number) else {
             drop(event);
             return Err(Refusal::UnknownChain);
         };
-        let receipt = asked(self.rt, chain, event);
-        self.keep(receipt)
+        let earlier = last_of(self.receipts.as_slice(), number);
+        let receipt = asked(self.rt, chain, earlier, event);
+        keep(&mut self.receipts, receipt)
     }
 
     fn value(&self, chain: u8, key: &Key) -> Result<Option<Bytes>, Refusal> {

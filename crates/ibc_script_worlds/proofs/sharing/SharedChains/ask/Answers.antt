@@ -1,5 +1,32 @@
-use Rattle.ibc_script_worlds.proofs.Raced.{kept}
+use Rattle.std.proofs.Common.{◌≡◌, ◌∙◌, ◌<◌, IfOk, List, ℕ, length, subst, sym}
+use Rattle.std.specs.List.{All}
+use Rattle.ibc_ledger_lock.specs.ReceiptsAndReadings.{IsBehind, ReceiptModel}
+use Rattle.ibc_script_worlds.specs.Racing.{IsAsked}
+use Rattle.ibc_script_worlds.proofs.Raced.{behind_all, kept, mapped_some, stay_so}
 use Rattle.ibc_script_worlds.proofs.sharing.SharedChains.ask.Goals as goal
 
+pub asked-receipt-requires : goal.asked-receipt-requires
+asked-receipt-requires g c = c.in-Some.ensures.0 ∙ c.number_of-number.ensures
+
+pub invariant_of-self : goal.invariant_of-self
+invariant_of-self g c =
+    let told = c.asked-receipt.result in
+    let number = c.number_of-number.result in
+    let old = c.self.inside.receipts.items in
+    let n = length c.self.inside.chains.items in
+    let of : told.chain ≡ number = c.asked-receipt.ensures.told.0 ∙ sym c.number_of-number.ensures in
+    let behind : All (IsBehind told) old =
+    behind_all old _ told number of c.last_of-earlier.ensures (mapped_some (λ b. b.now) (IsBehind told) c.last_of-earlier.result c.asked-receipt.ensures.behind) in
+    let low : told.chain < n = subst (λ (k : ℕ). k < n) (sym of) c.in-Some.ensures.1 in
+    (c.self.invariant.0, stay_so n c.keep.result told old c.keep.new.receipts.items c.self.invariant.1 c.self.invariant.2 low behind c.keep.ensures.kept c.keep.ensures.left)
+
 pub returns : goal.returns
-returns g c = kept c.keep.result c.asked-receipt.result c.args.event c.args.self.now c.keep.new.self c.asked-receipt.ensures c.keep.ensures.kept c.keep.ensures.told
+returns g c =
+    let told = c.asked-receipt.result in
+    let number = c.number_of-number.result in
+    let old = c.self.inside.receipts.items in
+    let of : told.chain ≡ number = c.asked-receipt.ensures.told.0 ∙ sym c.number_of-number.ensures in
+    let behind : All (IsBehind told) old =
+    behind_all old _ told number of c.last_of-earlier.ensures (mapped_some (λ b. b.now) (IsBehind told) c.last_of-earlier.result c.asked-receipt.ensures.behind) in
+    subst (λ (l : List ReceiptModel). IfOk c.keep.result (λ reply. IsAsked l c.args.event reply c.keep.new.receipts.items)) c.self.view_is
+    (kept c.keep.result told c.args.event old c.keep.new.receipts.items c.asked-receipt.ensures.told behind c.keep.ensures.kept c.keep.ensures.told)
