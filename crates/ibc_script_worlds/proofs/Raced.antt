@@ -7,10 +7,12 @@ use Rattle.std.proofs.lemmas.List.{length-map}
 use Rattle.std.proofs.lemmas.List.Elements.{All-push, All-weaker}
 use Rattle.std.proofs.lemmas.Option.{slice_get-map, slice_get_read, slice_get_within}
 use Rattle.ibc_ids.specs.Texts.{Text}
+use Rattle.ibc_ids.specs.declared.refusal.Refusal.TheVariants.{NoMemory}
 use Rattle.ibc_script_cli.specs.Runs.{Act, Reached, Runs, asking_acts}
 use Rattle.ibc_machine.specs.chain.Genesis.{GenesisState}
 use Rattle.ibc_machine.specs.declared.event.Event.{Event}
 use Rattle.ibc_machine.specs.declared.reply.Reply.{Reply}
+use Rattle.ibc_machine.specs.declared.reply.Reply.TheVariants as reply
 use Rattle.ibc_machine.specs.ledger.Ledgers.{Ledger}
 use Rattle.ibc_root_table.specs.Passes.{TableName}
 use Rattle.ibc_root_table.proofs.Beginnings.{get_snoc, some_at}
@@ -179,7 +181,7 @@ in_order old told order behind i j a b less at_i at_j =
 -- a receipt is kept, or none is
 pub stay_so : {E : Type 0} (n : ℕ) (result : Result Reply E) (told : ReceiptModel) (old new : List ReceiptModel) → AreInOrder old → AreOfChains n old → told.chain < n → All (IsBehind told) old
     → OnOk result (new ≡ old ++ told ∷ []) → OnErr result (new ≡ old) → AreInOrder new × AreOfChains n new
-stay_so n (Ok reply) told old new order of low behind pushed left =
+stay_so n (Ok given) told old new order of low behind pushed left =
     let Low : ReceiptModel → Type 0 = λ t. t.chain < n in
     let both : AreInOrder (old ++ told ∷ []) × AreOfChains n (old ++ told ∷ []) =
     (in_order old told order behind, All-push Low old told of low) in
@@ -188,6 +190,7 @@ stay_so n (Err refusal) told old new order of low behind pushed left = subst (λ
 
 -- a receipt is kept
 pub kept : {E : Type 0} (result : Result Reply E) (told : ReceiptModel) (event : Event) (old new : List ReceiptModel) → IsReceiptOf event told → All (IsBehind told) old
-    → OnOk result (new ≡ old ++ told ∷ []) → IfOk result (λ reply. reply ≡ told.reply) → IfOk result (λ reply. IsAsked old event reply new)
-kept (Ok reply) told event old new is behind pushed same = (told, is, sym same, behind, pushed)
-kept (Err refusal) told event old new is behind pushed same = tt
+    → OnOk result (new ≡ old ++ told ∷ []) → IfOk result (λ given. given ≡ told.reply) → IfOk result (λ given. given ≡ reply.No NoMemory → ⊥)
+    → IfOk result (λ given. IsAsked old event given new)
+kept (Ok given) told event old new is behind pushed same answered = (told, is, sym same, answered, behind, pushed)
+kept (Err refusal) told event old new is behind pushed same answered = tt

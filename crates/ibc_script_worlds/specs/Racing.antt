@@ -3,9 +3,11 @@ use Rattle.std.specs.Prelude.{◌≡◌, ◌<◌, ◌≤◌, ℕ, List, [], ◌�
 use Rattle.std.specs.List.{All, flat_map}
 use Rattle.std.specs.Option.{IsSomeAnd}
 use Rattle.ibc_ids.specs.Texts.{Text}
+use Rattle.ibc_ids.specs.declared.refusal.Refusal.TheVariants.{NoMemory}
 use Rattle.ibc_machine.specs.chain.Genesis.{GenesisState}
 use Rattle.ibc_machine.specs.declared.event.Event.{Event}
 use Rattle.ibc_machine.specs.declared.reply.Reply.{Reply}
+use Rattle.ibc_machine.specs.declared.reply.Reply.TheVariants as reply
 use Rattle.ibc_ledger.specs.LedgerModel.{LedgerModel}
 use Rattle.ibc_ledger_lock.specs.ReceiptsAndReadings.{HasAnswered, IsBehind, IsReceiptOf, ReceiptModel}
 use Rattle.ibc_theorem.specs.EveryAudit.{AreLawful}
@@ -14,11 +16,12 @@ use Rattle.ibc_script_cli.specs.Runs.{Act, Reached, asking_acts}
 use Rattle.ibc_script_cli.specs.ScriptChains.{ScriptChains, any_answers}
 use Rattle.ibc_script_cli.specs.declared.racing.RaceAudit.{RaceAudit}
 
--- The main thread asked for an event: its next receipt is of this event on its chain, has this reply, and stands behind all its
--- earlier ones of that chain.
+-- The main thread asked for an event, and memory didn't run out: its next receipt is of this event on its chain, has this
+-- reply, and stands behind all its earlier ones of that chain.
 abbrev pub IsAsked : List ReceiptModel → Event → Reply → List ReceiptModel → Type 0
 IsAsked old event given new =
-    (told : ReceiptModel) × IsReceiptOf event told × (told.reply ≡ given) × All (IsBehind told) old × (new ≡ old ++ told ∷ [])
+    (told : ReceiptModel) × IsReceiptOf event told × (told.reply ≡ given) × (given ≡ reply.No NoMemory → ⊥)
+    × All (IsBehind told) old × (new ≡ old ++ told ∷ [])
 
 -- chains that threads share, by the receipts of what the main thread asked
 abbrev pub raced_chains : ScriptChains (List ReceiptModel)
@@ -28,7 +31,7 @@ raced_chains = record { asked = IsAsked; answers = λ _. any_answers }
 abbrev pub Takes : List Text → List Act → List ReceiptModel → List ReceiptModel → Type 0
 Takes names acts old new = Reached raced_chains names acts old None [] new None
 
--- It took all steps of a script that ask: each reply that it went by is a receipt's.
+-- It took all steps of a script that ask: the receipts are what it asked for and was answered, in order.
 abbrev pub AreTaken : List Step → List ReceiptModel → Type 0
 AreTaken steps receipts = (names : List Text) × Takes names (flat_map asking_acts steps) [] receipts
 
@@ -37,8 +40,8 @@ abbrev pub HasLedger : List LedgerModel → ReceiptModel → Type 0
 HasLedger ledgers told = IsSomeAnd (slice_get ledgers told.chain) (λ held. held.ledger.chain ≡ told.chain)
 
 -- There are ledgers of the genesis that together did a lawful run of the machine, and hold what is told. The steps of the
--- script were taken. Of each ledger there are calls that are all that it was asked, by the script's own steps and by others, so
--- that its history is what they left. Among them stands the call of each receipt of the steps.
+-- script were taken, and each chain that they asked has its ledger. Of each ledger there are calls that are all that it was
+-- asked, by the script's own steps and by others, so that its history is what they left. Among them stand the calls of the steps.
 abbrev pub IsRaceOf : GenesisState → List Step → RaceAudit → Type 0
 IsRaceOf genesis steps audited =
     (ledgers : List LedgerModel) × (receipts : List ReceiptModel)

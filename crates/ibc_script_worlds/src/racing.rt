@@ -48,9 +48,9 @@ impl<R: Threads + Wait + Sync> Races for RaceRunner<'_, R> {
 }
 
 /// Runs a race on chains of its genesis that threads share, with so many relayers at each `relay`. What is told is what ledgers
-/// of that genesis hold that together did one lawful run of the machine. Each was asked what the script's own steps ask of its
-/// chain, in their order, and answered as they went by. Faults: `BadScript` where no chains begin so; those that
-/// stop a run.
+/// of that genesis hold that together did one lawful run of the machine. What the script's own steps asked of a chain stands in
+/// its ledger's history, in their order, with the replies that they went by. Faults: `BadScript` where no chains begin so; those
+/// that stop a run, and `NoMemory` also where that is the reply to a step.
 pub fn race_on_ledgers<R: Threads + Wait + Sync>(
     rt: &R,
     alloc: Global,

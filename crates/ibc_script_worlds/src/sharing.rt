@@ -1,7 +1,8 @@
 //! Chains that threads share, as the steps of a script see them.
 
-ghost use Rattle.std.specs.Prelude.{◌≡◌, ◌<◌, ◌≤◌, ◌++◌, ◌∷◌, [], IfSome, IsOkUnless, OnErr, OnOk, IfOk, length, option_map};
+ghost use Rattle.std.specs.Prelude.{◌≡◌, ◌<◌, ◌≤◌, ◌++◌, ◌∷◌, [], IfSome, IsOkUnless, OnErr, OnOk, IfOk, length, option_map, true};
 ghost use Rattle.ibc_ids.specs.declared.refusal.Refusal.TheVariants.{NoMemory};
+ghost use Rattle.ibc_machine.specs.declared.reply.Reply.TheVariants as answer;
 ghost use Rattle.ibc_machine.specs.ledger.Ledgers.{chain_of};
 ghost use Rattle.ibc_ledger_lock.specs.ReceiptsAndReadings.{IsBehind, IsReceiptOf};
 ghost use Rattle.ibc_script_worlds.specs.Racing.{AreInOrder, AreNumbered, AreOfChains, IsLastOf, raced_chains};
@@ -159,7 +160,14 @@ fn asked<R: Wait, W: WorldBrand>(
     }
 }
 
-// Keeps a receipt, and tells its reply.
+// Whether a reply tells that memory ran out.
+fn is_no_memory(reply: &Reply) -> bool
+    ensures { reply.now ≡ answer.No NoMemory → result ≡ true }
+{
+    matches!(reply, Reply::No(Refusal::NoMemory))
+}
+
+// Keeps a receipt, and tells its reply. Refused: `NoMemory`, also where that is the reply; the receipt isn't kept then.
 fn keep<W: WorldBrand>(
     receipts: &mut Vec<Receipt<W>>,
     receipt: Receipt<W>,
@@ -167,8 +175,13 @@ fn keep<W: WorldBrand>(
     ensures kept { OnOk result (receipts.new.items ≡ receipts.old.items ++ receipt ∷ []) }
     ensures left { OnErr result (receipts.new.items ≡ receipts.old.items) }
     ensures told { IfOk result (λ reply. reply ≡ receipt.reply) }
+    ensures answered { IfOk result (λ reply. reply ≡ answer.No NoMemory → ⊥) }
     ensures err { IsOkUnless result NoMemory }
 {
+    if is_no_memory(receipt.reply()) {
+        drop(receipt);
+        return Err(Refusal::NoMemory);
+    }
     let reply: Result<Reply, AllocError> = receipt.reply().clone();
     match reply {
         Ok(reply) => match receipts.push(receipt) {

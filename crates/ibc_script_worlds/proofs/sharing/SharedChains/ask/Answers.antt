@@ -29,4 +29,5 @@ returns g c =
     let behind : All (IsBehind told) old =
     behind_all old _ told number of c.last_of-earlier.ensures (mapped_some (λ b. b.now) (IsBehind told) c.last_of-earlier.result c.asked-receipt.ensures.behind) in
     subst (λ (l : List ReceiptModel). IfOk c.keep.result (λ reply. IsAsked l c.args.event reply c.keep.new.receipts.items)) c.self.view_is
-    (kept c.keep.result told c.args.event old c.keep.new.receipts.items c.asked-receipt.ensures.told behind c.keep.ensures.kept c.keep.ensures.told)
+    (kept c.keep.result told c.args.event old c.keep.new.receipts.items c.asked-receipt.ensures.told behind c.keep.ensures.kept c.keep.ensures.told
+    c.keep.ensures.answered)
