@@ -8,7 +8,8 @@ ghost use Rattle.ibc_script.specs.declared.script.Step.{Step as TakenStep};
 ghost use Rattle.ibc_script_cli.specs.Runs.{asking_acts};
 ghost use Rattle.ibc_machine.specs.chain.Genesis.{genesis_state};
 ghost use Rattle.ibc_race.specs.SharedWorlds.{HasItsBook};
-ghost use Rattle.ibc_script_worlds.specs.Racing.{AreNumbered, AreOfChains, AreTaken, IsRaceOf, Takes};
+ghost use Rattle.ibc_script_worlds.specs.KeptReceipts.{AreKept, AreNumbered, told_by};
+ghost use Rattle.ibc_script_worlds.specs.Racing.{AreTaken, IsRaceOf, Takes};
 
 use crate::blocks::ChainStarts;
 use crate::sharing::Shared;
@@ -148,9 +149,9 @@ fn take_all<R: Threads + Wait + Sync, W: WorldBrand + Send + Sync>(
 ) -> Result<(Vec<Chain<W>>, Vec<Receipt<W>>), Fault>
     requires few { 1 ≤ relayers × relayers ≤ 8 }
     requires new { shared ≡ [] }
-    ensures taken { IfOk result (λ done. AreTaken steps.items done.1.items) }
+    ensures taken { IfOk result (λ done. AreTaken steps.items (map told_by done.1.items)) }
     ensures numbered { IfOk result (λ done. AreNumbered done.0.items) }
-    ensures of { IfOk result (λ done. AreOfChains (length done.0.items) done.1.items) }
+    ensures kept { IfOk result (λ done. AreKept (length done.0.items) done.1.items) }
     ensures faults { IfErr result IsRunFault }
 {
     match take_each(relayers, runner, &mut shared, steps) {
@@ -214,8 +215,8 @@ fn audited<W: WorldBrand>(
     receipts: Vec<Receipt<W>>,
 ) -> Result<RaceAudit, Fault>
     requires numbered { AreNumbered chains.items }
-    requires of { AreOfChains (length chains.items) receipts.items }
-    ensures raced { (steps : List TakenStep) → AreTaken steps receipts.items → IfOk result (IsRaceOf W.genesis steps) }
+    requires kept { AreKept (length chains.items) receipts.items }
+    ensures raced { (steps : List TakenStep) → AreTaken steps (map told_by receipts.items) → IfOk result (IsRaceOf W.genesis steps) }
     ensures faults { IfErr result IsScriptFault }
 {
     let readings = Vec::new(alloc);

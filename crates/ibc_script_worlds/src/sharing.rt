@@ -1,11 +1,12 @@
 //! Chains that threads share, as the steps of a script see them.
 
-ghost use Rattle.std.specs.Prelude.{◌≡◌, ◌<◌, ◌≤◌, ◌++◌, ◌∷◌, [], IfSome, IsOkUnless, OnErr, OnOk, IfOk, length, option_map, true};
+ghost use Rattle.std.specs.Prelude.{◌≡◌, ◌<◌, ◌≤◌, ◌++◌, ◌∷◌, [], IfSome, IsOkUnless, OnErr, OnOk, IfOk, length, map, option_map, true};
 ghost use Rattle.ibc_ids.specs.declared.refusal.Refusal.TheVariants.{NoMemory};
 ghost use Rattle.ibc_machine.specs.declared.reply.Reply.TheVariants as answer;
 ghost use Rattle.ibc_machine.specs.ledger.Ledgers.{chain_of};
 ghost use Rattle.ibc_ledger_lock.specs.ReceiptsAndReadings.{IsBehind, IsReceiptOf};
-ghost use Rattle.ibc_script_worlds.specs.Racing.{AreInOrder, AreNumbered, AreOfChains, IsLastOf, raced_chains};
+ghost use Rattle.ibc_script_worlds.specs.KeptReceipts.{AreInOrder, AreKept, AreNumbered, IsLastOf, told_by};
+ghost use Rattle.ibc_script_worlds.specs.Racing.{raced_chains};
 
 use crate::blocks::ChainStarts;
 use ibc_ids::{Bytes, ChannelId, Key, PortId, Refusal};
@@ -21,7 +22,7 @@ use std::sync::Wait;
 use std::thread::Threads;
 
 /// Chains that threads share, as the steps of a script see them, each at its number's place, with the receipts of what these
-/// asked, in its order.
+/// asked. Contracts see what they asked and were answered, in order.
 #[derive(Drop)]
 pub struct Shared<'r, R: Wait, W: WorldBrand> {
     rt: &'r R,
@@ -32,15 +33,15 @@ pub struct Shared<'r, R: Wait, W: WorldBrand> {
 }
 
 impl<'r, R: Wait, W: WorldBrand> Model for Shared<'r, R, W> {
-    ghost use Rattle.std.specs.Prelude.{List, length};
-    ghost use Rattle.ibc_ledger_lock.specs.ReceiptsAndReadings.{ReceiptModel};
-    ghost use Rattle.ibc_script_worlds.specs.Racing.{AreInOrder, AreNumbered, AreOfChains};
+    ghost use Rattle.std.specs.Prelude.{List, length, map};
+    ghost use Rattle.ibc_machine.specs.promises.Histories.{Happened};
+    ghost use Rattle.ibc_script_worlds.specs.KeptReceipts.{AreKept, AreNumbered, told_by};
 
-    ghost Value = { List ReceiptModel };
+    ghost Value = { List Happened };
 
-    ghost view = { λ s. s.receipts.items };
+    ghost view = { λ s. map told_by s.receipts.items };
 
-    ghost invariant = { λ s. AreNumbered s.chains.items × AreInOrder s.receipts.items × AreOfChains (length s.chains.items) s.receipts.items };
+    ghost invariant = { λ s. AreNumbered s.chains.items × AreKept (length s.chains.items) s.receipts.items };
 }
 
 impl<'r, R: Wait, W: WorldBrand> Shared<'r, R, W> {
@@ -65,9 +66,9 @@ impl<'r, R: Wait, W: WorldBrand> Shared<'r, R, W> {
 
     /// The chains, and the receipts of what they were asked.
     pub fn into_parts(self) -> (Vec<Chain<W>>, Vec<Receipt<W>>)
-        ensures receipts { result.1.items ≡ self.entry }
+        ensures asked { map told_by result.1.items ≡ self.entry }
         ensures numbered { AreNumbered result.0.items }
-        ensures of { AreOfChains (length result.0.items) result.1.items }
+        ensures kept { AreKept (length result.0.items) result.1.items }
     {
         (self.chains, self.receipts)
     }

@@ -1,5 +1,5 @@
 use Rattle.std.proofs.Common.{◌≡◌, ◌<◌, Bor, IfSome, ℕ, length, subst}
-use Rattle.ibc_script_worlds.proofs.Raced.{found_at}
+use Rattle.ibc_script_worlds.proofs.Receipts.{found_at}
 use Rattle.ibc_script_worlds.proofs.sharing.chain_at.Goals as goal
 
 pub returns : goal.returns

@@ -1,4 +1,4 @@
-use Rattle.ibc_script_worlds.proofs.Raced.{AreOthers}
+use Rattle.ibc_script_worlds.proofs.Receipts.{AreOthers}
 use Rattle.ibc_script_worlds.proofs.sharing.last_of.Given as goal
 
 abbrev pub invariant-loop-behind : goal.invariant-loop-behind

@@ -1,8 +1,10 @@
-use Rattle.std.proofs.Common.{◌≡◌, ◌∙◌, ◌<◌, IfOk, List, ℕ, length, subst, sym}
+use Rattle.std.proofs.Common.{◌≡◌, ◌∙◌, ◌<◌, IfOk, List, ℕ, length, map, subst, sym}
 use Rattle.std.specs.List.{All}
-use Rattle.ibc_ledger_lock.specs.ReceiptsAndReadings.{IsBehind, ReceiptModel}
+use Rattle.ibc_machine.specs.promises.Histories.{Happened}
+use Rattle.ibc_ledger_lock.specs.ReceiptsAndReadings.{IsBehind}
+use Rattle.ibc_script_worlds.specs.KeptReceipts.{told_by}
 use Rattle.ibc_script_worlds.specs.Racing.{IsAsked}
-use Rattle.ibc_script_worlds.proofs.Raced.{behind_all, kept, mapped_some, stay_so}
+use Rattle.ibc_script_worlds.proofs.Receipts.{behind_all, kept, mapped_some, stay_so}
 use Rattle.ibc_script_worlds.proofs.sharing.SharedChains.ask.Goals as goal
 
 pub asked-receipt-requires : goal.asked-receipt-requires
@@ -17,17 +19,14 @@ invariant_of-self g c =
     let of : told.chain ≡ number = c.asked-receipt.ensures.told.0 ∙ sym c.number_of-number.ensures in
     let behind : All (IsBehind told) old =
     behind_all old _ told number of c.last_of-earlier.ensures (mapped_some (λ b. b.now) (IsBehind told) c.last_of-earlier.result c.asked-receipt.ensures.behind) in
-    let low : told.chain < n = subst (λ (k : ℕ). k < n) (sym of) c.in-Some.ensures.1 in
-    (c.self.invariant.0, stay_so n c.keep.result told old c.keep.new.receipts.items c.self.invariant.1 c.self.invariant.2 low behind c.keep.ensures.kept c.keep.ensures.left)
+    let low : told.chain < n = subst (λ (k : ℕ). k < n) (sym of) c.in-Some.ensures.1 in (
+      c.self.invariant.0,
+      stay_so n c.keep.result told c.args.event old c.keep.new.receipts.items c.self.invariant.1 c.asked-receipt.ensures.told low behind c.keep.ensures.kept
+          c.keep.ensures.left c.keep.ensures.told c.keep.ensures.answered,
+    )
 
 pub returns : goal.returns
 returns g c =
-    let told = c.asked-receipt.result in
-    let number = c.number_of-number.result in
-    let old = c.self.inside.receipts.items in
-    let of : told.chain ≡ number = c.asked-receipt.ensures.told.0 ∙ sym c.number_of-number.ensures in
-    let behind : All (IsBehind told) old =
-    behind_all old _ told number of c.last_of-earlier.ensures (mapped_some (λ b. b.now) (IsBehind told) c.last_of-earlier.result c.asked-receipt.ensures.behind) in
-    subst (λ (l : List ReceiptModel). IfOk c.keep.result (λ reply. IsAsked l c.args.event reply c.keep.new.receipts.items)) c.self.view_is
-    (kept c.keep.result told c.args.event old c.keep.new.receipts.items c.asked-receipt.ensures.told behind c.keep.ensures.kept c.keep.ensures.told
-    c.keep.ensures.answered)
+    subst (λ (l : List Happened). IfOk c.keep.result (λ given. IsAsked l c.args.event given (map told_by c.keep.new.receipts.items))) c.self.view_is
+    (kept c.keep.result c.asked-receipt.result c.args.event c.self.inside.receipts.items c.keep.new.receipts.items c.asked-receipt.ensures.told
+    c.keep.ensures.kept c.keep.ensures.told c.keep.ensures.answered)
