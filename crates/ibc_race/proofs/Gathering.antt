@@ -1,6 +1,6 @@
 -- Ledgers that are put into chains, and taken out of them with what receipts claim.
-use Rattle.std.proofs.Common.{◌≡◌, ◌∙◌, ℕ, List, [], ◌∷◌, ◌++◌, append_assoc, map, Result, Ok, Err, IfOk, ap, sym, subst}
-use Rattle.std.specs.List.{All}
+use Rattle.std.proofs.Common.{◌≡◌, ◌∙◌, ◌==◌, true, false, cond, ℕ, suc, List, [], ◌∷◌, ◌++◌, append_assoc, filter, inl, inr, length, map, Result, Ok, Err, IfOk, ap, arith, sym, subst, refl}
+use Rattle.std.specs.List.{All, list_all, range_with_len}
 use Rattle.std.proofs.lemmas.List.{append-nil, map-append}
 use Rattle.std.proofs.lemmas.List.Elements.{All-append, All-cons, All-nil}
 use Rattle.ibc_ids.specs.declared.refusal.Refusal.{Refusal}
@@ -8,11 +8,13 @@ use Rattle.ibc_machine.specs.chain.Genesis.{GenesisState}
 use Rattle.ibc_root_table.specs.Passes.{TableName}
 use Rattle.ibc_ledger.specs.LedgerModel.{LedgerModel}
 use Rattle.ibc_ledger_lock.specs.ReceiptsAndReadings.{HasAnswered, IsEarlierOnItsChain, IsOfWorld, ReceiptModel}
-use Rattle.ibc_world_core.specs.WorldAudits.{AreOfOneWorld, IsAudit}
+use Rattle.ibc_machine.specs.promises.Worlds.{is_complete, of_chain}
+use Rattle.ibc_world_core.specs.WorldAudits.{AreOfOneWorld, IsAudit, is_whole}
+use Rattle.ibc_world_core.specs.WorldModel.{ledgers_alone}
 use Rattle.ibc_world_core.specs.declared.holdings.Audit.{Audit}
 use Rattle.ibc_theorem.specs.EveryAudit.{AreLawful}
 use Rattle.ibc_race.proofs.Booked.{Booked, at_place}
-use Rattle.ibc_race.specs.SharedWorlds.{AreGathered, IsAuditOf, numbers_of}
+use Rattle.ibc_race.specs.SharedWorlds.{AreBroken, AreGathered, IsAuditOf, has_each, numbers_of}
 
 -- one chain more is made
 pub one_more_made : (f : Booked → ℕ) (made after : List ℕ) (left rest all : List Booked) (x : Booked) (n : ℕ) → after ≡ made ++ n ∷ [] → n ≡ f x
@@ -58,3 +60,26 @@ pub audited : (table : TableName) (genesis : GenesisState) (numbers : List ℕ) 
     → IfOk answer (IsAuditOf table genesis numbers receipts readings)
 audited table genesis numbers receipts readings ledgers (Ok audit) are_numbers are is lawful = (ledgers, are_numbers, are, is, lawful)
 audited table genesis numbers receipts readings ledgers (Err refusal) are_numbers are is lawful = tt
+
+-- ---- why an audit is refused
+
+-- as many ledgers of a chain as its number is there
+counted : (k : ℕ) (ledgers : List LedgerModel) → length (of_chain k (ledgers_alone ledgers)) ≡ length (filter (λ (n : ℕ). n == k) (numbers_of ledgers))
+counted k [] = refl
+counted k (held ∷ ledgers) =
+    let alone = of_chain k (ledgers_alone ledgers) in
+    let numbers = filter (λ (n : ℕ). n == k) (numbers_of ledgers) in
+    elim (held.ledger.chain == k) as (λ b. length (cond b (held.ledger ∷ alone) alone) ≡ length (cond b (held.ledger.chain ∷ numbers) numbers)) [
+      | true ↦ ap suc (counted k ledgers)
+      | false ↦ counted k ledgers
+    ]
+
+complete_same : (genesis : GenesisState) (ledgers : List LedgerModel) → is_complete genesis (ledgers_alone ledgers) ≡ has_each genesis (numbers_of ledgers)
+complete_same genesis ledgers i = list_all (λ k. counted k ledgers i == 1) (range_with_len 0 (length genesis.chains))
+
+pub broken : (table : TableName) (genesis : GenesisState) (numbers : List ℕ) (receipts : List ReceiptModel) (readings ledgers : List LedgerModel) → numbers_of ledgers ≡ numbers
+    → AreGathered table genesis receipts readings ledgers → is_whole ledgers ≡ false → AreBroken genesis numbers
+broken table genesis numbers receipts readings [] same are not_whole = inl (sym same)
+broken table genesis numbers receipts readings (first ∷ others) same are not_whole =
+    let of : first.ledger.genesis ≡ genesis = (are.0 0 first (omega arith)).1 in
+    inr (ap (has_each genesis) (sym same) ∙ sym (complete_same genesis (first ∷ others)) ∙ ap (λ (g : GenesisState). is_complete g (ledgers_alone (first ∷ others))) (sym of) ∙ not_whole)

@@ -1,7 +1,7 @@
 -- Ledgers that threads shared, with the receipts of what they were asked and the readings of what they had.
-use Rattle.std.specs.Prelude.{◌≡◌, ℕ, List, [], ◌∷◌, map, slice_get}
+use Rattle.std.specs.Prelude.{◌≡◌, ◌⊎◌, ◌==◌, ℕ, Bool, false, List, [], ◌∷◌, length, map, slice_get}
 use Rattle.std.specs.Option.{option_map_or}
-use Rattle.std.specs.List.{All}
+use Rattle.std.specs.List.{All, filter, list_all, range_with_len}
 use Rattle.logbook.specs.Pages.{Book}
 use Rattle.ibc_machine.specs.chain.Genesis.{GenesisState}
 use Rattle.ibc_root_table.specs.Passes.{TableName}
@@ -28,6 +28,14 @@ book_of ledgers n = option_map_or (λ p. p.1) (slice_get ledgers n) no_book
 -- the numbers of the chains of these ledgers
 abbrev pub numbers_of : List LedgerModel → List ℕ
 numbers_of ledgers = map (λ held. held.ledger.chain) ledgers
+
+-- each chain of the genesis is among the numbers once
+abbrev pub has_each : GenesisState → List ℕ → Bool
+has_each genesis numbers = list_all (λ k. length (filter (λ (n : ℕ). n == k) numbers) == 1) (range_with_len 0 (length genesis.chains))
+
+-- there is no number, or a chain of the genesis is missing among them or stands there twice
+abbrev pub AreBroken : GenesisState → List ℕ → Type 0
+AreBroken genesis numbers = (numbers ≡ []) ⊎ (has_each genesis numbers ≡ false)
 
 -- Ledgers of this table and this genesis, which have answered as the receipts tell, and which were once as they were read.
 abbrev pub AreGathered : TableName → GenesisState → List ReceiptModel → List LedgerModel → List LedgerModel → Type 0

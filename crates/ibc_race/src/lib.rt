@@ -7,7 +7,7 @@ ghost use Rattle.ibc_machine.specs.chain.Genesis.{genesis_state, is_allowed};
 ghost use Rattle.ibc_refinement.specs.World.{AreNew};
 ghost use Rattle.ibc_world_core.specs.WorldModel.{ledgers_alone};
 ghost use Rattle.ibc_ledger_lock.specs.ReceiptsAndReadings.{HasAnswered, IsEarlierOnItsChain, IsOfWorld};
-ghost use Rattle.ibc_race.specs.SharedWorlds.{AreGathered, HasItsBook, IsAuditOf, book_of, numbers_of, table_of};
+ghost use Rattle.ibc_race.specs.SharedWorlds.{AreBroken, AreGathered, HasItsBook, IsAuditOf, book_of, numbers_of, table_of};
 
 use ibc_ids::Refusal;
 use ibc_ledger::Ledger;
@@ -106,7 +106,8 @@ fn refusal_of(back: (Refusal, Ledger)) -> Refusal
 /// there are ledgers of the world, of these chains, which together did one run of the machine, of which the laws hold (where no
 /// two different texts that were hashed share a digest), and that these hold what is told. Of each there are calls that are all
 /// that it was asked. Among them, at its place, stands the call of each receipt of the ledger's number. And each was once as each
-/// reading of its number has it. Refused: `BadMessage`, of which no clause says when it comes; `NoMemory`.
+/// reading of its number has it. Refused: `BadMessage` only where there are no chains, or one of the genesis is missing among them
+/// or stands there twice; `NoMemory`.
 pub fn audit_chains<W: WorldBrand>(
     alloc: Global,
     chains: Vec<Chain<W>>,
@@ -114,6 +115,7 @@ pub fn audit_chains<W: WorldBrand>(
     readings: &[LedgerReading<W>],
 ) -> Result<Audit, Refusal>
     ensures audited { IfOk result (IsAuditOf W.table W.genesis chains.items receipts.now readings.now) }
+    ensures bad { result ≡ Err BadMessage → AreBroken W.genesis chains.items }
     ensures err { IfErr result (λ refusal. (refusal ≡ BadMessage) ⊎ (refusal ≡ NoMemory)) }
 {
     lawful_audit(alloc, ledgers_of(alloc, chains, receipts, readings)?)
