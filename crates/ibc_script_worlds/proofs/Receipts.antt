@@ -14,13 +14,13 @@ use Rattle.ibc_machine.specs.promises.Histories.{Happened}
 use Rattle.ibc_root_table.proofs.Beginnings.{get_snoc}
 use Rattle.ibc_ledger_lock.specs.ReceiptsAndReadings.{IsBehind, IsReceiptOf, ReceiptModel}
 use Rattle.ibc_race.proofs.Booked.{at_place, from_places}
-use Rattle.ibc_script_worlds.specs.KeptReceipts.{AreInOrder, AreKept, AreNumbered, IsKept, IsLastOf, told_by}
+use Rattle.ibc_script_worlds.specs.KeptReceipts.{AreInOrder, AreKept, IsKept, IsLastOf, told_by}
 use Rattle.ibc_script_worlds.specs.Racing.{IsAsked}
 
--- a chain that is read at a place has its number
-pub found_at : (numbers : List ℕ) (i : ℕ) (r : Option (Bor ℕ)) → IsItemAt numbers i r → AreNumbered numbers → IfSome r (λ b. (b.now ≡ i) × (i < length numbers))
-found_at numbers i None is numbered = tt
-found_at numbers i (Some b) is numbered = (numbered i b.now (slice_get_read numbers (length numbers) i b.now refl is.3.0 is.1), is.3.0)
+-- a chain that is read at its number's place
+pub found_at : (numbers : List ℕ) (i n : ℕ) (b : Bor ℕ) → IsItemAt numbers i (Some b) → i ≡ n → b.now ≡ n → slice_get numbers n ≡ Some n
+found_at numbers i n b is place number =
+    ap (slice_get numbers) (sym place) ∙ slice_get_read numbers (length numbers) i b.now refl is.3.0 is.1 ∙ ap Some number
 
 before_or : (m n : ℕ) → (m < n) ⊎ (n ≤ m)
 before_or zero zero = inr (omega arith)
@@ -101,22 +101,22 @@ in_order old told order behind i j a b less at_i at_j =
     (get_snoc old told b j at_j)
 
 -- a receipt that is kept tells of its event's chain, and of an answer
-is_kept : (n : ℕ) (told : ReceiptModel) (event : Event) (given : Reply) → IsReceiptOf event told → told.chain < n → given ≡ told.reply → (given ≡ reply.No NoMemory → ⊥)
-    → IsKept n told
-is_kept n told event given is low same answered = record {
+is_kept : (numbers : List ℕ) (told : ReceiptModel) (event : Event) (given : Reply) → IsReceiptOf event told → slice_get numbers told.chain ≡ Some told.chain → given ≡ told.reply
+    → (given ≡ reply.No NoMemory → ⊥) → IsKept numbers told
+is_kept numbers told event given is there same answered = record {
   of_event = is.0 ∙ ap chain_of (sym is.1);
-  of_chains = low;
+  there = there;
   answered = λ none. answered (same ∙ none);
 }
 
 -- one receipt more is kept, or none is
-pub stay_so : {E : Type 0} (n : ℕ) (result : Result Reply E) (told : ReceiptModel) (event : Event) (old new : List ReceiptModel) → AreKept n old → IsReceiptOf event told
-    → told.chain < n → All (IsBehind told) old → OnOk result (new ≡ old ++ told ∷ []) → OnErr result (new ≡ old) → IfOk result (λ given. given ≡ told.reply)
-    → IfOk result (λ given. given ≡ reply.No NoMemory → ⊥) → AreKept n new
-stay_so n (Ok given) told event old new are is low behind pushed left same answered =
-    subst (AreKept n) (sym pushed)
-    (in_order old told are.0 behind, All-push (IsKept n) old told are.1 (is_kept n told event given is low same answered))
-stay_so n (Err refusal) told event old new are is low behind pushed left same answered = subst (AreKept n) (sym left) are
+pub stay_so : {E : Type 0} (numbers : List ℕ) (result : Result Reply E) (told : ReceiptModel) (event : Event) (old new : List ReceiptModel) → AreKept numbers old
+    → IsReceiptOf event told → slice_get numbers told.chain ≡ Some told.chain → All (IsBehind told) old → OnOk result (new ≡ old ++ told ∷ []) → OnErr result (new ≡ old) → IfOk result (λ given. given ≡ told.reply)
+    → IfOk result (λ given. given ≡ reply.No NoMemory → ⊥) → AreKept numbers new
+stay_so numbers (Ok given) told event old new are is there behind pushed left same answered =
+    subst (AreKept numbers) (sym pushed)
+    (in_order old told are.0 behind, All-push (IsKept numbers) old told are.1 (is_kept numbers told event given is there same answered))
+stay_so numbers (Err refusal) told event old new are is there behind pushed left same answered = subst (AreKept numbers) (sym left) are
 
 -- what is asked next is what the next receipt tells
 pub kept : {E : Type 0} (result : Result Reply E) (told : ReceiptModel) (event : Event) (old new : List ReceiptModel) → IsReceiptOf event told

@@ -83,11 +83,11 @@ module _ (held : LedgerModel) (at : ℕ → ℕ) where
   abbrev Rises : ReceiptModel → Type 0
   Rises told = IsAnsweredBy held told → (later : ℕ) → told.place < later → at told.place < at later
 
-  picked : (m n : ℕ) (receipts : List ReceiptModel) → AreInOrder receipts → ((k : ℕ) (told : ReceiptModel) → slice_get receipts k ≡ Some told → IsKept m told × Stands told × Rises told)
+  picked : (numbers : List ℕ) (n : ℕ) (receipts : List ReceiptModel) → AreInOrder receipts → ((k : ℕ) (told : ReceiptModel) → slice_get receipts k ≡ Some told → IsKept numbers told × Stands told × Rises told)
       → ((k : ℕ) (told : ReceiptModel) → slice_get receipts k ≡ Some told → told.chain ≡ held.ledger.chain → n ≤ at told.place)
       → Picked n (happened_on held.ledger) (history_of held.ledger.chain (map told_by receipts))
-  picked m n [] order each low = record { ps = []; tells = refl; rising = tt; stand = tt }
-  picked m n (told ∷ receipts) order each low =
+  picked numbers n [] order each low = record { ps = []; tells = refl; rising = tt; stand = tt }
+  picked numbers n (told ∷ receipts) order each low =
       let rest = history_of held.ledger.chain (map told_by receipts) in
       let first = each 0 told refl in
       let tail : AreInOrder receipts = λ i j a b less at_i at_j. order (suc i) (suc j) a b (omega (arith, less)) at_i at_j in
@@ -97,21 +97,21 @@ module _ (held : LedgerModel) (at : ℕ → ℕ) where
             let answered : IsAnsweredBy held told = (of, first.0.answered) in
             let behind : (k : ℕ) (later : ReceiptModel) → slice_get receipts k ≡ Some later → later.chain ≡ held.ledger.chain → at told.place < at later.place =
             λ k later there same. first.2 answered later.place (order 0 (suc k) told later (omega arith) refl there (of ∙ sym same)) in
-            let more = picked m (at told.place + 1) receipts tail (λ k. each (suc k)) (λ k later there same. let less = behind k later there same in omega (arith, less)) in
+            let more = picked numbers (at told.place + 1) receipts tail (λ k. each (suc k)) (λ k later there same. let less = behind k later there same in omega (arith, less)) in
             record {
               ps = (at told.place, told_by told) ∷ more.ps;
               tells = ap (λ (l : List Happened). told_by told ∷ l) more.tells;
               rising = (low 0 told refl of, more.rising);
               stand = ((at told.place, (omega arith, first.1 answered)), more.stand);
             }
-        | false ↦ λ _. picked m n receipts tail (λ k. each (suc k)) (λ k. low (suc k))
+        | false ↦ λ _. picked numbers n receipts tail (λ k. each (suc k)) (λ k. low (suc k))
       ] refl
 
-pub stand_there : (m : ℕ) (receipts : List ReceiptModel) (held : LedgerModel) → AreKept m receipts → HasAnswered receipts held
+pub stand_there : (numbers : List ℕ) (receipts : List ReceiptModel) (held : LedgerModel) → AreKept numbers receipts → HasAnswered receipts held
     → StandInOrder (history_of held.ledger.chain (map told_by receipts)) (happened_on held.ledger)
-stand_there m receipts held kept answered =
+stand_there numbers receipts held kept answered =
     let there : AreInHistory receipts held = are_in_history receipts held answered in
-    let p = picked held there.0 m 0 receipts kept.0
-    (λ k told is. (at_place (IsKept m) receipts k told kept.1 is, at_place (Stands held there.0) receipts k told there.1 is, at_place (Rises held there.0) receipts k told there.2 is))
+    let p = picked held there.0 numbers 0 receipts kept.0
+    (λ k told is. (at_place (IsKept numbers) receipts k told kept.1 is, at_place (Stands held there.0) receipts k told there.1 is, at_place (Rises held there.0) receipts k told there.2 is))
     (λ k told is of. omega arith) in
     subst (λ (l : List Happened). StandInOrder l (happened_on held.ledger)) p.tells (stand_on 0 (happened_on held.ledger) p.ps p.rising p.stand)

@@ -8,7 +8,7 @@ ghost use Rattle.ibc_script.specs.declared.script.Step.{Step as TakenStep};
 ghost use Rattle.ibc_script_cli.specs.Runs.{asking_acts};
 ghost use Rattle.ibc_machine.specs.chain.Genesis.{genesis_state};
 ghost use Rattle.ibc_race.specs.SharedWorlds.{HasItsBook};
-ghost use Rattle.ibc_script_worlds.specs.KeptReceipts.{AreKept, AreNumbered, told_by};
+ghost use Rattle.ibc_script_worlds.specs.KeptReceipts.{AreKept, told_by};
 ghost use Rattle.ibc_script_worlds.specs.Racing.{AreTaken, IsRaceOf, Takes};
 
 use crate::blocks::ChainStarts;
@@ -81,7 +81,6 @@ fn race_on<R: Threads + Wait + Sync, W: WorldBrand + Send + Sync>(
 ) -> Result<RaceAudit, Fault>
     requires few { 1 ≤ relayers × relayers ≤ 8 }
     requires books { All (HasItsBook W.table W.genesis W.book) ledgers.items }
-    requires numbered { AreNumbered (map (λ p. p.0.ledger.chain) ledgers.items) }
     ensures raced { IfOk result (IsRaceOf W.genesis race.script.steps.items) }
     ensures faults { IfErr result (λ fault. IsRunFault fault ⊎ IsScriptFault fault) }
 {
@@ -106,8 +105,7 @@ fn shared_chains<'r, R: Wait, W: WorldBrand>(
     ledgers: Vec<(Ledger, UnusedBook)>,
     genesis: &Genesis,
 ) -> Result<Shared<'r, R, W>, Fault>
-    requires books { All (HasItsBook W.table W.genesis W.book) ledgers.items }
-    requires numbered { AreNumbered (map (λ p. p.0.ledger.chain) ledgers.items) }
+    requires { All (HasItsBook W.table W.genesis W.book) ledgers.items }
     ensures new { IfOk result (λ shared. shared ≡ []) }
     ensures faults { IfErr result IsScriptFault }
 {
@@ -150,8 +148,7 @@ fn take_all<R: Threads + Wait + Sync, W: WorldBrand + Send + Sync>(
     requires few { 1 ≤ relayers × relayers ≤ 8 }
     requires new { shared ≡ [] }
     ensures taken { IfOk result (λ done. AreTaken steps.items (map told_by done.1.items)) }
-    ensures numbered { IfOk result (λ done. AreNumbered done.0.items) }
-    ensures kept { IfOk result (λ done. AreKept (length done.0.items) done.1.items) }
+    ensures kept { IfOk result (λ done. AreKept done.0.items done.1.items) }
     ensures faults { IfErr result IsRunFault }
 {
     match take_each(relayers, runner, &mut shared, steps) {
@@ -214,8 +211,7 @@ fn audited<W: WorldBrand>(
     chains: Vec<Chain<W>>,
     receipts: Vec<Receipt<W>>,
 ) -> Result<RaceAudit, Fault>
-    requires numbered { AreNumbered chains.items }
-    requires kept { AreKept (length chains.items) receipts.items }
+    requires { AreKept chains.items receipts.items }
     ensures raced { (steps : List TakenStep) → AreTaken steps (map told_by receipts.items) → IfOk result (IsRaceOf W.genesis steps) }
     ensures faults { IfErr result IsScriptFault }
 {

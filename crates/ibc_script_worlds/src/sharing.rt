@@ -1,11 +1,11 @@
 //! Chains that threads share, as the steps of a script see them.
 
-ghost use Rattle.std.specs.Prelude.{◌≡◌, ◌<◌, ◌≤◌, ◌++◌, ◌∷◌, [], IfSome, IsOkUnless, OnErr, OnOk, IfOk, length, map, option_map, true};
+ghost use Rattle.std.specs.Prelude.{◌≡◌, ◌≤◌, ◌++◌, ◌∷◌, [], IfSome, IsOkUnless, OnErr, OnOk, IfOk, Some, map, option_map, slice_get, true};
 ghost use Rattle.ibc_ids.specs.declared.refusal.Refusal.TheVariants.{NoMemory};
 ghost use Rattle.ibc_machine.specs.declared.reply.Reply.TheVariants as answer;
 ghost use Rattle.ibc_machine.specs.ledger.Ledgers.{chain_of};
 ghost use Rattle.ibc_ledger_lock.specs.ReceiptsAndReadings.{IsBehind, IsReceiptOf};
-ghost use Rattle.ibc_script_worlds.specs.KeptReceipts.{AreInOrder, AreKept, AreNumbered, IsLastOf, told_by};
+ghost use Rattle.ibc_script_worlds.specs.KeptReceipts.{AreInOrder, AreKept, IsLastOf, told_by};
 ghost use Rattle.ibc_script_worlds.specs.Racing.{raced_chains};
 
 use crate::blocks::ChainStarts;
@@ -21,8 +21,8 @@ use std::marker::Model;
 use std::sync::Wait;
 use std::thread::Threads;
 
-/// Chains that threads share, as the steps of a script see them, each at its number's place, with the receipts of what these
-/// asked. Contracts see what they asked and were answered, in order.
+/// Chains that threads share, as the steps of a script see them, with the receipts of what these asked. Contracts see what
+/// they asked and were answered, in order.
 #[derive(Drop)]
 pub struct Shared<'r, R: Wait, W: WorldBrand> {
     rt: &'r R,
@@ -33,26 +33,25 @@ pub struct Shared<'r, R: Wait, W: WorldBrand> {
 }
 
 impl<'r, R: Wait, W: WorldBrand> Model for Shared<'r, R, W> {
-    ghost use Rattle.std.specs.Prelude.{List, length, map};
+    ghost use Rattle.std.specs.Prelude.{List, map};
     ghost use Rattle.ibc_machine.specs.promises.Histories.{Happened};
-    ghost use Rattle.ibc_script_worlds.specs.KeptReceipts.{AreKept, AreNumbered, told_by};
+    ghost use Rattle.ibc_script_worlds.specs.KeptReceipts.{AreKept, told_by};
 
     ghost Value = { List Happened };
 
     ghost view = { λ s. map told_by s.receipts.items };
 
-    ghost invariant = { λ s. AreNumbered s.chains.items × AreKept (length s.chains.items) s.receipts.items };
+    ghost invariant = { λ s. AreKept s.chains.items s.receipts.items };
 }
 
 impl<'r, R: Wait, W: WorldBrand> Shared<'r, R, W> {
-    /// Chains, each at its number's place, that were asked nothing yet, which begin so.
+    /// Chains that were asked nothing yet, which begin so.
     pub fn new(
         rt: &'r R,
         alloc: Global,
         starts: ChainStarts,
         chains: Vec<Chain<W>>,
     ) -> Shared<'r, R, W>
-        requires { AreNumbered chains.items }
         ensures { result ≡ [] }
     {
         Shared {
@@ -67,8 +66,7 @@ impl<'r, R: Wait, W: WorldBrand> Shared<'r, R, W> {
     /// The chains, and the receipts of what they were asked.
     pub fn into_parts(self) -> (Vec<Chain<W>>, Vec<Receipt<W>>)
         ensures asked { map told_by result.1.items ≡ self.entry }
-        ensures numbered { AreNumbered result.0.items }
-        ensures kept { AreKept (length result.0.items) result.1.items }
+        ensures kept { AreKept result.0.items result.1.items }
     {
         (self.chains, self.receipts)
     }
@@ -118,12 +116,16 @@ fn number_of(event: &Event) -> u8
     }
 }
 
-// The chain of a number, which stands at its place, or none.
+// The chain of a number, none where it doesn't stand at its number's place.
 fn chain_at<W: WorldBrand>(chains: &[Chain<W>], number: u8) -> Option<&Chain<W>>
-    requires { AreNumbered chains.now }
-    ensures { IfSome result (λ chain. (chain.now ≡ number) × (number < length chains.now)) }
+    ensures { IfSome result (λ chain. (chain.now ≡ number) × (slice_get chains.now number ≡ Some number)) }
 {
-    chains.get(usize::from(number))
+    let chain = chains.get(usize::from(number))?;
+    if chain.number() == number {
+        Some(chain)
+    } else {
+        None
+    }
 }
 
 // The last of these receipts that is of the chain, none where none is.

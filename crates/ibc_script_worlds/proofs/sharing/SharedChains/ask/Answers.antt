@@ -1,4 +1,4 @@
-use Rattle.std.proofs.Common.{◌≡◌, ◌∙◌, ◌<◌, IfOk, List, ℕ, length, map, subst, sym}
+use Rattle.std.proofs.Common.{◌≡◌, ◌∙◌, IfOk, List, Some, ℕ, map, slice_get, subst, sym}
 use Rattle.std.specs.List.{All}
 use Rattle.ibc_machine.specs.promises.Histories.{Happened}
 use Rattle.ibc_ledger_lock.specs.ReceiptsAndReadings.{IsBehind}
@@ -15,15 +15,13 @@ invariant_of-self g c =
     let told = c.asked-receipt.result in
     let number = c.number_of-number.result in
     let old = c.self.inside.receipts.items in
-    let n = length c.self.inside.chains.items in
+    let numbers = c.self.inside.chains.items in
     let of : told.chain ≡ number = c.asked-receipt.ensures.told.0 ∙ sym c.number_of-number.ensures in
     let behind : All (IsBehind told) old =
     behind_all old _ told number of c.last_of-earlier.ensures (mapped_some (λ b. b.now) (IsBehind told) c.last_of-earlier.result c.asked-receipt.ensures.behind) in
-    let low : told.chain < n = subst (λ (k : ℕ). k < n) (sym of) c.in-Some.ensures.1 in (
-      c.self.invariant.0,
-      stay_so n c.keep.result told c.args.event old c.keep.new.receipts.items c.self.invariant.1 c.asked-receipt.ensures.told low behind c.keep.ensures.kept
-          c.keep.ensures.left c.keep.ensures.told c.keep.ensures.answered,
-    )
+    let there = subst (λ (k : ℕ). slice_get numbers k ≡ Some k) (sym of) c.in-Some.ensures.1 in
+    stay_so numbers c.keep.result told c.args.event old c.keep.new.receipts.items c.self.invariant c.asked-receipt.ensures.told there behind c.keep.ensures.kept
+    c.keep.ensures.left c.keep.ensures.told c.keep.ensures.answered
 
 pub returns : goal.returns
 returns g c =
