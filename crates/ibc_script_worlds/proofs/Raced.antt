@@ -23,7 +23,7 @@ use Rattle.ibc_script_worlds.proofs.Standing.{stand_there}
 
 -- ---- ledgers by their numbers
 
-number_of : LedgerModel → ℕ
+abbrev number_of : LedgerModel → ℕ
 number_of held = held.ledger.chain
 
 has_number : (o : Option LedgerModel) (n : ℕ) → option_map number_of o ≡ Some n → IsSomeAnd o (λ held. held.ledger.chain ≡ n)

@@ -39,7 +39,7 @@ rising_from m n (p ∷ ps) low rising =
 -- the list without its first element
 one_less : (n k : ℕ) (x : Happened) (xs : List Happened) (p : Placed) → n + 1 ≤ p.0 → p.0 ≡ n + k → slice_get (x ∷ xs) k ≡ Some p.1 → StandsAt (n + 1) xs p
 one_less n zero x xs p low place at = absurd (omega (arith, low, place))
-one_less n (suc k) x xs p low place at = (k, (omega (arith, place), at))
+one_less n (suc k) x xs p low place at = (k, omega (arith, place), at)
 
 all_less : (n : ℕ) (x : Happened) (xs : List Happened) (ps : List Placed) → AreRising (n + 1) ps → AllStand n (x ∷ xs) ps → AllStand (n + 1) xs ps
 all_less n x xs [] rising stand = tt
@@ -102,7 +102,7 @@ module _ (held : LedgerModel) (at : ℕ → ℕ) where
               ps = (at told.place, told_by told) ∷ more.ps;
               tells = ap (λ (l : List Happened). told_by told ∷ l) more.tells;
               rising = (low 0 told refl of, more.rising);
-              stand = ((at told.place, (omega arith, first.1 answered)), more.stand);
+              stand = ((at told.place, omega arith, first.1 answered), more.stand);
             }
         | false ↦ λ _. picked numbers n receipts tail (λ k. each (suc k)) (λ k. low (suc k))
       ] refl
