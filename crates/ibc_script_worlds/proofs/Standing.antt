@@ -50,28 +50,38 @@ all_less n x xs (p ∷ ps) rising stand =
       all_less n x xs ps (rising_from (n + 1) (p.0 + 1) ps (omega (arith, first)) rising.1) stand.1,
     )
 
-stand_on : (n : ℕ) (xs : List Happened) (ps : List Placed) → AreRising n ps → AllStand n xs ps → StandInOrder (map (λ (p : Placed). p.1) ps) xs
-stand_on n xs [] rising stand = tt
+-- what should stand there
+abbrev elements : List Placed → List Happened
+elements ps = map (λ (p : Placed). p.1) ps
+
+one_more : (n : ℕ) (x : Happened) (xs : List Happened) (ps : List Placed)
+    → ((qs : List Placed) → AreRising (n + 1) qs → AllStand (n + 1) xs qs → StandInOrder (elements qs) xs)
+    → AreRising n ps → AllStand n (x ∷ xs) ps → StandInOrder (elements ps) (x ∷ xs)
+one_more n x xs [] on rising stand = inr (on [] tt tt)
+one_more n x xs (p ∷ ps) on rising stand =
+    elim (stand.0.0) as (λ k. p.0 ≡ n + k → slice_get (x ∷ xs) k ≡ Some p.1 → StandInOrder (elements (p ∷ ps)) (x ∷ xs)) [
+      | zero ↦ λ place at.
+          let here : p.1 ≡ x = cc in
+          let rest = rising_from (n + 1) (p.0 + 1) ps (omega (arith, place)) rising.1 in
+          inl (elements ps, ap (λ (h : Happened). h ∷ elements ps) here, on ps rest (all_less n x xs ps rest stand.1))
+      | suc k ↦ λ place at.
+          let later : AreRising (n + 1) (p ∷ ps) = (omega (arith, place), rising.1) in
+          inr (on (p ∷ ps) later (all_less n x xs (p ∷ ps) later stand))
+    ] stand.0.1 stand.0.2
+
+stand_on : (n : ℕ) (xs : List Happened) (ps : List Placed) → AreRising n ps → AllStand n xs ps → StandInOrder (elements ps) xs
+stand_on n [] [] rising stand = refl
 stand_on n [] (p ∷ ps) rising stand =
     let at = stand.0.2 in
     absurd cc
-stand_on n (x ∷ xs) (p ∷ ps) rising stand =
-    elim (stand.0.0) as (λ k. p.0 ≡ n + k → slice_get (x ∷ xs) k ≡ Some p.1 → StandInOrder (p.1 ∷ map (λ (q : Placed). q.1) ps) (x ∷ xs)) [
-      | zero ↦ λ place at.
-          let here : x ≡ p.1 = cc in
-          let on = rising_from (n + 1) (p.0 + 1) ps (omega (arith, place)) rising.1 in
-          inl (sym here, stand_on (n + 1) xs ps on (all_less n x xs ps on stand.1))
-      | suc k ↦ λ place at.
-          let later : AreRising (n + 1) (p ∷ ps) = (omega (arith, place), rising.1) in
-          inr (stand_on (n + 1) xs (p ∷ ps) later (all_less n x xs (p ∷ ps) later stand))
-    ] stand.0.1 stand.0.2
+stand_on n (x ∷ xs) ps rising stand = one_more n x xs ps (λ qs rest there. stand_on (n + 1) xs qs rest there) rising stand
 
 -- ---- receipts
 
 -- what is told stands at rising places
 record Picked (n : ℕ) (xs told : List Happened) : Type 0 where
   ps : List Placed
-  tells : map (λ (p : Placed). p.1) ps ≡ told
+  tells : elements ps ≡ told
   rising : AreRising n ps
   stand : AllStand 0 xs ps
 

@@ -1,5 +1,5 @@
 -- What a race comes to.
-use Rattle.std.specs.Prelude.{◌≡◌, ◌⊎◌, List, [], ◌∷◌, ◌++◌, None, ⊤, slice_get}
+use Rattle.std.specs.Prelude.{◌≡◌, ◌⊎◌, List, [], ◌∷◌, ◌++◌, None, slice_get}
 use Rattle.std.specs.List.{All, flat_map}
 use Rattle.std.specs.Option.{IsSomeAnd}
 use Rattle.ibc_ids.specs.Texts.{Text}
@@ -34,11 +34,11 @@ Takes names acts old new = Reached raced_chains names acts old None [] new None
 abbrev pub AreTaken : List Step → List Happened → Type 0
 AreTaken steps asked = (names : List Text) × Takes names (flat_map asking_acts steps) [] asked
 
--- the elements of a list stand in another one, in their order, whatever stands between them
+-- The elements of the first list stand in the second one, in their order: both begin with the same element, or the second has
+-- all of them behind its first.
 abbrev pub StandInOrder : {A : Type 0} → List A → List A → Type 0
-StandInOrder [] ys = ⊤
-StandInOrder (x ∷ xs) [] = ⊥
-StandInOrder (x ∷ xs) (y ∷ ys) = ((x ≡ y) × StandInOrder xs ys) ⊎ StandInOrder (x ∷ xs) ys
+StandInOrder xs [] = xs ≡ []
+StandInOrder {A} xs (y ∷ ys) = ((rest : List A) × (xs ≡ y ∷ rest) × StandInOrder rest ys) ⊎ StandInOrder xs ys
 
 -- the chain that was asked has its ledger at its number's place
 abbrev pub HasLedger : List LedgerModel → Happened → Type 0
