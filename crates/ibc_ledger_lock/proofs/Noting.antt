@@ -127,7 +127,7 @@ stands chain given calls all first last = by_last (last_or None calls) refl last
 -- a call that was made after all of these stands behind each of them
 pub behind : (earlier told : ReceiptModel) (chain : ℕ) (calls : List Call) → told.chain ≡ chain → told.place ≡ length calls → StandsOnItsChain chain calls earlier → IsBehind told earlier
 behind earlier told chain calls of place stands = λ same.
-    let within = slice_get_within calls earlier.place _ (stands (same ∙ of)) in
+    let within : earlier.place < length calls = slice_get_within calls earlier.place _ (stands (same ∙ of)) in
     omega (arith, within, place)
 
 -- the ledger as it is read

@@ -6,7 +6,7 @@ use Rattle.ibc_ledger_lock.proofs.chain.Chain.into_ledger.Goals as goal
 
 pub returns-clause-answered : goal.returns-clause-answered
 returns-clause-answered g c =
-    let found : SharedLedger = c.find_all.old.self in
+    let found : SharedLedger = c.into_inner-desk.result in
     let stays = c.recall_all.ensures.same ∙ c.find_all.ensures.same in
     let same = c.into_ledger.ensures.same ∙ ap (λ (s : SharedLedger). s.held) stays in (
       found.calls,
