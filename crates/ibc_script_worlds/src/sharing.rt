@@ -151,7 +151,7 @@ fn asked<R: Wait, W: WorldBrand>(
 ) -> Receipt<W>
     requires { chain.now ≡ chain_of event }
     ensures told { IsReceiptOf event result }
-    ensures behind { IfSome earlier (λ before. IsBehind result before.now) }
+    ensures behind { IfSome earlier.entry (λ before. IsBehind result before.now) }
 {
     match (event, earlier) {
         (Event::Message { message, .. }, None) => chain.submit(rt, message),

@@ -17,9 +17,11 @@ invariant_of-self g c =
     let old = c.self.inside.receipts.items in
     let numbers = c.self.inside.chains.items in
     let of : told.chain ≡ number = c.asked-receipt.ensures.told.0 ∙ sym c.number_of-number.ensures in
+    let after_last = mapped_some (λ b. b.now) (IsBehind told) c.last_of-earlier.result c.asked-receipt.ensures.behind in
     let behind : All (IsBehind told) old =
-    behind_all old _ told number of c.last_of-earlier.ensures (mapped_some (λ b. b.now) (IsBehind told) c.last_of-earlier.result c.asked-receipt.ensures.behind) in
-    let there = subst (λ (k : ℕ). slice_get numbers k ≡ Some k) (sym of) c.in-Some.ensures.1 in
+    subst (All (IsBehind told)) c.as_slice-2.ensures.value (behind_all c.as_slice-2.result.now _ told number of c.last_of-earlier.ensures after_last) in
+    let there : slice_get numbers told.chain ≡ Some told.chain =
+    subst (λ (k : ℕ). slice_get numbers k ≡ Some k) (sym of) (subst (λ (l : List ℕ). slice_get l number ≡ Some number) c.as_slice.ensures.value c.in-Some.ensures.1) in
     stay_so numbers c.keep.result told c.args.event old c.keep.new.receipts.items c.self.invariant c.asked-receipt.ensures.told there behind c.keep.ensures.kept
     c.keep.ensures.left c.keep.ensures.told c.keep.ensures.answered
 
