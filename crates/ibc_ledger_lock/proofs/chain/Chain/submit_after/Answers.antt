@@ -14,6 +14,7 @@ pub returns-clause-behind : goal.returns-clause-behind
 returns-clause-behind g c =
     let desk : SharedLedger = c.deref_mut.result.now in
     let stays : c.deref_mut-2.result.now ≡ desk = c.deref_mut-2.ensures.value ∙ c.find.ensures.same in
-    let of : c.submit.result.chain ≡ desk.held.ledger.chain = c.submit.ensures.told.0 ∙ ap (λ (s : SharedLedger). s.held.ledger.chain) stays in
+    let sent : c.submit.result.chain ≡ c.deref_mut-2.result.now.held.ledger.chain = c.submit.ensures.told.0 in
+    let of : c.submit.result.chain ≡ desk.held.ledger.chain = sent ∙ ap (λ (s : SharedLedger). s.held.ledger.chain) stays in
     let place : c.submit.result.place ≡ length desk.calls = c.submit.ensures.place ∙ ap (λ (s : SharedLedger). length s.calls) stays in
     behind c.args.earlier.now c.submit.result desk.held.ledger.chain desk.calls of place c.find.ensures.stands
