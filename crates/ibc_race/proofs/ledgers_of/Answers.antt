@@ -1,4 +1,4 @@
-use Rattle.std.proofs.Common.{◌≡◌, ◌∙◌, ◌++◌, [], List, ℕ, ap, arith, length, sym}
+use Rattle.std.proofs.Common.{◌∙◌, ◌++◌, ℕ, ap, arith, length, sym}
 use Rattle.std.proofs.lemmas.List.{append-nil, nil_from_length}
 use Rattle.std.specs.Vec.Iter.{into_iter_items}
 use Rattle.ibc_ledger.specs.LedgerModel.{LedgerModel}
