@@ -92,13 +92,18 @@ impl<W: WorldBrand> Chain<W> {
         self.number
     }
 
-    // The lock on the ledger, which is the chain's.
+    // The lock on the ledger, which is the chain's. Under the lock is no other ledger; where there was one, this would wait for
+    // ever.
     fn lock<R: Wait>(&self, rt: &R) -> MutexGuard<'_, LockedLedger<W>>
         ensures { (mutex_guard_value result).held.ledger.chain ≡ self.now }
     {
-        let desk = self.desk.lock(rt);
-        desk.wait_for(rt, self.number);
-        desk
+        for _ in rt.forever() {
+            let desk = self.desk.lock(rt);
+            if desk.chain() == self.number {
+                return desk;
+            }
+        }
+        unreachable!()
     }
 
     /// Applies a message to the ledger, as its `apply` does. The receipt is of this call, whatever the reply is.

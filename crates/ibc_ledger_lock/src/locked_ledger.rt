@@ -18,7 +18,6 @@ use ibc_machine::{Effect, Reply};
 use ibc_wire::Message;
 use std::marker::{Brand, Model, PhantomData};
 use std::snapshot::Snapshot;
-use std::sync::Wait;
 
 /// A ledger of the world, with the keeper of its chain's book. Contracts see the ledger, and all that it was asked.
 #[derive(Drop)]
@@ -102,6 +101,13 @@ impl<W: WorldBrand> LockedLedger<W> {
         }
     }
 
+    /// The number of the ledger's chain.
+    pub fn chain(&self) -> u8
+        ensures { result ≡ self.now.held.ledger.chain }
+    {
+        self.ledger.chain()
+    }
+
     /// What may be claimed later of the ledger as it is now.
     pub fn read(&self) -> LedgerReading<W>
         ensures { result ≡ self.now.held }
@@ -163,19 +169,6 @@ impl<W: WorldBrand> LockedLedger<W> {
             }),
             Err(_) => None,
         }
-    }
-
-    /// Returns where the ledger is of the chain of this number. Under the lock of a chain is no other ledger; where there was
-    /// one, this would wait for ever.
-    pub fn wait_for<R: Wait>(&self, rt: &R, number: u8)
-        ensures { self.now.held.ledger.chain ≡ number }
-    {
-        for _ in rt.forever() {
-            if self.ledger.chain() == number {
-                return;
-            }
-        }
-        unreachable!()
     }
 
     /// The call of a receipt of this chain stands at its place.
