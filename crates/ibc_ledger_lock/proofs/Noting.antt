@@ -11,7 +11,7 @@ use Rattle.ibc_machine.specs.declared.event.Event.TheVariants as event_of
 use Rattle.ibc_machine.specs.declared.reply.Reply.{Reply}
 use Rattle.ibc_machine.specs.declared.reply.Reply.TheVariants as reply
 use Rattle.ibc_machine.specs.ledger.Ledgers.{Ledger, IsLedger, SeesMore, AddsNext, state_of}
-use Rattle.ibc_machine.specs.ledger.Replay.{StampedEntry, replay, starting_state}
+use Rattle.ibc_machine.specs.ledger.Replay.{replay, starting_state}
 use Rattle.ibc_machine.specs.promises.Histories.{Happened}
 use Rattle.ibc_merkle.proofs.Sorted.{last-push}
 use Rattle.ibc_refinement.proofs.SeenMore.{replay_stays}

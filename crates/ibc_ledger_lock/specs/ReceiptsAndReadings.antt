@@ -1,5 +1,5 @@
 -- What is of a world, what receipts tell, and what was read.
-use Rattle.std.specs.Prelude.{◌≡◌, ◌++◌, ◌-◌, ◌<◌, ◌≤◌, Bool, true, ℕ, List, [], length, take, Option, Some, None, slice_get}
+use Rattle.std.specs.Prelude.{◌≡◌, ◌++◌, ◌-◌, ◌<◌, ◌≤◌, Bool, true, ℕ, List, [], length, take, Some, None, slice_get}
 use Rattle.std.specs.List.{All, last_or}
 use Rattle.std.specs.Option.{IsSomeAnd, option_map_or, unwrap_or}
 use Rattle.ibc_ids.specs.declared.publication.Publication.{Publication}
