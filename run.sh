@@ -7,7 +7,7 @@
 #
 # Where the proved program of these sources stands in crates/ibcworld/out, it is started, at once. Else `rt try` builds the program without its proofs, in
 # a minute or two, and keeps nothing of it. That build has checks for what proofs exclude, and isn't made fast; `rt try` says how it ended, on standard
-# error, and gives no answer of more than a MiB. With --proved all that the program stands on is proved first, where that isn't done yet: about an hour from
+# error, and gives no answer of more than a MiB. With --proved all that the program stands on is proved first, where that isn't done yet: long from
 # nothing, and once. The status is the program's, or what `rt help` says of `rt try`.
 set -eu
 
@@ -28,7 +28,7 @@ refuse() {
 prove() {
     local sums
     sums=$(tools/proved_program --sums ibcworld)
-    echo "run.sh: proving and building what isn't yet; from nothing that takes about an hour" >&2
+    echo "run.sh: proving and building what isn't yet; all crates below the program are proved once, which takes long" >&2
     (cd crates/ibcworld && rt run -- run <stdin >/dev/null) || refuse "the program isn't proved, or can't be built"
     tools/proved_program --note <<<"$sums"
     tools/proved_program ibcworld >/dev/null 2>&1 || refuse "a source was changed while the program was proved: call this again"
@@ -61,6 +61,6 @@ if [ "$proved" = yes ]; then
     prove
     exec "$program" "${words[@]}"
 fi
-echo "run.sh: $why; this run builds it without proofs, in a minute or two, and keeps nothing (./run.sh --proved keeps it: about an hour, once)" >&2
+echo "run.sh: $why; this run builds it without proofs, in a minute or two, and keeps nothing (./run.sh --proved proves all below it once, and keeps it)" >&2
 cd crates/ibcworld
 exec rt try --seconds "$seconds" -- "${words[@]}"

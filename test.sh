@@ -21,6 +21,7 @@ parts=(
     "tools/frozen --selftest"
     "tools/refusals --check"
     "tools/check_rules"
+    "tools/test_trust"
     "rt ci"
     "tools/trust LOG"
     "tools/try_edits"
@@ -28,6 +29,8 @@ parts=(
     "tools/check_cases"
     "tools/check_outputs"
     "tools/build_library"
+    "tools/trust"
+    "tools/third_party"
     "tools/refuse_growths"
     "tools/refuse_by_call"
     "tools/broken_streams"
@@ -36,10 +39,13 @@ parts=(
     "tools/test_commands"
 )
 # LOG is what `rt ci` said.
-# What goes on beside `rt ci` and the parts behind it, with the time that these leave, in a copy of the repository: `rt lib` takes nothing of what `rt ci`
-# proved. The part that needs the library waits for it.
-beside="tools/static_library"
+# What goes on beside `rt ci` and the parts behind it, one after another, with the time that these leave, in a copy of the repository: `rt lib` and
+# `rt check` take nothing of what `rt ci` proved. What they make and say is kept, and taken by the parts of the same names. The first part that
+# needs it waits for it.
+beside=("tools/static_library" "tools/trust")
 waits="tools/build_library"
+# What this part needs isn't part of the gate's surroundings: where it ends with status 77 and a line `left out: ..`, that is told and is no failure.
+optional="tools/third_party"
 quick_parts=(
     "tools/kit_commands"
     "tools/statements"
@@ -51,6 +57,7 @@ quick_parts=(
 work=$(mktemp -d)
 follower=""
 behind=""
+left_out=""
 proved=""
 passed=0
 failed=0
@@ -80,9 +87,21 @@ run() {
     echo $? >"$files.status"
 }
 
+# Notes a part that may be left out and was, and why. Whether it was.
+note_left_out() {
+    local title=$1 files=$2 left=$3 why
+    [ "$title" = "$optional" ] && [ "$(cat "$files.status")" = 77 ] || return 1
+    why=$(grep '^left out: ' "$files.said" | tail -n 1)
+    [ -n "$why" ] || return 1
+    left_out+="; left out: $title"
+    rows+=("| \`$title\` | $why | | | |")
+    echo "test.sh: $title: $why; left: ${left:-nothing}"
+}
+
 # Notes what a part came to whose output stands in a file. Where the part said nothing of it, that is a failure, which the file then says too.
 note() {
     local title=$1 files=$2 left=$3 told wall used
+    ! note_left_out "$@" || return 0
     if ! grep -qE '^[0-9]+ passed, [0-9]+ failed' "$files.said"; then
         echo "0 passed, 1 failed" | tee -a "$files.said"
     fi
@@ -133,10 +152,10 @@ part() {
 
 # Begins what goes on beside, in a group of processes of its own.
 follow() {
-    [ -n "$beside" ] || return 0
+    [ ${#beside[@]} -gt 0 ] || return 0
     copy "$work/beside-copy"
     set -m
-    (cd "$work/beside-copy" && run "$work/beside" nice -n 10 "$beside") >"$work/beside.said" &
+    (cd "$work/beside-copy" && run "$work/beside" nice -n 10 bash -c 'for it; do "$it"; done' beside "${beside[@]}") >"$work/beside.said" &
     follower=$!
     set +m
 }
@@ -150,7 +169,7 @@ join() {
     cat "$work/beside.said"
     read -r wall used < <(awk 'END { printf "%.0f %.0f\n", $1, $2 + $3 }' "$work/beside.time")
     processor=$((processor + used))
-    rows+=("| \`$beside\`, beside | | | $(clock "$wall") | $used |")
+    rows+=("| \`${beside[*]}\`, beside | | | $(clock "$wall") | $used |")
 }
 
 # A copy of the repository without what is built and without the edits that `rt ci` tries. What is proved in it is kept for every copy.
@@ -184,7 +203,7 @@ case "$#${1-}" in
     1--quick)
         need_kit
         parts=("${quick_parts[@]}")
-        beside=""
+        beside=()
         behind="; this is not the gate: no wrong body was tried, and nothing in hostile surroundings"
         copy "$work/copy"
         cd "$work/copy"
@@ -209,5 +228,5 @@ done
 printf '\n| part | passed | failed | minutes | processor seconds |\n|---|---|---|---|---|\n'
 printf '%s\n' "${rows[@]}"
 printf '| all | %d | %d | %s | %d |\n\n' "$passed" "$failed" "$(clock $((SECONDS - begun)))" "$processor"
-echo "$passed passed, $failed failed$behind"
+echo "$passed passed, $failed failed$left_out$behind"
 [ "$failed" -eq 0 ]

@@ -1,6 +1,6 @@
-/* The core as a static library, libibcworld.a, by calls whose answers are proved. docs/LIBRARY.md says how to build and link it, and what is
-   proved of a call. ibcworld_messages.h, beside this header, spells messages and reads them, says what numbers mean, and has helpers that open
-   channels and relay.
+/* The core as a static library, libibcworld.a, by calls whose answers are proved. How to build and link it, and what is proved of a call, stands in
+   docs/LIBRARY.md. Beside this header ibcworld_messages.h spells messages and reads them, says what numbers mean, and has helpers that open channels
+   and relay.
 
    Answers. Each call answers 0, or the number of why it was refused: 1 to 31 as the core refuses (IBCW_NO_MEMORY and the
    numbers behind it), from 101 on as a call does. What is refused changes nothing, but where a call says so. Any call may
@@ -20,8 +20,8 @@
    (IBCW_TOO_SHORT), and the rest of the place stays. So a call with room 0 asks how much room is needed.
 
    What the caller owes, and nothing checks. Pointers to handles, numbers and structs are not null and point to one of their
-   type; a pointer and a number of bytes name so many bytes that are there, and a place to write is not read or written by
-   another thread meanwhile; places of one call do not overlap. A handle was begun as IBCW_HANDLE_INIT and written by these calls alone.
+   type. A pointer and a number of bytes name so many bytes that are there. A place to write is not read or written by another
+   thread meanwhile, and places of one call do not overlap. A handle was begun as IBCW_HANDLE_INIT and written by these calls alone.
    malloc, realloc and free are one allocator's. No call is made from a signal handler, nor from the forked child of a process
    with threads. Worlds are told apart by the library, but for those of ibcw_make_numbered_ledgers. */
 #ifndef IBCWORLD_H
@@ -284,9 +284,9 @@ uint32_t ibcw_ack(ibcw_ledger *ledger, const uint8_t *port, size_t port_size, co
 IBCW_MUST_USE IBCW_NONNULL(1, 2)
 uint32_t ibcw_make_balances(ibcw_ledger *ledger, ibcw_balances *balances);
 
-/* Writes who holds what: the account (a user, or escrow/transfer/ and a channel), a blank, and the denomination. It is the holding
-   at an index, from 0 on, of a list of balances, and then the chain is not looked at; or of an audit, at an index of what that
-   chain's accounts hold. ibcw_length tells how many a list has, and how many chains an audit has. IBCW_EMPTY, IBCW_OTHER_KIND, IBCW_NOTHING_THERE,
+/* Writes who holds what: the account (a user, or escrow/transfer/ and a channel), a blank, and the denomination. The handle is a list of balances or an
+   audit. Of a list it is the holding at an index, from 0 on, and the chain is not looked at. Of an audit the index counts what that chain's accounts
+   hold. How many holdings a list has, and how many chains an audit, ibcw_length tells. IBCW_EMPTY, IBCW_OTHER_KIND, IBCW_NOTHING_THERE,
    IBCW_TOO_SHORT. */
 IBCW_MUST_USE IBCW_NONNULL(1, 6)
 uint32_t ibcw_holding(ibcw_handle *balances, uint64_t chain, uint64_t index, uint8_t *text, size_t room,

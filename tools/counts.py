@@ -1,4 +1,5 @@
 """What can be counted of the repository, for what the documents say of it."""
+import functools
 import glob
 import os
 import re
@@ -55,6 +56,7 @@ def refusals():
     return sum(1 for line in lines_of("crates/ibc_ids/src/refusal.rt") if re.match(r"\s+\w+ = \d+,", line))
 
 
+@functools.lru_cache
 def all_counts():
     """Each thing that the documents count, by the words behind the number."""
     files, types = definitions()
@@ -80,7 +82,7 @@ def all_counts():
 def wrong_numbers(text, counted):
     """Each number in a text that isn't what is counted. A number behind `about` may be rounded."""
     for noun, number in counted.items():
-        for about, told in re.findall(rf"(?i)\b(about )?([1-9][\d,]*)\s+{noun}\b", re.sub(r"\s+", " ", text)):
+        for about, told in re.findall(rf"(?i)\b(about )?([1-9][\d,]*)\s+{noun}\b(?!\.\w)", re.sub(r"\s+", " ", text)):
             said = int(told.replace(",", ""))
             if said != number if not about else abs(said - number) > ROUNDED * number:
                 yield f"it says {about}{told} {noun}, and there are {number:,}"

@@ -49,6 +49,12 @@ def is_program(crate):
     return os.path.isfile(f"{ROOT}/crates/{crate}/src/main.rt")
 
 
+def cache():
+    """The folder in which this machine keeps what was made of sources, under their checksum."""
+    folder = os.environ.get("XDG_CACHE_HOME") or os.path.expanduser("~/.cache")
+    return os.path.join(folder, "ibcworld")
+
+
 def proved_of(crate):
     """The files of which a crate is proved: its code, its definitions and its proofs, in order."""
     found = [f"{at}/{it}" for part in ("proofs", "specs", "src") for at, _, names in os.walk(f"{ROOT}/crates/{crate}/{part}") for it in names]

@@ -7,8 +7,9 @@ import prose
 from counts import THEOREM, all_counts, corrected, definitions, wrong_numbers
 from crates import ROOT, uses
 
-# The pages whose numbers are compared with what is counted.
-COUNTED = (*prose.MEASURED, "docs/READING.md", "docs/TRUST.md", "docs/PROVED.md")
+# How many words the README and the pages of docs may have, but for PERF, which tells a work's whole story.
+WORDS = 30_000
+STORIES = ("docs/PERF.md",)
 # What the first command of the README prints.
 PRINTED = "examples/library/relay.txt"
 
@@ -27,15 +28,14 @@ def code_blocks(text):
 def numbers():
     """Each number in a page that isn't what is counted."""
     counted = all_counts()
-    for page in COUNTED:
-        if os.path.isfile(os.path.join(ROOT, page)):
-            yield from (f"{page}: {it}" for it in wrong_numbers(text_of(page), counted))
+    for page in page_numbers.PAGES:
+        yield from (f"{page}: {it}" for it in wrong_numbers(text_of(page), counted))
 
 
 def write_numbers():
     """Writes into the pages the numbers of what is counted, where they differ."""
     counted = all_counts()
-    for page in COUNTED:
+    for page in page_numbers.PAGES:
         text = text_of(page)
         if corrected(text, counted) != text:
             with open(os.path.join(ROOT, page), "w", encoding="utf-8") as it:
@@ -43,8 +43,9 @@ def write_numbers():
 
 
 def compared():
-    """Each number of a page that isn't what another tool or the source says."""
+    """Each number of a page that isn't what another tool or the source says, and each that nothing compares."""
     yield from page_numbers.faults()
+    yield from (f"nothing compares {it}" for it in page_numbers.uncompared())
 
 
 def speed():
@@ -55,6 +56,17 @@ def speed():
         there = next((it for it in rows if it[:2] == [name, size]), [])
         if any(it not in there for it in numbers[:4]):
             yield f"docs/SPEED.md: docs/figures/speed.txt has no such row: {row}"
+
+
+def perf():
+    """Each row of numbers in PERF's tables that no row of the file of figures has: the same name, and these numbers in this order."""
+    of_numbers = lambda text: re.findall(r"(?<![\w.])\d[\d,.]*", text)
+    rows = [re.split(r"  +", it) for it in text_of("docs/figures/perf.txt").split("\n")]
+    for row in re.findall(r"(?m)^\| .*\|$", text_of("docs/PERF.md")):
+        name, *cells = [it.strip(" `") for it in row.strip("|").split("|")]
+        told = [it for it in cells if re.fullmatch(r"[\d,.]+(?: \(.*\))?", it)]
+        if told and not any(it[0] == name and [*map(of_numbers, told)] == [*filter(None, map(of_numbers, it[1:]))] for it in rows):
+            yield f"docs/PERF.md: docs/figures/perf.txt has no such row: {row}"
 
 
 def theorem():
@@ -120,25 +132,43 @@ def libraries():
             yield f"docs/TRUST.md: the library {name} of the kit isn't named"
 
 
+def measured():
+    """The pages and headers whose sentences are measured, each with its text. What a tool writes has lists that are no sentences."""
+    yield from ((it, text_of(it)) for it in page_numbers.PAGES if it not in page_numbers.WRITTEN)
+    yield from ((f"include/{it}", prose.comments(text_of(f"include/{it}"))) for it in sorted(os.listdir(f"{ROOT}/include")))
+
+
 def sentences():
-    """Each sentence that is too long, in the pages that a reader meets first, and each of these whose sentences are too long on the average."""
-    for page in prose.MEASURED:
-        for it in prose.too_long(text_of(page)):
+    """Each sentence that is too long, and each page or header whose sentences are too long on the average."""
+    for page, text in measured():
+        for it in prose.too_long(text):
             yield f"{page}: {prose.length(it)} words, and at most {prose.LONGEST} are allowed: {it[:60]} .."
-        if prose.average(text_of(page)) > prose.AVERAGE:
-            yield f"{page}: {prose.average(text_of(page)):.1f} words a sentence, and at most {prose.AVERAGE} are allowed"
+        if prose.average(text) > prose.AVERAGE:
+            yield f"{page}: {prose.average(text):.1f} words a sentence, and at most {prose.AVERAGE} are allowed"
+
+
+def words():
+    """How many words the README and the pages of docs have, but for the stories."""
+    pages = ["README.md", *(it for it in page_numbers.PAGES if it.startswith("docs/") and it not in STORIES)]
+    return len(pages), sum(len(text_of(it).split()) for it in pages)
+
+
+def size():
+    """Whether these are too many."""
+    _, count = words()
+    if count > WORDS:
+        yield f"the README and the pages of docs have {count:,} words, and at most {WORDS:,} are allowed: say a thing once, and link"
 
 
 def faults():
     """All of it."""
-    for part in (numbers, compared, speed, theorem, printed, reading, laws, verdict_words, libraries, sentences):
+    for part in (numbers, compared, speed, perf, theorem, printed, reading, laws, verdict_words, libraries, sentences, size):
         yield from part()
 
 
 def lengths():
     """A line for each page that is measured: its longest sentence and its longest cell. And one for the words of all pages."""
-    for page in prose.MEASURED:
-        text = text_of(page)
+    for page, text in measured():
         yield f"{page}: {prose.average(text):.1f} words a sentence, longest {prose.longest_sentence(text)[0]}, longest cell {prose.longest_cell(text)[0]}"
-    pages = ["README.md", *(f"docs/{it}" for it in sorted(os.listdir(f"{ROOT}/docs")) if it.endswith(".md"))]
-    yield f"the README and the {len(pages) - 1} pages of docs have {sum(len(text_of(it).split()) for it in pages):,} words"
+    count, found = words()
+    yield f"the README and {count - 1} pages of docs have {found:,} words, of {WORDS:,}; not counted: {', '.join(STORIES)}"

@@ -1,8 +1,7 @@
 """The words of the documents: sentences and cells of tables, and how long they are."""
 import re
 
-# In these pages no sentence is longer than LONGEST words, and on the average AVERAGE at most: a reader meets them first.
-MEASURED = ("README.md", "docs/TUTORIAL.md", "docs/SCRIPTS.md", "docs/HOSTILE.md", "docs/LIBRARY.md")
+# In pages and headers no sentence is longer than LONGEST words, and on the average AVERAGE at most.
 LONGEST = 45
 AVERAGE = 25
 
@@ -31,6 +30,12 @@ def blocks(text):
             open_one.append(re.sub(r"^\s*([-*]|\d+\.)\s+", "", line).strip())
     close()
     return found
+
+
+def comments(text):
+    """The comments of a header as a page: a paragraph each."""
+    found = re.findall(r"/\*(.*?)\*/", text, re.S)
+    return "\n\n".join("\n".join(line.strip() for line in it.split("\n")) for it in found)
 
 
 def plain(block):

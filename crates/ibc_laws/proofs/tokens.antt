@@ -20,7 +20,7 @@ pub mod EscrowsHold
 pub mod NeverShort
 pub mod BalancesMoved
 pub mod Supplies
-pub mod WhoPays
+pub mod WhoIsPaid
 pub mod RefusedAsPoor
 pub mod NeverPoor
 pub mod BalancedTotals

@@ -1,5 +1,12 @@
 pub mod Moments
 pub mod Packets
+pub mod Ends
 pub mod Tokens
+pub mod Payments
+pub mod StoredNotes
 pub mod EveryLaw
-pub mod WrongMachines
+pub mod Runs
+pub mod WrongPackets
+pub mod WrongEnds
+pub mod WrongTokens
+pub mod OneLawAlone

@@ -1,5 +1,5 @@
-pub mod Claims
 pub mod Ending
 pub mod LastBlocks
 pub mod Noting
 pub mod Pages
+pub mod Places

@@ -1,13 +1,18 @@
 -- What a call adds to what is known of a ledger.
-use Rattle.std.proofs.Common.{◌≡◌, ◌∙◌, ℕ, zero, suc, List, [], ◌∷◌, ◌++◌, ◌-◌, Some, None, refl, ap, sym, subst, arith, length, length-append, map, slice_get, ⊎_elim}
+use Rattle.std.proofs.Common.{◌≡◌, ◌∙◌, ◌<◌, ℕ, zero, suc, List, [], ◌∷◌, ◌++◌, ◌-◌, Option, Some, None, refl, ap, sym, subst, arith, length, length-append, map, slice_get, unwrap_or, ⊎_elim}
 use Rattle.std.specs.List.{last_or}
-use Rattle.std.proofs.lemmas.List.{append-nil}
+use Rattle.std.specs.Option.{IsSomeAnd}
+use Rattle.std.proofs.lemmas.List.{append-nil, map-append}
+use Rattle.std.proofs.lemmas.Option.{slice_get_within}
+use mathlib.Core.List.{IsPrefix}
 use Rattle.ibc_ids.specs.declared.refusal.Refusal.TheVariants.{NoMemory}
 use Rattle.ibc_machine.specs.declared.event.Event.{Event}
+use Rattle.ibc_machine.specs.declared.event.Event.TheVariants as event_of
 use Rattle.ibc_machine.specs.declared.reply.Reply.{Reply}
 use Rattle.ibc_machine.specs.declared.reply.Reply.TheVariants as reply
 use Rattle.ibc_machine.specs.ledger.Ledgers.{Ledger, IsLedger, SeesMore, AddsNext, state_of}
-use Rattle.ibc_machine.specs.ledger.Replay.{StampedEntry, replay, starting_state}
+use Rattle.ibc_machine.specs.ledger.Replay.{replay, starting_state}
+use Rattle.ibc_machine.specs.promises.Histories.{Happened}
 use Rattle.ibc_merkle.proofs.Sorted.{last-push}
 use Rattle.ibc_refinement.proofs.SeenMore.{replay_stays}
 use Rattle.ibc_root_table.proofs.Beginnings.{prefix_get, take-prefix_whole}
@@ -18,18 +23,23 @@ use Rattle.ibc_ledger.specs.LedgerModel.{LedgerModel}
 use Rattle.ibc_ledger.specs.SentPackets.{happened_of, happened_on}
 use Rattle.ibc_ledger_lock.specs.KnownLedgers.{KnownLedger}
 use Rattle.ibc_ledger_lock.specs.Books.{IsKnownBeginning}
-use Rattle.ibc_ledger_lock.specs.ReceiptsAndReadings.{IsEarlier, IsEarlierOnItsChain, known_of, ledger_as, state_after}
+use Rattle.ibc_ledger_lock.specs.Calls.{AreCallsOf, Call, asked_by, call_of, calls_for, written_by}
+use Rattle.ibc_ledger_lock.specs.Calls.Call.{Unwritten, Written}
+use Rattle.ibc_ledger_lock.specs.ReceiptsAndReadings.{IsBehind, IsEarlier, IsEarlierOnItsChain, IsLastAnswered, ReceiptModel, StandsAmong, StandsOnItsChain, known_with, last_call, ledger_as, state_after, told_of}
 
 -- ---- what a call adds
 
--- the ledger goes on
-pub goes_on : (old new : Ledger) (event : Event) (given : Reply) → AddsOrNot old event given new → IsKnownBeginning (known_of old) (known_of new)
-goes_on old new event given =
+-- the ledger goes on, and it was asked once more
+pub goes_on : (old new : Ledger) (event : Event) (given : Reply) (calls : List Call) → AddsOrNot old event given new
+    → IsKnownBeginning (known_with old calls) (known_with new (calls ++ call_of event given ∷ []))
+goes_on old new event given calls =
     ⊎_elim
     (λ (no : (given ≡ reply.No NoMemory) × SeesMore old new).
-    subst (λ (l : Ledger). IsKnownBeginning (known_of old) (known_of l)) (sym no.1.1) (([], append-nil old.history), (no.1.0, refl)))
+    subst (λ (l : Ledger). IsKnownBeginning (known_with old calls) (known_with l (calls ++ call_of event given ∷ []))) (sym no.1.1)
+    (([], append-nil old.history), (no.1.0, refl), (call_of event given ∷ [], refl)))
     (λ (yes : (given ≡ reply.No NoMemory → ⊥) × AddsNext old event given new).
-    subst (λ (l : Ledger). IsKnownBeginning (known_of old) (known_of l)) (sym yes.1.4) ((yes.1.0 ∷ [], refl), (yes.1.1, refl)))
+    subst (λ (l : Ledger). IsKnownBeginning (known_with old calls) (known_with l (calls ++ call_of event given ∷ []))) (sym yes.1.4)
+    ((yes.1.0 ∷ [], refl), (yes.1.1, refl), (call_of event given ∷ [], refl)))
 
 -- the chain and the genesis stay
 pub same : (old new : Ledger) (event : Event) (given : Reply) → AddsOrNot old event given new
@@ -39,26 +49,51 @@ same old new event given =
     (λ (no : (given ≡ reply.No NoMemory) × SeesMore old new). (ap (λ (l : Ledger). l.chain) no.1.1, ap (λ (l : Ledger). l.genesis) no.1.1))
     (λ (yes : (given ≡ reply.No NoMemory → ⊥) × AddsNext old event given new). (ap (λ (l : Ledger). l.chain) yes.1.4, ap (λ (l : Ledger). l.genesis) yes.1.4))
 
--- what the last entry is
-pub record IsLast (old new : Ledger) (event : Event) (given : Reply) (e : StampedEntry) : Type 0 where
-  pub last : last_or None new.history ≡ Some e
-  pub place : length new.history - 1 ≡ length old.history
-  pub asked : e.entry.event ≡ event
-  pub answered : e.entry.reply ≡ given
+-- ---- what calls leave
 
-pub last_is : (old new : Ledger) (event : Event) (given : Reply) → AddsNext old event given new → (e : StampedEntry) × IsLast old new event given e
-last_is old new event given (e, more, asked, answered, is, _, _) = (
-  e,
-  record {
-    last = ap (λ (l : Ledger). last_or None l.history) is ∙ last-push None old.history e;
-    place =
-        let long = ap (λ (l : Ledger). length l.history) is in
-        let one_more = length-append old.history (e ∷ []) in
-        omega arith;
-    asked = asked;
-    answered = answered;
-  },
-)
+pub call_written : (event : Event) (given : Reply) → (given ≡ reply.No NoMemory → ⊥) → call_of event given ≡ Written event given
+call_written event (reply.No NoMemory) not = absurd (not refl)
+call_written event _ not = refl
+
+asked_of : (event : Event) (given : Reply) → asked_by (call_of event given) ≡ event
+asked_of event (reply.No NoMemory) = refl
+asked_of event _ = refl
+
+written_more : (xs ys : List Call) → written_by (xs ++ ys) ≡ written_by xs ++ written_by ys
+written_more [] ys = refl
+written_more (Written event given ∷ xs) ys = ap (λ l. (event, given) ∷ l) (written_more xs ys)
+written_more (Unwritten event ∷ xs) ys = written_more xs ys
+
+pub written_first : (happened : List Happened) → happened ≡ written_by (calls_for happened)
+written_first [] = refl
+written_first (h ∷ happened) = ap (λ l. h ∷ l) (written_first happened)
+
+-- one call more
+pub asked_more : (old new : Ledger) (event : Event) (given : Reply) (calls : List Call) → AddsOrNot old event given new → AreCallsOf old calls
+    → AreCallsOf new (calls ++ call_of event given ∷ [])
+asked_more old new event given calls adds are =
+    ⊎_elim
+    (λ (no : (given ≡ reply.No NoMemory) × SeesMore old new).
+    let left : written_by (calls ++ Unwritten event ∷ []) ≡ written_by calls = written_more calls (Unwritten event ∷ []) ∙ append-nil (written_by calls) in
+    ap happened_on no.1.1 ∙ are ∙ sym left ∙ ap (λ r. written_by (calls ++ call_of event r ∷ [])) (sym no.0))
+    (λ (yes : (given ≡ reply.No NoMemory → ⊥) × AddsNext old event given new).
+    let e = yes.1.0 in
+    let entry : happened_of e ≡ (event, given) = λ i. (yes.1.2 i, yes.1.3 i) in
+    ap happened_on yes.1.4 ∙ map-append happened_of old.history (e ∷ []) ∙ ap (λ l. l ++ happened_of e ∷ []) are
+    ∙ ap (λ h. written_by calls ++ h ∷ []) entry ∙ sym (written_more calls (Written event given ∷ []))
+    ∙ ap (λ c. written_by (calls ++ c ∷ [])) (sym (call_written event given yes.0)))
+    adds
+
+-- the call that was made last is the receipt's
+pub told_last : (event : Event) (given : Reply) (calls : List Call) → (asked_by (last_call (calls ++ call_of event given ∷ [])) ≡ event)
+    × (length (calls ++ call_of event given ∷ []) - 1 ≡ length calls) × IsLastAnswered given (calls ++ call_of event given ∷ [])
+told_last event given calls =
+    let c = call_of event given in
+    let last = last-push None calls c in (
+      ap (λ o. asked_by (unwrap_or o (Unwritten (event_of.Block 0 0)))) last ∙ asked_of event given,
+      (let one_more = length-append calls (c ∷ []) in omega arith),
+      subst (λ (o : Option Call). IsSomeAnd o (λ x. x ≡ call_of (asked_by x) given)) (sym last) (ap (λ e. call_of e given) (sym (asked_of event given))),
+    )
 
 -- ---- what was so once
 
@@ -69,35 +104,44 @@ mapped_at f (y ∷ ys) zero x at =
     ap (λ z. Some (f z)) same
 mapped_at f (y ∷ ys) (suc k) x at = mapped_at f ys k x at
 
-last_after : (d e : StampedEntry) (xs : List StampedEntry) → last_or (Some d) xs ≡ Some e → slice_get (d ∷ xs) (length xs) ≡ Some e
+last_after : {A : Type 0} (d e : A) (xs : List A) → last_or (Some d) xs ≡ Some e → slice_get (d ∷ xs) (length xs) ≡ Some e
 last_after d e [] is = is
 last_after d e (x ∷ xs) is = last_after x e xs is
 
-last_at : (e : StampedEntry) (xs : List StampedEntry) → last_or None xs ≡ Some e → slice_get xs (length xs - 1) ≡ Some e
+last_at : {A : Type 0} (e : A) (xs : List A) → last_or None xs ≡ Some e → slice_get xs (length xs - 1) ≡ Some e
 last_at e [] is = absurd cc
 last_at e (x ∷ xs) is =
     let less : length (x ∷ xs) - 1 ≡ length xs = omega arith in
     ap (λ k. slice_get (x ∷ xs) k) less ∙ last_after x e xs is
 
--- the last entry of a beginning stands in the history
-pub stands : (ledger : Ledger) (part : KnownLedger) (e : StampedEntry) → IsKnownBeginning part (known_of ledger) → last_or None part.history ≡ Some e
-    → slice_get (happened_on ledger) (length part.history - 1) ≡ Some (e.entry.event, e.entry.reply)
-stands ledger part e begins last =
-    mapped_at happened_of ledger.history (length part.history - 1) e
-    (prefix_get part.history ledger.history (length part.history - 1) e begins.0 (last_at e part.history last))
+-- the last of the first calls stands among all calls
+pub stands : (chain : ℕ) (given : Reply) (calls all : List Call) → IsPrefix calls all → IsLastAnswered given calls → StandsAmong all (told_of chain given calls)
+stands chain given calls all first last = by_last (last_or None calls) refl last
+  where
+    by_last : (o : Option Call) → last_or None calls ≡ o → IsSomeAnd o (λ c. c ≡ call_of (asked_by c) given) → StandsAmong all (told_of chain given calls)
+    by_last None is answered = absurd answered
+    by_last (Some c) is answered =
+        let same : last_call calls ≡ c = ap (λ o. unwrap_or o (Unwritten (event_of.Block 0 0))) is in
+        prefix_get calls all (length calls - 1) c first (last_at c calls is) ∙ ap Some (answered ∙ ap (λ x. call_of (asked_by x) given) (sym same))
+
+-- a call that was made after all of these stands behind each of them
+pub behind : (earlier told : ReceiptModel) (chain : ℕ) (calls : List Call) → told.chain ≡ chain → told.place ≡ length calls → StandsOnItsChain chain calls earlier → IsBehind told earlier
+behind earlier told chain calls of place stands = λ same.
+    let within : earlier.place < length calls = slice_get_within calls earlier.place _ (stands (same ∙ of)) in
+    omega (arith, within, place)
 
 -- the ledger as it is read
-pub as_read : (table : TableName) (genesis : GenesisState) (chain : ℕ) (held : LedgerModel) → held.table ≡ table → held.ledger.genesis ≡ genesis
-    → chain ≡ held.ledger.chain → ledger_as table genesis chain (known_of held.ledger) ≡ held
-as_read table genesis chain held of_table of_genesis number i = record {
+pub as_read : (table : TableName) (genesis : GenesisState) (chain : ℕ) (held : LedgerModel) (calls : List Call) → held.table ≡ table → held.ledger.genesis ≡ genesis
+    → chain ≡ held.ledger.chain → ledger_as table genesis chain (known_with held.ledger calls) ≡ held
+as_read table genesis chain held calls of_table of_genesis number i = record {
   ledger = record { genesis = sym of_genesis i; chain = number i; history = held.ledger.history; seen = held.ledger.seen };
   table = sym of_table i;
 }
 
 -- the ledger was once as it was read
-pub was_once : (table : TableName) (genesis : GenesisState) (chain : ℕ) (part : KnownLedger) (held : LedgerModel) → held.ledger.genesis ≡ genesis
-    → IsKnownBeginning part (known_of held.ledger) → IsEarlierOnItsChain held (ledger_as table genesis chain part)
-was_once table genesis chain part held of_genesis begins number = (
+pub was_once : (table : TableName) (genesis : GenesisState) (chain : ℕ) (part : KnownLedger) (held : LedgerModel) (calls : List Call) → held.ledger.genesis ≡ genesis
+    → IsKnownBeginning part (known_with held.ledger calls) → IsEarlierOnItsChain held (ledger_as table genesis chain part)
+was_once table genesis chain part held calls of_genesis begins number = (
   begins.0.0,
   begins.1.0,
   λ i. record { genesis = of_genesis i; chain = sym number i; history = sym begins.0.1 i; seen = sym begins.1.1 i },

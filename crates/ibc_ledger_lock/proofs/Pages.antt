@@ -21,13 +21,14 @@ prefix_on : {A : Type 0} (xs ys zs : List A) → IsPrefix xs ys → IsPrefix ys 
 prefix_on xs ys zs p q = (p.0 ++ q.0, sym (append_assoc xs p.0 q.0) ∙ ap (λ w. w ++ q.0) p.1 ∙ q.1)
 
 pub begins_itself : (all : KnownLedger) → IsKnownBeginning all all
-begins_itself all = (prefix_self all.history, prefix_self all.seen)
+begins_itself all = (prefix_self all.history, prefix_self all.seen, prefix_self all.calls)
 
 pub begins_on : (a b c : KnownLedger) → IsKnownBeginning a b → IsKnownBeginning b c → IsKnownBeginning a c
-begins_on a b c p q = (prefix_on a.history b.history c.history p.0 q.0, prefix_on a.seen b.seen c.seen p.1 q.1)
+begins_on a b c p q =
+    (prefix_on a.history b.history c.history p.0 q.0, prefix_on a.seen b.seen c.seen p.1 q.1, prefix_on a.calls b.calls c.calls p.2 q.2)
 
 pub nothing_begins : (all : KnownLedger) → IsKnownBeginning nothing_known all
-nothing_begins all = ((all.history, refl), (all.seen, refl))
+nothing_begins all = ((all.history, refl), (all.seen, refl), (all.calls, refl))
 
 -- ---- words at home
 

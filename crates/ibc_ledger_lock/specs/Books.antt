@@ -5,9 +5,10 @@ use Rattle.logbook.specs.Pages.{Book, Cell, Named, Step, View, cell, may_make}
 use Rattle.ibc_ledger_lock.specs.KnownLedgers.{KnownLedger, nothing_known}
 use Rattle.ibc_ledger_lock.specs.declared.book.Page.{Page}
 
--- the history has gone on since, and more was seen
+-- the history has gone on since, more was seen, and more was asked
 abbrev pub IsKnownBeginning : KnownLedger → KnownLedger → Type 0
-IsKnownBeginning old new = IsPrefix old.history new.history × IsPrefix old.seen new.seen
+IsKnownBeginning old new =
+    IsPrefix old.history new.history × IsPrefix old.seen new.seen × IsPrefix old.calls new.calls
 
 -- the name of no book
 abbrev pub no_book : Book

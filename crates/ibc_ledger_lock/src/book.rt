@@ -3,9 +3,10 @@
 ghost use Rattle.std.specs.Prelude.{◌≡◌};
 ghost use Rattle.logbook.specs.Pages.{may_make, may_write};
 ghost use Rattle.ibc_ledger_lock.specs.Books.{IsKnownBeginning};
-ghost use Rattle.ibc_ledger_lock.specs.ReceiptsAndReadings.{known_of};
+ghost use Rattle.ibc_ledger_lock.specs.ReceiptsAndReadings.{known_with};
 
 use ibc_ledger::Ledger;
+use ibc_machine::Reply;
 use logbook::{Gain, Offer, Pen, Plain, Play, Rule, Seen, Start, Word};
 use std::marker::{Brand, Model, PhantomData};
 
@@ -90,6 +91,20 @@ impl Play<Page, ()> for FindUnused {
     ghost use Rattle.ibc_ledger_lock.specs.Books.{FindsUnused};
 
     ghost then = { FindsUnused };
+}
+
+/// All that a ledger was asked, which a proof picks.
+pub trait PickedCalls {
+    ghost use Rattle.std.specs.Prelude.{List};
+    ghost use Rattle.ibc_ledger_lock.specs.Calls.{Call};
+
+    ghost calls: { List Call };
+}
+
+impl PickedCalls for Brand {
+    ghost use Rattle.std.specs.Prelude.{[]};
+
+    ghost calls = { [] };
 }
 
 /// A page that a proof picks.
@@ -217,15 +232,31 @@ impl Keeper {
         }
     }
 
-    /// Writes down the ledger as it is now, which has gone on, and puts a bookmark there.
-    pub(crate) fn note(&mut self, ledger: &Ledger) -> Bookmark
-        requires later { IsKnownBeginning self.old.known (known_of ledger.now.ledger) }
-        ensures keeper { (self.new.book ≡ self.old.book) × (self.new.known ≡ known_of ledger.now.ledger) }
+    /// Writes down the ledger as it is now, which has gone on, with all that it was asked, and puts a bookmark there.
+    pub(crate) fn note<C: PickedCalls>(&mut self, ledger: &Ledger) -> Bookmark
+        requires later { IsKnownBeginning self.old.known (known_with ledger.now.ledger C.calls) }
+        ensures keeper { (self.new.book ≡ self.old.book) × (self.new.known ≡ known_with ledger.now.ledger C.calls) }
         ensures mark { result ≡ self.new }
     {
         let next = self.next_pen();
         self.write::<Brand>(next, ledger);
         self.mark()
+    }
+
+    /// What `note` does, once the ledger was asked for something and has replied.
+    pub(crate) fn note_call<C: PickedCalls, T>(
+        &mut self,
+        ledger: &Ledger,
+        asked: &T,
+        reply: &Reply,
+    ) -> Bookmark
+        requires later { IsKnownBeginning self.old.known (known_with ledger.now.ledger C.calls) }
+        ensures keeper { (self.new.book ≡ self.old.book) × (self.new.known ≡ known_with ledger.now.ledger C.calls) }
+        ensures mark { result ≡ self.new }
+    {
+        let _ = asked;
+        let _ = reply;
+        self.note::<C>(ledger)
     }
 
     /// What was known at a bookmark of this book is a beginning of what the keeper knows.
@@ -258,13 +289,14 @@ impl Keeper {
         pen
     }
 
-    // Writes a page with the keeper's pen. It names the key of the next pen, which the keeper has from then on.
+    // Writes a page on the ledger with the keeper's pen. It names the key of the next pen, which the keeper has from then on.
     fn write<X: PickedPage>(&mut self, next: Pen, ledger: &Ledger)
-        requires picked { (X.page.known ≡ known_of ledger.now.ledger) × (X.page.next ≡ next.nib.key) }
+        requires picked { X.page.next ≡ next.nib.key }
         requires next { (next.book ≡ self.old.book) × (next.nib.right ≡ may_write) }
-        requires later { IsKnownBeginning self.old.known (known_of ledger.now.ledger) }
-        ensures { (self.new.book ≡ self.old.book) × (self.new.known ≡ known_of ledger.now.ledger) }
+        requires later { IsKnownBeginning self.old.known X.page.known }
+        ensures { (self.new.book ≡ self.old.book) × (self.new.known ≡ X.page.known) }
     {
+        let _ = ledger;
         let mut offer: Offer<Page, (), OneKeeper, NoTrade> = self
             .seen
             .plain::<NoTrade, (), NoTrade>(&());

@@ -1,8 +1,9 @@
 //! A ledger under a lock.
 
-ghost use Rattle.std.specs.Prelude.{◌≡◌, ◌⊎◌, ◌↔◌, All, Err, IfErr, IfOk, IsNone, IsOkUnless, List, drop, map};
+ghost use Rattle.std.specs.Prelude.{◌≡◌, ◌⊎◌, ◌↔◌, All, Err, IfErr, IfOk, IsNone, IsOkUnless, List, drop, length, map};
 ghost use Rattle.std.specs.Fn.{FnOnceReturnsAt};
 ghost use Rattle.std.specs.Option.{IsSomeAnd};
+ghost use Rattle.std.specs.Sync.Mutex.{mutex_guard_value};
 ghost use Rattle.ibc_ids.specs.Maps.{at};
 ghost use Rattle.ibc_ids.specs.Paths.{path};
 ghost use Rattle.ibc_ids.specs.Texts.{text_cmp};
@@ -15,7 +16,7 @@ ghost use Rattle.ibc_ledger.specs.declared.entry.StampedEntry.{StampedEntry as K
 ghost use Rattle.ibc_ledger.specs.LedgerModel.{abstract_entry};
 ghost use Rattle.ibc_ledger.specs.SentPackets.{ack_on, packet_on};
 ghost use Rattle.ibc_ledger.specs.ReplayedState.{provable_block};
-ghost use Rattle.ibc_ledger_lock.specs.ReceiptsAndReadings.{ClaimHoldsOnItsChain, IsLedgerOf, IsOfWorld, IsReceiptOf, IsEarlierOnItsChain, view_shown};
+ghost use Rattle.ibc_ledger_lock.specs.ReceiptsAndReadings.{HasAnswered, IsBehind, IsEarlierOnItsChain, IsLedgerOf, IsOfWorld, IsReceiptOf, view_shown};
 
 use crate::board::Board;
 use crate::book::UnusedBook;
@@ -32,7 +33,7 @@ use ibc_merkle::Proof;
 use ibc_wire::{Message, Packet};
 use std::alloc::Global;
 use std::marker::Model;
-use std::sync::{Arc, Mutex, Wait};
+use std::sync::{Arc, Mutex, MutexGuard, Wait};
 
 /// A ledger of the world, which threads share. Contracts see the number of its chain.
 #[derive(Drop)]
@@ -84,25 +85,83 @@ impl<W: WorldBrand> Chain<W> {
         }
     }
 
-    /// Applies a message to the ledger, as its `apply` does. The receipt claims the message with its reply.
-    pub fn submit<R: Wait>(&self, rt: &R, message: Message) -> Receipt<W>
-        ensures { IsReceiptOf (event_of.Message result.chain message) result }
+    /// The number of the chain.
+    pub fn number(&self) -> u8
+        ensures { result ≡ self.now }
     {
-        self.desk.lock(rt).submit(message)
+        self.number
     }
 
-    /// Ends the ledger's working block, as its `end_block` does. The receipt claims the block's end with its reply. The
-    /// view after an accepted block is posted on the board, unless memory runs out for it; the lock is held meanwhile, so
-    /// that a chain's views stand there in the order of their heights.
-    pub fn produce<R: Wait>(&self, rt: &R, next_time: u64) -> Receipt<W>
-        ensures { IsReceiptOf (event_of.Block result.chain next_time) result }
+    // The lock on the ledger, which is the chain's. Under the lock is no other ledger; where there was one, this would wait for
+    // ever.
+    fn lock<R: Wait>(&self, rt: &R) -> MutexGuard<'_, LockedLedger<W>>
+        ensures { (mutex_guard_value result).held.ledger.chain ≡ self.now }
     {
-        let mut desk = self.desk.lock(rt);
+        for _ in rt.forever() {
+            let desk = self.desk.lock(rt);
+            if desk.chain() == self.number {
+                return desk;
+            }
+        }
+        unreachable!()
+    }
+
+    /// Applies a message to the ledger, as its `apply` does. The receipt is of this call, whatever the reply is.
+    pub fn submit<R: Wait>(&self, rt: &R, message: Message) -> Receipt<W>
+        ensures { IsReceiptOf (event_of.Message self.now message) result }
+    {
+        self.lock(rt).submit(message)
+    }
+
+    /// What `submit` does. The call stands behind that of an earlier receipt of the chain.
+    pub fn submit_after<R: Wait>(
+        &self,
+        rt: &R,
+        earlier: &Receipt<W>,
+        message: Message,
+    ) -> Receipt<W>
+        ensures told { IsReceiptOf (event_of.Message self.now message) result }
+        ensures behind { IsBehind result earlier.now }
+    {
+        let mut desk = self.lock(rt);
+        desk.find(earlier);
+        desk.submit(message)
+    }
+
+    /// Ends the ledger's working block, as its `end_block` does. The receipt is of this call, whatever the reply is. The view
+    /// after an accepted block is posted on the board, unless memory runs out for it; the lock is held meanwhile, so that a
+    /// chain's views stand there in the order of their heights.
+    pub fn produce<R: Wait>(&self, rt: &R, next_time: u64) -> Receipt<W>
+        ensures { IsReceiptOf (event_of.Block self.now next_time) result }
+    {
+        let mut desk = self.lock(rt);
+        let receipt = self.end_block(rt, &mut *desk, next_time);
+        drop(desk);
+        receipt
+    }
+
+    /// What `produce` does. The call stands behind that of an earlier receipt of the chain.
+    pub fn produce_after<R: Wait>(&self, rt: &R, earlier: &Receipt<W>, next_time: u64) -> Receipt<W>
+        ensures told { IsReceiptOf (event_of.Block self.now next_time) result }
+        ensures behind { IsBehind result earlier.now }
+    {
+        let mut desk = self.lock(rt);
+        desk.find(earlier);
+        let receipt = self.end_block(rt, &mut *desk, next_time);
+        drop(desk);
+        receipt
+    }
+
+    // Ends the working block of the chain's ledger, and posts the view after it.
+    fn end_block<R: Wait>(&self, rt: &R, desk: &mut LockedLedger<W>, next_time: u64) -> Receipt<W>
+        requires { desk.old.held.ledger.chain ≡ self.now }
+        ensures told { IsReceiptOf (event_of.Block self.now next_time) result }
+        ensures place { result.place ≡ length desk.old.calls }
+    {
         let (receipt, posted) = desk.produce_and_look(next_time);
         if let Some(posted) = posted {
             self.board.post_end(rt, &receipt, posted);
         }
-        drop(desk);
         receipt
     }
 
@@ -124,10 +183,11 @@ impl<W: WorldBrand> Chain<W> {
     /// lock. Refused: `NoMemory`.
     pub fn look<R: Wait>(&self, rt: &R) -> (Result<View, Refusal>, LedgerReading<W>)
         ensures is { IsLedgerOf W.table W.genesis result.1 }
+        ensures chain { result.1.ledger.chain ≡ self.now }
         ensures ok { IfOk result.0 (λ view. view ≡ view_shown result.1) }
         ensures err { IsOkUnless result.0 NoMemory }
     {
-        let desk = self.desk.lock(rt);
+        let desk = self.lock(rt);
         let reading = desk.read();
         (desk.ledger().view(), reading)
     }
@@ -140,10 +200,11 @@ impl<W: WorldBrand> Chain<W> {
         key: &Key,
     ) -> (Result<Option<Bytes>, Refusal>, LedgerReading<W>)
         ensures is { IsLedgerOf W.table W.genesis result.1 }
+        ensures chain { result.1.ledger.chain ≡ self.now }
         ensures ok { IfOk result.0 (λ value. value ≡ at text_cmp (path key.now) (image (state_of result.1.ledger).chain.records.core)) }
         ensures err { IsOkUnless result.0 NoMemory }
     {
-        let desk = self.desk.lock(rt);
+        let desk = self.lock(rt);
         let reading = desk.read();
         (desk.ledger().query(key), reading)
     }
@@ -157,11 +218,12 @@ impl<W: WorldBrand> Chain<W> {
         key: &Key,
     ) -> (Result<Proof, Refusal>, LedgerReading<W>)
         ensures is { IsLedgerOf W.table W.genesis result.1 }
+        ensures chain { result.1.ledger.chain ≡ self.now }
         ensures ok { IfOk result.0 (λ proof. IsSomeAnd (provable_block result.1.ledger.genesis.window (state_of result.1.ledger).chain.committed height) (λ block. proof ≡ written_proof (image block.records.core) (path key.now))) }
         ensures unknown { (result.0 ≡ Err NoConsensus) ↔ IsNone (provable_block result.1.ledger.genesis.window (state_of result.1.ledger).chain.committed height) }
         ensures err { IfErr result.0 (λ refusal. (refusal ≡ NoConsensus) ⊎ (refusal ≡ NoMemory)) }
     {
-        let desk = self.desk.lock(rt);
+        let desk = self.lock(rt);
         let reading = desk.read();
         (desk.ledger().query_proof(height, key), reading)
     }
@@ -176,10 +238,11 @@ impl<W: WorldBrand> Chain<W> {
         sequence: u64,
     ) -> (Result<Option<Packet>, Refusal>, LedgerReading<W>)
         ensures is { IsLedgerOf W.table W.genesis result.1 }
+        ensures chain { result.1.ledger.chain ≡ self.now }
         ensures ok { IfOk result.0 (λ packet. packet ≡ packet_on result.1.ledger port.now channel.now sequence) }
         ensures err { IsOkUnless result.0 NoMemory }
     {
-        let desk = self.desk.lock(rt);
+        let desk = self.lock(rt);
         let reading = desk.read();
         (desk.ledger().packet(port, channel, sequence), reading)
     }
@@ -194,10 +257,11 @@ impl<W: WorldBrand> Chain<W> {
         sequence: u64,
     ) -> (Result<Option<Bytes>, Refusal>, LedgerReading<W>)
         ensures is { IsLedgerOf W.table W.genesis result.1 }
+        ensures chain { result.1.ledger.chain ≡ self.now }
         ensures ok { IfOk result.0 (λ ack. ack ≡ ack_on result.1.ledger port.now channel.now sequence) }
         ensures err { IsOkUnless result.0 NoMemory }
     {
-        let desk = self.desk.lock(rt);
+        let desk = self.lock(rt);
         let reading = desk.read();
         (desk.ledger().ack(port, channel, sequence), reading)
     }
@@ -212,19 +276,21 @@ impl<W: WorldBrand> Chain<W> {
     ) -> (T, LedgerReading<W>)
         requires { F.IsAlwaysCallable read }
         ensures is { IsLedgerOf W.table W.genesis result.1 }
+        ensures chain { result.1.ledger.chain ≡ self.now }
         ensures given { (entries : List KeptEntry) × (map abstract_entry entries ≡ drop place result.1.ledger.history) × FnOnceReturnsAt F.FnOnce read entries result.0 }
     {
-        let desk = self.desk.lock(rt);
+        let desk = self.lock(rt);
         let reading = desk.read();
         desk.ledger();
         (read(desk.entries_from(place)), reading)
     }
 
-    /// The ledger, which is of the world's table and genesis. What each receipt of its chain's number claims is so: it has
-    /// that event with that reply at the place. And it was once as each reading of its chain's number has it.
+    /// The ledger, which is of the world's table and genesis. There are calls that are all that it was asked, so that its history
+    /// is what they left. Among them, at its place, stands the call of each receipt of the ledger's number. And the ledger was
+    /// once as each reading of its number has it.
     pub fn into_ledger(self, receipts: &[Receipt<W>], readings: &[LedgerReading<W>]) -> Ledger
         ensures world { IsOfWorld W.table W.genesis result }
-        ensures held { All (ClaimHoldsOnItsChain result) receipts.now }
+        ensures answered { HasAnswered receipts.now result }
         ensures once { All (IsEarlierOnItsChain result) readings.now }
     {
         let mut desk = self.desk.into_inner();

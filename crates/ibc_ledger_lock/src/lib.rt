@@ -1,5 +1,5 @@
-//! Ledgers that threads share: each under a lock, with receipts of what was answered and readings of what was seen, and a
-//! board of views that is read without a lock.
+//! Ledgers that threads share: each under a lock, with receipts of what was asked and readings of what was seen, and a board of
+//! views that is read without a lock.
 #![tactic(auto)]
 
 mod board;
@@ -18,5 +18,5 @@ pub use chain::Chain;
 pub use gate::Gate;
 pub use posted_view::PostedView;
 pub use reading::{LedgerReading, lemma_had_then, lemma_has_shown};
-pub use receipt::Receipt;
+pub use receipt::{Receipt, lemma_are_in_history};
 pub use world::WorldBrand;

@@ -1,26 +1,25 @@
-//! What lies under a lock: a ledger, and the keeper of its book, who knows it as it is.
+//! What lies under a lock: a ledger, and the keeper of its book, who knows it as it is and all that it was asked.
 
-ghost use Rattle.std.specs.Prelude.{◌≡◌, All, IfSome, None, Some, drop, length, map};
-ghost use Rattle.ibc_ids.specs.declared.refusal.Refusal.TheVariants.{NoMemory};
+ghost use Rattle.std.specs.Prelude.{◌≡◌, ◌++◌, ◌∷◌, [], All, IfSome, drop, length, map};
 ghost use Rattle.ibc_machine.specs.declared.event.Event.TheVariants as event_of;
-ghost use Rattle.ibc_machine.specs.declared.reply.Reply.TheVariants as reply_of;
 ghost use Rattle.ibc_machine.specs.ledger.Ledgers.{IsLedger, is_block_reply};
 ghost use Rattle.ibc_ledger.specs.HistoryGrowth.{AddsOrNot};
 ghost use Rattle.ibc_ledger.specs.LedgerModel.{abstract_entry};
-ghost use Rattle.ibc_ledger_lock.specs.ReceiptsAndReadings.{ClaimHoldsOnItsChain, IsOfWorld, IsReceiptOf, ShowsEnd, IsEarlierOnItsChain, view_shown};
+ghost use Rattle.ibc_ledger_lock.specs.Calls.{AreCallsOf, call_of};
+ghost use Rattle.ibc_ledger_lock.specs.ReceiptsAndReadings.{IsEarlierOnItsChain, IsOfWorld, IsReceiptOf, ShowsEnd, StandsOnItsChain, view_shown};
 
-use crate::book::{Bookmark, Keeper, UnusedBook};
+use crate::book::{Keeper, UnusedBook};
 use crate::posted_view::PostedView;
 use crate::reading::LedgerReading;
 use crate::receipt::Receipt;
 use crate::world::WorldBrand;
-use ibc_ids::Refusal;
 use ibc_ledger::{Ledger, StampedEntry};
 use ibc_machine::{Effect, Reply};
 use ibc_wire::Message;
-use std::marker::{Model, PhantomData};
+use std::marker::{Brand, Model, PhantomData};
+use std::snapshot::Snapshot;
 
-/// A ledger of the world, with the keeper of its chain's book. Contracts see the ledger.
+/// A ledger of the world, with the keeper of its chain's book. Contracts see the ledger, and all that it was asked.
 #[derive(Drop)]
 pub struct LockedLedger<W: WorldBrand> {
     ledger: Ledger,
@@ -30,15 +29,16 @@ pub struct LockedLedger<W: WorldBrand> {
 
 impl<W: WorldBrand> Model for LockedLedger<W> {
     ghost use Rattle.std.specs.Prelude.{◌≡◌};
-    ghost use Rattle.ibc_ledger.specs.LedgerModel.{LedgerModel};
-    ghost use Rattle.ibc_ledger_lock.specs.ReceiptsAndReadings.{known_of};
+    ghost use Rattle.ibc_ledger_lock.specs.Calls.{AreCallsOf};
+    ghost use Rattle.ibc_ledger_lock.specs.ReceiptsAndReadings.{SharedLedger, known_with};
 
-    ghost Value = { LedgerModel };
+    ghost Value = { SharedLedger };
 
-    ghost view = { λ d. d.ledger };
+    ghost view = { λ d. record { held = d.ledger; calls = d.keeper.known.calls } };
 
     ghost invariant = { λ d. (d.ledger.table ≡ W.table) × (d.ledger.ledger.genesis ≡ W.genesis)
-        × (d.keeper.book ≡ W.book d.ledger.ledger.chain) × (d.keeper.known ≡ known_of d.ledger.ledger) };
+        × (d.keeper.book ≡ W.book d.ledger.ledger.chain) × (d.keeper.known ≡ known_with d.ledger.ledger d.keeper.known.calls)
+        × AreCallsOf d.ledger.ledger d.keeper.known.calls };
 }
 
 impl<W: WorldBrand> LockedLedger<W> {
@@ -46,11 +46,11 @@ impl<W: WorldBrand> LockedLedger<W> {
     pub fn new(ledger: Ledger, opened: UnusedBook) -> LockedLedger<W>
         requires world { IsOfWorld W.table W.genesis ledger }
         requires book { opened ≡ W.book ledger.ledger.chain }
-        ensures { result ≡ ledger }
+        ensures { result.held ≡ ledger }
     {
         let UnusedBook { keeper } = opened;
         let mut keeper = keeper;
-        keeper.note(&ledger);
+        keeper.note::<Brand>(&ledger);
         LockedLedger {
             ledger,
             keeper,
@@ -58,47 +58,59 @@ impl<W: WorldBrand> LockedLedger<W> {
         }
     }
 
-    /// Applies a message to the ledger. The receipt's claim is the entry that the ledger has more.
+    /// Applies a message to the ledger. The receipt is of the call that the ledger was asked last.
     pub fn submit(&mut self, message: Message) -> Receipt<W>
-        ensures table { self.new.table ≡ self.old.table }
-        ensures adds { AddsOrNot self.old.ledger (event_of.Message self.old.ledger.chain message) result.reply self.new.ledger }
-        ensures chain { result.chain ≡ self.old.ledger.chain }
-        ensures told { IsReceiptOf (event_of.Message self.old.ledger.chain message) result }
-        ensures place { IfSome result.claim (λ c. c.place ≡ length self.old.ledger.history) }
+        ensures table { self.new.held.table ≡ self.old.held.table }
+        ensures adds { AddsOrNot self.old.held.ledger (event_of.Message self.old.held.ledger.chain message) result.reply self.new.held.ledger }
+        ensures asked { self.new.calls ≡ self.old.calls ++ call_of (event_of.Message self.old.held.ledger.chain message) result.reply ∷ [] }
+        ensures told { IsReceiptOf (event_of.Message self.old.held.ledger.chain message) result }
+        ensures place { result.place ≡ length self.old.calls }
     {
         let chain = self.ledger.chain();
+        let asked = Snapshot::of(&message);
         let reply = self.ledger.apply(message);
-        let mark = self.keeper.note(&self.ledger);
+        let mark = self
+            .keeper
+            .note_call::<Brand, Snapshot<Message>>(&self.ledger, &asked, &reply);
         Receipt {
             chain,
-            mark: claimed(mark, &reply),
+            mark,
             reply,
             of: PhantomData,
         }
     }
 
-    /// Ends the ledger's working block. The receipt's claim is the entry that the ledger has more.
+    /// Ends the ledger's working block. The receipt is of the call that the ledger was asked last.
     pub fn produce(&mut self, next_time: u64) -> Receipt<W>
-        ensures table { self.new.table ≡ self.old.table }
-        ensures adds { AddsOrNot self.old.ledger (event_of.Block self.old.ledger.chain next_time) result.reply self.new.ledger }
-        ensures chain { result.chain ≡ self.old.ledger.chain }
-        ensures told { IsReceiptOf (event_of.Block self.old.ledger.chain next_time) result }
-        ensures place { IfSome result.claim (λ c. c.place ≡ length self.old.ledger.history) }
+        ensures table { self.new.held.table ≡ self.old.held.table }
+        ensures adds { AddsOrNot self.old.held.ledger (event_of.Block self.old.held.ledger.chain next_time) result.reply self.new.held.ledger }
+        ensures asked { self.new.calls ≡ self.old.calls ++ call_of (event_of.Block self.old.held.ledger.chain next_time) result.reply ∷ [] }
+        ensures told { IsReceiptOf (event_of.Block self.old.held.ledger.chain next_time) result }
+        ensures place { result.place ≡ length self.old.calls }
     {
         let chain = self.ledger.chain();
         let reply = ended(&mut self.ledger, next_time);
-        let mark = self.keeper.note(&self.ledger);
+        let mark = self
+            .keeper
+            .note_call::<Brand, u64>(&self.ledger, &next_time, &reply);
         Receipt {
             chain,
-            mark: claimed(mark, &reply),
+            mark,
             reply,
             of: PhantomData,
         }
+    }
+
+    /// The number of the ledger's chain.
+    pub fn chain(&self) -> u8
+        ensures { result ≡ self.now.held.ledger.chain }
+    {
+        self.ledger.chain()
     }
 
     /// What may be claimed later of the ledger as it is now.
     pub fn read(&self) -> LedgerReading<W>
-        ensures { result ≡ self.now }
+        ensures { result ≡ self.now.held }
     {
         LedgerReading {
             chain: self.ledger.chain(),
@@ -109,7 +121,7 @@ impl<W: WorldBrand> LockedLedger<W> {
 
     /// The ledger, which is one, of the world's table and genesis.
     pub fn ledger(&self) -> &Ledger
-        ensures same { result.now ≡ self.now }
+        ensures same { result.now ≡ self.now.held }
         ensures world { IsOfWorld W.table W.genesis result.now }
         ensures is { IsLedger result.now.ledger }
     {
@@ -119,7 +131,7 @@ impl<W: WorldBrand> LockedLedger<W> {
 
     /// The entries of the history from a place on, none where the history ends before it.
     pub fn entries_from(&self, place: usize) -> &[StampedEntry]
-        ensures { map abstract_entry result.now ≡ drop place self.now.ledger.history }
+        ensures { map abstract_entry result.now ≡ drop place self.now.held.ledger.history }
     {
         let history = self.ledger.history();
         if place < history.len() {
@@ -132,10 +144,10 @@ impl<W: WorldBrand> LockedLedger<W> {
     /// Ends the ledger's working block, and gives the view after it; none where the block's end was refused, and where a
     /// growth is refused for the view.
     pub fn produce_and_look(&mut self, next_time: u64) -> (Receipt<W>, Option<PostedView<W>>)
-        ensures adds { AddsOrNot self.old.ledger (event_of.Block self.old.ledger.chain next_time) result.0.reply self.new.ledger }
-        ensures chain { result.0.chain ≡ self.old.ledger.chain }
-        ensures told { IsReceiptOf (event_of.Block self.old.ledger.chain next_time) result.0 }
-        ensures view { IfSome result.1 (λ posted. (posted ≡ self.new) × ShowsEnd result.0 (view_shown posted)) }
+        ensures adds { AddsOrNot self.old.held.ledger (event_of.Block self.old.held.ledger.chain next_time) result.0.reply self.new.held.ledger }
+        ensures told { IsReceiptOf (event_of.Block self.old.held.ledger.chain next_time) result.0 }
+        ensures place { result.0.place ≡ length self.old.calls }
+        ensures view { IfSome result.1 (λ posted. (posted ≡ self.new.held) × ShowsEnd result.0 (view_shown posted)) }
     {
         let receipt = self.produce(next_time);
         let posted = if is_end(receipt.reply()) {
@@ -148,7 +160,7 @@ impl<W: WorldBrand> LockedLedger<W> {
 
     /// The view of the ledger as it stands, none where a growth is refused.
     pub fn look(&self) -> Option<PostedView<W>>
-        ensures { IfSome result (λ posted. (posted ≡ self.now) × IsLedger posted.ledger) }
+        ensures { IfSome result (λ posted. (posted ≡ self.now.held) × IsLedger posted.ledger) }
     {
         match self.ledger().view() {
             Ok(view) => Some(PostedView {
@@ -159,23 +171,21 @@ impl<W: WorldBrand> LockedLedger<W> {
         }
     }
 
-    /// What a receipt of this chain claims stands in the history.
+    /// The call of a receipt of this chain stands at its place.
     pub fn find(&mut self, receipt: &Receipt<W>)
         ensures same { self.new ≡ self.old }
-        ensures holds { ClaimHoldsOnItsChain self.old receipt.now }
+        ensures stands { StandsOnItsChain self.old.held.ledger.chain self.old.calls receipt.now }
     {
         if receipt.chain != self.ledger.chain() {
             return;
         }
-        if let Some(mark) = &receipt.mark {
-            self.keeper.check(mark);
-        }
+        self.keeper.check(&receipt.mark);
     }
 
-    /// What the receipts of this chain claim stands in the history.
+    /// The calls of the receipts of this chain stand at their places.
     pub fn find_all(&mut self, receipts: &[Receipt<W>])
         ensures same { self.new ≡ self.old }
-        ensures hold { All (ClaimHoldsOnItsChain self.old) receipts.now }
+        ensures stand { All (StandsOnItsChain self.old.held.ledger.chain self.old.calls) receipts.now }
     {
         for k in 0..receipts.len() {
             self.find(&receipts[k]);
@@ -185,17 +195,18 @@ impl<W: WorldBrand> LockedLedger<W> {
     /// The ledger was once as it was read, if that was read of its chain.
     pub fn recall(&mut self, reading: &LedgerReading<W>)
         ensures same { self.new ≡ self.old }
-        ensures once { IsEarlierOnItsChain self.old reading.now }
+        ensures once { IsEarlierOnItsChain self.old.held reading.now }
     {
-        if reading.chain == self.ledger.chain() {
-            self.keeper.check(&reading.mark);
+        if reading.chain != self.ledger.chain() {
+            return;
         }
+        self.keeper.check(&reading.mark);
     }
 
     /// The ledger was once as each reading of its chain has it.
     pub fn recall_all(&mut self, readings: &[LedgerReading<W>])
         ensures same { self.new ≡ self.old }
-        ensures once { All (IsEarlierOnItsChain self.old) readings.now }
+        ensures once { All (IsEarlierOnItsChain self.old.held) readings.now }
     {
         for k in 0..readings.len() {
             self.recall(&readings[k]);
@@ -204,8 +215,9 @@ impl<W: WorldBrand> LockedLedger<W> {
 
     /// The ledger, taken out.
     pub fn into_ledger(self) -> Ledger
-        ensures same { result ≡ self }
+        ensures same { result ≡ self.held }
         ensures world { IsOfWorld W.table W.genesis result }
+        ensures asked { AreCallsOf result.ledger self.calls }
     {
         self.ledger
     }
@@ -217,17 +229,6 @@ fn ended(ledger: &mut Ledger, next_time: u64) -> Reply
     ensures adds { AddsOrNot ledger.old.ledger (event_of.Block ledger.old.ledger.chain next_time) result ledger.new.ledger }
 {
     ledger.end_block(next_time)
-}
-
-// What a call's receipt claims by: nothing where the call added no entry.
-fn claimed(mark: Bookmark, reply: &Reply) -> Option<Bookmark>
-    ensures nothing { reply.now ≡ reply_of.No NoMemory → result ≡ None }
-    ensures one { (reply.now ≡ reply_of.No NoMemory → ⊥) → result ≡ Some mark }
-{
-    match reply {
-        Reply::No(Refusal::NoMemory) => None,
-        _ => Some(mark),
-    }
 }
 
 // Whether a block was ended.

@@ -1,37 +1,32 @@
 //! What a call on a shared ledger was answered.
-ghost use Rattle.std.specs.Prelude.{◌≡◌, ◌⊎◌, IsSome};
-ghost use Rattle.ibc_ids.specs.declared.refusal.Refusal.TheVariants.{NoMemory};
-ghost use Rattle.ibc_machine.specs.declared.reply.Reply.TheVariants as answer;
+ghost use Rattle.std.specs.Prelude.{◌≡◌, List};
+ghost use Rattle.ibc_ledger.specs.LedgerModel.{LedgerModel};
+ghost use Rattle.ibc_ledger_lock.specs.ReceiptsAndReadings.{AreInHistory, HasAnswered, ReceiptModel};
 
 use crate::book::Bookmark;
 use crate::world::WorldBrand;
 use ibc_machine::Reply;
 use std::marker::{Model, PhantomData};
 
-/// The reply of a call on a chain of the world. Contracts see, where it isn't `NoMemory`, the place at which the chain's
-/// history has the reply, and the event that stands there.
+/// The reply of a call on a chain of the world. Contracts see what was asked too, and the place of the call among all that were
+/// made on the chain.
 #[derive(Drop)]
 pub struct Receipt<W: WorldBrand> {
     pub(crate) chain: u8,
     pub(crate) reply: Reply,
-    pub(crate) mark: Option<Bookmark>,
+    pub(crate) mark: Bookmark,
     pub(crate) of: PhantomData<W>,
 }
 
 impl<W: WorldBrand> Model for Receipt<W> {
-    ghost use Rattle.std.specs.Prelude.{◌≡◌, ◌⊎◌, None, IfSome, IsNone, IsSome};
-    ghost use Rattle.std.specs.List.{last_or};
-    ghost use Rattle.std.specs.Option.{IsSomeAnd, option_and_then};
-    ghost use Rattle.ibc_ids.specs.declared.refusal.Refusal.TheVariants.{NoMemory};
-    ghost use Rattle.ibc_machine.specs.declared.reply.Reply.TheVariants as answer;
-    ghost use Rattle.ibc_ledger_lock.specs.ReceiptsAndReadings.{ReceiptModel, claim_of};
+    ghost use Rattle.std.specs.Prelude.{◌≡◌};
+    ghost use Rattle.ibc_ledger_lock.specs.ReceiptsAndReadings.{IsLastAnswered, ReceiptModel, told_of};
 
     ghost Value = { ReceiptModel };
 
-    ghost view = { λ r. record { chain = r.chain; reply = r.reply; claim = option_and_then (λ m. claim_of m.known.history) r.mark } };
+    ghost view = { λ r. told_of r.chain r.reply r.mark.known.calls };
 
-    ghost invariant = { λ r. (((r.reply ≡ answer.No NoMemory) × IsNone r.mark) ⊎ ((r.reply ≡ answer.No NoMemory → ⊥) × IsSome r.mark))
-        × IfSome r.mark (λ m. (m.book ≡ W.book r.chain) × IsSomeAnd (last_or None m.known.history) (λ e. e.entry.reply ≡ r.reply)) };
+    ghost invariant = { λ r. (r.mark.book ≡ W.book r.chain) × IsLastAnswered r.reply r.mark.known.calls };
 }
 
 impl<W: WorldBrand> Receipt<W> {
@@ -42,10 +37,9 @@ impl<W: WorldBrand> Receipt<W> {
         self.chain
     }
 
-    /// The reply. Where it isn't `NoMemory`, the history of the chain has it.
+    /// The reply.
     pub fn reply(&self) -> &Reply
-        ensures reply { result.now ≡ self.now.reply }
-        ensures claimed { (self.now.reply ≡ answer.No NoMemory) ⊎ IsSome self.now.claim }
+        ensures { result.now ≡ self.now.reply }
     {
         &self.reply
     }
@@ -57,3 +51,8 @@ impl<W: WorldBrand> Receipt<W> {
         self.reply
     }
 }
+
+/// What a ledger answered stands in its history, in the order of the calls.
+pub fn lemma_are_in_history()
+    ensures { (receipts : List ReceiptModel) (held : LedgerModel) → HasAnswered receipts held → AreInHistory receipts held }
+{}

@@ -17,7 +17,7 @@ use Rattle.ibc_race.specs.SharedWorlds.{HasItsBook, book_of, table_of}
 -- ---- what is so of each element, by places
 
 module _ {X : Type 0} (P : X → Type 0) where
-  from_places : (xs : List X) → ((k : ℕ) (x : X) → slice_get xs k ≡ Some x → P x) → All P xs
+  pub from_places : (xs : List X) → ((k : ℕ) (x : X) → slice_get xs k ≡ Some x → P x) → All P xs
   from_places [] h = All-nil P
   from_places (x ∷ xs) h = All-cons P x xs (h 0 x refl) (from_places xs (λ k y at. h (suc k) y at))
 

@@ -1,2 +1,2 @@
-mod Booked
+pub mod Booked
 mod Gathering

@@ -1,12 +1,13 @@
 //! The ledgers of one world as chains that threads share, and what they come to once no thread holds them any more.
 #![tactic(auto)]
 
-ghost use Rattle.std.specs.Prelude.{◌≡◌, ◌⊎◌, ◌↔◌, All, Err, IfErr, IfOk, IsOkUnless, false, length, map};
+ghost use Rattle.std.specs.Prelude.{◌≡◌, ◌⊎◌, ◌↔◌, All, Err, IfErr, IfOk, IsOkUnless, false, map};
 ghost use Rattle.ibc_ids.specs.declared.refusal.Refusal.TheVariants.{BadMessage, NoMemory};
 ghost use Rattle.ibc_machine.specs.chain.Genesis.{genesis_state, is_allowed};
 ghost use Rattle.ibc_refinement.specs.World.{AreNew};
 ghost use Rattle.ibc_world_core.specs.WorldModel.{ledgers_alone};
-ghost use Rattle.ibc_race.specs.SharedWorlds.{AreGathered, HasItsBook, IsAuditOf, book_of, table_of};
+ghost use Rattle.ibc_ledger_lock.specs.ReceiptsAndReadings.{HasAnswered, IsEarlierOnItsChain, IsOfWorld};
+ghost use Rattle.ibc_race.specs.SharedWorlds.{AreBroken, AreGathered, HasItsBook, IsAuditOf, book_of, numbers_of, table_of};
 
 use ibc_ids::Refusal;
 use ibc_ledger::Ledger;
@@ -102,37 +103,60 @@ fn refusal_of(back: (Refusal, Ledger)) -> Refusal
 }
 
 /// What the chains of a world hold, once the threads that drove them are done, in any order. To be answered is to know that
-/// there are ledgers of the world which together did one run of the machine, of which the laws hold (where no two different
-/// texts that were hashed share a digest), that these hold what is told, that each receipt's event stands with its reply at
-/// its place in the history of each ledger of its chain's number, and that each such ledger was once as each reading of its
-/// number has it. Refused: `BadMessage`, of which no clause says when it comes; `NoMemory`.
+/// there are ledgers of the world, of these chains, which together did one run of the machine, of which the laws hold (where no
+/// two different texts that were hashed share a digest), and that these hold what is told. Of each there are calls that are all
+/// that it was asked. Among them, at its place, stands the call of each receipt of the ledger's number. And each was once as each
+/// reading of its number has it. Refused: `BadMessage` only where there are no chains, or one of the genesis is missing among them
+/// or stands there twice; `NoMemory`.
 pub fn audit_chains<W: WorldBrand>(
     alloc: Global,
     chains: Vec<Chain<W>>,
     receipts: &[Receipt<W>],
     readings: &[LedgerReading<W>],
 ) -> Result<Audit, Refusal>
-    ensures audited { IfOk result (IsAuditOf W.table W.genesis (length chains.items) receipts.now readings.now) }
+    ensures audited { IfOk result (IsAuditOf W.table W.genesis chains.items receipts.now readings.now) }
+    ensures bad { result ≡ Err BadMessage → AreBroken W.genesis chains.items }
     ensures err { IfErr result (λ refusal. (refusal ≡ BadMessage) ⊎ (refusal ≡ NoMemory)) }
 {
     lawful_audit(alloc, ledgers_of(alloc, chains, receipts, readings)?)
 }
 
-// The ledgers of chains, taken out. What each receipt claims is so in those of its chain's number, and each was once as each
-// reading of its number has it.
+// The ledgers of chains, taken out.
 fn ledgers_of<W: WorldBrand>(
     alloc: Global,
     chains: Vec<Chain<W>>,
     receipts: &[Receipt<W>],
     readings: &[LedgerReading<W>],
 ) -> Result<Vec<Ledger>, Refusal>
-    ensures as_many { IfOk result (λ ledgers. length ledgers.items ≡ length chains.items) }
+    ensures numbers { IfOk result (λ ledgers. numbers_of ledgers.items ≡ chains.items) }
     ensures gathered { IfOk result (λ ledgers. AreGathered W.table W.genesis receipts.now readings.now ledgers.items) }
     ensures err { IsOkUnless result NoMemory }
 {
     let mut ledgers = Vec::with_capacity(alloc, chains.len())?;
     for chain in chains {
-        ledgers.push(chain.into_ledger(receipts, readings))?;
+        ledgers.push(ledger_of(chain, receipts, readings)?)?;
     }
     Ok(ledgers)
+}
+
+// The ledger of a chain, taken out. That it is of another chain, which it never is, is told as want of memory.
+fn ledger_of<W: WorldBrand>(
+    chain: Chain<W>,
+    receipts: &[Receipt<W>],
+    readings: &[LedgerReading<W>],
+) -> Result<Ledger, Refusal>
+    ensures number { IfOk result (λ held. held.ledger.chain ≡ chain) }
+    ensures world { IfOk result (IsOfWorld W.table W.genesis) }
+    ensures answered { IfOk result (HasAnswered receipts.now) }
+    ensures once { IfOk result (λ held. All (IsEarlierOnItsChain held) readings.now) }
+    ensures err { IsOkUnless result NoMemory }
+{
+    let number = chain.number();
+    let ledger = chain.into_ledger(receipts, readings);
+    if ledger.chain() == number {
+        Ok(ledger)
+    } else {
+        drop(ledger);
+        Err(Refusal::NoMemory)
+    }
 }

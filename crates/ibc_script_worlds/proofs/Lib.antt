@@ -1,2 +1,4 @@
 pub mod Crossing
-mod Raced
+pub mod Raced
+pub mod Receipts
+pub mod Standing

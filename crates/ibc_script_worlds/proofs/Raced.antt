@@ -1,53 +1,74 @@
 -- What an audit of shared chains says of what a race tells.
-use Rattle.std.proofs.Common.{◌≡◌, ℕ, List, [], Option, None, Result, Ok, Err, IfOk, OnOk, ◌∷◌, ◌++◌, refl, sym, subst}
+use Rattle.std.proofs.Common.{◌≡◌, ◌∙◌, ℕ, List, [], Option, None, Some, Result, Ok, Err, OnOk, ap, map, option_map, refl, slice_get, sym, subst}
 use Rattle.std.specs.List.{flat_map}
+use Rattle.std.specs.Option.{IsSomeAnd}
+use Rattle.std.proofs.lemmas.List.Elements.{All-map, All-weaker}
+use Rattle.std.proofs.lemmas.Option.{slice_get-map}
 use Rattle.ibc_ids.specs.Texts.{Text}
 use Rattle.ibc_script_cli.specs.Runs.{Act, Reached, Runs, asking_acts}
 use Rattle.ibc_machine.specs.chain.Genesis.{GenesisState}
-use Rattle.ibc_machine.specs.declared.event.Event.{Event}
-use Rattle.ibc_machine.specs.declared.reply.Reply.{Reply}
+use Rattle.ibc_machine.specs.promises.Histories.{Happened, history_of}
 use Rattle.ibc_root_table.specs.Passes.{TableName}
 use Rattle.ibc_ledger.specs.LedgerModel.{LedgerModel}
-use Rattle.ibc_ledger_lock.specs.ReceiptsAndReadings.{IsReceiptOf, ReceiptModel}
+use Rattle.ibc_ledger.specs.SentPackets.{happened_on}
+use Rattle.ibc_ledger_lock.specs.ReceiptsAndReadings.{HasAnswered, ReceiptModel}
 use Rattle.ibc_world_core.specs.declared.holdings.Audit.{Audit}
 use Rattle.ibc_theorem.specs.EveryAudit.{AreLawful}
-use Rattle.ibc_race.specs.SharedWorlds.{IsAuditOf}
+use Rattle.ibc_race.specs.SharedWorlds.{IsAuditOf, numbers_of}
 use Rattle.ibc_script_cli.specs.declared.racing.RaceAudit.{RaceAudit}
 use Rattle.ibc_script.specs.declared.script.Step.{Step}
-use Rattle.ibc_script_worlds.specs.Racing.{AreTaken, IsAsked, IsRaceOf, Takes, on_chain, raced_chains}
+use Rattle.ibc_script_worlds.specs.KeptReceipts.{AreKept, IsKept, told_by}
+use Rattle.ibc_script_worlds.specs.Racing.{AreTaken, HasLedger, IsRaceOf, StandInOrder, Takes, raced_chains}
+use Rattle.ibc_script_worlds.proofs.Standing.{stand_there}
 
-pub raced : (table : TableName) (genesis : GenesisState) (n : ℕ) (receipts : List ReceiptModel) (readings : List LedgerModel) (steps : List Step) (audit : Audit) (told : RaceAudit)
-    → IsAuditOf table genesis n receipts readings audit → AreTaken steps receipts → told.balances ≡ audit.balances → told.notes ≡ audit.notes → IsRaceOf genesis steps told
-raced table genesis n receipts readings steps audit told is taken balances notes =
-    let same : audit ≡ record { balances = told.balances; notes = told.notes } = λ i. record { balances = sym balances i; notes = sym notes i } in (
+-- ---- ledgers by their numbers
+
+abbrev number_of : LedgerModel → ℕ
+number_of held = held.ledger.chain
+
+has_number : (o : Option LedgerModel) (n : ℕ) → option_map number_of o ≡ Some n → IsSomeAnd o (λ held. held.ledger.chain ≡ n)
+has_number None n is = absurd cc
+has_number (Some held) n is = cc
+
+has_ledger : (ledgers : List LedgerModel) (numbers : List ℕ) (told : ReceiptModel) → numbers_of ledgers ≡ numbers → IsKept numbers told → HasLedger ledgers (told_by told)
+has_ledger ledgers numbers told same kept =
+    let there = sym (slice_get-map number_of ledgers told.chain) ∙ ap (λ (l : List ℕ). slice_get l told.chain) same ∙ kept.there in
+    subst (λ (n : ℕ). IsSomeAnd (slice_get ledgers n) (λ held. held.ledger.chain ≡ n)) kept.of_event (has_number (slice_get ledgers told.chain) told.chain there)
+
+-- ---- what an audit says
+
+pub raced : (table : TableName) (genesis : GenesisState) (numbers : List ℕ) (receipts : List ReceiptModel) (readings : List LedgerModel) (steps : List Step) (audit : Audit) (told : RaceAudit)
+    → IsAuditOf table genesis numbers receipts readings audit → AreTaken steps (map told_by receipts) → AreKept numbers receipts
+    → told.balances ≡ audit.balances → told.notes ≡ audit.notes → IsRaceOf genesis steps told
+raced table genesis numbers receipts readings steps audit told is taken kept balances notes =
+    let same : audit ≡ record { balances = told.balances; notes = told.notes } = λ i. record { balances = sym balances i; notes = sym notes i } in
+    let Stand : LedgerModel → Type 0 = λ held. StandInOrder (history_of held.ledger.chain (map told_by receipts)) (happened_on held.ledger) in (
       is.0,
-      receipts,
+      map told_by receipts,
       (λ k d within. (is.2.0 k d within).1),
       subst (λ (a : Audit). AreLawful is.0 a) same is.4,
       taken,
-      is.2.1,
+      All-map (HasLedger is.0) told_by receipts
+          (All-weaker (IsKept numbers) (λ t. HasLedger is.0 (told_by t)) (λ t one. has_ledger is.0 numbers t is.1 one) receipts kept.1),
+      All-weaker (HasAnswered receipts) Stand (λ held answered. stand_there numbers receipts held kept answered) is.0 is.2.1,
     )
 
+-- ---- what is done
+
 -- what was done, whatever was written
-pub unseen : {T E : Type 0} (names : List Text) (acts : List Act) (result : Result T E) (old new : List ReceiptModel) (before after : Option Text)
+pub unseen : {T E : Type 0} (names : List Text) (acts : List Act) (result : Result T E) (old new : List Happened) (before after : Option Text)
     → Runs raced_chains names acts result old before new after → OnOk result (Takes names acts old new)
 unseen names acts (Ok x) old new before after r = record { count = r.count; text = r.text; reaches = r.reaches; appends = tt }
 unseen names acts (Err fault) old new before after s = tt
 
-pub nothing_done : (names : List Text) (acts : List Act) (old : List ReceiptModel) → Reached raced_chains names acts old None acts old None
+pub nothing_done : (names : List Text) (acts : List Act) (old : List Happened) → Reached raced_chains names acts old None acts old None
 nothing_done names acts old = record { count = 0; text = []; reaches = (refl, refl, refl); appends = tt }
 
--- the receipts of a race that began with none
-pub all_taken : (names : List Text) (steps : List Step) (old new : List ReceiptModel) (receipts : List ReceiptModel) → old ≡ [] → receipts ≡ new
-    → Takes names (flat_map asking_acts steps) old new → AreTaken steps receipts
-all_taken names steps old new receipts none same taken = (
+-- what was asked in a race that began with nothing
+pub all_taken : (names : List Text) (steps : List Step) (old new asked : List Happened) → old ≡ [] → asked ≡ new → Takes names (flat_map asking_acts steps) old new
+    → AreTaken steps asked
+all_taken names steps old new asked none same taken = (
   names,
-  subst (λ (r : List ReceiptModel). Takes names (flat_map asking_acts steps) [] r) (sym same)
-      (subst (λ (r : List ReceiptModel). Takes names (flat_map asking_acts steps) r new) none taken),
+  subst (λ (r : List Happened). Takes names (flat_map asking_acts steps) [] r) (sym same)
+      (subst (λ (r : List Happened). Takes names (flat_map asking_acts steps) r new) none taken),
 )
-
--- a receipt is kept
-pub kept : {E : Type 0} (result : Result Reply E) (receipt : ReceiptModel) (event : Event) (old new : List ReceiptModel) → IsReceiptOf (on_chain receipt.chain event) receipt
-    → OnOk result (new ≡ old ++ receipt ∷ []) → IfOk result (λ reply. reply ≡ receipt.reply) → IfOk result (λ reply. IsAsked old event reply new)
-kept (Ok reply) receipt event old new is pushed same = (receipt, is, sym same, pushed)
-kept (Err refusal) receipt event old new is pushed same = tt

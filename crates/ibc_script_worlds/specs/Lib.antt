@@ -1,2 +1,3 @@
 pub mod Relaying
 pub mod Racing
+pub mod KeptReceipts

@@ -1,47 +1,57 @@
 -- What a race comes to.
-use Rattle.std.specs.Prelude.{◌≡◌, ℕ, List, [], ◌∷◌, ◌++◌, None}
+use Rattle.std.specs.Prelude.{◌≡◌, ◌⊎◌, List, [], ◌∷◌, ◌++◌, None, slice_get}
 use Rattle.std.specs.List.{All, flat_map}
+use Rattle.std.specs.Option.{IsSomeAnd}
 use Rattle.ibc_ids.specs.Texts.{Text}
+use Rattle.ibc_ids.specs.declared.refusal.Refusal.TheVariants.{NoMemory}
 use Rattle.ibc_machine.specs.chain.Genesis.{GenesisState}
 use Rattle.ibc_machine.specs.declared.event.Event.{Event}
-use Rattle.ibc_machine.specs.declared.event.Event.TheVariants as event
 use Rattle.ibc_machine.specs.declared.reply.Reply.{Reply}
+use Rattle.ibc_machine.specs.declared.reply.Reply.TheVariants as reply
+use Rattle.ibc_machine.specs.ledger.Ledgers.{chain_of}
+use Rattle.ibc_machine.specs.promises.Histories.{Happened, history_of}
 use Rattle.ibc_ledger.specs.LedgerModel.{LedgerModel}
-use Rattle.ibc_ledger_lock.specs.ReceiptsAndReadings.{ClaimHoldsOnItsChain, IsReceiptOf, ReceiptModel}
+use Rattle.ibc_ledger.specs.SentPackets.{happened_on}
 use Rattle.ibc_theorem.specs.EveryAudit.{AreLawful}
 use Rattle.ibc_script.specs.declared.script.Step.{Step}
 use Rattle.ibc_script_cli.specs.Runs.{Act, Reached, asking_acts}
 use Rattle.ibc_script_cli.specs.ScriptChains.{ScriptChains, any_answers}
 use Rattle.ibc_script_cli.specs.declared.racing.RaceAudit.{RaceAudit}
 
--- the event, on the chain of this number
-abbrev pub on_chain : ℕ → Event → Event
-on_chain n (event.Message chain m) = event.Message n m
-on_chain n (event.Block chain next_time) = event.Block n next_time
+-- the main thread asked for an event and got the reply, which isn't that memory ran out
+abbrev pub IsAsked : List Happened → Event → Reply → List Happened → Type 0
+IsAsked old event given new = (given ≡ reply.No NoMemory → ⊥) × (new ≡ old ++ (event, given) ∷ [])
 
--- The main thread asked for an event: its next receipt is of this event, and has this reply.
-abbrev pub IsAsked : List ReceiptModel → Event → Reply → List ReceiptModel → Type 0
-IsAsked old event given new =
-    (told : ReceiptModel) × IsReceiptOf (on_chain told.chain event) told × (told.reply ≡ given) × (new ≡ old ++ told ∷ [])
-
--- chains that threads share, by the receipts of what the main thread asked
-abbrev pub raced_chains : ScriptChains (List ReceiptModel)
+-- chains that threads share, by what the main thread asked and was answered, in order
+abbrev pub raced_chains : ScriptChains (List Happened)
 raced_chains = record { asked = IsAsked; answers = λ _. any_answers }
 
 -- the main thread did acts, whatever was written
-abbrev pub Takes : List Text → List Act → List ReceiptModel → List ReceiptModel → Type 0
+abbrev pub Takes : List Text → List Act → List Happened → List Happened → Type 0
 Takes names acts old new = Reached raced_chains names acts old None [] new None
 
--- It took all steps of a script that ask: each reply that it went by is a receipt's.
-abbrev pub AreTaken : List Step → List ReceiptModel → Type 0
-AreTaken steps receipts = (names : List Text) × Takes names (flat_map asking_acts steps) [] receipts
+-- It took all steps of a script that ask. This is what they asked and were answered, in order.
+abbrev pub AreTaken : List Step → List Happened → Type 0
+AreTaken steps asked = (names : List Text) × Takes names (flat_map asking_acts steps) [] asked
+
+-- The elements of the first list stand in the second one, in their order: both begin with the same element, or the second has
+-- all of them behind its first.
+abbrev pub StandInOrder : {A : Type 0} → List A → List A → Type 0
+StandInOrder xs [] = xs ≡ []
+StandInOrder {A} xs (y ∷ ys) = ((rest : List A) × (xs ≡ y ∷ rest) × StandInOrder rest ys) ⊎ StandInOrder xs ys
+
+-- the chain that was asked has its ledger at its number's place
+abbrev pub HasLedger : List LedgerModel → Happened → Type 0
+HasLedger ledgers h = IsSomeAnd (slice_get ledgers (chain_of h.0)) (λ held. held.ledger.chain ≡ chain_of h.0)
 
 -- There are ledgers of the genesis that together did a lawful run of the machine, and hold what is told. The steps of the
--- script were taken, and what each receipt of theirs claims stands in the history of the ledger of its chain's number.
+-- script were taken, and each chain that they asked has its ledger. What they asked of a chain, with the replies, stands in the
+-- history of its ledger, in their order.
 abbrev pub IsRaceOf : GenesisState → List Step → RaceAudit → Type 0
 IsRaceOf genesis steps audited =
-    (ledgers : List LedgerModel) × (receipts : List ReceiptModel)
+    (ledgers : List LedgerModel) × (asked : List Happened)
     × All (λ (held : LedgerModel). held.ledger.genesis ≡ genesis) ledgers
     × AreLawful ledgers (record { balances = audited.balances; notes = audited.notes })
-    × AreTaken steps receipts
-    × All (λ (held : LedgerModel). All (ClaimHoldsOnItsChain held) receipts) ledgers
+    × AreTaken steps asked
+    × All (HasLedger ledgers) asked
+    × All (λ (held : LedgerModel). StandInOrder (history_of held.ledger.chain asked) (happened_on held.ledger)) ledgers

@@ -1,6 +1,6 @@
 //! Races on the chains of a world that threads share.
 
-ghost use Rattle.std.specs.Prelude.{◌≡◌, ◌⊎◌, ◌≤◌, [], List, All, IfErr, IfOk, OnOk, length};
+ghost use Rattle.std.specs.Prelude.{◌≡◌, ◌⊎◌, ◌≤◌, [], List, All, IfErr, IfOk, OnOk, length, map};
 ghost use Rattle.std.specs.List.{flat_map};
 ghost use denote.Param.Send.{IsSync};
 ghost use Rattle.ibc_script.specs.Faults.{IsScriptFault, IsRunFault};
@@ -8,6 +8,7 @@ ghost use Rattle.ibc_script.specs.declared.script.Step.{Step as TakenStep};
 ghost use Rattle.ibc_script_cli.specs.Runs.{asking_acts};
 ghost use Rattle.ibc_machine.specs.chain.Genesis.{genesis_state};
 ghost use Rattle.ibc_race.specs.SharedWorlds.{HasItsBook};
+ghost use Rattle.ibc_script_worlds.specs.KeptReceipts.{AreKept, told_by};
 ghost use Rattle.ibc_script_worlds.specs.Racing.{AreTaken, IsRaceOf, Takes};
 
 use crate::blocks::ChainStarts;
@@ -48,8 +49,9 @@ impl<R: Threads + Wait + Sync> Races for RaceRunner<'_, R> {
 }
 
 /// Runs a race on chains of its genesis that threads share, with so many relayers at each `relay`. What is told is what ledgers
-/// of that genesis hold that together did one lawful run of the machine. Faults: `BadScript` where no chains begin so; those that
-/// stop a run.
+/// of that genesis hold that together did one lawful run of the machine. What the script's own steps asked of a chain stands in
+/// its ledger's history, in their order, with the replies that they went by. Faults: `BadScript` where no chains begin so; those
+/// that stop a run, and `NoMemory` also where that is the reply to a step.
 pub fn race_on_ledgers<R: Threads + Wait + Sync>(
     rt: &R,
     alloc: Global,
@@ -145,7 +147,8 @@ fn take_all<R: Threads + Wait + Sync, W: WorldBrand + Send + Sync>(
 ) -> Result<(Vec<Chain<W>>, Vec<Receipt<W>>), Fault>
     requires few { 1 ≤ relayers × relayers ≤ 8 }
     requires new { shared ≡ [] }
-    ensures taken { IfOk result (λ done. AreTaken steps.items done.1.items) }
+    ensures taken { IfOk result (λ done. AreTaken steps.items (map told_by done.1.items)) }
+    ensures kept { IfOk result (λ done. AreKept done.0.items done.1.items) }
     ensures faults { IfErr result IsRunFault }
 {
     match take_each(relayers, runner, &mut shared, steps) {
@@ -208,7 +211,8 @@ fn audited<W: WorldBrand>(
     chains: Vec<Chain<W>>,
     receipts: Vec<Receipt<W>>,
 ) -> Result<RaceAudit, Fault>
-    ensures raced { (steps : List TakenStep) → AreTaken steps receipts.items → IfOk result (IsRaceOf W.genesis steps) }
+    requires { AreKept chains.items receipts.items }
+    ensures raced { (steps : List TakenStep) → AreTaken steps (map told_by receipts.items) → IfOk result (IsRaceOf W.genesis steps) }
     ensures faults { IfErr result IsScriptFault }
 {
     let readings = Vec::new(alloc);

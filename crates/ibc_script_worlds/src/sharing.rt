@@ -1,9 +1,12 @@
 //! Chains that threads share, as the steps of a script see them.
 
-ghost use Rattle.std.specs.Prelude.{◌≡◌, ◌≤◌, ◌++◌, ◌∷◌, [], IfOk, IsOkUnless, OnOk};
+ghost use Rattle.std.specs.Prelude.{◌≡◌, ◌≤◌, ◌++◌, ◌∷◌, [], IfSome, IsOkUnless, OnErr, OnOk, IfOk, Some, map, option_map, slice_get, true};
 ghost use Rattle.ibc_ids.specs.declared.refusal.Refusal.TheVariants.{NoMemory};
-ghost use Rattle.ibc_ledger_lock.specs.ReceiptsAndReadings.{IsReceiptOf};
-ghost use Rattle.ibc_script_worlds.specs.Racing.{on_chain, raced_chains};
+ghost use Rattle.ibc_machine.specs.declared.reply.Reply.TheVariants as answer;
+ghost use Rattle.ibc_machine.specs.ledger.Ledgers.{chain_of};
+ghost use Rattle.ibc_ledger_lock.specs.ReceiptsAndReadings.{IsBehind, IsReceiptOf};
+ghost use Rattle.ibc_script_worlds.specs.KeptReceipts.{AreInOrder, AreKept, IsLastOf, told_by};
+ghost use Rattle.ibc_script_worlds.specs.Racing.{raced_chains};
 
 use crate::blocks::ChainStarts;
 use ibc_ids::{Bytes, ChannelId, Key, PortId, Refusal};
@@ -18,7 +21,8 @@ use std::marker::Model;
 use std::sync::Wait;
 use std::thread::Threads;
 
-/// Chains that threads share, as the steps of a script see them, with the receipts of what these asked, in its order.
+/// Chains that threads share, as the steps of a script see them, with the receipts of what these asked. Contracts see what
+/// they asked and were answered, in order.
 #[derive(Drop)]
 pub struct Shared<'r, R: Wait, W: WorldBrand> {
     rt: &'r R,
@@ -29,12 +33,15 @@ pub struct Shared<'r, R: Wait, W: WorldBrand> {
 }
 
 impl<'r, R: Wait, W: WorldBrand> Model for Shared<'r, R, W> {
-    ghost use Rattle.std.specs.Prelude.{List};
-    ghost use Rattle.ibc_ledger_lock.specs.ReceiptsAndReadings.{ReceiptModel};
+    ghost use Rattle.std.specs.Prelude.{List, map};
+    ghost use Rattle.ibc_machine.specs.promises.Histories.{Happened};
+    ghost use Rattle.ibc_script_worlds.specs.KeptReceipts.{AreKept, told_by};
 
-    ghost Value = { List ReceiptModel };
+    ghost Value = { List Happened };
 
-    ghost view = { λ s. s.receipts.items };
+    ghost view = { λ s. map told_by s.receipts.items };
+
+    ghost invariant = { λ s. AreKept s.chains.items s.receipts.items };
 }
 
 impl<'r, R: Wait, W: WorldBrand> Shared<'r, R, W> {
@@ -58,29 +65,14 @@ impl<'r, R: Wait, W: WorldBrand> Shared<'r, R, W> {
 
     /// The chains, and the receipts of what they were asked.
     pub fn into_parts(self) -> (Vec<Chain<W>>, Vec<Receipt<W>>)
-        ensures { result.1.items ≡ self.entry }
+        ensures asked { map told_by result.1.items ≡ self.entry }
+        ensures kept { AreKept result.0.items result.1.items }
     {
         (self.chains, self.receipts)
     }
 }
 
 impl<R: Wait, W: WorldBrand> Shared<'_, R, W> {
-    // Keeps a receipt, and tells its reply.
-    fn keep(&mut self, receipt: Receipt<W>) -> Result<Reply, Refusal>
-        ensures kept { OnOk result (self.new ≡ self.old ++ receipt ∷ []) }
-        ensures told { IfOk result (λ reply. reply ≡ receipt.reply) }
-        ensures err { IsOkUnless result NoMemory }
-    {
-        let reply: Result<Reply, AllocError> = receipt.reply().clone();
-        match self.receipts.push(receipt) {
-            Ok(()) => Ok(reply?),
-            Err(error) => {
-                drop(reply);
-                Err(Refusal::from(error))
-            }
-        }
-    }
-
     // The chain of a number, or none.
     fn chain(&self, chain: u8) -> Option<&Chain<W>> {
         self.chains.get(usize::from(chain))
@@ -115,13 +107,97 @@ impl<R: Threads + Wait + Sync, W: WorldBrand + Send + Sync> Shared<'_, R, W> {
     }
 }
 
-// Asks a chain for an event.
-fn asked<R: Wait, W: WorldBrand>(rt: &R, chain: &Chain<W>, event: Event) -> Receipt<W>
-    ensures { IsReceiptOf (on_chain result.chain event) result }
+// The number of the chain that the event is for.
+fn number_of(event: &Event) -> u8
+    ensures { result ≡ chain_of event.now }
 {
     match event {
-        Event::Message { message, .. } => chain.submit(rt, message),
-        Event::Block { next_time, .. } => chain.produce(rt, next_time),
+        Event::Message { chain, .. } | Event::Block { chain, .. } => *chain,
+    }
+}
+
+// The chain of a number, none where it doesn't stand at its number's place.
+fn chain_at<W: WorldBrand>(chains: &[Chain<W>], number: u8) -> Option<&Chain<W>>
+    ensures { IfSome result (λ chain. (chain.now ≡ number) × (slice_get chains.now number ≡ Some number)) }
+{
+    let chain = chains.get(usize::from(number))?;
+    if chain.number() == number {
+        Some(chain)
+    } else {
+        None
+    }
+}
+
+// The last of these receipts that is of the chain, none where none is.
+fn last_of<W: WorldBrand>(receipts: &[Receipt<W>], chain: u8) -> Option<&Receipt<W>>
+    requires { AreInOrder receipts.now }
+    ensures { IsLastOf chain receipts.now (option_map (λ last. last.now) result) }
+{
+    for behind in 0..receipts.len() {
+        let receipt = &receipts[receipts.len() - 1 - behind];
+        if receipt.chain() == chain {
+            return Some(receipt);
+        }
+    }
+    None
+}
+
+// Asks the event's chain for it, which was asked before as the earlier receipt tells.
+fn asked<R: Wait, W: WorldBrand>(
+    rt: &R,
+    chain: &Chain<W>,
+    earlier: Option<&Receipt<W>>,
+    event: Event,
+) -> Receipt<W>
+    requires { chain.now ≡ chain_of event }
+    ensures told { IsReceiptOf event result }
+    ensures behind { IfSome earlier.entry (λ before. IsBehind result before.now) }
+{
+    match (event, earlier) {
+        (Event::Message { message, .. }, None) => chain.submit(rt, message),
+        (Event::Message { message, .. }, Some(earlier)) => chain.submit_after(rt, earlier, message),
+        (Event::Block { next_time, .. }, None) => chain.produce(rt, next_time),
+        (Event::Block { next_time, .. }, Some(earlier)) => {
+            chain.produce_after(rt, earlier, next_time)
+        }
+    }
+}
+
+// Whether a reply tells that memory ran out.
+fn is_no_memory(reply: &Reply) -> bool
+    ensures { reply.now ≡ answer.No NoMemory → result ≡ true }
+{
+    matches!(reply, Reply::No(Refusal::NoMemory))
+}
+
+// Keeps a receipt, and tells its reply. Refused: `NoMemory`, also where that is the reply; the receipt isn't kept then.
+fn keep<W: WorldBrand>(
+    receipts: &mut Vec<Receipt<W>>,
+    receipt: Receipt<W>,
+) -> Result<Reply, Refusal>
+    ensures kept { OnOk result (receipts.new.items ≡ receipts.old.items ++ receipt ∷ []) }
+    ensures left { OnErr result (receipts.new.items ≡ receipts.old.items) }
+    ensures told { IfOk result (λ reply. reply ≡ receipt.reply) }
+    ensures answered { IfOk result (λ reply. reply ≡ answer.No NoMemory → ⊥) }
+    ensures err { IsOkUnless result NoMemory }
+{
+    if is_no_memory(receipt.reply()) {
+        drop(receipt);
+        return Err(Refusal::NoMemory);
+    }
+    let reply: Result<Reply, AllocError> = receipt.reply().clone();
+    match reply {
+        Ok(reply) => match receipts.push(receipt) {
+            Ok(()) => Ok(reply),
+            Err(error) => {
+                drop(reply);
+                Err(Refusal::from(error))
+            }
+        },
+        Err(error) => {
+            drop(receipt);
+            Err(Refusal::from(error))
+        }
     }
 }
 
@@ -129,15 +205,14 @@ impl<R: Wait, W: WorldBrand> Chains for Shared<'_, R, W> {
     ghost known = { raced_chains };
 
     fn ask(&mut self, event: Event) -> Result<Reply, Refusal> {
-        let number = match &event {
-            Event::Message { chain, .. } | Event::Block { chain, .. } => *chain,
-        };
-        let Some(chain) = self.chain(number) else {
+        let number = number_of(&event);
+        let Some(chain) = chain_at(self.chains.as_slice(), number) else {
             drop(event);
             return Err(Refusal::UnknownChain);
         };
-        let receipt = asked(self.rt, chain, event);
-        self.keep(receipt)
+        let earlier = last_of(self.receipts.as_slice(), number);
+        let receipt = asked(self.rt, chain, earlier, event);
+        keep(&mut self.receipts, receipt)
     }
 
     fn value(&self, chain: u8, key: &Key) -> Result<Option<Bytes>, Refusal> {

@@ -29,20 +29,31 @@ lawful every world publications history =
       run = history.past;
       whole = λ k ledger there. history.merges.each k (entries ledger) (history_at world.ledgers k ledger there);
       no_others = ap (λ n. list_all (λ (entry : Entry). nat_lt (chain_of entry.event) n) (kept_entries world)) (sym (length-map world.ledgers entries)) ∙ history.merges.no_others;
+      each_moment = λ before after h. every.each_moment world.genesis happened states before h after history.past;
       one_peer = laws.one_peer world.genesis happened states history.past;
       exactly_once = λ e f peers. laws.exactly_once world.genesis happened states e f history.past peers;
-      received_was_sent = λ e f mine p peers. every.received_was_sent world.genesis happened states e f history.past peers mine p;
-      taken_as_written = λ e f p ack peers. every.taken_as_written world.genesis happened states e f history.past peers p ack;
       in_order = λ e f mine peers. laws.in_order world.genesis happened states e f history.past peers mine;
       conserved = λ e f denom peers. laws.conserved world.genesis happened states e f history.past peers denom;
-      supply_stays = λ chain denom. every.supply_stays world.genesis happened states chain denom history.past;
-      backed = λ chain denom. every.no_voucher_without_escrow world.genesis happened states chain denom history.past;
-      each_moment = λ before after h. every.each_moment world.genesis happened states before h after history.past;
-      who_pays = every.who_pays world.genesis happened states;
       never_poor = λ event. laws.never_poor world.genesis happened states event history.past;
-      was_never_short = every.was_never_short world.genesis happened states;
       never_short = λ chain m token takes brings.
           laws.never_short world.genesis happened states takes.2 chain m takes.1 brings.1 brings.3 token history.past takes.0 takes.3 brings.0 brings.2 brings.4 brings.5;
+      was_never_short = every.was_never_short world.genesis happened states;
+      received_was_sent = λ e f mine p peers. every.received_was_sent world.genesis happened states e f history.past peers mine p;
+      taken_as_written = λ e f p ack peers. every.taken_as_written world.genesis happened states e f history.past peers p ack;
+      settled_was_sent = every.settled_was_sent world.genesis happened states history.past;
+      received_in_time = every.received_in_time world.genesis happened states;
+      acknowledged_in_order = every.acknowledged_in_order world.genesis happened states history.past;
+      closed_is_silent = every.closed_is_silent world.genesis happened states;
+      taken_of_peer = every.taken_of_peer world.genesis happened states history.past;
+      peers_agree = λ e f mine theirs peers. every.peers_agree world.genesis happened states e f history.past peers mine theirs;
+      supply_stays = λ chain denom. every.supply_stays world.genesis happened states chain denom history.past;
+      backed = λ chain denom. every.no_voucher_without_escrow world.genesis happened states chain denom history.past;
+      who_pays = every.who_pays world.genesis happened states;
+      who_is_paid = every.who_is_paid world.genesis happened states;
+      each_balance = λ chain user denom. every.each_balance world.genesis happened states chain user denom history.past;
+      notes_are_received = λ chain channel. every.notes_are_received world.genesis happened states chain channel history.past;
+      notes_stay = every.notes_stay world.genesis happened states;
+      notes_were_sent = λ e f mine peers port. every.notes_were_sent world.genesis happened states e f history.past peers mine port;
     }
 
 pub are_lawful : EveryLaw → (ledgers : List LedgerModel) (audit : Audit) → IsAudit ledgers audit → AreLawful ledgers audit

@@ -2,7 +2,7 @@
 use Rattle.std.proofs.Common.{◌≡◌, ℕ, zero, suc, ◌<◌, Bool, true, false, refl, ap, sym, List, [], ◌∷◌, ◌++◌, length, Option, Some, None, ◌⊎◌, inl, inr, arith, ◌||◌, ◌==◌, cond, filter, filter_map, nat_eq, Contains, eqb-true, slice_get}
 use Rattle.std.specs.List.{IsDistinct, AllByRecursion, cons_option}
 use Rattle.ibc_machine.specs.chain.Records.{is_one_of}
-use Rattle.ibc_laws.proofs.basics.PassedTests.{either}
+use Rattle.ibc_laws.proofs.basics.PassedTests.{either, or_false}
 
 pub filter-append : {A : Type 0} (test : A → Bool) (xs ys : List A) → filter test (xs ++ ys) ≡ filter test xs ++ filter test ys
 filter-append test [] ys = refl
@@ -96,10 +96,6 @@ lemma_got_contains (y ∷ xs) zero x e = (0, omega arith, cc e)
 lemma_got_contains (y ∷ xs) (suc i) x e = let h = lemma_got_contains xs i x e in (suc h.0, (let lt = h.1 in omega arith), h.2)
 
 -- ---- no number twice
-
-or_false : (a b : Bool) → (a || b) ≡ false → (a ≡ false) × (b ≡ false)
-or_false true b e = absurd (cc e)
-or_false false b e = (refl, e)
 
 flip_test : (a b : ℕ) → (a == b) ≡ false → nat_eq b a ≡ false
 flip_test a b e = grind (arith, e)

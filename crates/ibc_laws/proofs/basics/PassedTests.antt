@@ -17,8 +17,17 @@ pub or_right : (a b : Bool) → b ≡ true → (a || b) ≡ true
 or_right true b e = refl
 or_right false b e = e
 
+pub or_false : (a b : Bool) → (a || b) ≡ false → (a ≡ false) × (b ≡ false)
+or_false true b e = absurd (cc e)
+or_false false b e = (refl, e)
+
 pub and_true : {a b : Bool} → a ≡ true → b ≡ true → (a && b) ≡ true
 and_true {a} {b} e f = rw e f
+
+-- what follows a condition that holds
+pub implied : (a b : Bool) → a ≡ true → (not a || b) ≡ true → b ≡ true
+implied true b is passed = passed
+implied false b is passed = absurd (cc is)
 
 pub no_longer : (a : Bool) → not a ≡ true → a ≡ false
 no_longer true e = absurd (cc e)

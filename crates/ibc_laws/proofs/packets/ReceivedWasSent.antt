@@ -21,12 +21,12 @@ use Rattle.ibc_laws.proofs.packets.ReceivedInOrder.{toward, lemma_sent_so}
 use Rattle.ibc_laws.proofs.packets.ThirdLaw.{Ordering, ordering_start, ordering_step, lemma_sent_to_peer}
 
 -- the packet was sent by the end's peer
-record WasSent (hs : List Happened) (w : World) (f : End) (p : Packet) : Type 0 where
+pub record WasSent (hs : List Happened) (w : World) (f : End) (p : Packet) : Type 0 where
   pub other : End
   pub peers : Peers w f other
   pub was_sent : Contains (sent_packets other (toward f) hs) p
 
-record AllSent (hs : List Happened) (w : World) : Type 0 where
+pub record AllSent (hs : List Happened) (w : World) : Type 0 where
   pub ordering : Ordering hs w
   pub each : (f : End) (p : Packet) → Contains (received_packets f hs) p → WasSent hs w f p
 
@@ -73,7 +73,7 @@ module _ (chains : ℕ) (w : World) (hs : List Happened) (h : Happened) (v : Wor
     each = λ f p has. lemma_each_after f p has (receiving chains w hs h v f (at_end chains w h v inv step f));
   }
 
-lemma_all_sent : (genesis : GenesisState) (happened : List Happened) (world : World) → IsPast genesis happened world → AllSent happened world
+pub lemma_all_sent : (genesis : GenesisState) (happened : List Happened) (world : World) → IsPast genesis happened world → AllSent happened world
 lemma_all_sent genesis = past_has genesis AllSent
     (λ happened old h new typed was step. lemma_all_sent_step (length genesis.chains) old happened h new (stepped genesis old h new step) was)
     (record { ordering = ordering_start genesis; each = λ f p has. absurd (let lt = has.1 in omega arith) })

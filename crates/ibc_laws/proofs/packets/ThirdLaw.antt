@@ -70,7 +70,7 @@ sent_toward_in e f mine port channel (Received p ack) = refl
 sent_toward_in e f mine port channel (Acknowledged p ack) = refl
 sent_toward_in e f mine port channel (TimedOut p) = refl
 
-sent_toward : (e f : End) (mine : Channel) → mine.end.peer_port ≡ f.port → mine.end.peer_channel ≡ Some f.channel
+pub sent_toward : (e f : End) (mine : Channel) → mine.end.peer_port ≡ f.port → mine.end.peer_channel ≡ Some f.channel
     → (hs : List Happened) → sent_packets e mine hs ≡ sent_packets e (toward f) hs
 sent_toward e f mine port channel hs =
     ap (λ (by : Happened → Option Packet). filter_map by (history_of e.chain hs))

@@ -37,6 +37,11 @@ stands w e m is = go (slice_get w e.chain) refl is
     go (Some c) there is = record { chain = c; there = there; is = is }
     go None there is = absurd (cc is)
 
+pub stands_at : (w : World) (e : End) (m : Channel) → Stands w e m → end_at w e ≡ Some m
+stands_at w e m s =
+    ap (λ (o : Option MachineChain). option_and_then (λ (records : Records). channel_at records.core e.port e.channel) (option_map (λ (c : MachineChain). c.records) o)) s.there
+    ∙ s.is
+
 found : (w : World) (e : End) (m : Channel) (s : Stands w e m) → found_at w e ≡ Some (s.chain.records.core, m)
 found w e m s =
     ap (λ (o : Option MachineChain). option_and_then (λ (records : Records). option_map (λ (c : Channel). (records.core, c)) (channel_at records.core e.port e.channel)) (option_map (λ (c : MachineChain). c.records) o)) s.there

@@ -24,7 +24,7 @@ use Rattle.ibc_laws.proofs.steps.CoreShape.{HasChannel}
 use Rattle.ibc_laws.proofs.basics.Numbered.{none_yet}
 use Rattle.ibc_machine.proofs.Identifiers.{nth_channel_same}
 use Rattle.ibc_laws.proofs.peers.Invariant.{Inv}
-use Rattle.ibc_laws.proofs.steps.MachineSteps.{Moves, Stepped, rests, moves}
+use Rattle.ibc_laws.proofs.steps.MachineSteps.{Moves, Stepped, rests, moves, refused_quiet}
 use Rattle.ibc_laws.proofs.peers.Peers.{Stands}
 
 -- nothing is told of the end
@@ -197,8 +197,8 @@ here chains w h v s k is = subst (MovesAt chains w h v) (sym is) (record {
 })
 
 pub at_end : (chains : ℕ) (w : World) (h : Happened) (v : World) → Inv w → Stepped chains w h v → (e : End) → EndStep chains w h v e
-at_end chains w h v inv (rests silent same) e =
-    untouched (λ chain. quiet e (told_of h) silent) (λ m stands. subst (λ x. Stands x e m) same stands)
+at_end chains w h v inv (rests refusal same) e =
+    untouched (λ chain. quiet e (told_of h) (refused_quiet h refusal)) (λ m stands. subst (λ x. Stands x e m) same stands)
 at_end chains w h v inv (moves s) e = elim (same_or_not e.chain s.k) [
   | inl same ↦ (let m = here chains w h v s e.chain same in
       of_chain chains w h v inv e m (told_of h) m.now m.step refl refl)

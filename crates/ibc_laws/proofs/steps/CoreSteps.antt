@@ -158,6 +158,8 @@ pub record Settles (port id : Text) (mine : Channel) (p : Packet) : Type 0 where
 
 pub record Acks (w : World) (core : Core) (port id : Text) (mine : Channel) (p : Packet) : Type 0 where
   pub settles : Settles port id mine p
+  pub state : mine.end.state ≡ chan.Open
+  pub in_order : (is_ordered mine && not (p.sequence == mine.next_ack)) ≡ false
   pub ack : Text
   pub height : ℕ
   pub sees : SeesPeer w core mine height (HadAck p ack)

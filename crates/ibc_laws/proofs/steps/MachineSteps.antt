@@ -36,8 +36,11 @@ pub record Moves (chains : ℕ) (w : World) (h : Happened) (v : World) : Type 0 
   pub paid : PaidOf h before now
   pub after : v ≡ slice_set w k now
 
+abbrev pub IsRefusal : Happened → Type 0
+IsRefusal h = (why : Refusal) × (h.1 ≡ reply.No why)
+
 pub data Stepped (chains : ℕ) (w : World) (h : Happened) (v : World) : Type 0 where
-  rests : told_of h ≡ Quiet → v ≡ w → Stepped chains w h v
+  rests : IsRefusal h → v ≡ w → Stepped chains w h v
   moves : Moves chains w h v → Stepped chains w h v
 
 -- a refusal tells nothing
@@ -45,12 +48,14 @@ refused : (e : Event) (why : Refusal) → told_of (e, reply.No why) ≡ Quiet
 refused (event.Message k m) why = refl
 refused (event.Block k t) why = refl
 
+pub refused_quiet : (h : Happened) → IsRefusal h → told_of h ≡ Quiet
+refused_quiet h is = ap (λ (x : Reply). told_of (h.0, x)) is.1 ∙ refused h.0 is.0
+
 module _ (genesis : GenesisState) (oldest : Bool) (w : World) where
   refusing : (e : Event) (why : Refusal) (r : Reply) (v : World) → ◌≡◌ {A = Reply × World} (reply.No why, w) (r, v)
       → Stepped (length genesis.chains) w (e, r) v
   refusing e why r v is =
-      rests (ap (λ (x : Reply). told_of (e, x)) (sym (ap (λ (x : Reply × World). x.0) is)) ∙ refused e why)
-      (sym (ap (λ (x : Reply × World). x.1) is))
+      rests (why, sym (ap (λ (x : Reply × World). x.0) is)) (sym (ap (λ (x : Reply × World). x.1) is))
 
   accepting : (h : Happened) (k : ℕ) (c d : MachineChain) (r : Reply) (v : World) → slice_get w k ≡ Some c → chain_of h.0 ≡ k
       → (step : ChainStep (length genesis.chains) w k c (told_of h) d) → (is_typed h.0 ≡ true → GoodStep (length genesis.chains) w k c (told_of h) d step)
@@ -109,6 +114,5 @@ module _ (genesis : GenesisState) (oldest : Bool) (w : World) where
 
 pub stepped : (genesis : GenesisState) (w : World) (h : Happened) (v : World) → Step genesis w h.0 h.1 v
     → Stepped (length genesis.chains) w h v
-stepped genesis w h v (inl gave_up) =
-    rests (ap (λ (x : Reply). told_of (h.0, x)) gave_up.0 ∙ refused h.0 refusal.NoMemory) gave_up.1
+stepped genesis w h v (inl gave_up) = rests (refusal.NoMemory, gave_up.0) gave_up.1
 stepped genesis w h v (inr answers) = answered genesis answers.0 w h.0 h.1 v answers.1

@@ -122,6 +122,8 @@ module _ (window : ℕ) (oldest : Bool) (w : World) (host : Host) (core : Core) 
         passed.unsettled.there,
         record {
           settles = settles core p mine passed.unsettled (open_rank mine.end.state (same_channel_state_is mine.end.state chan.Open passed.state));
+          state = same_channel_state_is mine.end.state chan.Open passed.state;
+          in_order = no_longer _ passed.in_order;
           ack = m.ack;
           height = m.height;
           sees = shown_ack window oldest w core (client_of core mine.end.connection) m.height p.destination_port p.destination_channel p.sequence m.ack m.proof passed.acknowledged;

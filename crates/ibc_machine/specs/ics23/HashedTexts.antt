@@ -1,4 +1,5 @@
--- The finite list of all texts that are hashed in a world, of which no two may clash.
+-- The finite list of texts of which no two may clash: all that are hashed in a world, and the packets of acknowledgements and
+-- timeouts, which are compared in plain.
 use Rattle.std.specs.Prelude.{List, [], ◌∷◌, ◌++◌}
 use Rattle.std.specs.List.{flat_map}
 use Rattle.std.specs.Option.{option_map_or}
@@ -67,7 +68,7 @@ abbrev pub event_texts : Event → List Text
 event_texts (event.Message k m) = message_texts m
 event_texts (event.Block k next_time) = []
 
--- what a ledger hashes: the commitments and acknowledgements that ever stood, the trees of its blocks, and
+-- what a ledger hashes, or gets as a packet: the commitments and acknowledgements that ever stood, the trees of its blocks, and
 -- what was delivered to it
 unfoldable pub ledger_texts : Ledger → List Text
 ledger_texts ledger =
@@ -76,6 +77,6 @@ ledger_texts ledger =
     ++ flat_map block_texts (state_of ledger).chain.committed
     ++ flat_map (λ (e : StampedEntry). event_texts e.entry.event) ledger.history
 
--- no two texts that are hashed in the world clash
+-- no two texts of the world's ledgers clash
 abbrev pub HasNoClash : List Ledger → Type 0
 HasNoClash ledgers = NoClash (flat_map ledger_texts ledgers)

@@ -89,7 +89,7 @@ settles (event.Message k (message.Timeout m)) = true
 settles (event.Message k (message.TimeoutOnClose m)) = true
 settles _ = false
 
--- so no refund is ever refused
+-- so no refund is refused since an escrow holds too little; it may be refused for other reasons
 abbrev pub NeverPoor : Type 0
 NeverPoor =
     (genesis : GenesisState) (happened : List Happened) (world : World) (event : Event) → IsPast genesis happened world

@@ -1,7 +1,5 @@
 use Rattle.std.proofs.Common.{◌≡◌, ◌∙◌, ◌∷◌, ◌++◌, [], sym, ap, subst, true}
-use Rattle.ibc_ledger_lock.specs.KnownLedgers.{KnownLedger}
 use Rattle.ibc_ledger_lock.specs.Books.{BookPlace, IsKnownBeginning, key_in, known_in}
-use Rattle.ibc_ledger_lock.specs.ReceiptsAndReadings.{known_of}
 use Rattle.ibc_ledger_lock.proofs.Pages.{writes_moves, key_last, known_last, not_none}
 use Rattle.ibc_ledger_lock.proofs.book.Keeper.write.Goals as goal
 
@@ -10,8 +8,7 @@ compare_exchange-requires g c =
     let i = c.self.invariant in
     let offer = c.plain-offer.ensures in
     let later : IsKnownBeginning (known_in c.self.inside.seen.log) g.X.PickedPage.page.known =
-    subst (λ (known : KnownLedger). IsKnownBeginning (known_in c.self.inside.seen.log) known) (sym c.requires.picked.0)
-    (subst (λ (k : BookPlace). IsKnownBeginning k.known (known_of c.args.ledger.now.ledger)) (sym c.self.view_is) c.requires.later) in (
+    subst (λ (k : BookPlace). IsKnownBeginning k.known g.X.PickedPage.page.known) (sym c.self.view_is) c.requires.later in (
       ap (λ w. w.tracked) i.0,
       sym (ap (λ w. w.book) i.0),
       i.3 ∙ sym (ap (λ w. w.book) i.0),
@@ -30,7 +27,7 @@ invariant_of-self g c =
       (λ none. not_none c.self.inside.seen.log g.X.PickedPage.page (sym written ∙ none)),
       c.requires.next.0 ∙ sym (ap (λ (k : BookPlace). k.book) c.self.view_is) ∙ book,
       c.requires.next.1,
-      sym c.requires.picked.1 ∙ sym (ap key_in written ∙ key_last c.self.inside.seen.log g.X.PickedPage.page),
+      sym c.requires.picked ∙ sym (ap key_in written ∙ key_last c.self.inside.seen.log g.X.PickedPage.page),
     )
 
 pub returns : goal.returns
@@ -38,5 +35,5 @@ returns g c =
     let step = c.compare_exchange.ensures in
     let written : c.compare_exchange.new.seen.log ≡ c.self.inside.seen.log ++ g.X.PickedPage.page ∷ [] = step.7 in (
       step.0 ∙ ap (λ (k : BookPlace). k.book) c.self.view_is,
-      ap known_in written ∙ known_last c.self.inside.seen.log g.X.PickedPage.page ∙ c.requires.picked.0,
+      ap known_in written ∙ known_last c.self.inside.seen.log g.X.PickedPage.page,
     )

@@ -1,0 +1,2 @@
+-- The law of notes: what is kept is what was received.
+pub mod StoredNotes
