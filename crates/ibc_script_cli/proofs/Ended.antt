@@ -1,0 +1,31 @@
+-- A run that has ended, and the text that it wrote.
+use Rattle.std.proofs.Common.{◌≡◌, List, [], length, Option, None, Some, Result, Ok, Err, IsOk, OnErr, OnOk}
+use Rattle.std.specs.Io.KnownBytes.{Keeps}
+use Rattle.ibc_ids.specs.Texts.{Text}
+use Rattle.ibc_machine.specs.chain.Genesis.{GenesisState, genesis_state}
+use Rattle.ibc_script.specs.declared.script.Script.{Script}
+use Rattle.ibc_script_cli.specs.Program.{HasBegun, HasRun, acts_for}
+use Rattle.ibc_script_cli.specs.Runs.{Reached, Runs}
+use Rattle.ibc_script_cli.specs.ScriptChains.{ScriptChains}
+use Rattle.ibc_script_cli.proofs.Writing.{appends_kept}
+
+module _ {C : Type 0} (begins : GenesisState → C → Type 0) (keeps : C → Type 0) (chains : ScriptChains C) (script : Script) (start end : C)
+    (before mid after : Option Text) (begun : begins (genesis_state script.genesis) start) (stays : Keeps mid after) where
+  -- what was done up to the end was written
+  whole : Reached chains script.names.items (acts_for script) start before [] end mid → keeps end → HasRun begins keeps chains script before after
+  whole r kept = (r.text, (start, end, r.count, begun, kept, r.reaches), appends_kept before mid after r.text r.appends stays)
+
+  pub has_run : {T U E F : Type 0} (ran : Result T E) (result : Result U F) → Runs chains script.names.items (acts_for script) ran start before end mid → keeps end
+      → OnOk result (IsOk ran) → OnOk result (HasRun begins keeps chains script before after)
+  has_run ran (Err fault) runs kept ok = tt
+  has_run (Ok x) (Ok y) runs kept ok = whole runs kept
+  has_run (Err e) (Ok y) runs kept ok = absurd cc
+
+  pub has_begun : {T U E F : Type 0} (ran : Result T E) (result : Result U F) → Runs chains script.names.items (acts_for script) ran start before end mid
+      → OnErr result (HasBegun begins chains script before after)
+  has_begun ran (Ok y) runs = tt
+  has_begun (Ok x) (Err fault) runs =
+      (runs.text, (start, end, runs.count, [], begun, runs.reaches), appends_kept before mid after runs.text runs.appends stays)
+  has_begun (Err e) (Err fault) stops =
+      let r = stops.reached in
+      (r.text, (start, stops.new, r.count, stops.left, begun, r.reaches), appends_kept before mid after r.text r.appends stays)
