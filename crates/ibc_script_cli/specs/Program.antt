@@ -1,11 +1,16 @@
 -- What a run of the program is: a run of a script on the chains that its genesis begins, and the text that it writes.
-use Rattle.std.specs.Prelude.{ℕ, List, [], length, Option}
+use Rattle.std.specs.Prelude.{ℕ, List, [], length, Option, IfSome}
 use Rattle.std.specs.Io.KnownBytes.{Appends}
 use Rattle.ibc_ids.specs.Texts.{Text}
 use Rattle.ibc_machine.specs.chain.Genesis.{GenesisState, genesis_state}
+use Rattle.ibc_script.specs.ScriptValues.{IsScriptText, content_of}
 use Rattle.ibc_script.specs.declared.script.Script.{Script}
 use Rattle.ibc_script_cli.specs.Runs.{Act, Reaches, acts_of}
 use Rattle.ibc_script_cli.specs.ScriptChains.{ScriptChains}
+
+-- the bytes of an input are this script, where they are known
+abbrev pub IsInput : Option Text → Script → Type 0
+IsInput known script = IfSome known (λ text. IsScriptText text (content_of script))
 
 -- ---- texts
 

@@ -4,7 +4,7 @@ ghost use Rattle.std.specs.Prelude.{⊤, ◌≡◌, ◌⊎◌, ◌<◌, ◌≤�
 ghost use Rattle.std.specs.Io.KnownBytes.{Keeps};
 ghost use Rattle.ibc_machine.specs.chain.Genesis.{GenesisState, genesis_state};
 ghost use Rattle.ibc_script.specs.Faults.{IsRunFault, IsScriptFault};
-ghost use Rattle.ibc_script_cli.specs.Program.{HasBegun, HasRun};
+ghost use Rattle.ibc_script_cli.specs.Program.{HasBegun, HasRun, IsInput};
 ghost use Rattle.ibc_script.specs.declared.script.Script.{Script as AnyScript};
 ghost use Rattle.ibc_script_cli.specs.Words.{are_words, command_of};
 ghost use Rattle.ibc_script_cli.specs.declared.words.Command.TheVariants as Asked;
@@ -69,8 +69,8 @@ pub fn drive<S: Worlds, Q: Races, R: Read + Drop, W: Write>(
     ensures words_first { are_words (map (λ word. word.now) words.now) ≡ false → (result ≡ Err Fault.BadArguments) ⊎ (result ≡ Err Fault.NoMemory) }
     ensures too_long { IfOk result (λ _. IfSome (R.remaining input) (λ known. length known < 1048577)) }
     ensures unwritten { IfErr result (λ fault. IsRunFault fault ⊎ (output.new ≡ output.old)) }
-    ensures lines { command_of (map (λ word. word.now) words.now) ≡ Some Asked.Run → OnOk result ((script : AnyScript) × HasRun S.begins S.keeps S.Chains.known script (W.contents output.old) (W.contents output.new)) }
-    ensures begun { command_of (map (λ word. word.now) words.now) ≡ Some Asked.Run → OnErr result (Keeps (W.contents output.old) (W.contents output.new) ⊎ ((script : AnyScript) × HasBegun S.begins S.Chains.known script (W.contents output.old) (W.contents output.new))) }
+    ensures lines { command_of (map (λ word. word.now) words.now) ≡ Some Asked.Run → OnOk result ((script : AnyScript) × IsInput (R.remaining input) script × HasRun S.begins S.keeps S.Chains.known script (W.contents output.old) (W.contents output.new)) }
+    ensures begun { command_of (map (λ word. word.now) words.now) ≡ Some Asked.Run → OnErr result (Keeps (W.contents output.old) (W.contents output.new) ⊎ ((script : AnyScript) × IsInput (R.remaining input) script × HasBegun S.begins S.Chains.known script (W.contents output.old) (W.contents output.new))) }
 {
     let command = read_words(alloc, words)?;
     let bytes = read_input(alloc, input)?;

@@ -4,7 +4,7 @@ ghost use Rattle.std.specs.Prelude.{◌≡◌, ◌⊎◌, map, true, false, Some
 ghost use Rattle.std.specs.Io.KnownBytes.{Keeps};
 ghost use Rattle.ibc_script.specs.Faults.{IsRunFault};
 ghost use Rattle.ibc_script.specs.declared.script.Script.{Script as AnyScript};
-ghost use Rattle.ibc_script_cli.specs.Program.{HasBegun, HasRun};
+ghost use Rattle.ibc_script_cli.specs.Program.{HasBegun, HasRun, IsInput};
 ghost use Rattle.ibc_script_cli.specs.Words.{are_words, command_of};
 ghost use Rattle.ibc_script_cli.specs.declared.words.Command.TheVariants as Asked;
 ghost use Rattle.ibc_theorem.specs.EveryWorld.{IsLawfulUnlessClash};
@@ -19,7 +19,7 @@ use std::sync::Wait;
 use std::thread::Threads;
 
 /// The program: does what the words after its name ask for, with the script on the input, over ledgers. Where they ask for a
-/// run, the output gets the lines of a run of a script over one world, which begins with the script's genesis: each reply is
+/// run, the output gets the lines of a run of the script that the input is, over one world, which begins with the script's genesis: each reply is
 /// that of the world's step, and each root, proof, balance and note is what its ledgers have. At the end the world is lawful,
 /// where no two hashed texts clash. Where the run stops, a beginning of such lines is written. Where the output's bytes are
 /// known, these are the bytes behind those that it had. Faults: as of `drive`.
@@ -34,8 +34,8 @@ pub fn drive_on_ledgers<R: Threads + Wait + Sync, I: Read + Drop, W: Write>(
     ensures bad_arguments { IsErrOf result Fault.BadArguments → are_words (map (λ word. word.now) words.now) ≡ false }
     ensures words_first { are_words (map (λ word. word.now) words.now) ≡ false → (result ≡ Err Fault.BadArguments) ⊎ (result ≡ Err Fault.NoMemory) }
     ensures unwritten { IfErr result (λ fault. IsRunFault fault ⊎ (output.new ≡ output.old)) }
-    ensures lines { command_of (map (λ word. word.now) words.now) ≡ Some Asked.Run → OnOk result ((script : AnyScript) × HasRun IsNewWorld IsLawfulUnlessClash world_chains script (W.contents output.old) (W.contents output.new)) }
-    ensures begun { command_of (map (λ word. word.now) words.now) ≡ Some Asked.Run → OnErr result (Keeps (W.contents output.old) (W.contents output.new) ⊎ ((script : AnyScript) × HasBegun IsNewWorld world_chains script (W.contents output.old) (W.contents output.new))) }
+    ensures lines { command_of (map (λ word. word.now) words.now) ≡ Some Asked.Run → OnOk result ((script : AnyScript) × IsInput (I.remaining input) script × HasRun IsNewWorld IsLawfulUnlessClash world_chains script (W.contents output.old) (W.contents output.new)) }
+    ensures begun { command_of (map (λ word. word.now) words.now) ≡ Some Asked.Run → OnErr result (Keeps (W.contents output.old) (W.contents output.new) ⊎ ((script : AnyScript) × IsInput (I.remaining input) script × HasBegun IsNewWorld world_chains script (W.contents output.old) (W.contents output.new))) }
 {
     let worlds = WorldFactory::new(alloc);
     let races = RaceRunner::new(rt, alloc);

@@ -1,0 +1,74 @@
+-- Values of JSON, as they are read one after another.
+use Rattle.std.proofs.Common.{◌≡◌, ◌∙◌, ◌⊎◌, ◌+◌, ◌<◌, ℕ, zero, suc, List, [], ◌∷◌, ◌++◌, Option, None, Some, ap, arith, get_or, inl, inr, length, map, option_map, refl, slice_get, subst, sym, take, zip}
+use Rattle.std.proofs.lemmas.List.{map-append, take_more}
+use Rattle.std.proofs.lemmas.Option.{slice_get_within}
+use Rattle.serde_json.specs.Data.{Data}
+use Rattle.serde_json.specs.Find.{as_array}
+use Rattle.serde_json.specs.View.{items_of, items_view, view}
+use Rattle.serde_json.specs.declared.value.Value.{Value}
+use Rattle.ibc_ids.specs.Texts.{Text}
+use Rattle.ibc_script.specs.ScriptValues.{AreDifferent, AreEach, AreItems, items_in}
+
+-- ---- the items of a list
+
+pub items_back : (values : List Data) → items_in (items_of values) ≡ values
+items_back [] = refl
+items_back (value ∷ values) = ap (λ (l : List Data). value ∷ l) (items_back values)
+
+pub are_items : (list : Value) (values shown : List Value) → Some (items_view values) ≡ as_array (view list) → shown ≡ values → AreItems (map view shown) (Some (view list))
+are_items list values shown is same =
+    ap (option_map items_in) (sym is) ∙ ap Some (items_back (map view values)) ∙ ap (λ (l : List Value). Some (map view l)) (sym same)
+
+-- ---- one value more
+
+each_push : {A : Type 0} (is : A → Option Data → Type 0) (xs : List A) (values : List Data) (x : A) (value : Data) → AreEach is xs values → is x (Some value)
+    → AreEach is (xs ++ x ∷ []) (values ++ value ∷ [])
+each_push is [] [] x value so_far its = (its, tt)
+each_push is [] (v ∷ values) x value so_far its = absurd so_far
+each_push is (y ∷ xs) [] x value so_far its = absurd so_far
+each_push is (y ∷ xs) (v ∷ values) x value so_far its = (so_far.0, each_push is xs values x value so_far.1 its)
+
+pub pushed : {A : Type 0} (is : A → Option Data → Type 0) (xs : List A) (values : List Value) (i : ℕ) (x : A) (value : Value) → i < length values
+    → value ≡ get_or values i value → AreEach is xs (map view (take i values)) → is x (Some (view value))
+    → AreEach is (xs ++ x ∷ []) (map view (take (i + 1) values))
+pushed is xs values i x value within read so_far its =
+    let one_more : map view (take (i + 1) values) ≡ map view (take i values) ++ view value ∷ [] =
+    ap (map view) (take_more values i value within ∙ ap (λ (v : Value). take i values ++ v ∷ []) (sym read)) ∙ map-append view (take i values) (value ∷ []) in
+    subst (AreEach is (xs ++ x ∷ [])) (sym one_more) (each_push is xs (map view (take i values)) x (view value) so_far its)
+
+-- ---- names that differ
+
+at_end : {A : Type 0} (xs : List A) (x : A) (i : ℕ) (y : A) → slice_get (xs ++ x ∷ []) i ≡ Some y → (slice_get xs i ≡ Some y) ⊎ ((i ≡ length xs) × (x ≡ y))
+at_end [] x zero y at = inr (refl, cc)
+at_end [] x (suc i) y at = absurd cc
+at_end (z ∷ xs) x zero y at = inl at
+at_end (z ∷ xs) x (suc i) y at = elim (at_end xs x i y at) [ inl there ↦ inl there | inr last ↦ inr (ap suc last.0, last.1) ]
+
+pub more_different : (names : List Text) (name : Text) → AreDifferent names → ((i : ℕ) → slice_get names i ≡ Some name → ⊥) → AreDifferent (names ++ name ∷ [])
+more_different names name different new i j other less at_i at_j =
+    elim (at_end names name j other at_j) [
+      | inl early ↦
+          elim (at_end names name i other at_i) [
+            | inl first ↦ different i j other less first early
+            | inr last ↦
+                let within = slice_get_within names j other early in
+                let long = last.0 in
+                absurd (omega (arith, within, long, less))
+          ]
+      | inr late ↦
+          elim (at_end names name i other at_i) [
+            | inl first ↦ new i (first ∙ ap Some (sym late.1))
+            | inr last ↦
+                let long = last.0 in
+                let longer = late.0 in
+                absurd (omega (arith, long, longer, less))
+          ]
+    ]
+
+pub zip_push : {A B : Type 0} (xs : List A) (ys : List B) (x : A) (y : B) → length xs ≡ length ys → zip (xs ++ x ∷ []) (ys ++ y ∷ []) ≡ zip xs ys ++ (x, y) ∷ []
+zip_push [] [] x y long = refl
+zip_push [] (b ∷ ys) x y long = absurd (omega (arith, long))
+zip_push (a ∷ xs) [] x y long = absurd (omega (arith, long))
+zip_push {A} {B} (a ∷ xs) (b ∷ ys) x y long =
+    let shorter : length xs ≡ length ys = omega (arith, long) in
+    ap (λ (l : List (A × B)). (a, b) ∷ l) (zip_push xs ys x y shorter)
