@@ -87,3 +87,40 @@ returns-clause-lines g c =
 pub returns-clause-begun : goal.returns-clause-begun
 returns-clause-begun g c =
     λ is. absurd (no_race _ _ _ c.in_ok-command.ensures.asked c.in-Race.is is)
+
+-- the lines of a race
+
+no_run : (asked : Option Command) (found : Command) (n : ℕ) → asked ≡ Some found → found ≡ Run → asked ≡ Some (Race n) → ⊥
+no_run asked found n first run race = absurd cc
+
+pub returns-in_err-command-clause-race_begun : goal.returns-in_err-command-clause-race_begun
+returns-in_err-command-clause-race_begun g c =
+    let p = err_from_is_err_and c.from_residual.result c.from_residual.ensures.1 in rw p.1 (λ n is. inl (keeps_same (g.W.Write.contents c.args.output.now)))
+
+pub returns-in_err-bytes-clause-race_begun : goal.returns-in_err-bytes-clause-race_begun
+returns-in_err-bytes-clause-race_begun g c =
+    let p = err_from_is_err_and c.from_residual-in_err-bytes.result c.from_residual-in_err-bytes.ensures.1 in rw p.1 (λ n is. inl (keeps_same (g.W.Write.contents c.args.output.now)))
+
+pub returns-in_err-script-clause-race_begun : goal.returns-in_err-script-clause-race_begun
+returns-in_err-script-clause-race_begun g c =
+    let p = err_from_is_err_and c.from_residual-in_err-script.result c.from_residual-in_err-script.ensures.1 in rw p.1 (λ n is. inl (keeps_same (g.W.Write.contents c.args.output.now)))
+
+pub returns-in-Run-clause-race_lines : goal.returns-in-Run-clause-race_lines
+returns-in-Run-clause-race_lines g c = λ n is. absurd (no_run _ _ n c.in_ok-command.ensures.asked c.in-Run.is is)
+
+pub returns-in-Run-clause-race_begun : goal.returns-in-Run-clause-race_begun
+returns-in-Run-clause-race_begun g c = λ n is. absurd (no_run _ _ n c.in_ok-command.ensures.asked c.in-Run.is is)
+
+pub returns-clause-race_lines : goal.returns-clause-race_lines
+returns-clause-race_lines g c =
+    let same : c.as_slice.result.now ≡ c.in_ok-bytes.bytes.items = cc in
+    let input = whole_input (g.R.Read.remaining c.args.input) c.in_ok-bytes.bytes.items (content_of c.in_ok-script.script) c.in_ok-bytes.ensures.bytes
+    (subst (λ (b : List ℕ). IsScriptText b (content_of c.in_ok-script.script)) same c.in_ok-script.ensures.script) in
+    λ n is. on_ok c.race_script.result _ _ (λ raced. (c.in_ok-script.script, input, raced)) c.race_script.ensures.raced
+
+pub returns-clause-race_begun : goal.returns-clause-race_begun
+returns-clause-race_begun g c =
+    let same : c.as_slice.result.now ≡ c.in_ok-bytes.bytes.items = cc in
+    let input = whole_input (g.R.Read.remaining c.args.input) c.in_ok-bytes.bytes.items (content_of c.in_ok-script.script) c.in_ok-bytes.ensures.bytes
+    (subst (λ (b : List ℕ). IsScriptText b (content_of c.in_ok-script.script)) same c.in_ok-script.ensures.script) in
+    λ n is. on_err c.race_script.result _ _ (λ stopped. elim stopped [ inl kept ↦ inl kept | inr begun ↦ inr (c.in_ok-script.script, input, begun) ]) c.race_script.ensures.stopped
