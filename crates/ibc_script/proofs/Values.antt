@@ -1,13 +1,14 @@
 -- Values of JSON, as they are read one after another.
-use Rattle.std.proofs.Common.{◌≡◌, ◌∙◌, ◌⊎◌, ◌+◌, ◌<◌, ℕ, zero, suc, List, [], ◌∷◌, ◌++◌, Option, None, Some, ap, arith, get_or, inl, inr, length, map, option_map, refl, slice_get, subst, sym, take, zip}
+use Rattle.std.proofs.Common.{◌≡◌, ◌∙◌, ◌⊎◌, ◌+◌, ◌<◌, ◌&&◌, ◌||◌, ℕ, zero, suc, Bool, Bor, Global, IsTrue, String, true, List, [], ◌∷◌, ◌++◌, Option, None, Some, ap, arith, get_or, inl, inr, length, map, option_map, refl, slice_get, string_bytes, bytes_eq, subst, sym, take, zip}
+use Rattle.std.specs.List.{list_all, list_any}
 use Rattle.std.proofs.lemmas.List.{map-append, take_more}
 use Rattle.std.proofs.lemmas.Option.{slice_get_within}
 use Rattle.serde_json.specs.Data.{Data}
 use Rattle.serde_json.specs.Find.{as_array}
-use Rattle.serde_json.specs.View.{items_of, items_view, view}
+use Rattle.serde_json.specs.View.{items_of, items_view, members_view, view}
 use Rattle.serde_json.specs.declared.value.Value.{Value}
 use Rattle.ibc_ids.specs.Texts.{Text}
-use Rattle.ibc_script.specs.ScriptValues.{AreDifferent, AreEach, AreItems, items_in}
+use Rattle.ibc_script.specs.ScriptValues.{AreDifferent, AreEach, AreItems, are_among, items_in}
 
 -- ---- the items of a list
 
@@ -72,3 +73,21 @@ zip_push (a ∷ xs) [] x y long = absurd (omega (arith, long))
 zip_push {A} {B} (a ∷ xs) (b ∷ ys) x y long =
     let shorter : length xs ≡ length ys = omega (arith, long) in
     ap (λ (l : List (A × B)). (a, b) ∷ l) (zip_push xs ys x y shorter)
+
+-- ---- the names of members
+
+abbrev pub is_known : List (Bor Text) → String Global → Bool
+is_known names key = list_any (λ (name : Bor Text). bytes_eq (string_bytes key) name.now) names
+
+abbrev now_of : Bor Text → Text
+now_of name = name.now
+
+any_mapped : (p : Text → Bool) (names : List (Bor Text)) → list_any p (map now_of names) ≡ list_any (λ (name : Bor Text). p name.now) names
+any_mapped p [] = refl
+any_mapped p (name ∷ names) = ap (λ (b : Bool). p name.now || b) (any_mapped p names)
+
+pub known_members : (names : List (Bor Text)) (entries : List (String Global × Value))
+    → are_among (map now_of names) (members_view entries) ≡ list_all (is_known names) (map (λ (entry : String Global × Value). entry.0) entries)
+known_members names [] = refl
+known_members names (entry ∷ entries) =
+    (λ i. any_mapped (bytes_eq (string_bytes entry.0)) names i && known_members names entries i)

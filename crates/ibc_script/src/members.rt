@@ -3,21 +3,31 @@
 ghost use Rattle.std.specs.Prelude.{◌≡◌, IfErr, IfOk, IsTrue, Some, map, ok_or};
 ghost use Rattle.std.specs.List.{list_any};
 ghost use Rattle.serde_json.specs.Find.{get};
-ghost use Rattle.serde_json.specs.View.{view};
+ghost use Rattle.serde_json.specs.View.{members_view, view};
 ghost use Rattle.ibc_script.specs.Faults.{IsScriptFault};
 ghost use Rattle.std.specs.Str.{bytes_eq};
 ghost use Rattle.ibc_script.specs.Scripts.{number_at};
-ghost use Rattle.ibc_script.specs.ScriptValues.{AreItems, IsNumberIfThere, IsText, IsTextIfThere, has_only};
+ghost use Rattle.ibc_script.specs.ScriptValues.{AreItems, IsNumber, IsNumberIfThere, IsText, IsTextIfThere, are_among, has_only};
 
 use crate::Fault;
-use serde_json::Value;
+use serde_json::{Map, Value};
 
 /// `Ok` where each member of the object has one of the names. Fault: `BadScript`, also where it is no object.
 pub fn has_only(object: &Value, names: &[&str]) -> Result<(), Fault>
     ensures only { IfOk result (λ _. IsTrue (has_only (map (λ name. name.now) names.now) (view object.now))) }
     ensures faults { IfErr result IsScriptFault }
 {
-    let members = object.as_object().ok_or(Fault::BadScript)?;
+    match object.as_object() {
+        Some(members) => are_among(members, names),
+        None => Err(Fault::BadScript),
+    }
+}
+
+// `Ok` where each of these members has one of the names. Fault: `BadScript`.
+fn are_among(members: &Map<String, Value>, names: &[&str]) -> Result<(), Fault>
+    ensures among { IfOk result (λ _. IsTrue (are_among (map (λ name. name.now) names.now) (members_view members.now.entries))) }
+    ensures faults { IfErr result IsScriptFault }
+{
     for member in members.keys() {
         if !is_one_of(names, member.as_str()) {
             return Err(Fault::BadScript);
@@ -28,7 +38,7 @@ pub fn has_only(object: &Value, names: &[&str]) -> Result<(), Fault>
 
 // Whether a name is one of these.
 fn is_one_of(names: &[&str], member: &str) -> bool
-    ensures { result ≡ list_any (bytes_eq member.now) (map (λ name. name.now) names.now) }
+    ensures { result ≡ list_any (λ name. bytes_eq member.now name.now) names.now }
 {
     names.iter().any(|name| member == *name)
 }
@@ -36,6 +46,7 @@ fn is_one_of(names: &[&str], member: &str) -> bool
 /// The member of this name, a number below 2^64. Fault: `BadScript`.
 pub fn number(object: &Value, name: &str) -> Result<u64, Fault>
     ensures value { result ≡ ok_or (number_at name.now (view object.now)) Fault.BadScript }
+    ensures number { IfOk result (λ number. IsNumber number (get name.now (view object.now))) }
     ensures faults { IfErr result IsScriptFault }
 {
     object
