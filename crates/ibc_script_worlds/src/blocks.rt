@@ -33,28 +33,10 @@ impl ChainStarts {
         })
     }
 
-    /// What a chain committed at a height, by its history; `None` where it isn't among the last heights, which are kept.
-    pub fn block(
-        &self,
-        chain: u8,
-        history: &[StampedEntry],
-        height: u64,
-    ) -> Option<CommittedBlock> {
-        match self.times.get(usize::from(chain)) {
-            Some(time) => block_in(*time, self.window, history, height),
-            None => None,
-        }
-    }
-
     /// What a chain committed at a height, by the whole history of its ledger, where it is one of the last heights, which are
     /// kept. The heights that such a history tells of rise by one from 1, so the block is looked for by halves, up to the end of
     /// the last one.
-    pub(crate) fn ledger_block(
-        &self,
-        chain: u8,
-        history: &[StampedEntry],
-        height: u64,
-    ) -> Option<CommittedBlock>
+    pub fn block(&self, chain: u8, history: &[StampedEntry], height: u64) -> Option<CommittedBlock>
         ensures { AreCountedFrom 1 (ends_of history.now) → MatchOption (slice_get self.now.times.items chain) (result ≡ None) (λ time. result ≡ kept_told self.now.window height (blocks_told time (ends_of history.now))) }
     {
         match self.times.get(usize::from(chain)) {
@@ -206,51 +188,4 @@ fn kept_block(
         return None;
     }
     block_at(start, history, place + 1, height)
-}
-
-// How many blocks a history tells of.
-fn blocks_in(history: &[StampedEntry]) -> u64 {
-    let mut blocks: u64 = 0;
-    for stamped in history {
-        if ended_by(&stamped.entry).is_some() {
-            blocks = blocks.saturating_add(1);
-        }
-    }
-    blocks
-}
-
-// The block of a height, from 1, of which a history tells.
-fn told_block(start: u64, history: &[StampedEntry], height: u64) -> Option<CommittedBlock> {
-    if height == 0 {
-        return None;
-    }
-    let mut time = start;
-    let mut left = height;
-    for stamped in history {
-        if let Some(block) = ended_by(&stamped.entry) {
-            if left == 1 {
-                return Some(CommittedBlock {
-                    root: block.root,
-                    time,
-                });
-            }
-            left = left.saturating_sub(1);
-            time = block.next_time;
-        }
-    }
-    None
-}
-
-// What a chain that began at a time committed at a height, by its history; `None` where it isn't kept.
-fn block_in(
-    start: u64,
-    window: u64,
-    history: &[StampedEntry],
-    height: u64,
-) -> Option<CommittedBlock> {
-    if height > blocks_in(history).saturating_sub(window) {
-        told_block(start, history, height)
-    } else {
-        None
-    }
 }

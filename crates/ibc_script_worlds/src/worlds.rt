@@ -182,7 +182,7 @@ fn ledger_block(starts: &ChainStarts, ledger: &Ledger, height: u64) -> Option<Co
     ensures { result ≡ block_in height ledger.now.ledger }
 {
     ledger.lemma_is_its_history();
-    starts.ledger_block(ledger.chain(), ledger.history(), height)
+    starts.block(ledger.chain(), ledger.history(), height)
 }
 
 // The proof of what a height of a ledger has at a key, none where the ledger doesn't keep it.

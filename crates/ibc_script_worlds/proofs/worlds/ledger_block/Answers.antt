@@ -5,5 +5,5 @@ use Rattle.ibc_script_worlds.proofs.worlds.ledger_block.Goals as goal
 
 pub returns : goal.returns
 returns c =
-    found_in c.args.ledger.now.ledger c.lemma_is_its_history.ensures.is c.args.starts.now c.args.height c.ledger_block.result c.requires c.chain.result c.chain.ensures
-    (map abstract_entry c.history.result.now) c.history.ensures c.ledger_block.ensures
+    found_in c.args.ledger.now.ledger c.lemma_is_its_history.ensures.is c.args.starts.now c.args.height c.block.result c.requires c.chain.result c.chain.ensures
+    (map abstract_entry c.history.result.now) c.history.ensures c.block.ensures
