@@ -120,18 +120,18 @@ IsHolding holding found =
 -- ---- objects
 
 -- a member, by its name and by what is found there
-pub record Field : Type 1 where
+pub record JsonField : Type 1 where
   pub name : Text
   pub is : Option Data → Type 0
 
-abbrev pub field : Text → (Option Data → Type 0) → Field
+abbrev pub field : Text → (Option Data → Type 0) → JsonField
 field name is = record { name = name; is = is }
 
-abbrev pub names_of : List Field → List Text
+abbrev pub names_of : List JsonField → List Text
 names_of [] = []
 names_of (first ∷ fields) = first.name ∷ names_of fields
 
-abbrev pub AreFields : List Field → Data → Type 0
+abbrev pub AreFields : List JsonField → Data → Type 0
 AreFields [] object = ⊤
 AreFields (first ∷ fields) object = first.is (get first.name object) × AreFields fields object
 
@@ -144,21 +144,21 @@ abbrev pub has_only : List Text → Data → Bool
 has_only names object = option_map_or (are_among names) (as_object object) false
 
 -- an object that has these members, and no others
-abbrev pub IsObject : List Field → Data → Type 0
+abbrev pub IsObject : List JsonField → Data → Type 0
 IsObject fields object = IsTrue (has_only (names_of fields) object) × AreFields fields object
 
 -- ---- messages
 
-abbrev pub source_fields : List Text → ProofSource → List Field
+abbrev pub source_fields : List Text → ProofSource → List JsonField
 source_fields names from =
     field (codes "from") (IsChain names from.chain) ∷ field (codes "height") (IsNumber from.height) ∷ []
 
-abbrev pub client_fields : List Text → ClientDraft → List Field
+abbrev pub client_fields : List Text → ClientDraft → List JsonField
 client_fields names (client.Create of) = field (codes "of") (IsChain names of) ∷ []
 client_fields names (client.Update id height) =
     field (codes "client") (IsText id) ∷ field (codes "height") (IsNumber height) ∷ []
 
-abbrev pub connection_fields : List Text → ConnectionDraft → List Field
+abbrev pub connection_fields : List Text → ConnectionDraft → List JsonField
 connection_fields names (connection.OpenInit id peer_client) =
     field (codes "client") (IsText id) ∷ field (codes "peer_client") (IsText peer_client) ∷ []
 connection_fields names (connection.OpenTry id peer_client peer_connection from) =
@@ -170,15 +170,15 @@ connection_fields names (connection.OpenAck id peer_connection from) =
 connection_fields names (connection.OpenConfirm id from) =
     field (codes "connection") (IsText id) ∷ source_fields names from
 
-abbrev pub opening_fields : Text → Order → Text → Text → List Field
+abbrev pub opening_fields : Text → Order → Text → Text → List JsonField
 opening_fields port order id peer_port =
     field (codes "port") (IsText port) ∷ field (codes "order") (IsText (order_name order))
     ∷ field (codes "connection") (IsText id) ∷ field (codes "peer_port") (IsText peer_port) ∷ []
 
-abbrev pub channel_end_fields : Text → Text → List Field
+abbrev pub channel_end_fields : Text → Text → List JsonField
 channel_end_fields port id = field (codes "port") (IsText port) ∷ field (codes "channel") (IsText id) ∷ []
 
-abbrev pub channel_fields : List Text → ChannelDraft → List Field
+abbrev pub channel_fields : List Text → ChannelDraft → List JsonField
 channel_fields names (channel.OpenInit m) =
     opening_fields m.port m.order m.connection m.peer_port ++ field (codes "version") (IsText m.version) ∷ []
 channel_fields names (channel.OpenTry d) =
@@ -191,11 +191,11 @@ channel_fields names (channel.OpenConfirm port id from) = channel_end_fields por
 channel_fields names (channel.CloseInit m) = channel_end_fields m.port m.channel
 channel_fields names (channel.CloseConfirm port id from) = channel_end_fields port id ++ source_fields names from
 
-abbrev pub timeout_fields : ℕ → ℕ → List Field
+abbrev pub timeout_fields : ℕ → ℕ → List JsonField
 timeout_fields height time =
     field (codes "timeout_height") (IsNumber height) ∷ field (codes "timeout_time") (IsNumber time) ∷ []
 
-abbrev pub packet_fields : List Text → PacketDraft → List Field
+abbrev pub packet_fields : List Text → PacketDraft → List JsonField
 packet_fields names (packet.Transfer m) =
     field (codes "channel") (IsText m.channel) ∷ field (codes "user") (IsText m.user)
     ∷ field (codes "denom") (IsText m.denom) ∷ field (codes "amount") (IsAmount m.amount)
@@ -215,7 +215,7 @@ packet_fields names (packet.Timeout sent from) = field (codes "packet") (IsPacke
 packet_fields names (packet.TimeoutOnClose sent from) =
     field (codes "packet") (IsPacket names sent) ∷ source_fields names from
 
-abbrev pub draft_fields : List Text → Draft → List Field
+abbrev pub draft_fields : List Text → Draft → List JsonField
 draft_fields names (draft.Client d) = client_fields names d
 draft_fields names (draft.Connection d) = connection_fields names d
 draft_fields names (draft.Channel d) = channel_fields names d
@@ -229,13 +229,13 @@ IsDraft name names object d =
 
 -- ---- steps
 
-abbrev pub do_field : Text → Field
+abbrev pub do_field : Text → JsonField
 do_field what = field (codes "do") (IsText what)
 
-abbrev pub on_field : List Text → ℕ → Field
+abbrev pub on_field : List Text → ℕ → JsonField
 on_field names on = field (codes "on") (IsChain names on)
 
-abbrev pub step_fields : List Text → Step → List Field
+abbrev pub step_fields : List Text → Step → List JsonField
 step_fields names (step.Message on d) = do_field (wire.name_of (draft_kind d)) ∷ on_field names on ∷ draft_fields names d
 step_fields names (step.Block on time) =
     do_field (codes "Block") ∷ on_field names on ∷ field (codes "time") (IsNumberIfThere time) ∷ []
@@ -286,7 +286,7 @@ content_of script =
 abbrev pub AreDifferent : List Text → Type 0
 AreDifferent names = (i j : ℕ) (name : Text) → i < j → slice_get names i ≡ Some name → slice_get names j ≡ Some name → ⊥
 
-abbrev pub script_fields : ScriptContent → List Field
+abbrev pub script_fields : ScriptContent → List JsonField
 script_fields content =
     field (codes "capacity") (IsNumber content.genesis.capacity)
     ∷ field (codes "window") (IsWindow content.genesis.capacity content.genesis.window)

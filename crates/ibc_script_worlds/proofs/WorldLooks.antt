@@ -108,7 +108,7 @@ pub new_ledgers : (genesis : GenesisState) (made : WorldState) (result : Result 
     → AreLedgersOf made.genesis made.ledgers
 new_ledgers genesis made result was bad same new =
     let allowed : IsTrue (is_allowed genesis) = allowed_if (is_allowed genesis) (λ none.
-    let both : Ok made ≡ Err BadMessage = sym was ∙ bad.1 none in
+    let both : ◌≡◌ {A = Result WorldState Refusal} (Ok made) (Err BadMessage) = sym was ∙ bad.1 none in
     absurd cc) in
     let is = (new_is_world genesis made.ledgers allowed new).of in
     subst (λ (g : GenesisState). AreLedgersOf g made.ledgers) (sym same) is
