@@ -64,7 +64,7 @@ not_proved height k ledger none = by_block (kept_block height ledger) none
   where
     by_block : (o : Option Block) → IsNone o → None ≡ option_map (λ (block : Block). written_proof (image block.records.core) (path k)) o
     by_block None is = refl
-    by_block (Some block) not = absurd not
+    by_block (Some block) not = absurd cc
 
 -- ---- lists
 
