@@ -1,8 +1,9 @@
 -- Values of JSON, as they are read one after another.
-use Rattle.std.proofs.Common.{◌≡◌, ◌∙◌, ◌⊎◌, ◌+◌, ◌<◌, ◌&&◌, ◌||◌, ℕ, zero, suc, Bool, Bor, Global, IsTrue, String, true, List, [], ◌∷◌, ◌++◌, Option, None, Some, ap, arith, get_or, inl, inr, length, map, option_map, refl, slice_get, string_bytes, bytes_eq, subst, sym, take, zip}
+use Rattle.std.proofs.Common.{◌≡◌, ◌∙◌, ◌⊎◌, ◌+◌, ◌<◌, ◌&&◌, ◌||◌, ℕ, zero, suc, Bool, Bor, Global, IsTrue, String, true, false, List, [], ◌∷◌, ◌++◌, Option, None, Some, ap, arith, get_or, inl, inr, length, map, option_map, refl, slice_get, string_bytes, bytes_eq, subst, sym, take, zip}
 use Rattle.std.specs.List.{list_all, list_any}
 use Rattle.std.proofs.lemmas.List.{map-append, take_more}
-use Rattle.std.proofs.lemmas.Option.{slice_get_within}
+use Rattle.std.proofs.lemmas.Option.{same_Some, slice_get_within}
+use Rattle.std.proofs.lemmas.Slice.Eq.{bytes_eq-Decides}
 use Rattle.serde_json.specs.Data.{Data}
 use Rattle.serde_json.specs.Find.{as_array}
 use Rattle.serde_json.specs.View.{items_of, items_view, members_view, view}
@@ -91,3 +92,21 @@ pub known_members : (names : List (Bor Text)) (entries : List (String Global × 
 known_members names [] = refl
 known_members names (entry ∷ entries) =
     (λ i. any_mapped (bytes_eq (string_bytes entry.0)) names i && known_members names entries i)
+
+-- ---- names that stand in a list
+
+or_true : (b rest : Bool) → b ≡ true → (b || rest) ≡ false → ⊥
+or_true true rest is none = absurd cc
+or_true false rest is none = absurd cc
+
+or_rest : (b rest : Bool) → (b || rest) ≡ false → rest ≡ false
+or_rest true rest none = absurd cc
+or_rest false rest none = none
+
+pub none_known : (names : List Text) (name : Text) → list_any (λ (known : Text). bytes_eq known name) names ≡ false → (i : ℕ) → slice_get names i ≡ Some name → ⊥
+none_known [] name none i at = absurd cc
+none_known (known ∷ names) name none zero at =
+    let same : known ≡ name = same_Some known name at in
+    or_true (bytes_eq known name) (list_any (λ (k : Text). bytes_eq k name) names) ((bytes_eq-Decides known name).1 same) none
+none_known (known ∷ names) name none (suc i) at =
+    none_known names name (or_rest (bytes_eq known name) (list_any (λ (k : Text). bytes_eq k name) names) none) i at

@@ -1,6 +1,6 @@
 //! The chains of a script, and how they begin.
 
-ghost use Rattle.std.specs.Prelude.{◌≡◌, ◌≤◌, Some, length, map, zip, IfOk, IfErr};
+ghost use Rattle.std.specs.Prelude.{◌≡◌, ◌≤◌, ℕ, Some, false, length, map, slice_get, zip, IfOk, IfErr};
 ghost use Rattle.serde_json.specs.View.{view};
 ghost use Rattle.ibc_machine.specs.chain.Genesis.{chain_state};
 ghost use Rattle.ibc_script.specs.Faults.{IsScriptFault};
@@ -50,6 +50,13 @@ fn read_chain(alloc: Global, value: &Value) -> Result<(ChainName, ChainStart), F
     Ok((name, ChainStart { time, balances }))
 }
 
+// Whether a name is one of these.
+fn is_known(names: &[ChainName], name: &ChainName) -> bool
+    ensures { result ≡ false → (i : ℕ) → slice_get names.now i ≡ Some name.now → ⊥ }
+{
+    names.contains(name)
+}
+
 /// The names of the chains and how they begin. Each name stands once.
 pub fn read_chains(
     alloc: Global,
@@ -68,7 +75,7 @@ pub fn read_chains(
     let mut starts = Vec::with_capacity(alloc, values.len())?;
     for value in values {
         let (name, start) = read_chain(alloc, value)?;
-        if names.contains(&name) {
+        if is_known(names.as_slice(), &name) {
             return Err(Fault::BadScript);
         }
         names.push(name)?;
