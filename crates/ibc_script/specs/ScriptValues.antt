@@ -254,9 +254,9 @@ step_fields names (step.Relay first second turns) =
     do_field (codes "relay") ∷ field (codes "chains") (AreChains names first second)
     ∷ field (codes "turns") (IsNumber turns) ∷ []
 
-abbrev pub IsStep : List Text → Step → Option Data → Type 0
-IsStep names s None = ⊥
-IsStep names s (Some object) = IsObject (step_fields names s) object
+abbrev pub IsStepObject : List Text → Step → Option Data → Type 0
+IsStepObject names s None = ⊥
+IsStepObject names s (Some object) = IsObject (step_fields names s) object
 
 -- ---- scripts
 
@@ -291,7 +291,7 @@ script_fields content =
     field (codes "capacity") (IsNumber content.genesis.capacity)
     ∷ field (codes "window") (IsWindow content.genesis.capacity content.genesis.window)
     ∷ field (codes "chains") (IsListOf IsChainStart (zip content.names content.genesis.chains))
-    ∷ field (codes "steps") (IsListOf (IsStep content.names) content.steps) ∷ []
+    ∷ field (codes "steps") (IsListOf (IsStepObject content.names) content.steps) ∷ []
 
 -- the value is this script: 8 chains at most, which have different names, and 10,000 steps at most
 abbrev pub IsScript : ScriptContent → Data → Type 0

@@ -4,7 +4,7 @@ ghost use Rattle.std.specs.Prelude.{◌≤◌, ◌<◌, Some, codes, length, map
 ghost use Rattle.serde_json.specs.Find.{get};
 ghost use Rattle.serde_json.specs.View.{view};
 ghost use Rattle.ibc_script.specs.Faults.{IsScriptFault};
-ghost use Rattle.ibc_script.specs.ScriptValues.{AreEach, IsDraft, IsStep, IsText};
+ghost use Rattle.ibc_script.specs.ScriptValues.{AreEach, IsDraft, IsStepObject, IsText};
 ghost use Rattle.ibc_script.specs.Scripts.{IsAmong, IsDraftAmong};
 
 use super::step_reader::StepReader;
@@ -17,7 +17,7 @@ use std::alloc::Global;
 impl StepReader<'_> {
     fn block(&self) -> Result<Step, Fault>
         requires { IsText (codes "Block") (get (codes "do") (view self.now.object.now)) }
-        ensures step { IfOk result (λ step. IsStep self.now.names.now step (Some (view self.now.object.now))) }
+        ensures step { IfOk result (λ step. IsStepObject self.now.names.now step (Some (view self.now.object.now))) }
         ensures among { IfOk result (IsAmong (length self.now.names.now)) }
         ensures faults { IfErr result IsScriptFault }
     {
@@ -30,7 +30,7 @@ impl StepReader<'_> {
 
     fn root(&self) -> Result<Step, Fault>
         requires { IsText (codes "root") (get (codes "do") (view self.now.object.now)) }
-        ensures step { IfOk result (λ step. IsStep self.now.names.now step (Some (view self.now.object.now))) }
+        ensures step { IfOk result (λ step. IsStepObject self.now.names.now step (Some (view self.now.object.now))) }
         ensures among { IfOk result (IsAmong (length self.now.names.now)) }
         ensures faults { IfErr result IsScriptFault }
     {
@@ -43,7 +43,7 @@ impl StepReader<'_> {
 
     fn prove(&self) -> Result<Step, Fault>
         requires { IsText (codes "prove") (get (codes "do") (view self.now.object.now)) }
-        ensures step { IfOk result (λ step. IsStep self.now.names.now step (Some (view self.now.object.now))) }
+        ensures step { IfOk result (λ step. IsStepObject self.now.names.now step (Some (view self.now.object.now))) }
         ensures among { IfOk result (IsAmong (length self.now.names.now)) }
         ensures faults { IfErr result IsScriptFault }
     {
@@ -57,7 +57,7 @@ impl StepReader<'_> {
 
     fn totals(&self) -> Result<Step, Fault>
         requires { IsText (codes "totals") (get (codes "do") (view self.now.object.now)) }
-        ensures step { IfOk result (λ step. IsStep self.now.names.now step (Some (view self.now.object.now))) }
+        ensures step { IfOk result (λ step. IsStepObject self.now.names.now step (Some (view self.now.object.now))) }
         ensures among { IfOk result (IsAmong (length self.now.names.now)) }
         ensures faults { IfErr result IsScriptFault }
     {
@@ -71,7 +71,7 @@ impl StepReader<'_> {
 
     fn open(&self) -> Result<Step, Fault>
         requires { IsText (codes "open") (get (codes "do") (view self.now.object.now)) }
-        ensures step { IfOk result (λ step. IsStep self.now.names.now step (Some (view self.now.object.now))) }
+        ensures step { IfOk result (λ step. IsStepObject self.now.names.now step (Some (view self.now.object.now))) }
         ensures among { IfOk result (IsAmong (length self.now.names.now)) }
         ensures faults { IfErr result IsScriptFault }
     {
@@ -86,7 +86,7 @@ impl StepReader<'_> {
 
     fn relay(&self) -> Result<Step, Fault>
         requires { IsText (codes "relay") (get (codes "do") (view self.now.object.now)) }
-        ensures step { IfOk result (λ step. IsStep self.now.names.now step (Some (view self.now.object.now))) }
+        ensures step { IfOk result (λ step. IsStepObject self.now.names.now step (Some (view self.now.object.now))) }
         ensures among { IfOk result (IsAmong (length self.now.names.now)) }
         ensures faults { IfErr result IsScriptFault }
     {
@@ -118,7 +118,7 @@ impl StepReader<'_> {
 
     fn message(&self, kind: &str) -> Result<Step, Fault>
         requires { IsText kind.now (get (codes "do") (view self.now.object.now)) }
-        ensures step { IfOk result (λ step. IsStep self.now.names.now step (Some (view self.now.object.now))) }
+        ensures step { IfOk result (λ step. IsStepObject self.now.names.now step (Some (view self.now.object.now))) }
         ensures among { IfOk result (IsAmong (length self.now.names.now)) }
         ensures faults { IfErr result IsScriptFault }
     {
@@ -129,7 +129,7 @@ impl StepReader<'_> {
     }
 
     fn step(&self) -> Result<Step, Fault>
-        ensures step { IfOk result (λ step. IsStep self.now.names.now step (Some (view self.now.object.now))) }
+        ensures step { IfOk result (λ step. IsStepObject self.now.names.now step (Some (view self.now.object.now))) }
         ensures among { IfOk result (IsAmong (length self.now.names.now)) }
         ensures faults { IfErr result IsScriptFault }
     {
@@ -148,7 +148,7 @@ impl StepReader<'_> {
 /// The steps of a script, each of which names chains of the script alone.
 pub fn read_steps(alloc: Global, names: &[ChainName], values: &[Value]) -> Result<Vec<Step>, Fault>
     requires { length names.now ≤ 8 }
-    ensures steps { IfOk result (λ steps. AreEach (IsStep names.now) steps.items (map view values.now)) }
+    ensures steps { IfOk result (λ steps. AreEach (IsStepObject names.now) steps.items (map view values.now)) }
     ensures few { IfOk result (λ steps. length steps.items ≤ 10000) }
     ensures among { IfOk result (λ steps. All (IsAmong (length names.now)) steps.items) }
     ensures faults { IfErr result IsScriptFault }
