@@ -1,5 +1,5 @@
 -- Which script a JSON value is: the members of each step, and what each of them is.
-use Rattle.std.specs.Prelude.{◌≡◌, ◌⊎◌, ◌<◌, ◌≤◌, ℕ, min, Bool, true, false, ◌&&◌, codes, decimal, List, [], ◌∷◌, ◌++◌, length, map, slice_get, zip, Option, None, Some, option_map, option_and_then, IsTrue, IsUtf8, ⊤}
+use Rattle.std.specs.Prelude.{◌≡◌, ◌⊎◌, ◌<◌, ◌≤◌, ℕ, min, Bool, true, false, ◌&&◌, codes, decimal, List, [], ◌∷◌, ◌++◌, length, slice_get, zip, Option, None, Some, option_map, option_and_then, IsTrue, IsUtf8, ⊤}
 use Rattle.std.specs.List.{list_any}
 use Rattle.std.specs.Option.{option_map_or}
 use Rattle.std.specs.Str.{bytes_eq}
@@ -132,8 +132,8 @@ names_of [] = []
 names_of (first ∷ fields) = first.name ∷ names_of fields
 
 abbrev pub AreFields : List JsonField → Data → Type 0
-AreFields [] object = ⊤
-AreFields (first ∷ fields) object = first.is (get first.name object) × AreFields fields object
+AreFields [] given = ⊤
+AreFields (first ∷ fields) given = first.is (get first.name given) × AreFields fields given
 
 abbrev pub are_among : List Text → Members → Bool
 are_among names no_members = true
@@ -141,11 +141,11 @@ are_among names (member name value members) = list_any (bytes_eq name) names && 
 
 -- an object that has members of these names alone
 abbrev pub has_only : List Text → Data → Bool
-has_only names object = option_map_or (are_among names) (as_object object) false
+has_only names given = option_map_or (are_among names) (as_object given) false
 
 -- an object that has these members, and no others
 abbrev pub IsObject : List JsonField → Data → Type 0
-IsObject fields object = IsTrue (has_only (names_of fields) object) × AreFields fields object
+IsObject fields given = IsTrue (has_only (names_of fields) given) × AreFields fields given
 
 -- ---- messages
 
@@ -223,9 +223,9 @@ draft_fields names (draft.Packet d) = packet_fields names d
 
 -- a message of this name, by the members of its step but `do` and `on`
 abbrev pub IsDraft : Text → List Text → Data → Draft → Type 0
-IsDraft name names object d =
-    (wire.name_of (draft_kind d) ≡ name) × IsTrue (has_only (codes "do" ∷ codes "on" ∷ names_of (draft_fields names d)) object)
-    × AreFields (draft_fields names d) object
+IsDraft name names given d =
+    (wire.name_of (draft_kind d) ≡ name) × IsTrue (has_only (codes "do" ∷ codes "on" ∷ names_of (draft_fields names d)) given)
+    × AreFields (draft_fields names d) given
 
 -- ---- steps
 
@@ -256,18 +256,18 @@ step_fields names (step.Relay first second turns) =
 
 abbrev pub IsStepObject : List Text → Step → Option Data → Type 0
 IsStepObject names s None = ⊥
-IsStepObject names s (Some object) = IsObject (step_fields names s) object
+IsStepObject names s (Some given) = IsObject (step_fields names s) given
 
 -- ---- scripts
 
 -- a chain's name, and how it begins
 abbrev pub IsChainStart : Text × ChainState → Option Data → Type 0
 IsChainStart start None = ⊥
-IsChainStart (name, start) (Some object) =
+IsChainStart (name, start) (Some given) =
     IsObject (
     field (codes "name") (IsText name) ∷ field (codes "time") (IsNumber start.time)
     ∷ field (codes "balances") (IsListOf IsHolding start.balances) ∷ []
-    ) object
+    ) given
 
 -- how many heights are kept; where nothing is said, the smaller of the capacity and 4,096
 abbrev pub IsWindow : ℕ → ℕ → Option Data → Type 0
@@ -295,8 +295,8 @@ script_fields content =
 
 -- the value is this script: 8 chains at most, which have different names, and 10,000 steps at most
 abbrev pub IsScript : ScriptContent → Data → Type 0
-IsScript content object =
-    IsObject (script_fields content) object × AreDifferent content.names × (length content.names ≡ length content.genesis.chains)
+IsScript content given =
+    IsObject (script_fields content) given × AreDifferent content.names × (length content.names ≡ length content.genesis.chains)
     × (length content.names ≤ 8) × (length content.steps ≤ 10000)
 
 -- the text is this script, in JSON

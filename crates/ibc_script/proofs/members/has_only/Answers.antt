@@ -1,4 +1,4 @@
-use Rattle.std.proofs.Common.{◌≡◌, ◌∙◌, Bor, IfOk, IsTrue, Option, Some, false, ap, map, option_map, subst, sym}
+use Rattle.std.proofs.Common.{◌∙◌, Bor, IfOk, IsTrue, Option, false, ap, map, option_map, subst, sym}
 use Rattle.std.specs.BTreeMap.{BTreeMap}
 use Rattle.std.specs.Option.{option_map_or}
 use Rattle.std.proofs.Common.{String, Global}

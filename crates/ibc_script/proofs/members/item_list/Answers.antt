@@ -1,4 +1,5 @@
-use Rattle.std.proofs.Common.{◌∙◌, Bor, Vec, ap, option_map, sym}
+use Rattle.std.proofs.Common.{◌∙◌, Bor, ap, option_map, sym}
+use Rattle.std.specs.Global.{Vec}
 use Rattle.serde_json.specs.View.{items_view}
 use Rattle.serde_json.specs.declared.value.Value.{Value}
 use Rattle.ibc_script.proofs.Values.{are_items}

@@ -1,5 +1,4 @@
-use Rattle.std.proofs.Common.{◌≡◌, ◌∙◌, ◌+◌, List, ap, map, subst, sym, take, take_all}
-use Rattle.serde_json.specs.Data.{Data}
+use Rattle.std.proofs.Common.{◌+◌, List, map, subst, sym, take, take_all}
 use Rattle.serde_json.specs.View.{view}
 use Rattle.ibc_wire.specs.declared.token.Token.{Token}
 use Rattle.ibc_script.specs.ScriptValues.{AreEach, IsToken}
