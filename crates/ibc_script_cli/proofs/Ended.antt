@@ -1,5 +1,5 @@
 -- A run or a race that has ended, and the text that it wrote.
-use Rattle.std.proofs.Common.{◌≡◌, List, [], length, Option, None, Some, Result, Ok, Err, IsOk, OnErr, OnOk, refl, sym}
+use Rattle.std.proofs.Common.{◌≡◌, ◌⊎◌, inr, List, [], length, Option, None, Some, Result, Ok, Err, IsOk, OnErr, OnOk, refl, sym}
 use Rattle.std.specs.Io.KnownBytes.{Keeps}
 use Rattle.ibc_ids.specs.Texts.{Text}
 use Rattle.ibc_machine.specs.chain.Genesis.{GenesisState, genesis_state}
@@ -43,3 +43,7 @@ module _ (raced : GenesisState → List Step → RaceAudit → Type 0) (script :
       → OnErr result (HasRacedInPart raced script before after)
   has_raced_in_part (Ok x) has = tt
   has_raced_in_part (Err fault) (done, rest, is, has) = (done, (rest, (audit, told, sym is)), has)
+
+pub or_in_part : {T E : Type 0} (result : Result T E) (P Q : Type 0) → OnErr result Q → OnErr result (P ⊎ Q)
+or_in_part (Ok x) P Q is = tt
+or_in_part (Err fault) P Q is = inr is

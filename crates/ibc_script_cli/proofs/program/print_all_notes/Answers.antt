@@ -33,10 +33,11 @@ returns-in_err-print_notes_of-clause-written g c =
     let audit = c.args.audited.now in
     let mid = g.W.Write.contents c.loop-on.output in
     let now = g.W.Write.contents c.print_notes_of.new.output in
+    let all : length names - 0 ≡ length names = omega arith in
     let p = err_from_is_err_and c.from_residual.result c.from_residual.ensures.1 in
-    rw p.1 (wrote_part (λ i. audited_note_lines names audit i (length names - i)) c.loop-on.on (note_lines (name_of names c.loop-on.on) (audited_notes audit c.loop-on.on))
+    rw p.1 (subst (λ (n : ℕ). IsCut (g.W.Write.contents c.args.output.now) now (audited_note_lines names audit 0 n)) all (wrote_part (λ i. audited_note_lines names audit i (length names - i)) c.loop-on.on (note_lines (name_of names c.loop-on.on) (audited_notes audit c.loop-on.on))
     (g.W.Write.contents c.args.output.now) mid now (next_chain names audit c.loop-on.on c.loop-on-test.true) c.loop-on.invariant
-    (subst (λ (n : Text). IsCut mid now (note_lines n (audited_notes audit c.loop-on.on))) c.name_at.ensures c.in_err-print_notes_of.ensures.written))
+    (subst (λ (n : Text). IsCut mid now (note_lines n (audited_notes audit c.loop-on.on))) c.name_at.ensures c.in_err-print_notes_of.ensures.written)))
 
 pub returns-clause-written : goal.returns-clause-written
 returns-clause-written g c =
