@@ -1,5 +1,5 @@
 -- A run or a race that has ended, and the text that it wrote.
-use Rattle.std.proofs.Common.{◌≡◌, ◌⊎◌, inr, List, [], length, Option, None, Some, Result, Ok, Err, IsOk, OnErr, OnOk, refl, sym}
+use Rattle.std.proofs.Common.{◌⊎◌, inr, List, [], Option, Result, Ok, Err, IsOk, OnErr, OnOk, refl, sym}
 use Rattle.std.specs.Io.KnownBytes.{Keeps}
 use Rattle.ibc_ids.specs.Texts.{Text}
 use Rattle.ibc_machine.specs.chain.Genesis.{GenesisState, genesis_state}

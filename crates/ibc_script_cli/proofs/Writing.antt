@@ -1,5 +1,5 @@
 -- What outputs have after one text and another.
-use Rattle.std.proofs.Common.{◌≡◌, ◌∙◌, ℕ, ◌+◌, List, [], ◌++◌, append_assoc, append-nil, Option, None, Some, Result, Ok, Err, IsOk, OnOk, sym, ap, subst, refl}
+use Rattle.std.proofs.Common.{◌≡◌, ◌∙◌, ℕ, ◌+◌, [], ◌++◌, append_assoc, append-nil, Option, None, Some, Result, Ok, Err, IsOk, OnOk, sym, ap, subst, refl}
 use Rattle.std.specs.Io.KnownBytes.{Appends, Keeps}
 use Rattle.ibc_ids.specs.Texts.{Text}
 use Rattle.ibc_script_cli.specs.Runs.{IsCut, WritesText}

@@ -1,4 +1,4 @@
-use Rattle.std.proofs.Common.{◌≡◌, ◌⊎◌, ℕ, ◌<◌, ◌+◌, List, length, take, Option, None, Some, IfSome, IfOk, OnOk, OnErr, Result, Ok, Err, ap, ◌∙◌, arith, inl, inr, subst, take_all}
+use Rattle.std.proofs.Common.{◌≡◌, ℕ, ◌<◌, ◌+◌, List, length, take, Option, None, Some, IfSome, IfOk, OnOk, OnErr, Result, Ok, Err, ap, ◌∙◌, arith, inl, inr, subst, take_all}
 use Rattle.std.proofs.lemmas.Result.{err_from_is_err_and}
 use Rattle.ibc_script.specs.ScriptValues.{IsScriptText, ScriptContent, content_of}
 use Rattle.ibc_script_cli.specs.declared.words.Command.{Command}

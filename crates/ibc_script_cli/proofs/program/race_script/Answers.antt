@@ -1,4 +1,4 @@
-use Rattle.std.proofs.Common.{◌≡◌, ◌∙◌, ◌⊎◌, List, OnErr, OnOk, inl, inr, subst, sym}
+use Rattle.std.proofs.Common.{◌≡◌, ◌∙◌, List, inl, subst}
 use Rattle.std.proofs.lemmas.Result.{err_from_is_err_and}
 use Rattle.ibc_ids.specs.Texts.{Text}
 use Rattle.ibc_machine.specs.chain.Genesis.{genesis_state}
