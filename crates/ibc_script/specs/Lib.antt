@@ -3,3 +3,4 @@ pub mod ChainNames
 pub mod EventKinds
 pub mod Faults
 pub mod Scripts
+pub mod ScriptValues

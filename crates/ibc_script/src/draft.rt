@@ -3,9 +3,8 @@
 ghost use Rattle.std.specs.Prelude.{◌≡◌};
 ghost use Rattle.ibc_script.specs.EventKinds.{client_draft_kind, connection_draft_kind, channel_draft_kind, packet_draft_kind, draft_kind};
 
-use crate::ListedTransfer;
 use ibc_ids::{ChannelId, ClientId, ConnectionId, PortId, Version};
-use ibc_wire::{ChanCloseInit, ChanOpenInit, MessageKind, Order, SendNote, Transfer};
+use ibc_wire::{ChanCloseInit, ChanOpenInit, MessageKind, Order, SendNote, Transfer, TransferMany};
 
 /// The height of a chain from which the proofs of a message are taken.
 #[derive(Clone, Copy, Debug, PartialEq, Eq, Drop)]
@@ -109,7 +108,7 @@ pub enum PacketDraft {
     /// Tokens of one denomination are sent (ICS 20).
     Transfer(Transfer),
     /// Tokens of several denominations are sent in one packet (ICS 20).
-    TransferMany(ListedTransfer),
+    TransferMany(TransferMany),
     /// A note is sent.
     SendNote(SendNote),
     /// A packet is received. Its proof is of this height of the chain that sent it.

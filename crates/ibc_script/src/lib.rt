@@ -7,7 +7,6 @@ mod chain_name;
 mod draft;
 mod event_kind;
 mod fault;
-mod listed_transfer;
 mod members;
 mod payload;
 mod reading;
@@ -21,6 +20,5 @@ pub use draft::{
 };
 pub use event_kind::EventKind;
 pub use fault::Fault;
-pub use listed_transfer::ListedTransfer;
 pub use reading::read_script;
 pub use script::{MOST_BYTES, MOST_CHAINS, MOST_STEPS, Script, Step};

@@ -1,31 +1,52 @@
 //! The members of JSON objects in a script.
 
-ghost use Rattle.std.specs.Prelude.{◌≡◌, IfErr, ok_or};
-ghost use Rattle.serde_json.specs.View.{view};
+ghost use Rattle.std.specs.Prelude.{◌≡◌, IfErr, IfOk, IsTrue, Some, map, ok_or};
+ghost use Rattle.std.specs.List.{list_any};
+ghost use Rattle.serde_json.specs.Find.{get};
+ghost use Rattle.serde_json.specs.View.{members_view, view};
 ghost use Rattle.ibc_script.specs.Faults.{IsScriptFault};
+ghost use Rattle.std.specs.Str.{bytes_eq};
 ghost use Rattle.ibc_script.specs.Scripts.{number_at};
+ghost use Rattle.ibc_script.specs.ScriptValues.{AreItems, IsNumber, IsNumberIfThere, IsText, IsTextIfThere, are_among, has_only};
 
 use crate::Fault;
-use serde_json::Value;
+use serde_json::{Map, Value};
 
 /// `Ok` where each member of the object has one of the names. Fault: `BadScript`, also where it is no object.
 pub fn has_only(object: &Value, names: &[&str]) -> Result<(), Fault>
-    ensures { IfErr result IsScriptFault }
+    ensures only { IfOk result (λ _. IsTrue (has_only (map (λ name. name.now) names.now) (view object.now))) }
+    ensures faults { IfErr result IsScriptFault }
 {
-    let members = object.as_object().ok_or(Fault::BadScript)?;
-    if members
-        .keys()
-        .all(|member| names.iter().any(|name| *name == member.as_str()))
-    {
-        Ok(())
-    } else {
-        Err(Fault::BadScript)
+    match object.as_object() {
+        Some(members) => are_among(members, names),
+        None => Err(Fault::BadScript),
     }
+}
+
+// `Ok` where each of these members has one of the names. Fault: `BadScript`.
+fn are_among(members: &Map<String, Value>, names: &[&str]) -> Result<(), Fault>
+    ensures among { IfOk result (λ _. IsTrue (are_among (map (λ name. name.now) names.now) (members_view members.now.entries))) }
+    ensures faults { IfErr result IsScriptFault }
+{
+    for member in members.keys() {
+        if !is_one_of(names, member.as_str()) {
+            return Err(Fault::BadScript);
+        }
+    }
+    Ok(())
+}
+
+// Whether a name is one of these.
+fn is_one_of(names: &[&str], member: &str) -> bool
+    ensures { result ≡ list_any (λ name. bytes_eq member.now name.now) names.now }
+{
+    names.iter().any(|name| member == *name)
 }
 
 /// The member of this name, a number below 2^64. Fault: `BadScript`.
 pub fn number(object: &Value, name: &str) -> Result<u64, Fault>
     ensures value { result ≡ ok_or (number_at name.now (view object.now)) Fault.BadScript }
+    ensures number { IfOk result (λ number. IsNumber number (get name.now (view object.now))) }
     ensures faults { IfErr result IsScriptFault }
 {
     object
@@ -36,7 +57,8 @@ pub fn number(object: &Value, name: &str) -> Result<u64, Fault>
 
 /// The member of this name, where it is there a number below 2^64. Fault: `BadScript`.
 pub fn optional_number(object: &Value, name: &str) -> Result<Option<u64>, Fault>
-    ensures { IfErr result IsScriptFault }
+    ensures number { IfOk result (λ number. IsNumberIfThere number (get name.now (view object.now))) }
+    ensures faults { IfErr result IsScriptFault }
 {
     if object.get(name).is_none() {
         return Ok(None);
@@ -46,7 +68,8 @@ pub fn optional_number(object: &Value, name: &str) -> Result<Option<u64>, Fault>
 
 /// The member of this name, a text. Fault: `BadScript`.
 pub fn text<'v>(object: &'v Value, name: &str) -> Result<&'v str, Fault>
-    ensures { IfErr result IsScriptFault }
+    ensures text { IfOk result (λ text. IsText text.now (get name.now (view object.now))) }
+    ensures faults { IfErr result IsScriptFault }
 {
     object
         .get(name)
@@ -56,7 +79,8 @@ pub fn text<'v>(object: &'v Value, name: &str) -> Result<&'v str, Fault>
 
 /// The member of this name, a text; the empty one where there is none. Fault: `BadScript`.
 pub fn text_or_empty<'v>(object: &'v Value, name: &str) -> Result<&'v str, Fault>
-    ensures { IfErr result IsScriptFault }
+    ensures text { IfOk result (λ text. IsTextIfThere text.now (get name.now (view object.now))) }
+    ensures faults { IfErr result IsScriptFault }
 {
     if object.get(name).is_none() {
         return Ok("");
@@ -66,18 +90,30 @@ pub fn text_or_empty<'v>(object: &'v Value, name: &str) -> Result<&'v str, Fault
 
 /// The text that an item of a list is. Fault: `BadScript`.
 pub fn item_text(item: &Value) -> Result<&str, Fault>
-    ensures { IfErr result IsScriptFault }
+    ensures text { IfOk result (λ text. IsText text.now (Some (view item.now))) }
+    ensures faults { IfErr result IsScriptFault }
 {
     item.as_str().ok_or(Fault::BadScript)
 }
 
 /// The items of the member of this name, a list. Fault: `BadScript`.
 pub fn list<'v>(object: &'v Value, name: &str) -> Result<&'v [Value], Fault>
-    ensures { IfErr result IsScriptFault }
+    ensures items { IfOk result (λ items. AreItems (map view items.now) (get name.now (view object.now))) }
+    ensures faults { IfErr result IsScriptFault }
 {
-    let items = object
-        .get(name)
-        .and_then(Value::as_array)
-        .ok_or(Fault::BadScript)?;
-    Ok(items.as_slice())
+    match object.get(name) {
+        Some(value) => item_list(value),
+        None => Err(Fault::BadScript),
+    }
+}
+
+/// The items that an item of a list has, a list. Fault: `BadScript`.
+pub fn item_list(item: &Value) -> Result<&[Value], Fault>
+    ensures items { IfOk result (λ items. AreItems (map view items.now) (Some (view item.now))) }
+    ensures faults { IfErr result IsScriptFault }
+{
+    match item.as_array() {
+        Some(items) => Ok(items.as_slice()),
+        None => Err(Fault::BadScript),
+    }
 }

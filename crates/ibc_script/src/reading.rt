@@ -1,7 +1,11 @@
 //! Scripts are read from JSON.
 
-ghost use Rattle.std.specs.Prelude.{◌<◌, length, IfErr, IsErrOf};
+ghost use Rattle.std.specs.Prelude.{◌≡◌, ◌<◌, Some, codes, decimal, length, IfErr, IfOk, IsErrOf, IsUtf8};
+ghost use Rattle.serde_json.specs.Find.{get};
+ghost use Rattle.serde_json.specs.Read.{read};
+ghost use Rattle.serde_json.specs.View.{view};
 ghost use Rattle.ibc_script.specs.Faults.{IsScriptFault};
+ghost use Rattle.ibc_script.specs.ScriptValues.{IsAmount, IsScript, IsScriptText, IsText, IsWindow, content_of};
 
 mod chains;
 mod channels;
@@ -26,7 +30,8 @@ use steps::read_steps;
 const USUAL_WINDOW: u64 = 4_096;
 
 fn parsed(alloc: Global, bytes: &[u8]) -> Result<Value, Fault>
-    ensures { IfErr result IsScriptFault }
+    ensures value { IfOk result (λ value. IsUtf8 bytes.now × (read bytes.now ≡ Some (view value))) }
+    ensures faults { IfErr result IsScriptFault }
 {
     match Value::from_slice(alloc, bytes) {
         Ok(value) => Ok(value),
@@ -37,20 +42,23 @@ fn parsed(alloc: Global, bytes: &[u8]) -> Result<Value, Fault>
 
 // The amount that a text writes.
 fn read_amount(alloc: Global, text: &str) -> Result<u128, Fault>
-    ensures { IfErr result IsScriptFault }
+    ensures amount { IfOk result (λ amount. text.now ≡ decimal amount) }
+    ensures faults { IfErr result IsScriptFault }
 {
     amount_of(alloc, text)?.ok_or(Fault::BadScript)
 }
 
 // The amount that an item of a list is, a text.
 fn item_amount(alloc: Global, item: &Value) -> Result<u128, Fault>
-    ensures { IfErr result IsScriptFault }
+    ensures amount { IfOk result (λ amount. IsAmount amount (Some (view item.now))) }
+    ensures faults { IfErr result IsScriptFault }
 {
     read_amount(alloc, item_text(item)?)
 }
 
 fn parse_name<K: NameKind>(alloc: Global, text: &str) -> Result<Name<K>, Fault>
-    ensures { IfErr result IsScriptFault }
+    ensures name { IfOk result (λ name. name ≡ text.now) }
+    ensures faults { IfErr result IsScriptFault }
 {
     match Name::parse(alloc, text) {
         Ok(name) => Ok(name),
@@ -60,7 +68,8 @@ fn parse_name<K: NameKind>(alloc: Global, text: &str) -> Result<Name<K>, Fault>
 
 // The name that an item of a list is, a text.
 fn item_name<K: NameKind>(alloc: Global, item: &Value) -> Result<Name<K>, Fault>
-    ensures { IfErr result IsScriptFault }
+    ensures name { IfOk result (λ name. IsText name (Some (view item.now))) }
+    ensures faults { IfErr result IsScriptFault }
 {
     parse_name(alloc, item_text(item)?)
 }
@@ -69,6 +78,7 @@ fn item_name<K: NameKind>(alloc: Global, item: &Value) -> Result<Name<K>, Fault>
 /// `BadScript` where the bytes are too many or no JSON, or something is missing, unknown or out of its form;
 /// `NoMemory`.
 pub fn read_script(alloc: Global, bytes: &[u8]) -> Result<Script, Fault>
+    ensures script { IfOk result (λ script. IsScriptText bytes.now (content_of script)) }
     ensures too_long { 1048576 < length bytes.now → IsErrOf result Fault.BadScript }
     ensures faults { IfErr result IsScriptFault }
 {
@@ -81,13 +91,25 @@ pub fn read_script(alloc: Global, bytes: &[u8]) -> Result<Script, Fault>
     script
 }
 
+// How many heights the chains of a script keep.
+fn read_window(script: &Value, capacity: u64) -> Result<u64, Fault>
+    ensures window { IfOk result (λ window. IsWindow capacity window (get (codes "window") (view script.now))) }
+    ensures faults { IfErr result IsScriptFault }
+{
+    match optional_number(script, "window")? {
+        Some(window) => Ok(window),
+        None => Ok(capacity.min(USUAL_WINDOW)),
+    }
+}
+
 // The script that a JSON object is.
 fn read_members(alloc: Global, script: &Value) -> Result<Script, Fault>
-    ensures { IfErr result IsScriptFault }
+    ensures script { IfOk result (λ read. IsScript (content_of read) (view script.now)) }
+    ensures faults { IfErr result IsScriptFault }
 {
     has_only(script, &["capacity", "window", "chains", "steps"])?;
     let capacity = number(script, "capacity")?;
-    let window = optional_number(script, "window")?.unwrap_or(capacity.min(USUAL_WINDOW));
+    let window = read_window(script, capacity)?;
     let steps = list(script, "steps")?;
     let (names, chains) = read_chains(alloc, list(script, "chains")?)?;
     let steps = read_steps(alloc, names.as_slice(), steps)?;

@@ -1,4 +1,5 @@
 pub mod AskedWords
+pub mod Ended
 mod PrintedLines
 pub mod Looks
 pub mod Reaching

@@ -1,16 +1,15 @@
 -- What the chains have is told.
-use Rattle.std.proofs.Common.{◌≡◌, ℕ, ◌<◌, ◌+◌, ◌-◌, suc, List, [], ◌∷◌, ◌++◌, map, codes, decimal, Option, None, Some, option_map, Result, refl, subst, sym, ap, arith}
+use Rattle.std.proofs.Common.{◌≡◌, ℕ, ◌+◌, suc, List, [], ◌∷◌, ◌++◌, codes, decimal, Option, option_map, Result, refl, subst, ap}
 use Rattle.std.specs.List.{range_with_len}
 use Rattle.ibc_ids.specs.Texts.{Text}
 use Rattle.ibc_ids.specs.declared.key.Key.{Key}
 use Rattle.ibc_ids.specs.declared.refusal.Refusal.{Refusal}
 use Rattle.ibc_machine.specs.declared.totals.Totals.{Totals}
 use Rattle.ibc_machine.specs.ics20.Bank.{Balances}
-use Rattle.ibc_script.specs.declared.draft.ProofSource.{ProofSource}
 use Rattle.ibc_script.specs.declared.script.Step.TheVariants as step
 use Rattle.ibc_script_cli.specs.Completing.{IsProofBytesAt}
 use Rattle.ibc_script_cli.specs.Lines.{digits_of, totals_words}
-use Rattle.ibc_script_cli.specs.Runs.{Act, Runs, WritesText, balance_lines, line_of, name_of, note_lines, relay_acts}
+use Rattle.ibc_script_cli.specs.Runs.{Runs, WritesText, balance_lines, line_of, name_of, note_lines, relay_acts}
 use Rattle.ibc_script_cli.specs.Runs.Act.{Take, TellBalances, TellNotes}
 use Rattle.ibc_script_cli.specs.ScriptChains.{ScriptChains}
 use Rattle.ibc_script_cli.specs.declared.chains.CommittedBlock.{CommittedBlock}

@@ -1,5 +1,5 @@
 -- Runs of acts, one after another.
-use Rattle.std.proofs.Common.{◌≡◌, ◌∙◌, ℕ, zero, suc, List, [], ◌∷◌, ◌++◌, append_assoc, append-nil, Option, None, Some, Result, Ok, Err, sym, ap, subst, refl, inl, inr, ◌⊎◌}
+use Rattle.std.proofs.Common.{◌∙◌, ℕ, zero, suc, List, [], ◌∷◌, ◌++◌, append_assoc, append-nil, Option, Result, Ok, Err, sym, ap, subst, refl, inl, inr}
 use Rattle.std.specs.Io.KnownBytes.{Appends, Keeps}
 use Rattle.ibc_ids.specs.Texts.{Text}
 use Rattle.ibc_machine.specs.declared.reply.Effect.{Effect}

@@ -1,5 +1,5 @@
 -- What is done of one act, by what was asked and told.
-use Rattle.std.proofs.Common.{◌≡◌, ℕ, List, [], ◌∷◌, ◌++◌, Option, None, Some, Result, Ok, Err, IfOk, refl, inl, inr, subst, sym}
+use Rattle.std.proofs.Common.{◌≡◌, ℕ, List, [], ◌∷◌, Option, None, Some, Result, Ok, Err, IfOk, refl, inl, inr, subst, sym}
 use Rattle.ibc_ids.specs.Texts.{Text}
 use Rattle.ibc_machine.specs.declared.event.Event.TheVariants as event
 use Rattle.ibc_machine.specs.declared.reply.Effect.{Effect}
@@ -15,7 +15,7 @@ use Rattle.ibc_ids.specs.declared.key.Key.{Key}
 use Rattle.ibc_script.specs.declared.script.Step.{Step}
 use Rattle.ibc_script.specs.declared.script.Step.TheVariants as step
 use Rattle.ibc_script_cli.specs.Opening.{own_of, turn_draft}
-use Rattle.ibc_script_cli.specs.Runs.{Act, EndsBy, IsTold, Reached, Runs, RunsTo, StopsIn, Submits, WritesText, answer_line, asking_acts, given_by, opened}
+use Rattle.ibc_script_cli.specs.Runs.{Act, EndsBy, IsTold, Reached, Runs, RunsTo, Submits, WritesText, answer_line, asking_acts, given_by, opened}
 use Rattle.ibc_script_cli.specs.Runs.Act.{Open, Send, Take}
 use Rattle.ibc_script_cli.specs.ScriptChains.{ScriptChains}
 use Rattle.ibc_script_cli.specs.declared.opening.Handshake.{Handshake}

@@ -1,5 +1,5 @@
 -- What outputs have after one text and another.
-use Rattle.std.proofs.Common.{◌≡◌, ◌∙◌, ℕ, ◌+◌, List, [], ◌++◌, append_assoc, append-nil, Option, None, Some, Result, Ok, Err, sym, ap, subst, refl}
+use Rattle.std.proofs.Common.{◌≡◌, ◌∙◌, ℕ, ◌+◌, [], ◌++◌, append_assoc, append-nil, Option, None, Some, Result, Ok, Err, IsOk, OnOk, sym, ap, subst, refl}
 use Rattle.std.specs.Io.KnownBytes.{Appends, Keeps}
 use Rattle.ibc_ids.specs.Texts.{Text}
 use Rattle.ibc_script_cli.specs.Runs.{IsCut, WritesText}
@@ -57,6 +57,14 @@ appends_kept None mid new text has keeps = tt
 appends_kept (Some xs) None new text has keeps = absurd has
 appends_kept (Some xs) (Some ys) None text has keeps = absurd keeps
 appends_kept (Some xs) (Some ys) (Some zs) text has keeps = keeps ∙ has
+
+-- what was written stays when the output is flushed
+pub flushed : {T U E F : Type 0} (ran : Result T E) (result : Result U F) (before mid after : Option Text) (text : Text) → WritesText ran before mid text → Keeps mid after
+    → OnOk result (IsOk ran) → WritesText result before after text
+flushed (Ok x) (Ok y) before mid after text has keeps ok = appends_kept before mid after text has keeps
+flushed (Ok x) (Err fault) before mid after text has keeps ok = (text, [], sym (append-nil text), appends_kept before mid after text has keeps)
+flushed (Err e) (Ok y) before mid after text part keeps ok = absurd cc
+flushed (Err e) (Err fault) before mid after text (done, rest, is, has) keeps ok = (done, rest, is, appends_kept before mid after done has keeps)
 
 -- ---- texts
 

@@ -330,7 +330,7 @@ MakesFromSentPacket told sent makes made =
 -- of the chain that sent it
 abbrev pub MakesPacketMessage : ChainAnswers → ℕ → PacketDraft → Option Message → Type 0
 MakesPacketMessage told on (packet.Transfer m) made = made ≡ Some (message.Transfer m)
-MakesPacketMessage told on (packet.TransferMany t) made = made ≡ Some (message.TransferMany t.message)
+MakesPacketMessage told on (packet.TransferMany m) made = made ≡ Some (message.TransferMany m)
 MakesPacketMessage told on (packet.SendNote m) made = made ≡ Some (message.SendNote m)
 MakesPacketMessage told on (packet.Recv sent height) made =
     MakesFromSentPacket told sent (MakesPacketAction told on handling.Recv (record { chain = sent.chain; height = height })) made

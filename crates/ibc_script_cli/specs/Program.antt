@@ -1,20 +1,95 @@
--- What a run of the program is: a run of a script on the chains that its genesis begins.
-use Rattle.std.specs.Prelude.{[], length, Option}
+-- What a run of the program is: a run of a script on the chains that its genesis begins, or a race, and the text that it writes.
+use Rattle.std.specs.Prelude.{◌≡◌, ℕ, List, [], ◌++◌, length, map, slice_get, Option, IfSome}
+use Rattle.std.specs.Global.{Vec}
+use Rattle.std.specs.Io.KnownBytes.{Appends}
+use Rattle.std.specs.List.{flat_map, range_with_len}
+use Rattle.std.specs.Option.{option_map_or}
 use Rattle.ibc_ids.specs.Texts.{Text}
+use Rattle.ibc_ids.specs.declared.account.Account.{Account}
 use Rattle.ibc_machine.specs.chain.Genesis.{GenesisState, genesis_state}
+use Rattle.ibc_machine.specs.ics20.Bank.{Balances}
+use Rattle.ibc_script.specs.ScriptValues.{IsScriptText, content_of}
 use Rattle.ibc_script.specs.declared.script.Script.{Script}
-use Rattle.ibc_script_cli.specs.Runs.{Reached, StopsIn, acts_of}
+use Rattle.ibc_script.specs.declared.script.Step.{Step}
+use Rattle.ibc_script_cli.specs.Balances.{holding_of, notes_of}
+use Rattle.ibc_script_cli.specs.Runs.{Act, Reaches, acts_of, balance_lines, name_of, note_lines}
 use Rattle.ibc_script_cli.specs.ScriptChains.{ScriptChains}
+use Rattle.ibc_script_cli.specs.declared.racing.RaceAudit.{RaceAudit}
+
+-- the bytes of an input are this script, where they are known
+abbrev pub IsInput : Option Text → Script → Type 0
+IsInput known script = IfSome known (λ text. IsScriptText text (content_of script))
+
+-- ---- texts
+
+-- all that is done for a script
+abbrev pub acts_for : Script → List Act
+acts_for script = acts_of script.steps.items (length script.names.items)
+
+-- the text of a whole run: all acts of the script were done, from chains that its genesis begins
+abbrev pub IsRunText : {C : Type 0} → (GenesisState → C → Type 0) → (C → Type 0) → ScriptChains C → Script → Text → Type 0
+IsRunText {C} begins keeps chains script text =
+    (start end : C) × (count : ℕ) × begins (genesis_state script.genesis) start × keeps end
+    × Reaches chains script.names.items count (acts_for script) start text [] end
+
+-- the text of a run that was stopped: some acts were left
+abbrev pub IsRunBeginning : {C : Type 0} → (GenesisState → C → Type 0) → ScriptChains C → Script → Text → Type 0
+IsRunBeginning {C} begins chains script text =
+    (start mid : C) × (count : ℕ) × (left : List Act) × begins (genesis_state script.genesis) start
+    × Reaches chains script.names.items count (acts_for script) start text left mid
+
+-- ---- texts of races
+
+-- what an audit tells of a chain
+abbrev pub audited_balances : RaceAudit → ℕ → Balances
+audited_balances audit on =
+    option_map_or (λ (list : Vec (Account × Text × ℕ)). map holding_of list.items) (slice_get audit.balances.items on) []
+
+abbrev pub audited_notes : RaceAudit → ℕ → List (Text × List Text)
+audited_notes audit on =
+    option_map_or (λ (list : Vec (Text × Vec Text)). map notes_of list.items) (slice_get audit.notes.items on) []
+
+-- the lines of the chains from this one on, so many
+abbrev pub audited_balance_lines : List Text → RaceAudit → ℕ → ℕ → Text
+audited_balance_lines names audit on many =
+    flat_map (λ chain. balance_lines (name_of names chain) (audited_balances audit chain)) (range_with_len on many)
+
+abbrev pub audited_note_lines : List Text → RaceAudit → ℕ → ℕ → Text
+audited_note_lines names audit on many =
+    flat_map (λ chain. note_lines (name_of names chain) (audited_notes audit chain)) (range_with_len on many)
+
+-- the balances of all chains, and then the notes
+abbrev pub audit_text : List Text → RaceAudit → Text
+audit_text names audit = audited_balance_lines names audit 0 (length names) ++ audited_note_lines names audit 0 (length names)
+
+-- what an audit tells at the end of a race of which this is so
+abbrev pub IsRaceText : (GenesisState → List Step → RaceAudit → Type 0) → Script → Text → Type 0
+IsRaceText raced script text =
+    (audit : RaceAudit) × raced (genesis_state script.genesis) script.steps.items audit
+    × (text ≡ audit_text script.names.items audit)
+
+-- a beginning of that
+abbrev pub IsRaceBeginning : (GenesisState → List Step → RaceAudit → Type 0) → Script → Text → Type 0
+IsRaceBeginning raced script text = (rest : Text) × IsRaceText raced script (text ++ rest)
+
+-- ---- outputs
+
+-- An output has more by such a text. Where its bytes are known, as those of a `Vec`, they are those before and then the text.
+abbrev pub HasMore : (Text → Type 0) → Option Text → Option Text → Type 0
+HasMore IsText before after = (text : Text) × IsText text × Appends before after text
 
 -- an output has the lines of a run of the script
 abbrev pub HasRun : {C : Type 0} → (GenesisState → C → Type 0) → (C → Type 0) → ScriptChains C → Script
     → Option Text → Option Text → Type 0
-HasRun {C} begins keeps chains script before after =
-    (start end : C) × begins (genesis_state script.genesis) start × keeps end
-    × Reached chains script.names.items (acts_of script.steps.items (length script.names.items)) start before [] end after
+HasRun begins keeps chains script before after = HasMore (IsRunText begins keeps chains script) before after
 
 -- an output has a beginning of the lines of a run of the script
 abbrev pub HasBegun : {C : Type 0} → (GenesisState → C → Type 0) → ScriptChains C → Script → Option Text → Option Text → Type 0
-HasBegun {C} begins chains script before after =
-    (start : C) × begins (genesis_state script.genesis) start
-    × StopsIn chains script.names.items (acts_of script.steps.items (length script.names.items)) start before after
+HasBegun begins chains script before after = HasMore (IsRunBeginning begins chains script) before after
+
+-- an output has what an audit tells at the end of a race of the script, or a beginning of it
+abbrev pub HasRaced : (GenesisState → List Step → RaceAudit → Type 0) → Script → Option Text → Option Text → Type 0
+HasRaced raced script before after = HasMore (IsRaceText raced script) before after
+
+abbrev pub HasRacedInPart : (GenesisState → List Step → RaceAudit → Type 0) → Script → Option Text → Option Text → Type 0
+HasRacedInPart raced script before after = HasMore (IsRaceBeginning raced script) before after

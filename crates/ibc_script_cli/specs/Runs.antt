@@ -1,6 +1,6 @@
 -- A run of a script: its acts in turn, what each of them asks the chains for, and what it writes.
-use Rattle.std.specs.Prelude.{◌≡◌, ◌⊎◌, ℕ, zero, suc, ◌+◌, Bool, true, codes, List, [], ◌∷◌, ◌++◌, length, map, slice_get, Option, None, Some, option_map, decimal, Result, Ok, Err}
-use Rattle.std.specs.List.{filter, flat_map, range_with_len}
+use Rattle.std.specs.Prelude.{◌≡◌, ◌⊎◌, ℕ, zero, suc, ◌+◌, codes, List, [], ◌∷◌, ◌++◌, map, slice_get, Option, None, Some, option_map, decimal, Result, Ok, Err}
+use Rattle.std.specs.List.{flat_map, range_with_len}
 use Rattle.std.specs.Option.{unwrap_or}
 use Rattle.std.specs.Io.KnownBytes.{Appends}
 use Rattle.base64.specs.Engines.{standard}
@@ -23,7 +23,7 @@ use Rattle.ibc_script.specs.declared.script.Step.TheVariants as step
 use Rattle.ibc_script_cli.specs.Completing.{IsProofBytesAt, MakesMessage}
 use Rattle.ibc_script_cli.specs.Lines.{digits_of, reply_words, spaced_words, totals_words}
 use Rattle.ibc_script_cli.specs.Opening.{effect_given_by, new_party, own_of, turn_draft, turns_of_open, with_effect_at}
-use Rattle.ibc_script_cli.specs.ScriptChains.{ScriptChains, ChainAnswers}
+use Rattle.ibc_script_cli.specs.ScriptChains.{ScriptChains}
 use Rattle.ibc_script_cli.specs.declared.chains.CommittedBlock.{CommittedBlock}
 use Rattle.ibc_script_cli.specs.declared.opening.Handshake.{Handshake}
 use Rattle.ibc_script_cli.specs.declared.opening.HandshakeSide.{HandshakeSide}

@@ -1,11 +1,14 @@
 //! The program, from its words and its input to the lines on its output.
 
-ghost use Rattle.std.specs.Prelude.{⊤, ◌≡◌, ◌⊎◌, ◌<◌, ◌≤◌, map, true, false, length, Some, IfOk, IfErr, IfSome, IsErrOf, IsOk, OnErr, OnOk, Err};
+ghost use Rattle.std.specs.Prelude.{⊤, ◌≡◌, ◌⊎◌, ◌<◌, ◌≤◌, ℕ, List, map, true, false, length, Some, IfOk, IfErr, IfSome, IsErrOf, IsOk, OnErr, OnOk, Err};
 ghost use Rattle.std.specs.Io.KnownBytes.{Keeps};
 ghost use Rattle.ibc_machine.specs.chain.Genesis.{GenesisState, genesis_state};
 ghost use Rattle.ibc_script.specs.Faults.{IsRunFault, IsScriptFault};
-ghost use Rattle.ibc_script_cli.specs.Program.{HasBegun, HasRun};
+ghost use Rattle.ibc_script_cli.specs.Program.{HasBegun, HasRaced, HasRacedInPart, HasRun, IsInput, audit_text, audited_balance_lines, audited_balances, audited_note_lines, audited_notes};
+ghost use Rattle.ibc_script_cli.specs.Runs.{WritesText, balance_lines, name_of, note_lines};
 ghost use Rattle.ibc_script.specs.declared.script.Script.{Script as AnyScript};
+ghost use Rattle.ibc_script.specs.declared.script.Step.{Step as AnyStep};
+ghost use Rattle.ibc_script_cli.specs.declared.racing.RaceAudit.{RaceAudit as ToldAudit};
 ghost use Rattle.ibc_script_cli.specs.Words.{are_words, command_of};
 ghost use Rattle.ibc_script_cli.specs.declared.words.Command.TheVariants as Asked;
 
@@ -42,12 +45,16 @@ pub trait Races {
     // What it stands on to start threads: that its leave may be shared by these, where it has one.
     ghost may_race: { Self → Type 0 } = { λ _. ⊤ };
 
+    // What is so of what is told at the end of a race, by the genesis and the steps.
+    ghost raced: { GenesisState → List AnyStep → ToldAudit → Type 0 } = { λ _ _ _. ⊤ };
+
     /// Runs a race on chains of its genesis that threads share, with so many relayers at each `relay`, and tells what an audit
     /// of the chains finds at the end. Faults: `BadScript` where no chains begin so; those that stop a run.
     fn race(&self, relayers: u8, race: Race) -> Result<RaceAudit, Fault>
         requires may { Self.may_race self.now }
         requires few { 1 ≤ relayers × relayers ≤ 8 }
-        ensures { IfErr result (λ fault. IsRunFault fault ⊎ IsScriptFault fault) };
+        ensures told { IfOk result (raced (genesis_state race.script.genesis) race.script.steps.items) }
+        ensures faults { IfErr result (λ fault. IsRunFault fault ⊎ IsScriptFault fault) };
 }
 
 /// Does what the words after the program's name ask for: the script on the input is run on the chains of its genesis,
@@ -69,8 +76,10 @@ pub fn drive<S: Worlds, Q: Races, R: Read + Drop, W: Write>(
     ensures words_first { are_words (map (λ word. word.now) words.now) ≡ false → (result ≡ Err Fault.BadArguments) ⊎ (result ≡ Err Fault.NoMemory) }
     ensures too_long { IfOk result (λ _. IfSome (R.remaining input) (λ known. length known < 1048577)) }
     ensures unwritten { IfErr result (λ fault. IsRunFault fault ⊎ (output.new ≡ output.old)) }
-    ensures lines { command_of (map (λ word. word.now) words.now) ≡ Some Asked.Run → OnOk result ((script : AnyScript) × HasRun S.begins S.keeps S.Chains.known script (W.contents output.old) (W.contents output.new)) }
-    ensures begun { command_of (map (λ word. word.now) words.now) ≡ Some Asked.Run → OnErr result (Keeps (W.contents output.old) (W.contents output.new) ⊎ ((script : AnyScript) × HasBegun S.begins S.Chains.known script (W.contents output.old) (W.contents output.new))) }
+    ensures lines { command_of (map (λ word. word.now) words.now) ≡ Some Asked.Run → OnOk result ((script : AnyScript) × IsInput (R.remaining input) script × HasRun S.begins S.keeps S.Chains.known script (W.contents output.old) (W.contents output.new)) }
+    ensures begun { command_of (map (λ word. word.now) words.now) ≡ Some Asked.Run → OnErr result (Keeps (W.contents output.old) (W.contents output.new) ⊎ ((script : AnyScript) × IsInput (R.remaining input) script × HasBegun S.begins S.Chains.known script (W.contents output.old) (W.contents output.new))) }
+    ensures race_lines { (relayers : ℕ) → command_of (map (λ word. word.now) words.now) ≡ Some (Asked.Race relayers) → OnOk result ((script : AnyScript) × IsInput (R.remaining input) script × HasRaced Q.raced script (W.contents output.old) (W.contents output.new)) }
+    ensures race_begun { (relayers : ℕ) → command_of (map (λ word. word.now) words.now) ≡ Some (Asked.Race relayers) → OnErr result (Keeps (W.contents output.old) (W.contents output.new) ⊎ ((script : AnyScript) × IsInput (R.remaining input) script × HasRacedInPart Q.raced script (W.contents output.old) (W.contents output.new))) }
 {
     let command = read_words(alloc, words)?;
     let bytes = read_input(alloc, input)?;
@@ -135,12 +144,21 @@ fn race_script<Q: Races, W: Write>(
 ) -> Result<(), Fault>
     requires may { Q.may_race races.now }
     requires few { 1 ≤ relayers × relayers ≤ 8 }
+    ensures raced { OnOk result (HasRaced Q.raced script (W.contents output.old) (W.contents output.new)) }
+    ensures stopped { OnErr result (Keeps (W.contents output.old) (W.contents output.new) ⊎ HasRacedInPart Q.raced script (W.contents output.old) (W.contents output.new)) }
     ensures faults { IfErr result (λ fault. IsRunFault fault ⊎ ((fault ≡ Fault.BadScript) × (output.new ≡ output.old))) }
 {
-    let names: Result<Vec<ChainName>, AllocError> = script.names.clone();
+    let names = copy_of(&script.names);
     let race = Race::new(alloc, script);
     let audited = races.race(relayers, race)?;
     print_race(alloc, names?.as_slice(), &audited, output)
+}
+
+// A copy of names.
+fn copy_of(names: &Vec<ChainName>) -> Result<Vec<ChainName>, AllocError>
+    ensures { IfOk result (λ copy. copy.items ≡ names.now.items) }
+{
+    names.clone()
 }
 
 /// Prints what an audit tells, and gives on what the output holds back.
@@ -150,7 +168,8 @@ fn print_race<W: Write>(
     audited: &RaceAudit,
     output: &mut W,
 ) -> Result<(), Fault>
-    ensures { IfErr result IsRunFault }
+    ensures written { WritesText result (W.contents output.old) (W.contents output.new) (audit_text names.now audited.now) }
+    ensures faults { IfErr result IsRunFault }
 {
     flush_after(print_audited(alloc, names, audited, output), output)
 }
@@ -162,27 +181,87 @@ fn print_audited<W: Write>(
     audited: &RaceAudit,
     output: &mut W,
 ) -> Result<(), Fault>
-    ensures { IfErr result IsRunFault }
+    ensures written { WritesText result (W.contents output.old) (W.contents output.new) (audit_text names.now audited.now) }
+    ensures faults { IfErr result IsRunFault }
 {
-    for (chain, balances) in names.iter().zip(audited.balances.iter()) {
-        print_balances(alloc, chain.as_str(), balances.as_slice(), output)?;
-    }
-    print_audited_notes(alloc, names, audited, output)
+    print_all_balances(alloc, names, audited, output)?;
+    print_all_notes(alloc, names, audited, output)
 }
 
-// Prints the notes that an audit tells.
-fn print_audited_notes<W: Write>(
+// Prints the balances of all chains that an audit tells.
+fn print_all_balances<W: Write>(
     alloc: Global,
     names: &[ChainName],
     audited: &RaceAudit,
     output: &mut W,
 ) -> Result<(), Fault>
-    ensures { IfErr result IsRunFault }
+    ensures written { WritesText result (W.contents output.old) (W.contents output.new) (audited_balance_lines names.now audited.now 0 (length names.now)) }
+    ensures faults { IfErr result IsRunFault }
 {
-    for (chain, notes) in names.iter().zip(audited.notes.iter()) {
-        print_notes(alloc, chain.as_str(), notes.as_slice(), output)?;
+    for on in 0..names.len() {
+        print_balances_of(alloc, name_at(names, on), audited, on, output)?;
     }
     Ok(())
+}
+
+// Prints the notes of all chains that an audit tells.
+fn print_all_notes<W: Write>(
+    alloc: Global,
+    names: &[ChainName],
+    audited: &RaceAudit,
+    output: &mut W,
+) -> Result<(), Fault>
+    ensures written { WritesText result (W.contents output.old) (W.contents output.new) (audited_note_lines names.now audited.now 0 (length names.now)) }
+    ensures faults { IfErr result IsRunFault }
+{
+    for on in 0..names.len() {
+        print_notes_of(alloc, name_at(names, on), audited, on, output)?;
+    }
+    Ok(())
+}
+
+// The name of a chain.
+fn name_at(names: &[ChainName], on: usize) -> &str
+    ensures { result.now ≡ name_of names.now on }
+{
+    match names.get(on) {
+        Some(name) => name.as_str(),
+        None => "",
+    }
+}
+
+// Prints the balances that an audit tells of a chain.
+fn print_balances_of<W: Write>(
+    alloc: Global,
+    name: &str,
+    audited: &RaceAudit,
+    on: usize,
+    output: &mut W,
+) -> Result<(), Fault>
+    ensures written { WritesText result (W.contents output.old) (W.contents output.new) (balance_lines name.now (audited_balances audited.now on)) }
+    ensures faults { IfErr result IsRunFault }
+{
+    match audited.balances.get(on) {
+        Some(balances) => print_balances(alloc, name, balances.as_slice(), output),
+        None => Ok(()),
+    }
+}
+
+// Prints the notes that an audit tells of a chain.
+fn print_notes_of<W: Write>(
+    alloc: Global,
+    name: &str,
+    audited: &RaceAudit,
+    on: usize,
+    output: &mut W,
+) -> Result<(), Fault>
+    ensures written { WritesText result (W.contents output.old) (W.contents output.new) (note_lines name.now (audited_notes audited.now on)) }
+    ensures faults { IfErr result IsRunFault }
+{
+    match audited.notes.get(on) {
+        Some(notes) => print_notes(alloc, name, notes.as_slice(), output),
+        None => Ok(()),
+    }
 }
 
 /// Gives on what the output holds back, also where the run has stopped.

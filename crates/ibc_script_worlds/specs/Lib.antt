@@ -1,3 +1,5 @@
 pub mod Relaying
 pub mod Racing
 pub mod KeptReceipts
+pub mod EndedBlocks
+pub mod WorldChains

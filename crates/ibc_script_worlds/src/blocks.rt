@@ -1,13 +1,15 @@
 //! What a ledger's history tells of the blocks that its chain committed.
 
-ghost use Rattle.std.specs.Prelude.{◌≡◌, ◌<◌, IfSome, length};
+ghost use Rattle.std.specs.Prelude.{◌≡◌, ◌<◌, ◌≤◌, IfOk, IfSome, MatchOption, None, length, slice_get, take};
+ghost use Rattle.ibc_machine.specs.chain.Genesis.{genesis_state};
+ghost use Rattle.ibc_script_worlds.specs.EndedBlocks.{AreCountedFrom, EndNoneIn, IsLastIn, IsNarrowed, IsPlaceOf, block_given, blocks_told, ended_by, ends_of, kept_told, time_after, told_at};
+ghost use Rattle.ibc_script_worlds.specs.WorldChains.{AreStartsOf};
 
 use ibc_ids::Root;
 use ibc_ledger::StampedEntry;
 use ibc_machine::{Effect, Entry, Event, Genesis, Reply};
 use ibc_script_cli::CommittedBlock;
 use std::alloc::{AllocError, Global};
-use std::cmp::Ordering;
 
 /// How the chains of a genesis begin: how many heights they keep, and the time of each chain's first block.
 #[derive(Drop)]
@@ -18,7 +20,9 @@ pub struct ChainStarts {
 
 impl ChainStarts {
     /// How the chains of a genesis begin. Error: no memory.
-    pub fn of(alloc: Global, genesis: &Genesis) -> Result<ChainStarts, AllocError> {
+    pub fn of(alloc: Global, genesis: &Genesis) -> Result<ChainStarts, AllocError>
+        ensures { IfOk result (AreStartsOf (genesis_state genesis.now)) }
+    {
         let mut times = Vec::with_capacity(alloc, genesis.chains.len())?;
         for start in &genesis.chains {
             times.push(start.time)?;
@@ -29,47 +33,20 @@ impl ChainStarts {
         })
     }
 
-    /// What a chain committed at a height, by its history; `None` where it isn't among the last heights, which are kept.
-    pub fn block(
-        &self,
-        chain: u8,
-        history: &[StampedEntry],
-        height: u64,
-    ) -> Option<CommittedBlock> {
+    /// What a chain committed at a height, by the whole history of its ledger, where it is one of the last heights, which are
+    /// kept. The heights that such a history tells of rise by one from 1, so the block is looked for by halves, up to the end of
+    /// the last one.
+    pub fn block(&self, chain: u8, history: &[StampedEntry], height: u64) -> Option<CommittedBlock>
+        ensures { AreCountedFrom 1 (ends_of history.now) → MatchOption (slice_get self.now.times.items chain) (result ≡ None) (λ time. result ≡ kept_told self.now.window height (blocks_told time (ends_of history.now))) }
+    {
         match self.times.get(usize::from(chain)) {
-            Some(time) => block_in(*time, self.window, history, height),
+            Some(start) => kept_block(*start, self.window, history, height),
             None => None,
         }
     }
-
-    /// What a chain committed at a height, by the whole history of its ledger: what `block` answers. The heights that such a
-    /// history tells of rise by one from 1, so the block is looked for by halves, up to the end of the last one.
-    pub(crate) fn ledger_block(
-        &self,
-        chain: u8,
-        history: &[StampedEntry],
-        height: u64,
-    ) -> Option<CommittedBlock> {
-        let start = self.times.get(usize::from(chain))?;
-        let (end, last) = last_ended(history)?;
-        let passed = last.height.saturating_sub(self.window);
-        if height <= passed || height > last.height {
-            return None;
-        }
-        let told = &history[..end + 1];
-        let (place, block) = ended_at(told, height)?;
-        let time = match last_ended(&told[..place]) {
-            Some((_, before)) => before.next_time,
-            None => *start,
-        };
-        Some(CommittedBlock {
-            root: block.root,
-            time,
-        })
-    }
 }
 
-// A block that an entry tells the end of: its height and root, and the time of the next one.
+/// A block that an entry tells the end of: its height and root, and the time of the next one.
 #[derive(Clone, Copy)]
 struct EndedBlock {
     height: u64,
@@ -77,26 +54,51 @@ struct EndedBlock {
     next_time: u64,
 }
 
+/// What a step of a search comes to.
+#[derive(Clone, Copy)]
+enum Search {
+    /// The block, with the place of its end.
+    Found(usize, EndedBlock),
+    /// The part in which it stands, if it does.
+    Within(usize, usize),
+}
+
+// The block whose end an accepted event tells.
+fn block_given(effect: &Effect, next_time: u64) -> Option<EndedBlock>
+    ensures { result ≡ block_given effect.now next_time }
+{
+    match effect {
+        Effect::Block(height, root) => Some(EndedBlock {
+            height: *height,
+            root: *root,
+            next_time,
+        }),
+        Effect::None
+        | Effect::Client(_)
+        | Effect::Connection(_)
+        | Effect::Channel(_)
+        | Effect::Sent(_)
+        | Effect::Ack(_) => None,
+    }
+}
+
 // The block that an entry tells the end of.
-fn ended_by(entry: &Entry) -> Option<EndedBlock> {
+fn ended_by(entry: &Entry) -> Option<EndedBlock>
+    ensures { result ≡ ended_by entry.now }
+{
     match (&entry.event, &entry.reply) {
-        (Event::Block { next_time, .. }, Reply::Ok(Effect::Block(height, root))) => {
-            Some(EndedBlock {
-                height: *height,
-                root: *root,
-                next_time: *next_time,
-            })
-        }
-        _ => None,
+        (Event::Block { next_time, .. }, Reply::Ok(effect)) => block_given(effect, *next_time),
+        (Event::Block { .. }, Reply::No(_)) | (Event::Message { .. }, _) => None,
     }
 }
 
 // The last block that a part of a history tells the end of, with its place.
-fn last_ended(history: &[StampedEntry]) -> Option<(usize, EndedBlock)>
-    ensures { IfSome result (λ last. last.0 < length history.now) }
+fn last_ended(history: &[StampedEntry], low: usize, high: usize) -> Option<(usize, EndedBlock)>
+    requires { low ≤ high × high ≤ length history.now }
+    ensures { IsLastIn (ends_of history.now) low high result }
 {
-    for behind in 0..history.len() {
-        let place = history.len() - 1 - behind;
+    for behind in 0..high - low {
+        let place = high - 1 - behind;
         if let Some(block) = ended_by(&history[place].entry) {
             return Some((place, block));
         }
@@ -104,71 +106,86 @@ fn last_ended(history: &[StampedEntry]) -> Option<(usize, EndedBlock)>
     None
 }
 
-// The block of a height with the place of its end, in a history that tells of rising heights. A part in which it may stand
-// is halved each time, and at most half of it is read for that.
-fn ended_at(history: &[StampedEntry], height: u64) -> Option<(usize, EndedBlock)>
-    ensures place { IfSome result (λ found. found.0 < length history.now) }
-    ensures height { IfSome result (λ found. found.1.height ≡ height) }
+// A part of a history in which the block of a height may stand is halved, and at most half of it is read for that.
+fn narrowed(history: &[StampedEntry], low: usize, high: usize, height: u64) -> Search
+    requires { low < high × high ≤ length history.now }
+    ensures { IsNarrowed (ends_of history.now) height low high result }
+{
+    let middle = high - (high - low) / 2;
+    let Some((place, block)) = last_ended(history, low, middle) else {
+        return Search::Within(middle, high);
+    };
+    if block.height == height {
+        Search::Found(place, block)
+    } else if block.height < height {
+        Search::Within(middle, high)
+    } else {
+        Search::Within(low, place)
+    }
+}
+
+// The block of a height with the place of its end, among the first so many entries of a history that tells of rising heights.
+fn ended_at(history: &[StampedEntry], limit: usize, height: u64) -> Option<(usize, EndedBlock)>
+    requires { limit ≤ length history.now }
+    ensures there { IfSome result (λ found. found.0 < limit) }
+    ensures place { AreCountedFrom 1 (ends_of history.now) → IsPlaceOf (ends_of history.now) limit height result }
 {
     let mut low = 0;
-    let mut high = history.len();
-    for _ in 0..usize::BITS {
-        let middle = high - (high - low) / 2;
-        match last_ended(&history[low..middle]) {
-            Some((behind, block)) => match block.height.cmp(&height) {
-                Ordering::Less => low = middle,
-                Ordering::Equal => return Some((low + behind, block)),
-                Ordering::Greater => high = low + behind,
-            },
-            None => low = middle,
-        }
-    }
-    None
-}
-
-// How many blocks a history tells of.
-fn blocks_in(history: &[StampedEntry]) -> u64 {
-    let mut blocks: u64 = 0;
-    for stamped in history {
-        if ended_by(&stamped.entry).is_some() {
-            blocks = blocks.saturating_add(1);
-        }
-    }
-    blocks
-}
-
-// The block of a height, from 1, of which a history tells.
-fn told_block(start: u64, history: &[StampedEntry], height: u64) -> Option<CommittedBlock> {
-    if height == 0 {
-        return None;
-    }
-    let mut time = start;
-    let mut left = height;
-    for stamped in history {
-        if let Some(block) = ended_by(&stamped.entry) {
-            if left == 1 {
-                return Some(CommittedBlock {
-                    root: block.root,
-                    time,
-                });
+    let mut high = limit;
+    'parts: while low < high {
+        match narrowed(history, low, high, height) {
+            Search::Found(place, block) => return Some((place, block)),
+            Search::Within(from, to) => {
+                low = from;
+                high = to;
             }
-            left = left.saturating_sub(1);
-            time = block.next_time;
         }
     }
     None
 }
 
-// What a chain that began at a time committed at a height, by its history; `None` where it isn't kept.
-fn block_in(
+// The time of the block that worked when so many entries were there, on a chain that began at a time.
+fn time_at(start: u64, history: &[StampedEntry], place: usize) -> u64
+    requires { place ≤ length history.now }
+    ensures { result ≡ time_after start (take place (ends_of history.now)) }
+{
+    match last_ended(history, 0, place) {
+        Some((_, before)) => before.next_time,
+        None => start,
+    }
+}
+
+// What a chain that began at a time committed at a height, by the first so many entries, behind which no block ended.
+fn block_at(
+    start: u64,
+    history: &[StampedEntry],
+    limit: usize,
+    height: u64,
+) -> Option<CommittedBlock>
+    requires { limit ≤ length history.now }
+    ensures { AreCountedFrom 1 (ends_of history.now) → EndNoneIn (ends_of history.now) limit (length history.now) → result ≡ told_at height (blocks_told start (ends_of history.now)) }
+{
+    match ended_at(history, limit, height) {
+        Some((place, block)) => Some(CommittedBlock {
+            root: block.root,
+            time: time_at(start, history, place),
+        }),
+        None => None,
+    }
+}
+
+// What a chain that began at a time committed at a height, where it is one of the last so many.
+fn kept_block(
     start: u64,
     window: u64,
     history: &[StampedEntry],
     height: u64,
-) -> Option<CommittedBlock> {
-    if height > blocks_in(history).saturating_sub(window) {
-        told_block(start, history, height)
-    } else {
-        None
+) -> Option<CommittedBlock>
+    ensures { AreCountedFrom 1 (ends_of history.now) → result ≡ kept_told window height (blocks_told start (ends_of history.now)) }
+{
+    let (place, last) = last_ended(history, 0, history.len())?;
+    if height <= last.height.saturating_sub(window) || height > last.height {
+        return None;
     }
+    block_at(start, history, place + 1, height)
 }

@@ -2,12 +2,14 @@
 #![tactic(auto)]
 
 mod blocks;
+mod program;
 mod racing;
 mod relaying;
 mod sharing;
 mod worlds;
 
 pub use blocks::ChainStarts;
+pub use program::drive_on_ledgers;
 pub use racing::{RaceRunner, race_on_ledgers};
 pub use relaying::plans_between;
 pub use sharing::Shared;

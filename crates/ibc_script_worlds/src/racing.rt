@@ -43,6 +43,8 @@ impl<'r, R: Threads + Wait + Sync> RaceRunner<'r, R> {
 impl<R: Threads + Wait + Sync> Races for RaceRunner<'_, R> {
     ghost may_race = { λ _. IsSync R.row };
 
+    ghost raced = { IsRaceOf };
+
     fn race(&self, relayers: u8, race: Race) -> Result<RaceAudit, Fault> {
         race_on_ledgers(self.rt, self.alloc, relayers, race)
     }

@@ -264,7 +264,7 @@ impl<R: Wait, W: WorldBrand> Chains for Shared<'_, R, W> {
         let starts = &self.starts;
         let shared = self.chain(chain)?;
         let read = shared.events_from(self.rt, 0, |history| {
-            starts.ledger_block(chain, history, height)
+            starts.block(chain, history, height)
         });
         read.0
     }

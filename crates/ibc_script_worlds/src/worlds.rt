@@ -1,14 +1,23 @@
 //! Worlds, as the steps of a script see them.
 
+ghost use Rattle.std.specs.Prelude.{◌≡◌, IfOk, option_map};
+ghost use Rattle.ibc_machine.specs.ledger.Ledgers.{state_of};
+ghost use Rattle.ibc_machine.specs.promises.Worlds.{AreLedgersOf};
+ghost use Rattle.ibc_theorem.specs.EveryWorld.{IsLawfulUnlessClash};
+ghost use Rattle.ibc_script_worlds.specs.WorldChains.{AreStartsOf, IsNewWorld, block_in, plans_of, proof_in, world_chains};
+
 use crate::blocks::ChainStarts;
 use crate::relaying::plans_between;
 use ibc_ids::{Account, Bytes, ChannelId, Denom, Key, PortId, Refusal};
+use ibc_ledger::Ledger;
 use ibc_machine::{Event, Genesis, Reply, Totals};
 use ibc_merkle::Proof;
 use ibc_script_cli::{Chains, CommittedBlock, Holdings, Worlds};
+use ibc_theorem::lemma_what_every_world_keeps;
 use ibc_wire::{Message, Packet};
 use ibc_world_core::World;
 use std::alloc::Global;
+use std::marker::Model;
 
 /// Makes the world of each genesis.
 #[derive(Drop)]
@@ -23,7 +32,7 @@ impl WorldFactory {
     }
 }
 
-/// A world, as the steps of a script see it.
+/// A world, as the steps of a script see it. Contracts see the world.
 #[derive(Drop)]
 pub struct ScriptWorld {
     alloc: Global,
@@ -31,17 +40,42 @@ pub struct ScriptWorld {
     world: World,
 }
 
+impl Model for ScriptWorld {
+    ghost use Rattle.ibc_machine.specs.promises.Worlds.{AreLedgersOf};
+    ghost use Rattle.ibc_refinement.specs.World.{WorldState};
+    ghost use Rattle.ibc_script_worlds.specs.WorldChains.{AreStartsOf};
+
+    ghost Value = { WorldState };
+
+    ghost view = { λ chains. chains.world };
+
+    ghost invariant = { λ chains. AreStartsOf chains.world.genesis chains.starts × AreLedgersOf chains.world.genesis chains.world.ledgers };
+}
+
+// A world with what its genesis says of the chains' beginnings.
+fn script_world(alloc: Global, starts: ChainStarts, world: World) -> ScriptWorld
+    requires starts { AreStartsOf world.genesis starts }
+    requires ledgers { AreLedgersOf world.genesis world.ledgers }
+    ensures { result ≡ world }
+{
+    ScriptWorld {
+        alloc,
+        starts,
+        world,
+    }
+}
+
 impl Worlds for WorldFactory {
     type Chains = ScriptWorld;
+
+    ghost begins = { IsNewWorld };
+
+    ghost keeps = { IsLawfulUnlessClash };
 
     fn begin(&self, genesis: &Genesis) -> Result<ScriptWorld, Refusal> {
         let world = World::new(self.alloc, genesis)?;
         match ChainStarts::of(self.alloc, genesis) {
-            Ok(starts) => Ok(ScriptWorld {
-                alloc: self.alloc,
-                starts,
-                world,
-            }),
+            Ok(starts) => Ok(script_world(self.alloc, starts, world)),
             Err(error) => {
                 drop(world);
                 Err(Refusal::from(error))
@@ -49,10 +83,14 @@ impl Worlds for WorldFactory {
         }
     }
 
-    fn lemma_keeps(&self, _chains: &ScriptWorld) {}
+    fn lemma_keeps(&self, chains: &ScriptWorld) {
+        lemma_what_every_world_keeps(&chains.world);
+    }
 }
 
 impl Chains for ScriptWorld {
+    ghost known = { world_chains };
+
     fn ask(&mut self, event: Event) -> Result<Reply, Refusal> {
         Ok(self.world.step(event))
     }
@@ -91,36 +129,30 @@ impl Chains for ScriptWorld {
     }
 
     fn proof(&self, chain: u8, height: u64, key: &Key) -> Result<Option<Proof>, Refusal> {
-        let Some(ledger) = self.world.ledger(chain) else {
-            return Ok(None);
-        };
-        match ledger.query_proof(height, key) {
-            Ok(proof) => Ok(Some(proof)),
-            Err(Refusal::NoConsensus) => Ok(None),
-            Err(refusal) => Err(refusal),
+        match self.world.ledger(chain) {
+            Some(ledger) => ledger_proof(ledger, height, key),
+            None => Ok(None),
         }
     }
 
     fn block(&self, chain: u8, height: u64) -> Option<CommittedBlock> {
-        let ledger = self.world.ledger(chain)?;
-        self.starts.ledger_block(chain, ledger.history(), height)
+        match self.world.ledger(chain) {
+            Some(ledger) => ledger_block(&self.starts, ledger, height),
+            None => None,
+        }
     }
 
     fn working_time(&self, chain: u8) -> Result<u64, Refusal> {
         match self.world.ledger(chain) {
-            Some(ledger) => {
-                let view = ledger.view()?;
-                Ok(view.working_time())
-            }
+            Some(ledger) => ledger_time(ledger),
             None => Ok(0),
         }
     }
 
     fn plans(&self, first: u8, second: u8) -> Result<(Vec<Message>, Vec<Message>), Refusal> {
-        match (self.world.ledger(first), self.world.ledger(second)) {
-            (Some(first), Some(second)) => plans_between(self.alloc, first, second),
-            _ => Ok((Vec::new(self.alloc), Vec::new(self.alloc))),
-        }
+        let first = self.world.ledger(first);
+        let second = self.world.ledger(second);
+        plans_if_there(self.alloc, first, second)
     }
 }
 
@@ -141,5 +173,47 @@ impl Holdings for ScriptWorld {
             Some(ledger) => ledger.all_notes(),
             None => Ok(Vec::new(self.alloc)),
         }
+    }
+}
+
+// What a ledger committed at a height, where it keeps it.
+fn ledger_block(starts: &ChainStarts, ledger: &Ledger, height: u64) -> Option<CommittedBlock>
+    requires { AreStartsOf ledger.now.ledger.genesis starts.now }
+    ensures { result ≡ block_in height ledger.now.ledger }
+{
+    ledger.lemma_is_its_history();
+    starts.block(ledger.chain(), ledger.history(), height)
+}
+
+// The proof of what a height of a ledger has at a key, none where the ledger doesn't keep it.
+fn ledger_proof(ledger: &Ledger, height: u64, key: &Key) -> Result<Option<Proof>, Refusal>
+    ensures { IfOk result (λ found. found ≡ proof_in height key.now ledger.now.ledger) }
+{
+    match ledger.query_proof(height, key) {
+        Ok(proof) => Ok(Some(proof)),
+        Err(Refusal::NoConsensus) => Ok(None),
+        Err(refusal) => Err(refusal),
+    }
+}
+
+// The time of a ledger's working block.
+fn ledger_time(ledger: &Ledger) -> Result<u64, Refusal>
+    ensures { IfOk result (λ time. time ≡ (state_of ledger.now.ledger).chain.time) }
+{
+    let view = ledger.view()?;
+    Ok(view.working_time())
+}
+
+// What relayers plan between two ledgers, nothing where one isn't there.
+fn plans_if_there(
+    alloc: Global,
+    first: Option<&Ledger>,
+    second: Option<&Ledger>,
+) -> Result<(Vec<Message>, Vec<Message>), Refusal>
+    ensures { IfOk result (λ plans. (plans.0.items, plans.1.items) ≡ plans_of (option_map (λ ledger. ledger.now.ledger) first.entry) (option_map (λ ledger. ledger.now.ledger) second.entry)) }
+{
+    match (first, second) {
+        (Some(first), Some(second)) => plans_between(alloc, first, second),
+        (Some(_), None) | (None, _) => Ok((Vec::new(alloc), Vec::new(alloc))),
     }
 }

@@ -2,8 +2,7 @@
 #![tactic(auto)]
 
 use ibc_script::Fault;
-use ibc_script_cli::drive;
-use ibc_script_worlds::{RaceRunner, WorldFactory};
+use ibc_script_worlds::drive_on_ledgers;
 use std::env::Env;
 use std::io::BufWriter;
 use std::process::ExitCode;
@@ -29,14 +28,7 @@ fn run<R: Env + Input + Print + AllocGlobal + Threads + Wait + Sync>(rt: &R) -> 
     }
     let words: Vec<&str> = texts.iter().map(|word| word.as_str()).collect(alloc)?;
     let mut output = BufWriter::new(alloc, io::writer(rt)).map_err(fault_of)?;
-    drive(
-        alloc,
-        &WorldFactory::new(alloc),
-        &RaceRunner::new(rt, alloc),
-        words.as_slice(),
-        rt.reader(),
-        &mut output,
-    )
+    drive_on_ledgers(rt, alloc, words.as_slice(), rt.reader(), &mut output)
 }
 
 fn main(rt: HostRuntime) -> io::Result<ExitCode> {

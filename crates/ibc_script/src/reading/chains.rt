@@ -1,10 +1,13 @@
 //! The chains of a script, and how they begin.
 
-ghost use Rattle.std.specs.Prelude.{◌≡◌, ◌≤◌, length, IfOk, IfErr};
+ghost use Rattle.std.specs.Prelude.{◌≡◌, ◌≤◌, ℕ, Some, false, length, map, slice_get, zip, IfOk, IfErr};
+ghost use Rattle.serde_json.specs.View.{view};
+ghost use Rattle.ibc_machine.specs.chain.Genesis.{chain_state};
 ghost use Rattle.ibc_script.specs.Faults.{IsScriptFault};
+ghost use Rattle.ibc_script.specs.ScriptValues.{AreDifferent, AreEach, IsChainStart, IsHolding};
 
 use super::{item_amount, item_name, parse_name};
-use crate::members::{has_only, list, number, text};
+use crate::members::{has_only, item_list, list, number, text};
 use crate::script::MOST_CHAINS;
 use crate::{ChainName, Fault};
 use ibc_ids::{Denom, UserName};
@@ -14,10 +17,10 @@ use std::alloc::Global;
 
 /// One balance: `[user, denomination, amount]`, all texts.
 fn read_balance(alloc: Global, value: &Value) -> Result<(UserName, Denom, u128), Fault>
-    ensures { IfErr result IsScriptFault }
+    ensures holding { IfOk result (λ holding. IsHolding holding (Some (view value.now))) }
+    ensures faults { IfErr result IsScriptFault }
 {
-    let items = value.as_array().ok_or(Fault::BadScript)?;
-    let [user, denom, amount] = items.as_slice() else {
+    let [user, denom, amount] = item_list(value)? else {
         return Err(Fault::BadScript);
     };
     let amount = item_amount(alloc, amount)?;
@@ -25,7 +28,8 @@ fn read_balance(alloc: Global, value: &Value) -> Result<(UserName, Denom, u128),
 }
 
 fn read_balances(alloc: Global, values: &[Value]) -> Result<Vec<(UserName, Denom, u128)>, Fault>
-    ensures { IfErr result IsScriptFault }
+    ensures holdings { IfOk result (λ balances. AreEach IsHolding balances.items (map view values.now)) }
+    ensures faults { IfErr result IsScriptFault }
 {
     let mut balances = Vec::with_capacity(alloc, values.len())?;
     for value in values {
@@ -35,7 +39,8 @@ fn read_balances(alloc: Global, values: &[Value]) -> Result<Vec<(UserName, Denom
 }
 
 fn read_chain(alloc: Global, value: &Value) -> Result<(ChainName, ChainStart), Fault>
-    ensures { IfErr result IsScriptFault }
+    ensures start { IfOk result (λ read. IsChainStart (read.0, chain_state read.1) (Some (view value.now))) }
+    ensures faults { IfErr result IsScriptFault }
 {
     has_only(value, &["name", "time", "balances"])?;
     let time = number(value, "time")?;
@@ -45,11 +50,20 @@ fn read_chain(alloc: Global, value: &Value) -> Result<(ChainName, ChainStart), F
     Ok((name, ChainStart { time, balances }))
 }
 
+// Whether a name is one of these.
+fn is_known(names: &[ChainName], name: &ChainName) -> bool
+    ensures { result ≡ false → (i : ℕ) → slice_get names.now i ≡ Some name.now → ⊥ }
+{
+    names.contains(name)
+}
+
 /// The names of the chains and how they begin. Each name stands once.
 pub fn read_chains(
     alloc: Global,
     values: &[Value],
 ) -> Result<(Vec<ChainName>, Vec<ChainStart>), Fault>
+    ensures starts { IfOk result (λ r. AreEach IsChainStart (zip r.0.items (map chain_state r.1.items)) (map view values.now)) }
+    ensures different { IfOk result (λ r. AreDifferent r.0.items) }
     ensures named { IfOk result (λ r. length r.0.items ≡ length r.1.items) }
     ensures few { IfOk result (λ r. length r.0.items ≤ 8) }
     ensures faults { IfErr result IsScriptFault }
@@ -61,7 +75,7 @@ pub fn read_chains(
     let mut starts = Vec::with_capacity(alloc, values.len())?;
     for value in values {
         let (name, start) = read_chain(alloc, value)?;
-        if names.contains(&name) {
+        if is_known(names.as_slice(), &name) {
             return Err(Fault::BadScript);
         }
         names.push(name)?;

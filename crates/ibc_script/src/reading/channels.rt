@@ -1,7 +1,11 @@
 //! The steps that send messages for channels.
 
-ghost use Rattle.std.specs.Prelude.{◌<◌, length, IfOk, IfErr};
+ghost use Rattle.std.specs.Prelude.{◌<◌, length, IfOk, IfErr, codes};
+ghost use Rattle.serde_json.specs.Find.{get};
+ghost use Rattle.serde_json.specs.View.{view};
 ghost use Rattle.ibc_script.specs.Faults.{IsScriptFault};
+ghost use Rattle.ibc_script.specs.ScriptValues.{AreFields, IsDraft, IsText, channel_end_fields, opening_fields};
+ghost use Rattle.ibc_script.specs.declared.draft.Draft.TheVariants as any_draft;
 ghost use Rattle.ibc_script.specs.Scripts.{IsChannelAmong};
 
 use super::step_reader::StepReader;
@@ -14,6 +18,7 @@ use ibc_wire::{ChanCloseInit, ChanOpenInit};
 impl StepReader<'_> {
     /// The message for channels of this kind.
     pub fn channel_draft(&self, kind: &str) -> Result<ChannelDraft, Fault>
+        ensures draft { IfOk result (λ d. IsDraft kind.now self.now.names.now (view self.now.object.now) (any_draft.Channel d)) }
         ensures among { IfOk result (IsChannelAmong (length self.now.names.now)) }
         ensures faults { IfErr result IsScriptFault }
     {
@@ -30,14 +35,17 @@ impl StepReader<'_> {
 
     /// The port and the identifier of a channel's own end.
     fn own_end(&self) -> Result<(PortId, ChannelId), Fault>
-        ensures { IfErr result IsScriptFault }
+        ensures end { IfOk result (λ end. AreFields (channel_end_fields end.0 end.1) (view self.now.object.now)) }
+        ensures faults { IfErr result IsScriptFault }
     {
         Ok((self.name("port")?, self.name("channel")?))
     }
 
     /// What the first two steps of a channel's handshake have in common.
     fn opening(&self) -> Result<ChanOpenInit, Fault>
-        ensures { IfErr result IsScriptFault }
+        ensures ends { IfOk result (λ m. AreFields (opening_fields m.port m.order m.connection m.peer_port) (view self.now.object.now)) }
+        ensures version { IfOk result (λ m. IsText m.version (get (codes "version") (view self.now.object.now))) }
+        ensures faults { IfErr result IsScriptFault }
     {
         Ok(ChanOpenInit {
             order: self.order("order")?,
@@ -49,6 +57,7 @@ impl StepReader<'_> {
     }
 
     fn chan_open_init(&self) -> Result<ChannelDraft, Fault>
+        ensures draft { IfOk result (λ d. IsDraft (codes "ChanOpenInit") self.now.names.now (view self.now.object.now) (any_draft.Channel d)) }
         ensures among { IfOk result (IsChannelAmong (length self.now.names.now)) }
         ensures faults { IfErr result IsScriptFault }
     {
@@ -68,6 +77,7 @@ impl StepReader<'_> {
     }
 
     fn chan_open_try(&self) -> Result<ChannelDraft, Fault>
+        ensures draft { IfOk result (λ d. IsDraft (codes "ChanOpenTry") self.now.names.now (view self.now.object.now) (any_draft.Channel d)) }
         ensures among { IfOk result (IsChannelAmong (length self.now.names.now)) }
         ensures faults { IfErr result IsScriptFault }
     {
@@ -101,6 +111,7 @@ impl StepReader<'_> {
     }
 
     fn chan_open_ack(&self) -> Result<ChannelDraft, Fault>
+        ensures draft { IfOk result (λ d. IsDraft (codes "ChanOpenAck") self.now.names.now (view self.now.object.now) (any_draft.Channel d)) }
         ensures among { IfOk result (IsChannelAmong (length self.now.names.now)) }
         ensures faults { IfErr result IsScriptFault }
     {
@@ -128,6 +139,7 @@ impl StepReader<'_> {
     }
 
     fn chan_open_confirm(&self) -> Result<ChannelDraft, Fault>
+        ensures draft { IfOk result (λ d. IsDraft (codes "ChanOpenConfirm") self.now.names.now (view self.now.object.now) (any_draft.Channel d)) }
         ensures among { IfOk result (IsChannelAmong (length self.now.names.now)) }
         ensures faults { IfErr result IsScriptFault }
     {
@@ -145,6 +157,7 @@ impl StepReader<'_> {
     }
 
     fn chan_close_init(&self) -> Result<ChannelDraft, Fault>
+        ensures draft { IfOk result (λ d. IsDraft (codes "ChanCloseInit") self.now.names.now (view self.now.object.now) (any_draft.Channel d)) }
         ensures among { IfOk result (IsChannelAmong (length self.now.names.now)) }
         ensures faults { IfErr result IsScriptFault }
     {
@@ -154,6 +167,7 @@ impl StepReader<'_> {
     }
 
     fn chan_close_confirm(&self) -> Result<ChannelDraft, Fault>
+        ensures draft { IfOk result (λ d. IsDraft (codes "ChanCloseConfirm") self.now.names.now (view self.now.object.now) (any_draft.Channel d)) }
         ensures among { IfOk result (IsChannelAmong (length self.now.names.now)) }
         ensures faults { IfErr result IsScriptFault }
     {

@@ -1,7 +1,10 @@
 //! The members of a step.
 
-ghost use Rattle.std.specs.Prelude.{◌≢◌, ◌≤◌, ◌<◌, length, IfOk, IfErr};
+ghost use Rattle.std.specs.Prelude.{◌≡◌, ◌≢◌, ◌≤◌, ◌<◌, Some, length, slice_get, true, IfOk, IfErr};
+ghost use Rattle.serde_json.specs.Find.{get};
+ghost use Rattle.serde_json.specs.View.{view};
 ghost use Rattle.ibc_script.specs.Faults.{IsScriptFault};
+ghost use Rattle.ibc_script.specs.ScriptValues.{AreChains, AreFields, IsChain, IsNumber, IsPath, IsText, application_name, order_name, source_fields};
 
 use super::parse_name;
 use crate::draft::ProofSource;
@@ -22,20 +25,31 @@ pub struct StepReader<'v> {
     ghost few: { length names.now ≤ 8 },
 }
 
+// Whether a chain has this name.
+fn is_named(known: &ChainName, name: &str) -> bool
+    ensures { result ≡ true → known.now ≡ name.now }
+{
+    known.as_str() == name
+}
+
 impl StepReader<'_> {
     /// The number of the chain of this name.
     pub fn chain_of(&self, name: &str) -> Result<u8, Fault>
+        ensures named { IfOk result (λ chain. slice_get self.now.names.now chain ≡ Some name.now) }
         ensures among { IfOk result (λ chain. chain < length self.now.names.now) }
         ensures faults { IfErr result IsScriptFault }
     {
-        match self.names.iter().position(|known| known.as_str() == name) {
-            Some(place) => Ok(place as u8),
-            None => Err(Fault::BadScript),
+        for place in 0..self.names.len() {
+            if is_named(&self.names[place], name) {
+                return Ok(place as u8);
+            }
         }
+        Err(Fault::BadScript)
     }
 
     /// The number of the chain that a member names.
     pub fn chain(&self, member: &str) -> Result<u8, Fault>
+        ensures chain { IfOk result (λ chain. IsChain self.now.names.now chain (get member.now (view self.now.object.now))) }
         ensures among { IfOk result (λ chain. chain < length self.now.names.now) }
         ensures faults { IfErr result IsScriptFault }
     {
@@ -44,6 +58,7 @@ impl StepReader<'_> {
 
     /// The number of the chain that an item of a list names.
     pub fn item_chain(&self, item: &Value) -> Result<u8, Fault>
+        ensures chain { IfOk result (λ chain. IsChain self.now.names.now chain (Some (view item.now))) }
         ensures among { IfOk result (λ chain. chain < length self.now.names.now) }
         ensures faults { IfErr result IsScriptFault }
     {
@@ -52,6 +67,7 @@ impl StepReader<'_> {
 
     /// The numbers of the two different chains that a member names.
     pub fn two_chains(&self, member: &str) -> Result<(u8, u8), Fault>
+        ensures chains { IfOk result (λ chains. AreChains self.now.names.now chains.0 chains.1 (get member.now (view self.now.object.now))) }
         ensures first { IfOk result (λ chains. chains.0 < length self.now.names.now) }
         ensures second { IfOk result (λ chains. chains.1 < length self.now.names.now) }
         ensures different { IfOk result (λ chains. chains.0 ≢ chains.1) }
@@ -70,13 +86,15 @@ impl StepReader<'_> {
 
     /// The number that a member is.
     pub fn number(&self, member: &str) -> Result<u64, Fault>
-        ensures { IfErr result IsScriptFault }
+        ensures number { IfOk result (λ number. IsNumber number (get member.now (view self.now.object.now))) }
+        ensures faults { IfErr result IsScriptFault }
     {
         number(self.object, member)
     }
 
     /// The number of turns that a member is, 1 to 1,000.
     pub fn turns(&self, member: &str) -> Result<u16, Fault>
+        ensures turns { IfOk result (λ turns. IsNumber turns (get member.now (view self.now.object.now))) }
         ensures some { IfOk result (λ turns. 0 < turns) }
         ensures most { IfOk result (λ turns. turns ≤ 1000) }
         ensures faults { IfErr result IsScriptFault }
@@ -89,14 +107,16 @@ impl StepReader<'_> {
 
     /// The name of a kind that a member is.
     pub fn name<K: NameKind>(&self, member: &str) -> Result<Name<K>, Fault>
-        ensures { IfErr result IsScriptFault }
+        ensures name { IfOk result (λ name. IsText name (get member.now (view self.now.object.now))) }
+        ensures faults { IfErr result IsScriptFault }
     {
         parse_name(self.alloc, text(self.object, member)?)
     }
 
     /// The key whose path a member is.
     pub fn key(&self, member: &str) -> Result<Key, Fault>
-        ensures { IfErr result IsScriptFault }
+        ensures key { IfOk result (λ key. IsPath key (get member.now (view self.now.object.now))) }
+        ensures faults { IfErr result IsScriptFault }
     {
         match Key::parse(self.alloc, text(self.object, member)?) {
             Ok(key) => Ok(key),
@@ -106,7 +126,8 @@ impl StepReader<'_> {
 
     /// The order of a channel that a member names.
     pub fn order(&self, member: &str) -> Result<Order, Fault>
-        ensures { IfErr result IsScriptFault }
+        ensures order { IfOk result (λ order. IsText (order_name order) (get member.now (view self.now.object.now))) }
+        ensures faults { IfErr result IsScriptFault }
     {
         match text(self.object, member)? {
             "ORDERED" => Ok(Order::Ordered),
@@ -117,7 +138,8 @@ impl StepReader<'_> {
 
     /// The application that a member names.
     pub fn application(&self, member: &str) -> Result<Application, Fault>
-        ensures { IfErr result IsScriptFault }
+        ensures application { IfOk result (λ app. IsText (application_name app) (get member.now (view self.now.object.now))) }
+        ensures faults { IfErr result IsScriptFault }
     {
         match text(self.object, member)? {
             "note" => Ok(Application::Note),
@@ -129,6 +151,7 @@ impl StepReader<'_> {
 
     /// The height from which proofs are taken: that of the member `height`, on the chain that `from` names.
     pub fn origin(&self) -> Result<ProofSource, Fault>
+        ensures source { IfOk result (λ from. AreFields (source_fields self.now.names.now from) (view self.now.object.now)) }
         ensures among { IfOk result (λ from. from.chain < length self.now.names.now) }
         ensures faults { IfErr result IsScriptFault }
     {

@@ -1,7 +1,10 @@
 //! The steps of a script.
 
-ghost use Rattle.std.specs.Prelude.{◌≤◌, ◌<◌, length, All, IfOk, IfErr};
+ghost use Rattle.std.specs.Prelude.{◌≤◌, ◌<◌, Some, codes, length, map, All, IfOk, IfErr};
+ghost use Rattle.serde_json.specs.Find.{get};
+ghost use Rattle.serde_json.specs.View.{view};
 ghost use Rattle.ibc_script.specs.Faults.{IsScriptFault};
+ghost use Rattle.ibc_script.specs.ScriptValues.{AreEach, IsDraft, IsStepObject, IsText};
 ghost use Rattle.ibc_script.specs.Scripts.{IsAmong, IsDraftAmong};
 
 use super::step_reader::StepReader;
@@ -13,6 +16,8 @@ use std::alloc::Global;
 
 impl StepReader<'_> {
     fn block(&self) -> Result<Step, Fault>
+        requires { IsText (codes "Block") (get (codes "do") (view self.now.object.now)) }
+        ensures step { IfOk result (λ step. IsStepObject self.now.names.now step (Some (view self.now.object.now))) }
         ensures among { IfOk result (IsAmong (length self.now.names.now)) }
         ensures faults { IfErr result IsScriptFault }
     {
@@ -24,6 +29,8 @@ impl StepReader<'_> {
     }
 
     fn root(&self) -> Result<Step, Fault>
+        requires { IsText (codes "root") (get (codes "do") (view self.now.object.now)) }
+        ensures step { IfOk result (λ step. IsStepObject self.now.names.now step (Some (view self.now.object.now))) }
         ensures among { IfOk result (IsAmong (length self.now.names.now)) }
         ensures faults { IfErr result IsScriptFault }
     {
@@ -35,6 +42,8 @@ impl StepReader<'_> {
     }
 
     fn prove(&self) -> Result<Step, Fault>
+        requires { IsText (codes "prove") (get (codes "do") (view self.now.object.now)) }
+        ensures step { IfOk result (λ step. IsStepObject self.now.names.now step (Some (view self.now.object.now))) }
         ensures among { IfOk result (IsAmong (length self.now.names.now)) }
         ensures faults { IfErr result IsScriptFault }
     {
@@ -47,6 +56,8 @@ impl StepReader<'_> {
     }
 
     fn totals(&self) -> Result<Step, Fault>
+        requires { IsText (codes "totals") (get (codes "do") (view self.now.object.now)) }
+        ensures step { IfOk result (λ step. IsStepObject self.now.names.now step (Some (view self.now.object.now))) }
         ensures among { IfOk result (IsAmong (length self.now.names.now)) }
         ensures faults { IfErr result IsScriptFault }
     {
@@ -59,6 +70,8 @@ impl StepReader<'_> {
     }
 
     fn open(&self) -> Result<Step, Fault>
+        requires { IsText (codes "open") (get (codes "do") (view self.now.object.now)) }
+        ensures step { IfOk result (λ step. IsStepObject self.now.names.now step (Some (view self.now.object.now))) }
         ensures among { IfOk result (IsAmong (length self.now.names.now)) }
         ensures faults { IfErr result IsScriptFault }
     {
@@ -72,6 +85,8 @@ impl StepReader<'_> {
     }
 
     fn relay(&self) -> Result<Step, Fault>
+        requires { IsText (codes "relay") (get (codes "do") (view self.now.object.now)) }
+        ensures step { IfOk result (λ step. IsStepObject self.now.names.now step (Some (view self.now.object.now))) }
         ensures among { IfOk result (IsAmong (length self.now.names.now)) }
         ensures faults { IfErr result IsScriptFault }
     {
@@ -86,6 +101,7 @@ impl StepReader<'_> {
 
     /// The message of a step whose `do` is the name of one.
     fn draft(&self, kind: &str) -> Result<Draft, Fault>
+        ensures draft { IfOk result (IsDraft kind.now self.now.names.now (view self.now.object.now)) }
         ensures among { IfOk result (IsDraftAmong (length self.now.names.now)) }
         ensures faults { IfErr result IsScriptFault }
     {
@@ -101,6 +117,8 @@ impl StepReader<'_> {
     }
 
     fn message(&self, kind: &str) -> Result<Step, Fault>
+        requires { IsText kind.now (get (codes "do") (view self.now.object.now)) }
+        ensures step { IfOk result (λ step. IsStepObject self.now.names.now step (Some (view self.now.object.now))) }
         ensures among { IfOk result (IsAmong (length self.now.names.now)) }
         ensures faults { IfErr result IsScriptFault }
     {
@@ -111,6 +129,7 @@ impl StepReader<'_> {
     }
 
     fn step(&self) -> Result<Step, Fault>
+        ensures step { IfOk result (λ step. IsStepObject self.now.names.now step (Some (view self.now.object.now))) }
         ensures among { IfOk result (IsAmong (length self.now.names.now)) }
         ensures faults { IfErr result IsScriptFault }
     {
@@ -129,6 +148,8 @@ impl StepReader<'_> {
 /// The steps of a script, each of which names chains of the script alone.
 pub fn read_steps(alloc: Global, names: &[ChainName], values: &[Value]) -> Result<Vec<Step>, Fault>
     requires { length names.now ≤ 8 }
+    ensures steps { IfOk result (λ steps. AreEach (IsStepObject names.now) steps.items (map view values.now)) }
+    ensures few { IfOk result (λ steps. length steps.items ≤ 10000) }
     ensures among { IfOk result (λ steps. All (IsAmong (length names.now)) steps.items) }
     ensures faults { IfErr result IsScriptFault }
 {

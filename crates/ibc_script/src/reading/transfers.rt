@@ -1,16 +1,19 @@
 //! The steps that send tokens.
 
-ghost use Rattle.std.specs.Prelude.{length, IfOk, IfErr, IsTrue};
+ghost use Rattle.std.specs.Prelude.{Some, codes, length, map, IfOk, IfErr, IsTrue};
+ghost use Rattle.serde_json.specs.Find.{get};
+ghost use Rattle.serde_json.specs.View.{view};
 ghost use Rattle.ibc_wire.specs.Tokens.{is_listed};
 ghost use Rattle.ibc_script.specs.Faults.{IsScriptFault};
+ghost use Rattle.ibc_script.specs.ScriptValues.{AreEach, AreFields, IsDraft, IsText, IsTextIfThere, IsToken, timeout_fields};
+ghost use Rattle.ibc_script.specs.declared.draft.Draft.TheVariants as any_draft;
 ghost use Rattle.ibc_script.specs.Scripts.{IsPacketAmong};
 
 use super::step_reader::StepReader;
 use super::{item_amount, item_name, parse_name, read_amount};
 use crate::Fault;
 use crate::draft::PacketDraft;
-use crate::listed_transfer::ListedTransfer;
-use crate::members::{has_only, list, text, text_or_empty};
+use crate::members::{has_only, item_list, list, text, text_or_empty};
 use ibc_ids::{ChannelId, Memo, Receiver, UserName};
 use ibc_wire::{Token, Tokens, Transfer, TransferMany, is_listed};
 use serde_json::Value;
@@ -18,10 +21,10 @@ use std::alloc::Global;
 
 /// One token: `[denomination, amount]`, both texts.
 fn read_token(alloc: Global, value: &Value) -> Result<Token, Fault>
-    ensures { IfErr result IsScriptFault }
+    ensures token { IfOk result (λ token. IsToken token (Some (view value.now))) }
+    ensures faults { IfErr result IsScriptFault }
 {
-    let items = value.as_array().ok_or(Fault::BadScript)?;
-    let [denom, amount] = items.as_slice() else {
+    let [denom, amount] = item_list(value)? else {
         return Err(Fault::BadScript);
     };
     let amount = item_amount(alloc, amount)?;
@@ -30,6 +33,7 @@ fn read_token(alloc: Global, value: &Value) -> Result<Token, Fault>
 }
 
 fn read_tokens(alloc: Global, values: &[Value]) -> Result<Tokens, Fault>
+    ensures tokens { IfOk result (λ tokens. AreEach IsToken tokens (map view values.now)) }
     ensures listed { IfOk result (λ tokens. IsTrue (is_listed tokens)) }
     ensures faults { IfErr result IsScriptFault }
 {
@@ -58,13 +62,19 @@ struct Sending {
 impl StepReader<'_> {
     /// The memo of a transfer, the empty one where the step has none.
     fn memo(&self) -> Result<Memo, Fault>
-        ensures { IfErr result IsScriptFault }
+        ensures memo { IfOk result (λ memo. IsTextIfThere memo (get (codes "memo") (view self.now.object.now))) }
+        ensures faults { IfErr result IsScriptFault }
     {
         parse_name(self.alloc, text_or_empty(self.object, "memo")?)
     }
 
     fn sending(&self) -> Result<Sending, Fault>
-        ensures { IfErr result IsScriptFault }
+        ensures channel { IfOk result (λ s. IsText s.channel (get (codes "channel") (view self.now.object.now))) }
+        ensures user { IfOk result (λ s. IsText s.user (get (codes "user") (view self.now.object.now))) }
+        ensures receiver { IfOk result (λ s. IsText s.receiver (get (codes "receiver") (view self.now.object.now))) }
+        ensures memo { IfOk result (λ s. IsTextIfThere s.memo (get (codes "memo") (view self.now.object.now))) }
+        ensures timeouts { IfOk result (λ s. AreFields (timeout_fields s.timeout_height s.timeout_time) (view self.now.object.now)) }
+        ensures faults { IfErr result IsScriptFault }
     {
         Ok(Sending {
             timeout_height: self.number("timeout_height")?,
@@ -77,6 +87,7 @@ impl StepReader<'_> {
     }
 
     pub fn transfer(&self) -> Result<PacketDraft, Fault>
+        ensures draft { IfOk result (λ d. IsDraft (codes "Transfer") self.now.names.now (view self.now.object.now) (any_draft.Packet d)) }
         ensures among { IfOk result (IsPacketAmong (length self.now.names.now)) }
         ensures faults { IfErr result IsScriptFault }
     {
@@ -111,6 +122,7 @@ impl StepReader<'_> {
     }
 
     pub fn transfer_many(&self) -> Result<PacketDraft, Fault>
+        ensures draft { IfOk result (λ d. IsDraft (codes "TransferMany") self.now.names.now (view self.now.object.now) (any_draft.Packet d)) }
         ensures among { IfOk result (IsPacketAmong (length self.now.names.now)) }
         ensures faults { IfErr result IsScriptFault }
     {
@@ -139,6 +151,6 @@ impl StepReader<'_> {
             timeout_height: sending.timeout_height,
             timeout_time: sending.timeout_time,
         };
-        Ok(PacketDraft::TransferMany(ListedTransfer { message }))
+        Ok(PacketDraft::TransferMany(message))
     }
 }

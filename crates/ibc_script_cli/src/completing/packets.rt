@@ -370,9 +370,7 @@ impl<C: Chains + Drop> Completer<'_, C> {
     {
         match draft {
             PacketDraft::Transfer(message) => Ok(Some(Message::Transfer(message))),
-            PacketDraft::TransferMany(transfer) => Ok(Some(Message::TransferMany(
-                transfer.message,
-            ))),
+            PacketDraft::TransferMany(message) => Ok(Some(Message::TransferMany(message))),
             PacketDraft::SendNote(message) => Ok(Some(Message::SendNote(message))),
             PacketDraft::Recv { packet, height } => {
                 let from = ProofSource {

@@ -2,7 +2,6 @@ use Rattle.std.proofs.Common.{Some, None, subst}
 use Rattle.ibc_script_cli.proofs.Looks.{proof_told}
 use Rattle.ibc_script_cli.proofs.Reaching.{not_begun}
 use Rattle.std.proofs.lemmas.Result.{err_from_is_err_and}
-use Rattle.ibc_script.specs.declared.fault.Fault.{Fault}
 use Rattle.ibc_script_cli.proofs.Writing.{nothing_more}
 use Rattle.ibc_script_cli.specs.Completing.{IsProofBytesAt}
 use Rattle.ibc_script_cli.proofs.runner.Runner.print_proof.Goals as goal

@@ -1,7 +1,6 @@
-use Rattle.std.proofs.Common.{[], ◌∷◌, ◌-◌, ◌+◌, List, arith, subst}
-use Rattle.ibc_script_cli.proofs.Reaching.{begins, goes_on, stops_on}
+use Rattle.std.proofs.Common.{◌-◌, ◌+◌, List, arith, subst}
+use Rattle.ibc_script_cli.proofs.Reaching.{goes_on, stops_on}
 use Rattle.std.proofs.lemmas.Result.{err_from_is_err_and}
-use Rattle.ibc_script.specs.declared.fault.Fault.{Fault}
 use Rattle.ibc_script_cli.proofs.Looks.{next_turn}
 use Rattle.ibc_script_cli.specs.Runs.{Act, Reached, relay_acts}
 use Rattle.ibc_script_cli.proofs.runner.Runner.relay.Goals as goal

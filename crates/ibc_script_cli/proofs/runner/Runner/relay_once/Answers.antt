@@ -1,7 +1,6 @@
 use Rattle.std.proofs.Common.{[], ◌∷◌, None}
 use Rattle.ibc_script_cli.proofs.Reaching.{begins, finishes, goes_on, stops_on}
 use Rattle.std.proofs.lemmas.Result.{err_from_is_err_and}
-use Rattle.ibc_script.specs.declared.fault.Fault.{Fault}
 use Rattle.ibc_script.specs.declared.script.Step.TheVariants as step
 use Rattle.ibc_script_cli.specs.Runs.Act.{SendPlans, Take}
 use Rattle.ibc_script_cli.proofs.runner.Runner.relay_once.Goals as goal

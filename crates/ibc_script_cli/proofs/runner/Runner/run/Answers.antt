@@ -1,7 +1,6 @@
 use Rattle.std.proofs.Common.{◌++◌, length, map}
 use Rattle.ibc_script_cli.proofs.Reaching.{begins, finishes, goes_on, stops_on}
 use Rattle.std.proofs.lemmas.Result.{err_from_is_err_and}
-use Rattle.ibc_script.specs.declared.fault.Fault.{Fault}
 use Rattle.ibc_script_cli.specs.Runs.Act.{Take, TellBalances, TellNotes}
 use Rattle.std.specs.List.{range_with_len}
 use Rattle.ibc_script_cli.proofs.runner.Runner.run.Goals as goal

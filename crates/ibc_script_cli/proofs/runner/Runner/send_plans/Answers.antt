@@ -1,7 +1,6 @@
 use Rattle.std.proofs.Common.{[], ◌∷◌, ◌++◌, List, append-nil, map, refl, subst}
 use Rattle.ibc_script_cli.proofs.Reaching.{finishes, goes_on, leads, not_begun, stops_on}
 use Rattle.std.proofs.lemmas.Result.{err_from_is_err_and}
-use Rattle.ibc_script.specs.declared.fault.Fault.{Fault}
 use Rattle.ibc_script_cli.proofs.Writing.{nothing_more}
 use Rattle.ibc_script_cli.specs.Runs.{Act, Reached}
 use Rattle.ibc_script_cli.specs.Runs.Act.{Send, SendPlans}

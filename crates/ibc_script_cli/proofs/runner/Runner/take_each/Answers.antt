@@ -1,7 +1,6 @@
-use Rattle.std.proofs.Common.{[], ◌∷◌, ◌≡◌, ◌∙◌, List, ap, arith, length, map, refl, subst, sym}
-use Rattle.ibc_script_cli.proofs.Reaching.{begins, goes_on, stops_on}
+use Rattle.std.proofs.Common.{[], ◌∷◌, ◌∙◌, List, ap, arith, length, map, subst, sym}
+use Rattle.ibc_script_cli.proofs.Reaching.{goes_on, stops_on}
 use Rattle.std.proofs.lemmas.Result.{err_from_is_err_and}
-use Rattle.ibc_script.specs.declared.fault.Fault.{Fault}
 use Rattle.ibc_script_cli.specs.Runs.{Reached}
 use Rattle.ibc_script_cli.specs.Runs.Act.{Take}
 use Rattle.ibc_script.specs.declared.script.Step.{Step}

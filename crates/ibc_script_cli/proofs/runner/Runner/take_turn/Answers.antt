@@ -1,7 +1,6 @@
 use Rattle.std.proofs.Common.{[], ◌∷◌, subst, sym, ◌∙◌}
-use Rattle.ibc_script_cli.proofs.Reaching.{leads, not_begun}
+use Rattle.ibc_script_cli.proofs.Reaching.{not_begun}
 use Rattle.std.proofs.lemmas.Result.{err_from_is_err_and}
-use Rattle.ibc_script.specs.declared.fault.Fault.{Fault}
 use Rattle.ibc_script_cli.proofs.Turns.{block_taken, message_taken, no_turn}
 use Rattle.ibc_script_cli.proofs.Writing.{nothing_more}
 use Rattle.ibc_script_cli.specs.Runs.{Reached}

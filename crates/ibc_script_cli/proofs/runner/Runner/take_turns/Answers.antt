@@ -1,7 +1,6 @@
 use Rattle.std.proofs.Common.{[], ◌∷◌, ◌+◌, List, Option, drop, get_or, refl, subst, sym}
 use Rattle.ibc_script_cli.proofs.Reaching.{and_then, leads, stops_on}
 use Rattle.std.proofs.lemmas.Result.{err_from_is_err_and}
-use Rattle.ibc_script.specs.declared.fault.Fault.{Fault}
 use Rattle.ibc_script_cli.specs.Runs.{Reached, opened}
 use Rattle.ibc_script_cli.specs.Runs.Act.{Open}
 use Rattle.std.proofs.lemmas.List.{drop_all, drop_more}

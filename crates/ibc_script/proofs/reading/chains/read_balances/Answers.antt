@@ -1,0 +1,16 @@
+use Rattle.std.proofs.Common.{◌+◌, List, map, subst, sym, take, take_all}
+use Rattle.serde_json.specs.View.{view}
+use Rattle.ibc_machine.specs.chain.Genesis.{Holding}
+use Rattle.ibc_script.specs.ScriptValues.{AreEach, IsHolding}
+use Rattle.ibc_script.proofs.Values.{pushed}
+use Rattle.ibc_script.proofs.reading.chains.read_balances.Goals as goal
+
+pub loop-value-preserved : goal.loop-value-preserved
+loop-value-preserved c =
+    subst (λ (l : List Holding). AreEach IsHolding l (map view (take (c.loop-value.value-index + 1) c.args.values.now))) (sym c.in_ok-push.ensures.items)
+    (pushed IsHolding c.loop-value.balances.items c.args.values.now c.loop-value.value-index c.in_ok-read_balance.field-0 c.value-item.result c.loop-value-test.true c.value-item.is
+    c.loop-value.invariant c.in_ok-read_balance.ensures.holding)
+
+pub returns-clause-holdings : goal.returns-clause-holdings
+returns-clause-holdings c =
+    subst (λ v. AreEach IsHolding c.loop-value.balances.items (map view v)) (take_all c.loop-value.value-index c.args.values.now c.loop-value-test.false) c.loop-value.invariant

@@ -1,0 +1,14 @@
+use Rattle.std.proofs.Common.{◌≡◌, IfOk, List, Option, ap, slice_get, subst}
+use Rattle.ibc_machine.specs.ledger.Ledgers.{Ledger}
+use Rattle.ibc_refinement.specs.World.{WorldState}
+use Rattle.ibc_script_worlds.specs.WorldChains.{plans_of}
+use Rattle.ibc_script_worlds.proofs.worlds.ScriptWorldChains.plans.Goals as goal
+
+pub returns : goal.returns
+returns c =
+    let Plans : Option Ledger → Option Ledger → Type 0 =
+    λ a b. IfOk c.plans_if_there.result (λ plans. (plans.0.items, plans.1.items) ≡ plans_of a b) in
+    let ledgers = c.self.inside.world.ledgers in
+    subst (λ (w : WorldState). Plans (slice_get w.ledgers c.args.first) (slice_get w.ledgers c.args.second)) c.self.view_is
+    (subst (λ (b : Option Ledger). Plans (slice_get ledgers c.args.first) b) c.ledger-second.ensures
+    (subst (λ (a : Option Ledger). Plans a _) c.ledger-first.ensures c.plans_if_there.ensures))

@@ -1,0 +1,17 @@
+use Rattle.std.proofs.Common.{◌≡◌, ◌∙◌, Bor, IfOk, None, ap, option_map, subst, sym}
+use Rattle.ibc_ledger.specs.LedgerModel.{LedgerModel}
+use Rattle.ibc_refinement.specs.World.{WorldState}
+use Rattle.ibc_script_worlds.specs.WorldChains.{by_ledger, proof_in}
+use Rattle.ibc_script_worlds.proofs.WorldLooks.{of_no_one, of_one}
+use Rattle.ibc_script_worlds.proofs.worlds.ScriptWorldChains.proof.Goals as goal
+
+pub returns-in-Some : goal.returns-in-Some
+returns-in-Some c =
+    let there = sym (ap (option_map (λ (l : Bor LedgerModel). l.now.ledger)) c.in-Some.is) ∙ c.ledger.ensures in
+    subst (λ (w : WorldState). IfOk c.ledger_proof.result (λ found. found ≡ by_ledger (proof_in c.args.height c.args.key.now) w c.args.chain)) c.self.view_is
+    (of_one (proof_in c.args.height c.args.key.now) c.self.inside.world.ledgers c.args.chain c.in-Some.ledger.now.ledger c.ledger_proof.result there c.ledger_proof.ensures)
+
+pub returns-in-None : goal.returns-in-None
+returns-in-None c =
+    let there = sym (ap (option_map (λ (l : Bor LedgerModel). l.now.ledger)) c.in-None.is) ∙ c.ledger.ensures in
+    subst (λ (w : WorldState). None ≡ by_ledger (proof_in c.args.height c.args.key.now) w c.args.chain) c.self.view_is (of_no_one (proof_in c.args.height c.args.key.now) c.self.inside.world.ledgers c.args.chain there)
