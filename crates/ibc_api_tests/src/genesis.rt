@@ -110,12 +110,16 @@ impl Kind {
 // Names of three digits, so that they stand in the order of their numbers.
 fn user(rt: &impl Abort, alloc: Global, number: usize) -> UserName {
     let text = format!(in alloc; "user{}", number.saturating_add(100)).expect(rt, "memory");
-    UserName::parse(alloc, text.as_str()).expect(rt, "a name")
+    let name = UserName::parse(alloc, text.as_str()).expect(rt, "a name");
+    drop(text);
+    name
 }
 
 fn base(rt: &impl Abort, alloc: Global, number: usize) -> Denom {
     let text = format!(in alloc; "token{}", number.saturating_add(100)).expect(rt, "memory");
-    Denom::parse(alloc, text.as_str()).expect(rt, "a denomination")
+    let name = Denom::parse(alloc, text.as_str()).expect(rt, "a denomination");
+    drop(text);
+    name
 }
 
 fn denom(rt: &impl Abort, alloc: Global, number: usize, is_base: bool) -> Denom {

@@ -15,16 +15,25 @@ const RISING: [&str; 5] = [
     "abcdefghijklmnopqrstuvwxyz0123z",
 ];
 
-// A name and its copy show the text, and are written for a reader as fields.
+// A name and its copy show the text, and the copy is written for a reader as fields.
 fn check_shown(rt: &impl Abort, alloc: Global, text: &str) {
     let memo: Memo = name(rt, alloc, text);
     let copy = memo.clone().expect(rt, "memory");
     assert!(rt; memo.as_str() == text && copy.as_str() == text && memo == copy);
-    let written = format!(in alloc; "{copy:?}").expect(rt, "memory");
+    drop(memo);
+    check_written(rt, alloc, &copy, text);
+    drop(copy);
+}
+
+// A name is written for a reader as fields.
+fn check_written(rt: &impl Abort, alloc: Global, memo: &Memo, text: &str) {
+    let written = format!(in alloc; "{memo:?}").expect(rt, "memory");
     let fields = format!(in alloc; "Name {{ text: \"{text}\", kind: PhantomData<_> }}").expect(
         rt, "memory",
     );
     assert!(rt; written == fields);
+    drop(written);
+    drop(fields);
 }
 
 // Two names are in the order of their texts.
@@ -33,6 +42,8 @@ fn check_order(rt: &impl Abort, alloc: Global, less: &str, more: &str) {
     let high: Memo = name(rt, alloc, more);
     assert!(rt; low.cmp(&high) == Ordering::Less && high.cmp(&low) == Ordering::Greater);
     assert!(rt; low != high);
+    drop(low);
+    drop(high);
 }
 
 #[test]

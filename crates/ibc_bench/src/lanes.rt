@@ -1,12 +1,13 @@
 //! The channels of a run, and what users send over them.
 
+use crate::behind::made_behind;
 use crate::names::{TOKENS, numbered};
 use crate::network::Network;
 use crate::random::Random;
 use crate::run_error::RunError;
 use ibc_ids::{
-    Account, Bytes, ChannelId, ClientId, Denom, Memo, Name, PortId, UserName, nth_channel,
-    nth_client,
+    Account, Bytes, ChannelId, ClientId, Denom, Memo, Name, PortId, Receiver, UserName,
+    nth_channel, nth_client,
 };
 use ibc_script::Application;
 use ibc_wire::{Message, SendNote, Transfer};
@@ -55,6 +56,16 @@ impl LaneEnd {
     pub fn port(&self, alloc: Global) -> Result<PortId, RunError> {
         Ok(self.application.port(alloc)?)
     }
+
+    // A copy of its channel's name.
+    fn own_channel(&self) -> Result<ChannelId, RunError> {
+        Ok(self.channel.clone()?)
+    }
+
+    /// The port and the channel of the end.
+    pub fn port_and_channel(&self, alloc: Global) -> Result<(PortId, ChannelId), RunError> {
+        made_behind(self.port(alloc)?, self.own_channel())
+    }
 }
 
 /// Opens a channel between two chains, and adds both ends to those of the run.
@@ -81,41 +92,136 @@ fn timeout_of(network: &Network, random: &mut Random, end: &LaneEnd, late: u64) 
     }
 }
 
-// A memo, mostly none.
-fn memo(alloc: Global, random: &mut Random) -> Result<Memo, RunError> {
-    if !random.is_one_in(4) {
-        return Ok(Name::parse(alloc, "")?);
-    }
-    let number = random.number();
-    numbered(
-        alloc,
-        "payment of the invoice that was sent last week, number ",
-        number,
-    )
+// What is drawn at random of a transfer.
+#[derive(Clone, Copy)]
+struct DrawnTransfer {
+    // The number of the user.
+    user: u64,
+    // The place of the token.
+    token: usize,
+    // The number of the channel over which it came, if it isn't the chain's own.
+    channel: Option<u64>,
+    // The most that is sent of it.
+    most: u64,
+    // The number of the receiver.
+    receiver: u64,
+    // The number in the memo, mostly none.
+    memo: Option<u64>,
+    // The height of the peer at which the packet times out.
+    timeout_height: u64,
 }
 
-// A token of the chain itself, or one that came over a channel of it and that the user holds.
+// Draws a transfer.
+fn draw(network: &Network, random: &mut Random, end: &LaneEnd, traffic: Traffic) -> DrawnTransfer {
+    let user = random.below(traffic.users);
+    let token = random.place(TOKENS.len());
+    let channel = drawn_channel(random, network.channels(end.chain));
+    let most = random.below(100).saturating_add(1);
+    let receiver = random.below(traffic.users);
+    let memo = drawn_memo(random);
+    DrawnTransfer {
+        user,
+        token,
+        channel,
+        most,
+        receiver,
+        memo,
+        timeout_height: timeout_of(network, random, end, traffic.late),
+    }
+}
+
+// The number of one of so many channels, or none.
+fn drawn_channel(random: &mut Random, channels: u64) -> Option<u64> {
+    if random.is_one_in(2) {
+        Some(random.below(channels))
+    } else {
+        None
+    }
+}
+
+// The number in a memo, mostly none.
+fn drawn_memo(random: &mut Random) -> Option<u64> {
+    if random.is_one_in(4) {
+        Some(random.number())
+    } else {
+        None
+    }
+}
+
+// The memo with a number, or an empty one.
+fn memo(alloc: Global, number: Option<u64>) -> Result<Memo, RunError> {
+    match number {
+        Some(number) => numbered(
+            alloc,
+            "payment of the invoice that was sent last week, number ",
+            number,
+        ),
+        None => Ok(Name::parse(alloc, "")?),
+    }
+}
+
+// A token of the chain itself, or one that came over a channel of it and that the user holds; and the most that can be sent of it.
 fn denom(
     network: &Network,
-    random: &mut Random,
-    end: &LaneEnd,
+    chain: u8,
     user: &UserName,
+    drawn: DrawnTransfer,
 ) -> Result<(Denom, u128), RunError> {
-    let alloc = network.alloc;
-    let token = TOKENS
-        .get(random.place(TOKENS.len()))
-        .copied()
-        .unwrap_or("atom");
-    let own: Denom = Name::parse(alloc, token)?;
-    if random.is_one_in(2) {
-        let channel = nth_channel(alloc, random.below(network.channels(end.chain)))?;
-        let voucher = own.hop(alloc, &Name::parse(alloc, "transfer")?, &channel)?;
-        let held = held(network, end.chain, user, &voucher)?;
-        if held != 0 {
-            return Ok((voucher, held));
+    let token = TOKENS.get(drawn.token).copied().unwrap_or("atom");
+    let own: Denom = Name::parse(network.alloc, token)?;
+    let held = match drawn.channel {
+        Some(number) => held_voucher(network, chain, user, &own, number),
+        None => Ok(None),
+    };
+    match held {
+        Ok(Some(held)) => {
+            drop(own);
+            Ok(held)
+        }
+        Ok(None) => Ok((own, 1_000)),
+        Err(error) => {
+            drop(own);
+            Err(error)
         }
     }
-    Ok((own, 1_000))
+}
+
+// The token that came over the channel with a number, and what the user holds of it; none where that is nothing.
+fn held_voucher(
+    network: &Network,
+    chain: u8,
+    user: &UserName,
+    own: &Denom,
+    number: u64,
+) -> Result<Option<(Denom, u128)>, RunError> {
+    let voucher = voucher(network.alloc, own, number)?;
+    match held(network, chain, user, &voucher) {
+        Ok(0) => {
+            drop(voucher);
+            Ok(None)
+        }
+        Ok(held) => Ok(Some((voucher, held))),
+        Err(error) => {
+            drop(voucher);
+            Err(error)
+        }
+    }
+}
+
+// The denomination of a token that came over the channel with a number.
+fn voucher(alloc: Global, own: &Denom, number: u64) -> Result<Denom, RunError> {
+    let channel = nth_channel(alloc, number)?;
+    let voucher = over(alloc, own, &channel);
+    drop(channel);
+    voucher
+}
+
+// The denomination of a token that came over a channel.
+fn over(alloc: Global, own: &Denom, channel: &ChannelId) -> Result<Denom, RunError> {
+    let port: PortId = Name::parse(alloc, "transfer")?;
+    let voucher = own.hop(alloc, &port, channel);
+    drop(port);
+    Ok(voucher?)
 }
 
 // What a user holds of a denomination.
@@ -129,6 +235,23 @@ fn held(network: &Network, chain: u8, user: &UserName, denom: &Denom) -> Result<
     Ok(held)
 }
 
+// Who sends, and what.
+fn sent_by(
+    network: &Network,
+    chain: u8,
+    drawn: DrawnTransfer,
+) -> Result<(UserName, (Denom, u128)), RunError> {
+    let user: UserName = numbered(network.alloc, "user", drawn.user)?;
+    let sent = denom(network, chain, &user, drawn);
+    made_behind(user, sent)
+}
+
+// Who receives it, and the memo.
+fn sent_to(alloc: Global, drawn: DrawnTransfer) -> Result<(Receiver, Memo), RunError> {
+    let receiver: Receiver = numbered(alloc, "user", drawn.receiver)?;
+    made_behind(receiver, memo(alloc, drawn.memo))
+}
+
 // A transfer of a random user.
 fn transfer(
     network: &Network,
@@ -136,32 +259,41 @@ fn transfer(
     end: &LaneEnd,
     traffic: Traffic,
 ) -> Result<Transfer, RunError> {
-    let alloc = network.alloc;
-    let user = numbered(alloc, "user", random.below(traffic.users))?;
-    let (denom, held) = denom(network, random, end, &user)?;
-    let amount = u128::from(random.below(100)).saturating_add(1).min(held);
+    let drawn = draw(network, random, end, traffic);
+    let sent = sent_by(network, end.chain, drawn)?;
+    let (sent, to) = made_behind(sent, sent_to(network.alloc, drawn))?;
+    let ((sent, to), channel) = made_behind((sent, to), end.own_channel())?;
+    let (user, (denom, held)) = sent;
+    let (receiver, memo) = to;
     Ok(Transfer {
-        channel: end.channel.clone()?,
+        channel,
         user,
         denom,
-        amount,
-        receiver: numbered(alloc, "user", random.below(traffic.users))?,
-        memo: memo(alloc, random)?,
-        timeout_height: timeout_of(network, random, end, traffic.late),
+        amount: u128::from(drawn.most).min(held),
+        receiver,
+        memo,
+        timeout_height: drawn.timeout_height,
         timeout_time: 0,
     })
 }
 
-// A note of some twenty to some two hundred bytes.
-fn note(network: &Network, random: &mut Random, end: &LaneEnd) -> Result<SendNote, RunError> {
+// Some twenty to some two hundred bytes.
+fn payload(alloc: Global, random: &mut Random) -> Result<Bytes, RunError> {
     let size = random.below(200).saturating_add(20);
-    let mut payload = Vec::new(network.alloc);
+    let mut payload = Vec::new(alloc);
     for _byte in 0..size {
         payload.push(u8::try_from(random.below(256)).unwrap_or(0))?;
     }
+    Ok(Bytes::from_vec(payload))
+}
+
+// A note of random bytes.
+fn note(network: &Network, random: &mut Random, end: &LaneEnd) -> Result<SendNote, RunError> {
+    let payload = payload(network.alloc, random)?;
+    let (payload, channel) = made_behind(payload, end.own_channel())?;
     Ok(SendNote {
-        channel: end.channel.clone()?,
-        payload: Bytes::from_vec(payload),
+        channel,
+        payload,
         timeout_height: timeout_of(network, random, end, 0),
         timeout_time: 0,
     })

@@ -53,19 +53,41 @@ impl StoredEvent {
 impl StoredEntry {
     // The entry that is stored.
     fn read(&self, alloc: Global) -> Result<Entry, RunError> {
-        Ok(Entry {
-            reply: self.reply.clone()?,
-            event: self.event.read(alloc)?,
-            reading: self.reading,
-        })
+        let reply: Reply = self.reply.clone()?;
+        match self.event.read(alloc) {
+            Ok(event) => Ok(Entry {
+                reply,
+                event,
+                reading: self.reading,
+            }),
+            Err(error) => {
+                drop(reply);
+                Err(error)
+            }
+        }
     }
 }
 
 /// The entries that are stored.
 pub fn read_entries(alloc: Global, stored: &[StoredEntry]) -> Result<Vec<Entry>, RunError> {
     let mut entries = Vec::with_capacity(alloc, stored.len())?;
+    match push_entries(alloc, &mut entries, stored) {
+        Ok(()) => Ok(entries),
+        Err(error) => {
+            drop(entries);
+            Err(error)
+        }
+    }
+}
+
+// Adds those that are stored to others.
+fn push_entries(
+    alloc: Global,
+    entries: &mut Vec<Entry>,
+    stored: &[StoredEntry],
+) -> Result<(), RunError> {
     for entry in stored {
         entries.push(entry.read(alloc)?)?;
     }
-    Ok(entries)
+    Ok(())
 }

@@ -1,6 +1,7 @@
 //! Runs the jobs that users of the libraries wait for, each on an input that a seed makes, and prints what the results come to.
 #![tactic(auto)]
 
+mod behind;
 mod digest;
 mod lanes;
 mod log;
@@ -14,6 +15,7 @@ mod words;
 mod workloads;
 
 use run_error::RunError;
+use std::alloc::Global;
 use std::env::Env;
 use std::process::ExitCode;
 use std::{env, io};
@@ -24,29 +26,53 @@ use workloads::{SMALL, Workload};
 // The seed of the small runs.
 const SMALL_SEED: u64 = 1;
 
-// What the words after the program's name ask for.
-fn requested<R: Env + AllocGlobal>(rt: &R) -> Result<Request, RunError> {
-    let alloc = rt.alloc();
+// The words after the program's name.
+fn texts<R: Env + AllocGlobal>(rt: &R) -> Result<Vec<String>, RunError> {
     let Ok(words) = env::args(rt) else {
         return Err(RunError::BadWords);
     };
-    let mut texts = Vec::new(alloc);
+    let mut texts = Vec::new(rt.alloc());
     for word in words.skip(1) {
         texts.push(word)?;
     }
+    Ok(texts)
+}
+
+// What words ask for.
+fn read_texts(alloc: Global, texts: &[String]) -> Result<Request, RunError> {
     let words: Vec<&str> = texts.iter().map(|word| word.as_str()).collect(alloc)?;
-    read_words(words.as_slice())
+    let request = read_words(words.as_slice());
+    drop(words);
+    request
+}
+
+// What the words after the program's name ask for.
+fn requested<R: Env + AllocGlobal>(rt: &R) -> Result<Request, RunError> {
+    let texts = texts(rt)?;
+    let request = read_texts(rt.alloc(), texts.as_slice());
+    drop(texts);
+    request
+}
+
+// Prints how many events were accepted and refused.
+fn print_answers<R: Print>(rt: &R, workload: Workload, tally: &Tally) -> io::Result<()> {
+    let name = workload.name();
+    let (accepted, refused) = (tally.accepted, tally.refused);
+    println!(rt; "{name}: {accepted} accepted, {refused} refused")
+}
+
+// Prints how many packets, blocks and proofs there were.
+fn print_counts<R: Print>(rt: &R, tally: &Tally) -> io::Result<()> {
+    let (sent, received) = (tally.sent, tally.received);
+    let (blocks, proofs) = (tally.blocks, tally.proofs);
+    println!(rt; "{sent} sent, {received} received, {blocks} blocks, {proofs} proofs")
 }
 
 // Prints what the results of a run come to.
 fn print_tally<R: Print>(rt: &R, workload: Workload, tally: &Tally) -> io::Result<()> {
-    let name = workload.name();
-    let (accepted, refused) = (tally.accepted, tally.refused);
-    let (sent, received) = (tally.sent, tally.received);
-    let (blocks, proofs) = (tally.blocks, tally.proofs);
+    print_answers(rt, workload, tally)?;
+    print_counts(rt, tally)?;
     let digest = tally.digest.value();
-    println!(rt; "{name}: {accepted} accepted, {refused} refused")?;
-    println!(rt; "{sent} sent, {received} received, {blocks} blocks, {proofs} proofs")?;
     println!(rt; "digest {digest:016x}")
 }
 

@@ -5,7 +5,7 @@ use crate::names::FIRST_TIME;
 use crate::run_error::RunError;
 use crate::tally::Tally;
 use ibc_ids::{Bytes, ChannelId, Key, PortId, Refusal};
-use ibc_ledger::Ledger;
+use ibc_ledger::{Ledger, View};
 use ibc_machine::{Effect, Event, Genesis, Reading, Reply};
 use ibc_merkle::Proof;
 use ibc_relayer::plans;
@@ -264,8 +264,10 @@ impl Network {
 
     /// Adds to the tally what each chain holds at the end, and tells the first error of a run.
     pub fn finish(&mut self) -> Result<(), RunError> {
-        for ledger in (0..8).map_while(|chain| self.world.ledger(chain)) {
-            add_holdings(ledger, &mut self.tally)?;
+        for chain in 0..8 {
+            if let Some(ledger) = self.world.ledger(chain) {
+                add_holdings(ledger, &mut self.tally)?;
+            }
         }
         self.check()
     }
@@ -362,6 +364,19 @@ fn plans_between(
     second: &Ledger,
 ) -> Result<(Vec<Message>, Vec<Message>), Refusal> {
     let first = first.view()?;
+    let planned = plans_from(alloc, &first, second);
+    drop(first);
+    planned
+}
+
+// What they plan between a view and a ledger, as it stands at its last block.
+fn plans_from(
+    alloc: Global,
+    first: &View,
+    second: &Ledger,
+) -> Result<(Vec<Message>, Vec<Message>), Refusal> {
     let second = second.view()?;
-    plans(alloc, &first, &second)
+    let planned = plans(alloc, first, &second);
+    drop(second);
+    planned
 }

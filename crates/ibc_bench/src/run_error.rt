@@ -6,7 +6,7 @@ use std::alloc::{AllocError, AllocFailed};
 use thiserror::Error;
 
 /// Why a run stops before its end. Its text is what stands on standard error.
-#[derive(Clone, Copy, Debug, PartialEq, Eq, Error)]
+#[derive(Clone, Copy, Debug, Error)]
 pub enum RunError {
     /// The words after the program's name ask for nothing that it does.
     #[error("ibc_bench: the words are neither WORKLOAD SIZE SEED nor parts PART SIZE SEED nor small")]

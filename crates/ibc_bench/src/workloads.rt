@@ -16,7 +16,7 @@ pub use parts::Part;
 use std::alloc::Global;
 
 /// A workload.
-#[derive(Clone, Copy, Debug, PartialEq, Eq)]
+#[derive(Clone, Copy)]
 pub enum Workload {
     /// Packets over three chains in a row are relayed, there and back.
     Relay,

@@ -8,6 +8,7 @@ use crate::lines::Lines;
 use crate::mistake::Stop;
 use crate::runs::print_script;
 use std::alloc::Global;
+use std::io;
 use std::io::Write;
 
 // The forgeries that each part is.
@@ -28,7 +29,9 @@ fn print_forged<W: Write>(
     output: &mut W,
 ) -> Result<(), Stop> {
     let groups = groups_of(alloc, parts)?;
-    print_script(alloc, script, groups.as_slice(), output)
+    let printed = print_script(alloc, script, groups.as_slice(), output);
+    drop(groups);
+    printed
 }
 
 // What each part says.
@@ -49,7 +52,19 @@ fn print_parts<W: Write>(
     output: &mut W,
 ) -> Result<(), Stop> {
     let directives = directives_of(alloc, parts)?;
-    for directive in &directives {
+    let printed = print_each(alloc, script, directives.as_slice(), output);
+    drop(directives);
+    Ok(printed?)
+}
+
+// Prints what comes of each of what parts say.
+fn print_each<W: Write>(
+    alloc: Global,
+    script: &[u8],
+    directives: &[Directive<'_>],
+    output: &mut W,
+) -> io::Result<()> {
+    for directive in directives {
         directive.print(alloc, script, output)?;
     }
     Ok(())
@@ -63,10 +78,21 @@ fn print_body<W: Write>(
     output: &mut W,
 ) -> Result<(), Stop> {
     let script = script.joined(alloc)?;
-    if parts.first().is_some_and(|part| Directive::is_meant(*part)) {
-        print_parts(alloc, script.as_slice(), parts, output)
-    } else {
-        print_forged(alloc, script.as_slice(), parts, output)
+    let printed = print_of(alloc, script.as_slice(), parts, output);
+    drop(script);
+    printed
+}
+
+// The same of the script as one text.
+fn print_of<W: Write>(
+    alloc: Global,
+    script: &[u8],
+    parts: &[Lines<'_>],
+    output: &mut W,
+) -> Result<(), Stop> {
+    match parts.first() {
+        Some(part) if Directive::is_meant(*part) => print_parts(alloc, script, parts, output),
+        _ => print_forged(alloc, script, parts, output),
     }
 }
 
@@ -78,10 +104,12 @@ fn print_case<W: Write>(alloc: Global, case: Lines<'_>, output: &mut W) -> Resul
     output.write_all(title)?;
     output.write_all(b"\n")?;
     let pieces = body.pieces(alloc, b"> ")?;
-    match pieces.as_slice().split_first() {
+    let printed = match pieces.as_slice().split_first() {
         Some((script, parts)) => print_body(alloc, *script, parts, output),
         None => Ok(()),
-    }
+    };
+    drop(pieces);
+    printed
 }
 
 /// Prints each case of a file: its title, and what comes of it. Errors: the first line with a mistake, behind the title of its
@@ -92,7 +120,21 @@ pub fn print_cases<W: Write>(alloc: Global, text: &[u8], output: &mut W) -> Resu
         number: 1,
         texts: texts.as_slice(),
     };
+    let printed = print_lines(alloc, lines, output);
+    drop(texts);
+    printed
+}
+
+// Prints each case of a file's lines.
+fn print_lines<W: Write>(alloc: Global, lines: Lines<'_>, output: &mut W) -> Result<(), Stop> {
     let cases = lines.pieces(alloc, b"# ")?;
+    let printed = print_behind(alloc, cases.as_slice(), output);
+    drop(cases);
+    printed
+}
+
+// Prints each of these but for the first, which is for readers alone.
+fn print_behind<W: Write>(alloc: Global, cases: &[Lines<'_>], output: &mut W) -> Result<(), Stop> {
     for case in cases.iter().skip(1) {
         print_case(alloc, *case, output)?;
     }

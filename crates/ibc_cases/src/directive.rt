@@ -5,7 +5,7 @@ use crate::mistake::{Mistake, Wrong, number_of, size_of};
 use crate::runs::{Run, print_fault};
 use crate::texts::{Judged, judged_lines, long_script, print_number};
 use ibc_script::Fault;
-use std::alloc::Global;
+use std::alloc::{AllocError, Global};
 use std::io;
 use std::io::Write;
 
@@ -140,6 +140,16 @@ fn print_writes<W: Write>(
     Ok(())
 }
 
+// Whether a long script is one.
+fn judged_long(alloc: Global, steps: usize, bytes: usize) -> Result<Judged, AllocError> {
+    let script = long_script(alloc, steps, bytes)?;
+    let mut judged = Judged::new();
+    let answer = judged.judge(alloc, script.as_slice());
+    drop(script);
+    answer?;
+    Ok(judged)
+}
+
 // Prints whether a long script is one.
 fn print_long<W: Write>(
     alloc: Global,
@@ -147,9 +157,7 @@ fn print_long<W: Write>(
     bytes: usize,
     output: &mut W,
 ) -> io::Result<()> {
-    let script = long_script(alloc, steps, bytes)?;
-    let mut judged = Judged::new();
-    judged.judge(alloc, script.as_slice())?;
+    let judged = judged_long(alloc, steps, bytes)?;
     print_number(output, "", steps as u64)?;
     print_number(output, " steps, ", bytes as u64)?;
     output.write_all(b" bytes or more; ")?;

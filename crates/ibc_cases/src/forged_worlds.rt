@@ -37,12 +37,13 @@ impl<'l> Worlds for ForgedWorlds<'l> {
     type Chains = ForgedChains<'l>;
 
     fn begin(&self, genesis: &Genesis) -> Result<ForgedChains<'l>, Refusal> {
+        let ledgers = WorldFactory::new(self.alloc).begin(genesis)?;
         Ok(ForgedChains {
             alloc: self.alloc,
             groups: self.groups,
             log: self.log,
             seen: Vec::new(self.alloc),
-            ledgers: WorldFactory::new(self.alloc).begin(genesis)?,
+            ledgers,
         })
     }
 
@@ -260,10 +261,21 @@ impl<'l> ForgedChains<'l> {
     // Ends a block, and keeps its root.
     fn ask_block(&mut self, chain: u8, next_time: u64) -> Result<Reply, Refusal> {
         let reply = self.ledgers.ask(Event::Block { chain, next_time })?;
-        if let Reply::Ok(Effect::Block(_, root)) = &reply {
-            self.log.note_root(*root)?;
+        match self.note_block(&reply) {
+            Ok(()) => Ok(reply),
+            Err(refusal) => {
+                drop(reply);
+                Err(refusal)
+            }
         }
-        Ok(reply)
+    }
+
+    // Keeps the root of a block that has ended.
+    fn note_block(&self, reply: &Reply) -> Result<(), Refusal> {
+        match reply {
+            Reply::Ok(Effect::Block(_, root)) => self.log.note_root(*root),
+            _ => Ok(()),
+        }
     }
 }
 

@@ -51,10 +51,29 @@ impl RunLog {
         Ok(())
     }
 
+    // Adds the root of a block.
+    fn note_root(&mut self, root: Root) -> Result<(), AllocError> {
+        Ok(self.roots.push(root)?)
+    }
+
     // Adds bytes that the script wrote.
     fn write(&mut self, bytes: &[u8]) -> Result<(), AllocError> {
         self.lines.extend_from_slice(bytes)?;
         self.own.extend_from_slice(bytes)
+    }
+
+    // What came beside a run without forgeries, which another log keeps.
+    fn beside(&self, spared: &Log, groups: usize) -> Option<Beside> {
+        match spared.kept.try_borrow() {
+            Ok(spared) => Some(Beside {
+                sent: self.sent,
+                groups,
+                are_lines_same: self.own == spared.own,
+                are_roots_same: self.roots == spared.roots,
+                blocks: self.roots.len(),
+            }),
+            Err(_) => None,
+        }
     }
 }
 
@@ -110,10 +129,11 @@ impl Log {
 
     /// Keeps the root of a block. Refused: `NoMemory`.
     pub fn note_root(&self, root: Root) -> Result<(), Refusal> {
-        if let Ok(mut kept) = self.kept.try_borrow_mut() {
-            kept.roots.push(root)?;
-        }
-        Ok(())
+        let noted = match self.kept.try_borrow_mut() {
+            Ok(mut kept) => kept.note_root(root),
+            Err(_) => Ok(()),
+        };
+        Ok(noted?)
     }
 
     /// Prints all lines.
@@ -127,15 +147,9 @@ impl Log {
     /// How many of so many groups were sent, and how the lines of the script and the roots are beside those of a run without
     /// forgeries.
     pub fn beside(&self, spared: &Log, groups: usize) -> Option<Beside> {
-        match (self.kept.try_borrow(), spared.kept.try_borrow()) {
-            (Ok(kept), Ok(spared)) => Some(Beside {
-                sent: kept.sent,
-                groups,
-                are_lines_same: kept.own == spared.own,
-                are_roots_same: kept.roots == spared.roots,
-                blocks: kept.roots.len(),
-            }),
-            _ => None,
+        match self.kept.try_borrow() {
+            Ok(kept) => kept.beside(spared, groups),
+            Err(_) => None,
         }
     }
 }
@@ -160,10 +174,10 @@ impl fmt::Display for Beside {
 impl Write for LogWriter<'_> {
     fn write(&mut self, buf: &[u8]) -> io::Result<usize> {
         match self.log.kept.try_borrow_mut() {
-            Ok(mut kept) => {
-                kept.write(buf)?;
-                Ok(buf.len())
-            }
+            Ok(mut kept) => match kept.write(buf) {
+                Ok(()) => Ok(buf.len()),
+                Err(error) => Err(io::Error::from(error)),
+            },
             Err(_) => Err(io::Error::from(io::ErrorKind::Other)),
         }
     }

@@ -131,7 +131,9 @@ impl Run<'_> {
         };
         let worlds = WorldFactory::new(alloc);
         let driven = drive(alloc, &worlds, &NoRaces, &[self.word], reader, &mut writer);
-        output.write_all(writer.taken.as_slice())?;
+        let printed = output.write_all(writer.taken.as_slice());
+        drop(writer);
+        printed?;
         print_end(driven, output)
     }
 }

@@ -24,7 +24,10 @@ impl Judged {
     /// Judges a text. Error: no memory.
     pub fn judge(&mut self, alloc: Global, text: &[u8]) -> Result<(), AllocError> {
         match read_script(alloc, text) {
-            Ok(_) => self.scripts = self.scripts.saturating_add(1),
+            Ok(script) => {
+                drop(script);
+                self.scripts = self.scripts.saturating_add(1);
+            }
             Err(Fault::NoMemory) => return Err(AllocError),
             Err(_) => self.others = self.others.saturating_add(1),
         }
@@ -62,25 +65,49 @@ pub fn judged_lines(
     let mut judged = Judged::new();
     for line in lines {
         if !line.is_empty() {
-            let text = between(alloc, front, line, back)?;
-            judged.judge(alloc, text.as_slice())?;
+            judge_between(alloc, &mut judged, front, line, back)?;
         }
     }
     Ok(judged)
 }
 
+// Judges a text between two others.
+fn judge_between(
+    alloc: Global,
+    judged: &mut Judged,
+    front: &[u8],
+    text: &[u8],
+    back: &[u8],
+) -> Result<(), AllocError> {
+    let whole = between(alloc, front, text, back)?;
+    let answer = judged.judge(alloc, whole.as_slice());
+    drop(whole);
+    answer
+}
+
 /// A script of so many steps, with blanks up to so many bytes. Error: no memory.
 pub fn long_script(alloc: Global, steps: usize, bytes: usize) -> Result<Vec<u8>, AllocError> {
     let mut script = Vec::new(alloc);
+    push_script(&mut script, steps)?;
+    push_blanks(&mut script, bytes)?;
+    Ok(script)
+}
+
+// Adds a script of so many steps.
+fn push_script(script: &mut Vec<u8>, steps: usize) -> Result<(), AllocError> {
     script.extend_from_slice(
         b"{\"capacity\":4,\"chains\":[{\"name\":\"a\",\"time\":7,\"balances\":[]}],\"steps\":[",
     )?;
     for _ in 1..steps {
         script.extend_from_slice(b"{\"do\":\"Block\",\"on\":\"a\"},")?;
     }
-    script.extend_from_slice(b"{\"do\":\"Block\",\"on\":\"a\"}]}")?;
+    script.extend_from_slice(b"{\"do\":\"Block\",\"on\":\"a\"}]}")
+}
+
+// Adds blanks, up to so many bytes.
+fn push_blanks(script: &mut Vec<u8>, bytes: usize) -> Result<(), AllocError> {
     for _ in script.len()..bytes {
         script.push(b' ')?;
     }
-    Ok(script)
+    Ok(())
 }

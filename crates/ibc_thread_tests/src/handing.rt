@@ -100,6 +100,7 @@ fn comes_back<R: Wait, W: WorldBrand>(
         }
         Err(refusal) => {
             drop(ledger);
+            drop(opened);
             drop(held);
             Err(refusal)
         }

@@ -39,12 +39,36 @@ fn line_of(alloc: Global, chain: &ChainName, entry: &StampedEntry) -> Result<Str
 // The lines of the entries of a chain.
 fn lines_of(alloc: Global, chain: &str, entries: &[StampedEntry]) -> Result<String, Refusal> {
     let chain: ChainName = Name::parse(alloc, chain)?;
+    let lines = all_lines(alloc, &chain, entries);
+    drop(chain);
+    lines
+}
+
+// The same of a chain with this name.
+fn all_lines(
+    alloc: Global,
+    chain: &ChainName,
+    entries: &[StampedEntry],
+) -> Result<String, Refusal> {
     let mut lines = String::new(alloc);
     for entry in entries {
-        lines.push_str(line_of(alloc, &chain, entry)?.as_str())?;
-        lines.push('\n')?;
+        push_line(alloc, &mut lines, chain, entry)?;
     }
     Ok(lines)
+}
+
+// Adds the line of an entry.
+fn push_line(
+    alloc: Global,
+    lines: &mut String,
+    chain: &ChainName,
+    entry: &StampedEntry,
+) -> Result<(), Refusal> {
+    let line = line_of(alloc, chain, entry)?;
+    let pushed = lines.push_str(line.as_str());
+    drop(line);
+    pushed?;
+    Ok(lines.push('\n')?)
 }
 
 /// The lines of a chain's history from a place on, none past its end. Refused: `NoMemory`.

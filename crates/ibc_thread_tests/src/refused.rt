@@ -5,7 +5,9 @@ ghost use Rattle.ibc_script.specs.Faults.{IsScriptFault, IsRunFault};
 
 use crate::equal::are_equal;
 use crate::gathered::{List, list_of};
-use crate::spelled::{SpelledEvent, answered, are_spelled, is_no_memory, read_back};
+use crate::spelled::{
+    SpelledEvent, answered, are_spelled, are_spelled_alike, is_no_memory, read_back,
+};
 use ibc_ids::Refusal;
 use ibc_ledger::{Ledger, StampedEntry};
 use ibc_machine::{Genesis, Reply};
@@ -264,9 +266,7 @@ fn have_same_entries(
         .zip(others)
     {
         let is_same = entry.reply == other.reply && entry.reading == other.reading;
-        if !is_same
-            || SpelledEvent::of(alloc, &entry.event)? != SpelledEvent::of(alloc, &other.event)?
-        {
+        if !is_same || !are_spelled_alike(alloc, &entry.event, &other.event)? {
             return Ok(false);
         }
     }

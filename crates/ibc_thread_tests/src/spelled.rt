@@ -53,11 +53,27 @@ pub fn are_spelled(
         return Ok(false);
     }
     for (event, spelled) in events.iter().zip(list) {
-        if SpelledEvent::of(alloc, event)? != *spelled {
+        if !is_spelled(alloc, event, spelled)? {
             return Ok(false);
         }
     }
     Ok(true)
+}
+
+// Whether an event is spelled so.
+fn is_spelled(alloc: Global, event: &Event, spelled: &SpelledEvent) -> Result<bool, Refusal> {
+    let own = SpelledEvent::of(alloc, event)?;
+    let is_same = own == *spelled;
+    drop(own);
+    Ok(is_same)
+}
+
+/// Whether two events are spelled the same. Refused: `NoMemory`, and `BadMessage` where a message has no spelling.
+pub fn are_spelled_alike(alloc: Global, one: &Event, other: &Event) -> Result<bool, Refusal> {
+    let spelled = SpelledEvent::of(alloc, one)?;
+    let is_same = is_spelled(alloc, other, &spelled);
+    drop(spelled);
+    is_same
 }
 
 /// Whether a reply tells that there was no memory.

@@ -66,10 +66,34 @@ pub fn tried<R: Threads + Wait + Sync>(
 
 /// Whether what is printed is this.
 pub fn is_printed(tried: Result<Option<Vec<u8>>, Fault>, text: &str) -> bool {
-    match &tried {
+    let is_printed = match &tried {
         Ok(Some(output)) => output.as_slice() == text.as_bytes(),
         Ok(None) | Err(_) => false,
-    }
+    };
+    drop(tried);
+    is_printed
+}
+
+/// How a script ends that is run as a race of so many relayers, and whether this is all that is printed.
+pub fn raced<R: Threads + Wait + Sync>(
+    rt: &R,
+    alloc: Global,
+    relayers: &str,
+    script: &str,
+    text: &str,
+) -> (Result<(), Fault>, bool) {
+    let mut output = Vec::new(alloc);
+    let driven = drive(
+        alloc,
+        &WorldFactory::new(alloc),
+        &RaceRunner::new(rt, alloc),
+        &["race", "--relayers", relayers],
+        script.as_bytes(),
+        &mut output,
+    );
+    let is_printed = output.as_slice() == text.as_bytes();
+    drop(output);
+    (driven, is_printed)
 }
 
 /// What the histories say is what scripts come to by the calls of `Gate`, and their answers are those of its entries.
@@ -175,38 +199,22 @@ fn a_race_prints_its_audit(rt: HostRuntime) -> Result<(), Fail> {
             },
         ],
     )?;
-    for words in [["race", "--relayers", "1"], ["race", "--relayers", "8"]] {
-        let mut output = Vec::new(alloc);
-        let driven = drive(
-            alloc,
-            &WorldFactory::new(alloc),
-            &RaceRunner::new(&rt, alloc),
-            &words,
-            script.as_bytes(),
-            &mut output,
-        );
+    for relayers in ["1", "8"] {
+        let (driven, is_printed) = raced(&rt, alloc, relayers, script.as_str(), FIFTY);
         assert!(rt; driven.is_ok());
-        assert_eq!(rt; output.as_slice(), FIFTY.as_bytes());
+        assert!(rt; is_printed);
     }
+    drop(script);
     Ok(())
 }
 
 /// Words that ask for no race, and a script that has no chains to race between, run none and print nothing.
 #[test]
 fn bad_words_race_nothing(rt: HostRuntime) {
-    let alloc = rt.alloc();
     for relayers in ["0", "9", "04", ""] {
-        let mut output = Vec::new(alloc);
-        let driven = drive(
-            alloc,
-            &WorldFactory::new(alloc),
-            &RaceRunner::new(&rt, alloc),
-            &["race", "--relayers", relayers],
-            FIFTY.as_bytes(),
-            &mut output,
-        );
+        let (driven, is_printed) = raced(&rt, rt.alloc(), relayers, FIFTY, "");
         assert!(rt; driven == Err(Fault::BadArguments));
-        assert!(rt; output.is_empty());
+        assert!(rt; is_printed);
     }
 }
 

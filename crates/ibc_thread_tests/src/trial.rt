@@ -206,12 +206,15 @@ fn audited<R: Threads + Wait + Sync, W: WorldBrand>(
 ) -> Result<RaceAudit, Fault> {
     trial.is_done.set(done == Ok(true));
     let readings = Vec::new(trial.alloc);
-    match audit_chains(
+    let audit = audit_chains(
         trial.alloc,
         chains,
         receipts.as_slice(),
         readings.as_slice(),
-    ) {
+    );
+    drop(readings);
+    drop(receipts);
+    match audit {
         Ok(Audit { balances, notes }) => Ok(RaceAudit { balances, notes }),
         Err(refusal) => Err(Fault::of_refusal(refusal)),
     }

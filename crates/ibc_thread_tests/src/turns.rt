@@ -3,15 +3,13 @@
 use crate::committing::Committing;
 use crate::histories::history_of;
 use crate::scripts::{BLOCKS, RELAYED_ONCE, RepeatedSteps, SENT, SENT_AND_RECEIVED, opened};
-use crate::tests::{is_printed, tried};
+use crate::tests::{is_printed, raced, tried};
 use crate::trial::{Calls, Deed};
 use ibc_ids::Refusal;
 use ibc_ledger::StampedEntry;
 use ibc_ledger_lock::Gate;
 use ibc_machine::{Entry, Event, Reply};
 use ibc_relayer::{relay, relay_all};
-use ibc_script_cli::drive;
-use ibc_script_worlds::{RaceRunner, WorldFactory};
 use std::alloc::Global;
 use std::sync::Wait;
 use std::test::Fail;
@@ -190,16 +188,9 @@ fn blocks_of_a_race_keep_their_times(rt: HostRuntime) -> Result<(), Fail> {
         times: 1,
     });
     let script = opened(alloc, &steps)?;
-    let mut output = Vec::new(alloc);
-    let driven = drive(
-        alloc,
-        &WorldFactory::new(alloc),
-        &RaceRunner::new(&rt, alloc),
-        &["race", "--relayers", "2"],
-        script.as_bytes(),
-        &mut output,
-    );
+    let (driven, is_printed) = raced(&rt, alloc, "2", script.as_str(), TWO);
+    drop(script);
     assert!(rt; driven.is_ok());
-    assert_eq!(rt; output.as_slice(), TWO.as_bytes());
+    assert!(rt; is_printed);
     Ok(())
 }

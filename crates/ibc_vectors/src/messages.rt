@@ -1,10 +1,11 @@
 //! Messages beside their spellings.
 
 use crate::records::{NINE, tokens_of};
-use ibc_ids::{Bytes, ChannelId, Memo, Name, Receiver, Refusal, UserName};
+use ibc_ids::{Bytes, ChannelId, Name, Refusal};
 use ibc_message_codec::{decode, encode};
-use ibc_wire::{Message, SendNote, Token, Tokens, Transfer, TransferMany};
+use ibc_wire::{Message, SendNote, Token, Transfer, TransferMany};
 use std::alloc::Global;
+use std::process::Abort;
 
 // What a message of each kind is spelled as, by its tag.
 fn spelled(tag: u8) -> &'static [u8] {
@@ -202,36 +203,26 @@ fn fields_of_transfers(rt: HostRuntime) {
 }
 
 // The message of several tokens by which alice sends these to bob.
-fn worked_message(
-    tokens: Tokens,
-    sender: (ChannelId, UserName),
-    receiver: Receiver,
-    memo: Memo,
-) -> Message {
-    let (channel, user) = sender;
+fn worked_message(rt: &impl Abort, alloc: Global, amounts: &[(&str, u128)]) -> Message {
     Message::TransferMany(TransferMany {
-        channel,
-        user,
-        tokens,
-        receiver,
-        memo,
+        channel: Name::parse(alloc, "channel-0").expect(rt, "a name"),
+        user: Name::parse(alloc, "alice").expect(rt, "a name"),
+        tokens: tokens_of(alloc, amounts).expect(rt, "memory"),
+        receiver: Name::parse(alloc, "bob").expect(rt, "a name"),
+        memo: Name::parse(alloc, "").expect(rt, "a memo"),
         timeout_height: 1_000,
         timeout_time: 0,
     })
 }
 
-// The channel and the user that send it.
-fn sender(alloc: Global) -> Result<(ChannelId, UserName), Refusal> {
-    let channel = Name::parse(alloc, "channel-0")?;
-    Ok((channel, Name::parse(alloc, "alice")?))
-}
-
 // Whether the worked message with these tokens is spelled so.
-fn is_worked(alloc: Global, amounts: &[(&str, u128)], bytes: &[u8]) -> Result<bool, Refusal> {
-    let memo = Name::parse(alloc, "")?;
-    let receiver = Name::parse(alloc, "bob")?;
-    let sender = sender(alloc)?;
-    let message = worked_message(tokens_of(alloc, amounts)?, sender, receiver, memo);
+fn is_worked(
+    rt: &impl Abort,
+    alloc: Global,
+    amounts: &[(&str, u128)],
+    bytes: &[u8],
+) -> Result<bool, Refusal> {
+    let message = worked_message(rt, alloc, amounts);
     let spelled = encode(alloc, &message);
     drop(message);
     Ok(spelled?.as_slice() == bytes)
@@ -250,13 +241,18 @@ const OUT_OF_ORDER: [(&str, u128); 2] = [("gold", 7), ("atom", 100)];
 
 #[test]
 fn several_tokens_in_a_message(rt: HostRuntime) {
-    assert!(rt; is_worked(rt.alloc(), &IN_ORDER, WORKED) == Ok(true));
+    assert!(rt; is_worked(&rt, rt.alloc(), &IN_ORDER, WORKED) == Ok(true));
 }
 
 // What a message with these tokens answers to its writing, and the bytes of one to their reading.
-fn answers(alloc: Global, amounts: &[(&str, u128)], bytes: &[u8]) -> [Result<bool, Refusal>; 2] {
+fn answers(
+    rt: &impl Abort,
+    alloc: Global,
+    amounts: &[(&str, u128)],
+    bytes: &[u8],
+) -> [Result<bool, Refusal>; 2] {
     [
-        is_worked(alloc, amounts, bytes),
+        is_worked(rt, alloc, amounts, bytes),
         is_spelled_so(alloc, bytes),
     ]
 }
@@ -264,6 +260,6 @@ fn answers(alloc: Global, amounts: &[(&str, u128)], bytes: &[u8]) -> [Result<boo
 #[test]
 fn tokens_out_of_order_or_too_many(rt: HostRuntime) {
     let bad = [Err(Refusal::BadMessage); 2];
-    assert!(rt; answers(rt.alloc(), &OUT_OF_ORDER, GOLD_BEFORE_ATOM) == bad);
-    assert!(rt; answers(rt.alloc(), &NINE, NINE_TOKENS) == bad);
+    assert!(rt; answers(&rt, rt.alloc(), &OUT_OF_ORDER, GOLD_BEFORE_ATOM) == bad);
+    assert!(rt; answers(&rt, rt.alloc(), &NINE, NINE_TOKENS) == bad);
 }

@@ -6,6 +6,7 @@ use ibc_ids::{
     nth_channel, nth_client, nth_connection,
 };
 use std::alloc::Global;
+use std::process::Abort;
 
 // Whether this is a name with this text.
 fn has_text<K: NameKind>(name: &Result<Name<K>, Refusal>, text: &str) -> bool {
@@ -46,15 +47,18 @@ fn texts_that_are_no_denominations(rt: HostRuntime) {
 }
 
 // Whether one name is before another.
-fn is_before(alloc: Global, one: &str, other: &str) -> Result<bool, Refusal> {
-    let one = ChannelId::parse(alloc, one)?;
-    let other = ChannelId::parse(alloc, other)?;
-    Ok(one < other)
+fn is_before(rt: &impl Abort, alloc: Global, one: &str, other: &str) -> bool {
+    let one = ChannelId::parse(alloc, one).expect(rt, "a name");
+    let other = ChannelId::parse(alloc, other).expect(rt, "a name");
+    let is_before = one < other;
+    drop(one);
+    drop(other);
+    is_before
 }
 
 #[test]
 fn names_are_compared_as_texts(rt: HostRuntime) {
-    assert!(rt; is_before(rt.alloc(), "channel-10", "channel-9") == Ok(true));
+    assert!(rt; is_before(&rt, rt.alloc(), "channel-10", "channel-9"));
 }
 
 #[test]
@@ -129,13 +133,13 @@ fn key_of(record: Record, port: PortId, channel: ChannelId) -> Key {
 }
 
 // Whether the record has this path.
-fn is_at(alloc: Global, record: Record, path: &str) -> Result<bool, Refusal> {
-    let port = PortId::parse(alloc, "transfer")?;
-    let channel = ChannelId::parse(alloc, "channel-0")?;
+fn is_at(rt: &impl Abort, alloc: Global, record: Record, path: &str) -> bool {
+    let port = PortId::parse(alloc, "transfer").expect(rt, "a name");
+    let channel = ChannelId::parse(alloc, "channel-0").expect(rt, "a name");
     let key = key_of(record, port, channel);
     let has_path = has_path(alloc, &key, path);
     drop(key);
-    Ok(has_path)
+    has_path
 }
 
 #[test]
@@ -167,7 +171,7 @@ fn paths_of_channels(rt: HostRuntime) {
             "acks/ports/transfer/channels/channel-0/sequences/1",
         ),
     ] {
-        assert!(rt; is_at(rt.alloc(), record, path) == Ok(true), "at {path}");
+        assert!(rt; is_at(&rt, rt.alloc(), record, path), "at {path}");
     }
 }
 
@@ -219,11 +223,22 @@ fn texts_that_are_no_paths(rt: HostRuntime) {
 }
 
 // The size of the denomination with one more hop over a channel.
-fn hopped_size(alloc: Global, denom: &str) -> Result<usize, Refusal> {
-    let port = PortId::parse(alloc, "transfer")?;
-    let channel = ChannelId::parse(alloc, "channel-0")?;
-    let denom = Denom::parse(alloc, denom)?;
-    Ok(denom.hop(alloc, &port, &channel)?.as_str().len())
+fn hopped_size(rt: &impl Abort, alloc: Global, denom: &str) -> Result<usize, Refusal> {
+    let port = PortId::parse(alloc, "transfer").expect(rt, "a name");
+    let channel = ChannelId::parse(alloc, "channel-0").expect(rt, "a name");
+    let denom = Denom::parse(alloc, denom).expect(rt, "a denomination");
+    let hopped = denom.hop(alloc, &port, &channel);
+    drop(denom);
+    drop(channel);
+    drop(port);
+    Ok(size_of(hopped?))
+}
+
+// How many bytes a denomination has.
+fn size_of(denom: Denom) -> usize {
+    let size = denom.as_str().len();
+    drop(denom);
+    size
 }
 
 // A denomination that came over thirteen channels. It has 251 bytes.
@@ -232,8 +247,8 @@ const THIRTEEN: &str =
 
 #[test]
 fn denominations_with_hops(rt: HostRuntime) {
-    assert!(rt; hopped_size(rt.alloc(), &THIRTEEN[19..]) == Ok(251));
-    assert!(rt; hopped_size(rt.alloc(), THIRTEEN) == Err(Refusal::TooLarge));
+    assert!(rt; hopped_size(&rt, rt.alloc(), &THIRTEEN[19..]) == Ok(251));
+    assert!(rt; hopped_size(&rt, rt.alloc(), THIRTEEN) == Err(Refusal::TooLarge));
 }
 
 #[test]

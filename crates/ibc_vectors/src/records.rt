@@ -4,17 +4,21 @@ use ibc_ids::{Denom, Refusal};
 use ibc_wire::{
     ChannelEnd, ClientState, ConnectionEnd, Header, Packet, Token, Tokens, Wire, decode, encode,
 };
-use std::alloc::Global;
+use std::alloc::{AllocError, Global};
 
 // Whether the bytes spell a value, and the value is spelled so.
 fn is_spelled_so<T: Wire + Drop>(alloc: Global, bytes: &[u8]) -> Result<bool, Refusal> {
     let value: T = decode(alloc, bytes)?;
-    Ok(encode(alloc, &value)?.as_slice() == bytes)
+    let spelled = encode(alloc, &value);
+    drop(value);
+    Ok(spelled?.as_slice() == bytes)
 }
 
 fn is_no_value<T: Wire + Drop>(alloc: Global, bytes: &[u8]) -> bool {
     let read: Result<T, Refusal> = decode(alloc, bytes);
-    matches!(read, Err(Refusal::BadMessage))
+    let is_bad = matches!(&read, Err(Refusal::BadMessage));
+    drop(read);
+    is_bad
 }
 
 const CLIENT: [u8; 10] = [1, 0, 0, 0, 0, 0, 0, 0, 5, 0];
@@ -135,8 +139,21 @@ fn is_copied(
     amounts: &[(&str, u128)],
     others: &[(&str, u128)],
 ) -> Result<bool, Refusal> {
-    let copy = tokens_of(alloc, amounts)?.clone()?;
-    Ok(copy == tokens_of(alloc, others)?)
+    let tokens = tokens_of(alloc, amounts)?;
+    let copy: Result<Tokens, AllocError> = tokens.clone();
+    drop(tokens);
+    let copy = copy?;
+    let are_same = are_of(alloc, &copy, others);
+    drop(copy);
+    are_same
+}
+
+// Whether tokens are these amounts.
+fn are_of(alloc: Global, tokens: &Tokens, amounts: &[(&str, u128)]) -> Result<bool, Refusal> {
+    let others = tokens_of(alloc, amounts)?;
+    let are_same = *tokens == others;
+    drop(others);
+    Ok(are_same)
 }
 
 #[test]

@@ -315,7 +315,10 @@ const NOT_SEVERAL: [&[u8]; 6] = [
 
 // Whether no data is told, which asks for no memory.
 fn is_none(alloc: Global, version: &Version, payload: &[u8]) -> bool {
-    matches!(TokenData::read(alloc, version, payload), Ok(None))
+    let read = TokenData::read(alloc, version, payload);
+    let is_none = matches!(&read, Ok(None));
+    drop(read);
+    is_none
 }
 
 // Also where a request for memory is refused.
@@ -343,10 +346,10 @@ const SEVERAL: &[u8] =
 
 // Whether data is told, or a request for memory was refused.
 fn is_told(alloc: Global, version: &Version, payload: &[u8]) -> bool {
-    matches!(
-        TokenData::read(alloc, version, payload),
-        Ok(Some(_)) | Err(Refusal::NoMemory)
-    )
+    let read = TokenData::read(alloc, version, payload);
+    let is_told = matches!(&read, Ok(Some(_)) | Err(Refusal::NoMemory));
+    drop(read);
+    is_told
 }
 
 // Also where a request for memory is refused.

@@ -125,14 +125,20 @@ fn the_root_of_a_new_chain(rt: HostRuntime) {
 fn proves_a_value(alloc: Global) -> Result<bool, Refusal> {
     let entries = new_chain(alloc)?;
     let proof = prove_present(alloc, entries.as_slice(), b"nextClientSequence".as_slice());
-    Ok(matches!(proof, Ok(Proof::Present(_))))
+    drop(entries);
+    let is_present = matches!(&proof, Ok(Proof::Present(_)));
+    drop(proof);
+    Ok(is_present)
 }
 
 // Whether it proves from them that nothing stands at the beginning of that key.
 fn proves_an_absence(alloc: Global) -> Result<bool, Refusal> {
     let entries = new_chain(alloc)?;
     let proof = prove_absent(alloc, entries.as_slice(), b"nextClient".as_slice());
-    Ok(matches!(proof, Ok(Proof::Absent(_))))
+    drop(entries);
+    let is_absent = matches!(&proof, Ok(Proof::Absent(_)));
+    drop(proof);
+    Ok(is_absent)
 }
 
 #[test]

@@ -166,10 +166,11 @@ fn end_of(ends: &[LaneEnd], place: usize) -> Result<&LaneEnd, RunError> {
 
 // The packet that an end sent.
 fn packet_of(network: &Network, end: &LaneEnd, sequence: u64) -> Result<SentPacket, RunError> {
+    let (port, channel) = end.port_and_channel(network.alloc)?;
     Ok(SentPacket {
         chain: end.chain,
-        port: end.port(network.alloc)?,
-        channel: end.channel.clone()?,
+        port,
+        channel,
         sequence,
     })
 }

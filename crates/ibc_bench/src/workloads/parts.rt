@@ -9,7 +9,7 @@ use crate::tally::Tally;
 use std::alloc::Global;
 
 /// A part.
-#[derive(Clone, Copy, Debug, PartialEq, Eq)]
+#[derive(Clone, Copy)]
 pub enum Part {
     /// A block sets new paths between many others, in any order.
     NewPaths,

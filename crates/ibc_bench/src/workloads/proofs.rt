@@ -2,6 +2,7 @@
 //! of packets one after another, as a relayer sends them to the other chain, and those of other keys at random, there or not. No
 //! key is proved twice. Some are changed on their way, and are accepted by nobody.
 
+use crate::behind::made_behind;
 use crate::lanes::{LaneEnd, Traffic, open_lane, send};
 use crate::network::Network;
 use crate::random::Random;
@@ -14,7 +15,7 @@ use ibc_merkle::Proof;
 use ibc_message_codec as codec;
 use ibc_script::{Application, ClientDraft, Draft};
 use ibc_script_cli::Chains;
-use ibc_wire::{Message, RecvPacket};
+use ibc_wire::{Message, Packet, RecvPacket};
 use std::alloc::Global;
 
 const TRAFFIC: Traffic = Traffic {
@@ -53,11 +54,7 @@ impl Unproved {
     fn take(&mut self, alloc: Global, random: &mut Random, end: &LaneEnd) -> Result<Key, RunError> {
         match random.below(4) {
             0 => commitment(alloc, end, taken(random, &mut self.unsent)?),
-            1 => {
-                let sequence = taken(random, &mut self.receipts)?;
-                let channel = end.channel.clone()?;
-                Ok(Key::Receipt(end.port(alloc)?, channel, sequence))
-            }
+            1 => receipt(alloc, end, taken(random, &mut self.receipts)?),
             _ => commitment(alloc, end, taken(random, &mut self.sent)?),
         }
     }
@@ -85,8 +82,22 @@ fn taken(random: &mut Random, sequences: &mut Vec<u64>) -> Result<u64, RunError>
 /// Sends so many packets, and checks the proofs of some.
 pub fn drive(network: &mut Network, size: u64, random: &mut Random) -> Result<(), RunError> {
     let mut ends = Vec::new(network.alloc);
-    open_lane(network, &mut ends, 0, 1, Application::Transfer)?;
-    let [end, peer] = ends.as_slice() else {
+    let driven = match open_lane(network, &mut ends, 0, 1, Application::Transfer) {
+        Ok(()) => send_and_check(network, random, ends.as_slice(), size),
+        Err(error) => Err(error),
+    };
+    drop(ends);
+    driven
+}
+
+// Sends so many packets over the channel with these ends, and checks the proofs of some.
+fn send_and_check(
+    network: &mut Network,
+    random: &mut Random,
+    ends: &[LaneEnd],
+    size: u64,
+) -> Result<(), RunError> {
+    let [end, peer] = ends else {
         return Err(RunError::Unexpected("a channel has two ends"));
     };
     send_all(network, random, end, size)?;
@@ -167,8 +178,14 @@ fn look_each(
 
 // The key of the commitment of a packet that an end sent.
 fn commitment(alloc: Global, end: &LaneEnd, sequence: u64) -> Result<Key, RunError> {
-    let channel = end.channel.clone()?;
-    Ok(Key::Commitment(end.port(alloc)?, channel, sequence))
+    let (port, channel) = end.port_and_channel(alloc)?;
+    Ok(Key::Commitment(port, channel, sequence))
+}
+
+// The key of the receipt of a packet that an end sent.
+fn receipt(alloc: Global, end: &LaneEnd, sequence: u64) -> Result<Key, RunError> {
+    let (port, channel) = end.port_and_channel(alloc)?;
+    Ok(Key::Receipt(port, channel, sequence))
 }
 
 // The bytes of the proof of what a chain has at a key, at its last block. The tally takes them in.
@@ -197,21 +214,36 @@ fn spelled_delivery(
     end: &LaneEnd,
     sequence: u64,
 ) -> Result<Vec<u8>, RunError> {
-    let alloc = network.alloc;
-    let key = commitment(alloc, end, sequence)?;
+    let proof = proof_of_packet(network, view, end, sequence)?;
+    let (proof, packet) = made_behind(proof, packet_of(network, end, sequence))?;
+    let delivery = RecvPacket {
+        packet,
+        height: view.height(),
+        proof,
+    };
+    spelled(network, Message::RecvPacket(delivery))
+}
+
+// The bytes of the proof of the commitment of a packet that an end sent. The tally takes them in.
+fn proof_of_packet(
+    network: &mut Network,
+    view: &View,
+    end: &LaneEnd,
+    sequence: u64,
+) -> Result<Bytes, RunError> {
+    let key = commitment(network.alloc, end, sequence)?;
     let proof = proof_of(network, view, &key);
     drop(key);
-    let proof = proof?;
-    let port = end.port(alloc)?;
-    match network.packet(end.chain, &port, &end.channel, sequence)? {
-        Some(packet) => {
-            let delivery = RecvPacket {
-                packet,
-                height: view.height(),
-                proof,
-            };
-            spelled(network, Message::RecvPacket(delivery))
-        }
+    proof
+}
+
+// The packet that an end sent.
+fn packet_of(network: &Network, end: &LaneEnd, sequence: u64) -> Result<Packet, RunError> {
+    let port = end.port(network.alloc)?;
+    let packet = network.packet(end.chain, &port, &end.channel, sequence);
+    drop(port);
+    match packet? {
+        Some(packet) => Ok(packet),
         None => Err(RunError::Unexpected("there is no such packet")),
     }
 }
@@ -253,10 +285,7 @@ fn deliver(
     let message = codec::decode(network.alloc, bytes.as_slice());
     drop(bytes);
     let is_accepted = match message {
-        Ok(message) => {
-            check_delivery(network, view, end, sequence, &message)?;
-            is_taken(network, end.peer, message)
-        }
+        Ok(message) => is_delivered(network, view, end, sequence, message)?,
         Err(_) => false,
     };
     network.tally.verdict(is_accepted);
@@ -264,6 +293,23 @@ fn deliver(
         return Err(RunError::Unexpected("a changed message is accepted, or another refused"));
     }
     Ok(())
+}
+
+// Whether the other chain accepts a message, whose proof is checked before.
+fn is_delivered(
+    network: &mut Network,
+    view: &View,
+    end: &LaneEnd,
+    sequence: u64,
+    message: Message,
+) -> Result<bool, RunError> {
+    match check_delivery(network, view, end, sequence, &message) {
+        Ok(()) => Ok(is_taken(network, end.peer, message)),
+        Err(error) => {
+            drop(message);
+            Err(error)
+        }
+    }
 }
 
 // Whether a chain accepts a message.
@@ -306,13 +352,25 @@ fn is_shown(
     let Some(root) = root_of(view) else {
         return Err(RunError::Unexpected("no block has ended"));
     };
-    let path = key.path(network.alloc)?;
     let value = network.value(chain, key)?;
     network.tally.value(&value);
-    let is_shown = is_proof(network.alloc, root, path.as_bytes(), &value, bytes);
+    let is_shown = is_proof_at(network.alloc, root, key, &value, bytes);
     drop(value);
-    drop(path);
     Ok(is_shown?)
+}
+
+// Whether the bytes are a proof under a root that a value stands at a key, or that none does.
+fn is_proof_at(
+    alloc: Global,
+    root: Root,
+    key: &Key,
+    value: &Option<Bytes>,
+    bytes: &[u8],
+) -> Result<bool, Refusal> {
+    let path = key.path(alloc)?;
+    let is_proof = is_proof(alloc, root, path.as_bytes(), value, bytes);
+    drop(path);
+    is_proof
 }
 
 // Whether the bytes are a proof under a root that a value stands at a path, or that none does.

@@ -29,11 +29,31 @@ const TRAFFIC: Traffic = Traffic {
 /// Opens the channels, and relays so many bursts.
 pub fn drive(network: &mut Network, size: u64, random: &mut Random) -> Result<(), RunError> {
     let mut ends = Vec::new(network.alloc);
+    let driven = match open_lanes(network, &mut ends) {
+        Ok(()) => relay_bursts(network, random, ends.as_slice(), size),
+        Err(error) => Err(error),
+    };
+    drop(ends);
+    driven
+}
+
+// Opens the channels.
+fn open_lanes(network: &mut Network, ends: &mut Vec<LaneEnd>) -> Result<(), RunError> {
     for (first, second, application) in LANES {
-        open_lane(network, &mut ends, first, second, application)?;
+        open_lane(network, ends, first, second, application)?;
     }
+    Ok(())
+}
+
+// Relays so many bursts.
+fn relay_bursts(
+    network: &mut Network,
+    random: &mut Random,
+    ends: &[LaneEnd],
+    size: u64,
+) -> Result<(), RunError> {
     for _round in 0..size {
-        relay_burst(network, random, ends.as_slice())?;
+        relay_burst(network, random, ends)?;
     }
     Ok(())
 }

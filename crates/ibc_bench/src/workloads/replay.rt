@@ -8,6 +8,7 @@ use crate::network::Network;
 use crate::random::Random;
 use crate::run_error::RunError;
 use crate::tally::Tally;
+use ibc_ledger::Ledger;
 use ibc_machine::Genesis;
 use ibc_replay::replay;
 use ibc_theorem::lawful_audit;
@@ -88,10 +89,18 @@ fn replay_all(
 
 // Adds what the chains of a world hold.
 fn add_all(world: &World, tally: &mut Tally) -> Result<(), RunError> {
-    for ledger in (0..8).map_while(|chain| world.ledger(chain)) {
-        let balances = ledger.balances()?;
-        tally.balances(balances.as_slice());
-        drop(balances);
+    for chain in 0..8 {
+        if let Some(ledger) = world.ledger(chain) {
+            add_balances(ledger, tally)?;
+        }
     }
+    Ok(())
+}
+
+// Adds what the accounts of a chain hold.
+fn add_balances(ledger: &Ledger, tally: &mut Tally) -> Result<(), RunError> {
+    let balances = ledger.balances()?;
+    tally.balances(balances.as_slice());
+    drop(balances);
     Ok(())
 }

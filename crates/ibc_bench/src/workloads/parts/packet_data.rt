@@ -1,10 +1,11 @@
 //! The data of packets of tokens is written and read: of one token or several, with and without a memo. Some bytes are no data.
 
+use crate::behind::made_behind;
 use crate::names::{TOKENS, numbered};
 use crate::random::Random;
 use crate::run_error::RunError;
 use crate::tally::Tally;
-use ibc_ids::{Denom, Memo, Name, Version};
+use ibc_ids::{Denom, Memo, Name, Receiver, UserName, Version};
 use ibc_token_data::TokenData;
 use ibc_wire::Token;
 use std::alloc::Global;
@@ -110,12 +111,35 @@ fn data(
     number: u64,
     count: u64,
 ) -> Result<TokenData, RunError> {
+    let tokens = tokens(alloc, random, count)?;
+    let (tokens, texts) = made_behind(tokens, texts(alloc, random, number))?;
+    let (memo, (receiver, sender)) = texts;
     Ok(TokenData {
-        tokens: tokens(alloc, random, count)?,
-        memo: memo(alloc, random, number)?,
-        receiver: numbered(alloc, "user", random.below(100_000))?,
-        sender: numbered(alloc, "user", number)?,
+        tokens,
+        memo,
+        receiver,
+        sender,
     })
+}
+
+// A memo, a random receiver, and the sender.
+fn texts(
+    alloc: Global,
+    random: &mut Random,
+    number: u64,
+) -> Result<(Memo, (Receiver, UserName)), RunError> {
+    let memo = memo(alloc, random, number)?;
+    made_behind(memo, users(alloc, random, number))
+}
+
+// A random receiver, and the sender.
+fn users(
+    alloc: Global,
+    random: &mut Random,
+    number: u64,
+) -> Result<(Receiver, UserName), RunError> {
+    let receiver: Receiver = numbered(alloc, "user", random.below(100_000))?;
+    made_behind(receiver, numbered(alloc, "user", number))
 }
 
 // A memo, mostly none.
@@ -134,6 +158,22 @@ fn memo(alloc: Global, random: &mut Random, number: u64) -> Result<Memo, RunErro
 // So many tokens of different denominations.
 fn tokens(alloc: Global, random: &mut Random, count: u64) -> Result<Vec<Token>, RunError> {
     let mut tokens = Vec::new(alloc);
+    match push_tokens(alloc, random, &mut tokens, count) {
+        Ok(()) => Ok(tokens),
+        Err(error) => {
+            drop(tokens);
+            Err(error)
+        }
+    }
+}
+
+// Adds so many tokens.
+fn push_tokens(
+    alloc: Global,
+    random: &mut Random,
+    tokens: &mut Vec<Token>,
+    count: u64,
+) -> Result<(), RunError> {
     for place in 0..count {
         let amount = match random.below(64) {
             0 => 0,
@@ -142,7 +182,7 @@ fn tokens(alloc: Global, random: &mut Random, count: u64) -> Result<Vec<Token>, 
         let denom = denom(alloc, random, place)?;
         tokens.push(Token { denom, amount })?;
     }
-    Ok(tokens)
+    Ok(())
 }
 
 // A token that came over a channel, whose name rises with its place among others.
