@@ -6,6 +6,7 @@ import os
 import re
 import shutil
 
+import refused_lines
 from tries import Clone
 from verdicts import BAD, MISSED, REFUSED, UNSURE
 
@@ -17,15 +18,25 @@ def said_of(edit, text):
     """What `rt ci` said of an edit, in which words."""
     found = re.search(rf"(?m)^rt: must-fail {re.escape(crate_of(edit))}/{re.escape(os.path.basename(edit.file))}: (.*)$", text)
     if not found:
-        return UNSURE, f"`rt ci` says nothing of it: {text.strip().rpartition(chr(10))[2][:160]}"
+        return UNSURE, f"`rt ci` says nothing of it: {why_not(text)[:160]}"
     kinds = [kind for words, kind in WORDS if found[1].startswith(words)]
     return kinds[0] if kinds else UNSURE, found[1][:200]
 
 
+def why_not(text):
+    """The last that `rt ci` said before it counted, since there it says why it ended early."""
+    lines = [it for it in text.strip().split("\n") if not re.match(r"\d+ passed, \d+ failed", it)]
+    return lines[-1] if lines else "it printed nothing"
+
+
 def place(root, edits):
-    """Leaves of the must-fail edits of a copy these alone, each under the name of its file."""
+    """Leaves of a copy the crates of these edits and those below them; and of the must-fail edits these alone, each under the name of its file."""
+    below, uses = refused_lines.Sums(root).below, refused_lines.uses_of(root)
+    wanted = {it for crate in {crate_of(edit) for edit in edits} for it in (crate, *below(crate))}
+    with open(f"{root}/crates.txt", "w", encoding="utf-8") as lines:
+        lines.writelines(f"{line}\n" for crate, (_, line) in uses.items() if crate in wanted)
     for crate in os.listdir(f"{root}/crates"):
-        shutil.rmtree(f"{root}/crates/{crate}/must-fail", ignore_errors=True)
+        shutil.rmtree(f"{root}/crates/{crate}/must-fail" if crate in wanted else f"{root}/crates/{crate}", ignore_errors=True)
     for edit in edits:
         folder = f"{root}/crates/{crate_of(edit)}/must-fail"
         os.makedirs(folder, exist_ok=True)
@@ -37,8 +48,8 @@ def crate_of(edit):
 
 
 def try_drawn(root, folder, edits, minutes):
-    """What `rt ci` says of each of these edits."""
+    """What `rt ci` says of each of these edits. It gets no names of crates, since a gate's machine refuses these."""
     clone = Clone(root, folder, 0, minutes)
     place(clone.folder, edits)
-    _, text = clone.run(["ci", *dict.fromkeys(crate_of(it) for it in edits)], clone.folder)
+    _, text = clone.run(["ci"], clone.folder)
     return {it: said_of(it, text) for it in edits}
