@@ -119,6 +119,7 @@ module _ (ledger : Ledger) (is : IsLedger ledger) where
   its_start = (get_there ledger.genesis.chains ledger.chain is.number).0
 
   starts : (starting_state ledger.genesis ledger.chain).chain ≡ starting_chain its_start
+  unfolding its_start
   starts =
       let there = get_there ledger.genesis.chains ledger.chain is.number in
       ap (λ (o : Option MachineChain). unwrap_or o empty_chain)
@@ -131,6 +132,7 @@ module _ (ledger : Ledger) (is : IsLedger ledger) where
       subst (λ (c : MachineChain). Told c.committed c.time ledger.history (state_of ledger).chain.committed) starts whole
 
   pub its_time : slice_get (map time_of ledger.genesis.chains) ledger.chain ≡ Some (time_of its_start)
+  unfolding its_start
   its_time =
       let there = get_there ledger.genesis.chains ledger.chain is.number in
       slice_get-map time_of ledger.genesis.chains ledger.chain ∙ ap (option_map time_of) there.1
