@@ -41,8 +41,9 @@ parts=(
     "tools/test_commands"
 )
 # LOG is what `rt ci` said.
-# What goes on beside `rt ci` and the parts behind it, one after another, in a copy of the repository: `rt lib` and `rt check` take nothing of what
-# `rt ci` proved. What they make and say is kept, and taken by the parts of the same names. The first part that needs it waits for it.
+# What goes on beside `rt ci` and the parts behind it, one after another, with the time that these leave, in a copy of the repository: `rt lib` and
+# `rt check` take nothing of what `rt ci` proved. What they make and say is kept, and taken by the parts of the same names. The first part that
+# needs it waits for it.
 beside=("tools/static_library" "tools/trust")
 waits="tools/build_library"
 # What these parts need isn't part of the gate's surroundings: where one ends with status 77 and a line `left out: ..`, that is told and is no failure.
@@ -156,7 +157,7 @@ follow() {
     [ ${#beside[@]} -gt 0 ] || return 0
     copy "$work/beside-copy"
     set -m
-    (cd "$work/beside-copy" && run "$work/beside" bash -c 'for it; do "$it"; done' beside "${beside[@]}") >"$work/beside.said" &
+    (cd "$work/beside-copy" && run "$work/beside" nice -n 10 bash -c 'for it; do "$it"; done' beside "${beside[@]}") >"$work/beside.said" &
     follower=$!
     set +m
 }
