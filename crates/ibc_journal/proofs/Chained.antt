@@ -1,0 +1,43 @@
+-- A reader that goes on from one entry to the next.
+use Rattle.std.proofs.Common.{◌≡◌, ◌⊎◌, inl, inr, ℕ, zero, suc, ◌+◌, ◌<◌, ◌≤◌, List, [], ◌∷◌, ◌++◌, length, get_or, take, slice_get, Option, Some, None, Result, Ok, Err, refl, sym, ap, subst, ◌∙◌, arith}
+use Rattle.std.proofs.lemmas.List.{take_more}
+use Rattle.std.proofs.lemmas.Option.{slice_get_within, get_or_from_slice_get}
+use Rattle.ibc_journal.specs.Tables.{JournalItem}
+use Rattle.ibc_journal.specs.Digests.{first_digest, digest_after, AreChained, last_digest, HasReadTo, HasReadAll}
+use Rattle.ibc_journal.specs.declared.cursor.Cursor.{Cursor}
+
+chained_more : (before : List ℕ) (its : List JournalItem) (it : JournalItem) → AreChained before its → it.digest ≡ digest_after (last_digest before its) it → AreChained before (its ++ it ∷ [])
+chained_more before [] it chained due = (due, tt)
+chained_more before (i ∷ its) it chained due = (chained.0, chained_more i.digest its it chained.1 due)
+
+last_more : (before : List ℕ) (its : List JournalItem) (it : JournalItem) → last_digest before (its ++ it ∷ []) ≡ it.digest
+last_more before [] it = refl
+last_more before (i ∷ its) it = last_more i.digest its it
+
+-- before the first entry nothing is read
+pub reads_nothing : (genesis : List ℕ) (items : List JournalItem) (last : List ℕ) → last ≡ first_digest genesis → HasReadTo genesis items (record { place = 0; last = last })
+reads_nothing genesis items last is = record { within = omega arith; chained = tt; last = is }
+
+pub reads_more : (genesis : List ℕ) (items : List JournalItem) (old new : Cursor) (it : JournalItem) → HasReadTo genesis items old → slice_get items old.place ≡ Some it
+    → it.digest ≡ digest_after old.last it → new ≡ record { place = old.place + 1; last = it.digest } → HasReadTo genesis items new
+reads_more genesis items old new it read there due is =
+    let low = slice_get_within items old.place it there in
+    let front : take (old.place + 1) items ≡ take old.place items ++ it ∷ [] =
+        take_more items old.place it low ∙ ap (λ x. take old.place items ++ x ∷ []) (get_or_from_slice_get items old.place it it there) in
+    let due_here : it.digest ≡ digest_after (last_digest (first_digest genesis) (take old.place items)) it = due ∙ ap (λ d. digest_after d it) read.last in
+    let chained = chained_more (first_digest genesis) (take old.place items) it read.chained due_here in
+    let last = last_more (first_digest genesis) (take old.place items) it in
+    subst (HasReadTo genesis items) (sym is) (record {
+      within = omega (arith, low);
+      chained = subst (AreChained (first_digest genesis)) (sym front) chained;
+      last = sym (ap (last_digest (first_digest genesis)) front ∙ last);
+    })
+
+-- where there is no other entry, all are read
+pub reads_all : (genesis : List ℕ) (items : List JournalItem) (cursor : Cursor) → HasReadTo genesis items cursor → slice_get items cursor.place ≡ None → HasReadAll genesis items cursor
+reads_all genesis items cursor read none = (read, end items cursor.place read.within none)
+  where
+    end : (its : List JournalItem) (k : ℕ) → k ≤ length its → slice_get its k ≡ None → k ≡ length its
+    end [] k within none = omega arith
+    end (i ∷ its) zero within none = absurd cc
+    end (i ∷ its) (suc k) within none = ap suc (end its k (omega (arith, within)) none)

@@ -1,0 +1,9 @@
+pub mod Statements
+pub mod Parts
+pub mod Transactions
+pub mod Begun
+pub mod Added
+pub mod Whole
+pub mod Filled
+pub mod Found
+pub mod Chained

@@ -1,0 +1,45 @@
+-- A transaction begins, takes the entries, and is committed.
+use Rattle.std.proofs.Common.{sym, ◌∙◌, arith}
+use Rattle.sqlite.specs.Held.{state}
+use Rattle.ibc_journal.specs.Entries.{items_of}
+use Rattle.ibc_journal.proofs.Whole.{nothing_yet, before_commit, with_commit, committed_all}
+use Rattle.ibc_journal.proofs.adding.append.Goals as goal
+
+pub returns-in_err-start-clause-crash : goal.returns-in_err-start-clause-crash
+returns-in_err-start-clause-crash g c = nothing_yet (state g.S.Store c.args.conn.now) (state g.S.Store c.start.new.conn) _ c.start.ensures.crash
+
+pub returns-in_err-insert_each-clause-crash : goal.returns-in_err-insert_each-clause-crash
+returns-in_err-insert_each-clause-crash g c =
+    let old = state g.S.Store c.args.conn.now in
+    let begun = state g.S.Store c.start.new.conn in
+    let full = state g.S.Store c.insert_each.new.conn in
+    before_commit old begun c.args.first (items_of c.args.entries.now) (λ clean. c.in_ok-start.ensures.begun clean) c.start.ensures.crash full c.insert_each.ensures.crash
+
+pub returns-in_err-commit-clause-crash : goal.returns-in_err-commit-clause-crash
+returns-in_err-commit-clause-crash g c =
+    let old = state g.S.Store c.args.conn.now in
+    let begun = state g.S.Store c.start.new.conn in
+    let full = state g.S.Store c.insert_each.new.conn in
+    let new = state g.S.Store c.commit.new.conn in
+    with_commit old begun c.args.first (items_of c.args.entries.now) (λ clean. c.in_ok-start.ensures.begun clean) c.start.ensures.crash full new c.in_ok-insert_each.ensures.put c.insert_each.ensures.crash c.commit.ensures.crash
+
+pub returns-clause-crash : goal.returns-clause-crash
+returns-clause-crash g c =
+    let old = state g.S.Store c.args.conn.now in
+    let begun = state g.S.Store c.start.new.conn in
+    let full = state g.S.Store c.insert_each.new.conn in
+    let new = state g.S.Store c.commit.new.conn in
+    with_commit old begun c.args.first (items_of c.args.entries.now) (λ clean. c.in_ok-start.ensures.begun clean) c.start.ensures.crash full new c.in_ok-insert_each.ensures.put c.insert_each.ensures.crash c.commit.ensures.crash
+
+pub returns-clause-committed : goal.returns-clause-committed
+returns-clause-committed g c =
+    let old = state g.S.Store c.args.conn.now in
+    let begun = state g.S.Store c.start.new.conn in
+    let full = state g.S.Store c.insert_each.new.conn in
+    let new = state g.S.Store c.commit.new.conn in
+    λ genesis items has at clean.
+    committed_all old begun c.args.first (items_of c.args.entries.now) (λ clean. c.in_ok-start.ensures.begun clean) c.start.ensures.crash full new c.in_ok-insert_each.ensures.put c.insert_each.ensures.crash c.commit.ensures.crash
+    (λ clean. c.in_ok-commit.ensures.committed clean) genesis items has at clean
+
+pub returns-clause-seen : goal.returns-clause-seen
+returns-clause-seen g c clean = let done = c.in_ok-commit.ensures.committed clean in done.now ∙ sym done.committed

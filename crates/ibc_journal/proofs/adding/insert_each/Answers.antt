@@ -1,0 +1,40 @@
+-- One entry behind another.
+use Rattle.std.proofs.Common.{◌≡◌, sym, ap, subst, ◌∙◌, arith}
+use Rattle.sqlite.specs.Held.{state}
+use Rattle.ibc_journal.specs.Entries.{items_of}
+use Rattle.ibc_journal.specs.Crashes.{PutsBehind}
+use Rattle.ibc_journal.proofs.Whole.{puts_nothing, puts_more, taken_more, taken_all, survives_same, inside_then, first_place}
+use Rattle.ibc_journal.proofs.adding.insert_each.Goals as goal
+
+pub loop-added-init : goal.loop-added-init
+loop-added-init g c =
+    let old = state g.S.Store c.args.conn.now in
+    record {
+      place = omega arith;
+      put = puts_nothing old c.args.first;
+      crash = survives_same old _;
+    }
+
+pub returns-in_err-insert-clause-crash : goal.returns-in_err-insert-clause-crash
+returns-in_err-insert-clause-crash g c =
+    let old = state g.S.Store c.args.conn.now in
+    let at = c.loop-added in
+    inside_then old (state g.S.Store at.conn) (state g.S.Store c.insert.new.conn) c.args.first at.place (items_of _) at.invariant.put (first_place _ c.args.entries.now at.added-index c.args.first at.place at.invariant.place c.loop-added-test.true) at.invariant.crash c.insert.ensures.crash
+
+pub loop-added-preserved : goal.loop-added-preserved
+loop-added-preserved g c =
+    let old = state g.S.Store c.args.conn.now in
+    let mid = state g.S.Store c.loop-added.conn in
+    let new = state g.S.Store c.insert.new.conn in
+    let at = c.loop-added in
+    record {
+      place = omega (arith, at.invariant.place);
+      put = subst (PutsBehind old new c.args.first) (sym (taken_more c.args.entries.now at.added-index c.added-item.result c.loop-added-test.true c.added-item.is)) (puts_more old mid new c.args.first at.place _ _ at.invariant.put c.in_ok-insert.ensures.put (omega (arith, c.insert.ensures.crash.clean)) (omega (arith, at.invariant.place)));
+      crash = inside_then old mid new c.args.first at.place _ at.invariant.put (omega (arith, at.invariant.place)) at.invariant.crash c.insert.ensures.crash;
+    }
+
+pub returns-clause-put : goal.returns-clause-put
+returns-clause-put g c =
+    let old = state g.S.Store c.args.conn.now in
+    let at = c.loop-added in
+    subst (PutsBehind old (state g.S.Store at.conn) c.args.first) (taken_all c.args.entries.now at.added-index c.loop-added-test.false) at.invariant.put

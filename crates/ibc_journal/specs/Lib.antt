@@ -1,0 +1,5 @@
+pub mod Tables
+pub mod Entries
+pub mod Digests
+pub mod Crashes
+pub mod Shown
