@@ -82,11 +82,7 @@ fn entry_of(event: Event, answer: EntryAnswer) -> Entry
 }
 
 // The bytes of an answer.
-fn answer_bytes(
-    alloc: Global,
-    reply: &Reply,
-    reading: &Option<Reading>,
-) -> Result<Bytes, Refusal>
+fn answer_bytes(alloc: Global, reply: &Reply, reading: &Option<Reading>) -> Result<Bytes, Refusal>
     ensures ok { IfOk result (λ bytes. Spells (answer_fields (record { reply = reply.now; reading = reading.now })) bytes) }
     ensures bad { IsErrOf result Refusal.BadMessage → ¬ IsTrue (have_form (answer_fields (record { reply = reply.now; reading = reading.now }))) }
     ensures errors { IfErr result (λ e. (e ≡ Refusal.BadMessage) ⊎ (e ≡ Refusal.NoMemory)) }

@@ -29,7 +29,6 @@ use Rattle.ibc_journal.proofs.Statements.{meta_text, meta_is, meta_plain, entrie
 use Rattle.ibc_journal.proofs.Parts.{cast_int, cast_null, went, same_value}
 use Rattle.ibc_journal.proofs.Transactions.{only_outside}
 
-
 module _ (sql : List ℕ) (schema : Schema) (table : Table) (command : command_of (understood schema sql) ≡ CreateTable) (text : statement_of sql (understood schema sql) ≡ sql) (plain : IsPlain (understood schema sql))
     (defined : table_defined_by sql ≡ Ok table) (uncounted : lacks_sequence (created schema table) ≡ false) where
   pub makes : (old new : State) (count : ℕ) → old.now.schema ≡ schema → Executes sql [] old new (Ok count)
@@ -43,8 +42,7 @@ module _ (sql : List ℕ) (schema : Schema) (table : Table) (command : command_o
       let same : made.table ≡ table = cc in
       let after : first.0.schema ≡ created schema table = made.is ∙ ap (λ s. created s made.table) has ∙ ap (created schema) same in
       let quiet : lacks_sequence first.0.schema ≡ false = ap lacks_sequence after ∙ uncounted in
-      let now : new.now ≡ first.0 = ap (λ (p : Tally × Database). p.1) (same_value all.2) ∙ same_value (rw quiet at first.2) in
-      (
+      let now : new.now ≡ first.0 = ap (λ (p : Tally × Database). p.1) (same_value all.2) ∙ same_value (rw quiet at first.2) in (
         ap (λ (d : Database). d.schema) now ∙ after,
         ap (λ (d : Database). d.trees (next_tree schema)) now ∙ subst (λ s. first.0.trees (next_tree s) ≡ []) has made.empty,
         subst (λ (d : Database). KeepsRows schema.tables old.now.trees d.trees) (sym now) (subst (λ (s : Schema). KeepsRows s.tables old.now.trees first.0.trees) has made.others),
@@ -93,14 +91,16 @@ puts_beginning old new genesis count has none_there none h =
     let trees : done.0.trees ≡ written.0 = ap (λ (it : Written). it.trees) (same_value counted.2) ∙ same_value counted.1 in
     let step = one_step journal_schema _ db written.0 (edit_of db meta [] Chosen 0 given.0) refl written.1 in
     let edit : edited db (edit_of db meta [] Chosen 0 given.0) ≡ beginning_row genesis ∷ [] =
-        ap (λ all. edited db (edit_of db meta [] Chosen 0 all)) given.1.1 ∙ ap (λ row. put_row (with_rowid Chosen (db 0) row) (db 0)) (beginning_row_is genesis) ∙ ap (put_row (beginning_row genesis)) none_there in
-    (record {
-      schema = ap (λ (d : Database). d.schema) now;
-      rows = record {
-        beginning = ap (λ (d : Database). d.trees 0) now ∙ ap (λ (t : Trees). t 0) trees ∙ step.rows ∙ edit;
-        entries = ap (λ (d : Database). d.trees 1) now ∙ ap (λ (t : Trees). t 1) trees ∙ step.others 1 one≢zero tt ∙ none;
-      };
-    }, λ inside. record { inside = w.shown.mode ∙ inside; committed = rw inside at w.shown.committed_is })
+    ap (λ all. edited db (edit_of db meta [] Chosen 0 all)) given.1.1 ∙ ap (λ row. put_row (with_rowid Chosen (db 0) row) (db 0)) (beginning_row_is genesis) ∙ ap (put_row (beginning_row genesis)) none_there in (
+      record {
+        schema = ap (λ (d : Database). d.schema) now;
+        rows = record {
+          beginning = ap (λ (d : Database). d.trees 0) now ∙ ap (λ (t : Trees). t 0) trees ∙ step.rows ∙ edit;
+          entries = ap (λ (d : Database). d.trees 1) now ∙ ap (λ (t : Trees). t 1) trees ∙ step.others 1 one≢zero tt ∙ none;
+        };
+      },
+      λ inside. record { inside = w.shown.mode ∙ inside; committed = rw inside at w.shown.committed_is },
+    )
 
 -- ---- as the calls say it
 

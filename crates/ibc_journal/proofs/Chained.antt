@@ -23,7 +23,7 @@ pub reads_more : (genesis : List ℕ) (items : List JournalItem) (old new : Curs
 reads_more genesis items old new it read there due is =
     let low = slice_get_within items old.place it there in
     let front : take (old.place + 1) items ≡ take old.place items ++ it ∷ [] =
-        take_more items old.place it low ∙ ap (λ x. take old.place items ++ x ∷ []) (get_or_from_slice_get items old.place it it there) in
+    take_more items old.place it low ∙ ap (λ x. take old.place items ++ x ∷ []) (get_or_from_slice_get items old.place it it there) in
     let due_here : it.digest ≡ digest_after (last_digest (first_digest genesis) (take old.place items)) it = due ∙ ap (λ d. digest_after d it) read.last in
     let chained = chained_more (first_digest genesis) (take old.place items) it read.chained due_here in
     let last = last_more (first_digest genesis) (take old.place items) it in

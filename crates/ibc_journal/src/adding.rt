@@ -78,6 +78,13 @@ fn insert<S: Alter>(
 {
     conn.execute(
         "INSERT INTO entries(place, chain, kind, event, answer, digest) VALUES (?1, ?2, ?3, ?4, ?5, ?6)",
-        params![place, entry.chain, entry.kind, &entry.event, &entry.answer, &entry.digest],
+        params![
+            place,
+            entry.chain,
+            entry.kind,
+            &entry.event,
+            &entry.answer,
+            &entry.digest
+        ],
     )
 }

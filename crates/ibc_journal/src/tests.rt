@@ -164,7 +164,11 @@ fn a_changed_row_is_found_at_its_place(rt: HostRuntime) -> Result<(), Fail> {
         "UPDATE entries SET digest = x'' WHERE place = 2",
         "UPDATE entries SET event = (SELECT event FROM entries WHERE place = 1) WHERE place = 2",
     ] {
-        assert_eq!(rt; judge_changed(&rt, change), Some(JournalFault::Damaged(2)), "{change}");
+        assert_eq!(rt;
+            judge_changed(&rt, change),
+            Some(JournalFault::Damaged(2)),
+            "{change}"
+        );
     }
     fs::remove_dir_all(&rt, "journal_changed")?;
     Ok(())
@@ -177,7 +181,10 @@ fn a_missing_row_is_found(rt: HostRuntime) -> Result<(), Fail> {
     assert_eq!(rt; fault, Some(JournalFault::Gap(2)));
     let fault = judge_changed(&rt, "DELETE FROM entries WHERE place = 0");
     assert_eq!(rt; fault, Some(JournalFault::Gap(0)));
-    assert_eq!(rt; judge_changed(&rt, "DELETE FROM entries WHERE place = 4"), None);
+    assert_eq!(rt;
+        judge_changed(&rt, "DELETE FROM entries WHERE place = 4"),
+        None
+    );
     fs::remove_dir_all(&rt, "journal_changed")?;
     Ok(())
 }
@@ -213,7 +220,11 @@ fn of_a_refused_call_nothing_is_left(rt: HostRuntime) -> Result<(), Fail> {
 fn other_files_are_told_apart(rt: HostRuntime) -> Result<(), Fail> {
     folder(&rt, "journal_other")?;
     assert_eq!(rt; looks(&rt, "journal_other/new.db")?, Looks::Empty);
-    make_by(&rt, "journal_other/t.db", "CREATE TABLE t (a INTEGER) STRICT")?;
+    make_by(
+        &rt,
+        "journal_other/t.db",
+        "CREATE TABLE t (a INTEGER) STRICT",
+    )?;
     assert_eq!(rt; looks(&rt, "journal_other/t.db")?, Looks::Other);
     make_by(
         &rt,
@@ -221,7 +232,11 @@ fn other_files_are_told_apart(rt: HostRuntime) -> Result<(), Fail> {
         "CREATE TABLE meta(format INTEGER PRIMARY KEY, genesis BLOB) STRICT; INSERT INTO meta VALUES (2, x'')",
     )?;
     assert_eq!(rt; looks(&rt, "journal_other/two.db")?, Looks::OfFormat(2));
-    make(&rt, "journal_other/view.db", "CREATE VIEW v AS SELECT place FROM entries")?;
+    make(
+        &rt,
+        "journal_other/view.db",
+        "CREATE VIEW v AS SELECT place FROM entries",
+    )?;
     assert_eq!(rt; looks(&rt, "journal_other/view.db")?, Looks::Other);
     fs::remove_dir_all(&rt, "journal_other")?;
     Ok(())
