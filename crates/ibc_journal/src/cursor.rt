@@ -71,7 +71,7 @@ pub fn audit<S: Alter>(conn: &mut Connection<S>, genesis: &[u8]) -> Result<Curso
     ensures crash { Survives (state S.Store conn.old) (state S.Store conn.new) (LeavesNothing (state S.Store conn.old)) }
 {
     let mut cursor = Cursor::new(genesis);
-    for _ in 0..u32::MAX {
+    'reading: for _ in 0..u32::MAX {
         match next(conn, &mut cursor)? {
             Some(entry) => drop(entry),
             None => {

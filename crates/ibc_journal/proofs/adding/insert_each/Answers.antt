@@ -1,5 +1,5 @@
 -- One entry behind another.
-use Rattle.std.proofs.Common.{◌≡◌, sym, ap, subst, ◌∙◌, arith}
+use Rattle.std.proofs.Common.{◌≡◌, take, sym, subst, arith}
 use Rattle.sqlite.specs.Held.{state}
 use Rattle.ibc_journal.specs.Entries.{items_of}
 use Rattle.ibc_journal.specs.Crashes.{PutsBehind}
@@ -19,18 +19,23 @@ pub returns-in_err-insert-clause-crash : goal.returns-in_err-insert-clause-crash
 returns-in_err-insert-clause-crash g c =
     let old = state g.S.Store c.args.conn.now in
     let at = c.loop-added in
-    inside_then old (state g.S.Store at.conn) (state g.S.Store c.insert.new.conn) c.args.first at.place (items_of _) at.invariant.put (first_place _ c.args.entries.now at.added-index c.args.first at.place at.invariant.place c.loop-added-test.true) at.invariant.crash c.insert.ensures.crash
+    let its = items_of (take at.added-index c.args.entries.now) in
+    let here = first_place c.args.entries.now at.added-index c.args.first at.place at.invariant.place c.loop-added-test.true in
+    inside_then old (state g.S.Store at.conn) (state g.S.Store c.insert.new.conn) c.args.first at.place its at.invariant.put here at.invariant.crash c.insert.ensures.crash
 
 pub loop-added-preserved : goal.loop-added-preserved
 loop-added-preserved g c =
     let old = state g.S.Store c.args.conn.now in
-    let mid = state g.S.Store c.loop-added.conn in
-    let new = state g.S.Store c.insert.new.conn in
     let at = c.loop-added in
+    let mid = state g.S.Store at.conn in
+    let new = state g.S.Store c.insert.new.conn in
+    let its = items_of (take at.added-index c.args.entries.now) in
+    let here = first_place c.args.entries.now at.added-index c.args.first at.place at.invariant.place c.loop-added-test.true in
+    let more = taken_more c.args.entries.now at.added-index c.added-item.result c.loop-added-test.true c.added-item.is in
     record {
       place = omega (arith, at.invariant.place);
-      put = subst (PutsBehind old new c.args.first) (sym (taken_more c.args.entries.now at.added-index c.added-item.result c.loop-added-test.true c.added-item.is)) (puts_more old mid new c.args.first at.place _ _ at.invariant.put c.in_ok-insert.ensures.put (omega (arith, c.insert.ensures.crash.clean)) (omega (arith, at.invariant.place)));
-      crash = inside_then old mid new c.args.first at.place _ at.invariant.put (omega (arith, at.invariant.place)) at.invariant.crash c.insert.ensures.crash;
+      put = subst (PutsBehind old new c.args.first) (sym more) (puts_more old mid new c.args.first at.place its _ at.invariant.put c.in_ok-insert.ensures.put c.insert.ensures.crash.clean here);
+      crash = inside_then old mid new c.args.first at.place its at.invariant.put here at.invariant.crash c.insert.ensures.crash;
     }
 
 pub returns-clause-put : goal.returns-clause-put
