@@ -7,3 +7,4 @@ pub mod Whole
 pub mod Filled
 pub mod Found
 pub mod Chained
+pub mod Pinned

@@ -1,6 +1,7 @@
 -- The digests of a journal. That of an entry is SHA-256 of the digest before it and of the entry, so each tells of all before it.
-use Rattle.std.specs.Prelude.{◌≡◌, ◌≤◌, ℕ, List, [], ◌∷◌, ◌++◌, length, take, slice_get, Some, ⊤}
+use Rattle.std.specs.Prelude.{◌≡◌, ◌≢◌, ◌⊎◌, ◌≤◌, ◌<◌, ◌^◌, ℕ, List, [], ◌∷◌, ◌++◌, length, take, slice_get, Some, ⊤}
 use Rattle.std.specs.Int.{w32, w64, to_be_bytes}
+use Rattle.std.specs.List.{AllByRecursion}
 use Rattle.sha2.specs.Sha256.{sha256}
 use Rattle.ibc_journal.specs.Tables.{JournalItem, format}
 use Rattle.ibc_journal.specs.declared.cursor.Cursor.{Cursor}
@@ -48,3 +49,22 @@ IsDamagedAt items cursor =
 abbrev pub IsFirstDamage : List ℕ → List JournalItem → ℕ → Type 0
 IsFirstDamage genesis items place =
     (cursor : Cursor) × HasReadTo genesis items cursor × (cursor.place ≡ place) × IsDamagedAt items cursor
+
+-- ---- what digests tell
+
+-- two different texts have one digest
+abbrev pub HasClash : Type 0
+HasClash = (x : List ℕ) × (y : List ℕ) × (x ≢ y) × (sha256 x ≡ sha256 y)
+
+-- the numbers of an entry have their range
+pub record FitsItsRow (it : JournalItem) : Type 0 where
+  pub chain : it.chain < 2 ^ 32
+  pub kind : it.kind < 2 ^ 32
+  pub event : length it.event < 2 ^ 64
+
+-- Two journals that began alike, with as many entries and the same last digest, have the same entries, or SHA-256 has a clash.
+abbrev pub LastDigestTellsAll : Type 0
+LastDigestTellsAll =
+    (genesis : List ℕ) (a b : List JournalItem) → AllByRecursion FitsItsRow a → AllByRecursion FitsItsRow b
+    → AreChained (first_digest genesis) a → AreChained (first_digest genesis) b → length a ≡ length b
+    → last_digest (first_digest genesis) a ≡ last_digest (first_digest genesis) b → (a ≡ b) ⊎ HasClash

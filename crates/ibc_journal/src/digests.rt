@@ -2,7 +2,7 @@
 
 ghost use Rattle.std.specs.Prelude.{◌≡◌, IfOk};
 ghost use Rattle.ibc_journal.specs.Entries.{item};
-ghost use Rattle.ibc_journal.specs.Digests.{first_digest, digest_after};
+ghost use Rattle.ibc_journal.specs.Digests.{first_digest, digest_after, LastDigestTellsAll};
 
 use crate::JournalEntry;
 use sha2::{Digest, Sha256};
@@ -61,3 +61,9 @@ pub fn entry_behind(
     entry.digest.extend_from_slice(due.as_slice())?;
     Ok(entry)
 }
+
+/// Two journals that began alike, with as many entries and the same last digest, have the same entries, or two different texts have one
+/// digest.
+pub fn lemma_the_last_digest_tells_all()
+    ensures { LastDigestTellsAll }
+{}

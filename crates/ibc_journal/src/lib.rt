@@ -13,7 +13,9 @@ mod looking;
 pub use adding::append;
 pub use beginning::begin;
 pub use cursor::{Cursor, audit, end_at, next};
-pub use digests::{FORMAT, digest_after, entry_behind, first_digest};
+pub use digests::{
+    FORMAT, digest_after, entry_behind, first_digest, lemma_the_last_digest_tells_all,
+};
 pub use entry::JournalEntry;
 pub use fault::JournalFault;
 pub use looking::{Beginning, Looks, beginning_of, look};
