@@ -43,7 +43,7 @@ row_is place it =
     ∙ ap (λ (v : Value). Int (pos place) ∷ Null ∷ v ∷ cast Integer (Int (pos it.kind)) ∷ blobs) (cast_int (pos it.chain))
     ∙ ap (λ (v : Value). Int (pos place) ∷ Null ∷ Int (pos it.chain) ∷ v ∷ blobs) (cast_int (pos it.kind))
 
-zero≢one : (0 ≡ 1) → ⊥
+zero≢one : ◌≡◌ {A = ℕ} 0 1 → ⊥
 zero≢one e = absurd cc
 
 -- what the statement makes of a journal

@@ -72,7 +72,7 @@ beginning_row_is genesis =
     ap (λ (v : Value). v ∷ cast Integer Null ∷ Blob genesis ∷ []) (cast_int (pos 1))
     ∙ ap (λ (v : Value). Int (pos 1) ∷ v ∷ Blob genesis ∷ []) cast_null
 
-one≢zero : (1 ≡ 0) → ⊥
+one≢zero : ◌≡◌ {A = ℕ} 1 0 → ⊥
 one≢zero e = absurd cc
 
 pub puts_beginning : (old new : State) (genesis : List ℕ) (count : ℕ) → old.now.schema ≡ journal_schema → old.now.trees 0 ≡ [] → old.now.trees 1 ≡ []

@@ -2,9 +2,14 @@
 use Rattle.std.proofs.Common.{◌≡◌, ◌⊎◌, inl, inr, ℕ, zero, suc, ◌+◌, ◌<◌, ◌≤◌, List, [], ◌∷◌, ◌++◌, length, get_or, take, slice_get, Option, Some, None, Result, Ok, Err, refl, sym, ap, subst, ◌∙◌, arith}
 use Rattle.std.proofs.lemmas.List.{take_more}
 use Rattle.std.proofs.lemmas.Option.{slice_get_within, get_or_from_slice_get}
+use Rattle.std.specs.Prelude.{option_map}
 use Rattle.ibc_journal.specs.Tables.{JournalItem}
-use Rattle.ibc_journal.specs.Digests.{first_digest, digest_after, AreChained, last_digest, HasReadTo, HasReadAll}
+use Rattle.ibc_journal.specs.Entries.{item}
+use Rattle.ibc_journal.specs.Digests.{first_digest, digest_after, AreChained, last_digest, HasReadTo, HasReadAll, IsDamagedAt, IsFirstDamage}
 use Rattle.ibc_journal.specs.declared.cursor.Cursor.{Cursor}
+use Rattle.ibc_journal.specs.declared.entry.JournalEntry.{JournalEntry}
+use Rattle.ibc_journal.specs.declared.fault.JournalFault.{JournalFault}
+use Rattle.ibc_journal.specs.declared.fault.JournalFault.TheVariants.{Damaged, Full}
 
 chained_more : (before : List ℕ) (its : List JournalItem) (it : JournalItem) → AreChained before its → it.digest ≡ digest_after (last_digest before its) it → AreChained before (its ++ it ∷ [])
 chained_more before [] it chained due = (due, tt)
@@ -41,3 +46,21 @@ reads_all genesis items cursor read none = (read, end items cursor.place read.wi
     end [] k within none = omega arith
     end (i ∷ its) zero within none = absurd cc
     end (i ∷ its) (suc k) within none = ap suc (end its k (omega (arith, within)) none)
+
+-- an entry that isn't passed over is damaged
+pub damaged_at : (items : List JournalItem) (cursor : Cursor) (it : JournalItem) (fault : JournalFault) (place : ℕ) → slice_get items cursor.place ≡ Some it
+    → (fault ≡ Full) ⊎ ((fault ≡ Damaged cursor.place) × (it.digest ≡ digest_after cursor.last it → ⊥)) → ◌≡◌ {A = Result (Option JournalEntry) JournalFault} (Err fault) (Err (Damaged place))
+    → (place ≡ cursor.place) × IsDamagedAt items cursor
+damaged_at items cursor it fault place there (inl full) is = absurd cc
+damaged_at items cursor it fault place there (inr bad) is = let same : place ≡ cursor.place = (let e = bad.0 in cc) in (same, (it, there, bad.1))
+
+-- where no entry was found, all are read
+pub reads_end : (genesis : List ℕ) (items : List JournalItem) (old new : Cursor) (found : Option JournalEntry) → found ≡ None → option_map item found ≡ slice_get items old.place
+    → HasReadTo genesis items new → new ≡ old → HasReadAll genesis items new
+reads_end genesis items old new found none is read same =
+    reads_all genesis items new read (ap (λ (c : Cursor). slice_get items c.place) same ∙ sym is ∙ ap (option_map item) none)
+
+-- what stops the reader is the first damage
+pub first_damage : (genesis : List ℕ) (items : List JournalItem) (cursor : Cursor) (place : ℕ) → HasReadTo genesis items cursor → (place ≡ cursor.place) × IsDamagedAt items cursor
+    → IsFirstDamage genesis items place
+first_damage genesis items cursor place read damaged = (cursor, read, sym damaged.0, damaged.1)

@@ -53,12 +53,12 @@ module _ (old begun : State) (genesis : List ℕ) (begins : HasCleanDisk begun �
   -- before the commit nothing is left of it
   pub before_commit : (full : State) → Survives begun full (λ _. begun.now.schema ≡ no_schema → ¬ IsTrue begun.in_transaction) → Survives old full (LeavesBegun old genesis)
   before_commit full fill =
-      survives_then old begun full _ _ _ (λ clean db none. absurd none) (λ clean db h. λ has. let calm = omega (arith, fill.clean, clean) in absurd (h (begun_empty calm has) (begins calm).inside)) quiet fill
+      survives_then old begun full _ _ _ (λ clean db none. absurd none) (λ clean db h. λ has. let calm : HasCleanDisk begun = omega (arith, fill.clean, clean) in absurd (h (begun_empty calm has) (begins calm).inside)) quiet fill
 
   module _ (full new : State) (made : HasCleanDisk full → Fills begun full genesis) (fill : Survives begun full (λ _. begun.now.schema ≡ no_schema → ¬ IsTrue begun.in_transaction)) (all : Survives full new (λ trees. trees ≡ full.now.trees)) where
     its_journal : HasCleanDisk new → old.now.schema ≡ no_schema → IsJournal full.now genesis []
     its_journal clean has =
-        let calm = omega (arith, fill.clean, all.clean, clean) in
+        let calm : HasCleanDisk begun = omega (arith, fill.clean, all.clean, clean) in
         (made (omega (arith, all.clean, clean)) (begun_empty calm has) (begins calm).inside).0
 
     -- the commit leaves all of it

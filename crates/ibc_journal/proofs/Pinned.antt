@@ -49,8 +49,8 @@ parts d e x y long fx fy same =
 
 same_or_clash : (x y : List ℕ) → sha256 x ≡ sha256 y → (x ≡ y) ⊎ HasClash
 same_or_clash x y same = elim (cases_Bool (bytes_eq x y)) [
-  | inl yes ↦ inl ((bytes_eq-Decides x y).0 yes)
-  | inr no ↦ inr (x, y, (λ e. false≢true (sym no ∙ (bytes_eq-Decides x y).1 e)), same)
+  | inl equal ↦ inl ((bytes_eq-Decides x y).0 equal)
+  | inr other ↦ inr (x, y, (λ e. false≢true (sym other ∙ (bytes_eq-Decides x y).1 e)), same)
 ]
 
 pinned : (d e : List ℕ) (a b : List JournalItem) → AllByRecursion FitsItsRow a → AllByRecursion FitsItsRow b → length d ≡ 32 → length e ≡ 32 → AreChained d a → AreChained e b → length a ≡ length b

@@ -5,12 +5,12 @@ use Rattle.std.proofs.lemmas.List.{take_more, take_all, map-append, length-take-
 use Rattle.std.specs.Prelude.{IsTrue}
 use Rattle.sqlite.specs.Tree.{Trees}
 use Rattle.sqlite.specs.View.{doubt}
-use Rattle.sqlite.specs.State.{State, HasCleanDisk, Survives}
+use Rattle.sqlite.specs.State.{State, HasCleanDisk, IsUnchanged, Survives}
 use Rattle.sqlite.proofs.StateLemmas.{survives_then, survives_weaker}
 use Rattle.ibc_journal.specs.declared.entry.JournalEntry.{JournalEntry}
 use Rattle.ibc_journal.specs.Tables.{JournalItem, HasRows, IsJournal}
 use Rattle.ibc_journal.specs.Entries.{item, items_of}
-use Rattle.ibc_journal.specs.Crashes.{HasBegun, GoesOn, HasCommitted, PutsBehind, LeavesWith, LeavesOutside}
+use Rattle.ibc_journal.specs.Crashes.{HasBegun, GoesOn, HasCommitted, PutsBehind, LeavesWith, LeavesOutside, LeavesNothing}
 
 -- ---- lists that are gone through
 
@@ -99,3 +99,21 @@ module _ (old begun : State) (first : ℕ) (its : List JournalItem) (begins : Ha
         → HasCleanDisk new → IsJournal new.committed genesis (items ++ its)
     committed_all commits genesis items has at clean =
         subst (λ d. IsJournal d genesis (items ++ its)) (sym (commits clean).committed) (its_journal clean genesis items has at).0
+
+-- ---- reading
+
+-- what is a journal before stays that journal
+abbrev pub KeepsJournals : State → State → Type 0
+KeepsJournals old now = (genesis : List ℕ) (items : List JournalItem) → IsJournal old.now genesis items → HasCleanDisk now → IsJournal now.now genesis items
+
+pub keeps_on : (old mid new : State) → KeepsJournals old mid → doubt mid.is_clean ≤ doubt new.is_clean
+    → ((genesis : List ℕ) (items : List JournalItem) → IsJournal mid.now genesis items → HasCleanDisk new → IsUnchanged mid new) → KeepsJournals old new
+keeps_on old mid new kept calmer same genesis items has clean =
+    let here = kept genesis items has (omega (arith, calmer, clean)) in
+    subst (λ d. IsJournal d genesis items) (sym (same genesis items here clean).0.now_is) here
+
+-- one more call that only reads leaves nothing either
+pub nothing_then : (old mid new : State) → KeepsJournals old mid
+    → Survives old mid (LeavesNothing old) → Survives mid new (LeavesNothing mid) → Survives old new (LeavesNothing old)
+nothing_then old mid new kept one two =
+    survives_then old mid new _ _ _ (λ clean db h. h) (λ clean db h. λ genesis items has. h genesis items (kept genesis items has (omega (arith, two.clean, clean)))) one two

@@ -1,6 +1,6 @@
 //! A journal is read from its first entry on, and each digest is compared with the one that is due.
 
-ghost use Rattle.std.specs.Prelude.{◌≡◌, ◌≢◌, ◌⊎◌, ◌+◌, ◌^◌, Option, List, ℕ, Err, slice_get, option_map, IfOk, IfErr, OnOk, OnErr};
+ghost use Rattle.std.specs.Prelude.{◌≡◌, ◌≢◌, ◌⊎◌, ◌+◌, ◌^◌, Option, None, List, ℕ, Ok, Err, slice_get, option_map, IfOk, IfErr, IfSome, OnOk, OnErr};
 ghost use Rattle.sqlite.specs.State.{HasCleanDisk, IsUnchanged, Survives};
 ghost use Rattle.sqlite.specs.Held.{state};
 ghost use Rattle.ibc_journal.specs.Tables.{JournalItem, IsJournal};
@@ -41,6 +41,8 @@ pub fn next<S: Alter>(
 ) -> Result<Option<JournalEntry>, JournalFault>
     ensures entry { (genesis : List ℕ) (items : List JournalItem) → IsJournal (state S.Store conn.old).now genesis items → HasReadTo genesis items cursor.old
         → HasCleanDisk (state S.Store conn.new) → IfOk result (λ found. (option_map item found ≡ slice_get items cursor.old.place) × HasReadTo genesis items cursor.new) }
+    ensures more { IfOk result (λ found. IfSome found (λ _. cursor.new.place ≡ cursor.old.place + 1)) }
+    ensures end { result ≡ Ok None → cursor.new ≡ cursor.old }
     ensures damaged { (genesis : List ℕ) (items : List JournalItem) → IsJournal (state S.Store conn.old).now genesis items
         → HasCleanDisk (state S.Store conn.new) → (place : ℕ) → result ≡ Err (Damaged place) → (place ≡ cursor.old.place) × IsDamagedAt items cursor.old }
     ensures stays { OnErr result (cursor.new ≡ cursor.old) }
