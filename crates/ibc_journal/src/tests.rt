@@ -7,55 +7,51 @@ use crate::{
 use sqlite::{Alter, Connection, Error, params};
 use std::alloc::Global;
 use std::fs;
-use std::process::Abort;
 use std::test::Fail;
 
 const GENESIS: &[u8] = b"{\"capacity\":64,\"chains\":[]}";
 
-// The bytes of a number that is easy to see.
-fn bytes(rt: &impl Abort, alloc: Global, byte: u8) -> Vec<u8> {
-    Vec::from_slice(alloc, [byte; 5].as_slice()).expect(rt, "memory")
-}
-
 // An entry behind one with this digest.
-fn entry(rt: &impl Abort, alloc: Global, before: &[u8; 32], byte: u8) -> JournalEntry {
-    let event = bytes(rt, alloc, byte);
-    let answer = bytes(rt, alloc, byte ^ 255);
-    entry_behind(alloc, before, 1, 0, event, answer).expect(rt, "memory")
+fn entry(alloc: Global, before: &[u8; 32], byte: u8) -> Result<JournalEntry, Error> {
+    let event = Vec::from_slice(alloc, [byte; 5].as_slice())?;
+    let answer = Vec::from_slice(alloc, [byte ^ 255; 5].as_slice())?;
+    Ok(entry_behind(alloc, before, 1, 0, event, answer)?)
 }
 
 // The digest of an entry.
-fn digest_of(rt: &impl Abort, entry: &JournalEntry) -> [u8; 32] {
-    <[u8; 32]>::try_from(entry.digest.as_slice())
-        .ok()
-        .expect(rt, "32 bytes")
+fn digest_of(entry: &JournalEntry) -> Result<[u8; 32], Error> {
+    <[u8; 32]>::try_from(entry.digest.as_slice()).map_err(|_| Error::InvalidQuery)
 }
 
 // Entries behind one another, of which the first has this digest before it.
-fn entries(rt: &impl Abort, alloc: Global, before: [u8; 32], bytes: &[u8]) -> Vec<JournalEntry> {
+fn entries(alloc: Global, before: [u8; 32], bytes: &[u8]) -> Result<Vec<JournalEntry>, Error> {
     let mut entries = Vec::new(alloc);
     let mut before = before;
     for byte in bytes {
-        let entry = entry(rt, alloc, &before, *byte);
-        before = digest_of(rt, &entry);
-        entries.push(entry).ok().expect(rt, "memory");
+        let entry = entry(alloc, &before, *byte)?;
+        before = digest_of(&entry)?;
+        entries.push(entry)?;
     }
-    entries
+    Ok(entries)
 }
 
 // A journal with five entries, put in by two calls.
-fn fill<S: Alter>(rt: &impl Abort, alloc: Global, conn: &mut Connection<S>) -> Result<(), Error> {
+fn fill<S: Alter>(alloc: Global, conn: &mut Connection<S>) -> Result<(), Error> {
     begin(conn, GENESIS)?;
-    let all = entries(rt, alloc, first_digest(GENESIS), &[10, 20, 30, 40, 50]);
-    let (front, back) = all.as_slice().split_at(2);
-    append(conn, 0, front)?;
-    append(conn, 2, back)
+    let first = entries(alloc, first_digest(GENESIS), &[10, 20])?;
+    append(conn, 0, first.as_slice())?;
+    let before = match first.as_slice() {
+        [.., last] => digest_of(last)?,
+        [] => first_digest(GENESIS),
+    };
+    let others = entries(alloc, before, &[30, 40, 50])?;
+    append(conn, 2, others.as_slice())
 }
 
 // Makes the file of a journal with five entries, or of what a text of SQL makes of it.
 fn make(rt: &HostRuntime, path: &str, change: &str) -> Result<(), Error> {
     let mut conn = Connection::open(rt, path)?;
-    fill(rt, rt.alloc(), &mut conn)?;
+    fill(rt.alloc(), &mut conn)?;
     conn.execute_batch(change)?;
     conn.close()
 }
@@ -103,12 +99,13 @@ const SECOND: [u8; 32] = [
 ];
 
 #[test]
-fn digests_are_those_of_another_program(rt: HostRuntime) {
+fn digests_are_those_of_another_program(rt: HostRuntime) -> Result<(), Fail> {
     let alloc = rt.alloc();
     assert!(rt; first_digest(GENESIS) == FIRST);
-    let entry = entry(&rt, alloc, &FIRST, 10);
+    let entry = entry(alloc, &FIRST, 10)?;
     assert_eq!(rt; entry.digest.as_slice(), SECOND.as_slice());
     drop(entry);
+    Ok(())
 }
 
 // An empty folder.
@@ -119,30 +116,24 @@ fn folder(rt: &HostRuntime, name: &str) -> Result<(), Fail> {
 }
 
 // The first bytes of the events of a journal, one for each entry.
-fn first_bytes<S: Alter>(
-    rt: &impl Abort,
-    alloc: Global,
-    conn: &mut Connection<S>,
-) -> Result<Vec<u8>, JournalFault> {
+fn first_bytes<S: Alter>(alloc: Global, conn: &mut Connection<S>) -> Result<Vec<u8>, Error> {
     let mut cursor = Cursor::new(GENESIS);
     let mut bytes = Vec::new(alloc);
-    for _ in 0..100 {
-        let Some(entry) = next(conn, &mut cursor)? else {
+    for _turn in 0..100 {
+        let Ok(Some(entry)) = next(conn, &mut cursor) else {
             return Ok(bytes);
         };
-        bytes
-            .push(entry.event.as_slice()[0])
-            .ok()
-            .expect(rt, "memory");
+        let first = entry.event.as_slice().first().copied().unwrap_or(0);
         drop(entry);
+        bytes.push(first)?;
     }
     Ok(bytes)
 }
 
 // The first bytes of the events of the journal of a file.
-fn read_back(rt: &HostRuntime, path: &str) -> Result<Vec<u8>, JournalFault> {
+fn read_back(rt: &HostRuntime, path: &str) -> Result<Vec<u8>, Error> {
     let mut conn = Connection::open(rt, path)?;
-    first_bytes(rt, rt.alloc(), &mut conn)
+    first_bytes(rt.alloc(), &mut conn)
 }
 
 #[test]
@@ -156,40 +147,54 @@ fn a_journal_is_read_back(rt: HostRuntime) -> Result<(), Fail> {
     assert_eq!(rt; beginning.genesis.as_slice(), GENESIS);
     drop(beginning);
     assert_eq!(rt; judge(&rt, path).ok(), Some(5));
-    let bytes = read_back(&rt, path).ok().expect(&rt, "a journal");
-    assert_eq!(rt; bytes.as_slice(), &[10u8, 20, 30, 40, 50]);
+    let bytes = read_back(&rt, path)?;
+    assert_eq!(rt; bytes.as_slice(), [10u8, 20, 30, 40, 50].as_slice());
     drop(bytes);
     fs::remove_dir_all(&rt, "journal_read_back")?;
     Ok(())
 }
 
-// What an audit says of a journal after a change by SQL.
-fn judge_changed(rt: &HostRuntime, change: &str) -> Option<JournalFault> {
-    let path = "journal_changed/a.db";
-    let _ = fs::remove_file(rt, path);
-    let _ = fs::remove_file(rt, "journal_changed/a.db-wal");
-    match make(rt, path, change) {
-        Ok(()) => judge(rt, path).err(),
-        Err(_) => None,
-    }
+// What an audit says of a journal after a change by SQL. Each change has a new file.
+fn judge_changed(
+    rt: &HostRuntime,
+    path: &str,
+    change: &str,
+) -> Result<Option<JournalFault>, Error> {
+    make(rt, path, change)?;
+    Ok(judge(rt, path).err())
 }
 
 #[test]
 fn a_changed_row_is_found_at_its_place(rt: HostRuntime) -> Result<(), Fail> {
     folder(&rt, "journal_changed")?;
-    for change in [
-        "UPDATE entries SET event = x'1e1e1e1e1f' WHERE place = 2",
-        "UPDATE entries SET answer = x'e1e1e1e1e0' WHERE place = 2",
-        "UPDATE entries SET chain = 0 WHERE place = 2",
-        "UPDATE entries SET kind = 1 WHERE place = 2",
-        "UPDATE entries SET digest = x'' WHERE place = 2",
-        "UPDATE entries SET event = (SELECT event FROM entries WHERE place = 1) WHERE place = 2",
+    for (path, change) in [
+        (
+            "journal_changed/a.db",
+            "UPDATE entries SET event = x'1e1e1e1e1f' WHERE place = 2",
+        ),
+        (
+            "journal_changed/b.db",
+            "UPDATE entries SET answer = x'e1e1e1e1e0' WHERE place = 2",
+        ),
+        (
+            "journal_changed/c.db",
+            "UPDATE entries SET chain = 0 WHERE place = 2",
+        ),
+        (
+            "journal_changed/d.db",
+            "UPDATE entries SET kind = 1 WHERE place = 2",
+        ),
+        (
+            "journal_changed/e.db",
+            "UPDATE entries SET digest = x'' WHERE place = 2",
+        ),
+        (
+            "journal_changed/f.db",
+            "UPDATE entries SET event = x'1414141414', answer = x'ebebebebeb' WHERE place = 2",
+        ),
     ] {
-        assert_eq!(rt;
-            judge_changed(&rt, change),
-            Some(JournalFault::Damaged(2)),
-            "{change}"
-        );
+        let fault = judge_changed(&rt, path, change)?;
+        assert_eq!(rt; fault, Some(JournalFault::Damaged(2)), "{change}");
     }
     fs::remove_dir_all(&rt, "journal_changed")?;
     Ok(())
@@ -197,33 +202,30 @@ fn a_changed_row_is_found_at_its_place(rt: HostRuntime) -> Result<(), Fail> {
 
 #[test]
 fn a_missing_row_is_found(rt: HostRuntime) -> Result<(), Fail> {
-    folder(&rt, "journal_changed")?;
-    let fault = judge_changed(&rt, "DELETE FROM entries WHERE place = 2");
+    folder(&rt, "journal_missing")?;
+    let path = "journal_missing/a.db";
+    let fault = judge_changed(&rt, path, "DELETE FROM entries WHERE place = 2")?;
     assert_eq!(rt; fault, Some(JournalFault::Gap(2)));
-    let fault = judge_changed(&rt, "DELETE FROM entries WHERE place = 0");
+    let path = "journal_missing/b.db";
+    let fault = judge_changed(&rt, path, "DELETE FROM entries WHERE place = 0")?;
     assert_eq!(rt; fault, Some(JournalFault::Gap(0)));
-    assert_eq!(rt;
-        judge_changed(&rt, "DELETE FROM entries WHERE place = 4"),
-        None
-    );
-    fs::remove_dir_all(&rt, "journal_changed")?;
+    let path = "journal_missing/c.db";
+    let fault = judge_changed(&rt, path, "DELETE FROM entries WHERE place = 4")?;
+    assert_eq!(rt; fault, None);
+    fs::remove_dir_all(&rt, "journal_missing")?;
     Ok(())
 }
 
 // Puts an entry where there is one.
-fn put_again<S: Alter>(
-    rt: &impl Abort,
-    alloc: Global,
-    conn: &mut Connection<S>,
-) -> Result<(), Error> {
-    let all = entries(rt, alloc, first_digest(GENESIS), &[60, 70]);
+fn put_again<S: Alter>(alloc: Global, conn: &mut Connection<S>) -> Result<(), Error> {
+    let all = entries(alloc, first_digest(GENESIS), &[60, 70])?;
     append(conn, 4, all.as_slice())
 }
 
 // Opens a journal and puts an entry where there is one.
 fn put_twice(rt: &HostRuntime, path: &str) -> Result<(), Error> {
     let mut conn = Connection::open(rt, path)?;
-    put_again(rt, rt.alloc(), &mut conn)
+    put_again(rt.alloc(), &mut conn)
 }
 
 #[test]
