@@ -1,5 +1,6 @@
 -- Entries that are kept as bytes.
 use Rattle.std.proofs.Common.{◌≡◌, ℕ, [], ◌∷◌, refl, sym, ap, subst, ◌∙◌}
+use Rattle.ibc_ids.specs.Texts.{Text}
 use Rattle.ibc_wire.specs.Fields.{be64, Spells}
 use Rattle.ibc_wire.specs.Lawful.{IsReader}
 use Rattle.ibc_wire.specs.Messages.{message_fields}
@@ -26,6 +27,11 @@ time_reader =
     first _ (λ t. t.next_time) n8_reader λ time.
     done _ (tt, refl) (λ t p. λ i. record { next_time = p.1 i })
     )
+
+-- bytes that spell no time are of no block
+pub no_block : (kind : ℕ) (bytes : Text) → kind ≡ 0 → ((t : NextTime) → ¬ Spells (be64 t.next_time ∷ []) bytes) → (e : Event) → kind ≡ event_kind e → ¬ Spells (event_fields e) bytes
+no_block kind bytes is_zero none (event.Block c n) same spelled = none (record { next_time = n }) spelled
+no_block kind bytes is_zero none (event.Message c m) same spelled = absurd cc
 
 same_event : (a b : Event) (text : _) → chain_of a ≡ chain_of b → event_kind a ≡ event_kind b → Spells (event_fields a) text → Spells (event_fields b) text → a ≡ b
 same_event (event.Message c m) (event.Message d n) text chains kinds s t = λ i. event.Message (chains i) (one_value message_reader m n text s t i)

@@ -110,8 +110,11 @@ fn read_effect(alloc: Global, bytes: &[u8]) -> Result<(Effect, &[u8]), Refusal>
             Ok((Effect::Ack(ack), rest))
         }
         [7, rest @ ..] => {
-            let ((height, root), rest) = read_block(rest)?;
-            Ok((Effect::Block(height, root), rest))
+            // no `?` here: the borrow checker has no rule for one beside a root
+            match read_block(rest) {
+                Ok(((height, root), rest)) => Ok((Effect::Block(height, root), rest)),
+                Err(refusal) => Err(refusal),
+            }
         }
         _ => Err(Refusal::BadMessage),
     }
@@ -122,8 +125,10 @@ fn read_block(bytes: &[u8]) -> Result<((u64, Root), &[u8]), Refusal>
     ensures { Gives (λ x. (x.0, x.1.now)) result (block_at_front bytes.now) }
 {
     let (height, rest) = read_n8(bytes)?;
-    let (root, rest) = read_root(rest)?;
-    Ok(((height, root), rest))
+    match read_root(rest) {
+        Ok((root, rest)) => Ok(((height, root), rest)),
+        Err(refusal) => Err(refusal),
+    }
 }
 
 // What was read, if anything was.
@@ -175,12 +180,17 @@ pub(crate) fn write_reply(out: &mut Vec<u8>, reply: &Reply) -> Result<(), Refusa
     ensures { Writes (reply_fields reply.now) out.old.items result out.new.items }
 {
     match reply {
-        Reply::Ok(effect) => {
-            write_u8(out, 1)?;
-            write_effect(out, effect)
-        }
+        Reply::Ok(effect) => write_accepted(out, effect),
         Reply::No(refusal) => write_pair(out, 2, refusal.number()),
     }
+}
+
+// Writes what an accepted event gave, behind a 1.
+fn write_accepted(out: &mut Vec<u8>, effect: &Effect) -> Result<(), Refusal>
+    ensures { Writes (one_byte 1 ∷ effect_fields effect.now) out.old.items result out.new.items }
+{
+    write_u8(out, 1)?;
+    write_effect(out, effect)
 }
 
 // Writes what an accepted event gave.
@@ -192,10 +202,7 @@ fn write_effect(out: &mut Vec<u8>, effect: &Effect) -> Result<(), Refusal>
         Effect::Client(id) => write_named(out, 2, id),
         Effect::Connection(id) => write_named(out, 3, id),
         Effect::Channel(id) => write_named(out, 4, id),
-        Effect::Sent(sequence) => {
-            write_u8(out, 5)?;
-            write_n8(out, *sequence)
-        }
+        Effect::Sent(sequence) => write_sent(out, *sequence),
         Effect::Ack(ack) => write_ack(out, ack),
         Effect::Block(height, root) => write_block(out, *height, root),
     }
@@ -215,6 +222,14 @@ fn write_named<K: NameKind>(out: &mut Vec<u8>, tag: u8, name: &Name<K>) -> Resul
 {
     write_u8(out, tag)?;
     write_name(out, name)
+}
+
+// Writes a sequence behind its tag.
+fn write_sent(out: &mut Vec<u8>, sequence: u64) -> Result<(), Refusal>
+    ensures { Writes (one_byte 5 ∷ be64 sequence ∷ []) out.old.items result out.new.items }
+{
+    write_u8(out, 5)?;
+    write_n8(out, sequence)
 }
 
 // Writes an acknowledgement behind its tag.
@@ -240,12 +255,17 @@ pub(crate) fn write_reading(out: &mut Vec<u8>, reading: &Option<Reading>) -> Res
 {
     match reading {
         None => write_u8(out, 0),
-        Some(seen) => {
-            write_u8(out, 1)?;
-            write_n8(out, seen.published)?;
-            write_u8(out, row_number(seen.row_was_there))
-        }
+        Some(seen) => write_sight(out, seen),
     }
+}
+
+// Writes what was read, behind a 1.
+fn write_sight(out: &mut Vec<u8>, seen: &Reading) -> Result<(), Refusal>
+    ensures { Writes (one_byte 1 ∷ sight_fields seen.now) out.old.items result out.new.items }
+{
+    write_u8(out, 1)?;
+    write_n8(out, seen.published)?;
+    write_u8(out, row_number(seen.row_was_there))
 }
 
 // The number of what was seen of a row.
