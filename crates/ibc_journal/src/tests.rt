@@ -1,5 +1,7 @@
 //! Journals in files: read back, with changed and missing rows, and files that are none.
 
+ghost use Rattle.std.specs.Prelude.{◌<◌};
+
 use crate::{
     Beginning, Cursor, JournalEntry, JournalFault, Looks, append, audit, begin, beginning_of,
     entry_behind, first_digest, look, next,
@@ -35,17 +37,31 @@ fn entries(alloc: Global, before: [u8; 32], bytes: &[u8]) -> Result<Vec<JournalE
     Ok(entries)
 }
 
+// Puts few entries behind few.
+fn put<S: Alter>(
+    conn: &mut Connection<S>,
+    first: u32,
+    entries: &[JournalEntry],
+) -> Result<(), Error>
+    requires { first < 100 }
+{
+    if entries.len() > 100 {
+        return Err(Error::InvalidQuery);
+    }
+    append(conn, first, entries)
+}
+
 // A journal with five entries, put in by two calls.
 fn fill<S: Alter>(alloc: Global, conn: &mut Connection<S>) -> Result<(), Error> {
     begin(conn, GENESIS)?;
     let first = entries(alloc, first_digest(GENESIS), &[10, 20])?;
-    append(conn, 0, first.as_slice())?;
+    put(conn, 0, first.as_slice())?;
     let before = match first.as_slice() {
         [.., last] => digest_of(last)?,
         [] => first_digest(GENESIS),
     };
     let others = entries(alloc, before, &[30, 40, 50])?;
-    append(conn, 2, others.as_slice())
+    put(conn, 2, others.as_slice())
 }
 
 // Makes the file of a journal with five entries, or of what a text of SQL makes of it.
@@ -219,7 +235,7 @@ fn a_missing_row_is_found(rt: HostRuntime) -> Result<(), Fail> {
 // Puts an entry where there is one.
 fn put_again<S: Alter>(alloc: Global, conn: &mut Connection<S>) -> Result<(), Error> {
     let all = entries(alloc, first_digest(GENESIS), &[60, 70])?;
-    append(conn, 4, all.as_slice())
+    put(conn, 4, all.as_slice())
 }
 
 // Opens a journal and puts an entry where there is one.
@@ -267,7 +283,12 @@ fn other_files_are_told_apart(rt: HostRuntime) -> Result<(), Fail> {
 
 // The place at which bytes stand in a file.
 fn find(text: &[u8], wanted: &[u8]) -> Option<usize> {
-    text.windows(wanted.len()).position(|part| part == wanted)
+    for at in 0..text.len() {
+        if text[at..].starts_with(wanted) {
+            return Some(at);
+        }
+    }
+    None
 }
 
 #[test]
