@@ -1,6 +1,6 @@
 -- Views over a journal, for sqlite3. They are temporary, so the file stays as it is:
 --
---     sqlite3 -readonly COPY.db -init docs/journal.sql
+--     sqlite3 -readonly COPY.db -init crates/ibc_journal/journal.sql
 --
 -- Numbers in messages and answers are big-endian bytes. A byte's value is its place among all bytes (`octets`). Numbers of 8 bytes from
 -- 2^63 on show as negative ones. An amount that 63 bits don't hold shows as its 16 bytes in hex.
