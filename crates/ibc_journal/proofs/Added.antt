@@ -32,29 +32,30 @@ put_last place from it (i ∷ its) is =
     rw first (ap (λ rows. row_at from i ∷ rows) (put_last place (from + 1) it its (omega arith)))
 
 abbrev pub params_of : ℕ → JournalItem → Row
-params_of place it = Int (pos place) ∷ Int (pos it.chain) ∷ Int (pos it.kind) ∷ Blob it.event ∷ Blob it.answer ∷ Blob it.digest ∷ []
+params_of place it = Int (pos place) ∷ Int (pos it.chain) ∷ Int (pos it.kind) ∷ Int (pos it.log_place) ∷ Blob it.event ∷ Blob it.answer ∷ Blob it.digest ∷ []
 
 -- the row is stored as it is given
-row_is : (place : ℕ) (it : JournalItem) → cast_row entries (Int (pos place) ∷ Null ∷ Int (pos it.chain) ∷ Int (pos it.kind) ∷ Blob it.event ∷ Blob it.answer ∷ Blob it.digest ∷ []) ≡ row_at place it
+row_is : (place : ℕ) (it : JournalItem) → cast_row entries (Int (pos place) ∷ Null ∷ Int (pos it.chain) ∷ Int (pos it.kind) ∷ Int (pos it.log_place) ∷ Blob it.event ∷ Blob it.answer ∷ Blob it.digest ∷ []) ≡ row_at place it
 row_is place it =
     let blobs : Row = Blob it.event ∷ Blob it.answer ∷ Blob it.digest ∷ [] in
-    ap (λ (v : Value). v ∷ cast Integer Null ∷ cast Integer (Int (pos it.chain)) ∷ cast Integer (Int (pos it.kind)) ∷ blobs) (cast_int (pos place))
-    ∙ ap (λ (v : Value). Int (pos place) ∷ v ∷ cast Integer (Int (pos it.chain)) ∷ cast Integer (Int (pos it.kind)) ∷ blobs) cast_null
-    ∙ ap (λ (v : Value). Int (pos place) ∷ Null ∷ v ∷ cast Integer (Int (pos it.kind)) ∷ blobs) (cast_int (pos it.chain))
-    ∙ ap (λ (v : Value). Int (pos place) ∷ Null ∷ Int (pos it.chain) ∷ v ∷ blobs) (cast_int (pos it.kind))
+    ap (λ (v : Value). v ∷ cast Integer Null ∷ cast Integer (Int (pos it.chain)) ∷ cast Integer (Int (pos it.kind)) ∷ cast Integer (Int (pos it.log_place)) ∷ blobs) (cast_int (pos place))
+    ∙ ap (λ (v : Value). Int (pos place) ∷ v ∷ cast Integer (Int (pos it.chain)) ∷ cast Integer (Int (pos it.kind)) ∷ cast Integer (Int (pos it.log_place)) ∷ blobs) cast_null
+    ∙ ap (λ (v : Value). Int (pos place) ∷ Null ∷ v ∷ cast Integer (Int (pos it.kind)) ∷ cast Integer (Int (pos it.log_place)) ∷ blobs) (cast_int (pos it.chain))
+    ∙ ap (λ (v : Value). Int (pos place) ∷ Null ∷ Int (pos it.chain) ∷ v ∷ cast Integer (Int (pos it.log_place)) ∷ blobs) (cast_int (pos it.kind))
+    ∙ ap (λ (v : Value). Int (pos place) ∷ Null ∷ Int (pos it.chain) ∷ Int (pos it.kind) ∷ v ∷ blobs) (cast_int (pos it.log_place))
 
 zero≢one : ◌≡◌ {A = ℕ} 0 1 → ⊥
 zero≢one e = absurd cc
 
 -- what the statement makes of a journal
 does_add : (old : State) (genesis : List ℕ) (items : List JournalItem) (it : JournalItem) (tally : Tally) (after : Database) → IsJournal old.now genesis items
-    → Does old.step_limit (mode_of old) (params_of (length items) it) old.now (statement_of insert_text (understood journal_schema insert_text)) None (Insert 1 (Values insert_terms 7)) (Ok (tally, after))
+    → Does old.step_limit (mode_of old) (params_of (length items) it) old.now (statement_of insert_text (understood journal_schema insert_text)) None (Insert 1 (Values insert_terms 8)) (Ok (tally, after))
     → IsJournal after genesis (items ++ it ∷ [])
 does_add old genesis items it tally after has does =
     let params = params_of (length items) it in
     let db = old.now.trees in
     let text = statement_of insert_text (understood journal_schema insert_text) in
-    let done = went (subst (λ s. Does old.step_limit (mode_of old) params (record old.now { schema = s }) text None (Insert 1 (Values insert_terms 7)) (Ok (tally, after))) has.schema does) in
+    let done = went (subst (λ s. Does old.step_limit (mode_of old) params (record old.now { schema = s }) text None (Insert 1 (Values insert_terms 8)) (Ok (tally, after))) has.schema does) in
     let now = ap (λ (p : Tally × Database). p.1) (same_value (went (went done.2).2).2) in
     let given = went done.1 in
     let written = went (went given.2).2 in
@@ -74,19 +75,19 @@ module _ (old new : State) (genesis : List ℕ) (items : List JournalItem) (it :
   pub adds : (r : Result ℕ Error) → Executes insert_text (params_of (length items) it) old new r → OnOk r (IsJournal new.now genesis (items ++ it ∷ []))
   adds (Err e) h = tt
   adds (Ok count) h =
-      let w = runs_as insert_text (params_of (length items) it) old new journal_schema has.schema (Insert 1 (Values insert_terms 7)) insert_is insert_plain count h in
+      let w = runs_as insert_text (params_of (length items) it) old new journal_schema has.schema (Insert 1 (Values insert_terms 8)) insert_is insert_plain count h in
       does_add old genesis items it w.tally new.now has w.changed
 
   pub stays_inside : (r : Result ℕ Error) → IsTrue old.in_transaction → Executes insert_text (params_of (length items) it) old new r → OnOk r (GoesOn old new)
   stays_inside (Err e) inside h = tt
   stays_inside (Ok count) inside h =
-      let w = runs_as insert_text (params_of (length items) it) old new journal_schema has.schema (Insert 1 (Values insert_terms 7)) insert_is insert_plain count h in
+      let w = runs_as insert_text (params_of (length items) it) old new journal_schema has.schema (Insert 1 (Values insert_terms 8)) insert_is insert_plain count h in
       record { inside = w.shown.mode ∙ inside; committed = rw inside at w.shown.committed_is }
 
 -- a crash inside a transaction leaves nothing of it
 pub leaves : (old : State) (place : ℕ) (it : JournalItem) (db : Trees) → CommitsBy insert_text (params_of place it) old db → LeavesOutside old place db
 leaves old place it db h genesis items has at =
-    only_outside insert_text old journal_schema has.schema (Insert 1 (Values insert_terms 7)) insert_is insert_plain (λ e. absurd cc) (λ name e. absurd cc) (params_of place it) db h
+    only_outside insert_text old journal_schema has.schema (Insert 1 (Values insert_terms 8)) insert_is insert_plain (λ e. absurd cc) (λ name e. absurd cc) (params_of place it) db h
 
 pub puts_behind : (old new : State) (place : ℕ) (it : JournalItem) (r : Result ℕ Error) → (HasCleanDisk new → Executes insert_text (params_of place it) old new r) → OnOk r (PutsBehind old new place (it ∷ []))
 puts_behind old new place it (Err e) h = tt

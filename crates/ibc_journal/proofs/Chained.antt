@@ -1,6 +1,6 @@
 -- A reader that goes on from one entry to the next.
-use Rattle.std.proofs.Common.{◌≡◌, ◌⊎◌, inl, inr, ℕ, zero, suc, ◌+◌, ◌<◌, ◌≤◌, List, [], ◌∷◌, ◌++◌, length, get_or, take, slice_get, Option, Some, None, Result, Ok, Err, refl, sym, ap, subst, ◌∙◌, arith}
-use Rattle.std.proofs.lemmas.List.{take_more}
+use Rattle.std.proofs.Common.{◌≡◌, ◌⊎◌, inl, inr, ℕ, zero, suc, ◌+◌, ◌<◌, ◌≤◌, List, [], ◌∷◌, ◌++◌, length, get_or, take, slice_get, Option, Some, None, Result, Ok, Err, refl, sym, ap, subst, length-append, ◌∙◌, arith}
+use Rattle.std.proofs.lemmas.List.{take_more, take_all}
 use Rattle.std.proofs.lemmas.Option.{slice_get_within, get_or_from_slice_get}
 use Rattle.std.specs.Prelude.{option_map}
 use Rattle.ibc_journal.specs.Tables.{JournalItem}
@@ -46,6 +46,24 @@ reads_all genesis items cursor read none = (read, end items cursor.place read.wi
     end [] k within none = omega arith
     end (i ∷ its) zero within none = absurd cc
     end (i ∷ its) (suc k) within none = ap suc (end its k (omega (arith, within)) none)
+
+-- behind the last entry one more is read
+pub reads_on : (genesis : List ℕ) (items : List JournalItem) (it : JournalItem) (end : Cursor) → HasReadAll genesis items end → it.digest ≡ digest_after end.last it
+    → HasReadAll genesis (items ++ it ∷ []) (record { place = end.place + 1; last = it.digest })
+reads_on genesis items it end all due =
+    let before = first_digest genesis in
+    let long = length-append items (it ∷ []) in
+    let front : take end.place items ≡ items = take_all end.place items (omega (arith, all.1)) in
+    let whole : take (end.place + 1) (items ++ it ∷ []) ≡ items ++ it ∷ [] = take_all (end.place + 1) (items ++ it ∷ []) (omega (arith, long, all.1)) in
+    let last : end.last ≡ last_digest before items = all.0.last ∙ ap (last_digest before) front in
+    let chained = chained_more before items it (subst (AreChained before) front all.0.chained) (due ∙ ap (λ d. digest_after d it) last) in (
+      record {
+        within = omega (arith, long, all.1);
+        chained = subst (AreChained before) (sym whole) chained;
+        last = sym (last_more before items it) ∙ ap (last_digest before) (sym whole);
+      },
+      omega (arith, long, all.1),
+    )
 
 -- an entry that isn't passed over is damaged
 pub damaged_at : (items : List JournalItem) (cursor : Cursor) (it : JournalItem) (fault : JournalFault) (place : ℕ) → slice_get items cursor.place ≡ Some it

@@ -8,3 +8,5 @@ pub mod Filled
 pub mod Found
 pub mod Chained
 pub mod Pinned
+pub mod Looked
+pub mod Restarted

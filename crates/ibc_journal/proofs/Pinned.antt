@@ -19,30 +19,33 @@ split a b c d long same = (
 )
 
 abbrev nested : List ℕ → JournalItem → List ℕ
-nested d it = d ++ (to_be_bytes w32 it.chain ++ (to_be_bytes w32 it.kind ++ (to_be_bytes w64 (length it.event) ++ (it.event ++ it.answer))))
+nested d it = d ++ (to_be_bytes w32 it.chain ++ (to_be_bytes w32 it.kind ++ (to_be_bytes w32 it.log_place ++ (to_be_bytes w64 (length it.event) ++ (it.event ++ it.answer)))))
 
 nested_is : (d : List ℕ) (it : JournalItem) → digested d it ≡ nested d it
 nested_is d it =
     let c = to_be_bytes w32 it.chain in
     let k = to_be_bytes w32 it.kind in
+    let l = to_be_bytes w32 it.log_place in
     let n = to_be_bytes w64 (length it.event) in
     let rest = it.event ++ it.answer in
-    append_assoc (d ++ c ++ k ++ n) it.event it.answer ∙ append_assoc (d ++ c ++ k) n rest ∙ append_assoc (d ++ c) k (n ++ rest) ∙ append_assoc d c (k ++ (n ++ rest))
+    append_assoc (d ++ c ++ k ++ l ++ n) it.event it.answer ∙ append_assoc (d ++ c ++ k ++ l) n rest ∙ append_assoc (d ++ c ++ k) l (n ++ rest) ∙ append_assoc (d ++ c) k (l ++ (n ++ rest)) ∙ append_assoc d c (k ++ (l ++ (n ++ rest)))
 
 -- what is digested is the digest before and all of the entry but its own digest
 parts : (d e : List ℕ) (x y : JournalItem) → length d ≡ length e → FitsItsRow x → FitsItsRow y → digested d x ≡ digested e y
-    → (d ≡ e) × (x.chain ≡ y.chain) × (x.kind ≡ y.kind) × (x.event ≡ y.event) × (x.answer ≡ y.answer)
+    → (d ≡ e) × (x.chain ≡ y.chain) × (x.kind ≡ y.kind) × (x.log_place ≡ y.log_place) × (x.event ≡ y.event) × (x.answer ≡ y.answer)
 parts d e x y long fx fy same =
     let one = split d _ e _ long (sym (nested_is d x) ∙ same ∙ nested_is e y) in
     let two = split (to_be_bytes w32 x.chain) _ (to_be_bytes w32 y.chain) _ refl one.1 in
     let three = split (to_be_bytes w32 x.kind) _ (to_be_bytes w32 y.kind) _ refl two.1 in
-    let four = split (to_be_bytes w64 (length x.event)) _ (to_be_bytes w64 (length y.event)) _ refl three.1 in
+    let placed = split (to_be_bytes w32 x.log_place) _ (to_be_bytes w32 y.log_place) _ refl three.1 in
+    let four = split (to_be_bytes w64 (length x.event)) _ (to_be_bytes w64 (length y.event)) _ refl placed.1 in
     let lengths : length x.event ≡ length y.event =
     sym (from_be_bytes-to_be_bytes_8 (length x.event) fx.event) ∙ ap (from_be_bytes w64) four.0 ∙ from_be_bytes-to_be_bytes_8 (length y.event) fy.event in
     let five = split x.event x.answer y.event y.answer lengths four.1 in (
       one.0,
       sym (from_be_bytes-to_be_bytes_4 x.chain fx.chain) ∙ ap (from_be_bytes w32) two.0 ∙ from_be_bytes-to_be_bytes_4 y.chain fy.chain,
       sym (from_be_bytes-to_be_bytes_4 x.kind fx.kind) ∙ ap (from_be_bytes w32) three.0 ∙ from_be_bytes-to_be_bytes_4 y.kind fy.kind,
+      sym (from_be_bytes-to_be_bytes_4 x.log_place fx.log_place) ∙ ap (from_be_bytes w32) placed.0 ∙ from_be_bytes-to_be_bytes_4 y.log_place fy.log_place,
       five.0,
       five.1,
     )
@@ -67,7 +70,7 @@ pinned d e (x ∷ a) (y ∷ b) fa fb ld le ca cb long last =
         | inr clash ↦ inr clash
         | inl same ↦
             let p = parts d e x y (ld ∙ sym le) fa.0 fb.0 same in
-            inl (p.0, λ i. record { chain = p.1 i; kind = p.2 i; event = p.3 i; answer = p.4 i; digest = both.0 i } ∷ both.1 i)
+            inl (p.0, λ i. record { chain = p.1 i; kind = p.2 i; log_place = p.3 i; event = p.4 i; answer = p.5 i; digest = both.0 i } ∷ both.1 i)
       ]
     ]
 

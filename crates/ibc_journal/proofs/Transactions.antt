@@ -1,5 +1,5 @@
 -- How a transaction begins and is committed, and that nothing else commits what was done inside it.
-use Rattle.std.proofs.Common.{◌≡◌, ◌⊎◌, inl, inr, ℕ, List, [], Bool, true, false, None, Some, Ok, Err, Result, OnOk, refl, sym, ap, subst, subst₂, append-nil, ◌∙◌}
+use Rattle.std.proofs.Common.{◌≡◌, ◌⊎◌, inl, inr, ℕ, List, [], Bool, true, false, None, Some, Ok, Err, Result, OnErr, OnOk, refl, sym, ap, subst, subst₂, append-nil, ◌∙◌}
 use Rattle.std.proofs.lemmas.Bool.{false≢true}
 use Rattle.std.specs.Prelude.{IsTrue}
 use Rattle.sqlite.specs.Order.{Row}
@@ -11,8 +11,9 @@ use Rattle.sqlite.specs.declared.error.Error.{Error}
 use Rattle.sqlite.specs.Listing.{understood}
 use Rattle.sqlite.specs.Effect.{Database}
 use Rattle.sqlite.specs.State.{State, Executes, CommitsBy, MayCommit}
+use Rattle.sqlite.proofs.InsideLemmas.{fails_whole, unchanged_keeps}
 use Rattle.sqlite.proofs.Callers.{IsPlain, command_of, statement_of, runs_as}
-use Rattle.ibc_journal.specs.Crashes.{HasBegun, HasCommitted}
+use Rattle.ibc_journal.specs.Crashes.{HasBegun, HasCommitted, KeepsCommitted}
 use Rattle.ibc_journal.proofs.Statements.{begin_text, begin_is, begin_plain, commit_text, commit_is, commit_plain}
 
 -- what a command that is known may commit
@@ -31,6 +32,11 @@ module _ (sql : List ℕ) (old : State) (schema : Schema) (has : old.now.schema 
     | inl (inr release, _) ↦ absurd (no_release release.0 release.2)
     | inr w ↦ w.0
   ]
+
+-- a statement that fails commits nothing
+pub error_keeps : (old new : State) (sql : List ℕ) (params : Row) (r : Result ℕ Error) → Executes sql params old new r → OnErr r (KeepsCommitted old new)
+error_keeps old new sql params (Ok count) h = tt
+error_keeps old new sql params (Err e) h = (unchanged_keeps old new (fails_whole old new false sql params e h)).committed
 
 -- ---- BEGIN
 

@@ -24,6 +24,10 @@ pub record HasCommitted (old new : State) : Type 0 where
   pub now : new.now ≡ old.now
   pub committed : new.committed ≡ old.now
 
+-- nothing is committed, as far as the connection is still open
+abbrev pub KeepsCommitted : State → State → Type 0
+KeepsCommitted old new = IsTrue new.is_open → new.committed ≡ old.committed
+
 -- inside a transaction a journal has these entries behind its own
 abbrev pub PutsBehind : State → State → ℕ → List JournalItem → Type 0
 PutsBehind old new place more =

@@ -10,10 +10,10 @@ use Rattle.ibc_journal.specs.declared.cursor.Cursor.{Cursor}
 abbrev pub first_digest : List ℕ → List ℕ
 first_digest genesis = sha256 (to_be_bytes w32 format ++ genesis)
 
--- what the digest of an entry is of: the digest before it, its chain, its kind, the length of its event, its event and its answer
+-- what the digest of an entry is of: the digest before it, its chain, its kind, its place in a log, the length of its event, its event and its answer
 abbrev pub digested : List ℕ → JournalItem → List ℕ
 digested before it =
-    before ++ to_be_bytes w32 it.chain ++ to_be_bytes w32 it.kind ++ to_be_bytes w64 (length it.event) ++ it.event ++ it.answer
+    before ++ to_be_bytes w32 it.chain ++ to_be_bytes w32 it.kind ++ to_be_bytes w32 it.log_place ++ to_be_bytes w64 (length it.event) ++ it.event ++ it.answer
 
 abbrev pub digest_after : List ℕ → JournalItem → List ℕ
 digest_after before it = sha256 (digested before it)
@@ -60,6 +60,7 @@ HasClash = (x : List ℕ) × (y : List ℕ) × (x ≢ y) × (sha256 x ≡ sha256
 pub record FitsItsRow (it : JournalItem) : Type 0 where
   pub chain : it.chain < 2 ^ 32
   pub kind : it.kind < 2 ^ 32
+  pub log_place : it.log_place < 2 ^ 32
   pub event : length it.event < 2 ^ 64
 
 -- Two journals that began alike, with as many entries and the same last digest, have the same entries, or SHA-256 has a clash.

@@ -1,5 +1,7 @@
 pub mod Tables
+pub mod Plain
 pub mod Entries
 pub mod Digests
 pub mod Crashes
 pub mod Shown
+pub mod Restarts

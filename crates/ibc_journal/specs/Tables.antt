@@ -35,6 +35,7 @@ entries = record {
   columns = (record { name = codes "place"; kind = Integer; is_strict = true; not_null = false; default = Null; collation = Binary })
       ∷ (record { name = codes "chain"; kind = Integer; is_strict = true; not_null = true; default = Null; collation = Binary })
       ∷ (record { name = codes "kind"; kind = Integer; is_strict = true; not_null = true; default = Null; collation = Binary })
+      ∷ (record { name = codes "log_place"; kind = Integer; is_strict = true; not_null = true; default = Null; collation = Binary })
       ∷ (record { name = codes "event"; kind = Blob; is_strict = true; not_null = true; default = Null; collation = Binary })
       ∷ (record { name = codes "answer"; kind = Blob; is_strict = true; not_null = true; default = Null; collation = Binary })
       ∷ (record { name = codes "digest"; kind = Blob; is_strict = true; not_null = true; default = Null; collation = Binary }) ∷ [];
@@ -64,6 +65,8 @@ journal_schema = record { tables = meta ∷ entries ∷ []; indexes = []; views 
 pub record JournalItem : Type 0 where
   pub chain : ℕ
   pub kind : ℕ
+  -- the place in a log by which the event came, or 0 where it came by none
+  pub log_place : ℕ
   pub event : List ℕ
   pub answer : List ℕ
   pub digest : List ℕ
@@ -79,7 +82,7 @@ beginning_row genesis = Int (pos format) ∷ Null ∷ Bytes genesis ∷ []
 -- the row of an entry at a place
 abbrev pub row_at : ℕ → JournalItem → Row
 row_at place it =
-    Int (pos place) ∷ Null ∷ Int (pos it.chain) ∷ Int (pos it.kind) ∷ Bytes it.event ∷ Bytes it.answer ∷ Bytes it.digest ∷ []
+    Int (pos place) ∷ Null ∷ Int (pos it.chain) ∷ Int (pos it.kind) ∷ Int (pos it.log_place) ∷ Bytes it.event ∷ Bytes it.answer ∷ Bytes it.digest ∷ []
 
 -- the rows of entries in their order, numbered from a place on
 abbrev pub rows_from : ℕ → List JournalItem → List Row

@@ -1,11 +1,11 @@
 //! Entries are put behind those of a journal, all of them or none.
 
-ghost use Rattle.std.specs.Prelude.{◌≡◌, ◌+◌, ◌<◌, ◌^◌, ◌++◌, ◌∷◌, [], false, List, ℕ, length, OnOk};
+ghost use Rattle.std.specs.Prelude.{◌≡◌, ◌+◌, ◌<◌, ◌^◌, ◌++◌, ◌∷◌, [], false, List, ℕ, length, IsTrue, OnErr, OnOk};
 ghost use Rattle.sqlite.specs.State.{HasCleanDisk, Survives};
 ghost use Rattle.sqlite.specs.Held.{state};
 ghost use Rattle.ibc_journal.specs.Tables.{JournalItem, IsJournal};
 ghost use Rattle.ibc_journal.specs.Entries.{item, items_of};
-ghost use Rattle.ibc_journal.specs.Crashes.{HasBegun, HasCommitted, PutsBehind, LeavesWith, LeavesOutside};
+ghost use Rattle.ibc_journal.specs.Crashes.{HasBegun, HasCommitted, KeepsCommitted, PutsBehind, LeavesWith, LeavesOutside};
 
 use crate::JournalEntry;
 use sqlite::{Alter, Connection, Error, params};
@@ -24,6 +24,9 @@ pub fn append<S: Alter>(
     // The connection sees what is committed.
     ensures seen { HasCleanDisk (state S.Store conn.new) → OnOk result ((state S.Store conn.new).now ≡ (state S.Store conn.new).committed) }
     ensures outside { HasCleanDisk (state S.Store conn.new) → OnOk result ((state S.Store conn.new).in_transaction ≡ false) }
+    // After an error nothing of it is committed, as far as the connection is still open.
+    ensures none { (genesis : List ℕ) (items : List JournalItem) → IsJournal (state S.Store conn.old).now genesis items → first ≡ length items
+        → HasCleanDisk (state S.Store conn.new) → OnErr result (KeepsCommitted (state S.Store conn.old) (state S.Store conn.new)) }
     // A crash at any moment of the call leaves what it could leave before the call, or all of it.
     ensures crash { Survives (state S.Store conn.old) (state S.Store conn.new) (LeavesWith (state S.Store conn.old) first (items_of entries.now)) }
 {
@@ -36,6 +39,7 @@ pub fn append<S: Alter>(
 // Begins a transaction.
 pub(crate) fn start<S: Alter>(conn: &mut Connection<S>) -> Result<usize, Error>
     ensures begun { HasCleanDisk (state S.Store conn.new) → OnOk result (HasBegun (state S.Store conn.old) (state S.Store conn.new)) }
+    ensures none { HasCleanDisk (state S.Store conn.new) → OnErr result (KeepsCommitted (state S.Store conn.old) (state S.Store conn.new)) }
     ensures crash { Survives (state S.Store conn.old) (state S.Store conn.new) (λ _. ⊥) }
 {
     conn.execute("BEGIN", &[])
@@ -44,6 +48,7 @@ pub(crate) fn start<S: Alter>(conn: &mut Connection<S>) -> Result<usize, Error>
 // Commits what the transaction saw.
 pub(crate) fn commit<S: Alter>(conn: &mut Connection<S>) -> Result<usize, Error>
     ensures committed { HasCleanDisk (state S.Store conn.new) → OnOk result (HasCommitted (state S.Store conn.old) (state S.Store conn.new)) }
+    ensures none { HasCleanDisk (state S.Store conn.new) → OnErr result (KeepsCommitted (state S.Store conn.old) (state S.Store conn.new)) }
     ensures crash { Survives (state S.Store conn.old) (state S.Store conn.new) (λ trees. trees ≡ (state S.Store conn.old).now.trees) }
 {
     conn.execute("COMMIT", &[])
@@ -57,6 +62,8 @@ fn insert_each<S: Alter>(
 ) -> Result<(), Error>
     requires room { first + length entries.now < 2 ^ 32 }
     ensures put { OnOk result (PutsBehind (state S.Store conn.old) (state S.Store conn.new) first (items_of entries.now)) }
+    ensures none { (genesis : List ℕ) (items : List JournalItem) → IsJournal (state S.Store conn.old).now genesis items → first ≡ length items → IsTrue (state S.Store conn.old).in_transaction
+        → HasCleanDisk (state S.Store conn.new) → OnErr result (KeepsCommitted (state S.Store conn.old) (state S.Store conn.new)) }
     ensures crash { Survives (state S.Store conn.old) (state S.Store conn.new) (LeavesOutside (state S.Store conn.old) first) }
 {
     let mut place = first;
@@ -74,14 +81,16 @@ fn insert<S: Alter>(
     entry: &JournalEntry,
 ) -> Result<usize, Error>
     ensures put { OnOk result (PutsBehind (state S.Store conn.old) (state S.Store conn.new) place (item entry.now ∷ [])) }
+    ensures none { HasCleanDisk (state S.Store conn.new) → OnErr result (KeepsCommitted (state S.Store conn.old) (state S.Store conn.new)) }
     ensures crash { Survives (state S.Store conn.old) (state S.Store conn.new) (LeavesOutside (state S.Store conn.old) place) }
 {
     conn.execute(
-        "INSERT INTO entries(place, chain, kind, event, answer, digest) VALUES (?1, ?2, ?3, ?4, ?5, ?6)",
+        "INSERT INTO entries(place, chain, kind, log_place, event, answer, digest) VALUES (?1, ?2, ?3, ?4, ?5, ?6, ?7)",
         params![
             place,
             entry.chain,
             entry.kind,
+            entry.log_place,
             &entry.event,
             &entry.answer,
             &entry.digest

@@ -1,6 +1,6 @@
 //! A file with no table becomes a journal with no entries.
 
-ghost use Rattle.std.specs.Prelude.{◌≡◌, ◌∷◌, [], List, ℕ, IsTrue, OnOk};
+ghost use Rattle.std.specs.Prelude.{◌≡◌, ◌∷◌, [], false, List, ℕ, IsTrue, OnOk};
 ghost use Rattle.sqlite.specs.State.{HasCleanDisk, Survives};
 ghost use Rattle.sqlite.specs.Held.{state};
 ghost use Rattle.ibc_journal.specs.Tables.{no_schema, meta_schema, journal_schema, IsJournal};
@@ -17,6 +17,7 @@ pub fn begin<S: Alter>(conn: &mut Connection<S>, genesis: &[u8]) -> Result<(), E
         → OnOk result (IsJournal (state S.Store conn.new).committed genesis.now []) }
     // The connection sees what is committed.
     ensures seen { HasCleanDisk (state S.Store conn.new) → OnOk result ((state S.Store conn.new).now ≡ (state S.Store conn.new).committed) }
+    ensures outside { HasCleanDisk (state S.Store conn.new) → OnOk result ((state S.Store conn.new).in_transaction ≡ false) }
     // A crash at any moment of the call leaves what it could leave before the call, or all of it.
     ensures crash { Survives (state S.Store conn.old) (state S.Store conn.new) (LeavesBegun (state S.Store conn.old) genesis.now) }
 {
@@ -58,7 +59,7 @@ fn make_entries<S: Alter>(conn: &mut Connection<S>) -> Result<usize, Error>
     ensures crash { Survives (state S.Store conn.old) (state S.Store conn.new) (λ _. (state S.Store conn.old).now.schema ≡ meta_schema → ¬ IsTrue (state S.Store conn.old).in_transaction) }
 {
     conn.execute(
-        "CREATE TABLE entries(place INTEGER PRIMARY KEY, chain INTEGER NOT NULL, kind INTEGER NOT NULL, event BLOB NOT NULL, answer BLOB NOT NULL, digest BLOB NOT NULL) STRICT",
+        "CREATE TABLE entries(place INTEGER PRIMARY KEY, chain INTEGER NOT NULL, kind INTEGER NOT NULL, log_place INTEGER NOT NULL, event BLOB NOT NULL, answer BLOB NOT NULL, digest BLOB NOT NULL) STRICT",
         &[],
     )
 }

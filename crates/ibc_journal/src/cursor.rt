@@ -1,6 +1,6 @@
 //! A journal is read from its first entry on, and each digest is compared with the one that is due.
 
-ghost use Rattle.std.specs.Prelude.{◌≡◌, ◌≢◌, ◌⊎◌, ◌+◌, ◌^◌, Option, None, List, ℕ, Ok, Err, slice_get, option_map, IfOk, IfErr, IfSome, OnOk, OnErr};
+ghost use Rattle.std.specs.Prelude.{◌≡◌, ◌≢◌, ◌⊎◌, ◌+◌, ◌≤◌, ◌^◌, Option, None, List, ℕ, Ok, Err, length, slice_get, option_map, IfOk, IfErr, IfSome, IsTrue, OnOk, OnErr};
 ghost use Rattle.sqlite.specs.State.{HasCleanDisk, IsUnchanged, Survives};
 ghost use Rattle.sqlite.specs.Held.{state};
 ghost use Rattle.ibc_journal.specs.Tables.{JournalItem, IsJournal};
@@ -8,7 +8,7 @@ ghost use Rattle.ibc_journal.specs.Entries.{item};
 ghost use Rattle.ibc_journal.specs.Shown.{shown_row, shown_rows};
 ghost use Rattle.ibc_journal.specs.Digests.{digest_after, HasReadTo, HasReadAll, IsDamagedAt, IsFirstDamage};
 ghost use Rattle.ibc_journal.specs.Crashes.{LeavesNothing};
-ghost use Rattle.ibc_journal.specs.declared.fault.JournalFault.TheVariants.{Damaged, Full};
+ghost use Rattle.ibc_journal.specs.declared.fault.JournalFault.TheVariants.{Damaged, Full, Gap};
 
 use crate::digests::{digest_after, first_digest};
 use crate::{JournalEntry, JournalFault};
@@ -50,7 +50,7 @@ pub fn next<S: Alter>(
         → HasCleanDisk (state S.Store conn.new) → OnOk result (IsUnchanged (state S.Store conn.old) (state S.Store conn.new)) }
     ensures crash { Survives (state S.Store conn.old) (state S.Store conn.new) (LeavesNothing (state S.Store conn.old)) }
 {
-    match read_at(conn, cursor.place) {
+    match entry_at(conn, cursor.place) {
         Ok(Some(entry)) => match pass(cursor, &entry) {
             Ok(()) => Ok(Some(entry)),
             Err(fault) => {
@@ -87,23 +87,36 @@ pub fn audit<S: Alter>(conn: &mut Connection<S>, genesis: &[u8]) -> Result<Curso
 
 /// Whether the journal ends where its reader has come to. Error: `Gap` where it doesn't.
 pub fn end_at<S: Alter>(conn: &mut Connection<S>, cursor: &Cursor) -> Result<(), JournalFault>
+    ensures end { (genesis : List ℕ) (items : List JournalItem) → IsJournal (state S.Store conn.old).now genesis items → cursor.now.place ≡ length items
+        → HasCleanDisk (state S.Store conn.new) → IfErr result (λ fault. (place : ℕ) → fault ≢ Gap place) }
+    ensures ended { (genesis : List ℕ) (items : List JournalItem) → IsJournal (state S.Store conn.old).now genesis items
+        → HasCleanDisk (state S.Store conn.new) → OnOk result (length items ≤ cursor.now.place) }
     ensures gap { IfErr result (λ fault. (place : ℕ) → fault ≢ Damaged place) }
+    ensures same { (genesis : List ℕ) (items : List JournalItem) → IsJournal (state S.Store conn.old).now genesis items
+        → HasCleanDisk (state S.Store conn.new) → OnOk result (IsUnchanged (state S.Store conn.old) (state S.Store conn.new)) }
     ensures crash { Survives (state S.Store conn.old) (state S.Store conn.new) (LeavesNothing (state S.Store conn.old)) }
 {
-    let count = count(conn)?;
-    if count == cursor.place {
+    if is_end(conn, cursor.place)? {
         Ok(())
     } else {
         Err(JournalFault::Gap(cursor.place))
     }
 }
 
-// How many entries there are.
-fn count<S: Alter>(conn: &mut Connection<S>) -> Result<u32, Error>
+// Whether there is no entry at a place or behind it.
+fn is_end<S: Alter>(conn: &mut Connection<S>, from: u32) -> Result<bool, Error>
+    ensures end { (genesis : List ℕ) (items : List JournalItem) → IsJournal (state S.Store conn.old).now genesis items → from ≡ length items
+        → HasCleanDisk (state S.Store conn.new) → IfOk result (λ is. IsTrue is) }
+    ensures ended { (genesis : List ℕ) (items : List JournalItem) → IsJournal (state S.Store conn.old).now genesis items
+        → HasCleanDisk (state S.Store conn.new) → IfOk result (λ is. IsTrue is → length items ≤ from) }
+    ensures same { (genesis : List ℕ) (items : List JournalItem) → IsJournal (state S.Store conn.old).now genesis items
+        → HasCleanDisk (state S.Store conn.new) → OnOk result (IsUnchanged (state S.Store conn.old) (state S.Store conn.new)) }
     ensures crash { Survives (state S.Store conn.old) (state S.Store conn.new) (LeavesNothing (state S.Store conn.old)) }
 {
-    let row = conn.query_row("SELECT count(*) FROM entries", &[])?;
-    row.get(0)
+    let rows = conn.query_all("SELECT place FROM entries WHERE place >= ?1", params![from])?;
+    let is = rows.as_slice().is_empty();
+    drop(rows);
+    Ok(is)
 }
 
 // Passes over an entry that has the digest that is due.
@@ -125,8 +138,11 @@ fn pass(cursor: &mut Cursor, entry: &JournalEntry) -> Result<(), JournalFault>
     Ok(())
 }
 
-// The entry at a place, if there is one.
-fn read_at<S: Alter>(conn: &mut Connection<S>, place: u32) -> Result<Option<JournalEntry>, Error>
+/// The entry at a place, if there is one. Its digest isn't looked at.
+pub fn entry_at<S: Alter>(
+    conn: &mut Connection<S>,
+    place: u32,
+) -> Result<Option<JournalEntry>, Error>
     ensures found { (genesis : List ℕ) (items : List JournalItem) → IsJournal (state S.Store conn.old).now genesis items
         → HasCleanDisk (state S.Store conn.new) → IfOk result (λ found. option_map item found ≡ slice_get items place) }
     ensures same { (genesis : List ℕ) (items : List JournalItem) → IsJournal (state S.Store conn.old).now genesis items
@@ -134,7 +150,7 @@ fn read_at<S: Alter>(conn: &mut Connection<S>, place: u32) -> Result<Option<Jour
     ensures crash { Survives (state S.Store conn.old) (state S.Store conn.new) (LeavesNothing (state S.Store conn.old)) }
 {
     let rows = conn.query_all(
-        "SELECT chain, kind, event, answer, digest FROM entries WHERE place = ?1",
+        "SELECT chain, kind, log_place, event, answer, digest FROM entries WHERE place = ?1",
         params![place],
     )?;
     let found = first_of(rows.as_slice());
@@ -159,8 +175,9 @@ fn entry_of(row: &Row) -> Result<JournalEntry, Error>
     Ok(JournalEntry {
         chain: row.get(0)?,
         kind: row.get(1)?,
-        event: row.get(2)?,
-        answer: row.get(3)?,
-        digest: row.get(4)?,
+        log_place: row.get(2)?,
+        event: row.get(3)?,
+        answer: row.get(4)?,
+        digest: row.get(5)?,
     })
 }

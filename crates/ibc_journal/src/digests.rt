@@ -29,6 +29,7 @@ pub fn digest_after(before: &[u8; 32], entry: &JournalEntry) -> [u8; 32]
     hasher.update(before.as_slice());
     hasher.update(entry.chain.to_be_bytes().as_slice());
     hasher.update(entry.kind.to_be_bytes().as_slice());
+    hasher.update(entry.log_place.to_be_bytes().as_slice());
     hasher.update((entry.event.len() as u64).to_be_bytes().as_slice());
     hasher.update(entry.event.as_slice());
     hasher.update(entry.answer.as_slice());
@@ -41,18 +42,21 @@ pub fn entry_behind(
     before: &[u8; 32],
     chain: u32,
     kind: u32,
+    log_place: u32,
     event: Vec<u8>,
     answer: Vec<u8>,
 ) -> Result<JournalEntry, AllocError>
     ensures due { IfOk result (λ entry. (item entry).digest ≡ digest_after before.now (item entry)) }
     ensures chain { IfOk result (λ entry. entry.chain ≡ chain) }
     ensures kind { IfOk result (λ entry. entry.kind ≡ kind) }
+    ensures log_place { IfOk result (λ entry. entry.log_place ≡ log_place) }
     ensures event { IfOk result (λ entry. entry.event.items ≡ event.items) }
     ensures answer { IfOk result (λ entry. entry.answer.items ≡ answer.items) }
 {
     let mut entry = JournalEntry {
         chain,
         kind,
+        log_place,
         event,
         answer,
         digest: Vec::new(alloc),

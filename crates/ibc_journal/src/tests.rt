@@ -17,7 +17,7 @@ const GENESIS: &[u8] = b"{\"capacity\":64,\"chains\":[]}";
 fn entry(alloc: Global, before: &[u8; 32], byte: u8) -> Result<JournalEntry, Error> {
     let event = Vec::from_slice(alloc, [byte; 5].as_slice())?;
     let answer = Vec::from_slice(alloc, [byte ^ 255; 5].as_slice())?;
-    Ok(entry_behind(alloc, before, 1, 0, event, answer)?)
+    Ok(entry_behind(alloc, before, 1, 0, u32::from(byte), event, answer)?)
 }
 
 // The digest of an entry.
@@ -93,7 +93,7 @@ fn judge(rt: &HostRuntime, path: &str) -> Result<u32, JournalFault> {
 // What a file looks like.
 fn looks(rt: &HostRuntime, path: &str) -> Result<Looks, Error> {
     let mut conn = Connection::open(rt, path)?;
-    look(&mut conn)
+    look(rt.alloc(), &mut conn)
 }
 
 // How the journal of a file began.
@@ -108,10 +108,10 @@ const FIRST: [u8; 32] = [
     0x37, 0x7c, 0xfe, 0x36, 0x8d, 0xc8, 0x01, 0x5b, 0xe4, 0xff, 0x36, 0x74, 0xf6, 0x8e, 0xce, 0xbf,
 ];
 
-// SHA-256 of it and of 00000001, 00000000, 0000000000000005, 0a0a0a0a0a and f5f5f5f5f5, by another program.
+// SHA-256 of it and of 00000001, 00000000, 0000000a, 0000000000000005, 0a0a0a0a0a and f5f5f5f5f5, by another program.
 const SECOND: [u8; 32] = [
-    0x1b, 0x8a, 0x72, 0xb5, 0x4a, 0x1e, 0x00, 0x4c, 0x44, 0x46, 0x4b, 0x5c, 0x8e, 0xeb, 0x1b, 0xd1,
-    0x44, 0x5a, 0xb0, 0x76, 0xef, 0xbc, 0x8e, 0xf9, 0x7c, 0x4b, 0xc0, 0xb6, 0x06, 0x79, 0x4f, 0x5c,
+    0x31, 0x9f, 0xfe, 0x0a, 0x03, 0x3b, 0x3a, 0xeb, 0x21, 0x47, 0x77, 0x7c, 0xcc, 0xc7, 0xfa, 0xd0,
+    0xed, 0xe3, 0x5e, 0x8b, 0x70, 0xfc, 0x90, 0xcf, 0xc0, 0x3f, 0xcd, 0x82, 0xea, 0xba, 0x30, 0x76,
 ];
 
 #[test]
@@ -199,6 +199,10 @@ fn a_changed_row_is_found_at_its_place(rt: HostRuntime) -> Result<(), Fail> {
         (
             "journal_changed/d.db",
             "UPDATE entries SET kind = 1 WHERE place = 2",
+        ),
+        (
+            "journal_changed/g.db",
+            "UPDATE entries SET log_place = 31 WHERE place = 2",
         ),
         (
             "journal_changed/e.db",

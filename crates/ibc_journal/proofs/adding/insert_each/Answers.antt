@@ -1,5 +1,6 @@
 -- One entry behind another.
-use Rattle.std.proofs.Common.{◌≡◌, take, sym, subst, arith}
+use Rattle.std.proofs.Common.{◌≡◌, take, sym, subst, ◌∙◌, arith}
+use Rattle.sqlite.specs.State.{HasCleanDisk}
 use Rattle.sqlite.specs.Held.{state}
 use Rattle.ibc_journal.specs.Entries.{items_of}
 use Rattle.ibc_journal.specs.Crashes.{PutsBehind}
@@ -22,6 +23,12 @@ returns-in_err-insert-clause-crash g c =
     let its = items_of (take at.added-index c.args.entries.now) in
     let here = first_place c.args.entries.now at.added-index c.args.first at.place at.invariant.place c.loop-added-test.true in
     inside_then old (state g.S.Store at.conn) (state g.S.Store c.insert.new.conn) c.args.first at.place its at.invariant.put here at.invariant.crash c.insert.ensures.crash
+
+pub returns-in_err-insert-clause-none : goal.returns-in_err-insert-clause-none
+returns-in_err-insert-clause-none g c genesis items has at inside clean live =
+    let step = c.loop-added in
+    let calm : HasCleanDisk (state g.S.Store step.conn) = omega (arith, c.insert.ensures.crash.clean, clean) in
+    c.in_err-insert.ensures.none clean live ∙ (step.invariant.put genesis items has at inside calm).1.committed
 
 pub loop-added-preserved : goal.loop-added-preserved
 loop-added-preserved g c =

@@ -4,7 +4,7 @@ use Rattle.sqlite.specs.Held.{state}
 use Rattle.sqlite.proofs.StateLemmas.{survives_weaker}
 use Rattle.std.specs.Prelude.{slice_get}
 use Rattle.ibc_journal.proofs.Found.{reads, changes_nothing, commits_nothing}
-use Rattle.ibc_journal.proofs.cursor.read_at.Goals as goal
+use Rattle.ibc_journal.proofs.cursor.entry_at.Goals as goal
 
 on_any : {A B : Type 0} (r : Result A B) (P : Type 0) → P → OnOk r P
 on_any (Ok a) P p = p
