@@ -1,0 +1,12 @@
+pub mod Statements
+pub mod Parts
+pub mod Transactions
+pub mod Begun
+pub mod Added
+pub mod Whole
+pub mod Filled
+pub mod Found
+pub mod Chained
+pub mod Pinned
+pub mod Looked
+pub mod Restarted

@@ -1,0 +1,14 @@
+use Rattle.sqlite.specs.Held.{state}
+use Rattle.sqlite.proofs.StateLemmas.{survives_weaker}
+use Rattle.ibc_journal.proofs.Transactions.{error_keeps, commits_all, commit_leaves}
+use Rattle.ibc_journal.proofs.adding.commit.Goals as goal
+
+pub returns : goal.returns
+returns g c =
+    let old = state g.S.Store c.args.conn.now in
+    let new = state g.S.Store c.execute.new.self in
+    record {
+      committed = λ clean. commits_all old new c.execute.result (c.execute.ensures.runs clean);
+      none = λ clean. error_keeps old new _ _ c.execute.result (c.execute.ensures.runs clean);
+      crash = survives_weaker old new _ _ (λ clean db may. commit_leaves old db may) c.execute.ensures.survives;
+    }
