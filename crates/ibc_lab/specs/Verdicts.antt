@@ -1,0 +1,38 @@
+-- What may be said of a text.
+use Rattle.std.specs.Prelude.{◌≡◌, ◌<◌, ◌⊎◌, false, IsTrue, IsUtf8, List, [], ◌∷◌, ◌++◌, length, Some, None}
+use Rattle.serde_json.specs.Data.{Data}
+use Rattle.serde_json.specs.Read.{read}
+use Rattle.ibc_ids.specs.Texts.{Text}
+use Rattle.ibc_machine.specs.chain.Genesis.{GenesisState, genesis_state, is_allowed}
+use Rattle.ibc_lab.specs.declared.checking.Verdict.{Verdict}
+use Rattle.ibc_lab.specs.declared.checking.Verdict.TheVariants as verdict
+use Rattle.ibc_lab.specs.declared.fault.Fault.{Fault}
+use Rattle.ibc_lab.specs.declared.fault.Wrong.TheVariants as wrong
+use Rattle.ibc_lab.specs.declared.place.Part.TheVariants as part
+use Rattle.ibc_lab.specs.Faults.{fault_at, script_faults}
+use Rattle.ibc_lab.specs.GenesisFaults.{genesis_faults}
+use Rattle.ibc_lab.specs.Places.{place_of}
+
+-- these faults, or, where there are none, that it is no script
+abbrev pub at_least_one : List Fault → List Fault
+at_least_one [] = fault_at (place_of part.Script) wrong.NoScript
+at_least_one (f ∷ fs) = f ∷ fs
+
+-- the faults of the value of a script that wasn't read, or of one with a genesis that isn't allowed
+abbrev pub AreValueFaults : Data → List Fault → Type 0
+AreValueFaults d faults =
+    (faults ≡ at_least_one (script_faults d))
+    ⊎ ((genesis : GenesisState) × (is_allowed genesis ≡ false) × (faults ≡ at_least_one (script_faults d ++ genesis_faults genesis)))
+
+-- what may be said of a text that is this JSON value
+abbrev pub IsVerdictOf : Data → Verdict → Type 0
+IsVerdictOf d (verdict.Good script) = IsTrue (is_allowed (genesis_state script.genesis))
+IsVerdictOf d (verdict.Bad faults) = AreValueFaults d faults.items
+
+-- the text is too long, no JSON, or a JSON value of which that is said
+abbrev pub IsVerdict : Text → Verdict → Type 0
+IsVerdict text (verdict.Good script) = IsTrue (is_allowed (genesis_state script.genesis))
+IsVerdict text (verdict.Bad faults) =
+    ((1048576 < length text) × (faults.items ≡ fault_at (place_of part.Script) wrong.TooLong))
+    ⊎ ((IsUtf8 text → read text ≡ None) × (faults.items ≡ fault_at (place_of part.Script) wrong.NoJson))
+    ⊎ ((d : Data) × (read text ≡ Some d) × AreValueFaults d faults.items)

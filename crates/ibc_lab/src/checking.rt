@@ -1,0 +1,113 @@
+//! Whether a text is a script that can be run, and what is wrong where it isn't.
+
+ghost use Rattle.std.specs.Prelude.{◌≡◌, ◌++◌, IfOk, OnOk};
+ghost use Rattle.serde_json.specs.View.{view};
+ghost use Rattle.ibc_machine.specs.chain.Genesis.{genesis_state};
+ghost use Rattle.ibc_lab.specs.Faults.{fault_at, script_faults};
+ghost use Rattle.ibc_lab.specs.GenesisFaults.{genesis_faults};
+ghost use Rattle.ibc_lab.specs.Places.{place_of};
+ghost use Rattle.ibc_lab.specs.Verdicts.{IsVerdict, IsVerdictOf, at_least_one};
+
+use crate::fault::note;
+use crate::genesis::genesis_faults;
+use crate::judge::script_faults;
+use crate::{Fault, Part, Place, Wrong};
+use ibc_ledger::is_allowed;
+use ibc_machine::Genesis;
+use ibc_script::{Fault as Unread, MOST_BYTES, Script, read_script};
+use serde_json::Value;
+use std::alloc::{AllocError, Global};
+
+/// What is said of a text.
+#[derive(Drop)]
+pub enum Verdict {
+    /// It is this script, as `read_script` reads it, and a world begins with its genesis.
+    Good(Script),
+    /// It is no such script, and this is what is wrong.
+    Bad(Vec<Fault>),
+}
+
+/// Whether `read_script` answers a script whose genesis is allowed, and, where it doesn't, what is wrong: one fault at
+/// least.
+pub fn check(alloc: Global, bytes: &[u8]) -> Result<Verdict, AllocError>
+    ensures { IfOk result (IsVerdict bytes.now) }
+{
+    if bytes.len() > MOST_BYTES {
+        return Ok(Verdict::Bad(one_fault(alloc, Wrong::TooLong)?));
+    }
+    match Value::from_slice(alloc, bytes) {
+        Ok(value) => {
+            let verdict = check_value(alloc, bytes, &value);
+            drop(value);
+            verdict
+        }
+        Err(error) if error.is_memory() => Err(AllocError),
+        Err(_) => Ok(Verdict::Bad(one_fault(alloc, Wrong::NoJson)?)),
+    }
+}
+
+// What is said of a text that is this JSON value.
+fn check_value(alloc: Global, bytes: &[u8], value: &Value) -> Result<Verdict, AllocError>
+    ensures { IfOk result (IsVerdictOf (view value.now)) }
+{
+    match read_script(alloc, bytes) {
+        Ok(script) => check_genesis(alloc, value, script),
+        Err(Unread::NoMemory) => Err(AllocError),
+        Err(_) => Ok(Verdict::Bad(unread_faults(alloc, value)?)),
+    }
+}
+
+// What is said of a script that was read.
+fn check_genesis(alloc: Global, value: &Value, script: Script) -> Result<Verdict, AllocError>
+    ensures { IfOk result (IsVerdictOf (view value.now)) }
+{
+    if is_allowed(&script.genesis) {
+        return Ok(Verdict::Good(script));
+    }
+    let faults = unallowed_faults(alloc, value, &script.genesis);
+    drop(script);
+    Ok(Verdict::Bad(faults?))
+}
+
+// What is wrong with a value that is no script.
+fn unread_faults(alloc: Global, value: &Value) -> Result<Vec<Fault>, AllocError>
+    ensures { IfOk result (λ faults. faults.items ≡ at_least_one (script_faults (view value.now))) }
+{
+    let mut faults = script_faults(alloc, value)?;
+    need_one(&mut faults)?;
+    Ok(faults)
+}
+
+// What is wrong with a script whose genesis isn't allowed.
+fn unallowed_faults(
+    alloc: Global,
+    value: &Value,
+    genesis: &Genesis,
+) -> Result<Vec<Fault>, AllocError>
+    ensures { IfOk result (λ faults. faults.items ≡ at_least_one (script_faults (view value.now) ++ genesis_faults (genesis_state genesis.now))) }
+{
+    let mut faults = script_faults(alloc, value)?;
+    genesis_faults(genesis, &mut faults)?;
+    need_one(&mut faults)?;
+    Ok(faults)
+}
+
+// Where nothing was found, the fault is that the text is no script.
+fn need_one(faults: &mut Vec<Fault>) -> Result<(), AllocError>
+    ensures { OnOk result (faults.new.items ≡ at_least_one faults.old.items) }
+{
+    if faults.is_empty() {
+        note(faults, Place::of(Part::Script), Wrong::NoScript)
+    } else {
+        Ok(())
+    }
+}
+
+// One fault, of the whole text.
+fn one_fault(alloc: Global, wrong: Wrong) -> Result<Vec<Fault>, AllocError>
+    ensures { IfOk result (λ faults. faults.items ≡ fault_at (place_of Part.Script) wrong) }
+{
+    let mut faults = Vec::new(alloc);
+    note(&mut faults, Place::of(Part::Script), wrong)?;
+    Ok(faults)
+}
