@@ -3,18 +3,18 @@ use Rattle.std.specs.Prelude.{true, false, List, [], ◌∷◌}
 use Rattle.ibc_lab.specs.declared.leaf.Leaf.TheVariants as leaf
 use Rattle.ibc_lab.specs.declared.member.Member.{Member}
 use Rattle.ibc_lab.specs.declared.member.Member.TheVariants as member
-use Rattle.ibc_lab.specs.declared.owed.Form.{Form}
-use Rattle.ibc_lab.specs.declared.owed.Form.TheVariants as form
+use Rattle.ibc_lab.specs.declared.owed.MemberForm.{MemberForm}
+use Rattle.ibc_lab.specs.declared.owed.MemberForm.TheVariants as form
 use Rattle.ibc_lab.specs.declared.owed.Owed.{Owed}
 use Rattle.ibc_lab.specs.declared.step_kind.StepKind.{StepKind}
 use Rattle.ibc_lab.specs.declared.step_kind.StepKind.TheVariants as kind
 use Rattle.ibc_lab.specs.declared.text_form.TextForm.TheVariants as text
 
 -- a member that has to be there, and one that may be left out
-abbrev pub must : Member → Form → Owed
+abbrev pub must : Member → MemberForm → Owed
 must name has = record { member = name; form = has; optional = false }
 
-abbrev pub may : Member → Form → Owed
+abbrev pub may : Member → MemberForm → Owed
 may name has = record { member = name; form = has; optional = true }
 
 abbrev pub amount_owed : Owed

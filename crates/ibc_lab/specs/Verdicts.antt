@@ -6,20 +6,20 @@ use Rattle.ibc_ids.specs.Texts.{Text}
 use Rattle.ibc_machine.specs.chain.Genesis.{GenesisState, genesis_state, is_allowed}
 use Rattle.ibc_lab.specs.declared.checking.Verdict.{Verdict}
 use Rattle.ibc_lab.specs.declared.checking.Verdict.TheVariants as verdict
-use Rattle.ibc_lab.specs.declared.fault.Fault.{Fault}
-use Rattle.ibc_lab.specs.declared.fault.Wrong.TheVariants as wrong
-use Rattle.ibc_lab.specs.declared.place.Part.TheVariants as part
+use Rattle.ibc_lab.specs.declared.fault.ScriptFault.{ScriptFault}
+use Rattle.ibc_lab.specs.declared.fault.FaultKind.TheVariants as wrong
+use Rattle.ibc_lab.specs.declared.place.ScriptPart.TheVariants as part
 use Rattle.ibc_lab.specs.Faults.{fault_at, script_faults}
 use Rattle.ibc_lab.specs.GenesisFaults.{genesis_faults}
 use Rattle.ibc_lab.specs.Places.{place_of}
 
 -- these faults, or, where there are none, that it is no script
-abbrev pub at_least_one : List Fault → List Fault
+abbrev pub at_least_one : List ScriptFault → List ScriptFault
 at_least_one [] = fault_at (place_of part.Script) wrong.NoScript
 at_least_one (f ∷ fs) = f ∷ fs
 
 -- the faults of the value of a script that wasn't read, or of one with a genesis that isn't allowed
-abbrev pub AreValueFaults : Data → List Fault → Type 0
+abbrev pub AreValueFaults : Data → List ScriptFault → Type 0
 AreValueFaults d faults =
     (faults ≡ at_least_one (script_faults d))
     ⊎ ((genesis : GenesisState) × (is_allowed genesis ≡ false) × (faults ≡ at_least_one (script_faults d ++ genesis_faults genesis)))

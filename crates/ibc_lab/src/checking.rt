@@ -11,7 +11,7 @@ ghost use Rattle.ibc_lab.specs.Verdicts.{IsVerdict, IsVerdictOf, at_least_one};
 use crate::fault::note;
 use crate::genesis::genesis_faults;
 use crate::judge::script_faults;
-use crate::{Fault, Part, Place, Wrong};
+use crate::{FaultKind, ScriptFault, ScriptPart, ScriptPlace};
 use ibc_ledger::is_allowed;
 use ibc_machine::Genesis;
 use ibc_script::{Fault as Unread, MOST_BYTES, Script, read_script};
@@ -24,7 +24,7 @@ pub enum Verdict {
     /// It is this script, as `read_script` reads it, and a world begins with its genesis.
     Good(Script),
     /// It is no such script, and this is what is wrong.
-    Bad(Vec<Fault>),
+    Bad(Vec<ScriptFault>),
 }
 
 /// Whether `read_script` answers a script whose genesis is allowed, and, where it doesn't, what is wrong: one fault at
@@ -33,7 +33,7 @@ pub fn check(alloc: Global, bytes: &[u8]) -> Result<Verdict, AllocError>
     ensures { IfOk result (IsVerdict bytes.now) }
 {
     if bytes.len() > MOST_BYTES {
-        return Ok(Verdict::Bad(one_fault(alloc, Wrong::TooLong)?));
+        return Ok(Verdict::Bad(one_fault(alloc, FaultKind::TooLong)?));
     }
     match Value::from_slice(alloc, bytes) {
         Ok(value) => {
@@ -42,7 +42,7 @@ pub fn check(alloc: Global, bytes: &[u8]) -> Result<Verdict, AllocError>
             verdict
         }
         Err(error) if error.is_memory() => Err(AllocError),
-        Err(_) => Ok(Verdict::Bad(one_fault(alloc, Wrong::NoJson)?)),
+        Err(_) => Ok(Verdict::Bad(one_fault(alloc, FaultKind::NoJson)?)),
     }
 }
 
@@ -70,7 +70,7 @@ fn check_genesis(alloc: Global, value: &Value, script: Script) -> Result<Verdict
 }
 
 // What is wrong with a value that is no script.
-fn unread_faults(alloc: Global, value: &Value) -> Result<Vec<Fault>, AllocError>
+fn unread_faults(alloc: Global, value: &Value) -> Result<Vec<ScriptFault>, AllocError>
     ensures { IfOk result (λ faults. faults.items ≡ at_least_one (script_faults (view value.now))) }
 {
     let mut faults = script_faults(alloc, value)?;
@@ -83,7 +83,7 @@ fn unallowed_faults(
     alloc: Global,
     value: &Value,
     genesis: &Genesis,
-) -> Result<Vec<Fault>, AllocError>
+) -> Result<Vec<ScriptFault>, AllocError>
     ensures { IfOk result (λ faults. faults.items ≡ at_least_one (script_faults (view value.now) ++ genesis_faults (genesis_state genesis.now))) }
 {
     let mut faults = script_faults(alloc, value)?;
@@ -93,21 +93,25 @@ fn unallowed_faults(
 }
 
 // Where nothing was found, the fault is that the text is no script.
-fn need_one(faults: &mut Vec<Fault>) -> Result<(), AllocError>
+fn need_one(faults: &mut Vec<ScriptFault>) -> Result<(), AllocError>
     ensures { OnOk result (faults.new.items ≡ at_least_one faults.old.items) }
 {
     if faults.is_empty() {
-        note(faults, Place::of(Part::Script), Wrong::NoScript)
+        note(
+            faults,
+            ScriptPlace::of(ScriptPart::Script),
+            FaultKind::NoScript,
+        )
     } else {
         Ok(())
     }
 }
 
 // One fault, of the whole text.
-fn one_fault(alloc: Global, wrong: Wrong) -> Result<Vec<Fault>, AllocError>
-    ensures { IfOk result (λ faults. faults.items ≡ fault_at (place_of Part.Script) wrong) }
+fn one_fault(alloc: Global, wrong: FaultKind) -> Result<Vec<ScriptFault>, AllocError>
+    ensures { IfOk result (λ faults. faults.items ≡ fault_at (place_of ScriptPart.Script) wrong) }
 {
     let mut faults = Vec::new(alloc);
-    note(&mut faults, Place::of(Part::Script), wrong)?;
+    note(&mut faults, ScriptPlace::of(ScriptPart::Script), wrong)?;
     Ok(faults)
 }

@@ -4,7 +4,7 @@ ghost use Rattle.std.specs.Prelude.{◌≡◌, ◌++◌, OnOk};
 ghost use Rattle.ibc_lab.specs.Forms.{parts_of};
 ghost use Rattle.ibc_lab.specs.Faults.{fault_at};
 
-use crate::{Leaf, Member, Place, TextForm};
+use crate::{Leaf, Member, ScriptPlace, TextForm};
 use ibc_ids::Bytes;
 use std::alloc::AllocError;
 
@@ -23,7 +23,7 @@ pub enum Tuple {
 
 /// What is wrong.
 #[derive(Drop)]
-pub enum Wrong {
+pub enum FaultKind {
     /// What stands there isn't of the form.
     Leaf(Leaf),
     /// What stands there is no such list.
@@ -56,9 +56,9 @@ pub enum Wrong {
 
 /// What is wrong, and where.
 #[derive(Drop)]
-pub struct Fault {
-    pub place: Place,
-    pub wrong: Wrong,
+pub struct ScriptFault {
+    pub place: ScriptPlace,
+    pub wrong: FaultKind,
 }
 
 impl Tuple {
@@ -85,9 +85,13 @@ impl Tuple {
 }
 
 /// Notes a fault behind those that were found before.
-pub fn note(found: &mut Vec<Fault>, place: Place, wrong: Wrong) -> Result<(), AllocError>
+pub fn note(
+    found: &mut Vec<ScriptFault>,
+    place: ScriptPlace,
+    wrong: FaultKind,
+) -> Result<(), AllocError>
     ensures { OnOk result (found.new.items ≡ found.old.items ++ fault_at place wrong) }
 {
-    found.push(Fault { place, wrong })?;
+    found.push(ScriptFault { place, wrong })?;
     Ok(())
 }

@@ -6,31 +6,31 @@ ghost use Rattle.ibc_machine.specs.chain.Genesis.{chain_state, genesis_state, is
 ghost use Rattle.ibc_lab.specs.GenesisFaults.{are_small, chains_faults, genesis_faults, holdings_faults, too_much_faults, twice_faults, window_faults};
 
 use crate::fault::note;
-use crate::{Fault, Member, Part, Place, Wrong};
+use crate::{FaultKind, Member, ScriptFault, ScriptPart, ScriptPlace};
 use ibc_ids::{Denom, UserName};
 use ibc_machine::{ChainStart, Genesis};
 use std::alloc::AllocError;
 
 /// Notes what is wrong with a genesis, each fault with its place in the script, beside what the forms of its values tell.
-pub fn genesis_faults(genesis: &Genesis, found: &mut Vec<Fault>) -> Result<(), AllocError>
+pub fn genesis_faults(genesis: &Genesis, found: &mut Vec<ScriptFault>) -> Result<(), AllocError>
     ensures { OnOk result (found.new.items ≡ found.old.items ++ genesis_faults (genesis_state genesis.now)) }
 {
     window(genesis, found)?;
     chains(genesis.chains.as_slice(), found)
 }
 
-fn window(genesis: &Genesis, found: &mut Vec<Fault>) -> Result<(), AllocError>
+fn window(genesis: &Genesis, found: &mut Vec<ScriptFault>) -> Result<(), AllocError>
     ensures { OnOk result (found.new.items ≡ found.old.items ++ window_faults (genesis_state genesis.now)) }
 {
     if genesis.window <= genesis.capacity {
         Ok(())
     } else {
-        let place = Place::of(Part::Script).member(Member::Window);
-        note(found, place, Wrong::AboveCapacity)
+        let place = ScriptPlace::of(ScriptPart::Script).member(Member::Window);
+        note(found, place, FaultKind::AboveCapacity)
     }
 }
 
-fn chains(starts: &[ChainStart], found: &mut Vec<Fault>) -> Result<(), AllocError>
+fn chains(starts: &[ChainStart], found: &mut Vec<ScriptFault>) -> Result<(), AllocError>
     ensures { OnOk result (found.new.items ≡ found.old.items ++ chains_faults 0 (map chain_state starts.now)) }
 {
     for (chain, start) in starts.iter().enumerate() {
@@ -43,12 +43,12 @@ fn chains(starts: &[ChainStart], found: &mut Vec<Fault>) -> Result<(), AllocErro
 fn holdings(
     chain: usize,
     all: &[(UserName, Denom, u128)],
-    found: &mut Vec<Fault>,
+    found: &mut Vec<ScriptFault>,
 ) -> Result<(), AllocError>
     ensures { OnOk result (found.new.items ≡ found.old.items ++ holdings_faults chain all.now 0 all.now) }
 {
     for (index, holding) in all.iter().enumerate() {
-        let place = Place::of(Part::Chain(chain))
+        let place = ScriptPlace::of(ScriptPart::Chain(chain))
             .member(Member::Balances)
             .inside(index);
         held_twice(place, &all[..index], holding, found)?;
@@ -59,15 +59,15 @@ fn holdings(
 
 // A holding of a user and a denomination that one before it is of.
 fn held_twice(
-    place: Place,
+    place: ScriptPlace,
     before: &[(UserName, Denom, u128)],
     holding: &(UserName, Denom, u128),
-    found: &mut Vec<Fault>,
+    found: &mut Vec<ScriptFault>,
 ) -> Result<(), AllocError>
     ensures { OnOk result (found.new.items ≡ found.old.items ++ twice_faults place before.now holding.now) }
 {
     if is_held(before, holding) {
-        note(found, place, Wrong::HeldTwice)
+        note(found, place, FaultKind::HeldTwice)
     } else {
         Ok(())
     }
@@ -93,17 +93,17 @@ fn is_same_holding(one: &(UserName, Denom, u128), other: &(UserName, Denom, u128
 
 // The first holding with which those of the denomination are too much.
 fn too_much(
-    place: Place,
+    place: ScriptPlace,
     all: &[(UserName, Denom, u128)],
     index: usize,
     denom: &Denom,
-    found: &mut Vec<Fault>,
+    found: &mut Vec<ScriptFault>,
 ) -> Result<(), AllocError>
     requires { index < length all.now }
     ensures { OnOk result (found.new.items ≡ found.old.items ++ too_much_faults place denom.now index all.now) }
 {
     if !are_small(&all[..index + 1], denom) && are_small(&all[..index], denom) {
-        note(found, place.inside(2), Wrong::TooMuch)
+        note(found, place.inside(2), FaultKind::TooMuch)
     } else {
         Ok(())
     }

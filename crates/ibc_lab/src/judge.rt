@@ -12,14 +12,16 @@ use crate::fault::note;
 use crate::leaf::is_known;
 use crate::owed::{chain_owes, kind_owed, script_owes, step_owes};
 use crate::values::{item_text, items_at, items_in, items_of, kind_in, name_in};
-use crate::{Fault, Form, Leaf, Member, Owed, Part, Place, Tuple, Wrong};
+use crate::{
+    FaultKind, Leaf, Member, MemberForm, Owed, ScriptFault, ScriptPart, ScriptPlace, Tuple,
+};
 use ibc_ids::Bytes;
 use serde_json::{Map, Value};
 use std::alloc::{AllocError, Global};
 use std::cmp::Ordering;
 
 /// What is wrong with the value of a script, each fault with its place.
-pub fn script_faults(alloc: Global, script: &Value) -> Result<Vec<Fault>, AllocError>
+pub fn script_faults(alloc: Global, script: &Value) -> Result<Vec<ScriptFault>, AllocError>
     ensures { IfOk result (λ faults. faults.items ≡ script_faults (view script.now)) }
 {
     let mut found = Vec::new(alloc);
@@ -27,7 +29,12 @@ pub fn script_faults(alloc: Global, script: &Value) -> Result<Vec<Fault>, AllocE
         alloc,
         chains: items_at(script, "chains"),
     };
-    judge.object(Place::of(Part::Script), script_owes(), script, &mut found)?;
+    judge.object(
+        ScriptPlace::of(ScriptPart::Script),
+        script_owes(),
+        script,
+        &mut found,
+    )?;
     judge.chains(&mut found)?;
     judge.steps(items_at(script, "steps"), &mut found)?;
     Ok(found)
@@ -42,7 +49,7 @@ struct Judge<'v> {
 
 impl Judge<'_> {
     // The steps.
-    fn steps(&self, steps: &[Value], found: &mut Vec<Fault>) -> Result<(), AllocError>
+    fn steps(&self, steps: &[Value], found: &mut Vec<ScriptFault>) -> Result<(), AllocError>
         ensures { OnOk result (found.new.items ≡ found.old.items ++ steps_faults (map view self.now.chains.now) 0 (map view steps.now)) }
     {
         for (index, step) in steps.iter().enumerate() {
@@ -51,10 +58,15 @@ impl Judge<'_> {
         Ok(())
     }
 
-    fn step(&self, index: usize, step: &Value, found: &mut Vec<Fault>) -> Result<(), AllocError>
+    fn step(
+        &self,
+        index: usize,
+        step: &Value,
+        found: &mut Vec<ScriptFault>,
+    ) -> Result<(), AllocError>
         ensures { OnOk result (found.new.items ≡ found.old.items ++ step_faults (map view self.now.chains.now) index (view step.now)) }
     {
-        let place = Place::of(Part::Step(index));
+        let place = ScriptPlace::of(ScriptPart::Step(index));
         match kind_in(step) {
             Some(kind) => self.object(place, step_owes(kind), step, found),
             None => self.kindless(place, step, found),
@@ -62,17 +74,22 @@ impl Judge<'_> {
     }
 
     // A step that names no kind.
-    fn kindless(&self, place: Place, step: &Value, found: &mut Vec<Fault>) -> Result<(), AllocError>
+    fn kindless(
+        &self,
+        place: ScriptPlace,
+        step: &Value,
+        found: &mut Vec<ScriptFault>,
+    ) -> Result<(), AllocError>
         ensures { OnOk result (found.new.items ≡ found.old.items ++ kindless_faults (map view self.now.chains.now) place (view step.now) (as_object (view step.now))) }
     {
         match step.as_object() {
             Some(_) => self.member(place, kind_owed(), step, found),
-            None => note(found, place, Wrong::Object),
+            None => note(found, place, FaultKind::Object),
         }
     }
 
     // The script's chains.
-    fn chains(&self, found: &mut Vec<Fault>) -> Result<(), AllocError>
+    fn chains(&self, found: &mut Vec<ScriptFault>) -> Result<(), AllocError>
         ensures { OnOk result (found.new.items ≡ found.old.items ++ chains_faults (map view self.now.chains.now) 0 (map view self.now.chains.now)) }
     {
         for (index, chain) in self.chains.iter().enumerate() {
@@ -81,11 +98,16 @@ impl Judge<'_> {
         Ok(())
     }
 
-    fn chain(&self, index: usize, chain: &Value, found: &mut Vec<Fault>) -> Result<(), AllocError>
+    fn chain(
+        &self,
+        index: usize,
+        chain: &Value,
+        found: &mut Vec<ScriptFault>,
+    ) -> Result<(), AllocError>
         requires { index < length self.now.chains.now }
         ensures { OnOk result (found.new.items ≡ found.old.items ++ chain_faults (map view self.now.chains.now) index (view chain.now)) }
     {
-        let place = Place::of(Part::Chain(index));
+        let place = ScriptPlace::of(ScriptPart::Chain(index));
         self.object(place, chain_owes(), chain, found)?;
         self.name_twice(index, chain, found)
     }
@@ -95,14 +117,14 @@ impl Judge<'_> {
         &self,
         index: usize,
         chain: &Value,
-        found: &mut Vec<Fault>,
+        found: &mut Vec<ScriptFault>,
     ) -> Result<(), AllocError>
         requires { index < length self.now.chains.now }
         ensures { OnOk result (found.new.items ≡ found.old.items ++ name_twice_faults (map view self.now.chains.now) index (view chain.now)) }
     {
         if is_name_in(&self.chains[..index], chain) {
-            let place = Place::of(Part::Chain(index)).member(Member::Name);
-            note(found, place, Wrong::NameTwice)
+            let place = ScriptPlace::of(ScriptPart::Chain(index)).member(Member::Name);
+            note(found, place, FaultKind::NameTwice)
         } else {
             Ok(())
         }
@@ -112,10 +134,10 @@ impl Judge<'_> {
     #[tactic(auto, using(crate::proofs::Lists::names_in_map))]
     fn object(
         &self,
-        place: Place,
+        place: ScriptPlace,
         owed: &[Owed],
         object: &Value,
-        found: &mut Vec<Fault>,
+        found: &mut Vec<ScriptFault>,
     ) -> Result<(), AllocError>
         ensures { OnOk result (found.new.items ≡ found.old.items ++ object_faults (map view self.now.chains.now) place owed.now (view object.now)) }
     {
@@ -124,24 +146,24 @@ impl Judge<'_> {
                 self.unknown(place, owed, members, found)?;
                 self.members(place, owed, object, found)
             }
-            None => note(found, place, Wrong::Object),
+            None => note(found, place, FaultKind::Object),
         }
     }
 
     // The members that an object may not have.
     fn unknown(
         &self,
-        place: Place,
+        place: ScriptPlace,
         owed: &[Owed],
         members: &Map<String, Value>,
-        found: &mut Vec<Fault>,
+        found: &mut Vec<ScriptFault>,
     ) -> Result<(), AllocError>
         ensures { OnOk result (found.new.items ≡ found.old.items ++ unknown_faults place owed.now (map string_bytes (keys members.now))) }
     {
         for name in members.keys() {
             if !is_owed(owed, name.as_str()) {
                 let name = Bytes::copy_of(self.alloc, name.as_bytes())?;
-                note(found, place, Wrong::Unknown(name))?;
+                note(found, place, FaultKind::Unknown(name))?;
             }
         }
         Ok(())
@@ -150,10 +172,10 @@ impl Judge<'_> {
     // The members that an object owes.
     fn members(
         &self,
-        place: Place,
+        place: ScriptPlace,
         owed: &[Owed],
         object: &Value,
-        found: &mut Vec<Fault>,
+        found: &mut Vec<ScriptFault>,
     ) -> Result<(), AllocError>
         ensures { OnOk result (found.new.items ≡ found.old.items ++ members_faults (map view self.now.chains.now) place owed.now (view object.now)) }
     {
@@ -165,10 +187,10 @@ impl Judge<'_> {
 
     fn member(
         &self,
-        place: Place,
+        place: ScriptPlace,
         owed: Owed,
         object: &Value,
-        found: &mut Vec<Fault>,
+        found: &mut Vec<ScriptFault>,
     ) -> Result<(), AllocError>
         ensures { OnOk result (found.new.items ≡ found.old.items ++ member_faults (map view self.now.chains.now) place owed (view object.now)) }
     {
@@ -180,26 +202,26 @@ impl Judge<'_> {
 
     fn form(
         &self,
-        place: Place,
-        form: Form,
+        place: ScriptPlace,
+        form: MemberForm,
         value: &Value,
-        found: &mut Vec<Fault>,
+        found: &mut Vec<ScriptFault>,
     ) -> Result<(), AllocError>
         ensures { OnOk result (found.new.items ≡ found.old.items ++ form_faults (map view self.now.chains.now) place form (view value.now)) }
     {
         match form {
-            Form::Leaf(leaf) => self.leaf(place, leaf, value, found),
-            Form::Pair => {
+            MemberForm::Leaf(leaf) => self.leaf(place, leaf, value, found),
+            MemberForm::Pair => {
                 self.tuple(place, Tuple::Pair, value, found)?;
                 one_chain(place, value, found)
             }
-            Form::Packet => self.tuple(place, Tuple::Packet, value, found),
-            Form::Tokens => {
+            MemberForm::Packet => self.tuple(place, Tuple::Packet, value, found),
+            MemberForm::Tokens => {
                 self.leaf(place, Leaf::List(1, 8), value, found)?;
                 self.each(place, Tuple::Token, items_of(value), found)?;
                 rising(place, items_of(value), found)
             }
-            Form::Balances => {
+            MemberForm::Balances => {
                 self.leaf(place, Leaf::List(0, usize::MAX), value, found)?;
                 self.each(place, Tuple::Balance, items_of(value), found)
             }
@@ -208,27 +230,27 @@ impl Judge<'_> {
 
     fn leaf(
         &self,
-        place: Place,
+        place: ScriptPlace,
         leaf: Leaf,
         value: &Value,
-        found: &mut Vec<Fault>,
+        found: &mut Vec<ScriptFault>,
     ) -> Result<(), AllocError>
         ensures { OnOk result (found.new.items ≡ found.old.items ++ leaf_faults (map view self.now.chains.now) place leaf (view value.now)) }
     {
         if leaf.fits(self.alloc, self.chains, value)? {
             Ok(())
         } else {
-            note(found, place, Wrong::Leaf(leaf))
+            note(found, place, FaultKind::Leaf(leaf))
         }
     }
 
     // Lists of a fixed number of items, one after another.
     fn each(
         &self,
-        place: Place,
+        place: ScriptPlace,
         tuple: Tuple,
         items: &[Value],
-        found: &mut Vec<Fault>,
+        found: &mut Vec<ScriptFault>,
     ) -> Result<(), AllocError>
         ensures { OnOk result (found.new.items ≡ found.old.items ++ each_faults (map view self.now.chains.now) place tuple 0 (map view items.now)) }
     {
@@ -240,31 +262,31 @@ impl Judge<'_> {
 
     fn tuple(
         &self,
-        place: Place,
+        place: ScriptPlace,
         tuple: Tuple,
         value: &Value,
-        found: &mut Vec<Fault>,
+        found: &mut Vec<ScriptFault>,
     ) -> Result<(), AllocError>
         ensures { OnOk result (found.new.items ≡ found.old.items ++ tuple_faults (map view self.now.chains.now) place tuple (view value.now)) }
     {
         let parts = tuple.parts();
         let Some(items) = items_in(value) else {
-            return note(found, place, Wrong::Tuple(tuple));
+            return note(found, place, FaultKind::Tuple(tuple));
         };
         if items.len() == parts.len() {
             self.parts(place, parts, items, found)
         } else {
-            note(found, place, Wrong::Tuple(tuple))
+            note(found, place, FaultKind::Tuple(tuple))
         }
     }
 
     // Items, each of the form at its place.
     fn parts(
         &self,
-        place: Place,
+        place: ScriptPlace,
         parts: &[Leaf],
         items: &[Value],
-        found: &mut Vec<Fault>,
+        found: &mut Vec<ScriptFault>,
     ) -> Result<(), AllocError>
         requires { length items.now ≡ length parts.now }
         ensures { OnOk result (found.new.items ≡ found.old.items ++ parts_faults (map view self.now.chains.now) place 0 parts.now (map view items.now)) }
@@ -298,22 +320,26 @@ fn is_owed(owed: &[Owed], name: &str) -> bool
 }
 
 // A member that isn't there.
-fn missing(place: Place, owed: Owed, found: &mut Vec<Fault>) -> Result<(), AllocError>
+fn missing(place: ScriptPlace, owed: Owed, found: &mut Vec<ScriptFault>) -> Result<(), AllocError>
     ensures { OnOk result (found.new.items ≡ found.old.items ++ missing_faults place owed) }
 {
     if owed.optional {
         Ok(())
     } else {
-        note(found, place, Wrong::Missing(owed.member))
+        note(found, place, FaultKind::Missing(owed.member))
     }
 }
 
 // Two chains that are one.
-fn one_chain(place: Place, value: &Value, found: &mut Vec<Fault>) -> Result<(), AllocError>
+fn one_chain(
+    place: ScriptPlace,
+    value: &Value,
+    found: &mut Vec<ScriptFault>,
+) -> Result<(), AllocError>
     ensures { OnOk result (found.new.items ≡ found.old.items ++ one_chain_faults place (view value.now)) }
 {
     if are_one(item_text(value, 0), item_text(value, 1)) {
-        note(found, place, Wrong::OneChain)
+        note(found, place, FaultKind::OneChain)
     } else {
         Ok(())
     }
@@ -332,13 +358,17 @@ fn are_one(first: Option<&str>, second: Option<&str>) -> bool
 }
 
 // Tokens whose denominations don't rise.
-fn rising(place: Place, tokens: &[Value], found: &mut Vec<Fault>) -> Result<(), AllocError>
+fn rising(
+    place: ScriptPlace,
+    tokens: &[Value],
+    found: &mut Vec<ScriptFault>,
+) -> Result<(), AllocError>
     ensures { OnOk result (found.new.items ≡ found.old.items ++ rising_faults place (map view tokens.now)) }
 {
     if rise(tokens) {
         Ok(())
     } else {
-        note(found, place, Wrong::NotRising)
+        note(found, place, FaultKind::NotRising)
     }
 }
 

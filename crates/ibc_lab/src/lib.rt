@@ -20,12 +20,12 @@ mod texts;
 mod values;
 
 pub use checking::{Verdict, check};
-pub use fault::{Fault, Tuple, Wrong};
+pub use fault::{FaultKind, ScriptFault, Tuple};
 pub use judge::script_faults;
 pub use leaf::Leaf;
 pub use member::Member;
-pub use owed::{Form, Owed};
-pub use place::{Part, Place};
+pub use owed::{MemberForm, Owed};
+pub use place::{ScriptPart, ScriptPlace};
 pub use position::{Spot, spot_at};
 pub use reporting::{MOST_LINES, report};
 pub use step_kind::StepKind;

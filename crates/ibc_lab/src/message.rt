@@ -4,7 +4,7 @@ use crate::nearest::nearest;
 use crate::owed::{chain_owes, script_owes, step_owes};
 use crate::step_kind::ALL_KINDS;
 use crate::values::{items_at, items_in, kind_in, name_in};
-use crate::{Leaf, Member, Owed, Part, Place, TextForm, Tuple, Wrong};
+use crate::{FaultKind, Leaf, Member, Owed, ScriptPart, ScriptPlace, TextForm, Tuple};
 use ibc_ids::Bytes;
 use serde_json::Value;
 use std::alloc::{AllocError, Global};
@@ -13,17 +13,17 @@ use std::alloc::{AllocError, Global};
 const MOST_SHOWN: usize = 60;
 
 /// Writes where a place is, as `steps[3].on`.
-pub fn write_place(out: &mut String, place: Place) -> Result<(), AllocError> {
+pub fn write_place(out: &mut String, place: ScriptPlace) -> Result<(), AllocError> {
     match place.object {
-        Part::Script if place.member.is_none() => out.push_str("the script")?,
-        Part::Script => {}
-        Part::Chain(index) => write!(out, "chains[{index}]")?,
-        Part::Step(index) => write!(out, "steps[{index}]")?,
+        ScriptPart::Script if place.member.is_none() => out.push_str("the script")?,
+        ScriptPart::Script => {}
+        ScriptPart::Chain(index) => write!(out, "chains[{index}]")?,
+        ScriptPart::Step(index) => write!(out, "steps[{index}]")?,
     }
     let Some(member) = place.member else {
         return Ok(());
     };
-    if !matches!(place.object, Part::Script) {
+    if !matches!(place.object, ScriptPart::Script) {
         out.push('.')?;
     }
     out.push_str(member.name())?;
@@ -37,7 +37,7 @@ pub fn write_place(out: &mut String, place: Place) -> Result<(), AllocError> {
 }
 
 /// What stands at a place of a script.
-pub fn value_at(script: &Value, place: Place) -> Option<&Value> {
+pub fn value_at(script: &Value, place: ScriptPlace) -> Option<&Value> {
     let mut value = object_at(script, place.object)?;
     if let Some(member) = place.member {
         value = value.get(member.name())?;
@@ -51,11 +51,11 @@ pub fn value_at(script: &Value, place: Place) -> Option<&Value> {
     Some(value)
 }
 
-fn object_at(script: &Value, part: Part) -> Option<&Value> {
+fn object_at(script: &Value, part: ScriptPart) -> Option<&Value> {
     match part {
-        Part::Script => Some(script),
-        Part::Chain(index) => script.get("chains")?.get(index),
-        Part::Step(index) => script.get("steps")?.get(index),
+        ScriptPart::Script => Some(script),
+        ScriptPart::Chain(index) => script.get("chains")?.get(index),
+        ScriptPart::Step(index) => script.get("steps")?.get(index),
     }
 }
 
@@ -64,33 +64,35 @@ pub fn write_wrong(
     alloc: Global,
     out: &mut String,
     script: &Value,
-    place: Place,
-    wrong: &Wrong,
+    place: ScriptPlace,
+    wrong: &FaultKind,
 ) -> Result<(), AllocError> {
     match wrong {
-        Wrong::Leaf(leaf) => write_leaf(alloc, out, script, place, *leaf),
-        Wrong::Tuple(tuple) => write_unfit(alloc, out, script, place, tuple_wanted(*tuple)),
-        Wrong::Object => write_unfit(alloc, out, script, place, "an object"),
-        Wrong::Missing(member) => {
+        FaultKind::Leaf(leaf) => write_leaf(alloc, out, script, place, *leaf),
+        FaultKind::Tuple(tuple) => write_unfit(alloc, out, script, place, tuple_wanted(*tuple)),
+        FaultKind::Object => write_unfit(alloc, out, script, place, "an object"),
+        FaultKind::Missing(member) => {
             let name = member.name();
             write!(out, "no member \"{name}\"")
         }
-        Wrong::Unknown(name) => write_unknown(alloc, out, script, place, name),
-        Wrong::NameTwice => out.push_str("a chain before this one has the name"),
-        Wrong::OneChain => out.push_str("two different chains, not one twice"),
-        Wrong::NotRising => out.push_str("the denominations have to rise strictly in byte order"),
-        Wrong::AboveCapacity => write_above(alloc, out, script, place),
-        Wrong::HeldTwice => out.push_str(
+        FaultKind::Unknown(name) => write_unknown(alloc, out, script, place, name),
+        FaultKind::NameTwice => out.push_str("a chain before this one has the name"),
+        FaultKind::OneChain => out.push_str("two different chains, not one twice"),
+        FaultKind::NotRising => out.push_str(
+            "the denominations have to rise strictly in byte order",
+        ),
+        FaultKind::AboveCapacity => write_above(alloc, out, script, place),
+        FaultKind::HeldTwice => out.push_str(
             "the user has the denomination in a balance before this one",
         ),
-        Wrong::TooMuch => {
+        FaultKind::TooMuch => {
             out.push_str(
                 "with this amount, those of the denomination on the chain aren't below 2^128",
             )
         }
-        Wrong::NoJson => out.push_str("no JSON"),
-        Wrong::TooLong => out.push_str("more than 1,048,576 bytes"),
-        Wrong::NoScript => out.push_str("no script that ibcworld runs"),
+        FaultKind::NoJson => out.push_str("no JSON"),
+        FaultKind::TooLong => out.push_str("more than 1,048,576 bytes"),
+        FaultKind::NoScript => out.push_str("no script that ibcworld runs"),
     }
 }
 
@@ -99,7 +101,7 @@ fn write_above(
     alloc: Global,
     out: &mut String,
     script: &Value,
-    place: Place,
+    place: ScriptPlace,
 ) -> Result<(), AllocError> {
     out.push_str("at most the capacity")?;
     if let Some(capacity) = script.get(Member::Capacity.name()) {
@@ -114,7 +116,7 @@ fn write_unfit(
     alloc: Global,
     out: &mut String,
     script: &Value,
-    place: Place,
+    place: ScriptPlace,
     wanted: &str,
 ) -> Result<(), AllocError> {
     out.push_str(wanted)?;
@@ -145,7 +147,7 @@ fn write_leaf(
     alloc: Global,
     out: &mut String,
     script: &Value,
-    place: Place,
+    place: ScriptPlace,
     leaf: Leaf,
 ) -> Result<(), AllocError> {
     match leaf {
@@ -175,7 +177,7 @@ fn write_list(
     alloc: Global,
     out: &mut String,
     script: &Value,
-    place: Place,
+    place: ScriptPlace,
     least: usize,
     most: usize,
 ) -> Result<(), AllocError> {
@@ -198,7 +200,7 @@ fn write_no_chain(
     alloc: Global,
     out: &mut String,
     script: &Value,
-    place: Place,
+    place: ScriptPlace,
 ) -> Result<(), AllocError> {
     let Some(name) = value_at(script, place).and_then(Value::as_str) else {
         return write_unfit(alloc, out, script, place, "a chain's name");
@@ -220,7 +222,7 @@ fn write_no_kind(
     alloc: Global,
     out: &mut String,
     script: &Value,
-    place: Place,
+    place: ScriptPlace,
 ) -> Result<(), AllocError> {
     let Some(name) = value_at(script, place).and_then(Value::as_str) else {
         return write_unfit(alloc, out, script, place, "the name of a step");
@@ -239,7 +241,7 @@ fn write_unknown(
     alloc: Global,
     out: &mut String,
     script: &Value,
-    place: Place,
+    place: ScriptPlace,
     name: &Bytes,
 ) -> Result<(), AllocError> {
     let Ok(name) = str::from_utf8(name.as_slice()) else {
@@ -256,11 +258,11 @@ fn write_unknown(
 }
 
 // What the object at a place has.
-fn owed_at(script: &Value, part: Part) -> &'static [Owed] {
+fn owed_at(script: &Value, part: ScriptPart) -> &'static [Owed] {
     match part {
-        Part::Script => script_owes(),
-        Part::Chain(_) => chain_owes(),
-        Part::Step(_) => match object_at(script, part).and_then(kind_in) {
+        ScriptPart::Script => script_owes(),
+        ScriptPart::Chain(_) => chain_owes(),
+        ScriptPart::Step(_) => match object_at(script, part).and_then(kind_in) {
             Some(kind) => step_owes(kind),
             None => &[],
         },
@@ -310,7 +312,7 @@ fn write_nearest_text(
     alloc: Global,
     out: &mut String,
     script: &Value,
-    place: Place,
+    place: ScriptPlace,
     form: TextForm,
 ) -> Result<(), AllocError> {
     let Some(value) = value_at(script, place) else {

@@ -7,7 +7,7 @@ use crate::{Leaf, Member, StepKind, TextForm};
 
 /// What a member of an object has to be.
 #[derive(Clone, Copy)]
-pub enum Form {
+pub enum MemberForm {
     /// A value without parts.
     Leaf(Leaf),
     /// Two different chains.
@@ -24,229 +24,229 @@ pub enum Form {
 #[derive(Clone, Copy)]
 pub struct Owed {
     pub member: Member,
-    pub form: Form,
+    pub form: MemberForm,
     pub optional: bool,
 }
 
 const AMOUNT: Owed = Owed {
     member: Member::Amount,
-    form: Form::Leaf(Leaf::Text(TextForm::Amount)),
+    form: MemberForm::Leaf(Leaf::Text(TextForm::Amount)),
     optional: false,
 };
 
 const APP: Owed = Owed {
     member: Member::App,
-    form: Form::Leaf(Leaf::Text(TextForm::Application)),
+    form: MemberForm::Leaf(Leaf::Text(TextForm::Application)),
     optional: false,
 };
 
 const BALANCES: Owed = Owed {
     member: Member::Balances,
-    form: Form::Balances,
+    form: MemberForm::Balances,
     optional: false,
 };
 
 const BLOCK_TIME: Owed = Owed {
     member: Member::Time,
-    form: Form::Leaf(Leaf::Number(0, u64::MAX)),
+    form: MemberForm::Leaf(Leaf::Number(0, u64::MAX)),
     optional: true,
 };
 
 const CAPACITY: Owed = Owed {
     member: Member::Capacity,
-    form: Form::Leaf(Leaf::Number(1, 1_000_000)),
+    form: MemberForm::Leaf(Leaf::Number(1, 1_000_000)),
     optional: false,
 };
 
 const CHAINS: Owed = Owed {
     member: Member::Chains,
-    form: Form::Leaf(Leaf::List(2, 8)),
+    form: MemberForm::Leaf(Leaf::List(2, 8)),
     optional: false,
 };
 
 const CHANNEL: Owed = Owed {
     member: Member::Channel,
-    form: Form::Leaf(Leaf::Text(TextForm::Channel)),
+    form: MemberForm::Leaf(Leaf::Text(TextForm::Channel)),
     optional: false,
 };
 
 const CLIENT: Owed = Owed {
     member: Member::Client,
-    form: Form::Leaf(Leaf::Text(TextForm::Client)),
+    form: MemberForm::Leaf(Leaf::Text(TextForm::Client)),
     optional: false,
 };
 
 const CONNECTION: Owed = Owed {
     member: Member::Connection,
-    form: Form::Leaf(Leaf::Text(TextForm::Connection)),
+    form: MemberForm::Leaf(Leaf::Text(TextForm::Connection)),
     optional: false,
 };
 
 const DATA: Owed = Owed {
     member: Member::Data,
-    form: Form::Leaf(Leaf::Base64),
+    form: MemberForm::Leaf(Leaf::Base64),
     optional: false,
 };
 
 const DENOM: Owed = Owed {
     member: Member::Denom,
-    form: Form::Leaf(Leaf::Text(TextForm::Denom)),
+    form: MemberForm::Leaf(Leaf::Text(TextForm::Denom)),
     optional: false,
 };
 
 const DO: Owed = Owed {
     member: Member::Do,
-    form: Form::Leaf(Leaf::Text(TextForm::Kind)),
+    form: MemberForm::Leaf(Leaf::Text(TextForm::Kind)),
     optional: false,
 };
 
 const FROM: Owed = Owed {
     member: Member::From,
-    form: Form::Leaf(Leaf::Known),
+    form: MemberForm::Leaf(Leaf::Known),
     optional: false,
 };
 
 const HEIGHT: Owed = Owed {
     member: Member::Height,
-    form: Form::Leaf(Leaf::Number(0, u64::MAX)),
+    form: MemberForm::Leaf(Leaf::Number(0, u64::MAX)),
     optional: false,
 };
 
 const MEMO: Owed = Owed {
     member: Member::Memo,
-    form: Form::Leaf(Leaf::Text(TextForm::Memo)),
+    form: MemberForm::Leaf(Leaf::Text(TextForm::Memo)),
     optional: true,
 };
 
 const NAME: Owed = Owed {
     member: Member::Name,
-    form: Form::Leaf(Leaf::Text(TextForm::Chain)),
+    form: MemberForm::Leaf(Leaf::Text(TextForm::Chain)),
     optional: false,
 };
 
 const OF: Owed = Owed {
     member: Member::Of,
-    form: Form::Leaf(Leaf::Known),
+    form: MemberForm::Leaf(Leaf::Known),
     optional: false,
 };
 
 const ON: Owed = Owed {
     member: Member::On,
-    form: Form::Leaf(Leaf::Known),
+    form: MemberForm::Leaf(Leaf::Known),
     optional: false,
 };
 
 const ORDER: Owed = Owed {
     member: Member::Order,
-    form: Form::Leaf(Leaf::Text(TextForm::Order)),
+    form: MemberForm::Leaf(Leaf::Text(TextForm::Order)),
     optional: false,
 };
 
 const PACKET: Owed = Owed {
     member: Member::Packet,
-    form: Form::Packet,
+    form: MemberForm::Packet,
     optional: false,
 };
 
 const PAIR: Owed = Owed {
     member: Member::Chains,
-    form: Form::Pair,
+    form: MemberForm::Pair,
     optional: false,
 };
 
 const PATH: Owed = Owed {
     member: Member::Path,
-    form: Form::Leaf(Leaf::Text(TextForm::Path)),
+    form: MemberForm::Leaf(Leaf::Text(TextForm::Path)),
     optional: false,
 };
 
 const PEER_CHANNEL: Owed = Owed {
     member: Member::PeerChannel,
-    form: Form::Leaf(Leaf::Text(TextForm::Channel)),
+    form: MemberForm::Leaf(Leaf::Text(TextForm::Channel)),
     optional: false,
 };
 
 const PEER_CLIENT: Owed = Owed {
     member: Member::PeerClient,
-    form: Form::Leaf(Leaf::Text(TextForm::Client)),
+    form: MemberForm::Leaf(Leaf::Text(TextForm::Client)),
     optional: false,
 };
 
 const PEER_CONNECTION: Owed = Owed {
     member: Member::PeerConnection,
-    form: Form::Leaf(Leaf::Text(TextForm::Connection)),
+    form: MemberForm::Leaf(Leaf::Text(TextForm::Connection)),
     optional: false,
 };
 
 const PEER_PORT: Owed = Owed {
     member: Member::PeerPort,
-    form: Form::Leaf(Leaf::Text(TextForm::Port)),
+    form: MemberForm::Leaf(Leaf::Text(TextForm::Port)),
     optional: false,
 };
 
 const PORT: Owed = Owed {
     member: Member::Port,
-    form: Form::Leaf(Leaf::Text(TextForm::Port)),
+    form: MemberForm::Leaf(Leaf::Text(TextForm::Port)),
     optional: false,
 };
 
 const RECEIVER: Owed = Owed {
     member: Member::Receiver,
-    form: Form::Leaf(Leaf::Text(TextForm::Receiver)),
+    form: MemberForm::Leaf(Leaf::Text(TextForm::Receiver)),
     optional: false,
 };
 
 const STEPS: Owed = Owed {
     member: Member::Steps,
-    form: Form::Leaf(Leaf::List(0, 10_000)),
+    form: MemberForm::Leaf(Leaf::List(0, 10_000)),
     optional: false,
 };
 
 const TIME: Owed = Owed {
     member: Member::Time,
-    form: Form::Leaf(Leaf::Number(0, u64::MAX)),
+    form: MemberForm::Leaf(Leaf::Number(0, u64::MAX)),
     optional: false,
 };
 
 const TIMEOUT_HEIGHT: Owed = Owed {
     member: Member::TimeoutHeight,
-    form: Form::Leaf(Leaf::Number(0, u64::MAX)),
+    form: MemberForm::Leaf(Leaf::Number(0, u64::MAX)),
     optional: false,
 };
 
 const TIMEOUT_TIME: Owed = Owed {
     member: Member::TimeoutTime,
-    form: Form::Leaf(Leaf::Number(0, u64::MAX)),
+    form: MemberForm::Leaf(Leaf::Number(0, u64::MAX)),
     optional: false,
 };
 
 const TOKENS: Owed = Owed {
     member: Member::Tokens,
-    form: Form::Tokens,
+    form: MemberForm::Tokens,
     optional: false,
 };
 
 const TURNS: Owed = Owed {
     member: Member::Turns,
-    form: Form::Leaf(Leaf::Number(1, 1_000)),
+    form: MemberForm::Leaf(Leaf::Number(1, 1_000)),
     optional: false,
 };
 
 const USER: Owed = Owed {
     member: Member::User,
-    form: Form::Leaf(Leaf::Text(TextForm::User)),
+    form: MemberForm::Leaf(Leaf::Text(TextForm::User)),
     optional: false,
 };
 
 const VERSION: Owed = Owed {
     member: Member::Version,
-    form: Form::Leaf(Leaf::Text(TextForm::Version)),
+    form: MemberForm::Leaf(Leaf::Text(TextForm::Version)),
     optional: false,
 };
 
 const WINDOW: Owed = Owed {
     member: Member::Window,
-    form: Form::Leaf(Leaf::Number(1, 4_096)),
+    form: MemberForm::Leaf(Leaf::Number(1, 4_096)),
     optional: true,
 };
 

@@ -7,7 +7,7 @@ use crate::Member;
 
 /// A part of a script that is an object by itself: the script, or the chain or the step at a place, from 0.
 #[derive(Clone, Copy)]
-pub enum Part {
+pub enum ScriptPart {
     Script,
     Chain(usize),
     Step(usize),
@@ -16,19 +16,19 @@ pub enum Part {
 /// Where something stands in a script: in which object, in which of its members, at which place of the list that the
 /// member is, and at which place of the list that stands there.
 #[derive(Clone, Copy)]
-pub struct Place {
-    pub object: Part,
+pub struct ScriptPlace {
+    pub object: ScriptPart,
     pub member: Option<Member>,
     pub item: Option<usize>,
     pub part: Option<usize>,
 }
 
-impl Place {
+impl ScriptPlace {
     /// The place of an object.
-    pub fn of(object: Part) -> Place
+    pub fn of(object: ScriptPart) -> ScriptPlace
         ensures { result ≡ place_of object }
     {
-        Place {
+        ScriptPlace {
             object,
             member: None,
             item: None,
@@ -37,10 +37,10 @@ impl Place {
     }
 
     /// The place of a member of the object that stands here.
-    pub fn member(self, member: Member) -> Place
+    pub fn member(self, member: Member) -> ScriptPlace
         ensures { result ≡ at_member self member }
     {
-        Place {
+        ScriptPlace {
             object: self.object,
             member: Some(member),
             item: self.item,
@@ -49,17 +49,17 @@ impl Place {
     }
 
     /// A place in the list that stands here, from 0.
-    pub fn inside(self, index: usize) -> Place
+    pub fn inside(self, index: usize) -> ScriptPlace
         ensures { result ≡ inside self index }
     {
         match self.item {
-            None => Place {
+            None => ScriptPlace {
                 object: self.object,
                 member: self.member,
                 item: Some(index),
                 part: self.part,
             },
-            Some(item) => Place {
+            Some(item) => ScriptPlace {
                 object: self.object,
                 member: self.member,
                 item: Some(item),

@@ -3,7 +3,7 @@
 ghost use Rattle.std.specs.Prelude.{◌≡◌, take};
 ghost use Rattle.ibc_lab.specs.Spots.{is_continuation, spot_of};
 
-use crate::{Part, Place};
+use crate::{ScriptPart, ScriptPlace};
 use serde_json::Value;
 use std::alloc::{AllocError, Global};
 
@@ -46,7 +46,7 @@ fn is_continuation(byte: u8) -> bool
 }
 
 /// The offset at which what stands at a place begins. Where it isn't there, that is what it would stand in.
-pub fn offset_of(alloc: Global, text: &[u8], place: Place) -> Result<usize, AllocError> {
+pub fn offset_of(alloc: Global, text: &[u8], place: ScriptPlace) -> Result<usize, AllocError> {
     let object = part_of(alloc, text, place.object)?;
     let Some(member) = place.member else {
         return Ok(offset_in(text, object));
@@ -65,7 +65,7 @@ pub fn offset_of(alloc: Global, text: &[u8], place: Place) -> Result<usize, Allo
 pub fn offset_of_name(
     alloc: Global,
     text: &[u8],
-    object: Part,
+    object: ScriptPart,
     name: &str,
 ) -> Result<usize, AllocError> {
     let object = part_of(alloc, text, object)?;
@@ -81,12 +81,12 @@ fn offset_in(text: &[u8], rest: &[u8]) -> usize {
 }
 
 // The text from a part of a script on.
-fn part_of<'t>(alloc: Global, text: &'t [u8], part: Part) -> Result<&'t [u8], AllocError> {
+fn part_of<'t>(alloc: Global, text: &'t [u8], part: ScriptPart) -> Result<&'t [u8], AllocError> {
     let script = next_value(text);
     match part {
-        Part::Script => Ok(script),
-        Part::Chain(index) => Ok(item_of(member_of(alloc, script, "chains")?, index)),
-        Part::Step(index) => Ok(item_of(member_of(alloc, script, "steps")?, index)),
+        ScriptPart::Script => Ok(script),
+        ScriptPart::Chain(index) => Ok(item_of(member_of(alloc, script, "chains")?, index)),
+        ScriptPart::Step(index) => Ok(item_of(member_of(alloc, script, "steps")?, index)),
     }
 }
 
@@ -109,7 +109,7 @@ fn member_of<'t>(alloc: Global, object: &'t [u8], name: &str) -> Result<&'t [u8]
 
 /// A member of an object: the text from its name on, from its value on, and behind it.
 #[derive(Clone, Copy)]
-struct Entry<'t> {
+struct MemberText<'t> {
     name: &'t [u8],
     value: &'t [u8],
     rest: &'t [u8],
@@ -120,7 +120,7 @@ fn entry_of<'t>(
     alloc: Global,
     object: &'t [u8],
     name: &str,
-) -> Result<Option<Entry<'t>>, AllocError> {
+) -> Result<Option<MemberText<'t>>, AllocError> {
     let mut found = None;
     let mut rest = behind_first(object);
     for _ in 0..object.len() {
@@ -135,13 +135,13 @@ fn entry_of<'t>(
     Ok(found)
 }
 
-fn next_entry(rest: &[u8]) -> Option<Entry<'_>> {
+fn next_entry(rest: &[u8]) -> Option<MemberText<'_>> {
     let name = next_value(rest);
     let Some(b'"') = name.first() else {
         return None;
     };
     let value = next_value(behind_text(name));
-    Some(Entry {
+    Some(MemberText {
         name,
         value,
         rest: behind_value(value),

@@ -3,7 +3,7 @@
 use crate::message::{write_place, write_wrong};
 use crate::position::{offset_of, offset_of_name, spot_at};
 use crate::syntax::reason_of;
-use crate::{Fault, Spot, Wrong};
+use crate::{FaultKind, ScriptFault, Spot};
 use serde_json::{Error, Value};
 use std::alloc::{AllocError, Global};
 
@@ -15,7 +15,7 @@ pub fn report(
     alloc: Global,
     file: &str,
     text: &[u8],
-    faults: &[Fault],
+    faults: &[ScriptFault],
 ) -> Result<String, AllocError> {
     let mut out = String::new(alloc);
     match Value::from_slice(alloc, text) {
@@ -36,7 +36,7 @@ fn write_faults(
     file: &str,
     text: &[u8],
     script: &Value,
-    faults: &[Fault],
+    faults: &[ScriptFault],
 ) -> Result<(), AllocError> {
     for (index, fault) in faults.iter().enumerate() {
         if index == MOST_LINES {
@@ -54,8 +54,8 @@ fn write_faults(
 }
 
 // A member that may not stand there is shown by its name, and all else by the value.
-fn offset_of_fault(alloc: Global, text: &[u8], fault: &Fault) -> Result<usize, AllocError> {
-    if let Wrong::Unknown(name) = &fault.wrong {
+fn offset_of_fault(alloc: Global, text: &[u8], fault: &ScriptFault) -> Result<usize, AllocError> {
+    if let FaultKind::Unknown(name) = &fault.wrong {
         if let Ok(name) = str::from_utf8(name.as_slice()) {
             return offset_of_name(alloc, text, fault.place.object, name);
         }
