@@ -28,11 +28,11 @@ use Rattle.ibc_lab.specs.Values.{item_text, items_at, items_in, items_of, kind_i
 use Rattle.ibc_lab.specs.Words.{member_name}
 
 abbrev pub fault_at : ScriptPlace → FaultKind → List ScriptFault
-fault_at place wrong = record { place = place; wrong = wrong } ∷ []
+fault_at place what = record { place = place; wrong = what } ∷ []
 
 -- a fault, unless something is so
 abbrev pub unless : Bool → ScriptPlace → FaultKind → List ScriptFault
-unless so place wrong = if so then [] else fault_at place wrong
+unless so place what = if so then [] else fault_at place what
 
 -- ---- values without parts, and lists of a fixed number of them
 
