@@ -1,13 +1,13 @@
 -- Which texts of a script have which form.
 use Rattle.std.specs.Prelude.{ℕ, codes, Bool, true, false, ◌&&◌, ◌||◌, not, nat_le, nat_lt, ◌==◌, List, [], ◌∷◌, length, slice_index, is_some, is_ok}
-use Rattle.std.specs.List.{list_all, slice_split}
+use Rattle.std.specs.List.{slice_split}
 use Rattle.std.specs.Str.{bytes_eq}
 use Rattle.std.specs.Ordering.{nat_cmp, match_ordering}
 use Rattle.std.specs.Cmp.Lexicographic.{slice_cmp}
 use Rattle.base64.specs.Engines.{standard}
 use Rattle.base64.specs.GeneralPurpose.{decode_of}
 use Rattle.ibc_ids.specs.Texts.{Text}
-use Rattle.ibc_ids.specs.Names.{is_port, is_client, is_connection, is_channel, is_user, is_receiver, is_memo, is_version, is_base_denom, is_denom, is_slash}
+use Rattle.ibc_ids.specs.Names.{is_made_of, is_port, is_client, is_connection, is_channel, is_user, is_receiver, is_memo, is_version, is_base_denom, is_denom, is_slash}
 use Rattle.ibc_script.specs.ChainNames.{is_chain_name}
 use Rattle.ibc_lab.specs.declared.text_form.TextForm.{TextForm}
 use Rattle.ibc_lab.specs.declared.text_form.TextForm.TheVariants as form
@@ -21,12 +21,17 @@ is_digit c = nat_le 48 c && nat_le c 57
 abbrev pub is_at_most : Text → Text → Bool
 is_at_most text most = match_ordering (slice_cmp nat_cmp text most) true true false
 
+-- one digit, or several of which the first isn't 0
+abbrev pub has_no_leading_zero : Text → Bool
+has_no_leading_zero digits = (length digits == 1) || not (slice_index digits 0 == 48)
+
+-- fewer digits, or as many that aren't above in byte order
+abbrev pub is_not_above : Text → Text → Bool
+is_not_above most digits = nat_lt (length digits) (length most) || is_at_most digits most
+
 -- decimal digits without leading zeros, of a number that is at most the one whose digits come first
 abbrev pub is_decimal_to : Text → Text → Bool
-is_decimal_to most text =
-    nat_le 1 (length text) && nat_le (length text) (length most) && list_all is_digit text
-    && ((length text == 1) || not (slice_index text 0 == 48))
-    && (nat_lt (length text) (length most) || is_at_most text most)
+is_decimal_to most text = is_made_of is_digit 1 (length most) text && has_no_leading_zero text && is_not_above most text
 
 -- 2^128 - 1
 abbrev pub most_amount : Text

@@ -1,9 +1,9 @@
 //! Which texts have which form.
 
-ghost use Rattle.std.specs.Prelude.{◌≡◌, ◌∷◌, ◌==◌, ◌&&◌, not, nat_lt, [], length, slice_index, MatchOption};
+ghost use Rattle.std.specs.Prelude.{◌≡◌, ◌∷◌, [], MatchOption};
 ghost use Rattle.std.specs.List.{list_all, slice_split};
-ghost use Rattle.ibc_ids.specs.Names.{is_slash, is_letter_or_digit, is_base_denom};
-ghost use Rattle.ibc_lab.specs.Texts.{after_channel, after_channels, after_kind, after_second, after_third, is_application, is_at_most, is_counter, is_decimal_to, is_digit, is_last_sequence, is_order, is_packet_kind, is_path, is_record_kind, text_fits};
+ghost use Rattle.ibc_ids.specs.Names.{is_made_of, is_slash, is_letter_or_digit, is_base_denom};
+ghost use Rattle.ibc_lab.specs.Texts.{after_channel, after_channels, after_kind, after_second, after_third, has_no_leading_zero, is_application, is_at_most, is_counter, is_decimal_to, is_digit, is_last_sequence, is_not_above, is_order, is_packet_kind, is_path, is_record_kind, text_fits};
 
 use crate::{StepKind, TextForm};
 use ibc_ids::{
@@ -85,9 +85,16 @@ fn are_digits(text: &[u8]) -> bool
     text.iter().all(|byte| is_digit(*byte))
 }
 
-// Whether one digit stands before no other, or is none of 0.
+// Whether the text is so many digits at most, and one at least.
+fn are_few_digits(text: &[u8], most: usize) -> bool
+    ensures { result ≡ is_made_of is_digit 1 most text.now }
+{
+    1 <= text.len() && text.len() <= most && are_digits(text)
+}
+
+// Whether there is one digit, or the first isn't 0.
 fn has_no_leading_zero(digits: &[u8]) -> bool
-    ensures { result ≡ ((length digits.now == 1) || not (slice_index digits.now 0 == 48)) }
+    ensures { result ≡ has_no_leading_zero digits.now }
 {
     digits.len() == 1 || digits.is_empty() || digits[0] != b'0'
 }
@@ -101,16 +108,20 @@ fn is_at_most(text: &str, most: &str) -> bool
     }
 }
 
+// Whether there are fewer digits, or as many that aren't above in byte order.
+fn is_not_above(most: &str, digits: &str) -> bool
+    ensures { result ≡ is_not_above most.now digits.now }
+{
+    digits.len() < most.len() || is_at_most(digits, most)
+}
+
 // Whether the text writes in decimal digits, without leading zeros, a number that is at most the one that `most` writes.
 fn is_decimal_to(most: &str, text: &str) -> bool
     ensures { result ≡ is_decimal_to most.now text.now }
 {
-    let digits = text.as_bytes();
-    1 <= digits.len()
-        && digits.len() <= most.len()
-        && are_digits(digits)
-        && has_no_leading_zero(digits)
-        && (digits.len() < most.len() || is_at_most(text, most))
+    are_few_digits(text.as_bytes(), most.len())
+        && has_no_leading_zero(text.as_bytes())
+        && is_not_above(most, text)
 }
 
 // What stands before the first slash, and what stands behind it.
