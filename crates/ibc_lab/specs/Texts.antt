@@ -21,9 +21,9 @@ is_digit c = nat_le 48 c && nat_le c 57
 abbrev pub is_at_most : Text → Text → Bool
 is_at_most text most = match_ordering (slice_cmp nat_cmp text most) true true false
 
--- one digit, or several of which the first isn't 0
-abbrev pub has_no_leading_zero : Text → Bool
-has_no_leading_zero digits = (length digits == 1) || not (slice_index digits 0 == 48)
+-- several digits, of which the first is 0
+abbrev pub has_leading_zero : Text → Bool
+has_leading_zero digits = nat_lt 1 (length digits) && (slice_index digits 0 == 48)
 
 -- fewer digits, or as many that aren't above in byte order
 abbrev pub is_not_above : Text → Text → Bool
@@ -31,7 +31,7 @@ is_not_above most digits = nat_lt (length digits) (length most) || is_at_most di
 
 -- decimal digits without leading zeros, of a number that is at most the one whose digits come first
 abbrev pub is_decimal_to : Text → Text → Bool
-is_decimal_to most text = is_made_of is_digit 1 (length most) text && has_no_leading_zero text && is_not_above most text
+is_decimal_to most text = is_made_of is_digit 1 (length most) text && not (has_leading_zero text) && is_not_above most text
 
 -- 2^128 - 1
 abbrev pub most_amount : Text

@@ -3,7 +3,7 @@
 ghost use Rattle.std.specs.Prelude.{◌≡◌, ◌∷◌, [], MatchOption};
 ghost use Rattle.std.specs.List.{list_all, slice_split};
 ghost use Rattle.ibc_ids.specs.Names.{is_made_of, is_slash, is_letter_or_digit, is_base_denom};
-ghost use Rattle.ibc_lab.specs.Texts.{after_channel, after_channels, after_kind, after_second, after_third, has_no_leading_zero, is_application, is_at_most, is_counter, is_decimal_to, is_digit, is_last_sequence, is_not_above, is_order, is_packet_kind, is_path, is_record_kind, text_fits};
+ghost use Rattle.ibc_lab.specs.Texts.{after_channel, after_channels, after_kind, after_second, after_third, has_leading_zero, is_application, is_at_most, is_counter, is_decimal_to, is_digit, is_last_sequence, is_not_above, is_order, is_packet_kind, is_path, is_record_kind, text_fits};
 
 use crate::{StepKind, TextForm};
 use ibc_ids::{
@@ -92,11 +92,11 @@ fn are_few_digits(text: &[u8], most: usize) -> bool
     1 <= text.len() && text.len() <= most && are_digits(text)
 }
 
-// Whether there is one digit, or the first isn't 0.
-fn has_no_leading_zero(digits: &[u8]) -> bool
-    ensures { result ≡ has_no_leading_zero digits.now }
+// Whether there are several digits, of which the first is 0.
+fn has_leading_zero(digits: &[u8]) -> bool
+    ensures { result ≡ has_leading_zero digits.now }
 {
-    digits.len() == 1 || digits.is_empty() || digits[0] != b'0'
+    digits.len() > 1 && digits[0] == b'0'
 }
 
 fn is_at_most(text: &str, most: &str) -> bool
@@ -120,7 +120,7 @@ fn is_decimal_to(most: &str, text: &str) -> bool
     ensures { result ≡ is_decimal_to most.now text.now }
 {
     are_few_digits(text.as_bytes(), most.len())
-        && has_no_leading_zero(text.as_bytes())
+        && !has_leading_zero(text.as_bytes())
         && is_not_above(most, text)
 }
 
