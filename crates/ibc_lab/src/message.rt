@@ -2,6 +2,7 @@
 
 use crate::nearest::nearest;
 use crate::owed::{chain_owes, script_owes, step_owes};
+use crate::position::{offset_of, value_text};
 use crate::step_kind::ALL_KINDS;
 use crate::values::{items_at, items_in, kind_in, name_in};
 use crate::{FaultKind, Leaf, Member, Owed, ScriptPart, ScriptPlace, TextForm, Tuple};
@@ -36,8 +37,223 @@ pub fn write_place(out: &mut String, place: ScriptPlace) -> Result<(), AllocErro
     Ok(())
 }
 
-/// What stands at a place of a script.
-pub fn value_at(script: &Value, place: ScriptPlace) -> Option<&Value> {
+/// A script and its text, of which faults are told.
+#[derive(Clone, Copy)]
+pub struct Telling<'t> {
+    pub alloc: Global,
+    pub script: &'t Value,
+    pub text: &'t [u8],
+}
+
+impl Telling<'_> {
+    /// Writes what is wrong at a place.
+    pub fn wrong(
+        &self,
+        out: &mut String,
+        place: ScriptPlace,
+        wrong: &FaultKind,
+    ) -> Result<(), AllocError> {
+        match wrong {
+            FaultKind::Leaf(leaf) => self.leaf(out, place, *leaf),
+            FaultKind::Tuple(tuple) => self.unfit(out, place, tuple_wanted(*tuple)),
+            FaultKind::Object => self.unfit(out, place, "an object"),
+            FaultKind::Missing(member) => {
+                let name = member.name();
+                write!(out, "no member \"{name}\"")
+            }
+            FaultKind::Unknown(name) => self.unknown(out, place, name),
+            FaultKind::AboveCapacity => self.above(out, place),
+            FaultKind::NameTwice => {
+                out.push_str("a chain before this one has the name ")?;
+                self.value(out, place)
+            }
+            FaultKind::OneChain => {
+                self.unfit(out, place.inside(0), "two different chains")?;
+                out.push_str(" twice")
+            }
+            FaultKind::NotRising => {
+                out.push_str("the denominations have to rise strictly in byte order")
+            }
+            FaultKind::HeldTwice => self.held_twice(out, place),
+            FaultKind::TooMuch => self.too_much(out, place),
+            FaultKind::NoJson => out.push_str("no JSON"),
+            FaultKind::TooLong => out.push_str("more than 1,048,576 bytes"),
+            FaultKind::NoScript => out.push_str("no script that ibcworld runs"),
+        }
+    }
+
+    // The window is above the capacity.
+    fn above(&self, out: &mut String, place: ScriptPlace) -> Result<(), AllocError> {
+        out.push_str("at most the capacity, which is ")?;
+        let capacity = ScriptPlace::of(ScriptPart::Script).member(Member::Capacity);
+        self.value(out, capacity)?;
+        self.unfit(out, place, "")
+    }
+
+    // A balance of a user and a denomination that one before it is of.
+    fn held_twice(&self, out: &mut String, place: ScriptPlace) -> Result<(), AllocError> {
+        self.value(out, place.inside(0))?;
+        out.push_str(" has ")?;
+        self.value(out, place.inside(1))?;
+        out.push_str(" in a balance before this one")
+    }
+
+    // The amount of a balance with which those of its denomination are too much.
+    fn too_much(&self, out: &mut String, place: ScriptPlace) -> Result<(), AllocError> {
+        let denom = ScriptPlace {
+            object: place.object,
+            member: place.member,
+            item: place.item,
+            part: Some(1),
+        };
+        out.push_str("with this amount, those of ")?;
+        self.value(out, denom)?;
+        out.push_str(" on the chain aren't below 2^128")
+    }
+
+    // What stands there isn't what is wanted.
+    fn unfit(&self, out: &mut String, place: ScriptPlace, wanted: &str) -> Result<(), AllocError> {
+        out.push_str(wanted)?;
+        out.push_str(", not ")?;
+        self.value(out, place)
+    }
+
+    // What stands at a place, as the text has it.
+    fn value(&self, out: &mut String, place: ScriptPlace) -> Result<(), AllocError> {
+        let offset = offset_of(self.alloc, self.text, place)?;
+        match str::from_utf8(value_text(self.text, offset)) {
+            Ok(shown) => write_shown(out, shown.trim_end()),
+            Err(_) => Ok(()),
+        }
+    }
+
+    fn leaf(&self, out: &mut String, place: ScriptPlace, leaf: Leaf) -> Result<(), AllocError> {
+        match leaf {
+            Leaf::Text(TextForm::Kind) => self.no_kind(out, place),
+            Leaf::Text(form) => {
+                self.unfit(out, place, text_wanted(form))?;
+                self.nearest_text(out, place, form)
+            }
+            Leaf::Known => self.no_chain(out, place),
+            Leaf::Base64 => self.unfit(out, place, "bytes in base64 with padding (RFC 4648)"),
+            Leaf::Number(least, most) => {
+                write!(out, "a whole number from {least} to {most}")?;
+                self.unfit(out, place, "")
+            }
+            Leaf::List(least, most) => self.list(out, place, least, most),
+        }
+    }
+
+    // A list with too few or too many items, or no list.
+    fn list(
+        &self,
+        out: &mut String,
+        place: ScriptPlace,
+        least: usize,
+        most: usize,
+    ) -> Result<(), AllocError> {
+        if most == usize::MAX {
+            out.push_str("a list")?;
+        } else {
+            write!(out, "a list of {least} to {most} items")?;
+        }
+        match value_at(self.script, place).and_then(items_in) {
+            Some(items) => {
+                let count = items.len();
+                write!(out, ", not of {count}")
+            }
+            None => self.unfit(out, place, ""),
+        }
+    }
+
+    // No chain has the name.
+    fn no_chain(&self, out: &mut String, place: ScriptPlace) -> Result<(), AllocError> {
+        let Some(name) = value_at(self.script, place).and_then(Value::as_str) else {
+            return self.unfit(out, place, "a chain's name");
+        };
+        out.push_str("no chain ")?;
+        self.value(out, place)?;
+        let mut names = Vec::new(self.alloc);
+        for chain in items_at(self.script, "chains") {
+            if let Some(name) = name_in(chain) {
+                names.push(name)?;
+            }
+        }
+        write_words(out, " (there are ", names.as_slice(), ")")?;
+        write_nearest(self.alloc, out, name, names.as_slice())
+    }
+
+    // No kind of steps has the name.
+    fn no_kind(&self, out: &mut String, place: ScriptPlace) -> Result<(), AllocError> {
+        let Some(name) = value_at(self.script, place).and_then(Value::as_str) else {
+            return self.unfit(out, place, "the name of a step");
+        };
+        out.push_str("no step ")?;
+        self.value(out, place)?;
+        let mut names = Vec::new(self.alloc);
+        for kind in &ALL_KINDS {
+            names.push(kind.name())?;
+        }
+        write_nearest(self.alloc, out, name, names.as_slice())
+    }
+
+    // A member that the object may not have.
+    fn unknown(
+        &self,
+        out: &mut String,
+        place: ScriptPlace,
+        name: &Bytes,
+    ) -> Result<(), AllocError> {
+        let Ok(name) = str::from_utf8(name.as_slice()) else {
+            return out.push_str("an unknown member");
+        };
+        out.push_str("unknown member \"")?;
+        write_shown(out, name)?;
+        out.push('"')?;
+        let mut names = Vec::new(self.alloc);
+        for owed in owed_at(self.script, place.object) {
+            names.push(owed.member.name())?;
+        }
+        write_words(out, " (there are ", names.as_slice(), ")")?;
+        write_nearest(self.alloc, out, name, names.as_slice())
+    }
+
+    // The nearest word to a text of a form that has few.
+    fn nearest_text(
+        &self,
+        out: &mut String,
+        place: ScriptPlace,
+        form: TextForm,
+    ) -> Result<(), AllocError> {
+        let Some(text) = value_at(self.script, place).and_then(Value::as_str) else {
+            return Ok(());
+        };
+        match form {
+            TextForm::Application => write_nearest(
+                self.alloc,
+                out,
+                text,
+                &["note", "transfer", "transfer2"],
+            ),
+            TextForm::Order => write_order(self.alloc, out, text),
+            _ => Ok(()),
+        }
+    }
+}
+
+// The order that is nearest to a word in any case.
+fn write_order(alloc: Global, out: &mut String, word: &str) -> Result<(), AllocError> {
+    let upper: String = word
+        .chars()
+        .map(|character| character.to_ascii_uppercase())
+        .collect(alloc)?;
+    let written = write_nearest(alloc, out, upper.as_str(), &["ORDERED", "UNORDERED"]);
+    drop(upper);
+    written
+}
+
+// What stands at a place of a script.
+fn value_at(script: &Value, place: ScriptPlace) -> Option<&Value> {
     let mut value = object_at(script, place.object)?;
     if let Some(member) = place.member {
         value = value.get(member.name())?;
@@ -59,204 +275,6 @@ fn object_at(script: &Value, part: ScriptPart) -> Option<&Value> {
     }
 }
 
-/// Writes what is wrong at a place.
-pub fn write_wrong(
-    alloc: Global,
-    out: &mut String,
-    script: &Value,
-    place: ScriptPlace,
-    wrong: &FaultKind,
-) -> Result<(), AllocError> {
-    match wrong {
-        FaultKind::Leaf(leaf) => write_leaf(alloc, out, script, place, *leaf),
-        FaultKind::Tuple(tuple) => write_unfit(alloc, out, script, place, tuple_wanted(*tuple)),
-        FaultKind::Object => write_unfit(alloc, out, script, place, "an object"),
-        FaultKind::Missing(member) => {
-            let name = member.name();
-            write!(out, "no member \"{name}\"")
-        }
-        FaultKind::Unknown(name) => write_unknown(alloc, out, script, place, name),
-        FaultKind::NameTwice => out.push_str("a chain before this one has the name"),
-        FaultKind::OneChain => out.push_str("two different chains, not one twice"),
-        FaultKind::NotRising => out.push_str(
-            "the denominations have to rise strictly in byte order",
-        ),
-        FaultKind::AboveCapacity => write_above(alloc, out, script, place),
-        FaultKind::HeldTwice => out.push_str(
-            "the user has the denomination in a balance before this one",
-        ),
-        FaultKind::TooMuch => {
-            out.push_str(
-                "with this amount, those of the denomination on the chain aren't below 2^128",
-            )
-        }
-        FaultKind::NoJson => out.push_str("no JSON"),
-        FaultKind::TooLong => out.push_str("more than 1,048,576 bytes"),
-        FaultKind::NoScript => out.push_str("no script that ibcworld runs"),
-    }
-}
-
-// The window is above the capacity.
-fn write_above(
-    alloc: Global,
-    out: &mut String,
-    script: &Value,
-    place: ScriptPlace,
-) -> Result<(), AllocError> {
-    out.push_str("at most the capacity")?;
-    if let Some(capacity) = script.get(Member::Capacity.name()) {
-        out.push_str(", which is ")?;
-        write_shown(alloc, out, capacity)?;
-    }
-    write_unfit(alloc, out, script, place, "")
-}
-
-// What stands there isn't what is wanted.
-fn write_unfit(
-    alloc: Global,
-    out: &mut String,
-    script: &Value,
-    place: ScriptPlace,
-    wanted: &str,
-) -> Result<(), AllocError> {
-    out.push_str(wanted)?;
-    match value_at(script, place) {
-        Some(value) => {
-            out.push_str(", not ")?;
-            write_shown(alloc, out, value)
-        }
-        None => Ok(()),
-    }
-}
-
-// A value as it stands, or its beginning.
-fn write_shown(alloc: Global, out: &mut String, value: &Value) -> Result<(), AllocError> {
-    let text = value.to_string(alloc)?;
-    let mut shown = 0usize;
-    for character in text.as_str().chars() {
-        if shown == MOST_SHOWN {
-            return out.push_str("..");
-        }
-        out.push(character)?;
-        shown += 1;
-    }
-    Ok(())
-}
-
-fn write_leaf(
-    alloc: Global,
-    out: &mut String,
-    script: &Value,
-    place: ScriptPlace,
-    leaf: Leaf,
-) -> Result<(), AllocError> {
-    match leaf {
-        Leaf::Text(TextForm::Kind) => write_no_kind(alloc, out, script, place),
-        Leaf::Text(form) => {
-            write_unfit(alloc, out, script, place, text_wanted(form))?;
-            write_nearest_text(alloc, out, script, place, form)
-        }
-        Leaf::Known => write_no_chain(alloc, out, script, place),
-        Leaf::Base64 => write_unfit(
-            alloc,
-            out,
-            script,
-            place,
-            "bytes in base64 with padding (RFC 4648)",
-        ),
-        Leaf::Number(least, most) => {
-            write!(out, "a whole number from {least} to {most}")?;
-            write_unfit(alloc, out, script, place, "")
-        }
-        Leaf::List(least, most) => write_list(alloc, out, script, place, least, most),
-    }
-}
-
-// A list with too few or too many items, or no list.
-fn write_list(
-    alloc: Global,
-    out: &mut String,
-    script: &Value,
-    place: ScriptPlace,
-    least: usize,
-    most: usize,
-) -> Result<(), AllocError> {
-    if most == usize::MAX {
-        out.push_str("a list")?;
-    } else {
-        write!(out, "a list of {least} to {most} items")?;
-    }
-    match value_at(script, place).and_then(items_in) {
-        Some(items) => {
-            let count = items.len();
-            write!(out, ", not of {count}")
-        }
-        None => write_unfit(alloc, out, script, place, ""),
-    }
-}
-
-// No chain has the name.
-fn write_no_chain(
-    alloc: Global,
-    out: &mut String,
-    script: &Value,
-    place: ScriptPlace,
-) -> Result<(), AllocError> {
-    let Some(name) = value_at(script, place).and_then(Value::as_str) else {
-        return write_unfit(alloc, out, script, place, "a chain's name");
-    };
-    out.push_str("no chain ")?;
-    write_quoted(alloc, out, name)?;
-    let mut names = Vec::new(alloc);
-    for chain in items_at(script, "chains") {
-        if let Some(name) = name_in(chain) {
-            names.push(name)?;
-        }
-    }
-    write_words(out, " (there are ", names.as_slice(), ")")?;
-    write_nearest(alloc, out, name, names.as_slice())
-}
-
-// No kind of steps has the name.
-fn write_no_kind(
-    alloc: Global,
-    out: &mut String,
-    script: &Value,
-    place: ScriptPlace,
-) -> Result<(), AllocError> {
-    let Some(name) = value_at(script, place).and_then(Value::as_str) else {
-        return write_unfit(alloc, out, script, place, "the name of a step");
-    };
-    out.push_str("no step ")?;
-    write_quoted(alloc, out, name)?;
-    let mut names = Vec::new(alloc);
-    for kind in &ALL_KINDS {
-        names.push(kind.name())?;
-    }
-    write_nearest(alloc, out, name, names.as_slice())
-}
-
-// A member that the object may not have.
-fn write_unknown(
-    alloc: Global,
-    out: &mut String,
-    script: &Value,
-    place: ScriptPlace,
-    name: &Bytes,
-) -> Result<(), AllocError> {
-    let Ok(name) = str::from_utf8(name.as_slice()) else {
-        return out.push_str("an unknown member");
-    };
-    out.push_str("unknown member ")?;
-    write_quoted(alloc, out, name)?;
-    let mut names = Vec::new(alloc);
-    for owed in owed_at(script, place.object) {
-        names.push(owed.member.name())?;
-    }
-    write_words(out, " (there are ", names.as_slice(), ")")?;
-    write_nearest(alloc, out, name, names.as_slice())
-}
-
 // What the object at a place has.
 fn owed_at(script: &Value, part: ScriptPart) -> &'static [Owed] {
     match part {
@@ -269,8 +287,16 @@ fn owed_at(script: &Value, part: ScriptPart) -> &'static [Owed] {
     }
 }
 
-fn write_quoted(alloc: Global, out: &mut String, text: &str) -> Result<(), AllocError> {
-    write_shown(alloc, out, &Value::try_from_str(alloc, text)?)
+// The first line of a text, or its beginning, without what moves a terminal's cursor.
+fn write_shown(out: &mut String, text: &str) -> Result<(), AllocError> {
+    for (count, character) in text.chars().enumerate() {
+        if count == MOST_SHOWN || character == '\n' {
+            return out.push_str("..");
+        }
+        let control = character < ' ' || ('\u{7f}' <= character && character <= '\u{9f}');
+        out.push(if control { '?' } else { character })?;
+    }
+    Ok(())
 }
 
 // Words between commas, with something before and behind them, where there are any.
@@ -282,7 +308,7 @@ fn write_words(
 ) -> Result<(), AllocError> {
     for (index, word) in words.iter().enumerate() {
         out.push_str(if index == 0 { before } else { ", " })?;
-        out.push_str(word)?;
+        write_shown(out, word)?;
     }
     if words.is_empty() {
         Ok(())
@@ -300,36 +326,11 @@ fn write_nearest(
 ) -> Result<(), AllocError> {
     match nearest(alloc, word, known)? {
         Some(index) => {
-            let near = known[index];
-            write!(out, "; did you mean \"{near}\"?")
+            out.push_str("; did you mean \"")?;
+            write_shown(out, known[index])?;
+            out.push_str("\"?")
         }
         None => Ok(()),
-    }
-}
-
-// The same for texts of a form that has few words; and where a number stands that has to be a text.
-fn write_nearest_text(
-    alloc: Global,
-    out: &mut String,
-    script: &Value,
-    place: ScriptPlace,
-    form: TextForm,
-) -> Result<(), AllocError> {
-    let Some(value) = value_at(script, place) else {
-        return Ok(());
-    };
-    let Some(text) = value.as_str() else {
-        return Ok(());
-    };
-    match form {
-        TextForm::Application => {
-            write_nearest(alloc, out, text, &["note", "transfer", "transfer2"])
-        }
-        TextForm::Order => {
-            let text = text.to_ascii_uppercase(alloc)?;
-            write_nearest(alloc, out, text.as_str(), &["ORDERED", "UNORDERED"])
-        }
-        _ => Ok(()),
     }
 }
 

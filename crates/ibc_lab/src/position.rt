@@ -75,6 +75,12 @@ pub fn offset_of_name(
     }
 }
 
+/// The value that begins at an offset, and the blanks behind it.
+pub fn value_text(text: &[u8], offset: usize) -> &[u8] {
+    let value = &text[offset.min(text.len())..];
+    &value[..offset_in(value, behind_value(value)).min(value.len())]
+}
+
 // The offset in a text of what begins with the rest of it.
 fn offset_in(text: &[u8], rest: &[u8]) -> usize {
     text.len().saturating_sub(rest.len())

@@ -1,6 +1,6 @@
 //! What is printed of a file's faults.
 
-use crate::message::{write_place, write_wrong};
+use crate::message::{Telling, write_place};
 use crate::position::{offset_of, offset_of_name, spot_at};
 use crate::syntax::reason_of;
 use crate::{FaultKind, ScriptFault, Spot};
@@ -20,7 +20,12 @@ pub fn report(
     let mut out = String::new(alloc);
     match Value::from_slice(alloc, text) {
         Ok(script) => {
-            let written = write_faults(alloc, &mut out, file, text, &script, faults);
+            let telling = Telling {
+                alloc,
+                script: &script,
+                text,
+            };
+            let written = write_faults(&telling, &mut out, file, faults);
             drop(script);
             written?;
         }
@@ -31,11 +36,9 @@ pub fn report(
 }
 
 fn write_faults(
-    alloc: Global,
+    telling: &Telling<'_>,
     out: &mut String,
     file: &str,
-    text: &[u8],
-    script: &Value,
     faults: &[ScriptFault],
 ) -> Result<(), AllocError> {
     for (index, fault) in faults.iter().enumerate() {
@@ -43,14 +46,23 @@ fn write_faults(
             let more = faults.len() - index;
             return writeln!(out, "{file}: and {more} more");
         }
-        let offset = offset_of_fault(alloc, text, fault)?;
-        write_front(out, file, spot_at(text, offset))?;
-        write_place(out, fault.place)?;
-        out.push_str(": ")?;
-        write_wrong(alloc, out, script, fault.place, &fault.wrong)?;
-        out.push('\n')?;
+        write_fault(telling, out, file, fault)?;
     }
     Ok(())
+}
+
+fn write_fault(
+    telling: &Telling<'_>,
+    out: &mut String,
+    file: &str,
+    fault: &ScriptFault,
+) -> Result<(), AllocError> {
+    let offset = offset_of_fault(telling.alloc, telling.text, fault)?;
+    write_front(out, file, spot_at(telling.text, offset))?;
+    write_place(out, fault.place)?;
+    out.push_str(": ")?;
+    telling.wrong(out, fault.place, &fault.wrong)?;
+    out.push('\n')
 }
 
 // A member that may not stand there is shown by its name, and all else by the value.
