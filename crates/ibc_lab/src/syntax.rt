@@ -40,8 +40,10 @@ fn reason_at(byte: u8, last: u8) -> &'static str {
         b'\'' => "texts stand between double quotes",
         b'}' | b']' if last == b',' => "a comma stands before the closing bracket",
         b',' if last == b',' => "a comma too much",
+        b'"' | b'{' | b'[' | b'0'..=b'9' | b'-' if last == b'"' => {
+            "a colon or a comma is missing here"
+        }
         b'"' | b'{' | b'[' | b'0'..=b'9' | b'-' if ends_value(last) => "a comma is missing here",
-        b'"' if last == b'"' => "a colon or a comma is missing here",
         b'A'..=b'Z' | b'a'..=b'z' => "a word that JSON doesn't have, or a text without quotes",
         b'+' | b'.' | b'0'..=b'9' | b'-' => "a number that JSON doesn't have",
         _ => "something else is wanted here",
@@ -49,5 +51,5 @@ fn reason_at(byte: u8, last: u8) -> &'static str {
 }
 
 fn ends_value(last: u8) -> bool {
-    matches!(last, b'"' | b'}' | b']' | b'0'..=b'9' | b'e' | b'l')
+    matches!(last, b'}' | b']' | b'0'..=b'9' | b'e' | b'l')
 }
