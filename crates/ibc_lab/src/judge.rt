@@ -113,6 +113,7 @@ impl Judge<'_> {
     }
 
     // A chain whose name one before it has.
+    #[tactic(auto, using(crate::proofs::Lists::take_of_views))]
     fn name_twice(
         &self,
         index: usize,
@@ -260,6 +261,7 @@ impl Judge<'_> {
         Ok(())
     }
 
+    #[tactic(auto, using(crate::proofs::Lists::length_of_views))]
     fn tuple(
         &self,
         place: ScriptPlace,

@@ -116,6 +116,7 @@ fn is_number(least: u64, most: u64, value: &Value) -> bool
     }
 }
 
+#[tactic(auto, using(crate::proofs::Lists::length_of_views))]
 fn is_list(least: usize, most: usize, value: &Value) -> bool
     ensures { result ≡ passes (has_length least most) (items_in (view value.now)) }
 {
