@@ -29,10 +29,14 @@ abbrev pub IsVerdictOf : Data → Verdict → Type 0
 IsVerdictOf d (verdict.Good script) = IsTrue (is_allowed (genesis_state script.genesis))
 IsVerdictOf d (verdict.Bad faults) = AreValueFaults d faults.items
 
--- the text is too long, no JSON, or a JSON value of which that is said
+-- the faults of a text that is too long, that is no JSON, or that is a JSON value
+abbrev pub AreFaultsOf : Text → List ScriptFault → Type 0
+AreFaultsOf text faults =
+    ((1048576 < length text) × (faults ≡ fault_at (place_of part.Script) wrong.TooLong))
+    ⊎ (((IsUtf8 text → read text ≡ None) × (faults ≡ fault_at (place_of part.Script) wrong.NoJson))
+    ⊎ ((d : Data) × (read text ≡ Some d) × AreValueFaults d faults))
+
+-- what may be said of a text
 abbrev pub IsVerdict : Text → Verdict → Type 0
 IsVerdict text (verdict.Good script) = IsTrue (is_allowed (genesis_state script.genesis))
-IsVerdict text (verdict.Bad faults) =
-    ((1048576 < length text) × (faults.items ≡ fault_at (place_of part.Script) wrong.TooLong))
-    ⊎ ((IsUtf8 text → read text ≡ None) × (faults.items ≡ fault_at (place_of part.Script) wrong.NoJson))
-    ⊎ ((d : Data) × (read text ≡ Some d) × AreValueFaults d faults.items)
+IsVerdict text (verdict.Bad faults) = AreFaultsOf text faults.items

@@ -29,6 +29,7 @@ pub enum Verdict {
 
 /// Whether `read_script` answers a script whose genesis is allowed, and, where it doesn't, what is wrong: one fault at
 /// least.
+#[tactic(auto, using(crate::proofs::Verdicts::verdict_of_text, crate::proofs::Verdicts::verdict_too_long, crate::proofs::Verdicts::verdict_no_json))]
 pub fn check(alloc: Global, bytes: &[u8]) -> Result<Verdict, AllocError>
     ensures { IfOk result (IsVerdict bytes.now) }
 {
@@ -47,6 +48,7 @@ pub fn check(alloc: Global, bytes: &[u8]) -> Result<Verdict, AllocError>
 }
 
 // What is said of a text that is this JSON value.
+#[tactic(auto, using(crate::proofs::Verdicts::verdict_unread))]
 fn check_value(alloc: Global, bytes: &[u8], value: &Value) -> Result<Verdict, AllocError>
     ensures { IfOk result (IsVerdictOf (view value.now)) }
 {
@@ -58,6 +60,7 @@ fn check_value(alloc: Global, bytes: &[u8], value: &Value) -> Result<Verdict, Al
 }
 
 // What is said of a script that was read.
+#[tactic(auto, using(crate::proofs::Verdicts::verdict_unallowed))]
 fn check_genesis(alloc: Global, value: &Value, script: Script) -> Result<Verdict, AllocError>
     ensures { IfOk result (IsVerdictOf (view value.now)) }
 {
