@@ -28,7 +28,7 @@ fn parser<'a>(alloc: Global) -> Result<Command<'a>, AllocError> {
         .value_name("FILE")
         .help("A script")
         .required(true)
-        .num_args(1..)
+        .num_args(1usize..)
         .action(ArgAction::Append);
     let check = Command::new(alloc, "check")
         .about(
@@ -48,9 +48,8 @@ fn parser<'a>(alloc: Global) -> Result<Command<'a>, AllocError> {
 /// The bytes of a file.
 fn read<R: Files + AllocGlobal>(rt: &R, file: &str) -> io::Result<Vec<u8>> {
     let mut bytes = Vec::new(rt.alloc());
-    fs::open(rt, file)?
-        .take(MOST_BYTES)
-        .read_to_end(&mut bytes)?;
+    let opened = fs::open(rt, file)?;
+    opened.take(MOST_BYTES).read_to_end(&mut bytes)?;
     Ok(bytes)
 }
 
@@ -64,7 +63,10 @@ fn check_text<R: Print + AllocGlobal>(rt: &R, file: &str, text: &[u8]) -> io::Re
         Verdict::Bad(faults) => {
             let lines = report(rt.alloc(), file, text, faults.as_slice());
             drop(faults);
-            rt.print(lines?.as_str())?;
+            let lines = lines?;
+            let printed = rt.print(lines.as_str());
+            drop(lines);
+            printed?;
             Ok(FOUND)
         }
     }
