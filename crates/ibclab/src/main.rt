@@ -46,7 +46,7 @@ fn parser<'a>(alloc: Global) -> Result<Command<'a>, AllocError> {
 }
 
 /// The bytes of a file.
-fn read<R: Files + AllocGlobal>(rt: &R, file: &str) -> io::Result<Vec<u8>> {
+fn bytes_of<R: Files + AllocGlobal>(rt: &R, file: &str) -> io::Result<Vec<u8>> {
     let mut bytes = Vec::new(rt.alloc());
     let opened = fs::open(rt, file)?;
     opened.take(MOST_BYTES).read_to_end(&mut bytes)?;
@@ -74,7 +74,7 @@ fn check_text<R: Print + AllocGlobal>(rt: &R, file: &str, text: &[u8]) -> io::Re
 
 /// Says what is wrong with a file. The result is the status.
 fn check_file<R: Files + Print + Eprint + AllocGlobal>(rt: &R, file: &str) -> io::Result<u8> {
-    match read(rt, file) {
+    match bytes_of(rt, file) {
         Ok(text) => {
             let status = check_text(rt, file, text.as_slice());
             drop(text);
