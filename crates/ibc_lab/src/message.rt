@@ -287,16 +287,31 @@ fn owed_at(script: &Value, part: ScriptPart) -> &'static [Owed] {
     }
 }
 
-// The first line of a text, or its beginning, without what moves a terminal's cursor.
+// A text or its beginning in one line, without what moves a terminal's cursor. Blanks that begin a line are left out.
 fn write_shown(out: &mut String, text: &str) -> Result<(), AllocError> {
-    for (count, character) in text.chars().enumerate() {
-        if count == MOST_SHOWN || character == '\n' {
+    let mut shown = 0usize;
+    let mut indented = false;
+    for character in text.chars() {
+        if character == '\n' || (indented && character == ' ') {
+            indented = true;
+            continue;
+        }
+        indented = false;
+        if shown == MOST_SHOWN {
             return out.push_str("..");
         }
-        let control = character < ' ' || ('\u{7f}' <= character && character <= '\u{9f}');
-        out.push(if control { '?' } else { character })?;
+        out.push(visible(character))?;
+        shown = shown.saturating_add(1);
     }
     Ok(())
+}
+
+fn visible(character: char) -> char {
+    if character < ' ' || ('\u{7f}' <= character && character <= '\u{9f}') {
+        '?'
+    } else {
+        character
+    }
 }
 
 // Words between commas, with something before and behind them, where there are any.
