@@ -292,7 +292,7 @@ fn write_shown(out: &mut String, text: &str) -> Result<(), AllocError> {
     let mut shown = 0usize;
     let mut indented = false;
     for character in text.chars() {
-        if character == '\n' || (indented && character == ' ') {
+        if character == '\n' || (indented && matches!(character, ' ' | '\t')) {
             indented = true;
             continue;
         }
@@ -307,7 +307,9 @@ fn write_shown(out: &mut String, text: &str) -> Result<(), AllocError> {
 }
 
 fn visible(character: char) -> char {
-    if character < ' ' || ('\u{7f}' <= character && character <= '\u{9f}') {
+    if matches!(character, '\t' | '\r') {
+        ' '
+    } else if character < ' ' || ('\u{7f}' <= character && character <= '\u{9f}') {
         '?'
     } else {
         character
