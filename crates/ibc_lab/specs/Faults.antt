@@ -154,7 +154,7 @@ chains_faults chains k (d ∷ ds) = chain_faults chains k d ++ chains_faults cha
 -- of a step that names no kind nothing else is judged
 abbrev pub kindless_faults : List Data → ScriptPlace → Data → Option Members → List ScriptFault
 kindless_faults chains place d None = fault_at place wrong.Object
-kindless_faults chains place d (Some members) = member_faults chains place kind_owed d
+kindless_faults chains place d (Some _) = member_faults chains place kind_owed d
 
 abbrev pub step_faults_of : List Data → ScriptPlace → Data → Option StepKind → List ScriptFault
 step_faults_of chains place d None = kindless_faults chains place d (as_object d)
