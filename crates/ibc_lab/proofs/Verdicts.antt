@@ -1,41 +1,66 @@
--- What is said of a JSON value may be said of its text.
-use Rattle.std.proofs.Common.{◌≡◌, ◌<◌, length, Some, None, Ok, Err, Vec, Global, inl, inr, false}
-use Rattle.std.specs.Prelude.{IfOk, IsUtf8, Result, ◌++◌}
+-- What is said of a JSON value may be said of its text, and what is told is never nothing.
+use Rattle.std.proofs.Common.{◌≡◌, ◌<◌, ◌≤◌, [], ◌∷◌, List, length, Some, None, Ok, Err, Vec, Global, inl, inr, false, subst, sym, ◌∙◌}
+use Rattle.std.proofs.lemmas.Option.{same_Some}
+use Rattle.std.specs.Prelude.{IfOk, IsUtf8, Result, ◌++◌, ◌≢◌}
 use Rattle.serde_json.specs.Data.{Data}
 use Rattle.serde_json.specs.Read.{read}
 use Rattle.ibc_ids.specs.Texts.{Text}
-use Rattle.ibc_machine.specs.chain.Genesis.{GenesisState, is_allowed}
+use Rattle.ibc_machine.specs.chain.Genesis.{genesis_state, is_allowed}
+use Rattle.ibc_script.specs.ScriptValues.{IsScript, IsScriptText, ScriptContent, content_of}
+use Rattle.ibc_script.specs.declared.script.Script.{Script}
 use Rattle.ibc_lab.specs.declared.checking.Verdict.{Verdict}
 use Rattle.ibc_lab.specs.declared.checking.Verdict.TheVariants as verdict
 use Rattle.ibc_lab.specs.declared.fault.ScriptFault.{ScriptFault}
+use Rattle.ibc_lab.specs.declared.fault.FaultKind.{FaultKind}
 use Rattle.ibc_lab.specs.declared.fault.FaultKind.TheVariants as wrong
 use Rattle.ibc_lab.specs.declared.place.ScriptPart.TheVariants as part
 use Rattle.ibc_lab.specs.Faults.{fault_at, script_faults}
 use Rattle.ibc_lab.specs.GenesisFaults.{genesis_faults}
 use Rattle.ibc_lab.specs.Places.{place_of}
 use Rattle.ibc_lab.specs.Verdicts.{IsVerdict, IsVerdictOf, at_least_one}
+use Rattle.ibc_lab.proofs.Allowed.{some_where_not_allowed}
 
-said_of_text : (text : Text) (d : Data) → read text ≡ Some d → (v : Verdict) → IsVerdictOf d v → IsVerdict text v
-said_of_text text d is (verdict.Good script) h = h
-said_of_text text d is (verdict.Bad faults) h = inr (inr (d, is, h))
+-- ---- something is told
 
-pub verdict_of_text : {E : Type 0} (text : Text) (d : Data) → read text ≡ Some d → (r : Result Verdict E) → IfOk r (IsVerdictOf d)
-    → IfOk r (IsVerdict text)
-verdict_of_text text d is (Ok v) h = said_of_text text d is v h
-verdict_of_text text d is (Err e) h = h
+some_told : (faults told : List ScriptFault) → told ≡ at_least_one faults → told ≢ []
+some_told [] told is = λ none. let nothing = sym is ∙ none in absurd cc
+some_told (fault ∷ faults) told is = λ none. let nothing = sym is ∙ none in absurd cc
+
+one_told : (what : FaultKind) (told : List ScriptFault) → told ≡ fault_at (place_of part.Script) what → told ≢ []
+one_told what told is = λ none. let nothing = sym is ∙ none in absurd cc
+
+-- ---- texts
+
+-- the value that a text is, is the script that the text is
+pub script_of_value : (text : Text) (d : Data) (content : ScriptContent) → read text ≡ Some d → IsScriptText text content → IsScript content d
+script_of_value text d content is its =
+    subst (λ (v : Data). IsScript content v) (same_Some its.1.1.0 d (sym its.1.1.1.0 ∙ is)) its.1.1.1.1
+
+said_of_text : (text : Text) (d : Data) → length text ≤ 1048576 → IsUtf8 text → read text ≡ Some d → (v : Verdict) → IsVerdictOf d v → IsVerdict text v
+said_of_text text d few utf8 is (verdict.Good script) h = ((few, utf8, d, is, h.0), h.1)
+said_of_text text d few utf8 is (verdict.Bad faults) h = (h.0, inr (inr (d, is, h.1)))
+
+pub verdict_of_text : {E : Type 0} (text : Text) (d : Data) → length text ≤ 1048576 → IsUtf8 text → read text ≡ Some d → (r : Result Verdict E)
+    → IfOk r (IsVerdictOf d) → IfOk r (IsVerdict text)
+verdict_of_text text d few utf8 is (Ok v) h = said_of_text text d few utf8 is v h
+verdict_of_text text d few utf8 is (Err e) h = h
 
 pub verdict_too_long : (text : Text) (faults : Vec ScriptFault Global) → 1048576 < length text
     → faults.items ≡ fault_at (place_of part.Script) wrong.TooLong → IsVerdict text (verdict.Bad faults)
-verdict_too_long text faults far is = inl (far, is)
+verdict_too_long text faults far is = (one_told wrong.TooLong faults.items is, inl (far, is))
 
 pub verdict_no_json : (text : Text) (faults : Vec ScriptFault Global) → (IsUtf8 text → read text ≡ None)
     → faults.items ≡ fault_at (place_of part.Script) wrong.NoJson → IsVerdict text (verdict.Bad faults)
-verdict_no_json text faults none is = inr (inl (none, is))
+verdict_no_json text faults none is = (one_told wrong.NoJson faults.items is, inr (inl (none, is)))
+
+-- ---- values
 
 pub verdict_unread : (d : Data) (faults : Vec ScriptFault Global) → faults.items ≡ at_least_one (script_faults d)
     → IsVerdictOf d (verdict.Bad faults)
-verdict_unread d faults is = inl is
+verdict_unread d faults is = (some_told (script_faults d) faults.items is, inl is)
 
-pub verdict_unallowed : (d : Data) (genesis : GenesisState) (faults : Vec ScriptFault Global) → is_allowed genesis ≡ false
-    → faults.items ≡ at_least_one (script_faults d ++ genesis_faults genesis) → IsVerdictOf d (verdict.Bad faults)
-verdict_unallowed d genesis faults not_allowed is = inr (genesis, not_allowed, is)
+pub verdict_unallowed : (d : Data) (script : Script) (faults : Vec ScriptFault Global) → IsScript (content_of script) d
+    → is_allowed (genesis_state script.genesis) ≡ false → faults.items ≡ script_faults d ++ genesis_faults (genesis_state script.genesis)
+    → IsVerdictOf d (verdict.Bad faults)
+verdict_unallowed d script faults its not_allowed is =
+    ((λ none. some_where_not_allowed (content_of script) d its not_allowed (sym is ∙ none)), inr (content_of script, its, not_allowed, is))

@@ -1,9 +1,10 @@
 -- What may be said of a text.
-use Rattle.std.specs.Prelude.{◌≡◌, ◌<◌, ◌⊎◌, false, IsTrue, IsUtf8, List, [], ◌∷◌, ◌++◌, length, Some, None}
+use Rattle.std.specs.Prelude.{◌≡◌, ◌≢◌, ◌<◌, ◌⊎◌, false, IsTrue, IsUtf8, List, [], ◌∷◌, ◌++◌, length, Some, None}
 use Rattle.serde_json.specs.Data.{Data}
 use Rattle.serde_json.specs.Read.{read}
 use Rattle.ibc_ids.specs.Texts.{Text}
-use Rattle.ibc_machine.specs.chain.Genesis.{GenesisState, genesis_state, is_allowed}
+use Rattle.ibc_machine.specs.chain.Genesis.{genesis_state, is_allowed}
+use Rattle.ibc_script.specs.ScriptValues.{IsScript, IsScriptText, ScriptContent, content_of}
 use Rattle.ibc_lab.specs.declared.checking.Verdict.{Verdict}
 use Rattle.ibc_lab.specs.declared.checking.Verdict.TheVariants as verdict
 use Rattle.ibc_lab.specs.declared.fault.ScriptFault.{ScriptFault}
@@ -18,16 +19,17 @@ abbrev pub at_least_one : List ScriptFault → List ScriptFault
 at_least_one [] = fault_at (place_of part.Script) wrong.NoScript
 at_least_one (f ∷ fs) = f ∷ fs
 
--- the faults of the value of a script that wasn't read, or of one with a genesis that isn't allowed
+-- the faults of a value that wasn't read as a script, or of a script whose genesis isn't allowed
 abbrev pub AreValueFaults : Data → List ScriptFault → Type 0
 AreValueFaults d faults =
     (faults ≡ at_least_one (script_faults d))
-    ⊎ ((genesis : GenesisState) × (is_allowed genesis ≡ false) × (faults ≡ at_least_one (script_faults d ++ genesis_faults genesis)))
+    ⊎ ((content : ScriptContent) × IsScript content d × (is_allowed content.genesis ≡ false)
+    × (faults ≡ script_faults d ++ genesis_faults content.genesis))
 
--- what may be said of a text that is this JSON value
+-- what may be said of a JSON value: it is this script, whose genesis is allowed, or it has faults
 abbrev pub IsVerdictOf : Data → Verdict → Type 0
-IsVerdictOf d (verdict.Good script) = IsTrue (is_allowed (genesis_state script.genesis))
-IsVerdictOf d (verdict.Bad faults) = AreValueFaults d faults.items
+IsVerdictOf d (verdict.Good script) = IsScript (content_of script) d × IsTrue (is_allowed (genesis_state script.genesis))
+IsVerdictOf d (verdict.Bad faults) = (faults.items ≢ []) × AreValueFaults d faults.items
 
 -- the faults of a text that is too long, that is no JSON, or that is a JSON value
 abbrev pub AreFaultsOf : Text → List ScriptFault → Type 0
@@ -36,7 +38,7 @@ AreFaultsOf text faults =
     ⊎ (((IsUtf8 text → read text ≡ None) × (faults ≡ fault_at (place_of part.Script) wrong.NoJson))
     ⊎ ((d : Data) × (read text ≡ Some d) × AreValueFaults d faults))
 
--- what may be said of a text
+-- what may be said of a text: it is this script, whose genesis is allowed, or it has faults
 abbrev pub IsVerdict : Text → Verdict → Type 0
-IsVerdict text (verdict.Good script) = IsTrue (is_allowed (genesis_state script.genesis))
-IsVerdict text (verdict.Bad faults) = AreFaultsOf text faults.items
+IsVerdict text (verdict.Good script) = IsScriptText text (content_of script) × IsTrue (is_allowed (genesis_state script.genesis))
+IsVerdict text (verdict.Bad faults) = (faults.items ≢ []) × AreFaultsOf text faults.items

@@ -1,8 +1,10 @@
 //! Whether a text is a script that can be run, and what is wrong where it isn't.
 
-ghost use Rattle.std.specs.Prelude.{◌≡◌, ◌++◌, IfOk, OnOk};
+ghost use Rattle.std.specs.Prelude.{◌≡◌, ◌++◌, Some, IfOk, OnOk};
+ghost use Rattle.serde_json.specs.Read.{read};
 ghost use Rattle.serde_json.specs.View.{view};
 ghost use Rattle.ibc_machine.specs.chain.Genesis.{genesis_state};
+ghost use Rattle.ibc_script.specs.ScriptValues.{IsScript, content_of};
 ghost use Rattle.ibc_lab.specs.Faults.{fault_at, script_faults};
 ghost use Rattle.ibc_lab.specs.GenesisFaults.{genesis_faults};
 ghost use Rattle.ibc_lab.specs.Places.{place_of};
@@ -27,8 +29,8 @@ pub enum Verdict {
     Bad(Vec<ScriptFault>),
 }
 
-/// Whether `read_script` answers a script whose genesis is allowed, and, where it doesn't, what is wrong: one fault at
-/// least.
+/// Whether the text is a script whose genesis is allowed. Where `read_script` answers none, or one whose genesis isn't,
+/// the faults are told: one at least.
 #[tactic(auto, using(crate::proofs::Verdicts::verdict_of_text, crate::proofs::Verdicts::verdict_too_long, crate::proofs::Verdicts::verdict_no_json))]
 pub fn check(alloc: Global, bytes: &[u8]) -> Result<Verdict, AllocError>
     ensures { IfOk result (IsVerdict bytes.now) }
@@ -48,8 +50,9 @@ pub fn check(alloc: Global, bytes: &[u8]) -> Result<Verdict, AllocError>
 }
 
 // What is said of a text that is this JSON value.
-#[tactic(auto, using(crate::proofs::Verdicts::verdict_unread))]
+#[tactic(auto, using(crate::proofs::Verdicts::verdict_unread, crate::proofs::Verdicts::script_of_value))]
 fn check_value(alloc: Global, bytes: &[u8], value: &Value) -> Result<Verdict, AllocError>
+    requires { read bytes.now ≡ Some (view value.now) }
     ensures { IfOk result (IsVerdictOf (view value.now)) }
 {
     match read_script(alloc, bytes) {
@@ -62,6 +65,7 @@ fn check_value(alloc: Global, bytes: &[u8], value: &Value) -> Result<Verdict, Al
 // What is said of a script that was read.
 #[tactic(auto, using(crate::proofs::Verdicts::verdict_unallowed))]
 fn check_genesis(alloc: Global, value: &Value, script: Script) -> Result<Verdict, AllocError>
+    requires { IsScript (content_of script) (view value.now) }
     ensures { IfOk result (IsVerdictOf (view value.now)) }
 {
     if is_allowed(&script.genesis) {
@@ -87,11 +91,10 @@ fn unallowed_faults(
     value: &Value,
     genesis: &Genesis,
 ) -> Result<Vec<ScriptFault>, AllocError>
-    ensures { IfOk result (λ faults. faults.items ≡ at_least_one (script_faults (view value.now) ++ genesis_faults (genesis_state genesis.now))) }
+    ensures { IfOk result (λ faults. faults.items ≡ script_faults (view value.now) ++ genesis_faults (genesis_state genesis.now)) }
 {
     let mut faults = script_faults(alloc, value)?;
     genesis_faults(genesis, &mut faults)?;
-    need_one(&mut faults)?;
     Ok(faults)
 }
 
