@@ -75,6 +75,12 @@ items_there (Some d) ds is = ap (λ (o : Option (List Data)). unwrap_or o []) (i
 no_number : (n : ℕ) → script.IsNumber n None → ⊥
 no_number n is = absurd cc
 
+no_items : (ds : List Data) → script.AreItems ds None → ⊥
+no_items ds is = absurd cc
+
+not_left_out : (d : Data) → Some d ≡ None → ⊥
+not_left_out d is = absurd cc
+
 -- ---- forms
 
 number_within : (chains : List Data) (place : ScriptPlace) (least most n : ℕ) (d : Data) → script.IsNumber n (Some d)
@@ -127,7 +133,7 @@ each_formed chains place k (h ∷ hs) (d ∷ ds) are none =
 
 balances_formed : (chains : List Data) (place : ScriptPlace) (hs : List Holding) (found : Option Data)
     → script.IsListOf script.IsHolding hs found → member_faults_in chains place balances_owed found ≡ [] → EachOf IsFormed hs
-balances_formed chains place hs None is none = let there = is.1.0 in absurd cc
+balances_formed chains place hs None is none = absurd (no_items is.0 is.1.0)
 balances_formed chains place hs (Some d) is none =
     let at = at_member place member.Balances in
     let items = items_found (as_array d) is.0 is.1.0 in
@@ -299,7 +305,7 @@ each_fair all (h ∷ hs) formed once small =
     and_from (is_fair all h) (list_all (is_fair all) hs) fair (each_fair all hs formed.1 once.1 small)
 
 none_held : IsSmall []
-none_held denom = lt-ltb (total_of denom []) (2 ^ 128) (omega arith)
+none_held denom = lt-ltb 0 (2 ^ 128) (omega arith)
 
 abbrev is_fair_chain : ChainState → Bool
 is_fair_chain chain = list_all (is_fair chain.balances) chain.balances
@@ -337,12 +343,12 @@ window_within chains place capacity n None some is none =
 window_within chains place capacity n (Some d) some is none =
     elim is [
       | inl number ↦ number_within chains (at_member place member.Window) 1 4096 n d number none
-      | inr usual ↦ let lacking = usual.0 in absurd cc
+      | inr usual ↦ absurd (not_left_out d usual.0)
     ]
 
 chains_counted : (chains : List Data) (place : ScriptPlace) (ds : List Data) (found : Option Data) → script.AreItems ds found
     → member_faults_in chains place chains_owed found ≡ [] → is_within 2 8 (length ds) ≡ true
-chains_counted chains place ds None is none = absurd cc
+chains_counted chains place ds None is none = absurd (no_items ds is)
 chains_counted chains place ds (Some d) is none =
     ap (passes (has_length 2 8)) (sym (items_found (as_array d) ds is))
     ∙ none_so (leaf_fits chains (leaf.List 2 8) d) (at_member place member.Chains) (wrong.Leaf (leaf.List 2 8)) none

@@ -22,12 +22,18 @@ use Rattle.ibc_lab.proofs.Allowed.{some_where_not_allowed}
 
 -- ---- something is told
 
+not_empty : (fault : ScriptFault) (faults told : List ScriptFault) → told ≡ fault ∷ faults → told ≢ []
+not_empty fault faults told is = λ none. more_than_none fault faults (sym is ∙ none)
+  where
+    more_than_none : (f : ScriptFault) (fs : List ScriptFault) → f ∷ fs ≡ [] → ⊥
+    more_than_none f fs none = absurd cc
+
 some_told : (faults told : List ScriptFault) → told ≡ at_least_one faults → told ≢ []
-some_told [] told is = λ none. let nothing = sym is ∙ none in absurd cc
-some_told (fault ∷ faults) told is = λ none. let nothing = sym is ∙ none in absurd cc
+some_told [] told is = not_empty (record { place = place_of part.Script; wrong = wrong.NoScript }) [] told is
+some_told (fault ∷ faults) told is = not_empty fault faults told is
 
 one_told : (what : FaultKind) (told : List ScriptFault) → told ≡ fault_at (place_of part.Script) what → told ≢ []
-one_told what told is = λ none. let nothing = sym is ∙ none in absurd cc
+one_told what told is = not_empty (record { place = place_of part.Script; wrong = what }) [] told is
 
 -- ---- texts
 
