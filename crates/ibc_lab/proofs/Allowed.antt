@@ -107,17 +107,16 @@ holding_formed : (chains : List Data) (place : ScriptPlace) (h : Holding) (d : D
     → tuple_faults chains place tuple.Balance d ≡ [] → IsFormed h
 holding_formed chains place h d is none =
     let user = is.0 in
-    let denom = is.1.0 in
-    let amount = is.1.1.0 in
-    let there = is.1.1.1 in
-    let items = items_found (as_array d) (user ∷ denom ∷ amount ∷ []) there.0 in
+    let denom = is.1 in
+    let amount = is.2 in
+    let items = items_found (as_array d) (user ∷ denom ∷ amount ∷ []) is.3 in
     let parts = subst (λ (o : Option (List Data)). tuple_faults_in chains place tuple.Balance o ≡ []) items none in
     let first = leaf_faults chains (inside place 0) (leaf.Text text.User) user in
     let second = leaf_faults chains (inside place 1) (leaf.Text text.BaseDenom) denom in
     let third = parts_faults chains place 2 (leaf.Text text.Amount ∷ []) (amount ∷ []) in
     let rest = right_nil first (second ++ third) parts in (
-      text_formed chains (inside place 0) text.User h.0 user there.1.0 (left_nil first (second ++ third) parts),
-      text_formed chains (inside place 1) text.BaseDenom h.1 denom there.1.1.0 (left_nil second third rest),
+      text_formed chains (inside place 0) text.User h.0 user is.4 (left_nil first (second ++ third) parts),
+      text_formed chains (inside place 1) text.BaseDenom h.1 denom is.5 (left_nil second third rest),
     )
 
 each_formed : (chains : List Data) (place : ScriptPlace) (k : ℕ) (hs : List Holding) (ds : List Data) → script.AreEach script.IsHolding hs ds
@@ -133,12 +132,12 @@ each_formed chains place k (h ∷ hs) (d ∷ ds) are none =
 
 balances_formed : (chains : List Data) (place : ScriptPlace) (hs : List Holding) (found : Option Data)
     → script.IsListOf script.IsHolding hs found → member_faults_in chains place balances_owed found ≡ [] → EachOf IsFormed hs
-balances_formed chains place hs None is none = absurd (no_items is.0 is.1.0)
+balances_formed chains place hs None is none = absurd (no_items is.0 is.1)
 balances_formed chains place hs (Some d) is none =
     let at = at_member place member.Balances in
-    let items = items_found (as_array d) is.0 is.1.0 in
+    let items = items_found (as_array d) is.0 is.1 in
     let each = right_nil (leaf_faults chains at (leaf.List 0 18446744073709551615) d) (each_faults chains at tuple.Balance 0 (items_of d)) none in
-    each_formed chains at 0 hs is.0 is.1.1
+    each_formed chains at 0 hs is.0 is.2
     (subst (λ (o : Option (List Data)). each_faults chains at tuple.Balance 0 (unwrap_or o []) ≡ []) items each)
 
 -- ---- chains
@@ -383,10 +382,10 @@ allowed_where_nothing content d is none =
     let fields = is.0.1 in
     let listed = fields.1.1.0 in
     let ds = listed.0 in
-    let long = is.1.1.0 in
-    let same = items_there (get (codes "chains") d) ds listed.1.0 in
+    let long = is.2 in
+    let same = items_there (get (codes "chains") d) ds listed.1 in
     let formed =
-    chains_formed chains 0 content.names g.chains ds long listed.1.1
+    chains_formed chains 0 content.names g.chains ds long listed.2
     (subst (λ (l : List Data). chains_faults chains 0 l ≡ []) same (right_nil object_of chains_of front)) in
     let fair = chains_fair 0 g.chains formed (right_nil (window_faults g) (genesis.chains_faults 0 g.chains) starts) in
     let below =
@@ -400,10 +399,10 @@ allowed_where_nothing content d is none =
     window_within chains place g.capacity g.window (get (codes "window") d) some fields.1.0
     (left_nil (member_faults chains place window_owed d) from_chains behind_capacity) in
     let many =
-    chains_counted chains place ds (get (codes "chains") d) listed.1.0
+    chains_counted chains place ds (get (codes "chains") d) listed.1
     (left_nil (member_faults chains place chains_owed d) (members_faults chains place (steps_owed ∷ []) d) behind_window) in
     let few : is_within 2 8 (length g.chains) ≡ true =
-    subst (λ (n : ℕ). is_within 2 8 n ≡ true) (as_many content.names g.chains ds long listed.1.1) many in
+    subst (λ (n : ℕ). is_within 2 8 n ≡ true) (as_many content.names g.chains ds long listed.2) many in
     and_from ((leb 2 (length g.chains) && leb (length g.chains) 8) && has_limits g) (list_all is_fair_chain g.chains)
     (and_from (leb 2 (length g.chains) && leb (length g.chains) 8) (has_limits g) few (limits g capacity window below)) fair
 

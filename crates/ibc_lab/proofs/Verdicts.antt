@@ -40,7 +40,7 @@ one_told what told is = not_empty (record { place = place_of part.Script; wrong 
 -- the value that a text is, is the script that the text is
 pub script_of_value : (text : Text) (d : Data) (content : ScriptContent) → read text ≡ Some d → IsScriptText text content → IsScript content d
 script_of_value text d content is its =
-    subst (λ (v : Data). IsScript content v) (same_Some its.1.1.0 d (sym its.1.1.1.0 ∙ is)) its.1.1.1.1
+    subst (λ (v : Data). IsScript content v) (same_Some its.2 d (sym its.3 ∙ is)) its.4
 
 said_of_text : (text : Text) (d : Data) → length text ≤ 1048576 → IsUtf8 text → read text ≡ Some d → (v : Verdict) → IsVerdictOf d v → IsVerdict text v
 said_of_text text d few utf8 is (verdict.Good script) h = ((few, utf8, d, is, h.0), h.1)
