@@ -1,6 +1,6 @@
 //! Whether a text is a script that can be run, and what is wrong where it isn't.
 
-ghost use Rattle.std.specs.Prelude.{◌≡◌, ◌++◌, Some, IfOk, OnOk};
+ghost use Rattle.std.specs.Prelude.{◌≡◌, ◌≤◌, ◌<◌, ◌++◌, Some, length, IfOk, IsUtf8, OnOk};
 ghost use Rattle.serde_json.specs.Read.{read};
 ghost use Rattle.serde_json.specs.View.{view};
 ghost use Rattle.ibc_machine.specs.chain.Genesis.{genesis_state};
@@ -31,25 +31,52 @@ pub enum Verdict {
 
 /// Whether the text is a script whose genesis is allowed. Where `read_script` answers none, or one whose genesis isn't,
 /// the faults are told: one at least.
-#[tactic(auto, using(crate::proofs::Verdicts::verdict_of_text, crate::proofs::Verdicts::verdict_too_long, crate::proofs::Verdicts::verdict_no_json))]
 pub fn check(alloc: Global, bytes: &[u8]) -> Result<Verdict, AllocError>
     ensures { IfOk result (IsVerdict bytes.now) }
 {
     if bytes.len() > MOST_BYTES {
-        return Ok(Verdict::Bad(one_fault(alloc, FaultKind::TooLong)?));
+        too_long(alloc, bytes)
+    } else {
+        check_text(alloc, bytes)
     }
+}
+
+// What is said of a text that has too many bytes.
+#[tactic(auto, using(crate::proofs::Verdicts::verdict_too_long))]
+fn too_long(alloc: Global, _bytes: &[u8]) -> Result<Verdict, AllocError>
+    requires { 1048576 < length _bytes.now }
+    ensures { IfOk result (IsVerdict _bytes.now) }
+{
+    Ok(Verdict::Bad(one_fault(alloc, FaultKind::TooLong)?))
+}
+
+// What is said of a text that isn't too long.
+#[tactic(auto, using(crate::proofs::Verdicts::verdict_no_json))]
+fn check_text(alloc: Global, bytes: &[u8]) -> Result<Verdict, AllocError>
+    requires { length bytes.now ≤ 1048576 }
+    ensures { IfOk result (IsVerdict bytes.now) }
+{
     match Value::from_slice(alloc, bytes) {
-        Ok(value) => {
-            let verdict = check_value(alloc, bytes, &value);
-            drop(value);
-            verdict
-        }
+        Ok(value) => check_json(alloc, bytes, value),
         Err(error) if error.is_memory() => Err(AllocError),
         Err(_) => Ok(Verdict::Bad(one_fault(alloc, FaultKind::NoJson)?)),
     }
 }
 
 // What is said of a text that is this JSON value.
+#[tactic(auto, using(crate::proofs::Verdicts::verdict_of_text))]
+fn check_json(alloc: Global, bytes: &[u8], value: Value) -> Result<Verdict, AllocError>
+    requires few { length bytes.now ≤ 1048576 }
+    requires utf8 { IsUtf8 bytes.now }
+    requires read { read bytes.now ≡ Some (view value) }
+    ensures { IfOk result (IsVerdict bytes.now) }
+{
+    let verdict = check_value(alloc, bytes, &value);
+    drop(value);
+    verdict
+}
+
+// What is said of a value that a text is.
 #[tactic(auto, using(crate::proofs::Verdicts::verdict_unread, crate::proofs::Verdicts::script_of_value))]
 fn check_value(alloc: Global, bytes: &[u8], value: &Value) -> Result<Verdict, AllocError>
     requires { read bytes.now ≡ Some (view value.now) }
