@@ -1,6 +1,6 @@
 -- Where nothing is wrong with the value of a script that was read, its genesis is allowed.
 use Rattle.std.proofs.Common.{◌≡◌, ◌∙◌, ◌+◌, ◌≤◌, ◌^◌, ◌&&◌, ◌||◌, ℕ, suc, Bool, true, false, cond, eqb, ltb, leb, not, List, [], ◌∷◌, ◌++◌, Option, Some, None, ap, append_assoc, append-nil, arith, inl, inr, length, length-append, option_map, refl, subst, sym, take, zip, eq-eqb}
-use Rattle.std.specs.Prelude.{◌≢◌, ⊤, codes, min, unwrap_or}
+use Rattle.std.specs.Prelude.{⊤, codes, min, unwrap_or}
 use Rattle.std.specs.List.{count_by, list_all, list_any}
 use Rattle.std.proofs.Math.Nat.{le-min, min-le_right}
 use Rattle.std.proofs.Math.Seq.{take-append_seam}
@@ -362,7 +362,7 @@ limits g capacity window below =
 
 -- ---- all of it
 
-allowed_where_nothing : (content : ScriptContent) (d : Data) → script.IsScript content d
+pub allowed_where_nothing : (content : ScriptContent) (d : Data) → script.IsScript content d
     → script_faults d ++ genesis_faults content.genesis ≡ [] → is_allowed content.genesis ≡ true
 unfolding is_allowed
 allowed_where_nothing content d is none =
@@ -405,8 +405,3 @@ allowed_where_nothing content d is none =
     subst (λ (n : ℕ). is_within 2 8 n ≡ true) (as_many content.names g.chains ds long listed.2) many in
     and_from ((leb 2 (length g.chains) && leb (length g.chains) 8) && has_limits g) (list_all is_fair_chain g.chains)
     (and_from (leb 2 (length g.chains) && leb (length g.chains) 8) (has_limits g) few (limits g capacity window below)) fair
-
--- so something is told where it isn't
-pub some_where_not_allowed : (content : ScriptContent) (d : Data) → script.IsScript content d → is_allowed content.genesis ≡ false
-    → script_faults d ++ genesis_faults content.genesis ≢ []
-some_where_not_allowed content d is not_allowed = λ none. false≢true (sym not_allowed ∙ allowed_where_nothing content d is none)

@@ -1,11 +1,10 @@
 -- What is said of a JSON value may be said of its text, and what is told is never nothing.
-use Rattle.std.proofs.Common.{◌≡◌, ◌<◌, ◌≤◌, [], ◌∷◌, List, length, Some, None, Ok, Err, Vec, Global, inl, inr, false, subst, sym, ◌∙◌}
+use Rattle.std.proofs.Common.{◌≡◌, ◌<◌, ◌≤◌, [], ◌∷◌, List, length, Some, None, Ok, Err, Vec, Global, inl, inr, subst, sym, ◌∙◌}
 use Rattle.std.proofs.lemmas.Option.{same_Some}
-use Rattle.std.specs.Prelude.{IfOk, IsUtf8, Result, ◌++◌, ◌≢◌}
+use Rattle.std.specs.Prelude.{IfOk, IsUtf8, Result, ◌≢◌}
 use Rattle.serde_json.specs.Data.{Data}
 use Rattle.serde_json.specs.Read.{read}
 use Rattle.ibc_ids.specs.Texts.{Text}
-use Rattle.ibc_machine.specs.chain.Genesis.{genesis_state, is_allowed}
 use Rattle.ibc_script.specs.ScriptValues.{IsScript, IsScriptText, ScriptContent, content_of}
 use Rattle.ibc_script.specs.declared.script.Script.{Script}
 use Rattle.ibc_lab.specs.declared.checking.Verdict.{Verdict}
@@ -15,10 +14,9 @@ use Rattle.ibc_lab.specs.declared.fault.FaultKind.{FaultKind}
 use Rattle.ibc_lab.specs.declared.fault.FaultKind.TheVariants as wrong
 use Rattle.ibc_lab.specs.declared.place.ScriptPart.TheVariants as part
 use Rattle.ibc_lab.specs.Faults.{fault_at, script_faults}
-use Rattle.ibc_lab.specs.GenesisFaults.{genesis_faults}
 use Rattle.ibc_lab.specs.Places.{place_of}
-use Rattle.ibc_lab.specs.Verdicts.{IsVerdict, IsVerdictOf, at_least_one}
-use Rattle.ibc_lab.proofs.Allowed.{some_where_not_allowed}
+use Rattle.ibc_lab.specs.Verdicts.{IsVerdict, IsVerdictOf, at_least_one, content_faults}
+use Rattle.ibc_lab.proofs.Allowed.{allowed_where_nothing}
 
 -- ---- something is told
 
@@ -43,7 +41,7 @@ script_of_value text d content is its =
     subst (λ (v : Data). IsScript content v) (same_Some its.2 d (sym its.3 ∙ is)) its.4
 
 said_of_text : (text : Text) (d : Data) → length text ≤ 1048576 → IsUtf8 text → read text ≡ Some d → (v : Verdict) → IsVerdictOf d v → IsVerdict text v
-said_of_text text d few utf8 is (verdict.Good script) h = ((few, utf8, d, is, h.0), h.1)
+said_of_text text d few utf8 is (verdict.Good script) h = ((few, utf8, d, is, h.0), (d, is, h))
 said_of_text text d few utf8 is (verdict.Bad faults) h = (h.0, inr (inr (d, is, h.1)))
 
 pub verdict_of_text : {E : Type 0} (text : Text) (d : Data) → length text ≤ 1048576 → IsUtf8 text → read text ≡ Some d → (r : Result Verdict E)
@@ -65,8 +63,11 @@ pub verdict_unread : (d : Data) (faults : Vec ScriptFault Global) → faults.ite
     → IsVerdictOf d (verdict.Bad faults)
 verdict_unread d faults is = (some_told (script_faults d) faults.items is, inl is)
 
-pub verdict_unallowed : (d : Data) (script : Script) (faults : Vec ScriptFault Global) → IsScript (content_of script) d
-    → is_allowed (genesis_state script.genesis) ≡ false → faults.items ≡ script_faults d ++ genesis_faults (genesis_state script.genesis)
-    → IsVerdictOf d (verdict.Bad faults)
-verdict_unallowed d script faults its not_allowed is =
-    ((λ none. some_where_not_allowed (content_of script) d its not_allowed (sym is ∙ none)), inr (content_of script, its, not_allowed, is))
+-- a script that was read, by the faults that were found
+pub verdict_good : (d : Data) (script : Script) → IsScript (content_of script) d → content_faults (content_of script) d ≡ []
+    → IsVerdictOf d (verdict.Good script)
+verdict_good d script its none = (its, none, allowed_where_nothing (content_of script) d its none)
+
+pub verdict_bad : (d : Data) (script : Script) (faults : Vec ScriptFault Global) → IsScript (content_of script) d
+    → faults.items ≡ content_faults (content_of script) d → (faults.items ≡ [] → ⊥) → IsVerdictOf d (verdict.Bad faults)
+verdict_bad d script faults its is some = (some, inr (content_of script, its, is))

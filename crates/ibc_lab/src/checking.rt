@@ -8,13 +8,12 @@ ghost use Rattle.ibc_script.specs.ScriptValues.{IsScript, content_of};
 ghost use Rattle.ibc_lab.specs.Faults.{fault_at, script_faults};
 ghost use Rattle.ibc_lab.specs.GenesisFaults.{genesis_faults};
 ghost use Rattle.ibc_lab.specs.Places.{place_of};
-ghost use Rattle.ibc_lab.specs.Verdicts.{IsVerdict, IsVerdictOf, at_least_one};
+ghost use Rattle.ibc_lab.specs.Verdicts.{IsVerdict, IsVerdictOf, at_least_one, content_faults};
 
 use crate::fault::note;
 use crate::genesis::genesis_faults;
 use crate::judge::script_faults;
 use crate::{FaultKind, ScriptFault, ScriptPart, ScriptPlace};
-use ibc_ledger::is_allowed;
 use ibc_machine::Genesis;
 use ibc_script::{Fault as Unread, MOST_BYTES, Script, read_script};
 use serde_json::Value;
@@ -29,8 +28,8 @@ pub enum Verdict {
     Bad(Vec<ScriptFault>),
 }
 
-/// Whether the text is a script whose genesis is allowed. Where `read_script` answers none, or one whose genesis isn't,
-/// the faults are told: one at least.
+/// Whether the text is a script with which nothing is wrong; its genesis is allowed then. Else the faults are told, one at
+/// least.
 pub fn check(alloc: Global, bytes: &[u8]) -> Result<Verdict, AllocError>
     ensures { IfOk result (IsVerdict bytes.now) }
 {
@@ -90,17 +89,33 @@ fn check_value(alloc: Global, bytes: &[u8], value: &Value) -> Result<Verdict, Al
 }
 
 // What is said of a script that was read.
-#[tactic(auto, using(crate::proofs::Verdicts::verdict_unallowed))]
 fn check_genesis(alloc: Global, value: &Value, script: Script) -> Result<Verdict, AllocError>
     requires { IsScript (content_of script) (view value.now) }
     ensures { IfOk result (IsVerdictOf (view value.now)) }
 {
-    if is_allowed(&script.genesis) {
-        return Ok(Verdict::Good(script));
+    match content_faults(alloc, value, &script.genesis) {
+        Ok(faults) => Ok(verdict_of(value, script, faults)),
+        Err(error) => {
+            drop(script);
+            Err(error)
+        }
     }
-    let faults = unallowed_faults(alloc, value, &script.genesis);
-    drop(script);
-    Ok(Verdict::Bad(faults?))
+}
+
+// What is said of a script in which this was found to be wrong.
+#[tactic(auto, using(crate::proofs::Verdicts::verdict_good, crate::proofs::Verdicts::verdict_bad))]
+fn verdict_of(_value: &Value, script: Script, faults: Vec<ScriptFault>) -> Verdict
+    requires script { IsScript (content_of script) (view _value.now) }
+    requires faults { faults.items ≡ content_faults (content_of script) (view _value.now) }
+    ensures { IsVerdictOf (view _value.now) result }
+{
+    if faults.is_empty() {
+        drop(faults);
+        Verdict::Good(script)
+    } else {
+        drop(script);
+        Verdict::Bad(faults)
+    }
 }
 
 // What is wrong with a value that is no script.
@@ -112,8 +127,8 @@ fn unread_faults(alloc: Global, value: &Value) -> Result<Vec<ScriptFault>, Alloc
     Ok(faults)
 }
 
-// What is wrong with a script whose genesis isn't allowed.
-fn unallowed_faults(
+// What is wrong with a value that is a script with this genesis.
+fn content_faults(
     alloc: Global,
     value: &Value,
     genesis: &Genesis,
@@ -129,15 +144,14 @@ fn unallowed_faults(
 fn need_one(faults: &mut Vec<ScriptFault>) -> Result<(), AllocError>
     ensures { OnOk result (faults.new.items ≡ at_least_one faults.old.items) }
 {
-    if faults.is_empty() {
-        note(
-            faults,
-            ScriptPlace::of(ScriptPart::Script),
-            FaultKind::NoScript,
-        )
-    } else {
-        Ok(())
+    if !faults.is_empty() {
+        return Ok(());
     }
+    note(
+        faults,
+        ScriptPlace::of(ScriptPart::Script),
+        FaultKind::NoScript,
+    )
 }
 
 // One fault, of the whole text.

@@ -84,7 +84,7 @@ fn is_held(before: &[(UserName, Denom, u128)], holding: &(UserName, Denom, u128)
     false
 }
 
-#[tactic(auto, using(ibc_ledger::proofs::Totals::same_holding))]
+#[tactic(auto, using(crate::proofs::Totals::same_holding))]
 fn is_same_holding(one: &(UserName, Denom, u128), other: &(UserName, Denom, u128)) -> bool
     ensures { result ≡ is_same_holding one.now other.now }
 {

@@ -1,6 +1,6 @@
 -- The total of the first holdings grows by one holding in a turn.
 use Rattle.std.proofs.Common.{◌^◌, true, false, arith}
-use Rattle.ibc_ledger.proofs.Totals.{total_more, too_large, total_all}
+use Rattle.ibc_lab.proofs.Totals.{total_more, too_large, total_all}
 use Rattle.ibc_lab.proofs.genesis.are_small.Goals.{then-eq+in-Some, else-eq}
 use Rattle.ibc_lab.proofs.genesis.are_small.Goals as goal
 
