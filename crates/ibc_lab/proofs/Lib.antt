@@ -1,0 +1,4 @@
+pub mod Lists
+pub mod Totals
+pub mod Allowed
+pub mod Verdicts
