@@ -75,8 +75,8 @@ items_there (Some d) ds is = ap (λ (o : Option (List Data)). unwrap_or o []) (i
 no_number : (n : ℕ) → script.IsNumber n None → ⊥
 no_number n is = absurd cc
 
-no_items : (ds : List Data) → script.AreItems ds None → ⊥
-no_items ds is = absurd cc
+no_list : (ds : List Data) → script.AreItems ds None → ⊥
+no_list ds is = absurd cc
 
 not_left_out : (d : Data) → Some d ≡ None → ⊥
 not_left_out d is = absurd cc
@@ -132,7 +132,7 @@ each_formed chains place k (h ∷ hs) (d ∷ ds) are none =
 
 balances_formed : (chains : List Data) (place : ScriptPlace) (hs : List Holding) (found : Option Data)
     → script.IsListOf script.IsHolding hs found → member_faults_in chains place balances_owed found ≡ [] → EachOf IsFormed hs
-balances_formed chains place hs None is none = absurd (no_items is.0 is.1)
+balances_formed chains place hs None is none = absurd (no_list is.0 is.1)
 balances_formed chains place hs (Some d) is none =
     let at = at_member place member.Balances in
     let items = items_found (as_array d) is.0 is.1 in
@@ -347,7 +347,7 @@ window_within chains place capacity n (Some d) some is none =
 
 chains_counted : (chains : List Data) (place : ScriptPlace) (ds : List Data) (found : Option Data) → script.AreItems ds found
     → member_faults_in chains place chains_owed found ≡ [] → is_within 2 8 (length ds) ≡ true
-chains_counted chains place ds None is none = absurd (no_items ds is)
+chains_counted chains place ds None is none = absurd (no_list ds is)
 chains_counted chains place ds (Some d) is none =
     ap (passes (has_length 2 8)) (sym (items_found (as_array d) ds is))
     ∙ none_so (leaf_fits chains (leaf.List 2 8) d) (at_member place member.Chains) (wrong.Leaf (leaf.List 2 8)) none

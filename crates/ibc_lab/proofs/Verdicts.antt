@@ -1,7 +1,8 @@
 -- What is said of a JSON value may be said of its text, and what is told is never nothing.
-use Rattle.std.proofs.Common.{◌≡◌, ◌<◌, ◌≤◌, [], ◌∷◌, List, length, Some, None, Ok, Err, Vec, Global, inl, inr, subst, sym, ◌∙◌}
+use Rattle.std.proofs.Common.{◌≡◌, ◌<◌, ◌≤◌, [], ◌∷◌, ◌++◌, List, length, Some, None, Ok, Err, Vec, Global, true, false, eqb, eqb-true, vec_len, ap, arith, inl, inr, refl, subst, sym, ◌∙◌}
+use Rattle.std.proofs.lemmas.Bool.{eqb-false}
 use Rattle.std.proofs.lemmas.Option.{same_Some}
-use Rattle.std.specs.Prelude.{IfOk, IsUtf8, Result, ◌≢◌}
+use Rattle.std.specs.Prelude.{IfOk, IsUtf8, OnOk, Result, ◌≢◌}
 use Rattle.serde_json.specs.Data.{Data}
 use Rattle.serde_json.specs.Read.{read}
 use Rattle.ibc_ids.specs.Texts.{Text}
@@ -13,12 +14,34 @@ use Rattle.ibc_lab.specs.declared.fault.ScriptFault.{ScriptFault}
 use Rattle.ibc_lab.specs.declared.fault.FaultKind.{FaultKind}
 use Rattle.ibc_lab.specs.declared.fault.FaultKind.TheVariants as wrong
 use Rattle.ibc_lab.specs.declared.place.ScriptPart.TheVariants as part
+use Rattle.ibc_lab.specs.declared.place.ScriptPlace.{ScriptPlace}
 use Rattle.ibc_lab.specs.Faults.{fault_at, script_faults}
 use Rattle.ibc_lab.specs.Places.{place_of}
 use Rattle.ibc_lab.specs.Verdicts.{IsVerdict, IsVerdictOf, at_least_one, content_faults}
 use Rattle.ibc_lab.proofs.Allowed.{allowed_where_nothing}
 
--- ---- something is told
+-- ---- something is told, or nothing
+
+no_faults : (faults : List ScriptFault) → length faults ≡ 0 → faults ≡ []
+no_faults [] none = refl
+no_faults (fault ∷ faults) none = absurd (omega (arith, none))
+
+pub empty : (faults : Vec ScriptFault Global) → eqb (vec_len faults) 0 ≡ true → faults.items ≡ []
+empty faults none = no_faults faults.items (sym faults.ok.0 ∙ eqb-true (vec_len faults) 0 none)
+
+pub filled : (faults : Vec ScriptFault Global) → eqb (vec_len faults) 0 ≡ false → faults.items ≢ []
+filled faults some = λ none. eqb-false (vec_len faults) 0 some (faults.ok.0 ∙ ap length none)
+
+-- faults that are some stay, and to none the one is added that the text is no script
+pub some_stay : (faults : List ScriptFault) → faults ≢ [] → faults ≡ at_least_one faults
+some_stay [] some = absurd (some refl)
+some_stay (fault ∷ faults) some = refl
+
+pub one_added : {A E : Type 0} (faults more : List ScriptFault) (place : ScriptPlace) (r : Result A E) → place ≡ place_of part.Script → faults ≡ []
+    → OnOk r (more ≡ faults ++ fault_at place wrong.NoScript) → OnOk r (more ≡ at_least_one faults)
+one_added faults more place (Ok a) at none is =
+    is ∙ (λ i. none i ++ fault_at (at i) wrong.NoScript) ∙ ap at_least_one (sym none)
+one_added faults more place (Err e) at none is = is
 
 not_empty : (fault : ScriptFault) (faults told : List ScriptFault) → told ≡ fault ∷ faults → told ≢ []
 not_empty fault faults told is = λ none. more_than_none fault faults (sym is ∙ none)
@@ -64,10 +87,12 @@ pub verdict_unread : (d : Data) (faults : Vec ScriptFault Global) → faults.ite
 verdict_unread d faults is = (some_told (script_faults d) faults.items is, inl is)
 
 -- a script that was read, by the faults that were found
-pub verdict_good : (d : Data) (script : Script) → IsScript (content_of script) d → content_faults (content_of script) d ≡ []
-    → IsVerdictOf d (verdict.Good script)
-verdict_good d script its none = (its, none, allowed_where_nothing (content_of script) d its none)
+pub verdict_good : (d : Data) (script : Script) (faults : Vec ScriptFault Global) → IsScript (content_of script) d
+    → faults.items ≡ content_faults (content_of script) d → eqb (vec_len faults) 0 ≡ true → IsVerdictOf d (verdict.Good script)
+verdict_good d script faults its is none =
+    let nothing = sym is ∙ empty faults none in
+    (its, nothing, allowed_where_nothing (content_of script) d its nothing)
 
 pub verdict_bad : (d : Data) (script : Script) (faults : Vec ScriptFault Global) → IsScript (content_of script) d
-    → faults.items ≡ content_faults (content_of script) d → (faults.items ≡ [] → ⊥) → IsVerdictOf d (verdict.Bad faults)
-verdict_bad d script faults its is some = (some, inr (content_of script, its, is))
+    → faults.items ≡ content_faults (content_of script) d → eqb (vec_len faults) 0 ≡ false → IsVerdictOf d (verdict.Bad faults)
+verdict_bad d script faults its is some = (filled faults some, inr (content_of script, its, is))

@@ -1,6 +1,6 @@
 //! Whether a text is a script that can be run, and what is wrong where it isn't.
 
-ghost use Rattle.std.specs.Prelude.{◌≡◌, ◌≤◌, ◌<◌, ◌++◌, Some, length, IfOk, IsUtf8, OnOk};
+ghost use Rattle.std.specs.Prelude.{◌≡◌, ◌≤◌, ◌<◌, ◌++◌, None, Some, length, IfOk, IsUtf8, OnOk};
 ghost use Rattle.serde_json.specs.Read.{read};
 ghost use Rattle.serde_json.specs.View.{view};
 ghost use Rattle.ibc_machine.specs.chain.Genesis.{genesis_state};
@@ -41,16 +41,15 @@ pub fn check(alloc: Global, bytes: &[u8]) -> Result<Verdict, AllocError>
 }
 
 // What is said of a text that has too many bytes.
-#[tactic(auto, using(crate::proofs::Verdicts::verdict_too_long))]
 fn too_long(alloc: Global, _bytes: &[u8]) -> Result<Verdict, AllocError>
     requires { 1048576 < length _bytes.now }
     ensures { IfOk result (IsVerdict _bytes.now) }
 {
-    Ok(Verdict::Bad(one_fault(alloc, FaultKind::TooLong)?))
+    let faults = one_fault(alloc, FaultKind::TooLong)?;
+    Ok(Verdict::Bad(faults))
 }
 
 // What is said of a text that isn't too long.
-#[tactic(auto, using(crate::proofs::Verdicts::verdict_no_json))]
 fn check_text(alloc: Global, bytes: &[u8]) -> Result<Verdict, AllocError>
     requires { length bytes.now ≤ 1048576 }
     ensures { IfOk result (IsVerdict bytes.now) }
@@ -58,12 +57,20 @@ fn check_text(alloc: Global, bytes: &[u8]) -> Result<Verdict, AllocError>
     match Value::from_slice(alloc, bytes) {
         Ok(value) => check_json(alloc, bytes, value),
         Err(error) if error.is_memory() => Err(AllocError),
-        Err(_) => Ok(Verdict::Bad(one_fault(alloc, FaultKind::NoJson)?)),
+        Err(_) => no_json(alloc, bytes),
     }
 }
 
+// What is said of a text that is no JSON.
+fn no_json(alloc: Global, _bytes: &[u8]) -> Result<Verdict, AllocError>
+    requires { IsUtf8 _bytes.now → read _bytes.now ≡ None }
+    ensures { IfOk result (IsVerdict _bytes.now) }
+{
+    let faults = one_fault(alloc, FaultKind::NoJson)?;
+    Ok(Verdict::Bad(faults))
+}
+
 // What is said of a text that is this JSON value.
-#[tactic(auto, using(crate::proofs::Verdicts::verdict_of_text))]
 fn check_json(alloc: Global, bytes: &[u8], value: Value) -> Result<Verdict, AllocError>
     requires few { length bytes.now ≤ 1048576 }
     requires utf8 { IsUtf8 bytes.now }
@@ -76,7 +83,6 @@ fn check_json(alloc: Global, bytes: &[u8], value: Value) -> Result<Verdict, Allo
 }
 
 // What is said of a value that a text is.
-#[tactic(auto, using(crate::proofs::Verdicts::verdict_unread, crate::proofs::Verdicts::script_of_value))]
 fn check_value(alloc: Global, bytes: &[u8], value: &Value) -> Result<Verdict, AllocError>
     requires { read bytes.now ≡ Some (view value.now) }
     ensures { IfOk result (IsVerdictOf (view value.now)) }
@@ -84,8 +90,16 @@ fn check_value(alloc: Global, bytes: &[u8], value: &Value) -> Result<Verdict, Al
     match read_script(alloc, bytes) {
         Ok(script) => check_genesis(alloc, value, script),
         Err(Unread::NoMemory) => Err(AllocError),
-        Err(_) => Ok(Verdict::Bad(unread_faults(alloc, value)?)),
+        Err(_) => unread(alloc, value),
     }
+}
+
+// What is said of a value that wasn't read as a script.
+fn unread(alloc: Global, value: &Value) -> Result<Verdict, AllocError>
+    ensures { IfOk result (IsVerdictOf (view value.now)) }
+{
+    let faults = unread_faults(alloc, value)?;
+    Ok(Verdict::Bad(faults))
 }
 
 // What is said of a script that was read.
@@ -103,7 +117,6 @@ fn check_genesis(alloc: Global, value: &Value, script: Script) -> Result<Verdict
 }
 
 // What is said of a script in which this was found to be wrong.
-#[tactic(auto, using(crate::proofs::Verdicts::verdict_good, crate::proofs::Verdicts::verdict_bad))]
 fn verdict_of(_value: &Value, script: Script, faults: Vec<ScriptFault>) -> Verdict
     requires script { IsScript (content_of script) (view _value.now) }
     requires faults { faults.items ≡ content_faults (content_of script) (view _value.now) }
