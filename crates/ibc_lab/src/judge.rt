@@ -1,6 +1,6 @@
 //! What is wrong with the JSON value of a script.
 
-ghost use Rattle.std.specs.Prelude.{◌≡◌, ◌<◌, ◌++◌, length, map, option_map, string_bytes, IfOk, OnOk};
+ghost use Rattle.std.specs.Prelude.{◌≡◌, ◌<◌, ◌++◌, length, map, option_map, string_bytes, take, IfOk, OnOk};
 ghost use Rattle.std.specs.BTreeMap.{keys};
 ghost use Rattle.serde_json.specs.Find.{as_object};
 ghost use Rattle.serde_json.specs.View.{view};
@@ -113,7 +113,6 @@ impl Judge<'_> {
     }
 
     // A chain whose name one before it has.
-    #[tactic(auto, using(crate::proofs::Lists::take_of_views))]
     fn name_twice(
         &self,
         index: usize,
@@ -123,7 +122,7 @@ impl Judge<'_> {
         requires { index < length self.now.chains.now }
         ensures { OnOk result (found.new.items ≡ found.old.items ++ name_twice_faults (map view self.now.chains.now) index (view chain.now)) }
     {
-        if is_name_in(&self.chains[..index], chain) {
+        if is_name_in(chains_before(self.chains, index), chain) {
             let place = ScriptPlace::of(ScriptPart::Chain(index)).member(Member::Name);
             note(found, place, FaultKind::NameTwice)
         } else {
@@ -132,7 +131,6 @@ impl Judge<'_> {
     }
 
     // An object that owes members.
-    #[tactic(auto, using(crate::proofs::Lists::names_in_map))]
     fn object(
         &self,
         place: ScriptPlace,
@@ -298,6 +296,15 @@ impl Judge<'_> {
         }
         Ok(())
     }
+}
+
+// The chains before a place.
+#[tactic(auto, using(crate::proofs::Lists::take_of_views))]
+fn chains_before(chains: &[Value], index: usize) -> &[Value]
+    requires { index < length chains.now }
+    ensures { map view result.now ≡ take index (map view chains.now) }
+{
+    &chains[..index]
 }
 
 // Whether one of the chains has the name of a chain.
