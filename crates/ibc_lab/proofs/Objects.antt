@@ -34,8 +34,8 @@ object_told chains place owed d es (Err e) found unknown all there first rest = 
 
 pub not_twice : (chains before : List Data) (k : ℕ) (d : Data) (found : List ScriptFault) (known : Bool) → before ≡ take k chains
     → known ≡ passes (is_known before) (name_in d) → known ≡ false → found ≡ found ++ name_twice_faults chains k d
-not_twice chains before k d found known front is no =
+not_twice chains before k d found known front is unknown =
     let none : passes (is_known (take k chains)) (name_in d) ≡ false =
-    ap (λ (l : List Data). passes (is_known l) (name_in d)) (sym front) ∙ sym is ∙ no in
+    ap (λ (l : List Data). passes (is_known l) (name_in d)) (sym front) ∙ sym is ∙ unknown in
     sym (append-nil found)
     ∙ ap (λ (b : Bool). found ++ cond b (fault_at (at_member (place_of (part.Chain k)) member.Name) wrong.NameTwice) []) (sym none)

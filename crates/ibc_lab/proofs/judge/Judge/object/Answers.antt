@@ -10,4 +10,4 @@ pub returns-in_ok-unknown-in-Some : goal.returns-in_ok-unknown-in-Some
 returns-in_ok-unknown-in-Some c =
     let there = sym (ap (option_map (λ (m : Bor (BTreeMap (String Global) Value)). members_view m.now.entries)) c.in-Some.is) ∙ c.as_object.ensures in
     object_told (map view c.args.self.now.chains.now) c.args.place c.args.owed.now (view c.args.object.now) c.in-Some.members.now.entries c.members.result
-    c.args.found.now.items c.unknown.new.found.items c.members.new.found.items there c.in_ok-unknown.ensures c.members.ensures
+    c.args.found.now.items c.unknown.new.found.items c.members.new.found.items there c.in_ok-unknown-in-Some.ensures c.members.ensures
