@@ -1,0 +1,11 @@
+pub mod Words
+pub mod Texts
+pub mod Values
+pub mod Leaves
+pub mod Tables
+pub mod Places
+pub mod Forms
+pub mod Faults
+pub mod GenesisFaults
+pub mod Verdicts
+pub mod Spots

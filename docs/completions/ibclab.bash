@@ -1,0 +1,17 @@
+# Completions of ibclab for bash. `source docs/completions/ibclab.bash` has bash know them; in
+# /usr/share/bash-completion/completions/ibclab it finds them by itself.
+_ibclab() {
+    local word=${COMP_WORDS[COMP_CWORD]} options="--help --version"
+    COMPREPLY=()
+    if [[ $word == -* ]]; then
+        mapfile -t COMPREPLY < <(compgen -W "$options" -- "$word")
+    elif [ "$COMP_CWORD" -eq 1 ]; then
+        mapfile -t COMPREPLY < <(compgen -W "check help $options" -- "$word")
+    elif [ "${COMP_WORDS[1]}" = check ]; then
+        compopt -o filenames
+        mapfile -t COMPREPLY < <(compgen -f -X '!*.json' -- "$word"; compgen -d -- "$word")
+    elif [ "${COMP_WORDS[1]}" = help ]; then
+        mapfile -t COMPREPLY < <(compgen -W "check" -- "$word")
+    fi
+}
+complete -F _ibclab ibclab
