@@ -109,7 +109,8 @@ enum {
     IBCW_TOO_SHORT = 104,     /* the place is too short for the bytes */
     IBCW_NOTHING_THERE = 105, /* there is nothing there */
     IBCW_OTHER_WORLD = 106,   /* the ledger is of another world */
-    IBCW_NO_MESSAGE = 107     /* the bytes spell no message */
+    IBCW_NO_MESSAGE = 107,    /* the bytes spell no message */
+    IBCW_NO_DATA = 108        /* the bytes spell no data of tokens */
 };
 
 /* The version of the archive that is linked: IBCWORLD_VERSION of its header. */
@@ -445,6 +446,30 @@ enum {
 IBCW_MUST_USE IBCW_NONNULL(6)
 uint32_t ibcw_packet_part(const uint8_t *packet, size_t packet_size, uint64_t part, uint8_t *text, size_t room,
                           size_t *size);
+
+enum {
+    IBCW_SENDER = 1,
+    IBCW_RECEIVER = 2,
+    IBCW_MEMO = 3,          /* no bytes where there is none */
+    IBCW_TOKENS_VERSION = 4 /* the version of the channels over which the bytes spell the data: ics20-1 or ics20-own-2 */
+};
+
+/* Writes a part of the data of a packet of tokens, as IBCW_DATA of a packet of port transfer has it (ICS 20). It is exactly what a chain reads
+   where such a packet comes. IBCW_NO_DATA exactly where the bytes spell no data of tokens, IBCW_NOTHING_THERE for another part, IBCW_TOO_SHORT.
+   What data says is true of a chain where its ledger took the packet: look at the reply, and at the packet's ends. */
+IBCW_MUST_USE IBCW_NONNULL(6)
+uint32_t ibcw_data_part(const uint8_t *data, size_t data_size, uint64_t part, uint8_t *text, size_t room, size_t *size);
+
+/* Tells how many tokens it has: 1 for ics20-1, 1 to 8 for ics20-own-2. IBCW_NO_DATA. */
+IBCW_MUST_USE IBCW_NONNULL(3)
+uint32_t ibcw_data_count(const uint8_t *data, size_t data_size, uint64_t *count);
+
+/* Tells the amount of the token at an index, from 0 on, and writes its denomination, as the sending chain calls it. The receiving chain calls it
+   without the sender's hop where the token comes home, and else with its own hop before it. IBCW_NO_DATA, IBCW_NOTHING_THERE where there is no such
+   token; IBCW_TOO_SHORT, and then *amount and *size are told. */
+IBCW_MUST_USE IBCW_NONNULL(4, 7)
+uint32_t ibcw_data_token(const uint8_t *data, size_t data_size, uint64_t index, ibcw_amount *amount, uint8_t *denom,
+                         size_t room, size_t *size);
 
 #ifdef __cplusplus
 }

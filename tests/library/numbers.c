@@ -278,6 +278,127 @@ static void open_channel(world *w, const char *port, uint8_t order, const char *
     answer(&w->y, &message, IBCW_DONE, "a channel is confirmed");
 }
 
+/* ---- the data of packets of tokens, taken apart */
+
+static void want_data_part(const text *data, uint64_t part, const char *wanted)
+{
+    static text found;
+    uint32_t answer;
+    WITH_REFUSALS(answer, ibcw_data_part(data->data, data->size, part, found.data, ROOM, &found.size), "a part of data");
+    want(answer, IBCW_DONE, "a part of data");
+    want((uint32_t)found.size, (uint32_t)strlen(wanted), "the size of a part of data");
+    want((uint32_t)memcmp(found.data, wanted, found.size), 0, "the bytes of a part of data");
+}
+
+static void want_token(const text *data, uint64_t index, uint64_t high, uint64_t low, const char *denom)
+{
+    static text found;
+    ibcw_amount amount = {7, 7};
+    uint32_t answer;
+    WITH_REFUSALS(answer, ibcw_data_token(data->data, data->size, index, &amount, found.data, ROOM, &found.size), "a token");
+    want(answer, IBCW_DONE, "a token");
+    want(amount.high == high && amount.low == low, 1, "the amount of a token");
+    want((uint32_t)found.size, (uint32_t)strlen(denom), "the size of a denomination");
+    want((uint32_t)memcmp(found.data, denom, found.size), 0, "the bytes of a denomination");
+    amount.high = amount.low = 7;
+    meet(ibcw_data_token(data->data, data->size, index, &amount, NULL, 0, &found.size), IBCW_TOO_SHORT, "a denomination with no room");
+    want(amount.high == high && amount.low == low && found.size == strlen(denom), 1, "what is told of a denomination with no room");
+}
+
+/* The data says this, and has so many tokens. */
+static void want_data(const text *data, const char *sender, const char *receiver, const char *memo, const char *version, uint64_t tokens)
+{
+    uint64_t count = 77;
+    uint32_t answer;
+    size_t size = 77;
+    ibcw_amount amount = {7, 7};
+    WITH_REFUSALS(answer, ibcw_data_count(data->data, data->size, &count), "how many tokens");
+    want(answer, IBCW_DONE, "how many tokens");
+    want((uint32_t)count, (uint32_t)tokens, "how many tokens");
+    want_data_part(data, IBCW_SENDER, sender);
+    want_data_part(data, IBCW_RECEIVER, receiver);
+    want_data_part(data, IBCW_MEMO, memo);
+    want_data_part(data, IBCW_TOKENS_VERSION, version);
+    meet(ibcw_data_part(data->data, data->size, 0, NULL, 0, &size), IBCW_NOTHING_THERE, "a part 0 of data");
+    meet(ibcw_data_part(data->data, data->size, 5, NULL, 0, &size), IBCW_NOTHING_THERE, "a fifth part of data");
+    meet(ibcw_data_token(data->data, data->size, tokens, &amount, NULL, 0, &size), IBCW_NOTHING_THERE, "a token more");
+    meet(ibcw_data_token(data->data, data->size, UINT64_MAX, &amount, NULL, 0, &size), IBCW_NOTHING_THERE, "the last token of all");
+    want(size == 77 && amount.high == 7 && amount.low == 7, 1, "what isn't told of data");
+}
+
+static void put_data(text *out, const char *data)
+{
+    out->size = 0;
+    put_bytes(out, data, strlen(data));
+}
+
+/* Bytes that are no data of tokens: by each call they are told as such, whatever growth is refused, and nothing is told. */
+static void refuse_data(const char *bytes_of_none)
+{
+    static text none;
+    uint64_t count = 77;
+    size_t size = 77;
+    ibcw_amount amount = {7, 7};
+    uint32_t answer;
+    put_data(&none, bytes_of_none);
+    WITH_REFUSALS(answer, ibcw_data_count(none.data, none.size, &count), "how many tokens of none");
+    meet(answer, IBCW_NO_DATA, bytes_of_none);
+    WITH_REFUSALS(answer, ibcw_data_part(none.data, none.size, IBCW_SENDER, NULL, 0, &size), "a part of none");
+    meet(answer, IBCW_NO_DATA, bytes_of_none);
+    WITH_REFUSALS(answer, ibcw_data_token(none.data, none.size, 0, &amount, NULL, 0, &size), "a token of none");
+    meet(answer, IBCW_NO_DATA, bytes_of_none);
+    want(count == 77 && size == 77 && amount.high == 7 && amount.low == 7, 1, "what isn't told of none");
+}
+
+#define PARTIES "\"receiver\":\"bob\",\"sender\":\"alice\""
+
+static void take_data_apart(void)
+{
+    static const char *const none[] = {
+        "",
+        "{}",
+        "three",
+        "{\"amount\":\"5\",\"denom\":\"atom\"," PARTIES,
+        "{\"amount\":\"5\",\"denom\":\"atom\"," PARTIES "} ",
+        "{\"amount\": \"5\",\"denom\":\"atom\"," PARTIES "}",
+        "{\"amount\":5,\"denom\":\"atom\"," PARTIES "}",
+        "{\"amount\":\"0\",\"denom\":\"atom\"," PARTIES "}",
+        "{\"amount\":\"05\",\"denom\":\"atom\"," PARTIES "}",
+        "{\"amount\":\"+5\",\"denom\":\"atom\"," PARTIES "}",
+        "{\"amount\":\"340282366920938463463374607431768211456\",\"denom\":\"atom\"," PARTIES "}",
+        "{\"denom\":\"atom\",\"amount\":\"5\"," PARTIES "}",
+        "{\"amount\":\"5\",\"denom\":\"a//b\"," PARTIES "}",
+        "{\"amount\":\"5\",\"denom\":\"atom\",\"memo\":\"\"," PARTIES "}",
+        "{\"amount\":\"5\",\"denom\":\"atom\",\"receiver\":\"bob\",\"sender\":\"\"}",
+        "{\"amount\":\"5\",\"denom\":\"atom\",\"receiver\":\"bob\",\"sender\":\"al/ice\"}",
+        "{" PARTIES ",\"tokens\":[]}",
+        "{" PARTIES ",\"tokens\":[{\"amount\":\"5\",\"denom\":\"gold\"},{\"amount\":\"5\",\"denom\":\"atom\"}]}",
+        "{" PARTIES ",\"tokens\":[{\"amount\":\"5\",\"denom\":\"atom\"},{\"amount\":\"5\",\"denom\":\"atom\"}]}",
+    };
+    static text data;
+    uint64_t count = 77;
+    size_t k;
+    put_data(&data, "{\"amount\":\"340282366920938463463374607431768211455\",\"denom\":\"transfer/channel-0/atom\",\"memo\":\"for the ferry\"," PARTIES "}");
+    want_data(&data, "alice", "bob", "for the ferry", "ics20-1", 1);
+    want_token(&data, 0, UINT64_MAX, UINT64_MAX, "transfer/channel-0/atom");
+    put_data(&data, "{" PARTIES ",\"tokens\":[{\"amount\":\"5\",\"denom\":\"atom\"},{\"amount\":\"18446744073709551616\",\"denom\":\"gold\"}]}");
+    want_data(&data, "alice", "bob", "", "ics20-own-2", 2);
+    want_token(&data, 0, 0, 5, "atom");
+    want_token(&data, 1, 1, 0, "gold");
+    for (k = 0; k < sizeof none / sizeof none[0]; k++) refuse_data(none[k]);
+    want(ibcw_data_count(NULL, 0, &count), IBCW_NO_DATA, "no bytes as data");
+}
+
+/* What a packet of tokens that comes says, by its own bytes. */
+static void want_tokens_of(const text *message)
+{
+    static text packet, data;
+    want(ibcw_message_packet(message->data, message->size, packet.data, ROOM, &packet.size), IBCW_DONE, "a carried packet");
+    want(ibcw_packet_part(packet.data, packet.size, IBCW_DATA, data.data, ROOM, &data.size), IBCW_DONE, "the data of a packet");
+    want_data(&data, "alice", "bob", "", "ics20-1", 1);
+    want_token(&data, 0, 0, 5, "atom");
+}
+
 /* ---- packets */
 
 /* Both chains end a block, and the plan of what `to` is owed from `from` is made. */
@@ -336,6 +457,7 @@ static void refuse_packets(world *w)
     transfer(&message, "channel-0", "alice", "atom", 5, "bob", "", 1000);
     answer(&w->x, &message, IBCW_DONE, "a transfer");
     first_owed(&w->x, &w->y, &message);
+    want_tokens_of(&message);
     other = message;
     other.data[other.size - 1] ^= 1;
     answer(&w->y, &other, IBCW_BAD_PROOF, "a packet with another proof");
@@ -863,12 +985,13 @@ int main(void)
     refuse_timeouts(&w);
     refuse_notes(&w);
     take_packets_apart(&w);
+    take_data_apart();
     close_notes(&w);
     refuse_blocks();
     prove_heights();
     refuse_texts(&w);
     refuse_handles(&w);
-    for (int n = IBCW_NO_MEMORY; n <= IBCW_NO_MESSAGE; n++) {
+    for (int n = IBCW_NO_MEMORY; n <= IBCW_NO_DATA; n++) {
         int is_number = n <= IBCW_PRUNED || n >= IBCW_EMPTY;
         if (is_number && n != IBCW_NUMBER_FULL) want((uint32_t)met[n], 1, "a number is met");
         count += met[n];

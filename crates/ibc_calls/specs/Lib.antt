@@ -14,3 +14,4 @@ pub mod Reads
 pub mod Views
 pub mod WorldHandles
 pub mod PacketReads
+pub mod TokenReads

@@ -17,6 +17,7 @@ mod proofs;
 mod proving;
 mod reads;
 mod sent;
+mod tokens;
 mod views;
 mod worlds;
 
@@ -35,5 +36,6 @@ pub use proofs::{ProofKind, key_of, kind_of, show_absent, show_present, value_of
 pub use proving::prove;
 pub use reads::{Amount, balance, escrow, plan_message, query};
 pub use sent::{sent_packet, written_ack};
+pub use tokens::{data_count, data_part, data_token};
 pub use views::{ViewHeights, make_plan, make_view, view_heights, view_proof, view_root};
 pub use worlds::{make_ledgers, take_ledger};

@@ -423,4 +423,32 @@ extern "C" {
         room: usize,
         size: *mut usize,
     ) -> u32;
+    /// Writes a part of the data of a packet of tokens, as IBCW_DATA of a packet of port transfer has it (ICS 20):
+    /// 1 the sender, 2 the receiver, 3 the memo, 4 the version of the channels over which the bytes spell it. It is
+    /// exactly what a chain reads where such a packet comes. IBCW_NO_DATA exactly where the bytes spell no data of
+    /// tokens, IBCW_NOTHING_THERE for another part, IBCW_TOO_SHORT. What data says is true of a chain where its ledger
+    /// took the packet: look at the reply, and at the packet's ends.
+    pub fn ibcw_data_part(
+        data: *const u8,
+        data_size: usize,
+        part: u64,
+        text: *mut u8,
+        room: usize,
+        size: *mut usize,
+    ) -> u32;
+    /// Tells how many tokens it has: 1 for ics20-1, 1 to 8 for ics20-own-2. IBCW_NO_DATA.
+    pub fn ibcw_data_count(data: *const u8, data_size: usize, count: *mut u64) -> u32;
+    /// Tells the amount of the token at an index, from 0 on, and writes its denomination, as the sending chain calls
+    /// it. The receiving chain calls it without the sender's hop where the token comes home, and else with its own hop
+    /// before it. IBCW_NO_DATA, IBCW_NOTHING_THERE where there is no such token; IBCW_TOO_SHORT, and then *amount and
+    /// *size are told.
+    pub fn ibcw_data_token(
+        data: *const u8,
+        data_size: usize,
+        index: u64,
+        amount: *mut Amount,
+        denom: *mut u8,
+        room: usize,
+        size: *mut usize,
+    ) -> u32;
 }

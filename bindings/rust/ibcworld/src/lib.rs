@@ -18,6 +18,7 @@ mod packet;
 mod proof;
 mod refused;
 mod relay;
+mod tokens;
 mod view;
 mod wire;
 mod world;
@@ -36,6 +37,7 @@ pub use packet::Packet;
 pub use proof::{Claim, Proof};
 pub use refused::Refused;
 pub use relay::{open, relay, Opened, Opening, Relayed};
+pub use tokens::TokenData;
 pub use view::{Heights, Plan, View};
 pub use world::{Audit, NotJoined, World};
 
