@@ -479,6 +479,53 @@ static inline uint32_t ibcw_read_packet(const uint8_t *bytes, size_t size, ibcw_
     return from.is_short || from.left > 0 ? (uint32_t)IBCW_BAD_MESSAGE : (uint32_t)IBCW_DONE;
 }
 
+/* ---- the data of packets of tokens */
+
+/* A token, with a 0 behind its denomination. */
+typedef struct {
+    char denom[257];
+    ibcw_amount amount;
+} ibcw_told_token;
+
+/* What the data of a packet of tokens says (ICS 20), each text with a 0 behind it: none has one within. */
+typedef struct {
+    char version[33], sender[33], receiver[65];
+    char memo[257];       /* empty where there is none */
+    uint64_t token_count; /* 1 to IBCW_MOST_TOKENS */
+    ibcw_told_token tokens[IBCW_MOST_TOKENS];
+} ibcw_token_data;
+
+static inline uint32_t ibcw_read_data_part(const uint8_t *data, size_t data_size, uint64_t part, char *text, size_t room)
+{
+    size_t size = 0;
+    uint32_t answer = ibcw_data_part(data, data_size, part, (uint8_t *)text, room - 1, &size);
+    if (answer == IBCW_DONE) text[size] = 0;
+    return answer;
+}
+
+static inline uint32_t ibcw_read_data_token(const uint8_t *data, size_t data_size, uint64_t index, ibcw_told_token *token)
+{
+    size_t size = 0;
+    uint32_t answer =
+        ibcw_data_token(data, data_size, index, &token->amount, (uint8_t *)token->denom, sizeof token->denom - 1, &size);
+    if (answer == IBCW_DONE) token->denom[size] = 0;
+    return answer;
+}
+
+/* Reads all that the bytes say, by ibcw_data_part, ibcw_data_count and ibcw_data_token. IBCW_NO_DATA exactly where they spell no data of tokens;
+   IBCW_NO_MEMORY. */
+IBCW_MUST_USE static inline uint32_t ibcw_read_token_data(const uint8_t *data, size_t data_size, ibcw_token_data *told)
+{
+    uint64_t k;
+    uint32_t answer = ibcw_data_count(data, data_size, &told->token_count);
+    if (answer == IBCW_DONE) answer = ibcw_read_data_part(data, data_size, IBCW_TOKENS_VERSION, told->version, sizeof told->version);
+    if (answer == IBCW_DONE) answer = ibcw_read_data_part(data, data_size, IBCW_SENDER, told->sender, sizeof told->sender);
+    if (answer == IBCW_DONE) answer = ibcw_read_data_part(data, data_size, IBCW_RECEIVER, told->receiver, sizeof told->receiver);
+    if (answer == IBCW_DONE) answer = ibcw_read_data_part(data, data_size, IBCW_MEMO, told->memo, sizeof told->memo);
+    for (k = 0; answer == IBCW_DONE && k < told->token_count; k++) answer = ibcw_read_data_token(data, data_size, k, &told->tokens[k]);
+    return answer;
+}
+
 /* ---- messages of strangers */
 
 /* Whether the bytes spell a message whose proofs are proofs, whatever they show. A ledger keeps each message that it refuses, whole and for ever, so who takes
