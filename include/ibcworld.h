@@ -12,8 +12,9 @@
    different ones. Calls that take handles of several kinds take the member `handle` that each of them has: ibcw_free(&view.handle).
 
    Threads. A handle is used by one call at a time, also where the call only reads, and may go from thread to thread where that is ordered, as by
-   a lock or by a thread's start and end. Different handles may be used by different threads at the same time: ledgers of one world meet in a
-   table that any threads share, and no call takes a lock or waits.
+   a lock or by a thread's start and end. So no call takes a const handle: it writes the handle while it works. Different handles may be used by
+   different threads at the same time: ledgers of one world meet in a table that any threads share, handles of one view share that
+   (ibcw_share_view), and no call takes a lock or waits.
 
    Bytes. A text goes in as a pointer and a number of bytes; a null pointer is allowed where that number is 0. Bytes come out
    in a place of the caller's, with `room` bytes: *size is then their number, also where the place is too short
@@ -167,7 +168,8 @@ IBCW_NONNULL(1)
 uint32_t ibcw_free(ibcw_handle *handle);
 
 /* Tells how many entries a ledger's history has, how many messages a plan, how many holdings a list of balances, how many
-   channels a list of notes, or how many chains an audit. IBCW_EMPTY, IBCW_OTHER_KIND. */
+   channels a list of notes, or how many chains an audit (ibcw_holding_count and ibcw_note_channel_count tell of one chain). IBCW_EMPTY,
+   IBCW_OTHER_KIND. */
 IBCW_MUST_USE IBCW_NONNULL(1, 2)
 uint32_t ibcw_length(ibcw_handle *handle, uint64_t *count);
 
@@ -285,15 +287,20 @@ uint32_t ibcw_ack(ibcw_ledger *ledger, const uint8_t *port, size_t port_size, co
 IBCW_MUST_USE IBCW_NONNULL(1, 2)
 uint32_t ibcw_make_balances(ibcw_ledger *ledger, ibcw_balances *balances);
 
+/* Tells how many holdings there are: those of a list of balances, and then the chain is not looked at; or of an audit, those of that chain's
+   accounts. IBCW_EMPTY, IBCW_OTHER_KIND; IBCW_UNKNOWN_CHAIN where the audit has no such chain. */
+IBCW_MUST_USE IBCW_NONNULL(1, 3)
+uint32_t ibcw_holding_count(ibcw_handle *balances, uint64_t chain, uint64_t *count);
+
 /* Writes who holds what: the account (a user, or escrow/transfer/ and a channel), a blank, and the denomination. The handle is a list of balances or an
    audit. Of a list it is the holding at an index, from 0 on, and the chain is not looked at. Of an audit the index counts what that chain's accounts
-   hold. How many holdings a list has, and how many chains an audit, ibcw_length tells. IBCW_EMPTY, IBCW_OTHER_KIND, IBCW_NOTHING_THERE,
+   hold. IBCW_EMPTY, IBCW_OTHER_KIND, IBCW_UNKNOWN_CHAIN where the audit has no such chain, IBCW_NOTHING_THERE where there is no such holding,
    IBCW_TOO_SHORT. */
 IBCW_MUST_USE IBCW_NONNULL(1, 6)
 uint32_t ibcw_holding(ibcw_handle *balances, uint64_t chain, uint64_t index, uint8_t *text, size_t room,
                       size_t *size);
 
-/* Tells how much is held there. IBCW_EMPTY, IBCW_OTHER_KIND, IBCW_NOTHING_THERE. */
+/* Tells how much is held there. IBCW_EMPTY, IBCW_OTHER_KIND, IBCW_UNKNOWN_CHAIN, IBCW_NOTHING_THERE. */
 IBCW_MUST_USE IBCW_NONNULL(1, 4)
 uint32_t ibcw_holding_amount(ibcw_handle *balances, uint64_t chain, uint64_t index, ibcw_amount *amount);
 
@@ -303,18 +310,24 @@ uint32_t ibcw_holding_amount(ibcw_handle *balances, uint64_t chain, uint64_t ind
 IBCW_MUST_USE IBCW_NONNULL(1, 2)
 uint32_t ibcw_make_notes(ibcw_ledger *ledger, ibcw_notes *notes);
 
+/* Tells over how many channels notes came: of a list of notes, and then the chain is not looked at; or of an audit, at that chain. IBCW_EMPTY,
+   IBCW_OTHER_KIND; IBCW_UNKNOWN_CHAIN where the audit has no such chain. */
+IBCW_MUST_USE IBCW_NONNULL(1, 3)
+uint32_t ibcw_note_channel_count(ibcw_handle *notes, uint64_t chain, uint64_t *count);
+
 /* Writes the name of a channel: that at an index, from 0 on, of a list of notes, and then the chain is not looked at; or of an
-   audit, at an index of the channels of that chain. IBCW_EMPTY, IBCW_OTHER_KIND, IBCW_NOTHING_THERE, IBCW_TOO_SHORT. */
+   audit, at an index of the channels of that chain. IBCW_EMPTY, IBCW_OTHER_KIND, IBCW_UNKNOWN_CHAIN where the audit has no such chain,
+   IBCW_NOTHING_THERE, IBCW_TOO_SHORT. */
 IBCW_MUST_USE IBCW_NONNULL(1, 6)
 uint32_t ibcw_note_channel(ibcw_handle *notes, uint64_t chain, uint64_t channel, uint8_t *name, size_t room,
                            size_t *size);
 
-/* Tells how many notes came over that channel, 1 or more. IBCW_EMPTY, IBCW_OTHER_KIND, IBCW_NOTHING_THERE. */
+/* Tells how many notes came over that channel, 1 or more. IBCW_EMPTY, IBCW_OTHER_KIND, IBCW_UNKNOWN_CHAIN, IBCW_NOTHING_THERE. */
 IBCW_MUST_USE IBCW_NONNULL(1, 4)
 uint32_t ibcw_note_count(ibcw_handle *notes, uint64_t chain, uint64_t channel, uint64_t *count);
 
 /* Writes the note at an index, from 0 on, of those that came over that channel, in the order in which they came. IBCW_EMPTY,
-   IBCW_OTHER_KIND, IBCW_NOTHING_THERE where there is no such channel or no such note, IBCW_TOO_SHORT. */
+   IBCW_OTHER_KIND, IBCW_UNKNOWN_CHAIN, IBCW_NOTHING_THERE where there is no such channel or no such note, IBCW_TOO_SHORT. */
 IBCW_MUST_USE IBCW_NONNULL(1, 7)
 uint32_t ibcw_note(ibcw_handle *notes, uint64_t chain, uint64_t channel, uint64_t index, uint8_t *note,
                    size_t room, size_t *size);
@@ -325,6 +338,11 @@ uint32_t ibcw_note(ibcw_handle *notes, uint64_t chain, uint64_t channel, uint64_
    the ledger goes on, and may be freed before or after it. IBCW_FULL; IBCW_EMPTY, IBCW_OTHER_KIND of the ledger. */
 IBCW_MUST_USE IBCW_NONNULL(1, 2)
 uint32_t ibcw_make_view(ibcw_ledger *ledger, ibcw_view *view);
+
+/* Puts the view of a handle into an empty handle too. Nothing is copied, and neither of the two is changed by what is done with the other: so each
+   thread that reads a view takes a handle of its own. Each is freed by itself. IBCW_FULL; IBCW_EMPTY, IBCW_OTHER_KIND of the first. */
+IBCW_MUST_USE IBCW_NONNULL(1, 2)
+uint32_t ibcw_share_view(ibcw_view *view, ibcw_view *other);
 
 /* The number of a view's chain, its last committed height (0 if there is none), the time of that height and that of the
    working block. */

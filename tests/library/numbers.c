@@ -744,6 +744,9 @@ static uint32_t ask_balance(ibcw_handle *h)
     return ibcw_balance(h, bytes("a"), 1, bytes("b"), 1, &amount);
 }
 static uint32_t ask_make_balances(ibcw_handle *h) { return ibcw_make_balances(h, &made); }
+static uint32_t ask_holding_count(ibcw_handle *h) { return ibcw_holding_count(h, 0, &number); }
+static uint32_t ask_note_channel_count(ibcw_handle *h) { return ibcw_note_channel_count(h, 0, &number); }
+static uint32_t ask_share_view(ibcw_handle *h) { return ibcw_share_view(h, &made); }
 static uint32_t ask_holding(ibcw_handle *h) { return ibcw_holding(h, 0, 0, NULL, 0, &written); }
 static uint32_t ask_holding_amount(ibcw_handle *h)
 {
@@ -783,13 +786,16 @@ static const asking CALLS[] = {
     {"ibcw_packet", ask_packet, 1 << LEDGER},
     {"ibcw_ack", ask_ack, 1 << LEDGER},
     {"ibcw_make_balances", ask_make_balances, 1 << LEDGER},
+    {"ibcw_holding_count", ask_holding_count, OF_HOLDINGS},
     {"ibcw_holding", ask_holding, OF_HOLDINGS},
     {"ibcw_holding_amount", ask_holding_amount, OF_HOLDINGS},
     {"ibcw_make_notes", ask_make_notes, 1 << LEDGER},
+    {"ibcw_note_channel_count", ask_note_channel_count, OF_NOTES},
     {"ibcw_note_channel", ask_note_channel, OF_NOTES},
     {"ibcw_note_count", ask_note_count, OF_NOTES},
     {"ibcw_note", ask_note, OF_NOTES},
     {"ibcw_make_view", ask_make_view, 1 << LEDGER},
+    {"ibcw_share_view", ask_share_view, 1 << VIEW},
     {"ibcw_view_heights", ask_view_heights, 1 << VIEW},
     {"ibcw_view_root", ask_view_root, 1 << VIEW},
     {"ibcw_view_proof", ask_view_proof, 1 << VIEW},
@@ -862,6 +868,49 @@ static void audit_again(world *w, world *other, ibcw_handle *audit)
     want(ibcw_make_audit(&w->ledgers, audit), IBCW_DONE, "an audit again");
 }
 
+/* How many holdings and channels of notes an audit has at each of two chains, and a list of balances at any. A third chain isn't there. */
+static void want_counts(ibcw_handle *audit, ibcw_handle *balances)
+{
+    uint64_t count = 77, chain;
+    size_t size = 77;
+    ibcw_amount amount = {7, 7};
+    for (chain = 0; chain < 2; chain++) {
+        meet(ibcw_holding_count(audit, chain, &count), IBCW_DONE, "how many holdings");
+        want(ibcw_holding_amount(audit, chain, count - 1, &amount), IBCW_DONE, "the last holding of a chain");
+        meet(ibcw_holding(audit, chain, count, NULL, 0, &size), IBCW_NOTHING_THERE, "a holding more");
+        want(ibcw_note_channel_count(audit, chain, &count), IBCW_DONE, "how many channels of notes");
+        want((uint32_t)count, (uint32_t)chain, "how many channels of notes");
+    }
+    want(ibcw_holding_count(balances, 99, &count), IBCW_DONE, "how many holdings of a list");
+    want((uint32_t)count, (uint32_t)length_of(balances), "how many holdings of a list");
+    count = 77;
+    meet(ibcw_holding_count(audit, 2, &count), IBCW_UNKNOWN_CHAIN, "how many holdings of a chain that isn't there");
+    meet(ibcw_note_channel_count(audit, 2, &count), IBCW_UNKNOWN_CHAIN, "how many channels of a chain that isn't there");
+    meet(ibcw_holding(audit, 2, 0, NULL, 0, &size), IBCW_UNKNOWN_CHAIN, "a holding of a chain that isn't there");
+    meet(ibcw_holding_amount(audit, 2, 0, &amount), IBCW_UNKNOWN_CHAIN, "an amount at a chain that isn't there");
+    meet(ibcw_note_channel(audit, 2, 0, NULL, 0, &size), IBCW_UNKNOWN_CHAIN, "a channel of a chain that isn't there");
+    meet(ibcw_note_count(audit, 2, 0, &count), IBCW_UNKNOWN_CHAIN, "notes of a chain that isn't there");
+    meet(ibcw_note(audit, 2, 0, 0, NULL, 0, &size), IBCW_UNKNOWN_CHAIN, "a note of a chain that isn't there");
+    want(count == 77 && size == 77, 1, "what isn't told of a chain that isn't there");
+}
+
+/* A view behind a second handle is the same, and is there when the first is freed. */
+static void share_views(ibcw_handle *ledger)
+{
+    uint8_t root[32], again[32];
+    uint32_t found;
+    size_t size = 0;
+    ibcw_handle view = view_of(ledger), other = {0};
+    want(ibcw_view_root(&view, root, 32, &size), IBCW_DONE, "a root");
+    WITH_REFUSALS(found, ibcw_share_view(&view, &other), "a shared view");
+    want(found, IBCW_DONE, "a shared view");
+    meet(ibcw_share_view(&view, &other), IBCW_FULL, "a shared view over another");
+    want(ibcw_free(&view), IBCW_DONE, "free");
+    want(ibcw_view_root(&other, again, 32, &size), IBCW_DONE, "the root of a shared view");
+    want((uint32_t)memcmp(root, again, 32), 0, "the root of a shared view");
+    want(ibcw_free(&other), IBCW_DONE, "free");
+}
+
 static void refuse_handles(world *w)
 {
     uint32_t found;
@@ -873,9 +922,10 @@ static void refuse_handles(world *w)
     WITH_REFUSALS(found, ibcw_make_balances(&w->x, &balances), "balances");
     want(found, IBCW_DONE, "balances");
     want(ibcw_make_notes(&w->y, &notes), IBCW_DONE, "notes");
+    share_views(&w->x);
     audit_again(w, &other, &audit);
     want_notes(&audit, 1, 3);
-    meet(ibcw_holding(&audit, 2, 0, NULL, 0, &written), IBCW_NOTHING_THERE, "a holding of a chain that isn't there");
+    want_counts(&audit, &balances);
     refuse_kinds(values, &other.y);
     refuse_full(values);
     want(ibcw_make_audit(&other.ledgers, &nothing), IBCW_BAD_MESSAGE, "an audit of no ledgers");

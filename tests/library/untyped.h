@@ -25,6 +25,7 @@
 #define ibcw_make_balances(h, made) ibcw_make_balances((ibcw_ledger *)(void *)(h), (ibcw_balances *)(void *)(made))
 #define ibcw_make_notes(h, made) ibcw_make_notes((ibcw_ledger *)(void *)(h), (ibcw_notes *)(void *)(made))
 #define ibcw_make_view(h, made) ibcw_make_view((ibcw_ledger *)(void *)(h), (ibcw_view *)(void *)(made))
+#define ibcw_share_view(h, made) ibcw_share_view((ibcw_view *)(void *)(h), (ibcw_view *)(void *)(made))
 #define ibcw_view_heights(h, ...) ibcw_view_heights((ibcw_view *)(void *)(h), __VA_ARGS__)
 #define ibcw_view_root(h, ...) ibcw_view_root((ibcw_view *)(void *)(h), __VA_ARGS__)
 #define ibcw_view_proof(h, ...) ibcw_view_proof((ibcw_view *)(void *)(h), __VA_ARGS__)

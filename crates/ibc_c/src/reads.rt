@@ -3,7 +3,7 @@
 ghost use Rattle.std.specs.Prelude.{◌≡◌};
 ghost use Rattle.ibc_calls.specs.CallAnswers.{Numbered};
 ghost use Rattle.ibc_calls.specs.Handles.{Finds};
-ghost use Rattle.ibc_calls.specs.Holdings.{FindsHolding, MakesBalances, TellsHolding};
+ghost use Rattle.ibc_calls.specs.Holdings.{FindsHolding, MakesBalances, TellsHolding, TellsHoldingCount};
 ghost use Rattle.ibc_calls.specs.History.{TellsEvent, TellsLength, TellsReply};
 ghost use Rattle.ibc_calls.specs.ViewProofs.{FindsProved};
 ghost use Rattle.ibc_calls.specs.Reads.{FindsValue, TellsBalance, TellsEscrow};
@@ -95,6 +95,20 @@ pub extern "C" fn ibcw_make_balances(
     ensures made { Numbered (MakesBalances ledger.old.value balances.old.value balances.new.value) result }
 {
     number(ibc_calls::make_balances(alloc, ledger, balances))
+}
+
+/// Tells how many holdings there are. As `holding_count`.
+#[unsafe(no_mangle)]
+pub extern "C" fn ibcw_holding_count(
+    alloc: Global,
+    balances: &mut Handle,
+    chain: u64,
+    count: &mut u64,
+) -> u32
+    ensures kept { balances.new.value ≡ balances.old.value }
+    ensures told { Numbered (TellsHoldingCount chain balances.old.value count.old count.new) result }
+{
+    number(ibc_calls::holding_count(alloc, balances, chain, count))
 }
 
 /// Writes who holds what at an index. As `holding`.

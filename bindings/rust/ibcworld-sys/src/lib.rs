@@ -122,7 +122,8 @@ extern "C" {
     /// Frees what a handle holds, and leaves it empty. IBCW_EMPTY.
     pub fn ibcw_free(handle: *mut Handle) -> u32;
     /// Tells how many entries a ledger's history has, how many messages a plan, how many holdings a list of
-    /// balances, how many channels a list of notes, or how many chains an audit. IBCW_EMPTY, IBCW_OTHER_KIND.
+    /// balances, how many channels a list of notes, or how many chains an audit (ibcw_holding_count and
+    /// ibcw_note_channel_count tell of one chain). IBCW_EMPTY, IBCW_OTHER_KIND.
     pub fn ibcw_length(handle: *mut Handle, count: *mut u64) -> u32;
     /// Applies the message that the bytes spell to the working block, and tells its reply. The answer is the
     /// reply's number: 0, or that of the refusal. *told is the reply, *size the number of the bytes that go with
@@ -245,10 +246,15 @@ extern "C" {
     /// byte order of the accounts and then of the denominations. IBCW_FULL; IBCW_EMPTY, IBCW_OTHER_KIND of the
     /// ledger.
     pub fn ibcw_make_balances(ledger: *mut Handle, balances: *mut Handle) -> u32;
+    /// Tells how many holdings there are: those of a list of balances, and then the chain is not looked at; or of an
+    /// audit, those of that chain's accounts. IBCW_EMPTY, IBCW_OTHER_KIND; IBCW_UNKNOWN_CHAIN where the audit has no
+    /// such chain.
+    pub fn ibcw_holding_count(balances: *mut Handle, chain: u64, count: *mut u64) -> u32;
     /// Writes who holds what: the account (a user, or escrow/transfer/ and a channel), a blank, and the
     /// denomination. It is the holding at an index, from 0 on, of a list of balances, and then the chain is not
-    /// looked at; or of an audit, at an index of what that chain's accounts hold. ibcw_length tells how many a list
-    /// has, and how many chains an audit has. IBCW_EMPTY, IBCW_OTHER_KIND, IBCW_NOTHING_THERE, IBCW_TOO_SHORT.
+    /// looked at; or of an audit, at an index of what that chain's accounts hold. IBCW_EMPTY, IBCW_OTHER_KIND,
+    /// IBCW_UNKNOWN_CHAIN where the audit has no such chain, IBCW_NOTHING_THERE where there is no such holding,
+    /// IBCW_TOO_SHORT.
     pub fn ibcw_holding(
         balances: *mut Handle,
         chain: u64,
@@ -257,7 +263,7 @@ extern "C" {
         room: usize,
         size: *mut usize,
     ) -> u32;
-    /// Tells how much is held there. IBCW_EMPTY, IBCW_OTHER_KIND, IBCW_NOTHING_THERE.
+    /// Tells how much is held there. IBCW_EMPTY, IBCW_OTHER_KIND, IBCW_UNKNOWN_CHAIN, IBCW_NOTHING_THERE.
     pub fn ibcw_holding_amount(
         balances: *mut Handle,
         chain: u64,
@@ -268,9 +274,12 @@ extern "C" {
     /// in an empty handle. Its channels are those over which a note came, in the byte order of their names;
     /// ibcw_length tells how many. IBCW_FULL; IBCW_EMPTY, IBCW_OTHER_KIND of the ledger.
     pub fn ibcw_make_notes(ledger: *mut Handle, notes: *mut Handle) -> u32;
+    /// Tells over how many channels notes came: of a list of notes, and then the chain is not looked at; or of an
+    /// audit, at that chain. IBCW_EMPTY, IBCW_OTHER_KIND; IBCW_UNKNOWN_CHAIN where the audit has no such chain.
+    pub fn ibcw_note_channel_count(notes: *mut Handle, chain: u64, count: *mut u64) -> u32;
     /// Writes the name of a channel: that at an index, from 0 on, of a list of notes, and then the chain is not
     /// looked at; or of an audit, at an index of the channels of that chain. IBCW_EMPTY, IBCW_OTHER_KIND,
-    /// IBCW_NOTHING_THERE, IBCW_TOO_SHORT.
+    /// IBCW_UNKNOWN_CHAIN where the audit has no such chain, IBCW_NOTHING_THERE, IBCW_TOO_SHORT.
     pub fn ibcw_note_channel(
         notes: *mut Handle,
         chain: u64,
@@ -279,11 +288,12 @@ extern "C" {
         room: usize,
         size: *mut usize,
     ) -> u32;
-    /// Tells how many notes came over that channel, 1 or more. IBCW_EMPTY, IBCW_OTHER_KIND, IBCW_NOTHING_THERE.
+    /// Tells how many notes came over that channel, 1 or more. IBCW_EMPTY, IBCW_OTHER_KIND, IBCW_UNKNOWN_CHAIN,
+    /// IBCW_NOTHING_THERE.
     pub fn ibcw_note_count(notes: *mut Handle, chain: u64, channel: u64, count: *mut u64) -> u32;
     /// Writes the note at an index, from 0 on, of those that came over that channel, in the order in which they
-    /// came. IBCW_EMPTY, IBCW_OTHER_KIND, IBCW_NOTHING_THERE where there is no such channel or no such note,
-    /// IBCW_TOO_SHORT.
+    /// came. IBCW_EMPTY, IBCW_OTHER_KIND, IBCW_UNKNOWN_CHAIN, IBCW_NOTHING_THERE where there is no such channel or no
+    /// such note, IBCW_TOO_SHORT.
     pub fn ibcw_note(
         notes: *mut Handle,
         chain: u64,
@@ -297,6 +307,10 @@ extern "C" {
     /// as it is while the ledger goes on, and may be freed before or after it. IBCW_FULL; IBCW_EMPTY,
     /// IBCW_OTHER_KIND of the ledger.
     pub fn ibcw_make_view(ledger: *mut Handle, view: *mut Handle) -> u32;
+    /// Puts the view of a handle into an empty handle too. Nothing is copied, and neither of the two is changed by what
+    /// is done with the other: so each thread that reads a view takes a handle of its own. Each is freed by itself.
+    /// IBCW_FULL; IBCW_EMPTY, IBCW_OTHER_KIND of the first.
+    pub fn ibcw_share_view(view: *mut Handle, other: *mut Handle) -> u32;
     /// IBCW_EMPTY, IBCW_OTHER_KIND.
     pub fn ibcw_view_heights(view: *mut Handle, heights: *mut Heights) -> u32;
     /// Writes the root of a view's height, 32 bytes. IBCW_EMPTY, IBCW_OTHER_KIND, IBCW_NOTHING_THERE at height 0,

@@ -3,7 +3,7 @@
 //! # Threads
 //!
 //! A [`Ledger`] and the other values are `Send`: what a handle holds is proved to be. A handle is used by one call at a time, so they are not
-//! `Sync`. A [`View`] is: its clones share one value under a lock of this crate.
+//! `Sync`. A [`View`] is: its clones share one handle under a lock of this crate, and [`View::share`] makes a handle that waits for none.
 #![deny(missing_docs)]
 #![warn(clippy::pedantic)]
 

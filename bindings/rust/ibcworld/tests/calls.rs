@@ -166,8 +166,8 @@ fn an_audit_leaves_the_ledgers_where_they_are() -> Result<(), Refused> {
     world.join(y).map_err(|not| not.refused)?;
     let audit = world.audit()?;
     assert_eq!(audit.chains()?, 2);
-    assert_eq!(audit.balances(99), Err(Refused::NothingThere));
-    assert_eq!(audit.notes(2), Err(Refused::NothingThere));
+    assert_eq!(audit.balances(99), Err(Refused::UnknownChain));
+    assert_eq!(audit.notes(2), Err(Refused::UnknownChain));
     assert!(audit.notes(1)?.is_empty());
     let held = audit.balances(0)?;
     assert_eq!(held[0].to_string(), "alice atom 995");
@@ -201,8 +201,13 @@ fn views_are_shared_by_threads() -> Result<(), Refused> {
     let (of_x, of_y) = (x.view()?, y.view()?);
     assert_eq!(of_x.plan_for(&of_x.clone())?.len(), 0);
     std::thread::scope(|scope| {
-        for _ in 0..4 {
-            let (of_x, of_y) = (of_x.clone(), of_y.clone());
+        for thread in 0..8 {
+            // (half of the threads have handles of their own, the others share one)
+            let (of_x, of_y) = if thread % 2 == 0 {
+                (of_x.clone(), of_y.clone())
+            } else {
+                (of_x.share().expect("memory"), of_y.share().expect("memory"))
+            };
             scope.spawn(move || {
                 for _ in 0..50 {
                     let root = of_x.root().expect("a root");
