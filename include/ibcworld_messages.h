@@ -526,6 +526,42 @@ IBCW_MUST_USE static inline uint32_t ibcw_read_token_data(const uint8_t *data, s
     return answer;
 }
 
+/* Puts a text into a place that ends with 0, behind what stands there. */
+static inline uint32_t ibcw_put_behind(char *place, size_t room, ibcw_bytes text)
+{
+    size_t size = strlen(place);
+    if (text.size >= room - size) return IBCW_TOO_SHORT;
+    memcpy(place + size, text.data, text.size);
+    place[size + text.size] = 0;
+    return IBCW_DONE;
+}
+
+/* What stands before a denomination that went over an end: its port and its channel, each with a slash behind it. */
+static inline uint32_t ibcw_hop_of(ibcw_bytes port, ibcw_bytes channel, char *hop, size_t room)
+{
+    uint32_t answer;
+    hop[0] = 0;
+    answer = ibcw_put_behind(hop, room, port);
+    if (answer == IBCW_DONE) answer = ibcw_put_behind(hop, room, ibcw_text("/"));
+    if (answer == IBCW_DONE) answer = ibcw_put_behind(hop, room, channel);
+    return answer == IBCW_DONE ? ibcw_put_behind(hop, room, ibcw_text("/")) : answer;
+}
+
+/* Writes the denomination that the receiving chain has for one of a packet's, with a 0 behind it (ICS 20, "onRecvPacket"): without the hop of the end that the packet
+   left, where the token comes home over this channel, and else with the hop of the end that it goes to. IBCW_TOO_SHORT. */
+IBCW_MUST_USE static inline uint32_t ibcw_denom_received(const ibcw_packet_fields *packet, const char *denom, char *place, size_t room)
+{
+    char left[320];
+    size_t size;
+    uint32_t answer = ibcw_hop_of(packet->source_port, packet->source_channel, left, sizeof left);
+    if (answer != IBCW_DONE || room == 0) return IBCW_TOO_SHORT;
+    size = strlen(left);
+    place[0] = 0;
+    if (strncmp(denom, left, size) == 0) return ibcw_put_behind(place, room, ibcw_text(denom + size));
+    answer = ibcw_hop_of(packet->destination_port, packet->destination_channel, place, room);
+    return answer == IBCW_DONE ? ibcw_put_behind(place, room, ibcw_text(denom)) : answer;
+}
+
 /* ---- messages of strangers */
 
 /* Whether the bytes spell a message whose proofs are proofs, whatever they show. A ledger keeps each message that it refuses, whole and for ever, so who takes

@@ -173,12 +173,34 @@ static void try_packet(void)
     want(ibcw_read_packet(place, size + 1, &read), IBCW_BAD_MESSAGE, "a packet with a byte more", 0);
 }
 
+/* The denomination that the receiving chain has, of a token that comes and of one that comes home. */
+static void try_denominations(void)
+{
+    static const char *const denoms[][2] = {
+        {"atom", "note/channel-12/atom"},
+        {"transfer/channel-11/atom", "atom"},
+        {"transfer/channel-11/transfer/channel-11/atom", "transfer/channel-11/atom"},
+        {"transfer/channel-1/atom", "note/channel-12/transfer/channel-1/atom"},
+    };
+    ibcw_packet_fields packet = packet_fields();
+    char place[64];
+    size_t k;
+    for (k = 0; k < sizeof denoms / sizeof denoms[0]; k++) {
+        want(ibcw_denom_received(&packet, denoms[k][0], place, sizeof place), IBCW_DONE, "a denomination", 0);
+        want_true(strcmp(place, denoms[k][1]) == 0, "the denomination that the receiving chain has", 0);
+        want(ibcw_denom_received(&packet, denoms[k][0], place, strlen(denoms[k][1])), IBCW_TOO_SHORT, "a denomination with too little room", 0);
+        want(ibcw_denom_received(&packet, denoms[k][0], place, strlen(denoms[k][1]) + 1), IBCW_DONE, "a denomination with just the room", 0);
+    }
+    want(ibcw_denom_received(&packet, "atom", place, 0), IBCW_TOO_SHORT, "a denomination with no room", 0);
+}
+
 int main(void)
 {
     uint8_t tag;
     for (tag = 1; tag <= KINDS; tag++) try_kind(tag);
     want_true(ibcw_fields_of(0)->form == 0 && ibcw_fields_of(KINDS + 1)->form == 0, "the fields of no kind", 0);
     try_packet();
+    try_denominations();
     printf("%d kinds of messages and a packet are written and read back\n", KINDS);
     return 0;
 }

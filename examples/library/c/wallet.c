@@ -34,12 +34,14 @@ static void send_tokens(ibcw_ledger *ledger, uint64_t amount, const char *receiv
 static void print_data(const ibcw_packet_fields *packet, int is_taken)
 {
     static ibcw_token_data told;
+    char denom[512];
     uint64_t k;
     want(ibcw_read_token_data(packet->data.data, packet->data.size, &told), "the data of a packet");
-    for (k = 0; k < told.token_count; k++)
-        printf("%s sends %llu %s to %s over %.*s%s%s%s\n", told.sender, (unsigned long long)told.tokens[k].amount.low, told.tokens[k].denom,
-               told.receiver, (int)packet->destination_channel.size, (const char *)packet->destination_channel.data, told.memo[0] ? ": " : "",
-               told.memo, is_taken ? "" : " (it goes back)");
+    for (k = 0; k < told.token_count; k++) {
+        want(ibcw_denom_received(packet, told.tokens[k].denom, denom, sizeof denom), "a denomination");
+        printf("%s sends %llu %s to %s%s%s%s\n", told.sender, (unsigned long long)told.tokens[k].amount.low, denom, told.receiver,
+               told.memo[0] ? ": " : "", told.memo, is_taken ? "" : " (it goes back)");
+    }
 }
 
 /* The entry at an index of the history, where it is a packet of tokens that came. */
