@@ -547,8 +547,8 @@ static inline uint32_t ibcw_hop_of(ibcw_bytes port, ibcw_bytes channel, char *ho
     return answer == IBCW_DONE ? ibcw_put_behind(hop, room, ibcw_text("/")) : answer;
 }
 
-/* Writes the denomination that the receiving chain has for one of a packet's, with a 0 behind it (ICS 20, "onRecvPacket"): without the hop of the end that the packet
-   left, where the token comes home over this channel, and else with the hop of the end that it goes to. IBCW_TOO_SHORT. */
+/* Writes the denomination that the receiving chain has for one of a packet's, with a 0 behind it (ICS 20, "onRecvPacket"). A token that comes home over this
+   channel loses the hop of the end that the packet left. Any other gets the hop of the end that it goes to. IBCW_TOO_SHORT. */
 IBCW_MUST_USE static inline uint32_t ibcw_denom_received(const ibcw_packet_fields *packet, const char *denom, char *place, size_t room)
 {
     char left[320];

@@ -71,7 +71,7 @@ LIMITS = [
      r"(?s)kind\.UpdateClient = (\d+).*kind\.RecvPacket = (\d+).*kind\.TimeoutOnClose = (\d+)"),
     (r"client's state as tags (\d) and (\d) want it", KINDS, r"(?s)kind\.ConnOpenTry = (\d+).*kind\.ConnOpenAck = (\d+)"),
     (r"No proof has more than ([\d,]+) bytes", "include/ibcworld.h", r"IBCW_LONGEST_PROOF = (\d+)"),
-    (r"cargo \(([\d.]+) or newer\)", "bindings/rust/ibcworld/Cargo.toml", r'rust-version = "([\d.]+)"'),
+    (r"cargo \(([\d.]+) or newer\)", "examples/library/rust/Cargo.toml", r'rust-version = "([\d.]+)"'),
     (r"([\d,]+) changed messages do no harm", "tools/build_library", r"MUTATED:-(\d+)"),
     (r"lists (\d+) levels deep", "tools/broken_streams", r'"(\d+) levels of lists"'),
     (r"reads give at most (\d) bytes", "tools/broken_streams", r'"FAIL_READ", -\(-len\(self\.text\) // (\d)\)'),
