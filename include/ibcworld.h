@@ -270,6 +270,11 @@ IBCW_MUST_USE IBCW_NONNULL(1, 6)
 uint32_t ibcw_escrow(ibcw_ledger *ledger, const uint8_t *channel, size_t channel_size, const uint8_t *denom,
                      size_t denom_size, ibcw_amount *amount);
 
+/* Tells how much of a denomination all accounts hold, the escrow accounts among them: of one that came over a channel, no more than the escrow account of
+   its other end holds. IBCW_EMPTY, IBCW_OTHER_KIND, IBCW_BAD_NAME exactly where denom is no name of a denomination. */
+IBCW_MUST_USE IBCW_NONNULL(1, 4)
+uint32_t ibcw_supply(ibcw_ledger *ledger, const uint8_t *denom, size_t denom_size, ibcw_amount *amount);
+
 /* Writes the bytes of the packet that the ledger sent from an end of a channel under a sequence, whether its commitment stands or not (ICS 4).
    IBCW_EMPTY, IBCW_OTHER_KIND, IBCW_BAD_NAME exactly where the port or the channel is no name of its kind, IBCW_NOTHING_THERE where no such
    packet was sent, IBCW_TOO_SHORT. */

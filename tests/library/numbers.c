@@ -723,6 +723,11 @@ static uint32_t ask_escrow(ibcw_handle *h)
     ibcw_amount amount;
     return ibcw_escrow(h, bytes("channel-0"), 9, bytes("b"), 1, &amount);
 }
+static uint32_t ask_supply(ibcw_handle *h)
+{
+    ibcw_amount amount;
+    return ibcw_supply(h, bytes("b"), 1, &amount);
+}
 static uint32_t ask_packet(ibcw_handle *h) { return ibcw_packet(h, bytes("note"), 4, bytes("channel-0"), 9, 1, NULL, 0, &written); }
 static uint32_t ask_ack(ibcw_handle *h) { return ibcw_ack(h, bytes("note"), 4, bytes("channel-0"), 9, 1, NULL, 0, &written); }
 static uint32_t ask_length(ibcw_handle *h) { return ibcw_length(h, &number); }
@@ -783,6 +788,7 @@ static const asking CALLS[] = {
     {"ibcw_prove", ask_prove, 1 << LEDGER},
     {"ibcw_balance", ask_balance, 1 << LEDGER},
     {"ibcw_escrow", ask_escrow, 1 << LEDGER},
+    {"ibcw_supply", ask_supply, 1 << LEDGER},
     {"ibcw_packet", ask_packet, 1 << LEDGER},
     {"ibcw_ack", ask_ack, 1 << LEDGER},
     {"ibcw_make_balances", ask_make_balances, 1 << LEDGER},
@@ -1017,6 +1023,18 @@ static void want_escrow(ibcw_handle *ledger, const char *denom, uint64_t wanted)
     meet(ibcw_escrow(ledger, bytes("channel"), 7, bytes(denom), strlen(denom), &amount), IBCW_BAD_NAME, "an escrow account of no channel");
 }
 
+static void want_supply(ibcw_handle *ledger, const char *denom, uint64_t wanted)
+{
+    ibcw_amount amount = {7, 7};
+    uint32_t found;
+    WITH_REFUSALS(found, ibcw_supply(ledger, bytes(denom), strlen(denom), &amount), "a supply");
+    want(found, IBCW_DONE, "a supply");
+    want((uint32_t)(amount.high + amount.low), (uint32_t)wanted, "how much all accounts hold");
+    amount.low = 7;
+    meet(ibcw_supply(ledger, bytes("a//b"), 4, &amount), IBCW_BAD_NAME, "a supply of no denomination");
+    want((uint32_t)amount.low, 7, "what isn't told of no denomination");
+}
+
 int main(void)
 {
     int count = 0;
@@ -1032,6 +1050,9 @@ int main(void)
     refuse_packets(&w);
     want_escrow(&w.x, "atom", 5);
     want_escrow(&w.y, "atom", 0);
+    want_supply(&w.x, "atom", 1000);
+    want_supply(&w.y, "transfer/channel-0/atom", 5);
+    want_supply(&w.y, "atom", 0);
     refuse_timeouts(&w);
     refuse_notes(&w);
     take_packets_apart(&w);

@@ -6,7 +6,7 @@ ghost use Rattle.ibc_calls.specs.Handles.{Finds};
 ghost use Rattle.ibc_calls.specs.Holdings.{FindsHolding, MakesBalances, TellsHolding, TellsHoldingCount};
 ghost use Rattle.ibc_calls.specs.History.{TellsEvent, TellsLength, TellsReply};
 ghost use Rattle.ibc_calls.specs.ViewProofs.{FindsProved};
-ghost use Rattle.ibc_calls.specs.Reads.{FindsValue, TellsBalance, TellsEscrow};
+ghost use Rattle.ibc_calls.specs.Reads.{FindsValue, TellsBalance, TellsEscrow, TellsSupply};
 
 use ibc_calls::{Amount, EventCode, ReplyCode, number};
 use ibc_handle::Handle;
@@ -170,4 +170,18 @@ pub extern "C" fn ibcw_escrow(
     ensures told { Numbered (TellsEscrow channel.now denom.now ledger.old.value amount.old amount.new) result }
 {
     number(ibc_calls::escrow(alloc, ledger, channel, denom, amount))
+}
+
+/// Tells how much of a denomination all accounts hold. As `supply`.
+#[unsafe(no_mangle)]
+pub extern "C" fn ibcw_supply(
+    alloc: Global,
+    ledger: &mut Handle,
+    denom: &[u8],
+    amount: &mut Amount,
+) -> u32
+    ensures kept { ledger.new.value ≡ ledger.old.value }
+    ensures told { Numbered (TellsSupply denom.now ledger.old.value amount.old amount.new) result }
+{
+    number(ibc_calls::supply(alloc, ledger, denom, amount))
 }

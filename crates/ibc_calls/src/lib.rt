@@ -34,7 +34,7 @@ pub use notes::{make_notes, note, note_channel, note_channel_count, note_count};
 pub use packets::{PacketNumbers, message_ack, message_packet, packet_numbers, packet_part};
 pub use proofs::{ProofKind, key_of, kind_of, show_absent, show_present, value_of};
 pub use proving::prove;
-pub use reads::{Amount, balance, escrow, plan_message, query};
+pub use reads::{Amount, balance, escrow, plan_message, query, supply};
 pub use sent::{sent_packet, written_ack};
 pub use tokens::{data_count, data_part, data_token};
 pub use views::{

@@ -215,6 +215,15 @@ extern "C" {
         denom_size: usize,
         amount: *mut Amount,
     ) -> u32;
+    /// Tells how much of a denomination all accounts hold, the escrow accounts among them: of one that came over a
+    /// channel, no more than the escrow account of its other end holds. IBCW_EMPTY, IBCW_OTHER_KIND, IBCW_BAD_NAME
+    /// exactly where denom is no name of a denomination.
+    pub fn ibcw_supply(
+        ledger: *mut Handle,
+        denom: *const u8,
+        denom_size: usize,
+        amount: *mut Amount,
+    ) -> u32;
     /// Writes the bytes of the packet that the ledger sent from an end of a channel under a sequence, whether its
     /// commitment stands or not (ICS 4). IBCW_EMPTY, IBCW_OTHER_KIND, IBCW_BAD_NAME exactly where the port or the
     /// channel is no name of its kind, IBCW_NOTHING_THERE where no such packet was sent, IBCW_TOO_SHORT.

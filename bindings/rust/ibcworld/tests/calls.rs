@@ -96,6 +96,9 @@ fn what_was_applied_is_read_back() -> Result<(), Refused> {
         .expect("an acknowledgement")
         .starts_with(b"{\"result\""));
     assert_eq!(x.escrow("channel-0", "atom")?, 7);
+    assert_eq!(x.supply("atom")?, 1_000);
+    assert_eq!(y.supply("transfer/channel-0/atom")?, 7);
+    assert_eq!(y.supply("a//b"), Err(Refused::BadName));
     assert_eq!(x.balance("alice", "gold")?, u128::MAX);
     Ok(())
 }

@@ -239,8 +239,8 @@ fn main() -> Result<(), Failure> {
         "the exchange holds {held} {DENOM}, and owes {}",
         books.owed()
     );
-    let escrow = island.escrow(CHANNEL, "gold")?;
-    println!("in escrow on the island: {escrow} gold");
+    let (abroad, escrow) = (harbour.supply(DENOM)?, island.escrow(CHANNEL, "gold")?);
+    println!("in the harbour: {abroad}, in escrow on the island: {escrow} gold");
     println!("refused on the way: {}", done.refused);
     world.join(harbour).map_err(|not| not.refused)?;
     world.join(island).map_err(|not| not.refused)?;
