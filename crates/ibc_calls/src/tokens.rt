@@ -163,7 +163,8 @@ fn data_by(
     ensures ok { IfOk result (λ found. data_by version bytes.now ≡ option_map (λ told. (told.0, abstract_data told.1)) found) }
     ensures err { IsOkUnless result (Core NoMemory) }
 {
-    match TokenData::read(alloc, &version, bytes) {
+    let read = TokenData::read(alloc, &version, bytes);
+    match read {
         Ok(Some(told)) => Ok(Some((version, told))),
         Ok(None) => {
             drop(version);
