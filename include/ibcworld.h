@@ -417,6 +417,17 @@ uint32_t ibcw_proof_key(const uint8_t *proof, size_t proof_size, uint8_t *key, s
 IBCW_MUST_USE IBCW_NONNULL(5)
 uint32_t ibcw_proof_value(const uint8_t *proof, size_t proof_size, uint8_t *value, size_t room, size_t *size);
 
+/* Writes the form of ICS 23 of the proof that the bytes spell: the canonical bytes of a cosmos.ics23.v1.CommitmentProof, fields in order and none
+   that is at its default. Leaves and inner nodes are those of ICS 23's Tendermint spec, so a Cosmos chain verifies it with its own library.
+   IBCW_BAD_MESSAGE exactly where the bytes spell no proof, IBCW_TOO_SHORT. */
+IBCW_MUST_USE IBCW_NONNULL(5)
+uint32_t ibcw_proof_to_ics23(const uint8_t *proof, size_t proof_size, uint8_t *form, size_t room, size_t *size);
+
+/* Writes the bytes of a proof whose form these bytes are. IBCW_BAD_MESSAGE where there is none: another hash, a batch, a field out of its order or at
+   its default, longer parts than a proof has; IBCW_TOO_SHORT. */
+IBCW_MUST_USE IBCW_NONNULL(5)
+uint32_t ibcw_proof_of_ics23(const uint8_t *form, size_t form_size, uint8_t *proof, size_t room, size_t *size);
+
 /* Tells the tag, 1 to 19, of the message that the bytes spell. IBCW_NO_MESSAGE where they spell none. How messages are spelled
    stands in docs/LIBRARY.md: a message has one spelling, and no bytes spell two messages. A ledger keeps each message that it refuses, whole,
    for ever: who takes messages from strangers asks ibcw_screen_message (ibcworld_messages.h) first, by this call and ibcw_message_proof. */

@@ -1,7 +1,7 @@
 /* Proofs in the form of ICS 23 and back: each is the same again, bytes that are changed are refused or are the one form of another proof, and the
-   library's word of a proof stays. With a folder, it writes the root there, and of each proof its bytes, its form, its key, and its value where there is one:
-   0.proof, 0.ics23, 0.key, 0.value, and so on. */
-#include "ibcworld_ics23.h"
+   library's word of a proof stays. With a folder, it writes the root there, and of each proof its form, its key, and its value where there is one:
+   0.ics23, 0.key, 0.value, and so on. */
+#include "ibcworld_messages.h"
 
 #include <stdio.h>
 
@@ -69,8 +69,6 @@ static void write_form(const char *folder, int number, const text *proof, const 
     static text value;
     char name[32];
     uint32_t answer = ibcw_proof_value(proof->data, proof->size, value.data, ROOM, &value.size);
-    snprintf(name, sizeof name, "%d.proof", number);
-    write_file(folder, name, ibcw_bytes_of(proof->data, proof->size));
     snprintf(name, sizeof name, "%d.ics23", number);
     write_file(folder, name, ibcw_bytes_of(form->data, form->size));
     snprintf(name, sizeof name, "%d.key", number);

@@ -2,6 +2,7 @@ pub mod CarriedProofs
 pub mod JudgedProofs
 pub mod CallAnswers
 pub mod Events
+pub mod ProofForms
 pub mod ProofReads
 pub mod Gathering
 pub mod GenesisHandles

@@ -5,6 +5,7 @@
 mod answer;
 mod events;
 mod evidence;
+mod forms;
 mod gathering;
 mod genesis;
 mod handles;
@@ -24,6 +25,7 @@ mod worlds;
 pub use answer::{Refused, number};
 pub use events::{apply, end_block};
 pub use evidence::{message_proof, proof_key, proof_value};
+pub use forms::{proof_of_ics23, proof_to_ics23};
 pub use gathering::{join_ledger, make_audit};
 pub use genesis::{add_balance, add_chain, make_genesis};
 pub use handles::free;

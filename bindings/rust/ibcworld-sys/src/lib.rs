@@ -393,6 +393,26 @@ extern "C" {
         room: usize,
         size: *mut usize,
     ) -> u32;
+    /// Writes the form of ICS 23 of the proof that the bytes spell: the canonical bytes of a
+    /// cosmos.ics23.v1.CommitmentProof, fields in order and none that is at its default. Leaves and inner nodes are
+    /// those of ICS 23's Tendermint spec, so a Cosmos chain verifies it with its own library. IBCW_BAD_MESSAGE exactly
+    /// where the bytes spell no proof, IBCW_TOO_SHORT.
+    pub fn ibcw_proof_to_ics23(
+        proof: *const u8,
+        proof_size: usize,
+        form: *mut u8,
+        room: usize,
+        size: *mut usize,
+    ) -> u32;
+    /// Writes the bytes of a proof whose form these bytes are. IBCW_BAD_MESSAGE where there is none: another hash, a
+    /// batch, a field out of its order or at its default, longer parts than a proof has; IBCW_TOO_SHORT.
+    pub fn ibcw_proof_of_ics23(
+        form: *const u8,
+        form_size: usize,
+        proof: *mut u8,
+        room: usize,
+        size: *mut usize,
+    ) -> u32;
     /// Tells the tag, 1 to 19, of the message that the bytes spell. IBCW_NO_MESSAGE where they spell none. How
     /// messages are spelled stands in docs/LIBRARY.md: a message has one spelling, and no bytes spell two messages.
     /// A ledger keeps each message that it refuses, whole, for ever: who takes messages from strangers asks this
