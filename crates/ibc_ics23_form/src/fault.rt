@@ -1,7 +1,6 @@
 //! Why no proof is read from a form.
 
 ghost use Rattle.std.specs.Prelude.{◌≡◌};
-ghost use Rattle.ibc_ids.specs.declared.refusal.Refusal.TheVariants.{BadMessage, NoMemory as NoRoom};
 ghost use Rattle.ibc_ics23_form.specs.declared.fault.FormFault.TheVariants.{NoMemory};
 
 use std::alloc::{AllocError, AllocFailed};
