@@ -135,12 +135,13 @@ fn push_delimited(out: &mut Vec<u8>, tag: u8, content: &[u8]) -> Result<(), Allo
 }
 
 // A number, seven bits a byte.
-#[tactic(auto, using(ibc_merkle::proofs::Varints::varint-last, ibc_merkle::proofs::Varints::varint-more))]
+#[tactic(auto, using(crate::proofs::Varints::varint_last, crate::proofs::Varints::varint_more))]
 fn push_varint(out: &mut Vec<u8>, number: usize) -> Result<(), AllocError>
     ensures { OnOk result (out.new.items ≡ out.old.items ++ varint number) }
 {
     if number < 128 {
-        out.push(number as u8)
+        out.push(number as u8)?;
+        Ok(())
     } else {
         out.push((128 + number % 128) as u8)?;
         push_varint(out, number / 128)
