@@ -3,7 +3,7 @@ use Rattle.std.specs.Prelude.{◌≡◌, ◌⊎◌, Option, Some, None, Result, 
 use Rattle.ibc_ids.specs.Texts.{Text}
 use Rattle.ibc_ids.specs.declared.refusal.Refusal.TheVariants.{NoMemory, BadMessage}
 use Rattle.ibc_merkle.specs.declared.proof.Proof.{Proof}
-use Rattle.ibc_ics23_form.specs.Forms.{form_of}
+use Rattle.ibc_ics23_form.specs.Forms.{IsProofOf, form_of}
 use Rattle.ibc_wire.specs.Fields.{Spells}
 use Rattle.ibc_wire.specs.Reading.{proof_of}
 use Rattle.ibc_wire.specs.Spelling.{proof_fields}
@@ -26,7 +26,7 @@ abbrev pub IsProofText : Proof → Result Text Refused → Type 0
 IsProofText proof (Ok bytes) = Spells (proof_fields proof) bytes
 IsProofText proof (Err why) = (why ≡ Core BadMessage) ⊎ (why ≡ Core NoMemory)
 
--- the bytes of a proof whose form this is; or no such proof was found, or memory ran out
+-- the bytes of the one proof whose form this is; or none was found, or memory ran out
 abbrev pub FindsProofOf : Text → Result Text Refused → Type 0
-FindsProofOf form (Ok bytes) = (proof : Proof) × (form_of proof ≡ form) × Spells (proof_fields proof) bytes
+FindsProofOf form (Ok bytes) = (proof : Proof) × IsProofOf form proof × Spells (proof_fields proof) bytes
 FindsProofOf form (Err why) = (why ≡ Core BadMessage) ⊎ (why ≡ Core NoMemory)

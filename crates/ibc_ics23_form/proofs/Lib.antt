@@ -1,1 +1,2 @@
+pub mod SameForms
 pub mod Varints

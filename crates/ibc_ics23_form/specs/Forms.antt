@@ -1,6 +1,6 @@
 -- A proof as a cosmos.ics23.v1.CommitmentProof in canonical protobuf: fields in the order of their numbers, and none that is
 -- at its default (ICS 23, "Proofs").
-use Rattle.std.specs.Prelude.{ℕ, List, [], ◌∷◌, ◌++◌, length, Option, Some, None}
+use Rattle.std.specs.Prelude.{◌≡◌, ℕ, List, [], ◌∷◌, ◌++◌, length, Option, Some, None}
 use Rattle.ibc_ids.specs.Texts.{Text}
 use Rattle.ibc_merkle.specs.Hash.{varint}
 use Rattle.ibc_merkle.specs.declared.proof.Operation.{Operation}
@@ -48,3 +48,8 @@ non_existence p = bytes_field 10 p.key ++ neighbour_field 18 p.left ++ neighbour
 unfoldable pub form_of : Proof → Text
 form_of (Present p) = delimited 10 (existence p)
 form_of (Absent p) = delimited 18 (non_existence p)
+
+-- the one proof whose form this text is
+pub record IsProofOf (text : Text) (proof : Proof) : Type 0 where
+  pub form : form_of proof ≡ text
+  pub alone : (other : Proof) → form_of other ≡ text → other ≡ proof

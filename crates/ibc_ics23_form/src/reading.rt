@@ -2,7 +2,7 @@
 
 ghost use Rattle.std.specs.Prelude.{◌≡◌, ◌⊎◌, IfOk, IfErr};
 ghost use Rattle.ibc_ids.specs.declared.refusal.Refusal.TheVariants.{BadMessage, NoMemory};
-ghost use Rattle.ibc_ics23_form.specs.Forms.{form_of};
+ghost use Rattle.ibc_ics23_form.specs.Forms.{IsProofOf};
 
 use crate::fault::FormFault;
 use crate::writing::form_of;
@@ -13,9 +13,9 @@ use std::alloc::Global;
 /// The most operations that a proof has.
 const MOST_OPERATIONS: usize = 64;
 
-/// The proof whose canonical form these bytes are, as a `CommitmentProof`. Refused: `BadMessage` where none is found; `NoMemory`.
+/// The one proof whose canonical form these bytes are, as a `CommitmentProof`. Refused: `BadMessage` where none is found; `NoMemory`.
 pub fn proof_of_form(alloc: Global, form: &[u8]) -> Result<Proof, Refusal>
-    ensures ok { IfOk result (λ proof. form_of proof ≡ form.now) }
+    ensures ok { IfOk result (IsProofOf form.now) }
     ensures err { IfErr result (λ refusal. (refusal ≡ BadMessage) ⊎ (refusal ≡ NoMemory)) }
 {
     match cut_proof(alloc, form) {
@@ -26,8 +26,9 @@ pub fn proof_of_form(alloc: Global, form: &[u8]) -> Result<Proof, Refusal>
 }
 
 // The proof, where this is its form.
+#[tactic(auto, using(crate::proofs::SameForms::the_one))]
 fn with_form(alloc: Global, proof: Proof, form: &[u8]) -> Result<Proof, Refusal>
-    ensures ok { IfOk result (λ same. (same ≡ proof) × (form_of same ≡ form.now)) }
+    ensures ok { IfOk result (IsProofOf form.now) }
     ensures err { IfErr result (λ refusal. (refusal ≡ BadMessage) ⊎ (refusal ≡ NoMemory)) }
 {
     match form_of(alloc, &proof) {

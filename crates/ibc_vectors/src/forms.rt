@@ -1,6 +1,6 @@
 //! The form of ICS 23 of the proof of the counter of clients, as a writer of protobuf gave it that isn't this code; and forms there and back.
 
-use crate::proofs::{CHANNELS, CONNECTIONS, SPELLED, joined};
+use super::proofs::{CHANNELS, CONNECTIONS, SPELLED, joined};
 use ibc_ics23_form::{form_of, proof_of_form};
 use ibc_ids::{Bytes, Refusal};
 use ibc_merkle::Proof;
