@@ -16,7 +16,7 @@ use Rattle.ibc_ics23_form.specs.Forms.{bytes_field, delimited, existence, form_o
 tags_same : (t u : ℕ) (a b r s : Text) → delimited t a ++ r ≡ delimited u b ++ s → t ≡ u
 tags_same t u a b r s e = heads_same t u ((varint (length a) ++ a) ++ r) ((varint (length b) ++ b) ++ s) e
 
-pub delimited_fronts : (tag : ℕ) (a b r s : Text) → delimited tag a ++ r ≡ delimited tag b ++ s → (a ≡ b) × (r ≡ s)
+delimited_fronts : (tag : ℕ) (a b r s : Text) → delimited tag a ++ r ≡ delimited tag b ++ s → (a ≡ b) × (r ≡ s)
 delimited_fronts tag a b r s e =
     let behind = tails_same tag tag ((varint (length a) ++ a) ++ r) ((varint (length b) ++ b) ++ s) e in
     let counted = leb128_fronts 9 (length a) (length b) (a ++ r) (b ++ s)
@@ -37,7 +37,7 @@ behind_field : (t u : ℕ) (x r : Text) → (t ≡ u → ⊥) → IsWithout t r 
 behind_field t u [] r other rest = rest
 behind_field t u (c ∷ cs) r other rest = other
 
-pub bytes_fronts : (tag : ℕ) (a b r s : Text) → IsWithout tag r → IsWithout tag s → bytes_field tag a ++ r ≡ bytes_field tag b ++ s → (a ≡ b) × (r ≡ s)
+bytes_fronts : (tag : ℕ) (a b r s : Text) → IsWithout tag r → IsWithout tag s → bytes_field tag a ++ r ≡ bytes_field tag b ++ s → (a ≡ b) × (r ≡ s)
 bytes_fronts tag [] [] r s h g e = (refl, e)
 bytes_fronts tag [] (b ∷ bs) r s h g e = absurd (subst (IsWithout tag) e h refl)
 bytes_fronts tag (a ∷ xs) [] r s h g e = absurd (subst (IsWithout tag) (sym e) g refl)
@@ -78,7 +78,7 @@ paths_same (x ∷ xs) (y ∷ ys) e =
 
 -- ---- presences
 
-pub presences_same : (a b : Presence) → existence a ≡ existence b → a ≡ b
+presences_same : (a b : Presence) → existence a ≡ existence b → a ≡ b
 presences_same a b e =
     let leaf_of = λ (p : Presence). delimited 26 (leaf_op p.leaf_prefix) ++ path_fields p.operations in
     let value_of = λ (p : Presence). bytes_field 18 p.value ++ leaf_of p in
