@@ -423,8 +423,8 @@ uint32_t ibcw_proof_value(const uint8_t *proof, size_t proof_size, uint8_t *valu
 IBCW_MUST_USE IBCW_NONNULL(5)
 uint32_t ibcw_proof_to_ics23(const uint8_t *proof, size_t proof_size, uint8_t *form, size_t room, size_t *size);
 
-/* Writes the bytes of a proof whose form these bytes are. IBCW_BAD_MESSAGE where there is none: another hash, a batch, a field out of its order or at
-   its default, longer parts than a proof has; IBCW_TOO_SHORT. */
+/* Writes the bytes of the one proof whose form these bytes are. IBCW_BAD_MESSAGE exactly where there is none: another hash, a batch, a field out of its
+   order or at its default, longer parts than a proof has; IBCW_TOO_SHORT. */
 IBCW_MUST_USE IBCW_NONNULL(5)
 uint32_t ibcw_proof_of_ics23(const uint8_t *form, size_t form_size, uint8_t *proof, size_t room, size_t *size);
 

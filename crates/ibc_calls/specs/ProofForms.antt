@@ -3,10 +3,8 @@ use Rattle.std.specs.Prelude.{◌≡◌, ◌⊎◌, Option, Some, None, Result, 
 use Rattle.ibc_ids.specs.Texts.{Text}
 use Rattle.ibc_ids.specs.declared.refusal.Refusal.TheVariants.{NoMemory, BadMessage}
 use Rattle.ibc_merkle.specs.declared.proof.Proof.{Proof}
-use Rattle.ibc_ics23_form.specs.Forms.{IsProofOf, form_of}
-use Rattle.ibc_wire.specs.Fields.{Spells}
+use Rattle.ibc_ics23_form.specs.Forms.{IsFormOfNone, IsSpelledProofOf, form_of}
 use Rattle.ibc_wire.specs.Reading.{proof_of}
-use Rattle.ibc_wire.specs.Spelling.{proof_fields}
 use Rattle.ibc_machine.specs.chain.Checks.{Checked}
 use Rattle.ibc_calls.specs.declared.answer.Refused.{Refused}
 use Rattle.ibc_calls.specs.declared.answer.Refused.TheVariants.{Core}
@@ -21,12 +19,7 @@ form_in (Some proof) = Ok (form_of proof)
 abbrev pub FindsForm : Text → Result Text Refused → Type 0
 FindsForm bytes found = (found ≡ Err (Core NoMemory)) ⊎ (found ≡ read (form_in (proof_of bytes)))
 
--- the bytes spell a proof
-abbrev pub IsProofText : Proof → Result Text Refused → Type 0
-IsProofText proof (Ok bytes) = Spells (proof_fields proof) bytes
-IsProofText proof (Err why) = (why ≡ Core BadMessage) ⊎ (why ≡ Core NoMemory)
-
--- the bytes of the one proof whose form this is; or none was found, or memory ran out
+-- the bytes of the one proof whose form this is; or there is none, or memory ran out
 abbrev pub FindsProofOf : Text → Result Text Refused → Type 0
-FindsProofOf form (Ok bytes) = (proof : Proof) × IsProofOf form proof × Spells (proof_fields proof) bytes
-FindsProofOf form (Err why) = (why ≡ Core BadMessage) ⊎ (why ≡ Core NoMemory)
+FindsProofOf form (Ok bytes) = IsSpelledProofOf form bytes
+FindsProofOf form (Err why) = ((why ≡ Core BadMessage) × IsFormOfNone form) ⊎ (why ≡ Core NoMemory)

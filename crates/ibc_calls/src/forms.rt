@@ -1,15 +1,13 @@
 //! Proofs in the form of ICS 23, there and back.
 
 ghost use Rattle.ibc_calls.specs.Handles.{Finds};
-ghost use Rattle.ibc_calls.specs.ProofForms.{FindsForm, FindsProofOf, IsProofText};
+ghost use Rattle.ibc_calls.specs.ProofForms.{FindsForm, FindsProofOf};
 
 use crate::Refused;
 use crate::handles::give;
 use ibc_client::read_proof;
-use ibc_ics23_form::{form_of, proof_of_form};
+use ibc_ics23_form::{form_of, spelled_of_form};
 use ibc_ids::Bytes;
-use ibc_merkle::Proof;
-use ibc_wire::encode;
 use std::alloc::Global;
 
 /// Writes the canonical bytes of a `cosmos.ics23.v1.CommitmentProof` of the proof that the bytes spell. Refused:
@@ -42,8 +40,8 @@ fn form_found(alloc: Global, bytes: &[u8]) -> Result<Bytes, Refused>
     }
 }
 
-/// Writes the bytes of the proof whose form these bytes are, as a `cosmos.ics23.v1.CommitmentProof` in canonical protobuf. Refused:
-/// `Core(BadMessage)` where there is none; `TooShort`; `Core(NoMemory)`.
+/// Writes the bytes of the one proof whose form these bytes are, as a `cosmos.ics23.v1.CommitmentProof` in canonical protobuf. Refused:
+/// `Core(BadMessage)` exactly where they are the form of no proof that bytes spell; `TooShort`; `Core(NoMemory)`.
 #[tactic(auto, unfolding(crate::specs::Handles::Finds))]
 pub fn proof_of_ics23(
     alloc: Global,
@@ -59,21 +57,8 @@ pub fn proof_of_ics23(
 fn proof_found(alloc: Global, form: &[u8]) -> Result<Bytes, Refused>
     ensures { FindsProofOf form.now result }
 {
-    match proof_of_form(alloc, form) {
-        Ok(proof) => {
-            let found = spelled(alloc, &proof);
-            drop(proof);
-            found
-        }
-        Err(refusal) => Err(Refused::Core(refusal)),
-    }
-}
-
-fn spelled(alloc: Global, proof: &Proof) -> Result<Bytes, Refused>
-    ensures { IsProofText proof.now result }
-{
-    match encode(alloc, proof) {
-        Ok(bytes) => Ok(Bytes::from_vec(bytes)),
+    match spelled_of_form(alloc, form) {
+        Ok(bytes) => Ok(bytes),
         Err(refusal) => Err(Refused::Core(refusal)),
     }
 }

@@ -1,2 +1,3 @@
 pub mod SameForms
+pub mod ReadForms
 pub mod Varints

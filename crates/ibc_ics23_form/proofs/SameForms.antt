@@ -9,7 +9,18 @@ use Rattle.ibc_merkle.specs.declared.proof.Absence.{Absence}
 use Rattle.ibc_merkle.specs.declared.proof.Proof.{Proof}
 use Rattle.ibc_merkle.specs.declared.proof.Proof.TheVariants.{Present, Absent}
 use Rattle.ibc_merkle.proofs.Digests.{leb128_fronts}
-use Rattle.ibc_ics23_form.specs.Forms.{bytes_field, delimited, existence, form_of, inner_op, leaf_op, neighbour_field, non_existence, path_fields, IsProofOf}
+use Rattle.ibc_ics23_form.specs.Forms.{bytes_field, delimited, existence, form_of, inner_front, inner_op, leaf_front, leaf_op, neighbour_field, non_existence, path_fields, IsProofOf}
+
+-- ---- tags
+
+pub apart_10_18 : ◌≡◌ {A = ℕ} 10 18 → ⊥
+apart_10_18 h = omega arith
+
+pub apart_10_26 : ◌≡◌ {A = ℕ} 10 26 → ⊥
+apart_10_26 h = omega arith
+
+pub apart_18_26 : ◌≡◌ {A = ℕ} 18 26 → ⊥
+apart_18_26 h = omega arith
 
 -- ---- one field
 
@@ -25,15 +36,15 @@ delimited_fronts tag a b r s e =
     fronts_same a r b s counted.0 counted.1
 
 -- the text doesn't begin with the tag
-abbrev IsWithout : ℕ → Text → Type 0
+abbrev pub IsWithout : ℕ → Text → Type 0
 IsWithout tag [] = Unit {0}
 IsWithout tag (c ∷ text) = tag ≡ c → ⊥
 
-field_without : (t u : ℕ) (x : Text) → (t ≡ u → ⊥) → IsWithout t (bytes_field u x)
+pub field_without : (t u : ℕ) (x : Text) → (t ≡ u → ⊥) → IsWithout t (bytes_field u x)
 field_without t u [] other = tt
 field_without t u (c ∷ cs) other = other
 
-behind_field : (t u : ℕ) (x r : Text) → (t ≡ u → ⊥) → IsWithout t r → IsWithout t (bytes_field u x ++ r)
+pub behind_field : (t u : ℕ) (x r : Text) → (t ≡ u → ⊥) → IsWithout t r → IsWithout t (bytes_field u x ++ r)
 behind_field t u [] r other rest = rest
 behind_field t u (c ∷ cs) r other rest = other
 
@@ -47,17 +58,14 @@ bytes_fronts tag (a ∷ xs) (b ∷ bs) r s h g e = delimited_fronts tag (a ∷ x
 
 leaves_same : (a b : Text) → leaf_op a ≡ leaf_op b → a ≡ b
 leaves_same a b e =
-    let front : Text = 8 ∷ 1 ∷ 24 ∷ 1 ∷ 32 ∷ 1 ∷ [] in
-    let rest = (fronts_same front (bytes_field 42 a) front (bytes_field 42 b) refl e).1 in
+    let rest = (fronts_same leaf_front (bytes_field 42 a) leaf_front (bytes_field 42 b) refl e).1 in
     (bytes_fronts 42 a b [] [] tt tt (ap (λ text. text ++ []) rest)).0
 
 operations_same : (a b : Operation) → inner_op a ≡ inner_op b → a ≡ b
 operations_same a b e =
-    let front : Text = 8 ∷ 1 ∷ [] in
     let suffix_of = λ (o : Operation). bytes_field 26 o.suffix in
-    let rest = (fronts_same front (bytes_field 18 a.prefix ++ suffix_of a) front (bytes_field 18 b.prefix ++ suffix_of b) refl e).1 in
-    let other : 18 ≡ 26 → ⊥ = λ h. omega arith in
-    let prefix = bytes_fronts 18 a.prefix b.prefix (suffix_of a) (suffix_of b) (field_without 18 26 a.suffix other) (field_without 18 26 b.suffix other) rest in
+    let rest = (fronts_same inner_front (bytes_field 18 a.prefix ++ suffix_of a) inner_front (bytes_field 18 b.prefix ++ suffix_of b) refl e).1 in
+    let prefix = bytes_fronts 18 a.prefix b.prefix (suffix_of a) (suffix_of b) (field_without 18 26 a.suffix apart_18_26) (field_without 18 26 b.suffix apart_18_26) rest in
     let prefixes = prefix.0 in
     let suffixes = (bytes_fronts 26 a.suffix b.suffix [] [] tt tt (ap (λ text. text ++ []) prefix.1)).0 in
     λ i. record { prefix = prefixes i; suffix = suffixes i }
@@ -78,15 +86,18 @@ paths_same (x ∷ xs) (y ∷ ys) e =
 
 -- ---- presences
 
+pub existence_parts : (p : Presence) → existence p ≡ bytes_field 10 p.key ++ (bytes_field 18 p.value ++ (delimited 26 (leaf_op p.leaf_prefix) ++ path_fields p.operations))
+existence_parts p =
+    let leaf = delimited 26 (leaf_op p.leaf_prefix) in
+    let path = path_fields p.operations in
+    append_assoc (bytes_field 10 p.key ++ bytes_field 18 p.value) leaf path ∙ append_assoc (bytes_field 10 p.key) (bytes_field 18 p.value) (leaf ++ path)
+
 presences_same : (a b : Presence) → existence a ≡ existence b → a ≡ b
 presences_same a b e =
     let leaf_of = λ (p : Presence). delimited 26 (leaf_op p.leaf_prefix) ++ path_fields p.operations in
     let value_of = λ (p : Presence). bytes_field 18 p.value ++ leaf_of p in
-    let no_key : 10 ≡ 18 → ⊥ = λ h. omega arith in
-    let no_key_either : 10 ≡ 26 → ⊥ = λ h. omega arith in
-    let no_value : 18 ≡ 26 → ⊥ = λ h. omega arith in
-    let key = bytes_fronts 10 a.key b.key (value_of a) (value_of b) (behind_field 10 18 a.value (leaf_of a) no_key no_key_either) (behind_field 10 18 b.value (leaf_of b) no_key no_key_either) e in
-    let value = bytes_fronts 18 a.value b.value (leaf_of a) (leaf_of b) no_value no_value key.1 in
+    let key = bytes_fronts 10 a.key b.key (value_of a) (value_of b) (behind_field 10 18 a.value (leaf_of a) apart_10_18 apart_10_26) (behind_field 10 18 b.value (leaf_of b) apart_10_18 apart_10_26) (sym (existence_parts a) ∙ e ∙ existence_parts b) in
+    let value = bytes_fronts 18 a.value b.value (leaf_of a) (leaf_of b) apart_18_26 apart_18_26 key.1 in
     let leaf = delimited_fronts 26 (leaf_op a.leaf_prefix) (leaf_op b.leaf_prefix) (path_fields a.operations) (path_fields b.operations) value.1 in
     let keys = key.0 in
     let values = value.0 in
@@ -96,11 +107,11 @@ presences_same a b e =
 
 -- ---- absences
 
-neighbour_without : (t u : ℕ) (x : Option Presence) → (t ≡ u → ⊥) → IsWithout t (neighbour_field u x)
+pub neighbour_without : (t u : ℕ) (x : Option Presence) → (t ≡ u → ⊥) → IsWithout t (neighbour_field u x)
 neighbour_without t u None other = tt
 neighbour_without t u (Some p) other = other
 
-behind_neighbour : (t u : ℕ) (x : Option Presence) (r : Text) → (t ≡ u → ⊥) → IsWithout t r → IsWithout t (neighbour_field u x ++ r)
+pub behind_neighbour : (t u : ℕ) (x : Option Presence) (r : Text) → (t ≡ u → ⊥) → IsWithout t r → IsWithout t (neighbour_field u x ++ r)
 behind_neighbour t u None r other rest = rest
 behind_neighbour t u (Some p) r other rest = other
 
@@ -112,16 +123,16 @@ neighbour_fronts tag (Some a) (Some b) r s h g e =
     let parts = delimited_fronts tag (existence a) (existence b) r s e in
     (ap Some (presences_same a b parts.0), parts.1)
 
+pub non_existence_parts : (p : Absence) → non_existence p ≡ bytes_field 10 p.key ++ (neighbour_field 18 p.left ++ neighbour_field 26 p.right)
+non_existence_parts p = append_assoc (bytes_field 10 p.key) (neighbour_field 18 p.left) (neighbour_field 26 p.right)
+
 absences_same : (a b : Absence) → non_existence a ≡ non_existence b → a ≡ b
 absences_same a b e =
     let right_of = λ (p : Absence). neighbour_field 26 p.right in
     let left_of = λ (p : Absence). neighbour_field 18 p.left ++ right_of p in
-    let no_key : 10 ≡ 18 → ⊥ = λ h. omega arith in
-    let no_key_either : 10 ≡ 26 → ⊥ = λ h. omega arith in
-    let no_left : 18 ≡ 26 → ⊥ = λ h. omega arith in
-    let without_key = λ (p : Absence). behind_neighbour 10 18 p.left (right_of p) no_key (neighbour_without 10 26 p.right no_key_either) in
-    let key = bytes_fronts 10 a.key b.key (left_of a) (left_of b) (without_key a) (without_key b) e in
-    let left = neighbour_fronts 18 a.left b.left (right_of a) (right_of b) (neighbour_without 18 26 a.right no_left) (neighbour_without 18 26 b.right no_left) key.1 in
+    let without_key = λ (p : Absence). behind_neighbour 10 18 p.left (right_of p) apart_10_18 (neighbour_without 10 26 p.right apart_10_26) in
+    let key = bytes_fronts 10 a.key b.key (left_of a) (left_of b) (without_key a) (without_key b) (sym (non_existence_parts a) ∙ e ∙ non_existence_parts b) in
+    let left = neighbour_fronts 18 a.left b.left (right_of a) (right_of b) (neighbour_without 18 26 a.right apart_18_26) (neighbour_without 18 26 b.right apart_18_26) key.1 in
     let keys = key.0 in
     let lefts = left.0 in
     let rights = (neighbour_fronts 26 a.right b.right [] [] tt tt (ap (λ text. text ++ []) left.1)).0 in

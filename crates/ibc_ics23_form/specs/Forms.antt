@@ -1,6 +1,6 @@
 -- A proof as a cosmos.ics23.v1.CommitmentProof in canonical protobuf: fields in the order of their numbers, and none that is
 -- at its default (ICS 23, "Proofs").
-use Rattle.std.specs.Prelude.{◌≡◌, ℕ, List, [], ◌∷◌, ◌++◌, length, Option, Some, None}
+use Rattle.std.specs.Prelude.{◌≡◌, IsTrue, ℕ, List, [], ◌∷◌, ◌++◌, length, Option, Some, None}
 use Rattle.ibc_ids.specs.Texts.{Text}
 use Rattle.ibc_merkle.specs.Hash.{varint}
 use Rattle.ibc_merkle.specs.declared.proof.Operation.{Operation}
@@ -8,6 +8,8 @@ use Rattle.ibc_merkle.specs.declared.proof.Presence.{Presence}
 use Rattle.ibc_merkle.specs.declared.proof.Absence.{Absence}
 use Rattle.ibc_merkle.specs.declared.proof.Proof.{Proof}
 use Rattle.ibc_merkle.specs.declared.proof.Proof.TheVariants.{Present, Absent}
+use Rattle.ibc_wire.specs.Fields.{Spells, have_form}
+use Rattle.ibc_wire.specs.Spelling.{proof_fields}
 
 -- a field of bytes, or of a message: its tag, which is 8 times its number and 2, and the content behind its length
 abbrev pub delimited : ℕ → Text → Text
@@ -18,13 +20,21 @@ abbrev pub bytes_field : ℕ → Text → Text
 bytes_field tag [] = []
 bytes_field tag (c ∷ cs) = delimited tag (c ∷ cs)
 
--- "LeafOp": the leaf is hashed by SHA-256, its value before, and lengths are varints; and the prefix
-abbrev pub leaf_op : Text → Text
-leaf_op prefix = 8 ∷ 1 ∷ 24 ∷ 1 ∷ 32 ∷ 1 ∷ bytes_field 42 prefix
+-- "LeafOp": the leaf is hashed by SHA-256, its value before, and lengths are varints
+abbrev pub leaf_front : Text
+leaf_front = 8 ∷ 1 ∷ 24 ∷ 1 ∷ 32 ∷ 1 ∷ []
 
--- "InnerOp": the node is hashed by SHA-256; and what stands before the child's hash, and behind it
+-- and the prefix
+abbrev pub leaf_op : Text → Text
+leaf_op prefix = leaf_front ++ bytes_field 42 prefix
+
+-- "InnerOp": the node is hashed by SHA-256
+abbrev pub inner_front : Text
+inner_front = 8 ∷ 1 ∷ []
+
+-- and what stands before the child's hash, and behind it
 abbrev pub inner_op : Operation → Text
-inner_op operation = 8 ∷ 1 ∷ bytes_field 18 operation.prefix ++ bytes_field 26 operation.suffix
+inner_op operation = inner_front ++ bytes_field 18 operation.prefix ++ bytes_field 26 operation.suffix
 
 abbrev pub path_fields : List Operation → Text
 path_fields [] = []
@@ -53,3 +63,11 @@ form_of (Absent p) = delimited 18 (non_existence p)
 pub record IsProofOf (text : Text) (proof : Proof) : Type 0 where
   pub form : form_of proof ≡ text
   pub alone : (other : Proof) → form_of other ≡ text → other ≡ proof
+
+-- the text is the form of no proof that bytes spell
+abbrev pub IsFormOfNone : Text → Type 0
+IsFormOfNone text = (proof : Proof) → IsTrue (have_form (proof_fields proof)) → ¬ (form_of proof ≡ text)
+
+-- the bytes spell the one proof whose form this text is
+abbrev pub IsSpelledProofOf : Text → Text → Type 0
+IsSpelledProofOf text bytes = (proof : Proof) × IsProofOf text proof × Spells (proof_fields proof) bytes

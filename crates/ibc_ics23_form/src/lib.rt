@@ -2,9 +2,8 @@
 //! and inner nodes are those of ICS 23's Tendermint spec.
 #![tactic(auto)]
 
-mod fault;
 mod reading;
 mod writing;
 
-pub use reading::proof_of_form;
+pub use reading::{proof_of_form, spelled_of_form};
 pub use writing::form_of;

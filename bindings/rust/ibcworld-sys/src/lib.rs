@@ -404,8 +404,9 @@ extern "C" {
         room: usize,
         size: *mut usize,
     ) -> u32;
-    /// Writes the bytes of a proof whose form these bytes are. IBCW_BAD_MESSAGE where there is none: another hash, a
-    /// batch, a field out of its order or at its default, longer parts than a proof has; IBCW_TOO_SHORT.
+    /// Writes the bytes of the one proof whose form these bytes are. IBCW_BAD_MESSAGE exactly where there is none:
+    /// another hash, a batch, a field out of its order or at its default, longer parts than a proof has;
+    /// IBCW_TOO_SHORT.
     pub fn ibcw_proof_of_ics23(
         form: *const u8,
         form_size: usize,

@@ -37,8 +37,8 @@ impl Proof {
     /// ```
     ///
     /// # Errors
-    /// `BadMessage` where the bytes are none, are not canonical, or come from no such proof: another hash, a batch, more or longer parts than a proof
-    /// has; `NoMemory`.
+    /// `BadMessage` exactly where the bytes are none, are not canonical, or come from no such proof: another hash, a batch, more or longer parts than a
+    /// proof has; `NoMemory`.
     pub fn from_ics23(bytes: &[u8]) -> Result<Proof, Refused> {
         // SAFETY: the pointers and lengths are those of slices.
         bytes_of(|at, room, size| unsafe {
