@@ -12,8 +12,9 @@
    different ones. Calls that take handles of several kinds take the member `handle` that each of them has: ibcw_free(&view.handle).
 
    Threads. A handle is used by one call at a time, also where the call only reads, and may go from thread to thread where that is ordered, as by
-   a lock or by a thread's start and end. Different handles may be used by different threads at the same time: ledgers of one world meet in a
-   table that any threads share, and no call takes a lock or waits.
+   a lock or by a thread's start and end. So no call takes a const handle: it writes the handle while it works. Different handles may be used by
+   different threads at the same time: ledgers of one world meet in a table that any threads share, handles of one view share that
+   (ibcw_share_view), and no call takes a lock or waits.
 
    Bytes. A text goes in as a pointer and a number of bytes; a null pointer is allowed where that number is 0. Bytes come out
    in a place of the caller's, with `room` bytes: *size is then their number, also where the place is too short
@@ -109,7 +110,8 @@ enum {
     IBCW_TOO_SHORT = 104,     /* the place is too short for the bytes */
     IBCW_NOTHING_THERE = 105, /* there is nothing there */
     IBCW_OTHER_WORLD = 106,   /* the ledger is of another world */
-    IBCW_NO_MESSAGE = 107     /* the bytes spell no message */
+    IBCW_NO_MESSAGE = 107,    /* the bytes spell no message */
+    IBCW_NO_DATA = 108        /* the bytes spell no data of tokens */
 };
 
 /* The version of the archive that is linked: IBCWORLD_VERSION of its header. */
@@ -166,7 +168,8 @@ IBCW_NONNULL(1)
 uint32_t ibcw_free(ibcw_handle *handle);
 
 /* Tells how many entries a ledger's history has, how many messages a plan, how many holdings a list of balances, how many
-   channels a list of notes, or how many chains an audit. IBCW_EMPTY, IBCW_OTHER_KIND. */
+   channels a list of notes, or how many chains an audit (ibcw_holding_count and ibcw_note_channel_count tell of one chain). IBCW_EMPTY,
+   IBCW_OTHER_KIND. */
 IBCW_MUST_USE IBCW_NONNULL(1, 2)
 uint32_t ibcw_length(ibcw_handle *handle, uint64_t *count);
 
@@ -267,6 +270,11 @@ IBCW_MUST_USE IBCW_NONNULL(1, 6)
 uint32_t ibcw_escrow(ibcw_ledger *ledger, const uint8_t *channel, size_t channel_size, const uint8_t *denom,
                      size_t denom_size, ibcw_amount *amount);
 
+/* Tells how much of a denomination all accounts hold, the escrow accounts among them: of one that came over a channel, no more than the escrow account of
+   its other end holds. IBCW_EMPTY, IBCW_OTHER_KIND, IBCW_BAD_NAME exactly where denom is no name of a denomination. */
+IBCW_MUST_USE IBCW_NONNULL(1, 4)
+uint32_t ibcw_supply(ibcw_ledger *ledger, const uint8_t *denom, size_t denom_size, ibcw_amount *amount);
+
 /* Writes the bytes of the packet that the ledger sent from an end of a channel under a sequence, whether its commitment stands or not (ICS 4).
    IBCW_EMPTY, IBCW_OTHER_KIND, IBCW_BAD_NAME exactly where the port or the channel is no name of its kind, IBCW_NOTHING_THERE where no such
    packet was sent, IBCW_TOO_SHORT. */
@@ -284,15 +292,20 @@ uint32_t ibcw_ack(ibcw_ledger *ledger, const uint8_t *port, size_t port_size, co
 IBCW_MUST_USE IBCW_NONNULL(1, 2)
 uint32_t ibcw_make_balances(ibcw_ledger *ledger, ibcw_balances *balances);
 
+/* Tells how many holdings there are: those of a list of balances, and then the chain is not looked at; or of an audit, those of that chain's
+   accounts. IBCW_EMPTY, IBCW_OTHER_KIND; IBCW_UNKNOWN_CHAIN where the audit has no such chain. */
+IBCW_MUST_USE IBCW_NONNULL(1, 3)
+uint32_t ibcw_holding_count(ibcw_handle *balances, uint64_t chain, uint64_t *count);
+
 /* Writes who holds what: the account (a user, or escrow/transfer/ and a channel), a blank, and the denomination. The handle is a list of balances or an
    audit. Of a list it is the holding at an index, from 0 on, and the chain is not looked at. Of an audit the index counts what that chain's accounts
-   hold. How many holdings a list has, and how many chains an audit, ibcw_length tells. IBCW_EMPTY, IBCW_OTHER_KIND, IBCW_NOTHING_THERE,
+   hold. IBCW_EMPTY, IBCW_OTHER_KIND, IBCW_UNKNOWN_CHAIN where the audit has no such chain, IBCW_NOTHING_THERE where there is no such holding,
    IBCW_TOO_SHORT. */
 IBCW_MUST_USE IBCW_NONNULL(1, 6)
 uint32_t ibcw_holding(ibcw_handle *balances, uint64_t chain, uint64_t index, uint8_t *text, size_t room,
                       size_t *size);
 
-/* Tells how much is held there. IBCW_EMPTY, IBCW_OTHER_KIND, IBCW_NOTHING_THERE. */
+/* Tells how much is held there. IBCW_EMPTY, IBCW_OTHER_KIND, IBCW_UNKNOWN_CHAIN, IBCW_NOTHING_THERE. */
 IBCW_MUST_USE IBCW_NONNULL(1, 4)
 uint32_t ibcw_holding_amount(ibcw_handle *balances, uint64_t chain, uint64_t index, ibcw_amount *amount);
 
@@ -302,18 +315,24 @@ uint32_t ibcw_holding_amount(ibcw_handle *balances, uint64_t chain, uint64_t ind
 IBCW_MUST_USE IBCW_NONNULL(1, 2)
 uint32_t ibcw_make_notes(ibcw_ledger *ledger, ibcw_notes *notes);
 
+/* Tells over how many channels notes came: of a list of notes, and then the chain is not looked at; or of an audit, at that chain. IBCW_EMPTY,
+   IBCW_OTHER_KIND; IBCW_UNKNOWN_CHAIN where the audit has no such chain. */
+IBCW_MUST_USE IBCW_NONNULL(1, 3)
+uint32_t ibcw_note_channel_count(ibcw_handle *notes, uint64_t chain, uint64_t *count);
+
 /* Writes the name of a channel: that at an index, from 0 on, of a list of notes, and then the chain is not looked at; or of an
-   audit, at an index of the channels of that chain. IBCW_EMPTY, IBCW_OTHER_KIND, IBCW_NOTHING_THERE, IBCW_TOO_SHORT. */
+   audit, at an index of the channels of that chain. IBCW_EMPTY, IBCW_OTHER_KIND, IBCW_UNKNOWN_CHAIN where the audit has no such chain,
+   IBCW_NOTHING_THERE, IBCW_TOO_SHORT. */
 IBCW_MUST_USE IBCW_NONNULL(1, 6)
 uint32_t ibcw_note_channel(ibcw_handle *notes, uint64_t chain, uint64_t channel, uint8_t *name, size_t room,
                            size_t *size);
 
-/* Tells how many notes came over that channel, 1 or more. IBCW_EMPTY, IBCW_OTHER_KIND, IBCW_NOTHING_THERE. */
+/* Tells how many notes came over that channel, 1 or more. IBCW_EMPTY, IBCW_OTHER_KIND, IBCW_UNKNOWN_CHAIN, IBCW_NOTHING_THERE. */
 IBCW_MUST_USE IBCW_NONNULL(1, 4)
 uint32_t ibcw_note_count(ibcw_handle *notes, uint64_t chain, uint64_t channel, uint64_t *count);
 
 /* Writes the note at an index, from 0 on, of those that came over that channel, in the order in which they came. IBCW_EMPTY,
-   IBCW_OTHER_KIND, IBCW_NOTHING_THERE where there is no such channel or no such note, IBCW_TOO_SHORT. */
+   IBCW_OTHER_KIND, IBCW_UNKNOWN_CHAIN, IBCW_NOTHING_THERE where there is no such channel or no such note, IBCW_TOO_SHORT. */
 IBCW_MUST_USE IBCW_NONNULL(1, 7)
 uint32_t ibcw_note(ibcw_handle *notes, uint64_t chain, uint64_t channel, uint64_t index, uint8_t *note,
                    size_t room, size_t *size);
@@ -324,6 +343,11 @@ uint32_t ibcw_note(ibcw_handle *notes, uint64_t chain, uint64_t channel, uint64_
    the ledger goes on, and may be freed before or after it. IBCW_FULL; IBCW_EMPTY, IBCW_OTHER_KIND of the ledger. */
 IBCW_MUST_USE IBCW_NONNULL(1, 2)
 uint32_t ibcw_make_view(ibcw_ledger *ledger, ibcw_view *view);
+
+/* Puts the view of a handle into an empty handle too. Nothing is copied, and neither of the two is changed by what is done with the other: so each
+   thread that reads a view takes a handle of its own. Each is freed by itself. IBCW_FULL; IBCW_EMPTY, IBCW_OTHER_KIND of the first. */
+IBCW_MUST_USE IBCW_NONNULL(1, 2)
+uint32_t ibcw_share_view(ibcw_view *view, ibcw_view *other);
 
 /* The number of a view's chain, its last committed height (0 if there is none), the time of that height and that of the
    working block. */
@@ -393,6 +417,17 @@ uint32_t ibcw_proof_key(const uint8_t *proof, size_t proof_size, uint8_t *key, s
 IBCW_MUST_USE IBCW_NONNULL(5)
 uint32_t ibcw_proof_value(const uint8_t *proof, size_t proof_size, uint8_t *value, size_t room, size_t *size);
 
+/* Writes the form of ICS 23 of the proof that the bytes spell: the canonical bytes of a cosmos.ics23.v1.CommitmentProof, fields in order and none
+   that is at its default. Leaves and inner nodes are those of ICS 23's Tendermint spec, so a Cosmos chain verifies it with its own library.
+   IBCW_BAD_MESSAGE exactly where the bytes spell no proof, IBCW_TOO_SHORT. */
+IBCW_MUST_USE IBCW_NONNULL(5)
+uint32_t ibcw_proof_to_ics23(const uint8_t *proof, size_t proof_size, uint8_t *form, size_t room, size_t *size);
+
+/* Writes the bytes of the one proof whose form these bytes are. IBCW_BAD_MESSAGE exactly where there is none: another hash, a batch, a field out of its
+   order or at its default, longer parts than a proof has; IBCW_TOO_SHORT. */
+IBCW_MUST_USE IBCW_NONNULL(5)
+uint32_t ibcw_proof_of_ics23(const uint8_t *form, size_t form_size, uint8_t *proof, size_t room, size_t *size);
+
 /* Tells the tag, 1 to 19, of the message that the bytes spell. IBCW_NO_MESSAGE where they spell none. How messages are spelled
    stands in docs/LIBRARY.md: a message has one spelling, and no bytes spell two messages. A ledger keeps each message that it refuses, whole,
    for ever: who takes messages from strangers asks ibcw_screen_message (ibcworld_messages.h) first, by this call and ibcw_message_proof. */
@@ -445,6 +480,30 @@ enum {
 IBCW_MUST_USE IBCW_NONNULL(6)
 uint32_t ibcw_packet_part(const uint8_t *packet, size_t packet_size, uint64_t part, uint8_t *text, size_t room,
                           size_t *size);
+
+enum {
+    IBCW_SENDER = 1,
+    IBCW_RECEIVER = 2,
+    IBCW_MEMO = 3,          /* no bytes where there is none */
+    IBCW_TOKENS_VERSION = 4 /* the version of the channels over which the bytes spell the data: ics20-1 or ics20-own-2 */
+};
+
+/* Writes a part of the data of a packet of tokens, as IBCW_DATA of a packet of port transfer has it (ICS 20). It is exactly what a chain reads
+   where such a packet comes. IBCW_NO_DATA exactly where the bytes spell no data of tokens, IBCW_NOTHING_THERE for another part, IBCW_TOO_SHORT.
+   What data says is true of a chain where its ledger took the packet: look at the reply, and at the packet's ends. */
+IBCW_MUST_USE IBCW_NONNULL(6)
+uint32_t ibcw_data_part(const uint8_t *data, size_t data_size, uint64_t part, uint8_t *text, size_t room, size_t *size);
+
+/* Tells how many tokens it has: 1 for ics20-1, 1 to 8 for ics20-own-2. IBCW_NO_DATA. */
+IBCW_MUST_USE IBCW_NONNULL(3)
+uint32_t ibcw_data_count(const uint8_t *data, size_t data_size, uint64_t *count);
+
+/* Tells the amount of the token at an index, from 0 on, and writes its denomination, as the sending chain calls it. The receiving chain calls it
+   without the sender's hop where the token comes home, and else with its own hop before it. IBCW_NO_DATA, IBCW_NOTHING_THERE where there is no such
+   token; IBCW_TOO_SHORT, and then *amount and *size are told. */
+IBCW_MUST_USE IBCW_NONNULL(4, 7)
+uint32_t ibcw_data_token(const uint8_t *data, size_t data_size, uint64_t index, ibcw_amount *amount, uint8_t *denom,
+                         size_t room, size_t *size);
 
 #ifdef __cplusplus
 }

@@ -60,6 +60,7 @@ static inline ibcw_meaning ibcw_meaning_of(uint32_t number)
         {105, "NothingThere", "there is nothing there"},
         {106, "OtherWorld", "the ledger is of another world"},
         {107, "NoMessage", "the bytes spell no message"},
+        {108, "NoData", "the bytes spell no data of tokens"},
     };
     static const ibcw_meaning unknown = {0, "Unknown", "no call answers with this number"};
     size_t k;
@@ -476,6 +477,89 @@ static inline uint32_t ibcw_read_packet(const uint8_t *bytes, size_t size, ibcw_
     from.is_short = 0;
     ibcw_take_packet(&from, packet);
     return from.is_short || from.left > 0 ? (uint32_t)IBCW_BAD_MESSAGE : (uint32_t)IBCW_DONE;
+}
+
+/* ---- the data of packets of tokens */
+
+/* A token, with a 0 behind its denomination. */
+typedef struct {
+    char denom[257];
+    ibcw_amount amount;
+} ibcw_told_token;
+
+/* What the data of a packet of tokens says (ICS 20), each text with a 0 behind it: none has one within. */
+typedef struct {
+    char version[33], sender[33], receiver[65];
+    char memo[257];       /* empty where there is none */
+    uint64_t token_count; /* 1 to IBCW_MOST_TOKENS */
+    ibcw_told_token tokens[IBCW_MOST_TOKENS];
+} ibcw_token_data;
+
+static inline uint32_t ibcw_read_data_part(const uint8_t *data, size_t data_size, uint64_t part, char *text, size_t room)
+{
+    size_t size = 0;
+    uint32_t answer = ibcw_data_part(data, data_size, part, (uint8_t *)text, room - 1, &size);
+    if (answer == IBCW_DONE) text[size] = 0;
+    return answer;
+}
+
+static inline uint32_t ibcw_read_data_token(const uint8_t *data, size_t data_size, uint64_t index, ibcw_told_token *token)
+{
+    size_t size = 0;
+    uint32_t answer =
+        ibcw_data_token(data, data_size, index, &token->amount, (uint8_t *)token->denom, sizeof token->denom - 1, &size);
+    if (answer == IBCW_DONE) token->denom[size] = 0;
+    return answer;
+}
+
+/* Reads all that the bytes say, by ibcw_data_part, ibcw_data_count and ibcw_data_token. IBCW_NO_DATA exactly where they spell no data of tokens;
+   IBCW_NO_MEMORY. */
+IBCW_MUST_USE static inline uint32_t ibcw_read_token_data(const uint8_t *data, size_t data_size, ibcw_token_data *told)
+{
+    uint64_t k;
+    uint32_t answer = ibcw_data_count(data, data_size, &told->token_count);
+    if (answer == IBCW_DONE) answer = ibcw_read_data_part(data, data_size, IBCW_TOKENS_VERSION, told->version, sizeof told->version);
+    if (answer == IBCW_DONE) answer = ibcw_read_data_part(data, data_size, IBCW_SENDER, told->sender, sizeof told->sender);
+    if (answer == IBCW_DONE) answer = ibcw_read_data_part(data, data_size, IBCW_RECEIVER, told->receiver, sizeof told->receiver);
+    if (answer == IBCW_DONE) answer = ibcw_read_data_part(data, data_size, IBCW_MEMO, told->memo, sizeof told->memo);
+    for (k = 0; answer == IBCW_DONE && k < told->token_count; k++) answer = ibcw_read_data_token(data, data_size, k, &told->tokens[k]);
+    return answer;
+}
+
+/* Puts a text into a place that ends with 0, behind what stands there. */
+static inline uint32_t ibcw_put_behind(char *place, size_t room, ibcw_bytes text)
+{
+    size_t size = strlen(place);
+    if (text.size >= room - size) return IBCW_TOO_SHORT;
+    memcpy(place + size, text.data, text.size);
+    place[size + text.size] = 0;
+    return IBCW_DONE;
+}
+
+/* What stands before a denomination that went over an end: its port and its channel, each with a slash behind it. */
+static inline uint32_t ibcw_hop_of(ibcw_bytes port, ibcw_bytes channel, char *hop, size_t room)
+{
+    uint32_t answer;
+    hop[0] = 0;
+    answer = ibcw_put_behind(hop, room, port);
+    if (answer == IBCW_DONE) answer = ibcw_put_behind(hop, room, ibcw_text("/"));
+    if (answer == IBCW_DONE) answer = ibcw_put_behind(hop, room, channel);
+    return answer == IBCW_DONE ? ibcw_put_behind(hop, room, ibcw_text("/")) : answer;
+}
+
+/* Writes the denomination that the receiving chain has for one of a packet's, with a 0 behind it (ICS 20, "onRecvPacket"). A token that comes home over this
+   channel loses the hop of the end that the packet left. Any other gets the hop of the end that it goes to. IBCW_TOO_SHORT. */
+IBCW_MUST_USE static inline uint32_t ibcw_denom_received(const ibcw_packet_fields *packet, const char *denom, char *place, size_t room)
+{
+    char left[320];
+    size_t size;
+    uint32_t answer = ibcw_hop_of(packet->source_port, packet->source_channel, left, sizeof left);
+    if (answer != IBCW_DONE || room == 0) return IBCW_TOO_SHORT;
+    size = strlen(left);
+    place[0] = 0;
+    if (strncmp(denom, left, size) == 0) return ibcw_put_behind(place, room, ibcw_text(denom + size));
+    answer = ibcw_hop_of(packet->destination_port, packet->destination_channel, place, room);
+    return answer == IBCW_DONE ? ibcw_put_behind(place, room, ibcw_text(denom)) : answer;
 }
 
 /* ---- messages of strangers */

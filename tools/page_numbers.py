@@ -56,7 +56,7 @@ LIMITS = [
     *((rf"\| {kind} \| (\d+) to (\d+)", NAME, rf"(?m)^is_{kind.replace('base denomination', 'base_denom')} = is_made_of \w+ (\d+) (\d+)")
       for kind in ("user", "receiver", "memo", "base denomination", "client", "connection", "channel", "port", "version")),
     (r"hops, .*; (\d+) bytes in all", NAME, r"is_denom text = nat_le \(length text\) (\d+)"),
-    (r"(\d+) to (\d+) are those of calls", CALLS, r"(?s)number_of Empty = (\d+).*number_of NoMessage = (\d+)"),
+    (r"(\d+) to (\d+) are those of calls", CALLS, r"(?s)number_of Empty = (\d+).*number_of NoData = (\d+)"),
     (r"A port has (\d+) to (\d+) bytes, a client (\d+) to (\d+), a connection (\d+) to (\d+), a channel (\d+) to (\d+)", NAME,
      "(?s)" + ".*".join(rf"is_{kind} = is_made_of \w+ (\d+) (\d+)" for kind in ("port", "client", "connection", "channel"))),
     (r"name with its hops has at most (\d+) bytes", NAME, r"is_denom text = nat_le \(length text\) (\d+)"),
@@ -71,7 +71,7 @@ LIMITS = [
      r"(?s)kind\.UpdateClient = (\d+).*kind\.RecvPacket = (\d+).*kind\.TimeoutOnClose = (\d+)"),
     (r"client's state as tags (\d) and (\d) want it", KINDS, r"(?s)kind\.ConnOpenTry = (\d+).*kind\.ConnOpenAck = (\d+)"),
     (r"No proof has more than ([\d,]+) bytes", "include/ibcworld.h", r"IBCW_LONGEST_PROOF = (\d+)"),
-    (r"cargo \(([\d.]+) or newer\)", "bindings/rust/ibcworld/Cargo.toml", r'rust-version = "([\d.]+)"'),
+    (r"cargo \(([\d.]+) or newer\)", "examples/library/rust/Cargo.toml", r'rust-version = "([\d.]+)"'),
     (r"([\d,]+) changed messages do no harm", "tools/build_library", r"MUTATED:-(\d+)"),
     (r"lists (\d+) levels deep", "tools/broken_streams", r'"(\d+) levels of lists"'),
     (r"reads give at most (\d) bytes", "tools/broken_streams", r'"FAIL_READ", -\(-len\(self\.text\) // (\d)\)'),

@@ -1,9 +1,21 @@
 /* What of ibcworld.h is no call of the proved library: worlds get numbers here, by which the library tells them apart. */
 #include "ibcworld.h"
 
-/* Numbers count up from 1, and stay below those that callers may give (2^63). */
+/* A number that is far from those of neighbours (Steele, Lea and Flood, "SplitMix"). */
+static uint64_t scattered(uint64_t number)
+{
+    number += 0x9e3779b97f4a7c15u;
+    number = (number ^ number >> 30) * 0xbf58476d1ce4e5b9u;
+    number = (number ^ number >> 27) * 0x94d049bb133111ebu;
+    return number ^ number >> 31;
+}
+
+/* Numbers count up, and stay below those that callers may give (2^63). An archive that is linked into two objects of one program has two counters: each
+   counts from where its own address leads, so that their numbers are far apart. */
 uint32_t ibcw_make_ledgers(ibcw_genesis *genesis, ibcw_ledgers *ledgers)
 {
     static uint64_t last = 0;
-    return ibcw_make_numbered_ledgers(genesis, __atomic_add_fetch(&last, 1, __ATOMIC_RELAXED), ledgers);
+    uint64_t first = scattered((uint64_t)(uintptr_t)&last);
+    uint64_t number = first + __atomic_add_fetch(&last, 1, __ATOMIC_RELAXED);
+    return ibcw_make_numbered_ledgers(genesis, number & 0x7fffffffffffffffu, ledgers);
 }

@@ -96,8 +96,11 @@ static void join_crosswise(void)
     tried(ibcw_make_audit(&one.rest, &audit), IBCW_FULL, "an audit is put over another");
     ibcw_free(&audit.handle);
     tried(ibcw_make_audit(&one.rest, &audit), IBCW_DONE, "a world is audited again");
-    tried(ibcw_holding(&audit.handle, 2, 0, NULL, 0, (size_t[]){0}), IBCW_NOTHING_THERE, "a holding of a chain that isn't there");
-    tried(ibcw_holding(&audit.handle, UINT64_MAX, UINT64_MAX, NULL, 0, (size_t[]){0}), IBCW_NOTHING_THERE, "a holding at the largest numbers");
+    tried(ibcw_holding(&audit.handle, 2, 0, NULL, 0, (size_t[]){0}), IBCW_UNKNOWN_CHAIN, "a holding of a chain that isn't there");
+    tried(ibcw_holding(&audit.handle, UINT64_MAX, UINT64_MAX, NULL, 0, (size_t[]){0}), IBCW_UNKNOWN_CHAIN, "a holding at the largest numbers");
+    tried(ibcw_holding(&audit.handle, 1, UINT64_MAX, NULL, 0, (size_t[]){0}), IBCW_NOTHING_THERE, "the last holding of all of a chain");
+    tried(ibcw_holding_count(&audit.handle, 99, &length), IBCW_UNKNOWN_CHAIN, "how many holdings a chain has that isn't there");
+    tried(ibcw_note_channel_count(&audit.handle, 99, &length), IBCW_UNKNOWN_CHAIN, "how many channels of notes a chain has that isn't there");
     tried(ibcw_length(&audit.handle, &length), IBCW_DONE, "an audit tells how many chains it has");
     want(length != 2, "two chains");
     ibcw_free(&audit.handle);

@@ -1,6 +1,7 @@
 /* Proofs in the form of ICS 23 and back: each is the same again, bytes that are changed are refused or are the one form of another proof, and the
-   library's word of a proof stays. With a folder, it writes the forms there, as 0.ics23 and so on. */
-#include "ibcworld_ics23.h"
+   library's word of a proof stays. With a folder, it writes the root there, and of each proof its form, its key, and its value where there is one:
+   0.ics23, 0.key, 0.value, and so on. */
+#include "ibcworld_messages.h"
 
 #include <stdio.h>
 
@@ -54,13 +55,27 @@ static void try_changed(const text *form)
     want((uint32_t)(taken < (int)form->size * 8), 1, "some changes are refused");
 }
 
-static void write_form(const char *folder, int number, const text *form)
+static void write_file(const char *folder, const char *name, ibcw_bytes bytes)
 {
     char path[4096];
     FILE *file;
-    snprintf(path, sizeof path, "%s/%d.ics23", folder, number);
+    snprintf(path, sizeof path, "%s/%s", folder, name);
     file = fopen(path, "wb");
-    if (file == NULL || fwrite(form->data, 1, form->size, file) != form->size || fclose(file) != 0) exit(1);
+    if (file == NULL || fwrite(bytes.data, 1, bytes.size, file) != bytes.size || fclose(file) != 0) exit(1);
+}
+
+static void write_form(const char *folder, int number, const text *proof, const text *form, ibcw_bytes key)
+{
+    static text value;
+    char name[32];
+    uint32_t answer = ibcw_proof_value(proof->data, proof->size, value.data, ROOM, &value.size);
+    snprintf(name, sizeof name, "%d.ics23", number);
+    write_file(folder, name, ibcw_bytes_of(form->data, form->size));
+    snprintf(name, sizeof name, "%d.key", number);
+    write_file(folder, name, key);
+    snprintf(name, sizeof name, "%d.value", number);
+    if (answer == IBCW_DONE) write_file(folder, name, ibcw_bytes_of(value.data, value.size));
+    want(answer == IBCW_NOTHING_THERE ? (uint32_t)IBCW_DONE : answer, IBCW_DONE, "a proof's value");
 }
 
 static void begin(ibcw_ledger *ledger)
@@ -108,8 +123,9 @@ int main(int words, char **word)
             want((uint32_t)ibcw_is_absent(ibcw_bytes_of(root, 32), key, ibcw_bytes_of(again.data, again.size)), 1, "a proof of absence");
         }
         try_changed(&form);
-        if (words > 1) write_form(word[1], k, &form);
+        if (words > 1) write_form(word[1], k, &proof, &form, key);
     }
+    if (words > 1) write_file(word[1], "root", ibcw_bytes_of(root, sizeof root));
     want(ibcw_proof_to_ics23(root, 32, form.data, ROOM, &form.size), IBCW_BAD_MESSAGE, "a form of no proof");
     want(ibcw_proof_of_ics23(NULL, 0, form.data, ROOM, &form.size), IBCW_BAD_MESSAGE, "a proof of no bytes");
     ibcw_free(&view.handle);

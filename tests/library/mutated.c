@@ -1,5 +1,6 @@
 /* Messages with a few bytes changed, cut or doubled, as many as the first word says, and none brings a report of a sanitizer. A twin of each world is told what was taken,
-   and never what was refused: it answers the same, and its roots are the same, so a refusal changes nothing that is proved. Tokens stay as many as there were.
+   and never what was refused. Behind each refusal both end a block, and the two roots are the same: so it changed nothing that the chain proves. What accounts hold is
+   compared with the twin too, and tokens stay as many as there were.
    It prints how many messages were tried, how many were taken, and how many were no message. */
 #include "ibcworld_messages.h"
 
@@ -7,8 +8,9 @@
 
 enum { TIME = 100, ROOM = 70000, SUPPLY = 1000000 };
 
-/* A world has so many tries, of which so many come before a block, and so many before packets go to and fro and are what is changed from then on. */
-enum { OF_WORLD = 50000, OF_BLOCK = 500, OF_ROUND = 5000 };
+/* A world has so many tries. Behind so many of them holdings are compared, and behind so many packets go to and fro and are what is changed from then on. No chain
+   has more heights than HEIGHTS, of which it keeps the last WINDOW. */
+enum { OF_WORLD = 10000, OF_LOOK = 500, OF_ROUND = 2500, HEIGHTS = 20000, WINDOW = 4096 };
 
 typedef struct {
     uint8_t data[ROOM];
@@ -60,7 +62,7 @@ static world begin(void)
 {
     world w = {IBCW_HANDLE_INIT, {IBCW_HANDLE_INIT, IBCW_HANDLE_INIT}};
     ibcw_genesis genesis = IBCW_HANDLE_INIT;
-    want(ibcw_make_genesis(&genesis, 10000, 64), IBCW_DONE, "a genesis");
+    want(ibcw_make_genesis(&genesis, HEIGHTS, WINDOW), IBCW_DONE, "a genesis");
     want(ibcw_add_chain(&genesis, TIME), IBCW_DONE, "a chain");
     want(ibcw_add_balance(&genesis, (const uint8_t *)"alice", 5, (const uint8_t *)"atom", 4, 0, SUPPLY), IBCW_DONE, "a balance");
     want(ibcw_add_chain(&genesis, TIME), IBCW_DONE, "a chain");
@@ -93,7 +95,7 @@ static void send_and_relay(world *w)
     message.denom = ibcw_text("atom");
     message.receiver = ibcw_text("bob");
     message.amount.low = 10;
-    message.timeout_height = 10000;
+    message.timeout_height = HEIGHTS;
     sent = ibcw_send(&w->chains[0], &message, &reply);
     want_true(sent == IBCW_DONE || sent == IBCW_POOR, "a transfer");
     for (k = 0; k < 2; k++) want(ibcw_relay(&w->chains[0], &w->chains[1], TIME, &relayed), IBCW_DONE, "a turn");
@@ -172,7 +174,16 @@ static uint32_t ask(ibcw_ledger *ledger, const text *message, ibcw_replied *repl
     return ibcw_apply(ledger, message->data, message->size, &reply->told, reply->bytes, sizeof reply->bytes, &reply->size);
 }
 
-/* A ledger is asked, and its twin where it took the message. An entry is made of each message, taken or not. */
+/* A ledger and its twin end their blocks: the height and the root are the same. */
+static void end_blocks(ibcw_ledger *ledger, ibcw_ledger *twin)
+{
+    ibcw_replied reply, again;
+    want(ibcw_end(ledger, TIME, &reply), IBCW_DONE, "a block");
+    want(ibcw_end(twin, TIME, &again), IBCW_DONE, "a block");
+    want_same(&reply, &again, "a root that a refusal changed");
+}
+
+/* A ledger is asked, and its twin where it took the message. An entry is made of each message, taken or not. Behind a refusal the roots are compared. */
 static void try_message(ibcw_ledger *ledger, ibcw_ledger *twin, const text *message)
 {
     ibcw_replied reply, again;
@@ -183,21 +194,46 @@ static void try_message(ibcw_ledger *ledger, ibcw_ledger *twin, const text *mess
     want_true((ibcw_message_tag(message->data, message->size, &tag) == IBCW_NO_MESSAGE) == is_none, "a message or none");
     want_true(length_of(&ledger->handle) == before + !is_none, "an entry of each message");
     none += is_none;
-    if (answer != IBCW_DONE) return;
+    if (answer != IBCW_DONE) {
+        end_blocks(ledger, twin);
+        return;
+    }
     taken++;
     want(ask(twin, message, &again), IBCW_DONE, "what the twin takes");
     want_same(&reply, &again, "what the twin answers");
 }
 
-/* Both worlds end their blocks: the heights and roots are the same. */
-static void end_blocks(world *w, world *twin)
+/* The accounts of a ledger and of its twin hold the same. */
+static void want_same_holdings(ibcw_ledger *ledger, ibcw_ledger *twin)
 {
-    ibcw_replied reply, again;
+    ibcw_balances one = IBCW_HANDLE_INIT, other = IBCW_HANDLE_INIT;
+    uint64_t length, k;
+    want(ibcw_make_balances(ledger, &one), IBCW_DONE, "what accounts hold");
+    want(ibcw_make_balances(twin, &other), IBCW_DONE, "what accounts hold");
+    length = length_of(&one.handle);
+    want_true(length_of(&other.handle) == length, "as many holdings");
+    for (k = 0; k < length; k++) {
+        uint8_t here[1024], there[1024];
+        size_t size = 0, again = 0;
+        ibcw_amount amount, same;
+        want(ibcw_holding(&one.handle, 0, k, here, sizeof here, &size), IBCW_DONE, "a holding");
+        want(ibcw_holding(&other.handle, 0, k, there, sizeof there, &again), IBCW_DONE, "a holding");
+        want(ibcw_holding_amount(&one.handle, 0, k, &amount), IBCW_DONE, "an amount");
+        want(ibcw_holding_amount(&other.handle, 0, k, &same), IBCW_DONE, "an amount");
+        want_true(size == again && memcmp(here, there, size) == 0, "whose it is, and of what");
+        want_true(amount.high == same.high && amount.low == same.low, "how much it is");
+    }
+    ibcw_free(&one.handle);
+    ibcw_free(&other.handle);
+}
+
+/* Both worlds end their blocks and hold the same. */
+static void compare(world *w, world *twin)
+{
     int k;
     for (k = 0; k < 2; k++) {
-        want(ibcw_end(&w->chains[k], TIME, &reply), IBCW_DONE, "a block");
-        want(ibcw_end(&twin->chains[k], TIME, &again), IBCW_DONE, "a block");
-        want_same(&reply, &again, "a root that a refusal changed");
+        end_blocks(&w->chains[k], &twin->chains[k]);
+        want_same_holdings(&w->chains[k], &twin->chains[k]);
     }
 }
 
@@ -205,7 +241,7 @@ static void play_round(world *w, world *twin)
 {
     send_and_relay(w);
     send_and_relay(twin);
-    end_blocks(w, twin);
+    compare(w, twin);
     take_seeds(&w->chains[0], 8);
     take_seeds(&w->chains[1], 8);
 }
@@ -257,9 +293,9 @@ static void try_in_new_worlds(long tries)
         if (k % OF_ROUND == 0) play_round(&w, &twin);
         mutate(&message);
         try_message(&w.chains[side], &twin.chains[side], &message);
-        if (k % OF_BLOCK == OF_BLOCK - 1) end_blocks(&w, &twin);
+        if (k % OF_LOOK == OF_LOOK - 1) compare(&w, &twin);
     }
-    end_blocks(&w, &twin);
+    compare(&w, &twin);
     end_world(&w);
     end_world(&twin);
 }

@@ -278,6 +278,127 @@ static void open_channel(world *w, const char *port, uint8_t order, const char *
     answer(&w->y, &message, IBCW_DONE, "a channel is confirmed");
 }
 
+/* ---- the data of packets of tokens, taken apart */
+
+static void want_data_part(const text *data, uint64_t part, const char *wanted)
+{
+    static text found;
+    uint32_t answer;
+    WITH_REFUSALS(answer, ibcw_data_part(data->data, data->size, part, found.data, ROOM, &found.size), "a part of data");
+    want(answer, IBCW_DONE, "a part of data");
+    want((uint32_t)found.size, (uint32_t)strlen(wanted), "the size of a part of data");
+    want((uint32_t)memcmp(found.data, wanted, found.size), 0, "the bytes of a part of data");
+}
+
+static void want_token(const text *data, uint64_t index, uint64_t high, uint64_t low, const char *denom)
+{
+    static text found;
+    ibcw_amount amount = {7, 7};
+    uint32_t answer;
+    WITH_REFUSALS(answer, ibcw_data_token(data->data, data->size, index, &amount, found.data, ROOM, &found.size), "a token");
+    want(answer, IBCW_DONE, "a token");
+    want(amount.high == high && amount.low == low, 1, "the amount of a token");
+    want((uint32_t)found.size, (uint32_t)strlen(denom), "the size of a denomination");
+    want((uint32_t)memcmp(found.data, denom, found.size), 0, "the bytes of a denomination");
+    amount.high = amount.low = 7;
+    meet(ibcw_data_token(data->data, data->size, index, &amount, NULL, 0, &found.size), IBCW_TOO_SHORT, "a denomination with no room");
+    want(amount.high == high && amount.low == low && found.size == strlen(denom), 1, "what is told of a denomination with no room");
+}
+
+/* The data says this, and has so many tokens. */
+static void want_data(const text *data, const char *sender, const char *receiver, const char *memo, const char *version, uint64_t tokens)
+{
+    uint64_t count = 77;
+    uint32_t answer;
+    size_t size = 77;
+    ibcw_amount amount = {7, 7};
+    WITH_REFUSALS(answer, ibcw_data_count(data->data, data->size, &count), "how many tokens");
+    want(answer, IBCW_DONE, "how many tokens");
+    want((uint32_t)count, (uint32_t)tokens, "how many tokens");
+    want_data_part(data, IBCW_SENDER, sender);
+    want_data_part(data, IBCW_RECEIVER, receiver);
+    want_data_part(data, IBCW_MEMO, memo);
+    want_data_part(data, IBCW_TOKENS_VERSION, version);
+    meet(ibcw_data_part(data->data, data->size, 0, NULL, 0, &size), IBCW_NOTHING_THERE, "a part 0 of data");
+    meet(ibcw_data_part(data->data, data->size, 5, NULL, 0, &size), IBCW_NOTHING_THERE, "a fifth part of data");
+    meet(ibcw_data_token(data->data, data->size, tokens, &amount, NULL, 0, &size), IBCW_NOTHING_THERE, "a token more");
+    meet(ibcw_data_token(data->data, data->size, UINT64_MAX, &amount, NULL, 0, &size), IBCW_NOTHING_THERE, "the last token of all");
+    want(size == 77 && amount.high == 7 && amount.low == 7, 1, "what isn't told of data");
+}
+
+static void put_data(text *out, const char *data)
+{
+    out->size = 0;
+    put_bytes(out, data, strlen(data));
+}
+
+/* Bytes that are no data of tokens: by each call they are told as such, whatever growth is refused, and nothing is told. */
+static void refuse_data(const char *bytes_of_none)
+{
+    static text none;
+    uint64_t count = 77;
+    size_t size = 77;
+    ibcw_amount amount = {7, 7};
+    uint32_t answer;
+    put_data(&none, bytes_of_none);
+    WITH_REFUSALS(answer, ibcw_data_count(none.data, none.size, &count), "how many tokens of none");
+    meet(answer, IBCW_NO_DATA, bytes_of_none);
+    WITH_REFUSALS(answer, ibcw_data_part(none.data, none.size, IBCW_SENDER, NULL, 0, &size), "a part of none");
+    meet(answer, IBCW_NO_DATA, bytes_of_none);
+    WITH_REFUSALS(answer, ibcw_data_token(none.data, none.size, 0, &amount, NULL, 0, &size), "a token of none");
+    meet(answer, IBCW_NO_DATA, bytes_of_none);
+    want(count == 77 && size == 77 && amount.high == 7 && amount.low == 7, 1, "what isn't told of none");
+}
+
+#define PARTIES "\"receiver\":\"bob\",\"sender\":\"alice\""
+
+static void take_data_apart(void)
+{
+    static const char *const none[] = {
+        "",
+        "{}",
+        "three",
+        "{\"amount\":\"5\",\"denom\":\"atom\"," PARTIES,
+        "{\"amount\":\"5\",\"denom\":\"atom\"," PARTIES "} ",
+        "{\"amount\": \"5\",\"denom\":\"atom\"," PARTIES "}",
+        "{\"amount\":5,\"denom\":\"atom\"," PARTIES "}",
+        "{\"amount\":\"0\",\"denom\":\"atom\"," PARTIES "}",
+        "{\"amount\":\"05\",\"denom\":\"atom\"," PARTIES "}",
+        "{\"amount\":\"+5\",\"denom\":\"atom\"," PARTIES "}",
+        "{\"amount\":\"340282366920938463463374607431768211456\",\"denom\":\"atom\"," PARTIES "}",
+        "{\"denom\":\"atom\",\"amount\":\"5\"," PARTIES "}",
+        "{\"amount\":\"5\",\"denom\":\"a//b\"," PARTIES "}",
+        "{\"amount\":\"5\",\"denom\":\"atom\",\"memo\":\"\"," PARTIES "}",
+        "{\"amount\":\"5\",\"denom\":\"atom\",\"receiver\":\"bob\",\"sender\":\"\"}",
+        "{\"amount\":\"5\",\"denom\":\"atom\",\"receiver\":\"bob\",\"sender\":\"al/ice\"}",
+        "{" PARTIES ",\"tokens\":[]}",
+        "{" PARTIES ",\"tokens\":[{\"amount\":\"5\",\"denom\":\"gold\"},{\"amount\":\"5\",\"denom\":\"atom\"}]}",
+        "{" PARTIES ",\"tokens\":[{\"amount\":\"5\",\"denom\":\"atom\"},{\"amount\":\"5\",\"denom\":\"atom\"}]}",
+    };
+    static text data;
+    uint64_t count = 77;
+    size_t k;
+    put_data(&data, "{\"amount\":\"340282366920938463463374607431768211455\",\"denom\":\"transfer/channel-0/atom\",\"memo\":\"for the ferry\"," PARTIES "}");
+    want_data(&data, "alice", "bob", "for the ferry", "ics20-1", 1);
+    want_token(&data, 0, UINT64_MAX, UINT64_MAX, "transfer/channel-0/atom");
+    put_data(&data, "{" PARTIES ",\"tokens\":[{\"amount\":\"5\",\"denom\":\"atom\"},{\"amount\":\"18446744073709551616\",\"denom\":\"gold\"}]}");
+    want_data(&data, "alice", "bob", "", "ics20-own-2", 2);
+    want_token(&data, 0, 0, 5, "atom");
+    want_token(&data, 1, 1, 0, "gold");
+    for (k = 0; k < sizeof none / sizeof none[0]; k++) refuse_data(none[k]);
+    want(ibcw_data_count(NULL, 0, &count), IBCW_NO_DATA, "no bytes as data");
+}
+
+/* What a packet of tokens that comes says, by its own bytes. */
+static void want_tokens_of(const text *message)
+{
+    static text packet, data;
+    want(ibcw_message_packet(message->data, message->size, packet.data, ROOM, &packet.size), IBCW_DONE, "a carried packet");
+    want(ibcw_packet_part(packet.data, packet.size, IBCW_DATA, data.data, ROOM, &data.size), IBCW_DONE, "the data of a packet");
+    want_data(&data, "alice", "bob", "", "ics20-1", 1);
+    want_token(&data, 0, 0, 5, "atom");
+}
+
 /* ---- packets */
 
 /* Both chains end a block, and the plan of what `to` is owed from `from` is made. */
@@ -336,6 +457,7 @@ static void refuse_packets(world *w)
     transfer(&message, "channel-0", "alice", "atom", 5, "bob", "", 1000);
     answer(&w->x, &message, IBCW_DONE, "a transfer");
     first_owed(&w->x, &w->y, &message);
+    want_tokens_of(&message);
     other = message;
     other.data[other.size - 1] ^= 1;
     answer(&w->y, &other, IBCW_BAD_PROOF, "a packet with another proof");
@@ -601,6 +723,11 @@ static uint32_t ask_escrow(ibcw_handle *h)
     ibcw_amount amount;
     return ibcw_escrow(h, bytes("channel-0"), 9, bytes("b"), 1, &amount);
 }
+static uint32_t ask_supply(ibcw_handle *h)
+{
+    ibcw_amount amount;
+    return ibcw_supply(h, bytes("b"), 1, &amount);
+}
 static uint32_t ask_packet(ibcw_handle *h) { return ibcw_packet(h, bytes("note"), 4, bytes("channel-0"), 9, 1, NULL, 0, &written); }
 static uint32_t ask_ack(ibcw_handle *h) { return ibcw_ack(h, bytes("note"), 4, bytes("channel-0"), 9, 1, NULL, 0, &written); }
 static uint32_t ask_length(ibcw_handle *h) { return ibcw_length(h, &number); }
@@ -622,6 +749,9 @@ static uint32_t ask_balance(ibcw_handle *h)
     return ibcw_balance(h, bytes("a"), 1, bytes("b"), 1, &amount);
 }
 static uint32_t ask_make_balances(ibcw_handle *h) { return ibcw_make_balances(h, &made); }
+static uint32_t ask_holding_count(ibcw_handle *h) { return ibcw_holding_count(h, 0, &number); }
+static uint32_t ask_note_channel_count(ibcw_handle *h) { return ibcw_note_channel_count(h, 0, &number); }
+static uint32_t ask_share_view(ibcw_handle *h) { return ibcw_share_view(h, &made); }
 static uint32_t ask_holding(ibcw_handle *h) { return ibcw_holding(h, 0, 0, NULL, 0, &written); }
 static uint32_t ask_holding_amount(ibcw_handle *h)
 {
@@ -658,16 +788,20 @@ static const asking CALLS[] = {
     {"ibcw_prove", ask_prove, 1 << LEDGER},
     {"ibcw_balance", ask_balance, 1 << LEDGER},
     {"ibcw_escrow", ask_escrow, 1 << LEDGER},
+    {"ibcw_supply", ask_supply, 1 << LEDGER},
     {"ibcw_packet", ask_packet, 1 << LEDGER},
     {"ibcw_ack", ask_ack, 1 << LEDGER},
     {"ibcw_make_balances", ask_make_balances, 1 << LEDGER},
+    {"ibcw_holding_count", ask_holding_count, OF_HOLDINGS},
     {"ibcw_holding", ask_holding, OF_HOLDINGS},
     {"ibcw_holding_amount", ask_holding_amount, OF_HOLDINGS},
     {"ibcw_make_notes", ask_make_notes, 1 << LEDGER},
+    {"ibcw_note_channel_count", ask_note_channel_count, OF_NOTES},
     {"ibcw_note_channel", ask_note_channel, OF_NOTES},
     {"ibcw_note_count", ask_note_count, OF_NOTES},
     {"ibcw_note", ask_note, OF_NOTES},
     {"ibcw_make_view", ask_make_view, 1 << LEDGER},
+    {"ibcw_share_view", ask_share_view, 1 << VIEW},
     {"ibcw_view_heights", ask_view_heights, 1 << VIEW},
     {"ibcw_view_root", ask_view_root, 1 << VIEW},
     {"ibcw_view_proof", ask_view_proof, 1 << VIEW},
@@ -740,6 +874,49 @@ static void audit_again(world *w, world *other, ibcw_handle *audit)
     want(ibcw_make_audit(&w->ledgers, audit), IBCW_DONE, "an audit again");
 }
 
+/* How many holdings and channels of notes an audit has at each of two chains, and a list of balances at any. A third chain isn't there. */
+static void want_counts(ibcw_handle *audit, ibcw_handle *balances)
+{
+    uint64_t count = 77, chain;
+    size_t size = 77;
+    ibcw_amount amount = {7, 7};
+    for (chain = 0; chain < 2; chain++) {
+        meet(ibcw_holding_count(audit, chain, &count), IBCW_DONE, "how many holdings");
+        want(ibcw_holding_amount(audit, chain, count - 1, &amount), IBCW_DONE, "the last holding of a chain");
+        meet(ibcw_holding(audit, chain, count, NULL, 0, &size), IBCW_NOTHING_THERE, "a holding more");
+        want(ibcw_note_channel_count(audit, chain, &count), IBCW_DONE, "how many channels of notes");
+        want((uint32_t)count, (uint32_t)chain, "how many channels of notes");
+    }
+    want(ibcw_holding_count(balances, 99, &count), IBCW_DONE, "how many holdings of a list");
+    want((uint32_t)count, (uint32_t)length_of(balances), "how many holdings of a list");
+    count = 77;
+    meet(ibcw_holding_count(audit, 2, &count), IBCW_UNKNOWN_CHAIN, "how many holdings of a chain that isn't there");
+    meet(ibcw_note_channel_count(audit, 2, &count), IBCW_UNKNOWN_CHAIN, "how many channels of a chain that isn't there");
+    meet(ibcw_holding(audit, 2, 0, NULL, 0, &size), IBCW_UNKNOWN_CHAIN, "a holding of a chain that isn't there");
+    meet(ibcw_holding_amount(audit, 2, 0, &amount), IBCW_UNKNOWN_CHAIN, "an amount at a chain that isn't there");
+    meet(ibcw_note_channel(audit, 2, 0, NULL, 0, &size), IBCW_UNKNOWN_CHAIN, "a channel of a chain that isn't there");
+    meet(ibcw_note_count(audit, 2, 0, &count), IBCW_UNKNOWN_CHAIN, "notes of a chain that isn't there");
+    meet(ibcw_note(audit, 2, 0, 0, NULL, 0, &size), IBCW_UNKNOWN_CHAIN, "a note of a chain that isn't there");
+    want(count == 77 && size == 77, 1, "what isn't told of a chain that isn't there");
+}
+
+/* A view behind a second handle is the same, and is there when the first is freed. */
+static void share_views(ibcw_handle *ledger)
+{
+    uint8_t root[32], again[32];
+    uint32_t found;
+    size_t size = 0;
+    ibcw_handle view = view_of(ledger), other = {0};
+    want(ibcw_view_root(&view, root, 32, &size), IBCW_DONE, "a root");
+    WITH_REFUSALS(found, ibcw_share_view(&view, &other), "a shared view");
+    want(found, IBCW_DONE, "a shared view");
+    meet(ibcw_share_view(&view, &other), IBCW_FULL, "a shared view over another");
+    want(ibcw_free(&view), IBCW_DONE, "free");
+    want(ibcw_view_root(&other, again, 32, &size), IBCW_DONE, "the root of a shared view");
+    want((uint32_t)memcmp(root, again, 32), 0, "the root of a shared view");
+    want(ibcw_free(&other), IBCW_DONE, "free");
+}
+
 static void refuse_handles(world *w)
 {
     uint32_t found;
@@ -751,9 +928,10 @@ static void refuse_handles(world *w)
     WITH_REFUSALS(found, ibcw_make_balances(&w->x, &balances), "balances");
     want(found, IBCW_DONE, "balances");
     want(ibcw_make_notes(&w->y, &notes), IBCW_DONE, "notes");
+    share_views(&w->x);
     audit_again(w, &other, &audit);
     want_notes(&audit, 1, 3);
-    meet(ibcw_holding(&audit, 2, 0, NULL, 0, &written), IBCW_NOTHING_THERE, "a holding of a chain that isn't there");
+    want_counts(&audit, &balances);
     refuse_kinds(values, &other.y);
     refuse_full(values);
     want(ibcw_make_audit(&other.ledgers, &nothing), IBCW_BAD_MESSAGE, "an audit of no ledgers");
@@ -845,6 +1023,18 @@ static void want_escrow(ibcw_handle *ledger, const char *denom, uint64_t wanted)
     meet(ibcw_escrow(ledger, bytes("channel"), 7, bytes(denom), strlen(denom), &amount), IBCW_BAD_NAME, "an escrow account of no channel");
 }
 
+static void want_supply(ibcw_handle *ledger, const char *denom, uint64_t wanted)
+{
+    ibcw_amount amount = {7, 7};
+    uint32_t found;
+    WITH_REFUSALS(found, ibcw_supply(ledger, bytes(denom), strlen(denom), &amount), "a supply");
+    want(found, IBCW_DONE, "a supply");
+    want((uint32_t)(amount.high + amount.low), (uint32_t)wanted, "how much all accounts hold");
+    amount.low = 7;
+    meet(ibcw_supply(ledger, bytes("a//b"), 4, &amount), IBCW_BAD_NAME, "a supply of no denomination");
+    want((uint32_t)amount.low, 7, "what isn't told of no denomination");
+}
+
 int main(void)
 {
     int count = 0;
@@ -860,15 +1050,19 @@ int main(void)
     refuse_packets(&w);
     want_escrow(&w.x, "atom", 5);
     want_escrow(&w.y, "atom", 0);
+    want_supply(&w.x, "atom", 1000);
+    want_supply(&w.y, "transfer/channel-0/atom", 5);
+    want_supply(&w.y, "atom", 0);
     refuse_timeouts(&w);
     refuse_notes(&w);
     take_packets_apart(&w);
+    take_data_apart();
     close_notes(&w);
     refuse_blocks();
     prove_heights();
     refuse_texts(&w);
     refuse_handles(&w);
-    for (int n = IBCW_NO_MEMORY; n <= IBCW_NO_MESSAGE; n++) {
+    for (int n = IBCW_NO_MEMORY; n <= IBCW_NO_DATA; n++) {
         int is_number = n <= IBCW_PRUNED || n >= IBCW_EMPTY;
         if (is_number && n != IBCW_NUMBER_FULL) want((uint32_t)met[n], 1, "a number is met");
         count += met[n];

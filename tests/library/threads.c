@@ -1,5 +1,5 @@
-/* Eight chains, each driven by a thread of its own, that is told of the next chain's heights by views that others make: under a checker of races. The main thread then
-   audits them, twice. */
+/* Eight chains, each driven by a thread of its own, that is told of the next chain's heights by views that others make: under a checker of races. Then eight threads read
+   one view at the same time, each by a handle of its own, and the main thread audits the chains, twice. */
 #include "ibcworld_messages.h"
 
 #include <pthread.h>
@@ -68,6 +68,49 @@ static void *drive(void *given)
     return NULL;
 }
 
+/* ---- one view, read by all at the same time */
+
+static ibcw_view shared[CHAINS], peer[CHAINS];
+
+static void *read_view(void *given)
+{
+    ibcw_view *own = (ibcw_view *)given, *other = &peer[own - shared];
+    static const char path[] = "nextClientSequence";
+    uint8_t proof[IBCW_LONGEST_PROOF], root[32], value[8] = {0, 0, 0, 0, 0, 0, 0, 1};
+    size_t size = 0, root_size = 0;
+    ibcw_plan plan = IBCW_HANDLE_INIT;
+    ibcw_view again = IBCW_HANDLE_INIT;
+    int turn;
+    for (turn = 0; turn < TURNS; turn++) {
+        want(ibcw_view_root(own, root, sizeof root, &root_size), IBCW_DONE, "a root");
+        want(ibcw_view_proof(own, (const uint8_t *)path, strlen(path), proof, sizeof proof, &size), IBCW_DONE, "a proof");
+        want(ibcw_verify_present(root, root_size, (const uint8_t *)path, strlen(path), value, sizeof value, proof, size), IBCW_DONE, "a true proof");
+        want(ibcw_make_plan(own, other, &plan), IBCW_DONE, "a plan");
+        want(ibcw_share_view(own, &again), IBCW_DONE, "a view that is shared again");
+        ibcw_free(&plan.handle);
+        ibcw_free(&again.handle);
+    }
+    ibcw_free(&own->handle);
+    ibcw_free(&other->handle);
+    return NULL;
+}
+
+/* The views of the first two chains go to each thread, by handles of its own. */
+static void read_together(void)
+{
+    pthread_t threads[CHAINS];
+    int k;
+    want(ibcw_make_view(&chains[0].ledger, &shared[0]), IBCW_DONE, "a view");
+    want(ibcw_make_view(&chains[1].ledger, &peer[0]), IBCW_DONE, "a view");
+    for (k = 1; k < CHAINS; k++) {
+        want(ibcw_share_view(&shared[0], &shared[k]), IBCW_DONE, "a shared view");
+        want(ibcw_share_view(&peer[0], &peer[k]), IBCW_DONE, "a shared view");
+    }
+    for (k = 0; k < CHAINS; k++)
+        if (pthread_create(&threads[k], NULL, read_view, &shared[k]) != 0) exit(1);
+    for (k = 0; k < CHAINS; k++) pthread_join(threads[k], NULL);
+}
+
 int main(void)
 {
     pthread_t threads[CHAINS];
@@ -86,6 +129,7 @@ int main(void)
     for (k = 0; k < CHAINS; k++)
         if (pthread_create(&threads[k], NULL, drive, &chains[k]) != 0) return 1;
     for (k = 0; k < CHAINS; k++) pthread_join(threads[k], NULL);
+    read_together();
     for (k = 0; k < CHAINS; k++) {
         for (turn = 0; turn < TURNS; turn++) ibcw_free(&chains[k].views[turn].handle);
         want(ibcw_join_ledger(&ledgers, &chains[(k + 3) % CHAINS].ledger), IBCW_DONE, "a ledger joins");

@@ -6,5 +6,6 @@ mod light;
 mod notes;
 mod packets;
 mod reads;
+mod tokens;
 mod views;
 mod worlds;

@@ -5,6 +5,7 @@ ghost use Rattle.ibc_merkle.specs.Proofs.{accepts_absent, accepts_present};
 ghost use Rattle.ibc_wire.specs.Reading.{proof_of};
 ghost use Rattle.ibc_calls.specs.JudgedProofs.{proof_verdict, kind_in};
 ghost use Rattle.ibc_calls.specs.CallAnswers.{Numbered};
+ghost use Rattle.ibc_calls.specs.ProofForms.{FindsForm, FindsProofOf};
 ghost use Rattle.ibc_calls.specs.ProofReads.{FindsKey, FindsShown, TellsProof};
 ghost use Rattle.ibc_calls.specs.Handles.{Finds};
 ghost use Rattle.ibc_c.specs.Codes.{IsKindWritten, IsTagged, code_of, kind_number};
@@ -87,6 +88,32 @@ pub extern "C" fn ibcw_proof_value(
     ensures { Numbered (Finds (FindsShown proof.now) value.old value.new size.old size.new) result }
 {
     number(ibc_calls::proof_value(alloc, proof, value, size))
+}
+
+/// Writes the form of ICS 23 of a proof. As `proof_to_ics23`.
+#[unsafe(no_mangle)]
+pub extern "C" fn ibcw_proof_to_ics23(
+    alloc: Global,
+    proof: &[u8],
+    form: &mut [u8],
+    size: &mut usize,
+) -> u32
+    ensures { Numbered (Finds (FindsForm proof.now) form.old form.new size.old size.new) result }
+{
+    number(ibc_calls::proof_to_ics23(alloc, proof, form, size))
+}
+
+/// Writes the proof of a form of ICS 23. As `proof_of_ics23`.
+#[unsafe(no_mangle)]
+pub extern "C" fn ibcw_proof_of_ics23(
+    alloc: Global,
+    form: &[u8],
+    proof: &mut [u8],
+    size: &mut usize,
+) -> u32
+    ensures { Numbered (Finds (FindsProofOf form.now) proof.old proof.new size.old size.new) result }
+{
+    number(ibc_calls::proof_of_ics23(alloc, form, proof, size))
 }
 
 /// Writes a proof that a message carries, and tells its height. As `message_proof`.

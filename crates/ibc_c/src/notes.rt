@@ -3,7 +3,7 @@
 ghost use Rattle.std.specs.Prelude.{◌≡◌};
 ghost use Rattle.ibc_calls.specs.CallAnswers.{Numbered};
 ghost use Rattle.ibc_calls.specs.Handles.{Finds};
-ghost use Rattle.ibc_calls.specs.NoteReads.{FindsChannel, FindsNote, MakesNotes, TellsNoteCount};
+ghost use Rattle.ibc_calls.specs.NoteReads.{FindsChannel, FindsNote, MakesNotes, TellsChannelCount, TellsNoteCount};
 
 use ibc_calls::number;
 use ibc_handle::Handle;
@@ -16,6 +16,20 @@ pub extern "C" fn ibcw_make_notes(alloc: Global, ledger: &mut Handle, notes: &mu
     ensures made { Numbered (MakesNotes ledger.old.value notes.old.value notes.new.value) result }
 {
     number(ibc_calls::make_notes(alloc, ledger, notes))
+}
+
+/// Tells over how many channels notes came. As `note_channel_count`.
+#[unsafe(no_mangle)]
+pub extern "C" fn ibcw_note_channel_count(
+    alloc: Global,
+    notes: &mut Handle,
+    chain: u64,
+    count: &mut u64,
+) -> u32
+    ensures kept { notes.new.value ≡ notes.old.value }
+    ensures told { Numbered (TellsChannelCount chain notes.old.value count.old count.new) result }
+{
+    number(ibc_calls::note_channel_count(alloc, notes, chain, count))
 }
 
 /// Writes the name of a channel over which notes came. As `note_channel`.

@@ -3,10 +3,10 @@
 ghost use Rattle.std.specs.Prelude.{◌≡◌};
 ghost use Rattle.ibc_calls.specs.CallAnswers.{Numbered};
 ghost use Rattle.ibc_calls.specs.Handles.{Finds};
-ghost use Rattle.ibc_calls.specs.Holdings.{FindsHolding, MakesBalances, TellsHolding};
+ghost use Rattle.ibc_calls.specs.Holdings.{FindsHolding, MakesBalances, TellsHolding, TellsHoldingCount};
 ghost use Rattle.ibc_calls.specs.History.{TellsEvent, TellsLength, TellsReply};
 ghost use Rattle.ibc_calls.specs.ViewProofs.{FindsProved};
-ghost use Rattle.ibc_calls.specs.Reads.{FindsValue, TellsBalance, TellsEscrow};
+ghost use Rattle.ibc_calls.specs.Reads.{FindsValue, TellsBalance, TellsEscrow, TellsSupply};
 
 use ibc_calls::{Amount, EventCode, ReplyCode, number};
 use ibc_handle::Handle;
@@ -97,6 +97,20 @@ pub extern "C" fn ibcw_make_balances(
     number(ibc_calls::make_balances(alloc, ledger, balances))
 }
 
+/// Tells how many holdings there are. As `holding_count`.
+#[unsafe(no_mangle)]
+pub extern "C" fn ibcw_holding_count(
+    alloc: Global,
+    balances: &mut Handle,
+    chain: u64,
+    count: &mut u64,
+) -> u32
+    ensures kept { balances.new.value ≡ balances.old.value }
+    ensures told { Numbered (TellsHoldingCount chain balances.old.value count.old count.new) result }
+{
+    number(ibc_calls::holding_count(alloc, balances, chain, count))
+}
+
 /// Writes who holds what at an index. As `holding`.
 #[unsafe(no_mangle)]
 pub extern "C" fn ibcw_holding(
@@ -156,4 +170,18 @@ pub extern "C" fn ibcw_escrow(
     ensures told { Numbered (TellsEscrow channel.now denom.now ledger.old.value amount.old amount.new) result }
 {
     number(ibc_calls::escrow(alloc, ledger, channel, denom, amount))
+}
+
+/// Tells how much of a denomination all accounts hold. As `supply`.
+#[unsafe(no_mangle)]
+pub extern "C" fn ibcw_supply(
+    alloc: Global,
+    ledger: &mut Handle,
+    denom: &[u8],
+    amount: &mut Amount,
+) -> u32
+    ensures kept { ledger.new.value ≡ ledger.old.value }
+    ensures told { Numbered (TellsSupply denom.now ledger.old.value amount.old amount.new) result }
+{
+    number(ibc_calls::supply(alloc, ledger, denom, amount))
 }

@@ -4,7 +4,7 @@ ghost use Rattle.std.specs.Prelude.{◌≡◌};
 ghost use Rattle.ibc_calls.specs.CallAnswers.{Numbered};
 ghost use Rattle.ibc_calls.specs.Handles.{Finds};
 ghost use Rattle.ibc_calls.specs.Reads.{FindsMessage};
-ghost use Rattle.ibc_calls.specs.Views.{FindsProof, FindsRoot, MakesPlan, MakesView, TellsHeights};
+ghost use Rattle.ibc_calls.specs.Views.{FindsProof, FindsRoot, MakesPlan, MakesView, SharesView, TellsHeights};
 
 use ibc_calls::{ViewHeights, number};
 use ibc_handle::Handle;
@@ -17,6 +17,15 @@ pub extern "C" fn ibcw_make_view(alloc: Global, ledger: &mut Handle, view: &mut 
     ensures made { Numbered (MakesView ledger.old.value view.old.value view.new.value) result }
 {
     number(ibc_calls::make_view(alloc, ledger, view))
+}
+
+/// Puts the view that a handle holds into an empty handle too. As `share_view`.
+#[unsafe(no_mangle)]
+pub extern "C" fn ibcw_share_view(alloc: Global, view: &mut Handle, other: &mut Handle) -> u32
+    ensures kept { view.new.value ≡ view.old.value }
+    ensures made { Numbered (SharesView view.old.value other.old.value other.new.value) result }
+{
+    number(ibc_calls::share_view(alloc, view, other))
 }
 
 /// Tells the number of a view's chain, its height and its times. As `view_heights`.

@@ -1,10 +1,11 @@
 -- What accounts hold, one after another.
-use Rattle.std.specs.Prelude.{◌≡◌, ◌⊎◌, ◌++◌, ℕ, ◌∷◌, map, Option, Some, None, Result, Ok, Err}
+use Rattle.std.specs.Prelude.{◌≡◌, ◌⊎◌, ◌++◌, ℕ, List, ◌∷◌, map, length, Option, Some, None, Result, Ok, Err}
 use Rattle.std.specs.List.{slice_get}
+use Rattle.std.specs.Global.{Vec}
 use Rattle.ibc_ids.specs.Texts.{Text}
 use Rattle.ibc_ids.specs.Paths.{account_text}
 use Rattle.ibc_ids.specs.declared.account.Account.{Account}
-use Rattle.ibc_ids.specs.declared.refusal.Refusal.TheVariants.{NoMemory}
+use Rattle.ibc_ids.specs.declared.refusal.Refusal.TheVariants.{NoMemory, UnknownChain}
 use Rattle.ibc_bank.specs.ListedHoldings.{abstract_holding}
 use Rattle.ibc_machine.specs.ics20.Bank.{Balances}
 use Rattle.ibc_machine.specs.ledger.Ledgers.{Ledger, state_of}
@@ -43,13 +44,34 @@ abbrev pub found_or_refused : {A : Type 0} → Option A → Result A Refused
 found_or_refused None = Err NothingThere
 found_or_refused (Some x) = Ok x
 
--- the holding at an index of a list of balances; of an audit, at an index of a chain's
+-- the list of a chain, where there is the chain
+abbrev pub of_chain_or_refused : {A : Type 0} → Option (Vec A) → Result (List A) Refused
+of_chain_or_refused None = Err (Core UnknownChain)
+of_chain_or_refused (Some list) = Ok list.items
+
+-- what stands at an index of a list
+abbrev pub item_of : {A : Type 0} → ℕ → Result (List A) Refused → Result A Refused
+item_of index (Ok list) = found_or_refused (slice_get list index)
+item_of index (Err why) = Err why
+
+-- how many items a list has
+abbrev pub IsCount : {A : Type 0} → Result (List A) Refused → ℕ → ℕ → Answer → Type 0
+IsCount (Ok list) old new answer = (new ≡ length list) × (answer ≡ Ok tt)
+IsCount (Err why) old new answer = (new ≡ old) × (answer ≡ Err why)
+
+-- the holdings of a list of balances; of an audit, those of a chain
+unfoldable pub holdings_at : ℕ → Option HandleValue → Result (List HoldingOutput) Refused
+holdings_at chain None = Err Empty
+holdings_at chain (Some (held.Balances list)) = Ok list.items
+holdings_at chain (Some (held.Audit audit)) = of_chain_or_refused (slice_get audit.balances.items chain)
+holdings_at chain (Some other) = Err OtherKind
+
+unfoldable pub TellsHoldingCount : ℕ → Option HandleValue → ℕ → ℕ → Answer → Type 0
+TellsHoldingCount chain value old new answer = IsCount (holdings_at chain value) old new answer
+
+-- the one at an index
 unfoldable pub holding_at : ℕ → ℕ → Option HandleValue → Result HoldingOutput Refused
-holding_at chain index None = Err Empty
-holding_at chain index (Some (held.Balances list)) = found_or_refused (slice_get list.items index)
-holding_at chain index (Some (held.Audit audit)) =
-    elim (slice_get audit.balances.items chain) [ None ↦ Err NothingThere | Some list ↦ found_or_refused (slice_get list.items index) ]
-holding_at chain index (Some other) = Err OtherKind
+holding_at chain index value = item_of index (holdings_at chain value)
 
 -- the account's text, a blank, and the denomination
 abbrev pub holding_text : HoldingOutput → Text

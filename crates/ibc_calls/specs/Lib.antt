@@ -2,6 +2,7 @@ pub mod CarriedProofs
 pub mod JudgedProofs
 pub mod CallAnswers
 pub mod Events
+pub mod ProofForms
 pub mod ProofReads
 pub mod Gathering
 pub mod GenesisHandles
@@ -14,3 +15,4 @@ pub mod Reads
 pub mod Views
 pub mod WorldHandles
 pub mod PacketReads
+pub mod TokenReads

@@ -1,5 +1,5 @@
 -- The notes that came over channels of port `note`, one after another.
-use Rattle.std.specs.Prelude.{◌≡◌, ◌⊎◌, ℕ, length, map, Option, Some, None, Result, Ok, Err}
+use Rattle.std.specs.Prelude.{◌≡◌, ◌⊎◌, ℕ, List, length, map, Option, Some, None, Result, Ok, Err}
 use Rattle.std.specs.List.{slice_get}
 use Rattle.std.specs.Global.{Vec}
 use Rattle.ibc_ids.specs.Texts.{Text}
@@ -10,10 +10,10 @@ use Rattle.ibc_machine.specs.ledger.Ledgers.{Ledger}
 use Rattle.ibc_handle.specs.declared.handle_value.HandleValue.{HandleValue}
 use Rattle.ibc_handle.specs.declared.handle_value.HandleValue.TheVariants as held
 use Rattle.ibc_calls.specs.declared.answer.Refused.{Refused}
-use Rattle.ibc_calls.specs.declared.answer.Refused.TheVariants.{Core, Empty, OtherKind, NothingThere}
+use Rattle.ibc_calls.specs.declared.answer.Refused.TheVariants.{Core, Empty, OtherKind}
 use Rattle.ibc_calls.specs.CallAnswers.{Answer}
 use Rattle.ibc_calls.specs.Handles.{OfEmptyOrFull, IsMade, StaysEmpty}
-use Rattle.ibc_calls.specs.Holdings.{found_or_refused}
+use Rattle.ibc_calls.specs.Holdings.{IsCount, found_or_refused, item_of, of_chain_or_refused}
 
 -- ---- the notes of a ledger
 
@@ -35,13 +35,19 @@ MakesNotes ledger = OfEmptyOrFull (AreNotesOf ledger)
 abbrev pub ChannelNotes : Type 0
 ChannelNotes = Text × Vec Text
 
--- the channel at an index of a list of notes; of an audit, at an index of a chain's
+-- the channels of a list of notes; of an audit, those of a chain
+unfoldable pub channels_at : ℕ → Option HandleValue → Result (List ChannelNotes) Refused
+channels_at chain None = Err Empty
+channels_at chain (Some (held.Notes list)) = Ok list.items
+channels_at chain (Some (held.Audit audit)) = of_chain_or_refused (slice_get audit.notes.items chain)
+channels_at chain (Some other) = Err OtherKind
+
+unfoldable pub TellsChannelCount : ℕ → Option HandleValue → ℕ → ℕ → Answer → Type 0
+TellsChannelCount chain value old new answer = IsCount (channels_at chain value) old new answer
+
+-- the one at an index
 unfoldable pub notes_at : ℕ → ℕ → Option HandleValue → Result ChannelNotes Refused
-notes_at chain channel None = Err Empty
-notes_at chain channel (Some (held.Notes list)) = found_or_refused (slice_get list.items channel)
-notes_at chain channel (Some (held.Audit audit)) =
-    elim (slice_get audit.notes.items chain) [ None ↦ Err NothingThere | Some list ↦ found_or_refused (slice_get list.items channel) ]
-notes_at chain channel (Some other) = Err OtherKind
+notes_at chain channel value = item_of channel (channels_at chain value)
 
 -- this text is found, or memory ran out; or there is none, for this reason
 abbrev pub IsFound : Result Text Refused → Result Text Refused → Type 0

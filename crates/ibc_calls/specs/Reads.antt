@@ -10,7 +10,7 @@ use Rattle.ibc_wire.specs.Fields.{Spells, have_form}
 use Rattle.ibc_wire.specs.Messages.{message_fields}
 use Rattle.ibc_wire.specs.declared.messages.Message.{Message}
 use Rattle.ibc_machine.specs.ics24.Image.{image}
-use Rattle.ibc_machine.specs.ics20.Bank.{balance, escrow}
+use Rattle.ibc_machine.specs.ics20.Bank.{balance, escrow, supply}
 use Rattle.ibc_machine.specs.ledger.Ledgers.{Ledger, state_of}
 use Rattle.ibc_handle.specs.declared.handle_value.HandleValue.{HandleValue}
 use Rattle.ibc_handle.specs.declared.handle_value.HandleValue.TheVariants as held
@@ -82,3 +82,15 @@ unfoldable pub TellsEscrow : Text → Text → Option HandleValue → Amount →
 TellsEscrow channel denom None old new answer = (new ≡ old) × (answer ≡ Err Empty)
 TellsEscrow channel denom (Some (held.Ledger l)) old new answer = IsEscrow channel denom l.ledger.ledger old new answer
 TellsEscrow channel denom (Some other) old new answer = (new ≡ old) × (answer ≡ Err OtherKind)
+
+-- What all accounts hold of a denomination in the working block; or the name is none, or memory ran out.
+abbrev pub IsSupply : Text → Ledger → Amount → Amount → Answer → Type 0
+IsSupply denom ledger old new answer =
+    ((answer ≡ Ok tt) × IsTrue (is_denom denom)
+    × (amount_of new ≡ supply (state_of ledger).chain.records.apps.balances denom))
+    ⊎ ((new ≡ old) × (((answer ≡ Err (Core BadName)) × (IsTrue (is_denom denom) → ⊥)) ⊎ (answer ≡ Err (Core NoMemory))))
+
+unfoldable pub TellsSupply : Text → Option HandleValue → Amount → Amount → Answer → Type 0
+TellsSupply denom None old new answer = (new ≡ old) × (answer ≡ Err Empty)
+TellsSupply denom (Some (held.Ledger l)) old new answer = IsSupply denom l.ledger.ledger old new answer
+TellsSupply denom (Some other) old new answer = (new ≡ old) × (answer ≡ Err OtherKind)

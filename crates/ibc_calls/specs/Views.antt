@@ -17,15 +17,29 @@ use Rattle.ibc_calls.specs.declared.views.ViewHeights.{ViewHeights}
 use Rattle.ibc_calls.specs.CallAnswers.{Answer}
 use Rattle.ibc_calls.specs.Handles.{OfEmptyOrFull, IsMade, StaysEmpty}
 
+-- a handle's value is this view, which other handles may hold too
+abbrev pub IsView : View → HandleValue → Type 0
+IsView view (held.View shared) = shared.value ≡ view
+IsView view _ = ⊥
+
 -- the view of the ledger that a handle holds
 abbrev pub IsViewValue : Option HandleValue → Option HandleValue → Answer → Type 0
 IsViewValue None new answer = StaysEmpty Empty new answer
 IsViewValue (Some (held.Ledger l)) new answer =
-    IsMade (λ made. made ≡ held.View (view_of l.ledger.ledger.chain (state_of l.ledger.ledger).chain)) new answer
+    IsMade (IsView (view_of l.ledger.ledger.chain (state_of l.ledger.ledger).chain)) new answer
 IsViewValue (Some other) new answer = StaysEmpty OtherKind new answer
 
 unfoldable pub MakesView : Option HandleValue → Option HandleValue → Option HandleValue → Answer → Type 0
 MakesView ledger = OfEmptyOrFull (IsViewValue ledger)
+
+-- another handle of the view that a handle holds
+abbrev pub IsShareOf : Option HandleValue → Option HandleValue → Answer → Type 0
+IsShareOf None new answer = StaysEmpty Empty new answer
+IsShareOf (Some (held.View shared)) new answer = IsMade (IsView shared.value) new answer
+IsShareOf (Some other) new answer = StaysEmpty OtherKind new answer
+
+unfoldable pub SharesView : Option HandleValue → Option HandleValue → Option HandleValue → Answer → Type 0
+SharesView view = OfEmptyOrFull (IsShareOf view)
 
 -- what a view tells of itself
 abbrev pub heights_of : View → ViewHeights
@@ -33,7 +47,7 @@ heights_of view = record { chain = view.chain; height = view.height; time = view
 
 unfoldable pub TellsHeights : Option HandleValue → ViewHeights → ViewHeights → Answer → Type 0
 TellsHeights None old new answer = (new ≡ old) × (answer ≡ Err Empty)
-TellsHeights (Some (held.View view)) old new answer = (new ≡ heights_of view) × (answer ≡ Ok tt)
+TellsHeights (Some (held.View shared)) old new answer = (new ≡ heights_of shared.value) × (answer ≡ Ok tt)
 TellsHeights (Some other) old new answer = (new ≡ old) × (answer ≡ Err OtherKind)
 
 -- ---- what a view proves
@@ -41,8 +55,8 @@ TellsHeights (Some other) old new answer = (new ≡ old) × (answer ≡ Err Othe
 -- what is found in a view, which has committed a height
 abbrev pub InView : (View → Result Text Refused → Type 0) → Option HandleValue → Result Text Refused → Type 0
 InView is None found = found ≡ Err Empty
-InView is (Some (held.View view)) found =
-    ((view.height ≡ 0) × (found ≡ Err NothingThere)) ⊎ ((0 < view.height) × is view found)
+InView is (Some (held.View shared)) found =
+    ((shared.value.height ≡ 0) × (found ≡ Err NothingThere)) ⊎ ((0 < shared.value.height) × is shared.value found)
 InView is (Some other) found = found ≡ Err OtherKind
 
 abbrev pub IsViewRoot : View → Result Text Refused → Type 0
@@ -77,12 +91,12 @@ IsPlan a b _ = ⊥
 -- what the second view's chain is owed that is proved from the first's
 abbrev pub IsPlanFrom : View → Option HandleValue → Option HandleValue → Answer → Type 0
 IsPlanFrom a None new answer = StaysEmpty Empty new answer
-IsPlanFrom a (Some (held.View b)) new answer = IsMade (IsPlan a b) new answer
+IsPlanFrom a (Some (held.View b)) new answer = IsMade (IsPlan a b.value) new answer
 IsPlanFrom a (Some other) new answer = StaysEmpty OtherKind new answer
 
 abbrev pub IsPlanOf : Option HandleValue → Option HandleValue → Option HandleValue → Answer → Type 0
 IsPlanOf None b new answer = StaysEmpty Empty new answer
-IsPlanOf (Some (held.View a)) b new answer = IsPlanFrom a b new answer
+IsPlanOf (Some (held.View a)) b new answer = IsPlanFrom a.value b new answer
 IsPlanOf (Some other) b new answer = StaysEmpty OtherKind new answer
 
 unfoldable pub MakesPlan : Option HandleValue → Option HandleValue → Option HandleValue → Option HandleValue → Answer → Type 0

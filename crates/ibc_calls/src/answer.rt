@@ -25,6 +25,8 @@ pub enum Refused {
     OtherWorld,
     /// The bytes spell no message: 107.
     NoMessage,
+    /// The bytes spell no data of tokens: 108.
+    NoData,
 }
 
 impl From<Refusal> for Refused {
@@ -51,6 +53,7 @@ pub fn number(answer: Result<(), Refused>) -> u32
         Err(Refused::NothingThere) => 105,
         Err(Refused::OtherWorld) => 106,
         Err(Refused::NoMessage) => 107,
+        Err(Refused::NoData) => 108,
     }
 }
 

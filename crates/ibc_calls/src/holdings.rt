@@ -2,7 +2,7 @@
 
 ghost use Rattle.std.specs.Prelude.{◌≡◌, Ok, Err, None, Some, IfOk, IfErr};
 ghost use Rattle.ibc_calls.specs.Handles.{Finds};
-ghost use Rattle.ibc_calls.specs.Holdings.{AreBalancesOf, FindsHolding, IsHoldingText, MakesBalances, TellsHolding, holding_at, holding_text};
+ghost use Rattle.ibc_calls.specs.Holdings.{AreBalancesOf, FindsHolding, IsHoldingText, MakesBalances, TellsHolding, TellsHoldingCount, holding_at, holding_text, holdings_at};
 
 use crate::Refused;
 use crate::handles::{give, put_new};
@@ -51,8 +51,8 @@ fn balances_at(alloc: Global, held: &HandleValue, balances: &mut Handle) -> Resu
 
 /// Writes who holds what: the account (a user, or `escrow/transfer/` and a channel), a blank, and the denomination. It is the holding
 /// at an index, from 0 on, of a list of balances, for which the chain is not looked at; or of an audit, at an index of what a
-/// chain's accounts hold. Refused: `Empty`; `OtherKind`; `NothingThere` where there is no such holding; `TooShort`;
-/// `Core(NoMemory)`.
+/// chain's accounts hold. Refused: `Empty`; `OtherKind`; `Core(UnknownChain)` where the audit has no such chain; `NothingThere`
+/// where there is no such holding; `TooShort`; `Core(NoMemory)`.
 #[tactic(auto, unfolding(crate::specs::Handles::Finds))]
 pub fn holding(
     alloc: Global,
@@ -68,7 +68,7 @@ pub fn holding(
     give(text_in(alloc, balances, chain, index), text, size)
 }
 
-#[tactic(auto, unfolding(crate::specs::Holdings::FindsHolding, crate::specs::Holdings::holding_at))]
+#[tactic(auto, unfolding(crate::specs::Holdings::FindsHolding, crate::specs::Holdings::holding_at, crate::specs::Holdings::holdings_at))]
 fn text_in(alloc: Global, balances: &mut Handle, chain: u64, index: u64) -> Result<Bytes, Refused>
     ensures kept { balances.new.value ≡ balances.old.value }
     ensures found { FindsHolding chain index balances.old.value result }
@@ -121,22 +121,69 @@ fn holding_in(
     ensures ok { IfOk result (λ holding. holding_at chain index (Some held.now) ≡ Ok holding.now) }
     ensures err { IfErr result (λ refused. holding_at chain index (Some held.now) ≡ Err refused) }
 {
-    let list = match held {
-        HandleValue::Balances(list) => list.as_slice(),
-        HandleValue::Audit(audit) => match audit.balances.get(chain as usize) {
-            Some(list) => list.as_slice(),
-            None => return Err(Refused::NothingThere),
+    match holdings_in(held, chain) {
+        Ok(list) => match list.get(index as usize) {
+            Some(holding) => Ok(holding),
+            None => Err(Refused::NothingThere),
         },
-        _ => return Err(Refused::OtherKind),
-    };
-    match list.get(index as usize) {
-        Some(holding) => Ok(holding),
-        None => Err(Refused::NothingThere),
+        Err(refused) => Err(refused),
     }
 }
 
-/// Tells how much is held at an index, as `holding` says. Refused: `Empty`; `OtherKind`; `NothingThere`. Then nothing is told.
-#[tactic(auto, unfolding(crate::specs::Holdings::TellsHolding, crate::specs::Holdings::holding_at))]
+// The holdings of a list of balances; of an audit, those of a chain.
+#[tactic(auto, unfolding(crate::specs::Holdings::holdings_at))]
+fn holdings_in(held: &HandleValue, chain: u64) -> Result<&[(Account, Denom, u128)], Refused>
+    ensures ok { IfOk result (λ list. holdings_at chain (Some held.now) ≡ Ok list.now) }
+    ensures err { IfErr result (λ refused. holdings_at chain (Some held.now) ≡ Err refused) }
+{
+    match held {
+        HandleValue::Balances(list) => Ok(list.as_slice()),
+        HandleValue::Audit(audit) => match audit.balances.get(chain as usize) {
+            Some(list) => Ok(list.as_slice()),
+            None => Err(Refused::Core(Refusal::UnknownChain)),
+        },
+        _ => Err(Refused::OtherKind),
+    }
+}
+
+/// Tells how many holdings a list of balances has, for which the chain is not looked at; or of an audit, how many a chain's
+/// accounts have. Refused: `Empty`; `OtherKind`; `Core(UnknownChain)` where the audit has no such chain. Then nothing is told.
+#[tactic(auto, unfolding(crate::specs::Holdings::TellsHoldingCount, crate::specs::Holdings::holdings_at))]
+pub fn holding_count(
+    alloc: Global,
+    balances: &mut Handle,
+    chain: u64,
+    count: &mut u64,
+) -> Result<(), Refused>
+    ensures kept { balances.new.value ≡ balances.old.value }
+    ensures told { TellsHoldingCount chain balances.old.value count.old count.new result }
+{
+    match balances.take(alloc) {
+        None => Err(Refused::Empty),
+        Some(held) => {
+            let answer = count_at(&held, chain, count);
+            balances.set(alloc, held);
+            answer
+        }
+    }
+}
+
+#[tactic(auto, unfolding(crate::specs::Holdings::TellsHoldingCount))]
+fn count_at(held: &HandleValue, chain: u64, count: &mut u64) -> Result<(), Refused>
+    ensures { TellsHoldingCount chain (Some held.now) count.old count.new result }
+{
+    match holdings_in(held, chain) {
+        Ok(list) => {
+            *count = list.len() as u64;
+            Ok(())
+        }
+        Err(refused) => Err(refused),
+    }
+}
+
+/// Tells how much is held at an index, as `holding` says. Refused: `Empty`; `OtherKind`; `Core(UnknownChain)`; `NothingThere`.
+/// Then nothing is told.
+#[tactic(auto, unfolding(crate::specs::Holdings::TellsHolding, crate::specs::Holdings::holding_at, crate::specs::Holdings::holdings_at))]
 pub fn holding_amount(
     alloc: Global,
     balances: &mut Handle,

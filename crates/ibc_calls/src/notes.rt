@@ -2,7 +2,7 @@
 
 ghost use Rattle.std.specs.Prelude.{◌≡◌, Ok, Err, None, Some, IfOk, IfErr};
 ghost use Rattle.ibc_calls.specs.Handles.{Finds};
-ghost use Rattle.ibc_calls.specs.NoteReads.{AreNotesOf, FindsChannel, FindsNote, IsFound, MakesNotes, TellsNoteCount, name_in, note_in, notes_at};
+ghost use Rattle.ibc_calls.specs.NoteReads.{AreNotesOf, FindsChannel, FindsNote, IsFound, MakesNotes, TellsChannelCount, TellsNoteCount, channels_at, name_in, note_in, notes_at};
 
 use crate::Refused;
 use crate::handles::{give, put_new};
@@ -45,8 +45,9 @@ fn notes_of(alloc: Global, held: &HandleValue, notes: &mut Handle) -> Result<(),
 }
 
 /// Writes the name of a channel over which notes came. It is the channel at an index, from 0 on, of a list of notes, for which the
-/// chain is not looked at; or of an audit, at an index of a chain's channels. Refused: `Empty`; `OtherKind`; `NothingThere`
-/// where there is no such channel; `TooShort`; `Core(NoMemory)`.
+/// chain is not looked at; or of an audit, at an index of a chain's channels. Refused: `Empty`; `OtherKind`;
+/// `Core(UnknownChain)` where the audit has no such chain; `NothingThere` where there is no such channel; `TooShort`;
+/// `Core(NoMemory)`.
 #[tactic(auto, unfolding(crate::specs::Handles::Finds))]
 pub fn note_channel(
     alloc: Global,
@@ -62,7 +63,7 @@ pub fn note_channel(
     give(name_found(alloc, notes, chain, channel), name, size)
 }
 
-#[tactic(auto, unfolding(crate::specs::NoteReads::FindsChannel, crate::specs::NoteReads::notes_at))]
+#[tactic(auto, unfolding(crate::specs::NoteReads::FindsChannel, crate::specs::NoteReads::notes_at, crate::specs::NoteReads::channels_at))]
 fn name_found(alloc: Global, notes: &mut Handle, chain: u64, channel: u64) -> Result<Bytes, Refused>
     ensures kept { notes.new.value ≡ notes.old.value }
     ensures found { FindsChannel chain channel notes.old.value result }
@@ -106,23 +107,70 @@ fn notes_in(
     ensures ok { IfOk result (λ notes. notes_at chain channel (Some held.now) ≡ Ok notes.now) }
     ensures err { IfErr result (λ refused. notes_at chain channel (Some held.now) ≡ Err refused) }
 {
-    let list = match held {
-        HandleValue::Notes(list) => list.as_slice(),
-        HandleValue::Audit(audit) => match audit.notes.get(chain as usize) {
-            Some(list) => list.as_slice(),
-            None => return Err(Refused::NothingThere),
+    match channels_in(held, chain) {
+        Ok(list) => match list.get(channel as usize) {
+            Some(notes) => Ok(notes),
+            None => Err(Refused::NothingThere),
         },
-        _ => return Err(Refused::OtherKind),
-    };
-    match list.get(channel as usize) {
-        Some(notes) => Ok(notes),
-        None => Err(Refused::NothingThere),
+        Err(refused) => Err(refused),
     }
 }
 
-/// Tells how many notes came over a channel, which stands as `note_channel` says. Refused: `Empty`; `OtherKind`; `NothingThere`.
-/// Then nothing is told.
-#[tactic(auto, unfolding(crate::specs::NoteReads::TellsNoteCount, crate::specs::NoteReads::notes_at))]
+// The channels of a list of notes; of an audit, those of a chain.
+#[tactic(auto, unfolding(crate::specs::NoteReads::channels_at))]
+fn channels_in(held: &HandleValue, chain: u64) -> Result<&[(ChannelId, Vec<Bytes>)], Refused>
+    ensures ok { IfOk result (λ list. channels_at chain (Some held.now) ≡ Ok list.now) }
+    ensures err { IfErr result (λ refused. channels_at chain (Some held.now) ≡ Err refused) }
+{
+    match held {
+        HandleValue::Notes(list) => Ok(list.as_slice()),
+        HandleValue::Audit(audit) => match audit.notes.get(chain as usize) {
+            Some(list) => Ok(list.as_slice()),
+            None => Err(Refused::Core(Refusal::UnknownChain)),
+        },
+        _ => Err(Refused::OtherKind),
+    }
+}
+
+/// Tells how many channels a list of notes has, for which the chain is not looked at; or of an audit, over how many of a chain's
+/// channels notes came. Refused: `Empty`; `OtherKind`; `Core(UnknownChain)` where the audit has no such chain. Then nothing is
+/// told.
+#[tactic(auto, unfolding(crate::specs::NoteReads::TellsChannelCount, crate::specs::NoteReads::channels_at))]
+pub fn note_channel_count(
+    alloc: Global,
+    notes: &mut Handle,
+    chain: u64,
+    count: &mut u64,
+) -> Result<(), Refused>
+    ensures kept { notes.new.value ≡ notes.old.value }
+    ensures told { TellsChannelCount chain notes.old.value count.old count.new result }
+{
+    match notes.take(alloc) {
+        None => Err(Refused::Empty),
+        Some(held) => {
+            let answer = channel_count_at(&held, chain, count);
+            notes.set(alloc, held);
+            answer
+        }
+    }
+}
+
+#[tactic(auto, unfolding(crate::specs::NoteReads::TellsChannelCount))]
+fn channel_count_at(held: &HandleValue, chain: u64, count: &mut u64) -> Result<(), Refused>
+    ensures { TellsChannelCount chain (Some held.now) count.old count.new result }
+{
+    match channels_in(held, chain) {
+        Ok(list) => {
+            *count = list.len() as u64;
+            Ok(())
+        }
+        Err(refused) => Err(refused),
+    }
+}
+
+/// Tells how many notes came over a channel, which stands as `note_channel` says. Refused: `Empty`; `OtherKind`;
+/// `Core(UnknownChain)`; `NothingThere`. Then nothing is told.
+#[tactic(auto, unfolding(crate::specs::NoteReads::TellsNoteCount, crate::specs::NoteReads::notes_at, crate::specs::NoteReads::channels_at))]
 pub fn note_count(
     alloc: Global,
     notes: &mut Handle,
@@ -157,8 +205,8 @@ fn count_at(held: &HandleValue, chain: u64, channel: u64, count: &mut u64) -> Re
 }
 
 /// Writes the note at an index, from 0 on, of those that came over a channel, in the order in which they came; the channel stands as
-/// `note_channel` says. Refused: `Empty`; `OtherKind`; `NothingThere` where there is no such channel or no such note;
-/// `TooShort`; `Core(NoMemory)`.
+/// `note_channel` says. Refused: `Empty`; `OtherKind`; `Core(UnknownChain)`; `NothingThere` where there is no such channel or no
+/// such note; `TooShort`; `Core(NoMemory)`.
 #[tactic(auto, unfolding(crate::specs::Handles::Finds))]
 pub fn note(
     alloc: Global,
@@ -175,7 +223,7 @@ pub fn note(
     give(note_found(alloc, notes, chain, channel, index), text, size)
 }
 
-#[tactic(auto, unfolding(crate::specs::NoteReads::FindsNote, crate::specs::NoteReads::notes_at))]
+#[tactic(auto, unfolding(crate::specs::NoteReads::FindsNote, crate::specs::NoteReads::notes_at, crate::specs::NoteReads::channels_at))]
 fn note_found(
     alloc: Global,
     notes: &mut Handle,

@@ -1,10 +1,11 @@
 //! What is read of ledgers and of plans.
 
-ghost use Rattle.std.specs.Prelude.{◌≡◌, ◌⊎◌, Some, IfOk, IfErr};
+ghost use Rattle.std.specs.Prelude.{◌≡◌, ◌⊎◌, Some, IfOk, IfErr, IsTrue};
+ghost use Rattle.ibc_ids.specs.Names.{is_denom};
 ghost use Rattle.ibc_ids.specs.declared.refusal.Refusal.TheVariants.{BadName, NoMemory};
 ghost use Rattle.ibc_calls.specs.declared.answer.Refused.TheVariants.{Core};
 ghost use Rattle.ibc_calls.specs.Handles.{Finds};
-ghost use Rattle.ibc_calls.specs.Reads.{AreEscrow, FindsMessage, FindsValue, IsBalance, IsEscrow, IsSpelling, IsValueAt, TellsBalance, TellsEscrow, amount_of};
+ghost use Rattle.ibc_calls.specs.Reads.{AreEscrow, FindsMessage, FindsValue, IsBalance, IsEscrow, IsSpelling, IsSupply, IsValueAt, TellsBalance, TellsEscrow, TellsSupply, amount_of};
 
 use crate::Refused;
 use crate::genesis::names_of;
@@ -247,6 +248,66 @@ fn escrow_names(alloc: Global, channel: &[u8], denom: &[u8]) -> Result<(ChannelI
     let channel = ChannelId::from_bytes(alloc, channel)?;
     let denom = Denom::from_bytes(alloc, denom)?;
     Ok((channel, denom))
+}
+
+/// Tells how much of a denomination all accounts hold in the working block of a ledger, the escrow accounts among them (ICS 20).
+/// Refused: `Empty`; `OtherKind`; `Core(BadName)` exactly where the name is none of a denomination; `Core(NoMemory)`. Then nothing
+/// is told.
+#[tactic(auto, unfolding(crate::specs::Reads::TellsSupply))]
+pub fn supply(
+    alloc: Global,
+    ledger: &mut Handle,
+    denom: &[u8],
+    amount: &mut Amount,
+) -> Result<(), Refused>
+    ensures kept { ledger.new.value ≡ ledger.old.value }
+    ensures told { TellsSupply denom.now ledger.old.value amount.old amount.new result }
+{
+    match ledger.take(alloc) {
+        None => Err(Refused::Empty),
+        Some(held) => {
+            let answer = supply_at(alloc, &held, denom, amount);
+            ledger.set(alloc, held);
+            answer
+        }
+    }
+}
+
+#[tactic(auto, unfolding(crate::specs::Reads::TellsSupply))]
+fn supply_at(
+    alloc: Global,
+    held: &HandleValue,
+    denom: &[u8],
+    amount: &mut Amount,
+) -> Result<(), Refused>
+    ensures { TellsSupply denom.now (Some held.now) amount.old amount.new result }
+{
+    match held {
+        HandleValue::Ledger(member) => supply_of(alloc, &member.ledger, denom, amount),
+        _ => Err(Refused::OtherKind),
+    }
+}
+
+fn supply_of(
+    alloc: Global,
+    ledger: &Ledger,
+    denom: &[u8],
+    amount: &mut Amount,
+) -> Result<(), Refused>
+    ensures { IsSupply denom.now ledger.now.ledger amount.old amount.new result }
+{
+    let denom = denom_of(alloc, denom)?;
+    *amount = parts_of(ledger.supply(&denom));
+    Ok(())
+}
+
+// The denomination of this name.
+fn denom_of(alloc: Global, denom: &[u8]) -> Result<Denom, Refused>
+    ensures ok { IfOk result (λ name. (name ≡ denom.now) × IsTrue (is_denom denom.now)) }
+    ensures err { IfErr result (λ refused. ((refused ≡ Core BadName) × ¬ IsTrue (is_denom denom.now)) ⊎ (refused ≡ Core NoMemory)) }
+{
+    let denom = Denom::from_bytes(alloc, denom)?;
+    Ok(denom)
 }
 
 pub(crate) fn parts_of(amount: u128) -> Amount

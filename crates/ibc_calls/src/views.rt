@@ -3,8 +3,8 @@
 ghost use Rattle.std.specs.Prelude.{◌≡◌, ◌⊎◌, ◌<◌, None, Some, IfOk, IfErr};
 ghost use Rattle.ibc_ids.specs.declared.key.Key.{Key as AKey};
 ghost use Rattle.ibc_ids.specs.declared.refusal.Refusal.TheVariants.{BadName, NoMemory};
-ghost use Rattle.ibc_calls.specs.Handles.{Finds};
-ghost use Rattle.ibc_calls.specs.Views.{FindsProof, FindsRoot, HasPath, InView, IsPlanFrom, IsPlanOf, IsProofAt, IsViewRoot, IsViewValue, MakesPlan, MakesView, TellsHeights, heights_of};
+ghost use Rattle.ibc_calls.specs.Handles.{Finds, IsMade};
+ghost use Rattle.ibc_calls.specs.Views.{FindsProof, FindsRoot, HasPath, InView, IsPlanFrom, IsPlanOf, IsProofAt, IsShareOf, IsView, IsViewRoot, IsViewValue, MakesPlan, MakesView, SharesView, TellsHeights, heights_of};
 
 use crate::Refused;
 use crate::handles::{give, put_new};
@@ -13,6 +13,7 @@ use ibc_ids::{Bytes, Key, Refusal};
 use ibc_ledger::View;
 use ibc_relayer::plan;
 use std::alloc::Global;
+use std::sync::Arc;
 
 /// What a view tells of itself: the number of its chain, its last committed height (0 if there is none), the time of that
 /// height and that of the working block.
@@ -51,8 +52,53 @@ fn view_at(alloc: Global, held: &HandleValue, view: &mut Handle) -> Result<(), R
 {
     match held {
         HandleValue::Ledger(member) => match member.ledger.view() {
-            Ok(made) => put_new(alloc, view, HandleValue::View(made)),
+            Ok(made) => put_view(alloc, view, made),
             Err(refusal) => Err(Refused::Core(refusal)),
+        },
+        _ => Err(Refused::OtherKind),
+    }
+}
+
+// Puts a view into a handle that holds nothing. Refused: `Core(NoMemory)`.
+fn put_view(alloc: Global, handle: &mut Handle, view: View) -> Result<(), Refused>
+    requires { handle.old.value ≡ None }
+    ensures { IsMade (IsView view) handle.new.value result }
+{
+    match Arc::new(alloc, view) {
+        Ok(shared) => put_new(alloc, handle, HandleValue::View(shared)),
+        Err(_) => Err(Refused::Core(Refusal::NoMemory)),
+    }
+}
+
+/// Puts the view that a handle holds into another handle too, which holds nothing. Nothing is copied, and each of the two handles
+/// may go to a thread of its own. Refused, by the first check that fails: `Full`; `Empty` and `OtherKind` where the first handle
+/// holds no view; `Core(NoMemory)`.
+#[tactic(auto, unfolding(crate::specs::Views::SharesView))]
+pub fn share_view(alloc: Global, view: &mut Handle, other: &mut Handle) -> Result<(), Refused>
+    ensures kept { view.new.value ≡ view.old.value }
+    ensures made { SharesView view.old.value other.old.value other.new.value result }
+{
+    if !other.is_empty(alloc) {
+        return Err(Refused::Full);
+    }
+    match view.take(alloc) {
+        None => Err(Refused::Empty),
+        Some(held) => {
+            let answer = share_at(alloc, &held, other);
+            view.set(alloc, held);
+            answer
+        }
+    }
+}
+
+fn share_at(alloc: Global, held: &HandleValue, other: &mut Handle) -> Result<(), Refused>
+    requires { other.old.value ≡ None }
+    ensures { IsShareOf (Some held.now) other.new.value result }
+{
+    match held {
+        HandleValue::View(shared) => match Arc::try_clone(shared) {
+            Ok(another) => put_new(alloc, other, HandleValue::View(another)),
+            Err(_) => Err(Refused::Core(Refusal::NoMemory)),
         },
         _ => Err(Refused::OtherKind),
     }

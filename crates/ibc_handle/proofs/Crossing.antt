@@ -69,7 +69,7 @@ held_send = variants_send Held.enum (
     (
       (member_send, tt),
       (
-        (view.the_send, tt),
+        (search (sendable, crosses, view.the_send, view.the_sync) depth 20, tt),
         (
           (search (sendable, crosses, message.the_send) depth 20, tt),
           (

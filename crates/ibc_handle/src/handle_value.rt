@@ -12,6 +12,7 @@ use ibc_wire::Message;
 use ibc_world_core::Audit;
 use std::alloc::Global;
 use std::mem::replace;
+use std::sync::Arc;
 
 /// A ledger of a world, and the number that the world's owner gave it.
 #[derive(Drop)]
@@ -29,8 +30,8 @@ pub enum HandleValue {
     Ledgers(WorldLedgers),
     /// A ledger.
     Ledger(WorldLedger),
-    /// What a chain proves at its last committed height.
-    View(View),
+    /// What a chain proves at its last committed height. Several handles may hold one view.
+    View(Arc<View, Global>),
     /// What a relayer owes a chain.
     Plan(Vec<Message>),
     /// Who holds how much of what.

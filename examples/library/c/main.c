@@ -213,11 +213,10 @@ static void print_balances(ibcw_audit *audit, const char *name, uint64_t number)
 {
     static text holding;
     ibcw_amount amount;
-    uint64_t k;
-    for (k = 0;; k++) {
-        uint32_t answer = ibcw_holding(&audit->handle, number, k, holding.data, ROOM, &holding.size);
-        if (answer == IBCW_NOTHING_THERE) return;
-        want(answer, IBCW_DONE, "a holding");
+    uint64_t count = 0, k;
+    want(ibcw_holding_count(&audit->handle, number, &count), IBCW_DONE, "how many holdings");
+    for (k = 0; k < count; k++) {
+        want(ibcw_holding(&audit->handle, number, k, holding.data, ROOM, &holding.size), IBCW_DONE, "a holding");
         want(ibcw_holding_amount(&audit->handle, number, k, &amount), IBCW_DONE, "an amount");
         printf("balance %s %.*s %llu\n", name, (int)holding.size, (const char *)holding.data,
                (unsigned long long)amount.low);

@@ -122,7 +122,8 @@ extern "C" {
     /// Frees what a handle holds, and leaves it empty. IBCW_EMPTY.
     pub fn ibcw_free(handle: *mut Handle) -> u32;
     /// Tells how many entries a ledger's history has, how many messages a plan, how many holdings a list of
-    /// balances, how many channels a list of notes, or how many chains an audit. IBCW_EMPTY, IBCW_OTHER_KIND.
+    /// balances, how many channels a list of notes, or how many chains an audit (ibcw_holding_count and
+    /// ibcw_note_channel_count tell of one chain). IBCW_EMPTY, IBCW_OTHER_KIND.
     pub fn ibcw_length(handle: *mut Handle, count: *mut u64) -> u32;
     /// Applies the message that the bytes spell to the working block, and tells its reply. The answer is the
     /// reply's number: 0, or that of the refusal. *told is the reply, *size the number of the bytes that go with
@@ -214,6 +215,15 @@ extern "C" {
         denom_size: usize,
         amount: *mut Amount,
     ) -> u32;
+    /// Tells how much of a denomination all accounts hold, the escrow accounts among them: of one that came over a
+    /// channel, no more than the escrow account of its other end holds. IBCW_EMPTY, IBCW_OTHER_KIND, IBCW_BAD_NAME
+    /// exactly where denom is no name of a denomination.
+    pub fn ibcw_supply(
+        ledger: *mut Handle,
+        denom: *const u8,
+        denom_size: usize,
+        amount: *mut Amount,
+    ) -> u32;
     /// Writes the bytes of the packet that the ledger sent from an end of a channel under a sequence, whether its
     /// commitment stands or not (ICS 4). IBCW_EMPTY, IBCW_OTHER_KIND, IBCW_BAD_NAME exactly where the port or the
     /// channel is no name of its kind, IBCW_NOTHING_THERE where no such packet was sent, IBCW_TOO_SHORT.
@@ -245,10 +255,15 @@ extern "C" {
     /// byte order of the accounts and then of the denominations. IBCW_FULL; IBCW_EMPTY, IBCW_OTHER_KIND of the
     /// ledger.
     pub fn ibcw_make_balances(ledger: *mut Handle, balances: *mut Handle) -> u32;
+    /// Tells how many holdings there are: those of a list of balances, and then the chain is not looked at; or of an
+    /// audit, those of that chain's accounts. IBCW_EMPTY, IBCW_OTHER_KIND; IBCW_UNKNOWN_CHAIN where the audit has no
+    /// such chain.
+    pub fn ibcw_holding_count(balances: *mut Handle, chain: u64, count: *mut u64) -> u32;
     /// Writes who holds what: the account (a user, or escrow/transfer/ and a channel), a blank, and the
     /// denomination. It is the holding at an index, from 0 on, of a list of balances, and then the chain is not
-    /// looked at; or of an audit, at an index of what that chain's accounts hold. ibcw_length tells how many a list
-    /// has, and how many chains an audit has. IBCW_EMPTY, IBCW_OTHER_KIND, IBCW_NOTHING_THERE, IBCW_TOO_SHORT.
+    /// looked at; or of an audit, at an index of what that chain's accounts hold. IBCW_EMPTY, IBCW_OTHER_KIND,
+    /// IBCW_UNKNOWN_CHAIN where the audit has no such chain, IBCW_NOTHING_THERE where there is no such holding,
+    /// IBCW_TOO_SHORT.
     pub fn ibcw_holding(
         balances: *mut Handle,
         chain: u64,
@@ -257,7 +272,7 @@ extern "C" {
         room: usize,
         size: *mut usize,
     ) -> u32;
-    /// Tells how much is held there. IBCW_EMPTY, IBCW_OTHER_KIND, IBCW_NOTHING_THERE.
+    /// Tells how much is held there. IBCW_EMPTY, IBCW_OTHER_KIND, IBCW_UNKNOWN_CHAIN, IBCW_NOTHING_THERE.
     pub fn ibcw_holding_amount(
         balances: *mut Handle,
         chain: u64,
@@ -268,9 +283,12 @@ extern "C" {
     /// in an empty handle. Its channels are those over which a note came, in the byte order of their names;
     /// ibcw_length tells how many. IBCW_FULL; IBCW_EMPTY, IBCW_OTHER_KIND of the ledger.
     pub fn ibcw_make_notes(ledger: *mut Handle, notes: *mut Handle) -> u32;
+    /// Tells over how many channels notes came: of a list of notes, and then the chain is not looked at; or of an
+    /// audit, at that chain. IBCW_EMPTY, IBCW_OTHER_KIND; IBCW_UNKNOWN_CHAIN where the audit has no such chain.
+    pub fn ibcw_note_channel_count(notes: *mut Handle, chain: u64, count: *mut u64) -> u32;
     /// Writes the name of a channel: that at an index, from 0 on, of a list of notes, and then the chain is not
     /// looked at; or of an audit, at an index of the channels of that chain. IBCW_EMPTY, IBCW_OTHER_KIND,
-    /// IBCW_NOTHING_THERE, IBCW_TOO_SHORT.
+    /// IBCW_UNKNOWN_CHAIN where the audit has no such chain, IBCW_NOTHING_THERE, IBCW_TOO_SHORT.
     pub fn ibcw_note_channel(
         notes: *mut Handle,
         chain: u64,
@@ -279,11 +297,12 @@ extern "C" {
         room: usize,
         size: *mut usize,
     ) -> u32;
-    /// Tells how many notes came over that channel, 1 or more. IBCW_EMPTY, IBCW_OTHER_KIND, IBCW_NOTHING_THERE.
+    /// Tells how many notes came over that channel, 1 or more. IBCW_EMPTY, IBCW_OTHER_KIND, IBCW_UNKNOWN_CHAIN,
+    /// IBCW_NOTHING_THERE.
     pub fn ibcw_note_count(notes: *mut Handle, chain: u64, channel: u64, count: *mut u64) -> u32;
     /// Writes the note at an index, from 0 on, of those that came over that channel, in the order in which they
-    /// came. IBCW_EMPTY, IBCW_OTHER_KIND, IBCW_NOTHING_THERE where there is no such channel or no such note,
-    /// IBCW_TOO_SHORT.
+    /// came. IBCW_EMPTY, IBCW_OTHER_KIND, IBCW_UNKNOWN_CHAIN, IBCW_NOTHING_THERE where there is no such channel or no
+    /// such note, IBCW_TOO_SHORT.
     pub fn ibcw_note(
         notes: *mut Handle,
         chain: u64,
@@ -297,6 +316,10 @@ extern "C" {
     /// as it is while the ledger goes on, and may be freed before or after it. IBCW_FULL; IBCW_EMPTY,
     /// IBCW_OTHER_KIND of the ledger.
     pub fn ibcw_make_view(ledger: *mut Handle, view: *mut Handle) -> u32;
+    /// Puts the view of a handle into an empty handle too. Nothing is copied, and neither of the two is changed by what
+    /// is done with the other: so each thread that reads a view takes a handle of its own. Each is freed by itself.
+    /// IBCW_FULL; IBCW_EMPTY, IBCW_OTHER_KIND of the first.
+    pub fn ibcw_share_view(view: *mut Handle, other: *mut Handle) -> u32;
     /// IBCW_EMPTY, IBCW_OTHER_KIND.
     pub fn ibcw_view_heights(view: *mut Handle, heights: *mut Heights) -> u32;
     /// Writes the root of a view's height, 32 bytes. IBCW_EMPTY, IBCW_OTHER_KIND, IBCW_NOTHING_THERE at height 0,
@@ -370,6 +393,27 @@ extern "C" {
         room: usize,
         size: *mut usize,
     ) -> u32;
+    /// Writes the form of ICS 23 of the proof that the bytes spell: the canonical bytes of a
+    /// cosmos.ics23.v1.CommitmentProof, fields in order and none that is at its default. Leaves and inner nodes are
+    /// those of ICS 23's Tendermint spec, so a Cosmos chain verifies it with its own library. IBCW_BAD_MESSAGE exactly
+    /// where the bytes spell no proof, IBCW_TOO_SHORT.
+    pub fn ibcw_proof_to_ics23(
+        proof: *const u8,
+        proof_size: usize,
+        form: *mut u8,
+        room: usize,
+        size: *mut usize,
+    ) -> u32;
+    /// Writes the bytes of the one proof whose form these bytes are. IBCW_BAD_MESSAGE exactly where there is none:
+    /// another hash, a batch, a field out of its order or at its default, longer parts than a proof has;
+    /// IBCW_TOO_SHORT.
+    pub fn ibcw_proof_of_ics23(
+        form: *const u8,
+        form_size: usize,
+        proof: *mut u8,
+        room: usize,
+        size: *mut usize,
+    ) -> u32;
     /// Tells the tag, 1 to 19, of the message that the bytes spell. IBCW_NO_MESSAGE where they spell none. How
     /// messages are spelled stands in docs/LIBRARY.md: a message has one spelling, and no bytes spell two messages.
     /// A ledger keeps each message that it refuses, whole, for ever: who takes messages from strangers asks this
@@ -420,6 +464,34 @@ extern "C" {
         packet_size: usize,
         part: u64,
         text: *mut u8,
+        room: usize,
+        size: *mut usize,
+    ) -> u32;
+    /// Writes a part of the data of a packet of tokens, as IBCW_DATA of a packet of port transfer has it (ICS 20):
+    /// 1 the sender, 2 the receiver, 3 the memo, 4 the version of the channels over which the bytes spell it. It is
+    /// exactly what a chain reads where such a packet comes. IBCW_NO_DATA exactly where the bytes spell no data of
+    /// tokens, IBCW_NOTHING_THERE for another part, IBCW_TOO_SHORT. What data says is true of a chain where its ledger
+    /// took the packet: look at the reply, and at the packet's ends.
+    pub fn ibcw_data_part(
+        data: *const u8,
+        data_size: usize,
+        part: u64,
+        text: *mut u8,
+        room: usize,
+        size: *mut usize,
+    ) -> u32;
+    /// Tells how many tokens it has: 1 for ics20-1, 1 to 8 for ics20-own-2. IBCW_NO_DATA.
+    pub fn ibcw_data_count(data: *const u8, data_size: usize, count: *mut u64) -> u32;
+    /// Tells the amount of the token at an index, from 0 on, and writes its denomination, as the sending chain calls
+    /// it. The receiving chain calls it without the sender's hop where the token comes home, and else with its own hop
+    /// before it. IBCW_NO_DATA, IBCW_NOTHING_THERE where there is no such token; IBCW_TOO_SHORT, and then *amount and
+    /// *size are told.
+    pub fn ibcw_data_token(
+        data: *const u8,
+        data_size: usize,
+        index: u64,
+        amount: *mut Amount,
+        denom: *mut u8,
         room: usize,
         size: *mut usize,
     ) -> u32;

@@ -228,6 +228,25 @@ impl Ledger {
         Ok(whole(&amount))
     }
 
+    /// How much of a denomination all accounts hold, the escrow accounts among them: of one that came over a channel, no more than the escrow
+    /// account of its other end holds.
+    ///
+    /// # Errors
+    /// `BadName` where it is no name of a denomination, `NoMemory`.
+    pub fn supply(&self, denom: &str) -> Result<u128, Refused> {
+        let mut amount = sys::Amount::default();
+        // SAFETY: as in `apply_bytes`.
+        Refused::check(unsafe {
+            sys::ibcw_supply(
+                self.owned.handle(),
+                denom.as_ptr(),
+                denom.len(),
+                &mut amount,
+            )
+        })?;
+        Ok(whole(&amount))
+    }
+
     /// What the accounts hold in the working block: the amounts above 0, by the byte order of the accounts and then of the denominations.
     ///
     /// # Errors

@@ -3,7 +3,7 @@
 //! # Threads
 //!
 //! A [`Ledger`] and the other values are `Send`: what a handle holds is proved to be. A handle is used by one call at a time, so they are not
-//! `Sync`. A [`View`] is: its clones share one value under a lock of this crate.
+//! `Sync`. A [`View`] is: its clones share one handle under a lock of this crate, and [`View::share`] makes a handle that waits for none.
 #![deny(missing_docs)]
 #![warn(clippy::pedantic)]
 
@@ -18,6 +18,8 @@ mod packet;
 mod proof;
 mod refused;
 mod relay;
+mod replay;
+mod tokens;
 mod view;
 mod wire;
 mod world;
@@ -36,6 +38,8 @@ pub use packet::Packet;
 pub use proof::{Claim, Proof};
 pub use refused::Refused;
 pub use relay::{open, relay, Opened, Opening, Relayed};
+pub use replay::{replay, NotReplayed};
+pub use tokens::TokenData;
 pub use view::{Heights, Plan, View};
 pub use world::{Audit, NotJoined, World};
 

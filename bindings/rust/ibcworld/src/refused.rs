@@ -76,6 +76,7 @@ refusals! {
     NothingThere = 105, "there is nothing there";
     OtherWorld = 106, "the ledger is of another world";
     NoMessage = 107, "the bytes spell no message";
+    NoData = 108, "the bytes spell no data of tokens";
 }
 
 impl Refused {

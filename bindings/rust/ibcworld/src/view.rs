@@ -18,8 +18,8 @@ pub struct Heights {
     pub working_time: u64,
 }
 
-/// What a chain proves at its last committed height. It stays as it is while the ledger goes on. Clones share one value, under a lock that a read
-/// holds for the time of a call: threads may read at the same time, one after another.
+/// What a chain proves at its last committed height. It stays as it is while the ledger goes on. Clones share one handle, under a lock that a read
+/// holds for the time of a call. [`View::share`] makes another handle, for a thread that is to read without waiting for others.
 #[derive(Clone, Debug)]
 pub struct View {
     shared: Arc<Mutex<Owned>>,
@@ -36,6 +36,16 @@ impl From<Owned> for View {
 impl View {
     fn owned(&self) -> MutexGuard<'_, Owned> {
         self.shared.lock().unwrap_or_else(PoisonError::into_inner)
+    }
+
+    /// The same view behind a handle of its own: who reads by it waits for no other. Nothing is copied.
+    ///
+    /// # Errors
+    /// `NoMemory`.
+    pub fn share(&self) -> Result<View, Refused> {
+        let owned = self.owned();
+        // SAFETY: two handles of the library, each used by this call alone.
+        Owned::made(|at| unsafe { sys::ibcw_share_view(owned.handle(), at) }).map(View::from)
     }
 
     /// The chain, the height and the times.
@@ -80,7 +90,7 @@ impl View {
         .map(Proof::from)
     }
 
-    /// The messages that the chain of `to` is owed and that are proved from this view (ICS 18). To itself nothing is owed.
+    /// The messages that the chain of `to` is owed and that are proved from this view (ICS 18). A view owes nothing to its own chain.
     ///
     /// # Errors
     /// `NoMemory`.

@@ -85,42 +85,31 @@ impl Audit {
         self.owned.length()
     }
 
-    fn is_there(&self, chain: u64) -> Result<(), Refused> {
-        if chain < self.chains()? {
-            Ok(())
-        } else {
-            Err(Refused::NothingThere)
-        }
-    }
-
     /// What the accounts of a chain hold, by the byte order of the accounts and then of the denominations.
     ///
     /// # Errors
-    /// `NothingThere` where there is no such chain, `NoMemory`.
+    /// `UnknownChain` where there is no such chain, `NoMemory`.
     pub fn balances(&self, chain: u64) -> Result<Vec<Holding>, Refused> {
-        self.is_there(chain)?;
-        all_of(|index| holding(&self.owned, chain, index))
+        let mut count = 0;
+        // SAFETY: the handle is the library's, and used by this call alone.
+        Refused::check(unsafe { sys::ibcw_holding_count(self.owned.handle(), chain, &mut count) })?;
+        (0..count)
+            .map(|index| holding(&self.owned, chain, index))
+            .collect()
     }
 
     /// The notes that came over the channels of a chain.
     ///
     /// # Errors
-    /// `NothingThere` where there is no such chain, `NoMemory`.
+    /// `UnknownChain` where there is no such chain, `NoMemory`.
     pub fn notes(&self, chain: u64) -> Result<Vec<ChannelNotes>, Refused> {
-        self.is_there(chain)?;
-        all_of(|channel| channel_notes(&self.owned, chain, channel))
+        let mut count = 0;
+        // SAFETY: as in `balances`.
+        Refused::check(unsafe {
+            sys::ibcw_note_channel_count(self.owned.handle(), chain, &mut count)
+        })?;
+        (0..count)
+            .map(|channel| channel_notes(&self.owned, chain, channel))
+            .collect()
     }
-}
-
-/// All that there is, index by index.
-fn all_of<T>(mut at: impl FnMut(u64) -> Result<T, Refused>) -> Result<Vec<T>, Refused> {
-    let mut all = Vec::new();
-    for index in 0.. {
-        match at(index) {
-            Ok(one) => all.push(one),
-            Err(Refused::NothingThere) => break,
-            Err(refused) => return Err(refused),
-        }
-    }
-    Ok(all)
 }

@@ -1,0 +1,3 @@
+pub mod SameForms
+pub mod ReadForms
+pub mod Varints
