@@ -4,13 +4,14 @@ ghost use Rattle.std.specs.Prelude.{◌≡◌, ◌<◌, ◌++◌, length, map, o
 ghost use Rattle.std.specs.BTreeMap.{keys};
 ghost use Rattle.serde_json.specs.Find.{as_object};
 ghost use Rattle.serde_json.specs.View.{view};
-ghost use Rattle.ibc_lab.specs.Faults.{are_one, chain_faults, chains_faults, each_faults, form_faults, is_greater, is_less, is_owed, kindless_faults, leaf_faults, member_faults, members_faults, missing_faults, name_twice_faults, object_faults, one_chain_faults, parts_faults, rise, rise_after, rising_faults, script_faults, step_faults, steps_faults, tuple_faults, unknown_faults};
+ghost use Rattle.ibc_lab.specs.Faults.{are_one, chain_faults, chains_faults, each_faults, form_faults, is_owed, kindless_faults, leaf_faults, member_faults, members_faults, missing_faults, name_twice_faults, object_faults, one_chain_faults, parts_faults, script_faults, step_faults, steps_faults, tuple_faults, unknown_faults};
 ghost use Rattle.ibc_lab.specs.Values.{name_in, passes};
 ghost use Rattle.ibc_lab.specs.Leaves.{is_known};
 
 use crate::fault::note;
 use crate::leaf::is_known;
 use crate::owed::{chain_owes, kind_owed, script_owes, step_owes};
+use crate::tokens::rising;
 use crate::values::{item_text, items_at, items_in, items_of, kind_in, name_in};
 use crate::{
     FaultKind, Leaf, Member, MemberForm, Owed, ScriptFault, ScriptPart, ScriptPlace, Tuple,
@@ -18,7 +19,6 @@ use crate::{
 use ibc_ids::Bytes;
 use serde_json::{Map, Value};
 use std::alloc::{AllocError, Global};
-use std::cmp::Ordering;
 
 /// What is wrong with the value of a script, each fault with its place.
 pub fn script_faults(alloc: Global, script: &Value) -> Result<Vec<ScriptFault>, AllocError>
@@ -363,64 +363,5 @@ fn are_one(first: Option<&str>, second: Option<&str>) -> bool
     match second {
         Some(second) => first == second,
         None => false,
-    }
-}
-
-// Tokens whose denominations don't rise.
-fn rising(
-    place: ScriptPlace,
-    tokens: &[Value],
-    found: &mut Vec<ScriptFault>,
-) -> Result<(), AllocError>
-    ensures { OnOk result (found.new.items ≡ found.old.items ++ rising_faults place (map view tokens.now)) }
-{
-    if rise(tokens) {
-        Ok(())
-    } else {
-        note(found, place, FaultKind::NotRising)
-    }
-}
-
-fn rise(tokens: &[Value]) -> bool
-    ensures { result ≡ rise (map view tokens.now) }
-{
-    match tokens.split_first() {
-        Some((first, rest)) => rise_after(first, rest),
-        None => true,
-    }
-}
-
-fn rise_after(first: &Value, rest: &[Value]) -> bool
-    ensures { result ≡ rise_after (view first.now) (map view rest.now) }
-{
-    let mut last = first;
-    for token in rest {
-        if !is_greater(item_text(last, 0), item_text(token, 0)) {
-            return false;
-        }
-        last = token;
-    }
-    true
-}
-
-// Whether the second text is greater in byte order, where both are there.
-fn is_greater(first: Option<&str>, second: Option<&str>) -> bool
-    ensures { result ≡ is_greater (option_map (λ text. text.now) first.entry) (option_map (λ text. text.now) second.entry) }
-{
-    let Some(first) = first else {
-        return true;
-    };
-    match second {
-        Some(second) => is_less(first, second),
-        None => true,
-    }
-}
-
-fn is_less(first: &str, second: &str) -> bool
-    ensures { result ≡ is_less first.now second.now }
-{
-    match first.cmp(second) {
-        Ordering::Less => true,
-        Ordering::Equal | Ordering::Greater => false,
     }
 }

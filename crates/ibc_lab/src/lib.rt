@@ -17,6 +17,7 @@ mod step_kind;
 mod syntax;
 mod text_form;
 mod texts;
+mod tokens;
 mod values;
 
 pub use checking::{Verdict, check};
