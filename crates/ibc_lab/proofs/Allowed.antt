@@ -31,7 +31,7 @@ use Rattle.ibc_lab.specs.Leaves.{has_length, is_within, leaf_fits}
 use Rattle.ibc_lab.specs.Places.{at_member, inside, place_of}
 use Rattle.ibc_lab.specs.Tables.{balances_owed, capacity_owed, chain_owes, chains_owed, name_owed, script_owes, steps_owed, time_owed, window_owed}
 use Rattle.ibc_lab.specs.Texts.{text_fits}
-use Rattle.ibc_lab.specs.Values.{items_at, items_in, items_of, items_of_found, list_of, names_of, passes}
+use Rattle.ibc_lab.specs.Values.{items_at, items_of, items_of_found, list_of, names_of, passes}
 
 -- ---- lists without faults
 

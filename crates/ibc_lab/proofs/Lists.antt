@@ -1,6 +1,6 @@
 -- Lists of values, the names of an object's members, and the parts of a path.
-use Rattle.std.proofs.Common.{◌≡◌, ℕ, ◌+◌, ◌<◌, ◌≤◌, List, [], ◌∷◌, ◌++◌, length, get_or, take, drop, map, string_bytes, false, String, Global, refl, sym, ap, ◌∙◌, append_assoc, append-nil}
-use Rattle.std.proofs.lemmas.List.{drop_more, drop_all, length-map, take-map}
+use Rattle.std.proofs.Common.{◌≡◌, ℕ, List, [], ◌∷◌, length, take, map, string_bytes, false, String, Global, refl, ap}
+use Rattle.std.proofs.lemmas.List.{length-map, take-map}
 use Rattle.std.specs.Prelude.{◌≢◌}
 use Rattle.std.specs.Map.{keys_of}
 use Rattle.serde_json.specs.Data.{Data}
@@ -30,20 +30,3 @@ names_in_map (e ∷ es) = ap (λ rest. string_bytes e.0 ∷ rest) (names_in_map 
 pub no_last : (sequence : Text) (parts : List Text) → parts ≢ [] → is_last_sequence (sequence ∷ parts) ≡ false
 no_last sequence [] h = absurd (h refl)
 no_last sequence (part ∷ parts) h = refl
-
--- ---- a loop that notes the faults of one item after another, where F tells those of the items from a place on
-
--- what is noted of an item is the beginning of what is left
-pub found_more : {A B : Type 0} (F : ℕ → List A → List B) (xs : List A) (i : ℕ) (x : A) → i < length xs → x ≡ get_or xs i x
-    → (found more now all : List B) → F i (x ∷ drop (i + 1) xs) ≡ now ++ F (i + 1) (drop (i + 1) xs) → more ≡ found ++ now
-    → found ++ F i (drop i xs) ≡ all → more ++ F (i + 1) (drop (i + 1) xs) ≡ all
-found_more F xs i x inside is found more now all step grown so_far =
-    let cut : drop i xs ≡ x ∷ drop (i + 1) xs = drop_more xs i x inside ∙ ap (λ y. y ∷ drop (i + 1) xs) (sym is) in
-    ap (λ l. l ++ F (i + 1) (drop (i + 1) xs)) grown ∙ append_assoc found now (F (i + 1) (drop (i + 1) xs))
-    ∙ ap (λ l. found ++ l) (sym step ∙ ap (F i) (sym cut)) ∙ so_far
-
--- behind the last item nothing is left
-pub found_all : {A B : Type 0} (F : ℕ → List A → List B) (xs : List A) (i : ℕ) → length xs ≤ i → (found all : List B)
-    → F i [] ≡ [] → found ++ F i (drop i xs) ≡ all → found ≡ all
-found_all F xs i done found all none so_far =
-    sym (append-nil found) ∙ ap (λ l. found ++ l) (sym none ∙ ap (F i) (sym (drop_all i xs done))) ∙ so_far

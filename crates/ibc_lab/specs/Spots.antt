@@ -1,5 +1,5 @@
 -- Lines and columns of a text, from 1.
-use Rattle.std.specs.Prelude.{ℕ, ◌+◌, Bool, ◌&&◌, ◌==◌, nat_le, nat_lt, List, [], ◌∷◌, if◌then◌else◌}
+use Rattle.std.specs.Prelude.{ℕ, ◌+◌, Bool, ◌&&◌, ◌==◌, nat_le, nat_lt, [], ◌∷◌, if◌then◌else◌}
 use Rattle.ibc_ids.specs.Texts.{Text}
 use Rattle.ibc_lab.specs.declared.position.Spot.{Spot}
 
