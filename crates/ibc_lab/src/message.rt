@@ -13,6 +13,9 @@ use std::alloc::{AllocError, Global};
 /// So many characters of a value are shown, and two points behind them where there are more.
 const MOST_SHOWN: usize = 60;
 
+/// What is wrong with a text that has more bytes than a script may have.
+pub const TOO_LONG: &str = "more than 1,048,576 bytes";
+
 /// Writes where a place is, as `steps[3].on`.
 pub fn write_place(out: &mut String, place: ScriptPlace) -> Result<(), AllocError> {
     match place.object {
@@ -77,7 +80,7 @@ impl Telling<'_> {
             FaultKind::HeldTwice => self.held_twice(out, place),
             FaultKind::TooMuch => self.too_much(out, place),
             FaultKind::NoJson => out.push_str("no JSON"),
-            FaultKind::TooLong => out.push_str("more than 1,048,576 bytes"),
+            FaultKind::TooLong => out.push_str(TOO_LONG),
             FaultKind::NoScript => out.push_str("no script that ibcworld runs"),
         }
     }

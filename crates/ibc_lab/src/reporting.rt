@@ -1,9 +1,10 @@
 //! What is printed of a file's faults.
 
-use crate::message::{Telling, write_place};
+use crate::message::{TOO_LONG, Telling, write_place};
 use crate::position::{offset_of, offset_of_name, spot_at};
 use crate::syntax::reason_of;
 use crate::{FaultKind, ScriptFault, Spot};
+use ibc_script::MOST_BYTES;
 use serde_json::{Error, Value};
 use std::alloc::{AllocError, Global};
 
@@ -30,6 +31,7 @@ pub fn report(
             written?;
         }
         Err(error) if error.is_memory() => return Err(AllocError),
+        Err(_) if text.len() > MOST_BYTES => write_too_long(&mut out, file, text)?,
         Err(error) => write_no_json(&mut out, file, text, &error)?,
     }
     Ok(out)
@@ -81,7 +83,14 @@ fn write_front(out: &mut String, file: &str, spot: Spot) -> Result<(), AllocErro
     write!(out, "{file}:{line}:{column}: ")
 }
 
-// A text that is no JSON, or too long to be looked at.
+// A text that is too long to be looked at, and of which a part alone may be here.
+fn write_too_long(out: &mut String, file: &str, text: &[u8]) -> Result<(), AllocError> {
+    write_front(out, file, spot_at(text, 0))?;
+    let reason = TOO_LONG;
+    writeln!(out, "the script: {reason}")
+}
+
+// A text that is no JSON.
 fn write_no_json(
     out: &mut String,
     file: &str,
