@@ -13,7 +13,7 @@ BLOCK = re.compile(r"(?:^    .*\n|^\n(?=    ))+", re.M)
 COMMAND = re.compile(r"(\./run\.sh|\./test\.sh|tools/[a-z_]+|\(cd crates/[a-z_]+; rt|rt)( |$)")
 SCRIPT = re.compile(r"\./run\.sh (race --relayers [1-8] )?([\w./-]+)")
 CASES = re.compile(r"\(cd crates/ibc_cases; rt try -- ([\w./-]+)\)")
-NAMED = re.compile(r"`([a-z][\w-]*(?:/[\w.-]+)+)`")
+NAMED = re.compile(r"`(\.?[a-z][\w-]*(?:/[\w.-]+)+)`")
 LEFT_OUT = ".."
 
 
