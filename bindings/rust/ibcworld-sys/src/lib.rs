@@ -2,6 +2,9 @@
 //! and structs point to one, a pointer and a size name so many bytes, and a handle is used by one call at a time.
 #![no_std]
 #![deny(missing_docs)]
+#![warn(clippy::pedantic)]
+// (what a call says stands here in the words of the header, without marks)
+#![allow(clippy::doc_markdown)]
 
 /// The version of the header for which this crate is written: 10,000 times the first number, 100 times the second, and the third.
 pub const VERSION: u32 = 10_000;
