@@ -108,6 +108,21 @@ static void join_crosswise(void)
     end(&other);
 }
 
+/* A world that the program numbers itself, as the header lets it, and one of the library's. */
+static void join_numbered(void)
+{
+    world w = begin();
+    ibcw_ledgers numbered = IBCW_HANDLE_INIT;
+    ibcw_ledger first = IBCW_HANDLE_INIT;
+    want(ibcw_make_numbered_ledgers(&w.genesis, (uint64_t)1 << 63, &numbered), "ledgers");
+    want(ibcw_take_ledger(&numbered, &first), "a ledger");
+    tried(ibcw_join_ledger(&w.rest, &first), IBCW_OTHER_WORLD, "a ledger of a world that the program numbered");
+    tried(ibcw_join_ledger(&numbered, &w.x), IBCW_OTHER_WORLD, "a ledger is joined to those of such a world");
+    tried(ibcw_join_ledger(&numbered, &first), IBCW_DONE, "its own ledger is joined to them");
+    ibcw_free(&numbered.handle);
+    end(&w);
+}
+
 /* No world begins so. */
 static void begin_wrongly(void)
 {
@@ -248,6 +263,7 @@ int main(void)
 {
     world w;
     join_crosswise();
+    join_numbered();
     begin_wrongly();
     add_wrongly();
     misuse_handles();
