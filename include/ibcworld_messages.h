@@ -562,6 +562,37 @@ IBCW_MUST_USE static inline uint32_t ibcw_denom_received(const ibcw_packet_field
     return answer == IBCW_DONE ? ibcw_put_behind(place, room, ibcw_text(denom)) : answer;
 }
 
+/* ---- what accounts hold */
+
+/* Who holds how much of what: a user, or the escrow account of a channel of port transfer. Each text has a 0 behind it. */
+typedef struct {
+    int is_escrow;
+    char owner[72]; /* the user, or the channel */
+    char denom[257];
+    ibcw_amount amount;
+} ibcw_held;
+
+/* Reads a holding of a list of balances or an audit, by ibcw_holding and ibcw_holding_amount. Answers as these. */
+IBCW_MUST_USE static inline uint32_t ibcw_read_holding(ibcw_handle *balances, uint64_t chain, uint64_t index, ibcw_held *held)
+{
+    static const char escrow[] = "escrow/transfer/";
+    char text[sizeof escrow + sizeof held->owner + sizeof held->denom];
+    size_t size = 0, front = sizeof escrow - 1, owner = 0;
+    uint32_t answer = ibcw_holding(balances, chain, index, (uint8_t *)text, sizeof text, &size);
+    if (answer == IBCW_DONE) answer = ibcw_holding_amount(balances, chain, index, &held->amount);
+    if (answer != IBCW_DONE) return answer;
+    held->is_escrow = size > front && memcmp(text, escrow, front) == 0;
+    if (!held->is_escrow) front = 0;
+    while (front + owner < size && text[front + owner] != ' ') owner++;
+    size -= front + owner;
+    if (size == 0 || owner >= sizeof held->owner || size > sizeof held->denom) return IBCW_TOO_SHORT;
+    memcpy(held->owner, text + front, owner);
+    held->owner[owner] = 0;
+    memcpy(held->denom, text + front + owner + 1, size - 1);
+    held->denom[size - 1] = 0;
+    return IBCW_DONE;
+}
+
 /* ---- messages of strangers */
 
 /* Whether the bytes spell a message whose proofs are proofs, whatever they show. A ledger keeps each message that it refuses, whole and for ever, so who takes

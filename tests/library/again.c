@@ -201,21 +201,26 @@ static void audit_of(world *w, ibcw_audit *audit)
 
 static void want_same_holdings(ibcw_audit *one, ibcw_audit *other, uint64_t chain)
 {
-    uint8_t holding[1024], again[1024];
-    size_t size = 0, again_size = 0;
-    ibcw_amount amount = {0, 0}, again_amount = {0, 0};
+    ibcw_held held, again;
     uint64_t count = 0, again_count = 0, k;
     want(ibcw_holding_count(&one->handle, chain, &count), IBCW_DONE, "how many holdings");
     want(ibcw_holding_count(&other->handle, chain, &again_count), IBCW_DONE, "how many holdings again");
     want_true(count == again_count && count > 0, "as many holdings again");
     for (k = 0; k < count; k++) {
-        want(ibcw_holding(&one->handle, chain, k, holding, sizeof holding, &size), IBCW_DONE, "a holding");
-        want(ibcw_holding(&other->handle, chain, k, again, sizeof again, &again_size), IBCW_DONE, "a holding again");
-        want(ibcw_holding_amount(&one->handle, chain, k, &amount), IBCW_DONE, "an amount");
-        want(ibcw_holding_amount(&other->handle, chain, k, &again_amount), IBCW_DONE, "an amount again");
-        want_true(size == again_size && memcmp(holding, again, size) == 0, "who holds what again");
-        want_true(amount.high == again_amount.high && amount.low == again_amount.low, "how much is held again");
+        want(ibcw_read_holding(&one->handle, chain, k, &held), IBCW_DONE, "a holding");
+        want(ibcw_read_holding(&other->handle, chain, k, &again), IBCW_DONE, "a holding again");
+        want_true(held.is_escrow == again.is_escrow && strcmp(held.owner, again.owner) == 0, "who holds it again");
+        want_true(strcmp(held.denom, again.denom) == 0, "what is held again");
+        want_true(held.amount.high == again.amount.high && held.amount.low == again.amount.low, "how much is held again");
     }
+}
+
+static void want_holding(ibcw_audit *audit, uint64_t chain, uint64_t index, int is_escrow, const char *owner, const char *denom, uint64_t amount)
+{
+    ibcw_held held;
+    want(ibcw_read_holding(&audit->handle, chain, index, &held), IBCW_DONE, "a holding");
+    want_true(held.is_escrow == is_escrow && strcmp(held.owner, owner) == 0 && strcmp(held.denom, denom) == 0, "who holds what");
+    want_true(held.amount.high == 0 && held.amount.low == amount, "how much is held");
 }
 
 int main(void)
@@ -230,6 +235,9 @@ int main(void)
     ask_all_again(&again, kept);
     audit_of(&w, &audit);
     audit_of(&again, &other);
+    want_holding(&audit, 0, 0, 0, "alice", "atom", 997);
+    want_holding(&audit, 0, 1, 1, "channel-0", "atom", 3);
+    want_holding(&audit, 1, 0, 0, "bob", "transfer/channel-0/atom", 3);
     for (k = 0; k < CHAINS; k++) {
         want_same_holdings(&audit, &other, (uint64_t)k);
         entries += kept[k].count;

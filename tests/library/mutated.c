@@ -213,15 +213,12 @@ static void want_same_holdings(ibcw_ledger *ledger, ibcw_ledger *twin)
     length = length_of(&one.handle);
     want_true(length_of(&other.handle) == length, "as many holdings");
     for (k = 0; k < length; k++) {
-        uint8_t here[1024], there[1024];
-        size_t size = 0, again = 0;
-        ibcw_amount amount, same;
-        want(ibcw_holding(&one.handle, 0, k, here, sizeof here, &size), IBCW_DONE, "a holding");
-        want(ibcw_holding(&other.handle, 0, k, there, sizeof there, &again), IBCW_DONE, "a holding");
-        want(ibcw_holding_amount(&one.handle, 0, k, &amount), IBCW_DONE, "an amount");
-        want(ibcw_holding_amount(&other.handle, 0, k, &same), IBCW_DONE, "an amount");
-        want_true(size == again && memcmp(here, there, size) == 0, "whose it is, and of what");
-        want_true(amount.high == same.high && amount.low == same.low, "how much it is");
+        ibcw_held here, there;
+        want(ibcw_read_holding(&one.handle, 0, k, &here), IBCW_DONE, "a holding");
+        want(ibcw_read_holding(&other.handle, 0, k, &there), IBCW_DONE, "a holding");
+        want_true(here.is_escrow == there.is_escrow && strcmp(here.owner, there.owner) == 0, "whose it is");
+        want_true(strcmp(here.denom, there.denom) == 0, "of what it is");
+        want_true(here.amount.high == there.amount.high && here.amount.low == there.amount.low, "how much it is");
     }
     ibcw_free(&one.handle);
     ibcw_free(&other.handle);
@@ -251,16 +248,13 @@ static void play_round(world *w, world *twin)
 /* How much the accounts of a chain hold of a denomination, of which less than 2^64 is held. */
 static uint64_t held_of(ibcw_audit *audit, uint64_t chain, const char *denom)
 {
-    uint8_t holding[1024];
-    size_t size, wanted = strlen(denom);
-    ibcw_amount amount;
+    ibcw_held it;
     uint64_t held = 0, k;
     uint32_t answer;
     for (k = 0;; k++) {
-        answer = ibcw_holding(&audit->handle, chain, k, holding, sizeof holding, &size);
+        answer = ibcw_read_holding(&audit->handle, chain, k, &it);
         if (answer != IBCW_DONE) break;
-        want(ibcw_holding_amount(&audit->handle, chain, k, &amount), IBCW_DONE, "an amount");
-        if (size > wanted && holding[size - wanted - 1] == ' ' && memcmp(holding + size - wanted, denom, wanted) == 0) held += amount.low;
+        if (strcmp(it.denom, denom) == 0) held += it.amount.low;
     }
     want(answer, IBCW_NOTHING_THERE, "the end of the holdings");
     return held;
