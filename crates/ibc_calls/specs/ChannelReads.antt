@@ -1,7 +1,6 @@
 -- What a channel of tokens has, by the ledgers of its two ends.
 use Rattle.std.specs.Prelude.{◌≡◌, ◌≢◌, ◌⊎◌, Option, Some, None, Ok, Err}
 use Rattle.ibc_ids.specs.Texts.{Text}
-use Rattle.ibc_ids.specs.declared.refusal.Refusal.{Refusal}
 use Rattle.ibc_ids.specs.declared.refusal.Refusal.TheVariants.{NoMemory, BadName}
 use Rattle.ibc_machine.specs.declared.totals.Totals.{Totals}
 use Rattle.ibc_machine.specs.ledger.Ledgers.{Ledger}
@@ -19,10 +18,6 @@ use Rattle.ibc_calls.specs.Reads.{AreEscrow, amount_of}
 abbrev pub sums_of : ChannelTotals → Totals
 sums_of t = record { escrow = amount_of t.escrow; vouchers = amount_of t.vouchers; out = amount_of t.out; back = amount_of t.back }
 
--- nothing is told, for this reason
-abbrev pub TellsNothing : ChannelTotals → ChannelTotals → Answer → Refused → Type 0
-TellsNothing old new answer why = (new ≡ old) × (answer ≡ Err why)
-
 -- the totals of the channel are told, and the peer is the chain that its client tracks
 pub record AreTold (channel denom : Text) (ledger peer : Ledger) (told : ChannelTotals) (answer : Answer) : Type 0 where
   pub answered : answer ≡ Ok tt
@@ -30,16 +25,21 @@ pub record AreTold (channel denom : Text) (ledger peer : Ledger) (told : Channel
   pub totals : AreTotals ledger peer channel denom (sums_of told)
   pub peer : TracksPeer ledger peer channel
 
--- a name is none of its kind, or the core refuses
-abbrev pub IsRefusal : Text → Text → Ledger → Ledger → Refusal → Type 0
-IsRefusal channel denom ledger peer refusal =
-    ((refusal ≡ BadName) × (AreEscrow channel denom → ⊥)) ⊎ (refusal ≡ NoMemory)
-    ⊎ (AreEscrow channel denom × AreRefused ledger peer channel denom refusal)
+-- the answer is a refusal of the core's
+abbrev pub IsOfCore : Text → Text → Ledger → Ledger → Answer → Type 0
+IsOfCore channel denom ledger peer (Err (Core refusal)) = AreRefused ledger peer channel denom refusal
+IsOfCore channel denom ledger peer _ = ⊥
 
+-- The totals are told. Or nothing is: a name is none of its kind, or memory ran out, or the core refuses.
 abbrev pub TellsSums : Text → Text → Ledger → Ledger → ChannelTotals → ChannelTotals → Answer → Type 0
 TellsSums channel denom ledger peer old new answer =
     AreTold channel denom ledger peer new answer
-    ⊎ ((refusal : Refusal) × IsRefusal channel denom ledger peer refusal × TellsNothing old new answer (Core refusal))
+    ⊎ ((new ≡ old) × (((answer ≡ Err (Core BadName)) × (AreEscrow channel denom → ⊥)) ⊎ (answer ≡ Err (Core NoMemory))
+    ⊎ (AreEscrow channel denom × IsOfCore channel denom ledger peer answer)))
+
+-- nothing is told, for this reason
+abbrev pub TellsNothing : ChannelTotals → ChannelTotals → Answer → Refused → Type 0
+TellsNothing old new answer why = (new ≡ old) × (answer ≡ Err why)
 
 -- of two ledgers of one world
 abbrev pub TellsOfMembers : Text → Text → WorldLedger → WorldLedger → ChannelTotals → ChannelTotals → Answer → Type 0

@@ -133,9 +133,13 @@ fn tell_sums(
     ensures { TellsSums channel.now denom.now ledger.now.ledger peer.now.ledger told.old told.new result }
 {
     let (channel, denom) = escrow_names(alloc, channel, denom)?;
-    let sums = totals_of_ledgers(alloc, ledger, peer, &channel, &denom)?;
-    *told = in_parts(sums);
-    Ok(())
+    match totals_of_ledgers(alloc, ledger, peer, &channel, &denom) {
+        Ok(sums) => {
+            *told = in_parts(sums);
+            Ok(())
+        }
+        Err(refusal) => Err(Refused::Core(refusal)),
+    }
 }
 
 fn in_parts(sums: Totals) -> ChannelTotals
