@@ -275,6 +275,23 @@ uint32_t ibcw_escrow(ibcw_ledger *ledger, const uint8_t *channel, size_t channel
 IBCW_MUST_USE IBCW_NONNULL(1, 4)
 uint32_t ibcw_supply(ibcw_ledger *ledger, const uint8_t *denom, size_t denom_size, ibcw_amount *amount);
 
+/* What a channel of port transfer has of a denomination (ICS 20): what its escrow account holds, its vouchers on the peer's chain, and what is under way
+   there and back. */
+typedef struct {
+    ibcw_amount escrow;
+    ibcw_amount vouchers;
+    ibcw_amount out;
+    ibcw_amount back;
+} ibcw_channel_totals;
+
+/* Tells the totals of a ledger's channel, by that ledger and the one of the peer's chain, as their working blocks have them. IBCW_EMPTY and IBCW_OTHER_KIND of
+   either handle; IBCW_OTHER_WORLD where the ledgers are of two worlds; IBCW_BAD_NAME exactly where one is no name of its kind. Then the first that holds:
+   IBCW_UNKNOWN_CHANNEL; IBCW_WRONG_STATE where the end is neither OPEN nor CLOSED; IBCW_BAD_MESSAGE where the denomination came over this end. Behind
+   these IBCW_WRONG_PEER where the end's client tracks another chain, or the peer's end isn't there; IBCW_TOO_LARGE where a sum is more than 2^128 - 1. */
+IBCW_MUST_USE IBCW_NONNULL(1, 2, 7)
+uint32_t ibcw_totals(ibcw_ledger *ledger, ibcw_ledger *peer, const uint8_t *channel, size_t channel_size,
+                     const uint8_t *denom, size_t denom_size, ibcw_channel_totals *totals);
+
 /* Writes the bytes of the packet that the ledger sent from an end of a channel under a sequence, whether its commitment stands or not (ICS 4).
    IBCW_EMPTY, IBCW_OTHER_KIND, IBCW_BAD_NAME exactly where the port or the channel is no name of its kind, IBCW_NOTHING_THERE where no such
    packet was sent, IBCW_TOO_SHORT. */

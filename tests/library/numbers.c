@@ -812,9 +812,14 @@ static const asking CALLS[] = {
 static void refuse_pairs(ibcw_handle *values[KINDS], ibcw_handle *ledger, int k, uint32_t why)
 {
     ibcw_handle plan = {0};
+    ibcw_channel_totals told;
     if (k != VIEW) {
         meet(ibcw_make_plan(values[k], values[VIEW], &plan), why, "ibcw_make_plan");
         meet(ibcw_make_plan(values[VIEW], values[k], &plan), why, "ibcw_make_plan");
+    }
+    if (k != LEDGER) {
+        meet(ibcw_totals(values[k], ledger, bytes("channel-0"), 9, bytes("b"), 1, &told), why, "ibcw_totals");
+        meet(ibcw_totals(ledger, values[k], bytes("channel-0"), 9, bytes("b"), 1, &told), why, "ibcw_totals");
     }
     if (k != LEDGERS) meet(ibcw_join_ledger(values[k], ledger), why, "ibcw_join_ledger");
     if (k != LEDGER && k != LEDGERS) meet(ibcw_join_ledger(values[LEDGERS], values[k]), why, "ibcw_join_ledger");
@@ -1035,6 +1040,20 @@ static void want_supply(ibcw_handle *ledger, const char *denom, uint64_t wanted)
     want((uint32_t)amount.low, 7, "what isn't told of no denomination");
 }
 
+static void want_totals(world *w, uint64_t escrow, uint64_t vouchers)
+{
+    ibcw_amount other = {7, 7};
+    ibcw_channel_totals told = {other, other, other, other};
+    uint32_t found;
+    WITH_REFUSALS(found, ibcw_totals(&w->x, &w->y, bytes("channel-0"), 9, bytes("atom"), 4, &told), "totals");
+    want(found, IBCW_DONE, "totals");
+    want((uint32_t)(told.escrow.high + told.escrow.low), (uint32_t)escrow, "the escrow of a channel");
+    want((uint32_t)(told.vouchers.high + told.vouchers.low), (uint32_t)vouchers, "the vouchers of a channel");
+    want((uint32_t)(told.out.high + told.out.low + told.back.high + told.back.low), 0, "what is under way");
+    meet(ibcw_totals(&w->x, &w->y, bytes("channel"), 7, bytes("atom"), 4, &told), IBCW_BAD_NAME, "the totals of no channel");
+    meet(ibcw_totals(&w->x, &w->y, bytes("channel-9"), 9, bytes("atom"), 4, &told), IBCW_UNKNOWN_CHANNEL, "the totals of a channel that isn't there");
+}
+
 int main(void)
 {
     int count = 0;
@@ -1050,6 +1069,7 @@ int main(void)
     refuse_packets(&w);
     want_escrow(&w.x, "atom", 5);
     want_escrow(&w.y, "atom", 0);
+    want_totals(&w, 5, 5);
     want_supply(&w.x, "atom", 1000);
     want_supply(&w.y, "transfer/channel-0/atom", 5);
     want_supply(&w.y, "atom", 0);

@@ -21,6 +21,7 @@
 #define ibcw_balance(h, ...) ibcw_balance((ibcw_ledger *)(void *)(h), __VA_ARGS__)
 #define ibcw_escrow(h, ...) ibcw_escrow((ibcw_ledger *)(void *)(h), __VA_ARGS__)
 #define ibcw_supply(h, ...) ibcw_supply((ibcw_ledger *)(void *)(h), __VA_ARGS__)
+#define ibcw_totals(h, peer, ...) ibcw_totals((ibcw_ledger *)(void *)(h), (ibcw_ledger *)(void *)(peer), __VA_ARGS__)
 #define ibcw_packet(h, ...) ibcw_packet((ibcw_ledger *)(void *)(h), __VA_ARGS__)
 #define ibcw_ack(h, ...) ibcw_ack((ibcw_ledger *)(void *)(h), __VA_ARGS__)
 #define ibcw_make_balances(h, made) ibcw_make_balances((ibcw_ledger *)(void *)(h), (ibcw_balances *)(void *)(made))

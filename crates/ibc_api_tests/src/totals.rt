@@ -3,7 +3,7 @@
 use crate::pair::{acknowledge, channel, name, open, receive, transfer};
 use ibc_ids::{Denom, Refusal};
 use ibc_theorem::balanced_totals;
-use ibc_world_core::World;
+use ibc_world_core::{World, totals_of_ledgers};
 use std::alloc::Global;
 use std::process::Abort;
 
@@ -72,9 +72,24 @@ fn check_refusals(rt: &impl Abort, alloc: Global, world: &World) {
     assert!(rt; refusal(rt, alloc, world, 0, "atom").is_none());
 }
 
+// What the ledgers of the two ends tell is what their world tells, and chain 0 is not its own peer.
+fn check_ledgers(rt: &impl Abort, alloc: Global, world: &World) {
+    let channel = channel(rt, alloc);
+    let atom: Denom = name(rt, alloc, "atom");
+    let here = world.ledger(0).expect(rt, "chain 0");
+    let there = world.ledger(1).expect(rt, "chain 1");
+    let told = totals_of_ledgers(alloc, here, there, &channel, &atom);
+    assert!(rt; told == world.totals(0, &channel, &atom));
+    let other = totals_of_ledgers(alloc, here, here, &channel, &atom);
+    assert!(rt; other.err() == Some(Refusal::WrongPeer));
+    drop(atom);
+    drop(channel);
+}
+
 #[test]
 fn totals_are_of_denominations_that_went_out(rt: HostRuntime) {
     let world = open(&rt, rt.alloc());
     check_refusals(&rt, rt.alloc(), &world);
+    check_ledgers(&rt, rt.alloc(), &world);
     drop(world);
 }

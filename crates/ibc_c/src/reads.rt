@@ -2,13 +2,14 @@
 
 ghost use Rattle.std.specs.Prelude.{◌≡◌};
 ghost use Rattle.ibc_calls.specs.CallAnswers.{Numbered};
+ghost use Rattle.ibc_calls.specs.ChannelReads.{TellsTotals};
 ghost use Rattle.ibc_calls.specs.Handles.{Finds};
 ghost use Rattle.ibc_calls.specs.Holdings.{FindsHolding, MakesBalances, TellsHolding, TellsHoldingCount};
 ghost use Rattle.ibc_calls.specs.History.{TellsEvent, TellsLength, TellsReply};
 ghost use Rattle.ibc_calls.specs.ViewProofs.{FindsProved};
 ghost use Rattle.ibc_calls.specs.Reads.{FindsValue, TellsBalance, TellsEscrow, TellsSupply};
 
-use ibc_calls::{Amount, EventCode, ReplyCode, number};
+use ibc_calls::{Amount, ChannelTotals, EventCode, ReplyCode, number};
 use ibc_handle::Handle;
 use std::alloc::Global;
 
@@ -184,4 +185,21 @@ pub extern "C" fn ibcw_supply(
     ensures told { Numbered (TellsSupply denom.now ledger.old.value amount.old amount.new) result }
 {
     number(ibc_calls::supply(alloc, ledger, denom, amount))
+}
+
+/// Tells what a channel has of a denomination, by the ledgers of its two ends. As `totals`.
+#[unsafe(no_mangle)]
+pub extern "C" fn ibcw_totals(
+    alloc: Global,
+    ledger: &mut Handle,
+    peer: &mut Handle,
+    channel: &[u8],
+    denom: &[u8],
+    told: &mut ChannelTotals,
+) -> u32
+    ensures ledger { ledger.new.value ≡ ledger.old.value }
+    ensures peer { peer.new.value ≡ peer.old.value }
+    ensures told { Numbered (TellsTotals channel.now denom.now ledger.old.value peer.old.value told.old told.new) result }
+{
+    number(ibc_calls::totals(alloc, ledger, peer, channel, denom, told))
 }

@@ -16,3 +16,4 @@ pub mod Views
 pub mod WorldHandles
 pub mod PacketReads
 pub mod TokenReads
+pub mod ChannelReads

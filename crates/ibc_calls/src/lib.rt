@@ -3,6 +3,7 @@
 #![tactic(auto)]
 
 mod answer;
+mod channel_totals;
 mod events;
 mod evidence;
 mod forms;
@@ -23,6 +24,7 @@ mod views;
 mod worlds;
 
 pub use answer::{Refused, number};
+pub use channel_totals::{ChannelTotals, totals};
 pub use events::{apply, end_block};
 pub use evidence::{message_proof, proof_key, proof_value};
 pub use forms::{proof_of_ics23, proof_to_ics23};

@@ -240,8 +240,12 @@ fn escrow_of(
     Ok(())
 }
 
-// The channel and the denomination of these names.
-fn escrow_names(alloc: Global, channel: &[u8], denom: &[u8]) -> Result<(ChannelId, Denom), Refused>
+/// The channel and the denomination of these names. Refused: `Core(BadName)` exactly where one is none of its kind; `Core(NoMemory)`.
+pub(crate) fn escrow_names(
+    alloc: Global,
+    channel: &[u8],
+    denom: &[u8],
+) -> Result<(ChannelId, Denom), Refused>
     ensures ok { IfOk result (λ names. (names.0 ≡ channel.now) × (names.1 ≡ denom.now) × AreEscrow channel.now denom.now) }
     ensures err { IfErr result (λ refused. ((refused ≡ Core BadName) × ¬ AreEscrow channel.now denom.now) ⊎ (refused ≡ Core NoMemory)) }
 {

@@ -18,7 +18,7 @@ use Rattle.ibc_machine.specs.promises.Histories.{End}
 use Rattle.ibc_machine.specs.ledger.Ledgers.{Ledger, state_of, machine_of}
 use Rattle.ibc_machine.specs.promises.Peers.{records_of, end_at}
 use Rattle.ibc_machine.specs.promises.Totals.{Totals, totals, totals_between, peer_at, are_bounded, balances_of, flight_between}
-use Rattle.ibc_world_core.specs.Totals.{IsOwnEnd, IsPeerEnd, peer_amounts}
+use Rattle.ibc_world_core.specs.Totals.{IsOwnEnd, IsPeerEnd, StandsAt, AnswersWith, named_end, tracked_over, peer_amounts}
 
 -- ---- what stands at a chain that is there
 
@@ -84,38 +84,38 @@ stops : (t : Totals) → are_bounded t ≡ false → (require (are_bounded t) To
 unfolding and_then
 stops t e = rw e refl
 
-module _ (world : World) (chain : ℕ) (channel denom : Text) (ledger : Ledger) (mine : Channel) (own : IsOwnEnd world chain channel denom ledger mine) where
+module _ (world : World) (chain : ℕ) (channel denom : Text) (ledger : Ledger) (mine : Channel) (of : StandsAt world chain ledger) (own : IsOwnEnd channel denom ledger mine) where
   abbrev core : Core
   core = (state_of ledger).chain.records.core
 
   pub no_peer : peer_at world core mine ≡ None → totals world chain channel denom ≡ Err WrongPeer
   unfolding totals go_on and_then
-  no_peer gone = let e = its_records world chain (state_of ledger).chain own.of in rw e (rw own.end (rw own.established (rw own.not_its_own (rw gone refl))))
+  no_peer gone = let e = its_records world chain (state_of ledger).chain of in rw e (rw own.end (rw own.established (rw own.not_its_own (rw gone refl))))
 
-  module _ (peer : Ledger) (name : Text) (theirs : Channel) (p : IsPeerEnd world ledger mine peer name theirs) where
+  module _ (place : ℕ) (peer : Ledger) (name : Text) (theirs : Channel) (tracked : tracked_over ledger mine ≡ Some place) (there : StandsAt world place peer) (p : IsPeerEnd mine peer name theirs) where
     abbrev e : End
     e = end_of chain transfer_port channel
 
     abbrev f : End
-    f = end_of p.chain mine.end.peer_port name
+    f = end_of place mine.end.peer_port name
 
     own_there : end_at world e ≡ Some mine
-    own_there = its_end world chain (state_of ledger).chain own.of transfer_port channel ∙ own.end
+    own_there = its_end world chain (state_of ledger).chain of transfer_port channel ∙ own.end
 
     peer_there : end_at world f ≡ Some theirs
-    peer_there = its_end world p.chain (state_of peer).chain p.of mine.end.peer_port name ∙ p.end
+    peer_there = its_end world place (state_of peer).chain there mine.end.peer_port name ∙ p.end
 
-    named : (o : Option Client) → option_map (λ (c : Client). c.state.chain) o ≡ Some p.chain
+    named : (o : Option Client) → option_map (λ (c : Client). c.state.chain) o ≡ Some place
         → option_map (λ (c : Client). end_of c.state.chain mine.end.peer_port (peer_channel_of mine.end)) o ≡ Some f
     named None is = absurd cc
     named (Some c) is =
-        let same : c.state.chain ≡ p.chain = cc in
+        let same : c.state.chain ≡ place = cc in
         ap (λ (n : ℕ). Some (end_of n mine.end.peer_port (peer_channel_of mine.end))) same
-        ∙ ap (λ (o : Option Text). Some (end_of p.chain mine.end.peer_port (unwrap_or o []))) p.named
+        ∙ ap (λ (o : Option Text). Some (end_of place mine.end.peer_port (unwrap_or o []))) p.named
 
     pub found : peer_at world core mine ≡ Some f
     found =
-        ap (option_and_then (λ (g : End). option_map (λ (t : Channel). g) (end_at world g))) (named (client_at core (client_of core mine.end.connection)) p.tracked)
+        ap (option_and_then (λ (g : End). option_map (λ (t : Channel). g) (end_at world g))) (named (client_at core (client_of core mine.end.connection)) tracked)
         ∙ ap (option_map (λ (t : Channel). f)) peer_there
 
     abbrev far : ℕ × ℕ
@@ -138,12 +138,12 @@ module _ (world : World) (chain : ℕ) (channel denom : Text) (ledger : Ledger) 
     between : totals_between world e f denom ≡ counted
     between =
         let apart = both fits (supply (state_of peer).chain.records.apps.balances longer) (flight_between longer (Some theirs) (Some mine)) in
-        let held : (if fits then supply (balances_of world p.chain) longer else 0) ≡ far.0 =
-        ap (λ (b : Balances). if fits then supply b longer else 0) (its_balances world p.chain (state_of peer).chain p.of) ∙ sym (ap (λ (x : ℕ × ℕ). x.0) apart) in
+        let held : (if fits then supply (balances_of world place) longer else 0) ≡ far.0 =
+        ap (λ (b : Balances). if fits then supply b longer else 0) (its_balances world place (state_of peer).chain there) ∙ sym (ap (λ (x : ℕ × ℕ). x.0) apart) in
         let back : (if fits then flight_between longer (end_at world f) (end_at world e) else 0) ≡ far.1 =
         ap (λ (x : Option Channel × Option Channel). if fits then flight_between longer x.0 x.1 else 0) (λ i. (peer_there i, own_there i)) ∙ sym (ap (λ (x : ℕ × ℕ). x.1) apart) in
         λ i. record {
-          escrow = balance (its_balances world chain (state_of ledger).chain own.of i) (escrow channel) denom;
+          escrow = balance (its_balances world chain (state_of ledger).chain of i) (escrow channel) denom;
           vouchers = held i;
           out = flight_between denom (own_there i) (peer_there i);
           back = back i;
@@ -151,7 +151,7 @@ module _ (world : World) (chain : ℕ) (channel denom : Text) (ledger : Ledger) 
 
     judged : totals world chain channel denom ≡ (require (are_bounded (totals_between world e f denom)) TooLarge >> Ok (totals_between world e f denom))
     unfolding totals go_on and_then
-    judged = let r = its_records world chain (state_of ledger).chain own.of in rw r (rw own.end (rw own.established (rw own.not_its_own (rw found refl))))
+    judged = let r = its_records world chain (state_of ledger).chain of in rw r (rw own.end (rw own.established (rw own.not_its_own (rw found refl))))
 
     judged_so : totals world chain channel denom ≡ (require (are_bounded counted) TooLarge >> Ok counted)
     judged_so = judged ∙ ap (λ (t : Totals). require (are_bounded t) TooLarge >> Ok t) between
@@ -210,17 +210,55 @@ module _ (world : World) (core : Core) (mine : Channel) where
   pub untracked : option_map (λ (c : Client). c.state.chain) client ≡ None → peer_at world core mine ≡ None
   untracked none = ap stands_there (untracked_then client none)
 
-  pub not_there : (k : ℕ) → option_map (λ (c : Client). c.state.chain) client ≡ Some k → end_at world (at_chain k) ≡ None → peer_at world core mine ≡ None
+  not_there : (k : ℕ) → option_map (λ (c : Client). c.state.chain) client ≡ Some k → end_at world (at_chain k) ≡ None → peer_at world core mine ≡ None
   not_there k tracked gone = ap stands_there (tracked_then k client tracked) ∙ ap (option_map (λ (t : Channel). at_chain k)) gone
 
-  pub no_end : (k : ℕ) → slice_get world k ≡ None → end_at world (at_chain k) ≡ None
+  no_end : (k : ℕ) → slice_get world k ≡ None → end_at world (at_chain k) ≡ None
   no_end k gone = ap (λ (o : Option MachineChain). option_and_then (λ (r : Records). channel_at r.core mine.end.peer_port (peer_channel_of mine.end)) (option_map (λ (c : MachineChain). c.records) o)) gone
 
--- ---- refusals of sums
+  pub no_ledger : (k : ℕ) → option_map (λ (c : Client). c.state.chain) client ≡ Some k → slice_get world k ≡ None → peer_at world core mine ≡ None
+  no_ledger k tracked gone = not_there k tracked (no_end k gone)
 
-pub too_large : {P : Type 0} (answer : Checked Totals) (x : Refusal) → (P → answer ≡ Err TooLarge) → (x ≡ NoMemory) ⊎ ((x ≡ TooLarge) × P) → (x ≡ NoMemory) ⊎ (answer ≡ Err x)
-too_large answer x says (inl memory) = inl memory
-too_large answer x says (inr (is, past)) = inr (says past ∙ ap (λ (r : Refusal). Err r) (sym is))
+  pub none_named : (k : ℕ) (peer : Ledger) → option_map (λ (c : Client). c.state.chain) client ≡ Some k → StandsAt world k peer → named_end peer mine ≡ None → peer_at world core mine ≡ None
+  none_named k peer tracked there gone =
+      not_there k tracked (its_end world k (state_of peer).chain there mine.end.peer_port (peer_channel_of mine.end) ∙ gone)
+
+-- ---- by the end that was found of a ledger
+
+module _ (ledger : Ledger) (channel denom : Text) (held : Ledger) (name : Text) (mine : Channel) (own : IsOwnEnd name denom held mine) (ledger_is : held ≡ ledger) (name_is : name ≡ channel) where
+  pub own_of : IsOwnEnd channel denom ledger mine
+  own_of = subst (λ (n : Text). IsOwnEnd n denom ledger mine) name_is (subst (λ (l : Ledger). IsOwnEnd name denom l mine) ledger_is own)
+
+  pub tracked_of : {o : Option ℕ} → tracked_over held mine ≡ o → tracked_over ledger mine ≡ o
+  tracked_of {o} is = subst (λ (l : Ledger). tracked_over l mine ≡ o) ledger_is is
+
+  module _ (world : World) (chain : ℕ) (of : StandsAt world chain ledger) where
+    pub without_client : tracked_over held mine ≡ None → totals world chain channel denom ≡ Err WrongPeer
+    without_client none =
+        no_peer world chain channel denom ledger mine of own_of (untracked world (state_of ledger).chain.records.core mine (tracked_of none))
+
+    pub without_ledger : (k : ℕ) → tracked_over held mine ≡ Some k → slice_get world k ≡ None → totals world chain channel denom ≡ Err WrongPeer
+    without_ledger k tracked gone =
+        no_peer world chain channel denom ledger mine of own_of (no_ledger world (state_of ledger).chain.records.core mine k (tracked_of tracked) gone)
+
+    pub with_peer : {answer : Checked Totals} (k : ℕ) (peer : Ledger) → tracked_over held mine ≡ Some k → StandsAt world k peer → AnswersWith held mine peer name denom answer → totals world chain channel denom ≡ answer
+    with_peer {answer} k peer tracked there so =
+        subst (λ (n : Text). totals world chain n denom ≡ answer) name_is
+        (so world chain k (subst (λ (l : Ledger). StandsAt world chain l) (sym ledger_is) of) tracked there)
+
+-- ---- refusals
+
+pub or_memory : {P Q : Type 0} (x : Refusal) → (P → Q) → (x ≡ NoMemory) ⊎ P → (x ≡ NoMemory) ⊎ Q
+or_memory x says (inl memory) = inl memory
+or_memory x says (inr so) = inr (says so)
+
+pub or_last : {P Q R : Type 0} (x : Refusal) → (P → R) → (x ≡ NoMemory) ⊎ P → (x ≡ NoMemory) ⊎ Q ⊎ R
+or_last x says (inl memory) = inl memory
+or_last x says (inr so) = inr (inr (says so))
+
+pub too_large : {P : Type 0} {Q : Refusal → Type 0} (x : Refusal) → (P → Q TooLarge) → (x ≡ NoMemory) ⊎ ((x ≡ TooLarge) × P) → (x ≡ NoMemory) ⊎ Q x
+too_large {P} {Q} x says (inl memory) = inl memory
+too_large {P} {Q} x says (inr (is, past)) = inr (subst Q (sym is) (says past))
 
 -- ---- what is said by cases of an option
 

@@ -9,4 +9,5 @@ mod world;
 
 pub use gathering::{audit, audit_in_place};
 pub use holdings::Audit;
+pub use totals::totals_of_ledgers;
 pub use world::{NotRun, World};

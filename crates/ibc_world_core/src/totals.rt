@@ -5,9 +5,9 @@ ghost use Rattle.ibc_ids.specs.declared.refusal.Refusal.TheVariants.{NoMemory, T
 ghost use Rattle.ibc_machine.specs.ics20.Bank.{balance, escrow};
 ghost use Rattle.ibc_machine.specs.ics04.Channels.{is_established};
 ghost use Rattle.ibc_machine.specs.ledger.Ledgers.{machine_of, state_of};
-ghost use Rattle.ibc_machine.specs.promises.Totals.{totals, flight_between, peer_at};
+ghost use Rattle.ibc_machine.specs.promises.Totals.{totals, flight_between};
 ghost use Rattle.ibc_world_core.specs.WorldModel.{ledgers_alone};
-ghost use Rattle.ibc_world_core.specs.Totals.{IsOwnEnd, IsPeerEnd, AllHold, FirstHold, peer_amounts, abstract_totals};
+ghost use Rattle.ibc_world_core.specs.Totals.{IsOwnEnd, IsPeerEnd, AnswersAlone, AnswersWith, AreTotals, AreRefused, TracksPeer, AllHold, FirstHold, named_end, tracked_over, peer_amounts, abstract_totals};
 
 use crate::World;
 use ibc_ids::{Account, ChannelId, Denom, Refusal};
@@ -38,19 +38,17 @@ impl World {
         ensures ok { IfOk result (λ t. totals (machine_of self.now.ledgers) chain channel.now denom.now ≡ Ok (abstract_totals t)) }
         ensures refused { IfErr result (λ refusal. (refusal ≡ NoMemory) ⊎ (totals (machine_of self.now.ledgers) chain channel.now denom.now ≡ Err refusal)) }
     {
-        let mine = self.own_end(chain, channel, denom)?;
-        let Some(peer) = self.peer_end(mine)? else {
+        let Some(ledger) = self.ledger(chain) else {
+            return Err(Refusal::UnknownChain);
+        };
+        let mine = own_end(self.alloc, ledger, channel, denom)?;
+        let Some(tracked) = tracked_chain(mine) else {
             return Err(Refusal::WrongPeer);
         };
-        let escrow = escrowed(mine, denom)?;
-        let out = under_way(self.alloc, mine, peer, denom)?;
-        let (vouchers, back) = abroad(self.alloc, mine, peer, denom)?;
-        Ok(Totals {
-            escrow,
-            vouchers,
-            out,
-            back,
-        })
+        let Some(peer) = self.ledger(tracked) else {
+            return Err(Refusal::WrongPeer);
+        };
+        totals_with(self.alloc, mine, peer, denom)
     }
 
     /// Each denomination of which an account of a chain holds something has the form of one (ICS 20).
@@ -59,55 +57,106 @@ impl World {
     {
         lemma_each_holds_denominations(self.ledgers.as_slice());
     }
+}
 
-    // The end of a channel of port `transfer` that is OPEN or CLOSED, and over which the denomination didn't come. Refused,
-    // the first that holds: `UnknownChain`, `UnknownChannel`, `WrongState`, `BadMessage`; or `NoMemory`.
-    fn own_end<'a>(
-        &'a self,
-        chain: u8,
-        channel: &'a ChannelId,
-        denom: &Denom,
-    ) -> Result<LedgerEnd<'a>, Refusal>
-        ensures ok { IfOk result (λ mine. IsOwnEnd (machine_of self.now.ledgers) chain channel.now denom.now mine.ledger.now.ledger mine.end.now) }
-        ensures name { IfOk result (λ mine. mine.name.now ≡ channel.now) }
-        ensures refused { IfErr result (λ refusal. (refusal ≡ NoMemory) ⊎ (totals (machine_of self.now.ledgers) chain channel.now denom.now ≡ Err refusal)) }
-    {
-        let port = transfer_port(self.alloc)?;
-        let Some(ledger) = self.ledger(chain) else {
-            return Err(Refusal::UnknownChain);
-        };
-        let Some(end) = ledger.channel(&port, channel)? else {
-            return Err(Refusal::UnknownChannel);
-        };
-        if !is_established(end) {
-            return Err(Refusal::WrongState);
-        }
-        if came_over(self.alloc, channel, denom)? {
-            return Err(Refusal::BadMessage);
-        }
-        Ok(LedgerEnd {
-            ledger,
-            name: channel,
-            end,
-        })
+/// What `World::totals` tells of a channel of a ledger, where the peer's ledger is given. The totals are those of every world in
+/// which both ledgers stand at the places of their chains. Refused, the first that holds: `UnknownChannel`; `WrongState`;
+/// `BadMessage`; `WrongPeer` where the client under the end tracks another chain than the peer's, or where the end that is named
+/// isn't there; `TooLarge`. `NoMemory` may stand for any of these.
+pub fn totals_of_ledgers(
+    alloc: Global,
+    ledger: &Ledger,
+    peer: &Ledger,
+    channel: &ChannelId,
+    denom: &Denom,
+) -> Result<Totals, Refusal>
+    ensures ok { IfOk result (AreTotals ledger.now.ledger peer.now.ledger channel.now denom.now) }
+    ensures peer { IfOk result (λ t. TracksPeer ledger.now.ledger peer.now.ledger channel.now) }
+    ensures err { IfErr result (AreRefused ledger.now.ledger peer.now.ledger channel.now denom.now) }
+{
+    let mine = own_end(alloc, ledger, channel, denom)?;
+    let Some(tracked) = tracked_chain(mine) else {
+        return Err(Refusal::WrongPeer);
+    };
+    if tracked != peer.chain() {
+        return Err(Refusal::WrongPeer);
     }
+    totals_with(alloc, mine, peer, denom)
+}
 
-    // The end that an end names as its peer, on the chain that its client tracks, or none. Refused: `NoMemory`.
-    fn peer_end<'a>(&'a self, mine: LedgerEnd<'a>) -> Result<Option<LedgerEnd<'a>>, Refusal>
-        ensures ok { IfOk result (λ found. MatchOption found (peer_at (machine_of self.now.ledgers) (state_of mine.entry.ledger.now.ledger).chain.records.core mine.entry.end.now ≡ None) (λ peer. IsPeerEnd (machine_of self.now.ledgers) mine.entry.ledger.now.ledger mine.entry.end.now peer.ledger.now.ledger peer.name.now peer.end.now)) }
-        ensures err { IsOkUnless result NoMemory }
-    {
-        let end = mine.end.end();
-        let Some(chain) = mine.ledger.tracked_over(&end.connection) else {
-            return Ok(None);
-        };
-        let Some(ledger) = self.ledger(chain) else {
-            return Ok(None);
-        };
-        match ledger.named_channel(end)? {
-            Some((name, end)) => Ok(Some(LedgerEnd { ledger, name, end })),
-            None => Ok(None),
-        }
+// The end of a channel of port `transfer` that is OPEN or CLOSED, and over which the denomination didn't come. Refused, the first
+// that holds: `UnknownChannel`, `WrongState`, `BadMessage`; or `NoMemory`.
+fn own_end<'a>(
+    alloc: Global,
+    ledger: &'a Ledger,
+    channel: &'a ChannelId,
+    denom: &Denom,
+) -> Result<LedgerEnd<'a>, Refusal>
+    ensures ok { IfOk result (λ mine. IsOwnEnd mine.name.now denom.now mine.ledger.now.ledger mine.end.now) }
+    ensures ledger { IfOk result (λ mine. mine.ledger.now.ledger ≡ ledger.now.ledger) }
+    ensures name { IfOk result (λ mine. mine.name.now ≡ channel.now) }
+    ensures refused { IfErr result (λ refusal. (refusal ≡ NoMemory) ⊎ AnswersAlone ledger.now.ledger channel.now denom.now (Err refusal)) }
+{
+    let port = transfer_port(alloc)?;
+    let Some(end) = ledger.channel(&port, channel)? else {
+        return Err(Refusal::UnknownChannel);
+    };
+    if !is_established(end) {
+        return Err(Refusal::WrongState);
+    }
+    if came_over(alloc, channel, denom)? {
+        return Err(Refusal::BadMessage);
+    }
+    Ok(LedgerEnd {
+        ledger,
+        name: channel,
+        end,
+    })
+}
+
+// The number of the chain that the client under an end tracks, or none.
+fn tracked_chain(mine: LedgerEnd<'_>) -> Option<u8>
+    ensures { result ≡ tracked_over mine.entry.ledger.now.ledger mine.entry.end.now }
+{
+    let end = mine.end.end();
+    mine.ledger.tracked_over(&end.connection)
+}
+
+// The totals of an end whose peer's ledger is this. Refused: `WrongPeer` where the end that it names isn't there; `TooLarge`;
+// `NoMemory`.
+fn totals_with(
+    alloc: Global,
+    mine: LedgerEnd<'_>,
+    ledger: &Ledger,
+    denom: &Denom,
+) -> Result<Totals, Refusal>
+    requires { IsOwnEnd mine.name.now denom.now mine.ledger.now.ledger mine.end.now }
+    ensures ok { IfOk result (λ t. AnswersWith mine.entry.ledger.now.ledger mine.entry.end.now ledger.now.ledger mine.entry.name.now denom.now (Ok (abstract_totals t))) }
+    ensures refused { IfErr result (λ refusal. (refusal ≡ NoMemory) ⊎ AnswersWith mine.entry.ledger.now.ledger mine.entry.end.now ledger.now.ledger mine.entry.name.now denom.now (Err refusal)) }
+{
+    let Some(peer) = peer_end(mine, ledger)? else {
+        return Err(Refusal::WrongPeer);
+    };
+    let escrow = escrowed(mine, denom)?;
+    let out = under_way(alloc, mine, peer, denom)?;
+    let (vouchers, back) = abroad(alloc, mine, peer, denom)?;
+    Ok(Totals {
+        escrow,
+        vouchers,
+        out,
+        back,
+    })
+}
+
+// The end of a ledger that an end names as its peer, or none. Refused: `NoMemory`.
+fn peer_end<'a>(mine: LedgerEnd<'a>, ledger: &'a Ledger) -> Result<Option<LedgerEnd<'a>>, Refusal>
+    ensures ok { IfOk result (λ found. MatchOption found (named_end ledger.now.ledger mine.entry.end.now ≡ None) (λ peer. (peer.ledger.now.ledger ≡ ledger.now.ledger) × IsPeerEnd mine.entry.end.now ledger.now.ledger peer.name.now peer.end.now)) }
+    ensures err { IsOkUnless result NoMemory }
+{
+    let end = mine.end.end();
+    match ledger.named_channel(end)? {
+        Some((name, end)) => Ok(Some(LedgerEnd { ledger, name, end })),
+        None => Ok(None),
     }
 }
 

@@ -49,6 +49,20 @@ pub struct Amount {
     pub low: u64,
 }
 
+/// What a channel of port `transfer` has of a denomination.
+#[repr(C)]
+#[derive(Clone, Copy, Debug, Default)]
+pub struct ChannelTotals {
+    /// What its escrow account holds.
+    pub escrow: Amount,
+    /// Its vouchers on the peer's chain.
+    pub vouchers: Amount,
+    /// What is under way to the peer.
+    pub out: Amount,
+    /// What is under way back.
+    pub back: Amount,
+}
+
 /// What a view tells of itself.
 #[repr(C)]
 #[derive(Clone, Copy, Debug, Default)]
@@ -226,6 +240,21 @@ extern "C" {
         denom: *const u8,
         denom_size: usize,
         amount: *mut Amount,
+    ) -> u32;
+    /// Tells the totals of a ledger's channel, by that ledger and the one of the peer's chain, as their working blocks
+    /// have them. IBCW_EMPTY and IBCW_OTHER_KIND of either handle; IBCW_OTHER_WORLD where the ledgers are of two
+    /// worlds; IBCW_BAD_NAME exactly where one is no name of its kind. Then the first that holds:
+    /// IBCW_UNKNOWN_CHANNEL; IBCW_WRONG_STATE where the end is neither OPEN nor CLOSED; IBCW_BAD_MESSAGE where the
+    /// denomination came over this end. Behind these IBCW_WRONG_PEER where the end's client tracks another chain, or
+    /// the peer's end isn't there; IBCW_TOO_LARGE where a sum is more than 2^128 - 1.
+    pub fn ibcw_totals(
+        ledger: *mut Handle,
+        peer: *mut Handle,
+        channel: *const u8,
+        channel_size: usize,
+        denom: *const u8,
+        denom_size: usize,
+        totals: *mut ChannelTotals,
     ) -> u32;
     /// Writes the bytes of the packet that the ledger sent from an end of a channel under a sequence, whether its
     /// commitment stands or not (ICS 4). IBCW_EMPTY, IBCW_OTHER_KIND, IBCW_BAD_NAME exactly where the port or the

@@ -8,6 +8,19 @@ use ibcworld_sys as sys;
 /// The room for the bytes of a reply: none has more.
 const REPLY: usize = 1024;
 
+/// What a channel of port `transfer` has of a denomination (ICS 20).
+#[derive(Clone, Copy, Debug, PartialEq, Eq, Hash)]
+pub struct Totals {
+    /// What its escrow account holds.
+    pub escrow: u128,
+    /// Its vouchers on the peer's chain.
+    pub vouchers: u128,
+    /// What is under way to the peer.
+    pub out: u128,
+    /// What is under way back.
+    pub back: u128,
+}
+
 /// A chain that sees the others through published roots and proofs alone.
 ///
 /// ```
@@ -245,6 +258,38 @@ impl Ledger {
             )
         })?;
         Ok(whole(&amount))
+    }
+
+    /// What a channel of port `transfer` has of a denomination, by this ledger and the one of the peer's chain, as their working blocks have them.
+    ///
+    /// # Errors
+    /// `OtherWorld` where the ledgers are of two worlds, `BadName` where one is no name of its kind, `UnknownChannel`, `WrongState` where the end
+    /// is neither OPEN nor CLOSED, `BadMessage` where the denomination came over this end, `WrongPeer` where the end's client tracks another chain
+    /// than the peer's or the peer's end isn't there, `TooLarge` where a sum is more than 2^128 - 1, `NoMemory`. A ledger isn't its own peer:
+    /// `WrongPeer` too.
+    pub fn totals(&self, peer: &Ledger, channel: &str, denom: &str) -> Result<Totals, Refused> {
+        if std::ptr::eq(self, peer) {
+            return Err(Refused::WrongPeer);
+        }
+        let mut told = sys::ChannelTotals::default();
+        // SAFETY: two handles of the library, each used by this call alone; the pointers and lengths are those of slices.
+        Refused::check(unsafe {
+            sys::ibcw_totals(
+                self.owned.handle(),
+                peer.owned.handle(),
+                channel.as_ptr(),
+                channel.len(),
+                denom.as_ptr(),
+                denom.len(),
+                &mut told,
+            )
+        })?;
+        Ok(Totals {
+            escrow: whole(&told.escrow),
+            vouchers: whole(&told.vouchers),
+            out: whole(&told.out),
+            back: whole(&told.back),
+        })
     }
 
     /// What the accounts hold in the working block: the amounts above 0, by the byte order of the accounts and then of the denominations.

@@ -26,7 +26,7 @@ mod world;
 
 pub use genesis::Genesis;
 pub use history::{Effect, Entry, Event, History};
-pub use ledger::Ledger;
+pub use ledger::{Ledger, Totals};
 pub use lists::{Account, ChannelNotes, Holding};
 pub use message::{
     message_proof, message_tag, screen, AckPacket, ChanCloseConfirm, ChanCloseInit, ChanOpenAck,

@@ -104,6 +104,57 @@ fn what_was_applied_is_read_back() -> Result<(), Refused> {
 }
 
 #[test]
+fn an_escrow_is_its_vouchers_and_what_is_under_way() -> Result<(), Refused> {
+    let (_world, mut x, mut y) = begin()?;
+    open(&mut x, &mut y, &Opening::of_tokens(TIME))?;
+    let mut done = Relayed::default();
+    let totals = |x: &Ledger, y: &Ledger| {
+        let told = x.totals(y, "channel-0", "gold").expect("totals");
+        assert_eq!(told.escrow, told.vouchers + told.out + told.back);
+        (told.escrow, told.out, told.back)
+    };
+    let mut all = transfer(u128::MAX);
+    all.denom = "gold".into();
+    x.apply(all)?;
+    assert_eq!(totals(&x, &y), (u128::MAX, u128::MAX, 0));
+    relay(&mut x, &mut y, TIME, &mut done)?;
+    assert_eq!(totals(&x, &y), (u128::MAX, 0, 0));
+    let mut home = Transfer::new("channel-0", "bob", "transfer/channel-0/gold", 7, "alice");
+    home.timeout_height = 1_000;
+    y.apply(home)?;
+    assert_eq!(totals(&x, &y), (u128::MAX, 0, 7));
+    relay(&mut x, &mut y, TIME, &mut done)?;
+    assert_eq!(totals(&x, &y), (u128::MAX - 7, 0, 0));
+    Ok(())
+}
+
+#[test]
+fn totals_are_of_two_ledgers_of_one_world() -> Result<(), Refused> {
+    let (_world, mut x, mut y) = begin()?;
+    let (_other, c, d) = begin()?;
+    open(&mut x, &mut y, &Opening::of_tokens(TIME))?;
+    let refused = |x: &Ledger, y: &Ledger, channel: &str, denom: &str| {
+        x.totals(y, channel, denom).unwrap_err()
+    };
+    assert_eq!(refused(&x, &d, "channel-0", "atom"), Refused::OtherWorld);
+    assert_eq!(
+        refused(&c, &d, "channel-0", "atom"),
+        Refused::UnknownChannel
+    );
+    assert_eq!(refused(&x, &x, "channel-0", "atom"), Refused::WrongPeer);
+    assert_eq!(refused(&x, &y, "channel", "atom"), Refused::BadName);
+    assert_eq!(
+        refused(&x, &y, "channel-9", "atom"),
+        Refused::UnknownChannel
+    );
+    assert_eq!(
+        refused(&y, &x, "channel-0", "transfer/channel-0/atom"),
+        Refused::BadMessage
+    );
+    Ok(())
+}
+
+#[test]
 fn a_text_that_is_too_long_is_refused_and_never_cut() -> Result<(), Refused> {
     let (_world, mut x, _y) = begin()?;
     let long = SendNote {
