@@ -256,9 +256,9 @@ pub or_last : {P Q R : Type 0} (x : Refusal) → (P → R) → (x ≡ NoMemory) 
 or_last x says (inl memory) = inl memory
 or_last x says (inr so) = inr (inr (says so))
 
-pub too_large : {P : Type 0} {Q : Refusal → Type 0} (x : Refusal) → (P → Q TooLarge) → (x ≡ NoMemory) ⊎ ((x ≡ TooLarge) × P) → (x ≡ NoMemory) ⊎ Q x
-too_large {P} {Q} x says (inl memory) = inl memory
-too_large {P} {Q} x says (inr (is, past)) = inr (subst Q (sym is) (says past))
+pub too_large : {P : Type 0} (Q : Refusal → Type 0) (x : Refusal) → (P → Q TooLarge) → (x ≡ NoMemory) ⊎ ((x ≡ TooLarge) × P) → (x ≡ NoMemory) ⊎ Q x
+too_large Q x says (inl memory) = inl memory
+too_large Q x says (inr (is, past)) = inr (subst Q (sym is) (says past))
 
 -- ---- what is said by cases of an option
 

@@ -1,13 +1,12 @@
 -- What is so of the end that was found is so of the ledger.
-use Rattle.std.proofs.Common.{◌≡◌, ℕ, refl, sym, ◌∙◌, ap, Some, inl, inr}
+use Rattle.std.proofs.Common.{ℕ, refl, sym, ◌∙◌, ap, Some, inl, inr}
 use Rattle.std.proofs.lemmas.Result.{IfOk-weaker, IfErr-weaker, err_from_is_err_and}
-use Rattle.ibc_world_core.specs.Totals.{AreRefused}
 use Rattle.ibc_world_core.proofs.CountedTotals.{own_of, tracked_of, without_client, with_peer, or_last}
 use Rattle.ibc_world_core.proofs.totals.totals_of_ledgers.Goals as goal
 
 pub returns-in_err-mine-clause-err : goal.returns-in_err-mine-clause-err
 returns-in_err-mine-clause-err c =
-    let p = err_from_is_err_and c.from_residual-in_err-mine.result c.from_residual-in_err-mine.ensures.1 in
+    let p = err_from_is_err_and c.from_residual.result c.from_residual.ensures.1 in
     rw (p.1, p.2) (or_last c.in_err-mine.field-0.0 (λ says world of there. says world c.args.ledger.now.ledger.chain of) c.in_err-mine.ensures.refused)
 
 pub returns-in_default-clause-err : goal.returns-in_default-clause-err

@@ -1,6 +1,7 @@
 -- The sums are those of the two ends.
 use Rattle.std.proofs.Common.{◌≡◌, ◌≤◌, sym, subst, Some, None, Err, ◌^◌, inr}
 use Rattle.std.proofs.lemmas.Result.{err_from_is_err_and}
+use Rattle.ibc_ids.specs.declared.refusal.Refusal.{Refusal}
 use Rattle.ibc_machine.specs.ledger.Ledgers.{Ledger, state_of}
 use Rattle.ibc_machine.specs.promises.Totals.{flight_between}
 use Rattle.ibc_world_core.specs.Totals.{IsPeerEnd, AnswersWith, StandsAt, named_end, peer_amounts}
@@ -23,7 +24,7 @@ returns-in_err-out-clause-refused c =
     let found = said (named_end c.args.ledger.now.ledger mine.end.now ≡ None) (λ peer. (peer.ledger.now.ledger ≡ c.args.ledger.now.ledger) × IsPeerEnd mine.end.now c.args.ledger.now.ledger peer.name.now peer.end.now) _ peer c.in-Some.is c.in_ok-peer.ensures.ok in
     let is = subst (λ (l : Ledger). IsPeerEnd mine.end.now l peer.name.now peer.end.now) (sym found.0) found.1 in
     let p = err_from_is_err_and c.from_residual-in_err-out.result c.from_residual-in_err-out.ensures.1 in
-    rw (p.1, p.2) (too_large {P = 2 ^ 128 ≤ flight_between c.args.denom.now (Some mine.end.now) (Some peer.end.now)} {Q = λ x. AnswersWith mine.ledger.now.ledger mine.end.now c.args.ledger.now.ledger mine.name.now c.args.denom.now (Err x)} c.in_err-out.field-0.0
+    rw (p.1, p.2) (too_large {P = 2 ^ 128 ≤ flight_between c.args.denom.now (Some mine.end.now) (Some peer.end.now)} (λ (x : Refusal). AnswersWith mine.ledger.now.ledger mine.end.now c.args.ledger.now.ledger mine.name.now c.args.denom.now (Err x)) c.in_err-out.field-0.0
     (λ past world k tracked of tracks there. too_much_out world k mine.name.now c.args.denom.now mine.ledger.now.ledger mine.end.now of c.requires tracked peer.ledger.now.ledger peer.name.now peer.end.now tracks (subst (λ (l : Ledger). StandsAt world tracked l) (sym found.0) there) is past) c.in_err-out.ensures.refused)
 
 pub returns-in_err-vouchers-clause-refused : goal.returns-in_err-vouchers-clause-refused
@@ -33,7 +34,7 @@ returns-in_err-vouchers-clause-refused c =
     let found = said (named_end c.args.ledger.now.ledger mine.end.now ≡ None) (λ peer. (peer.ledger.now.ledger ≡ c.args.ledger.now.ledger) × IsPeerEnd mine.end.now c.args.ledger.now.ledger peer.name.now peer.end.now) _ peer c.in-Some.is c.in_ok-peer.ensures.ok in
     let is = subst (λ (l : Ledger). IsPeerEnd mine.end.now l peer.name.now peer.end.now) (sym found.0) found.1 in
     let p = err_from_is_err_and c.from_residual-in_err-vouchers.result c.from_residual-in_err-vouchers.ensures.1 in
-    rw (p.1, p.2) (too_large {P = 2 ^ 128 ≤ (peer_amounts (state_of peer.ledger.now.ledger).chain mine.end.now peer.name.now peer.end.now c.args.denom.now).1} {Q = λ x. AnswersWith mine.ledger.now.ledger mine.end.now c.args.ledger.now.ledger mine.name.now c.args.denom.now (Err x)} c.in_err-vouchers.field-0.0
+    rw (p.1, p.2) (too_large {P = 2 ^ 128 ≤ (peer_amounts (state_of peer.ledger.now.ledger).chain mine.end.now peer.name.now peer.end.now c.args.denom.now).1} (λ (x : Refusal). AnswersWith mine.ledger.now.ledger mine.end.now c.args.ledger.now.ledger mine.name.now c.args.denom.now (Err x)) c.in_err-vouchers.field-0.0
     (λ past world k tracked of tracks there. too_much_back world k mine.name.now c.args.denom.now mine.ledger.now.ledger mine.end.now of c.requires tracked peer.ledger.now.ledger peer.name.now peer.end.now tracks (subst (λ (l : Ledger). StandsAt world tracked l) (sym found.0) there) is past) c.in_err-vouchers.ensures.refused)
 
 pub returns-clause-ok : goal.returns-clause-ok

@@ -1,5 +1,5 @@
 -- What is so of the ledgers of the two ends is so of the world.
-use Rattle.std.proofs.Common.{◌≡◌, sym, ap, ◌∙◌, Some, None, option_map, inr, Bor}
+use Rattle.std.proofs.Common.{sym, ap, ◌∙◌, option_map, inr, Bor}
 use Rattle.std.proofs.lemmas.Result.{IfOk-weaker, IfErr-weaker, err_from_is_err_and}
 use Rattle.ibc_machine.specs.ledger.Ledgers.{machine_of}
 use Rattle.ibc_ledger.specs.LedgerModel.{LedgerModel}
@@ -16,7 +16,7 @@ pub returns-in_err-mine-clause-refused : goal.returns-in_err-mine-clause-refused
 returns-in_err-mine-clause-refused c =
     let ledgers = c.args.self.now.ledgers in
     let of = chain_there ledgers c.args.chain c.in-Some.ledger.now.ledger (sym c.ledger.ensures ∙ ap (option_map (λ (l : Bor LedgerModel). l.now.ledger)) c.in-Some.is) in
-    let p = err_from_is_err_and c.from_residual-in_err-mine.result c.from_residual-in_err-mine.ensures.1 in
+    let p = err_from_is_err_and c.from_residual.result c.from_residual.ensures.1 in
     rw (p.1, p.2) (or_memory c.in_err-mine.field-0.0 (λ says. says (machine_of ledgers) c.args.chain of) c.in_err-mine.ensures.refused)
 
 pub returns-in_default-tracked_chain-clause-refused : goal.returns-in_default-tracked_chain-clause-refused
