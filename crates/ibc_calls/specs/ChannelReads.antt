@@ -23,7 +23,7 @@ pub record AreTold (channel denom : Text) (ledger peer : Ledger) (told : Channel
   pub answered : answer ≡ Ok tt
   pub names : AreEscrow channel denom
   pub totals : AreTotals ledger peer channel denom (sums_of told)
-  pub peer : TracksPeer ledger peer channel
+  pub tracks : TracksPeer ledger peer channel
 
 -- the answer is a refusal of the core's
 abbrev pub IsOfCore : Text → Text → Ledger → Ledger → Answer → Type 0

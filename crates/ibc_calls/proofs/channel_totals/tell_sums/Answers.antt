@@ -17,11 +17,11 @@ returns-in-Ok c =
       answered = refl;
       names = names.2;
       totals = subst (λ (x : (Text × Text) × Totals). AreTotals ledger peer x.0.0 x.0.1 x.1) (λ i. ((names.0 i, names.1 i), sym c.in_parts.ensures i)) told;
-      peer = subst (λ (n : Text). TracksPeer ledger peer n) names.0 tracks;
+      tracks = subst (λ (n : Text). TracksPeer ledger peer n) names.0 tracks;
     })
 
-pub returns-in-Err : goal.returns-in-Err
-returns-in-Err c =
+pub returns : goal.returns
+returns c =
     let names = c.in_ok-channel.ensures.ok in
     let ledger = c.args.ledger.now.ledger in
     let peer = c.args.peer.now.ledger in
