@@ -177,14 +177,18 @@ fn is_due(all: &[Again<'_>], chain: usize) -> bool {
 /// The first answer that is another, or why no world is made.
 pub fn replay(genesis: &Genesis, histories: &[Vec<Entry>]) -> Result<World, NotReplayed> {
     let mut world = genesis.world()?;
-    let mut all = Vec::with_capacity(histories.len());
+    let mut ledgers = Vec::with_capacity(histories.len());
     while let Some(ledger) = world.take()? {
-        let entries = histories.get(all.len()).ok_or(NotReplayed::Chains)?;
-        all.push(Again::new(ledger, entries, histories.len())?);
+        ledgers.push(ledger);
     }
-    if all.len() != histories.len() {
+    if ledgers.len() != histories.len() {
         return Err(NotReplayed::Chains);
     }
+    let mut all = ledgers
+        .into_iter()
+        .zip(histories)
+        .map(|(ledger, entries)| Again::new(ledger, entries, histories.len()))
+        .collect::<Result<Vec<_>, _>>()?;
     let mut is_going = true;
     while is_going {
         is_going = false;
