@@ -16,7 +16,7 @@ WORDS = (("refused, as it must be (only because", BAD), ("refused, as it must be
 
 def said_of(edit, text):
     """What `rt ci` said of an edit, in which words."""
-    found = re.search(rf"(?m)^rt: must-fail {re.escape(crate_of(edit))}/{re.escape(os.path.basename(edit.file))}: (.*)$", text)
+    found = re.search(rf"(?m)^rt: must-fail {re.escape(name_of(edit))}: (.*)$", text)
     if not found:
         return UNSURE, f"`rt ci` says nothing of it: {why_not(text)[:160]}"
     kinds = [kind for words, kind in WORDS if found[1].startswith(words)]
@@ -47,9 +47,21 @@ def crate_of(edit):
     return edit.label.partition("/")[0]
 
 
-def try_drawn(root, folder, edits, minutes):
-    """What `rt ci` says of each of these edits. It gets no names of crates, since a gate's machine refuses these."""
+def name_of(edit):
+    """The name that `rt ci` calls an edit by."""
+    return f"{crate_of(edit)}/{os.path.basename(edit.file)}"
+
+
+def try_drawn(root, folder, edits, minutes, tell):
+    """What `rt ci` says of each of these edits, of which `tell` hears at once. It gets no names of crates, since a gate's machine refuses these."""
     clone = Clone(root, folder, 0, minutes)
     place(clone.folder, edits)
-    _, text = clone.run(["ci"], clone.folder)
+    by_name = {name_of(it): it for it in edits}
+
+    def hear(line):
+        found = re.match(r"rt: must-fail ([^:]+): ", line)
+        if found and found[1] in by_name:
+            tell(by_name[found[1]], said_of(by_name[found[1]], line.rstrip("\n")))
+
+    _, text = clone.run(["ci"], clone.folder, hear)
     return {it: said_of(it, text) for it in edits}

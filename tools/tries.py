@@ -54,22 +54,24 @@ class Clone:
             for path, text in before.items():
                 write(f"{at}/{path}", text)
 
-    def run(self, words, at):
-        """The status of the kit's command with these words in a folder, and what it printed."""
+    def run(self, words, at, hear=lambda line: None):
+        """The status of the kit's command with these words in a folder, and what it printed. Each line is heard as it comes."""
         if Clone.is_ended:
             raise Ended
         how = {"stdin": subprocess.DEVNULL, "stdout": subprocess.PIPE, "stderr": subprocess.STDOUT, "cwd": at}
+        told = []
         with subprocess.Popen(["rt", *words], **how) as it:
             Clone.running.append(it)
-            try:
-                told = it.communicate(timeout=60 * self.minutes)[0]
-            except subprocess.TimeoutExpired:
-                it.terminate()
-                told = it.communicate()[0] + f"\nended after {self.minutes:g} minutes".encode()
+            end = threading.Timer(60 * self.minutes, lambda: (told.append(f"\nended after {self.minutes:g} minutes\n"), it.terminate()))
+            end.start()
+            for line in it.stdout:
+                told.append(line.decode(errors="replace"))
+                hear(told[-1])
+            end.cancel()
             Clone.running.remove(it)
         if Clone.is_ended:
             raise Ended
-        return it.returncode, told.decode(errors="replace")
+        return it.returncode, "".join(told)
 
     @staticmethod
     def end_all():
