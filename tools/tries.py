@@ -64,10 +64,12 @@ class Clone:
             Clone.running.append(it)
             end = threading.Timer(60 * self.minutes, lambda: (told.append(f"\nended after {self.minutes:g} minutes\n"), it.terminate()))
             end.start()
-            for line in it.stdout:
-                told.append(line.decode(errors="replace"))
-                hear(told[-1])
-            end.cancel()
+            try:
+                for line in it.stdout:
+                    told.append(line.decode(errors="replace"))
+                    hear(told[-1])
+            finally:
+                end.cancel()
             Clone.running.remove(it)
         if Clone.is_ended:
             raise Ended
