@@ -19,9 +19,12 @@ abbrev pub event_kind : Event → EventKind
 event_kind (event.Message chain m) = kind.Message (kind_of m)
 event_kind (event.Block chain next_time) = kind.Block
 
--- the line that a run prints of an entry of a chain
+-- the line that a run prints of an entry of a chain, by the chain's name, and by its number
+abbrev pub named_line : Text → Entry → Text
+named_line name e = spaced_words (name ∷ kind_name_of (event_kind e.event) ∷ reply_words e.reply)
+
 abbrev pub entry_line : List Text → ℕ → Entry → Text
-entry_line names chain e = spaced_words (name_of names chain ∷ kind_name_of (event_kind e.event) ∷ reply_words e.reply)
+entry_line names chain e = named_line (name_of names chain) e
 
 -- the entry at a place of the ledgers' histories
 abbrev pub entry_at : List Ledger → EntryPlace → Option Entry

@@ -1,12 +1,14 @@
 //! Explanations as JSON, an object a line.
 
 use crate::explanation::Explanation;
+use crate::places::event_kind;
 use crate::settled::Settlement;
 use crate::text::name_of;
 use ibc_ids::Refusal;
 use ibc_machine::Reply;
 use ibc_script::ChainName;
 use ibc_token_data::TokenData;
+use ibc_wire::Token;
 use serde_json::{Map, Value, json};
 use std::alloc::{AllocError, Global};
 
@@ -98,7 +100,8 @@ impl ObjectWriter<'_> {
             self.add(object, "packet", value)?;
         }
         if let Some(client) = told.facts.client {
-            self.add(object, "client", json!(in self.alloc; client.as_str())?)?;
+            let client = client.as_str();
+            self.add(object, "client", json!(in self.alloc; client)?)?;
         }
         if let Some(tracked) = told.facts.tracked {
             let chain = name_of(self.names, tracked);
@@ -113,13 +116,11 @@ impl ObjectWriter<'_> {
     fn refusal(&self, refusal: Refusal, told: &Explanation<'_>) -> Result<Value, AllocError> {
         let name = format!(in self.alloc; "{refusal:?}")?;
         let words = format!(in self.alloc; "{refusal}")?;
-        let sides = told.sides.as_str().trim_start_matches(": ");
-        json!(in self.alloc; {
-            "number": refusal.number() as u64,
-            "name": name.as_str(),
-            "words": words.as_str(),
-            "sides": sides
-        })
+        let number = u64::from(refusal.number());
+        let name = name.as_str();
+        let words = words.as_str();
+        let sides = told.sides.as_str();
+        json!(in self.alloc; {"number": number, "name": name, "words": words, "sides": sides})
     }
 
     // Adds the tokens of a packet, from whom and to whom.
@@ -130,9 +131,7 @@ impl ObjectWriter<'_> {
     ) -> Result<(), AllocError> {
         let mut list = Vec::new(self.alloc);
         for token in &tokens.tokens {
-            let amount = token.amount;
-            let amount = format!(in self.alloc; "{amount}")?;
-            list.push(json!(in self.alloc; [token.denom.as_str(), amount.as_str()])?)?;
+            list.push(self.token(token)?)?;
         }
         self.add(object, "tokens", Value::Array(list))?;
         self.add(
@@ -151,7 +150,8 @@ impl ObjectWriter<'_> {
         match settlement {
             Settlement::Delivered => json!(in self.alloc; {"result": "delivered"}),
             Settlement::Refused(reason) => {
-                json!(in self.alloc; {"result": "refused", "reason": reason.as_str()})
+                let reason = reason.as_str();
+                json!(in self.alloc; {"result": "refused", "reason": reason})
             }
             Settlement::TimedOut => json!(in self.alloc; {"result": "timed out"}),
         }

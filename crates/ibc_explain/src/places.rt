@@ -1,8 +1,8 @@
 //! Lines of a run, and the entries that they are of.
 
-ghost use Rattle.std.specs.Prelude.{◌≡◌, All, IfOk, IfSome, IsTrue, map, option_map, slice_get};
+ghost use Rattle.std.specs.Prelude.{◌≡◌, ◌≤◌, ◌<◌, All, IfOk, IfSome, IsTrue, length, option_map};
 ghost use Rattle.ibc_script_cli.specs.Runs.{name_of};
-ghost use Rattle.ibc_explain.specs.EntryLines.{IsLineOf, IsPlaced, event_kind};
+ghost use Rattle.ibc_explain.specs.EntryLines.{IsLineOf, IsPlaced, entry_at, event_kind, named_line};
 
 use ibc_ids::Refusal;
 use ibc_machine::{Entry, Event};
@@ -32,6 +32,7 @@ pub fn placed_lines(
     world: &World,
     text: &str,
 ) -> Result<Vec<PlacedLine>, Refusal>
+    requires { length names.now ≤ 8 }
     ensures { IfOk result (λ lines. All (IsPlaced names.now world.now.ledgers) lines.items) }
 {
     let placing = Placing {
@@ -39,10 +40,7 @@ pub fn placed_lines(
         names,
         world,
     };
-    let mut next = Vec::new(alloc);
-    for _name in names {
-        next.push(0usize)?;
-    }
+    let mut next = vec![in alloc; 0usize; names.len()]?;
     let mut lines = Vec::new(alloc);
     for line in text.lines() {
         lines.push(placing.placed(line, &mut next)?)?;
@@ -61,7 +59,9 @@ pub fn event_kind(event: &Event) -> EventKind
 }
 
 /// The entry at a place of the ledgers' histories.
-pub fn entry_at(world: &World, place: EntryPlace) -> Option<&Entry> {
+pub fn entry_at(world: &World, place: EntryPlace) -> Option<&Entry>
+    ensures { option_map (λ entry. entry.now) result ≡ entry_at world.now.ledgers place }
+{
     let ledger = world.ledger(place.chain)?;
     let stamped = ledger.history().get(place.index)?;
     Some(&stamped.entry)
@@ -78,11 +78,13 @@ struct Placing<'w> {
 impl<'w> Placing<'w> {
     // A line with its place, where it is the line of a chain's next entry. These are counted in `next`.
     fn placed(&self, line: &str, next: &mut Vec<usize>) -> Result<PlacedLine, Refusal>
-        ensures { IfOk result (IsPlaced self.now.names.now self.now.world.now.ledgers) }
+        requires { length next.old.items ≤ 8 }
+        ensures placed { IfOk result (IsPlaced self.now.names.now self.now.world.now.ledgers) }
+        ensures long { length next.new.items ≡ length next.old.items }
     {
         let place = self.place_of(line, next.as_slice())?;
         if let Some(place) = place {
-            next[usize::from(place.chain)] = place.index + 1;
+            next[usize::from(place.chain)] = place.index.saturating_add(1);
         }
         let text = String::from_str(self.alloc, line)?;
         Ok(PlacedLine { text, place })
@@ -90,7 +92,9 @@ impl<'w> Placing<'w> {
 
     // The place of the entry that a line is of: the next one of the chain that it names.
     fn place_of(&self, line: &str, next: &[usize]) -> Result<Option<EntryPlace>, Refusal>
-        ensures { IfOk result (λ place. IfSome place (IsLineOf self.now.names.now self.now.world.now.ledgers line.now)) }
+        requires { length next.now ≤ 8 }
+        ensures is { IfOk result (λ place. IfSome place (IsLineOf self.now.names.now self.now.world.now.ledgers line.now)) }
+        ensures there { IfOk result (λ place. IfSome place (λ p. p.chain < length next.now)) }
     {
         for (chain, index) in next.iter().enumerate() {
             let place = EntryPlace {
@@ -128,7 +132,9 @@ impl<'w> Placing<'w> {
     }
 
     // Whether a line is that of an entry of a chain of this name.
-    fn is_line(&self, line: &str, name: &str, entry: &Entry) -> Result<bool, Refusal> {
+    fn is_line(&self, line: &str, name: &str, entry: &Entry) -> Result<bool, Refusal>
+        ensures { IfOk result (λ is. IsTrue is → line.now ≡ named_line name.now entry.now) }
+    {
         let printed = Line::Reply {
             chain: name,
             kind: event_kind(&entry.event),

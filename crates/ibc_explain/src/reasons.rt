@@ -30,7 +30,7 @@ pub fn write_sides(
         }
         (Event::Block { next_time, .. }, Refusal::TimeBack) => {
             let time = working_behind(began, before).time;
-            write!(out, ": time {next_time}, working time {time}")
+            write!(out, "time {next_time}, working time {time}")
         }
         (Event::Block { .. }, _) => Ok(()),
     }
@@ -66,10 +66,10 @@ fn write_passed(
     let WorkingBlock { height, time } = working;
     let timeout = packet.timeout_height;
     if timeout != 0 && timeout <= height {
-        return write!(out, ": timeout height {timeout}, working height {height}");
+        return write!(out, "timeout height {timeout}, working height {height}");
     }
     let timeout = packet.timeout_time;
-    write!(out, ": timeout time {timeout}, working time {time}")
+    write!(out, "timeout time {timeout}, working time {time}")
 }
 
 // Timeouts of the packet that no proved height has reached.
@@ -95,7 +95,7 @@ fn write_order(
             next = next.saturating_add(1);
         }
     }
-    write!(out, ": sequence {sequence}, and {next} is next")
+    write!(out, "sequence {sequence}, and {next} is next")
 }
 
 // Whether an entry has received a packet at the end to which this one goes.
@@ -125,9 +125,9 @@ fn write_published(
     match entry.reading {
         Some(reading) => {
             let published = reading.published;
-            write!(out, ": height {height}, and {published} published")
+            write!(out, "height {height}, and {published} published")
         }
-        None => write!(out, ": height {height}"),
+        None => write!(out, "height {height}"),
     }
 }
 

@@ -89,7 +89,7 @@ fn write_refusal(out: &mut String, refusal: Refusal, sides: &str) -> Result<(), 
     if sides.is_empty() {
         write!(out, ": {refusal}")
     } else {
-        out.push_str(sides)
+        write!(out, ": {sides}")
     }
 }
 

@@ -19,7 +19,8 @@ struct SentDenom<'e> {
 /// Writes what each channel of port `transfer` has of each denomination that its chain sent over it: what the chain holds in
 /// escrow, what the peer has of it, and what is under way. Refused: `NoMemory`.
 pub fn write_totals(alloc: Global, run: &ScriptRun, out: &mut String) -> Result<(), Refusal> {
-    for sent in sent_denoms(alloc, run)?.as_slice() {
+    let found = sent_denoms(alloc, run)?;
+    for sent in found.as_slice() {
         match balanced_totals(run.chains.world(), sent.chain, sent.channel, sent.denom) {
             Ok(totals) => write_total(run, out, *sent, totals)?,
             Err(Refusal::NoMemory) => return Err(Refusal::NoMemory),
