@@ -1,5 +1,6 @@
 -- Which entry of a ledger's history a line of a run is of.
-use Rattle.std.specs.Prelude.{◌≡◌, ℕ, List, ◌∷◌, slice_get, Option, None, Some, option_and_then, option_map, IfSome}
+use Rattle.std.specs.List.{range_with_len}
+use Rattle.std.specs.Prelude.{◌≡◌, ◌==◌, ℕ, List, [], ◌∷◌, ◌++◌, length, if◌then◌else◌, slice_get, Option, None, Some, option_and_then, option_map, IfSome}
 use Rattle.ibc_ids.specs.Texts.{Text}
 use Rattle.ibc_machine.specs.declared.entry.Entry.{Entry}
 use Rattle.ibc_machine.specs.declared.event.Event.{Event}
@@ -38,3 +39,19 @@ IsLineOf names ledgers text place = (e : Entry) × (entry_at ledgers place ≡ S
 
 abbrev pub IsPlaced : List Text → List Ledger → PlacedLine → Type 0
 IsPlaced names ledgers line = IfSome line.place (IsLineOf names ledgers line.text)
+
+-- ---- the order of the entries
+
+-- the index of a place, where it is of the chain
+abbrev pub own_index : ℕ → Option EntryPlace → List ℕ
+own_index chain None = []
+own_index chain (Some place) = if place.chain == chain then place.index ∷ [] else []
+
+-- the indexes of a chain's entries, in the order of their lines
+abbrev pub indexes_of : ℕ → List PlacedLine → List ℕ
+indexes_of chain [] = []
+indexes_of chain (line ∷ lines) = own_index chain line.place ++ indexes_of chain lines
+
+-- of each chain the entries stand in order, from its first one on, and none is left out between
+abbrev pub AreInOrder : List PlacedLine → Type 0
+AreInOrder lines = (chain : ℕ) → indexes_of chain lines ≡ range_with_len 0 (length (indexes_of chain lines))

@@ -55,7 +55,10 @@ fn peer_over(
     };
     let ConnectionEnd { client, .. } = end;
     let found: Option<ClientState> = record_at(alloc, ledger, Key::ClientState(client))?;
-    Ok(found.map(|state| state.chain))
+    match found {
+        Some(state) => Ok(Some(state.chain)),
+        None => Ok(None),
+    }
 }
 
 // The record that a ledger has at a key.

@@ -4,7 +4,7 @@ ghost use Rattle.std.specs.Prelude.{◌≡◌, IfOk, IfSome, Some, option_map};
 ghost use Rattle.ibc_explain.specs.EntryLines.{entry_at};
 ghost use Rattle.ibc_explain.specs.Packets.{entry_packet};
 
-use crate::ends::end_of;
+use crate::ends::{EndTold, end_of};
 use crate::places::entry_at;
 use crate::reasons::write_sides;
 use crate::settled::{settlement_of, tokens_of};
@@ -70,15 +70,14 @@ fn sides_of(
     entry: &Entry,
 ) -> Result<String, Refusal> {
     let mut sides = String::new(alloc);
-    let began = run
-        .times
-        .get(usize::from(place.chain))
-        .copied()
-        .unwrap_or(0);
+    let began = match run.times.get(usize::from(place.chain)) {
+        Some(time) => *time,
+        None => 0,
+    };
     if let Some(ledger) = run.chains.world().ledger(place.chain) {
-        if let Some(before) = ledger.history().get(..place.index) {
-            write_sides(&mut sides, began, before, entry)?;
-        }
+        let history = ledger.history();
+        let before = &history[..place.index.min(history.len())];
+        write_sides(&mut sides, began, before, entry)?;
     }
     Ok(sides)
 }
@@ -99,5 +98,12 @@ fn sender_of(alloc: Global, ledger: &Ledger, entry: &Entry) -> Result<Option<u8>
         &packet.destination_port,
         &packet.destination_channel,
     )?;
-    Ok(end.and_then(|end| end.peer))
+    match end {
+        Some(end) => Ok(peer_of(end)),
+        None => Ok(None),
+    }
+}
+
+fn peer_of(end: EndTold) -> Option<u8> {
+    end.peer
 }

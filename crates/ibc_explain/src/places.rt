@@ -2,7 +2,7 @@
 
 ghost use Rattle.std.specs.Prelude.{◌≡◌, ◌≤◌, ◌<◌, All, IfOk, IfSome, IsTrue, length, option_map};
 ghost use Rattle.ibc_script_cli.specs.Runs.{name_of};
-ghost use Rattle.ibc_explain.specs.EntryLines.{IsLineOf, IsPlaced, entry_at, event_kind, named_line};
+ghost use Rattle.ibc_explain.specs.EntryLines.{AreInOrder, IsLineOf, IsPlaced, entry_at, event_kind, named_line};
 
 use ibc_ids::Refusal;
 use ibc_machine::{Entry, Event};
@@ -33,7 +33,8 @@ pub fn placed_lines(
     text: &str,
 ) -> Result<Vec<PlacedLine>, Refusal>
     requires { length names.now ≤ 8 }
-    ensures { IfOk result (λ lines. All (IsPlaced names.now world.now.ledgers) lines.items) }
+    ensures placed { IfOk result (λ lines. All (IsPlaced names.now world.now.ledgers) lines.items) }
+    ensures order { IfOk result (λ lines. AreInOrder lines.items) }
 {
     let placing = Placing {
         alloc,

@@ -11,7 +11,7 @@ use serde_json::Value;
 use std::alloc::{AllocError, Global};
 
 /// What became of a packet by a message.
-#[derive(Debug, Drop)]
+#[derive(Drop)]
 pub enum Settlement {
     /// The peer took it.
     Delivered,
