@@ -134,16 +134,19 @@ impl ObjectWriter<'_> {
             list.push(self.token(token)?)?;
         }
         self.add(object, "tokens", Value::Array(list))?;
-        self.add(
-            object,
-            "from",
-            json!(in self.alloc; tokens.sender.as_str())?,
-        )?;
-        self.add(
-            object,
-            "to",
-            json!(in self.alloc; tokens.receiver.as_str())?,
-        )
+        let sender = tokens.sender.as_str();
+        self.add(object, "from", json!(in self.alloc; sender)?)?;
+        let receiver = tokens.receiver.as_str();
+        self.add(object, "to", json!(in self.alloc; receiver)?)
+    }
+
+    // `[denomination, amount]`, both texts.
+    fn token(&self, token: &Token) -> Result<Value, AllocError> {
+        let denom = token.denom.as_str();
+        let amount = token.amount;
+        let amount = format!(in self.alloc; "{amount}")?;
+        let amount = amount.as_str();
+        json!(in self.alloc; [denom, amount])
     }
 
     fn settlement(&self, settlement: &Settlement) -> Result<Value, AllocError> {
