@@ -30,6 +30,11 @@ pub struct Explanation<'e> {
 }
 
 impl Explanation<'_> {
+    /// Whether the chain sent the packet that the entry is about.
+    pub fn is_of_sender(&self) -> bool {
+        self.sender == Some(self.place.chain)
+    }
+
     /// Whether the event was accepted.
     pub fn is_ok(&self) -> bool {
         matches!(self.entry.reply, Reply::Ok(_))

@@ -80,8 +80,8 @@ impl ObjectWriter<'_> {
         }
         match &told.settlement {
             Some(settlement) => {
-                let value = self.settlement(settlement)?;
-                self.add(object, "settled", value)
+                let value = self.outcome(told, settlement)?;
+                self.add(object, "outcome", value)
             }
             None => Ok(()),
         }
@@ -149,9 +149,17 @@ impl ObjectWriter<'_> {
         json!(in self.alloc; [denom, amount])
     }
 
-    fn settlement(&self, settlement: &Settlement) -> Result<Value, AllocError> {
+    // What became of a packet.
+    fn outcome(
+        &self,
+        told: &Explanation<'_>,
+        settlement: &Settlement,
+    ) -> Result<Value, AllocError> {
         match settlement {
-            Settlement::Delivered => json!(in self.alloc; {"result": "delivered"}),
+            Settlement::Delivered if told.is_of_sender() => {
+                json!(in self.alloc; {"result": "delivered"})
+            }
+            Settlement::Delivered => json!(in self.alloc; {"result": "received"}),
             Settlement::Refused(reason) => {
                 let reason = reason.as_str();
                 json!(in self.alloc; {"result": "refused", "reason": reason})

@@ -78,7 +78,7 @@ fn write_not_passed(out: &mut String, packet: &Packet, height: u64) -> Result<()
     let time = packet.timeout_time;
     write!(
         out,
-        ": timeout height {timeout} and time {time}, proved height {height}"
+        "timeout height {timeout} and time {time}, proved height {height}"
     )
 }
 

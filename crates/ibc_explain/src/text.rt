@@ -154,7 +154,7 @@ fn write_settlement(
     told: &Explanation<'_>,
     settlement: &Settlement,
 ) -> Result<(), AllocError> {
-    let is_own = told.sender == Some(told.place.chain);
+    let is_own = told.is_of_sender();
     match settlement {
         Settlement::Delivered if is_own => out.push_str("delivered"),
         Settlement::Delivered => out.push_str("received"),
