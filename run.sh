@@ -5,6 +5,7 @@
 #   ./run.sh race --relayers 8 SCRIPT     the same with eight relayers at each `relay`, in threads
 #   ./run.sh lab check SCRIPT ..          says what is wrong with scripts, by ibclab
 #   ./run.sh lab explain [--json] SCRIPT  runs a script, and says what each line is about
+#   ./run.sh lab draw [--html | --mermaid] SCRIPT     runs a script, and draws the run, as SVG where nothing else is said
 #   ./run.sh --proved ..                  by the proved program
 #
 # Where the proved program of these sources stands in crates/ibcworld/out (or crates/ibclab/out), it is started, at once. Else `rt try` builds the program without its proofs, in
@@ -21,6 +22,7 @@ usage() {
     echo "usage: ./run.sh [--proved] [race --relayers N] SCRIPT" >&2
     echo "       ./run.sh [--proved] lab check SCRIPT .." >&2
     echo "       ./run.sh [--proved] lab explain [--json] SCRIPT" >&2
+    echo "       ./run.sh [--proved] lab draw [--html | --mermaid] SCRIPT" >&2
     exit 2
 }
 
@@ -60,14 +62,16 @@ look_at() {
 if [ "$1" = lab ]; then
     shift
     case "${1-}" in
-        check | explain) words=("$1") ;;
+        check | explain | draw) words=("$1") ;;
         *) usage ;;
     esac
     shift
-    if [ "${words[0]} ${1-}" = "explain --json" ]; then
-        words+=("$1")
-        shift
-    fi
+    case "${words[0]} ${1-}" in
+        "explain --json" | "draw --html" | "draw --mermaid")
+            words+=("$1")
+            shift
+            ;;
+    esac
     [ $# -gt 0 ] || usage
     name=ibclab
     stored=(--version)

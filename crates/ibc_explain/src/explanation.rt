@@ -5,13 +5,14 @@ ghost use Rattle.ibc_explain.specs.EntryLines.{entry_at};
 ghost use Rattle.ibc_explain.specs.Packets.{entry_packet};
 
 use crate::ends::{EndTold, end_of};
-use crate::places::entry_at;
+use crate::places::{entry_at, event_kind};
 use crate::reasons::write_sides;
 use crate::settled::{settlement_of, tokens_of};
 use crate::{EntryPlace, Facts, ScriptRun, Settlement, facts_of};
 use ibc_ids::Refusal;
 use ibc_ledger::Ledger;
 use ibc_machine::{Entry, Event, Reply};
+use ibc_script::EventKind;
 use ibc_token_data::TokenData;
 use ibc_wire::Message;
 use std::alloc::Global;
@@ -33,6 +34,11 @@ impl Explanation<'_> {
     /// Whether the chain sent the packet that the entry is about.
     pub fn is_of_sender(&self) -> bool {
         self.sender == Some(self.place.chain)
+    }
+
+    /// The kind of the event.
+    pub fn kind(&self) -> EventKind {
+        event_kind(&self.entry.event)
     }
 
     /// Whether the event was accepted.

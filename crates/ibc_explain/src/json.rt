@@ -1,7 +1,6 @@
 //! Explanations as JSON, an object a line.
 
 use crate::explanation::Explanation;
-use crate::places::event_kind;
 use crate::settled::Settlement;
 use crate::text::name_of;
 use ibc_ids::Refusal;

@@ -1,9 +1,12 @@
 //! `ibclab check FILE..`: what is wrong with scripts, and where it stands. `ibclab explain FILE`: what the lines of a run are about.
+//! `ibclab draw FILE`: a picture of a run.
 #![tactic(auto)]
 
 use clap::error::ErrorKind;
 use clap::{Arg, ArgAction, ArgMatches, Command};
-use ibc_explain::{ExplainedForm, explain, run as run_script};
+use ibc_drawing::{PictureForm, draw};
+use ibc_explain::{ExplainedForm, ScriptRun, explain, run as run_script};
+use ibc_ids::Refusal;
 use ibc_lab::{Verdict, check, report};
 use ibc_script::Script;
 use std::alloc::{AllocError, Global};
@@ -46,7 +49,30 @@ fn parser<'a>(alloc: Global) -> Result<Command<'a>, AllocError> {
         .arg_required_else_help(true)
         .subcommand_required(true)
         .subcommand(check)?
-        .subcommand(explain)
+        .subcommand(explain)?
+        .subcommand(draw_parser(alloc)?)
+}
+
+fn draw_parser<'a>(alloc: Global) -> Result<Command<'a>, AllocError> {
+    let file = Arg::new(alloc, "file")
+        .value_name("FILE")
+        .help("A script")
+        .required(true)
+        .action(ArgAction::Set);
+    let html = Arg::new(alloc, "html")
+        .long("html")
+        .help("Print a page of HTML in place of SVG")
+        .action(ArgAction::SetTrue);
+    let mermaid = Arg::new(alloc, "mermaid")
+        .long("mermaid")
+        .help("Print a sequence chart of Mermaid in place of SVG")
+        .conflicts_with("html")?
+        .action(ArgAction::SetTrue);
+    Command::new(alloc, "draw")
+        .about("Run a script, and draw a picture of the run")
+        .arg(html)?
+        .arg(mermaid)?
+        .arg(file)
 }
 
 fn explain_parser<'a>(alloc: Global) -> Result<Command<'a>, AllocError> {
@@ -80,18 +106,30 @@ enum Task {
     Check,
     /// It is run, and its lines are explained.
     Explain(ExplainedForm),
+    /// It is run, and the run is drawn.
+    Draw(PictureForm),
 }
 
-/// Runs a script, and prints what its lines are about. The result is the status.
-fn explain_script<R: Print + AllocGlobal>(
+/// What is printed of a run. Refused: `NoMemory`.
+fn told_of(alloc: Global, task: Task, file: &str, run: &ScriptRun) -> Result<String, Refusal> {
+    match task {
+        Task::Check => Ok(String::new(alloc)),
+        Task::Explain(form) => explain(alloc, run, form),
+        Task::Draw(form) => draw(alloc, run, file, form),
+    }
+}
+
+/// Runs a script, and prints what is asked of the run. The result is the status.
+fn tell_of_run<R: Print + AllocGlobal>(
     rt: &R,
+    task: Task,
+    file: &str,
     script: Script,
-    form: ExplainedForm,
 ) -> io::Result<u8> {
     let Ok(run) = run_script(rt.alloc(), script) else {
         return Err(io::Error::from(AllocError));
     };
-    let told = explain(rt.alloc(), &run, form);
+    let told = told_of(rt.alloc(), task, file, &run);
     drop(run);
     let Ok(told) = told else {
         return Err(io::Error::from(AllocError));
@@ -103,13 +141,18 @@ fn explain_script<R: Print + AllocGlobal>(
 }
 
 /// Does with a script what is asked. The result is the status.
-fn look_at_script<R: Print + AllocGlobal>(rt: &R, task: Task, script: Script) -> io::Result<u8> {
+fn look_at_script<R: Print + AllocGlobal>(
+    rt: &R,
+    task: Task,
+    file: &str,
+    script: Script,
+) -> io::Result<u8> {
     match task {
         Task::Check => {
             drop(script);
             Ok(GOOD)
         }
-        Task::Explain(form) => explain_script(rt, script, form),
+        Task::Explain(_) | Task::Draw(_) => tell_of_run(rt, task, file, script),
     }
 }
 
@@ -121,7 +164,7 @@ fn look_at_text<R: Print + AllocGlobal>(
     text: &[u8],
 ) -> io::Result<u8> {
     match check(rt.alloc(), text)? {
-        Verdict::Good(script) => look_at_script(rt, task, script),
+        Verdict::Good(script) => look_at_script(rt, task, file, script),
         Verdict::Bad(faults) => {
             let lines = report(rt.alloc(), file, text, faults.as_slice());
             drop(faults);
@@ -155,12 +198,13 @@ fn look_at_file<R: Files + Print + Eprint + AllocGlobal>(
 
 /// What is asked for by a command's name and words.
 fn task_of(command: &str, words: &ArgMatches<'_>) -> Task {
-    if command != "explain" {
-        Task::Check
-    } else if words.get_flag("json") {
-        Task::Explain(ExplainedForm::Json)
-    } else {
-        Task::Explain(ExplainedForm::Text)
+    match command {
+        "explain" if words.get_flag("json") => Task::Explain(ExplainedForm::Json),
+        "explain" => Task::Explain(ExplainedForm::Text),
+        "draw" if words.get_flag("html") => Task::Draw(PictureForm::Html),
+        "draw" if words.get_flag("mermaid") => Task::Draw(PictureForm::Mermaid),
+        "draw" => Task::Draw(PictureForm::Svg),
+        _ => Task::Check,
     }
 }
 
