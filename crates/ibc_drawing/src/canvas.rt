@@ -32,7 +32,7 @@ pub struct Tick {
 
 /// How many packets had which end, and how much was refused.
 #[derive(Clone, Copy)]
-pub struct Counts {
+pub struct PacketCounts {
     pub sent: u64,
     pub received: u64,
     pub settled: u64,
@@ -50,7 +50,7 @@ pub struct Canvas<'e> {
     pub y: usize,
     pub ticks: Vec<Tick>,
     pub packets: DrawnPackets<'e>,
-    pub counts: Counts,
+    pub counts: PacketCounts,
 }
 
 impl Canvas<'_> {
@@ -66,7 +66,7 @@ impl Canvas<'_> {
             packets: DrawnPackets {
                 met: Vec::new(alloc),
             },
-            counts: Counts {
+            counts: PacketCounts {
                 sent: 0,
                 received: 0,
                 settled: 0,
