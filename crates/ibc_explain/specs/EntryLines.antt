@@ -1,6 +1,7 @@
--- Which entry of a ledger's history a line of a run is of.
-use Rattle.std.specs.List.{range_with_len}
-use Rattle.std.specs.Prelude.{◌≡◌, ◌==◌, ℕ, List, [], ◌∷◌, ◌++◌, length, if◌then◌else◌, slice_get, Option, None, Some, option_and_then, option_map, IfSome}
+-- Which entry of a ledger's history a line of a run is of, and that no line and no entry is left out.
+use Rattle.std.specs.Prelude.{◌≡◌, ◌==◌, ℕ, codes, List, [], ◌∷◌, ◌++◌, length, if◌then◌else◌, slice_get, Option, None, Some, option_and_then, option_map, All, IfSome}
+use Rattle.std.specs.List.{flat_map, range_with_len}
+use Rattle.std.specs.Option.{option_map_or}
 use Rattle.ibc_ids.specs.Texts.{Text}
 use Rattle.ibc_machine.specs.declared.entry.Entry.{Entry}
 use Rattle.ibc_machine.specs.declared.event.Event.{Event}
@@ -38,9 +39,18 @@ abbrev pub IsLineOf : List Text → List Ledger → Text → EntryPlace → Type
 IsLineOf names ledgers text place = (e : Entry) × (entry_at ledgers place ≡ Some e) × (text ≡ entry_line names place.chain e)
 
 abbrev pub IsPlaced : List Text → List Ledger → PlacedLine → Type 0
-IsPlaced names ledgers line = IfSome line.place (IsLineOf names ledgers line.text)
+IsPlaced names ledgers line = IfSome line.place (IsLineOf names ledgers line.text.now)
 
--- ---- the order of the entries
+-- ---- no line is left out
+
+-- a line, with the line feed behind it
+abbrev pub fed_line : PlacedLine → Text
+fed_line line = line.text.now ++ 10 ∷ []
+
+abbrev pub text_of : List PlacedLine → Text
+text_of lines = flat_map fed_line lines
+
+-- ---- no entry is left out
 
 -- the index of a place, where it is of the chain
 abbrev pub own_index : ℕ → Option EntryPlace → List ℕ
@@ -52,6 +62,16 @@ abbrev pub indexes_of : ℕ → List PlacedLine → List ℕ
 indexes_of chain [] = []
 indexes_of chain (line ∷ lines) = own_index chain line.place ++ indexes_of chain lines
 
--- of each chain the entries stand in order, from its first one on, and none is left out between
-abbrev pub AreInOrder : List PlacedLine → Type 0
-AreInOrder lines = (chain : ℕ) → indexes_of chain lines ≡ range_with_len 0 (length (indexes_of chain lines))
+-- how many entries a chain has
+abbrev pub entries_of : List Ledger → ℕ → ℕ
+entries_of ledgers chain = option_map_or (λ (ledger : Ledger). length ledger.history) (slice_get ledgers chain) 0
+
+-- of each chain all entries have their lines, each one, and in their order
+abbrev pub TellsEach : List Ledger → List PlacedLine → Type 0
+TellsEach ledgers lines = (chain : ℕ) → indexes_of chain lines ≡ range_with_len 0 (entries_of ledgers chain)
+
+-- these are the lines of a text, each with the entry that it is of, and no entry is left out
+pub record AreLinesOf (names : List Text) (ledgers : List Ledger) (text : Text) (lines : List PlacedLine) : Type 0 where
+  pub whole : text_of lines ≡ text
+  pub placed : All (IsPlaced names ledgers) lines
+  pub each : TellsEach ledgers lines

@@ -1,5 +1,5 @@
 -- Which packet an entry is about: the port, the channel and the sequence that it was sent with.
-use Rattle.std.specs.Prelude.{ℕ, codes, Option, None, Some}
+use Rattle.std.specs.Prelude.{ℕ, codes, Bool, true, false, Option, None, Some}
 use Rattle.ibc_ids.specs.Texts.{Text}
 use Rattle.ibc_machine.specs.declared.entry.Entry.{Entry}
 use Rattle.ibc_machine.specs.declared.event.Event.{Event}
@@ -40,3 +40,8 @@ event_packet (event.Block chain next_time) given = None
 
 abbrev pub entry_packet : Entry → Option SentName
 entry_packet e = event_packet e.event e.reply
+
+-- whether an event is that a packet is received
+abbrev pub is_receipt : Event → Bool
+is_receipt (event.Message chain (message.RecvPacket m)) = true
+is_receipt _ = false

@@ -1,24 +1,25 @@
 //! Entries of histories, explained.
 
-ghost use Rattle.std.specs.Prelude.{◌≡◌, IfOk, IfSome, Some, option_map};
+ghost use Rattle.std.specs.Prelude.{◌≡◌, false, IfOk, Some};
 ghost use Rattle.ibc_explain.specs.EntryLines.{entry_at};
-ghost use Rattle.ibc_explain.specs.Packets.{entry_packet};
+ghost use Rattle.ibc_explain.specs.Explanations.{IsOf, IsToldBy};
+ghost use Rattle.ibc_explain.specs.Packets.{is_receipt};
 
-use crate::ends::{EndTold, end_of};
+use crate::ends::end_of;
+use crate::outcome::reason_of;
 use crate::places::{entry_at, event_kind};
-use crate::reasons::write_sides;
-use crate::settled::{settlement_of, tokens_of};
-use crate::{EntryPlace, Facts, ScriptRun, Settlement, facts_of};
+use crate::tokens::tokens_of;
+use crate::{EntryPlace, Facts, PacketOutcome, ScriptRun, facts_of, outcome_of};
 use ibc_ids::Refusal;
 use ibc_ledger::Ledger;
 use ibc_machine::{Entry, Event, Reply};
 use ibc_script::EventKind;
 use ibc_token_data::TokenData;
-use ibc_wire::Message;
+use ibc_wire::{Message, Packet};
 use std::alloc::Global;
 
 /// An entry, and what is told of it: what it is about, the chain that sent its packet, the packet's tokens, what became of
-/// them, and what a refusal has compared.
+/// the packet, and why it was refused.
 #[derive(Drop)]
 pub struct Explanation<'e> {
     pub place: EntryPlace,
@@ -26,8 +27,15 @@ pub struct Explanation<'e> {
     pub facts: Facts<'e>,
     pub sender: Option<u8>,
     pub tokens: Option<TokenData>,
-    pub settlement: Option<Settlement>,
-    pub sides: String,
+    pub outcome: Option<PacketOutcome>,
+    pub reason: String,
+}
+
+/// What is read of a packet: its tokens, and why it was refused.
+#[derive(Drop)]
+struct PacketTold {
+    tokens: Option<TokenData>,
+    reason: String,
 }
 
 impl Explanation<'_> {
@@ -47,62 +55,83 @@ impl Explanation<'_> {
     }
 }
 
-/// What is told of the entry at a place of a run's histories, none where there is none. Refused: `NoMemory`.
+/// What is told of the entry at a place of a run's histories, none exactly where there is none. Refused: `NoMemory`.
 pub fn explanation_of(
     alloc: Global,
     run: &ScriptRun,
     place: EntryPlace,
 ) -> Result<Option<Explanation<'_>>, Refusal>
-    ensures entry { IfOk result (λ told. IfSome told (λ x. entry_at run.now.chains.ledgers x.place ≡ Some x.entry.now)) }
-    ensures place { IfOk result (λ told. IfSome told (λ x. x.place ≡ place)) }
-    ensures packet { IfOk result (λ told. IfSome told (λ x. option_map (λ p. (p.port.now, p.channel.now, p.sequence)) x.facts.packet ≡ entry_packet x.entry.now)) }
+    ensures { IfOk result (IsToldBy place (entry_at run.now.chains.ledgers place)) }
 {
     let world = run.chains.world();
-    let (Some(entry), Some(ledger)) = (entry_at(world, place), world.ledger(place.chain)) else {
-        return Ok(None);
-    };
-    let sides = sides_of(alloc, run, place, entry)?;
-    Ok(Some(Explanation {
+    match entry_at(world, place) {
+        Some(entry) => {
+            let told = explained_entry(alloc, world.ledger(place.chain), place, entry)?;
+            Ok(Some(told))
+        }
+        None => Ok(None),
+    }
+}
+
+// What is told of an entry at a place of a ledger's history.
+fn explained_entry<'e>(
+    alloc: Global,
+    ledger: Option<&Ledger>,
+    place: EntryPlace,
+    entry: &'e Entry,
+) -> Result<Explanation<'e>, Refusal>
+    ensures { IfOk result (IsOf place entry.now) }
+{
+    let sender = sender_of(alloc, ledger, place.chain, entry)?;
+    let PacketTold { tokens, reason } = packet_told(alloc, ledger, entry)?;
+    Ok(Explanation {
         place,
         entry,
         facts: facts_of(entry),
-        sender: sender_of(alloc, ledger, entry)?,
-        tokens: tokens_of(alloc, ledger, entry)?,
-        settlement: settlement_of(alloc, entry)?,
-        sides,
-    }))
+        sender,
+        tokens,
+        outcome: outcome_of(entry),
+        reason,
+    })
 }
 
-// What the refusal of an entry has compared.
-fn sides_of(
+// What is read of the packet of an entry of a ledger.
+fn packet_told(
     alloc: Global,
-    run: &ScriptRun,
-    place: EntryPlace,
+    ledger: Option<&Ledger>,
     entry: &Entry,
-) -> Result<String, Refusal> {
-    let mut sides = String::new(alloc);
-    let began = match run.times.get(usize::from(place.chain)) {
-        Some(time) => *time,
-        None => 0,
+) -> Result<PacketTold, Refusal> {
+    let tokens = match ledger {
+        Some(ledger) => tokens_of(alloc, ledger, entry)?,
+        None => None,
     };
-    if let Some(ledger) = run.chains.world().ledger(place.chain) {
-        let history = ledger.history();
-        let before = &history[..place.index.min(history.len())];
-        write_sides(&mut sides, began, before, entry)?;
-    }
-    Ok(sides)
+    let reason = reason_of(alloc, entry)?;
+    Ok(PacketTold { tokens, reason })
 }
 
 // The chain that sent the packet of an entry: the peer's of one that is received, and else the chain itself.
-fn sender_of(alloc: Global, ledger: &Ledger, entry: &Entry) -> Result<Option<u8>, Refusal> {
-    let Event::Message {
-        message: Message::RecvPacket(message),
-        ..
-    } = &entry.event
-    else {
-        return Ok(Some(ledger.chain()));
+fn sender_of(
+    alloc: Global,
+    ledger: Option<&Ledger>,
+    on: u8,
+    entry: &Entry,
+) -> Result<Option<u8>, Refusal>
+    ensures { IfOk result (λ sender. is_receipt entry.now.event ≡ false → sender ≡ Some on) }
+{
+    match &entry.event {
+        Event::Message {
+            message: Message::RecvPacket(message),
+            ..
+        } => peer_of(alloc, ledger, &message.packet),
+        _ => Ok(Some(on)),
+    }
+}
+
+// The chain behind the end that a packet goes to.
+fn peer_of(alloc: Global, ledger: Option<&Ledger>, packet: &Packet) -> Result<Option<u8>, Refusal> {
+    let Some(ledger) = ledger else {
+        return Ok(None);
     };
-    let packet = &message.packet;
     let end = end_of(
         alloc,
         ledger,
@@ -110,11 +139,11 @@ fn sender_of(alloc: Global, ledger: &Ledger, entry: &Entry) -> Result<Option<u8>
         &packet.destination_channel,
     )?;
     match end {
-        Some(end) => Ok(peer_of(end)),
+        Some(end) => {
+            let peer = end.peer;
+            drop(end);
+            Ok(peer)
+        }
         None => Ok(None),
     }
-}
-
-fn peer_of(end: EndTold) -> Option<u8> {
-    end.peer
 }

@@ -1,11 +1,9 @@
-//! A run, line by line, with what each line is about.
+//! What is printed of a run.
 
-use crate::explanation::explanation_of;
 use crate::json::ObjectWriter;
-use crate::text::{is_told, write_padded, write_told};
-use crate::totals::write_totals;
-use crate::{PlacedLine, ScriptRun, placed_lines};
-use ibc_ids::Refusal;
+use crate::text::write_explained;
+use crate::totals::totals_of;
+use crate::{NotPlaced, ScriptRun, explained};
 use std::alloc::Global;
 
 /// How a run is told.
@@ -17,46 +15,28 @@ pub enum ExplainedForm {
     Json,
 }
 
-/// The lines of a run, and behind each what it is about; then, as text, what channels have at the end. Refused: `NoMemory`.
-pub fn explain(alloc: Global, run: &ScriptRun, form: ExplainedForm) -> Result<String, Refusal> {
-    let text = str::from_utf8(run.text.as_slice()).unwrap_or("");
-    let lines = placed_lines(alloc, run.names.as_slice(), run.chains.world(), text)?;
+/// The lines of a run, and behind each what it is about; then what channels have at the end, and that the laws hold.
+pub fn explain(alloc: Global, run: &ScriptRun, form: ExplainedForm) -> Result<String, NotPlaced> {
+    let names = run.names.as_slice();
+    let writer = ObjectWriter { alloc, names };
+    let lines = explained(alloc, run)?;
+    let totals = totals_of(alloc, run)?;
     let mut out = String::new(alloc);
     for line in lines.as_slice() {
-        write_line(alloc, run, form, line, &mut out)?;
+        match form {
+            ExplainedForm::Text => write_explained(alloc, &mut out, names, line)?,
+            ExplainedForm::Json => writer.line(&mut out, line)?,
+        }
     }
-    if form == ExplainedForm::Text {
-        write_totals(alloc, run, &mut out)?;
-        out.push_str("The laws hold of this run, as of each.\n")?;
+    for total in totals.as_slice() {
+        match form {
+            ExplainedForm::Text => total.write(&mut out, names)?,
+            ExplainedForm::Json => writer.total(&mut out, total)?,
+        }
     }
+    out.push_str(match form {
+        ExplainedForm::Text => "laws hold\n",
+        ExplainedForm::Json => "{\"laws\":\"hold\"}\n",
+    })?;
     Ok(out)
-}
-
-fn write_line(
-    alloc: Global,
-    run: &ScriptRun,
-    form: ExplainedForm,
-    line: &PlacedLine,
-    out: &mut String,
-) -> Result<(), Refusal> {
-    let names = run.names.as_slice();
-    let told = match line.place {
-        Some(place) => explanation_of(alloc, run, place)?,
-        None => None,
-    };
-    let writer = ObjectWriter { alloc, names };
-    let text = line.text.as_str();
-    match (form, &told) {
-        (ExplainedForm::Json, told) => writer.line(out, text, told.as_ref())?,
-        (ExplainedForm::Text, Some(told)) if is_told(told) => {
-            write_padded(out, text)?;
-            write_told(out, names, told)?;
-            out.push('\n')?;
-        }
-        (ExplainedForm::Text, _) => {
-            out.push_str(text)?;
-            out.push('\n')?;
-        }
-    }
-    Ok(())
 }

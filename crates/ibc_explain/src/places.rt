@@ -1,15 +1,16 @@
 //! Lines of a run, and the entries that they are of.
 
-ghost use Rattle.std.specs.Prelude.{◌≡◌, ◌≤◌, ◌<◌, All, IfOk, IfSome, IsTrue, length, option_map};
+ghost use Rattle.std.specs.Prelude.{◌≡◌, ◌≤◌, ◌<◌, ◌+◌, ◌∷◌, ◌++◌, IfOk, IfSome, IsTrue, IsOkUnless, length, option_map};
 ghost use Rattle.ibc_script_cli.specs.Runs.{name_of};
-ghost use Rattle.ibc_explain.specs.EntryLines.{AreInOrder, IsLineOf, IsPlaced, entry_at, event_kind, named_line};
+ghost use Rattle.ibc_explain.specs.EntryLines.{AreLinesOf, IsLineOf, IsPlaced, entries_of, entry_at, event_kind, named_line};
+ghost use Rattle.ibc_explain.specs.Counts.{AllAreTold, GoesOn, IsNext};
 
 use ibc_ids::Refusal;
 use ibc_machine::{Entry, Event};
 use ibc_script::{ChainName, EventKind};
 use ibc_script_cli::{Line, line_text};
 use ibc_world_core::World;
-use std::alloc::Global;
+use std::alloc::{AllocError, AllocFailed, Global};
 
 /// A place in a ledger's history: the chain's number, and how many entries stand before.
 #[derive(Clone, Copy, Debug, PartialEq, Eq)]
@@ -19,22 +20,48 @@ pub struct EntryPlace {
 }
 
 /// A line of a run, without its line feed, and the place of the entry that it is of, where it is of one.
-#[derive(Drop)]
-pub struct PlacedLine {
-    pub text: String,
+#[derive(Clone, Copy)]
+pub struct PlacedLine<'t> {
+    pub text: &'t str,
     pub place: Option<EntryPlace>,
 }
 
-/// The lines of a run of a world, in their order, each with the entry that it is of. Refused: `NoMemory`.
-pub fn placed_lines(
+/// Why lines have no places.
+#[derive(Clone, Copy, Debug, PartialEq, Eq)]
+pub enum NotPlaced {
+    /// A growth was refused.
+    NoMemory,
+    /// The text isn't of lines, or an entry has no line. That comes of no run.
+    LeftOut,
+}
+
+impl From<AllocError> for NotPlaced {
+    fn from(_e: AllocError) -> NotPlaced {
+        NotPlaced::NoMemory
+    }
+}
+
+impl<T: Drop> From<AllocFailed<T>> for NotPlaced {
+    fn from(_e: AllocFailed<T>) -> NotPlaced {
+        NotPlaced::NoMemory
+    }
+}
+
+impl From<Refusal> for NotPlaced {
+    fn from(_e: Refusal) -> NotPlaced {
+        NotPlaced::NoMemory
+    }
+}
+
+/// The lines of a run of a world, in their order, each with the entry that it is of; no entry is left out.
+pub fn placed_lines<'t>(
     alloc: Global,
     names: &[ChainName],
     world: &World,
-    text: &str,
-) -> Result<Vec<PlacedLine>, Refusal>
+    text: &'t str,
+) -> Result<Vec<PlacedLine<'t>>, NotPlaced>
     requires { length names.now ≤ 8 }
-    ensures placed { IfOk result (λ lines. All (IsPlaced names.now world.now.ledgers) lines.items) }
-    ensures order { IfOk result (λ lines. AreInOrder lines.items) }
+    ensures { IfOk result (λ lines. AreLinesOf names.now world.now.ledgers text.now lines.items) }
 {
     let placing = Placing {
         alloc,
@@ -43,10 +70,62 @@ pub fn placed_lines(
     };
     let mut next = vec![in alloc; 0usize; names.len()]?;
     let mut lines = Vec::new(alloc);
-    for line in text.lines() {
+    let mut rest = text;
+    while let Some((line, behind)) = first_line(rest) {
         lines.push(placing.placed(line, &mut next)?)?;
+        rest = behind;
     }
-    Ok(lines)
+    if rest.is_empty() && are_all_told(world, next.as_slice()) {
+        Ok(lines)
+    } else {
+        Err(NotPlaced::LeftOut)
+    }
+}
+
+// The first line of a text, and what stands behind its line feed; none where there is no line feed.
+fn first_line(text: &str) -> Option<(&str, &str)>
+    ensures { IfSome result (λ cut. text.now ≡ cut.0.now ++ 10 ∷ cut.1.now) }
+{
+    text.split_once('\n')
+}
+
+// Whether so many entries of each chain are all that there are.
+fn are_all_told(world: &World, told: &[usize]) -> bool
+    requires { length told.now ≤ 8 }
+    ensures { IsTrue result → AllAreTold world.now.ledgers told.now }
+{
+    if world.ledger(told.len() as u8).is_some() {
+        return false;
+    }
+    for (chain, count) in told.iter().enumerate() {
+        if entry_count(world, chain as u8) != *count {
+            return false;
+        }
+    }
+    true
+}
+
+// How many entries a chain has.
+fn entry_count(world: &World, chain: u8) -> usize
+    ensures { result ≡ entries_of world.now.ledgers chain }
+{
+    match world.ledger(chain) {
+        Some(ledger) => ledger.history().len(),
+        None => 0,
+    }
+}
+
+// Counts the next entry of a chain.
+fn count(next: &mut Vec<usize>, place: Option<EntryPlace>)
+    requires next { IfSome place (IsNext next.old.items) }
+    requires small { IfSome place (λ p. p.index < usize.MAX) }
+    ensures counted { GoesOn next.old.items place next.new.items }
+    ensures long { length next.new.items ≡ length next.old.items }
+{
+    match place {
+        Some(place) => next[usize::from(place.chain)] = place.index + 1,
+        None => {}
+    }
 }
 
 /// The kind of an event, by which a line calls it.
@@ -78,31 +157,31 @@ struct Placing<'w> {
 
 impl<'w> Placing<'w> {
     // A line with its place, where it is the line of a chain's next entry. These are counted in `next`.
-    fn placed(&self, line: &str, next: &mut Vec<usize>) -> Result<PlacedLine, Refusal>
+    fn placed<'t>(&self, line: &'t str, next: &mut Vec<usize>) -> Result<PlacedLine<'t>, NotPlaced>
         requires { length next.old.items ≤ 8 }
+        ensures text { IfOk result (λ placed. placed.text.now ≡ line.now) }
         ensures placed { IfOk result (IsPlaced self.now.names.now self.now.world.now.ledgers) }
+        ensures counted { IfOk result (λ placed. GoesOn next.old.items placed.place next.new.items) }
         ensures long { length next.new.items ≡ length next.old.items }
     {
         let place = self.place_of(line, next.as_slice())?;
-        if let Some(place) = place {
-            next[usize::from(place.chain)] = place.index.saturating_add(1);
-        }
-        let text = String::from_str(self.alloc, line)?;
-        Ok(PlacedLine { text, place })
+        count(next, place);
+        Ok(PlacedLine { text: line, place })
     }
 
     // The place of the entry that a line is of: the next one of the chain that it names.
     fn place_of(&self, line: &str, next: &[usize]) -> Result<Option<EntryPlace>, Refusal>
         requires { length next.now ≤ 8 }
         ensures is { IfOk result (λ place. IfSome place (IsLineOf self.now.names.now self.now.world.now.ledgers line.now)) }
-        ensures there { IfOk result (λ place. IfSome place (λ p. p.chain < length next.now)) }
+        ensures next { IfOk result (λ place. IfSome place (IsNext next.now)) }
+        ensures small { IfOk result (λ place. IfSome place (λ p. p.index < usize.MAX)) }
     {
         for (chain, index) in next.iter().enumerate() {
             let place = EntryPlace {
                 chain: chain as u8,
                 index: *index,
             };
-            if self.is_line_of(line, place)? {
+            if *index < usize::MAX && self.is_line_of(line, place)? {
                 return Ok(Some(place));
             }
         }
@@ -142,6 +221,8 @@ impl<'w> Placing<'w> {
             reply: &entry.reply,
         };
         let text = line_text(self.alloc, printed)?;
-        Ok(text.as_str() == line)
+        let is = text.as_str() == line;
+        drop(text);
+        Ok(is)
     }
 }

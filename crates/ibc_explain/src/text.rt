@@ -1,24 +1,16 @@
 //! Explanations as text.
 
 use crate::explanation::Explanation;
-use crate::settled::Settlement;
+use crate::meanings::meaning_of;
+use crate::{ExplainedLine, PacketOutcome};
 use ibc_ids::Refusal;
 use ibc_machine::Reply;
 use ibc_script::ChainName;
 use ibc_token_data::TokenData;
-use std::alloc::AllocError;
+use std::alloc::{AllocError, Global};
 
 /// The column behind which explanations stand.
-const COLUMN: usize = 44;
-
-/// Writes a line, and blanks up to the explanations' column where one follows.
-pub fn write_padded(out: &mut String, line: &str) -> Result<(), AllocError> {
-    out.push_str(line)?;
-    for _blank in line.len()..COLUMN {
-        out.push(' ')?;
-    }
-    out.push_str("  ")
-}
+const COLUMN: usize = 40;
 
 /// The name of a chain.
 pub fn name_of(names: &[ChainName], chain: u8) -> &str {
@@ -28,24 +20,98 @@ pub fn name_of(names: &[ChainName], chain: u8) -> &str {
     }
 }
 
-/// Whether something is told of an entry behind its line.
-pub fn is_told(told: &Explanation<'_>) -> bool {
-    told.facts.packet.is_some()
-        || told.facts.client.is_some()
-        || told.tokens.is_some()
-        || matches!(told.entry.reply, Reply::No(_))
+/// What is told of a line, empty where nothing is.
+pub fn explained_words(
+    alloc: Global,
+    names: &[ChainName],
+    line: &ExplainedLine<'_>,
+) -> Result<String, AllocError> {
+    let mut words = String::new(alloc);
+    write_words(&mut words, names, line)?;
+    Ok(words)
 }
 
-/// Writes what is told of an entry, its parts between semicolons.
-pub fn write_told(
+/// Writes a line, and behind it what is told of it, where something is.
+pub fn write_explained(
+    alloc: Global,
+    out: &mut String,
+    names: &[ChainName],
+    line: &ExplainedLine<'_>,
+) -> Result<(), AllocError> {
+    let words = explained_words(alloc, names, line)?;
+    out.push_str(line.line.text)?;
+    if !words.is_empty() {
+        for _blank in line.line.text.len()..COLUMN {
+            out.push(' ')?;
+        }
+        out.push_str("  ")?;
+        out.push_str(words.as_str())?;
+    }
+    out.push('\n')
+}
+
+fn write_words(
+    out: &mut String,
+    names: &[ChainName],
+    line: &ExplainedLine<'_>,
+) -> Result<(), AllocError> {
+    match &line.told {
+        Some(told) => write_told(out, names, told, line.notes.sides),
+        None if line.is_none() => write_lacking(out, names, line),
+        None if line.notes.step.is_some() => write_look(out, line.line.text),
+        None => Ok(()),
+    }
+}
+
+// Writes what the numbers of a channel are, or why there are none, or why an event isn't kept.
+fn write_look(out: &mut String, line: &str) -> Result<(), AllocError> {
+    let refusals = [
+        (" no 1", Refusal::NoMemory),
+        (" no 9", Refusal::WrongState),
+        (" no 15", Refusal::UnknownChannel),
+        (" no 30", Refusal::BadMessage),
+    ];
+    for (end, refusal) in refusals {
+        if line.ends_with(end) {
+            return write_refusal(out, refusal, "");
+        }
+    }
+    if line.contains(" totals ") {
+        out.push_str("escrow, vouchers, under way, on the way back")?;
+    }
+    Ok(())
+}
+
+/// Writes what a step looked for that isn't there.
+pub fn write_lacking(
+    out: &mut String,
+    names: &[ChainName],
+    line: &ExplainedLine<'_>,
+) -> Result<(), AllocError> {
+    match line.notes.absent {
+        Some(absent) => {
+            out.push_str(name_of(names, absent.chain))?;
+            out.push(' ')?;
+            out.push_str(absent.words.as_str())
+        }
+        None if line.line.text.contains(" root ") => {
+            out.push_str("the height isn't committed, or isn't kept any more")
+        }
+        None => out.push_str("the chain's own end doesn't name the peer's yet"),
+    }
+}
+
+// Writes what is told of an entry, its parts between semicolons.
+fn write_told(
     out: &mut String,
     names: &[ChainName],
     told: &Explanation<'_>,
+    sides: &str,
 ) -> Result<(), AllocError> {
     let mut parts = Parts { out, some: false };
     if let Reply::No(refusal) = &told.entry.reply {
         parts.begin()?;
-        write_refusal(parts.out, *refusal, told.sides.as_str())?;
+        write_refusal(parts.out, *refusal, sides)?;
     }
     if told.facts.packet.is_some() {
         parts.begin()?;
@@ -57,18 +123,20 @@ pub fn write_told(
         write!(parts.out, "client {client}")?;
         write_tracked(parts.out, names, told)?;
     }
+    write_ends(&mut parts, told)?;
     if let Some(tokens) = &told.tokens {
         parts.begin()?;
         write_tokens(parts.out, tokens)?;
     }
-    if let Some(settlement) = &told.settlement {
+    if let Some(outcome) = told.outcome {
         parts.begin()?;
-        write_settlement(parts.out, told, settlement)?;
+        write_outcome(parts.out, told, outcome)?;
     }
     Ok(())
 }
 
 /// Parts of a text, with semicolons between.
+#[derive(Drop)]
 struct Parts<'o> {
     out: &'o mut String,
     some: bool,
@@ -85,12 +153,12 @@ impl Parts<'_> {
 }
 
 fn write_refusal(out: &mut String, refusal: Refusal, sides: &str) -> Result<(), AllocError> {
-    write!(out, "{refusal:?}")?;
-    if sides.is_empty() {
-        write!(out, ": {refusal}")
+    let why = if sides.is_empty() {
+        meaning_of(refusal)
     } else {
-        write!(out, ": {sides}")
-    }
+        sides
+    };
+    write!(out, "{refusal:?}: {why}")
 }
 
 // `packet [chain, port, channel, sequence]`, as a script names it.
@@ -128,6 +196,21 @@ fn write_tracked(
     }
 }
 
+// The connection and the channel of a handshake.
+fn write_ends(parts: &mut Parts<'_>, told: &Explanation<'_>) -> Result<(), AllocError> {
+    if let Some(connection) = told.facts.connection {
+        let connection = connection.as_str();
+        parts.begin()?;
+        write!(parts.out, "connection {connection}")?;
+    }
+    if let Some((port, channel)) = told.facts.end {
+        let channel = channel.as_str();
+        parts.begin()?;
+        write!(parts.out, "channel {port}/{channel}")?;
+    }
+    Ok(())
+}
+
 /// Writes the amounts of tokens, with commas between.
 fn write_amounts(out: &mut String, tokens: &TokenData) -> Result<(), AllocError> {
     for (index, token) in tokens.tokens.iter().enumerate() {
@@ -149,33 +232,35 @@ fn write_tokens(out: &mut String, tokens: &TokenData) -> Result<(), AllocError> 
 }
 
 // What became of the packet: on the chain that received it, and on the one that sent it.
-fn write_settlement(
+fn write_outcome(
     out: &mut String,
     told: &Explanation<'_>,
-    settlement: &Settlement,
+    outcome: PacketOutcome,
 ) -> Result<(), AllocError> {
-    let is_own = told.is_of_sender();
-    match settlement {
-        Settlement::Delivered if is_own => out.push_str("delivered"),
-        Settlement::Delivered => out.push_str("received"),
-        Settlement::Refused(reason) => {
-            let reason = reason.as_str();
-            write_back(out, told, is_own)?;
+    match outcome {
+        PacketOutcome::Delivered if told.is_of_sender() => out.push_str("delivered"),
+        PacketOutcome::Delivered => out.push_str("taken"),
+        PacketOutcome::Refused => {
+            let reason = told.reason.as_str();
+            write_back(out, told)?;
             write!(out, ": {reason}")
         }
-        Settlement::TimedOut => {
-            write_back(out, told, is_own)?;
-            out.push_str(": timed out")
+        PacketOutcome::TimedOut => {
+            write_back(out, told)?;
+            out.push_str(match told.kind().name() {
+                "Timeout" => ": timed out",
+                _ => ": the peer's end is closed",
+            })
         }
     }
 }
 
 // What comes back to whom.
-fn write_back(out: &mut String, told: &Explanation<'_>, is_own: bool) -> Result<(), AllocError> {
+fn write_back(out: &mut String, told: &Explanation<'_>) -> Result<(), AllocError> {
     let Some(tokens) = &told.tokens else {
         return out.push_str("not taken");
     };
-    if !is_own {
+    if !told.is_of_sender() {
         return out.push_str("not taken");
     }
     out.push_str("refund ")?;

@@ -1,12 +1,17 @@
 //! What channels have at the end of a run.
 
+ghost use Rattle.std.specs.Prelude.{◌≡◌, ◌+◌, All, IfOk, Ok};
+ghost use Rattle.ibc_explain.specs.Balances.{IsTotalOf};
+
 use crate::ScriptRun;
 use crate::text::name_of;
 use ibc_ids::{ChannelId, Denom, Refusal};
 use ibc_machine::{Effect, Entry, Event, Reply, Totals};
+use ibc_script::ChainName;
 use ibc_theorem::balanced_totals;
 use ibc_wire::Message;
-use std::alloc::Global;
+use ibc_world_core::World;
+use std::alloc::{AllocError, Global};
 
 /// A denomination that went out over a channel of a chain.
 #[derive(Clone, Copy)]
@@ -16,43 +21,64 @@ struct SentDenom<'e> {
     denom: &'e Denom,
 }
 
-/// Writes what each channel of port `transfer` has of each denomination that its chain sent over it: what the chain holds in
-/// escrow, what the peer has of it, and what is under way. Refused: `NoMemory`.
-pub fn write_totals(alloc: Global, run: &ScriptRun, out: &mut String) -> Result<(), Refusal> {
+/// What a channel of a chain has of a denomination.
+#[derive(Clone, Copy)]
+pub struct ChannelTotal<'e> {
+    pub chain: u8,
+    pub channel: &'e ChannelId,
+    pub denom: &'e Denom,
+    pub totals: Totals,
+}
+
+impl ChannelTotal<'_> {
+    /// Writes a line of it: what the chain holds in escrow, what the peer has of it, and what is under way.
+    pub fn write(&self, out: &mut String, names: &[ChainName]) -> Result<(), AllocError> {
+        let chain = name_of(names, self.chain);
+        let channel = self.channel.as_str();
+        let denom = self.denom.as_str();
+        let Totals {
+            escrow,
+            vouchers,
+            out: going,
+            back,
+        } = self.totals;
+        write!(
+            out,
+            "total {chain} {channel} {denom}: escrow {escrow} = vouchers {vouchers}"
+        )?;
+        writeln!(out, " + under way {going} + on the way back {back}")
+    }
+}
+
+/// What each channel of port `transfer` has of each denomination that its chain sent over it, and that didn't come over it.
+/// Refused: `NoMemory`.
+pub fn totals_of(alloc: Global, run: &ScriptRun) -> Result<Vec<ChannelTotal<'_>>, Refusal>
+    ensures { IfOk result (λ list. All (IsTotalOf run.now.chains) list.items) }
+{
     let found = sent_denoms(alloc, run)?;
+    let mut list = Vec::new(alloc);
     for sent in found.as_slice() {
-        match balanced_totals(run.chains.world(), sent.chain, sent.channel, sent.denom) {
-            Ok(totals) => write_total(run, out, *sent, totals)?,
+        match total_of(run.chains.world(), *sent) {
+            Ok(total) => list.push(total)?,
             Err(Refusal::NoMemory) => return Err(Refusal::NoMemory),
             Err(_) => {}
         }
     }
-    Ok(())
+    Ok(list)
 }
 
-fn write_total(
-    run: &ScriptRun,
-    out: &mut String,
-    sent: SentDenom<'_>,
-    totals: Totals,
-) -> Result<(), Refusal> {
-    let chain = name_of(run.names.as_slice(), sent.chain);
-    let channel = sent.channel.as_str();
-    let denom = sent.denom.as_str();
-    let Totals {
-        escrow,
-        vouchers,
-        out: going,
-        back,
-    } = totals;
-    write!(
-        out,
-        "total {chain} {channel} {denom}: escrow {escrow} = vouchers {vouchers}"
-    )?;
-    writeln!(out, " + under way {going} + on the way back {back}")?;
-    Ok(())
+// What a channel has of a denomination.
+fn total_of<'e>(world: &World, sent: SentDenom<'e>) -> Result<ChannelTotal<'e>, Refusal>
+    ensures { IfOk result (IsTotalOf world.now) }
+{
+    let totals = balanced_totals(world, sent.chain, sent.channel, sent.denom)?;
+    Ok(ChannelTotal {
+        chain: sent.chain,
+        channel: sent.channel,
+        denom: sent.denom,
+        totals,
+    })
 }
-
 // The denominations that went out over channels, each once.
 fn sent_denoms(alloc: Global, run: &ScriptRun) -> Result<Vec<SentDenom<'_>>, Refusal> {
     let mut found = Vec::new(alloc);
