@@ -9,7 +9,12 @@ use std::alloc::{AllocError, Global};
 pub const TOP: usize = 118;
 
 /// From one mark to the next.
-pub const ROW: usize = 24;
+pub const ROW: usize = 20;
+
+/// From the end of a block to what comes next, and from an update to that.
+const TICK_ROW: usize = 17;
+
+const UPDATE_ROW: usize = 8;
 
 /// How a mark looks.
 #[derive(Clone, Copy, PartialEq, Eq)]
@@ -18,8 +23,17 @@ pub enum Ink {
     Packet(usize),
     /// As plain text.
     Plain,
+    /// As soft text, hollow.
+    Soft,
     /// Hollow and red.
     Refused,
+}
+
+/// What is said of a mark: beside it, and where somebody asks for more.
+#[derive(Clone, Copy)]
+pub struct MarkWords<'w> {
+    pub beside: &'w str,
+    pub title: &'w str,
 }
 
 /// A block of a chain, how far down it ends.
@@ -38,6 +52,19 @@ pub struct PacketCounts {
     pub settled: u64,
     pub timed_out: u64,
     pub refused: u64,
+}
+
+impl PacketCounts {
+    /// Writes what was counted.
+    pub fn write(&self, out: &mut String) -> Result<(), AllocError> {
+        let (sent, received, settled) = (self.sent, self.received, self.settled);
+        let (timed_out, refused) = (self.timed_out, self.refused);
+        write!(
+            out,
+            "packets: {sent} sent, {received} received, {settled} acknowledged, "
+        )?;
+        write!(out, "{timed_out} timed out; {refused} refusals")
+    }
 }
 
 /// A picture under way: lines, what stands on them, texts; how far down it is, and what was met.
@@ -82,7 +109,7 @@ impl Canvas<'_> {
     }
 
     /// A mark on the lane of a chain, with words beside it: to the left of the first lane, and to the right of others.
-    pub fn mark(&mut self, chain: u8, ink: Ink, words: &str) -> Result<(), AllocError> {
+    pub fn mark(&mut self, chain: u8, ink: Ink, words: MarkWords<'_>) -> Result<(), AllocError> {
         let x = lane_x(chain);
         let y = self.y;
         match ink {
@@ -90,12 +117,13 @@ impl Canvas<'_> {
                 write!(self.marks, "<circle style=\"fill: var(--packet-{colour})\"")?;
             }
             Ink::Plain => self.marks.push_str("<circle class=\"plain\"")?,
+            Ink::Soft => self.marks.push_str("<circle class=\"missing\"")?,
             Ink::Refused => self.marks.push_str("<circle class=\"refused\"")?,
         }
         write!(self.marks, " cx=\"{x}\" cy=\"{y}\" r=\"4.5\"><title>")?;
-        write_escaped(&mut self.marks, words)?;
+        write_escaped(&mut self.marks, words.title)?;
         self.marks.push_str("</title></circle>\n")?;
-        self.label(chain, ink, words)
+        self.label(chain, ink, words.beside)
     }
 
     fn label(&mut self, chain: u8, ink: Ink, words: &str) -> Result<(), AllocError> {
@@ -112,6 +140,7 @@ impl Canvas<'_> {
         match ink {
             Ink::Packet(colour) => write!(self.texts, " style=\"fill: var(--packet-{colour})\">")?,
             Ink::Plain => self.texts.push('>')?,
+            Ink::Soft => self.texts.push_str(" class=\"soft\">")?,
             Ink::Refused => self.texts.push_str(" class=\"bad\">")?,
         }
         write_escaped(&mut self.texts, words)?;
@@ -179,13 +208,21 @@ impl Canvas<'_> {
             self.texts,
             "<text class=\"height\" x=\"{inner}\" y=\"{base}\" text-anchor=\"{anchor}\">{height}</text>"
         )?;
-        self.down(19);
+        self.down(TICK_ROW);
+        Ok(())
+    }
+
+    /// What a chain was told of a height of another.
+    pub fn update(&mut self, on: u8, of: u8, height: u64) -> Result<(), AllocError> {
+        let begun = self.y_of(of, height);
+        self.line("update", of, begun, on, None)?;
+        self.down(UPDATE_ROW);
         Ok(())
     }
 
     /// How far down a block of a chain ends; where that isn't known, where the picture is.
     pub fn y_of(&self, chain: u8, height: u64) -> usize {
-        for tick in self.ticks.as_slice() {
+        for tick in self.ticks.iter().rev() {
             if tick.chain == chain && tick.height == height {
                 return tick.y;
             }

@@ -7,7 +7,7 @@ ghost use Rattle.ibc_drawing.specs.Lanes.{lane_x, width_of};
 pub const MARGIN: usize = 24;
 
 /// Labels of the first and the last lane have so much room.
-const LABEL: usize = 330;
+const LABEL: usize = 340;
 
 /// Between two lanes.
 const LANE: usize = 320;

@@ -1,15 +1,19 @@
 //! What is drawn of an entry.
 
-use crate::canvas::{Canvas, Ink, ROW};
+use crate::canvas::{Canvas, Ink, MarkWords, ROW};
 use crate::packets::PacketKey;
 use crate::words::words_of;
-use ibc_explain::{Explanation, Settlement};
+use ibc_explain::{ExplainedLine, Explanation, PacketOutcome};
 use ibc_machine::{Effect, Event, Reply};
 use ibc_wire::Message;
 use std::alloc::AllocError;
 
-/// Draws an entry on the lane of its chain.
-pub fn draw_entry<'e>(canvas: &mut Canvas<'e>, told: &Explanation<'e>) -> Result<(), AllocError> {
+/// Draws an entry on the lane of its chain; more words are for who asks.
+pub fn draw_entry<'e>(
+    canvas: &mut Canvas<'e>,
+    told: &Explanation<'e>,
+    title: &str,
+) -> Result<(), AllocError> {
     let on = told.place.chain;
     match (&told.entry.event, &told.entry.reply) {
         (Event::Block { .. }, Reply::Ok(Effect::Block(height, _))) => canvas.tick(on, *height),
@@ -19,16 +23,11 @@ pub fn draw_entry<'e>(canvas: &mut Canvas<'e>, told: &Explanation<'e>) -> Result
                 ..
             },
             Reply::Ok(_),
-        ) => {
-            let of = message.header.chain;
-            let begun = canvas.y_of(of, message.header.height);
-            canvas.line("update", of, begun, on, None)?;
-            canvas.down(14);
-            Ok(())
-        }
+        ) => canvas.update(on, message.header.chain, message.header.height),
         _ => {
             let words = words_of(canvas.alloc, told)?;
-            let drawn = draw_with_words(canvas, told, words.as_str());
+            let beside = words.as_str();
+            let drawn = draw_with_words(canvas, told, MarkWords { beside, title });
             drop(words);
             drawn?;
             canvas.down(ROW);
@@ -37,11 +36,28 @@ pub fn draw_entry<'e>(canvas: &mut Canvas<'e>, told: &Explanation<'e>) -> Result
     }
 }
 
+/// Draws that nothing was sent by a step of a chain.
+pub fn draw_none(
+    canvas: &mut Canvas<'_>,
+    chain: u8,
+    line: &ExplainedLine<'_>,
+    title: &str,
+) -> Result<(), AllocError> {
+    let kind = line.line.text.split(' ').nth(1).unwrap_or("");
+    let words = format!(in canvas.alloc; "{kind}: nothing is sent")?;
+    let beside = words.as_str();
+    let drawn = canvas.mark(chain, Ink::Soft, MarkWords { beside, title });
+    drop(words);
+    drawn?;
+    canvas.down(ROW);
+    Ok(())
+}
+
 // Draws what has words beside it.
 fn draw_with_words<'e>(
     canvas: &mut Canvas<'e>,
     told: &Explanation<'e>,
-    words: &str,
+    words: MarkWords<'_>,
 ) -> Result<(), AllocError> {
     let on = told.place.chain;
     let key = PacketKey::of(told);
@@ -84,13 +100,13 @@ fn draw_packet<'e>(
     let on = told.place.chain;
     let colour = key.colour();
     let known = canvas.packets.find(key);
-    match &told.settlement {
+    match told.outcome {
         None => {
             canvas.counts.sent = canvas.counts.sent.saturating_add(1);
             let y = canvas.y;
             canvas.packets.send(key, y)
         }
-        Some(Settlement::TimedOut) => {
+        Some(PacketOutcome::TimedOut) => {
             canvas.counts.timed_out = canvas.counts.timed_out.saturating_add(1);
             let begun = known.map_or(canvas.y, |packet| packet.sent);
             canvas.bow(on, begun, colour)
@@ -113,8 +129,8 @@ fn draw_packet<'e>(
     }
 }
 
-/// Whether an entry is part of what opens a channel: clients, connections, channels.
-pub fn is_opening(told: &Explanation<'_>) -> bool {
+// Whether an entry is part of what opens a channel: clients, connections, channels.
+fn is_opening(told: &Explanation<'_>) -> bool {
     let Event::Message { message, .. } = &told.entry.event else {
         return false;
     };
@@ -133,8 +149,8 @@ pub fn is_opening(told: &Explanation<'_>) -> bool {
         )
 }
 
-/// Whether an entry may stand between such.
-pub fn is_between(told: &Explanation<'_>) -> bool {
+// Whether an entry may stand between such.
+fn is_between(told: &Explanation<'_>) -> bool {
     let is_update = matches!(
         told.entry.event,
         Event::Block { .. }
@@ -144,4 +160,22 @@ pub fn is_between(told: &Explanation<'_>) -> bool {
             }
     );
     told.is_ok() && is_update
+}
+
+/// How many entries from a place on open a channel, with what stands between them; none where the first doesn't.
+pub fn opening_at(lines: &[ExplainedLine<'_>], at: usize) -> usize {
+    let mut count = 0usize;
+    let mut sure = 0usize;
+    for line in &lines[at.min(lines.len())..] {
+        let Some(told) = &line.told else {
+            return sure;
+        };
+        count = count.saturating_add(1);
+        if is_opening(told) {
+            sure = count;
+        } else if sure == 0 || !is_between(told) {
+            return sure;
+        }
+    }
+    sure
 }

@@ -53,7 +53,7 @@ impl<'e> PacketKey<'e> {
 impl<'e> DrawnPackets<'e> {
     /// A packet, as it is known.
     pub fn find(&self, key: PacketKey<'e>) -> Option<DrawnPacket<'e>> {
-        for packet in self.met.as_slice() {
+        for packet in self.met.iter().rev() {
             if packet.key == key {
                 return Some(*packet);
             }
@@ -73,9 +73,10 @@ impl<'e> DrawnPackets<'e> {
 
     /// A packet is received by a chain.
     pub fn receive(&mut self, key: PacketKey<'e>, chain: u8, y: usize) {
-        for packet in self.met.as_mut_slice() {
+        for packet in self.met.iter_mut().rev() {
             if packet.key == key {
                 packet.received = Some((chain, y));
+                return;
             }
         }
     }

@@ -12,5 +12,6 @@ text { font: 12.5px system-ui, 'Segoe UI', 'DejaVu Sans', sans-serif; fill: var(
 .tick { stroke: var(--soft); stroke-width: 1.5 } .height { font-size: 11px; fill: var(--soft) } .plain { fill: var(--ink) }
 .update { stroke: var(--rule); stroke-width: 1.2; stroke-dasharray: 2 3; fill: none } .goes { stroke-width: 2.2; fill: none }
 .comes { stroke-width: 1.3; stroke-dasharray: 6 4; fill: none } .bow { stroke-width: 2; stroke-dasharray: 2 4; fill: none }
+.missing { fill: var(--paper); stroke: var(--soft); stroke-width: 1.5 }
 .refused { fill: var(--paper); stroke: var(--bad); stroke-width: 1.8 } .missed { stroke: var(--bad); stroke-width: 1.4; stroke-dasharray: 5 4; fill: none }
 ";

@@ -4,12 +4,11 @@ use crate::canvas::{Canvas, ROW, TOP, Tick};
 use crate::escaped::write_escaped;
 use crate::html::write_page;
 use crate::lanes::{MARGIN, lane_x, width_of};
-use crate::marks::{draw_entry, is_between, is_opening};
+use crate::marks::{draw_entry, draw_none, opening_at};
 use crate::mermaid::write_mermaid;
 use crate::packets::COLOURS;
 use crate::style::STYLE;
-use ibc_explain::{Explanation, PlacedLine, ScriptRun, explanation_of, placed_lines};
-use ibc_ids::Refusal;
+use ibc_explain::{ExplainedLine, NotPlaced, ScriptRun, explained, explained_words};
 use ibc_machine::{Effect, Reply};
 use std::alloc::{AllocError, Global};
 
@@ -24,134 +23,153 @@ pub enum PictureForm {
     Mermaid,
 }
 
-/// The picture of a run. Refused: `NoMemory`.
+/// The picture of a run.
 pub fn draw(
     alloc: Global,
     run: &ScriptRun,
     title: &str,
     form: PictureForm,
-) -> Result<String, Refusal> {
-    let text = str::from_utf8(run.text.as_slice()).unwrap_or("");
-    let lines = placed_lines(alloc, run.names.as_slice(), run.chains.world(), text)?;
-    let mut told = Vec::new(alloc);
-    for line in lines.as_slice() {
-        if let Some(place) = line.place {
-            if let Some(explanation) = explanation_of(alloc, run, place)? {
-                told.push(explanation)?;
-            }
-        }
-    }
+) -> Result<String, NotPlaced> {
+    let lines = explained(alloc, run)?;
     let mut out = String::new(alloc);
     match form {
-        PictureForm::Mermaid => write_mermaid(alloc, &mut out, run, told.as_slice())?,
-        PictureForm::Svg => write_svg(alloc, &mut out, run, title, told.as_slice(), &lines)?,
+        PictureForm::Mermaid => write_mermaid(alloc, &mut out, run, lines.as_slice())?,
+        PictureForm::Svg => {
+            let canvas = drawn(alloc, run, lines.as_slice())?;
+            write_picture(&mut out, run, title, &canvas, lines.as_slice(), 0)?;
+        }
         PictureForm::Html => {
+            let canvas = drawn(alloc, run, lines.as_slice())?;
             let mut svg = String::new(alloc);
-            write_svg(alloc, &mut svg, run, title, told.as_slice(), &lines)?;
-            write_page(&mut out, title, svg.as_str(), lines.as_slice())?;
+            write_picture(&mut svg, run, title, &canvas, lines.as_slice(), TOP - 20)?;
+            write_page(
+                alloc,
+                &mut out,
+                run,
+                title,
+                &canvas,
+                svg.as_str(),
+                lines.as_slice(),
+            )?;
         }
     }
     Ok(out)
 }
 
-fn write_svg<'e>(
+// Draws the lines of a run, from the top down.
+fn drawn<'e>(
     alloc: Global,
-    out: &mut String,
-    run: &'e ScriptRun,
-    title: &str,
-    told: &[Explanation<'e>],
-    lines: &Vec<PlacedLine>,
-) -> Result<(), AllocError> {
+    run: &ScriptRun,
+    lines: &[ExplainedLine<'e>],
+) -> Result<Canvas<'e>, AllocError> {
     let mut canvas = Canvas::new(alloc);
-    let mut at = 0usize;
-    for _ in 0..told.len() {
-        let opening = opening_at(told, at);
-        if at >= told.len() {
-            break;
+    let mut band = 0usize;
+    for (at, line) in lines.iter().enumerate() {
+        if band > 0 {
+            band = band.saturating_sub(1);
+            continue;
         }
-        if opening > 0 {
+        band = opening_at(lines, at);
+        if band > 0 {
             draw_band(
                 &mut canvas,
-                &told[at..at.saturating_add(opening).min(told.len())],
+                &lines[at..at.saturating_add(band).min(lines.len())],
             )?;
-            at = at.saturating_add(opening);
+            band = band.saturating_sub(1);
         } else {
-            draw_entry(&mut canvas, &told[at])?;
-            at = at.saturating_add(1);
+            draw_line(alloc, &mut canvas, run, line)?;
         }
     }
-    write_picture(out, run, title, &canvas, lines.as_slice())
+    Ok(canvas)
 }
 
-// How many entries from a place on open a channel, with what stands between them; none where the first doesn't.
-fn opening_at(told: &[Explanation<'_>], at: usize) -> usize {
-    let mut count = 0usize;
-    let mut sure = 0usize;
-    for entry in &told[at.min(told.len())..] {
-        count = count.saturating_add(1);
-        if is_opening(entry) {
-            sure = count;
-        } else if sure == 0 || !is_between(entry) {
-            return sure;
+// Draws a line that opens no channel.
+fn draw_line<'e>(
+    alloc: Global,
+    canvas: &mut Canvas<'e>,
+    run: &ScriptRun,
+    line: &ExplainedLine<'e>,
+) -> Result<(), AllocError> {
+    let title = explained_words(alloc, run.names.as_slice(), line)?;
+    match (&line.told, chain_named(run, line.line.text)) {
+        (Some(told), _) => draw_entry(canvas, told, title.as_str())?,
+        (None, Some(chain)) if line.is_unsent() => {
+            draw_none(canvas, chain, line, title.as_str())?;
+        }
+        _ => {}
+    }
+    drop(title);
+    Ok(())
+}
+
+// The number of the chain whose name a line begins with.
+fn chain_named(run: &ScriptRun, line: &str) -> Option<u8> {
+    let (first, _) = line.split_once(' ')?;
+    for (chain, name) in run.names.iter().enumerate() {
+        if name.as_str() == first {
+            return Some(chain as u8);
         }
     }
-    sure
+    None
 }
 
 // The band of entries that open a channel; their blocks end in it.
-fn draw_band<'e>(canvas: &mut Canvas<'e>, told: &[Explanation<'e>]) -> Result<(), AllocError> {
+fn draw_band(canvas: &mut Canvas<'_>, lines: &[ExplainedLine<'_>]) -> Result<(), AllocError> {
     let mut first = u8::MAX;
     let mut last = 0u8;
     canvas.down(ROW);
-    for entry in told {
-        first = first.min(entry.place.chain);
-        last = last.max(entry.place.chain);
-        if let Reply::Ok(Effect::Block(height, _)) = &entry.entry.reply {
+    for told in lines.iter().filter_map(|line| line.told.as_ref()) {
+        first = first.min(told.place.chain);
+        last = last.max(told.place.chain);
+        if let Reply::Ok(Effect::Block(height, _)) = &told.entry.reply {
             let y = canvas.y;
             canvas.ticks.push(Tick {
-                chain: entry.place.chain,
+                chain: told.place.chain,
                 height: *height,
                 y,
             })?;
         }
     }
-    let count = told.len();
+    let count = lines.len();
     let left = lane_x(first.min(last)) - 26;
     let right = lane_x(last) + 26;
     let (wide, top) = (right.saturating_sub(left), canvas.y.saturating_sub(ROW));
-    let (middle, base) = (left + wide / 2, canvas.y);
+    let (middle, base) = (left + wide / 2, canvas.y.saturating_add(5));
     writeln!(
         canvas.shapes,
         "<rect class=\"band\" x=\"{left}\" y=\"{top}\" width=\"{wide}\" height=\"42\" rx=\"6\"/>"
     )?;
     writeln!(
         canvas.texts,
-        "<text class=\"inside\" x=\"{middle}\" y=\"{base}\" text-anchor=\"middle\">clients, connections, channels ({count})</text>"
+        "<text class=\"inside\" x=\"{middle}\" y=\"{base}\" text-anchor=\"middle\">{count} steps open channels: clients, connections, channels</text>"
     )?;
     canvas.down(ROW * 2);
     Ok(())
 }
 
+// Writes the picture, from so far down on.
 fn write_picture(
     out: &mut String,
     run: &ScriptRun,
     title: &str,
     canvas: &Canvas<'_>,
-    lines: &[PlacedLine],
+    lines: &[ExplainedLine<'_>],
+    from: usize,
 ) -> Result<(), AllocError> {
     let width = width_of(run.names.len() as u8);
     let bottom = canvas.y.saturating_add(6);
     let ends = lines.iter().filter(|line| is_end(line)).count();
     let height = bottom
         .saturating_add(62)
-        .saturating_add(ends.saturating_mul(18));
+        .saturating_add(ends.saturating_mul(18))
+        .saturating_sub(from);
     write!(
         out,
         "<svg xmlns=\"http://www.w3.org/2000/svg\" width=\"{width}\" height=\"{height}\" "
     )?;
     write!(
         out,
-        "viewBox=\"0 0 {width} {height}\" role=\"img\" aria-label=\"A run of "
+        "viewBox=\"0 {from} {width} {height}\" role=\"img\" aria-label=\"A run of "
     )?;
     write_escaped(out, title)?;
     out.push_str("\">\n<style>\n")?;
@@ -160,7 +178,7 @@ fn write_picture(
     write_tips(out)?;
     writeln!(
         out,
-        "<rect class=\"paper\" width=\"{width}\" height=\"{height}\"/>"
+        "<rect class=\"paper\" y=\"{from}\" width=\"{width}\" height=\"{height}\"/>"
     )?;
     write_head(out, title, canvas)?;
     write_lanes(out, run, bottom)?;
@@ -176,7 +194,7 @@ fn write_tips(out: &mut String) -> Result<(), AllocError> {
     for colour in 0..COLOURS {
         write!(
             out,
-            "<defs><marker id=\"tip{colour}\" viewBox=\"0 0 10 10\" refX=\"13\" refY=\"5\" markerWidth=\"7\" markerHeight=\"7\" "
+            "<defs><marker id=\"tip{colour}\" viewBox=\"0 0 10 10\" refX=\"14\" refY=\"5\" markerWidth=\"5.5\" markerHeight=\"5.5\" "
         )?;
         writeln!(
             out,
@@ -188,16 +206,14 @@ fn write_tips(out: &mut String) -> Result<(), AllocError> {
 
 // The title, and what was counted.
 fn write_head(out: &mut String, title: &str, canvas: &Canvas<'_>) -> Result<(), AllocError> {
-    let counts = canvas.counts;
     write!(out, "<text class=\"title\" x=\"{MARGIN}\" y=\"38\">")?;
     write_escaped(out, title)?;
-    let (sent, received, settled) = (counts.sent, counts.received, counts.settled);
-    let (timed_out, refused) = (counts.timed_out, counts.refused);
     write!(
         out,
-        "</text>\n<text class=\"soft\" x=\"{MARGIN}\" y=\"60\">packets: {sent} sent, {received} received, {settled} acknowledged, "
+        "</text>\n<text class=\"soft\" x=\"{MARGIN}\" y=\"60\">"
     )?;
-    writeln!(out, "{timed_out} timed out; {refused} refusals</text>")
+    canvas.counts.write(out)?;
+    out.push_str("</text>\n")
 }
 
 fn write_lanes(out: &mut String, run: &ScriptRun, bottom: usize) -> Result<(), AllocError> {
@@ -218,12 +234,16 @@ fn write_lanes(out: &mut String, run: &ScriptRun, bottom: usize) -> Result<(), A
 }
 
 // Whether a line tells what a chain holds at the end.
-fn is_end(line: &PlacedLine) -> bool {
-    let text = line.text.as_str();
-    line.place.is_none() && (text.starts_with("balance ") || text.starts_with("note "))
+fn is_end(line: &ExplainedLine<'_>) -> bool {
+    let text = line.line.text;
+    line.notes.step.is_none() && (text.starts_with("balance ") || text.starts_with("note "))
 }
 
-fn write_ends(out: &mut String, from: usize, lines: &[PlacedLine]) -> Result<(), AllocError> {
+fn write_ends(
+    out: &mut String,
+    from: usize,
+    lines: &[ExplainedLine<'_>],
+) -> Result<(), AllocError> {
     let title = from.saturating_sub(14);
     writeln!(
         out,
@@ -233,7 +253,7 @@ fn write_ends(out: &mut String, from: usize, lines: &[PlacedLine]) -> Result<(),
     for line in lines {
         if is_end(line) {
             write!(out, "<text x=\"{MARGIN}\" y=\"{y}\">")?;
-            write_escaped(out, line.text.as_str())?;
+            write_escaped(out, line.line.text)?;
             out.push_str("</text>\n")?;
             y = y.saturating_add(18);
         }

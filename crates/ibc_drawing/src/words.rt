@@ -1,6 +1,6 @@
 //! What stands beside the marks of a picture.
 
-use ibc_explain::{Explanation, Settlement};
+use ibc_explain::{Explanation, PacketOutcome};
 use ibc_ids::Refusal;
 use ibc_machine::Reply;
 use ibc_token_data::TokenData;
@@ -35,8 +35,8 @@ pub fn words_of(alloc: Global, told: &Explanation<'_>) -> Result<String, AllocEr
         return Ok(out);
     };
     let sequence = packet.sequence;
-    match &told.settlement {
-        Some(settlement) => write_outcome(&mut out, told, sequence, settlement)?,
+    match told.outcome {
+        Some(outcome) => write_outcome(&mut out, told, sequence, outcome)?,
         None => {
             write!(out, "sends packet {sequence}: ")?;
             write_load(&mut out, &told.tokens)?;
@@ -64,21 +64,21 @@ fn write_outcome(
     out: &mut String,
     told: &Explanation<'_>,
     sequence: u64,
-    settlement: &Settlement,
+    outcome: PacketOutcome,
 ) -> Result<(), AllocError> {
     let is_own = told.is_of_sender();
-    match settlement {
-        Settlement::Delivered if is_own => write!(out, "packet {sequence} acknowledged"),
-        Settlement::Delivered => write!(out, "receives packet {sequence}"),
-        Settlement::Refused(reason) if is_own => {
-            let reason = reason.as_str();
+    match outcome {
+        PacketOutcome::Delivered if is_own => write!(out, "packet {sequence} acknowledged"),
+        PacketOutcome::Delivered => write!(out, "receives packet {sequence}"),
+        PacketOutcome::Refused if is_own => {
+            let reason = told.reason.as_str();
             write!(out, "packet {sequence} given back: {reason}")
         }
-        Settlement::Refused(reason) => {
-            let reason = reason.as_str();
+        PacketOutcome::Refused => {
+            let reason = told.reason.as_str();
             write!(out, "receives packet {sequence}, error: {reason}")
         }
-        Settlement::TimedOut => {
+        PacketOutcome::TimedOut => {
             write!(out, "packet {sequence} timed out: ")?;
             write_load(out, &told.tokens)?;
             out.push_str(" given back")
