@@ -5,8 +5,7 @@
 use clap::error::ErrorKind;
 use clap::{Arg, ArgAction, ArgMatches, Command};
 use ibc_drawing::{PictureForm, draw};
-use ibc_explain::{ExplainedForm, ScriptRun, explain, run as run_script};
-use ibc_ids::Refusal;
+use ibc_explain::{ExplainedForm, NotPlaced, ScriptRun, explain, run as run_script};
 use ibc_lab::{Verdict, check, report};
 use ibc_script::Script;
 use std::alloc::{AllocError, Global};
@@ -110,12 +109,20 @@ enum Task {
     Draw(PictureForm),
 }
 
-/// What is printed of a run. Refused: `NoMemory`.
-fn told_of(alloc: Global, task: Task, file: &str, run: &ScriptRun) -> Result<String, Refusal> {
+/// The name of a file without its folders.
+fn base_name(file: &str) -> &str {
+    match file.rsplit_once('/') {
+        Some((_, name)) => name,
+        None => file,
+    }
+}
+
+/// What is printed of a run.
+fn told_of(alloc: Global, task: Task, file: &str, run: &ScriptRun) -> Result<String, NotPlaced> {
     match task {
         Task::Check => Ok(String::new(alloc)),
         Task::Explain(form) => explain(alloc, run, form),
-        Task::Draw(form) => draw(alloc, run, file, form),
+        Task::Draw(form) => draw(alloc, run, base_name(file), form),
     }
 }
 
@@ -131,8 +138,10 @@ fn tell_of_run<R: Print + AllocGlobal>(
     };
     let told = told_of(rt.alloc(), task, file, &run);
     drop(run);
-    let Ok(told) = told else {
-        return Err(io::Error::from(AllocError));
+    let told = match told {
+        Ok(told) => told,
+        Err(NotPlaced::NoMemory) => return Err(io::Error::from(AllocError)),
+        Err(NotPlaced::LeftOut) => return Err(io::Error::from(io::ErrorKind::InvalidData)),
     };
     let printed = rt.print(told.as_str());
     drop(told);
