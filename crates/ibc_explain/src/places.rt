@@ -75,11 +75,13 @@ pub fn placed_lines<'t>(
         lines.push(placing.placed(line, &mut next)?)?;
         rest = behind;
     }
-    if rest.is_empty() && are_all_told(world, next.as_slice()) {
-        Ok(lines)
-    } else {
-        Err(NotPlaced::LeftOut)
+    if !rest.is_empty() {
+        return Err(NotPlaced::LeftOut);
     }
+    if !are_all_told(world, next.as_slice()) {
+        return Err(NotPlaced::LeftOut);
+    }
+    Ok(lines)
 }
 
 // The first line of a text, and what stands behind its line feed; none where there is no line feed.
@@ -97,8 +99,8 @@ fn are_all_told(world: &World, told: &[usize]) -> bool
     if world.ledger(told.len() as u8).is_some() {
         return false;
     }
-    for (chain, count) in told.iter().enumerate() {
-        if entry_count(world, chain as u8) != *count {
+    for chain in 0..told.len() {
+        if entry_count(world, chain as u8) != told.get(chain).copied().unwrap_or(0) {
             return false;
         }
     }
@@ -176,16 +178,33 @@ impl<'w> Placing<'w> {
         ensures next { IfOk result (λ place. IfSome place (IsNext next.now)) }
         ensures small { IfOk result (λ place. IfSome place (λ p. p.index < usize.MAX)) }
     {
-        for (chain, index) in next.iter().enumerate() {
-            let place = EntryPlace {
-                chain: chain as u8,
-                index: *index,
-            };
-            if *index < usize::MAX && self.is_line_of(line, place)? {
-                return Ok(Some(place));
+        for chain in 0..next.len() {
+            let place = self.place_on(line, chain as u8, next)?;
+            if place.is_some() {
+                return Ok(place);
             }
         }
         Ok(None)
+    }
+
+    // The place of a chain's next entry, where the line is that of this entry.
+    fn place_on(&self, line: &str, chain: u8, next: &[usize]) -> Result<Option<EntryPlace>, Refusal>
+        ensures is { IfOk result (λ place. IfSome place (IsLineOf self.now.names.now self.now.world.now.ledgers line.now)) }
+        ensures next { IfOk result (λ place. IfSome place (IsNext next.now)) }
+        ensures small { IfOk result (λ place. IfSome place (λ p. p.index < usize.MAX)) }
+    {
+        let Some(index) = next.get(usize::from(chain)).copied() else {
+            return Ok(None);
+        };
+        if index == usize::MAX {
+            return Ok(None);
+        }
+        let place = EntryPlace { chain, index };
+        if self.is_line_of(line, place)? {
+            Ok(Some(place))
+        } else {
+            Ok(None)
+        }
     }
 
     fn name(&self, chain: u8) -> &'w str

@@ -1,6 +1,6 @@
 //! What channels have at the end of a run.
 
-ghost use Rattle.std.specs.Prelude.{◌≡◌, ◌+◌, All, IfOk, Ok};
+ghost use Rattle.std.specs.Prelude.{All, IfOk, OnOk};
 ghost use Rattle.ibc_explain.specs.Balances.{IsTotalOf};
 
 use crate::ScriptRun;
@@ -58,13 +58,28 @@ pub fn totals_of(alloc: Global, run: &ScriptRun) -> Result<Vec<ChannelTotal<'_>>
     let found = sent_denoms(alloc, run)?;
     let mut list = Vec::new(alloc);
     for sent in found.as_slice() {
-        match total_of(run.chains.world(), *sent) {
-            Ok(total) => list.push(total)?,
-            Err(Refusal::NoMemory) => return Err(Refusal::NoMemory),
-            Err(_) => {}
-        }
+        add_total(run.chains.world(), *sent, &mut list)?;
     }
     Ok(list)
+}
+
+// Adds what a channel has of a denomination, where it tells that.
+fn add_total<'e>(
+    world: &World,
+    sent: SentDenom<'e>,
+    list: &mut Vec<ChannelTotal<'e>>,
+) -> Result<(), Refusal>
+    requires { All (IsTotalOf world.now) list.old.items }
+    ensures { OnOk result (All (IsTotalOf world.now) list.new.items) }
+{
+    match total_of(world, sent) {
+        Ok(total) => {
+            list.push(total)?;
+            Ok(())
+        }
+        Err(Refusal::NoMemory) => Err(Refusal::NoMemory),
+        Err(_) => Ok(()),
+    }
 }
 
 // What a channel has of a denomination.
