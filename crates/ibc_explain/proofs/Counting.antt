@@ -1,6 +1,6 @@
 -- The entries of chains are counted while lines are placed.
-use Rattle.std.proofs.Common.{◌≡◌, ℕ, zero, suc, ◌+◌, ◌<◌, ◌≤◌, Bool, true, false, refl, ap, sym, ◌∙◌, subst, List, [], ◌∷◌, ◌++◌, append_assoc, append-nil, length, replicate, Option, None, Some, IfSome, option_and_then, ◌⊎◌, inl, inr, arith, ◌==◌, eqb-true, if◌then◌else◌, slice_get, slice_set}
-use Rattle.std.specs.List.{flat_map, range_with_len}
+use Rattle.std.proofs.Common.{◌≡◌, ℕ, zero, suc, ◌+◌, ◌<◌, ◌≤◌, Bool, true, false, refl, ap, sym, ◌∙◌, subst, List, [], ◌∷◌, ◌++◌, append_assoc, append-nil, length, replicate, Option, None, Some, ◌⊎◌, inl, inr, arith, ◌==◌, eqb-true, if◌then◌else◌, slice_get, slice_set}
+use Rattle.std.specs.List.{range_with_len}
 use Rattle.std.specs.Option.{option_map_or, unwrap_or}
 use Rattle.ibc_ids.specs.Texts.{Text}
 use Rattle.ibc_machine.specs.ledger.Ledgers.{Ledger}

@@ -1,5 +1,5 @@
 -- Which entry of a ledger's history a line of a run is of, and that no line and no entry is left out.
-use Rattle.std.specs.Prelude.{◌≡◌, ◌==◌, ℕ, codes, List, [], ◌∷◌, ◌++◌, length, if◌then◌else◌, slice_get, Option, None, Some, option_and_then, option_map, All, IfSome}
+use Rattle.std.specs.Prelude.{◌≡◌, ◌==◌, ℕ, List, [], ◌∷◌, ◌++◌, length, if◌then◌else◌, slice_get, Option, None, Some, option_and_then, option_map, All, IfSome}
 use Rattle.std.specs.List.{flat_map, range_with_len}
 use Rattle.std.specs.Option.{option_map_or}
 use Rattle.ibc_ids.specs.Texts.{Text}

@@ -49,5 +49,5 @@ IsExplained ledgers line = IsExplainedBy ledgers line.told line.line.place
 
 -- these are the lines of a text, each explained by the entry that it is of, and no entry is left out
 pub record AreExplained (names : List Text) (ledgers : List Ledger) (text : Text) (lines : List ExplainedLine) : Type 0 where
-  pub lines : AreLinesOf names ledgers text (map (λ (x : ExplainedLine). x.line) lines)
+  pub whole : AreLinesOf names ledgers text (map (λ (x : ExplainedLine). x.line) lines)
   pub told : All (IsExplained ledgers) lines

@@ -1,5 +1,5 @@
 -- A run of a script, with the world at its end.
-use Rattle.std.specs.Prelude.{◌≡◌, ℕ, [], length, Some}
+use Rattle.std.specs.Prelude.{[], Some}
 use Rattle.ibc_ids.specs.Texts.{Text}
 use Rattle.ibc_machine.specs.chain.Genesis.{genesis_state}
 use Rattle.ibc_refinement.specs.World.{WorldState}

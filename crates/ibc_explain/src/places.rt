@@ -1,6 +1,6 @@
 //! Lines of a run, and the entries that they are of.
 
-ghost use Rattle.std.specs.Prelude.{◌≡◌, ◌≤◌, ◌<◌, ◌+◌, ◌∷◌, ◌++◌, IfOk, IfSome, IsTrue, IsOkUnless, length, option_map};
+ghost use Rattle.std.specs.Prelude.{◌≡◌, ◌≤◌, ◌<◌, ◌+◌, ◌∷◌, ◌++◌, IfOk, IfSome, IsTrue, length, option_map};
 ghost use Rattle.ibc_script_cli.specs.Runs.{name_of};
 ghost use Rattle.ibc_explain.specs.EntryLines.{AreLinesOf, IsLineOf, IsPlaced, entries_of, entry_at, event_kind, named_line};
 ghost use Rattle.ibc_explain.specs.Counts.{AllAreTold, GoesOn, IsNext};

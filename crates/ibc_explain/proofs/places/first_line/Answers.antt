@@ -1,5 +1,5 @@
 -- A text is cut at its first line feed.
-use Rattle.std.proofs.Common.{◌≡◌, ℕ, List, ◌∷◌, ◌++◌, ◌<◌, Option, None, Some, IfSome, MatchOption, lit<, refl}
+use Rattle.std.proofs.Common.{◌≡◌, ℕ, List, ◌∷◌, ◌++◌, ◌<◌, Option, None, Some, IfSome, MatchOption, lit<}
 use Rattle.std.proofs.lemmas.Str.Pattern.{split_parts}
 use denote.Ref.{Bor}
 use Rattle.ibc_explain.proofs.places.first_line.Goals as goal
