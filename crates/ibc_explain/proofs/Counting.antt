@@ -30,7 +30,7 @@ get-set_other (x ∷ xs) zero (suc j) b other = refl
 get-set_other (x ∷ xs) (suc k) zero b other = refl
 get-set_other (x ∷ xs) (suc k) (suc j) b other = get-set_other xs k j b (λ e. other (ap suc e))
 
-none_counted : (n chain : ℕ) → unwrap_or (slice_get (replicate n 0) chain) 0 ≡ 0
+none_counted : (n chain : ℕ) → ◌≡◌ {A = ℕ} (unwrap_or (slice_get (replicate n 0) chain) 0) 0
 none_counted zero chain = refl
 none_counted (suc n) zero = refl
 none_counted (suc n) (suc chain) = none_counted n chain

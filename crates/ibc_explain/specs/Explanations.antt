@@ -7,7 +7,7 @@ use Rattle.ibc_explain.specs.Clients.{entry_client, entry_height, entry_tracked}
 use Rattle.ibc_explain.specs.EntryLines.{AreLinesOf, entry_at}
 use Rattle.ibc_explain.specs.Outcomes.{entry_outcome}
 use Rattle.ibc_explain.specs.Packets.{SentName, entry_packet, is_receipt}
-use Rattle.ibc_explain.specs.declared.explained.ExplainedLine.{ExplainedLine}
+use Rattle.ibc_explain.specs.declared.explaining.ExplainedLine.{ExplainedLine}
 use Rattle.ibc_explain.specs.declared.explanation.Explanation.{Explanation}
 use Rattle.ibc_explain.specs.declared.places.EntryPlace.{EntryPlace}
 use Rattle.ibc_explain.specs.declared.facts.Facts.{Facts}

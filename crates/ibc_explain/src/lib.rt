@@ -3,7 +3,7 @@
 
 mod absent;
 mod ends;
-mod explained;
+mod explaining;
 mod explanation;
 mod facts;
 mod json;
@@ -20,7 +20,7 @@ mod totals;
 mod watched;
 
 pub use absent::Absent;
-pub use explained::{ExplainedLine, LineNotes, explained};
+pub use explaining::{ExplainedLine, LineNotes, explained};
 pub use explanation::{Explanation, explanation_of};
 pub use facts::{Facts, PacketName, facts_of, packet_of};
 pub use lines::{ExplainedForm, explain};
