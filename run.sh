@@ -4,6 +4,8 @@
 #   ./run.sh SCRIPT                       the chains of the script, step by step
 #   ./run.sh race --relayers 8 SCRIPT     the same with eight relayers at each `relay`, in threads
 #   ./run.sh lab check SCRIPT ..          says what is wrong with scripts, by ibclab
+#   ./run.sh lab explain [--json] SCRIPT  runs a script, and says what each line is about
+#   ./run.sh lab draw [--html | --mermaid] SCRIPT     runs a script, and draws the run, as SVG where nothing else is said
 #   ./run.sh --proved ..                  by the proved program
 #
 # Where the proved program of these sources stands in crates/ibcworld/out (or crates/ibclab/out), it is started, at once. Else `rt try` builds the program without its proofs, in
@@ -19,6 +21,8 @@ seconds=600 # that a run without proofs may take
 usage() {
     echo "usage: ./run.sh [--proved] [race --relayers N] SCRIPT" >&2
     echo "       ./run.sh [--proved] lab check SCRIPT .." >&2
+    echo "       ./run.sh [--proved] lab explain [--json] SCRIPT" >&2
+    echo "       ./run.sh [--proved] lab draw [--html | --mermaid] SCRIPT" >&2
     exit 2
 }
 
@@ -56,17 +60,29 @@ look_at() {
 }
 
 if [ "$1" = lab ]; then
-    [ "${2-}" = check ] && [ $# -gt 2 ] || usage
+    shift
+    case "${1-}" in
+        check | explain | draw) words=("$1") ;;
+        *) usage ;;
+    esac
+    shift
+    case "${words[0]} ${1-}" in
+        "explain --json" | "draw --html" | "draw --mermaid")
+            words+=("$1")
+            shift
+            ;;
+    esac
+    [ $# -gt 0 ] || usage
     name=ibclab
     stored=(--version)
     input=/dev/null
-    words=(check)
-    for file in "${@:3}"; do
+    files=("$@")
+    for file in "${files[@]}"; do
         look_at "$file"
-        words+=("$file")
     done
 else
     input=stdin
+    files=()
     words=("${@:1:$#-1}")
     [ ${#words[@]} -gt 0 ] || words=(run)
     look_at "$script"
@@ -80,7 +96,7 @@ program=$PWD/crates/$name/out/$name
 # Becomes the proved program, in the folder that this was called in.
 start() {
     cd "$here"
-    exec "$program" "${words[@]}"
+    exec "$program" "${words[@]}" "${files[@]}"
 }
 
 if why=$(tools/proved_program "$name" 2>&1 >/dev/null); then
@@ -92,8 +108,7 @@ if [ "$proved" = yes ]; then
 fi
 echo "run.sh: $why; this run builds it without proofs, in a minute or two, and keeps nothing (./run.sh --proved proves all below it once, and keeps it)" >&2
 if [ "$name" = ibclab ]; then
-    mapfile -t files < <(cd "$here" && realpath -- "${words[@]:1}")
-    words=(check "${files[@]}")
+    mapfile -t files < <(cd "$here" && realpath -- "${files[@]}")
 fi
 cd "crates/$name"
-exec rt try --seconds "$seconds" -- "${words[@]}"
+exec rt try --seconds "$seconds" -- "${words[@]}" "${files[@]}"

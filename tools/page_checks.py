@@ -11,7 +11,7 @@ from crates import ROOT, uses
 WORDS = 30_000
 STORIES = ("docs/PERF.md",)
 # What the first command of the README prints.
-PRINTED = "examples/library/relay.txt"
+PRINTED = "tests/explained/relay.txt"
 
 
 def text_of(path):

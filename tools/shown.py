@@ -12,6 +12,7 @@ PAGES = ("README.md", "docs/TUTORIAL.md", "docs/SCRIPTS.md", "docs/HOSTILE.md")
 BLOCK = re.compile(r"(?:^    .*\n|^\n(?=    ))+", re.M)
 COMMAND = re.compile(r"(\./run\.sh|\./test\.sh|tools/[a-z_]+|\(cd crates/[a-z_]+; rt|rt)( |$)")
 SCRIPT = re.compile(r"\./run\.sh (race --relayers [1-8] )?([\w./-]+)")
+EXPLAINED = re.compile(r"\./run\.sh lab explain ([\w./-]+)")
 CASES = re.compile(r"\(cd crates/ibc_cases; rt try -- ([\w./-]+)\)")
 NAMED = re.compile(r"`(\.?[a-z][\w-]*(?:/[\w.-]+)+)`")
 LEFT_OUT = ".."
@@ -35,6 +36,9 @@ def run_of(command):
     of_script = SCRIPT.fullmatch(command)
     if of_script and os.path.isfile(os.path.join(ROOT, of_script[2])):
         return "ibcworld", tuple((of_script[1] or "run").split()), read(of_script[2]).encode()
+    explained = EXPLAINED.fullmatch(command)
+    if explained and os.path.isfile(os.path.join(ROOT, explained[1])):
+        return "ibclab", ("explain", os.path.join(ROOT, explained[1])), b""
     if of_cases := CASES.fullmatch(command):
         return "ibc_cases", (of_cases[1],), b""
     return None

@@ -3,15 +3,19 @@
 _ibclab() {
     local word=${COMP_WORDS[COMP_CWORD]} options="--help --version"
     COMPREPLY=()
+    case ${COMP_WORDS[1]} in
+        explain) options="--json $options" ;;
+        draw) options="--html --mermaid $options" ;;
+    esac
     if [[ $word == -* ]]; then
         mapfile -t COMPREPLY < <(compgen -W "$options" -- "$word")
     elif [ "$COMP_CWORD" -eq 1 ]; then
-        mapfile -t COMPREPLY < <(compgen -W "check help $options" -- "$word")
-    elif [ "${COMP_WORDS[1]}" = check ]; then
+        mapfile -t COMPREPLY < <(compgen -W "check explain draw help $options" -- "$word")
+    elif [[ " check explain draw " == *" ${COMP_WORDS[1]} "* ]]; then
         compopt -o filenames
         mapfile -t COMPREPLY < <(compgen -f -X '!*.json' -- "$word"; compgen -d -- "$word")
     elif [ "${COMP_WORDS[1]}" = help ]; then
-        mapfile -t COMPREPLY < <(compgen -W "check" -- "$word")
+        mapfile -t COMPREPLY < <(compgen -W "check explain draw" -- "$word")
     fi
 }
 complete -F _ibclab ibclab

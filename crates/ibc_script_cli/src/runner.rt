@@ -271,8 +271,8 @@ impl<'n> Runner<'n> {
         }
     }
 
-    // Takes a step, and prints its lines.
-    fn take<C: Holdings + Drop, W: Write>(
+    /// Takes a step, and prints its lines. Faults: `CannotWrite`, `NoMemory`; what was written stays written.
+    pub fn take<C: Holdings + Drop, W: Write>(
         &self,
         chains: &mut C,
         step: Step,

@@ -65,6 +65,15 @@ fn script_world(alloc: Global, starts: ChainStarts, world: World) -> ScriptWorld
     }
 }
 
+impl ScriptWorld {
+    /// The world, whose ledgers have the chains' histories.
+    pub fn world(&self) -> &World
+        ensures { result.now ≡ self.now }
+    {
+        &self.world
+    }
+}
+
 impl Worlds for WorldFactory {
     type Chains = ScriptWorld;
 

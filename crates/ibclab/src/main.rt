@@ -1,9 +1,13 @@
-//! `ibclab check FILE..`: what is wrong with scripts, and where it stands.
+//! `ibclab check FILE..`: what is wrong with scripts, and where it stands. `ibclab explain FILE`: what the lines of a run are about.
+//! `ibclab draw FILE`: a picture of a run.
 #![tactic(auto)]
 
 use clap::error::ErrorKind;
 use clap::{Arg, ArgAction, ArgMatches, Command};
+use ibc_drawing::{PictureForm, draw};
+use ibc_explain::{ExplainedForm, NotPlaced, ScriptRun, explain, run as run_script};
 use ibc_lab::{Verdict, check, report};
+use ibc_script::Script;
 use std::alloc::{AllocError, Global};
 use std::env::Env;
 use std::fs::Files;
@@ -35,6 +39,7 @@ fn parser<'a>(alloc: Global) -> Result<Command<'a>, AllocError> {
             "Say what is wrong with scripts, a line for each fault: FILE:LINE:COLUMN: PLACE: WHAT",
         )
         .arg(files)?;
+    let explain = explain_parser(alloc)?;
     Command::new(alloc, "ibclab")
         .version("1.0.0")
         .propagate_version(true)
@@ -42,7 +47,47 @@ fn parser<'a>(alloc: Global) -> Result<Command<'a>, AllocError> {
         .after_help("It ends with 0 where all is good, 1 where it finds something, and else 2.")
         .arg_required_else_help(true)
         .subcommand_required(true)
-        .subcommand(check)
+        .subcommand(check)?
+        .subcommand(explain)?
+        .subcommand(draw_parser(alloc)?)
+}
+
+fn draw_parser<'a>(alloc: Global) -> Result<Command<'a>, AllocError> {
+    let file = Arg::new(alloc, "file")
+        .value_name("FILE")
+        .help("A script")
+        .required(true)
+        .action(ArgAction::Set);
+    let html = Arg::new(alloc, "html")
+        .long("html")
+        .help("Print a page of HTML in place of SVG")
+        .action(ArgAction::SetTrue);
+    let mermaid = Arg::new(alloc, "mermaid")
+        .long("mermaid")
+        .help("Print a sequence chart of Mermaid in place of SVG")
+        .conflicts_with("html")?
+        .action(ArgAction::SetTrue);
+    Command::new(alloc, "draw")
+        .about("Run a script, and draw a picture of the run")
+        .arg(html)?
+        .arg(mermaid)?
+        .arg(file)
+}
+
+fn explain_parser<'a>(alloc: Global) -> Result<Command<'a>, AllocError> {
+    let file = Arg::new(alloc, "file")
+        .value_name("FILE")
+        .help("A script")
+        .required(true)
+        .action(ArgAction::Set);
+    let json = Arg::new(alloc, "json")
+        .long("json")
+        .help("Print an object of JSON a line")
+        .action(ArgAction::SetTrue);
+    Command::new(alloc, "explain")
+        .about("Run a script, and say what each line is about")
+        .arg(json)?
+        .arg(file)
 }
 
 /// The bytes of a file.
@@ -53,13 +98,82 @@ fn bytes_of<R: Files + AllocGlobal>(rt: &R, file: &str) -> io::Result<Vec<u8>> {
     Ok(bytes)
 }
 
-/// Says what is wrong with a text. The result is the status.
-fn check_text<R: Print + AllocGlobal>(rt: &R, file: &str, text: &[u8]) -> io::Result<u8> {
-    match check(rt.alloc(), text)? {
-        Verdict::Good(script) => {
+/// What is done with each file.
+#[derive(Clone, Copy)]
+enum Task {
+    /// It is told what is wrong with it.
+    Check,
+    /// It is run, and its lines are explained.
+    Explain(ExplainedForm),
+    /// It is run, and the run is drawn.
+    Draw(PictureForm),
+}
+
+/// The name of a file without its folders.
+fn base_name(file: &str) -> &str {
+    match file.rsplit_once('/') {
+        Some((_, name)) => name,
+        None => file,
+    }
+}
+
+/// What is printed of a run.
+fn told_of(alloc: Global, task: Task, file: &str, run: &ScriptRun) -> Result<String, NotPlaced> {
+    match task {
+        Task::Check => Ok(String::new(alloc)),
+        Task::Explain(form) => explain(alloc, run, form),
+        Task::Draw(form) => draw(alloc, run, base_name(file), form),
+    }
+}
+
+/// Runs a script, and prints what is asked of the run. The result is the status.
+fn tell_of_run<R: Print + AllocGlobal>(
+    rt: &R,
+    task: Task,
+    file: &str,
+    script: Script,
+) -> io::Result<u8> {
+    let Ok(run) = run_script(rt.alloc(), script) else {
+        return Err(io::Error::from(AllocError));
+    };
+    let told = told_of(rt.alloc(), task, file, &run);
+    drop(run);
+    let told = match told {
+        Ok(told) => told,
+        Err(NotPlaced::NoMemory) => return Err(io::Error::from(AllocError)),
+        Err(NotPlaced::LeftOut) => return Err(io::Error::from(io::ErrorKind::InvalidData)),
+    };
+    let printed = rt.print(told.as_str());
+    drop(told);
+    printed?;
+    Ok(GOOD)
+}
+
+/// Does with a script what is asked. The result is the status.
+fn look_at_script<R: Print + AllocGlobal>(
+    rt: &R,
+    task: Task,
+    file: &str,
+    script: Script,
+) -> io::Result<u8> {
+    match task {
+        Task::Check => {
             drop(script);
             Ok(GOOD)
         }
+        Task::Explain(_) | Task::Draw(_) => tell_of_run(rt, task, file, script),
+    }
+}
+
+/// Does with a text what is asked, or says what is wrong with it. The result is the status.
+fn look_at_text<R: Print + AllocGlobal>(
+    rt: &R,
+    task: Task,
+    file: &str,
+    text: &[u8],
+) -> io::Result<u8> {
+    match check(rt.alloc(), text)? {
+        Verdict::Good(script) => look_at_script(rt, task, file, script),
         Verdict::Bad(faults) => {
             let lines = report(rt.alloc(), file, text, faults.as_slice());
             drop(faults);
@@ -72,11 +186,15 @@ fn check_text<R: Print + AllocGlobal>(rt: &R, file: &str, text: &[u8]) -> io::Re
     }
 }
 
-/// Says what is wrong with a file. The result is the status.
-fn check_file<R: Files + Print + Eprint + AllocGlobal>(rt: &R, file: &str) -> io::Result<u8> {
+/// Does with a file what is asked. The result is the status.
+fn look_at_file<R: Files + Print + Eprint + AllocGlobal>(
+    rt: &R,
+    task: Task,
+    file: &str,
+) -> io::Result<u8> {
     match bytes_of(rt, file) {
         Ok(text) => {
-            let status = check_text(rt, file, text.as_slice());
+            let status = look_at_text(rt, task, file, text.as_slice());
             drop(text);
             status
         }
@@ -87,15 +205,28 @@ fn check_file<R: Files + Print + Eprint + AllocGlobal>(rt: &R, file: &str) -> io
     }
 }
 
-/// Says what is wrong with the files that the words name. The result is the greatest status.
-fn check_files<R: Files + Print + Eprint + AllocGlobal>(
+/// What is asked for by a command's name and words.
+fn task_of(command: &str, words: &ArgMatches<'_>) -> Task {
+    match command {
+        "explain" if words.get_flag("json") => Task::Explain(ExplainedForm::Json),
+        "explain" => Task::Explain(ExplainedForm::Text),
+        "draw" if words.get_flag("html") => Task::Draw(PictureForm::Html),
+        "draw" if words.get_flag("mermaid") => Task::Draw(PictureForm::Mermaid),
+        "draw" => Task::Draw(PictureForm::Svg),
+        _ => Task::Check,
+    }
+}
+
+/// Does with the files that the words name what is asked. The result is the greatest status.
+fn look_at_files<R: Files + Print + Eprint + AllocGlobal>(
     rt: &R,
     found: &ArgMatches<'_>,
 ) -> io::Result<u8> {
     let mut status = GOOD;
-    if let Some((_, inner)) = found.subcommand() {
+    if let Some((command, inner)) = found.subcommand() {
+        let task = task_of(command, inner);
         for file in inner.get_strs("file").unwrap_or(&[]) {
-            status = status.max(check_file(rt, file)?);
+            status = status.max(look_at_file(rt, task, file)?);
         }
     }
     Ok(status)
@@ -118,7 +249,7 @@ fn run<R: Env + Files + Print + Eprint + AllocGlobal>(rt: &R) -> io::Result<u8> 
     }
     match parser(alloc)?.try_get_matches_from(words.as_slice()) {
         Ok(found) => {
-            let status = check_files(rt, &found);
+            let status = look_at_files(rt, &found);
             drop(found);
             status
         }
