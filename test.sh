@@ -22,6 +22,7 @@ parts=(
     "tools/refusals --check"
     "tools/check_rules"
     "tools/test_trust"
+    "tools/instructions --selftest"
     "rt ci"
     "tools/trust LOG"
     "tools/try_edits"
@@ -31,6 +32,7 @@ parts=(
     "tools/build_library"
     "tools/trust"
     "tools/third_party"
+    "tools/instructions"
     "tools/refuse_growths"
     "tools/refuse_by_call"
     "tools/broken_streams"
@@ -40,13 +42,12 @@ parts=(
     "tools/test_commands"
 )
 # LOG is what `rt ci` said.
-# What goes on beside `rt ci` and the parts behind it, one after another, with the time that these leave, in a copy of the repository: `rt lib` and
-# `rt check` take nothing of what `rt ci` proved. What they make and say is kept, and taken by the parts of the same names. The first part that
-# needs it waits for it.
+# What goes on beside `rt ci` and the parts behind it, one after another, in a copy of the repository: `rt lib` and `rt check` take nothing of what
+# `rt ci` proved. What they make and say is kept, and taken by the parts of the same names. The first part that needs it waits for it.
 beside=("tools/static_library" "tools/trust")
 waits="tools/build_library"
-# What this part needs isn't part of the gate's surroundings: where it ends with status 77 and a line `left out: ..`, that is told and is no failure.
-optional="tools/third_party"
+# What these parts need isn't part of the gate's surroundings: where one ends with status 77 and a line `left out: ..`, that is told and is no failure.
+optional=("tools/third_party" "tools/instructions")
 quick_parts=(
     "tools/kit_commands"
     "tools/statements"
@@ -91,7 +92,7 @@ run() {
 # Notes a part that may be left out and was, and why. Whether it was.
 note_left_out() {
     local title=$1 files=$2 left=$3 why
-    [ "$title" = "$optional" ] && [ "$(cat "$files.status")" = 77 ] || return 1
+    [[ " ${optional[*]} " == *" $title "* ]] && [ "$(cat "$files.status")" = 77 ] || return 1
     why=$(grep '^left out: ' "$files.said" | tail -n 1)
     [ -n "$why" ] || return 1
     left_out+="; left out: $title"
@@ -156,7 +157,7 @@ follow() {
     [ ${#beside[@]} -gt 0 ] || return 0
     copy "$work/beside-copy"
     set -m
-    (cd "$work/beside-copy" && run "$work/beside" nice -n 10 bash -c 'for it; do "$it"; done' beside "${beside[@]}") >"$work/beside.said" &
+    (cd "$work/beside-copy" && run "$work/beside" bash -c 'for it; do "$it"; done' beside "${beside[@]}") >"$work/beside.said" &
     follower=$!
     set +m
 }

@@ -6,7 +6,7 @@ import os
 import re
 
 OPEN, SHUT = "([{", ")]}"
-QUOTED = re.compile(r'r(#*)".*?"\1|b?"(?:\\.|[^"\\])*"', re.DOTALL)
+QUOTED = re.compile(r'b?r(#*)".*?"\1|b?"(?:\\.|[^"\\])*"', re.DOTALL)
 CHARACTER = re.compile(r"b?'(?:\\(?:x..|u\{[^}]*\}|.)|[^'\\\n])'")
 WORD = re.compile(r"[A-Za-z_]\w*")
 

@@ -1,11 +1,12 @@
 -- A reader that goes on from one entry to the next.
-use Rattle.std.proofs.Common.{◌≡◌, ◌⊎◌, inl, inr, ℕ, zero, suc, ◌+◌, ◌<◌, ◌≤◌, List, [], ◌∷◌, ◌++◌, length, get_or, take, slice_get, Option, Some, None, Result, Ok, Err, refl, sym, ap, subst, length-append, ◌∙◌, arith}
+use Rattle.std.proofs.Common.{◌≡◌, ◌⊎◌, inl, inr, ℕ, zero, suc, ◌+◌, ◌<◌, ◌≤◌, ◌^◌, List, [], ◌∷◌, ◌++◌, length, get_or, take, slice_get, Option, Some, None, Result, Ok, Err, refl, sym, ap, subst, length-append, ◌∙◌, arith}
 use Rattle.std.proofs.lemmas.List.{take_more, take_all}
 use Rattle.std.proofs.lemmas.Option.{slice_get_within, get_or_from_slice_get}
 use Rattle.std.specs.Prelude.{option_map}
 use Rattle.ibc_journal.specs.Tables.{JournalItem}
 use Rattle.ibc_journal.specs.Entries.{item}
 use Rattle.ibc_journal.specs.Digests.{first_digest, digest_after, AreChained, last_digest, HasReadTo, HasReadAll, IsDamagedAt, IsFirstDamage}
+use Rattle.ibc_journal.specs.Faults.{IsOfReading}
 use Rattle.ibc_journal.specs.declared.cursor.Cursor.{Cursor}
 use Rattle.ibc_journal.specs.declared.entry.JournalEntry.{JournalEntry}
 use Rattle.ibc_journal.specs.declared.fault.JournalFault.{JournalFault}
@@ -71,6 +72,15 @@ pub damaged_at : (items : List JournalItem) (cursor : Cursor) (it : JournalItem)
     → (place ≡ cursor.place) × IsDamagedAt items cursor
 damaged_at items cursor it fault place there (inl full) is = absurd cc
 damaged_at items cursor it fault place there (inr bad) is = let same : place ≡ cursor.place = (let e = bad.0 in cc) in (same, (it, there, bad.1))
+
+-- a reader finds its place without a next one where there are so many entries
+pub full_at : (items : List JournalItem) (cursor : Cursor) (it : JournalItem) (fault : JournalFault) → slice_get items cursor.place ≡ Some it → IsOfReading cursor.place fault
+    → ◌≡◌ {A = Result (Option JournalEntry) JournalFault} (Err fault) (Err Full) → 2 ^ 32 ≤ length items
+full_at items cursor it fault there of is =
+    let same : fault ≡ Full = cc in
+    let room : 2 ^ 32 ≤ cursor.place + 1 = subst (IsOfReading cursor.place) same of in
+    let low = slice_get_within items cursor.place it there in
+    omega (arith, room, low)
 
 -- where no entry was found, all are read
 pub reads_end : (genesis : List ℕ) (items : List JournalItem) (old new : Cursor) (found : Option JournalEntry) → found ≡ None → option_map item found ≡ slice_get items old.place

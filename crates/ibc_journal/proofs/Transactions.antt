@@ -38,6 +38,11 @@ pub error_keeps : (old new : State) (sql : List ℕ) (params : Row) (r : Result 
 error_keeps old new sql params (Ok count) h = tt
 error_keeps old new sql params (Err e) h = (unchanged_keeps old new (fails_whole old new false sql params e h)).committed
 
+-- a fact that holds, also where an error is answered
+pub on_error : {A E : Type 0} (r : Result A E) (P : Type 0) → P → OnErr r P
+on_error (Ok a) P p = tt
+on_error (Err e) P p = p
+
 -- ---- BEGIN
 
 pub begins : (old new : State) (r : Result ℕ Error) → Executes begin_text [] old new r → OnOk r (HasBegun old new)

@@ -1,10 +1,10 @@
 //! A file with no table becomes a journal with no entries.
 
-ghost use Rattle.std.specs.Prelude.{◌≡◌, ◌∷◌, [], false, List, ℕ, IsTrue, OnOk};
+ghost use Rattle.std.specs.Prelude.{◌≡◌, ◌∷◌, [], false, List, ℕ, IsTrue, OnErr, OnOk};
 ghost use Rattle.sqlite.specs.State.{HasCleanDisk, Survives};
 ghost use Rattle.sqlite.specs.Held.{state};
 ghost use Rattle.ibc_journal.specs.Tables.{no_schema, meta_schema, journal_schema, IsJournal};
-ghost use Rattle.ibc_journal.specs.Crashes.{GoesOn, LeavesBegun};
+ghost use Rattle.ibc_journal.specs.Crashes.{GoesOn, KeepsCommitted, LeavesBegun};
 
 use crate::adding::{commit, start};
 use crate::digests::FORMAT;
@@ -18,6 +18,9 @@ pub fn begin<S: Alter>(conn: &mut Connection<S>, genesis: &[u8]) -> Result<(), E
     // The connection sees what is committed.
     ensures seen { HasCleanDisk (state S.Store conn.new) → OnOk result ((state S.Store conn.new).now ≡ (state S.Store conn.new).committed) }
     ensures outside { HasCleanDisk (state S.Store conn.new) → OnOk result ((state S.Store conn.new).in_transaction ≡ false) }
+    // After an error nothing of it is committed, as far as the connection is still open.
+    ensures none { (state S.Store conn.old).now.schema ≡ no_schema → HasCleanDisk (state S.Store conn.new)
+        → OnErr result (KeepsCommitted (state S.Store conn.old) (state S.Store conn.new)) }
     // A crash at any moment of the call leaves what it could leave before the call, or all of it.
     ensures crash { Survives (state S.Store conn.old) (state S.Store conn.new) (LeavesBegun (state S.Store conn.old) genesis.now) }
 {
@@ -31,6 +34,8 @@ pub fn begin<S: Alter>(conn: &mut Connection<S>, genesis: &[u8]) -> Result<(), E
 fn fill<S: Alter>(conn: &mut Connection<S>, genesis: &[u8]) -> Result<(), Error>
     ensures made { HasCleanDisk (state S.Store conn.new) → OnOk result ((state S.Store conn.old).now.schema ≡ no_schema → IsTrue (state S.Store conn.old).in_transaction
         → IsJournal (state S.Store conn.new).now genesis.now [] × GoesOn (state S.Store conn.old) (state S.Store conn.new)) }
+    ensures none { (state S.Store conn.old).now.schema ≡ no_schema → IsTrue (state S.Store conn.old).in_transaction → HasCleanDisk (state S.Store conn.new)
+        → OnErr result (KeepsCommitted (state S.Store conn.old) (state S.Store conn.new)) }
     ensures crash { Survives (state S.Store conn.old) (state S.Store conn.new) (λ _. (state S.Store conn.old).now.schema ≡ no_schema → ¬ IsTrue (state S.Store conn.old).in_transaction) }
 {
     make_meta(conn)?;
@@ -43,6 +48,7 @@ fn fill<S: Alter>(conn: &mut Connection<S>, genesis: &[u8]) -> Result<(), Error>
 fn make_meta<S: Alter>(conn: &mut Connection<S>) -> Result<usize, Error>
     ensures made { HasCleanDisk (state S.Store conn.new) → OnOk result ((state S.Store conn.old).now.schema ≡ no_schema → ((state S.Store conn.new).now.schema ≡ meta_schema)
         × ((state S.Store conn.new).now.trees 0 ≡ []) × (IsTrue (state S.Store conn.old).in_transaction → GoesOn (state S.Store conn.old) (state S.Store conn.new))) }
+    ensures none { HasCleanDisk (state S.Store conn.new) → OnErr result (KeepsCommitted (state S.Store conn.old) (state S.Store conn.new)) }
     ensures crash { Survives (state S.Store conn.old) (state S.Store conn.new) (λ _. (state S.Store conn.old).now.schema ≡ no_schema → ¬ IsTrue (state S.Store conn.old).in_transaction) }
 {
     conn.execute(
@@ -56,6 +62,7 @@ fn make_entries<S: Alter>(conn: &mut Connection<S>) -> Result<usize, Error>
     ensures made { HasCleanDisk (state S.Store conn.new) → OnOk result ((state S.Store conn.old).now.schema ≡ meta_schema → (state S.Store conn.old).now.trees 0 ≡ []
         → ((state S.Store conn.new).now.schema ≡ journal_schema) × ((state S.Store conn.new).now.trees 0 ≡ []) × ((state S.Store conn.new).now.trees 1 ≡ [])
         × (IsTrue (state S.Store conn.old).in_transaction → GoesOn (state S.Store conn.old) (state S.Store conn.new))) }
+    ensures none { HasCleanDisk (state S.Store conn.new) → OnErr result (KeepsCommitted (state S.Store conn.old) (state S.Store conn.new)) }
     ensures crash { Survives (state S.Store conn.old) (state S.Store conn.new) (λ _. (state S.Store conn.old).now.schema ≡ meta_schema → ¬ IsTrue (state S.Store conn.old).in_transaction) }
 {
     conn.execute(
@@ -69,6 +76,7 @@ fn put_beginning<S: Alter>(conn: &mut Connection<S>, genesis: &[u8]) -> Result<u
     ensures put { HasCleanDisk (state S.Store conn.new) → OnOk result ((state S.Store conn.old).now.schema ≡ journal_schema → (state S.Store conn.old).now.trees 0 ≡ []
         → (state S.Store conn.old).now.trees 1 ≡ [] → IsJournal (state S.Store conn.new).now genesis.now []
         × (IsTrue (state S.Store conn.old).in_transaction → GoesOn (state S.Store conn.old) (state S.Store conn.new))) }
+    ensures none { HasCleanDisk (state S.Store conn.new) → OnErr result (KeepsCommitted (state S.Store conn.old) (state S.Store conn.new)) }
     ensures crash { Survives (state S.Store conn.old) (state S.Store conn.new) (λ _. (state S.Store conn.old).now.schema ≡ journal_schema → ¬ IsTrue (state S.Store conn.old).in_transaction) }
 {
     conn.execute(

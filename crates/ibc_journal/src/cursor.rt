@@ -7,12 +7,16 @@ ghost use Rattle.ibc_journal.specs.Tables.{JournalItem, IsJournal};
 ghost use Rattle.ibc_journal.specs.Entries.{item};
 ghost use Rattle.ibc_journal.specs.Shown.{shown_row, shown_rows};
 ghost use Rattle.ibc_journal.specs.Digests.{digest_after, HasReadTo, HasReadAll, IsDamagedAt, IsFirstDamage};
+ghost use Rattle.ibc_journal.specs.Faults.{IsOfReading, IsOfEnding};
 ghost use Rattle.ibc_journal.specs.Crashes.{LeavesNothing};
 ghost use Rattle.ibc_journal.specs.declared.fault.JournalFault.TheVariants.{Damaged, Full, Gap};
 
 use crate::digests::{digest_after, first_digest};
 use crate::{JournalEntry, JournalFault};
 use sqlite::{Alter, Connection, Error, Row, params};
+
+// How many places a reader can name, and so no journal has more entries.
+const PLACES: u64 = 1 << 32;
 
 /// How far a reader of a journal has come: how many entries it has read, and the digest of the last of them.
 #[derive(Clone, Copy, Debug, PartialEq, Eq)]
@@ -45,6 +49,9 @@ pub fn next<S: Alter>(
     ensures end { result ≡ Ok None → cursor.new ≡ cursor.old }
     ensures damaged { (genesis : List ℕ) (items : List JournalItem) → IsJournal (state S.Store conn.old).now genesis items
         → HasCleanDisk (state S.Store conn.new) → (place : ℕ) → result ≡ Err (Damaged place) → (place ≡ cursor.old.place) × IsDamagedAt items cursor.old }
+    ensures full { (genesis : List ℕ) (items : List JournalItem) → IsJournal (state S.Store conn.old).now genesis items
+        → HasCleanDisk (state S.Store conn.new) → result ≡ Err Full → 2 ^ 32 ≤ length items }
+    ensures faults { IfErr result (IsOfReading cursor.old.place) }
     ensures stays { OnErr result (cursor.new ≡ cursor.old) }
     ensures same { (genesis : List ℕ) (items : List JournalItem) → IsJournal (state S.Store conn.old).now genesis items
         → HasCleanDisk (state S.Store conn.new) → OnOk result (IsUnchanged (state S.Store conn.old) (state S.Store conn.new)) }
@@ -64,16 +71,20 @@ pub fn next<S: Alter>(
 }
 
 /// Reads all of a journal that began so. Answers how far it goes. Error: `Damaged` with the first place whose entry isn't the one that
-/// was put there; `Gap`, where entries are missing.
+/// was put there; `Gap`, where entries are missing, and so never of a journal; `Full`, where there are 2^32 entries or more.
 pub fn audit<S: Alter>(conn: &mut Connection<S>, genesis: &[u8]) -> Result<Cursor, JournalFault>
     ensures whole { (items : List JournalItem) → IsJournal (state S.Store conn.old).now genesis.now items
         → HasCleanDisk (state S.Store conn.new) → IfOk result (HasReadAll genesis.now items) }
     ensures damaged { (items : List JournalItem) → IsJournal (state S.Store conn.old).now genesis.now items
         → HasCleanDisk (state S.Store conn.new) → (place : ℕ) → result ≡ Err (Damaged place) → IsFirstDamage genesis.now items place }
+    ensures gap { (items : List JournalItem) → IsJournal (state S.Store conn.old).now genesis.now items
+        → HasCleanDisk (state S.Store conn.new) → (place : ℕ) → result ≢ Err (Gap place) }
+    ensures full { (items : List JournalItem) → IsJournal (state S.Store conn.old).now genesis.now items
+        → HasCleanDisk (state S.Store conn.new) → result ≡ Err Full → 2 ^ 32 ≤ length items }
     ensures crash { Survives (state S.Store conn.old) (state S.Store conn.new) (LeavesNothing (state S.Store conn.old)) }
 {
     let mut cursor = Cursor::new(genesis);
-    'reading: for _ in 0..u32::MAX {
+    'reading: for _turn in 0..PLACES {
         match next(conn, &mut cursor)? {
             Some(entry) => drop(entry),
             None => {
@@ -91,7 +102,7 @@ pub fn end_at<S: Alter>(conn: &mut Connection<S>, cursor: &Cursor) -> Result<(),
         → HasCleanDisk (state S.Store conn.new) → IfErr result (λ fault. (place : ℕ) → fault ≢ Gap place) }
     ensures ended { (genesis : List ℕ) (items : List JournalItem) → IsJournal (state S.Store conn.old).now genesis items
         → HasCleanDisk (state S.Store conn.new) → OnOk result (length items ≤ cursor.now.place) }
-    ensures gap { IfErr result (λ fault. (place : ℕ) → fault ≢ Damaged place) }
+    ensures faults { IfErr result (IsOfEnding cursor.now.place) }
     ensures same { (genesis : List ℕ) (items : List JournalItem) → IsJournal (state S.Store conn.old).now genesis items
         → HasCleanDisk (state S.Store conn.new) → OnOk result (IsUnchanged (state S.Store conn.old) (state S.Store conn.new)) }
     ensures crash { Survives (state S.Store conn.old) (state S.Store conn.new) (LeavesNothing (state S.Store conn.old)) }
@@ -124,6 +135,7 @@ fn pass(cursor: &mut Cursor, entry: &JournalEntry) -> Result<(), JournalFault>
     ensures passed { OnOk result (((item entry.now).digest ≡ digest_after cursor.old.last (item entry.now))
         × (cursor.new ≡ record { place = cursor.old.place + 1; last = (item entry.now).digest })) }
     ensures refused { IfErr result (λ fault. (fault ≡ Full) ⊎ ((fault ≡ Damaged cursor.old.place) × ((item entry.now).digest ≢ digest_after cursor.old.last (item entry.now)))) }
+    ensures faults { IfErr result (IsOfReading cursor.old.place) }
     ensures stays { OnErr result (cursor.new ≡ cursor.old) }
 {
     let due = digest_after(&cursor.last, entry);

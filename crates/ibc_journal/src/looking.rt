@@ -1,13 +1,11 @@
 //! What a file holds, and how its journal began.
 
-ghost use Rattle.std.specs.Prelude.{◌≡◌, [], ◌∷◌, true, IfOk, IsTrue, List, OnOk, Some, pos, ℕ, Ok};
+ghost use Rattle.std.specs.Prelude.{◌≡◌, [], ◌∷◌, IfOk, IsTrue, List, OnOk, Some, pos, ℕ, Ok};
 ghost use Rattle.sqlite.specs.State.{HasCleanDisk, IsUnchanged, Survives};
 ghost use Rattle.sqlite.specs.Held.{state};
-ghost use Rattle.sqlite.specs.declared.types.Value.TheVariants.{Null as NoValue};
-ghost use Rattle.sqlite.specs.Collation.TheVariants.{Binary as ByBytes};
 ghost use Rattle.ibc_journal.specs.Tables.{no_schema, meta, entries, journal_schema, JournalItem, IsJournal};
 ghost use Rattle.ibc_journal.specs.Shown.{shown_beginning};
-ghost use Rattle.ibc_journal.specs.Plain.{IsPlainColumn, IsPlainTable, HasNoRules, HasPlainDefaults};
+ghost use Rattle.ibc_journal.specs.Plain.{plain_column, AreNumbers, AreBytes, IsPlainColumn, IsPlainTable, HasNoRules, HasPlainDefaults};
 ghost use Rattle.ibc_journal.specs.Crashes.{LeavesNothing};
 ghost use Rattle.ibc_journal.specs.declared.looking.Looks.TheVariants.{Empty, Journal};
 
@@ -44,6 +42,8 @@ pub struct Beginning {
 pub fn look<S: Alter>(alloc: Global, conn: &mut Connection<S>) -> Result<Looks, Error>
     ensures empty { result ≡ Ok Empty → ((state S.Store conn.old).now.schema ≡ no_schema) × (conn.new ≡ conn.old) }
     ensures journal { result ≡ Ok Journal → ((state S.Store conn.old).now.schema ≡ journal_schema) × (conn.new ≡ conn.old) }
+    ensures sees_empty { (state S.Store conn.old).now.schema ≡ no_schema → result ≡ Ok Empty }
+    ensures sees_journal { (state S.Store conn.old).now.schema ≡ journal_schema → IfOk result (λ looks. looks ≡ Journal) }
 {
     if is_empty(conn.schema()) {
         return Ok(Looks::Empty);
@@ -90,7 +90,8 @@ fn beginning_in(row: &Row) -> Result<Beginning, Error>
 
 // Whether a schema has no table, index or view.
 fn is_empty(schema: &Schema) -> bool
-    ensures { IsTrue result → schema.now ≡ no_schema }
+    ensures is { IsTrue result → schema.now ≡ no_schema }
+    ensures sees { schema.now ≡ no_schema → IsTrue result }
 {
     schema.tables.as_slice().is_empty()
         && schema.indexes.as_slice().is_empty()
@@ -99,7 +100,8 @@ fn is_empty(schema: &Schema) -> bool
 
 // Whether a schema has the two tables of a journal, and nothing else.
 fn has_our_tables(alloc: Global, schema: &Schema) -> Result<bool, AllocError>
-    ensures { IfOk result (λ has. IsTrue has → schema.now ≡ journal_schema) }
+    ensures is { IfOk result (λ has. IsTrue has → schema.now ≡ journal_schema) }
+    ensures sees { schema.now ≡ journal_schema → IfOk result (λ has. IsTrue has) }
 {
     let [first, second] = schema.tables.as_slice() else {
         return Ok(false);
@@ -112,7 +114,8 @@ fn has_our_tables(alloc: Global, schema: &Schema) -> Result<bool, AllocError>
 
 // Whether a table is the first one of a journal.
 fn is_meta(alloc: Global, table: &Table) -> Result<bool, AllocError>
-    ensures { IfOk result (λ is. IsTrue is → table.now ≡ meta) }
+    ensures is { IfOk result (λ is. IsTrue is → table.now ≡ meta) }
+    ensures sees { table.now ≡ meta → IfOk result (λ is. IsTrue is) }
 {
     if table.tree != 0 || table.name.as_slice() != b"meta".as_slice() {
         return Ok(false);
@@ -121,7 +124,8 @@ fn is_meta(alloc: Global, table: &Table) -> Result<bool, AllocError>
 }
 
 fn are_meta_columns(columns: &[Column]) -> bool
-    ensures { IsTrue result → columns.now ≡ meta.columns }
+    ensures is { IsTrue result → columns.now ≡ meta.columns }
+    ensures sees { columns.now ≡ meta.columns → IsTrue result }
 {
     match columns {
         [format, genesis] => {
@@ -134,7 +138,8 @@ fn are_meta_columns(columns: &[Column]) -> bool
 
 // Whether a table is the second one of a journal.
 fn is_entries(alloc: Global, table: &Table) -> Result<bool, AllocError>
-    ensures { IfOk result (λ is. IsTrue is → table.now ≡ entries) }
+    ensures is { IfOk result (λ is. IsTrue is → table.now ≡ entries) }
+    ensures sees { table.now ≡ entries → IfOk result (λ is. IsTrue is) }
 {
     if table.tree != 1 || table.name.as_slice() != b"entries".as_slice() {
         return Ok(false);
@@ -143,25 +148,40 @@ fn is_entries(alloc: Global, table: &Table) -> Result<bool, AllocError>
 }
 
 fn are_entry_columns(columns: &[Column]) -> bool
-    ensures { IsTrue result → columns.now ≡ entries.columns }
+    ensures is { IsTrue result → columns.now ≡ entries.columns }
+    ensures sees { columns.now ≡ entries.columns → IsTrue result }
 {
     match columns {
         [place, chain, kind, log_place, event, answer, digest] => {
-            is_column(place, b"place".as_slice(), Kind::Integer, false)
-                && is_column(chain, b"chain".as_slice(), Kind::Integer, true)
-                && is_column(kind, b"kind".as_slice(), Kind::Integer, true)
-                && is_column(log_place, b"log_place".as_slice(), Kind::Integer, true)
-                && is_column(event, b"event".as_slice(), Kind::Blob, true)
-                && is_column(answer, b"answer".as_slice(), Kind::Blob, true)
-                && is_column(digest, b"digest".as_slice(), Kind::Blob, true)
+            are_numbers(place, chain, kind, log_place) && are_bytes(event, answer, digest)
         }
         _ => false,
     }
 }
 
+fn are_numbers(place: &Column, chain: &Column, kind: &Column, log_place: &Column) -> bool
+    ensures is { IsTrue result → AreNumbers place.now chain.now kind.now log_place.now }
+    ensures sees { AreNumbers place.now chain.now kind.now log_place.now → IsTrue result }
+{
+    is_column(place, b"place".as_slice(), Kind::Integer, false)
+        && is_column(chain, b"chain".as_slice(), Kind::Integer, true)
+        && is_column(kind, b"kind".as_slice(), Kind::Integer, true)
+        && is_column(log_place, b"log_place".as_slice(), Kind::Integer, true)
+}
+
+fn are_bytes(event: &Column, answer: &Column, digest: &Column) -> bool
+    ensures is { IsTrue result → AreBytes event.now answer.now digest.now }
+    ensures sees { AreBytes event.now answer.now digest.now → IsTrue result }
+{
+    is_column(event, b"event".as_slice(), Kind::Blob, true)
+        && is_column(answer, b"answer".as_slice(), Kind::Blob, true)
+        && is_column(digest, b"digest".as_slice(), Kind::Blob, true)
+}
+
 // Whether a column has this name and kind, may or may not be NULL, and has nothing else of its own.
 fn is_column(column: &Column, name: &[u8], kind: Kind, not_null: bool) -> bool
-    ensures { IsTrue result → column.now ≡ record { name = name.now; kind = kind; is_strict = true; not_null = not_null; default = NoValue; collation = ByBytes } }
+    ensures is { IsTrue result → column.now ≡ plain_column name.now kind not_null }
+    ensures sees { column.now ≡ plain_column name.now kind not_null → IsTrue result }
 {
     column.name.as_slice() == name
         && column.kind == kind
@@ -171,7 +191,8 @@ fn is_column(column: &Column, name: &[u8], kind: Kind, not_null: bool) -> bool
 
 // Whether a column takes values of its kind alone, has no default, and is sorted by bytes.
 fn is_plain_column(column: &Column) -> bool
-    ensures { IsTrue result → IsPlainColumn column.now }
+    ensures is { IsTrue result → IsPlainColumn column.now }
+    ensures sees { IsPlainColumn column.now → IsTrue result }
 {
     column.is_strict
         && matches!(&column.default, Value::Null)
@@ -180,7 +201,8 @@ fn is_plain_column(column: &Column) -> bool
 
 // Whether the first column of a table is the number of its row, and the table has no other rule.
 fn is_plain(alloc: Global, table: &Table) -> Result<bool, AllocError>
-    ensures { IfOk result (λ is. IsTrue is → IsPlainTable table.now) }
+    ensures is { IfOk result (λ is. IsTrue is → IsPlainTable table.now) }
+    ensures sees { IsPlainTable table.now → IfOk result (λ is. IsTrue is) }
 {
     Ok(
         has_first_key(table)
@@ -192,7 +214,8 @@ fn is_plain(alloc: Global, table: &Table) -> Result<bool, AllocError>
 
 // Whether the first column of a table is the number of its row.
 fn has_first_key(table: &Table) -> bool
-    ensures { IsTrue result → (table.now.key ≡ Some 0) × (table.now.primary ≡ 0 ∷ []) }
+    ensures is { IsTrue result → (table.now.key ≡ Some 0) × (table.now.primary ≡ 0 ∷ []) }
+    ensures sees { table.now.key ≡ Some 0 → table.now.primary ≡ 0 ∷ [] → IsTrue result }
 {
     match table.key {
         Some(0) => is_zero_alone(table.primary.as_slice()),
@@ -201,7 +224,8 @@ fn has_first_key(table: &Table) -> bool
 }
 
 fn is_zero_alone(places: &[usize]) -> bool
-    ensures { IsTrue result → places.now ≡ 0 ∷ [] }
+    ensures is { IsTrue result → places.now ≡ 0 ∷ [] }
+    ensures sees { places.now ≡ 0 ∷ [] → IsTrue result }
 {
     match places {
         [place] => *place == 0,
@@ -211,7 +235,8 @@ fn is_zero_alone(places: &[usize]) -> bool
 
 // Whether a table has no key besides its first, no reference to another, and no default that is reckoned.
 fn has_no_rules(table: &Table) -> bool
-    ensures { IsTrue result → HasNoRules table.now }
+    ensures is { IsTrue result → HasNoRules table.now }
+    ensures sees { HasNoRules table.now → IsTrue result }
 {
     table.uniques.as_slice().is_empty()
         && table.orders.as_slice().is_empty()
@@ -221,7 +246,8 @@ fn has_no_rules(table: &Table) -> bool
 
 // Whether a table has no default that is reckoned, and counts no rows.
 fn has_plain_defaults(table: &Table) -> bool
-    ensures { IsTrue result → HasPlainDefaults table.now }
+    ensures is { IsTrue result → HasPlainDefaults table.now }
+    ensures sees { HasPlainDefaults table.now → IsTrue result }
 {
     table.computed.as_slice().is_empty()
         && table.stamps.places.as_slice().is_empty()
@@ -231,7 +257,8 @@ fn has_plain_defaults(table: &Table) -> bool
 
 // Whether there is no term.
 fn is_none(alloc: Global, terms: &Terms) -> Result<bool, AllocError>
-    ensures { IfOk result (λ is. IsTrue is → terms.now ≡ []) }
+    ensures is { IfOk result (λ is. IsTrue is → terms.now ≡ []) }
+    ensures sees { terms.now ≡ [] → IfOk result (λ is. IsTrue is) }
 {
     let lent = terms.lend(alloc)?;
     let is = lent.roots.is_empty();

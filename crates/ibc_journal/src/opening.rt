@@ -1,6 +1,7 @@
 //! The files of a journal are opened.
 
-ghost use Rattle.std.specs.Prelude.{IfOk};
+ghost use Rattle.std.specs.Prelude.{IfErr, IfOk, IsTrue};
+ghost use Rattle.sqlite.specs.Opening.{is_open_error};
 ghost use Rattle.sqlite.specs.WalFiles.{image_at};
 ghost use Rattle.sqlite.specs.State.{HasCleanDisk};
 ghost use Rattle.sqlite.specs.Files.{file_state};
@@ -15,7 +16,8 @@ pub fn open_journal<S: Start>(
     path: &str,
     start: S,
 ) -> Result<Connection<FileStore<FileFrom<S>>>, Error>
-    ensures { IfOk result (λ conn. HasCleanDisk (file_state conn) → FindsJournal (image_at S.Start) (file_state conn)) }
+    ensures found { IfOk result (λ conn. HasCleanDisk (file_state conn) → FindsJournal (image_at S.Start) (file_state conn)) }
+    ensures named { IfErr result (λ error. IsTrue (is_open_error error)) }
 {
     match Connection::open_from(rt, path, false, start) {
         Ok(conn) => Ok(conn),

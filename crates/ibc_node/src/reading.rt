@@ -18,6 +18,9 @@ use ibc_machine::Entry;
 use sqlite::{Alter, Connection};
 use std::alloc::Global;
 
+// How many places a journal can have.
+const PLACES: u64 = 1 << 32;
+
 /// An entry of a journal whose event came by a place of a log.
 #[derive(Clone, Copy, Debug, PartialEq, Eq, Drop)]
 pub(crate) struct LogMark {
@@ -63,7 +66,7 @@ pub(crate) fn read_all<S: Alter>(
     ensures crash { Survives (state S.Store conn.old) (state S.Store conn.new) (LeavesNothing (state S.Store conn.old)) }
 {
     let mut past = Past::new(alloc, genesis);
-    'reading: for _ in 0..u32::MAX {
+    'reading: for _ in 0..PLACES {
         if !read_next(alloc, conn, &mut past)? {
             return Ok(past);
         }

@@ -1,5 +1,5 @@
 -- How a block is found by its height among what a history tells.
-use Rattle.std.proofs.Common.{◌≡◌, ◌∙◌, ◌⊎◌, ◌+◌, ◌-◌, ◌<◌, ◌≤◌, ℕ, zero, suc, Bool, true, false, List, [], ◌∷◌, Option, None, Some, ap, arith, drop, get_or, inl, inr, length, map, nat_lt, option_map, refl, slice_get, sym, subst, take, le-ltb, lt-ltb}
+use Rattle.std.proofs.Common.{◌≡◌, ◌∙◌, ◌⊎◌, ◌+◌, ◌-◌, ◌<◌, ◌≤◌, ℕ, zero, suc, Bool, true, false, List, [], ◌∷◌, Option, None, Some, ap, arith, get_or, inl, inr, length, map, nat_lt, option_map, refl, slice_get, sym, take, le-ltb, lt-ltb}
 use Rattle.std.proofs.lemmas.List.{length-map}
 use Rattle.std.proofs.lemmas.Option.{none-some, slice_get-map, slice_get_past, slice_get_read, slice_get_within}
 use Rattle.ibc_machine.specs.ledger.Replay.{StampedEntry}
@@ -137,12 +137,12 @@ last_time time (Some first ∷ ends) (suc i) block at none =
 -- ---- entries as they are kept
 
 pub entry_tells : (history : List KeptEntry) (i : ℕ) (entry : KeptEntry) (told : Option EndedBlock) → i < length history → entry ≡ get_or history i entry
-    → told ≡ ended_by entry.entry → slice_get (ends_of history) i ≡ Some told
+    → told ≡ ended_by (get_or history i entry).entry → slice_get (ends_of history) i ≡ Some told
 entry_tells history i entry told within read is =
     slice_get-map (λ (e : StampedEntry). ended_by e.entry) (map abstract_entry history) i
     ∙ ap (option_map (λ (e : StampedEntry). ended_by e.entry))
     (slice_get-map abstract_entry history i ∙ ap (option_map abstract_entry) (slice_get_read history (length history) i entry refl within read))
-    ∙ ap Some (sym is)
+    ∙ ap Some (sym (is ∙ ap (λ (e : KeptEntry). ended_by e.entry) (sym read)))
 
 pub as_many : (history : List KeptEntry) → length (ends_of history) ≡ length history
 as_many history = length-map (map abstract_entry history) (λ (e : StampedEntry). ended_by e.entry) ∙ length-map history abstract_entry
@@ -177,8 +177,8 @@ pub last_there : (ends : Ends) (low high behind place : ℕ) (block : EndedBlock
 last_there ends low high behind place block long within at none =
     (omega (arith, long, within), omega (arith, long), at, λ i later past below there. none i later (omega (arith, long, past)) below there)
 
-pub none_there : (ends : Ends) (low high : ℕ) → low ≤ high → EndNoneBehind ends high (high - low) → IsLastIn ends low high None
-none_there ends low high order none i block from below at = none i block (omega (arith, order, from)) below at
+pub none_there : (ends : Ends) (low high behind : ℕ) → high - low ≤ behind → EndNoneBehind ends high behind → IsLastIn ends low high None
+none_there ends low high behind all none i block from below at = none i block (omega (arith, all, from)) below at
 
 -- ---- a step of a search
 
@@ -348,7 +348,3 @@ module _ (start window height : ℕ) (ends : Ends) (place : ℕ) (last : EndedBl
       let many = how_many counted in
       let high : nat_lt (length (blocks_told start ends) - window) height ≡ true = lt-ltb (length (blocks_told start ends) - window) height (omega (arith, many, kept)) in
       same ∙ sym (ap (λ (b : Bool). elim b as (λ _. Option CommittedBlock) [ true ↦ told_at height (blocks_told start ends) | false ↦ None ]) high)
-
-  -- behind the last block none is told
-  pub none_behind : EndNoneIn ends (place + 1) (length ends)
-  none_behind = is.3

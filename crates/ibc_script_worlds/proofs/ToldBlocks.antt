@@ -1,5 +1,5 @@
 -- A ledger's history tells just the blocks that its chain committed, with heights from 1 on.
-use Rattle.std.proofs.Common.{◌≡◌, ◌∙◌, ◌⊎◌, ◌+◌, ◌-◌, ◌<◌, ℕ, zero, suc, Bool, true, false, List, [], ◌∷◌, ◌++◌, Option, None, Some, ap, append_assoc, append-nil, arith, MatchOption, inl, inr, length, length-append, map, nat_lt, option_map, refl, slice_get, sym, subst, unwrap_or}
+use Rattle.std.proofs.Common.{◌≡◌, ◌∙◌, ◌+◌, ◌-◌, ℕ, zero, suc, Bool, true, false, List, [], ◌∷◌, ◌++◌, Option, None, Some, ap, append_assoc, append-nil, arith, MatchOption, inl, inr, length, length-append, map, nat_lt, option_map, refl, slice_get, sym, subst, unwrap_or}
 use Rattle.std.specs.List.{AllByRecursion}
 use Rattle.std.proofs.lemmas.List.{length-map, map-append}
 use Rattle.std.proofs.lemmas.Option.{MatchOption-at_some, slice_get-map}
@@ -10,14 +10,14 @@ use Rattle.ibc_machine.specs.declared.reply.Effect.TheVariants as effect
 use Rattle.ibc_machine.specs.declared.reply.Reply.{Reply}
 use Rattle.ibc_machine.specs.declared.reply.Reply.TheVariants as reply
 use Rattle.ibc_machine.specs.chain.Records.{Block, MachineChain}
-use Rattle.ibc_machine.specs.chain.Genesis.{ChainState, GenesisState, start, starting_chain}
+use Rattle.ibc_machine.specs.chain.Genesis.{ChainState, starting_chain}
 use Rattle.ibc_machine.specs.chain.Machine.{block_of}
 use Rattle.ibc_machine.specs.ics24.Image.{core_root}
-use Rattle.ibc_machine.specs.ledger.Ledgers.{IsLedger, IsOwnEntry, Ledger, chain_of, is_block_reply, state_of}
+use Rattle.ibc_machine.specs.ledger.Ledgers.{IsLedger, IsOwnEntry, Ledger, is_block_reply, state_of}
 use Rattle.ibc_machine.specs.ledger.Replay.{LedgerState, StampedEntry, empty_chain, entry_answer, met_states, replay, starting_state}
-use Rattle.ibc_ledger.specs.ReplayedState.{passed_count, provable_block}
+use Rattle.ibc_ledger.specs.ReplayedState.{provable_block}
 use Rattle.ibc_refinement.proofs.ChangedPlaces.{get_there}
-use Rattle.ibc_refinement.proofs.EntryEnds.{EndsBlock, GoesOn, answer_ends}
+use Rattle.ibc_refinement.proofs.EntryEnds.{EndsBlock, answer_ends}
 use Rattle.ibc_refinement.proofs.EntrySteps.{answer_commits, own_typed, working}
 use Rattle.ibc_refinement.proofs.MergedRun.{typed_start}
 use Rattle.ibc_refinement.proofs.Typed.{IsTyped}
@@ -25,7 +25,7 @@ use Rattle.ibc_script_cli.specs.declared.chains.CommittedBlock.{CommittedBlock}
 use Rattle.ibc_script_worlds.specs.declared.blocks.ChainStarts.{ChainStarts}
 use Rattle.ibc_script_worlds.specs.declared.blocks.EndedBlock.{EndedBlock}
 use Rattle.ibc_script_worlds.specs.EndedBlocks.{AreCountedFrom, blocks_told, ended_by, ended_in, ends_in, kept_told, told_at}
-use Rattle.ibc_script_worlds.specs.WorldChains.{AreStartsOf, block_in, committed_block, kept_block}
+use Rattle.ibc_script_worlds.specs.WorldChains.{AreStartsOf, block_in, committed_block}
 
 -- ---- one entry
 
@@ -119,6 +119,7 @@ module _ (ledger : Ledger) (is : IsLedger ledger) where
   its_start = (get_there ledger.genesis.chains ledger.chain is.number).0
 
   starts : (starting_state ledger.genesis ledger.chain).chain ≡ starting_chain its_start
+  unfolding its_start
   starts =
       let there = get_there ledger.genesis.chains ledger.chain is.number in
       ap (λ (o : Option MachineChain). unwrap_or o empty_chain)
@@ -131,6 +132,7 @@ module _ (ledger : Ledger) (is : IsLedger ledger) where
       subst (λ (c : MachineChain). Told c.committed c.time ledger.history (state_of ledger).chain.committed) starts whole
 
   pub its_time : slice_get (map time_of ledger.genesis.chains) ledger.chain ≡ Some (time_of its_start)
+  unfolding its_start
   its_time =
       let there = get_there ledger.genesis.chains ledger.chain is.number in
       slice_get-map time_of ledger.genesis.chains ledger.chain ∙ ap (option_map time_of) there.1

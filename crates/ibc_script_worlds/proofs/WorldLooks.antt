@@ -6,7 +6,7 @@ use Rattle.ibc_ids.specs.Paths.{path}
 use Rattle.ibc_ids.specs.declared.account.Account.{Account}
 use Rattle.ibc_ids.specs.declared.key.Key.{Key}
 use Rattle.ibc_ids.specs.declared.refusal.Refusal.{Refusal}
-use Rattle.ibc_ids.specs.declared.refusal.Refusal.TheVariants.{BadMessage, NoConsensus}
+use Rattle.ibc_ids.specs.declared.refusal.Refusal.TheVariants.{BadMessage}
 use Rattle.std.specs.Global.{Vec}
 use Rattle.ibc_merkle.specs.Written.{written_proof}
 use Rattle.ibc_merkle.specs.declared.proof.Proof.{Proof}

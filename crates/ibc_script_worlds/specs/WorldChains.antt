@@ -1,7 +1,7 @@
 -- The chains of a script as a world: how it goes on by an event, and what its ledgers have at a look.
-use Rattle.std.specs.Prelude.{◌≡◌, ◌⊎◌, ℕ, List, [], map, slice_get, Option, None, Some, option_map, option_and_then, Result, Ok, Err, IfOk, IfErr}
+use Rattle.std.specs.Prelude.{◌≡◌, ◌⊎◌, ℕ, List, [], map, slice_get, Option, Some, option_map, option_and_then, Result, Ok, Err, IfOk, IfErr}
 use Rattle.std.specs.Option.{option_map_or}
-use Rattle.ibc_ids.specs.Maps.{Map, at}
+use Rattle.ibc_ids.specs.Maps.{at}
 use Rattle.ibc_ids.specs.Paths.{path}
 use Rattle.ibc_ids.specs.Texts.{Text, text_cmp}
 use Rattle.ibc_ids.specs.declared.key.Key.{Key}
@@ -13,7 +13,6 @@ use Rattle.ibc_machine.specs.chain.Genesis.{ChainState, GenesisState}
 use Rattle.ibc_machine.specs.chain.Records.{Block}
 use Rattle.ibc_machine.specs.declared.totals.Totals.{Totals}
 use Rattle.ibc_machine.specs.ics18.Relay.{plan}
-use Rattle.ibc_machine.specs.ics20.Bank.{Balances}
 use Rattle.ibc_machine.specs.ics24.Image.{core_root, image}
 use Rattle.ibc_machine.specs.ledger.Ledgers.{Ledger, machine_of, state_of}
 use Rattle.ibc_machine.specs.promises.Totals.{totals}

@@ -4,6 +4,8 @@ use Rattle.sqlite.specs.State.{HasCleanDisk}
 use Rattle.sqlite.specs.Held.{state}
 use Rattle.ibc_journal.specs.Tables.{IsJournal}
 use Rattle.ibc_journal.specs.Entries.{items_of}
+use Rattle.ibc_journal.specs.Crashes.{KeepsCommitted}
+use Rattle.ibc_journal.proofs.Transactions.{on_error}
 use Rattle.ibc_journal.proofs.Whole.{nothing_yet, before_commit, with_commit, committed_all}
 use Rattle.ibc_journal.proofs.adding.append.Goals as goal
 
@@ -47,18 +49,20 @@ pub returns-clause-seen : goal.returns-clause-seen
 returns-clause-seen g c clean = let done = c.in_ok-commit.ensures.committed clean in done.now ∙ sym done.committed
 
 pub returns-in_err-insert_each-clause-none : goal.returns-in_err-insert_each-clause-none
-returns-in_err-insert_each-clause-none g c genesis items has at clean live =
+returns-in_err-insert_each-clause-none g c genesis items has at clean =
     let begun = state g.S.Store c.start.new.conn in
     let calm : HasCleanDisk begun = omega (arith, c.insert_each.ensures.crash.clean, clean) in
     let b = c.in_ok-start.ensures.begun calm in
-    c.in_err-insert_each.ensures.none genesis items (subst (λ d. IsJournal d genesis items) (sym b.now) has) at b.inside clean live ∙ b.committed
+    let kept : KeepsCommitted (state g.S.Store c.args.conn.now) (state g.S.Store c.insert_each.new.conn) = λ live. c.in_err-insert_each.ensures.none genesis items (subst (λ d. IsJournal d genesis items) (sym b.now) has) at b.inside clean live ∙ b.committed in
+    on_error _ _ kept
 
 pub returns-in_err-commit-clause-none : goal.returns-in_err-commit-clause-none
-returns-in_err-commit-clause-none g c genesis items has at clean live =
+returns-in_err-commit-clause-none g c genesis items has at clean =
     let begun = state g.S.Store c.start.new.conn in
     let full = state g.S.Store c.insert_each.new.conn in
     let calm : HasCleanDisk full = omega (arith, c.commit.ensures.crash.clean, clean) in
     let calmer : HasCleanDisk begun = omega (arith, c.insert_each.ensures.crash.clean, calm) in
     let b = c.in_ok-start.ensures.begun calmer in
     let put = c.in_ok-insert_each.ensures.put genesis items (subst (λ d. IsJournal d genesis items) (sym b.now) has) at b.inside calm in
-    c.in_err-commit.ensures.none clean live ∙ put.1.committed ∙ b.committed
+    let kept : KeepsCommitted (state g.S.Store c.args.conn.now) (state g.S.Store c.commit.new.conn) = λ live. c.in_err-commit.ensures.none clean live ∙ put.1.committed ∙ b.committed in
+    on_error _ _ kept

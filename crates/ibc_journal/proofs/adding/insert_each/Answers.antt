@@ -3,7 +3,8 @@ use Rattle.std.proofs.Common.{◌≡◌, take, sym, subst, ◌∙◌, arith}
 use Rattle.sqlite.specs.State.{HasCleanDisk}
 use Rattle.sqlite.specs.Held.{state}
 use Rattle.ibc_journal.specs.Entries.{items_of}
-use Rattle.ibc_journal.specs.Crashes.{PutsBehind}
+use Rattle.ibc_journal.specs.Crashes.{PutsBehind, KeepsCommitted}
+use Rattle.ibc_journal.proofs.Transactions.{on_error}
 use Rattle.ibc_journal.proofs.Whole.{puts_nothing, puts_more, taken_more, taken_all, survives_same, inside_then, first_place}
 use Rattle.ibc_journal.proofs.adding.insert_each.Goals as goal
 
@@ -25,10 +26,11 @@ returns-in_err-insert-clause-crash g c =
     inside_then old (state g.S.Store at.conn) (state g.S.Store c.insert.new.conn) c.args.first at.place its at.invariant.put here at.invariant.crash c.insert.ensures.crash
 
 pub returns-in_err-insert-clause-none : goal.returns-in_err-insert-clause-none
-returns-in_err-insert-clause-none g c genesis items has at inside clean live =
+returns-in_err-insert-clause-none g c genesis items has at inside clean =
     let step = c.loop-added in
     let calm : HasCleanDisk (state g.S.Store step.conn) = omega (arith, c.insert.ensures.crash.clean, clean) in
-    c.in_err-insert.ensures.none clean live ∙ (step.invariant.put genesis items has at inside calm).1.committed
+    let kept : KeepsCommitted (state g.S.Store c.args.conn.now) (state g.S.Store c.insert.new.conn) = λ live. c.in_err-insert.ensures.none clean live ∙ (step.invariant.put genesis items has at inside calm).1.committed in
+    on_error _ _ kept
 
 pub loop-added-preserved : goal.loop-added-preserved
 loop-added-preserved g c =

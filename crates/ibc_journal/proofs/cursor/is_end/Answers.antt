@@ -31,10 +31,10 @@ returns-clause-end g c genesis items has at clean =
     c.is_empty-is.ensures ∙ ap (λ (l : List Row). length l == 0) (c.as_slice.ensures.value ∙ none)
 
 pub returns-clause-ended : goal.returns-clause-ended
-returns-clause-ended g c genesis items has clean yes =
+returns-clause-ended g c genesis items has clean told =
     let old = state g.S.Store c.args.conn.now in
     let new = state g.S.Store c.query_all.new.self in
-    let none = none_in c.as_slice.result.now (sym c.is_empty-is.ensures ∙ yes) in
+    let none = none_in c.as_slice.result.now (sym c.is_empty-is.ensures ∙ told) in
     ends_only old new genesis items has c.args.from _ (rw c.params-to_sql.ensures at (c.in_ok-rows.ensures.ok clean)) (sym c.as_slice.ensures.value ∙ none)
 
 pub returns-clause-same : goal.returns-clause-same

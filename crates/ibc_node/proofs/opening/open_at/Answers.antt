@@ -14,5 +14,5 @@ returns-in-Ok g c text items holds =
     let conn = file_state c.in-Ok.conn in
     either_ok (conn.now.schema ≡ journal_schema) (conn.now.schema ≡ no_schema) (IsAtRest conn text items) (HasCleanDisk conn) (λ node. HasCleanDisk (file_state node.conn)) (λ node. IsRestarted text items node.world node.end)
     (λ node. IsBegun node.genesis.items node.world node.end) c.open_node.result c.open_node.ensures.which
-    (calm_ok c.open_node.result (doubt conn.is_clean) (λ node. doubt (file_state node.conn).is_clean) c.open_node.ensures.calm) (λ clean schema. c.in-Ok.ensures clean text items holds schema)
+    (calm_ok c.open_node.result (doubt conn.is_clean) (λ node. doubt (file_state node.conn).is_clean) c.open_node.ensures.calm) (λ clean schema. c.in-Ok.ensures.found clean text items holds schema)
     (λ rest. c.open_node.ensures.restarted text items rest) (λ none. c.open_node.ensures.begun none)

@@ -1,4 +1,4 @@
-use Rattle.std.proofs.Common.{◌<◌, length, subst, sym}
+use Rattle.std.proofs.Common.{subst, sym}
 use Rattle.ibc_script_worlds.specs.EndedBlocks.{EndNoneIn, IsPlaceOf, ends_of}
 use Rattle.ibc_script_worlds.proofs.FoundBlocks.{as_many, found_block, no_block}
 use Rattle.ibc_script_worlds.proofs.blocks.block_at.Goals as goal

@@ -1,5 +1,5 @@
 use Rattle.std.proofs.Common.{arith, subst}
-use Rattle.ibc_script_worlds.specs.EndedBlocks.{IsNarrowed, IsPlaceOf, ends_of}
+use Rattle.ibc_script_worlds.specs.EndedBlocks.{IsNarrowed, ends_of}
 use Rattle.ibc_script_worlds.proofs.FoundBlocks.{all_inside, inside_part, nothing_inside}
 use Rattle.ibc_script_worlds.proofs.blocks.ended_at.Goals as goal
 

@@ -1,4 +1,4 @@
-use Rattle.std.proofs.Common.{◌≡◌, ◌∙◌, ◌-◌, ◌+◌, None, Some, arith, slice_get, sym}
+use Rattle.std.proofs.Common.{◌∙◌, ◌-◌, None, Some, arith, sym}
 use Rattle.ibc_script_worlds.specs.EndedBlocks.{ends_of}
 use Rattle.ibc_script_worlds.proofs.FoundBlocks.{entry_tells, last_there, none_more, none_there}
 use Rattle.ibc_script_worlds.proofs.blocks.last_ended.Goals as goal
@@ -19,4 +19,4 @@ returns-in-Some c =
     (omega (arith, c.loop-behind-test.true)) here c.loop-behind.invariant
 
 pub returns : goal.returns
-returns c = none_there (ends_of c.args.history.now) c.args.low c.args.high c.requires.0 c.loop-behind.invariant
+returns c = none_there (ends_of c.args.history.now) c.args.low c.args.high c.loop-behind.behind c.loop-behind-test.false c.loop-behind.invariant

@@ -1,4 +1,4 @@
-use Rattle.std.proofs.Common.{None, Some, subst}
+use Rattle.std.proofs.Common.{subst}
 use Rattle.ibc_script_worlds.specs.EndedBlocks.{IsLastIn, ends_of}
 use Rattle.ibc_script_worlds.proofs.FoundBlocks.{time_of_last, time_of_none}
 use Rattle.ibc_script_worlds.proofs.blocks.time_at.Goals as goal

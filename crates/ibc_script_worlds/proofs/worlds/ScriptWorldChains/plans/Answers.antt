@@ -1,5 +1,6 @@
-use Rattle.std.proofs.Common.{◌≡◌, IfOk, List, Option, ap, slice_get, subst}
+use Rattle.std.proofs.Common.{◌≡◌, Bor, IfOk, Option, option_map, slice_get, subst}
 use Rattle.ibc_machine.specs.ledger.Ledgers.{Ledger}
+use Rattle.ibc_ledger.specs.LedgerModel.{LedgerModel}
 use Rattle.ibc_refinement.specs.World.{WorldState}
 use Rattle.ibc_script_worlds.specs.WorldChains.{plans_of}
 use Rattle.ibc_script_worlds.proofs.worlds.ScriptWorldChains.plans.Goals as goal
@@ -11,4 +12,4 @@ returns c =
     let ledgers = c.self.inside.world.ledgers in
     subst (λ (w : WorldState). Plans (slice_get w.ledgers c.args.first) (slice_get w.ledgers c.args.second)) c.self.view_is
     (subst (λ (b : Option Ledger). Plans (slice_get ledgers c.args.first) b) c.ledger-second.ensures
-    (subst (λ (a : Option Ledger). Plans a _) c.ledger-first.ensures c.plans_if_there.ensures))
+    (subst (λ (a : Option Ledger). Plans a (option_map (λ (l : Bor LedgerModel). l.now.ledger) c.ledger-second.result)) c.ledger-first.ensures c.plans_if_there.ensures))

@@ -16,5 +16,6 @@ returns-in-Some c =
 pub returns-in-None : goal.returns-in-None
 returns-in-None c =
     let there = sym (ap (option_map (λ (l : Bor LedgerModel). l.now.ledger)) c.in-None.is) ∙ c.ledger.ensures in
-    subst (λ (w : WorldState). [] ≡ option_map_or notes_of (slice_get w.ledgers c.args.chain) []) c.self.view_is
+    ap (map shown_notes) c.new.ensures.items
+    ∙ subst (λ (w : WorldState). [] ≡ option_map_or notes_of (slice_get w.ledgers c.args.chain) []) c.self.view_is
     (list_of_no_one notes_of [] c.self.inside.world.ledgers c.args.chain there)
