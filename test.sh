@@ -23,6 +23,7 @@ parts=(
     "tools/check_rules"
     "tools/test_trust"
     "tools/instructions --selftest"
+    "tools/check_journal_views"
     "rt ci"
     "tools/trust LOG"
     "tools/try_edits"
