@@ -39,6 +39,7 @@ parts=(
     "tools/refuse_growths"
     "tools/refuse_by_call"
     "tools/broken_streams"
+    "tools/kill_node --kills 10 --cuts 5"
     "tools/wrong_bytes --count 100000"
     "tools/test_try_edits"
     "tools/test_commands"
