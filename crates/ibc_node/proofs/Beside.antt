@@ -1,11 +1,13 @@
 -- A world stays beside its journal.
-use Rattle.std.proofs.Common.{◌≡◌, ℕ, ◌+◌, ◌≤◌, false, List, [], ◌∷◌, ◌++◌, length, take, map, slice_get, Some, refl, sym, ap, ◌∙◌, subst, append-nil, append_assoc, length-append, arith}
+use Rattle.std.proofs.Common.{◌≡◌, ℕ, ◌+◌, ◌≤◌, false, List, [], ◌∷◌, ◌++◌, length, take, map, slice_get, Some, None, refl, sym, ap, ◌∙◌, subst, append-nil, append_assoc, length-append, arith}
 use Rattle.std.proofs.lemmas.List.{take_more, take_all, length-map}
 use Rattle.std.proofs.lemmas.Option.{slice_get_within, get_or_from_slice_get}
 use Rattle.sqlite.specs.Tree.{Trees}
 use Rattle.sqlite.specs.State.{State, HasCleanDisk, IsUnchanged}
+use Rattle.ibc_ids.specs.declared.refusal.Refusal.{Refusal}
 use Rattle.ibc_machine.specs.declared.event.Event.{Event}
 use Rattle.ibc_machine.specs.declared.reply.Reply.{Reply}
+use Rattle.ibc_machine.specs.declared.reply.Reply.TheVariants.{No}
 use Rattle.ibc_machine.specs.declared.entry.Entry.{Entry}
 use Rattle.ibc_machine.specs.chain.Genesis.{GenesisState}
 use Rattle.ibc_machine.specs.promises.Worlds.{entries, interleaved}
@@ -20,7 +22,8 @@ use Rattle.ibc_journal.specs.Crashes.{LeavesWith}
 use Rattle.ibc_journal.specs.Restarts.{IsAtRest}
 use Rattle.ibc_journal.proofs.Chained.{reads_on}
 use Rattle.ibc_journal.proofs.Whole.{KeepsJournals}
-use Rattle.ibc_node.specs.Kept.{IsKeptAs, AreKeptAs, KeepsItem}
+use Rattle.ibc_node.specs.declared.node.KeptAnswer.{KeptAnswer}
+use Rattle.ibc_node.specs.Kept.{IsKeptAs, AreKeptAs, KeepsItem, WhyNotKept}
 use Rattle.ibc_node.specs.Nodes.{IsBeside, IsGenesisText, IsRestarted, IsBegun, TakesOn, LeavesWaiting}
 
 -- ---- one entry more
@@ -45,20 +48,23 @@ beside_item genesis old new items end after event reply it beside keeps is = rec
   read = subst (HasReadAll genesis (items ++ it ∷ [])) (sym is) (reads_on genesis items it end beside.read keeps.due);
 }
 
-pub takes_nothing : (genesis : List ℕ) (old new : WorldState) (items waited : List JournalItem) (end : Cursor) → IsBeside genesis old items end → kept_entries new ≡ kept_entries old
-    → TakesOn genesis items waited new waited end
-takes_nothing genesis old new items waited end beside same = record {
+pub takes_nothing : (genesis : List ℕ) (old new : WorldState) (items waited : List JournalItem) (end : Cursor) (event : Event) (answer : KeptAnswer) (refusal : Refusal) → IsBeside genesis old items end
+    → (kept_entries new ≡ kept_entries old) × WhyNotKept old event refusal → answer.place ≡ None → answer.reply ≡ No refusal → TakesOn genesis items waited old end event answer new waited end
+takes_nothing genesis old new items waited end event answer refusal beside asked place reply = record {
   more = [];
   waits = sym (append-nil waited);
-  beside = subst (λ l. IsBeside genesis new l end) (sym (append-nil items)) (record { kept = subst (λ l. AreKeptAs l items) (sym same) beside.kept; read = beside.read });
+  told = (place, refusal, reply, asked.1);
+  beside = subst (λ l. IsBeside genesis new l end) (sym (append-nil items)) (record { kept = subst (λ l. AreKeptAs l items) (sym asked.0) beside.kept; read = beside.read });
 }
 
-pub takes_item : (genesis : List ℕ) (old new : WorldState) (items waited waiting : List JournalItem) (end after : Cursor) (event : Event) (reply : Reply) (it : JournalItem) → IsBeside genesis old items end
-    → KeepsItem old end.last event reply it new → waiting ≡ waited ++ it ∷ [] → after ≡ record { place = end.place + 1; last = it.digest } → TakesOn genesis items waited new waiting after
-takes_item genesis old new items waited waiting end after event reply it beside keeps waits is = record {
+pub takes_item : (genesis : List ℕ) (old new : WorldState) (items waited waiting : List JournalItem) (end after : Cursor) (event : Event) (answer : KeptAnswer) (it : JournalItem) → IsBeside genesis old items end
+    → KeepsItem old end.last event answer.reply it new → answer.place ≡ Some end.place → waiting ≡ waited ++ it ∷ [] → after ≡ record { place = end.place + 1; last = it.digest }
+    → TakesOn genesis items waited old end event answer new waiting after
+takes_item genesis old new items waited waiting end after event answer it beside keeps place waits is = record {
   more = it ∷ [];
   waits = waits;
-  beside = beside_item genesis old new items end after event reply it beside keeps is;
+  told = (place, refl, keeps.entry, keeps.event_is, keeps.reply_is, keeps.stored);
+  beside = beside_item genesis old new items end after event answer.reply it beside keeps is;
 }
 
 -- ---- what waits

@@ -1,10 +1,18 @@
 -- What an open gives, put together of what its calls give.
-use Rattle.std.proofs.Common.{◌≡◌, ◌⊎◌, inl, inr, ℕ, ◌≤◌, List, [], Ok, Err, Result, IfOk, OnOk, sym, arith}
+use Rattle.std.proofs.Common.{◌≡◌, ◌⊎◌, inl, inr, ℕ, ◌≤◌, List, [], ◌∷◌, Ok, Err, Result, IfOk, OnOk, sym, ap, ◌∙◌, subst, arith}
+use Rattle.std.specs.List.{AllZip}
+use Rattle.sqlite.specs.Recovery.{Image}
+use Rattle.sqlite.specs.Effect.{Database, IsDatabase}
+use Rattle.sqlite.specs.State.{State, Opens, IsLive}
+use Rattle.sqlite.specs.Start.{FindsIn}
 use Rattle.ibc_machine.specs.chain.Genesis.{genesis_state}
 use Rattle.ibc_machine.specs.declared.genesis.Genesis.{Genesis}
 use Rattle.ibc_script.specs.ScriptValues.{IsScriptText, content_of}
 use Rattle.ibc_script.specs.declared.script.Script.{Script}
-use Rattle.ibc_node.specs.Nodes.{IsGenesisText}
+use Rattle.ibc_journal.specs.Tables.{no_schema, journal_schema, JournalItem}
+use Rattle.ibc_journal.specs.Restarts.{IsAtRest}
+use Rattle.ibc_journal.proofs.Restarted.{finds_journal}
+use Rattle.ibc_node.specs.Nodes.{HoldsWholeJournal, IsGenesisText}
 
 -- two facts of one answer
 pub both_ok : {A E : Type 0} (P Q R : A → Type 0) (r : Result A E) → ((a : A) → P a → Q a → R a) → IfOk r P → IfOk r Q → IfOk r R
@@ -21,12 +29,33 @@ pub calm_ok : {A E : Type 0} (r : Result A E) (before : ℕ) (after : A → ℕ)
 calm_ok (Ok a) before after le = λ none. omega (arith, le, none)
 calm_ok (Err e) before after le = tt
 
--- An answer that came of one thing or another. Of the first it is known what it is once the first is known, and that is so where all was clean.
-module _ {A E : Type 0} (One Other Known WasClean : Type 0) (Clean P Q : A → Type 0) where
-  pub either_ok : (r : Result A E) → OnOk r (One ⊎ Other) → IfOk r (λ a. Clean a → WasClean) → (WasClean → One → Known) → (Known → IfOk r (λ a. Clean a → P a)) → (Other → IfOk r Q)
-      → IfOk r (λ a. Clean a → P a ⊎ Q a)
-  either_ok (Ok a) which calm known one other = λ clean. elim which [
-    | inl it ↦ inl (one (known (calm clean) it) clean)
-    | inr it ↦ inr (other it)
-  ]
-  either_ok (Err e) which calm known one other = tt
+-- Two facts of an answer where all is clean behind the call, each known of what was clean before it.
+module _ {A E : Type 0} (Which Known WasClean : Type 0) (Clean P Q : A → Type 0) where
+  pub both_known : (r : Result A E) → OnOk r Which → IfOk r (λ a. Clean a → WasClean) → (WasClean → Which → Known) → (Known → IfOk r (λ a. Clean a → P a))
+      → (Known → IfOk r (λ a. Clean a → Q a)) → IfOk r (λ a. Clean a → P a × Q a)
+  both_known (Ok a) which calm known one other = λ clean. let it = known (calm clean) which in (one it clean, other it clean)
+  both_known (Err e) which calm known one other = tt
+
+-- ---- what files hold
+
+no_table_listed : {A B : Type 0} (P Q : A → B → Type 0) (rows : List A) (t : B) (ts : List B) → AllZip P rows [] → AllZip Q rows (t ∷ ts) → ⊥
+no_table_listed P Q [] t ts none some = some
+no_table_listed P Q (row ∷ rows) t ts none some = none
+
+-- no sound database with the trees of a journal has no table
+pub has_tables : (found db : Database) → found.trees ≡ db.trees → IsDatabase found → IsDatabase db → found.schema ≡ no_schema → db.schema ≡ journal_schema → ⊥
+has_tables found db same found_sound sound none tables =
+    let empty : IsDatabase (record { schema = no_schema; trees = db.trees }) =
+    subst (λ trees. IsDatabase (record { schema = no_schema; trees = trees })) same (subst (λ schema. IsDatabase (record { schema = schema; trees = found.trees })) none found_sound) in
+    let full : IsDatabase (record { schema = journal_schema; trees = db.trees }) = subst (λ schema. IsDatabase (record { schema = schema; trees = db.trees })) tables sound in
+    no_table_listed _ _ _ _ _ empty.lists.listed.tables full.lists.listed.tables
+
+-- what the files hold of a journal is what an open finds
+pub found_at_rest : (image : Image) (s : State) (text : List ℕ) (items : List JournalItem) → Opens s → IsLive s → FindsIn image s → HoldsWholeJournal image text items
+    → (s.now.schema ≡ journal_schema) ⊎ (s.now.schema ≡ no_schema) → IsAtRest s text items
+found_at_rest image s text items opens live finds holds which =
+    let same : s.now.trees ≡ holds.db.trees = ap (λ (d : Database). d.trees) opens.clean ∙ finds.holds holds.db.trees holds.holds in
+    elim which [
+      | inl tables ↦ finds_journal image s opens finds text items (record { db = holds.db.trees; holds = holds.holds; rows = holds.journal.rows }) tables
+      | inr none ↦ absurd (has_tables s.now holds.db same (live opens.is_open).0 holds.sound none holds.journal.schema)
+    ]

@@ -1,15 +1,17 @@
 -- What a journal keeps of a world.
-use Rattle.std.specs.Prelude.{◌≡◌, ◌++◌, ℕ, List, [], ◌∷◌, length, slice_get, Option, Some}
+use Rattle.std.specs.Prelude.{◌≡◌, ◌≤◌, ◌++◌, ℕ, List, [], ◌∷◌, length, slice_get, Option, Some, IsTrue, ⊤}
 use Rattle.std.specs.List.{AllZip}
-use Rattle.ibc_ids.specs.Texts.{Text}
 use Rattle.ibc_machine.specs.declared.event.Event.{Event}
 use Rattle.ibc_machine.specs.declared.entry.Entry.{Entry}
 use Rattle.ibc_machine.specs.declared.reply.Reply.{Reply}
-use Rattle.ibc_machine.specs.ledger.Ledgers.{Ledger}
+use Rattle.ibc_ids.specs.declared.refusal.Refusal.{Refusal}
+use Rattle.ibc_ids.specs.declared.refusal.Refusal.TheVariants.{BadMessage, NoMemory, UnknownChain}
+use Rattle.ibc_wire.specs.Fields.{have_form}
+use Rattle.ibc_machine.specs.ledger.Ledgers.{Ledger, chain_of}
 use Rattle.ibc_machine.specs.promises.Worlds.{entries}
 use Rattle.ibc_refinement.specs.World.{WorldState, kept_entries}
 use Rattle.ibc_entry_codec.specs.declared.stored.EntryBytes.{EntryBytes}
-use Rattle.ibc_entry_codec.specs.Stored.{StoresEntry}
+use Rattle.ibc_entry_codec.specs.Stored.{StoresEntry, event_fields}
 use Rattle.ibc_journal.specs.Tables.{JournalItem}
 use Rattle.ibc_journal.specs.Entries.{item}
 use Rattle.ibc_journal.specs.Digests.{digest_after}
@@ -36,10 +38,21 @@ pub record KeepsItem (old : WorldState) (before : List ℕ) (event : Event) (rep
   pub stored : IsKeptAs entry it
   pub due : it.digest ≡ digest_after before it
 
+-- why an event is not kept as bytes
+abbrev pub WhyNotSpelt : Event → Refusal → Type 0
+WhyNotSpelt event BadMessage = ¬ IsTrue (have_form (event_fields event))
+WhyNotSpelt event NoMemory = ⊤
+WhyNotSpelt event _ = ⊥
+
+-- Why a world keeps nothing of an event: it has no such chain, no bytes spell the event, or memory ran out.
+abbrev pub WhyNotKept : WorldState → Event → Refusal → Type 0
+WhyNotKept old event UnknownChain = length old.ledgers ≤ chain_of event
+WhyNotKept old event refusal = WhyNotSpelt event refusal
+
 -- what came of an event
 abbrev pub IsAsked : WorldState → List ℕ → Event → Asked → WorldState → Type 0
 IsAsked old before event (asked.Kept reply entry) new = KeepsItem old before event reply (item entry) new
-IsAsked old before event (asked.NotKept refusal) new = kept_entries new ≡ kept_entries old
+IsAsked old before event (asked.NotKept refusal) new = (kept_entries new ≡ kept_entries old) × WhyNotKept old event refusal
 
 -- ---- the last entry of a chain
 

@@ -10,6 +10,8 @@ use std::{fmt, io};
 pub enum NodeFault {
     /// The journal can't be read or written.
     Journal(JournalFault),
+    /// There is no file of a journal.
+    NoFile,
     /// The file is new, and no genesis is given.
     NoGenesis,
     /// The file of the genesis can't be read.
@@ -102,6 +104,7 @@ impl NodeFault {
     // The text of a fault that names no place.
     fn text(&self) -> &'static str {
         match self {
+            NodeFault::NoFile => "there is no such file",
             NodeFault::NoGenesis => "the file is new: give --genesis",
             NodeFault::NoGenesisFile => "the file of the genesis can't be read",
             NodeFault::BadGenesis => "no world begins with the genesis",

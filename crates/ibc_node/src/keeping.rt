@@ -1,11 +1,11 @@
 //! A world is asked for an event, and what its journal keeps of that is made.
 
-ghost use Rattle.std.specs.Prelude.{◌≡◌, ◌↔◌, ◌<◌, length, map, option_map, IfOk, IsTrue};
+ghost use Rattle.std.specs.Prelude.{◌≡◌, ◌↔◌, ◌<◌, length, map, option_map, IfErr, IfOk, IsTrue};
 ghost use Rattle.ibc_machine.specs.ledger.Ledgers.{chain_of};
 ghost use Rattle.ibc_refinement.specs.Steps.{is_answered};
 ghost use Rattle.ibc_journal.specs.Entries.{item};
 ghost use Rattle.ibc_journal.specs.Digests.{digest_after};
-ghost use Rattle.ibc_node.specs.Kept.{bytes_in, IsAsked, IsLastEntry, StoresLast, KeepsLast};
+ghost use Rattle.ibc_node.specs.Kept.{bytes_in, IsAsked, IsLastEntry, StoresLast, KeepsLast, WhyNotSpelt};
 
 use crate::NodeFault;
 use ibc_entry_codec::{EntryBytes, store};
@@ -13,6 +13,7 @@ use ibc_ids::Refusal;
 use ibc_journal::{JournalEntry, entry_behind};
 use ibc_ledger::StampedEntry;
 use ibc_machine::{Entry, Event, Reply};
+use ibc_message_codec::encode;
 use ibc_world_core::World;
 use std::alloc::Global;
 
@@ -21,7 +22,7 @@ use std::alloc::Global;
 pub(crate) enum Asked {
     /// The world has kept an entry: what it answered, and what the journal keeps of it.
     Kept { reply: Reply, entry: JournalEntry },
-    /// It has kept none, for want of a chain or of memory.
+    /// It has kept none, for want of a chain or of memory, or since no bytes spell the event.
     NotKept(Refusal),
 }
 
@@ -39,6 +40,10 @@ pub(crate) fn ask(
     if !has_chain(world, chain) {
         drop(event);
         return Ok(Asked::NotKept(Refusal::UnknownChain));
+    }
+    if let Err(refusal) = spell(alloc, &event) {
+        drop(event);
+        return Ok(Asked::NotKept(refusal));
     }
     let reply = world.step(event);
     if !is_answered(&reply) {
@@ -69,6 +74,19 @@ fn has_chain(world: &World, chain: u8) -> bool
     ensures { IsTrue result ↔ (chain < length world.now.ledgers) }
 {
     world.ledger(chain).is_some()
+}
+
+// Whether an event can be kept: `Ok` where bytes spell it. Refused: `BadMessage` where none do, `NoMemory`.
+fn spell(alloc: Global, event: &Event) -> Result<(), Refusal>
+    ensures { IfErr result (λ refusal. WhyNotSpelt event.now refusal) }
+{
+    match event {
+        Event::Message { message, .. } => {
+            drop(encode(alloc, message)?);
+            Ok(())
+        }
+        Event::Block { .. } => Ok(()),
+    }
 }
 
 // Whether memory didn't run out.

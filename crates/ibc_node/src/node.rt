@@ -1,8 +1,9 @@
 //! A world beside its journal.
 
-ghost use Rattle.std.specs.Prelude.{◌≡◌, ◌+◌, ◌++◌, ◌∷◌, [], List, ℕ, IfSome, OnOk};
+ghost use Rattle.std.specs.Prelude.{◌≡◌, ◌+◌, ◌++◌, ◌∷◌, [], List, ℕ, None, length, option_map, slice_get, IfOk, IfSome, OnOk};
 ghost use Rattle.sqlite.specs.State.{HasCleanDisk, Survives};
 ghost use Rattle.sqlite.specs.Held.{state};
+ghost use Rattle.ibc_machine.specs.declared.reply.Reply.TheVariants.{No};
 ghost use Rattle.ibc_journal.specs.Tables.{JournalItem};
 ghost use Rattle.ibc_journal.specs.Entries.{item, items_of};
 ghost use Rattle.ibc_journal.specs.Restarts.{IsAtRest};
@@ -51,7 +52,10 @@ pub struct KeptAnswer {
 }
 
 // An event of which no entry is kept.
-fn not_kept(refusal: Refusal) -> KeptAnswer {
+fn not_kept(refusal: Refusal) -> KeptAnswer
+    ensures place { result.place ≡ None }
+    ensures reply { result.reply ≡ No refusal }
+{
     KeptAnswer {
         place: None,
         reply: Reply::No(refusal),
@@ -63,6 +67,14 @@ fn digest_of(entry: &JournalEntry) -> Option<[u8; 32]>
     ensures { IfSome result (λ digest. digest ≡ (item entry.now).digest) }
 {
     <[u8; 32]>::try_from(entry.digest.as_slice()).ok()
+}
+
+// The place of the first of the entries that wait, of which the last is before this one.
+fn first_of(end: u32, waiting: &[JournalEntry]) -> Option<u32>
+    ensures { IfSome result (λ first. first + length waiting.now ≡ end) }
+{
+    let count = u32::try_from(waiting.len()).ok()?;
+    end.checked_sub(count)
 }
 
 impl<S: Alter> Node<S> {
@@ -104,7 +116,7 @@ impl<S: Alter> Node<S> {
     /// reply is told after `settle`. After an error the node is dropped.
     pub fn take(&mut self, log_place: u32, event: Event) -> Result<KeptAnswer, NodeFault>
         ensures taken { (genesis : List ℕ) (items : List JournalItem) → IsBeside genesis self.old.world items self.old.end
-            → OnOk result (TakesOn genesis items (items_of self.old.waiting.items) self.new.world (items_of self.new.waiting.items) self.new.end) }
+            → IfOk result (λ answer. TakesOn genesis items (items_of self.old.waiting.items) self.old.world self.old.end event answer self.new.world (items_of self.new.waiting.items) self.new.end) }
         ensures journal { self.new.conn ≡ self.old.conn }
     {
         match ask(
@@ -128,8 +140,9 @@ impl<S: Alter> Node<S> {
         }
     }
 
-    // Has an entry wait.
+    // Has an entry wait. Answers its place.
     fn wait_with(&mut self, log_place: u32, entry: JournalEntry) -> Result<u32, NodeFault>
+        ensures place { IfOk result (λ place. place ≡ self.old.end.place) }
         ensures waits { OnOk result (items_of self.new.waiting.items ≡ items_of self.old.waiting.items ++ item entry ∷ []) }
         ensures end { OnOk result (self.new.end ≡ record { place = self.old.end.place + 1; last = (item entry).digest }) }
         ensures world { self.new.world ≡ self.old.world }
@@ -157,13 +170,10 @@ impl<S: Alter> Node<S> {
         // A crash at any moment of the call leaves what it could leave before the call, or all of what waited.
         ensures crash { Survives (state S.Store self.old.conn) (state S.Store self.new.conn) (LeavesWaiting (state S.Store self.old.conn) self.old.world (items_of self.old.waiting.items) self.old.end) }
     {
-        let Ok(count) = u32::try_from(self.waiting.as_slice().len()) else {
+        let Some(first) = first_of(self.end.place, self.waiting.as_slice()) else {
             return Err(NodeFault::Journal(JournalFault::Full));
         };
-        let Some(first) = self.end.place.checked_sub(count) else {
-            return Err(NodeFault::Journal(JournalFault::Full));
-        };
-        if count == 0 {
+        if self.waiting.as_slice().is_empty() {
             return Ok(());
         }
         append(&mut self.conn, first, self.waiting.as_slice())?;
@@ -188,7 +198,17 @@ impl<S: Alter> Node<S> {
     }
 
     /// The entry at a place, or none. What waits is put in first.
-    pub fn entry_at(&mut self, place: u32) -> Result<Option<JournalEntry>, NodeFault> {
+    pub fn entry_at(&mut self, place: u32) -> Result<Option<JournalEntry>, NodeFault>
+        ensures found { (genesis : List ℕ) (items : List JournalItem) → IsAtRest (state S.Store self.old.conn) genesis items
+            → IsBeside genesis self.old.world (items ++ items_of self.old.waiting.items) self.old.end
+            → HasCleanDisk (state S.Store self.new.conn) → IfOk result (λ found. option_map item found ≡ slice_get (items ++ items_of self.old.waiting.items) place) }
+        ensures rest { (genesis : List ℕ) (items : List JournalItem) → IsAtRest (state S.Store self.old.conn) genesis items
+            → IsBeside genesis self.old.world (items ++ items_of self.old.waiting.items) self.old.end
+            → HasCleanDisk (state S.Store self.new.conn) → OnOk result (IsAtRest (state S.Store self.new.conn) genesis (items ++ items_of self.old.waiting.items)) }
+        ensures none { OnOk result (self.new.waiting.items ≡ []) }
+        ensures world { self.new.world ≡ self.old.world }
+        ensures end { self.new.end ≡ self.old.end }
+    {
         self.settle()?;
         Ok(entry_at(&mut self.conn, place)?)
     }

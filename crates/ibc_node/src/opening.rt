@@ -2,21 +2,22 @@
 
 ghost use Rattle.std.specs.Prelude.{◌≡◌, ◌⊎◌, ◌≤◌, [], List, ℕ, Ok, IfOk, OnOk};
 ghost use Rattle.sqlite.specs.State.{HasCleanDisk, Survives};
+ghost use Rattle.sqlite.specs.Start.{FindsIn};
 ghost use Rattle.sqlite.specs.View.{doubt};
 ghost use Rattle.sqlite.specs.WalFiles.{image_at};
-ghost use Rattle.sqlite.specs.Files.{file_state};
+ghost use Rattle.sqlite.specs.Files.{IsOpened, file_state};
 ghost use Rattle.sqlite.specs.Held.{state};
 ghost use Rattle.ibc_machine.specs.chain.Genesis.{GenesisState, genesis_state};
 ghost use Rattle.ibc_replay.specs.Replays.{IsReplay, IsBeginning};
 ghost use Rattle.ibc_journal.specs.Tables.{no_schema, journal_schema, JournalItem};
 ghost use Rattle.ibc_journal.specs.Crashes.{LeavesBegun, LeavesNothing};
-ghost use Rattle.ibc_journal.specs.Restarts.{IsAtRest, HoldsJournal};
-ghost use Rattle.ibc_node.specs.Nodes.{IsBegun, IsGenesisText, IsRestarted};
+ghost use Rattle.ibc_journal.specs.Restarts.{IsAtRest};
+ghost use Rattle.ibc_node.specs.Nodes.{HoldsWholeJournal, IsBegun, IsGenesisText, IsRestarted};
 
 use crate::reading::{LogMark, Past, read_all};
 use crate::{Node, NodeFault};
 use ibc_ids::Refusal;
-use ibc_journal::{Beginning, Cursor, FORMAT, Looks, begin, beginning_of, look, open_journal};
+use ibc_journal::{Beginning, Cursor, FORMAT, Looks, begin, beginning_of, look};
 use ibc_machine::{Entry, Genesis};
 use ibc_replay::{Difference, replay};
 use ibc_script::{Fault, Script, read_script};
@@ -33,20 +34,33 @@ pub(crate) struct GoingOn {
     pub marks: Vec<LogMark>,
 }
 
-/// The node of the files at a path. `start` stands for what they hold. Where that is a journal, the world is its replay, so nothing that
-/// was committed before a restart is lost by it; or the files have no table, and it begins.
+/// The node of the files at a path. `start` stands for what they hold. Where that is a journal, the world is its replay: nothing that was
+/// committed before a restart is lost by it. Where the files have no table, a world begins with the genesis.
 pub fn open_at<S: Start>(
     rt: &HostRuntime,
     path: &str,
     start: S,
     genesis: Option<&[u8]>,
 ) -> Result<Node<FileStore<FileFrom<S>>>, NodeFault>
-    ensures { (text : List ℕ) (items : List JournalItem) → HoldsJournal (image_at S.Start) text items
-        → IfOk result (λ node. HasCleanDisk (file_state node.conn) → IsRestarted text items node.world node.end ⊎ IsBegun node.genesis.items node.world node.end) }
+    ensures { (text : List ℕ) (items : List JournalItem) → HoldsWholeJournal (image_at S.Start) text items
+        → IfOk result (λ node. HasCleanDisk (file_state node.conn) → IsRestarted text items node.world node.end × IsAtRest (file_state node.conn) text items) }
 {
-    match open_journal(rt, path, start) {
-        Ok(conn) => open_node(rt.alloc(), conn, genesis),
-        Err(error) => Err(NodeFault::from(error)),
+    let conn = connect(rt, path, start)?;
+    open_node(rt.alloc(), conn, genesis)
+}
+
+// Opens the files at a path, or makes them.
+fn connect<S: Start>(
+    rt: &HostRuntime,
+    path: &str,
+    start: S,
+) -> Result<Connection<FileStore<FileFrom<S>>>, NodeFault>
+    ensures opened { IfOk result (λ conn. HasCleanDisk (file_state conn) → IsOpened conn) }
+    ensures found { IfOk result (λ conn. HasCleanDisk (file_state conn) → FindsIn (image_at S.Start) (file_state conn)) }
+{
+    match Connection::open_from(rt, path, false, start) {
+        Ok(conn) => Ok(conn),
+        Err((error, _)) => Err(NodeFault::from(error)),
     }
 }
 

@@ -185,12 +185,19 @@ fn other_files_are_refused(rt: HostRuntime) -> Result<(), Fail> {
     let path = "node_other/t.db";
     change(&rt, path, "CREATE TABLE t (a INTEGER) STRICT")?;
     assert_eq!(rt; entries(&rt, path, None).err(), Some(NodeFault::NoJournal));
-    let path = "node_other/damaged.db";
-    let _ = run(&rt, path)?;
-    change(&rt, path, "UPDATE entries SET kind = 0 WHERE place = 0")?;
-    let damaged = NodeFault::Journal(JournalFault::Damaged(0));
-    assert_eq!(rt; entries(&rt, path, None).err(), Some(damaged));
     fs::remove_dir_all(&rt, "node_other")?;
+    Ok(())
+}
+
+#[test]
+fn a_damaged_entry_is_found(rt: HostRuntime) -> Result<(), Fail> {
+    folder(&rt, "node_damaged")?;
+    let path = "node_damaged/a.db";
+    let _ = run(&rt, path)?;
+    change(&rt, path, "UPDATE entries SET kind = 0 WHERE place = 1")?;
+    let damaged = NodeFault::Journal(JournalFault::Damaged(1));
+    assert_eq!(rt; entries(&rt, path, None).err(), Some(damaged));
+    fs::remove_dir_all(&rt, "node_damaged")?;
     Ok(())
 }
 
@@ -198,6 +205,9 @@ fn other_files_are_refused(rt: HostRuntime) -> Result<(), Fail> {
 fn faults_tell_why(rt: HostRuntime) -> Result<(), Fail> {
     let text = format!(in rt.alloc(); "{}", NodeFault::OtherAnswer(3))?;
     assert_eq!(rt; text.as_str(), "another answer is due at place 3");
+    drop(text);
+    let text = format!(in rt.alloc(); "{}", NodeFault::NoFile)?;
+    assert_eq!(rt; text.as_str(), "there is no such file");
     drop(text);
     let memory = NodeFault::of_refusal(Refusal::NoMemory, NodeFault::BadGenesis);
     assert_eq!(rt; memory, NodeFault::NoMemory);

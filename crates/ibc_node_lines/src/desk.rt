@@ -57,6 +57,11 @@ impl<S: Alter + Drop> Desk<S> {
         }
     }
 
+    /// Whether there is a chain of this number.
+    pub fn has_chain(&self, chain: u8) -> bool {
+        self.ledger(chain).is_some()
+    }
+
     /// Asks the node for an event, and tells what came of it.
     pub fn take(
         &mut self,
@@ -105,9 +110,9 @@ impl<S: Alter + Drop> Desk<S> {
 
     // Tells what came of an event, and answers with its reply.
     fn tell(&mut self, chain: u8, kept: KeptAnswer) -> Result<Reply, Refusal> {
-        let reply = kept.reply.clone();
+        let reply = kept.reply.clone()?;
         match self.told.push((chain, kept)) {
-            Ok(()) => Ok(reply?),
+            Ok(()) => Ok(reply),
             Err(error) => {
                 drop(error);
                 drop(reply);

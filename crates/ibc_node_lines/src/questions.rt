@@ -4,6 +4,7 @@ use crate::request::NodeQuestion;
 use crate::{Desk, LineFault, answers};
 use hex::encode as encode_hex;
 use ibc_ids::{Bytes, Refusal};
+use ibc_machine::Totals;
 use ibc_merkle::Proof;
 use ibc_message_codec::encode as encode_message;
 use ibc_node::NodeFault;
@@ -22,41 +23,97 @@ pub fn tell<S: Alter + Drop>(
     desk: &mut Desk<S>,
     question: NodeQuestion,
 ) -> Result<Result<String, LineFault>, NodeFault> {
+    if !has_chains(desk, &question) {
+        drop(question);
+        return Ok(Err(LineFault::UnknownChain));
+    }
+    Ok(Ok(told(alloc, desk, question)?))
+}
+
+// Whether the chains that a question names are there.
+fn has_chains<S: Alter + Drop>(desk: &Desk<S>, question: &NodeQuestion) -> bool {
     match question {
-        NodeQuestion::Entries => Ok(Ok(answers::entries(alloc, desk.node.entries())?)),
-        NodeQuestion::Kept { from } => Ok(Ok(tell_kept(alloc, desk, from)?)),
+        NodeQuestion::Entries | NodeQuestion::Kept { .. } => true,
+        NodeQuestion::Balances { chain }
+        | NodeQuestion::Standing { chain, .. }
+        | NodeQuestion::Root { chain, .. }
+        | NodeQuestion::Proof { chain, .. }
+        | NodeQuestion::Totals { chain, .. } => desk.has_chain(*chain),
+        NodeQuestion::Plan { from, to } => desk.has_chain(*from) && desk.has_chain(*to),
+    }
+}
+
+// The answer to a question whose chains are there.
+fn told<S: Alter + Drop>(
+    alloc: Global,
+    desk: &mut Desk<S>,
+    question: NodeQuestion,
+) -> Result<String, NodeFault> {
+    match question {
+        NodeQuestion::Entries => Ok(answers::entries(alloc, desk.node.entries())?),
+        NodeQuestion::Kept { from } => tell_kept(alloc, desk, from),
         NodeQuestion::Balances { chain } => tell_balances(alloc, desk, chain),
         NodeQuestion::Standing { chain, key } => {
             let value = desk.value(chain, &key);
             drop(key);
-            Ok(Ok(tell_bytes(alloc, "value", value)?))
+            tell_bytes(alloc, "value", value)
         }
-        NodeQuestion::Plan { from, to } => Ok(Ok(tell_plan(alloc, desk, from, to)?)),
+        NodeQuestion::Root { chain, height } => tell_root(alloc, desk, chain, height),
+        NodeQuestion::Proof { chain, height, key } => {
+            let proof = desk.proof(chain, height, &key);
+            drop(key);
+            tell_proof(alloc, proof)
+        }
+        NodeQuestion::Totals {
+            chain,
+            channel,
+            denom,
+        } => {
+            let totals = desk.totals(chain, &channel, &denom);
+            drop(channel);
+            drop(denom);
+            tell_totals(alloc, totals)
+        }
+        NodeQuestion::Plan { from, to } => tell_plan(alloc, desk, from, to),
     }
 }
 
-/// The answer to a step that only looks at what chains have, or none where the step is another.
-pub fn look<S: Alter + Drop>(
+/// The question that a step is which only looks at what chains have, or the step, where it is another.
+pub fn question_of(step: Step) -> Result<NodeQuestion, Step> {
+    match step {
+        Step::Root { on, height } => Ok(NodeQuestion::Root { chain: on, height }),
+        Step::Prove { on, height, key } => Ok(NodeQuestion::Proof {
+            chain: on,
+            height,
+            key,
+        }),
+        Step::Totals { on, channel, denom } => Ok(NodeQuestion::Totals {
+            chain: on,
+            channel,
+            denom,
+        }),
+        other => Err(other),
+    }
+}
+
+// The root of a height, or that there is none.
+fn tell_root<S: Alter + Drop>(
     alloc: Global,
     desk: &Desk<S>,
-    step: &Step,
-) -> Result<Option<String>, NodeFault> {
-    match step {
-        Step::Root { on, height } => {
-            let block = desk.block(*on, *height);
-            let root = block.map(|block| block.root);
-            let bytes = root.as_ref().map(|root| root.bytes().as_slice());
-            Ok(Some(answers::found(alloc, "root", bytes)?))
-        }
-        Step::Prove { on, height, key } => {
-            let proof = desk.proof(*on, *height, key);
-            Ok(Some(tell_proof(alloc, proof)?))
-        }
-        Step::Totals { on, channel, denom } => match desk.totals(*on, channel, denom) {
-            Ok(totals) => Ok(Some(answers::totals(alloc, totals)?)),
-            Err(refusal) => Ok(Some(answers::unanswered(alloc, refusal)?)),
-        },
-        _ => Ok(None),
+    chain: u8,
+    height: u64,
+) -> Result<String, NodeFault> {
+    let block = desk.block(chain, height);
+    let root = block.map(|block| block.root);
+    let bytes = root.as_ref().map(|root| root.bytes().as_slice());
+    Ok(answers::found(alloc, "root", bytes)?)
+}
+
+// What a channel has, or why there is no answer.
+fn tell_totals(alloc: Global, totals: Result<Totals, Refusal>) -> Result<String, NodeFault> {
+    match totals {
+        Ok(totals) => Ok(answers::totals(alloc, totals)?),
+        Err(refusal) => Ok(answers::unanswered(alloc, refusal)?),
     }
 }
 
@@ -98,12 +155,9 @@ fn tell_balances<S: Alter + Drop>(
     alloc: Global,
     desk: &Desk<S>,
     chain: u8,
-) -> Result<Result<String, LineFault>, NodeFault> {
-    if desk.node.world().ledger(chain).is_none() {
-        return Ok(Err(LineFault::UnknownChain));
-    }
+) -> Result<String, NodeFault> {
     match desk.balances(chain) {
-        Ok(holdings) => Ok(Ok(answers::balances(alloc, holdings.as_slice())?)),
+        Ok(holdings) => Ok(answers::balances(alloc, holdings.as_slice())?),
         Err(_) => Err(NodeFault::NoMemory),
     }
 }

@@ -2,7 +2,7 @@
 
 use crate::{LineFault, SingleSteps};
 use hex::{FromHexError, decode as decode_hex};
-use ibc_ids::{Key, Refusal};
+use ibc_ids::{ChannelId, Denom, Key, Refusal};
 use ibc_machine::Event;
 use ibc_message_codec::decode as decode_message;
 use ibc_script::Step;
@@ -33,13 +33,40 @@ pub enum NodeQuestion {
     /// `{"query": "entries"}`: how many entries there are.
     Entries,
     /// `{"query": "kept", "from": 0}`: the entries from a place on, at most 100.
-    Kept { from: u32 },
+    Kept {
+        from: u32,
+    },
     /// `{"query": "balances", "chain": 0}`: who holds how much of what.
-    Balances { chain: u8 },
+    Balances {
+        chain: u8,
+    },
     /// `{"query": "value", "chain": 0, "path": ".."}`: what a chain has under a path as it stands.
-    Standing { chain: u8, key: Key },
+    Standing {
+        chain: u8,
+        key: Key,
+    },
+    /// `{"query": "root", "chain": 0, "height": 1}`: the root of a committed height.
+    Root {
+        chain: u8,
+        height: u64,
+    },
+    /// `{"query": "proof", "chain": 0, "height": 1, "path": ".."}`: the proof of what a committed height has under a path.
+    Proof {
+        chain: u8,
+        height: u64,
+        key: Key,
+    },
+    /// `{"query": "totals", "chain": 0, "channel": "..", "denom": ".."}`: what a channel has of a denomination.
+    Totals {
+        chain: u8,
+        channel: ChannelId,
+        denom: Denom,
+    },
     /// `{"query": "plan", "from": 0, "to": 1}`: the messages that a relayer would send to a chain.
-    Plan { from: u8, to: u8 },
+    Plan {
+        from: u8,
+        to: u8,
+    },
 }
 
 /// What a line asks for, in JSON.
@@ -48,7 +75,10 @@ pub fn read_request(
     steps: &SingleSteps,
     line: &[u8],
 ) -> Result<NodeRequest, LineFault> {
-    match Value::from_slice(alloc, line) {
+    let Ok(text) = str::from_utf8(line) else {
+        return Err(LineFault::NotText);
+    };
+    match Value::from_str(alloc, text) {
         Ok(value) => {
             let request = request_of(alloc, steps, &value);
             drop(value);
@@ -172,6 +202,9 @@ fn question_of(alloc: Global, value: &Value) -> Result<NodeQuestion, LineFault> 
             Ok(NodeQuestion::Balances { chain })
         }
         Some("value") => standing_of(alloc, value),
+        Some("root") => root_of(value),
+        Some("proof") => proof_of(alloc, value),
+        Some("totals") => totals_of(alloc, value),
         Some("plan") => plan_of(value),
         _ => Err(LineFault::UnknownQuery),
     }
@@ -192,14 +225,39 @@ fn kept_of(value: &Value) -> Result<NodeQuestion, LineFault> {
 fn standing_of(alloc: Global, value: &Value) -> Result<NodeQuestion, LineFault> {
     only(value, &["query", "chain", "path"])?;
     let chain = chain_of(value, "chain")?;
-    let path = value
-        .get("path")
-        .and_then(Value::as_str)
-        .ok_or(LineFault::NoPath)?;
-    match Key::parse(alloc, path) {
-        Ok(key) => Ok(NodeQuestion::Standing { chain, key }),
-        Err(Refusal::NoMemory) => Err(LineFault::NoMemory),
-        Err(_) => Err(LineFault::NoPath),
+    let key = key_of(alloc, value)?;
+    Ok(NodeQuestion::Standing { chain, key })
+}
+
+fn root_of(value: &Value) -> Result<NodeQuestion, LineFault> {
+    only(value, &["query", "chain", "height"])?;
+    let chain = chain_of(value, "chain")?;
+    let height = height_of(value)?;
+    Ok(NodeQuestion::Root { chain, height })
+}
+
+fn proof_of(alloc: Global, value: &Value) -> Result<NodeQuestion, LineFault> {
+    only(value, &["query", "chain", "height", "path"])?;
+    let chain = chain_of(value, "chain")?;
+    let height = height_of(value)?;
+    let key = key_of(alloc, value)?;
+    Ok(NodeQuestion::Proof { chain, height, key })
+}
+
+fn totals_of(alloc: Global, value: &Value) -> Result<NodeQuestion, LineFault> {
+    only(value, &["query", "chain", "channel", "denom"])?;
+    let chain = chain_of(value, "chain")?;
+    let channel = channel_of(alloc, value)?;
+    match denom_of(alloc, value) {
+        Ok(denom) => Ok(NodeQuestion::Totals {
+            chain,
+            channel,
+            denom,
+        }),
+        Err(fault) => {
+            drop(channel);
+            Err(fault)
+        }
     }
 }
 
@@ -208,4 +266,39 @@ fn plan_of(value: &Value) -> Result<NodeQuestion, LineFault> {
     let from = chain_of(value, "from")?;
     let to = chain_of(value, "to")?;
     Ok(NodeQuestion::Plan { from, to })
+}
+
+fn height_of(value: &Value) -> Result<u64, LineFault> {
+    value
+        .get("height")
+        .and_then(Value::as_u64)
+        .ok_or(LineFault::NoHeight)
+}
+
+// The text of a member.
+fn text_of<'v>(value: &'v Value, member: &str, otherwise: LineFault) -> Result<&'v str, LineFault> {
+    value.get(member).and_then(Value::as_str).ok_or(otherwise)
+}
+
+fn key_of(alloc: Global, value: &Value) -> Result<Key, LineFault> {
+    let path = text_of(value, "path", LineFault::NoPath)?;
+    Key::parse(alloc, path).map_err(|refusal| fault_of(refusal, LineFault::NoPath))
+}
+
+fn channel_of(alloc: Global, value: &Value) -> Result<ChannelId, LineFault> {
+    let name = text_of(value, "channel", LineFault::NoChannel)?;
+    ChannelId::parse(alloc, name).map_err(|refusal| fault_of(refusal, LineFault::NoChannel))
+}
+
+fn denom_of(alloc: Global, value: &Value) -> Result<Denom, LineFault> {
+    let name = text_of(value, "denom", LineFault::NoDenom)?;
+    Denom::parse(alloc, name).map_err(|refusal| fault_of(refusal, LineFault::NoDenom))
+}
+
+// The fault of a text that has no such form, or for which there is no memory.
+fn fault_of(refusal: Refusal, otherwise: LineFault) -> LineFault {
+    match refusal {
+        Refusal::NoMemory => LineFault::NoMemory,
+        _ => otherwise,
+    }
 }

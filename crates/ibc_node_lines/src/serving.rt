@@ -1,7 +1,7 @@
 //! A node answers lines, in their order.
 
 use crate::answers::{lawful, mistaken, resumed, told};
-use crate::questions::{look, tell};
+use crate::questions::{question_of, tell};
 use crate::{Desk, LineFault, NodeAction, NodeRequest, SingleSteps, read_request};
 use ibc_machine::Genesis;
 use ibc_node::{KeptAnswer, Node, NodeFault};
@@ -9,14 +9,14 @@ use ibc_script::{ChainName, Fault, Script, Step, read_script};
 use ibc_script_worlds::ChainStarts;
 use sqlite::Alter;
 use std::alloc::Global;
-use std::io::{BufRead, ErrorKind, Write};
+use std::io::{BufRead, BufReader, Read, Write};
 
-/// Answers each line of the input, in order, with a line. An answer is written after its entry is in the journal. So many lines share one
-/// commit at most; the last of them come at the end of the input.
-pub fn serve<S: Alter + Drop, R: BufRead + Drop, W: Write>(
+/// Answers each line of the input, in order, with a line. An answer is written after its entry is in the journal. Lines that have come
+/// together share a commit, so many at most. So no answer waits for a line that hasn't come.
+pub fn serve<S: Alter + Drop, R: Read + Drop, W: Write>(
     alloc: Global,
     node: Node<S>,
-    input: R,
+    input: BufReader<R>,
     output: &mut W,
     batch: usize,
 ) -> Result<(), NodeFault> {
@@ -34,12 +34,18 @@ pub fn serve<S: Alter + Drop, R: BufRead + Drop, W: Write>(
     served
 }
 
-/// What an audit of a journal tells, whose node is open: its entries are a lawful run.
+/// What an audit of a journal tells, whose node is open: its entries are a lawful run. Fault: the journal began with another genesis than
+/// this one.
 pub fn tell_lawful<S: Alter, W: Write>(
     alloc: Global,
     node: &Node<S>,
+    genesis: Option<&[u8]>,
     output: &mut W,
 ) -> Result<(), NodeFault> {
+    match genesis {
+        Some(wanted) if wanted != node.genesis() => return Err(NodeFault::OtherGenesis),
+        _ => {}
+    }
     let text = lawful(alloc, node.entries())?;
     write(output, text.as_str())
 }
@@ -101,24 +107,36 @@ fn server_of<S: Alter + Drop>(
 
 impl<S: Alter + Drop> Server<S> {
     // Answers all lines.
-    fn serve_all<R: BufRead + Drop, W: Write>(
+    fn serve_all<R: Read + Drop, W: Write>(
         &mut self,
-        input: R,
+        input: BufReader<R>,
         output: &mut W,
         batch: usize,
     ) -> Result<(), NodeFault> {
+        let mut input = input;
         self.resume(output)?;
-        for line in input.lines(self.alloc) {
-            match line {
-                Ok(line) => self.answer(Some(line.as_bytes()))?,
-                Err(error) if error.kind() == ErrorKind::InvalidData => self.answer(None)?,
-                Err(error) => return Err(NodeFault::of_input(&error)),
+        for _ in 0..u64::MAX {
+            if !self.answer_next(&mut input)? {
+                break;
             }
-            if self.waiting >= batch || self.desk.node.waiting() == 0 {
+            if self.waiting >= batch || !input.buffer().contains(&b'\n') {
                 self.settle(output)?;
             }
         }
         self.settle(output)
+    }
+
+    // Answers the next line, if there is one.
+    fn answer_next<R: Read>(&mut self, input: &mut BufReader<R>) -> Result<bool, NodeFault> {
+        let mut line = Vec::new(self.alloc);
+        match input.read_until(b'\n', &mut line) {
+            Ok(0) => Ok(false),
+            Ok(_) => {
+                self.answer(line.as_slice())?;
+                Ok(true)
+            }
+            Err(error) => Err(NodeFault::of_input(&error)),
+        }
     }
 
     // Tells where the node goes on.
@@ -128,8 +146,8 @@ impl<S: Alter + Drop> Server<S> {
         write(output, text.as_str())
     }
 
-    // Answers a line, or one that is no text; the answer is told when its entry is in the journal.
-    fn answer(&mut self, line: Option<&[u8]>) -> Result<(), NodeFault> {
+    // Answers a line; the answer is told when its entry is in the journal.
+    fn answer(&mut self, line: &[u8]) -> Result<(), NodeFault> {
         self.number = self.number.saturating_add(1);
         self.waiting = self.waiting.saturating_add(1);
         let text = match self.answer_of(line)? {
@@ -143,41 +161,47 @@ impl<S: Alter + Drop> Server<S> {
     }
 
     // The answer to a line, or what is wrong with it.
-    fn answer_of(&mut self, line: Option<&[u8]>) -> Result<Result<String, LineFault>, NodeFault> {
-        let Some(line) = line else {
-            return Ok(Err(LineFault::NotText));
-        };
+    fn answer_of(&mut self, line: &[u8]) -> Result<Result<String, LineFault>, NodeFault> {
         match read_request(self.alloc, &self.steps, line) {
-            Ok(NodeRequest::Do { log_place, asked }) => Ok(Ok(self.act(log_place, asked)?)),
+            Ok(NodeRequest::Do { log_place, asked }) => self.act(log_place, asked),
             Ok(NodeRequest::Tell(question)) => tell(self.alloc, &mut self.desk, question),
             Err(why) => Ok(Err(why)),
         }
     }
 
     // Does what a line asks for, unless the place of a log that it names isn't above the last one.
-    fn act(&mut self, log_place: u32, asked: NodeAction) -> Result<String, NodeFault> {
+    fn act(
+        &mut self,
+        log_place: u32,
+        asked: NodeAction,
+    ) -> Result<Result<String, LineFault>, NodeFault> {
         if 0 < log_place && log_place <= self.desk.node.log_place() {
             drop(asked);
             let answers = self.desk.node.again(log_place)?;
-            return tell_all(self.alloc, answers);
+            return Ok(Ok(tell_all(self.alloc, answers)?));
         }
         match asked {
             NodeAction::Event(event) => {
                 let answers = self.desk.take(log_place, event)?;
-                tell_all(self.alloc, answers)
+                Ok(Ok(tell_all(self.alloc, answers)?))
             }
             NodeAction::Step(step) => self.act_step(log_place, step),
         }
     }
 
     // Takes a step.
-    fn act_step(&mut self, log_place: u32, step: Step) -> Result<String, NodeFault> {
-        if let Some(text) = look(self.alloc, &self.desk, &step)? {
-            drop(step);
-            return Ok(text);
+    fn act_step(
+        &mut self,
+        log_place: u32,
+        step: Step,
+    ) -> Result<Result<String, LineFault>, NodeFault> {
+        match question_of(step) {
+            Ok(question) => tell(self.alloc, &mut self.desk, question),
+            Err(step) => {
+                let answers = self.desk.act(self.names.as_slice(), log_place, step)?;
+                Ok(Ok(tell_all(self.alloc, answers)?))
+            }
         }
-        let answers = self.desk.act(self.names.as_slice(), log_place, step)?;
-        tell_all(self.alloc, answers)
     }
 
     // Puts in what waits, and writes the answers.

@@ -5,6 +5,7 @@ use ibc_journal::begin;
 use ibc_node::{Node, NodeFault, open_node};
 use sqlite::{Connection, Error, MemStore};
 use std::alloc::Global;
+use std::io::BufReader;
 use std::test::Fail;
 
 const GENESIS: &[u8] =
@@ -39,8 +40,9 @@ fn answers(
     batch: usize,
 ) -> Result<(Vec<u8>, Result<(), NodeFault>), NodeFault> {
     let node = node(alloc, is_busy)?;
+    let input = BufReader::new(alloc, LINES).map_err(|_| NodeFault::NoMemory)?;
     let mut output = Vec::new(alloc);
-    let ended = serve(alloc, node, LINES, &mut output, batch);
+    let ended = serve(alloc, node, input, &mut output, batch);
     Ok((output, ended))
 }
 

@@ -27,26 +27,29 @@ pub struct Words<'a> {
 pub fn help() -> &'static str {
     "\
 ibcnode FILE.db [--genesis FILE.json] [--batch N]
-ibcnode FILE.db --audit
+ibcnode FILE.db --audit [--genesis FILE.json]
 
 Answers each line of its input with a line, after its entry is on the disk. Started again, it goes on where it was.
 
   FILE.db              the journal, with FILE.db-wal beside it. It is made where it isn't there
   --genesis FILE.json  how a new world begins: a script whose list of steps is empty.
                        The genesis of a journal that is there has to be the same
-  --batch N            at most so many lines share one commit, 1 to 100000; without it 1
+  --batch N            lines that have come together share a commit, at most N, 1 to 100000; without it 1
   --audit              reads no input: replays the journal, and tells whether it is a lawful run
   --help, --version
 
 Lines, each a JSON object:
-  {\"do\": .., \"on\": ..}                                  a step, as scripts have it
-  {\"chain\": 0, \"message\": \"HEX\"}                        a message by its bytes
-  {\"chain\": 0, \"block\": TIME}                           the end of a block
-  {\"query\": \"entries\"}                                  how many entries there are
-  {\"query\": \"kept\", \"from\": 0}                          entries from a place on, at most 100
-  {\"query\": \"balances\", \"chain\": 0}
-  {\"query\": \"value\", \"chain\": 0, \"path\": \"..\"}        what a chain has under a path of ICS 24
-  {\"query\": \"plan\", \"from\": 0, \"to\": 1}                 what a relayer would send
+  {\"do\": .., \"on\": ..}                              a step, as scripts have it
+  {\"chain\": 0, \"message\": \"HEX\"}                    a message by its bytes
+  {\"chain\": 0, \"block\": TIME}                       the end of a block, with the time of the next one
+  {\"query\": \"entries\"}                              how many entries there are
+  {\"query\": \"kept\", \"from\": 0}                      entries from a place on, at most 100
+  {\"query\": \"balances\", \"chain\": 0}                 who holds how much
+  {\"query\": \"value\", \"chain\": 0, \"path\": \"..\"}    what a chain has under a path of ICS 24
+  {\"query\": \"root\", \"chain\": 0, \"height\": 1}      the root of a committed height
+  {\"query\": \"proof\", \"chain\": 0, \"height\": 1, \"path\": \"..\"}
+  {\"query\": \"totals\", \"chain\": 0, \"channel\": \"..\", \"denom\": \"..\"}
+  {\"query\": \"plan\", \"from\": 0, \"to\": 1}             what a relayer would send
 With \"at\": N, a step, a message or a block names its place in a log. A line whose place isn't above the
 last one is answered from the journal, and done once.
 

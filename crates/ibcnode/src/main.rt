@@ -1,13 +1,16 @@
 //! A world that lives: it answers lines, and its journal has each answer before it is told.
 #![tactic(auto)]
 
-use ibc_node::{Node, NodeFault, open_at};
+use ibc_node::{NodeFault, open_at};
 use ibc_node_lines::{Task, Words, help, read_words, serve, tell_lawful, version};
-use sqlite::{FileFrom, FileStore, Wary};
+use sqlite::Wary;
 use std::alloc::Global;
 use std::io::{BufReader, BufWriter};
 use std::process::ExitCode;
 use std::{env, fs, io};
+
+// So many bytes of the input are looked at together.
+const AT_HAND: usize = 65_536;
 
 // The bytes of the genesis, where a file is named.
 fn genesis_of(rt: &HostRuntime, path: Option<&str>) -> Result<Option<Vec<u8>>, NodeFault> {
@@ -20,26 +23,43 @@ fn genesis_of(rt: &HostRuntime, path: Option<&str>) -> Result<Option<Vec<u8>>, N
     }
 }
 
-// The node of the journal's files.
-fn node_of(
-    rt: &HostRuntime,
-    words: &Words<'_>,
-) -> Result<Node<FileStore<FileFrom<Wary>>>, NodeFault> {
-    let genesis = genesis_of(rt, words.genesis)?;
-    let bytes = genesis.as_ref().map(|bytes| bytes.as_slice());
-    open_at(rt, words.journal, Wary, bytes)
+// Opens the journal, and answers lines.
+fn answer(rt: &HostRuntime, words: &Words<'_>, genesis: Option<&[u8]>) -> Result<(), NodeFault> {
+    let alloc = rt.alloc();
+    let node = open_at(rt, words.journal, Wary, genesis)?;
+    let Ok(input) = BufReader::with_capacity(alloc, AT_HAND, rt.reader()) else {
+        drop(node);
+        return Err(NodeFault::NoMemory);
+    };
+    let Ok(mut output) = BufWriter::new(alloc, io::writer(rt)) else {
+        drop(node);
+        drop(input);
+        return Err(NodeFault::NoMemory);
+    };
+    serve(alloc, node, input, &mut output, words.batch)
 }
 
-// Opens the journal, and answers lines or tells what an audit finds.
-fn work(rt: &HostRuntime, words: Words<'_>) -> Result<(), NodeFault> {
-    let alloc = rt.alloc();
-    let node = node_of(rt, &words)?;
-    let mut output = BufWriter::new(alloc, io::writer(rt)).map_err(|_| NodeFault::NoMemory)?;
-    if words.audits {
-        return tell_lawful(alloc, &node, &mut output);
+// Opens the journal, and tells what an audit finds. None is made.
+fn audit(rt: &HostRuntime, words: &Words<'_>, genesis: Option<&[u8]>) -> Result<(), NodeFault> {
+    if !fs::exists(rt, words.journal).unwrap_or(false) {
+        return Err(NodeFault::NoFile);
     }
-    let input = BufReader::new(alloc, rt.reader()).map_err(|_| NodeFault::NoMemory)?;
-    serve(alloc, node, input, &mut output, words.batch)
+    match open_at(rt, words.journal, Wary, None) {
+        Ok(node) => tell_lawful(rt.alloc(), &node, genesis, &mut io::writer(rt)),
+        Err(NodeFault::NoGenesis) => Err(NodeFault::NoJournal),
+        Err(fault) => Err(fault),
+    }
+}
+
+// Answers lines, or tells what an audit finds.
+fn work(rt: &HostRuntime, words: Words<'_>) -> Result<(), NodeFault> {
+    let genesis = genesis_of(rt, words.genesis)?;
+    let bytes = genesis.as_ref().map(|bytes| bytes.as_slice());
+    if words.audits {
+        audit(rt, &words, bytes)
+    } else {
+        answer(rt, &words, bytes)
+    }
 }
 
 // Does what the words ask for. Answers the status.
