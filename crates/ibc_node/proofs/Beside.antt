@@ -129,6 +129,24 @@ at_rest_with new genesis items committed seen outside = record {
 pub keeps_once : (old new : State) → ((genesis : List ℕ) (items : List JournalItem) → IsJournal old.now genesis items → HasCleanDisk new → IsUnchanged old new) → KeepsJournals old new
 keeps_once old new same genesis items has clean = subst (λ d. IsJournal d genesis items) (sym (same genesis items has clean).0.now_is) has
 
+pub unchanged_then : (old mid new : State) → IsUnchanged old mid → IsUnchanged mid new → IsUnchanged old new
+unchanged_then old mid new one two = (
+  record {
+    was_open = one.0.was_open;
+    is_open = two.0.is_open;
+    now_is = two.0.now_is ∙ one.0.now_is;
+    committed_is = two.0.committed_is ∙ one.0.committed_is;
+    mode = two.0.mode ∙ one.0.mode;
+  },
+  record { changes = two.1.changes ∙ one.1.changes; last_rowid = two.1.last_rowid ∙ one.1.last_rowid },
+  two.2 ∙ one.2,
+)
+
+-- one entry more is read
+pub reads_one : (items : List JournalItem) (place after : ℕ) (entries : List Entry) (e : Entry) (it : JournalItem) → AreKeptAs entries (take place items) → Some it ≡ slice_get items place → IsKeptAs e it
+    → after ≡ place + 1 → AreKeptAs (entries ++ e ∷ []) (take after items)
+reads_one items place after entries e it kept there is next = subst (λ n. AreKeptAs (entries ++ e ∷ []) (take n items)) (sym next) (kept_next entries items place e it kept (sym there) is)
+
 -- before the first entry nothing is kept
 pub none_kept : (genesis : List ℕ) (entries : List Entry) (items : List JournalItem) (end : Cursor) → entries ≡ [] → HasReadTo genesis [] end → AreKeptAs entries (take end.place items)
 none_kept genesis entries items end none read =

@@ -1,28 +1,48 @@
 -- What an open gives, put together of what its calls give.
-use Rattle.std.proofs.Common.{◌≡◌, ◌⊎◌, inl, inr, ℕ, ◌≤◌, List, [], ◌∷◌, Ok, Err, Result, IfOk, OnOk, sym, ap, ◌∙◌, subst, arith}
+use Rattle.std.proofs.Common.{◌≡◌, ◌⊎◌, inl, inr, ℕ, ◌≤◌, List, [], ◌∷◌, length, Ok, Err, Result, IfOk, OnOk, sym, ap, ◌∙◌, subst, arith}
 use Rattle.std.specs.List.{AllZip}
 use Rattle.sqlite.specs.Recovery.{Image}
 use Rattle.sqlite.specs.Effect.{Database, IsDatabase}
 use Rattle.sqlite.specs.State.{State, Opens, IsLive}
 use Rattle.sqlite.specs.Start.{FindsIn}
-use Rattle.ibc_machine.specs.chain.Genesis.{genesis_state}
+use Rattle.sqlite.specs.Schema.{Schema}
+use Rattle.ibc_machine.specs.declared.entry.Entry.{Entry}
+use Rattle.ibc_machine.specs.chain.Genesis.{GenesisState, genesis_state}
 use Rattle.ibc_machine.specs.declared.genesis.Genesis.{Genesis}
 use Rattle.ibc_script.specs.ScriptValues.{IsScriptText, content_of}
 use Rattle.ibc_script.specs.declared.script.Script.{Script}
 use Rattle.ibc_journal.specs.Tables.{no_schema, journal_schema, JournalItem}
 use Rattle.ibc_journal.specs.Restarts.{IsAtRest}
 use Rattle.ibc_journal.proofs.Restarted.{finds_journal}
-use Rattle.ibc_node.specs.Nodes.{HoldsWholeJournal, IsGenesisText}
-
--- two facts of one answer
-pub both_ok : {A E : Type 0} (P Q R : A → Type 0) (r : Result A E) → ((a : A) → P a → Q a → R a) → IfOk r P → IfOk r Q → IfOk r R
-both_ok P Q R (Ok a) give p q = give a p q
-both_ok P Q R (Err e) give p q = tt
+use Rattle.ibc_journal.specs.Digests.{HasReadAll}
+use Rattle.ibc_journal.specs.declared.cursor.Cursor.{Cursor}
+use Rattle.ibc_replay.specs.Replays.{IsReplay}
+use Rattle.ibc_node.specs.Kept.{AreKeptAs}
+use Rattle.ibc_node.specs.Nodes.{HoldsWholeJournal, IsGenesisText, IsRestarted}
+use Rattle.ibc_node.specs.declared.opening.GoingOn.{GoingOn}
+use Rattle.ibc_node.proofs.Beside.{restarted}
 
 pub genesis_text : {E : Type 0} (text : List ℕ) (script : Script) (r : Result Genesis E) → IsScriptText text (content_of script) → IfOk r (λ g. genesis_state g ≡ genesis_state script.genesis)
     → OnOk r (script.steps.items ≡ []) → IfOk r (λ g. IsGenesisText text (genesis_state g))
 genesis_text text script (Ok g) is begins no_steps = record { content = content_of script; is = is; no_steps = no_steps; begins = sym begins }
 genesis_text text script (Err e) is begins no_steps = tt
+
+-- a fact that holds whatever was answered
+pub rests_on : {A E : Type 0} {P : Type 0} (r : Result A E) → P → OnOk r P
+rests_on (Ok a) p = p
+rests_on (Err e) p = tt
+
+-- no table is no journal
+pub no_journal_is_empty : no_schema ≡ journal_schema → ⊥
+no_journal_is_empty same = let none : length no_schema.tables ≡ length journal_schema.tables = ap (λ (s : Schema). length s.tables) same in absurd (omega (arith, none))
+
+pub goes_on_restarted : {E : Type 0} (text genesis : List ℕ) (items : List JournalItem) (past : List Entry) (end : Cursor) (r : Result GoingOn E) → genesis ≡ text → AreKeptAs past items
+    → HasReadAll genesis items end → IfOk r (λ start. (begins : GenesisState) × IsGenesisText genesis begins × IsReplay begins past start.world) → IfOk r (λ start. start.end ≡ end)
+    → IfOk r (λ start. IsRestarted text items start.world start.end)
+goes_on_restarted text genesis items past end (Ok start) same kept read world is =
+    restarted text items start.world start.end world.0 past (subst (λ t. IsGenesisText t world.0) same world.1) world.2 kept
+    (subst (HasReadAll text items) (sym is) (subst (λ t. HasReadAll t items end) same read))
+goes_on_restarted text genesis items past end (Err e) same kept read world is = tt
 
 -- what is clean behind a call was clean before it
 pub calm_ok : {A E : Type 0} (r : Result A E) (before : ℕ) (after : A → ℕ) → IfOk r (λ a. before ≤ after a) → IfOk r (λ a. after a ≡ 0 → before ≡ 0)

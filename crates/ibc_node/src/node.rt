@@ -148,15 +148,15 @@ impl<S: Alter> Node<S> {
         ensures world { self.new.world ≡ self.old.world }
         ensures journal { self.new.conn ≡ self.old.conn }
     {
-        let place = self.end.place;
-        let (Some(after), Some(last)) = (place.checked_add(1), digest_of(&entry)) else {
+        let here = self.end.place;
+        let (Some(after), Some(last)) = (here.checked_add(1), digest_of(&entry)) else {
             drop(entry);
             return Err(NodeFault::Journal(JournalFault::Full));
         };
-        mark(&mut self.marks, log_place, place)?;
+        mark(&mut self.marks, log_place, here)?;
         self.waiting.push(entry)?;
         self.end = Cursor { place: after, last };
-        Ok(place)
+        Ok(here)
     }
 
     /// Puts in the entries that wait, in one commit. After an error the node is dropped.

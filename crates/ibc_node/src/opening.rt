@@ -83,12 +83,13 @@ pub fn open_node<S: Alter + Drop>(
     ensures calm { IfOk result (λ node. doubt (state S.Store conn).is_clean ≤ doubt (state S.Store node.conn).is_clean) }
 {
     let mut conn = conn;
+    let start = start_of(alloc, &mut conn, genesis)?;
     let GoingOn {
         genesis,
         world,
         end,
         marks,
-    } = start_of(alloc, &mut conn, genesis)?;
+    } = start;
     Ok(Node {
         alloc,
         conn,
@@ -116,7 +117,8 @@ fn start_of<S: Alter>(
     ensures which { OnOk result (((state S.Store conn.old).now.schema ≡ journal_schema) ⊎ ((state S.Store conn.old).now.schema ≡ no_schema)) }
     ensures calm { OnOk result (doubt (state S.Store conn.old).is_clean ≤ doubt (state S.Store conn.new).is_clean) }
 {
-    match look(alloc, conn)? {
+    let looks = look(alloc, conn)?;
+    match looks {
         Looks::Empty => begin_with(alloc, conn, genesis.ok_or(NodeFault::NoGenesis)?),
         Looks::Journal => go_on(alloc, conn, genesis),
         Looks::OfFormat(format) => Err(NodeFault::OtherFormat(format)),
@@ -138,10 +140,11 @@ pub(crate) fn begin_with<S: Alter>(
     let text = Vec::from_slice(alloc, genesis)?;
     let world = world_of(alloc, genesis)?;
     begin(conn, genesis)?;
+    let end = Cursor::new(genesis);
     Ok(GoingOn {
         genesis: text,
         world,
-        end: Cursor::new(genesis),
+        end,
         marks: Vec::new(alloc),
     })
 }

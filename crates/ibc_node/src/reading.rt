@@ -15,7 +15,7 @@ use ibc_entry_codec::{EntryBytes, restore};
 use ibc_ids::{Bytes, Refusal};
 use ibc_journal::{Cursor, JournalEntry, JournalFault, end_at, next};
 use ibc_machine::Entry;
-use sqlite::{Alter, Connection};
+use sqlite::{Alter, Connection, Error};
 use std::alloc::Global;
 
 // How many places a journal can have.
@@ -92,16 +92,25 @@ fn read_next<S: Alter>(
     ensures crash { Survives (state S.Store conn.old) (state S.Store conn.new) (LeavesNothing (state S.Store conn.old)) }
 {
     let place = past.end.place;
-    match next(conn, &mut past.end)? {
-        Some(kept) => {
+    match next(conn, &mut past.end) {
+        Ok(Some(kept)) => {
             mark(&mut past.marks, kept.log_place, place)?;
             past.entries.push(entry_of(alloc, place, kept)?)?;
             Ok(true)
         }
-        None => {
+        Ok(None) => {
             end_at(conn, &past.end)?;
             Ok(false)
         }
+        Err(fault) => Err(fault_at(place, fault)),
+    }
+}
+
+// Why the entry at a place can't be read: one of its numbers is out of range, or the journal says why.
+fn fault_at(place: u32, fault: JournalFault) -> NodeFault {
+    match fault {
+        JournalFault::Sqlite(Error::IntegralValueOutOfRange(_)) => NodeFault::NoEntry(place),
+        fault => NodeFault::Journal(fault),
     }
 }
 

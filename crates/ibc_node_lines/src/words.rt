@@ -39,17 +39,17 @@ Answers each line of its input with a line, after its entry is on the disk. Star
   --help, --version
 
 Lines, each a JSON object:
-  {\"do\": .., \"on\": ..}                              a step, as scripts have it
-  {\"chain\": 0, \"message\": \"HEX\"}                    a message by its bytes
-  {\"chain\": 0, \"block\": TIME}                       the end of a block, with the time of the next one
-  {\"query\": \"entries\"}                              how many entries there are
-  {\"query\": \"kept\", \"from\": 0}                      entries from a place on, at most 100
-  {\"query\": \"balances\", \"chain\": 0}                 who holds how much
+  {\"do\": .., \"on\": ..}                            a step, as scripts have it
+  {\"chain\": 0, \"message\": \"HEX\"}                  a message by its bytes
+  {\"chain\": 0, \"block\": TIME}                     the end of a block, with the time of the next one
+  {\"query\": \"entries\"}                            how many entries there are
+  {\"query\": \"kept\", \"from\": 0}                    entries from a place on, at most 100
+  {\"query\": \"balances\", \"chain\": 0}               who holds how much
   {\"query\": \"value\", \"chain\": 0, \"path\": \"..\"}    what a chain has under a path of ICS 24
   {\"query\": \"root\", \"chain\": 0, \"height\": 1}      the root of a committed height
   {\"query\": \"proof\", \"chain\": 0, \"height\": 1, \"path\": \"..\"}
   {\"query\": \"totals\", \"chain\": 0, \"channel\": \"..\", \"denom\": \"..\"}
-  {\"query\": \"plan\", \"from\": 0, \"to\": 1}             what a relayer would send
+  {\"query\": \"plan\", \"from\": 0, \"to\": 1}           what a relayer would send
 With \"at\": N, a step, a message or a block names its place in a log. A line whose place isn't above the
 last one is answered from the journal, and done once.
 

@@ -1,0 +1,5 @@
+use Rattle.ibc_machine.specs.chain.Genesis.{genesis_state}
+use Rattle.ibc_node.proofs.opening.replay_all.Goals as goal
+
+pub returns-in-Ok : goal.returns-in-Ok
+returns-in-Ok c = (genesis_state c.in_ok-genesis.genesis, c.in_ok-genesis.ensures, c.in-Ok.ensures.replayed)
