@@ -1,5 +1,5 @@
 -- A world stays beside its journal.
-use Rattle.std.proofs.Common.{◌≡◌, ℕ, ◌+◌, ◌≤◌, false, List, [], ◌∷◌, ◌++◌, length, take, map, slice_get, Some, None, refl, sym, ap, ◌∙◌, subst, append-nil, append_assoc, length-append, arith}
+use Rattle.std.proofs.Common.{◌≡◌, ℕ, ◌+◌, ◌≤◌, ◌==◌, true, List, [], ◌∷◌, ◌++◌, length, take, map, slice_get, Some, None, refl, sym, ap, ◌∙◌, subst, append-nil, length-append, eqb-true, arith}
 use Rattle.std.proofs.lemmas.List.{take_more, take_all, length-map}
 use Rattle.std.proofs.lemmas.Option.{slice_get_within, get_or_from_slice_get}
 use Rattle.sqlite.specs.Tree.{Trees}
@@ -77,9 +77,12 @@ first_behind genesis world items waiting end first beside is =
     let many = length-map waiting item in
     omega (arith, is, long, many, beside.read.1)
 
-pub none_wait : (waiting : List JournalEntry) → length waiting ≡ 0 → waiting ≡ []
-none_wait [] none = refl
-none_wait (e ∷ waiting) none = absurd (omega arith)
+none_long : (waiting : List JournalEntry) → length waiting ≡ 0 → waiting ≡ []
+none_long [] none = refl
+none_long (e ∷ waiting) none = absurd (omega arith)
+
+pub none_wait : (waiting : List JournalEntry) → (length waiting == 0) ≡ true → waiting ≡ []
+none_wait waiting none = none_long waiting (eqb-true (length waiting) 0 none)
 
 -- ---- a restart
 

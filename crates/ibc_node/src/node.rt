@@ -170,13 +170,14 @@ impl<S: Alter> Node<S> {
         // A crash at any moment of the call leaves what it could leave before the call, or all of what waited.
         ensures crash { Survives (state S.Store self.old.conn) (state S.Store self.new.conn) (LeavesWaiting (state S.Store self.old.conn) self.old.world (items_of self.old.waiting.items) self.old.end) }
     {
-        let Some(first) = first_of(self.end.place, self.waiting.as_slice()) else {
+        let waiting = self.waiting.as_slice();
+        let Some(first) = first_of(self.end.place, waiting) else {
             return Err(NodeFault::Journal(JournalFault::Full));
         };
-        if self.waiting.as_slice().is_empty() {
+        if waiting.is_empty() {
             return Ok(());
         }
-        append(&mut self.conn, first, self.waiting.as_slice())?;
+        append(&mut self.conn, first, waiting)?;
         self.waiting.clear();
         Ok(())
     }

@@ -1,5 +1,13 @@
 //! A node answers lines, in their order.
 
+ghost use Rattle.std.specs.Prelude.{◌≡◌, ◌⊎◌, ◌++◌, List, ℕ};
+ghost use Rattle.sqlite.specs.State.{HasCleanDisk};
+ghost use Rattle.sqlite.specs.Held.{state};
+ghost use Rattle.ibc_journal.specs.Tables.{JournalItem};
+ghost use Rattle.ibc_journal.specs.Entries.{items_of};
+ghost use Rattle.ibc_journal.specs.Restarts.{IsAtRest};
+ghost use Rattle.ibc_node.specs.Nodes.{IsBeside};
+
 use crate::answers::{lawful, mistaken, resumed, told};
 use crate::questions::{question_of, tell};
 use crate::{Desk, LineFault, NodeAction, NodeRequest, SingleSteps, read_request};
@@ -204,8 +212,13 @@ impl<S: Alter + Drop> Server<S> {
         }
     }
 
-    // Puts in what waits, and writes the answers.
-    fn settle<W: Write>(&mut self, output: &mut W) -> Result<(), NodeFault> {
+    // Puts in what waits, and then writes the answers. Where anything was written, the journal has all that the world keeps.
+    fn settle<W: Write>(&mut self, output: &mut W) -> Result<(), NodeFault>
+        ensures kept_first { (genesis : List ℕ) (items : List JournalItem) → IsAtRest (state S.Store self.old.desk.node.conn) genesis items
+            → IsBeside genesis self.old.desk.node.world (items ++ items_of self.old.desk.node.waiting.items) self.old.desk.node.end
+            → HasCleanDisk (state S.Store self.new.desk.node.conn) → (W.contents output.new ≡ W.contents output.old)
+            ⊎ IsAtRest (state S.Store self.new.desk.node.conn) genesis (items ++ items_of self.old.desk.node.waiting.items) }
+    {
         self.desk.node.settle()?;
         write(output, self.told.as_str())?;
         self.told.clear();
