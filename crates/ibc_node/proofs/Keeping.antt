@@ -1,5 +1,9 @@
 -- What a world has kept of an event is what its journal keeps.
-use Rattle.std.proofs.Common.{◌≡◌, ℕ, ◌+◌, ◌<◌, true, cond, List, [], ◌∷◌, ◌++◌, length, map, filter, refl, sym, ap, ◌∙◌, subst, Option, Some, slice_get, arith, eq-eqb}
+use Rattle.std.proofs.Common.{◌≡◌, ℕ, ◌+◌, ◌<◌, true, cond, List, [], ◌∷◌, ◌++◌, length, map, filter, refl, sym, ap, ◌∙◌, subst, Option, Some, Result, Err, ◌⊎◌, inl, inr, slice_get, arith, eq-eqb}
+use Rattle.std.specs.Prelude.{IsTrue}
+use Rattle.ibc_ids.specs.declared.refusal.Refusal.{Refusal}
+use Rattle.ibc_ids.specs.declared.refusal.Refusal.TheVariants.{BadMessage, NoMemory}
+use Rattle.ibc_wire.specs.Fields.{have_form}
 use Rattle.std.proofs.lemmas.List.Elements.{filter-append}
 use Rattle.ibc_machine.specs.declared.event.Event.{Event}
 use Rattle.ibc_machine.specs.declared.reply.Reply.{Reply}
@@ -16,9 +20,9 @@ use Rattle.ibc_refinement.proofs.ChangedPlaces.{get_there}
 use Rattle.ibc_refinement.proofs.world.Nothing.{history_at}
 use Rattle.ibc_replay.proofs.StoredSteps.{adds_just}
 use Rattle.ibc_entry_codec.specs.declared.stored.EntryBytes.{EntryBytes}
-use Rattle.ibc_entry_codec.specs.Stored.{StoresEntry}
+use Rattle.ibc_entry_codec.specs.Stored.{StoresEntry, event_fields}
 use Rattle.ibc_journal.specs.Tables.{JournalItem}
-use Rattle.ibc_node.specs.Kept.{KeepsItem, IsLastEntry, StoresLast, KeepsLast}
+use Rattle.ibc_node.specs.Kept.{KeepsItem, IsLastEntry, StoresLast, KeepsLast, WhyNotKept}
 
 -- the entry that a world kept last is the last of its chain
 last_of_chain : (old new : WorldState) (e : Entry) (ledger : Ledger) → IsWorld new → kept_entries new ≡ kept_entries old ++ e ∷ []
@@ -46,6 +50,11 @@ keeps_item old new event reply before it runs step low answered last =
       stored = last.stored at.0 at.1 (filter (is_of_chain (chain_of w.entry.event)) (kept_entries old)) w.entry (last_of_chain old new w.entry at.0 runs.is w.kept there);
       due = last.due;
     }
+
+pub why_not_spelt : {A : Type 0} (old : WorldState) (event : Event) (refusal : Refusal) → (refusal ≡ BadMessage) ⊎ (refusal ≡ NoMemory)
+    → (◌≡◌ {A = Result A Refusal} (Err refusal) (Err BadMessage) → ¬ IsTrue (have_form (event_fields event))) → WhyNotKept old event refusal
+why_not_spelt old event refusal (inl is) bad = subst (WhyNotKept old event) (sym is) (bad (ap Err is))
+why_not_spelt old event refusal (inr is) bad = subst (WhyNotKept old event) (sym is) tt
 
 same_entries : (history : List KeptEntry) → map (λ (e : StampedEntry). e.entry) (map abstract_entry history) ≡ map (λ (e : KeptEntry). e.entry) history
 same_entries [] = refl

@@ -37,11 +37,10 @@ pub no_journal_is_empty : no_schema ≡ journal_schema → ⊥
 no_journal_is_empty same = let none : length no_schema.tables ≡ length journal_schema.tables = ap (λ (s : Schema). length s.tables) same in absurd (omega (arith, none))
 
 pub goes_on_restarted : {E : Type 0} (text genesis : List ℕ) (items : List JournalItem) (past : List Entry) (end : Cursor) (r : Result GoingOn E) → genesis ≡ text → AreKeptAs past items
-    → HasReadAll genesis items end → IfOk r (λ start. (begins : GenesisState) × IsGenesisText genesis begins × IsReplay begins past start.world) → IfOk r (λ start. start.end ≡ end)
+    → HasReadAll text items end → IfOk r (λ start. (begins : GenesisState) × IsGenesisText genesis begins × IsReplay begins past start.world) → IfOk r (λ start. start.end ≡ end)
     → IfOk r (λ start. IsRestarted text items start.world start.end)
 goes_on_restarted text genesis items past end (Ok start) same kept read world is =
-    restarted text items start.world start.end world.0 past (subst (λ t. IsGenesisText t world.0) same world.1) world.2 kept
-    (subst (HasReadAll text items) (sym is) (subst (λ t. HasReadAll t items end) same read))
+    restarted text items start.world start.end world.0 past (subst (λ t. IsGenesisText t world.0) same world.1) world.2 kept (subst (HasReadAll text items) (sym is) read)
 goes_on_restarted text genesis items past end (Err e) same kept read world is = tt
 
 -- what is clean behind a call was clean before it

@@ -1,11 +1,15 @@
 //! A world is asked for an event, and what its journal keeps of that is made.
 
-ghost use Rattle.std.specs.Prelude.{◌≡◌, ◌↔◌, ◌<◌, length, map, option_map, IfErr, IfOk, IsTrue};
+ghost use Rattle.std.specs.Prelude.{◌≡◌, ◌↔◌, ◌⊎◌, ◌<◌, length, map, option_map, IfErr, IfOk, IsErrOf, IsTrue};
+ghost use Rattle.ibc_ids.specs.declared.refusal.Refusal.TheVariants.{BadMessage, NoMemory};
+ghost use Rattle.ibc_wire.specs.Fields.{have_form};
+ghost use Rattle.ibc_wire.specs.Messages.{message_fields};
+ghost use Rattle.ibc_entry_codec.specs.Stored.{event_fields};
 ghost use Rattle.ibc_machine.specs.ledger.Ledgers.{chain_of};
 ghost use Rattle.ibc_refinement.specs.Steps.{is_answered};
 ghost use Rattle.ibc_journal.specs.Entries.{item};
 ghost use Rattle.ibc_journal.specs.Digests.{digest_after};
-ghost use Rattle.ibc_node.specs.Kept.{bytes_in, IsAsked, IsLastEntry, StoresLast, KeepsLast, WhyNotSpelt};
+ghost use Rattle.ibc_node.specs.Kept.{bytes_in, IsAsked, IsLastEntry, StoresLast, KeepsLast};
 
 use crate::NodeFault;
 use ibc_entry_codec::{EntryBytes, store};
@@ -14,6 +18,7 @@ use ibc_journal::{JournalEntry, entry_behind};
 use ibc_ledger::StampedEntry;
 use ibc_machine::{Entry, Event, Reply};
 use ibc_message_codec::encode;
+use ibc_wire::Message;
 use ibc_world_core::World;
 use std::alloc::Global;
 
@@ -41,10 +46,27 @@ pub(crate) fn ask(
         drop(event);
         return Ok(Asked::NotKept(Refusal::UnknownChain));
     }
-    if let Err(refusal) = spell(alloc, &event) {
-        drop(event);
-        return Ok(Asked::NotKept(refusal));
+    match spell(alloc, &event) {
+        Ok(()) => ask_chain(alloc, world, before, log_place, event),
+        Err(refusal) => {
+            drop(event);
+            Ok(Asked::NotKept(refusal))
+        }
     }
+}
+
+// Asks a world that has the chain of the event, and makes the entry.
+fn ask_chain(
+    alloc: Global,
+    world: &mut World,
+    before: &[u8; 32],
+    log_place: u32,
+    event: Event,
+) -> Result<Asked, NodeFault>
+    requires { chain_of event < length world.old.ledgers }
+    ensures { IfOk result (λ asked. IsAsked world.old before.now event asked world.new) }
+{
+    let chain = chain_of(&event);
     let reply = world.step(event);
     if !is_answered(&reply) {
         drop(reply);
@@ -76,16 +98,28 @@ fn has_chain(world: &World, chain: u8) -> bool
     world.ledger(chain).is_some()
 }
 
-// Whether an event can be kept: `Ok` where bytes spell it. Refused: `BadMessage` where none do, `NoMemory`.
+// Whether an event can be kept. Refused: `BadMessage` where no bytes spell it; `NoMemory`.
 fn spell(alloc: Global, event: &Event) -> Result<(), Refusal>
-    ensures { IfErr result (λ refusal. WhyNotSpelt event.now refusal) }
+    ensures bad { IsErrOf result BadMessage → ¬ IsTrue (have_form (event_fields event.now)) }
+    ensures errors { IfErr result (λ e. (e ≡ BadMessage) ⊎ (e ≡ NoMemory)) }
 {
     match event {
-        Event::Message { message, .. } => {
-            drop(encode(alloc, message)?);
+        Event::Message { message, .. } => spell_message(alloc, message),
+        Event::Block { .. } => Ok(()),
+    }
+}
+
+// Whether bytes spell a message. Refused: `BadMessage` where none do; `NoMemory`.
+fn spell_message(alloc: Global, message: &Message) -> Result<(), Refusal>
+    ensures bad { IsErrOf result BadMessage → ¬ IsTrue (have_form (message_fields message.now)) }
+    ensures errors { IfErr result (λ e. (e ≡ BadMessage) ⊎ (e ≡ NoMemory)) }
+{
+    match encode(alloc, message) {
+        Ok(bytes) => {
+            drop(bytes);
             Ok(())
         }
-        Event::Block { .. } => Ok(()),
+        Err(refusal) => Err(refusal),
     }
 }
 

@@ -149,14 +149,21 @@ pub(crate) fn begin_with<S: Alter>(
     })
 }
 
-// The world of a genesis in the beginning.
+// The world of a text's genesis in the beginning.
 fn world_of(alloc: Global, text: &[u8]) -> Result<World, NodeFault>
     ensures { IfOk result (λ world. (genesis : GenesisState) × IsGenesisText text.now genesis × IsBeginning genesis world) }
 {
     let genesis = genesis_of(alloc, text)?;
-    let world = World::new(alloc, &genesis);
+    let world = new_world(alloc, &genesis);
     drop(genesis);
-    match world {
+    world
+}
+
+// The world of a genesis in the beginning.
+fn new_world(alloc: Global, genesis: &Genesis) -> Result<World, NodeFault>
+    ensures { IfOk result (IsBeginning (genesis_state genesis.now)) }
+{
+    match World::new(alloc, genesis) {
         Ok(world) => Ok(world),
         Err(refusal) => Err(NodeFault::of_refusal(refusal, NodeFault::BadGenesis)),
     }
@@ -243,14 +250,21 @@ fn start_with(alloc: Global, genesis: Vec<u8>, past: Past) -> Result<GoingOn, No
     })
 }
 
-// The world that is made again of entries.
+// The world that is made again of entries, from a text's genesis.
 fn replay_all(alloc: Global, text: &[u8], entries: Vec<Entry>) -> Result<World, NodeFault>
     ensures { IfOk result (λ world. (genesis : GenesisState) × IsGenesisText text.now genesis × IsReplay genesis entries.items world) }
 {
     let genesis = genesis_of(alloc, text)?;
-    let world = replay(alloc, &genesis, entries);
+    let world = replay_from(alloc, &genesis, entries);
     drop(genesis);
-    match world {
+    world
+}
+
+// The world that is made again of entries, from a genesis.
+fn replay_from(alloc: Global, genesis: &Genesis, entries: Vec<Entry>) -> Result<World, NodeFault>
+    ensures { IfOk result (IsReplay (genesis_state genesis.now) entries.items) }
+{
+    match replay(alloc, genesis, entries) {
         Ok(world) => Ok(world),
         Err(why) => Err(fault_of(why)),
     }

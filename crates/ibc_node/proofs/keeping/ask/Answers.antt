@@ -1,18 +1,16 @@
--- Behind the step of the world, its last entry is that of the event.
-use Rattle.std.proofs.Common.{◌<◌, length, sym, ◌∙◌, subst}
-use Rattle.ibc_replay.proofs.StoredSteps.{keeps_nothing}
-use Rattle.ibc_journal.specs.Entries.{item}
-use Rattle.ibc_node.specs.Kept.{KeepsLast}
-use Rattle.ibc_node.proofs.Keeping.{keeps_item}
+-- Where the chain isn't there, or no bytes spell the event, nothing is asked.
+use Rattle.std.proofs.Common.{◌<◌, ◌≤◌, length, refl, subst}
+use Rattle.ibc_replay.proofs.StoredSteps.{past_all}
+use Rattle.ibc_node.proofs.Keeping.{why_not_spelt}
 use Rattle.ibc_node.proofs.keeping.ask.Goals as goal
 
-pub returns-then-not-is_answered : goal.returns-then-not-is_answered
-returns-then-not-is_answered c =
-    keeps_nothing c.args.world.now c.step-reply.new.self c.args.event c.step-reply.result c.step-reply.ensures.runs (sym c.is_answered.ensures ∙ c.if-not-is_answered.true)
+pub ask_chain-requires : goal.ask_chain-requires
+ask_chain-requires c = subst (λ k. k < length c.args.world.now.ledgers) c.chain_of-chain.ensures (c.has_chain.ensures.0 c.if-not-has_chain.false)
 
-pub returns-in-Ok : goal.returns-in-Ok
-returns-in-Ok c =
-    keeps_item c.args.world.now c.step-reply.new.self c.args.event c.step-reply.result c.args.before.now (item c.in-Ok.entry) c.step-reply.ensures.runs c.step-reply.ensures.step
-    (subst (λ k. k < length c.args.world.now.ledgers) c.chain_of-chain.ensures (c.has_chain.ensures.0 c.if-not-has_chain.false))
-    (sym c.is_answered.ensures ∙ c.if-not-is_answered.false)
-    (subst (λ k. KeepsLast c.step-reply.new.self k c.args.before.now (item c.in-Ok.entry)) c.chain_of-chain.ensures c.in-Ok.ensures)
+pub returns-then-not-has_chain : goal.returns-then-not-has_chain
+returns-then-not-has_chain c =
+    let chains = length c.args.world.now.ledgers in
+    (refl, subst (λ k. chains ≤ k) c.chain_of-chain.ensures (past_all c.has_chain.result c.chain_of-chain.result chains c.has_chain.ensures c.if-not-has_chain.true))
+
+pub returns-in-Err : goal.returns-in-Err
+returns-in-Err c = (refl, why_not_spelt c.args.world.now c.args.event c.in-Err.refusal c.in-Err.ensures.errors c.in-Err.ensures.bad)

@@ -1,5 +1,6 @@
+use Rattle.std.proofs.lemmas.Result.{IfOk-weaker}
 use Rattle.ibc_machine.specs.chain.Genesis.{genesis_state}
 use Rattle.ibc_node.proofs.opening.replay_all.Goals as goal
 
-pub returns-in-Ok : goal.returns-in-Ok
-returns-in-Ok c = (genesis_state c.in_ok-genesis.genesis, c.in_ok-genesis.ensures, c.in-Ok.ensures.replayed)
+pub returns : goal.returns
+returns c = IfOk-weaker c.replay_from-world.result _ _ (λ world replay. (genesis_state c.in_ok-genesis.genesis, c.in_ok-genesis.ensures, replay)) c.replay_from-world.ensures
