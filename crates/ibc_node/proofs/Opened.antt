@@ -55,6 +55,16 @@ module _ {A E : Type 0} (Which Known WasClean : Type 0) (Clean P Q : A → Type 
   both_known (Ok a) which calm known one other = λ clean. let it = known (calm clean) which in (one it clean, other it clean)
   both_known (Err e) which calm known one other = tt
 
+-- An answer that came of one thing or another. Of the first it is known what it is once the first is known, and that is so where all was clean.
+module _ {A E : Type 0} (One Other Known WasClean : Type 0) (Clean P Q : A → Type 0) where
+  pub either_ok : (r : Result A E) → OnOk r (One ⊎ Other) → IfOk r (λ a. Clean a → WasClean) → (WasClean → One → Known) → (Known → IfOk r (λ a. Clean a → P a)) → (Other → IfOk r Q)
+      → IfOk r (λ a. Clean a → P a ⊎ Q a)
+  either_ok (Ok a) which calm known one other = λ clean. elim which [
+    | inl it ↦ inl (one (known (calm clean) it) clean)
+    | inr it ↦ inr (other it)
+  ]
+  either_ok (Err e) which calm known one other = tt
+
 -- ---- what files hold
 
 no_table_listed : {A B : Type 0} (P Q : A → B → Type 0) (rows : List A) (t : B) (ts : List B) → AllZip P rows [] → AllZip Q rows (t ∷ ts) → ⊥

@@ -11,7 +11,7 @@ ghost use Rattle.ibc_machine.specs.chain.Genesis.{GenesisState, genesis_state};
 ghost use Rattle.ibc_replay.specs.Replays.{IsReplay, IsBeginning};
 ghost use Rattle.ibc_journal.specs.Tables.{no_schema, journal_schema, JournalItem};
 ghost use Rattle.ibc_journal.specs.Crashes.{LeavesBegun, LeavesNothing};
-ghost use Rattle.ibc_journal.specs.Restarts.{IsAtRest};
+ghost use Rattle.ibc_journal.specs.Restarts.{IsAtRest, HoldsJournal};
 ghost use Rattle.ibc_node.specs.Nodes.{HoldsWholeJournal, IsBegun, IsGenesisText, IsRestarted};
 
 use crate::reading::{LogMark, Past, read_all};
@@ -42,8 +42,11 @@ pub fn open_at<S: Start>(
     start: S,
     genesis: Option<&[u8]>,
 ) -> Result<Node<FileStore<FileFrom<S>>>, NodeFault>
-    ensures { (text : List ℕ) (items : List JournalItem) → HoldsWholeJournal (image_at S.Start) text items
+    ensures restarted { (text : List ℕ) (items : List JournalItem) → HoldsWholeJournal (image_at S.Start) text items
         → IfOk result (λ node. HasCleanDisk (file_state node.conn) → IsRestarted text items node.world node.end × IsAtRest (file_state node.conn) text items) }
+    // Of files whose rows alone are known, it isn't known that they have the tables.
+    ensures rows { (text : List ℕ) (items : List JournalItem) → HoldsJournal (image_at S.Start) text items
+        → IfOk result (λ node. HasCleanDisk (file_state node.conn) → IsRestarted text items node.world node.end ⊎ IsBegun node.genesis.items node.world node.end) }
 {
     let conn = connect(rt, path, start)?;
     open_node(rt.alloc(), conn, genesis)

@@ -154,10 +154,17 @@ fn another_answer_is_found(rt: HostRuntime) -> Result<(), Fail> {
         entries(&rt, path, None).err(),
         Some(NodeFault::OtherAnswer(0))
     );
-    let path = "node_answers/c.db";
+    fs::remove_dir_all(&rt, "node_answers")?;
+    Ok(())
+}
+
+#[test]
+fn bytes_of_no_entry_are_found(rt: HostRuntime) -> Result<(), Fail> {
+    folder(&rt, "node_no_entry")?;
+    let path = "node_no_entry/a.db";
     make(&rt, path, &[1, 1], b"\x03")?;
     assert_eq!(rt; entries(&rt, path, None).err(), Some(NodeFault::NoEntry(0)));
-    fs::remove_dir_all(&rt, "node_answers")?;
+    fs::remove_dir_all(&rt, "node_no_entry")?;
     Ok(())
 }
 
@@ -194,7 +201,7 @@ fn a_damaged_entry_is_found(rt: HostRuntime) -> Result<(), Fail> {
     folder(&rt, "node_damaged")?;
     let path = "node_damaged/a.db";
     let _ = run(&rt, path)?;
-    change(&rt, path, "UPDATE entries SET kind = 0 WHERE place = 1")?;
+    change(&rt, path, "UPDATE entries SET kind = 1 WHERE place = 1")?;
     let damaged = NodeFault::Journal(JournalFault::Damaged(1));
     assert_eq!(rt; entries(&rt, path, None).err(), Some(damaged));
     fs::remove_dir_all(&rt, "node_damaged")?;
