@@ -77,12 +77,12 @@ first_behind genesis world items waiting end first beside is =
     let many = length-map waiting item in
     omega (arith, is, long, many, beside.read.1)
 
-none_long : (waiting : List JournalEntry) → length waiting ≡ 0 → waiting ≡ []
+none_long : {A : Type 0} (xs : List A) → length xs ≡ 0 → xs ≡ []
 none_long [] none = refl
-none_long (e ∷ waiting) none = absurd (omega arith)
+none_long (x ∷ xs) none = absurd (omega arith)
 
-pub none_wait : (waiting : List JournalEntry) → (length waiting == 0) ≡ true → waiting ≡ []
-none_wait waiting none = none_long waiting (eqb-true (length waiting) 0 none)
+pub none_among : {A : Type 0} (xs : List A) → (length xs == 0) ≡ true → xs ≡ []
+none_among xs none = none_long xs (eqb-true (length xs) 0 none)
 
 -- ---- a restart
 

@@ -1,5 +1,5 @@
 -- What a world has kept of an event is what its journal keeps.
-use Rattle.std.proofs.Common.{◌≡◌, ℕ, ◌+◌, ◌<◌, true, cond, List, [], ◌∷◌, ◌++◌, length, map, filter, refl, sym, ap, ◌∙◌, subst, Option, Some, Result, Err, ◌⊎◌, inl, inr, slice_get, arith, eq-eqb}
+use Rattle.std.proofs.Common.{◌≡◌, ℕ, ◌+◌, ◌<◌, true, cond, List, [], ◌∷◌, ◌++◌, length, map, filter, refl, sym, ap, ◌∙◌, subst, Option, Some, Result, Ok, Err, IfOk, ◌⊎◌, inl, inr, slice_get, arith, eq-eqb}
 use Rattle.std.specs.Prelude.{IsTrue}
 use Rattle.ibc_ids.specs.declared.refusal.Refusal.{Refusal}
 use Rattle.ibc_ids.specs.declared.refusal.Refusal.TheVariants.{BadMessage, NoMemory}
@@ -21,8 +21,11 @@ use Rattle.ibc_refinement.proofs.world.Nothing.{history_at}
 use Rattle.ibc_replay.proofs.StoredSteps.{adds_just}
 use Rattle.ibc_entry_codec.specs.declared.stored.EntryBytes.{EntryBytes}
 use Rattle.ibc_entry_codec.specs.Stored.{StoresEntry, event_fields}
+use Rattle.ibc_journal.specs.declared.entry.JournalEntry.{JournalEntry}
+use Rattle.ibc_journal.specs.Entries.{item}
+use Rattle.ibc_journal.specs.Digests.{digest_after}
 use Rattle.ibc_journal.specs.Tables.{JournalItem}
-use Rattle.ibc_node.specs.Kept.{KeepsItem, IsLastEntry, StoresLast, KeepsLast, WhyNotKept}
+use Rattle.ibc_node.specs.Kept.{bytes_in, KeepsItem, IsLastEntry, StoresLast, KeepsLast, WhyNotKept}
 
 -- the entry that a world kept last is the last of its chain
 last_of_chain : (old new : WorldState) (e : Entry) (ledger : Ledger) → IsWorld new → kept_entries new ≡ kept_entries old ++ e ∷ []
@@ -50,6 +53,11 @@ keeps_item old new event reply before it runs step low answered last =
       stored = last.stored at.0 at.1 (filter (is_of_chain (chain_of w.entry.event)) (kept_entries old)) w.entry (last_of_chain old new w.entry at.0 runs.is w.kept there);
       due = last.due;
     }
+
+pub keeps_last : {E : Type 0} (world : WorldState) (chain : ℕ) (before : List ℕ) (stored : EntryBytes) (r : Result JournalEntry E) → StoresLast world chain stored
+    → IfOk r (λ e. bytes_in (item e) ≡ stored) → IfOk r (λ e. (item e).digest ≡ digest_after before (item e)) → IfOk r (λ e. KeepsLast world chain before (item e))
+keeps_last world chain before stored (Ok e) last is due = record { stored = subst (StoresLast world chain) (sym is) last; due = due }
+keeps_last world chain before stored (Err e) last is due = tt
 
 pub why_not_spelt : {A : Type 0} (old : WorldState) (event : Event) (refusal : Refusal) → (refusal ≡ BadMessage) ⊎ (refusal ≡ NoMemory)
     → (◌≡◌ {A = Result A Refusal} (Err refusal) (Err BadMessage) → ¬ IsTrue (have_form (event_fields event))) → WhyNotKept old event refusal

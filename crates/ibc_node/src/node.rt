@@ -66,7 +66,10 @@ fn not_kept(refusal: Refusal) -> KeptAnswer
 fn digest_of(entry: &JournalEntry) -> Option<[u8; 32]>
     ensures { IfSome result (λ digest. digest ≡ (item entry.now).digest) }
 {
-    <[u8; 32]>::try_from(entry.digest.as_slice()).ok()
+    match <[u8; 32]>::try_from(entry.digest.as_slice()) {
+        Ok(digest) => Some(digest),
+        Err(_) => None,
+    }
 }
 
 // The place of the first of the entries that wait, of which the last is before this one.

@@ -194,12 +194,12 @@ fn genesis_alone(script: Script) -> Result<Genesis, NodeFault>
         steps,
     } = script;
     drop(names);
-    let has_steps = !steps.as_slice().is_empty();
-    drop(steps);
-    if has_steps {
+    if !steps.as_slice().is_empty() {
+        drop(steps);
         drop(genesis);
         return Err(NodeFault::BadGenesis);
     }
+    drop(steps);
     Ok(genesis)
 }
 

@@ -3,6 +3,7 @@
 ghost use Rattle.std.specs.Prelude.{◌≡◌, [], false, take, length, List, ℕ, IfOk, OnOk};
 ghost use Rattle.sqlite.specs.State.{HasCleanDisk, IsUnchanged, Survives};
 ghost use Rattle.sqlite.specs.Held.{state};
+ghost use Rattle.ibc_entry_codec.specs.Stored.{StoresEntry};
 ghost use Rattle.ibc_journal.specs.Tables.{JournalItem, IsJournal};
 ghost use Rattle.ibc_journal.specs.Entries.{item};
 ghost use Rattle.ibc_journal.specs.Digests.{HasReadTo, HasReadAll};
@@ -127,9 +128,16 @@ pub(crate) fn entry_of(alloc: Global, place: u32, kept: JournalEntry) -> Result<
     ensures { IfOk result (λ entry. IsKeptAs entry (item kept)) }
 {
     let stored = bytes_of(place, kept)?;
-    let entry = restore(alloc, &stored);
+    let entry = restored(alloc, place, &stored);
     drop(stored);
-    match entry {
+    entry
+}
+
+// The entry of which this is kept at a place.
+fn restored(alloc: Global, place: u32, stored: &EntryBytes) -> Result<Entry, NodeFault>
+    ensures { IfOk result (λ entry. StoresEntry entry stored.now) }
+{
+    match restore(alloc, stored) {
         Ok(entry) => Ok(entry),
         Err(Refusal::NoMemory) => Err(NodeFault::NoMemory),
         Err(_) => Err(NodeFault::NoEntry(place)),

@@ -8,17 +8,17 @@ use Rattle.ibc_journal.specs.Crashes.{LeavesWith}
 use Rattle.ibc_journal.specs.Restarts.{IsAtRest}
 use Rattle.ibc_journal.specs.Tables.{IsJournal}
 use Rattle.ibc_journal.proofs.Whole.{survives_same}
-use Rattle.ibc_node.proofs.Beside.{first_behind, none_wait, at_rest_with, leaves_waiting}
+use Rattle.ibc_node.proofs.Beside.{first_behind, none_among, at_rest_with, leaves_waiting}
 use Rattle.ibc_node.proofs.node.Node.settle.Goals as goal
 
 pub returns-then-is_empty-clause-committed : goal.returns-then-is_empty-clause-committed
 returns-then-is_empty-clause-committed g c genesis items rest beside clean =
     let was = c.args.self.now in
-    let none : was.waiting.items ≡ [] = sym c.as_slice-waiting.ensures.value ∙ none_wait c.as_slice-waiting.result.now (sym c.is_empty.ensures ∙ c.if-is_empty.true) in
+    let none : was.waiting.items ≡ [] = sym c.as_slice-waiting.ensures.value ∙ none_among c.as_slice-waiting.result.now (sym c.is_empty.ensures ∙ c.if-is_empty.true) in
     subst (IsAtRest (state g.S.Store was.conn) genesis) (sym (ap (λ w. items ++ items_of w) none ∙ append-nil items)) rest
 
 pub returns-then-is_empty-clause-none : goal.returns-then-is_empty-clause-none
-returns-then-is_empty-clause-none g c = sym c.as_slice-waiting.ensures.value ∙ none_wait c.as_slice-waiting.result.now (sym c.is_empty.ensures ∙ c.if-is_empty.true)
+returns-then-is_empty-clause-none g c = sym c.as_slice-waiting.ensures.value ∙ none_among c.as_slice-waiting.result.now (sym c.is_empty.ensures ∙ c.if-is_empty.true)
 
 pub returns-then-is_empty-clause-crash : goal.returns-then-is_empty-clause-crash
 returns-then-is_empty-clause-crash g c = survives_same (state g.S.Store c.args.self.now.conn) _
