@@ -34,7 +34,7 @@ rests_on (Err e) p = tt
 
 -- no table is no journal
 pub no_journal_is_empty : no_schema ≡ journal_schema → ⊥
-no_journal_is_empty same = let none : length no_schema.tables ≡ length journal_schema.tables = ap (λ (s : Schema). length s.tables) same in absurd (omega (arith, none))
+no_journal_is_empty same = let none : 0 ≡ 2 = ap (λ (s : Schema). length s.tables) same in absurd (omega (arith, none))
 
 pub goes_on_restarted : {E : Type 0} (text genesis : List ℕ) (items : List JournalItem) (past : List Entry) (end : Cursor) (r : Result GoingOn E) → genesis ≡ text → AreKeptAs past items
     → HasReadAll text items end → IfOk r (λ start. (begins : GenesisState) × IsGenesisText genesis begins × IsReplay begins past start.world) → IfOk r (λ start. start.end ≡ end)

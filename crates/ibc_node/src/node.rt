@@ -122,13 +122,14 @@ impl<S: Alter> Node<S> {
             → IfOk result (λ answer. TakesOn genesis items (items_of self.old.waiting.items) self.old.world self.old.end event answer self.new.world (items_of self.new.waiting.items) self.new.end) }
         ensures journal { self.new.conn ≡ self.old.conn }
     {
-        match ask(
+        let asked = ask(
             self.alloc,
             &mut self.world,
             &self.end.last,
             log_place,
             event,
-        )? {
+        )?;
+        match asked {
             Asked::NotKept(refusal) => Ok(not_kept(refusal)),
             Asked::Kept { reply, entry } => match self.wait_with(log_place, entry) {
                 Ok(place) => Ok(KeptAnswer {
@@ -192,11 +193,13 @@ impl<S: Alter> Node<S> {
         let first = self.marks.partition_point(|it| it.log_place < log_place);
         let mut told = Vec::new(self.alloc);
         for at in first..self.marks.len() {
-            let found = self.marks[at];
+            let Some(found) = self.marks.get(at).copied() else {
+                return Ok(told);
+            };
             if found.log_place != log_place {
                 return Ok(told);
             }
-            told.push(self.kept_at(found.place)?)?;
+            told.push(kept_at(self.alloc, &mut self.conn, found.place)?)?;
         }
         Ok(told)
     }
@@ -216,13 +219,17 @@ impl<S: Alter> Node<S> {
         self.settle()?;
         Ok(entry_at(&mut self.conn, place)?)
     }
+}
 
-    // What came of the event at a place, as the journal has it.
-    fn kept_at(&mut self, place: u32) -> Result<(u8, KeptAnswer), NodeFault> {
-        match entry_at(&mut self.conn, place)? {
-            Some(entry) => kept_as(self.alloc, place, entry),
-            None => Err(NodeFault::Journal(JournalFault::Gap(place))),
-        }
+// What came of the event at a place, as the journal has it.
+fn kept_at<S: Alter>(
+    alloc: Global,
+    conn: &mut Connection<S>,
+    place: u32,
+) -> Result<(u8, KeptAnswer), NodeFault> {
+    match entry_at(conn, place)? {
+        Some(entry) => kept_as(alloc, place, entry),
+        None => Err(NodeFault::Journal(JournalFault::Gap(place))),
     }
 }
 

@@ -5,7 +5,7 @@ use ibc_journal::begin;
 use ibc_node::{Node, NodeFault, open_node};
 use sqlite::{Connection, Error, MemStore};
 use std::alloc::Global;
-use std::io::BufReader;
+use std::io::{BufReader, Cursor};
 use std::test::Fail;
 
 const GENESIS: &[u8] =
@@ -66,6 +66,17 @@ fn nothing_is_answered_that_is_not_put_in(rt: HostRuntime) -> Result<(), Fail> {
         b"{\"resumed\":{\"entries\":0,\"at\":0}}\n".as_slice()
     );
     drop(output);
+    Ok(())
+}
+
+#[test]
+fn it_ends_where_nothing_can_be_written(rt: HostRuntime) -> Result<(), Fail> {
+    let alloc = rt.alloc();
+    let node = node(alloc, false)?;
+    let input = BufReader::new(alloc, LINES)?;
+    let mut output = Cursor::new([0; 40]);
+    let ended = serve(alloc, node, input, &mut output, 1);
+    assert_eq!(rt; ended.err(), Some(NodeFault::CannotWrite));
     Ok(())
 }
 
