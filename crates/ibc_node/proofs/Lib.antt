@@ -1,3 +1,3 @@
-pub mod Keeping
+pub mod KeptEntries
 pub mod Beside
 pub mod Opened

@@ -1,7 +1,7 @@
 -- Where the chain isn't there, or no bytes spell the event, nothing is asked.
 use Rattle.std.proofs.Common.{◌<◌, ◌≤◌, length, refl, subst}
 use Rattle.ibc_replay.proofs.StoredSteps.{past_all}
-use Rattle.ibc_node.proofs.Keeping.{why_not_spelt}
+use Rattle.ibc_node.proofs.KeptEntries.{why_not_spelt}
 use Rattle.ibc_node.proofs.keeping.ask.Goals as goal
 
 pub ask_chain-requires : goal.ask_chain-requires

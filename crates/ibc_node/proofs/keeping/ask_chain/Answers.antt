@@ -3,7 +3,7 @@ use Rattle.std.proofs.Common.{sym, ◌∙◌, subst}
 use Rattle.ibc_replay.proofs.StoredSteps.{keeps_nothing}
 use Rattle.ibc_journal.specs.Entries.{item}
 use Rattle.ibc_node.specs.Kept.{KeepsLast}
-use Rattle.ibc_node.proofs.Keeping.{keeps_item}
+use Rattle.ibc_node.proofs.KeptEntries.{keeps_item}
 use Rattle.ibc_node.proofs.keeping.ask_chain.Goals as goal
 
 pub returns-then-not-is_answered : goal.returns-then-not-is_answered

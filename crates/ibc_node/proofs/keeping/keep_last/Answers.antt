@@ -1,4 +1,4 @@
-use Rattle.ibc_node.proofs.Keeping.{keeps_last}
+use Rattle.ibc_node.proofs.KeptEntries.{keeps_last}
 use Rattle.ibc_node.proofs.keeping.keep_last.Goals as goal
 
 pub returns : goal.returns

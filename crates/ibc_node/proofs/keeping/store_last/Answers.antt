@@ -1,5 +1,5 @@
 use Rattle.std.proofs.Common.{◌∙◌, sym}
-use Rattle.ibc_node.proofs.Keeping.{stores_last}
+use Rattle.ibc_node.proofs.KeptEntries.{stores_last}
 use Rattle.ibc_node.proofs.keeping.store_last.Goals as goal
 
 pub returns-in-Ok : goal.returns-in-Ok
