@@ -39,6 +39,8 @@ parts=(
     "tools/refuse_growths"
     "tools/refuse_by_call"
     "tools/broken_streams"
+    "tools/kill_node --kills 10 --cuts 5"
+    "examples/replicas/replicas"
     "tools/wrong_bytes --count 100000"
     "tools/test_try_edits"
     "tools/test_commands"
@@ -50,7 +52,7 @@ parts=(
 beside=("tools/static_library" "tools/trust")
 waits="tools/build_library"
 # What these parts need isn't part of the gate's surroundings: where one ends with status 77 and a line `left out: ..`, that is told and is no failure.
-optional=("tools/third_party" "tools/instructions")
+optional=("tools/third_party" "tools/instructions" "examples/replicas/replicas")
 quick_parts=(
     "tools/kit_commands"
     "tools/statements"

@@ -1,0 +1,3 @@
+pub mod KeptEntries
+pub mod Beside
+pub mod Opened

@@ -1,0 +1,16 @@
+-- Where the chain isn't there, or no bytes spell the event, nothing is asked.
+use Rattle.std.proofs.Common.{◌<◌, ◌≤◌, length, refl, subst}
+use Rattle.ibc_replay.proofs.StoredSteps.{past_all}
+use Rattle.ibc_node.proofs.KeptEntries.{why_not_spelt}
+use Rattle.ibc_node.proofs.keeping.ask.Goals as goal
+
+pub ask_chain-requires : goal.ask_chain-requires
+ask_chain-requires c = subst (λ k. k < length c.args.world.now.ledgers) c.chain_of-chain.ensures (c.has_chain.ensures.0 c.if-not-has_chain.false)
+
+pub returns-then-not-has_chain : goal.returns-then-not-has_chain
+returns-then-not-has_chain c =
+    let chains = length c.args.world.now.ledgers in
+    (refl, subst (λ k. chains ≤ k) c.chain_of-chain.ensures (past_all c.has_chain.result c.chain_of-chain.result chains c.has_chain.ensures c.if-not-has_chain.true))
+
+pub returns-in-Err : goal.returns-in-Err
+returns-in-Err c = (refl, why_not_spelt c.args.world.now c.args.event c.in-Err.refusal c.in-Err.ensures.errors c.in-Err.ensures.bad)

@@ -1,0 +1,57 @@
+-- What waits is put in, and then the journal has all that the world keeps.
+use Rattle.std.proofs.Common.{◌≡◌, ◌+◌, ◌++◌, [], length, sym, ap, ◌∙◌, subst, append-nil}
+use Rattle.sqlite.specs.State.{Survives}
+use Rattle.sqlite.specs.Held.{state}
+use Rattle.sqlite.proofs.StateLemmas.{survives_weaker}
+use Rattle.ibc_journal.specs.Entries.{items_of}
+use Rattle.ibc_journal.specs.Crashes.{LeavesWith}
+use Rattle.ibc_journal.specs.Restarts.{IsAtRest}
+use Rattle.ibc_journal.specs.Tables.{IsJournal}
+use Rattle.ibc_journal.proofs.Whole.{survives_same}
+use Rattle.ibc_node.proofs.Beside.{first_behind, none_among, at_rest_with, leaves_waiting}
+use Rattle.ibc_node.proofs.node.Node.settle.Goals as goal
+
+pub returns-then-is_empty-clause-committed : goal.returns-then-is_empty-clause-committed
+returns-then-is_empty-clause-committed g c genesis items rest beside clean =
+    let was = c.args.self.now in
+    let none : was.waiting.items ≡ [] = sym c.as_slice-waiting.ensures.value ∙ none_among c.as_slice-waiting.result.now (sym c.is_empty.ensures ∙ c.if-is_empty.true) in
+    subst (IsAtRest (state g.S.Store was.conn) genesis) (sym (ap (λ w. items ++ items_of w) none ∙ append-nil items)) rest
+
+pub returns-then-is_empty-clause-none : goal.returns-then-is_empty-clause-none
+returns-then-is_empty-clause-none g c = sym c.as_slice-waiting.ensures.value ∙ none_among c.as_slice-waiting.result.now (sym c.is_empty.ensures ∙ c.if-is_empty.true)
+
+pub returns-then-is_empty-clause-crash : goal.returns-then-is_empty-clause-crash
+returns-then-is_empty-clause-crash g c = survives_same (state g.S.Store c.args.self.now.conn) _
+
+pub returns-in-None-clause-crash : goal.returns-in-None-clause-crash
+returns-in-None-clause-crash g c = survives_same (state g.S.Store c.args.self.now.conn) _
+
+pub returns-clause-committed : goal.returns-clause-committed
+returns-clause-committed g c genesis items rest beside clean =
+    let was = c.args.self.now in
+    let new = state g.S.Store c.append.new.conn in
+    let value = c.as_slice-waiting.ensures.value in
+    let counts : was.end.place ≡ c.in-Some.first + length was.waiting.items = sym (ap (λ w. c.in-Some.first + length w) (sym value) ∙ c.in-Some.ensures) in
+    let at = first_behind genesis was.world items was.waiting.items was.end c.in-Some.first beside counts in
+    at_rest_with new genesis (items ++ items_of was.waiting.items)
+    (subst (λ w. IsJournal new.committed genesis (items ++ items_of w)) value (c.in_ok-append.ensures.committed genesis items rest.journal at clean)) (c.in_ok-append.ensures.seen clean) (c.in_ok-append.ensures.outside clean)
+
+pub returns-clause-crash : goal.returns-clause-crash
+returns-clause-crash g c =
+    let was = c.args.self.now in
+    let old = state g.S.Store was.conn in
+    let new = state g.S.Store c.append.new.conn in
+    let value = c.as_slice-waiting.ensures.value in
+    let counts : was.end.place ≡ c.in-Some.first + length was.waiting.items = sym (ap (λ w. c.in-Some.first + length w) (sym value) ∙ c.in-Some.ensures) in
+    survives_weaker old new _ _ (λ clean db may. leaves_waiting old was.world was.waiting.items was.end c.in-Some.first counts db may)
+    (subst (λ w. Survives old new (LeavesWith old c.in-Some.first (items_of w))) value c.append.ensures.crash)
+
+pub returns-in_err-append-clause-crash : goal.returns-in_err-append-clause-crash
+returns-in_err-append-clause-crash g c =
+    let was = c.args.self.now in
+    let old = state g.S.Store was.conn in
+    let new = state g.S.Store c.append.new.conn in
+    let value = c.as_slice-waiting.ensures.value in
+    let counts : was.end.place ≡ c.in-Some.first + length was.waiting.items = sym (ap (λ w. c.in-Some.first + length w) (sym value) ∙ c.in-Some.ensures) in
+    survives_weaker old new _ _ (λ clean db may. leaves_waiting old was.world was.waiting.items was.end c.in-Some.first counts db may)
+    (subst (λ w. Survives old new (LeavesWith old c.in-Some.first (items_of w))) value c.append.ensures.crash)

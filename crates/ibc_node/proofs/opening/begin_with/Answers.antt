@@ -1,0 +1,25 @@
+-- A world begins, and its journal with it.
+use Rattle.std.proofs.Common.{[], sym, subst}
+use Rattle.sqlite.specs.Held.{state}
+use Rattle.ibc_journal.specs.Restarts.{IsAtRest}
+use Rattle.ibc_journal.proofs.Whole.{survives_same}
+use Rattle.ibc_node.specs.Nodes.{IsBegun}
+use Rattle.ibc_node.proofs.Beside.{begun, at_rest_with}
+use Rattle.ibc_node.proofs.opening.begin_with.Goals as goal
+
+pub returns-clause-begun : goal.returns-clause-begun
+returns-clause-begun g c =
+    let w = c.in_ok-world.ensures in
+    subst (λ t. IsBegun t c.in_ok-world.world c.new-end.result) (sym c.in_ok-text.ensures.items) (begun c.args.genesis.now c.in_ok-world.world c.new-end.result w.0 w.1 w.2 (c.new-end.ensures []))
+
+pub returns-clause-new : goal.returns-clause-new
+returns-clause-new g c none clean =
+    let new = state g.S.Store c.begin.new.conn in
+    subst (λ t. IsAtRest new t []) (sym c.in_ok-text.ensures.items)
+    (at_rest_with new c.args.genesis.now [] (c.in_ok-begin.ensures.committed none clean) (c.in_ok-begin.ensures.seen clean) (c.in_ok-begin.ensures.outside clean))
+
+pub returns-in_err-text-clause-crash : goal.returns-in_err-text-clause-crash
+returns-in_err-text-clause-crash g c = survives_same (state g.S.Store c.args.conn.now) _
+
+pub returns-in_err-world-clause-crash : goal.returns-in_err-world-clause-crash
+returns-in_err-world-clause-crash g c = survives_same (state g.S.Store c.args.conn.now) _

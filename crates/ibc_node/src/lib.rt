@@ -1,0 +1,15 @@
+//! A world that lives: each event that is answered stands in a journal, and the world goes on where it was.
+#![tactic(auto)]
+
+mod fault;
+mod keeping;
+mod node;
+mod opening;
+mod reading;
+
+pub use fault::NodeFault;
+pub use node::{KeptAnswer, Node};
+pub use opening::{open_at, open_node};
+
+#[cfg(test)]
+mod tests;

@@ -1,0 +1,253 @@
+//! A world beside its journal.
+
+ghost use Rattle.std.specs.Prelude.{◌≡◌, ◌+◌, ◌++◌, ◌∷◌, [], List, ℕ, None, length, option_map, slice_get, IfOk, IfSome, OnOk};
+ghost use Rattle.sqlite.specs.State.{HasCleanDisk, Survives};
+ghost use Rattle.sqlite.specs.Held.{state};
+ghost use Rattle.ibc_machine.specs.declared.reply.Reply.TheVariants.{No};
+ghost use Rattle.ibc_journal.specs.Tables.{JournalItem};
+ghost use Rattle.ibc_journal.specs.Entries.{item, items_of};
+ghost use Rattle.ibc_journal.specs.Restarts.{IsAtRest};
+ghost use Rattle.ibc_node.specs.Nodes.{IsBeside, TakesOn, LeavesWaiting};
+
+use crate::NodeFault;
+use crate::keeping::{Asked, ask, chain_of};
+use crate::reading::{LogMark, entry_of, mark};
+use ibc_ids::Refusal;
+use ibc_journal::{Cursor, JournalEntry, JournalFault, append, entry_at};
+use ibc_machine::{Entry, Event, Reply};
+use ibc_world_core::World;
+use sqlite::{Alter, Connection};
+use std::alloc::Global;
+
+/// A world, and the journal of what it was asked and answered. Entries of the last answers may wait to be put in.
+pub struct Node<S: Alter> {
+    pub(crate) alloc: Global,
+    pub(crate) conn: Connection<S>,
+    pub(crate) genesis: Vec<u8>,
+    pub(crate) world: World,
+    pub(crate) end: Cursor,
+    pub(crate) marks: Vec<LogMark>,
+    pub(crate) waiting: Vec<JournalEntry>,
+}
+
+impl<S: Alter + Drop> Drop for Node<S> {
+    fn drop(self) {
+        let Node {
+            alloc: _,
+            conn: _,
+            genesis: _,
+            world: _,
+            end: _,
+            marks: _,
+            waiting: _,
+        } = self;
+    }
+}
+
+/// What came of an event: the place of its entry, where one is kept, and the reply.
+#[derive(Debug, Drop)]
+pub struct KeptAnswer {
+    pub place: Option<u32>,
+    pub reply: Reply,
+}
+
+// An event of which no entry is kept.
+fn not_kept(refusal: Refusal) -> KeptAnswer
+    ensures place { result.place ≡ None }
+    ensures reply { result.reply ≡ No refusal }
+{
+    KeptAnswer {
+        place: None,
+        reply: Reply::No(refusal),
+    }
+}
+
+// An entry's own digest, or none where it isn't 32 bytes.
+fn digest_of(entry: &JournalEntry) -> Option<[u8; 32]>
+    ensures { IfSome result (λ digest. digest ≡ (item entry.now).digest) }
+{
+    match <[u8; 32]>::try_from(entry.digest.as_slice()) {
+        Ok(digest) => Some(digest),
+        Err(_) => None,
+    }
+}
+
+// The place of the first of the entries that wait, of which the last is before this one.
+fn first_of(end: u32, waiting: &[JournalEntry]) -> Option<u32>
+    ensures { IfSome result (λ first. first + length waiting.now ≡ end) }
+{
+    let count = u32::try_from(waiting.len()).ok()?;
+    end.checked_sub(count)
+}
+
+impl<S: Alter> Node<S> {
+    /// How many entries there are, with those that wait.
+    pub fn entries(&self) -> u32
+        ensures { result ≡ self.now.end.place }
+    {
+        self.end.place
+    }
+
+    /// The last place of a log by which an event came of which an entry is kept, or 0.
+    pub fn log_place(&self) -> u32 {
+        match self.marks.as_slice() {
+            [.., last] => last.log_place,
+            [] => 0,
+        }
+    }
+
+    /// How many entries wait to be put in.
+    pub fn waiting(&self) -> usize {
+        self.waiting.len()
+    }
+
+    /// How the world begins, as it was given.
+    pub fn genesis(&self) -> &[u8]
+        ensures { result.now ≡ self.now.genesis.items }
+    {
+        self.genesis.as_slice()
+    }
+
+    /// The world.
+    pub fn world(&self) -> &World
+        ensures { result.now ≡ self.now.world }
+    {
+        &self.world
+    }
+
+    /// Asks the world for an event, which came by this place of a log, or by none where that is 0. Its entry waits to be put in: the
+    /// reply is told after `settle`. After an error the node is dropped.
+    pub fn take(&mut self, log_place: u32, event: Event) -> Result<KeptAnswer, NodeFault>
+        ensures taken { (genesis : List ℕ) (items : List JournalItem) → IsBeside genesis self.old.world items self.old.end
+            → IfOk result (λ answer. TakesOn genesis items (items_of self.old.waiting.items) self.old.world self.old.end event answer self.new.world (items_of self.new.waiting.items) self.new.end) }
+        ensures journal { self.new.conn ≡ self.old.conn }
+    {
+        let asked = ask(
+            self.alloc,
+            &mut self.world,
+            &self.end.last,
+            log_place,
+            event,
+        )?;
+        match asked {
+            Asked::NotKept(refusal) => Ok(not_kept(refusal)),
+            Asked::Kept { reply, entry } => match self.wait_with(log_place, entry) {
+                Ok(place) => Ok(KeptAnswer {
+                    place: Some(place),
+                    reply,
+                }),
+                Err(fault) => {
+                    drop(reply);
+                    Err(fault)
+                }
+            },
+        }
+    }
+
+    // Has an entry wait. Answers its place.
+    fn wait_with(&mut self, log_place: u32, entry: JournalEntry) -> Result<u32, NodeFault>
+        ensures place { IfOk result (λ place. place ≡ self.old.end.place) }
+        ensures waits { OnOk result (items_of self.new.waiting.items ≡ items_of self.old.waiting.items ++ item entry ∷ []) }
+        ensures end { OnOk result (self.new.end ≡ record { place = self.old.end.place + 1; last = (item entry).digest }) }
+        ensures world { self.new.world ≡ self.old.world }
+        ensures journal { self.new.conn ≡ self.old.conn }
+    {
+        let here = self.end.place;
+        let (Some(after), Some(last)) = (here.checked_add(1), digest_of(&entry)) else {
+            drop(entry);
+            return Err(NodeFault::Journal(JournalFault::Full));
+        };
+        mark(&mut self.marks, log_place, here)?;
+        self.waiting.push(entry)?;
+        self.end = Cursor { place: after, last };
+        Ok(here)
+    }
+
+    /// Puts in the entries that wait, in one commit. After an error the node is dropped.
+    pub fn settle(&mut self) -> Result<(), NodeFault>
+        ensures committed { (genesis : List ℕ) (items : List JournalItem) → IsAtRest (state S.Store self.old.conn) genesis items
+            → IsBeside genesis self.old.world (items ++ items_of self.old.waiting.items) self.old.end
+            → HasCleanDisk (state S.Store self.new.conn) → OnOk result (IsAtRest (state S.Store self.new.conn) genesis (items ++ items_of self.old.waiting.items)) }
+        ensures none { OnOk result (self.new.waiting.items ≡ []) }
+        ensures world { self.new.world ≡ self.old.world }
+        ensures end { self.new.end ≡ self.old.end }
+        // A crash at any moment of the call leaves what it could leave before the call, or all of what waited.
+        ensures crash { Survives (state S.Store self.old.conn) (state S.Store self.new.conn) (LeavesWaiting (state S.Store self.old.conn) self.old.world (items_of self.old.waiting.items) self.old.end) }
+    {
+        let waiting = self.waiting.as_slice();
+        let Some(first) = first_of(self.end.place, waiting) else {
+            return Err(NodeFault::Journal(JournalFault::Full));
+        };
+        if waiting.is_empty() {
+            return Ok(());
+        }
+        append(&mut self.conn, first, waiting)?;
+        self.waiting.clear();
+        Ok(())
+    }
+
+    /// What came of the events that came by this place of a log, each beside the number of its chain, as the journal has it. What waits is
+    /// put in first.
+    pub fn again(&mut self, log_place: u32) -> Result<Vec<(u8, KeptAnswer)>, NodeFault> {
+        self.settle()?;
+        let first = self.marks.partition_point(|it| it.log_place < log_place);
+        let mut told = Vec::new(self.alloc);
+        for at in first..self.marks.len() {
+            let Some(found) = self.marks.get(at).copied() else {
+                return Ok(told);
+            };
+            if found.log_place != log_place {
+                return Ok(told);
+            }
+            told.push(kept_at(self.alloc, &mut self.conn, found.place)?)?;
+        }
+        Ok(told)
+    }
+
+    /// The entry at a place, or none. What waits is put in first.
+    pub fn entry_at(&mut self, place: u32) -> Result<Option<JournalEntry>, NodeFault>
+        ensures found { (genesis : List ℕ) (items : List JournalItem) → IsAtRest (state S.Store self.old.conn) genesis items
+            → IsBeside genesis self.old.world (items ++ items_of self.old.waiting.items) self.old.end
+            → HasCleanDisk (state S.Store self.new.conn) → IfOk result (λ found. option_map item found ≡ slice_get (items ++ items_of self.old.waiting.items) place) }
+        ensures rest { (genesis : List ℕ) (items : List JournalItem) → IsAtRest (state S.Store self.old.conn) genesis items
+            → IsBeside genesis self.old.world (items ++ items_of self.old.waiting.items) self.old.end
+            → HasCleanDisk (state S.Store self.new.conn) → OnOk result (IsAtRest (state S.Store self.new.conn) genesis (items ++ items_of self.old.waiting.items)) }
+        ensures none { OnOk result (self.new.waiting.items ≡ []) }
+        ensures world { self.new.world ≡ self.old.world }
+        ensures end { self.new.end ≡ self.old.end }
+    {
+        self.settle()?;
+        Ok(entry_at(&mut self.conn, place)?)
+    }
+}
+
+// What came of the event at a place, as the journal has it.
+fn kept_at<S: Alter>(
+    alloc: Global,
+    conn: &mut Connection<S>,
+    place: u32,
+) -> Result<(u8, KeptAnswer), NodeFault> {
+    match entry_at(conn, place)? {
+        Some(entry) => kept_as(alloc, place, entry),
+        None => Err(NodeFault::Journal(JournalFault::Gap(place))),
+    }
+}
+
+// What came of an event, as an entry has it.
+fn kept_as(alloc: Global, place: u32, entry: JournalEntry) -> Result<(u8, KeptAnswer), NodeFault> {
+    let entry = entry_of(alloc, place, entry)?;
+    let Entry {
+        event,
+        reply,
+        reading: _,
+    } = entry;
+    let chain = chain_of(&event);
+    drop(event);
+    Ok((
+        chain,
+        KeptAnswer {
+            place: Some(place),
+            reply,
+        },
+    ))
+}

@@ -1,0 +1,284 @@
+//! A node goes on where its journal ends.
+
+ghost use Rattle.std.specs.Prelude.{◌≡◌, ◌⊎◌, ◌≤◌, [], List, ℕ, Ok, IfOk, OnOk};
+ghost use Rattle.sqlite.specs.State.{HasCleanDisk, Survives};
+ghost use Rattle.sqlite.specs.Start.{FindsIn};
+ghost use Rattle.sqlite.specs.View.{doubt};
+ghost use Rattle.sqlite.specs.WalFiles.{image_at};
+ghost use Rattle.sqlite.specs.Files.{IsOpened, file_state};
+ghost use Rattle.sqlite.specs.Held.{state};
+ghost use Rattle.ibc_machine.specs.chain.Genesis.{GenesisState, genesis_state};
+ghost use Rattle.ibc_replay.specs.Replays.{IsReplay, IsBeginning};
+ghost use Rattle.ibc_journal.specs.Tables.{no_schema, journal_schema, JournalItem};
+ghost use Rattle.ibc_journal.specs.Crashes.{LeavesBegun, LeavesNothing};
+ghost use Rattle.ibc_journal.specs.Restarts.{IsAtRest, HoldsJournal};
+ghost use Rattle.ibc_node.specs.Nodes.{HoldsWholeJournal, IsBegun, IsGenesisText, IsRestarted};
+
+use crate::reading::{LogMark, Past, read_all};
+use crate::{Node, NodeFault};
+use ibc_ids::Refusal;
+use ibc_journal::{Beginning, Cursor, FORMAT, Looks, begin, beginning_of, look};
+use ibc_machine::{Entry, Genesis};
+use ibc_replay::{Difference, replay};
+use ibc_script::{Fault, Script, read_script};
+use ibc_world_core::World;
+use sqlite::{Alter, Connection, FileFrom, FileStore, Start};
+use std::alloc::Global;
+
+/// A world where its journal ends, how the journal began, and which entries came by a log.
+#[derive(Drop)]
+pub(crate) struct GoingOn {
+    pub genesis: Vec<u8>,
+    pub world: World,
+    pub end: Cursor,
+    pub marks: Vec<LogMark>,
+}
+
+/// The node of the files at a path. `start` stands for what they hold. Where that is a journal, the world is its replay: nothing that was
+/// committed before a restart is lost by it. Where the files have no table, a world begins with the genesis.
+pub fn open_at<S: Start>(
+    rt: &HostRuntime,
+    path: &str,
+    start: S,
+    genesis: Option<&[u8]>,
+) -> Result<Node<FileStore<FileFrom<S>>>, NodeFault>
+    ensures restarted { (text : List ℕ) (items : List JournalItem) → HoldsWholeJournal (image_at S.Start) text items
+        → IfOk result (λ node. HasCleanDisk (file_state node.conn) → IsRestarted text items node.world node.end × IsAtRest (file_state node.conn) text items) }
+    // Of files whose rows alone are known, it isn't known that they have the tables.
+    ensures rows { (text : List ℕ) (items : List JournalItem) → HoldsJournal (image_at S.Start) text items
+        → IfOk result (λ node. HasCleanDisk (file_state node.conn) → IsRestarted text items node.world node.end ⊎ IsBegun node.genesis.items node.world node.end) }
+{
+    let conn = connect(rt, path, start)?;
+    open_node(rt.alloc(), conn, genesis)
+}
+
+// Opens the files at a path, or makes them.
+fn connect<S: Start>(
+    rt: &HostRuntime,
+    path: &str,
+    start: S,
+) -> Result<Connection<FileStore<FileFrom<S>>>, NodeFault>
+    ensures opened { IfOk result (λ conn. HasCleanDisk (file_state conn) → IsOpened conn) }
+    ensures found { IfOk result (λ conn. HasCleanDisk (file_state conn) → FindsIn (image_at S.Start) (file_state conn)) }
+{
+    match Connection::open_from(rt, path, false, start) {
+        Ok(conn) => Ok(conn),
+        Err((error, _)) => Err(NodeFault::from(error)),
+    }
+}
+
+/// The node of a journal, or of a new one that begins with the genesis. The journal is read and replayed, and each answer compared.
+/// So its world is the replay of what the journal holds, with which the next one goes on.
+pub fn open_node<S: Alter + Drop>(
+    alloc: Global,
+    conn: Connection<S>,
+    genesis: Option<&[u8]>,
+) -> Result<Node<S>, NodeFault>
+    ensures restarted { (text : List ℕ) (items : List JournalItem) → IsAtRest (state S.Store conn) text items
+        → IfOk result (λ node. HasCleanDisk (state S.Store node.conn) → IsRestarted text items node.world node.end) }
+    ensures rest { (text : List ℕ) (items : List JournalItem) → IsAtRest (state S.Store conn) text items
+        → IfOk result (λ node. HasCleanDisk (state S.Store node.conn) → IsAtRest (state S.Store node.conn) text items) }
+    ensures begun { (state S.Store conn).now.schema ≡ no_schema → IfOk result (λ node. IsBegun node.genesis.items node.world node.end) }
+    ensures new { (state S.Store conn).now.schema ≡ no_schema
+        → IfOk result (λ node. HasCleanDisk (state S.Store node.conn) → IsAtRest (state S.Store node.conn) node.genesis.items []) }
+    ensures none { IfOk result (λ node. node.waiting.items ≡ []) }
+    ensures which { OnOk result (((state S.Store conn).now.schema ≡ journal_schema) ⊎ ((state S.Store conn).now.schema ≡ no_schema)) }
+    ensures calm { IfOk result (λ node. doubt (state S.Store conn).is_clean ≤ doubt (state S.Store node.conn).is_clean) }
+{
+    let mut conn = conn;
+    let start = start_of(alloc, &mut conn, genesis)?;
+    let GoingOn {
+        genesis,
+        world,
+        end,
+        marks,
+    } = start;
+    Ok(Node {
+        alloc,
+        conn,
+        genesis,
+        world,
+        end,
+        marks,
+        waiting: Vec::new(alloc),
+    })
+}
+
+// Where the node of a connection goes on.
+fn start_of<S: Alter>(
+    alloc: Global,
+    conn: &mut Connection<S>,
+    genesis: Option<&[u8]>,
+) -> Result<GoingOn, NodeFault>
+    ensures restarted { (text : List ℕ) (items : List JournalItem) → IsAtRest (state S.Store conn.old) text items
+        → HasCleanDisk (state S.Store conn.new) → IfOk result (λ start. IsRestarted text items start.world start.end) }
+    ensures rest { (text : List ℕ) (items : List JournalItem) → IsAtRest (state S.Store conn.old) text items
+        → HasCleanDisk (state S.Store conn.new) → OnOk result (IsAtRest (state S.Store conn.new) text items) }
+    ensures begun { (state S.Store conn.old).now.schema ≡ no_schema → IfOk result (λ start. IsBegun start.genesis.items start.world start.end) }
+    ensures new { (state S.Store conn.old).now.schema ≡ no_schema
+        → HasCleanDisk (state S.Store conn.new) → IfOk result (λ start. IsAtRest (state S.Store conn.new) start.genesis.items []) }
+    ensures which { OnOk result (((state S.Store conn.old).now.schema ≡ journal_schema) ⊎ ((state S.Store conn.old).now.schema ≡ no_schema)) }
+    ensures calm { OnOk result (doubt (state S.Store conn.old).is_clean ≤ doubt (state S.Store conn.new).is_clean) }
+{
+    let looks = look(alloc, conn)?;
+    match looks {
+        Looks::Empty => begin_with(alloc, conn, genesis.ok_or(NodeFault::NoGenesis)?),
+        Looks::Journal => go_on(alloc, conn, genesis),
+        Looks::OfFormat(format) => Err(NodeFault::OtherFormat(format)),
+        Looks::Other => Err(NodeFault::NoJournal),
+    }
+}
+
+/// A world with a new journal. Nothing is written where no world begins so.
+pub(crate) fn begin_with<S: Alter>(
+    alloc: Global,
+    conn: &mut Connection<S>,
+    genesis: &[u8],
+) -> Result<GoingOn, NodeFault>
+    ensures begun { IfOk result (λ start. IsBegun start.genesis.items start.world start.end) }
+    ensures new { (state S.Store conn.old).now.schema ≡ no_schema
+        → HasCleanDisk (state S.Store conn.new) → IfOk result (λ start. IsAtRest (state S.Store conn.new) start.genesis.items []) }
+    ensures crash { Survives (state S.Store conn.old) (state S.Store conn.new) (LeavesBegun (state S.Store conn.old) genesis.now) }
+{
+    let text = Vec::from_slice(alloc, genesis)?;
+    let world = world_of(alloc, genesis)?;
+    begin(conn, genesis)?;
+    let end = Cursor::new(genesis);
+    Ok(GoingOn {
+        genesis: text,
+        world,
+        end,
+        marks: Vec::new(alloc),
+    })
+}
+
+// The world of a text's genesis in the beginning.
+fn world_of(alloc: Global, text: &[u8]) -> Result<World, NodeFault>
+    ensures { IfOk result (λ world. (genesis : GenesisState) × IsGenesisText text.now genesis × IsBeginning genesis world) }
+{
+    let genesis = genesis_of(alloc, text)?;
+    let world = new_world(alloc, &genesis);
+    drop(genesis);
+    world
+}
+
+// The world of a genesis in the beginning.
+fn new_world(alloc: Global, genesis: &Genesis) -> Result<World, NodeFault>
+    ensures { IfOk result (IsBeginning (genesis_state genesis.now)) }
+{
+    match World::new(alloc, genesis) {
+        Ok(world) => Ok(world),
+        Err(refusal) => Err(NodeFault::of_refusal(refusal, NodeFault::BadGenesis)),
+    }
+}
+
+/// The genesis of a script with no steps.
+pub(crate) fn genesis_of(alloc: Global, text: &[u8]) -> Result<Genesis, NodeFault>
+    ensures { IfOk result (λ genesis. IsGenesisText text.now (genesis_state genesis)) }
+{
+    match read_script(alloc, text) {
+        Ok(script) => genesis_alone(script),
+        Err(Fault::NoMemory) => Err(NodeFault::NoMemory),
+        Err(_) => Err(NodeFault::BadGenesis),
+    }
+}
+
+// The genesis of a script, where it has no steps.
+fn genesis_alone(script: Script) -> Result<Genesis, NodeFault>
+    ensures genesis { IfOk result (λ genesis. genesis_state genesis ≡ genesis_state script.genesis) }
+    ensures no_steps { OnOk result (script.steps.items ≡ []) }
+{
+    let Script {
+        genesis,
+        names,
+        steps,
+    } = script;
+    drop(names);
+    if !steps.as_slice().is_empty() {
+        drop(steps);
+        drop(genesis);
+        return Err(NodeFault::BadGenesis);
+    }
+    drop(steps);
+    Ok(genesis)
+}
+
+/// A world that goes on with a journal. Fault: `OtherGenesis` where the journal began with another genesis than this; the first place
+/// that is damaged or differs.
+pub(crate) fn go_on<S: Alter>(
+    alloc: Global,
+    conn: &mut Connection<S>,
+    genesis: Option<&[u8]>,
+) -> Result<GoingOn, NodeFault>
+    ensures restarted { (text : List ℕ) (items : List JournalItem) → IsAtRest (state S.Store conn.old) text items
+        → HasCleanDisk (state S.Store conn.new) → IfOk result (λ start. IsRestarted text items start.world start.end) }
+    ensures rest { (text : List ℕ) (items : List JournalItem) → IsAtRest (state S.Store conn.old) text items
+        → HasCleanDisk (state S.Store conn.new) → OnOk result (IsAtRest (state S.Store conn.new) text items) }
+    ensures crash { Survives (state S.Store conn.old) (state S.Store conn.new) (LeavesNothing (state S.Store conn.old)) }
+{
+    let began = beginning_of(conn)?;
+    judge(&began, genesis)?;
+    let Beginning { format: _, genesis } = began;
+    let past = read_all(alloc, conn, genesis.as_slice())?;
+    start_with(alloc, genesis, past)
+}
+
+// Whether a journal is of this format and began with this genesis.
+fn judge(began: &Beginning, genesis: Option<&[u8]>) -> Result<(), NodeFault> {
+    if began.format != i64::from(FORMAT) {
+        return Err(NodeFault::OtherFormat(began.format));
+    }
+    match genesis {
+        Some(wanted) if wanted != began.genesis.as_slice() => Err(NodeFault::OtherGenesis),
+        _ => Ok(()),
+    }
+}
+
+// The world that is made again of what was read.
+fn start_with(alloc: Global, genesis: Vec<u8>, past: Past) -> Result<GoingOn, NodeFault>
+    ensures world { IfOk result (λ start. (begins : GenesisState) × IsGenesisText genesis.items begins × IsReplay begins past.entries.items start.world) }
+    ensures end { IfOk result (λ start. start.end ≡ past.end) }
+{
+    let Past {
+        entries,
+        end,
+        marks,
+    } = past;
+    let world = replay_all(alloc, genesis.as_slice(), entries)?;
+    Ok(GoingOn {
+        genesis,
+        world,
+        end,
+        marks,
+    })
+}
+
+// The world that is made again of entries, from a text's genesis.
+fn replay_all(alloc: Global, text: &[u8], entries: Vec<Entry>) -> Result<World, NodeFault>
+    ensures { IfOk result (λ world. (genesis : GenesisState) × IsGenesisText text.now genesis × IsReplay genesis entries.items world) }
+{
+    let genesis = genesis_of(alloc, text)?;
+    let world = replay_from(alloc, &genesis, entries);
+    drop(genesis);
+    world
+}
+
+// The world that is made again of entries, from a genesis.
+fn replay_from(alloc: Global, genesis: &Genesis, entries: Vec<Entry>) -> Result<World, NodeFault>
+    ensures { IfOk result (IsReplay (genesis_state genesis.now) entries.items) }
+{
+    match replay(alloc, genesis, entries) {
+        Ok(world) => Ok(world),
+        Err(why) => Err(fault_of(why)),
+    }
+}
+
+// Why no world is made again of entries.
+fn fault_of(why: Difference) -> NodeFault {
+    match why {
+        Difference::NoGenesis => NodeFault::BadGenesis,
+        Difference::NoMemory => NodeFault::NoMemory,
+        Difference::At { place, .. } => NodeFault::OtherAnswer(place),
+        Difference::UnknownChain { place, .. } => NodeFault::OtherAnswer(place),
+    }
+}

@@ -1,0 +1,226 @@
+//! A node, as the steps of a script see it.
+
+use ibc_ids::{Account, Bytes, ChannelId, Denom, Key, PortId, Refusal};
+use ibc_ledger::Ledger;
+use ibc_machine::{Event, Reply, Totals};
+use ibc_merkle::Proof;
+use ibc_node::{KeptAnswer, Node, NodeFault};
+use ibc_script::{ChainName, Step};
+use ibc_script_cli::{Chains, CommittedBlock, Holdings, Runner};
+use ibc_script_worlds::{ChainStarts, plans_between};
+use ibc_wire::{Message, Packet};
+use sqlite::Alter;
+use std::alloc::Global;
+use std::io;
+
+/// A node, as the steps of a script see it: what each event came to is told, beside the number of its chain.
+pub struct Desk<S: Alter> {
+    pub(crate) alloc: Global,
+    pub(crate) node: Node<S>,
+    starts: ChainStarts,
+    log_place: u32,
+    told: Vec<(u8, KeptAnswer)>,
+    fault: Option<NodeFault>,
+}
+
+impl<S: Alter + Drop> Drop for Desk<S> {
+    fn drop(self) {
+        let Desk {
+            alloc: _,
+            node: _,
+            starts: _,
+            log_place: _,
+            told: _,
+            fault: _,
+        } = self;
+    }
+}
+
+// The number of an event's chain.
+fn chain_of(event: &Event) -> u8 {
+    match event {
+        Event::Message { chain, .. } => *chain,
+        Event::Block { chain, .. } => *chain,
+    }
+}
+
+impl<S: Alter + Drop> Desk<S> {
+    /// The desk of a node whose chains begin so.
+    pub fn new(alloc: Global, node: Node<S>, starts: ChainStarts) -> Desk<S> {
+        Desk {
+            alloc,
+            node,
+            starts,
+            log_place: 0,
+            told: Vec::new(alloc),
+            fault: None,
+        }
+    }
+
+    /// Whether there is a chain of this number.
+    pub fn has_chain(&self, chain: u8) -> bool {
+        self.ledger(chain).is_some()
+    }
+
+    /// Asks the node for an event, and tells what came of it.
+    pub fn take(
+        &mut self,
+        log_place: u32,
+        event: Event,
+    ) -> Result<Vec<(u8, KeptAnswer)>, NodeFault> {
+        let chain = chain_of(&event);
+        let kept = self.node.take(log_place, event)?;
+        let mut told = Vec::new(self.alloc);
+        told.push((chain, kept))?;
+        Ok(told)
+    }
+
+    /// Takes a step that asks the chains for events, and tells what came of each.
+    pub fn act(
+        &mut self,
+        names: &[ChainName],
+        log_place: u32,
+        step: Step,
+    ) -> Result<Vec<(u8, KeptAnswer)>, NodeFault> {
+        if names.len() > 8 {
+            drop(step);
+            return Err(NodeFault::BadGenesis);
+        }
+        self.log_place = log_place;
+        let ran = Runner::new(self.alloc, names).act(self, step, &mut io::sink());
+        self.taken(ran.is_ok())
+    }
+
+    // What was told meanwhile, or why nothing more can be told.
+    fn taken(&mut self, has_run: bool) -> Result<Vec<(u8, KeptAnswer)>, NodeFault> {
+        let mut told = Vec::new(self.alloc);
+        told.append(&mut self.told)?;
+        match self.fault.take() {
+            Some(fault) => {
+                drop(told);
+                Err(fault)
+            }
+            None if has_run => Ok(told),
+            None => {
+                drop(told);
+                Err(NodeFault::NoMemory)
+            }
+        }
+    }
+
+    // Tells what came of an event, and answers with its reply.
+    fn tell(&mut self, chain: u8, kept: KeptAnswer) -> Result<Reply, Refusal> {
+        let reply = kept.reply.clone()?;
+        match self.told.push((chain, kept)) {
+            Ok(()) => Ok(reply),
+            Err(error) => {
+                drop(error);
+                drop(reply);
+                Err(Refusal::NoMemory)
+            }
+        }
+    }
+
+    fn ledger(&self, chain: u8) -> Option<&Ledger> {
+        self.node.world().ledger(chain)
+    }
+}
+
+impl<S: Alter + Drop> Chains for Desk<S> {
+    fn ask(&mut self, event: Event) -> Result<Reply, Refusal> {
+        let chain = chain_of(&event);
+        match self.node.take(self.log_place, event) {
+            Ok(kept) => self.tell(chain, kept),
+            Err(fault) => {
+                self.fault = Some(fault);
+                Err(Refusal::NoMemory)
+            }
+        }
+    }
+
+    fn value(&self, chain: u8, key: &Key) -> Result<Option<Bytes>, Refusal> {
+        match self.ledger(chain) {
+            Some(ledger) => ledger.query(key),
+            None => Ok(None),
+        }
+    }
+
+    fn packet(
+        &self,
+        chain: u8,
+        port: &PortId,
+        channel: &ChannelId,
+        sequence: u64,
+    ) -> Result<Option<Packet>, Refusal> {
+        match self.ledger(chain) {
+            Some(ledger) => ledger.packet(port, channel, sequence),
+            None => Ok(None),
+        }
+    }
+
+    fn ack(
+        &self,
+        chain: u8,
+        port: &PortId,
+        channel: &ChannelId,
+        sequence: u64,
+    ) -> Result<Option<Bytes>, Refusal> {
+        match self.ledger(chain) {
+            Some(ledger) => ledger.ack(port, channel, sequence),
+            None => Ok(None),
+        }
+    }
+
+    fn proof(&self, chain: u8, height: u64, key: &Key) -> Result<Option<Proof>, Refusal> {
+        let Some(ledger) = self.ledger(chain) else {
+            return Ok(None);
+        };
+        match ledger.query_proof(height, key) {
+            Ok(proof) => Ok(Some(proof)),
+            Err(Refusal::NoConsensus) => Ok(None),
+            Err(refusal) => Err(refusal),
+        }
+    }
+
+    fn block(&self, chain: u8, height: u64) -> Option<CommittedBlock> {
+        let ledger = self.ledger(chain)?;
+        self.starts.block(chain, ledger.history(), height)
+    }
+
+    fn working_time(&self, chain: u8) -> Result<u64, Refusal> {
+        match self.ledger(chain) {
+            Some(ledger) => {
+                let view = ledger.view()?;
+                Ok(view.working_time())
+            }
+            None => Ok(0),
+        }
+    }
+
+    fn plans(&self, first: u8, second: u8) -> Result<(Vec<Message>, Vec<Message>), Refusal> {
+        match (self.ledger(first), self.ledger(second)) {
+            (Some(first), Some(second)) => plans_between(self.alloc, first, second),
+            _ => Ok((Vec::new(self.alloc), Vec::new(self.alloc))),
+        }
+    }
+}
+
+impl<S: Alter + Drop> Holdings for Desk<S> {
+    fn totals(&self, chain: u8, channel: &ChannelId, denom: &Denom) -> Result<Totals, Refusal> {
+        self.node.world().totals(chain, channel, denom)
+    }
+
+    fn balances(&self, chain: u8) -> Result<Vec<(Account, Denom, u128)>, Refusal> {
+        match self.ledger(chain) {
+            Some(ledger) => ledger.balances(),
+            None => Ok(Vec::new(self.alloc)),
+        }
+    }
+
+    fn notes(&self, chain: u8) -> Result<Vec<(ChannelId, Vec<Bytes>)>, Refusal> {
+        match self.ledger(chain) {
+            Some(ledger) => ledger.all_notes(),
+            None => Ok(Vec::new(self.alloc)),
+        }
+    }
+}

@@ -1,0 +1,21 @@
+//! The lines that a node reads and writes: steps, messages and questions, each a JSON object, and what comes of them.
+#![tactic(auto)]
+
+mod answers;
+mod desk;
+mod line_fault;
+mod questions;
+mod request;
+mod serving;
+mod step_text;
+mod words;
+
+pub use desk::Desk;
+pub use line_fault::LineFault;
+pub use request::{NodeAction, NodeQuestion, NodeRequest, read_request};
+pub use serving::{serve, tell_lawful};
+pub use step_text::SingleSteps;
+pub use words::{Task, Words, help, read_words, version};
+
+#[cfg(test)]
+mod tests;

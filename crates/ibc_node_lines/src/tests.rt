@@ -1,0 +1,111 @@
+//! Lines and what comes of them, and what the words ask for.
+
+use crate::{Task, read_words, serve};
+use ibc_journal::begin;
+use ibc_node::{Node, NodeFault, open_node};
+use sqlite::{Connection, Error, MemStore};
+use std::alloc::Global;
+use std::io::{BufReader, Cursor};
+use std::test::Fail;
+
+const GENESIS: &[u8] =
+    b"{\"capacity\":64,\"chains\":[{\"name\":\"a\",\"time\":100,\"balances\":[[\"alice\",\"atom\",\"1000\"]]},{\"name\":\"b\",\"time\":100,\"balances\":[]}],\"steps\":[]}";
+
+const LINES: &[u8] =
+    b"{\"do\":\"CreateClient\",\"on\":\"a\",\"of\":\"b\"}\n{\"query\":\"entries\"}\nno\n{\"do\":\"CreateClient\",\"on\":\"b\",\"of\":\"b\"}\n";
+
+const ANSWERS: &str =
+    "{\"resumed\":{\"entries\":0,\"at\":0}}\n{\"chain\":0,\"place\":0,\"ok\":{\"client\":\"inprocess-0\"}}\n{\"entries\":1}\n{\"line\":3,\"mistake\":\"the line is no JSON\"}\n{\"chain\":1,\"place\":1,\"no\":4,\"why\":\"own chain\"}\n";
+
+// A journal in memory, in a transaction or not.
+fn journal(alloc: Global, is_busy: bool) -> Result<Connection<MemStore>, Error> {
+    let mut conn = Connection::open_in_memory(alloc)?;
+    begin(&mut conn, GENESIS)?;
+    if is_busy {
+        conn.execute("BEGIN", &[])?;
+    }
+    Ok(conn)
+}
+
+// The node of a journal in memory.
+fn node(alloc: Global, is_busy: bool) -> Result<Node<MemStore>, NodeFault> {
+    let conn = journal(alloc, is_busy).map_err(NodeFault::from)?;
+    open_node(alloc, conn, Some(GENESIS))
+}
+
+// What a node writes, and how it ends.
+fn answers(
+    alloc: Global,
+    is_busy: bool,
+    batch: usize,
+) -> Result<(Vec<u8>, Result<(), NodeFault>), NodeFault> {
+    let node = node(alloc, is_busy)?;
+    let input = BufReader::new(alloc, LINES).map_err(|_| NodeFault::NoMemory)?;
+    let mut output = Vec::new(alloc);
+    let ended = serve(alloc, node, input, &mut output, batch);
+    Ok((output, ended))
+}
+
+#[test]
+fn lines_are_answered_in_their_order(rt: HostRuntime) -> Result<(), Fail> {
+    for batch in [1, 2, 100] {
+        let (output, ended) = answers(rt.alloc(), false, batch)?;
+        assert!(rt; ended.is_ok());
+        assert_eq!(rt; output.as_slice(), ANSWERS.as_bytes());
+        drop(output);
+    }
+    Ok(())
+}
+
+#[test]
+fn nothing_is_answered_that_is_not_put_in(rt: HostRuntime) -> Result<(), Fail> {
+    let (output, ended) = answers(rt.alloc(), true, 1)?;
+    assert!(rt; ended.is_err());
+    assert_eq!(rt;
+        output.as_slice(),
+        b"{\"resumed\":{\"entries\":0,\"at\":0}}\n".as_slice()
+    );
+    drop(output);
+    Ok(())
+}
+
+#[test]
+fn it_ends_where_nothing_can_be_written(rt: HostRuntime) -> Result<(), Fail> {
+    let alloc = rt.alloc();
+    let node = node(alloc, false)?;
+    let input = BufReader::new(alloc, LINES)?;
+    let mut output = Cursor::new([0; 40]);
+    let ended = serve(alloc, node, input, &mut output, 1);
+    assert_eq!(rt; ended.err(), Some(NodeFault::CannotWrite));
+    Ok(())
+}
+
+// How many lines share a commit, where words ask for a journal that is served.
+fn batch_of(alloc: Global, words: &[&str]) -> Result<Option<usize>, Fail> {
+    match read_words(alloc, words)? {
+        Task::Serve(words) => Ok(Some(words.batch)),
+        _ => Ok(None),
+    }
+}
+
+#[test]
+fn words_ask_for_a_journal(rt: HostRuntime) -> Result<(), Fail> {
+    let alloc = rt.alloc();
+    assert_eq!(rt; batch_of(alloc, &["a.db"])?, Some(1));
+    assert_eq!(rt; batch_of(alloc, &["a.db", "--batch", "100"])?, Some(100));
+    assert_eq!(rt; batch_of(alloc, &["--genesis", "g.json", "a.db"])?, Some(1));
+    assert_eq!(rt; batch_of(alloc, &["a.db", "--batch", "0"])?, None);
+    assert_eq!(rt; batch_of(alloc, &["a.db", "--batch", "100001"])?, None);
+    assert_eq!(rt; batch_of(alloc, &["a.db", "b.db"])?, None);
+    assert_eq!(rt; batch_of(alloc, &[])?, None);
+    Ok(())
+}
+
+#[test]
+fn words_ask_for_help(rt: HostRuntime) -> Result<(), Fail> {
+    let alloc = rt.alloc();
+    assert_eq!(rt; read_words(alloc, &["--help"])?, Task::Help);
+    assert_eq!(rt; read_words(alloc, &["--version"])?, Task::Version);
+    assert_eq!(rt; read_words(alloc, &["--fly"])?, Task::Bad);
+    Ok(())
+}
