@@ -166,7 +166,7 @@ fn is_between(told: &Explanation<'_>) -> bool {
 pub fn opening_at(lines: &[ExplainedLine<'_>], at: usize) -> usize {
     let mut count = 0usize;
     let mut sure = 0usize;
-    for line in &lines[at.min(lines.len())..] {
+    for line in lines.get(at..).unwrap_or(&[]) {
         let Some(told) = &line.told else {
             return sure;
         };

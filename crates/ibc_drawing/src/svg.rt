@@ -71,10 +71,8 @@ fn drawn<'e>(
         }
         band = opening_at(lines, at);
         if band > 0 {
-            draw_band(
-                &mut canvas,
-                &lines[at..at.saturating_add(band).min(lines.len())],
-            )?;
+            let opening = lines.get(at..at.saturating_add(band)).unwrap_or(&[]);
+            draw_band(&mut canvas, opening)?;
             band = band.saturating_sub(1);
         } else {
             draw_line(alloc, &mut canvas, run, line)?;

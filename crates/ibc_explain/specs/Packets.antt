@@ -41,6 +41,10 @@ abbrev pub entry_packet : Entry → Option SentName
 entry_packet e = event_packet e.event e.reply
 
 -- whether an event is that a packet is received
+abbrev pub is_received : Message → Bool
+is_received (message.RecvPacket m) = true
+is_received _ = false
+
 abbrev pub is_receipt : Event → Bool
-is_receipt (event.Message chain (message.RecvPacket m)) = true
-is_receipt _ = false
+is_receipt (event.Message chain m) = is_received m
+is_receipt (event.Block chain next_time) = false

@@ -41,12 +41,12 @@ impl ExplainedLine<'_> {
 
 /// The lines of a run, in their order, each with the entry that it is of, explained; no line and no entry is left out.
 pub fn explained(alloc: Global, run: &ScriptRun) -> Result<Vec<ExplainedLine<'_>>, NotPlaced>
-    ensures { IfOk result (λ lines. AreExplained run.now.names.items run.now.chains.ledgers run.now.text.items lines.items) }
+    ensures { IfOk result (λ lines. AreExplained run.now.names.items run.now.world.ledgers run.now.text.items lines.items) }
 {
     let Ok(text) = str::from_utf8(run.text.as_slice()) else {
         return Err(NotPlaced::LeftOut);
     };
-    let lines = placed_lines(alloc, run.names.as_slice(), run.chains.world(), text)?;
+    let lines = placed_lines(alloc, run.names.as_slice(), &run.world, text)?;
     let explained = explain_each(alloc, run, lines.as_slice())?;
     Ok(explained)
 }
@@ -58,7 +58,7 @@ fn explain_each<'e>(
     lines: &[PlacedLine<'e>],
 ) -> Result<Vec<ExplainedLine<'e>>, Refusal>
     ensures lines { IfOk result (λ explained. map (λ x. x.line) explained.items ≡ lines.now) }
-    ensures told { IfOk result (λ explained. All (IsExplained run.now.chains.ledgers) explained.items) }
+    ensures told { IfOk result (λ explained. All (IsExplained run.now.world.ledgers) explained.items) }
 {
     let mut noting = Noting {
         run,
@@ -82,7 +82,7 @@ fn explained_line<'e>(
     notes: LineNotes<'e>,
 ) -> Result<ExplainedLine<'e>, Refusal>
     ensures line { IfOk result (λ x. x.line ≡ line.entry) }
-    ensures told { IfOk result (IsExplained run.now.chains.ledgers) }
+    ensures told { IfOk result (IsExplained run.now.world.ledgers) }
 {
     let told = told_at(alloc, run, line.place)?;
     Ok(ExplainedLine { line, told, notes })
@@ -94,7 +94,7 @@ fn told_at(
     run: &ScriptRun,
     place: Option<EntryPlace>,
 ) -> Result<Option<Explanation<'_>>, Refusal>
-    ensures { IfOk result (λ told. IsExplainedBy run.now.chains.ledgers told place) }
+    ensures { IfOk result (λ told. IsExplainedBy run.now.world.ledgers told place) }
 {
     match place {
         Some(place) => explanation_of(alloc, run, place),

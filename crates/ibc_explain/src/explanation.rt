@@ -3,9 +3,10 @@
 ghost use Rattle.std.specs.Prelude.{◌≡◌, false, IfOk, Some};
 ghost use Rattle.ibc_explain.specs.EntryLines.{entry_at};
 ghost use Rattle.ibc_explain.specs.Explanations.{IsOf, IsToldBy};
-ghost use Rattle.ibc_explain.specs.Packets.{is_receipt};
+ghost use Rattle.ibc_explain.specs.Packets.{is_receipt, is_received};
 
 use crate::ends::end_of;
+use crate::facts::brought_by;
 use crate::outcome::reason_of;
 use crate::places::{entry_at, event_kind};
 use crate::tokens::tokens_of;
@@ -61,9 +62,9 @@ pub fn explanation_of(
     run: &ScriptRun,
     place: EntryPlace,
 ) -> Result<Option<Explanation<'_>>, Refusal>
-    ensures { IfOk result (IsToldBy place (entry_at run.now.chains.ledgers place)) }
+    ensures { IfOk result (IsToldBy place (entry_at run.now.world.ledgers place)) }
 {
-    let world = run.chains.world();
+    let world = &run.world;
     match entry_at(world, place) {
         Some(entry) => {
             let told = explained_entry(alloc, world.ledger(place.chain), place, entry)?;
@@ -118,12 +119,34 @@ fn sender_of(
 ) -> Result<Option<u8>, Refusal>
     ensures { IfOk result (λ sender. is_receipt entry.now.event ≡ false → sender ≡ Some on) }
 {
-    match &entry.event {
-        Event::Message {
-            message: Message::RecvPacket(message),
-            ..
-        } => peer_of(alloc, ledger, &message.packet),
-        _ => Ok(Some(on)),
+    if !is_receipt(&entry.event) {
+        return Ok(Some(on));
+    }
+    match brought_by(entry) {
+        Some(packet) => {
+            let peer = peer_of(alloc, ledger, packet)?;
+            Ok(peer)
+        }
+        None => Ok(None),
+    }
+}
+
+// Whether an event is that a packet is received.
+fn is_receipt(event: &Event) -> bool
+    ensures { result ≡ is_receipt event.now }
+{
+    match event {
+        Event::Message { message, .. } => is_received(message),
+        Event::Block { .. } => false,
+    }
+}
+
+fn is_received(message: &Message) -> bool
+    ensures { result ≡ is_received message.now }
+{
+    match message {
+        Message::RecvPacket(_) => true,
+        _ => false,
     }
 }
 

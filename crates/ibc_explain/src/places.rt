@@ -1,11 +1,12 @@
 //! Lines of a run, and the entries that they are of.
 
-ghost use Rattle.std.specs.Prelude.{◌≡◌, ◌≤◌, ◌<◌, ◌+◌, ◌∷◌, ◌++◌, IfOk, IfSome, IsTrue, length, option_map};
+ghost use Rattle.std.specs.Prelude.{◌≡◌, ◌≤◌, ◌<◌, ◌+◌, ◌∷◌, ◌++◌, IfOk, IfSome, IsTrue, length, option_map, slice_get, true};
 ghost use Rattle.ibc_script_cli.specs.Runs.{name_of};
 ghost use Rattle.ibc_explain.specs.EntryLines.{AreLinesOf, IsLineOf, IsPlaced, entries_of, entry_at, event_kind, named_line};
 ghost use Rattle.ibc_explain.specs.Counts.{AllAreTold, GoesOn, IsNext};
 
 use ibc_ids::Refusal;
+use ibc_ledger::StampedEntry;
 use ibc_machine::{Entry, Event};
 use ibc_script::{ChainName, EventKind};
 use ibc_script_cli::{Line, line_text};
@@ -144,9 +145,20 @@ pub fn event_kind(event: &Event) -> EventKind
 pub fn entry_at(world: &World, place: EntryPlace) -> Option<&Entry>
     ensures { option_map (λ entry. entry.now) result ≡ entry_at world.now.ledgers place }
 {
-    let ledger = world.ledger(place.chain)?;
-    let stamped = ledger.history().get(place.index)?;
-    Some(&stamped.entry)
+    match world.ledger(place.chain) {
+        Some(ledger) => entry_in(ledger.history(), place.index),
+        None => None,
+    }
+}
+
+// The entry behind so many others of a history.
+fn entry_in(history: &[StampedEntry], index: usize) -> Option<&Entry>
+    ensures { option_map (λ entry. entry.now) result ≡ option_map (λ stamped. stamped.entry) (slice_get history.now index) }
+{
+    match history.get(index) {
+        Some(stamped) => Some(&stamped.entry),
+        None => None,
+    }
 }
 
 /// Finds the entry of each line of a run in turn.
@@ -240,8 +252,15 @@ impl<'w> Placing<'w> {
             reply: &entry.reply,
         };
         let text = line_text(self.alloc, printed)?;
-        let is = text.as_str() == line;
+        let is = is_same(text.as_str(), line);
         drop(text);
         Ok(is)
     }
+}
+
+// Whether two texts are the same.
+fn is_same(text: &str, line: &str) -> bool
+    ensures { result ≡ true → text.now ≡ line.now }
+{
+    text == line
 }

@@ -14,6 +14,7 @@ use ibc_script::{ChainName, Fault, Script, Step};
 use ibc_script_cli::{Runner, Worlds};
 use ibc_script_worlds::{ScriptWorld, WorldFactory};
 use ibc_theorem::lemma_what_every_world_keeps;
+use ibc_world_core::World;
 use std::alloc::Global;
 
 /// A step of a run: how long the printed text is behind it, and what it looked for first that isn't there.
@@ -34,7 +35,7 @@ pub struct RefusedEntry {
 #[derive(Drop)]
 pub struct ScriptRun {
     pub names: Vec<ChainName>,
-    pub chains: ScriptWorld,
+    pub world: World,
     pub text: Vec<u8>,
     pub steps: Vec<StepTaken>,
     pub refusals: Vec<RefusedEntry>,
@@ -51,9 +52,9 @@ struct Running {
 
 /// Runs a script. Faults: `BadScript` where no world begins with its genesis; `NoMemory`.
 pub fn run(alloc: Global, script: Script) -> Result<ScriptRun, Fault>
-    ensures run { IfOk result (λ run. IsRunOf script run.chains run.text.items) }
+    ensures run { IfOk result (λ run. IsRunOf script run.world run.text.items) }
     ensures names { IfOk result (λ run. run.names.items ≡ script.names.items) }
-    ensures lawful { IfOk result (λ run. IsLawfulUnlessClash run.chains) }
+    ensures lawful { IfOk result (λ run. IsLawfulUnlessClash run.world) }
     ensures faults { IfErr result (λ fault. IsRunFault fault ⊎ (fault ≡ Fault.BadScript)) }
 {
     match WorldFactory::new(alloc).begin(&script.genesis) {
@@ -68,9 +69,9 @@ pub fn run(alloc: Global, script: Script) -> Result<ScriptRun, Fault>
 // Runs a script on the world that its genesis begins.
 fn run_on(alloc: Global, chains: ScriptWorld, script: Script) -> Result<ScriptRun, Fault>
     requires { IsNewWorld (genesis_state script.genesis) chains }
-    ensures run { IfOk result (λ run. IsRunOf script run.chains run.text.items) }
+    ensures run { IfOk result (λ run. IsRunOf script run.world run.text.items) }
     ensures names { IfOk result (λ run. run.names.items ≡ script.names.items) }
-    ensures lawful { IfOk result (λ run. IsLawfulUnlessClash run.chains) }
+    ensures lawful { IfOk result (λ run. IsLawfulUnlessClash run.world) }
     ensures faults { IfErr result IsRunFault }
 {
     let Script {
@@ -142,21 +143,21 @@ impl Running {
     // The run whose steps are taken.
     fn into_run(self, names: Vec<ChainName>) -> ScriptRun
         requires { length names.items ≤ 8 }
-        ensures chains { result.chains ≡ self.chains }
+        ensures world { result.world ≡ self.chains }
         ensures text { result.text ≡ self.text }
         ensures names { result.names ≡ names }
-        ensures lawful { IsLawfulUnlessClash result.chains }
+        ensures lawful { IsLawfulUnlessClash result.world }
     {
         let Running {
             chains,
             text,
             steps,
         } = self;
-        let (chains, refusals) = chains.into_parts();
-        lemma_what_every_world_keeps(chains.world());
+        let (world, refusals) = chains.into_parts();
+        lemma_what_every_world_keeps(&world);
         ScriptRun {
             names,
-            chains,
+            world,
             text,
             steps,
             refusals,

@@ -53,12 +53,12 @@ impl ChannelTotal<'_> {
 /// What each channel of port `transfer` has of each denomination that its chain sent over it, and that didn't come over it.
 /// Refused: `NoMemory`.
 pub fn totals_of(alloc: Global, run: &ScriptRun) -> Result<Vec<ChannelTotal<'_>>, Refusal>
-    ensures { IfOk result (λ list. All (IsTotalOf run.now.chains) list.items) }
+    ensures { IfOk result (λ list. All (IsTotalOf run.now.world) list.items) }
 {
     let found = sent_denoms(alloc, run)?;
     let mut list = Vec::new(alloc);
     for sent in found.as_slice() {
-        add_total(run.chains.world(), *sent, &mut list)?;
+        add_total(&run.world, *sent, &mut list)?;
     }
     Ok(list)
 }
@@ -98,7 +98,7 @@ fn total_of<'e>(world: &World, sent: SentDenom<'e>) -> Result<ChannelTotal<'e>, 
 fn sent_denoms(alloc: Global, run: &ScriptRun) -> Result<Vec<SentDenom<'_>>, Refusal> {
     let mut found = Vec::new(alloc);
     for chain in 0..run.names.len() {
-        if let Some(ledger) = run.chains.world().ledger(chain as u8) {
+        if let Some(ledger) = run.world.ledger(chain as u8) {
             for stamped in ledger.history() {
                 note_sent(&mut found, chain as u8, &stamped.entry)?;
             }

@@ -12,6 +12,7 @@ use ibc_merkle::Proof;
 use ibc_script_cli::{Chains, CommittedBlock, Holdings};
 use ibc_script_worlds::ScriptWorld;
 use ibc_wire::{Message, Packet};
+use ibc_world_core::World;
 use std::alloc::Global;
 use std::cell::Cell;
 use std::marker::Model;
@@ -47,8 +48,8 @@ impl Watched {
         }
     }
 
-    /// The chains, and what they refused.
-    pub fn into_parts(self) -> (ScriptWorld, Vec<RefusedEntry>)
+    /// The world of the chains, and what they refused.
+    pub fn into_parts(self) -> (World, Vec<RefusedEntry>)
         ensures { result.0 ≡ self }
     {
         let Watched {
@@ -58,7 +59,7 @@ impl Watched {
             ..
         } = self;
         drop(absent);
-        (chains, refusals)
+        (chains.into_world(), refusals)
     }
 
     /// The first thing that wasn't there of those that were looked for since the last call.
@@ -87,6 +88,21 @@ fn chain_of(event: &Event) -> u8 {
     }
 }
 
+// Notes what a chain refused, where a reply is a refusal that stands in its history.
+fn note_refusal(
+    alloc: Global,
+    refusals: &mut Vec<RefusedEntry>,
+    world: &World,
+    chain: u8,
+    reply: &Reply,
+) -> Result<(), Refusal> {
+    if is_kept_refusal(reply) {
+        let refused = refused_entry(alloc, world, chain)?;
+        refusals.push(refused)?;
+    }
+    Ok(())
+}
+
 // Whether a reply is a refusal that stands in a history.
 fn is_kept_refusal(reply: &Reply) -> bool {
     match reply {
@@ -102,10 +118,8 @@ impl Chains for Watched {
     fn ask(&mut self, event: Event) -> Result<Reply, Refusal> {
         let chain = chain_of(&event);
         let reply = self.chains.ask(event)?;
-        if is_kept_refusal(&reply) {
-            let refused = refused_entry(self.alloc, self.chains.world(), chain)?;
-            self.refusals.push(refused)?;
-        }
+        let world = self.chains.world();
+        note_refusal(self.alloc, &mut self.refusals, world, chain, &reply)?;
         Ok(reply)
     }
 

@@ -72,6 +72,13 @@ impl ScriptWorld {
     {
         &self.world
     }
+
+    /// The world alone.
+    pub fn into_world(self) -> World
+        ensures { result ≡ self }
+    {
+        self.world
+    }
 }
 
 impl Worlds for WorldFactory {

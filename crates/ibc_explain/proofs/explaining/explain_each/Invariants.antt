@@ -7,5 +7,5 @@ use Rattle.ibc_explain.proofs.explaining.explain_each.Given as goal
 abbrev pub invariant-loop-line : goal.invariant-loop-line
 invariant-loop-line l = record {
   lines : map (λ (x : ExplainedLine). x.line) l.explained.items ≡ take l.line-index l.lines;
-  told : All (IsExplained l.run.chains.ledgers) l.explained.items;
+  told : All (IsExplained l.run.world.ledgers) l.explained.items;
 }

@@ -1,14 +1,9 @@
-use Rattle.std.proofs.Common.{◌++◌, length, map}
-use Rattle.std.specs.List.{range_with_len}
-use Rattle.ibc_script_cli.proofs.Reaching.{and_then, begins, goes_on}
-use Rattle.ibc_script_cli.specs.Runs.Act.{Take, TellBalances, TellNotes}
-use Rattle.ibc_script_worlds.specs.WorldChains.{world_chains}
+-- The steps are taken, and all is told.
+use Rattle.ibc_explain.proofs.RunsOfScripts.{all_done}
 use Rattle.ibc_explain.proofs.running.Running.take_all.Goals as goal
 
 pub returns-clause-ran : goal.returns-clause-ran
 returns-clause-ran c =
-    and_then world_chains c.args.names.now
-    (goes_on world_chains c.args.names.now (map Take c.args.steps.items)
-    (map TellBalances (range_with_len 0 (length c.args.names.now)) ++ map TellNotes (range_with_len 0 (length c.args.names.now)))
-    (begins world_chains c.args.names.now) c.in_ok-take_each.ensures.ran)
-    c.in_ok-run.ensures.ran
+    all_done c.args.names.now c.new-runner.result.names.now c.args.steps.items c.new-no_step.result.items c.args.self.now.chains c.take_each.new.self.chains c.run.new.chains
+    c.args.self.now.text.items c.take_each.new.self.text.items c.run.new.output.items c.new-runner.ensures c.new-no_step.ensures.items
+    c.in_ok-take_each.ensures.ran c.in_ok-run.ensures.ran
