@@ -1,6 +1,6 @@
 //! Where the lanes of chains stand.
 
-ghost use Rattle.std.specs.Prelude.{◌≡◌};
+ghost use Rattle.std.specs.Prelude.{◌≡◌, ◌≤◌};
 ghost use Rattle.ibc_drawing.specs.Lanes.{lane_x, width_of};
 
 /// What is left free at the sides.
@@ -12,9 +12,10 @@ const LABEL: usize = 340;
 /// Between two lanes.
 const LANE: usize = 320;
 
-/// Where the lane of a chain stands, from the left.
+/// Where the lane of a chain stands, from the left. None stands further than that of chain 255.
 pub fn lane_x(chain: u8) -> usize
-    ensures { result ≡ lane_x chain }
+    ensures stands { result ≡ lane_x chain }
+    ensures near { result ≤ lane_x 255 }
 {
     MARGIN + LABEL + LANE * usize::from(chain)
 }

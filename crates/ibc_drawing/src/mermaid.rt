@@ -23,7 +23,7 @@ pub fn write_mermaid(
     }
     let mut chart = Chart {
         alloc,
-        out,
+        out: String::new(alloc),
         packets: DrawnPackets {
             met: Vec::new(alloc),
         },
@@ -36,18 +36,18 @@ pub fn write_mermaid(
         }
         band = band.saturating_sub(1);
     }
-    Ok(())
+    out.push_str(chart.out.as_str())
 }
 
 /// A chart under way, with the packets that were met.
 #[derive(Drop)]
-struct Chart<'o, 'e> {
+struct Chart<'e> {
     alloc: Global,
-    out: &'o mut String,
+    out: String,
     packets: DrawnPackets<'e>,
 }
 
-impl<'e> Chart<'_, 'e> {
+impl<'e> Chart<'e> {
     // Writes a line, or the note of as many lines as open channels.
     fn line(&mut self, line: &ExplainedLine<'e>, band: usize) -> Result<(), AllocError> {
         let Some(told) = &line.told else {

@@ -73,11 +73,21 @@ impl<'e> DrawnPackets<'e> {
 
     /// A packet is received by a chain.
     pub fn receive(&mut self, key: PacketKey<'e>, chain: u8, y: usize) {
-        for packet in self.met.iter_mut().rev() {
+        let at = self.place(key);
+        if at < self.met.len() {
+            self.met[at].received = Some((chain, y));
+        }
+    }
+
+    // How many packets were met before this one, all where it wasn't met.
+    fn place(&self, key: PacketKey<'e>) -> usize {
+        let mut at = self.met.len();
+        for packet in self.met.iter().rev() {
+            at = at.saturating_sub(1);
             if packet.key == key {
-                packet.received = Some((chain, y));
-                return;
+                return at;
             }
         }
+        self.met.len()
     }
 }

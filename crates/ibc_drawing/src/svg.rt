@@ -8,7 +8,7 @@ use crate::marks::{draw_entry, draw_none, opening_at};
 use crate::mermaid::write_mermaid;
 use crate::packets::COLOURS;
 use crate::style::STYLE;
-use ibc_explain::{ExplainedLine, NotPlaced, ScriptRun, explained, explained_words};
+use ibc_explain::{ExplainedLine, Explanation, NotPlaced, ScriptRun, explained, explained_words};
 use ibc_machine::{Effect, Reply};
 use std::alloc::{AllocError, Global};
 
@@ -116,16 +116,11 @@ fn draw_band(canvas: &mut Canvas<'_>, lines: &[ExplainedLine<'_>]) -> Result<(),
     let mut first = u8::MAX;
     let mut last = 0u8;
     canvas.down(ROW);
-    for told in lines.iter().filter_map(|line| line.told.as_ref()) {
-        first = first.min(told.place.chain);
-        last = last.max(told.place.chain);
-        if let Reply::Ok(Effect::Block(height, _)) = &told.entry.reply {
-            let y = canvas.y;
-            canvas.ticks.push(Tick {
-                chain: told.place.chain,
-                height: *height,
-                y,
-            })?;
+    for line in lines {
+        if let Some(told) = &line.told {
+            first = first.min(told.place.chain);
+            last = last.max(told.place.chain);
+            tick_inside(canvas, told)?;
         }
     }
     let count = lines.len();
@@ -145,6 +140,19 @@ fn draw_band(canvas: &mut Canvas<'_>, lines: &[ExplainedLine<'_>]) -> Result<(),
     Ok(())
 }
 
+// Notes where the block ends that an entry in a band ends.
+fn tick_inside(canvas: &mut Canvas<'_>, told: &Explanation<'_>) -> Result<(), AllocError> {
+    if let Reply::Ok(Effect::Block(height, _)) = &told.entry.reply {
+        let y = canvas.y;
+        canvas.ticks.push(Tick {
+            chain: told.place.chain,
+            height: *height,
+            y,
+        })?;
+    }
+    Ok(())
+}
+
 // Writes the picture, from so far down on.
 fn write_picture(
     out: &mut String,
@@ -156,10 +164,9 @@ fn write_picture(
 ) -> Result<(), AllocError> {
     let width = width_of(run.names.len() as u8);
     let bottom = canvas.y.saturating_add(6);
-    let ends = lines.iter().filter(|line| is_end(line)).count();
     let height = bottom
         .saturating_add(62)
-        .saturating_add(ends.saturating_mul(18))
+        .saturating_add(ends_in(lines).saturating_mul(18))
         .saturating_sub(from);
     write!(
         out,
@@ -235,6 +242,17 @@ fn write_lanes(out: &mut String, run: &ScriptRun, bottom: usize) -> Result<(), A
 fn is_end(line: &ExplainedLine<'_>) -> bool {
     let text = line.line.text;
     line.notes.step.is_none() && (text.starts_with("balance ") || text.starts_with("note "))
+}
+
+// How many lines tell what chains hold at the end.
+fn ends_in(lines: &[ExplainedLine<'_>]) -> usize {
+    let mut ends = 0usize;
+    for line in lines {
+        if is_end(line) {
+            ends = ends.saturating_add(1);
+        }
+    }
+    ends
 }
 
 fn write_ends(

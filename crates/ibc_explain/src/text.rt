@@ -108,47 +108,37 @@ fn write_told(
     told: &Explanation<'_>,
     sides: &str,
 ) -> Result<(), AllocError> {
-    let mut parts = Parts { out, some: false };
     if let Reply::No(refusal) = &told.entry.reply {
-        parts.begin()?;
-        write_refusal(parts.out, *refusal, sides)?;
+        write_refusal(out, *refusal, sides)?;
     }
     if told.facts.packet.is_some() {
-        parts.begin()?;
-        write_packet(parts.out, names, told)?;
+        begin_part(out)?;
+        write_packet(out, names, told)?;
     }
     if let Some(client) = told.facts.client {
         let client = client.as_str();
-        parts.begin()?;
-        write!(parts.out, "client {client}")?;
-        write_tracked(parts.out, names, told)?;
+        begin_part(out)?;
+        write!(out, "client {client}")?;
+        write_tracked(out, names, told)?;
     }
-    write_ends(&mut parts, told)?;
+    write_ends(out, told)?;
     if let Some(tokens) = &told.tokens {
-        parts.begin()?;
-        write_tokens(parts.out, tokens)?;
+        begin_part(out)?;
+        write_tokens(out, tokens)?;
     }
     if let Some(outcome) = told.outcome {
-        parts.begin()?;
-        write_outcome(parts.out, told, outcome)?;
+        begin_part(out)?;
+        write_outcome(out, told, outcome)?;
     }
     Ok(())
 }
 
-/// Parts of a text, with semicolons between.
-#[derive(Drop)]
-struct Parts<'o> {
-    out: &'o mut String,
-    some: bool,
-}
-
-impl Parts<'_> {
-    fn begin(&mut self) -> Result<(), AllocError> {
-        if self.some {
-            self.out.push_str("; ")?;
-        }
-        self.some = true;
+// Writes what stands between two parts.
+fn begin_part(out: &mut String) -> Result<(), AllocError> {
+    if out.is_empty() {
         Ok(())
+    } else {
+        out.push_str("; ")
     }
 }
 
@@ -197,16 +187,16 @@ fn write_tracked(
 }
 
 // The connection and the channel of a handshake.
-fn write_ends(parts: &mut Parts<'_>, told: &Explanation<'_>) -> Result<(), AllocError> {
+fn write_ends(out: &mut String, told: &Explanation<'_>) -> Result<(), AllocError> {
     if let Some(connection) = told.facts.connection {
         let connection = connection.as_str();
-        parts.begin()?;
-        write!(parts.out, "connection {connection}")?;
+        begin_part(out)?;
+        write!(out, "connection {connection}")?;
     }
     if let Some((port, channel)) = told.facts.end {
         let channel = channel.as_str();
-        parts.begin()?;
-        write!(parts.out, "channel {port}/{channel}")?;
+        begin_part(out)?;
+        write!(out, "channel {port}/{channel}")?;
     }
     Ok(())
 }

@@ -88,19 +88,33 @@ fn chain_of(event: &Event) -> u8 {
     }
 }
 
-// Notes what a chain refused, where a reply is a refusal that stands in its history.
-fn note_refusal(
+// What a chain refused, where a reply is a refusal that stands in its history.
+fn refused_by(
     alloc: Global,
-    refusals: &mut Vec<RefusedEntry>,
     world: &World,
     chain: u8,
     reply: &Reply,
-) -> Result<(), Refusal> {
+) -> Result<Option<RefusedEntry>, Refusal> {
     if is_kept_refusal(reply) {
         let refused = refused_entry(alloc, world, chain)?;
-        refusals.push(refused)?;
+        Ok(Some(refused))
+    } else {
+        Ok(None)
     }
-    Ok(())
+}
+
+// Notes a refusal, where there is one.
+fn note_refusal(
+    refusals: &mut Vec<RefusedEntry>,
+    refused: Option<RefusedEntry>,
+) -> Result<(), Refusal> {
+    match refused {
+        Some(refused) => {
+            refusals.push(refused)?;
+            Ok(())
+        }
+        None => Ok(()),
+    }
 }
 
 // Whether a reply is a refusal that stands in a history.
@@ -118,8 +132,8 @@ impl Chains for Watched {
     fn ask(&mut self, event: Event) -> Result<Reply, Refusal> {
         let chain = chain_of(&event);
         let reply = self.chains.ask(event)?;
-        let world = self.chains.world();
-        note_refusal(self.alloc, &mut self.refusals, world, chain, &reply)?;
+        let refused = refused_by(self.alloc, self.chains.world(), chain, &reply)?;
+        note_refusal(&mut self.refusals, refused)?;
         Ok(reply)
     }
 
