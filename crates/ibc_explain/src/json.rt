@@ -25,17 +25,20 @@ impl ObjectWriter<'_> {
     pub fn line(&self, out: &mut String, line: &ExplainedLine<'_>) -> Result<(), AllocError> {
         let mut object = Map::new(self.alloc);
         let text = line.line.text;
-        self.add(&mut object, "line", json!(in self.alloc; text)?)?;
+        let text = json!(in self.alloc; text)?;
+        self.add(&mut object, "line", text)?;
         if let Some(step) = line.notes.step {
             let step = step as u64;
-            self.add(&mut object, "step", json!(in self.alloc; step)?)?;
+            let step = json!(in self.alloc; step)?;
+            self.add(&mut object, "step", step)?;
         }
         if let Some(told) = &line.told {
             self.entry(&mut object, told, line.notes.sides)?;
         } else if line.is_none() {
             let mut words = String::new(self.alloc);
             write_lacking(&mut words, self.names, line)?;
-            self.add(&mut object, "lacks", json!(in self.alloc; words.as_str())?)?;
+            let words = json!(in self.alloc; words.as_str())?;
+            self.add(&mut object, "lacks", words)?;
         }
         self.end(out, object)
     }
