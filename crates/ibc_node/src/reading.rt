@@ -127,12 +127,7 @@ fn replay_entry(
 }
 
 // Puts the event of an entry to the world, and compares the answer.
-fn replay_alone(
-    alloc: Global,
-    world: &mut World,
-    place: u32,
-    entry: Entry,
-) -> Result<(), NodeFault>
+fn replay_alone(alloc: Global, world: &mut World, place: u32, entry: Entry) -> Result<(), NodeFault>
     ensures { OnOk result (GoesOnAsStored world.old (entry ∷ []) world.new) }
 {
     let mut entries = Vec::new(alloc);

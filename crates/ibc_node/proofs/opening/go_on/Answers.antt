@@ -1,5 +1,5 @@
 -- The beginning is read, and then the entries are put to the world.
-use Rattle.std.proofs.Common.{◌≡◌, sym, ◌∙◌, subst, arith}
+use Rattle.std.proofs.Common.{sym, ◌∙◌, subst, arith}
 use Rattle.sqlite.specs.State.{HasCleanDisk}
 use Rattle.sqlite.specs.Held.{state}
 use Rattle.ibc_journal.specs.Restarts.{IsAtRest}

@@ -1,5 +1,5 @@
 -- One entry after another is read and put to the world, up to the last.
-use Rattle.std.proofs.Common.{◌≡◌, false, sym, arith}
+use Rattle.std.proofs.Common.{[], arith}
 use Rattle.sqlite.specs.State.{HasCleanDisk}
 use Rattle.sqlite.specs.Held.{state}
 use Rattle.ibc_journal.proofs.Whole.{keeps_on, nothing_then, survives_same}

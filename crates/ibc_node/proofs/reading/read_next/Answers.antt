@@ -1,5 +1,5 @@
 -- One entry more is read, or the end is found.
-use Rattle.std.proofs.Common.{◌≡◌, Ok, take, sym, ap, ◌∙◌, subst, arith}
+use Rattle.std.proofs.Common.{Ok, take, sym, ap, subst, arith}
 use Rattle.sqlite.specs.State.{HasCleanDisk}
 use Rattle.sqlite.specs.Held.{state}
 use Rattle.ibc_journal.specs.Entries.{item}

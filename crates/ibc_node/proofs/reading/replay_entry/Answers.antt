@@ -1,4 +1,3 @@
-use Rattle.std.proofs.Common.{[], ◌∷◌}
 use Rattle.ibc_journal.specs.Entries.{item}
 use Rattle.ibc_node.proofs.Opened.{replays_one}
 use Rattle.ibc_node.proofs.reading.replay_entry.Goals as goal
