@@ -1,5 +1,6 @@
 -- A world stays beside its journal.
-use Rattle.std.proofs.Common.{◌≡◌, ℕ, ◌+◌, ◌≤◌, ◌==◌, true, List, [], ◌∷◌, ◌++◌, length, take, map, slice_get, Some, None, refl, sym, ap, ◌∙◌, subst, append-nil, length-append, eqb-true, arith}
+use Rattle.std.proofs.Common.{◌≡◌, ℕ, ◌+◌, ◌==◌, true, false, List, [], ◌∷◌, ◌++◌, length, take, map, slice_get, Some, None, refl, sym, ap, ◌∙◌, subst, append-nil, length-append, eqb-true, arith}
+use Rattle.std.specs.Prelude.{IsTrue}
 use Rattle.std.proofs.lemmas.List.{take_more, take_all, length-map}
 use Rattle.std.proofs.lemmas.Option.{slice_get_within, get_or_from_slice_get}
 use Rattle.sqlite.specs.Tree.{Trees}
@@ -9,10 +10,12 @@ use Rattle.ibc_machine.specs.declared.event.Event.{Event}
 use Rattle.ibc_machine.specs.declared.reply.Reply.{Reply}
 use Rattle.ibc_machine.specs.declared.reply.Reply.TheVariants.{No}
 use Rattle.ibc_machine.specs.declared.entry.Entry.{Entry}
-use Rattle.ibc_machine.specs.chain.Genesis.{GenesisState}
+use Rattle.ibc_machine.specs.chain.Genesis.{GenesisState, is_allowed}
 use Rattle.ibc_machine.specs.promises.Worlds.{entries, interleaved}
 use Rattle.ibc_refinement.specs.World.{WorldState, kept_entries}
+use Rattle.ibc_theorem.specs.EveryWorld.{IsLawfulUnlessClash}
 use Rattle.ibc_replay.specs.Replays.{IsReplay, IsBeginning}
+use Rattle.ibc_replay.proofs.StoredSteps.{goes_nowhere, goes_on_more, is_replay}
 use Rattle.ibc_journal.specs.declared.cursor.Cursor.{Cursor}
 use Rattle.ibc_journal.specs.declared.entry.JournalEntry.{JournalEntry}
 use Rattle.ibc_journal.specs.Entries.{item, items_of}
@@ -23,7 +26,7 @@ use Rattle.ibc_journal.specs.Restarts.{IsAtRest}
 use Rattle.ibc_journal.proofs.Chained.{reads_on}
 use Rattle.ibc_journal.proofs.Whole.{KeepsJournals}
 use Rattle.ibc_node.specs.declared.node.KeptAnswer.{KeptAnswer}
-use Rattle.ibc_node.specs.Kept.{IsKeptAs, AreKeptAs, KeepsItem, WhyNotKept}
+use Rattle.ibc_node.specs.Kept.{IsKeptAs, AreKeptAs, KeepsItem, WhyNotKept, ReplaysOne, HasReplayed}
 use Rattle.ibc_node.specs.Nodes.{IsBeside, IsGenesisText, IsRestarted, IsBegun, TakesOn, LeavesWaiting}
 
 -- ---- one entry more
@@ -93,9 +96,6 @@ stays_at_rest old new genesis items same rest = record {
   outside = same.0.mode ∙ rest.outside;
 }
 
-pub all_kept : (entries : List Entry) (items : List JournalItem) (place : ℕ) → place ≡ length items → AreKeptAs entries (take place items) → AreKeptAs entries items
-all_kept entries items place is kept = subst (AreKeptAs entries) (take_all place items (omega (arith, is))) kept
-
 pub restarted : (text : List ℕ) (items : List JournalItem) (world : WorldState) (end : Cursor) (genesis : GenesisState) (past : List Entry) → IsGenesisText text genesis → IsReplay genesis past world
     → AreKeptAs past items → HasReadAll text items end → IsRestarted text items world end
 restarted text items world end genesis past is replay kept read = record {
@@ -145,13 +145,29 @@ unchanged_then old mid new one two = (
   two.2 ∙ one.2,
 )
 
--- one entry more is read
-pub reads_one : (items : List JournalItem) (place after : ℕ) (entries : List Entry) (e : Entry) (it : JournalItem) → AreKeptAs entries (take place items) → Some it ≡ slice_get items place → IsKeptAs e it
-    → after ≡ place + 1 → AreKeptAs (entries ++ e ∷ []) (take after items)
-reads_one items place after entries e it kept there is next = subst (λ n. AreKeptAs (entries ++ e ∷ []) (take n items)) (sym next) (kept_next entries items place e it kept (sym there) is)
+-- one entry more is put to the world
+pub reads_one : (items : List JournalItem) (place after : ℕ) (beginning mid new : WorldState) (it : JournalItem) → HasReplayed beginning (take place items) mid → Some it ≡ slice_get items place → ReplaysOne mid it new
+    → after ≡ place + 1 → HasReplayed beginning (take after items) new
+reads_one items place after beginning mid new it so_far there one next =
+    subst (λ n. HasReplayed beginning (take n items) new) (sym next) (record {
+      past = so_far.past ++ one.entry ∷ [];
+      kept = kept_next so_far.past items place one.entry it so_far.kept (sym there) one.kept;
+      goes_on = goes_on_more beginning mid new so_far.past one.entry so_far.goes_on one.goes_on;
+    })
 
--- before the first entry nothing is kept
-pub none_kept : (genesis : List ℕ) (entries : List Entry) (items : List JournalItem) (end : Cursor) → entries ≡ [] → HasReadTo genesis [] end → AreKeptAs entries (take end.place items)
-none_kept genesis entries items end none read =
-    let first : end.place ≡ 0 = omega (arith, read.within) in
-    subst (λ (l : List Entry). AreKeptAs l (take end.place items)) (sym none) (subst (λ n. AreKeptAs [] (take n items)) (sym first) tt)
+-- before the first entry the world has gone nowhere
+pub nothing_read : (genesis : List ℕ) (items : List JournalItem) (end : Cursor) (beginning world : WorldState) → world ≡ beginning → HasReadTo genesis [] end → HasReplayed beginning (take end.place items) world
+nothing_read genesis items end beginning world same none =
+    let first : end.place ≡ 0 = omega (arith, none.within) in
+    subst (λ n. HasReplayed beginning (take n items) world) (sym first)
+    (subst (HasReplayed beginning []) (sym same) (record { past = []; kept = tt; goes_on = goes_nowhere beginning }))
+
+-- behind the last entry all are put to the world
+pub all_read : (beginning world : WorldState) (items : List JournalItem) (place : ℕ) → place ≡ length items → HasReplayed beginning (take place items) world → HasReplayed beginning items world
+all_read beginning world items place is so_far = subst (λ l. HasReplayed beginning l world) (take_all place items (omega (arith, is))) so_far
+
+-- the world to which all were put is the replay of what it keeps
+pub restarts : (text : List ℕ) (items : List JournalItem) (genesis : GenesisState) (beginning world : WorldState) (end : Cursor) → IsGenesisText text genesis → IsBeginning genesis beginning
+    → IsTrue (is_allowed genesis) → HasReplayed beginning items world → IsLawfulUnlessClash world → HasReadAll text items end → IsRestarted text items world end
+restarts text items genesis beginning world end is begins allowed all lawful read =
+    restarted text items world end genesis all.past is (is_replay genesis all.past beginning world allowed begins all.goes_on lawful) all.kept read

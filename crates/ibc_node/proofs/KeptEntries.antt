@@ -1,5 +1,5 @@
 -- What a world has kept of an event is what its journal keeps.
-use Rattle.std.proofs.Common.{◌≡◌, ℕ, ◌+◌, ◌<◌, true, cond, List, [], ◌∷◌, ◌++◌, length, map, filter, refl, sym, ap, ◌∙◌, subst, Option, Some, Result, Ok, Err, IfOk, ◌⊎◌, inl, inr, slice_get, arith, eq-eqb}
+use Rattle.std.proofs.Common.{◌≡◌, ℕ, ◌+◌, ◌<◌, true, cond, List, [], ◌∷◌, ◌++◌, length, map, filter, refl, sym, ap, ◌∙◌, subst, Some, Result, Ok, Err, IfOk, ◌⊎◌, inl, inr, slice_get, arith, eq-eqb}
 use Rattle.std.specs.Prelude.{IsTrue}
 use Rattle.ibc_ids.specs.declared.refusal.Refusal.{Refusal}
 use Rattle.ibc_ids.specs.declared.refusal.Refusal.TheVariants.{BadMessage, NoMemory}
@@ -59,9 +59,8 @@ pub keeps_last : {E : Type 0} (world : WorldState) (chain : ℕ) (before : List 
 keeps_last world chain before stored (Ok e) last is due = record { stored = subst (StoresLast world chain) (sym is) last; due = due }
 keeps_last world chain before stored (Err e) last is due = tt
 
-pub why_not_spelt : {A : Type 0} (old : WorldState) (event : Event) (refusal : Refusal) → (refusal ≡ BadMessage) ⊎ (refusal ≡ NoMemory)
-    → (◌≡◌ {A = Result A Refusal} (Err refusal) (Err BadMessage) → ¬ IsTrue (have_form (event_fields event))) → WhyNotKept old event refusal
-why_not_spelt old event refusal (inl is) bad = subst (WhyNotKept old event) (sym is) (bad (ap Err is))
+pub why_not_spelt : (old : WorldState) (event : Event) (refusal : Refusal) → (refusal ≡ BadMessage) ⊎ (refusal ≡ NoMemory) → (refusal ≡ BadMessage → ¬ IsTrue (have_form (event_fields event))) → WhyNotKept old event refusal
+why_not_spelt old event refusal (inl is) bad = subst (WhyNotKept old event) (sym is) (bad is)
 why_not_spelt old event refusal (inr is) bad = subst (WhyNotKept old event) (sym is) tt
 
 same_entries : (history : List KeptEntry) → map (λ (e : StampedEntry). e.entry) (map abstract_entry history) ≡ map (λ (e : KeptEntry). e.entry) history

@@ -1,5 +1,6 @@
 -- What an open gives, put together of what its calls give.
 use Rattle.std.proofs.Common.{◌≡◌, ◌⊎◌, inl, inr, ℕ, ◌≤◌, List, [], ◌∷◌, length, Ok, Err, Result, IfOk, OnOk, sym, ap, ◌∙◌, subst, arith}
+use Rattle.std.specs.Prelude.{IsTrue}
 use Rattle.std.specs.List.{AllZip}
 use Rattle.sqlite.specs.Recovery.{Image}
 use Rattle.sqlite.specs.Effect.{Database, IsDatabase}
@@ -7,20 +8,17 @@ use Rattle.sqlite.specs.State.{State, Opens, IsLive}
 use Rattle.sqlite.specs.Start.{FindsIn}
 use Rattle.sqlite.specs.Schema.{Schema}
 use Rattle.ibc_machine.specs.declared.entry.Entry.{Entry}
-use Rattle.ibc_machine.specs.chain.Genesis.{GenesisState, genesis_state}
+use Rattle.ibc_machine.specs.chain.Genesis.{GenesisState, genesis_state, is_allowed}
 use Rattle.ibc_machine.specs.declared.genesis.Genesis.{Genesis}
 use Rattle.ibc_script.specs.ScriptValues.{IsScriptText, content_of}
 use Rattle.ibc_script.specs.declared.script.Script.{Script}
 use Rattle.ibc_journal.specs.Tables.{no_schema, journal_schema, JournalItem}
 use Rattle.ibc_journal.specs.Restarts.{IsAtRest}
 use Rattle.ibc_journal.proofs.Restarted.{finds_journal}
-use Rattle.ibc_journal.specs.Digests.{HasReadAll}
-use Rattle.ibc_journal.specs.declared.cursor.Cursor.{Cursor}
-use Rattle.ibc_replay.specs.Replays.{IsReplay}
-use Rattle.ibc_node.specs.Kept.{AreKeptAs}
-use Rattle.ibc_node.specs.Nodes.{HoldsWholeJournal, IsGenesisText, IsRestarted}
-use Rattle.ibc_node.specs.declared.opening.GoingOn.{GoingOn}
-use Rattle.ibc_node.proofs.Beside.{restarted}
+use Rattle.ibc_refinement.specs.World.{WorldState}
+use Rattle.ibc_replay.specs.Replays.{IsBeginning, GoesOnAsStored}
+use Rattle.ibc_node.specs.Kept.{IsKeptAs, ReplaysOne}
+use Rattle.ibc_node.specs.Nodes.{HoldsWholeJournal, IsGenesisText}
 
 pub genesis_text : {E : Type 0} (text : List ℕ) (script : Script) (r : Result Genesis E) → IsScriptText text (content_of script) → IfOk r (λ g. genesis_state g ≡ genesis_state script.genesis)
     → OnOk r (script.steps.items ≡ []) → IfOk r (λ g. IsGenesisText text (genesis_state g))
@@ -36,12 +34,15 @@ rests_on (Err e) p = tt
 pub no_journal_is_empty : no_schema ≡ journal_schema → ⊥
 no_journal_is_empty same = let none : 0 ≡ 2 = ap (λ (s : Schema). length s.tables) same in absurd (omega (arith, none))
 
-pub goes_on_restarted : {E : Type 0} (text genesis : List ℕ) (items : List JournalItem) (past : List Entry) (end : Cursor) (r : Result GoingOn E) → genesis ≡ text → AreKeptAs past items
-    → HasReadAll text items end → IfOk r (λ start. (begins : GenesisState) × IsGenesisText genesis begins × IsReplay begins past start.world) → IfOk r (λ start. start.end ≡ end)
-    → IfOk r (λ start. IsRestarted text items start.world start.end)
-goes_on_restarted text genesis items past end (Ok start) same kept read world is =
-    restarted text items start.world start.end world.0 past (subst (λ t. IsGenesisText t world.0) same world.1) world.2 kept (subst (HasReadAll text items) (sym is) read)
-goes_on_restarted text genesis items past end (Err e) same kept read world is = tt
+pub world_of_text : {E : Type 0} (text : List ℕ) (genesis : GenesisState) (r : Result WorldState E) → IsGenesisText text genesis → IfOk r (IsBeginning genesis) → OnOk r (IsTrue (is_allowed genesis))
+    → IfOk r (λ world. (it : GenesisState) × IsGenesisText text it × IsBeginning it world × IsTrue (is_allowed it))
+world_of_text text genesis (Ok world) is begins allowed = (genesis, is, begins, allowed)
+world_of_text text genesis (Err e) is begins allowed = tt
+
+-- the entry that is kept so was put to the world
+pub replays_one : {A E : Type 0} (old new : WorldState) (entry : Entry) (it : JournalItem) (r : Result A E) → IsKeptAs entry it → OnOk r (GoesOnAsStored old (entry ∷ []) new) → OnOk r (ReplaysOne old it new)
+replays_one old new entry it (Ok done) kept goes = record { entry = entry; kept = kept; goes_on = goes }
+replays_one old new entry it (Err e) kept goes = tt
 
 -- what is clean behind a call was clean before it
 pub calm_ok : {A E : Type 0} (r : Result A E) (before : ℕ) (after : A → ℕ) → IfOk r (λ a. before ≤ after a) → IfOk r (λ a. after a ≡ 0 → before ≡ 0)
@@ -49,21 +50,19 @@ calm_ok (Ok a) before after le = λ none. omega (arith, le, none)
 calm_ok (Err e) before after le = tt
 
 -- Two facts of an answer where all is clean behind the call, each known of what was clean before it.
-module _ {A E : Type 0} (Which Known WasClean : Type 0) (Clean P Q : A → Type 0) where
-  pub both_known : (r : Result A E) → OnOk r Which → IfOk r (λ a. Clean a → WasClean) → (WasClean → Which → Known) → (Known → IfOk r (λ a. Clean a → P a))
-      → (Known → IfOk r (λ a. Clean a → Q a)) → IfOk r (λ a. Clean a → P a × Q a)
-  both_known (Ok a) which calm known one other = λ clean. let it = known (calm clean) which in (one it clean, other it clean)
-  both_known (Err e) which calm known one other = tt
+pub both_known : {A E : Type 0} (r : Result A E) (Which Known WasClean : Type 0) (Clean P Q : A → Type 0) → OnOk r Which → IfOk r (λ a. Clean a → WasClean) → (WasClean → Which → Known)
+    → (Known → IfOk r (λ a. Clean a → P a)) → (Known → IfOk r (λ a. Clean a → Q a)) → IfOk r (λ a. Clean a → P a × Q a)
+both_known (Ok a) Which Known WasClean Clean P Q which calm known one other = λ clean. let it = known (calm clean) which in (one it clean, other it clean)
+both_known (Err e) Which Known WasClean Clean P Q which calm known one other = tt
 
 -- An answer that came of one thing or another. Of the first it is known what it is once the first is known, and that is so where all was clean.
-module _ {A E : Type 0} (One Other Known WasClean : Type 0) (Clean P Q : A → Type 0) where
-  pub either_ok : (r : Result A E) → OnOk r (One ⊎ Other) → IfOk r (λ a. Clean a → WasClean) → (WasClean → One → Known) → (Known → IfOk r (λ a. Clean a → P a)) → (Other → IfOk r Q)
-      → IfOk r (λ a. Clean a → P a ⊎ Q a)
-  either_ok (Ok a) which calm known one other = λ clean. elim which [
-    | inl it ↦ inl (one (known (calm clean) it) clean)
-    | inr it ↦ inr (other it)
-  ]
-  either_ok (Err e) which calm known one other = tt
+pub either_ok : {A E : Type 0} (r : Result A E) (One Other Known WasClean : Type 0) (Clean P Q : A → Type 0) → OnOk r (One ⊎ Other) → IfOk r (λ a. Clean a → WasClean) → (WasClean → One → Known)
+    → (Known → IfOk r (λ a. Clean a → P a)) → (Other → IfOk r Q) → IfOk r (λ a. Clean a → P a ⊎ Q a)
+either_ok (Ok a) One Other Known WasClean Clean P Q which calm known one other = λ clean. elim which [
+  | inl it ↦ inl (one (known (calm clean) it) clean)
+  | inr it ↦ inr (other it)
+]
+either_ok (Err e) One Other Known WasClean Clean P Q which calm known one other = tt
 
 -- ---- what files hold
 

@@ -10,6 +10,7 @@ use Rattle.ibc_wire.specs.Fields.{have_form}
 use Rattle.ibc_machine.specs.ledger.Ledgers.{Ledger, chain_of}
 use Rattle.ibc_machine.specs.promises.Worlds.{entries}
 use Rattle.ibc_refinement.specs.World.{WorldState, kept_entries}
+use Rattle.ibc_replay.specs.Replays.{GoesOnAsStored}
 use Rattle.ibc_entry_codec.specs.declared.stored.EntryBytes.{EntryBytes}
 use Rattle.ibc_entry_codec.specs.Stored.{StoresEntry, event_fields}
 use Rattle.ibc_journal.specs.Tables.{JournalItem}
@@ -70,3 +71,17 @@ StoresLast world chain stored =
 pub record KeepsLast (world : WorldState) (chain : ℕ) (before : List ℕ) (it : JournalItem) : Type 0 where
   pub stored : StoresLast world chain (bytes_in it)
   pub due : it.digest ≡ digest_after before it
+
+-- ---- entries that are put to a world again
+
+-- a world went on to this one as the entry says that is kept so
+pub record ReplaysOne (old : WorldState) (it : JournalItem) (new : WorldState) : Type 0 where
+  pub entry : Entry
+  pub kept : IsKeptAs entry it
+  pub goes_on : GoesOnAsStored old (entry ∷ []) new
+
+-- from the beginning a world went on to this one as the entries say that are kept so
+pub record HasReplayed (beginning : WorldState) (items : List JournalItem) (world : WorldState) : Type 0 where
+  pub past : List Entry
+  pub kept : AreKeptAs past items
+  pub goes_on : GoesOnAsStored beginning past world

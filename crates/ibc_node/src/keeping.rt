@@ -114,13 +114,9 @@ fn spell_message(alloc: Global, message: &Message) -> Result<(), Refusal>
     ensures bad { IsErrOf result BadMessage → ¬ IsTrue (have_form (message_fields message.now)) }
     ensures errors { IfErr result (λ e. (e ≡ BadMessage) ⊎ (e ≡ NoMemory)) }
 {
-    match encode(alloc, message) {
-        Ok(bytes) => {
-            drop(bytes);
-            Ok(())
-        }
-        Err(refusal) => Err(refusal),
-    }
+    let bytes = encode(alloc, message)?;
+    drop(bytes);
+    Ok(())
 }
 
 // Whether memory didn't run out.

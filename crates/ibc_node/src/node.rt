@@ -72,12 +72,28 @@ fn digest_of(entry: &JournalEntry) -> Option<[u8; 32]>
     }
 }
 
+// How far a journal goes with one entry more, which has the digest that is due.
+fn end_behind(end: &Cursor, entry: &JournalEntry) -> Option<Cursor>
+    ensures { IfSome result (λ after. after ≡ record { place = end.now.place + 1; last = (item entry.now).digest }) }
+{
+    let Some(place) = end.place.checked_add(1) else {
+        return None;
+    };
+    match digest_of(entry) {
+        Some(last) => Some(Cursor { place, last }),
+        None => None,
+    }
+}
+
 // The place of the first of the entries that wait, of which the last is before this one.
 fn first_of(end: u32, waiting: &[JournalEntry]) -> Option<u32>
     ensures { IfSome result (λ first. first + length waiting.now ≡ end) }
 {
-    let count = u32::try_from(waiting.len()).ok()?;
-    end.checked_sub(count)
+    let count = waiting.len();
+    if count > end as usize {
+        return None;
+    }
+    Some(end - count as u32)
 }
 
 impl<S: Alter> Node<S> {
@@ -153,13 +169,13 @@ impl<S: Alter> Node<S> {
         ensures journal { self.new.conn ≡ self.old.conn }
     {
         let here = self.end.place;
-        let (Some(after), Some(last)) = (here.checked_add(1), digest_of(&entry)) else {
+        let Some(after) = end_behind(&self.end, &entry) else {
             drop(entry);
             return Err(NodeFault::Journal(JournalFault::Full));
         };
         mark(&mut self.marks, log_place, here)?;
         self.waiting.push(entry)?;
-        self.end = Cursor { place: after, last };
+        self.end = after;
         Ok(here)
     }
 

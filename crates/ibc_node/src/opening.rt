@@ -1,15 +1,15 @@
 //! A node goes on where its journal ends.
 
-ghost use Rattle.std.specs.Prelude.{◌≡◌, ◌⊎◌, ◌≤◌, [], List, ℕ, Ok, IfOk, OnOk};
+ghost use Rattle.std.specs.Prelude.{◌≡◌, ◌⊎◌, ◌≤◌, [], List, ℕ, Ok, IfOk, IsTrue, OnOk};
 ghost use Rattle.sqlite.specs.State.{HasCleanDisk, Survives};
 ghost use Rattle.sqlite.specs.Start.{FindsIn};
 ghost use Rattle.sqlite.specs.View.{doubt};
 ghost use Rattle.sqlite.specs.WalFiles.{image_at};
 ghost use Rattle.sqlite.specs.Files.{IsOpened, file_state};
 ghost use Rattle.sqlite.specs.Held.{state};
-ghost use Rattle.ibc_machine.specs.chain.Genesis.{GenesisState, genesis_state};
-ghost use Rattle.ibc_replay.specs.Replays.{IsReplay, IsBeginning};
-ghost use Rattle.ibc_journal.specs.Tables.{no_schema, journal_schema, JournalItem};
+ghost use Rattle.ibc_machine.specs.chain.Genesis.{GenesisState, genesis_state, is_allowed};
+ghost use Rattle.ibc_replay.specs.Replays.{IsBeginning};
+ghost use Rattle.ibc_journal.specs.Tables.{no_schema, journal_schema, JournalItem, IsJournal};
 ghost use Rattle.ibc_journal.specs.Crashes.{LeavesBegun, LeavesNothing};
 ghost use Rattle.ibc_journal.specs.Restarts.{IsAtRest, HoldsJournal};
 ghost use Rattle.ibc_node.specs.Nodes.{HoldsWholeJournal, IsBegun, IsGenesisText, IsRestarted};
@@ -18,9 +18,9 @@ use crate::reading::{LogMark, Past, read_all};
 use crate::{Node, NodeFault};
 use ibc_ids::Refusal;
 use ibc_journal::{Beginning, Cursor, FORMAT, Looks, begin, beginning_of, look};
-use ibc_machine::{Entry, Genesis};
-use ibc_replay::{Difference, replay};
+use ibc_machine::Genesis;
 use ibc_script::{Fault, Script, read_script};
+use ibc_theorem::lemma_what_every_world_keeps;
 use ibc_world_core::World;
 use sqlite::{Alter, Connection, FileFrom, FileStore, Start};
 use std::alloc::Global;
@@ -154,7 +154,7 @@ pub(crate) fn begin_with<S: Alter>(
 
 // The world of a text's genesis in the beginning.
 fn world_of(alloc: Global, text: &[u8]) -> Result<World, NodeFault>
-    ensures { IfOk result (λ world. (genesis : GenesisState) × IsGenesisText text.now genesis × IsBeginning genesis world) }
+    ensures { IfOk result (λ world. (genesis : GenesisState) × IsGenesisText text.now genesis × IsBeginning genesis world × IsTrue (is_allowed genesis)) }
 {
     let genesis = genesis_of(alloc, text)?;
     let world = new_world(alloc, &genesis);
@@ -164,7 +164,8 @@ fn world_of(alloc: Global, text: &[u8]) -> Result<World, NodeFault>
 
 // The world of a genesis in the beginning.
 fn new_world(alloc: Global, genesis: &Genesis) -> Result<World, NodeFault>
-    ensures { IfOk result (IsBeginning (genesis_state genesis.now)) }
+    ensures begins { IfOk result (IsBeginning (genesis_state genesis.now)) }
+    ensures allowed { OnOk result (IsTrue (is_allowed (genesis_state genesis.now))) }
 {
     match World::new(alloc, genesis) {
         Ok(world) => Ok(world),
@@ -219,8 +220,14 @@ pub(crate) fn go_on<S: Alter>(
     let began = beginning_of(conn)?;
     judge(&began, genesis)?;
     let Beginning { format: _, genesis } = began;
-    let past = read_all(alloc, conn, genesis.as_slice())?;
-    start_with(alloc, genesis, past)
+    let past = replay_from(alloc, conn, genesis.as_slice())?;
+    let Past { world, end, marks } = past;
+    Ok(GoingOn {
+        genesis,
+        world,
+        end,
+        marks,
+    })
 }
 
 // Whether a journal is of this format and began with this genesis.
@@ -234,51 +241,20 @@ fn judge(began: &Beginning, genesis: Option<&[u8]>) -> Result<(), NodeFault> {
     }
 }
 
-// The world that is made again of what was read.
-fn start_with(alloc: Global, genesis: Vec<u8>, past: Past) -> Result<GoingOn, NodeFault>
-    ensures world { IfOk result (λ start. (begins : GenesisState) × IsGenesisText genesis.items begins × IsReplay begins past.entries.items start.world) }
-    ensures end { IfOk result (λ start. start.end ≡ past.end) }
+// The world that is made again of a journal's entries, from a text's genesis.
+fn replay_from<S: Alter>(
+    alloc: Global,
+    conn: &mut Connection<S>,
+    genesis: &[u8],
+) -> Result<Past, NodeFault>
+    ensures restarted { (items : List JournalItem) → IsJournal (state S.Store conn.old).now genesis.now items
+        → HasCleanDisk (state S.Store conn.new) → IfOk result (λ past. IsRestarted genesis.now items past.world past.end) }
+    ensures rest { (items : List JournalItem) → IsAtRest (state S.Store conn.old) genesis.now items
+        → HasCleanDisk (state S.Store conn.new) → OnOk result (IsAtRest (state S.Store conn.new) genesis.now items) }
+    ensures crash { Survives (state S.Store conn.old) (state S.Store conn.new) (LeavesNothing (state S.Store conn.old)) }
 {
-    let Past {
-        entries,
-        end,
-        marks,
-    } = past;
-    let world = replay_all(alloc, genesis.as_slice(), entries)?;
-    Ok(GoingOn {
-        genesis,
-        world,
-        end,
-        marks,
-    })
-}
-
-// The world that is made again of entries, from a text's genesis.
-fn replay_all(alloc: Global, text: &[u8], entries: Vec<Entry>) -> Result<World, NodeFault>
-    ensures { IfOk result (λ world. (genesis : GenesisState) × IsGenesisText text.now genesis × IsReplay genesis entries.items world) }
-{
-    let genesis = genesis_of(alloc, text)?;
-    let world = replay_from(alloc, &genesis, entries);
-    drop(genesis);
-    world
-}
-
-// The world that is made again of entries, from a genesis.
-fn replay_from(alloc: Global, genesis: &Genesis, entries: Vec<Entry>) -> Result<World, NodeFault>
-    ensures { IfOk result (IsReplay (genesis_state genesis.now) entries.items) }
-{
-    match replay(alloc, genesis, entries) {
-        Ok(world) => Ok(world),
-        Err(why) => Err(fault_of(why)),
-    }
-}
-
-// Why no world is made again of entries.
-fn fault_of(why: Difference) -> NodeFault {
-    match why {
-        Difference::NoGenesis => NodeFault::BadGenesis,
-        Difference::NoMemory => NodeFault::NoMemory,
-        Difference::At { place, .. } => NodeFault::OtherAnswer(place),
-        Difference::UnknownChain { place, .. } => NodeFault::OtherAnswer(place),
-    }
+    let world = world_of(alloc, genesis)?;
+    let past = read_all(alloc, conn, genesis, world)?;
+    lemma_what_every_world_keeps(&past.world);
+    Ok(past)
 }

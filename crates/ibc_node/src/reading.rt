@@ -1,21 +1,25 @@
-//! The entries of a journal are read back.
+//! The entries of a journal are read back, and each is put to the world again.
 
-ghost use Rattle.std.specs.Prelude.{◌≡◌, [], false, take, length, List, ℕ, IfOk, OnOk};
+ghost use Rattle.std.specs.Prelude.{◌≡◌, ◌∷◌, [], false, take, length, List, ℕ, IfOk, OnOk};
 ghost use Rattle.sqlite.specs.State.{HasCleanDisk, IsUnchanged, Survives};
 ghost use Rattle.sqlite.specs.Held.{state};
+ghost use Rattle.ibc_refinement.specs.World.{WorldState};
+ghost use Rattle.ibc_replay.specs.Replays.{GoesOnAsStored};
 ghost use Rattle.ibc_entry_codec.specs.Stored.{StoresEntry};
 ghost use Rattle.ibc_journal.specs.Tables.{JournalItem, IsJournal};
 ghost use Rattle.ibc_journal.specs.Entries.{item};
 ghost use Rattle.ibc_journal.specs.Digests.{HasReadTo, HasReadAll};
 ghost use Rattle.ibc_journal.specs.Crashes.{LeavesNothing};
 ghost use Rattle.ibc_journal.specs.Restarts.{IsAtRest};
-ghost use Rattle.ibc_node.specs.Kept.{bytes_in, IsKeptAs, AreKeptAs};
+ghost use Rattle.ibc_node.specs.Kept.{bytes_in, IsKeptAs, HasReplayed, ReplaysOne};
 
 use crate::NodeFault;
 use ibc_entry_codec::{EntryBytes, restore};
 use ibc_ids::{Bytes, Refusal};
 use ibc_journal::{Cursor, JournalEntry, JournalFault, end_at, next};
 use ibc_machine::Entry;
+use ibc_replay::{Difference, replay_on};
+use ibc_world_core::World;
 use sqlite::{Alter, Connection, Error};
 use std::alloc::Global;
 
@@ -29,45 +33,47 @@ pub(crate) struct LogMark {
     pub place: u32,
 }
 
-/// The entries of a journal, how far it goes, and which of them came by a log.
+/// A world as far as its journal is read, and which entries came by a log.
 #[derive(Drop)]
 pub(crate) struct Past {
-    pub entries: Vec<Entry>,
+    pub world: World,
     pub end: Cursor,
     pub marks: Vec<LogMark>,
 }
 
 impl Past {
     // None of a journal that began so is read.
-    fn new(alloc: Global, genesis: &[u8]) -> Past
-        ensures none { result.entries.items ≡ [] }
+    fn new(alloc: Global, genesis: &[u8], world: World) -> Past
+        ensures world { result.world ≡ world }
         ensures start { (items : List JournalItem) → HasReadTo genesis.now items result.end }
     {
         Past {
-            entries: Vec::new(alloc),
+            world,
             end: Cursor::new(genesis),
             marks: Vec::new(alloc),
         }
     }
 }
 
-/// All entries of a journal that began so. Fault: the first place whose entry isn't the one that was put there, or spells no event and
-/// answer; a place that has none, where there are some behind it.
+/// The world that goes on as all entries of a journal say which began so. Each is put to it as soon as it is read. Fault: the first place
+/// whose entry isn't the one that was put there, spells no event and answer, or has another answer than is due; a place that has none,
+/// where there are some behind it.
 pub(crate) fn read_all<S: Alter>(
     alloc: Global,
     conn: &mut Connection<S>,
     genesis: &[u8],
+    world: World,
 ) -> Result<Past, NodeFault>
-    ensures entries { (items : List JournalItem) → IsJournal (state S.Store conn.old).now genesis.now items
-        → HasCleanDisk (state S.Store conn.new) → IfOk result (λ past. AreKeptAs past.entries.items items) }
+    ensures replayed { (items : List JournalItem) → IsJournal (state S.Store conn.old).now genesis.now items
+        → HasCleanDisk (state S.Store conn.new) → IfOk result (λ past. HasReplayed world items past.world) }
     ensures read { (items : List JournalItem) → IsJournal (state S.Store conn.old).now genesis.now items
         → HasCleanDisk (state S.Store conn.new) → IfOk result (λ past. HasReadAll genesis.now items past.end) }
     ensures rest { (items : List JournalItem) → IsAtRest (state S.Store conn.old) genesis.now items
         → HasCleanDisk (state S.Store conn.new) → OnOk result (IsAtRest (state S.Store conn.new) genesis.now items) }
     ensures crash { Survives (state S.Store conn.old) (state S.Store conn.new) (LeavesNothing (state S.Store conn.old)) }
 {
-    let mut past = Past::new(alloc, genesis);
-    'reading: for _ in 0..PLACES {
+    let mut past = Past::new(alloc, genesis, world);
+    'reading: for _turn in 0..PLACES {
         if !read_next(alloc, conn, &mut past)? {
             return Ok(past);
         }
@@ -75,15 +81,15 @@ pub(crate) fn read_all<S: Alter>(
     Err(NodeFault::Journal(JournalFault::Full))
 }
 
-// Reads one entry more, if there is another.
+// Reads one entry more, if there is another, and has the world go on.
 fn read_next<S: Alter>(
     alloc: Global,
     conn: &mut Connection<S>,
     past: &mut Past,
 ) -> Result<bool, NodeFault>
-    ensures entries { (genesis : List ℕ) (items : List JournalItem) → IsJournal (state S.Store conn.old).now genesis items → HasReadTo genesis items past.old.end
-        → AreKeptAs past.old.entries.items (take past.old.end.place items) → HasCleanDisk (state S.Store conn.new)
-        → OnOk result (AreKeptAs past.new.entries.items (take past.new.end.place items)) }
+    ensures replayed { (genesis : List ℕ) (items : List JournalItem) (beginning : WorldState) → IsJournal (state S.Store conn.old).now genesis items → HasReadTo genesis items past.old.end
+        → HasReplayed beginning (take past.old.end.place items) past.old.world → HasCleanDisk (state S.Store conn.new)
+        → OnOk result (HasReplayed beginning (take past.new.end.place items) past.new.world) }
     ensures read { (genesis : List ℕ) (items : List JournalItem) → IsJournal (state S.Store conn.old).now genesis items → HasReadTo genesis items past.old.end
         → HasCleanDisk (state S.Store conn.new) → OnOk result (HasReadTo genesis items past.new.end) }
     ensures end { (genesis : List ℕ) (items : List JournalItem) → IsJournal (state S.Store conn.old).now genesis items → HasReadTo genesis items past.old.end
@@ -96,7 +102,7 @@ fn read_next<S: Alter>(
     match next(conn, &mut past.end) {
         Ok(Some(kept)) => {
             mark(&mut past.marks, kept.log_place, place)?;
-            past.entries.push(entry_of(alloc, place, kept)?)?;
+            replay_entry(alloc, &mut past.world, place, kept)?;
             Ok(true)
         }
         Ok(None) => {
@@ -104,6 +110,41 @@ fn read_next<S: Alter>(
             Ok(false)
         }
         Err(fault) => Err(fault_at(place, fault)),
+    }
+}
+
+// Puts the event to the world whose entry is kept at a place, and compares the answer.
+fn replay_entry(
+    alloc: Global,
+    world: &mut World,
+    place: u32,
+    kept: JournalEntry,
+) -> Result<(), NodeFault>
+    ensures { OnOk result (ReplaysOne world.old (item kept) world.new) }
+{
+    let entry = entry_of(alloc, place, kept)?;
+    replay_alone(alloc, world, place, entry)
+}
+
+// Puts the event of an entry to the world, and compares the answer.
+fn replay_alone(alloc: Global, world: &mut World, place: u32, entry: Entry) -> Result<(), NodeFault>
+    ensures { OnOk result (GoesOnAsStored world.old (entry ∷ []) world.new) }
+{
+    let mut entries = Vec::new(alloc);
+    entries.push(entry)?;
+    match replay_on(world, place as usize, entries) {
+        Ok(()) => Ok(()),
+        Err(why) => Err(fault_of(why)),
+    }
+}
+
+// Why a world doesn't go on as an entry says.
+fn fault_of(why: Difference) -> NodeFault {
+    match why {
+        Difference::NoGenesis => NodeFault::BadGenesis,
+        Difference::NoMemory => NodeFault::NoMemory,
+        Difference::At { place, .. } => NodeFault::OtherAnswer(place),
+        Difference::UnknownChain { place, .. } => NodeFault::OtherAnswer(place),
     }
 }
 
@@ -144,14 +185,22 @@ fn restored(alloc: Global, place: u32, stored: &EntryBytes) -> Result<Entry, Nod
     }
 }
 
+// The byte that a number of an entry is.
+fn byte_of(place: u32, number: u32) -> Result<u8, NodeFault>
+    ensures { IfOk result (λ byte. byte ≡ number) }
+{
+    match u8::try_from(number) {
+        Ok(byte) => Ok(byte),
+        Err(_) => Err(NodeFault::NoEntry(place)),
+    }
+}
+
 // What is kept of an entry.
 fn bytes_of(place: u32, kept: JournalEntry) -> Result<EntryBytes, NodeFault>
     ensures { IfOk result (λ stored. stored ≡ bytes_in (item kept)) }
 {
-    let (Ok(chain), Ok(kind)) = (u8::try_from(kept.chain), u8::try_from(kept.kind)) else {
-        drop(kept);
-        return Err(NodeFault::NoEntry(place));
-    };
+    let chain = byte_of(place, kept.chain)?;
+    let kind = byte_of(place, kept.kind)?;
     let JournalEntry {
         chain: _,
         kind: _,

@@ -214,7 +214,7 @@ impl<S: Alter + Drop> Server<S> {
 
     // Puts in what waits, and then writes the answers. Where anything was written, the journal has all that the world keeps.
     fn settle<W: Write>(&mut self, output: &mut W) -> Result<(), NodeFault>
-        ensures kept_first { (genesis : List ℕ) (items : List JournalItem) → IsAtRest (state S.Store self.old.desk.node.conn) genesis items
+        ensures { (genesis : List ℕ) (items : List JournalItem) → IsAtRest (state S.Store self.old.desk.node.conn) genesis items
             → IsBeside genesis self.old.desk.node.world (items ++ items_of self.old.desk.node.waiting.items) self.old.desk.node.end
             → HasCleanDisk (state S.Store self.new.desk.node.conn) → (W.contents output.new ≡ W.contents output.old)
             ⊎ IsAtRest (state S.Store self.new.desk.node.conn) genesis (items ++ items_of self.old.desk.node.waiting.items) }

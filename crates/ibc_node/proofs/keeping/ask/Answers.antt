@@ -1,5 +1,5 @@
 -- Where the chain isn't there, or no bytes spell the event, nothing is asked.
-use Rattle.std.proofs.Common.{◌<◌, ◌≤◌, length, refl, subst}
+use Rattle.std.proofs.Common.{◌<◌, ◌≤◌, length, Err, refl, ap, subst}
 use Rattle.ibc_replay.proofs.StoredSteps.{past_all}
 use Rattle.ibc_node.proofs.KeptEntries.{why_not_spelt}
 use Rattle.ibc_node.proofs.keeping.ask.Goals as goal
@@ -13,4 +13,4 @@ returns-then-not-has_chain c =
     (refl, subst (λ k. chains ≤ k) c.chain_of-chain.ensures (past_all c.has_chain.result c.chain_of-chain.result chains c.has_chain.ensures c.if-not-has_chain.true))
 
 pub returns-in-Err : goal.returns-in-Err
-returns-in-Err c = (refl, why_not_spelt c.args.world.now c.args.event c.in-Err.refusal c.in-Err.ensures.errors c.in-Err.ensures.bad)
+returns-in-Err c = (refl, why_not_spelt c.args.world.now c.args.event c.in-Err.refusal c.in-Err.ensures.errors (λ is. c.in-Err.ensures.bad (ap Err is)))

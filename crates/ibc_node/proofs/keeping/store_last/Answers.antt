@@ -1,7 +1,6 @@
-use Rattle.std.proofs.Common.{◌∙◌, sym}
 use Rattle.ibc_node.proofs.KeptEntries.{stores_last}
 use Rattle.ibc_node.proofs.keeping.store_last.Goals as goal
 
 pub returns-in-Ok : goal.returns-in-Ok
 returns-in-Ok c =
-    stores_last c.args.world.now c.args.chain c.in-Some.ledger.now.ledger c.history.result.now c.in-Some-entry.entry.now c.in-Ok.stored c.in-Some.ensures c.history.ensures c.in-Some-entry.ensures c.in-Ok.ensures.ok
+    stores_last c.args.world.now c.args.chain c.in-Some.ledger.now.ledger c.history.result.now c.in-Some-last_in.entry.now c.in-Ok.stored c.in-Some.ensures c.history.ensures c.in-Some-last_in.ensures c.in-Ok.ensures.ok

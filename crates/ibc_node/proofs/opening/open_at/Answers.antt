@@ -14,8 +14,8 @@ use Rattle.ibc_node.proofs.opening.open_at.Goals as goal
 pub returns-clause-restarted : goal.returns-clause-restarted
 returns-clause-restarted g c text items holds =
     let conn = file_state c.in_ok-conn.conn in
-    both_known ((conn.now.schema ≡ journal_schema) ⊎ (conn.now.schema ≡ no_schema)) (IsAtRest conn text items) (HasCleanDisk conn) (λ node. HasCleanDisk (file_state node.conn))
-    (λ node. IsRestarted text items node.world node.end) (λ node. IsAtRest (file_state node.conn) text items) c.open_node.result c.open_node.ensures.which
+    both_known c.open_node.result ((conn.now.schema ≡ journal_schema) ⊎ (conn.now.schema ≡ no_schema)) (IsAtRest conn text items) (HasCleanDisk conn) (λ node. HasCleanDisk (file_state node.conn))
+    (λ node. IsRestarted text items node.world node.end) (λ node. IsAtRest (file_state node.conn) text items) c.open_node.ensures.which
     (calm_ok c.open_node.result (doubt conn.is_clean) (λ node. doubt (file_state node.conn).is_clean) c.open_node.ensures.calm)
     (λ clean which. let opened = c.in_ok-conn.ensures.opened clean in found_at_rest (image_at g.S.Start) conn text items opened.0 opened.1 (c.in_ok-conn.ensures.found clean) holds which)
     (λ rest. c.open_node.ensures.restarted text items rest) (λ rest. c.open_node.ensures.rest text items rest)
@@ -23,8 +23,8 @@ returns-clause-restarted g c text items holds =
 pub returns-clause-rows : goal.returns-clause-rows
 returns-clause-rows g c text items holds =
     let conn = file_state c.in_ok-conn.conn in
-    either_ok (conn.now.schema ≡ journal_schema) (conn.now.schema ≡ no_schema) (IsAtRest conn text items) (HasCleanDisk conn) (λ node. HasCleanDisk (file_state node.conn))
-    (λ node. IsRestarted text items node.world node.end) (λ node. IsBegun node.genesis.items node.world node.end) c.open_node.result c.open_node.ensures.which
+    either_ok c.open_node.result (conn.now.schema ≡ journal_schema) (conn.now.schema ≡ no_schema) (IsAtRest conn text items) (HasCleanDisk conn) (λ node. HasCleanDisk (file_state node.conn))
+    (λ node. IsRestarted text items node.world node.end) (λ node. IsBegun node.genesis.items node.world node.end) c.open_node.ensures.which
     (calm_ok c.open_node.result (doubt conn.is_clean) (λ node. doubt (file_state node.conn).is_clean) c.open_node.ensures.calm)
     (λ clean schema. finds_journal (image_at g.S.Start) conn (c.in_ok-conn.ensures.opened clean).0 (c.in_ok-conn.ensures.found clean) text items holds schema)
     (λ rest. c.open_node.ensures.restarted text items rest) (λ none. c.open_node.ensures.begun none)

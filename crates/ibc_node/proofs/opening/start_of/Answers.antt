@@ -7,14 +7,14 @@ use Rattle.ibc_journal.specs.Restarts.{IsAtRest}
 use Rattle.ibc_node.proofs.Opened.{no_journal_is_empty, rests_on}
 use Rattle.ibc_node.proofs.opening.start_of.Goals as goal
 
-pub returns-in-Empty-clause-restarted : goal.returns-in-Empty-clause-restarted
-returns-in-Empty-clause-restarted g c text items rest clean = absurd (no_journal_is_empty (sym (c.in_ok-looks.ensures.empty (ap Ok c.in-Empty.is)).0 ∙ rest.journal.schema))
+pub returns-in_ok-ok_or-in-Empty-clause-restarted : goal.returns-in_ok-ok_or-in-Empty-clause-restarted
+returns-in_ok-ok_or-in-Empty-clause-restarted g c text items rest clean = absurd (no_journal_is_empty (sym (c.in_ok-looks.ensures.empty (ap Ok c.in-Empty.is)).0 ∙ rest.journal.schema))
 
-pub returns-in-Empty-clause-rest : goal.returns-in-Empty-clause-rest
-returns-in-Empty-clause-rest g c text items rest clean = absurd (no_journal_is_empty (sym (c.in_ok-looks.ensures.empty (ap Ok c.in-Empty.is)).0 ∙ rest.journal.schema))
+pub returns-in_ok-ok_or-in-Empty-clause-rest : goal.returns-in_ok-ok_or-in-Empty-clause-rest
+returns-in_ok-ok_or-in-Empty-clause-rest g c text items rest clean = absurd (no_journal_is_empty (sym (c.in_ok-looks.ensures.empty (ap Ok c.in-Empty.is)).0 ∙ rest.journal.schema))
 
-pub returns-in-Empty-clause-new : goal.returns-in-Empty-clause-new
-returns-in-Empty-clause-new g c none clean =
+pub returns-in_ok-ok_or-in-Empty-clause-new : goal.returns-in_ok-ok_or-in-Empty-clause-new
+returns-in_ok-ok_or-in-Empty-clause-new g c none clean =
     let same = (c.in_ok-looks.ensures.empty (ap Ok c.in-Empty.is)).1 in
     c.begin_with.ensures.new (subst (λ k. (state g.S.Store k).now.schema ≡ no_schema) (sym same) none) clean
 
@@ -34,17 +34,17 @@ returns-in-Journal-clause-rest g c text items rest clean =
     let same = (c.in_ok-looks.ensures.journal (ap Ok c.in-Journal.is)).1 in
     c.go_on.ensures.rest text items (subst (λ k. IsAtRest (state g.S.Store k) text items) (sym same) rest) clean
 
-pub returns-in-Empty-clause-begun : goal.returns-in-Empty-clause-begun
-returns-in-Empty-clause-begun g c none = c.begin_with.ensures.begun
+pub returns-in_ok-ok_or-in-Empty-clause-begun : goal.returns-in_ok-ok_or-in-Empty-clause-begun
+returns-in_ok-ok_or-in-Empty-clause-begun g c none = c.begin_with.ensures.begun
 
-pub returns-in-Empty-clause-which : goal.returns-in-Empty-clause-which
-returns-in-Empty-clause-which g c = rests_on c.begin_with.result (inr (c.in_ok-looks.ensures.empty (ap Ok c.in-Empty.is)).0)
+pub returns-in_ok-ok_or-in-Empty-clause-which : goal.returns-in_ok-ok_or-in-Empty-clause-which
+returns-in_ok-ok_or-in-Empty-clause-which g c = rests_on c.begin_with.result (inr (c.in_ok-looks.ensures.empty (ap Ok c.in-Empty.is)).0)
 
 pub returns-in-Journal-clause-which : goal.returns-in-Journal-clause-which
 returns-in-Journal-clause-which g c = rests_on c.go_on.result (inl (c.in_ok-looks.ensures.journal (ap Ok c.in-Journal.is)).0)
 
-pub returns-in-Empty-clause-calm : goal.returns-in-Empty-clause-calm
-returns-in-Empty-clause-calm g c =
+pub returns-in_ok-ok_or-in-Empty-clause-calm : goal.returns-in_ok-ok_or-in-Empty-clause-calm
+returns-in_ok-ok_or-in-Empty-clause-calm g c =
     let same = (c.in_ok-looks.ensures.empty (ap Ok c.in-Empty.is)).1 in
     let after = doubt (state g.S.Store c.begin_with.new.conn).is_clean in
     rests_on c.begin_with.result (subst (λ k. doubt (state g.S.Store k).is_clean ≤ after) same c.begin_with.ensures.crash.clean)

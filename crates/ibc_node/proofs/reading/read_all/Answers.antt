@@ -1,9 +1,9 @@
--- One entry after another is read, up to the last.
-use Rattle.std.proofs.Common.{◌≡◌, false, sym, arith}
+-- One entry after another is read and put to the world, up to the last.
+use Rattle.std.proofs.Common.{[], arith}
 use Rattle.sqlite.specs.State.{HasCleanDisk}
 use Rattle.sqlite.specs.Held.{state}
 use Rattle.ibc_journal.proofs.Whole.{keeps_on, nothing_then, survives_same}
-use Rattle.ibc_node.proofs.Beside.{stays_at_rest, none_kept, all_kept}
+use Rattle.ibc_node.proofs.Beside.{stays_at_rest, nothing_read, all_read}
 use Rattle.ibc_node.proofs.reading.read_all.Goals as goal
 
 pub reading-init : goal.reading-init
@@ -12,7 +12,7 @@ reading-init g c =
     record {
       kept = λ genesis items has clean. has;
       read = λ items has clean. c.new-past.ensures.start items;
-      entries = λ items has clean. none_kept c.args.genesis.now _ items c.new-past.result.end c.new-past.ensures.none (c.new-past.ensures.start []);
+      replayed = λ items has clean. nothing_read c.args.genesis.now items c.new-past.result.end c.args.world c.new-past.result.world c.new-past.ensures.world (c.new-past.ensures.start []);
       rest = λ items rest clean. rest;
       crash = survives_same old _;
     }
@@ -22,24 +22,24 @@ returns-in_err-read_next-clause-crash g c =
     let at = c.reading in
     nothing_then (state g.S.Store c.args.conn.now) (state g.S.Store at.conn) (state g.S.Store c.read_next.new.conn) at.invariant.kept at.invariant.crash c.read_next.ensures.crash
 
-pub returns-then-not-read_next : goal.returns-then-not-read_next
-returns-then-not-read_next g c =
+pub returns-then-not-branch : goal.returns-then-not-branch
+returns-then-not-branch g c =
     let at = c.reading in
     let old = state g.S.Store c.args.conn.now in
     let mid = state g.S.Store at.conn in
     let new = state g.S.Store c.read_next.new.conn in
     record {
-      entries = λ items has clean.
+      replayed = λ items has clean.
           let calmer : HasCleanDisk mid = omega (arith, c.read_next.ensures.crash.clean, clean) in
           let journal = at.invariant.kept c.args.genesis.now items has calmer in
           let read = at.invariant.read items has calmer in
-          let end = c.in_ok-read_next.ensures.end c.args.genesis.now items journal read clean (sym c.if-not-read_next.true) in
-          all_kept _ items _ end (c.in_ok-read_next.ensures.entries c.args.genesis.now items journal read (at.invariant.entries items has calmer) clean);
+          let end = c.in_ok-read_next.ensures.end c.args.genesis.now items journal read clean c.if-not-branch.true in
+          all_read _ _ items _ end (c.in_ok-read_next.ensures.replayed c.args.genesis.now items c.args.world journal read (at.invariant.replayed items has calmer) clean);
       read = λ items has clean.
           let calmer : HasCleanDisk mid = omega (arith, c.read_next.ensures.crash.clean, clean) in
           let journal = at.invariant.kept c.args.genesis.now items has calmer in
           let read = at.invariant.read items has calmer in
-          (c.in_ok-read_next.ensures.read c.args.genesis.now items journal read clean, c.in_ok-read_next.ensures.end c.args.genesis.now items journal read clean (sym c.if-not-read_next.true));
+          (c.in_ok-read_next.ensures.read c.args.genesis.now items journal read clean, c.in_ok-read_next.ensures.end c.args.genesis.now items journal read clean c.if-not-branch.true);
       rest = λ items rest clean.
           let calmer : HasCleanDisk mid = omega (arith, c.read_next.ensures.crash.clean, clean) in
           let here = at.invariant.rest items rest calmer in
@@ -58,9 +58,9 @@ reading-preserved g c =
       read = λ items has clean.
           let calmer : HasCleanDisk mid = omega (arith, c.read_next.ensures.crash.clean, clean) in
           c.in_ok-read_next.ensures.read c.args.genesis.now items (at.invariant.kept c.args.genesis.now items has calmer) (at.invariant.read items has calmer) clean;
-      entries = λ items has clean.
+      replayed = λ items has clean.
           let calmer : HasCleanDisk mid = omega (arith, c.read_next.ensures.crash.clean, clean) in
-          c.in_ok-read_next.ensures.entries c.args.genesis.now items (at.invariant.kept c.args.genesis.now items has calmer) (at.invariant.read items has calmer) (at.invariant.entries items has calmer) clean;
+          c.in_ok-read_next.ensures.replayed c.args.genesis.now items c.args.world (at.invariant.kept c.args.genesis.now items has calmer) (at.invariant.read items has calmer) (at.invariant.replayed items has calmer) clean;
       rest = λ items rest clean.
           let calmer : HasCleanDisk mid = omega (arith, c.read_next.ensures.crash.clean, clean) in
           let here = at.invariant.rest items rest calmer in

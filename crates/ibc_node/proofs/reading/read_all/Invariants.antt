@@ -5,7 +5,7 @@ use Rattle.ibc_journal.specs.Tables.{JournalItem, IsJournal}
 use Rattle.ibc_journal.specs.Digests.{HasReadTo}
 use Rattle.ibc_journal.specs.Crashes.{LeavesNothing}
 use Rattle.ibc_journal.specs.Restarts.{IsAtRest}
-use Rattle.ibc_node.specs.Kept.{AreKeptAs}
+use Rattle.ibc_node.specs.Kept.{HasReplayed}
 use Rattle.ibc_node.proofs.reading.read_all.Given as goal
 
 abbrev pub invariant-reading : goal.invariant-reading
@@ -15,7 +15,7 @@ invariant-reading g l =
     record {
       kept : (genesis : List ℕ) (items : List JournalItem) → IsJournal old.now genesis items → HasCleanDisk now → IsJournal now.now genesis items;
       read : (items : List JournalItem) → IsJournal old.now l.genesis items → HasCleanDisk now → HasReadTo l.genesis items l.past.end;
-      entries : (items : List JournalItem) → IsJournal old.now l.genesis items → HasCleanDisk now → AreKeptAs l.past.entries.items (take l.past.end.place items);
+      replayed : (items : List JournalItem) → IsJournal old.now l.genesis items → HasCleanDisk now → HasReplayed l.fn.world (take l.past.end.place items) l.past.world;
       rest : (items : List JournalItem) → IsAtRest old l.genesis items → HasCleanDisk now → IsAtRest now l.genesis items;
       crash : Survives old now (LeavesNothing old);
     }

@@ -1,50 +1,56 @@
 -- One entry more is read, or the end is found.
-use Rattle.std.proofs.Common.{◌≡◌, Ok, take, sym, ap, ◌∙◌, subst, arith}
+use Rattle.std.proofs.Common.{Ok, take, sym, ap, subst, arith}
 use Rattle.sqlite.specs.State.{HasCleanDisk}
 use Rattle.sqlite.specs.Held.{state}
 use Rattle.ibc_journal.specs.Entries.{item}
 use Rattle.ibc_journal.proofs.Whole.{nothing_then}
 use Rattle.ibc_journal.proofs.Chained.{reads_end}
-use Rattle.ibc_node.specs.Kept.{AreKeptAs}
+use Rattle.ibc_journal.specs.declared.cursor.Cursor.{Cursor}
+use Rattle.ibc_node.specs.Kept.{HasReplayed}
 use Rattle.ibc_node.proofs.Beside.{keeps_once, unchanged_then, reads_one}
 use Rattle.ibc_node.proofs.reading.read_next.Goals as goal
 
-pub returns-in-Ok-Some-clause-entries : goal.returns-in-Ok-Some-clause-entries
-returns-in-Ok-Some-clause-entries g c genesis items has read kept clean =
+pub returns-in_ok-replay_entry-in-Ok-Some-clause-replayed : goal.returns-in_ok-replay_entry-in-Ok-Some-clause-replayed
+returns-in_ok-replay_entry-in-Ok-Some-clause-replayed g c genesis items beginning has read so_far clean =
     let found = rw c.in-Ok-Some.field-0-is at (c.in-Ok-Some.ensures.entry genesis items has read clean).0 in
-    subst (λ entries. AreKeptAs entries (take c.next.new.cursor.place items)) (sym c.in_ok-push.ensures.items)
-    (reads_one items c.args.past.now.end.place c.next.new.cursor.place c.args.past.now.entries.items _ (item c.in-Ok-Some.kept) kept found c.in_ok-entry_of.ensures
-    (rw c.in-Ok-Some.field-0-is at c.in-Ok-Some.ensures.more))
+    reads_one items c.args.past.now.end.place c.next.new.cursor.place beginning c.args.past.now.world c.replay_entry.new.world (item c.in-Ok-Some.kept) so_far found c.in_ok-replay_entry-in-Ok-Some.ensures
+    (rw c.in-Ok-Some.field-0-is at c.in-Ok-Some.ensures.more)
 
-pub returns-in-Ok-None-clause-crash : goal.returns-in-Ok-None-clause-crash
-returns-in-Ok-None-clause-crash g c =
+pub returns-in_ok-end_at-in-Ok-None-clause-crash : goal.returns-in_ok-end_at-in-Ok-None-clause-crash
+returns-in_ok-end_at-in-Ok-None-clause-crash g c =
     let old = state g.S.Store c.args.conn.now in
     let mid = state g.S.Store c.next.new.conn in
     nothing_then old mid (state g.S.Store c.end_at.new.conn) (keeps_once old mid c.in-Ok-None.ensures.same) c.next.ensures.crash c.end_at.ensures.crash
 
-pub returns-in-Ok-Some-clause-read : goal.returns-in-Ok-Some-clause-read
-returns-in-Ok-Some-clause-read g c genesis items has read clean = (c.in-Ok-Some.ensures.entry genesis items has read clean).1
+pub returns-in_ok-replay_entry-in-Ok-Some-clause-read : goal.returns-in_ok-replay_entry-in-Ok-Some-clause-read
+returns-in_ok-replay_entry-in-Ok-Some-clause-read g c genesis items has read clean = (c.in-Ok-Some.ensures.entry genesis items has read clean).1
 
-pub returns-in-Ok-None-clause-end : goal.returns-in-Ok-None-clause-end
-returns-in-Ok-None-clause-end g c genesis items has read clean more =
+pub returns-in_ok-end_at-in-Ok-None-clause-end : goal.returns-in_ok-end_at-in-Ok-None-clause-end
+returns-in_ok-end_at-in-Ok-None-clause-end g c genesis items has read clean more =
     let calm : HasCleanDisk (state g.S.Store c.next.new.conn) = omega (arith, c.end_at.ensures.crash.clean, clean) in
     let found = c.in-Ok-None.ensures.entry genesis items has read calm in
     (reads_end genesis items c.args.past.now.end c.next.new.cursor c.in-Ok-None.field-0 c.in-Ok-None.field-0-is found.0 found.1 (c.in-Ok-None.ensures.end (ap Ok c.in-Ok-None.field-0-is))).1
 
-pub returns-in-Ok-None-clause-read : goal.returns-in-Ok-None-clause-read
-returns-in-Ok-None-clause-read g c genesis items has read clean =
+pub returns-in_ok-end_at-in-Ok-None-clause-read : goal.returns-in_ok-end_at-in-Ok-None-clause-read
+returns-in_ok-end_at-in-Ok-None-clause-read g c genesis items has read clean =
     let calm : HasCleanDisk (state g.S.Store c.next.new.conn) = omega (arith, c.end_at.ensures.crash.clean, clean) in
     (c.in-Ok-None.ensures.entry genesis items has read calm).1
 
-pub returns-in-Ok-None-clause-entries : goal.returns-in-Ok-None-clause-entries
-returns-in-Ok-None-clause-entries g c genesis items has read kept clean =
-    subst (λ (end : _). AreKeptAs c.args.past.now.entries.items (take end.place items)) (sym (c.in-Ok-None.ensures.end (ap Ok c.in-Ok-None.field-0-is))) kept
+pub returns-in_ok-end_at-in-Ok-None-clause-replayed : goal.returns-in_ok-end_at-in-Ok-None-clause-replayed
+returns-in_ok-end_at-in-Ok-None-clause-replayed g c genesis items beginning has read so_far clean =
+    subst (λ (end : Cursor). HasReplayed beginning (take end.place items) c.args.past.now.world) (sym (c.in-Ok-None.ensures.end (ap Ok c.in-Ok-None.field-0-is))) so_far
 
-pub returns-in-Ok-None-clause-same : goal.returns-in-Ok-None-clause-same
-returns-in-Ok-None-clause-same g c genesis items has clean =
+pub returns-in_ok-end_at-in-Ok-None-clause-same : goal.returns-in_ok-end_at-in-Ok-None-clause-same
+returns-in_ok-end_at-in-Ok-None-clause-same g c genesis items has clean =
     let old = state g.S.Store c.args.conn.now in
     let mid = state g.S.Store c.next.new.conn in
     let new = state g.S.Store c.end_at.new.conn in
     let calm : HasCleanDisk mid = omega (arith, c.end_at.ensures.crash.clean, clean) in
     let same = c.in-Ok-None.ensures.same genesis items has calm in
-    unchanged_then old mid new same (c.in_ok-end_at.ensures.same genesis items (keeps_once old mid c.in-Ok-None.ensures.same genesis items has calm) clean)
+    unchanged_then old mid new same (c.in_ok-end_at-in-Ok-None.ensures.same genesis items (keeps_once old mid c.in-Ok-None.ensures.same genesis items has calm) clean)
+
+pub returns-in_err-end_at-in-Ok-None-clause-crash : goal.returns-in_err-end_at-in-Ok-None-clause-crash
+returns-in_err-end_at-in-Ok-None-clause-crash g c =
+    let old = state g.S.Store c.args.conn.now in
+    let mid = state g.S.Store c.next.new.conn in
+    nothing_then old mid (state g.S.Store c.end_at.new.conn) (keeps_once old mid c.in-Ok-None.ensures.same) c.next.ensures.crash c.end_at.ensures.crash

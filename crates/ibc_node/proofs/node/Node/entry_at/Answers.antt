@@ -2,7 +2,6 @@
 use Rattle.std.proofs.Common.{arith}
 use Rattle.sqlite.specs.State.{HasCleanDisk}
 use Rattle.sqlite.specs.Held.{state}
-use Rattle.ibc_journal.specs.Entries.{items_of}
 use Rattle.ibc_node.proofs.Beside.{stays_at_rest}
 use Rattle.ibc_node.proofs.node.Node.entry_at.Goals as goal
 

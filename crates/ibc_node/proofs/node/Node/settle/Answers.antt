@@ -23,8 +23,8 @@ returns-then-is_empty-clause-none g c = sym c.as_slice-waiting.ensures.value ∙
 pub returns-then-is_empty-clause-crash : goal.returns-then-is_empty-clause-crash
 returns-then-is_empty-clause-crash g c = survives_same (state g.S.Store c.args.self.now.conn) _
 
-pub returns-in-None-clause-crash : goal.returns-in-None-clause-crash
-returns-in-None-clause-crash g c = survives_same (state g.S.Store c.args.self.now.conn) _
+pub returns-in_default-clause-crash : goal.returns-in_default-clause-crash
+returns-in_default-clause-crash g c = survives_same (state g.S.Store c.args.self.now.conn) _
 
 pub returns-clause-committed : goal.returns-clause-committed
 returns-clause-committed g c genesis items rest beside clean =

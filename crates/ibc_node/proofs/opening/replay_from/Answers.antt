@@ -1,0 +1,17 @@
+-- All entries are put to the world of the genesis, so it is their replay.
+use Rattle.sqlite.specs.Held.{state}
+use Rattle.ibc_journal.proofs.Whole.{survives_same}
+use Rattle.ibc_node.proofs.Beside.{restarts}
+use Rattle.ibc_node.proofs.opening.replay_from.Goals as goal
+
+pub returns-clause-restarted : goal.returns-clause-restarted
+returns-clause-restarted g c items has clean =
+    let w = c.in_ok-world.ensures in
+    restarts c.args.genesis.now items w.0 c.in_ok-world.world c.in_ok-past.past.world c.in_ok-past.past.end w.1 w.2 w.3 (c.in_ok-past.ensures.replayed items has clean)
+    c.lemma_what_every_world_keeps.ensures (c.in_ok-past.ensures.read items has clean)
+
+pub returns-in_err-world-clause-crash : goal.returns-in_err-world-clause-crash
+returns-in_err-world-clause-crash g c = survives_same (state g.S.Store c.args.conn.now) _
+
+pub returns-clause-rest : goal.returns-clause-rest
+returns-clause-rest g c = c.in_ok-past.ensures.rest
