@@ -1,5 +1,6 @@
 -- The entries of chains are counted while lines are placed.
-use Rattle.std.proofs.Common.{◌≡◌, ℕ, zero, suc, ◌+◌, ◌<◌, ◌≤◌, Bool, true, false, refl, ap, sym, ◌∙◌, subst, List, [], ◌∷◌, ◌++◌, append_assoc, append-nil, length, replicate, Option, None, Some, ◌⊎◌, inl, inr, arith, ◌==◌, eqb-true, if◌then◌else◌, slice_get, slice_set}
+use Rattle.std.proofs.Common.{◌≡◌, ℕ, zero, suc, ◌+◌, ◌<◌, ◌≤◌, Bool, true, false, refl, ap, sym, ◌∙◌, subst, List, [], ◌∷◌, ◌++◌, append_assoc, append-nil, length, replicate, Option, None, Some, ◌⊎◌, inl, inr, arith, ◌==◌, eqb-true, if◌then◌else◌, slice_get, slice_set, option_map}
+use Rattle.std.specs.Prelude.{is_some}
 use Rattle.std.specs.List.{range_with_len}
 use Rattle.std.specs.Option.{option_map_or, unwrap_or}
 use Rattle.ibc_ids.specs.Texts.{Text}
@@ -138,3 +139,8 @@ all_told ledgers counts none each chain = elim (before_or chain (length counts))
   | inr le ↦ ap (λ (o : Option ℕ). unwrap_or o 0) (past_end counts chain le)
       ∙ sym (ap (λ (o : Option Ledger). option_map_or (λ (ledger : Ledger). length ledger.history) o 0) (got_none ledgers (length counts) chain none le))
 ]
+
+pub nothing_there : {A B : Type 0} (f : A → B) (found : Option A) (some : Bool) (there : Option B) → option_map f found ≡ there
+    → some ≡ is_some found → some ≡ false → there ≡ None
+nothing_there f None some there is was denied = sym is
+nothing_there f (Some x) some there is was denied = absurd (cc (sym was ∙ denied))
