@@ -1,2 +1,5 @@
 pub mod StoredSteps
 pub mod SameStates
+pub mod ChainStates
+pub mod ChainSteps
+pub mod DealtPasses

@@ -1,1 +1,3 @@
 pub mod Replays
+pub mod Publishing
+pub mod ChainReplays
