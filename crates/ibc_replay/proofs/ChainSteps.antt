@@ -1,6 +1,6 @@
 -- A ledger goes on entry by entry.
 use Rattle.std.proofs.Common.{◌≡◌, ◌≢◌, ℕ, ◌<◌, Bool, true, false, List, [], ◌∷◌, ◌++◌, length, map, take, refl, sym, ap, ◌∙◌, subst, Option, Some, slice_get, append_assoc, ⊎_elim}
-use Rattle.std.specs.Prelude.{Result, Ok, Err, OnOk, IfOk, IfErr, IfSome}
+use Rattle.std.specs.Prelude.{◌≤◌, ◌↔◌, IsTrue, Result, Ok, Err, OnOk, IfOk, IfErr, IfSome}
 use Rattle.std.specs.List.{All}
 use Rattle.std.proofs.lemmas.Bool.{false≢true}
 use Rattle.std.proofs.lemmas.List.{map-append}
@@ -8,6 +8,7 @@ use Rattle.std.proofs.lemmas.List.Elements.{All-nil, All-push}
 use Rattle.std.proofs.Math.Seq.{take-append_seam}
 use Rattle.ibc_wire.specs.declared.header.Header.{Header}
 use Rattle.ibc_machine.specs.declared.event.Event.{Event}
+use Rattle.ibc_machine.specs.declared.reply.Reply.{Reply}
 use Rattle.ibc_machine.specs.declared.entry.Entry.{Entry}
 use Rattle.ibc_machine.specs.declared.entry.Reading.{Reading}
 use Rattle.ibc_machine.specs.chain.Genesis.{GenesisState}
@@ -23,7 +24,7 @@ use Rattle.ibc_replay.specs.declared.replaying.Answered.{Answered}
 use Rattle.ibc_replay.specs.declared.chain_replaying.ChainDifference.{ChainDifference}
 use Rattle.ibc_replay.specs.declared.chain_replaying.ChainDifference.TheVariants.{NoGenesis, NoMemory, At, NotPublished, OtherChain}
 use Rattle.ibc_replay.specs.Replays.{entry_of, IsLastReading}
-use Rattle.ibc_replay.specs.ChainReplays.{Heights, AreTooMany, ReadsHeader, ReadsPublished, ReadsTooMany, IsChainReplay, IsOf, IsUpTo, StopsBy, AddsRead, StopsAtEntry}
+use Rattle.ibc_replay.specs.ChainReplays.{Heights, heights_of, AreTooMany, IsAccepted, IsPublished, ReadsHeader, ReadsPublished, ReadsTooMany, IsChainReplay, IsOf, IsUpTo, StopsBy, AddsRead, StopsAtEntry}
 use Rattle.ibc_replay.proofs.StoredSteps.{same_entries}
 use Rattle.ibc_replay.proofs.ChainStates.{same_state}
 
@@ -36,18 +37,18 @@ pub adds_read : (published : Heights) (old new : Ledger) (event : Event) (due : 
 adds_read published old new event due history adds answered is told last read = ⊎_elim
     (λ w. absurd (false≢true (sym (ap is_answered w.0) ∙ answered)))
     (λ w.
-        let e : StampedEntry = w.1.0 in
-        let kept : entries new ≡ entries old ++ e.entry ∷ [] = ap entries w.1.4 ∙ map-append (λ (x : StampedEntry). x.entry) old.history (e ∷ []) in
-        let same : map (λ (x : KeptEntry). x.entry) history ≡ entries new = sym (same_entries history) ∙ ap (map (λ (x : StampedEntry). x.entry)) told in
-        let reading : due.reading ≡ e.entry.reading = last (entries old) e.entry (same ∙ kept) in
-        let entry : e.entry ≡ entry_of event due = λ i. record { event = w.1.2 i; reply = w.1.3 i; reading = sym reading i } in
-        record {
-          of = ap (λ (l : Ledger). l.genesis) w.1.4;
-          number = ap (λ (l : Ledger). l.chain) w.1.4;
-          kept = kept ∙ ap (λ x. entries old ++ x ∷ []) entry;
-          is = is;
-          read = read;
-        })
+    let e : StampedEntry = w.1.0 in
+    let kept : entries new ≡ entries old ++ e.entry ∷ [] = ap entries w.1.4 ∙ map-append (λ (x : StampedEntry). x.entry) old.history (e ∷ []) in
+    let same : map (λ (x : KeptEntry). x.entry) history ≡ entries new = sym (same_entries history) ∙ ap (map (λ (x : StampedEntry). x.entry)) told in
+    let reading : due.reading ≡ e.entry.reading = last (entries old) e.entry (same ∙ kept) in
+    let entry : e.entry ≡ entry_of event due = λ i. record { event = w.1.2 i; reply = w.1.3 i; reading = sym reading i } in
+    record {
+      of = ap (λ (l : Ledger). l.genesis) w.1.4;
+      number = ap (λ (l : Ledger). l.chain) w.1.4;
+      kept = kept ∙ ap (λ x. entries old ++ x ∷ []) entry;
+      is = is;
+      read = read;
+    })
     adds
 
 -- what a header that is brought reads
@@ -55,6 +56,14 @@ pub reads_published : (published : Heights) (event : Event) (due : Answered) (he
     → IfSome due.reading (λ (r : Reading). IfSome header (λ h. ReadsHeader published due.reply h r)) → ReadsPublished published (entry_of event due)
 reads_published published event due header same reads =
     subst (λ (o : Option Header). IfSome due.reading (λ (r : Reading). IfSome o (λ h. ReadsHeader published due.reply h r))) same reads
+
+-- a header that was published is accepted, and no other
+pub reads_header : (published : Heights) (given : Reply) (header : Header) (r : Reading) (accepted told : Bool) → r.published ≤ length (heights_of published header.chain)
+    → (IsTrue accepted ↔ IsAccepted given) → (IsTrue told ↔ IsPublished published header) → (r.row_was_there ≡ Some true → accepted ≡ told) → ReadsHeader published given header r
+reads_header published given header r accepted told high is_accepted is_told same = record {
+  high = high;
+  row = λ there. (λ a. is_told.0 (subst IsTrue (same there) (is_accepted.1 a)), λ p. is_accepted.0 (subst IsTrue (sym (same there)) (is_told.1 p)));
+}
 
 -- ---- one after another
 

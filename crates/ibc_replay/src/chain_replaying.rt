@@ -80,11 +80,7 @@ pub fn replay_chain(
 }
 
 // The ledger of a chain in the beginning, and what publishes for the other chains.
-fn begin(
-    alloc: Global,
-    genesis: &Genesis,
-    chain: u8,
-) -> Result<(Ledger, Vec<Publisher>), Refusal>
+fn begin(alloc: Global, genesis: &Genesis, chain: u8) -> Result<(Ledger, Vec<Publisher>), Refusal>
     requires allowed { IsTrue (is_allowed (genesis_state genesis.now)) }
     requires chain { chain < length genesis.now.chains.items }
     ensures ok { IfOk result (λ begun. IsBegun (genesis_state genesis.now) chain begun.0.ledger) }
@@ -232,11 +228,7 @@ fn publish_as_read(
 
 // What is due at an event of the ledger's chain, or none where a growth is refused. That the ledger read what nobody published,
 // which it never does, is told as want of memory.
-fn answer(
-    ledger: &mut Ledger,
-    published: &[Vec<(Root, u64)>],
-    event: Event,
-) -> Option<Answered>
+fn answer(ledger: &mut Ledger, published: &[Vec<(Root, u64)>], event: Event) -> Option<Answered>
     requires { chain_of event ≡ ledger.old.ledger.chain }
     ensures { IfSome result (λ due. AddsRead (heights_in published.now) ledger.old.ledger (entry_of event due) ledger.new.ledger) }
 {
@@ -337,7 +329,21 @@ fn is_published_reading(
     if reading.published > heights_of(published, header.chain).len() as u64 {
         return false;
     }
-    reading.row_was_there != Some(true) || is_accepted(reply) == is_published(published, &header)
+    is_by_row(
+        reading.row_was_there,
+        is_accepted(reply),
+        is_published(published, &header),
+    )
+}
+
+// Where a row was there, the header is accepted just where it is the published one.
+fn is_by_row(row_was_there: Option<bool>, is_accepted: bool, is_published: bool) -> bool
+    ensures { IsTrue result → row_was_there ≡ Some true → is_accepted ≡ is_published }
+{
+    match row_was_there {
+        Some(true) => is_accepted == is_published,
+        _ => true,
+    }
 }
 
 // Whether a reply is no refusal.

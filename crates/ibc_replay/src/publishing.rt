@@ -7,7 +7,6 @@ ghost use Rattle.ibc_replay.specs.Publishing.{IsOwnPassOf};
 use ibc_ids::{Refusal, Root};
 use ibc_root_table::{Pass, RootTable};
 use std::alloc::Global;
-use std::cmp::Ordering;
 use std::marker::Model;
 use std::sync::Arc;
 
@@ -29,6 +28,13 @@ impl Model for Publisher {
 }
 
 impl Publisher {
+    fn new(table: Arc<RootTable, Global>, pass: Pass) -> Publisher
+        requires { IsOwnPassOf table.value pass }
+        ensures { result ≡ table.value }
+    {
+        Publisher { table, pass }
+    }
+
     // How many heights the chain has published.
     fn published(&mut self, chain: u8) -> u64
         ensures { self.new ≡ self.old }
@@ -67,7 +73,7 @@ pub fn publishers_of(
     let mut publishers = Vec::with_capacity(alloc, passes.len())?;
     for pass in passes {
         let table = Arc::try_clone(table)?;
-        publishers.push(Publisher { table, pass })?;
+        publishers.push(Publisher::new(table, pass))?;
     }
     Ok(publishers)
 }
@@ -91,9 +97,11 @@ pub fn publish_up_to(
 
 // Where a chain stands among all but one.
 fn place_among(but: u8, chain: u8) -> Option<usize> {
-    match chain.cmp(&but) {
-        Ordering::Less => Some(usize::from(chain)),
-        Ordering::Equal => None,
-        Ordering::Greater => Some(usize::from(chain) - 1),
+    if chain < but {
+        Some(usize::from(chain))
+    } else if chain > but {
+        Some(usize::from(chain) - 1)
+    } else {
+        None
     }
 }

@@ -68,7 +68,12 @@ fn replayed(
 }
 
 // Where and how the replay differs.
-fn difference(rt: &impl Abort, alloc: Global, heights: Heights, list: Vec<Entry>) -> ChainDifference {
+fn difference(
+    rt: &impl Abort,
+    alloc: Global,
+    heights: Heights,
+    list: Vec<Entry>,
+) -> ChainDifference {
     match replayed(rt, alloc, heights, list) {
         Ok(ledger) => {
             drop(ledger);
