@@ -1,3 +1,1 @@
 pub mod Replays
-pub mod Publishing
-pub mod ChainReplays

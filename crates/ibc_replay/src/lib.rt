@@ -2,11 +2,8 @@
 //! starts again.
 #![tactic(auto)]
 
-mod chain_replaying;
-mod publishing;
 mod replaying;
 
-pub use chain_replaying::{ChainDifference, replay_chain};
 pub use replaying::{Answered, Difference, replay, replay_on};
 
 #[cfg(test)]

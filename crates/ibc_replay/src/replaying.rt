@@ -138,7 +138,7 @@ fn compare(place: usize, due: Answered, stored: Answered) -> Result<(), Differen
     }
 }
 
-pub(crate) fn is_same(due: &Answered, stored: &Answered) -> bool
+fn is_same(due: &Answered, stored: &Answered) -> bool
     ensures { IsTrue result ↔ (due.now ≡ stored.now) }
 {
     is_same_reply(&due.reply, &stored.reply) && is_same_reading(due.reading, stored.reading)
@@ -157,7 +157,7 @@ fn is_same_reading(due: Option<Reading>, stored: Option<Reading>) -> bool
 }
 
 // The number of an event's chain.
-pub(crate) fn chain_of(event: &Event) -> u8
+fn chain_of(event: &Event) -> u8
     ensures { result ≡ chain_of event.now }
 {
     match event {
@@ -174,7 +174,7 @@ fn has_chain(world: &World, chain: u8) -> bool
 }
 
 // Whether memory didn't run out.
-pub(crate) fn is_answered(reply: &Reply) -> bool
+fn is_answered(reply: &Reply) -> bool
     ensures { result ≡ is_answered reply.now }
 {
     !matches!(reply, Reply::No(Refusal::NoMemory))
@@ -191,7 +191,7 @@ fn last_reading(world: &World, chain: u8) -> Option<Reading>
 }
 
 // What was read for the last entry of a history.
-pub(crate) fn last_in(history: &[StampedEntry]) -> Option<Reading>
+fn last_in(history: &[StampedEntry]) -> Option<Reading>
     ensures { IsLastReading (map (λ e. e.entry) history.now) result }
 {
     match history {

@@ -1,6 +1,5 @@
 //! A run of two chains is stored, and replayed as it was and with a difference.
 
-mod one_chain;
 mod pair;
 
 use crate::{Difference, replay, replay_on};

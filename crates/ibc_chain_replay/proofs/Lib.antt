@@ -1,0 +1,3 @@
+pub mod ChainStates
+pub mod ChainSteps
+pub mod DealtPasses
