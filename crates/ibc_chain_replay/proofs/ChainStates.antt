@@ -32,21 +32,21 @@ use Rattle.ibc_machine.specs.promises.Worlds.{entries}
 -- ---- an update, by its reply
 
 -- what becomes of an update, by the client, by whether the height is published, and by what stands there
-abbrev update_checked : UpdateClient → Core → Option Client → Bool → PublishedRow → Checked (Effect × Core)
+abbrev pub update_checked : UpdateClient → Core → Option Client → Bool → PublishedRow → Checked (Effect × Core)
 update_checked m core client published row =
     expect client UnknownClient
     >>= λ (c : Client). (require (is_of_client c m.header) WrongHeader >> (require published NotPublished >> (require_row row >> Ok (effect.None, with_client m.client (with_known_height m.header.height c) core))))
 
-abbrev updated : UpdateClient → LedgerState → Checked (Effect × Core) → Reply × LedgerState
+abbrev pub updated : UpdateClient → LedgerState → Checked (Effect × Core) → Reply × LedgerState
 updated m state checked =
     after_answer (message.UpdateClient m) state (after_message state.chain (checked >>= λ ((effect, after) : Effect × Core). Ok (effect, after, state.chain.records.apps)))
 
 module _ (m : UpdateClient) (state : LedgerState) where
-  abbrev answer : Option Client → Bool → PublishedRow → Reply × LedgerState
+  abbrev pub answer : Option Client → Bool → PublishedRow → Reply × LedgerState
   answer client published row = updated m state (update_checked m state.chain.records.core client published row)
 
   -- what is behind the check of the client
-  abbrev of_client : Client → Bool → Bool → PublishedRow → Reply × LedgerState
+  abbrev pub of_client : Client → Bool → Bool → PublishedRow → Reply × LedgerState
   of_client c ours published row =
       updated m state (require ours WrongHeader >> (require published NotPublished >> (require_row row >> Ok (effect.None, with_client m.client (with_known_height m.header.height c) state.chain.records.core))))
 
@@ -94,7 +94,7 @@ module _ (genesis : GenesisState) (k : ℕ) (one other : List Publication) (read
   unfolding ledger_answer
   same_block next_time = refl
 
-same_answer : (genesis : GenesisState) (k : ℕ) (one other : List Publication) (state : LedgerState) (e : Entry)
+pub same_answer : (genesis : GenesisState) (k : ℕ) (one other : List Publication) (state : LedgerState) (e : Entry)
     → (ledger_answer genesis k one e.reading state e.event).0 ≡ (ledger_answer genesis k other e.reading state e.event).0
     → ledger_answer genesis k one e.reading state e.event ≡ ledger_answer genesis k other e.reading state e.event
 same_answer genesis k one other state e =
@@ -106,6 +106,18 @@ same_answer genesis k one other state e =
 -- ---- whole histories
 
 module _ (l m : Ledger) (genesis : l.genesis ≡ m.genesis) (chain : l.chain ≡ m.chain) where
+  -- the same entry leaves the same state
+  pub same_after : (state : LedgerState) (e f : StampedEntry) → e.entry ≡ f.entry → e.entry.reply ≡ (entry_answer l.genesis l.chain l.seen state e).0
+      → f.entry.reply ≡ (entry_answer m.genesis m.chain m.seen state f).0 → (entry_answer l.genesis l.chain l.seen state e).1 ≡ (entry_answer m.genesis m.chain m.seen state f).1
+  same_after state e f first own others =
+      let moved : ledger_answer m.genesis m.chain m.seen f.entry.reading state f.entry.event ≡ ledger_answer l.genesis l.chain m.seen e.entry.reading state e.entry.event =
+      λ i. ledger_answer (sym genesis i) (sym chain i) m.seen (sym first i).reading state (sym first i).event
+      in
+      let reply : (ledger_answer l.genesis l.chain l.seen e.entry.reading state e.entry.event).0 ≡ (ledger_answer l.genesis l.chain m.seen e.entry.reading state e.entry.event).0 =
+      sym own ∙ ap (λ (x : Entry). x.reply) first ∙ others ∙ ap (λ (a : Reply × LedgerState). a.0) moved
+      in
+      ap (λ (a : Reply × LedgerState). a.1) (same_answer l.genesis l.chain l.seen m.seen state e.entry reply ∙ sym moved)
+
   same_replay : (state : LedgerState) (one other : List StampedEntry) → map (λ (e : StampedEntry). e.entry) one ≡ map (λ (e : StampedEntry). e.entry) other
       → AllByRecursion (IsOwnEntry l) (met_states l.genesis l.chain l.seen state one) → AllByRecursion (IsOwnEntry m) (met_states m.genesis m.chain m.seen state other)
       → replay l.genesis l.chain l.seen state one ≡ replay m.genesis m.chain m.seen state other
@@ -115,15 +127,7 @@ module _ (l m : Ledger) (genesis : l.genesis ≡ m.genesis) (chain : l.chain ≡
   same_replay state (e ∷ one) (f ∷ other) same own others =
       let first : e.entry ≡ f.entry = cc in
       let rest : map (λ (x : StampedEntry). x.entry) one ≡ map (λ (x : StampedEntry). x.entry) other = cc in
-      let moved : ledger_answer m.genesis m.chain m.seen f.entry.reading state f.entry.event ≡ ledger_answer l.genesis l.chain m.seen e.entry.reading state e.entry.event =
-      λ i. ledger_answer (sym genesis i) (sym chain i) m.seen (sym first i).reading state (sym first i).event
-      in
-      let reply : (ledger_answer l.genesis l.chain l.seen e.entry.reading state e.entry.event).0 ≡ (ledger_answer l.genesis l.chain m.seen e.entry.reading state e.entry.event).0 =
-      sym own.0.reply ∙ ap (λ (x : Entry). x.reply) first ∙ others.0.reply ∙ ap (λ (a : Reply × LedgerState). a.0) moved
-      in
-      let after : (entry_answer l.genesis l.chain l.seen state e).1 ≡ (entry_answer m.genesis m.chain m.seen state f).1 =
-      ap (λ (a : Reply × LedgerState). a.1) (same_answer l.genesis l.chain l.seen m.seen state e.entry reply ∙ sym moved)
-      in
+      let after = same_after state e f first own.0.reply others.0.reply in
       let owned : AllByRecursion (IsOwnEntry l) (met_states l.genesis l.chain l.seen (entry_answer m.genesis m.chain m.seen state f).1 one) =
       subst (λ s. AllByRecursion (IsOwnEntry l) (met_states l.genesis l.chain l.seen s one)) after own.1
       in

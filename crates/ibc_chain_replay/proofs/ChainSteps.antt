@@ -27,6 +27,7 @@ use Rattle.ibc_replay.specs.Replays.{entry_of, IsLastReading}
 use Rattle.ibc_chain_replay.specs.ChainReplays.{Heights, heights_of, AreTooMany, IsAccepted, IsPublished, ReadsHeader, ReadsPublished, ReadsTooMany, IsChainReplay, IsOf, IsUpTo, StopsBy, AddsRead, StopsAtEntry}
 use Rattle.ibc_replay.proofs.StoredSteps.{same_entries}
 use Rattle.ibc_chain_replay.proofs.ChainStates.{same_state}
+use Rattle.ibc_chain_replay.proofs.ForcedReplies.{forced}
 
 -- ---- one entry
 
@@ -106,13 +107,16 @@ module _ (genesis : GenesisState) (chain : ℕ) (published : Heights) where
 
     pub stops_at : (here : ℕ) (why : ChainDifference) → here ≡ length done → StopsAtEntry published mid here entry why new → StopsBy genesis chain published all why
     stops_at here (At place due stored) at why =
-        let there = why.0 ∙ at in (
+        let there = why.0 ∙ at in
+        let front = done_is place there in
+        let next = subst (λ l. IsOf genesis chain published (l ++ entry_of entry.event due ∷ []) new) (sym front) (goes_on done (entry_of entry.event due) mid new so_far why.2) in (
           entry.event,
           mid,
           new,
           is_up_to place stored there why.1,
-          subst (λ l. IsOf genesis chain published (l ++ entry_of entry.event due ∷ []) new) (sym (done_is place there)) (goes_on done (entry_of entry.event due) mid new so_far why.2),
+          next,
           why.3,
+          forced genesis chain published (take place all) entry.event due stored new next why.3,
         )
     stops_at here (NotPublished place stored) at why =
         let there = why.0 ∙ at in

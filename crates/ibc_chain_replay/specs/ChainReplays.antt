@@ -49,7 +49,7 @@ IsAccepted (reply.No refusal) = ⊥
 -- was accepted just where the header is the published one.
 pub record ReadsHeader (published : Heights) (given : Reply) (header : Header) (r : Reading) : Type 0 where
   pub high : r.published ≤ length (heights_of published header.chain)
-  pub row : r.row_was_there ≡ Some true → IsAccepted given ↔ IsPublished published header
+  pub row : r.row_was_there ≡ Some true → (IsAccepted given ↔ IsPublished published header)
 
 abbrev pub ReadsPublished : Heights → Entry → Type 0
 ReadsPublished published e =
@@ -94,12 +94,18 @@ pub record IsUpTo (genesis : GenesisState) (chain : ℕ) (published : Heights) (
   pub is : IsOf genesis chain published (take place list) ledger
   pub next : slice_get list place ≡ Some (entry_of event stored)
 
+-- where a ledger of the chain has the stored entry behind these, it read otherwise than at the due one
+abbrev pub IsForced : GenesisState → ℕ → Heights → List Entry → Event → Answered → Answered → Type 0
+IsForced genesis chain published front event due stored = (ledger : Ledger)
+    → IsOf genesis chain published (front ++ entry_of event stored ∷ []) ledger → due.reading ≢ stored.reading
+
 -- A ledger of the chain, whose history is as the list says up to a place, stops there. It answered otherwise and kept that; or no
 -- ledger read so; or the event is for another chain.
 abbrev pub StopsBy : GenesisState → ℕ → Heights → List Entry → ChainDifference → Type 0
 StopsBy genesis chain published list (At place due stored) =
     (event : Event) × (mid : Ledger) × (new : Ledger) × IsUpTo genesis chain published list place event stored mid
     × IsOf genesis chain published (take place list ++ entry_of event due ∷ []) new × (due ≢ stored)
+    × IsForced genesis chain published (take place list) event due stored
 StopsBy genesis chain published list (NotPublished place stored) =
     (event : Event) × (mid : Ledger) × IsUpTo genesis chain published list place event stored mid
     × ReadsTooMany published (entry_of event stored)
