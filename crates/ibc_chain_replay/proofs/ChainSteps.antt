@@ -24,7 +24,7 @@ use Rattle.ibc_replay.specs.declared.replaying.Answered.{Answered}
 use Rattle.ibc_chain_replay.specs.declared.replaying.ChainDifference.{ChainDifference}
 use Rattle.ibc_chain_replay.specs.declared.replaying.ChainDifference.TheVariants.{NoGenesis, NoMemory, At, NotPublished, OtherChain}
 use Rattle.ibc_replay.specs.Replays.{entry_of, IsLastReading}
-use Rattle.ibc_chain_replay.specs.ChainReplays.{Heights, heights_of, AreTooMany, IsAccepted, IsPublished, ReadsHeader, ReadsPublished, ReadsTooMany, IsChainReplay, IsOf, IsUpTo, StopsBy, AddsRead, StopsAtEntry}
+use Rattle.ibc_chain_replay.specs.ChainReplays.{Heights, heights_of, AreTooMany, IsAccepted, IsPublished, ReadsHeader, ReadsPublished, ReadsTooMany, IsChainReplay, HasHistory, AgreesUpTo, DiffersBy, AddsRead, StopsAtEntry}
 use Rattle.ibc_replay.proofs.StoredSteps.{same_entries}
 use Rattle.ibc_chain_replay.proofs.ChainStates.{same_state}
 use Rattle.ibc_chain_replay.proofs.ForcedReplies.{forced}
@@ -68,7 +68,7 @@ reads_header published given header r accepted told high is_accepted is_told sam
 
 -- ---- one after another
 
-pub begins : (published : Heights) (ledger : Ledger) → ledger.history ≡ [] → IsLedger ledger → IsOf ledger.genesis ledger.chain published [] ledger
+pub begins : (published : Heights) (ledger : Ledger) → ledger.history ≡ [] → IsLedger ledger → HasHistory ledger.genesis ledger.chain published [] ledger
 begins published ledger none is = record {
   of = refl;
   number = refl;
@@ -78,7 +78,7 @@ begins published ledger none is = record {
 }
 
 module _ (genesis : GenesisState) (chain : ℕ) (published : Heights) where
-  pub goes_on : (done : List Entry) (e : Entry) (mid new : Ledger) → IsOf genesis chain published done mid → AddsRead published mid e new → IsOf genesis chain published (done ++ e ∷ []) new
+  pub goes_on : (done : List Entry) (e : Entry) (mid new : Ledger) → HasHistory genesis chain published done mid → AddsRead published mid e new → HasHistory genesis chain published (done ++ e ∷ []) new
   goes_on done e mid new so_far next = record {
     of = next.of ∙ so_far.of;
     number = next.number ∙ so_far.number;
@@ -89,7 +89,7 @@ module _ (genesis : GenesisState) (chain : ℕ) (published : Heights) where
 
   -- ---- where it stops
 
-  module _ (mid new : Ledger) (done rest all : List Entry) (entry : Entry) (so_far : IsOf genesis chain published done mid) (whole : done ++ entry ∷ rest ≡ all) where
+  module _ (mid new : Ledger) (done rest all : List Entry) (entry : Entry) (so_far : HasHistory genesis chain published done mid) (whole : done ++ entry ∷ rest ≡ all) where
     done_is : (place : ℕ) → place ≡ length done → take place all ≡ done
     done_is place at = ap (λ n. take n all) at ∙ ap (take (length done)) (sym whole) ∙ take-append_seam done (entry ∷ rest)
 
@@ -99,17 +99,17 @@ module _ (genesis : GenesisState) (chain : ℕ) (published : Heights) where
         ∙ ap (λ l. slice_get l (length done)) (sym (append_assoc done (entry ∷ []) rest ∙ whole))
         ∙ get_more (done ++ entry ∷ []) rest (length done) entry (get_last done entry)
 
-    is_up_to : (place : ℕ) (stored : Answered) → place ≡ length done → entry ≡ entry_of entry.event stored → IsUpTo genesis chain published all place entry.event stored mid
+    is_up_to : (place : ℕ) (stored : Answered) → place ≡ length done → entry ≡ entry_of entry.event stored → AgreesUpTo genesis chain published all place entry.event stored mid
     is_up_to place stored at is = record {
-      is = subst (λ l. IsOf genesis chain published l mid) (sym (done_is place at)) so_far;
+      is = subst (λ l. HasHistory genesis chain published l mid) (sym (done_is place at)) so_far;
       next = entry_is place at ∙ ap Some is;
     }
 
-    pub stops_at : (here : ℕ) (why : ChainDifference) → here ≡ length done → StopsAtEntry published mid here entry why new → StopsBy genesis chain published all why
+    pub stops_at : (here : ℕ) (why : ChainDifference) → here ≡ length done → StopsAtEntry published mid here entry why new → DiffersBy genesis chain published all why
     stops_at here (At place due stored) at why =
         let there = why.0 ∙ at in
         let front = done_is place there in
-        let next = subst (λ l. IsOf genesis chain published (l ++ entry_of entry.event due ∷ []) new) (sym front) (goes_on done (entry_of entry.event due) mid new so_far why.2) in (
+        let next = subst (λ l. HasHistory genesis chain published (l ++ entry_of entry.event due ∷ []) new) (sym front) (goes_on done (entry_of entry.event due) mid new so_far why.2) in (
           entry.event,
           mid,
           new,
@@ -147,14 +147,14 @@ module _ (published : Heights) (old new : Ledger) (event : Event) (due stored : 
 -- ---- whole lists
 
 module _ (genesis : GenesisState) (chain : ℕ) (published : Heights) (list : List Entry) where
-  pub of_this : (g : GenesisState) (k : ℕ) (r : Result LedgerModel ChainDifference) → g ≡ genesis → k ≡ chain → IfOk r (λ (after : LedgerModel). IsOf g k published list after.ledger)
-      → IfOk r (λ (after : LedgerModel). IsOf genesis chain published list after.ledger)
-  of_this g k r same number is = subst (λ (p : GenesisState × ℕ). IfOk r (λ (after : LedgerModel). IsOf p.0 p.1 published list after.ledger)) (λ i. (same i, number i)) is
+  pub of_this : (g : GenesisState) (k : ℕ) (r : Result LedgerModel ChainDifference) → g ≡ genesis → k ≡ chain → IfOk r (λ (after : LedgerModel). HasHistory g k published list after.ledger)
+      → IfOk r (λ (after : LedgerModel). HasHistory genesis chain published list after.ledger)
+  of_this g k r same number is = subst (λ (p : GenesisState × ℕ). IfOk r (λ (after : LedgerModel). HasHistory p.0 p.1 published list after.ledger)) (λ i. (same i, number i)) is
 
-  pub stops_of_this : (g : GenesisState) (k : ℕ) (r : Result LedgerModel ChainDifference) → g ≡ genesis → k ≡ chain → IfErr r (StopsBy g k published list) → IfErr r (StopsBy genesis chain published list)
-  stops_of_this g k r same number stops = subst (λ (p : GenesisState × ℕ). IfErr r (StopsBy p.0 p.1 published list)) (λ i. (same i, number i)) stops
+  pub stops_of_this : (g : GenesisState) (k : ℕ) (r : Result LedgerModel ChainDifference) → g ≡ genesis → k ≡ chain → IfErr r (DiffersBy g k published list) → IfErr r (DiffersBy genesis chain published list)
+  stops_of_this g k r same number stops = subst (λ (p : GenesisState × ℕ). IfErr r (DiffersBy p.0 p.1 published list)) (λ i. (same i, number i)) stops
 
-  pub is_replay : (r : Result LedgerModel ChainDifference) → IfOk r (λ (after : LedgerModel). IsOf genesis chain published list after.ledger)
+  pub is_replay : (r : Result LedgerModel ChainDifference) → IfOk r (λ (after : LedgerModel). HasHistory genesis chain published list after.ledger)
       → IfOk r (λ (after : LedgerModel). IsChainReplay genesis chain published list after.ledger)
   is_replay (Ok after) is = record {
     is = is;
@@ -162,9 +162,9 @@ module _ (genesis : GenesisState) (chain : ℕ) (published : Heights) (list : Li
   }
   is_replay (Err why) is = tt
 
-  pub is_no_replay : (r : Result LedgerModel ChainDifference) → IfErr r (StopsBy genesis chain published list) → IfErr r (λ why. why ≢ NoGenesis → StopsBy genesis chain published list why)
+  pub is_no_replay : (r : Result LedgerModel ChainDifference) → IfErr r (DiffersBy genesis chain published list) → IfErr r (λ why. why ≢ NoGenesis → DiffersBy genesis chain published list why)
   is_no_replay (Ok after) stops = tt
   is_no_replay (Err why) stops = λ some. stops
 
-  pub begins_so : (r : Result LedgerModel ChainDifference) → IfErr r (StopsBy genesis chain published list) → r ≡ Err NoGenesis → ⊥
-  begins_so r stops is = subst (λ (x : Result LedgerModel ChainDifference). IfErr x (StopsBy genesis chain published list)) is stops
+  pub begins_so : (r : Result LedgerModel ChainDifference) → IfErr r (DiffersBy genesis chain published list) → r ≡ Err NoGenesis → ⊥
+  begins_so r stops is = subst (λ (x : Result LedgerModel ChainDifference). IfErr x (DiffersBy genesis chain published list)) is stops

@@ -31,7 +31,7 @@ use Rattle.ibc_ids.specs.Publications.{row_at}
 use Rattle.std.specs.Option.{option_map_or}
 use Rattle.ibc_replay.specs.declared.replaying.Answered.{Answered}
 use Rattle.ibc_replay.specs.Replays.{entry_of}
-use Rattle.ibc_chain_replay.specs.ChainReplays.{Heights, IsAccepted, IsPublished, ReadsPublished, IsOf, IsForced}
+use Rattle.ibc_chain_replay.specs.ChainReplays.{Heights, IsAccepted, IsPublished, ReadsPublished, HasHistory, IsForced}
 use Rattle.ibc_chain_replay.proofs.ChainStates.{answer, of_client, same_after}
 
 -- ---- an update whose row was there
@@ -162,7 +162,7 @@ same_reply published l m genesis chain is_l is_m front ev o a b one other reads 
 -- ---- what is due
 
 pub forced : (genesis : GenesisState) (chain : ℕ) (published : Heights) (front : List Entry) (event : Event) (due stored : Answered) (new : Ledger)
-    → IsOf genesis chain published (front ++ entry_of event due ∷ []) new → due ≢ stored → IsForced genesis chain published front event due stored
+    → HasHistory genesis chain published (front ++ entry_of event due ∷ []) new → due ≢ stored → IsForced genesis chain published front event due stored
 forced genesis chain published front event due stored new is apart ledger others same =
     let reads : ReadsPublished published (entry_of event due) = (All-pop (ReadsPublished published) (front ++ entry_of event due ∷ []) front (Some (entry_of event due)) refl is.read).1 in
     let told : ReadsPublished published (entry_of event stored) = (All-pop (ReadsPublished published) (front ++ entry_of event stored ∷ []) front (Some (entry_of event stored)) refl others.read).1 in

@@ -66,14 +66,14 @@ ReadsTooMany published e = AreTooMany published (header_in e.event) e.reading
 -- ---- a history that is as it is due
 
 -- the ledger of the chain in the beginning
-pub record IsBegun (genesis : GenesisState) (chain : ℕ) (ledger : Ledger) : Type 0 where
+pub record IsUnasked (genesis : GenesisState) (chain : ℕ) (ledger : Ledger) : Type 0 where
   pub of : ledger.genesis ≡ genesis
   pub number : ledger.chain ≡ chain
   pub unasked : ledger.history ≡ []
 
 -- A ledger of the chain of the genesis, whose history is just the list: each reply is the one that is due. What it read of other
 -- chains, they published.
-pub record IsOf (genesis : GenesisState) (chain : ℕ) (published : Heights) (list : List Entry) (ledger : Ledger) : Type 0 where
+pub record HasHistory (genesis : GenesisState) (chain : ℕ) (published : Heights) (list : List Entry) (ledger : Ledger) : Type 0 where
   pub of : ledger.genesis ≡ genesis
   pub number : ledger.chain ≡ chain
   pub kept : entries ledger ≡ list
@@ -82,37 +82,37 @@ pub record IsOf (genesis : GenesisState) (chain : ℕ) (published : Heights) (li
 
 -- It is in the state of the ledger that was stored.
 pub record IsChainReplay (genesis : GenesisState) (chain : ℕ) (published : Heights) (list : List Entry) (ledger : Ledger) : Type 0 where
-  pub is : IsOf genesis chain published list ledger
+  pub is : HasHistory genesis chain published list ledger
   pub state : (stored : Ledger) → IsLedger stored → stored.genesis ≡ genesis → stored.chain ≡ chain → entries stored ≡ list
       → state_of stored ≡ state_of ledger
 
 -- ---- a history that is not
 
 -- up to a place the ledger's history is as the list says, and the next entry has this event and this answer
-pub record IsUpTo (genesis : GenesisState) (chain : ℕ) (published : Heights) (list : List Entry) (place : ℕ) (event : Event)
+pub record AgreesUpTo (genesis : GenesisState) (chain : ℕ) (published : Heights) (list : List Entry) (place : ℕ) (event : Event)
     (stored : Answered) (ledger : Ledger) : Type 0 where
-  pub is : IsOf genesis chain published (take place list) ledger
+  pub is : HasHistory genesis chain published (take place list) ledger
   pub next : slice_get list place ≡ Some (entry_of event stored)
 
 -- where a ledger of the chain has the stored entry behind these, it read otherwise than at the due one
 abbrev pub IsForced : GenesisState → ℕ → Heights → List Entry → Event → Answered → Answered → Type 0
 IsForced genesis chain published front event due stored = (ledger : Ledger)
-    → IsOf genesis chain published (front ++ entry_of event stored ∷ []) ledger → due.reading ≢ stored.reading
+    → HasHistory genesis chain published (front ++ entry_of event stored ∷ []) ledger → due.reading ≢ stored.reading
 
 -- A ledger of the chain, whose history is as the list says up to a place, stops there. It answered otherwise and kept that; or no
 -- ledger read so; or the event is for another chain.
-abbrev pub StopsBy : GenesisState → ℕ → Heights → List Entry → ChainDifference → Type 0
-StopsBy genesis chain published list (At place due stored) =
-    (event : Event) × (mid : Ledger) × (new : Ledger) × IsUpTo genesis chain published list place event stored mid
-    × IsOf genesis chain published (take place list ++ entry_of event due ∷ []) new × (due ≢ stored)
+abbrev pub DiffersBy : GenesisState → ℕ → Heights → List Entry → ChainDifference → Type 0
+DiffersBy genesis chain published list (At place due stored) =
+    (event : Event) × (mid : Ledger) × (new : Ledger) × AgreesUpTo genesis chain published list place event stored mid
+    × HasHistory genesis chain published (take place list ++ entry_of event due ∷ []) new × (due ≢ stored)
     × IsForced genesis chain published (take place list) event due stored
-StopsBy genesis chain published list (NotPublished place stored) =
-    (event : Event) × (mid : Ledger) × IsUpTo genesis chain published list place event stored mid
+DiffersBy genesis chain published list (NotPublished place stored) =
+    (event : Event) × (mid : Ledger) × AgreesUpTo genesis chain published list place event stored mid
     × ReadsTooMany published (entry_of event stored)
-StopsBy genesis chain published list (OtherChain place stored) =
-    (event : Event) × (mid : Ledger) × IsUpTo genesis chain published list place event stored mid × (chain_of event ≢ chain)
-StopsBy genesis chain published list NoMemory = ⊤
-StopsBy genesis chain published list NoGenesis = ⊥
+DiffersBy genesis chain published list (OtherChain place stored) =
+    (event : Event) × (mid : Ledger) × AgreesUpTo genesis chain published list place event stored mid × (chain_of event ≢ chain)
+DiffersBy genesis chain published list NoMemory = ⊤
+DiffersBy genesis chain published list NoGenesis = ⊥
 
 -- ---- one entry
 

@@ -9,7 +9,7 @@ ghost use Rattle.ibc_ledger.specs.LedgerModel.{shape_of};
 ghost use Rattle.ibc_ledger.specs.HistoryGrowth.{AddsOrNot};
 ghost use Rattle.ibc_chain_replay.specs.declared.replaying.ChainDifference.TheVariants.{NoGenesis, At};
 ghost use Rattle.ibc_replay.specs.Replays.{entry_of};
-ghost use Rattle.ibc_chain_replay.specs.ChainReplays.{AddsRead, IsBegun, IsChainReplay, IsOf, StopsAtEntry, StopsBy, heights_in};
+ghost use Rattle.ibc_chain_replay.specs.ChainReplays.{AddsRead, IsUnasked, IsChainReplay, HasHistory, StopsAtEntry, DiffersBy, heights_in};
 
 use crate::answers::{chain_of, header_in, is_answered, is_same, last_in};
 use crate::published::{heights_of, is_enough, is_published_reading};
@@ -65,7 +65,7 @@ pub fn replay_chain(
 ) -> Result<Ledger, ChainDifference>
     requires { chain < length genesis.now.chains.items }
     ensures replayed { IfOk result (λ ledger. IsChainReplay (genesis_state genesis.now) chain (heights_in published.now) entries.items ledger.ledger) }
-    ensures different { IfErr result (λ why. why ≢ NoGenesis → StopsBy (genesis_state genesis.now) chain (heights_in published.now) entries.items why) }
+    ensures different { IfErr result (λ why. why ≢ NoGenesis → DiffersBy (genesis_state genesis.now) chain (heights_in published.now) entries.items why) }
     ensures genesis { (result ≡ Err NoGenesis) ↔ (is_allowed (genesis_state genesis.now) ≡ false) }
 {
     if !is_allowed(genesis) {
@@ -85,7 +85,7 @@ pub fn replay_chain(
 fn begin(alloc: Global, genesis: &Genesis, chain: u8) -> Result<(Ledger, Vec<Publisher>), Refusal>
     requires allowed { IsTrue (is_allowed (genesis_state genesis.now)) }
     requires chain { chain < length genesis.now.chains.items }
-    ensures ok { IfOk result (λ begun. IsBegun (genesis_state genesis.now) chain begun.0.ledger) }
+    ensures ok { IfOk result (λ begun. IsUnasked (genesis_state genesis.now) chain begun.0.ledger) }
     ensures err { IsOkUnless result NoMemory }
 {
     let chains = genesis.chains.len() as u8;
@@ -106,7 +106,7 @@ fn begin_at(
     requires chain { chain < length genesis.now.chains.items }
     requires table { table.value.shape ≡ shape_of (genesis_state genesis.now) }
     requires passes { AreDealt (length genesis.now.chains.items) 0 table.value passes.items }
-    ensures ok { IfOk result (λ begun. IsBegun (genesis_state genesis.now) chain begun.0.ledger) }
+    ensures ok { IfOk result (λ begun. IsUnasked (genesis_state genesis.now) chain begun.0.ledger) }
     ensures err { IsOkUnless result NoMemory }
 {
     let mut others = passes;
@@ -124,8 +124,8 @@ fn replay_from(
     entries: Vec<Entry>,
 ) -> Result<Ledger, ChainDifference>
     requires { ledger.ledger.history ≡ [] }
-    ensures replayed { IfOk result (λ after. IsOf ledger.ledger.genesis ledger.ledger.chain (heights_in published.now) entries.items after.ledger) }
-    ensures different { IfErr result (StopsBy ledger.ledger.genesis ledger.ledger.chain (heights_in published.now) entries.items) }
+    ensures replayed { IfOk result (λ after. HasHistory ledger.ledger.genesis ledger.ledger.chain (heights_in published.now) entries.items after.ledger) }
+    ensures different { IfErr result (DiffersBy ledger.ledger.genesis ledger.ledger.chain (heights_in published.now) entries.items) }
 {
     let mut ledger = ledger;
     let mut publishers = publishers;
@@ -150,9 +150,9 @@ fn replay_entries(
     published: &[Vec<(Root, u64)>],
     entries: Vec<Entry>,
 ) -> Result<(), ChainDifference>
-    requires { IsOf ledger.old.ledger.genesis ledger.old.ledger.chain (heights_in published.now) [] ledger.old.ledger }
-    ensures replayed { OnOk result (IsOf ledger.old.ledger.genesis ledger.old.ledger.chain (heights_in published.now) entries.items ledger.new.ledger) }
-    ensures different { IfErr result (StopsBy ledger.old.ledger.genesis ledger.old.ledger.chain (heights_in published.now) entries.items) }
+    requires { HasHistory ledger.old.ledger.genesis ledger.old.ledger.chain (heights_in published.now) [] ledger.old.ledger }
+    ensures replayed { OnOk result (HasHistory ledger.old.ledger.genesis ledger.old.ledger.chain (heights_in published.now) entries.items ledger.new.ledger) }
+    ensures different { IfErr result (DiffersBy ledger.old.ledger.genesis ledger.old.ledger.chain (heights_in published.now) entries.items) }
 {
     let mut place = 0;
     for stored in entries {

@@ -6,7 +6,7 @@ use crate::{ChainDifference, replay_chain};
 use ibc_ids::{Refusal, Root};
 use ibc_ledger::Ledger;
 use ibc_machine::{Effect, Entry, Event, Reading, Reply};
-use run::{Run, entries, genesis, play};
+use run::{TwoChains, entries, genesis, play};
 use std::alloc::Global;
 use std::process::Abort;
 
@@ -14,7 +14,7 @@ use std::process::Abort;
 type Heights = Vec<Vec<(Root, u64)>>;
 
 // What the first chain published; the second one's own heights aren't asked for.
-fn published(rt: &impl Abort, alloc: Global, run: &Run) -> Heights {
+fn published(rt: &impl Abort, alloc: Global, run: &TwoChains) -> Heights {
     let mut first = Vec::new(alloc);
     for height in run.heights.iter() {
         first.push(*height).ok().expect(rt, "memory");
@@ -53,7 +53,7 @@ fn difference(
 }
 
 // Whether a ledger has as many entries as the run's second one, and the same root.
-fn is_as_stored(rt: &impl Abort, run: &Run, ledger: &Ledger) -> bool {
+fn is_as_stored(rt: &impl Abort, run: &TwoChains, ledger: &Ledger) -> bool {
     let kept = run.world.ledger(1).expect(rt, "a chain");
     let view = ledger.view().expect(rt, "memory");
     let stored = kept.view().expect(rt, "memory");
@@ -96,7 +96,7 @@ fn is_refused_at(why: &ChainDifference, here: usize, refusal: Refusal) -> bool {
 }
 
 // A changed reply is found at its place.
-fn check_refusal(rt: &impl Abort, alloc: Global, run: &Run, place: usize, refusal: Refusal) {
+fn check_refusal(rt: &impl Abort, alloc: Global, run: &TwoChains, place: usize, refusal: Refusal) {
     let mut list = entries(rt, alloc, run);
     let entry = list.get_mut(place).expect(rt, "an entry");
     entry.reply = Reply::No(refusal);
@@ -118,7 +118,7 @@ fn changed_replies_are_found_at_their_places(rt: HostRuntime) {
 }
 
 // The replay beside the first so many heights.
-fn beside(rt: &impl Abort, alloc: Global, run: &Run, count: usize) -> ChainDifference {
+fn beside(rt: &impl Abort, alloc: Global, run: &TwoChains, count: usize) -> ChainDifference {
     let list = entries(rt, alloc, run);
     let mut heights = published(rt, alloc, run);
     heights.get_mut(0).expect(rt, "a chain").truncate(count);
@@ -154,7 +154,7 @@ fn is_wrong_header(why: &ChainDifference) -> bool {
 }
 
 // Whether the replay finds out that the first height was published with this root and time.
-fn finds_first(rt: &impl Abort, alloc: Global, run: &Run, root: Root, time: u64) -> bool {
+fn finds_first(rt: &impl Abort, alloc: Global, run: &TwoChains, root: Root, time: u64) -> bool {
     let list = entries(rt, alloc, run);
     let mut heights = published(rt, alloc, run);
     let first = heights.get_mut(0).expect(rt, "a chain");
@@ -180,7 +180,7 @@ fn another_root_and_another_time_are_found(rt: HostRuntime) {
 fn finds_reading(
     rt: &impl Abort,
     alloc: Global,
-    run: &Run,
+    run: &TwoChains,
     here: usize,
     reading: Option<Reading>,
 ) -> bool {

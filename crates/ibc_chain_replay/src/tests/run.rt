@@ -26,7 +26,7 @@ pub fn genesis(rt: &impl Abort, alloc: Global) -> Genesis {
 
 /// What the second chain is asked.
 #[derive(Clone, Copy)]
-pub enum Asked {
+pub enum SecondEvent {
     Create,
     Update(Header),
     Block(u64),
@@ -34,17 +34,17 @@ pub enum Asked {
 
 /// An entry as it is stored.
 #[derive(Drop)]
-pub struct StoredEntry {
-    pub asked: Asked,
+pub struct SecondEntry {
+    pub asked: SecondEvent,
     pub reply: Reply,
     pub reading: Option<Reading>,
 }
 
 /// A world, what was stored of the second chain, and what the first one published.
 #[derive(Drop)]
-pub struct Run {
+pub struct TwoChains {
     pub world: World,
-    pub stored: Vec<StoredEntry>,
+    pub stored: Vec<SecondEntry>,
     pub heights: Vec<(Root, u64)>,
 }
 
@@ -53,20 +53,20 @@ fn client(rt: &impl Abort, alloc: Global) -> ClientId {
 }
 
 // The event that is asked.
-fn event(rt: &impl Abort, alloc: Global, asked: Asked) -> Event {
+fn event(rt: &impl Abort, alloc: Global, asked: SecondEvent) -> Event {
     match asked {
-        Asked::Create => Event::Message {
+        SecondEvent::Create => Event::Message {
             chain: 1,
             message: Message::CreateClient(CreateClient { chain: 0 }),
         },
-        Asked::Update(header) => Event::Message {
+        SecondEvent::Update(header) => Event::Message {
             chain: 1,
             message: Message::UpdateClient(UpdateClient {
                 client: client(rt, alloc),
                 header,
             }),
         },
-        Asked::Block(next_time) => Event::Block {
+        SecondEvent::Block(next_time) => Event::Block {
             chain: 1,
             next_time,
         },
@@ -83,10 +83,10 @@ fn last_reading(rt: &impl Abort, world: &World) -> Option<Reading> {
 }
 
 // Asks the second chain, and stores the entry.
-fn put(rt: &impl Abort, alloc: Global, run: &mut Run, asked: Asked) {
+fn put(rt: &impl Abort, alloc: Global, run: &mut TwoChains, asked: SecondEvent) {
     let event = event(rt, alloc, asked);
     let reply = run.world.step(event);
-    let stored = StoredEntry {
+    let stored = SecondEntry {
         asked,
         reply,
         reading: last_reading(rt, &run.world),
@@ -95,7 +95,7 @@ fn put(rt: &impl Abort, alloc: Global, run: &mut Run, asked: Asked) {
 }
 
 // Ends a block of the first chain, whose time is this.
-fn publish(rt: &impl Abort, run: &mut Run, time: u64) {
+fn publish(rt: &impl Abort, run: &mut TwoChains, time: u64) {
     let block = Event::Block {
         chain: 0,
         next_time: time.saturating_add(1),
@@ -108,7 +108,7 @@ fn publish(rt: &impl Abort, run: &mut Run, time: u64) {
 }
 
 // The header of a height of the first chain.
-fn header(rt: &impl Abort, run: &Run, height: usize) -> Header {
+fn header(rt: &impl Abort, run: &TwoChains, height: usize) -> Header {
     let (root, time) = *run
         .heights
         .get(height.saturating_sub(1))
@@ -123,47 +123,47 @@ fn header(rt: &impl Abort, run: &Run, height: usize) -> Header {
 
 /// The client is made, and told of the first height, of the fourth and of others: before it is published, once it is gone, with another
 /// root, and of no height. Ten entries of the second chain are stored.
-pub fn play(rt: &impl Abort, alloc: Global) -> Run {
+pub fn play(rt: &impl Abort, alloc: Global) -> TwoChains {
     let genesis = genesis(rt, alloc);
     let world = World::new(alloc, &genesis).ok().expect(rt, "a world");
     drop(genesis);
-    let mut run = Run {
+    let mut run = TwoChains {
         world,
         stored: Vec::new(alloc),
         heights: Vec::new(alloc),
     };
-    put(rt, alloc, &mut run, Asked::Create);
-    put(rt, alloc, &mut run, Asked::Block(101));
+    put(rt, alloc, &mut run, SecondEvent::Create);
+    put(rt, alloc, &mut run, SecondEvent::Block(101));
     publish(rt, &mut run, 100);
     let first = header(rt, &run, 1);
-    put(rt, alloc, &mut run, Asked::Update(first));
-    put(rt, alloc, &mut run, Asked::Block(90));
+    put(rt, alloc, &mut run, SecondEvent::Update(first));
+    put(rt, alloc, &mut run, SecondEvent::Block(90));
     publish(rt, &mut run, 101);
     publish(rt, &mut run, 102);
     publish(rt, &mut run, 103);
     tell(rt, alloc, &mut run, first);
-    put(rt, alloc, &mut run, Asked::Block(105));
+    put(rt, alloc, &mut run, SecondEvent::Block(105));
     run
 }
 
 // The client is told of the fourth height, and of headers that are refused.
-fn tell(rt: &impl Abort, alloc: Global, run: &mut Run, first: Header) {
+fn tell(rt: &impl Abort, alloc: Global, run: &mut TwoChains, first: Header) {
     let fourth = header(rt, run, 4);
-    put(rt, alloc, run, Asked::Update(fourth));
-    put(rt, alloc, run, Asked::Update(first));
+    put(rt, alloc, run, SecondEvent::Update(fourth));
+    put(rt, alloc, run, SecondEvent::Update(first));
     let later = Header { height: 9, ..fourth };
-    put(rt, alloc, run, Asked::Update(later));
+    put(rt, alloc, run, SecondEvent::Update(later));
     let forged = Header {
         root: Root::from_bytes([9; 32]),
         ..fourth
     };
-    put(rt, alloc, run, Asked::Update(forged));
+    put(rt, alloc, run, SecondEvent::Update(forged));
     let none = Header { height: 0, ..fourth };
-    put(rt, alloc, run, Asked::Update(none));
+    put(rt, alloc, run, SecondEvent::Update(none));
 }
 
 /// The entries that were stored.
-pub fn entries(rt: &impl Abort, alloc: Global, run: &Run) -> Vec<Entry> {
+pub fn entries(rt: &impl Abort, alloc: Global, run: &TwoChains) -> Vec<Entry> {
     let mut entries = Vec::new(alloc);
     for stored in run.stored.iter() {
         let entry = Entry {

@@ -3,7 +3,7 @@ use Rattle.std.proofs.Common.{◌≡◌, ◌++◌, ◌∷◌, [], length, sym, a
 use Rattle.std.proofs.lemmas.List.{length-append}
 use Rattle.std.proofs.lemmas.Result.{err_from_is_err_and}
 use Rattle.std.specs.Vec.Iter.{into_iter_items}
-use Rattle.ibc_chain_replay.specs.ChainReplays.{IsOf, heights_in}
+use Rattle.ibc_chain_replay.specs.ChainReplays.{HasHistory, heights_in}
 use Rattle.ibc_replay.proofs.StoredSteps.{all_done, done_before}
 use Rattle.ibc_chain_replay.proofs.ChainSteps.{goes_on, stops_at}
 use Rattle.ibc_chain_replay.proofs.replaying.replay_entries.Goals as goal
@@ -58,4 +58,4 @@ returns-clause-replayed c =
     let at = c.loop-stored in
     let first = c.args.ledger.now.ledger in
     let done = all_done at.yielded (into_iter_items at.stored-iterator) c.args.entries.items at.invariant.whole (sym at.invariant.left ∙ c.in-None.ensures.steps.0) in
-    subst (λ l. IsOf first.genesis first.chain (heights_in c.args.published.now) l at.ledger.ledger) done at.invariant.so_far
+    subst (λ l. HasHistory first.genesis first.chain (heights_in c.args.published.now) l at.ledger.ledger) done at.invariant.so_far
