@@ -1,6 +1,8 @@
 //! `ibclab check FILE..`: what is wrong with scripts, and where it stands. `ibclab explain FILE`: what the lines of a run are about.
-//! `ibclab draw FILE`: a picture of a run.
+//! `ibclab draw FILE`: a picture of a run. `ibclab sim`: random scripts, and whether the laws hold of their runs.
 #![tactic(auto)]
+
+mod sim;
 
 use clap::error::ErrorKind;
 use clap::{Arg, ArgAction, ArgMatches, Command};
@@ -8,10 +10,11 @@ use ibc_drawing::{PictureForm, draw};
 use ibc_explain::{ExplainedForm, NotPlaced, ScriptRun, explain, run as run_script};
 use ibc_lab::{Verdict, check, report};
 use ibc_script::Script;
+use sim::{sim_parser, simulate};
 use std::alloc::{AllocError, Global};
 use std::env::Env;
 use std::fs::Files;
-use std::io::Read;
+use std::io::{IsTerminal, Read};
 use std::process::ExitCode;
 use std::{env, fs, io};
 
@@ -49,7 +52,8 @@ fn parser<'a>(alloc: Global) -> Result<Command<'a>, AllocError> {
         .subcommand_required(true)
         .subcommand(check)?
         .subcommand(explain)?
-        .subcommand(draw_parser(alloc)?)
+        .subcommand(draw_parser(alloc)?)?
+        .subcommand(sim_parser(alloc)?)
 }
 
 fn draw_parser<'a>(alloc: Global) -> Result<Command<'a>, AllocError> {
@@ -217,13 +221,17 @@ fn task_of(command: &str, words: &ArgMatches<'_>) -> Task {
     }
 }
 
-/// Does with the files that the words name what is asked. The result is the greatest status.
+/// Does what the words ask for; where standard error is watched, it tells how far it is. The result is the greatest status.
 fn look_at_files<R: Files + Print + Eprint + AllocGlobal>(
     rt: &R,
     found: &ArgMatches<'_>,
+    is_watched: bool,
 ) -> io::Result<u8> {
     let mut status = GOOD;
     if let Some((command, inner)) = found.subcommand() {
+        if command == "sim" {
+            return simulate(rt, inner, is_watched);
+        }
         let task = task_of(command, inner);
         for file in inner.get_strs("file").unwrap_or(&[]) {
             status = status.max(look_at_file(rt, task, file)?);
@@ -241,7 +249,7 @@ fn status_of(kind: ErrorKind) -> u8 {
 }
 
 /// Does what the words after the program's name ask for. The result is the status.
-fn run<R: Env + Files + Print + Eprint + AllocGlobal>(rt: &R) -> io::Result<u8> {
+fn run<R: Env + Files + Print + Eprint + AllocGlobal>(rt: &R, is_watched: bool) -> io::Result<u8> {
     let alloc = rt.alloc();
     let mut words = Vec::new(alloc);
     for word in env::args(rt)? {
@@ -249,7 +257,7 @@ fn run<R: Env + Files + Print + Eprint + AllocGlobal>(rt: &R) -> io::Result<u8> 
     }
     match parser(alloc)?.try_get_matches_from(words.as_slice()) {
         Ok(found) => {
-            let status = look_at_files(rt, &found);
+            let status = look_at_files(rt, &found, is_watched);
             drop(found);
             status
         }
@@ -264,7 +272,8 @@ fn run<R: Env + Files + Print + Eprint + AllocGlobal>(rt: &R) -> io::Result<u8> 
 }
 
 fn main(rt: HostRuntime) -> io::Result<ExitCode> {
-    match run(&rt) {
+    let is_watched = rt.stderr().is_terminal();
+    match run(&rt, is_watched) {
         Ok(status) => Ok(ExitCode::from(status)),
         Err(error) => {
             eprintln!(rt; "ibclab: {error}")?;

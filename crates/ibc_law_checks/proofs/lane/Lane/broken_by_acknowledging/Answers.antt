@@ -1,0 +1,6 @@
+-- The first broken law tells whether each law holds.
+use Rattle.ibc_law_checks.proofs.JudgedLanes.{acknowledging_judged}
+use Rattle.ibc_law_checks.proofs.lane.Lane.broken_by_acknowledging.Goals as goal
+
+pub returns : goal.returns
+returns c = rw c.first_broken_by_acknowledging.ensures (acknowledging_judged _ c.args.packet.now c.lemma_is_lawful.ensures)

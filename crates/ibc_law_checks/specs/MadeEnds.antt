@@ -1,0 +1,42 @@
+-- Which ends of channels entries made (ICS 4, "chanOpenInit" and "chanOpenTry").
+use Rattle.std.specs.Prelude.{ℕ, List, [], ◌∷◌, map, Option, None, Some}
+use Rattle.ibc_ids.specs.Texts.{Text}
+use Rattle.ibc_wire.specs.declared.messages.Message.{Message}
+use Rattle.ibc_wire.specs.declared.messages.Message.TheVariants as message
+use Rattle.ibc_machine.specs.declared.entry.Entry.{Entry}
+use Rattle.ibc_machine.specs.declared.event.Event.{Event}
+use Rattle.ibc_machine.specs.declared.event.Event.TheVariants as event
+use Rattle.ibc_machine.specs.declared.reply.Effect.{Effect}
+use Rattle.ibc_machine.specs.declared.reply.Effect.TheVariants as effect
+use Rattle.ibc_machine.specs.declared.reply.Reply.{Reply}
+use Rattle.ibc_machine.specs.declared.reply.Reply.TheVariants as reply
+use Rattle.ibc_law_checks.specs.declared.ends.EndNotes.{EndNotes}
+
+-- port and channel of the end that an accepted message made
+abbrev pub made_by : Message → Effect → Option (Text × Text)
+made_by (message.ChanOpenInit m) (effect.Channel channel) = Some (m.port, channel)
+made_by (message.ChanOpenTry m) (effect.Channel channel) = Some (m.port, channel)
+made_by _ _ = None
+
+abbrev pub made_with : Event → Reply → Option (Text × Text)
+made_with (event.Message k m) (reply.Ok given) = made_by m given
+made_with _ _ = None
+
+abbrev pub made_in : Entry → Option (Text × Text)
+made_in entry = made_with entry.event entry.reply
+
+-- chain, port and channel
+abbrev pub EndName : Type 0
+EndName = ℕ × Text × Text
+
+abbrev pub names_of : ℕ → Option (Text × Text) → List EndName
+names_of chain None = []
+names_of chain (Some made) = (chain, made.0, made.1) ∷ []
+
+-- the end that an entry of a chain made
+abbrev pub made_names : ℕ → Entry → List EndName
+made_names chain entry = names_of chain (made_in entry)
+
+-- the ends that are noted
+abbrev pub end_names : List EndNotes → List EndName
+end_names ends = map (λ (end : EndNotes). (end.chain, end.port, end.channel)) ends

@@ -1,0 +1,18 @@
+-- Which packet an event moves, in the words of the laws: what each end received, acknowledged and timed out by it is that
+-- packet, where the end is its destination or its source (ICS 4, "Packet flow & handling").
+use Rattle.std.specs.Prelude.{◌≡◌, Option}
+use Rattle.std.specs.Option.{option_and_then}
+use Rattle.ibc_wire.specs.declared.packet.Packet.{Packet}
+use Rattle.ibc_machine.specs.promises.Histories.{Happened, End, is_source, is_destination, packet_if, received_by, acknowledged_by, timed_out_by}
+
+abbrev pub IsReceived : Happened → Option Packet → Type 0
+IsReceived h packet =
+    (e : End) → received_by e h ≡ option_and_then (λ (p : Packet). packet_if (is_destination e p) p) packet
+
+abbrev pub IsAcknowledged : Happened → Option Packet → Type 0
+IsAcknowledged h packet =
+    (e : End) → acknowledged_by e h ≡ option_and_then (λ (p : Packet). packet_if (is_source e p) p) packet
+
+abbrev pub IsTimedOut : Happened → Option Packet → Type 0
+IsTimedOut h packet =
+    (e : End) → timed_out_by e h ≡ option_and_then (λ (p : Packet). packet_if (is_source e p) p) packet

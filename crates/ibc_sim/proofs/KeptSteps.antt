@@ -1,0 +1,26 @@
+-- No step is kept that wasn't, along several changes.
+use Rattle.std.proofs.Common.{◌≡◌, ℕ, zero, suc, Bool, true, false, refl, ap, ◌∙◌, List, [], ◌∷◌, length, set, Some, slice_get}
+use Rattle.ibc_sim.specs.Shrinking.{KeepsNoMore}
+
+pub keeps_all : (kept : List Bool) → KeepsNoMore kept kept
+keeps_all kept = record { as_many = refl; fewer = λ k h. h }
+
+pub keeps_along : (a b c : List Bool) → KeepsNoMore a b → KeepsNoMore b c → KeepsNoMore a c
+keeps_along a b c first second =
+    record { as_many = second.as_many ∙ first.as_many; fewer = λ k h. first.fewer k (second.fewer k h) }
+
+left-out : (kept : List Bool) (place k : ℕ) → slice_get (set kept place false) k ≡ Some true → slice_get kept k ≡ Some true
+left-out [] place k h = h
+left-out (x ∷ kept) zero zero h = absurd (cc h)
+left-out (x ∷ kept) zero (suc k) h = h
+left-out (x ∷ kept) (suc place) zero h = h
+left-out (x ∷ kept) (suc place) (suc k) h = left-out kept place k h
+
+length-left_out : (kept : List Bool) (place : ℕ) → length (set kept place false) ≡ length kept
+length-left_out [] place = refl
+length-left_out (x ∷ kept) zero = refl
+length-left_out (x ∷ kept) (suc place) = ap suc (length-left_out kept place)
+
+-- one step is left out
+pub keeps-set : (kept : List Bool) (place : ℕ) → KeepsNoMore kept (set kept place false)
+keeps-set kept place = record { as_many = length-left_out kept place; fewer = left-out kept place }

@@ -1,0 +1,23 @@
+//! Random scripts are run, and the laws are looked at after each event.
+#![tactic(auto)]
+
+mod checked;
+mod counts;
+mod draws;
+mod known;
+mod maker;
+mod names;
+mod running;
+mod script_text;
+mod shrinking;
+mod simulation;
+mod step_text;
+#[cfg(test)]
+mod tests;
+
+pub use checked::Checked;
+pub use counts::AnswerCounts;
+pub use draws::Draws;
+pub use running::replay;
+pub use shrinking::{Breaks, Broken, all_kept, shrunk};
+pub use simulation::{FailedScript, Simulation, SimulationRequest};

@@ -1,0 +1,187 @@
+//! Messages of any kind, whose fields are drawn one by one.
+
+use super::Maker;
+use crate::checked::Checked;
+use crate::step_text::StepText;
+use ibc_script::Fault;
+
+impl Maker {
+    /// Sends a message of any kind. Fault: `NoMemory`.
+    pub(super) fn send_any(
+        &mut self,
+        checked: &Checked,
+        steps: &mut Vec<String>,
+    ) -> Result<(), Fault> {
+        match self.draws.below(4) {
+            0 => self.any_client(checked, steps),
+            1 => self.any_connection(checked, steps),
+            2 => self.any_channel(checked, steps),
+            _ => self.any_packet(checked, steps),
+        }
+    }
+
+    // Adds a name with some number.
+    fn add_numbered(&mut self, step: &mut StepText, member: &str, stem: &str) -> Result<(), Fault> {
+        let number = self.draws.below(5);
+        step.numbered(member, stem, number)?;
+        Ok(())
+    }
+
+    // A height of a chain, or one beside it.
+    fn any_height(&mut self, checked: &Checked, chain: u8) -> u64 {
+        let height = self.height(checked, chain);
+        match self.draws.below(6) {
+            0 => 0,
+            1 => height.saturating_add(1),
+            2 => height.saturating_sub(self.draws.below(8)),
+            3 => u64::MAX,
+            _ => height,
+        }
+    }
+
+    // Adds a chain, and a height of it.
+    fn add_source(&mut self, checked: &Checked, step: &mut StepText) -> Result<(), Fault> {
+        let from = self.some_chain();
+        let height = self.any_height(checked, from);
+        step.chain("from", from)?;
+        step.number("height", height)?;
+        Ok(())
+    }
+
+    // A message for clients.
+    fn any_client(&mut self, checked: &Checked, steps: &mut Vec<String>) -> Result<(), Fault> {
+        let on = self.some_chain();
+        let of = self.some_chain();
+        if self.draws.is_one_in(2) {
+            let mut step = StepText::on(self.alloc, "CreateClient", on)?;
+            step.chain("of", of)?;
+            step.finish(steps)?;
+            return Ok(());
+        }
+        let height = self.any_height(checked, of);
+        let mut step = StepText::on(self.alloc, "UpdateClient", on)?;
+        self.add_numbered(&mut step, "client", "inprocess")?;
+        step.number("height", height)?;
+        step.finish(steps)?;
+        Ok(())
+    }
+
+    // A message for connections.
+    fn any_connection(&mut self, checked: &Checked, steps: &mut Vec<String>) -> Result<(), Fault> {
+        let on = self.some_chain();
+        let kind = self.draws.one_of(&[
+            "ConnOpenInit",
+            "ConnOpenTry",
+            "ConnOpenAck",
+            "ConnOpenConfirm",
+        ]);
+        let mut step = StepText::on(self.alloc, kind, on)?;
+        self.add_connection_members(kind, &mut step)?;
+        if kind != "ConnOpenInit" {
+            self.add_source(checked, &mut step)?;
+        }
+        step.finish(steps)?;
+        Ok(())
+    }
+
+    // Adds the names of a message for connections.
+    fn add_connection_members(&mut self, kind: &str, step: &mut StepText) -> Result<(), Fault> {
+        match kind {
+            "ConnOpenInit" => {
+                self.add_numbered(step, "client", "inprocess")?;
+                self.add_numbered(step, "peer_client", "inprocess")
+            }
+            "ConnOpenTry" => {
+                self.add_numbered(step, "client", "inprocess")?;
+                self.add_numbered(step, "peer_client", "inprocess")?;
+                self.add_numbered(step, "peer_connection", "connection")
+            }
+            "ConnOpenAck" => {
+                self.add_numbered(step, "connection", "connection")?;
+                self.add_numbered(step, "peer_connection", "connection")
+            }
+            _ => self.add_numbered(step, "connection", "connection"),
+        }
+    }
+
+    // A message for channels.
+    fn any_channel(&mut self, checked: &Checked, steps: &mut Vec<String>) -> Result<(), Fault> {
+        let on = self.some_chain();
+        let kind = self.draws.one_of(&[
+            "ChanOpenInit",
+            "ChanOpenTry",
+            "ChanOpenAck",
+            "ChanOpenConfirm",
+            "ChanCloseConfirm",
+        ]);
+        let port = self.draws.one_of(&["transfer", "note", "bank"]);
+        let mut step = StepText::on(self.alloc, kind, on)?;
+        step.text("port", port)?;
+        self.add_channel_members(kind, &mut step)?;
+        if kind != "ChanOpenInit" {
+            self.add_source(checked, &mut step)?;
+        }
+        step.finish(steps)?;
+        Ok(())
+    }
+
+    // Adds the names of a message for channels.
+    fn add_channel_members(&mut self, kind: &str, step: &mut StepText) -> Result<(), Fault> {
+        match kind {
+            "ChanOpenInit" => self.add_opening(step),
+            "ChanOpenTry" => {
+                self.add_opening(step)?;
+                self.add_numbered(step, "peer_channel", "channel")
+            }
+            "ChanOpenAck" => {
+                self.add_numbered(step, "channel", "channel")?;
+                self.add_numbered(step, "peer_channel", "channel")
+            }
+            _ => self.add_numbered(step, "channel", "channel"),
+        }
+    }
+
+    // Adds what the first two messages of a channel's handshake have in common.
+    fn add_opening(&mut self, step: &mut StepText) -> Result<(), Fault> {
+        let order = self.draws.one_of(&["ORDERED", "UNORDERED"]);
+        let peer_port = self.draws.one_of(&["transfer", "note"]);
+        let version = self
+            .draws
+            .one_of(&["ics20-1", "ics20-own-2", "note-1", "none-1"]);
+        step.text("order", order)?;
+        self.add_numbered(step, "connection", "connection")?;
+        step.text("peer_port", peer_port)?;
+        step.text("version", version)?;
+        Ok(())
+    }
+
+    // A message that settles or brings a packet.
+    fn any_packet(&mut self, checked: &Checked, steps: &mut Vec<String>) -> Result<(), Fault> {
+        let on = self.some_chain();
+        let sender = self.some_chain();
+        let kind = self
+            .draws
+            .one_of(&["RecvPacket", "AckPacket", "Timeout", "TimeoutOnClose"]);
+        let mut step = StepText::on(self.alloc, kind, on)?;
+        self.add_any_packet(sender, &mut step)?;
+        if kind == "RecvPacket" {
+            let height = self.any_height(checked, sender);
+            step.number("height", height)?;
+        } else {
+            self.add_source(checked, &mut step)?;
+        }
+        step.finish(steps)?;
+        Ok(())
+    }
+
+    // Adds some packet of a chain.
+    fn add_any_packet(&mut self, sender: u8, step: &mut StepText) -> Result<(), Fault> {
+        let port = self.draws.one_of(&["transfer", "note"]);
+        let channel = self
+            .draws
+            .one_of(&["channel-0", "channel-1", "channel-2", "channel-3"]);
+        let sequence = self.draws.below(6);
+        step.packet(sender, port, channel, sequence)?;
+        Ok(())
+    }
+}

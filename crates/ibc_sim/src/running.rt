@@ -1,0 +1,61 @@
+//! Scripts are run on chains that are looked at.
+
+use crate::checked::Checked;
+use ibc_law_checks::Finding;
+use ibc_script::{Fault, Script, Step, read_script};
+use ibc_script_cli::{Runner, Worlds};
+use ibc_script_worlds::WorldFactory;
+use std::alloc::Global;
+use std::io;
+
+/// The chains with which a script begins. Faults: `BadScript` where no world begins so; `NoMemory`.
+pub fn begin(alloc: Global, script: &Script) -> Result<Checked, Fault> {
+    match WorldFactory::new(alloc).begin(&script.genesis) {
+        Ok(world) => Ok(Checked::new(alloc, world, &script.genesis)?),
+        Err(refusal) => Err(Fault::of_refusal(refusal)),
+    }
+}
+
+/// Takes steps in turn, up to the first after which a law is broken. The result is how many were taken. Fault: `NoMemory`.
+pub fn take_steps(alloc: Global, chains: &mut Checked, steps: Vec<Step>) -> Result<usize, Fault> {
+    let runner = Runner::new(alloc, &[]);
+    let mut taken: usize = 0;
+    for step in steps {
+        if chains.finding.is_some() {
+            drop(step);
+            break;
+        }
+        runner.act(chains, step, &mut io::sink())?;
+        taken = taken.saturating_add(1);
+    }
+    Ok(taken)
+}
+
+/// What is found where a script is run, looked at after each event and once more at the end; none where no law is broken.
+/// Faults: `BadScript`, `NoMemory`.
+pub fn replay(alloc: Global, text: &[u8]) -> Result<Option<Finding>, Fault> {
+    let script = read_script(alloc, text)?;
+    let mut chains = begin(alloc, &script)?;
+    let Script {
+        genesis,
+        names,
+        steps,
+        ..
+    } = script;
+    drop(genesis);
+    let taken = take_steps(alloc, &mut chains, steps);
+    drop(names);
+    taken?;
+    finding_of(chains)
+}
+
+/// What was found in a run that has ended, or is found now. Fault: `NoMemory`.
+pub fn finding_of(chains: Checked) -> Result<Option<Finding>, Fault> {
+    let mut chains = chains;
+    if chains.finding.is_none() {
+        chains.look_at_all().map_err(Fault::no_memory)?;
+    }
+    let found = chains.finding.take();
+    drop(chains);
+    Ok(found)
+}
