@@ -219,24 +219,16 @@ uint32_t ibcw_reply(ibcw_ledger *ledger, uint64_t index, ibcw_told *told, uint8_
 
 /* What a ledger was asked: the tag of a message, 1 to 19; or IBCW_ASKED_BLOCK for the end of a block, and then the time of the
    next one, which else is 0. Of an UpdateClient, `published` is how many heights the client's chain had published when the ledger
-   read that; else, and where nothing was read, it is 0. `found` is what the ledger found at the header's height. Who keeps the entries of all ledgers
-   of a world, and puts an UpdateClient behind so many blocks of the other chain, can make the world again. */
+   read that; else, and where nothing was read, it is 0. Who keeps the entries of all ledgers of a world, and puts an UpdateClient behind so many
+   blocks of the other chain, can make the world again. */
 typedef struct {
     uint64_t kind;
     uint64_t next_time;
     uint64_t published;
-    uint64_t found;
 } ibcw_asked;
 
 enum {
     IBCW_ASKED_BLOCK = 0
-};
-
-enum {
-    IBCW_FOUND_UNREAD = 0, /* nothing was read */
-    IBCW_FOUND_NOT_PUBLISHED = 1,
-    IBCW_FOUND_GONE = 2, /* its row was gone from the window; threads may find it gone just before the window passes it */
-    IBCW_FOUND_THERE = 3
 };
 
 /* Tells what the ledger was asked by an entry of its history, which are numbered from 0, and writes the bytes that spell the message:

@@ -107,15 +107,6 @@ typedef struct {
     uint64_t count, done, published;
 } history;
 
-/* What an entry found at a header's height is what its reply says. */
-static uint64_t found_by(const entry *kept)
-{
-    if (kept->asked.kind != IBCW_UPDATE_CLIENT) return IBCW_FOUND_UNREAD;
-    if (kept->reply.told.kind != IBCW_TOLD_REFUSAL) return IBCW_FOUND_THERE;
-    if (kept->reply.told.number == IBCW_PRUNED) return IBCW_FOUND_GONE;
-    return kept->reply.told.number == IBCW_NOT_PUBLISHED ? IBCW_FOUND_NOT_PUBLISHED : IBCW_FOUND_UNREAD;
-}
-
 static void keep_entry(ibcw_ledger *ledger, uint64_t index, entry *kept)
 {
     uint32_t answer = ibcw_event(ledger, index, &kept->asked, NULL, 0, &kept->size);
@@ -123,7 +114,6 @@ static void keep_entry(ibcw_ledger *ledger, uint64_t index, entry *kept)
     kept->message = (uint8_t *)room(kept->size);
     want(ibcw_event(ledger, index, &kept->asked, kept->message, kept->size, &kept->size), IBCW_DONE, "an event");
     want(ibcw_reply(ledger, index, &kept->reply.told, kept->reply.bytes, sizeof kept->reply.bytes, &kept->reply.size), IBCW_DONE, "a reply");
-    want_true(kept->asked.found == found_by(kept), "what an update found");
 }
 
 static history kept_of(ibcw_ledger *ledger)
@@ -148,7 +138,8 @@ static void free_history(history *kept)
 /* Whether an entry is an update that looked at the other chain. */
 static int has_looked(const entry *of)
 {
-    return of->asked.found != IBCW_FOUND_UNREAD;
+    int is_early = of->reply.told.kind == IBCW_TOLD_REFUSAL && of->reply.told.number == IBCW_NOT_PUBLISHED;
+    return of->asked.kind == IBCW_UPDATE_CLIENT && (of->asked.published > 0 || is_early);
 }
 
 /* Whether the other chain has still to see that so many heights are published, and no more. */

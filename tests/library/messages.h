@@ -38,13 +38,12 @@ static inline void want(uint32_t answer, uint32_t wanted, const char *what)
 static inline void want_event(ibcw_handle *ledger, uint64_t index, const text *message)
 {
     static text event;
-    ibcw_asked asked = {77, 77, 77, 77};
+    ibcw_asked asked = {77, 77, 77};
     memset(&event, 0, sizeof event);
     want(ibcw_event(ledger, index, &asked, event.data, ROOM, &event.size), IBCW_DONE, "an event");
     want((uint32_t)asked.kind, message->data[0], "the kind of an event");
     want((uint32_t)asked.next_time, 0, "the next time of an event");
     want(message->data[0] == 2 || asked.published == 0, 1, "what an event that is no update read");
-    want(message->data[0] == 2 || asked.found == IBCW_FOUND_UNREAD, 1, "what an event that is no update found");
     want((uint32_t)event.size, (uint32_t)message->size, "the size of an event");
     want((uint32_t)memcmp(event.data, message->data, event.size), 0, "the bytes of an event");
 }
@@ -53,12 +52,11 @@ static inline void want_event(ibcw_handle *ledger, uint64_t index, const text *m
 static inline void want_block(ibcw_handle *ledger, uint64_t index, uint64_t next_time)
 {
     size_t size = 77;
-    ibcw_asked asked = {77, 77, 77, 77};
+    ibcw_asked asked = {77, 77, 77};
     want(ibcw_event(ledger, index, &asked, NULL, 0, &size), IBCW_DONE, "an event");
     want((uint32_t)asked.kind, IBCW_ASKED_BLOCK, "the kind of an event");
     want((uint32_t)asked.next_time, (uint32_t)next_time, "the next time of an event");
     want((uint32_t)asked.published, 0, "what a block read");
-    want((uint32_t)asked.found, IBCW_FOUND_UNREAD, "what a block found");
     want((uint32_t)size, 0, "the size of an event");
 }
 

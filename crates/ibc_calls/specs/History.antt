@@ -1,5 +1,5 @@
 -- What ledgers' histories tell, and how long lists are.
-use Rattle.std.specs.Prelude.{◌≡◌, ℕ, Bool, true, false, [], length, Option, Some, None, Result, Ok, Err}
+use Rattle.std.specs.Prelude.{◌≡◌, ℕ, [], length, Option, Some, None, Result, Ok, Err}
 use Rattle.std.specs.List.{slice_get}
 use Rattle.ibc_ids.specs.Texts.{Text}
 use Rattle.ibc_ids.specs.Refusals.{number_of}
@@ -80,26 +80,13 @@ abbrev pub published_in : Option Reading → ℕ
 published_in None = 0
 published_in (Some reading) = reading.published
 
--- what an update found at its header's height: 0 where it read nothing, 1 where the height wasn't published, 2 where its row was
--- gone, and 3 where that was there
-abbrev pub found_code : Option Bool → ℕ
-found_code None = 1
-found_code (Some false) = 2
-found_code (Some true) = 3
-
-abbrev pub found_in : Option Reading → ℕ
-found_in None = 0
-found_in (Some reading) = found_code reading.row_was_there
-
 -- the tag of a message; 0 for the end of a block, and then the time of the next one; and what an update read
-abbrev pub asked_code : Event → Option Reading → EventCode
-asked_code (event.Message _ m) reading =
-    record { kind = tag_of (kind_of m); next_time = 0; published = published_in reading; found = found_in reading }
-asked_code (event.Block _ next_time) reading =
-    record { kind = 0; next_time = next_time; published = published_in reading; found = found_in reading }
+abbrev pub asked_code : Event → ℕ → EventCode
+asked_code (event.Message _ m) published = record { kind = tag_of (kind_of m); next_time = 0; published = published }
+asked_code (event.Block _ next_time) published = record { kind = 0; next_time = next_time; published = published }
 
 abbrev pub event_code : Entry → EventCode
-event_code entry = asked_code entry.event entry.reading
+event_code entry = asked_code entry.event (published_in entry.reading)
 
 -- the bytes that spell what was asked: those of a message, none of the end of a block
 abbrev pub IsEventText : Event → Result Text Refused → Type 0

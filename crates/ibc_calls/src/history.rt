@@ -3,7 +3,7 @@
 ghost use Rattle.std.specs.Prelude.{◌≡◌, Some};
 ghost use Rattle.ibc_calls.specs.Handles.{IsWritten};
 ghost use Rattle.ibc_calls.specs.Events.{IsReplyTold};
-ghost use Rattle.ibc_calls.specs.History.{IsEventText, WritesSpelledEvent, TellsEvent, TellsLength, TellsReply, event_code, found_code, found_in, published_in, reply_bytes, reply_code};
+ghost use Rattle.ibc_calls.specs.History.{IsEventText, WritesSpelledEvent, TellsEvent, TellsLength, TellsReply, event_code, published_in, reply_bytes, reply_code};
 
 use crate::Refused;
 use crate::handles::write_out;
@@ -27,15 +27,13 @@ pub struct ReplyCode {
 
 /// What a ledger was asked, in numbers. Its kind is the tag of a message, 1 to 19; or 0 for the end of a block, and then the time
 /// of the next one is told, which else is 0. Of an update of a client it is told how many heights the client's chain had published
-/// when the ledger read that; else, and where nothing was read, that is 0. What it found at its header's height is 1 where the
-/// height wasn't published, 2 where its row was gone, and 3 where that was there; 0 where nothing was read.
+/// when the ledger read that; else, and where nothing was read, that is 0.
 #[repr(C)]
 #[derive(Clone, Copy, Debug, PartialEq, Eq, Drop)]
 pub struct EventCode {
     pub kind: u64,
     pub next_time: u64,
     pub published: u64,
-    pub found: u64,
 }
 
 /// Tells how many entries the history of a ledger has, how many messages a plan, how many holdings a list of balances, how many
@@ -274,7 +272,6 @@ fn asked_of(entry: &Entry) -> EventCode
         kind,
         next_time,
         published: published_in(&entry.reading),
-        found: found_in(&entry.reading),
     }
 }
 
@@ -284,24 +281,5 @@ fn published_in(reading: &Option<Reading>) -> u64
     match reading {
         Some(reading) => reading.published,
         None => 0,
-    }
-}
-
-fn found_in(reading: &Option<Reading>) -> u64
-    ensures { result ≡ found_in reading.now }
-{
-    match reading {
-        Some(reading) => found_code(reading.row_was_there),
-        None => 0,
-    }
-}
-
-fn found_code(row_was_there: Option<bool>) -> u64
-    ensures { result ≡ found_code row_was_there }
-{
-    match row_was_there {
-        None => 1,
-        Some(false) => 2,
-        Some(true) => 3,
     }
 }

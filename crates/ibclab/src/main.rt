@@ -104,7 +104,7 @@ fn bytes_of<R: Files + AllocGlobal>(rt: &R, file: &str) -> io::Result<Vec<u8>> {
 
 /// What is done with each file.
 #[derive(Clone, Copy)]
-enum Task {
+enum LabTask {
     /// It is told what is wrong with it.
     Check,
     /// It is run, and its lines are explained.
@@ -122,18 +122,18 @@ fn base_name(file: &str) -> &str {
 }
 
 /// What is printed of a run.
-fn told_of(alloc: Global, task: Task, file: &str, run: &ScriptRun) -> Result<String, NotPlaced> {
+fn told_of(alloc: Global, task: LabTask, file: &str, run: &ScriptRun) -> Result<String, NotPlaced> {
     match task {
-        Task::Check => Ok(String::new(alloc)),
-        Task::Explain(form) => explain(alloc, run, form),
-        Task::Draw(form) => draw(alloc, run, base_name(file), form),
+        LabTask::Check => Ok(String::new(alloc)),
+        LabTask::Explain(form) => explain(alloc, run, form),
+        LabTask::Draw(form) => draw(alloc, run, base_name(file), form),
     }
 }
 
 /// Runs a script, and prints what is asked of the run. The result is the status.
 fn tell_of_run<R: Print + AllocGlobal>(
     rt: &R,
-    task: Task,
+    task: LabTask,
     file: &str,
     script: Script,
 ) -> io::Result<u8> {
@@ -156,23 +156,23 @@ fn tell_of_run<R: Print + AllocGlobal>(
 /// Does with a script what is asked. The result is the status.
 fn look_at_script<R: Print + AllocGlobal>(
     rt: &R,
-    task: Task,
+    task: LabTask,
     file: &str,
     script: Script,
 ) -> io::Result<u8> {
     match task {
-        Task::Check => {
+        LabTask::Check => {
             drop(script);
             Ok(GOOD)
         }
-        Task::Explain(_) | Task::Draw(_) => tell_of_run(rt, task, file, script),
+        LabTask::Explain(_) | LabTask::Draw(_) => tell_of_run(rt, task, file, script),
     }
 }
 
 /// Does with a text what is asked, or says what is wrong with it. The result is the status.
 fn look_at_text<R: Print + AllocGlobal>(
     rt: &R,
-    task: Task,
+    task: LabTask,
     file: &str,
     text: &[u8],
 ) -> io::Result<u8> {
@@ -193,7 +193,7 @@ fn look_at_text<R: Print + AllocGlobal>(
 /// Does with a file what is asked. The result is the status.
 fn look_at_file<R: Files + Print + Eprint + AllocGlobal>(
     rt: &R,
-    task: Task,
+    task: LabTask,
     file: &str,
 ) -> io::Result<u8> {
     match bytes_of(rt, file) {
@@ -210,14 +210,14 @@ fn look_at_file<R: Files + Print + Eprint + AllocGlobal>(
 }
 
 /// What is asked for by a command's name and words.
-fn task_of(command: &str, words: &ArgMatches<'_>) -> Task {
+fn task_of(command: &str, words: &ArgMatches<'_>) -> LabTask {
     match command {
-        "explain" if words.get_flag("json") => Task::Explain(ExplainedForm::Json),
-        "explain" => Task::Explain(ExplainedForm::Text),
-        "draw" if words.get_flag("html") => Task::Draw(PictureForm::Html),
-        "draw" if words.get_flag("mermaid") => Task::Draw(PictureForm::Mermaid),
-        "draw" => Task::Draw(PictureForm::Svg),
-        _ => Task::Check,
+        "explain" if words.get_flag("json") => LabTask::Explain(ExplainedForm::Json),
+        "explain" => LabTask::Explain(ExplainedForm::Text),
+        "draw" if words.get_flag("html") => LabTask::Draw(PictureForm::Html),
+        "draw" if words.get_flag("mermaid") => LabTask::Draw(PictureForm::Mermaid),
+        "draw" => LabTask::Draw(PictureForm::Svg),
+        _ => LabTask::Check,
     }
 }
 

@@ -37,8 +37,6 @@ pub struct Asked {
     pub next_time: u64,
     /// How many heights the other chain had published when an update of a client read that.
     pub published: u64,
-    /// What the update found at its header's height: 0 nothing was read, 1 it wasn't published, 2 its row was gone, 3 that was there.
-    pub found: u64,
 }
 
 /// An amount: `high` times 2^64, and `low`.

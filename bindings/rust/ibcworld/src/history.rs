@@ -3,29 +3,6 @@ use crate::owned::{bytes_of, text_of, Owned};
 use crate::{Message, Refused, Root};
 use ibcworld_sys as sys;
 
-/// What an update of a client found at the height of its header.
-#[derive(Clone, Copy, Debug, PartialEq, Eq, Hash)]
-#[non_exhaustive]
-pub enum Found {
-    /// The height wasn't published.
-    NotPublished,
-    /// Its row was gone from the window. Threads may find it gone just before the window passes it.
-    Gone,
-    /// Its row was there.
-    There,
-}
-
-impl Found {
-    fn of(found: u64) -> Option<Found> {
-        match found {
-            1 => Some(Found::NotPublished),
-            2 => Some(Found::Gone),
-            3 => Some(Found::There),
-            _ => None,
-        }
-    }
-}
-
 /// What a ledger was asked.
 #[derive(Clone, Debug, PartialEq, Eq, Hash)]
 #[non_exhaustive]
@@ -37,8 +14,6 @@ pub enum Event {
         /// How many heights the client's chain had published when an update of the client read that; 0 of other messages, and where nothing
         /// was read.
         published: u64,
-        /// What an update of a client found at the height of its header; none of other messages, and where nothing was read.
-        found: Option<Found>,
     },
     /// The end of a block.
     Block {
@@ -138,7 +113,6 @@ impl History<'_> {
             _ => Event::Message {
                 bytes,
                 published: asked.published,
-                found: Found::of(asked.found),
             },
         })
     }

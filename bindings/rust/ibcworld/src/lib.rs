@@ -25,7 +25,7 @@ mod wire;
 mod world;
 
 pub use genesis::Genesis;
-pub use history::{Effect, Entry, Event, Found, History};
+pub use history::{Effect, Entry, Event, History};
 pub use ledger::{Ledger, Totals};
 pub use lists::{Account, ChannelNotes, Holding};
 pub use message::{

@@ -61,13 +61,12 @@ struct Look {
 /// What an entry saw of another chain. An update that was refused before it looked saw nothing.
 fn look_of(entry: &Entry) -> Result<Option<Look>, Refused> {
     let published = match entry.event {
-        Event::Message {
-            published,
-            found: Some(_),
-            ..
-        } => published,
-        _ => return Ok(None),
+        Event::Message { published, .. } => published,
+        Event::Block { .. } => return Ok(None),
     };
+    if published == 0 && entry.reply != Err(Refused::NotPublished) {
+        return Ok(None);
+    }
     Ok(match entry.event.message()? {
         Some(Message::UpdateClient(update)) => Some(Look {
             chain: usize::from(update.header.chain),

@@ -2,7 +2,7 @@
 use ibcworld::{
     open, relay, replay, version, Account, AckPacket, ChanCloseConfirm, ChanCloseInit, ChanOpenAck,
     ChanOpenConfirm, ChanOpenInit, ChanOpenTry, ClaimedClient, ConnOpenAck, ConnOpenConfirm,
-    ConnOpenInit, ConnOpenTry, CreateClient, Effect, Entry, Event, Found, Genesis, Header, Ledger,
+    ConnOpenInit, ConnOpenTry, CreateClient, Effect, Entry, Event, Genesis, Header, Ledger,
     Message, NotReplayed, Opening, Order, Packet, RecvPacket, Refused, Relayed, SendNote, Timeout,
     TimeoutOnClose, Token, TokenData, Transfer, TransferMany, UpdateClient, View, World,
 };
@@ -76,7 +76,7 @@ fn what_was_applied_is_read_back() -> Result<(), Refused> {
         assert_eq!(history.clone().count(), count);
         for entry in history {
             let entry = entry?;
-            if let Event::Message { bytes, published, .. } = &entry.event {
+            if let Event::Message { bytes, published } = &entry.event {
                 let message = Message::try_from(bytes.as_slice())?;
                 assert_eq!(&message.encode()?, bytes);
                 assert_eq!(*published > 0, matches!(message, Message::UpdateClient(_)));
@@ -569,14 +569,6 @@ fn history(ledger: &Ledger) -> Result<Vec<Entry>, Refused> {
     ledger.history()?.collect()
 }
 
-/// What an entry found at the height of its header.
-fn found_in(entry: &Entry) -> Option<Found> {
-    match entry.event {
-        Event::Message { found, .. } => found,
-        _ => None,
-    }
-}
-
 /// A run of three chains: two channels, transfers to and fro, an update before anything is published, and one of a height that is gone.
 fn run_of_three() -> Result<(Genesis, World, Vec<Vec<Entry>>), Refused> {
     let mut genesis = Genesis::new(64, 4)?;
@@ -610,11 +602,6 @@ fn run_of_three() -> Result<(Genesis, World, Vec<Vec<Entry>>), Refused> {
     assert_eq!(x.apply(early), Err(Refused::Pruned));
     assert_eq!(done.refused, 0);
     let stored = vec![history(&x)?, history(&y)?, history(&z)?];
-    assert_eq!(found_in(&stored[0][1]), Some(Found::NotPublished));
-    assert_eq!(
-        found_in(stored[0].last().expect("entries")),
-        Some(Found::Gone)
-    );
     for ledger in [z, x, y] {
         world.join(ledger).map_err(|not| not.refused)?;
     }
