@@ -151,14 +151,20 @@ fn tell(rt: &impl Abort, alloc: Global, run: &mut TwoChains, first: Header) {
     let fourth = header(rt, run, 4);
     put(rt, alloc, run, SecondEvent::Update(fourth));
     put(rt, alloc, run, SecondEvent::Update(first));
-    let later = Header { height: 9, ..fourth };
+    let later = Header {
+        height: 9,
+        ..fourth
+    };
     put(rt, alloc, run, SecondEvent::Update(later));
     let forged = Header {
         root: Root::from_bytes([9; 32]),
         ..fourth
     };
     put(rt, alloc, run, SecondEvent::Update(forged));
-    let none = Header { height: 0, ..fourth };
+    let none = Header {
+        height: 0,
+        ..fourth
+    };
     put(rt, alloc, run, SecondEvent::Update(none));
 }
 
