@@ -1,4 +1,0 @@
-pub mod ChainStates
-pub mod ForcedReplies
-pub mod ChainSteps
-pub mod DealtPasses

@@ -1,2 +1,0 @@
-pub mod Publishing
-pub mod ChainReplays
