@@ -114,7 +114,8 @@ impl Known {
 
     /// The connection of an end of a channel.
     pub fn connection_of(&self, end: usize) -> Option<&KnownConnection> {
-        match self.ends.get(end)?.connection {
+        let connection = self.ends.get(end)?.connection;
+        match connection {
             Some(place) => self.connections.get(place),
             None => None,
         }
@@ -130,7 +131,8 @@ impl Known {
 
     /// The client of an end of a channel.
     pub fn client_of(&self, end: usize) -> Option<&KnownClient> {
-        match self.connection_of(end)?.client {
+        let client = self.connection_of(end)?.client;
+        match client {
             Some(place) => self.clients.get(place),
             None => None,
         }

@@ -45,8 +45,8 @@ impl Maker {
         steps: &mut Vec<String>,
     ) -> Result<(), Fault> {
         match self.draws.below(100) {
-            0..=26 => self.send(checked, steps),
-            27..=50 => self.deliver(checked, steps),
+            0..=25 => self.send(checked, steps),
+            26..=50 => self.deliver(checked, steps),
             51..=66 => self.acknowledge(checked, steps),
             67..=77 => self.time_out(checked, steps),
             78..=82 => self.end_some_block(checked, steps),

@@ -1,6 +1,6 @@
 //! A script that breaks a law is made shorter, while it still does.
 
-ghost use Rattle.std.specs.Prelude.{◌≡◌, ◌<◌, IfOk, length};
+ghost use Rattle.std.specs.Prelude.{◌≡◌, ◌<◌, IfOk, vec_len};
 ghost use Rattle.ibc_sim.specs.Shrinking.{KeepsNoMore};
 
 use crate::running::replay;
@@ -52,9 +52,10 @@ struct Part {
 
 /// Whether each step is kept, where all are. Error: no memory.
 pub fn all_kept(alloc: Global, count: usize) -> Result<Vec<bool>, AllocError>
-    ensures { IfOk result (λ kept. length kept.items ≡ count) }
+    ensures { IfOk result (λ kept. vec_len kept ≡ count) }
 {
-    vec![in alloc; true; count]
+    let kept = vec![in alloc; true; count]?;
+    Ok(kept)
 }
 
 /// Which of the kept steps suffice: none is added. Halves are left out first, then parts of half their size, and so on. Fault:

@@ -9,13 +9,27 @@ use ibc_law_checks::EndNotes;
 use ibc_script::Fault;
 
 impl Maker {
-    /// Sends a packet over some end. Fault: `NoMemory`.
+    /// Sends a packet over some end, now and then three. Fault: `NoMemory`.
     pub(super) fn send(&mut self, checked: &Checked, steps: &mut Vec<String>) -> Result<(), Fault> {
         let Some(place) = self.some_end(checked) else {
             return self.open(checked, steps);
         };
+        let packets: u64 = if self.draws.is_one_in(5) { 3 } else { 1 };
+        for _packet in 0..packets {
+            self.send_over(checked, place, steps)?;
+        }
+        Ok(())
+    }
+
+    // Sends a packet over the end at a place.
+    fn send_over(
+        &mut self,
+        checked: &Checked,
+        place: usize,
+        steps: &mut Vec<String>,
+    ) -> Result<(), Fault> {
         let Some(end) = checked.notes.checks.ends.get(place) else {
-            return self.open(checked, steps);
+            return Ok(());
         };
         let peer = checked.notes.known.tracked_by(place).unwrap_or(0);
         if end.port.as_str() == "note" {
@@ -175,8 +189,12 @@ impl Maker {
     ) -> Result<(), Fault> {
         let height = height_of(checked, peer);
         let time = time_of(checked, peer);
-        let times = if ordered { 16 } else { 3 };
-        let kind = if self.draws.is_one_in(times) {
+        let is_near = if ordered {
+            self.draws.is_one_in(16)
+        } else {
+            self.draws.is_one_in(3)
+        };
+        let kind = if is_near {
             self.draws.below(3)
         } else {
             self.draws.below(24).saturating_add(3)
