@@ -190,7 +190,7 @@ impl Maker {
         let height = height_of(checked, peer);
         let time = time_of(checked, peer);
         let is_near = if ordered {
-            self.draws.is_one_in(16)
+            self.draws.is_one_in(40)
         } else {
             self.draws.is_one_in(3)
         };
