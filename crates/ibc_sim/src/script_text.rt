@@ -79,14 +79,22 @@ pub fn script_text(
     kept: &[bool],
 ) -> Result<String, AllocError> {
     let mut text = String::from_str(alloc, head)?;
-    let mut mark = "\n";
+    let mut is_first = true;
     for (step, is_kept) in steps.iter().zip(kept) {
         if *is_kept {
-            text.push_str(mark)?;
-            text.push_str(step.as_str())?;
-            mark = ",\n";
+            add_step(&mut text, is_first, step.as_str())?;
+            is_first = false;
         }
     }
     text.push_str("]}\n")?;
     Ok(text)
+}
+
+// Adds a step, behind a comma unless it is the first.
+fn add_step(text: &mut String, is_first: bool, step: &str) -> Result<(), AllocError> {
+    if !is_first {
+        text.push_str(",")?;
+    }
+    text.push_str("\n")?;
+    text.push_str(step)
 }

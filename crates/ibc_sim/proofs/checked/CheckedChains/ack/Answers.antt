@@ -1,9 +1,0 @@
--- The chains answer as their world does.
-use Rattle.std.proofs.Common.{IfOk, subst}
-use Rattle.ibc_refinement.specs.World.{WorldState}
-use Rattle.ibc_script_worlds.specs.WorldChains.{world_answers}
-use Rattle.ibc_sim.proofs.checked.CheckedChains.ack.Goals as goal
-
-pub returns : goal.returns
-returns c =
-    subst (λ (w : WorldState). IfOk c.ack.result (λ found. (world_answers w).ack c.args.chain c.args.port.now c.args.channel.now c.args.sequence found)) c.self.view_is c.ack.ensures
