@@ -68,7 +68,7 @@ fn broken_by(
 fn each_law_of_packets_is_seen_broken(rt: HostRuntime) {
     use Passing::{Acknowledged, AcknowledgedForged, Received, ReceivedForged, Sent, TimedOut};
     let alloc = rt.alloc();
-    let mut tried = 0;
+    let mut tried: u64 = 0;
     for (passings, law) in [
         ([Sent(1), Sent(2), Sent(2)], PacketLaw::SentInTurn),
         ([Sent(1), Sent(2), Received(3)], PacketLaw::ReceivedWasSent),
@@ -93,7 +93,7 @@ fn each_law_of_packets_is_seen_broken(rt: HostRuntime) {
         for ordered in [false, true] {
             let broken = broken_by(&rt, alloc, ordered, passings.as_slice());
             assert_eq!(rt; broken, Some(law));
-            tried += 1;
+            tried = tried.saturating_add(1);
         }
     }
     assert_eq!(rt; tried, 20);
