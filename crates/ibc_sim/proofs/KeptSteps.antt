@@ -1,5 +1,5 @@
 -- No step is kept that wasn't, along several changes.
-use Rattle.std.proofs.Common.{◌≡◌, ℕ, zero, suc, Bool, true, false, refl, ap, ◌∙◌, List, [], ◌∷◌, length, set, Some, slice_get}
+use Rattle.std.proofs.Common.{◌≡◌, ℕ, zero, suc, Bool, true, false, refl, ap, ◌∙◌, List, [], ◌∷◌, length, set, Some, slice_get, subst}
 use Rattle.ibc_sim.specs.Shrinking.{KeepsNoMore}
 
 pub keeps_all : (kept : List Bool) → KeepsNoMore kept kept
@@ -8,6 +8,10 @@ keeps_all kept = record { as_many = refl; fewer = λ k h. h }
 pub keeps_along : (a b c : List Bool) → KeepsNoMore a b → KeepsNoMore b c → KeepsNoMore a c
 keeps_along a b c first second =
     record { as_many = second.as_many ∙ first.as_many; fewer = λ k h. first.fewer k (second.fewer k h) }
+
+-- what a copy keeps
+pub keeps_as : (a b c : List Bool) → a ≡ b → KeepsNoMore a c → KeepsNoMore b c
+keeps_as a b c same kept = subst (λ (from : List Bool). KeepsNoMore from c) same kept
 
 left-out : (kept : List Bool) (place k : ℕ) → slice_get (set kept place false) k ≡ Some true → slice_get kept k ≡ Some true
 left-out [] place k h = h
@@ -22,5 +26,9 @@ length-left_out (x ∷ kept) zero = refl
 length-left_out (x ∷ kept) (suc place) = ap suc (length-left_out kept place)
 
 -- one step is left out
-pub keeps-set : (kept : List Bool) (place : ℕ) → KeepsNoMore kept (set kept place false)
+keeps-set : (kept : List Bool) (place : ℕ) → KeepsNoMore kept (set kept place false)
 keeps-set kept place = record { as_many = length-left_out kept place; fewer = left-out kept place }
+
+-- one step more is left out
+pub keeps_without : (a b : List Bool) (place : ℕ) → KeepsNoMore a b → KeepsNoMore a (set b place false)
+keeps_without a b place kept = keeps_along a b (set b place false) kept (keeps-set b place)

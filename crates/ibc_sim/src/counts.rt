@@ -10,6 +10,14 @@ pub struct AnswerCounts {
     pub refused: Vec<u64>,
 }
 
+/// The number of an event's chain.
+pub fn chain_of(event: &Event) -> u8 {
+    match event {
+        Event::Message { chain, .. } => *chain,
+        Event::Block { chain, .. } => *chain,
+    }
+}
+
 /// The tag of an event's message, 0 for a block.
 pub fn tag_of(event: &Event) -> u8 {
     match event {
@@ -26,7 +34,7 @@ impl AnswerCounts {
         Ok(AnswerCounts { accepted, refused })
     }
 
-    /// AnswerCounts a reply to an event of this tag.
+    /// Counts a reply to an event of this tag.
     pub fn add(&mut self, tag: u8, reply: &Reply) {
         match reply {
             Reply::Ok(_) => add_one(self.accepted.as_mut_slice(), tag),

@@ -70,9 +70,12 @@ impl Draws {
     }
 
     /// One of some texts.
-    pub fn one_of<'t>(&mut self, texts: &[&'t str]) -> &'t str {
-        match self.place(texts.len()) {
-            Some(place) => texts[place],
+    pub fn one_of(&mut self, texts: &[&'static str]) -> &'static str {
+        let Some(place) = self.place(texts.len()) else {
+            return "";
+        };
+        match texts.get(place) {
+            Some(text) => *text,
             None => "",
         }
     }

@@ -1,9 +1,12 @@
 //! What the replies of a run have told of its clients, connections and ends of channels.
 
-use ibc_ids::{ClientId, ConnectionId};
+use ibc_ids::{ClientId, ConnectionId, Version};
 use ibc_machine::{Effect, Entry, Event, Reply};
 use ibc_wire::Message;
 use std::alloc::{AllocError, Global};
+
+/// The version of channels that take several tokens in a packet.
+const SEVERAL_TOKENS: &str = "ics20-own-2";
 
 /// A client, and the chain that it tracks.
 #[derive(Drop)]
@@ -21,12 +24,19 @@ pub struct KnownConnection {
     pub client: Option<usize>,
 }
 
-/// What is known, each in the order in which it came. Of each end of a channel, the place of its connection.
+/// An end of a channel: the place of its connection, and whether a packet may have several tokens.
+#[derive(Clone, Copy)]
+pub struct KnownEnd {
+    pub connection: Option<usize>,
+    pub takes_several: bool,
+}
+
+/// What is known, each in the order in which it came.
 #[derive(Drop)]
 pub struct Known {
-    pub clients: Vec<KnownClient>,
-    pub connections: Vec<KnownConnection>,
-    pub ends: Vec<Option<usize>>,
+    clients: Vec<KnownClient>,
+    connections: Vec<KnownConnection>,
+    ends: Vec<KnownEnd>,
 }
 
 impl Known {
@@ -56,10 +66,10 @@ impl Known {
                 self.note_connection(chain, connection, &message.client)
             }
             (Message::ChanOpenInit(message), Effect::Channel(_)) => {
-                self.note_end(chain, &message.connection)
+                self.note_end(chain, &message.connection, &message.version)
             }
             (Message::ChanOpenTry(message), Effect::Channel(_)) => {
-                self.note_end(chain, &message.connection)
+                self.note_end(chain, &message.connection, &message.version)
             }
             _ => Ok(()),
         }
@@ -77,7 +87,7 @@ impl Known {
         connection: &ConnectionId,
         client: &ClientId,
     ) -> Result<(), AllocError> {
-        let client = self.place_of_client(chain, client);
+        let client = place_of_client(self.clients.as_slice(), chain, client);
         let connection = connection.clone()?;
         self.connections.push(KnownConnection {
             chain,
@@ -87,40 +97,78 @@ impl Known {
         Ok(())
     }
 
-    fn note_end(&mut self, chain: u8, connection: &ConnectionId) -> Result<(), AllocError> {
-        let place = self.place_of_connection(chain, connection);
-        self.ends.push(place)?;
+    fn note_end(
+        &mut self,
+        chain: u8,
+        connection: &ConnectionId,
+        version: &Version,
+    ) -> Result<(), AllocError> {
+        let connection = place_of_connection(self.connections.as_slice(), chain, connection);
+        let takes_several = version.as_str() == SEVERAL_TOKENS;
+        self.ends.push(KnownEnd {
+            connection,
+            takes_several,
+        })?;
         Ok(())
-    }
-
-    fn place_of_client(&self, chain: u8, client: &ClientId) -> Option<usize> {
-        for place in 0..self.clients.len() {
-            if self.clients[place].chain == chain && self.clients[place].client == *client {
-                return Some(place);
-            }
-        }
-        None
-    }
-
-    fn place_of_connection(&self, chain: u8, connection: &ConnectionId) -> Option<usize> {
-        for place in 0..self.connections.len() {
-            let known = &self.connections[place];
-            if known.chain == chain && known.connection == *connection {
-                return Some(place);
-            }
-        }
-        None
     }
 
     /// The connection of an end of a channel.
     pub fn connection_of(&self, end: usize) -> Option<&KnownConnection> {
-        let place = self.ends.get(end).copied().flatten()?;
-        self.connections.get(place)
+        let connection = self.ends.get(end)?.connection;
+        match connection {
+            Some(place) => self.connections.get(place),
+            None => None,
+        }
+    }
+
+    /// Whether a packet from an end of a channel may have several tokens.
+    pub fn takes_several(&self, end: usize) -> bool {
+        match self.ends.get(end) {
+            Some(known) => known.takes_several,
+            None => false,
+        }
     }
 
     /// The client of an end of a channel.
     pub fn client_of(&self, end: usize) -> Option<&KnownClient> {
-        let place = self.connection_of(end)?.client?;
-        self.clients.get(place)
+        let client = self.connection_of(end)?.client;
+        match client {
+            Some(place) => self.clients.get(place),
+            None => None,
+        }
     }
+
+    /// The chain that the client of an end of a channel tracks.
+    pub fn tracked_by(&self, end: usize) -> Option<u8> {
+        match self.client_of(end) {
+            Some(client) => Some(client.of),
+            None => None,
+        }
+    }
+}
+
+// The place of a chain's client.
+fn place_of_client(clients: &[KnownClient], chain: u8, client: &ClientId) -> Option<usize> {
+    for place in 0..clients.len() {
+        let known = &clients[place];
+        if known.chain == chain && known.client == *client {
+            return Some(place);
+        }
+    }
+    None
+}
+
+// The place of a chain's end of a connection.
+fn place_of_connection(
+    connections: &[KnownConnection],
+    chain: u8,
+    connection: &ConnectionId,
+) -> Option<usize> {
+    for place in 0..connections.len() {
+        let known = &connections[place];
+        if known.chain == chain && known.connection == *connection {
+            return Some(place);
+        }
+    }
+    None
 }

@@ -4,9 +4,13 @@
 mod checked;
 mod counts;
 mod draws;
+mod failed_script;
+mod flights;
 mod known;
 mod maker;
 mod names;
+mod route;
+mod run_notes;
 mod running;
 mod script_text;
 mod shrinking;
@@ -14,10 +18,12 @@ mod simulation;
 mod step_text;
 #[cfg(test)]
 mod tests;
+mod writer;
 
 pub use checked::Checked;
 pub use counts::AnswerCounts;
 pub use draws::Draws;
+pub use failed_script::{FailedScript, ShortScript};
 pub use running::replay;
 pub use shrinking::{Breaks, Broken, all_kept, shrunk};
-pub use simulation::{FailedScript, Simulation, SimulationRequest};
+pub use simulation::{Simulation, SimulationRequest};

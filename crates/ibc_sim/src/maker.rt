@@ -1,5 +1,7 @@
 //! What is done next: a few steps, drawn at random, honest ones and wrong ones.
 
+mod beginning;
+mod closing;
 mod handshakes;
 mod packets;
 mod sending;
@@ -7,9 +9,10 @@ mod wild;
 
 use crate::checked::Checked;
 use crate::draws::Draws;
-use crate::known::KnownClient;
+use crate::names::APPLICATIONS;
+use crate::route::{Route, first_ends, height_of, peer_of, time_of};
 use crate::step_text::StepText;
-use ibc_law_checks::{EndNotes, Lane};
+pub use beginning::FIRST_STEPS;
 use ibc_script::Fault;
 use std::alloc::Global;
 
@@ -21,17 +24,7 @@ const MOST_ENDS: usize = 16;
 pub struct Maker {
     alloc: Global,
     chains: u8,
-    pub draws: Draws,
-}
-
-/// An end of a channel that has a peer: both places, and what is noted of both.
-#[derive(Clone, Copy)]
-pub struct PeerEnds<'c> {
-    pub own: &'c EndNotes,
-    pub own_lane: &'c Lane,
-    pub own_client: &'c KnownClient,
-    pub peer: &'c EndNotes,
-    pub peer_client: &'c KnownClient,
+    draws: Draws,
 }
 
 impl Maker {
@@ -52,16 +45,16 @@ impl Maker {
         steps: &mut Vec<String>,
     ) -> Result<(), Fault> {
         match self.draws.below(100) {
-            0..=23 => self.send(checked, steps),
-            24..=47 => self.deliver(checked, steps),
-            48..=64 => self.acknowledge(checked, steps),
-            65..=72 => self.time_out(checked, steps),
-            73..=79 => self.end_some_block(checked, steps),
-            80..=82 => self.close(checked, steps),
-            83..=85 => self.relay(steps),
-            86..=91 => self.repeat(before, steps),
-            92..=96 => self.send_any(checked, steps),
-            97 => self.open_channel(checked, steps),
+            0..=25 => self.send(checked, steps),
+            26..=50 => self.deliver(checked, steps),
+            51..=66 => self.acknowledge(checked, steps),
+            67..=77 => self.time_out(checked, steps),
+            78..=82 => self.end_some_block(checked, steps),
+            83 => self.close(checked, steps),
+            84..=85 => self.relay(steps),
+            86..=90 => self.repeat(before, steps),
+            91..=96 => self.send_any(checked, steps),
+            97..=98 => self.open_channel(checked, steps),
             _ => self.open(checked, steps),
         }
     }
@@ -69,7 +62,7 @@ impl Maker {
     // A chain.
     fn some_chain(&mut self) -> u8 {
         match self.draws.place(usize::from(self.chains)) {
-            Some(place) => place as u8,
+            Some(place) => u8::try_from(place).unwrap_or(0),
             None => 0,
         }
     }
@@ -83,52 +76,39 @@ impl Maker {
         } else if first == 0 {
             (0, 1)
         } else {
-            (first, first - 1)
+            (first, first.saturating_sub(1))
         }
     }
 
-    // An end of a channel that has a peer. Fault: `NoMemory`.
-    fn some_peers<'c>(&mut self, checked: &'c Checked) -> Result<Option<PeerEnds<'c>>, Fault> {
-        let Some(own) = self.draws.place(checked.checks.ends.len()) else {
-            return Ok(None);
-        };
-        let world = checked.chains.world();
-        match checked.checks.peer_of(world, own) {
-            Ok(Some(peer)) => Ok(peer_ends(checked, own, peer)),
-            Ok(None) => Ok(None),
-            Err(_) => Err(Fault::NoMemory),
+    // The place of an end of a channel: mostly one of those with which the script began.
+    fn some_end(&mut self, checked: &Checked) -> Option<usize> {
+        let count = checked.notes.checks.ends.len();
+        if self.draws.is_one_in(8) {
+            self.draws.place(count)
+        } else {
+            self.draws.place(first_ends(count))
         }
     }
 
-    // The last height of a chain.
-    fn height(&self, checked: &Checked, chain: u8) -> u64 {
-        match checked.checks.clocks.get(usize::from(chain)) {
-            Some(clock) => clock.height,
-            None => 0,
-        }
-    }
-
-    // The working time of a chain.
-    fn time(&self, checked: &Checked, chain: u8) -> u64 {
-        match checked.checks.clocks.get(usize::from(chain)) {
-            Some(clock) => clock.time,
-            None => 0,
+    // An end of a channel and its peer. Fault: `NoMemory`.
+    fn some_route(&mut self, checked: &Checked) -> Result<Option<Route>, Fault> {
+        match self.some_end(checked) {
+            Some(own) => peer_of(checked, own),
+            None => Ok(None),
         }
     }
 
     // Ends the block of a chain.
-    fn end_block(
-        &mut self,
-        checked: &Checked,
-        chain: u8,
-        steps: &mut Vec<String>,
-    ) -> Result<(), Fault> {
+    fn end_block(&self, chain: u8, steps: &mut Vec<String>) -> Result<(), Fault> {
+        let step = StepText::on(self.alloc, "Block", chain)?;
+        step.finish(steps)?;
+        Ok(())
+    }
+
+    // Ends the block of a chain. The next one has this time.
+    fn end_block_at(&self, chain: u8, time: u64, steps: &mut Vec<String>) -> Result<(), Fault> {
         let mut step = StepText::on(self.alloc, "Block", chain)?;
-        if self.draws.is_one_in(2) {
-            let later = self.draws.below(3);
-            let time = self.time(checked, chain).saturating_add(later);
-            step.number("time", time)?;
-        }
+        step.number("time", time)?;
         step.finish(steps)?;
         Ok(())
     }
@@ -136,46 +116,51 @@ impl Maker {
     // Ends the block of some chain, now and then with a time that goes back.
     fn end_some_block(&mut self, checked: &Checked, steps: &mut Vec<String>) -> Result<(), Fault> {
         let chain = self.some_chain();
-        if !self.draws.is_one_in(20) {
-            return self.end_block(checked, chain, steps);
+        let time = time_of(checked, chain);
+        if self.draws.is_one_in(16) {
+            self.end_block_at(chain, time.saturating_sub(1), steps)
+        } else {
+            let later = self.draws.below(4);
+            self.end_block_at(chain, time.saturating_add(later), steps)
         }
-        let mut step = StepText::on(self.alloc, "Block", chain)?;
-        let time = self.time(checked, chain).saturating_sub(1);
-        step.number("time", time)?;
-        step.finish(steps)?;
-        Ok(())
     }
 
-    // Mostly ends the block of a chain. The result is the height from which the next proofs come.
+    // Mostly ends the block of a chain, behind so many more that end before. The result is the height from which the next proofs
+    // come.
     fn proved_height(
         &mut self,
         checked: &Checked,
         chain: u8,
+        before: u64,
         steps: &mut Vec<String>,
     ) -> Result<u64, Fault> {
-        let height = self.height(checked, chain);
-        if self.draws.is_one_in(5) {
+        let height = height_of(checked, chain).saturating_add(before);
+        if self.draws.is_one_in(8) {
             return Ok(height);
         }
-        self.end_block(checked, chain, steps)?;
+        self.end_block(chain, steps)?;
         if self.draws.is_one_in(24) {
             return Ok(height);
         }
         Ok(height.saturating_add(1))
     }
 
-    // Mostly tells a client of a height.
+    // Mostly tells the client of an end of a height.
     fn update(
         &mut self,
-        client: &KnownClient,
+        checked: &Checked,
+        end: usize,
         height: u64,
         steps: &mut Vec<String>,
     ) -> Result<(), Fault> {
         if self.draws.is_one_in(24) {
             return Ok(());
         }
-        let mut step = StepText::on(self.alloc, "UpdateClient", client.chain)?;
-        step.text("client", client.client.as_str())?;
+        let Some(known) = checked.notes.known.client_of(end) else {
+            return Ok(());
+        };
+        let mut step = StepText::on(self.alloc, "UpdateClient", known.chain)?;
+        step.text("client", known.client.as_str())?;
         step.number("height", height)?;
         step.finish(steps)?;
         Ok(())
@@ -192,33 +177,36 @@ impl Maker {
 
     // Does once more what was done before.
     fn repeat(&mut self, before: &[String], steps: &mut Vec<String>) -> Result<(), Fault> {
-        if let Some(place) = self.draws.place(before.len()) {
-            steps.push(before[place].clone()?)?;
+        let Some(place) = self.draws.place(before.len()) else {
+            return Ok(());
+        };
+        if let Some(step) = before.get(place) {
+            steps.push(step.clone()?)?;
         }
         Ok(())
     }
 
-    /// Opens a channel between two chains, over a new connection. Fault: `NoMemory`.
-    pub fn open(&mut self, checked: &Checked, steps: &mut Vec<String>) -> Result<(), Fault> {
-        if checked.checks.ends.len() >= MOST_ENDS {
+    // Opens a channel between two chains, over a new connection.
+    fn open(&mut self, checked: &Checked, steps: &mut Vec<String>) -> Result<(), Fault> {
+        if checked.notes.checks.ends.len() >= MOST_ENDS {
             return self.end_some_block(checked, steps);
         }
         let (first, second) = self.two_chains();
-        let application = self.draws.one_of(&["transfer", "transfer2", "note"]);
+        let application = self.draws.one_of(&APPLICATIONS);
+        self.open_between(first, second, application, steps)
+    }
+
+    // Opens a channel of an application between two chains, over a new connection.
+    fn open_between(
+        &self,
+        first: u8,
+        second: u8,
+        application: &str,
+        steps: &mut Vec<String>,
+    ) -> Result<(), Fault> {
         let mut step = StepText::between(self.alloc, "open", first, second)?;
         step.text("app", application)?;
         step.finish(steps)?;
         Ok(())
     }
-}
-
-// An end of a channel with its peer, where the clients of both are known.
-fn peer_ends(checked: &Checked, own: usize, peer: usize) -> Option<PeerEnds<'_>> {
-    Some(PeerEnds {
-        own: checked.checks.ends.get(own)?,
-        own_lane: checked.checks.lanes.get(own)?,
-        own_client: checked.known.client_of(own)?,
-        peer: checked.checks.ends.get(peer)?,
-        peer_client: checked.known.client_of(peer)?,
-    })
 }

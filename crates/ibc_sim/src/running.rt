@@ -1,31 +1,35 @@
 //! Scripts are run on chains that are looked at.
 
 use crate::checked::Checked;
+use crate::run_notes::RunNotes;
 use ibc_law_checks::Finding;
 use ibc_script::{Fault, Script, Step, read_script};
 use ibc_script_cli::{Runner, Worlds};
-use ibc_script_worlds::WorldFactory;
+use ibc_script_worlds::{ScriptWorld, WorldFactory};
 use std::alloc::Global;
 use std::io;
 
 /// The chains with which a script begins. Faults: `BadScript` where no world begins so; `NoMemory`.
 pub fn begin(alloc: Global, script: &Script) -> Result<Checked, Fault> {
+    let notes = RunNotes::new(alloc, &script.genesis)?;
     match WorldFactory::new(alloc).begin(&script.genesis) {
-        Ok(world) => Ok(Checked::new(alloc, world, &script.genesis)?),
-        Err(refusal) => Err(Fault::of_refusal(refusal)),
+        Ok(world) => Ok(Checked::new(world, notes)),
+        Err(refusal) => {
+            drop(notes);
+            Err(Fault::of_refusal(refusal))
+        }
     }
 }
 
 /// Takes steps in turn, up to the first after which a law is broken. The result is how many were taken. Fault: `NoMemory`.
 pub fn take_steps(alloc: Global, chains: &mut Checked, steps: Vec<Step>) -> Result<usize, Fault> {
-    let runner = Runner::new(alloc, &[]);
     let mut taken: usize = 0;
     for step in steps {
-        if chains.finding.is_some() {
+        if chains.notes.finding.is_some() {
             drop(step);
             break;
         }
-        runner.act(chains, step, &mut io::sink())?;
+        Runner::new(alloc, &[]).act(chains, step, &mut io::sink())?;
         taken = taken.saturating_add(1);
     }
     Ok(taken)
@@ -43,19 +47,31 @@ pub fn replay(alloc: Global, text: &[u8]) -> Result<Option<Finding>, Fault> {
         ..
     } = script;
     drop(genesis);
-    let taken = take_steps(alloc, &mut chains, steps);
     drop(names);
-    taken?;
-    finding_of(chains)
+    match take_steps(alloc, &mut chains, steps) {
+        Ok(_) => finding_of(chains),
+        Err(fault) => {
+            drop(chains);
+            Err(fault)
+        }
+    }
 }
 
 /// What was found in a run that has ended, or is found now. Fault: `NoMemory`.
 pub fn finding_of(chains: Checked) -> Result<Option<Finding>, Fault> {
-    let mut chains = chains;
-    if chains.finding.is_none() {
-        chains.look_at_all().map_err(Fault::no_memory)?;
-    }
-    let found = chains.finding.take();
+    let Checked { chains, notes } = chains;
+    let found = found_in(&chains, notes);
     drop(chains);
+    found
+}
+
+// What is noted as found, or is found now.
+fn found_in(chains: &ScriptWorld, notes: RunNotes) -> Result<Option<Finding>, Fault> {
+    let mut notes = notes;
+    if notes.finding.is_none() {
+        notes.look_at_all(chains.world()).map_err(Fault::no_memory)?;
+    }
+    let found = notes.finding.take();
+    drop(notes);
     Ok(found)
 }

@@ -38,14 +38,23 @@ fn add_chain(text: &mut String, chain: u8, draws: &mut Draws) -> Result<(), Allo
     write!(text, "{{\"name\":\"{name}\",\"time\":{time},\"balances\":[")?;
     let mut mark = "";
     for user in USERS {
-        for token in TOKENS {
-            text.push_str(mark)?;
-            let amount = draws.below(200);
-            write!(text, "[\"{user}\",\"{token}\",\"{amount}\"]")?;
-            mark = ",";
-        }
+        text.push_str(mark)?;
+        add_balances(text, user, draws)?;
+        mark = ",";
     }
     text.push_str("]}")
+}
+
+// Adds what a user holds of each token.
+fn add_balances(text: &mut String, user: &str, draws: &mut Draws) -> Result<(), AllocError> {
+    let mut mark = "";
+    for token in TOKENS {
+        text.push_str(mark)?;
+        let amount = draws.below(900).saturating_add(100);
+        write!(text, "[\"{user}\",\"{token}\",\"{amount}\"]")?;
+        mark = ",";
+    }
+    Ok(())
 }
 
 /// The beginning of a script of so many chains that hold nothing, by which single steps are read. Error: no memory.
@@ -70,14 +79,22 @@ pub fn script_text(
     kept: &[bool],
 ) -> Result<String, AllocError> {
     let mut text = String::from_str(alloc, head)?;
-    let mut mark = "\n";
+    let mut is_first = true;
     for (step, is_kept) in steps.iter().zip(kept) {
         if *is_kept {
-            text.push_str(mark)?;
-            text.push_str(step.as_str())?;
-            mark = ",\n";
+            add_step(&mut text, is_first, step.as_str())?;
+            is_first = false;
         }
     }
     text.push_str("]}\n")?;
     Ok(text)
+}
+
+// Adds a step, behind a comma unless it is the first.
+fn add_step(text: &mut String, is_first: bool, step: &str) -> Result<(), AllocError> {
+    if !is_first {
+        text.push_str(",")?;
+    }
+    text.push_str("\n")?;
+    text.push_str(step)
 }

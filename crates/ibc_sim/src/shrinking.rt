@@ -1,6 +1,6 @@
 //! A script that breaks a law is made shorter, while it still does.
 
-ghost use Rattle.std.specs.Prelude.{◌≡◌, ◌<◌, IfOk, length};
+ghost use Rattle.std.specs.Prelude.{◌≡◌, ◌<◌, IfOk, vec_len};
 ghost use Rattle.ibc_sim.specs.Shrinking.{KeepsNoMore};
 
 use crate::running::replay;
@@ -9,8 +9,8 @@ use ibc_law_checks::BrokenLaw;
 use ibc_script::Fault;
 use std::alloc::{AllocError, Global};
 
-/// At most so many shorter scripts are tried.
-const MOST_TRIES: usize = 2_000;
+/// At most so many steps are replayed until a script is short.
+const MOST_REPLAYED: usize = 200_000;
 
 /// What some steps do.
 pub trait Breaks {
@@ -43,75 +43,89 @@ impl Breaks for Broken<'_> {
     }
 }
 
+/// Some steps that stand side by side.
+#[derive(Clone, Copy)]
+struct Part {
+    start: usize,
+    size: usize,
+}
+
 /// Whether each step is kept, where all are. Error: no memory.
 pub fn all_kept(alloc: Global, count: usize) -> Result<Vec<bool>, AllocError>
-    ensures { IfOk result (λ kept. length kept.items ≡ count) }
+    ensures { IfOk result (λ kept. vec_len kept ≡ count) }
 {
-    vec![in alloc; true; count]
+    let kept = vec![in alloc; true; count]?;
+    Ok(kept)
 }
 
 /// Which of the kept steps suffice: none is added. Halves are left out first, then parts of half their size, and so on. Fault:
 /// `NoMemory`.
-pub fn shrunk<B: Breaks>(breaks: &B, kept: Vec<bool>) -> Result<Vec<bool>, Fault>
+#[tactic(auto, using(crate::proofs::KeptSteps::keeps_all, crate::proofs::KeptSteps::keeps_along))]
+pub fn shrunk<B: Breaks>(alloc: Global, breaks: &B, kept: Vec<bool>) -> Result<Vec<bool>, Fault>
     ensures { IfOk result (λ fewer. KeepsNoMore kept.items fewer.items) }
 {
     let mut kept = kept;
     let mut size = kept.len();
-    let mut tries = MOST_TRIES;
+    let mut left = MOST_REPLAYED;
     'halving: for _round in 0..usize::BITS {
         if size == 0 {
             break;
         }
-        tries = without_parts(breaks, &mut kept, size, tries)?;
+        left = without_parts(alloc, breaks, &mut kept, size, left)?;
         size /= 2;
     }
     Ok(kept)
 }
 
-// Leaves out parts of so many steps each, where the rest still breaks it. The result is how many tries are left.
+// Leaves out parts of so many steps each, where the rest still breaks it. The result is how many steps may still be replayed.
+#[tactic(auto, using(crate::proofs::KeptSteps::keeps_all, crate::proofs::KeptSteps::keeps_along))]
 fn without_parts<B: Breaks>(
+    alloc: Global,
     breaks: &B,
     kept: &mut Vec<bool>,
     size: usize,
-    tries: usize,
+    left: usize,
 ) -> Result<usize, Fault>
     requires { 0 < size }
     ensures { KeepsNoMore kept.old.items kept.new.items }
 {
-    let mut tries = tries;
+    let mut left = left;
     let parts = kept.len() / size;
     for part in 0..parts.saturating_add(1) {
         let start = part.saturating_mul(size);
-        if tries > 0 && has_kept(kept.as_slice(), start, size) {
-            tries -= 1;
-            without_part(breaks, kept, start, size)?;
-        }
+        left = without_part(alloc, breaks, kept, Part { start, size }, left)?;
     }
-    Ok(tries)
+    Ok(left)
 }
 
-// Leaves out some steps, where the rest still breaks it.
+// Leaves out a part, where the rest still breaks it. The result is how many steps may still be replayed.
+#[tactic(auto, using(crate::proofs::KeptSteps::keeps_all))]
 fn without_part<B: Breaks>(
+    alloc: Global,
     breaks: &B,
     kept: &mut Vec<bool>,
-    start: usize,
-    size: usize,
-) -> Result<(), Fault>
+    part: Part,
+    left: usize,
+) -> Result<usize, Fault>
     ensures { KeepsNoMore kept.old.items kept.new.items }
 {
-    let mut fewer = kept.clone()?;
-    leave_out(fewer.as_mut_slice(), start, size);
-    if breaks.still_breaks(fewer.as_slice())? {
-        *kept = fewer;
-    } else {
-        drop(fewer);
+    if left == 0 || !has_kept(kept.as_slice(), part) {
+        return Ok(left);
     }
-    Ok(())
+    let fewer = without(alloc, kept.as_slice(), part)?;
+    let replayed = kept_count(fewer.as_slice());
+    if !breaks.still_breaks(fewer.as_slice())? {
+        drop(fewer);
+        return Ok(left.saturating_sub(replayed));
+    }
+    *kept = fewer;
+    Ok(left.saturating_sub(replayed))
 }
 
-// Whether one of some steps is kept.
-fn has_kept(kept: &[bool], start: usize, size: usize) -> bool {
-    for place in start..start.saturating_add(size).min(kept.len()) {
+// Whether one of a part's steps is kept.
+fn has_kept(kept: &[bool], part: Part) -> bool {
+    let end = part.start.saturating_add(part.size).min(kept.len());
+    for place in part.start..end {
         if kept[place] {
             return true;
         }
@@ -119,11 +133,36 @@ fn has_kept(kept: &[bool], start: usize, size: usize) -> bool {
     false
 }
 
-// Leaves out some steps.
-fn leave_out(kept: &mut [bool], start: usize, size: usize)
+/// How many steps are kept.
+pub fn kept_count(kept: &[bool]) -> usize {
+    kept.iter().filter(|is_kept| **is_kept).count()
+}
+
+// The kept steps without those of a part.
+#[tactic(auto, using(crate::proofs::KeptSteps::keeps_as))]
+fn without(alloc: Global, kept: &[bool], part: Part) -> Result<Vec<bool>, AllocError>
+    ensures { IfOk result (λ fewer. KeepsNoMore kept.now fewer.items) }
+{
+    let mut fewer = copy_of(alloc, kept)?;
+    leave_out(fewer.as_mut_slice(), part);
+    Ok(fewer)
+}
+
+// The same steps.
+fn copy_of(alloc: Global, kept: &[bool]) -> Result<Vec<bool>, AllocError>
+    ensures { IfOk result (λ copy. copy.items ≡ kept.now) }
+{
+    let copy = kept.to_vec(alloc)?;
+    Ok(copy)
+}
+
+// Leaves out the steps of a part.
+#[tactic(auto, using(crate::proofs::KeptSteps::keeps_all, crate::proofs::KeptSteps::keeps_without))]
+fn leave_out(kept: &mut [bool], part: Part)
     ensures { KeepsNoMore kept.old kept.new }
 {
-    for place in start..start.saturating_add(size).min(kept.len()) {
+    let end = part.start.saturating_add(part.size).min(kept.len());
+    for place in part.start..end {
         kept[place] = false;
     }
 }

@@ -25,7 +25,7 @@ fn two_steps_are_left_of_many(rt: HostRuntime) {
     for (count, first, second) in [(2, 0, 1), (57, 3, 4), (200, 0, 199), (1000, 500, 501)] {
         let needs = NeedsTwo { first, second };
         let kept = all_kept(rt.alloc(), count).expect(&rt, "memory");
-        let kept = shrunk(&needs, kept).expect(&rt, "memory");
+        let kept = shrunk(rt.alloc(), &needs, kept).expect(&rt, "memory");
         let left = kept.iter().filter(|is_kept| **is_kept).count();
         assert_eq!(rt; left, 2, "of {count}");
         assert_eq!(rt; kept.get(first).copied(), Some(true));
@@ -70,7 +70,8 @@ fn a_seed_gives_one_run(rt: HostRuntime) {
 
 #[test]
 fn messages_are_accepted(rt: HostRuntime) {
-    let simulation = run_of(&rt, rt.alloc(), 1, 500);
+    let simulation = run_of(&rt, rt.alloc(), 1, 1_000);
+    assert_eq!(rt; simulation.steps, 1_000);
     for tag in [0, 1, 2, 3, 4, 5, 6, 7, 8, 9, 10, 13, 14, 15, 16, 17, 19] {
         let count = simulation.counts.accepted.get(tag).copied().unwrap_or(0);
         assert!(rt; count > 0, "no message of tag {tag} was accepted");

@@ -4,7 +4,7 @@ use crate::{FAILED, FOUND, GOOD, bytes_of};
 use clap::{Arg, ArgAction, ArgMatches, Command};
 use ibc_law_checks::Finding;
 use ibc_script::Fault;
-use ibc_sim::{AnswerCounts, FailedScript, Simulation, SimulationRequest, replay};
+use ibc_sim::{AnswerCounts, FailedScript, ShortScript, Simulation, SimulationRequest, replay};
 use ibc_wire::MessageKind;
 use std::alloc::{AllocError, Global};
 use std::fs::Files;
@@ -215,7 +215,7 @@ fn tell<R: Files + Print + Eprint>(
             Ok(GOOD)
         }
         Ok(Some(failure)) => {
-            let told = tell_failure(rt, &failure, out);
+            let told = tell_failure(rt, simulation.steps, &failure, out);
             drop(failure);
             told
         }
@@ -240,19 +240,35 @@ fn print_counts<R: Print>(rt: &R, counts: &AnswerCounts) -> io::Result<()> {
     println!(rt; "refused {refused}")
 }
 
-// Tells of a script that breaks a law, and writes it.
+// Tells of a script that breaks a law, after so many steps in all, makes it shorter, and writes it.
 fn tell_failure<R: Files + Print + Eprint>(
     rt: &R,
+    all: u64,
     failure: &FailedScript,
     out: Option<&str>,
 ) -> io::Result<u8> {
     print_finding(rt, &failure.finding)?;
-    let (seed, steps, fewer) = (failure.seed, failure.steps, failure.script_steps);
-    println!(rt; "seed {seed}, {steps} steps, {fewer} of them suffice")?;
-    match out {
-        Some(file) => write_script(rt, file, failure.script.as_str()),
-        None => write_script(rt, "sim.json", failure.script.as_str()),
+    let (seed, steps) = (failure.seed, failure.step_count());
+    println!(rt; "seed {seed}, {steps} steps, {all} in all")?;
+    match failure.shorter() {
+        Ok(short) => {
+            let told = tell_short(rt, &short, out.unwrap_or("sim.json"));
+            drop(short);
+            told
+        }
+        Err(fault) => failed(rt, fault),
     }
+}
+
+// Tells how many steps suffice, and writes them.
+fn tell_short<R: Files + Print + Eprint>(
+    rt: &R,
+    short: &ShortScript,
+    file: &str,
+) -> io::Result<u8> {
+    let steps = short.steps;
+    println!(rt; "{steps} of them suffice")?;
+    write_script(rt, file, short.text.as_str())
 }
 
 // Writes the script into a file.

@@ -1,143 +1,190 @@
 //! Packets are received, acknowledged and timed out.
 
-use super::{Maker, PeerEnds};
+use super::Maker;
 use crate::checked::Checked;
+use crate::flights::{Flight, first_of_end};
+use crate::route::{Route, add_packet, height_of, peer_of, sent_by, time_of};
 use crate::step_text::StepText;
-use ibc_law_checks::EndNotes;
 use ibc_script::Fault;
 
+/// A timeout is near that is reached within so many blocks.
+const NEAR: u64 = 6;
+
+// Whether a limit lies at most so far ahead.
+fn is_near(limit: u64, now: u64) -> bool {
+    limit != 0 && limit <= now.saturating_add(NEAR)
+}
+
+// Whether one of a packet's timeouts is near, or reached.
+fn is_timeout_near(checked: &Checked, flight: &Flight) -> bool {
+    is_near(flight.timeout_height, height_of(checked, flight.to))
+        || is_near(flight.timeout_time, time_of(checked, flight.to))
+}
+
+// The first packet from a place on whose timeout is near.
+fn first_near(checked: &Checked, flights: &[Flight], start: usize) -> Option<Flight> {
+    for place in start..flights.len() {
+        if is_timeout_near(checked, &flights[place]) {
+            return Some(flights[place]);
+        }
+    }
+    None
+}
+
 impl Maker {
-    // The sequence of a packet: mostly one of the last that were sent, on an ordered channel the next.
-    fn sequence(&mut self, ends: PeerEnds<'_>, next: usize) -> u64 {
-        let sent = ends.own_lane.sent().len() as u64;
-        if ends.own.ordered && !self.draws.is_one_in(8) {
-            return (next as u64).saturating_add(1);
+    // One of some packets: mostly the first of its end.
+    fn some_flight(&mut self, flights: &[Flight]) -> Option<Flight> {
+        let place = self.draws.place(flights.len())?;
+        let drawn = flights.get(place)?;
+        if self.draws.is_one_in(4) {
+            Some(*drawn)
+        } else {
+            first_of_end(flights, drawn.end)
         }
-        if self.draws.is_one_in(40) {
-            return sent.saturating_add(1);
-        }
-        let back = self.draws.below(8);
-        sent.saturating_sub(back).max(1)
     }
 
-    /// Receives a packet of some end at its peer. Fault: `NoMemory`.
+    // One of some packets, with a timeout that is near where one has that.
+    fn late_flight(&mut self, checked: &Checked, flights: &[Flight]) -> Option<Flight> {
+        let place = self.draws.place(flights.len())?;
+        if let Some(flight) = first_near(checked, flights, place) {
+            return Some(flight);
+        }
+        if let Some(flight) = first_near(checked, flights, 0) {
+            return Some(flight);
+        }
+        flights.get(place).copied()
+    }
+
+    // The sequence that is moved: mostly a packet's own, now and then any that its end has sent, or the next.
+    fn sequence(&mut self, checked: &Checked, flight: Flight) -> u64 {
+        if !self.draws.is_one_in(10) {
+            return flight.sequence;
+        }
+        let sent = sent_by(checked, flight.end);
+        match self.draws.place(sent.saturating_add(1)) {
+            Some(place) => (place as u64).saturating_add(1),
+            None => flight.sequence,
+        }
+    }
+
+    /// Receives a packet that is on the way. Fault: `NoMemory`.
     pub(super) fn deliver(
         &mut self,
         checked: &Checked,
         steps: &mut Vec<String>,
     ) -> Result<(), Fault> {
-        let Some(ends) = self.some_peers(checked)? else {
-            return self.end_some_block(checked, steps);
+        let Some(flight) = self.some_flight(checked.notes.flights.on_the_way.as_slice()) else {
+            return self.send(checked, steps);
         };
-        let sequence = self.sequence(ends, ends.own_lane.received_count());
-        let height = self.proved_height(checked, ends.own.chain, steps)?;
-        self.update(ends.peer_client, height, steps)?;
-        let mut step = StepText::on(self.alloc, "RecvPacket", ends.peer.chain)?;
-        add_packet(ends.own, sequence, &mut step)?;
+        let Some(route) = peer_of(checked, flight.end)? else {
+            return self.send(checked, steps);
+        };
+        let sequence = self.sequence(checked, flight);
+        let height = self.proved_height(checked, route.from, 0, steps)?;
+        self.update(checked, route.peer, height, steps)?;
+        let mut step = StepText::on(self.alloc, "RecvPacket", route.to)?;
+        add_packet(checked, flight.end, sequence, &mut step)?;
         step.number("height", height)?;
         step.finish(steps)?;
         Ok(())
     }
 
-    /// Acknowledges a packet of some end. Fault: `NoMemory`.
+    /// Acknowledges a packet that was received. Fault: `NoMemory`.
     pub(super) fn acknowledge(
         &mut self,
         checked: &Checked,
         steps: &mut Vec<String>,
     ) -> Result<(), Fault> {
-        let Some(ends) = self.some_peers(checked)? else {
-            return self.end_some_block(checked, steps);
+        let Some(flight) = self.some_flight(checked.notes.flights.received.as_slice()) else {
+            return self.deliver(checked, steps);
         };
-        let sequence = self.sequence(ends, ends.own_lane.acknowledged_count());
-        self.settle(checked, ends, "AckPacket", sequence, steps)
+        let Some(route) = peer_of(checked, flight.end)? else {
+            return self.deliver(checked, steps);
+        };
+        let sequence = self.sequence(checked, flight);
+        let height = self.proved_height(checked, route.to, 0, steps)?;
+        self.settle(checked, route, "AckPacket", sequence, height, steps)
     }
 
-    /// Times out a packet of some end, now and then behind some blocks of its peer. Fault: `NoMemory`.
+    /// Times out a packet that is on the way, now and then one that was received. Mostly a timeout of it is reached before. Fault:
+    /// `NoMemory`.
     pub(super) fn time_out(
         &mut self,
         checked: &Checked,
         steps: &mut Vec<String>,
     ) -> Result<(), Fault> {
-        let Some(ends) = self.some_peers(checked)? else {
-            return self.end_some_block(checked, steps);
+        let flight = if self.draws.is_one_in(3) {
+            self.late_flight(checked, checked.notes.flights.received.as_slice())
+        } else {
+            self.late_flight(checked, checked.notes.flights.on_the_way.as_slice())
         };
-        let sequence = self.sequence(ends, ends.own_lane.received_count());
+        let Some(flight) = flight else {
+            return self.send(checked, steps);
+        };
+        let Some(route) = peer_of(checked, flight.end)? else {
+            return self.send(checked, steps);
+        };
+        let sequence = self.sequence(checked, flight);
+        let waited = self.wait(checked, flight, steps)?;
+        let height = self.proved_height(checked, route.to, waited, steps)?;
         let kind = if self.draws.is_one_in(4) {
             "TimeoutOnClose"
         } else {
             "Timeout"
         };
-        self.settle(checked, ends, kind, sequence, steps)
+        self.settle(checked, route, kind, sequence, height, steps)
+    }
+
+    // Ends blocks of the receiving chain until a packet's timeout is reached or nearly, where that isn't far. The result is how many.
+    fn wait(
+        &mut self,
+        checked: &Checked,
+        flight: Flight,
+        steps: &mut Vec<String>,
+    ) -> Result<u64, Fault> {
+        let less = self.draws.below(3);
+        let time = time_of(checked, flight.to);
+        if flight.timeout_time > time && is_near(flight.timeout_time, time) {
+            let later = flight.timeout_time.saturating_sub(less).max(time);
+            self.end_block_at(flight.to, later, steps)?;
+            return Ok(1);
+        }
+        let height = height_of(checked, flight.to);
+        if !is_near(flight.timeout_height, height) {
+            return Ok(0);
+        }
+        let blocks = flight
+            .timeout_height
+            .saturating_sub(height)
+            .saturating_sub(less);
+        self.end_blocks(flight.to, blocks, steps)?;
+        Ok(blocks)
+    }
+
+    // Ends so many blocks of a chain.
+    fn end_blocks(&self, chain: u8, blocks: u64, steps: &mut Vec<String>) -> Result<(), Fault> {
+        for _block in 0..blocks {
+            self.end_block(chain, steps)?;
+        }
+        Ok(())
     }
 
     // Sends what settles a packet, proved from a height of the peer.
     fn settle(
         &mut self,
         checked: &Checked,
-        ends: PeerEnds<'_>,
+        route: Route,
         kind: &str,
         sequence: u64,
-        steps: &mut Vec<String>,
-    ) -> Result<(), Fault> {
-        let height = self.proved_height(checked, ends.peer.chain, steps)?;
-        self.update(ends.own_client, height, steps)?;
-        let mut step = StepText::on(self.alloc, kind, ends.own.chain)?;
-        add_packet(ends.own, sequence, &mut step)?;
-        step.chain("from", ends.peer.chain)?;
-        step.number("height", height)?;
-        step.finish(steps)?;
-        Ok(())
-    }
-
-    /// Closes some end, mostly of notes, and then mostly its peer. Fault: `NoMemory`.
-    pub(super) fn close(
-        &mut self,
-        checked: &Checked,
-        steps: &mut Vec<String>,
-    ) -> Result<(), Fault> {
-        let Some(ends) = self.some_peers(checked)? else {
-            return self.end_some_block(checked, steps);
-        };
-        if ends.own.port.as_str() != "note" && !self.draws.is_one_in(4) {
-            return self.end_some_block(checked, steps);
-        }
-        let mut step = StepText::on(self.alloc, "ChanCloseInit", ends.own.chain)?;
-        add_end(ends.own, &mut step)?;
-        step.finish(steps)?;
-        let height = self.proved_height(checked, ends.own.chain, steps)?;
-        self.update(ends.peer_client, height, steps)?;
-        self.confirm_close(ends, height, steps)
-    }
-
-    // Closes the peer of an end that closed.
-    fn confirm_close(
-        &mut self,
-        ends: PeerEnds<'_>,
         height: u64,
         steps: &mut Vec<String>,
     ) -> Result<(), Fault> {
-        if self.draws.is_one_in(3) {
-            return Ok(());
-        }
-        let mut step = StepText::on(self.alloc, "ChanCloseConfirm", ends.peer.chain)?;
-        add_end(ends.peer, &mut step)?;
-        step.chain("from", ends.own.chain)?;
+        self.update(checked, route.own, height, steps)?;
+        let mut step = StepText::on(self.alloc, kind, route.from)?;
+        add_packet(checked, route.own, sequence, &mut step)?;
+        step.chain("from", route.to)?;
         step.number("height", height)?;
         step.finish(steps)?;
         Ok(())
     }
-}
-
-// Adds the packet that an end sent under a sequence.
-fn add_packet(end: &EndNotes, sequence: u64, step: &mut StepText) -> Result<(), Fault> {
-    let (port, channel) = (end.port.as_str(), end.channel.as_str());
-    step.packet(end.chain, port, channel, sequence)?;
-    Ok(())
-}
-
-// Adds the port and the channel of an end.
-fn add_end(end: &EndNotes, step: &mut StepText) -> Result<(), Fault> {
-    step.text("port", end.port.as_str())?;
-    step.text("channel", end.channel.as_str())?;
-    Ok(())
 }

@@ -2,25 +2,41 @@
 
 use super::Maker;
 use crate::checked::Checked;
-use crate::names::{RECEIVERS, TOKENS, USERS};
+use crate::names::{AMOUNTS, NOTES, ODD_AMOUNTS, RECEIVERS, SMALL_AMOUNTS, TOKENS, USERS};
+use crate::route::{height_of, time_of};
 use crate::step_text::StepText;
 use ibc_law_checks::EndNotes;
 use ibc_script::Fault;
 
 impl Maker {
-    /// Sends a packet over some end. Fault: `NoMemory`.
+    /// Sends a packet over some end, now and then three. Fault: `NoMemory`.
     pub(super) fn send(&mut self, checked: &Checked, steps: &mut Vec<String>) -> Result<(), Fault> {
-        let Some(place) = self.draws.place(checked.checks.ends.len()) else {
+        let Some(place) = self.some_end(checked) else {
             return self.open(checked, steps);
         };
-        let end = &checked.checks.ends[place];
-        let peer = match checked.known.client_of(place) {
-            Some(client) => client.of,
-            None => 0,
+        let packets: u64 = if self.draws.is_one_in(5) { 3 } else { 1 };
+        for _packet in 0..packets {
+            self.send_over(checked, place, steps)?;
+        }
+        Ok(())
+    }
+
+    // Sends a packet over the end at a place.
+    fn send_over(
+        &mut self,
+        checked: &Checked,
+        place: usize,
+        steps: &mut Vec<String>,
+    ) -> Result<(), Fault> {
+        let Some(end) = checked.notes.checks.ends.get(place) else {
+            return Ok(());
         };
+        let peer = checked.notes.known.tracked_by(place).unwrap_or(0);
         if end.port.as_str() == "note" {
-            self.send_note(checked, end, peer, steps)
-        } else if self.draws.is_one_in(2) {
+            return self.send_note(checked, end, peer, steps);
+        }
+        let several = checked.notes.known.takes_several(place);
+        if several == self.draws.is_one_in(6) {
             self.send_token(checked, end, peer, steps)
         } else {
             self.send_tokens(checked, end, peer, steps)
@@ -35,13 +51,11 @@ impl Maker {
         peer: u8,
         steps: &mut Vec<String>,
     ) -> Result<(), Fault> {
-        let data = self
-            .draws
-            .one_of(&["bjE=", "bjI=", "bjM=", "AA==", "bm90ZQ=="]);
+        let data = self.draws.one_of(&NOTES);
         let mut step = StepText::on(self.alloc, "SendNote", end.chain)?;
         step.text("channel", end.channel.as_str())?;
         step.text("data", data)?;
-        self.add_timeouts(checked, peer, &mut step)?;
+        self.add_timeouts(checked, peer, end.ordered, &mut step)?;
         step.finish(steps)?;
         Ok(())
     }
@@ -56,10 +70,8 @@ impl Maker {
     ) -> Result<(), Fault> {
         let mut step = StepText::on(self.alloc, "Transfer", end.chain)?;
         self.add_parties(end.channel.as_str(), &mut step)?;
-        self.add_denom(end.channel.as_str(), &mut step)?;
-        let amount = self.amount();
-        step.text("amount", amount)?;
-        self.add_timeouts(checked, peer, &mut step)?;
+        self.add_denom_and_amount(end.channel.as_str(), &mut step)?;
+        self.add_timeouts(checked, peer, end.ordered, &mut step)?;
         step.finish(steps)?;
         Ok(())
     }
@@ -76,7 +88,7 @@ impl Maker {
         self.add_parties(end.channel.as_str(), &mut step)?;
         let tokens = self.tokens(end.channel.as_str())?;
         step.written("tokens", tokens.as_str())?;
-        self.add_timeouts(checked, peer, &mut step)?;
+        self.add_timeouts(checked, peer, end.ordered, &mut step)?;
         step.finish(steps)?;
         Ok(())
     }
@@ -94,96 +106,112 @@ impl Maker {
         Ok(())
     }
 
-    // Adds a denomination: a base one, one that came over the channel, or one that came over two.
-    fn add_denom(&mut self, channel: &str, step: &mut StepText) -> Result<(), Fault> {
+    // Adds a denomination and an amount of it: a base one, one that came over the channel, over another one, or over both.
+    fn add_denom_and_amount(&mut self, channel: &str, step: &mut StepText) -> Result<(), Fault> {
         let token = self.draws.one_of(&TOKENS);
-        let denom = match self.draws.below(8) {
-            0..=3 => format!(in self.alloc; "{token}")?,
-            4..=6 => format!(in self.alloc; "transfer/{channel}/{token}")?,
+        match self.draws.below(8) {
+            0..=3 => {
+                step.text("denom", token)?;
+                let amount = self.amount();
+                step.text("amount", amount)?;
+                Ok(())
+            }
+            4..=5 => self.add_voucher(channel, token, step),
+            6 => {
+                let other = self.draws.below(4);
+                let channel = format!(in self.alloc; "channel-{other}")?;
+                self.add_voucher(channel.as_str(), token, step)
+            }
             _ => {
                 let other = self.draws.below(4);
-                format!(in self.alloc; "transfer/{channel}/transfer/channel-{other}/{token}")?
+                let denom = format!(in self.alloc; "transfer/channel-{other}/{token}")?;
+                self.add_voucher(channel, denom.as_str(), step)
             }
-        };
-        step.text("denom", denom.as_str())?;
+        }
+    }
+
+    // Adds what came over a channel of a denomination, and a small amount.
+    fn add_voucher(
+        &mut self,
+        channel: &str,
+        denom: &str,
+        step: &mut StepText,
+    ) -> Result<(), Fault> {
+        let amount = self.draws.one_of(&SMALL_AMOUNTS);
+        let voucher = format!(in self.alloc; "transfer/{channel}/{denom}")?;
+        step.text("denom", voucher.as_str())?;
+        step.text("amount", amount)?;
         Ok(())
     }
 
     // An amount, now and then one that nobody has or that is none.
     fn amount(&mut self) -> &'static str {
-        self.draws.one_of(&[
-            "1",
-            "2",
-            "3",
-            "5",
-            "7",
-            "10",
-            "11",
-            "20",
-            "25",
-            "1",
-            "2",
-            "30",
-            "0",
-            "900",
-            "340282366920938463463374607431768211455",
-        ])
+        if self.draws.is_one_in(16) {
+            self.draws.one_of(&ODD_AMOUNTS)
+        } else {
+            self.draws.one_of(&AMOUNTS)
+        }
     }
 
     // One to five tokens, whose denominations rise.
     fn tokens(&mut self, channel: &str) -> Result<String, Fault> {
-        let mut tokens = String::from_str(self.alloc, "[")?;
         let amount = self.amount();
-        write!(tokens, "[\"atom\",\"{amount}\"]")?;
-        for hop in ["", "transfer/"] {
-            for token in ["ion", "photon"] {
-                if self.draws.is_one_in(3) {
-                    self.add_token(hop, channel, token, &mut tokens)?;
-                }
-            }
+        let mut tokens = format!(in self.alloc; "[[\"atom\",\"{amount}\"]")?;
+        self.add_token("", "ion", &mut tokens)?;
+        self.add_token("", "photon", &mut tokens)?;
+        if self.draws.is_one_in(3) {
+            let hop = format!(in self.alloc; "transfer/{channel}/")?;
+            self.add_token(hop.as_str(), "atom", &mut tokens)?;
+            self.add_token(hop.as_str(), "ion", &mut tokens)?;
         }
         tokens.push_str("]")?;
         Ok(tokens)
     }
 
-    // Adds a token, behind the hop over a channel where there is one.
-    fn add_token(
-        &mut self,
-        hop: &str,
-        channel: &str,
-        token: &str,
-        tokens: &mut String,
-    ) -> Result<(), Fault> {
-        let amount = self.amount();
-        tokens.push_str(",[\"")?;
-        if !hop.is_empty() {
-            write!(tokens, "{hop}{channel}/")?;
+    // Mostly adds a token, behind its hops.
+    fn add_token(&mut self, hops: &str, token: &str, tokens: &mut String) -> Result<(), Fault> {
+        if self.draws.is_one_in(3) {
+            return Ok(());
         }
-        write!(tokens, "{token}\",\"{amount}\"]")?;
+        let amount = self.amount();
+        write!(tokens, ",[\"{hops}{token}\",\"{amount}\"]")?;
         Ok(())
     }
 
-    // Adds the timeouts: none, at the boundary of what the peer's working block allows, or far ahead.
+    // Adds the timeouts: mostly far ahead; else near what the peer's working block has, more seldom where packets keep their order,
+    // since a timeout closes such a channel; now and then none.
     fn add_timeouts(
         &mut self,
         checked: &Checked,
         peer: u8,
+        ordered: bool,
         step: &mut StepText,
     ) -> Result<(), Fault> {
-        let height = self.height(checked, peer);
-        let time = self.time(checked, peer);
-        let timeout_height = match self.draws.below(8) {
-            0 => 0,
-            1..=3 => height.saturating_add(self.draws.below(5)),
-            _ => height.saturating_add(1_000),
+        let height = height_of(checked, peer);
+        let time = time_of(checked, peer);
+        let is_near = if ordered {
+            self.draws.is_one_in(40)
+        } else {
+            self.draws.is_one_in(3)
         };
-        let timeout_time = match self.draws.below(6) {
-            0..=1 => time.saturating_add(self.draws.below(4)),
-            2 => time.saturating_add(1_000),
-            _ => 0,
+        let kind = if is_near {
+            self.draws.below(3)
+        } else {
+            self.draws.below(24).saturating_add(3)
         };
-        step.number("timeout_height", timeout_height)?;
-        step.number("timeout_time", timeout_time)?;
+        let (height, time) = match kind {
+            0 => (height.saturating_add(self.draws.below(6)), 0),
+            1 => (0, time.saturating_add(self.draws.below(5))),
+            2 => (
+                height.saturating_add(self.draws.below(6)),
+                time.saturating_add(self.draws.below(5)),
+            ),
+            3 => (0, 0),
+            4..=12 => (0, time.saturating_add(1_000)),
+            _ => (height.saturating_add(1_000), 0),
+        };
+        step.number("timeout_height", height)?;
+        step.number("timeout_time", time)?;
         Ok(())
     }
 }

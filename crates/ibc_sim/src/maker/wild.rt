@@ -2,6 +2,10 @@
 
 use super::Maker;
 use crate::checked::Checked;
+use crate::names::{
+    CHANNEL_KINDS, CHANNELS, CONNECTION_KINDS, ORDERS, PACKET_KINDS, PORTS, VERSIONS,
+};
+use crate::route::height_of;
 use crate::step_text::StepText;
 use ibc_script::Fault;
 
@@ -29,7 +33,7 @@ impl Maker {
 
     // A height of a chain, or one beside it.
     fn any_height(&mut self, checked: &Checked, chain: u8) -> u64 {
-        let height = self.height(checked, chain);
+        let height = height_of(checked, chain);
         match self.draws.below(6) {
             0 => 0,
             1 => height.saturating_add(1),
@@ -69,12 +73,7 @@ impl Maker {
     // A message for connections.
     fn any_connection(&mut self, checked: &Checked, steps: &mut Vec<String>) -> Result<(), Fault> {
         let on = self.some_chain();
-        let kind = self.draws.one_of(&[
-            "ConnOpenInit",
-            "ConnOpenTry",
-            "ConnOpenAck",
-            "ConnOpenConfirm",
-        ]);
+        let kind = self.draws.one_of(&CONNECTION_KINDS);
         let mut step = StepText::on(self.alloc, kind, on)?;
         self.add_connection_members(kind, &mut step)?;
         if kind != "ConnOpenInit" {
@@ -107,14 +106,8 @@ impl Maker {
     // A message for channels.
     fn any_channel(&mut self, checked: &Checked, steps: &mut Vec<String>) -> Result<(), Fault> {
         let on = self.some_chain();
-        let kind = self.draws.one_of(&[
-            "ChanOpenInit",
-            "ChanOpenTry",
-            "ChanOpenAck",
-            "ChanOpenConfirm",
-            "ChanCloseConfirm",
-        ]);
-        let port = self.draws.one_of(&["transfer", "note", "bank"]);
+        let kind = self.draws.one_of(&CHANNEL_KINDS);
+        let port = self.draws.one_of(&PORTS);
         let mut step = StepText::on(self.alloc, kind, on)?;
         step.text("port", port)?;
         self.add_channel_members(kind, &mut step)?;
@@ -143,11 +136,9 @@ impl Maker {
 
     // Adds what the first two messages of a channel's handshake have in common.
     fn add_opening(&mut self, step: &mut StepText) -> Result<(), Fault> {
-        let order = self.draws.one_of(&["ORDERED", "UNORDERED"]);
-        let peer_port = self.draws.one_of(&["transfer", "note"]);
-        let version = self
-            .draws
-            .one_of(&["ics20-1", "ics20-own-2", "note-1", "none-1"]);
+        let order = self.draws.one_of(&ORDERS);
+        let peer_port = self.draws.one_of(&PORTS);
+        let version = self.draws.one_of(&VERSIONS);
         step.text("order", order)?;
         self.add_numbered(step, "connection", "connection")?;
         step.text("peer_port", peer_port)?;
@@ -159,9 +150,7 @@ impl Maker {
     fn any_packet(&mut self, checked: &Checked, steps: &mut Vec<String>) -> Result<(), Fault> {
         let on = self.some_chain();
         let sender = self.some_chain();
-        let kind = self
-            .draws
-            .one_of(&["RecvPacket", "AckPacket", "Timeout", "TimeoutOnClose"]);
+        let kind = self.draws.one_of(&PACKET_KINDS);
         let mut step = StepText::on(self.alloc, kind, on)?;
         self.add_any_packet(sender, &mut step)?;
         if kind == "RecvPacket" {
@@ -176,10 +165,8 @@ impl Maker {
 
     // Adds some packet of a chain.
     fn add_any_packet(&mut self, sender: u8, step: &mut StepText) -> Result<(), Fault> {
-        let port = self.draws.one_of(&["transfer", "note"]);
-        let channel = self
-            .draws
-            .one_of(&["channel-0", "channel-1", "channel-2", "channel-3"]);
+        let port = self.draws.one_of(&PORTS);
+        let channel = self.draws.one_of(&CHANNELS);
         let sequence = self.draws.below(6);
         step.packet(sender, port, channel, sequence)?;
         Ok(())
