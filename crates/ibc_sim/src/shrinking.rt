@@ -45,7 +45,7 @@ impl Breaks for Broken<'_> {
 
 /// Some steps that stand side by side.
 #[derive(Clone, Copy)]
-struct Part {
+struct StepRange {
     start: usize,
     size: usize,
 }
@@ -93,7 +93,7 @@ fn without_parts<B: Breaks>(
     let parts = kept.len() / size;
     for part in 0..parts.saturating_add(1) {
         let start = part.saturating_mul(size);
-        left = without_part(alloc, breaks, kept, Part { start, size }, left)?;
+        left = without_part(alloc, breaks, kept, StepRange { start, size }, left)?;
     }
     Ok(left)
 }
@@ -104,7 +104,7 @@ fn without_part<B: Breaks>(
     alloc: Global,
     breaks: &B,
     kept: &mut Vec<bool>,
-    part: Part,
+    part: StepRange,
     left: usize,
 ) -> Result<usize, Fault>
     ensures { KeepsNoMore kept.old.items kept.new.items }
@@ -123,7 +123,7 @@ fn without_part<B: Breaks>(
 }
 
 // Whether one of a part's steps is kept.
-fn has_kept(kept: &[bool], part: Part) -> bool {
+fn has_kept(kept: &[bool], part: StepRange) -> bool {
     let end = part.start.saturating_add(part.size).min(kept.len());
     for place in part.start..end {
         if kept[place] {
@@ -140,7 +140,7 @@ pub fn kept_count(kept: &[bool]) -> usize {
 
 // The kept steps without those of a part.
 #[tactic(auto, using(crate::proofs::KeptSteps::keeps_as))]
-fn without(alloc: Global, kept: &[bool], part: Part) -> Result<Vec<bool>, AllocError>
+fn without(alloc: Global, kept: &[bool], part: StepRange) -> Result<Vec<bool>, AllocError>
     ensures { IfOk result (λ fewer. KeepsNoMore kept.now fewer.items) }
 {
     let mut fewer = copy_of(alloc, kept)?;
@@ -158,7 +158,7 @@ fn copy_of(alloc: Global, kept: &[bool]) -> Result<Vec<bool>, AllocError>
 
 // Leaves out the steps of a part.
 #[tactic(auto, using(crate::proofs::KeptSteps::keeps_all, crate::proofs::KeptSteps::keeps_without))]
-fn leave_out(kept: &mut [bool], part: Part)
+fn leave_out(kept: &mut [bool], part: StepRange)
     ensures { KeepsNoMore kept.old kept.new }
 {
     let end = part.start.saturating_add(part.size).min(kept.len());
