@@ -12,6 +12,26 @@ use std::{env, fs, io};
 // So many bytes of the input are looked at together.
 const AT_HAND: usize = 65_536;
 
+// A log of so many bytes has no page yet.
+const EMPTY_LOG: u64 = 64;
+
+// The length of a file, 0 where there is none.
+fn length_of(rt: &HostRuntime, path: &str) -> u64 {
+    match fs::metadata(rt, path) {
+        Ok(found) => found.len(),
+        Err(_) => 0,
+    }
+}
+
+// Whether a log stands beside a file that is empty or gone. SQLite would take it for one that is done with, and begin it anew.
+fn is_cut(rt: &HostRuntime, path: &str) -> Result<bool, NodeFault> {
+    let alloc = rt.alloc();
+    let log = format!(in alloc; "{path}-wal")?;
+    let has_log = length_of(rt, log.as_str()) > EMPTY_LOG;
+    drop(log);
+    Ok(has_log && length_of(rt, path) == 0)
+}
+
 // The bytes of the genesis, where a file is named.
 fn genesis_of(rt: &HostRuntime, path: Option<&str>) -> Result<Option<Vec<u8>>, NodeFault> {
     match path {
@@ -44,6 +64,9 @@ fn audit(rt: &HostRuntime, words: &Words<'_>, genesis: Option<&[u8]>) -> Result<
     if !fs::exists(rt, words.journal).unwrap_or(false) {
         return Err(NodeFault::NoFile);
     }
+    if length_of(rt, words.journal) == 0 {
+        return Err(NodeFault::NoJournal);
+    }
     match open_at(rt, words.journal, Wary, None) {
         Ok(node) => tell_lawful(rt.alloc(), &node, genesis, &mut io::writer(rt)),
         Err(NodeFault::NoGenesis) => Err(NodeFault::NoJournal),
@@ -53,6 +76,9 @@ fn audit(rt: &HostRuntime, words: &Words<'_>, genesis: Option<&[u8]>) -> Result<
 
 // Answers lines, or tells what an audit finds.
 fn work(rt: &HostRuntime, words: Words<'_>) -> Result<(), NodeFault> {
+    if is_cut(rt, words.journal)? {
+        return Err(NodeFault::NoJournal);
+    }
     let genesis = genesis_of(rt, words.genesis)?;
     let bytes = genesis.as_ref().map(|bytes| bytes.as_slice());
     if words.audits {
