@@ -77,14 +77,14 @@ fn draw_with_words<'e>(
     }
 }
 
-// Where a packet was meant to go that was refused.
+// Where a packet was meant to go that was refused. One that has come before has its arrow.
 fn draw_missed<'e>(
     canvas: &mut Canvas<'e>,
     told: &Explanation<'e>,
     key: PacketKey<'e>,
 ) -> Result<(), AllocError> {
     match canvas.packets.find(key) {
-        Some(packet) if !told.is_of_sender() => {
+        Some(packet) if !told.is_of_sender() && packet.received.is_none() => {
             canvas.line("missed", key.chain, packet.sent, told.place.chain, None)
         }
         _ => Ok(()),
