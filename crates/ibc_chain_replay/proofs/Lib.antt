@@ -1,0 +1,4 @@
+pub mod ChainStates
+pub mod ForcedReplies
+pub mod ChainSteps
+pub mod DealtPasses
