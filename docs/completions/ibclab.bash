@@ -4,7 +4,7 @@ _ibclab() {
     local word=${COMP_WORDS[COMP_CWORD]} options="--help --version"
     COMPREPLY=()
     case ${COMP_WORDS[1]} in
-        explain) options="--json $options" ;;
+        explain) options="--json --race $options" ;;
         draw) options="--html --mermaid $options" ;;
         sim) options="--seed --steps --chains --window --out --replay $options" ;;
     esac

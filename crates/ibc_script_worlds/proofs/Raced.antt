@@ -30,7 +30,7 @@ has_number : (o : Option LedgerModel) (n : ℕ) → option_map number_of o ≡ S
 has_number None n is = absurd cc
 has_number (Some held) n is = cc
 
-has_ledger : (ledgers : List LedgerModel) (numbers : List ℕ) (told : ReceiptModel) → numbers_of ledgers ≡ numbers → IsKept numbers told → HasLedger ledgers (told_by told)
+pub has_ledger : (ledgers : List LedgerModel) (numbers : List ℕ) (told : ReceiptModel) → numbers_of ledgers ≡ numbers → IsKept numbers told → HasLedger ledgers (told_by told)
 has_ledger ledgers numbers told same kept =
     let there = sym (slice_get-map number_of ledgers told.chain) ∙ ap (λ (l : List ℕ). slice_get l told.chain) same ∙ kept.there in
     subst (λ (n : ℕ). IsSomeAnd (slice_get ledgers n) (λ held. held.ledger.chain ≡ n)) kept.of_event (has_number (slice_get ledgers told.chain) told.chain there)

@@ -84,7 +84,7 @@ pub mapped_some : {X Y : Type 0} (f : X → Y) (P : Y → Type 0) (o : Option X)
 mapped_some f P None is = tt
 mapped_some f P (Some x) is = is
 
-in_order : (old : List ReceiptModel) (told : ReceiptModel) → AreInOrder old → All (IsBehind told) old → AreInOrder (old ++ told ∷ [])
+pub in_order : (old : List ReceiptModel) (told : ReceiptModel) → AreInOrder old → All (IsBehind told) old → AreInOrder (old ++ told ∷ [])
 in_order old told order behind i j a b less at_i at_j =
     ⊎_elim
     (λ (early : slice_get old j ≡ Some b).

@@ -100,8 +100,8 @@ fn race_on<R: Threads + Wait + Sync, W: WorldBrand + Send + Sync>(
     }
 }
 
-// The chains of ledgers of the world, which were asked nothing yet.
-fn shared_chains<'r, R: Wait, W: WorldBrand>(
+/// The chains of ledgers of the world, which were asked nothing yet.
+pub fn shared_chains<'r, R: Wait, W: WorldBrand>(
     rt: &'r R,
     alloc: Global,
     ledgers: Vec<(Ledger, UnusedBook)>,

@@ -73,8 +73,8 @@ impl<'r, R: Wait, W: WorldBrand> Shared<'r, R, W> {
 }
 
 impl<R: Wait, W: WorldBrand> Shared<'_, R, W> {
-    // The chain of a number, or none.
-    fn chain(&self, chain: u8) -> Option<&Chain<W>> {
+    /// The chain of a number, or none.
+    pub fn chain(&self, chain: u8) -> Option<&Chain<W>> {
         self.chains.get(usize::from(chain))
     }
 }
@@ -116,8 +116,8 @@ fn number_of(event: &Event) -> u8
     }
 }
 
-// The chain of a number, none where it doesn't stand at its number's place.
-fn chain_at<W: WorldBrand>(chains: &[Chain<W>], number: u8) -> Option<&Chain<W>>
+/// The chain of a number, none where it doesn't stand at its number's place.
+pub fn chain_at<W: WorldBrand>(chains: &[Chain<W>], number: u8) -> Option<&Chain<W>>
     ensures { IfSome result (λ chain. (chain.now ≡ number) × (slice_get chains.now number ≡ Some number)) }
 {
     let chain = chains.get(usize::from(number))?;
@@ -128,8 +128,8 @@ fn chain_at<W: WorldBrand>(chains: &[Chain<W>], number: u8) -> Option<&Chain<W>>
     }
 }
 
-// The last of these receipts that is of the chain, none where none is.
-fn last_of<W: WorldBrand>(receipts: &[Receipt<W>], chain: u8) -> Option<&Receipt<W>>
+/// The last of these receipts that is of the chain, none where none is.
+pub fn last_of<W: WorldBrand>(receipts: &[Receipt<W>], chain: u8) -> Option<&Receipt<W>>
     requires { AreInOrder receipts.now }
     ensures { IsLastOf chain receipts.now (option_map (λ last. last.now) result) }
 {
@@ -142,8 +142,8 @@ fn last_of<W: WorldBrand>(receipts: &[Receipt<W>], chain: u8) -> Option<&Receipt
     None
 }
 
-// Asks the event's chain for it, which was asked before as the earlier receipt tells.
-fn asked<R: Wait, W: WorldBrand>(
+/// Asks the event's chain for it, which was asked before as the earlier receipt tells.
+pub fn asked<R: Wait, W: WorldBrand>(
     rt: &R,
     chain: &Chain<W>,
     earlier: Option<&Receipt<W>>,
@@ -170,8 +170,8 @@ fn is_no_memory(reply: &Reply) -> bool
     matches!(reply, Reply::No(Refusal::NoMemory))
 }
 
-// Keeps a receipt, and tells its reply. Refused: `NoMemory`, also where that is the reply; the receipt isn't kept then.
-fn keep<W: WorldBrand>(
+/// Keeps a receipt, and tells its reply. Refused: `NoMemory`, also where that is the reply; the receipt isn't kept then.
+pub fn keep<W: WorldBrand>(
     receipts: &mut Vec<Receipt<W>>,
     receipt: Receipt<W>,
 ) -> Result<Reply, Refusal>

@@ -1,6 +1,9 @@
 //! `ibclab check FILE..`: what is wrong with scripts, and where it stands. `ibclab explain FILE`: what the lines of a run are about.
-//! `ibclab draw FILE`: a picture of a run. `ibclab sim`: random scripts, and whether the laws hold of their runs.
+//! `ibclab explain --race N FILE`: what relayers sent at the same time. `ibclab draw FILE`: a picture of a run. `ibclab sim`: random
+//! scripts, and whether the laws hold of their runs.
 #![tactic(auto)]
+
+ghost use Rattle.std.specs.Prelude.{◌≤◌};
 
 mod sim;
 
@@ -9,6 +12,7 @@ use clap::{Arg, ArgAction, ArgMatches, Command};
 use ibc_drawing::{PictureForm, draw};
 use ibc_explain::{ExplainedForm, NotPlaced, ScriptRun, explain, run as run_script};
 use ibc_lab::{Verdict, check, report};
+use ibc_race_counts::{CountsForm, count_race, tell_race};
 use ibc_script::Script;
 use sim::{sim_parser, simulate};
 use std::alloc::{AllocError, Global};
@@ -16,6 +20,8 @@ use std::env::Env;
 use std::fs::Files;
 use std::io::{IsTerminal, Read};
 use std::process::ExitCode;
+use std::sync::Wait;
+use std::thread::Threads;
 use std::{env, fs, io};
 
 /// All files are scripts that can be run.
@@ -88,9 +94,15 @@ fn explain_parser<'a>(alloc: Global) -> Result<Command<'a>, AllocError> {
         .long("json")
         .help("Print an object of JSON a line")
         .action(ArgAction::SetTrue);
+    let race = Arg::new(alloc, "race")
+        .long("race")
+        .value_name("N")
+        .help("Have so many relayers work at the same time, 1 to 8, and count their messages")
+        .action(ArgAction::Set);
     Command::new(alloc, "explain")
         .about("Run a script, and say what each line is about")
         .arg(json)?
+        .arg(race)?
         .arg(file)
 }
 
@@ -102,6 +114,14 @@ fn bytes_of<R: Files + AllocGlobal>(rt: &R, file: &str) -> io::Result<Vec<u8>> {
     Ok(bytes)
 }
 
+/// So many relayers work at the same time.
+#[derive(Clone, Copy)]
+struct RelayerNumber {
+    value: u8,
+    ghost some: { 1 ≤ value },
+    ghost few: { value ≤ 8 },
+}
+
 /// What is done with each file.
 #[derive(Clone, Copy)]
 enum LabTask {
@@ -109,6 +129,8 @@ enum LabTask {
     Check,
     /// It is run, and its lines are explained.
     Explain(ExplainedForm),
+    /// Relayers race on it, and their messages are counted.
+    Count(RelayerNumber, CountsForm),
     /// It is run, and the run is drawn.
     Draw(PictureForm),
 }
@@ -124,7 +146,7 @@ fn base_name(file: &str) -> &str {
 /// What is printed of a run.
 fn told_of(alloc: Global, task: LabTask, file: &str, run: &ScriptRun) -> Result<String, NotPlaced> {
     match task {
-        LabTask::Check => Ok(String::new(alloc)),
+        LabTask::Check | LabTask::Count(..) => Ok(String::new(alloc)),
         LabTask::Explain(form) => explain(alloc, run, form),
         LabTask::Draw(form) => draw(alloc, run, base_name(file), form),
     }
@@ -153,8 +175,27 @@ fn tell_of_run<R: Print + AllocGlobal>(
     Ok(GOOD)
 }
 
+/// Has relayers race on a script, and prints what each of them sent. The result is the status.
+fn tell_of_race<R: Print + AllocGlobal + Threads + Wait + Sync>(
+    rt: &R,
+    relayers: RelayerNumber,
+    form: CountsForm,
+    script: Script,
+) -> io::Result<u8> {
+    let Ok(race) = count_race(rt, rt.alloc(), relayers.value, script) else {
+        return Err(io::Error::from(AllocError));
+    };
+    let told = tell_race(rt.alloc(), &race, form);
+    drop(race);
+    let told = told?;
+    let printed = rt.print(told.as_str());
+    drop(told);
+    printed?;
+    Ok(GOOD)
+}
+
 /// Does with a script what is asked. The result is the status.
-fn look_at_script<R: Print + AllocGlobal>(
+fn look_at_script<R: Print + AllocGlobal + Threads + Wait + Sync>(
     rt: &R,
     task: LabTask,
     file: &str,
@@ -165,12 +206,13 @@ fn look_at_script<R: Print + AllocGlobal>(
             drop(script);
             Ok(GOOD)
         }
+        LabTask::Count(relayers, form) => tell_of_race(rt, relayers, form, script),
         LabTask::Explain(_) | LabTask::Draw(_) => tell_of_run(rt, task, file, script),
     }
 }
 
 /// Does with a text what is asked, or says what is wrong with it. The result is the status.
-fn look_at_text<R: Print + AllocGlobal>(
+fn look_at_text<R: Print + AllocGlobal + Threads + Wait + Sync>(
     rt: &R,
     task: LabTask,
     file: &str,
@@ -191,7 +233,7 @@ fn look_at_text<R: Print + AllocGlobal>(
 }
 
 /// Does with a file what is asked. The result is the status.
-fn look_at_file<R: Files + Print + Eprint + AllocGlobal>(
+fn look_at_file<R: Files + Print + Eprint + AllocGlobal + Threads + Wait + Sync>(
     rt: &R,
     task: LabTask,
     file: &str,
@@ -209,20 +251,39 @@ fn look_at_file<R: Files + Print + Eprint + AllocGlobal>(
     }
 }
 
-/// What is asked for by a command's name and words.
-fn task_of(command: &str, words: &ArgMatches<'_>) -> LabTask {
+/// How many relayers a text asks for, none where it is no number from 1 to 8.
+fn relayers_in(text: &str) -> Option<RelayerNumber> {
+    let value = text.parse::<u8>().ok()?;
+    if 1 <= value && value <= 8 {
+        Some(RelayerNumber { value })
+    } else {
+        None
+    }
+}
+
+/// What is asked for by the words behind `explain`, none where these ask for too few relayers or too many.
+fn explaining_of(words: &ArgMatches<'_>) -> Option<LabTask> {
+    match (words.get_str("race"), words.get_flag("json")) {
+        (None, true) => Some(LabTask::Explain(ExplainedForm::Json)),
+        (None, false) => Some(LabTask::Explain(ExplainedForm::Text)),
+        (Some(text), true) => Some(LabTask::Count(relayers_in(text)?, CountsForm::Json)),
+        (Some(text), false) => Some(LabTask::Count(relayers_in(text)?, CountsForm::Text)),
+    }
+}
+
+/// What is asked for by a command's name and words, none where these ask for too few relayers or too many.
+fn task_of(command: &str, words: &ArgMatches<'_>) -> Option<LabTask> {
     match command {
-        "explain" if words.get_flag("json") => LabTask::Explain(ExplainedForm::Json),
-        "explain" => LabTask::Explain(ExplainedForm::Text),
-        "draw" if words.get_flag("html") => LabTask::Draw(PictureForm::Html),
-        "draw" if words.get_flag("mermaid") => LabTask::Draw(PictureForm::Mermaid),
-        "draw" => LabTask::Draw(PictureForm::Svg),
-        _ => LabTask::Check,
+        "explain" => explaining_of(words),
+        "draw" if words.get_flag("html") => Some(LabTask::Draw(PictureForm::Html)),
+        "draw" if words.get_flag("mermaid") => Some(LabTask::Draw(PictureForm::Mermaid)),
+        "draw" => Some(LabTask::Draw(PictureForm::Svg)),
+        _ => Some(LabTask::Check),
     }
 }
 
 /// Does what the words ask for; where standard error is watched, it tells how far it is. The result is the greatest status.
-fn look_at_files<R: Files + Print + Eprint + AllocGlobal>(
+fn look_at_files<R: Files + Print + Eprint + AllocGlobal + Threads + Wait + Sync>(
     rt: &R,
     found: &ArgMatches<'_>,
     is_watched: bool,
@@ -232,7 +293,10 @@ fn look_at_files<R: Files + Print + Eprint + AllocGlobal>(
         if command == "sim" {
             return simulate(rt, inner, is_watched);
         }
-        let task = task_of(command, inner);
+        let Some(task) = task_of(command, inner) else {
+            eprintln!(rt; "ibclab: explain wants 1 to 8 relayers")?;
+            return Ok(FAILED);
+        };
         for file in inner.get_strs("file").unwrap_or(&[]) {
             status = status.max(look_at_file(rt, task, file)?);
         }
@@ -249,7 +313,10 @@ fn status_of(kind: ErrorKind) -> u8 {
 }
 
 /// Does what the words after the program's name ask for. The result is the status.
-fn run<R: Env + Files + Print + Eprint + AllocGlobal>(rt: &R, is_watched: bool) -> io::Result<u8> {
+fn run<R: Env + Files + Print + Eprint + AllocGlobal + Threads + Wait + Sync>(
+    rt: &R,
+    is_watched: bool,
+) -> io::Result<u8> {
     let alloc = rt.alloc();
     let mut words = Vec::new(alloc);
     for word in env::args(rt)? {

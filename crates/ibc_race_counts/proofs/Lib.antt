@@ -1,0 +1,3 @@
+pub mod AnsweredLogs
+pub mod CountedLedgers
+pub mod CountedLogs

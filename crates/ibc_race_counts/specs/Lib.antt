@@ -1,0 +1,3 @@
+pub mod AnsweredReceipts
+pub mod CountedRaces
+pub mod CountedReceipts
