@@ -1,5 +1,5 @@
 -- A log more is behind them.
-use Rattle.std.proofs.Common.{◌≡◌, ◌∙◌, ◌++◌, List, ap, append-nil, append_assoc, arith, length, sym}
+use Rattle.std.proofs.Common.{◌∙◌, ◌++◌, List, ap, append-nil, append_assoc, arith, length, sym}
 use Rattle.std.proofs.lemmas.List.{nil_from_length}
 use Rattle.std.specs.List.{flat_map}
 use Rattle.std.specs.Vec.Iter.{into_iter_items}

@@ -1,7 +1,6 @@
 -- The receipt stands behind the earlier ones.
-use Rattle.std.proofs.Common.{◌≡◌, ◌∙◌, IfOk, List, ℕ, map, subst, sym}
+use Rattle.std.proofs.Common.{◌≡◌, ◌∙◌, IfOk, List, map, subst, sym}
 use Rattle.std.specs.List.{All}
-use Rattle.ibc_machine.specs.promises.Histories.{Happened}
 use Rattle.ibc_ledger_lock.specs.ReceiptsAndReadings.{IsBehind}
 use Rattle.ibc_script_worlds.specs.KeptReceipts.{told_by}
 use Rattle.ibc_script_worlds.specs.Racing.{IsAsked}
