@@ -1,3 +1,4 @@
 pub mod KeptEntries
 pub mod Beside
 pub mod Opened
+pub mod Unlawful

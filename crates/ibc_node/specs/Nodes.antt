@@ -5,6 +5,7 @@ use Rattle.sqlite.specs.Effect.{Database, IsDatabase}
 use Rattle.sqlite.specs.State.{State}
 use Rattle.sqlite.specs.Tree.{Trees}
 use Rattle.sqlite.specs.Files.{HoldsDatabase}
+use Rattle.sqlite.specs.Held.{Held}
 use Rattle.ibc_ids.specs.declared.refusal.Refusal.{Refusal}
 use Rattle.ibc_machine.specs.declared.event.Event.{Event}
 use Rattle.ibc_machine.specs.declared.entry.Entry.{Entry}
@@ -15,8 +16,12 @@ use Rattle.ibc_replay.specs.Replays.{IsReplay, IsBeginning}
 use Rattle.ibc_script.specs.ScriptValues.{ScriptContent, IsScriptText}
 use Rattle.ibc_journal.specs.Tables.{JournalItem, HasRows, IsJournal}
 use Rattle.ibc_journal.specs.Digests.{HasReadAll}
+use Rattle.ibc_journal.specs.Entries.{items_of}
+use Rattle.ibc_journal.specs.Restarts.{IsAtRest}
 use Rattle.ibc_journal.specs.declared.cursor.Cursor.{Cursor}
+use Rattle.ibc_journal.specs.declared.entry.JournalEntry.{JournalEntry}
 use Rattle.ibc_node.specs.declared.node.KeptAnswer.{KeptAnswer}
+use Rattle.ibc_node.specs.declared.node.Node.{Node}
 use Rattle.ibc_node.specs.Kept.{IsKeptAs, AreKeptAs, WhyNotKept}
 
 -- The items are what is kept of the world's entries. Each has the digest that is due, and the cursor stands behind the last.
@@ -75,3 +80,55 @@ abbrev pub LeavesWaiting : State → WorldState → List JournalItem → Cursor 
 LeavesWaiting old world waiting end trees =
     (genesis : List ℕ) (items : List JournalItem) → IsJournal old.now genesis items → IsBeside genesis world (items ++ waiting) end
     → HasRows genesis (items ++ waiting) trees
+
+-- ---- what a node has
+
+abbrev pub node_connection : {S : Type 0} → Node S → Held S
+node_connection node = node.conn
+
+-- what its connection shows
+abbrev pub node_journal : {S : Type 0} → (Held S → State) → Node S → State
+node_journal shows node = shows node.conn
+
+abbrev pub node_world : {S : Type 0} → Node S → WorldState
+node_world node = node.world
+
+-- how many entries there are, and the digest of the last
+abbrev pub node_end : {S : Type 0} → Node S → Cursor
+node_end node = node.end
+
+abbrev pub node_genesis : {S : Type 0} → Node S → List ℕ
+node_genesis node = node.genesis.items
+
+-- the entries that wait to be put in
+abbrev pub node_waiting : {S : Type 0} → Node S → List JournalEntry
+node_waiting node = node.waiting.items
+
+-- its journal is at rest with these items
+abbrev pub HasJournal : {S : Type 0} → (Held S → State) → List ℕ → List JournalItem → Node S → Type 0
+HasJournal shows text items node = IsAtRest (node_journal shows node) text items
+
+-- its world is the replay of these items
+abbrev pub GoesOnWith : {S : Type 0} → List ℕ → List JournalItem → Node S → Type 0
+GoesOnWith text items node = IsRestarted text items (node_world node) (node_end node)
+
+-- its world is in the beginning
+abbrev pub IsFirstStart : {S : Type 0} → Node S → Type 0
+IsFirstStart node = IsBegun (node_genesis node) (node_world node) (node_end node)
+
+-- the items are what is kept of its world's entries
+abbrev pub HasKept : {S : Type 0} → List ℕ → List JournalItem → Node S → Type 0
+HasKept text items node = IsBeside text (node_world node) items (node_end node)
+
+-- the items, and behind them what waits
+abbrev pub with_waiting : {S : Type 0} → List JournalItem → Node S → List JournalItem
+with_waiting items node = items ++ items_of (node_waiting node)
+
+-- it was asked for an event, and has gone on
+abbrev pub TakesEvent : {S : Type 0} → List ℕ → List JournalItem → Node S → Event → KeptAnswer → Node S → Type 0
+TakesEvent text items old event answer new =
+    TakesOn text items (items_of (node_waiting old)) (node_world old) (node_end old) event answer (node_world new) (items_of (node_waiting new)) (node_end new)
+
+-- what a crash may leave besides, where what waits is put in
+abbrev pub LeavesAll : {S : Type 0} → (Held S → State) → Node S → Trees → Type 0
+LeavesAll shows node = LeavesWaiting (node_journal shows node) (node_world node) (items_of (node_waiting node)) (node_end node)

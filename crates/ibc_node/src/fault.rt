@@ -54,6 +54,15 @@ impl NodeFault {
         }
     }
 
+    /// The fault of a file of entries that can't be opened.
+    pub fn of_entry_file(error: &io::Error) -> NodeFault {
+        if error.kind() == io::ErrorKind::NotFound {
+            NodeFault::NoFile
+        } else {
+            NodeFault::of_input(error)
+        }
+    }
+
     /// The fault of an input that fails.
     pub fn of_input(error: &io::Error) -> NodeFault {
         if error.kind() == io::ErrorKind::OutOfMemory {

@@ -6,8 +6,7 @@ ghost use Rattle.sqlite.specs.Held.{state};
 ghost use Rattle.ibc_machine.specs.declared.reply.Reply.TheVariants.{No};
 ghost use Rattle.ibc_journal.specs.Tables.{JournalItem};
 ghost use Rattle.ibc_journal.specs.Entries.{item, items_of};
-ghost use Rattle.ibc_journal.specs.Restarts.{IsAtRest};
-ghost use Rattle.ibc_node.specs.Nodes.{IsBeside, TakesOn, LeavesWaiting};
+ghost use Rattle.ibc_node.specs.Nodes.{node_connection, node_journal, node_world, node_end, node_genesis, node_waiting, with_waiting, HasJournal, HasKept, TakesEvent, LeavesAll};
 
 use crate::NodeFault;
 use crate::keeping::{Asked, ask, chain_of};
@@ -99,7 +98,7 @@ fn first_of(end: u32, waiting: &[JournalEntry]) -> Option<u32>
 impl<S: Alter> Node<S> {
     /// How many entries there are, with those that wait.
     pub fn entries(&self) -> u32
-        ensures { result ≡ self.now.end.place }
+        ensures { result ≡ (node_end self.now).place }
     {
         self.end.place
     }
@@ -113,20 +112,22 @@ impl<S: Alter> Node<S> {
     }
 
     /// How many entries wait to be put in.
-    pub fn waiting(&self) -> usize {
+    pub fn waiting(&self) -> usize
+        ensures { result ≡ length (node_waiting self.now) }
+    {
         self.waiting.len()
     }
 
     /// How the world begins, as it was given.
     pub fn genesis(&self) -> &[u8]
-        ensures { result.now ≡ self.now.genesis.items }
+        ensures { result.now ≡ node_genesis self.now }
     {
         self.genesis.as_slice()
     }
 
     /// The world.
     pub fn world(&self) -> &World
-        ensures { result.now ≡ self.now.world }
+        ensures { result.now ≡ node_world self.now }
     {
         &self.world
     }
@@ -134,9 +135,9 @@ impl<S: Alter> Node<S> {
     /// Asks the world for an event, which came by this place of a log, or by none where that is 0. Its entry waits to be put in: the
     /// reply is told after `settle`. After an error the node is dropped.
     pub fn take(&mut self, log_place: u32, event: Event) -> Result<KeptAnswer, NodeFault>
-        ensures taken { (genesis : List ℕ) (items : List JournalItem) → IsBeside genesis self.old.world items self.old.end
-            → IfOk result (λ answer. TakesOn genesis items (items_of self.old.waiting.items) self.old.world self.old.end event answer self.new.world (items_of self.new.waiting.items) self.new.end) }
-        ensures journal { self.new.conn ≡ self.old.conn }
+        ensures taken { (text : List ℕ) (items : List JournalItem) → HasKept text items self.old
+            → IfOk result (λ answer. TakesEvent text items self.old event answer self.new) }
+        ensures journal { node_connection self.new ≡ node_connection self.old }
     {
         let asked = ask(
             self.alloc,
@@ -181,14 +182,14 @@ impl<S: Alter> Node<S> {
 
     /// Puts in the entries that wait, in one commit. After an error the node is dropped.
     pub fn settle(&mut self) -> Result<(), NodeFault>
-        ensures committed { (genesis : List ℕ) (items : List JournalItem) → IsAtRest (state S.Store self.old.conn) genesis items
-            → IsBeside genesis self.old.world (items ++ items_of self.old.waiting.items) self.old.end
-            → HasCleanDisk (state S.Store self.new.conn) → OnOk result (IsAtRest (state S.Store self.new.conn) genesis (items ++ items_of self.old.waiting.items)) }
-        ensures none { OnOk result (self.new.waiting.items ≡ []) }
-        ensures world { self.new.world ≡ self.old.world }
-        ensures end { self.new.end ≡ self.old.end }
+        ensures committed { (text : List ℕ) (items : List JournalItem) → HasJournal (state S.Store) text items self.old
+            → HasKept text (with_waiting items self.old) self.old
+            → HasCleanDisk (node_journal (state S.Store) self.new) → OnOk result (HasJournal (state S.Store) text (with_waiting items self.old) self.new) }
+        ensures none { OnOk result (node_waiting self.new ≡ []) }
+        ensures world { node_world self.new ≡ node_world self.old }
+        ensures end { node_end self.new ≡ node_end self.old }
         // A crash at any moment of the call leaves what it could leave before the call, or all of what waited.
-        ensures crash { Survives (state S.Store self.old.conn) (state S.Store self.new.conn) (LeavesWaiting (state S.Store self.old.conn) self.old.world (items_of self.old.waiting.items) self.old.end) }
+        ensures crash { Survives (node_journal (state S.Store) self.old) (node_journal (state S.Store) self.new) (LeavesAll (state S.Store) self.old) }
     {
         let waiting = self.waiting.as_slice();
         let Some(first) = first_of(self.end.place, waiting) else {
@@ -222,15 +223,15 @@ impl<S: Alter> Node<S> {
 
     /// The entry at a place, or none. What waits is put in first.
     pub fn entry_at(&mut self, place: u32) -> Result<Option<JournalEntry>, NodeFault>
-        ensures found { (genesis : List ℕ) (items : List JournalItem) → IsAtRest (state S.Store self.old.conn) genesis items
-            → IsBeside genesis self.old.world (items ++ items_of self.old.waiting.items) self.old.end
-            → HasCleanDisk (state S.Store self.new.conn) → IfOk result (λ found. option_map item found ≡ slice_get (items ++ items_of self.old.waiting.items) place) }
-        ensures rest { (genesis : List ℕ) (items : List JournalItem) → IsAtRest (state S.Store self.old.conn) genesis items
-            → IsBeside genesis self.old.world (items ++ items_of self.old.waiting.items) self.old.end
-            → HasCleanDisk (state S.Store self.new.conn) → OnOk result (IsAtRest (state S.Store self.new.conn) genesis (items ++ items_of self.old.waiting.items)) }
-        ensures none { OnOk result (self.new.waiting.items ≡ []) }
-        ensures world { self.new.world ≡ self.old.world }
-        ensures end { self.new.end ≡ self.old.end }
+        ensures found { (text : List ℕ) (items : List JournalItem) → HasJournal (state S.Store) text items self.old
+            → HasKept text (with_waiting items self.old) self.old
+            → HasCleanDisk (node_journal (state S.Store) self.new) → IfOk result (λ found. option_map item found ≡ slice_get (with_waiting items self.old) place) }
+        ensures rest { (text : List ℕ) (items : List JournalItem) → HasJournal (state S.Store) text items self.old
+            → HasKept text (with_waiting items self.old) self.old
+            → HasCleanDisk (node_journal (state S.Store) self.new) → OnOk result (HasJournal (state S.Store) text (with_waiting items self.old) self.new) }
+        ensures none { OnOk result (node_waiting self.new ≡ []) }
+        ensures world { node_world self.new ≡ node_world self.old }
+        ensures end { node_end self.new ≡ node_end self.old }
     {
         self.settle()?;
         Ok(entry_at(&mut self.conn, place)?)

@@ -1,6 +1,6 @@
 //! A node goes on where its journal ends.
 
-ghost use Rattle.std.specs.Prelude.{◌≡◌, ◌⊎◌, ◌≤◌, [], List, ℕ, Ok, IfOk, IsTrue, OnOk};
+ghost use Rattle.std.specs.Prelude.{◌≡◌, ◌⊎◌, ◌≤◌, [], List, ℕ, Ok, IfErr, IfOk, IsTrue, OnOk};
 ghost use Rattle.sqlite.specs.State.{HasCleanDisk, Survives};
 ghost use Rattle.sqlite.specs.Start.{FindsIn};
 ghost use Rattle.sqlite.specs.View.{doubt};
@@ -12,9 +12,11 @@ ghost use Rattle.ibc_replay.specs.Replays.{IsBeginning};
 ghost use Rattle.ibc_journal.specs.Tables.{no_schema, journal_schema, JournalItem, IsJournal};
 ghost use Rattle.ibc_journal.specs.Crashes.{LeavesBegun, LeavesNothing};
 ghost use Rattle.ibc_journal.specs.Restarts.{IsAtRest, HoldsJournal};
-ghost use Rattle.ibc_node.specs.Nodes.{HoldsWholeJournal, IsBegun, IsGenesisText, IsRestarted};
+ghost use Rattle.ibc_node.specs.Nodes.{HoldsWholeJournal, IsBegun, IsGenesisText, IsRestarted, node_journal, node_genesis, node_waiting, HasJournal, GoesOnWith, IsFirstStart};
+ghost use Rattle.ibc_node.specs.Audits.{IfDiffers, IsUnlawful};
 
 use crate::reading::{LogMark, Past, read_all};
+use crate::unread::Unread;
 use crate::{Node, NodeFault};
 use ibc_ids::Refusal;
 use ibc_journal::{Beginning, Cursor, FORMAT, Looks, begin, beginning_of, look};
@@ -43,10 +45,10 @@ pub fn open_at<S: Start>(
     genesis: Option<&[u8]>,
 ) -> Result<Node<FileStore<FileFrom<S>>>, NodeFault>
     ensures restarted { (text : List ℕ) (items : List JournalItem) → HoldsWholeJournal (image_at S.Start) text items
-        → IfOk result (λ node. HasCleanDisk (file_state node.conn) → IsRestarted text items node.world node.end × IsAtRest (file_state node.conn) text items) }
+        → IfOk result (λ node. HasCleanDisk (node_journal file_state node) → GoesOnWith text items node × HasJournal file_state text items node) }
     // Of files whose rows alone are known, it isn't known that they have the tables.
     ensures rows { (text : List ℕ) (items : List JournalItem) → HoldsJournal (image_at S.Start) text items
-        → IfOk result (λ node. HasCleanDisk (file_state node.conn) → IsRestarted text items node.world node.end ⊎ IsBegun node.genesis.items node.world node.end) }
+        → IfOk result (λ node. HasCleanDisk (node_journal file_state node) → GoesOnWith text items node ⊎ IsFirstStart node) }
 {
     let conn = connect(rt, path, start)?;
     open_node(rt.alloc(), conn, genesis)
@@ -75,15 +77,15 @@ pub fn open_node<S: Alter + Drop>(
     genesis: Option<&[u8]>,
 ) -> Result<Node<S>, NodeFault>
     ensures restarted { (text : List ℕ) (items : List JournalItem) → IsAtRest (state S.Store conn) text items
-        → IfOk result (λ node. HasCleanDisk (state S.Store node.conn) → IsRestarted text items node.world node.end) }
+        → IfOk result (λ node. HasCleanDisk (node_journal (state S.Store) node) → GoesOnWith text items node) }
     ensures rest { (text : List ℕ) (items : List JournalItem) → IsAtRest (state S.Store conn) text items
-        → IfOk result (λ node. HasCleanDisk (state S.Store node.conn) → IsAtRest (state S.Store node.conn) text items) }
-    ensures begun { (state S.Store conn).now.schema ≡ no_schema → IfOk result (λ node. IsBegun node.genesis.items node.world node.end) }
+        → IfOk result (λ node. HasCleanDisk (node_journal (state S.Store) node) → HasJournal (state S.Store) text items node) }
+    ensures begun { (state S.Store conn).now.schema ≡ no_schema → IfOk result (λ node. IsFirstStart node) }
     ensures new { (state S.Store conn).now.schema ≡ no_schema
-        → IfOk result (λ node. HasCleanDisk (state S.Store node.conn) → IsAtRest (state S.Store node.conn) node.genesis.items []) }
-    ensures none { IfOk result (λ node. node.waiting.items ≡ []) }
+        → IfOk result (λ node. HasCleanDisk (node_journal (state S.Store) node) → HasJournal (state S.Store) (node_genesis node) [] node) }
+    ensures none { IfOk result (λ node. node_waiting node ≡ []) }
     ensures which { OnOk result (((state S.Store conn).now.schema ≡ journal_schema) ⊎ ((state S.Store conn).now.schema ≡ no_schema)) }
-    ensures calm { IfOk result (λ node. doubt (state S.Store conn).is_clean ≤ doubt (state S.Store node.conn).is_clean) }
+    ensures calm { IfOk result (λ node. doubt (state S.Store conn).is_clean ≤ doubt (node_journal (state S.Store) node).is_clean) }
 {
     let mut conn = conn;
     let start = start_of(alloc, &mut conn, genesis)?;
@@ -230,8 +232,8 @@ pub(crate) fn go_on<S: Alter>(
     })
 }
 
-// Whether a journal is of this format and began with this genesis.
-fn judge(began: &Beginning, genesis: Option<&[u8]>) -> Result<(), NodeFault> {
+/// Whether a journal is of this format and began with this genesis.
+pub(crate) fn judge(began: &Beginning, genesis: Option<&[u8]>) -> Result<(), NodeFault> {
     if began.format != i64::from(FORMAT) {
         return Err(NodeFault::OtherFormat(began.format));
     }
@@ -241,14 +243,16 @@ fn judge(began: &Beginning, genesis: Option<&[u8]>) -> Result<(), NodeFault> {
     }
 }
 
-// The world that is made again of a journal's entries, from a text's genesis.
-fn replay_from<S: Alter>(
+/// The world that is made again of a journal's entries, from a text's genesis.
+pub(crate) fn replay_from<S: Alter>(
     alloc: Global,
     conn: &mut Connection<S>,
     genesis: &[u8],
-) -> Result<Past, NodeFault>
+) -> Result<Past, Unread>
     ensures restarted { (items : List JournalItem) → IsJournal (state S.Store conn.old).now genesis.now items
         → HasCleanDisk (state S.Store conn.new) → IfOk result (λ past. IsRestarted genesis.now items past.world past.end) }
+    ensures differs { (items : List JournalItem) → IsJournal (state S.Store conn.old).now genesis.now items
+        → HasCleanDisk (state S.Store conn.new) → IfErr result (IfDiffers (IsUnlawful genesis.now items)) }
     ensures rest { (items : List JournalItem) → IsAtRest (state S.Store conn.old) genesis.now items
         → HasCleanDisk (state S.Store conn.new) → OnOk result (IsAtRest (state S.Store conn.new) genesis.now items) }
     ensures crash { Survives (state S.Store conn.old) (state S.Store conn.new) (LeavesNothing (state S.Store conn.old)) }

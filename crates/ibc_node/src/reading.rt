@@ -1,10 +1,10 @@
 //! The entries of a journal are read back, and each is put to the world again.
 
-ghost use Rattle.std.specs.Prelude.{◌≡◌, ◌∷◌, [], false, take, length, List, ℕ, IfOk, OnOk};
+ghost use Rattle.std.specs.Prelude.{◌≡◌, ◌∷◌, [], false, take, length, List, ℕ, IfErr, IfOk, OnOk};
 ghost use Rattle.sqlite.specs.State.{HasCleanDisk, IsUnchanged, Survives};
 ghost use Rattle.sqlite.specs.Held.{state};
 ghost use Rattle.ibc_refinement.specs.World.{WorldState};
-ghost use Rattle.ibc_replay.specs.Replays.{GoesOnAsStored};
+ghost use Rattle.ibc_replay.specs.Replays.{GoesOnAsStored, StopsAt};
 ghost use Rattle.ibc_entry_codec.specs.Stored.{StoresEntry};
 ghost use Rattle.ibc_journal.specs.Tables.{JournalItem, IsJournal};
 ghost use Rattle.ibc_journal.specs.Entries.{item};
@@ -12,8 +12,10 @@ ghost use Rattle.ibc_journal.specs.Digests.{HasReadTo, HasReadAll};
 ghost use Rattle.ibc_journal.specs.Crashes.{LeavesNothing};
 ghost use Rattle.ibc_journal.specs.Restarts.{IsAtRest};
 ghost use Rattle.ibc_node.specs.Kept.{bytes_in, IsKeptAs, HasReplayed, ReplaysOne};
+ghost use Rattle.ibc_node.specs.Audits.{IfDiffers, IsUnreadBy, StopsAtItem, StopsAsKept};
 
 use crate::NodeFault;
+use crate::unread::Unread;
 use ibc_entry_codec::{EntryBytes, restore};
 use ibc_ids::{Bytes, Refusal};
 use ibc_journal::{Cursor, JournalEntry, JournalFault, end_at, next};
@@ -55,7 +57,7 @@ impl Past {
     }
 }
 
-/// The world that goes on as all entries of a journal say which began so. Each is put to it as soon as it is read. Fault: the first place
+/// The world that goes on as all entries of a journal say which began so. Each is put to it as soon as it is read. Error: the first place
 /// whose entry isn't the one that was put there, spells no event and answer, or has another answer than is due; a place that has none,
 /// where there are some behind it.
 pub(crate) fn read_all<S: Alter>(
@@ -63,11 +65,13 @@ pub(crate) fn read_all<S: Alter>(
     conn: &mut Connection<S>,
     genesis: &[u8],
     world: World,
-) -> Result<Past, NodeFault>
+) -> Result<Past, Unread>
     ensures replayed { (items : List JournalItem) → IsJournal (state S.Store conn.old).now genesis.now items
         → HasCleanDisk (state S.Store conn.new) → IfOk result (λ past. HasReplayed world items past.world) }
     ensures read { (items : List JournalItem) → IsJournal (state S.Store conn.old).now genesis.now items
         → HasCleanDisk (state S.Store conn.new) → IfOk result (λ past. HasReadAll genesis.now items past.end) }
+    ensures differs { (items : List JournalItem) → IsJournal (state S.Store conn.old).now genesis.now items
+        → HasCleanDisk (state S.Store conn.new) → IfErr result (IfDiffers (StopsAsKept world items)) }
     ensures rest { (items : List JournalItem) → IsAtRest (state S.Store conn.old) genesis.now items
         → HasCleanDisk (state S.Store conn.new) → OnOk result (IsAtRest (state S.Store conn.new) genesis.now items) }
     ensures crash { Survives (state S.Store conn.old) (state S.Store conn.new) (LeavesNothing (state S.Store conn.old)) }
@@ -78,7 +82,7 @@ pub(crate) fn read_all<S: Alter>(
             return Ok(past);
         }
     }
-    Err(NodeFault::Journal(JournalFault::Full))
+    Err(Unread::Fault(NodeFault::Journal(JournalFault::Full)))
 }
 
 // Reads one entry more, if there is another, and has the world go on.
@@ -86,7 +90,7 @@ fn read_next<S: Alter>(
     alloc: Global,
     conn: &mut Connection<S>,
     past: &mut Past,
-) -> Result<bool, NodeFault>
+) -> Result<bool, Unread>
     ensures replayed { (genesis : List ℕ) (items : List JournalItem) (beginning : WorldState) → IsJournal (state S.Store conn.old).now genesis items → HasReadTo genesis items past.old.end
         → HasReplayed beginning (take past.old.end.place items) past.old.world → HasCleanDisk (state S.Store conn.new)
         → OnOk result (HasReplayed beginning (take past.new.end.place items) past.new.world) }
@@ -94,6 +98,9 @@ fn read_next<S: Alter>(
         → HasCleanDisk (state S.Store conn.new) → OnOk result (HasReadTo genesis items past.new.end) }
     ensures end { (genesis : List ℕ) (items : List JournalItem) → IsJournal (state S.Store conn.old).now genesis items → HasReadTo genesis items past.old.end
         → HasCleanDisk (state S.Store conn.new) → IfOk result (λ more. more ≡ false → past.new.end.place ≡ length items) }
+    ensures differs { (genesis : List ℕ) (items : List JournalItem) (beginning : WorldState) → IsJournal (state S.Store conn.old).now genesis items → HasReadTo genesis items past.old.end
+        → HasReplayed beginning (take past.old.end.place items) past.old.world → HasCleanDisk (state S.Store conn.new)
+        → IfErr result (IfDiffers (StopsAsKept beginning items)) }
     ensures same { (genesis : List ℕ) (items : List JournalItem) → IsJournal (state S.Store conn.old).now genesis items
         → HasCleanDisk (state S.Store conn.new) → OnOk result (IsUnchanged (state S.Store conn.old) (state S.Store conn.new)) }
     ensures crash { Survives (state S.Store conn.old) (state S.Store conn.new) (LeavesNothing (state S.Store conn.old)) }
@@ -109,7 +116,7 @@ fn read_next<S: Alter>(
             end_at(conn, &past.end)?;
             Ok(false)
         }
-        Err(fault) => Err(fault_at(place, fault)),
+        Err(fault) => Err(Unread::Fault(fault_at(place, fault))),
     }
 }
 
@@ -119,32 +126,40 @@ fn replay_entry(
     world: &mut World,
     place: u32,
     kept: JournalEntry,
-) -> Result<(), NodeFault>
-    ensures { OnOk result (ReplaysOne world.old (item kept) world.new) }
+) -> Result<(), Unread>
+    ensures replayed { OnOk result (ReplaysOne world.old (item kept) world.new) }
+    ensures differs { IfErr result (IfDiffers (StopsAtItem world.old place (item kept) world.new)) }
 {
     let entry = entry_of(alloc, place, kept)?;
     replay_alone(alloc, world, place, entry)
 }
 
 // Puts the event of an entry to the world, and compares the answer.
-fn replay_alone(alloc: Global, world: &mut World, place: u32, entry: Entry) -> Result<(), NodeFault>
-    ensures { OnOk result (GoesOnAsStored world.old (entry ∷ []) world.new) }
+fn replay_alone(alloc: Global, world: &mut World, place: u32, entry: Entry) -> Result<(), Unread>
+    ensures replayed { OnOk result (GoesOnAsStored world.old (entry ∷ []) world.new) }
+    ensures differs { IfErr result (IfDiffers (λ why. StopsAt world.old place entry why world.new)) }
 {
     let mut entries = Vec::new(alloc);
     entries.push(entry)?;
     match replay_on(world, place as usize, entries) {
         Ok(()) => Ok(()),
-        Err(why) => Err(fault_of(why)),
+        Err(why) => Err(unread_by(why)),
     }
 }
 
-// Why a world doesn't go on as an entry says.
-fn fault_of(why: Difference) -> NodeFault {
+// Why a journal isn't read on whose entry a world doesn't take.
+fn unread_by(why: Difference) -> Unread
+    ensures { IsUnreadBy why result }
+{
     match why {
-        Difference::NoGenesis => NodeFault::BadGenesis,
-        Difference::NoMemory => NodeFault::NoMemory,
-        Difference::At { place, .. } => NodeFault::OtherAnswer(place),
-        Difference::UnknownChain { place, .. } => NodeFault::OtherAnswer(place),
+        Difference::NoGenesis => Unread::Fault(NodeFault::BadGenesis),
+        Difference::NoMemory => Unread::Fault(NodeFault::NoMemory),
+        Difference::At { place, due, stored } => {
+            Unread::Differs(Difference::At { place, due, stored })
+        }
+        Difference::UnknownChain { place, stored } => {
+            Unread::Differs(Difference::UnknownChain { place, stored })
+        }
     }
 }
 

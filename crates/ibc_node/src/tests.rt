@@ -1,9 +1,10 @@
 //! Worlds that go on where their journals end, and files that are none of theirs.
 
-use crate::{KeptAnswer, Node, NodeFault, open_node};
+use crate::{JournalAudit, KeptAnswer, Node, NodeFault, audit_journal, open_node};
 use ibc_ids::Refusal;
 use ibc_journal::{JournalEntry, JournalFault, append, begin, entry_behind, first_digest};
-use ibc_machine::{Event, Reply};
+use ibc_machine::{Effect, Event, Reply};
+use ibc_replay::{Answered, Difference};
 use ibc_wire::{CreateClient, Message};
 use sqlite::{Alter, Connection, Error};
 use std::alloc::Global;
@@ -140,6 +141,67 @@ fn make(rt: &HostRuntime, path: &str, event: &[u8], answer: &[u8]) -> Result<(),
     let entry = entry(rt.alloc(), event, answer)?;
     put(&mut conn, entry)?;
     conn.close()
+}
+
+// What an audit of a file finds.
+fn audited(rt: &HostRuntime, path: &str) -> Result<JournalAudit, NodeFault> {
+    let mut conn = Connection::open(rt, path).map_err(fault_of)?;
+    audit_journal(rt.alloc(), &mut conn, Some(GENESIS))
+}
+
+// Whether an answer is a new client of this name.
+fn is_client(given: &Answered, name: &str) -> bool {
+    match &given.reply {
+        Reply::Ok(Effect::Client(id)) => id.as_str() == name,
+        _ => false,
+    }
+}
+
+// Whether an audit of a file finds at place 0 that these clients are due and kept.
+fn finds_clients(
+    rt: &HostRuntime,
+    path: &str,
+    due_name: &str,
+    kept_name: &str,
+) -> Result<bool, NodeFault> {
+    let found = audited(rt, path)?;
+    let finds = match &found {
+        JournalAudit::Differs(
+            Difference::At {
+                place: 0,
+                due,
+                stored,
+            },
+        ) => is_client(due, due_name) && is_client(stored, kept_name),
+        _ => false,
+    };
+    drop(found);
+    Ok(finds)
+}
+
+// How many entries an audit of a file finds to be a lawful run.
+fn lawful_entries(rt: &HostRuntime, path: &str) -> Result<Option<u32>, NodeFault> {
+    match audited(rt, path)? {
+        JournalAudit::Lawful { entries } => Ok(Some(entries)),
+        JournalAudit::Differs(why) => {
+            drop(why);
+            Ok(None)
+        }
+    }
+}
+
+#[test]
+fn an_audit_tells_both_answers(rt: HostRuntime) -> Result<(), Fail> {
+    folder(&rt, "node_audit")?;
+    let path = "node_audit/a.db";
+    let _ = run(&rt, path)?;
+    assert_eq!(rt; lawful_entries(&rt, path)?, Some(3));
+    let path = "node_audit/b.db";
+    make(&rt, path, &[1, 1], b"\x01\x02\x00\x0binprocess-1\x00")?;
+    assert!(rt; finds_clients(&rt, path, "inprocess-0", "inprocess-1")?);
+    assert_eq!(rt; lawful_entries(&rt, path)?, None);
+    fs::remove_dir_all(&rt, "node_audit")?;
+    Ok(())
 }
 
 #[test]

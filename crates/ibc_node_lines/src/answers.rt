@@ -4,8 +4,9 @@ use crate::LineFault;
 use hex::encode as encode_hex;
 use ibc_ids::{Account, Denom, Refusal};
 use ibc_journal::JournalEntry;
-use ibc_machine::{Effect, Reply, Totals};
+use ibc_machine::{Effect, Reading, Reply, Totals};
 use ibc_node::KeptAnswer;
+use ibc_replay::Answered;
 use std::alloc::{AllocError, Global};
 
 /// The line at the start: how many entries there are, and the last place of a log by which one came, or 0.
@@ -16,6 +17,51 @@ pub fn resumed(alloc: Global, entries: u32, log_place: u32) -> Result<String, Al
 /// What an audit tells of a journal whose entries are a lawful run.
 pub fn lawful(alloc: Global, entries: u32) -> Result<String, AllocError> {
     format!(in alloc; "{{\"entries\":{entries},\"lawful\":true}}\n")
+}
+
+/// What an audit tells of a journal whose entries aren't a lawful run: the first place that differs, the answer that is due there, or that
+/// none is, and the one that is kept.
+pub fn unlawful(
+    alloc: Global,
+    place: usize,
+    due: Option<&Answered>,
+    kept: &Answered,
+) -> Result<String, AllocError> {
+    let due = match due {
+        Some(due) => answered(alloc, due)?,
+        None => String::from_str(alloc, "null")?,
+    };
+    let kept = answered(alloc, kept)?;
+    both_in(alloc, place, due.as_str(), kept.as_str())
+}
+
+fn both_in(alloc: Global, place: usize, due: &str, kept: &str) -> Result<String, AllocError> {
+    format!(in alloc; "{{\"place\":{place},\"lawful\":false,\"due\":{due},\"kept\":{kept}}}\n")
+}
+
+// A reply, and what was read for it.
+fn answered(alloc: Global, given: &Answered) -> Result<String, AllocError> {
+    let reply = reply_text(alloc, &given.reply)?;
+    let text = match given.reading {
+        Some(reading) => with_reading(alloc, reply.as_str(), reading),
+        None => in_braces(alloc, reply.as_str()),
+    };
+    drop(reply);
+    text
+}
+
+fn in_braces(alloc: Global, reply: &str) -> Result<String, AllocError> {
+    format!(in alloc; "{{{reply}}}")
+}
+
+fn with_reading(alloc: Global, reply: &str, reading: Reading) -> Result<String, AllocError> {
+    let published = reading.published;
+    let row = match reading.row_was_there {
+        None => "none",
+        Some(false) => "gone",
+        Some(true) => "there",
+    };
+    format!(in alloc; "{{{reply},\"published\":{published},\"row\":\"{row}\"}}")
 }
 
 /// How many entries there are.
@@ -62,13 +108,18 @@ fn add(text: &mut String, more: String) -> Result<(), AllocError> {
 
 // What came of an event.
 fn answer(alloc: Global, chain: u8, kept: &KeptAnswer) -> Result<String, AllocError> {
-    let reply = match &kept.reply {
-        Reply::Ok(effect) => accepted(alloc, effect)?,
-        Reply::No(refusal) => refused(alloc, *refusal)?,
-    };
+    let reply = reply_text(alloc, &kept.reply)?;
     let line = with_place(alloc, chain, kept.place, reply.as_str());
     drop(reply);
     line
+}
+
+// What was answered, without the braces round it.
+fn reply_text(alloc: Global, reply: &Reply) -> Result<String, AllocError> {
+    match reply {
+        Reply::Ok(effect) => accepted(alloc, effect),
+        Reply::No(refusal) => refused(alloc, *refusal),
+    }
 }
 
 fn with_place(

@@ -2,7 +2,9 @@
 #![tactic(auto)]
 
 mod answers;
+mod auditing;
 mod desk;
+mod entry_lines;
 mod line_fault;
 mod questions;
 mod request;
@@ -10,12 +12,14 @@ mod serving;
 mod step_text;
 mod words;
 
+pub use auditing::tell_audit;
 pub use desk::Desk;
+pub use entry_lines::audit_lines;
 pub use line_fault::LineFault;
 pub use request::{NodeAction, NodeQuestion, NodeRequest, read_request};
-pub use serving::{serve, tell_lawful};
+pub use serving::serve;
 pub use step_text::SingleSteps;
-pub use words::{Task, Words, help, read_words, version};
+pub use words::{EntryFiles, Task, Words, help, read_words, version};
 
 #[cfg(test)]
 mod tests;

@@ -180,7 +180,8 @@ fn message_of(alloc: Global, value: &Value) -> Result<Event, LineFault> {
     }
 }
 
-fn bytes_of(alloc: Global, text: &str) -> Result<Vec<u8>, LineFault> {
+/// The bytes that a text spells in hex.
+pub fn bytes_of(alloc: Global, text: &str) -> Result<Vec<u8>, LineFault> {
     match decode_hex(alloc, text.as_bytes()) {
         Ok(bytes) => Ok(bytes),
         Err(FromHexError::OutOfMemory) => Err(LineFault::NoMemory),

@@ -1,14 +1,12 @@
 //! A node answers lines, in their order.
 
-ghost use Rattle.std.specs.Prelude.{◌≡◌, ◌⊎◌, ◌++◌, List, ℕ};
+ghost use Rattle.std.specs.Prelude.{◌≡◌, ◌⊎◌, List, ℕ};
 ghost use Rattle.sqlite.specs.State.{HasCleanDisk};
 ghost use Rattle.sqlite.specs.Held.{state};
 ghost use Rattle.ibc_journal.specs.Tables.{JournalItem};
-ghost use Rattle.ibc_journal.specs.Entries.{items_of};
-ghost use Rattle.ibc_journal.specs.Restarts.{IsAtRest};
-ghost use Rattle.ibc_node.specs.Nodes.{IsBeside};
+ghost use Rattle.ibc_node.specs.Nodes.{node_journal, with_waiting, HasJournal, HasKept};
 
-use crate::answers::{lawful, mistaken, resumed, told};
+use crate::answers::{mistaken, resumed, told};
 use crate::questions::{question_of, tell};
 use crate::{Desk, LineFault, NodeAction, NodeRequest, SingleSteps, read_request};
 use ibc_machine::Genesis;
@@ -40,22 +38,6 @@ pub fn serve<S: Alter + Drop, R: Read + Drop, W: Write>(
     let served = server.serve_all(input, output, batch);
     drop(server);
     served
-}
-
-/// What an audit of a journal tells, whose node is open: its entries are a lawful run. Fault: the journal began with another genesis than
-/// this one.
-pub fn tell_lawful<S: Alter, W: Write>(
-    alloc: Global,
-    node: &Node<S>,
-    genesis: Option<&[u8]>,
-    output: &mut W,
-) -> Result<(), NodeFault> {
-    match genesis {
-        Some(wanted) if wanted != node.genesis() => return Err(NodeFault::OtherGenesis),
-        _ => {}
-    }
-    let text = lawful(alloc, node.entries())?;
-    write(output, text.as_str())
 }
 
 // The script with no steps that the genesis of a node is.
@@ -214,10 +196,10 @@ impl<S: Alter + Drop> Server<S> {
 
     // Puts in what waits, and then writes the answers. Where anything was written, the journal has all that the world keeps.
     fn settle<W: Write>(&mut self, output: &mut W) -> Result<(), NodeFault>
-        ensures { (genesis : List ℕ) (items : List JournalItem) → IsAtRest (state S.Store self.old.desk.node.conn) genesis items
-            → IsBeside genesis self.old.desk.node.world (items ++ items_of self.old.desk.node.waiting.items) self.old.desk.node.end
-            → HasCleanDisk (state S.Store self.new.desk.node.conn) → (W.contents output.new ≡ W.contents output.old)
-            ⊎ IsAtRest (state S.Store self.new.desk.node.conn) genesis (items ++ items_of self.old.desk.node.waiting.items) }
+        ensures { (text : List ℕ) (items : List JournalItem) → HasJournal (state S.Store) text items self.old.desk.node
+            → HasKept text (with_waiting items self.old.desk.node) self.old.desk.node
+            → HasCleanDisk (node_journal (state S.Store) self.new.desk.node) → (W.contents output.new ≡ W.contents output.old)
+            ⊎ HasJournal (state S.Store) text (with_waiting items self.old.desk.node) self.new.desk.node }
     {
         self.desk.node.settle()?;
         write(output, self.told.as_str())?;
@@ -234,8 +216,8 @@ fn tell_all(alloc: Global, answers: Vec<(u8, KeptAnswer)>) -> Result<String, Nod
     Ok(text?)
 }
 
-// Writes a text, and has it go out.
-fn write<W: Write>(output: &mut W, text: &str) -> Result<(), NodeFault> {
+/// Writes a text, and has it go out.
+pub fn write<W: Write>(output: &mut W, text: &str) -> Result<(), NodeFault> {
     if output.write_all(text.as_bytes()).is_err() {
         return Err(NodeFault::CannotWrite);
     }

@@ -12,6 +12,7 @@ pub enum Task<'a> {
     /// The words ask for nothing that the program does.
     Bad,
     Serve(Words<'a>),
+    AuditLines(EntryFiles<'a>),
 }
 
 /// The file of the journal, the file of the genesis, how many lines share a commit, and whether the journal is only audited.
@@ -23,11 +24,19 @@ pub struct Words<'a> {
     pub audits: bool,
 }
 
+/// The file of entries that are lines, and the file of the genesis.
+#[derive(Clone, Copy, Debug, PartialEq, Eq)]
+pub struct EntryFiles<'a> {
+    pub entries: &'a str,
+    pub genesis: &'a str,
+}
+
 /// What `--help` writes.
 pub fn help() -> &'static str {
     "\
 ibcnode FILE.db [--genesis FILE.json] [--batch N]
 ibcnode FILE.db --audit [--genesis FILE.json]
+ibcnode FILE.jsonl --audit --lines --genesis FILE.json
 
 Answers each line of its input with a line, after its entry is on the disk. Started again, it goes on where it was.
 
@@ -35,7 +44,9 @@ Answers each line of its input with a line, after its entry is on the disk. Star
   --genesis FILE.json  how a new world begins: a script whose list of steps is empty.
                        The genesis of a journal that is there has to be the same
   --batch N            lines that have come together share a commit, at most N, 1 to 100000; without it 1
-  --audit              reads no input: replays the journal, and tells whether it is a lawful run
+  --audit              reads no input: replays the journal, and tells whether it is a lawful run,
+                       or which two answers differ first
+  --lines              the file has an entry on each line, as {\"query\": \"kept\"} tells them: chain, kind, event, answer
   --help, --version
 
 Lines, each a JSON object:
@@ -85,10 +96,14 @@ fn parser<'a>(alloc: Global) -> Result<Parser<'a>, AllocError> {
     let audit = Arg::new(alloc, "audit")
         .long("audit")
         .action(ArgAction::SetTrue);
+    let lines = Arg::new(alloc, "lines")
+        .long("lines")
+        .action(ArgAction::SetTrue);
     let parser = Parser::new(alloc, "ibcnode")
         .version("0.1.0")
         .no_binary_name(true);
-    parser.arg(journal)?.arg(genesis)?.arg(batch)?.arg(audit)
+    let parser = parser.arg(journal)?.arg(genesis)?.arg(batch)?;
+    parser.arg(audit)?.arg(lines)
 }
 
 // An argument with a value, by its name.
@@ -103,12 +118,28 @@ fn task_of<'a>(found: &ArgMatches<'a>) -> Task<'a> {
     let Some(batch) = batch_of(found.get_str("batch")) else {
         return Task::Bad;
     };
-    Task::Serve(Words {
+    let words = Words {
         journal,
         genesis: found.get_str("genesis"),
         batch,
         audits: found.get_flag("audit"),
-    })
+    };
+    if found.get_flag("lines") {
+        lines_of(words)
+    } else {
+        Task::Serve(words)
+    }
+}
+
+// The audit of entries that are lines, which has a genesis.
+fn lines_of<'a>(words: Words<'a>) -> Task<'a> {
+    match words.genesis {
+        Some(genesis) if words.audits => Task::AuditLines(EntryFiles {
+            entries: words.journal,
+            genesis,
+        }),
+        _ => Task::Bad,
+    }
 }
 
 fn task_of_error<'a>(error: Error) -> Result<Task<'a>, AllocError> {

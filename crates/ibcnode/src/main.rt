@@ -1,8 +1,11 @@
 //! A world that lives: it answers lines, and its journal has each answer before it is told.
 #![tactic(auto)]
 
-use ibc_node::{NodeFault, open_at};
-use ibc_node_lines::{Task, Words, help, read_words, serve, tell_lawful, version};
+use ibc_journal::open_journal;
+use ibc_node::{JournalAudit, NodeFault, audit_journal, open_at};
+use ibc_node_lines::{
+    EntryFiles, Task, Words, audit_lines, help, read_words, serve, tell_audit, version,
+};
 use sqlite::Wary;
 use std::alloc::Global;
 use std::io::{BufReader, BufWriter};
@@ -35,11 +38,16 @@ fn is_cut(rt: &HostRuntime, path: &str) -> Result<bool, NodeFault> {
 // The bytes of the genesis, where a file is named.
 fn genesis_of(rt: &HostRuntime, path: Option<&str>) -> Result<Option<Vec<u8>>, NodeFault> {
     match path {
-        Some(path) => match fs::read(rt, path) {
-            Ok(bytes) => Ok(Some(bytes)),
-            Err(error) => Err(NodeFault::of_genesis_file(&error)),
-        },
+        Some(path) => Ok(Some(bytes_of(rt, path)?)),
         None => Ok(None),
+    }
+}
+
+// The bytes of a file of the genesis.
+fn bytes_of(rt: &HostRuntime, path: &str) -> Result<Vec<u8>, NodeFault> {
+    match fs::read(rt, path) {
+        Ok(bytes) => Ok(bytes),
+        Err(error) => Err(NodeFault::of_genesis_file(&error)),
     }
 }
 
@@ -59,7 +67,7 @@ fn answer(rt: &HostRuntime, words: &Words<'_>, genesis: Option<&[u8]>) -> Result
     serve(alloc, node, input, &mut output, words.batch)
 }
 
-// Opens the journal, and tells what an audit finds. None is made.
+// Tells what an audit finds of the journal. None is made.
 fn audit(rt: &HostRuntime, words: &Words<'_>, genesis: Option<&[u8]>) -> Result<(), NodeFault> {
     if !fs::exists(rt, words.journal).unwrap_or(false) {
         return Err(NodeFault::NoFile);
@@ -67,11 +75,43 @@ fn audit(rt: &HostRuntime, words: &Words<'_>, genesis: Option<&[u8]>) -> Result<
     if length_of(rt, words.journal) == 0 {
         return Err(NodeFault::NoJournal);
     }
-    match open_at(rt, words.journal, Wary, None) {
-        Ok(node) => tell_lawful(rt.alloc(), &node, genesis, &mut io::writer(rt)),
-        Err(NodeFault::NoGenesis) => Err(NodeFault::NoJournal),
-        Err(fault) => Err(fault),
-    }
+    let found = found_in(rt, words.journal, genesis)?;
+    let told = tell_audit(rt.alloc(), &found, &mut io::writer(rt));
+    drop(found);
+    told
+}
+
+// Opens the journal, and audits it.
+fn found_in(
+    rt: &HostRuntime,
+    path: &str,
+    genesis: Option<&[u8]>,
+) -> Result<JournalAudit, NodeFault> {
+    let conn = open_journal(rt, path, Wary)?;
+    let mut conn = conn;
+    let found = audit_journal(rt.alloc(), &mut conn, genesis);
+    drop(conn);
+    found
+}
+
+// Reads entries that are lines, and tells what an audit finds.
+fn audit_entries(rt: &HostRuntime, files: EntryFiles<'_>) -> Result<(), NodeFault> {
+    let genesis = bytes_of(rt, files.genesis)?;
+    let told = audit_file(rt, files.entries, genesis.as_slice());
+    drop(genesis);
+    told
+}
+
+fn audit_file(rt: &HostRuntime, path: &str, genesis: &[u8]) -> Result<(), NodeFault> {
+    let alloc = rt.alloc();
+    let file = match fs::open(rt, path) {
+        Ok(file) => file,
+        Err(error) => return Err(NodeFault::of_entry_file(&error)),
+    };
+    let Ok(input) = BufReader::with_capacity(alloc, AT_HAND, file) else {
+        return Err(NodeFault::NoMemory);
+    };
+    audit_lines(alloc, genesis, input, &mut io::writer(rt))
 }
 
 // Answers lines, or tells what an audit finds.
@@ -97,16 +137,21 @@ fn run(rt: &HostRuntime, words: &[&str]) -> io::Result<u8> {
             eprintln!(rt; "ibcnode: bad arguments; ibcnode --help tells them")?;
             return Ok(2);
         }
-        Task::Serve(words) => match work(rt, words) {
-            Ok(()) | Err(NodeFault::CannotWrite) => {}
-            Err(fault) => {
-                let journal = words.journal;
-                eprintln!(rt; "ibcnode: {journal}: {fault}")?;
-                return Ok(1);
-            }
-        },
+        Task::Serve(words) => return status_of(rt, words.journal, work(rt, words)),
+        Task::AuditLines(files) => return status_of(rt, files.entries, audit_entries(rt, files)),
     }
     Ok(0)
+}
+
+// The status of work on a file that ended so. Why it ended is said.
+fn status_of(rt: &HostRuntime, path: &str, ended: Result<(), NodeFault>) -> io::Result<u8> {
+    match ended {
+        Ok(()) | Err(NodeFault::CannotWrite) => Ok(0),
+        Err(fault) => {
+            eprintln!(rt; "ibcnode: {path}: {fault}")?;
+            Ok(1)
+        }
+    }
 }
 
 // The words after the program's name.

@@ -1,7 +1,9 @@
 -- All entries are put to the world of the genesis, so it is their replay.
+use Rattle.std.proofs.lemmas.Result.{err_from_is_err_and}
 use Rattle.sqlite.specs.Held.{state}
 use Rattle.ibc_journal.proofs.Whole.{survives_same}
 use Rattle.ibc_node.proofs.Beside.{restarts}
+use Rattle.ibc_node.proofs.Unlawful.{unlawful}
 use Rattle.ibc_node.proofs.opening.replay_from.Goals as goal
 
 pub returns-clause-restarted : goal.returns-clause-restarted
@@ -15,3 +17,9 @@ returns-in_err-world-clause-crash g c = survives_same (state g.S.Store c.args.co
 
 pub returns-clause-rest : goal.returns-clause-rest
 returns-clause-rest g c = c.in_ok-past.ensures.rest
+
+pub returns-in_err-past-clause-differs : goal.returns-in_err-past-clause-differs
+returns-in_err-past-clause-differs g c items has clean =
+    let w = c.in_ok-world.ensures in
+    let p = err_from_is_err_and c.from_residual-in_err-past.result c.from_residual-in_err-past.ensures.1 in
+    rw (p.1, p.2) (unlawful c.args.genesis.now items w.0 c.in_ok-world.world _ w.1 w.2 (c.in_err-past.ensures.differs items has clean))

@@ -1,5 +1,6 @@
 -- One entry after another is read and put to the world, up to the last.
 use Rattle.std.proofs.Common.{[], arith}
+use Rattle.std.proofs.lemmas.Result.{err_from_is_err_and}
 use Rattle.sqlite.specs.State.{HasCleanDisk}
 use Rattle.sqlite.specs.Held.{state}
 use Rattle.ibc_journal.proofs.Whole.{keeps_on, nothing_then, survives_same}
@@ -21,6 +22,14 @@ pub returns-in_err-read_next-clause-crash : goal.returns-in_err-read_next-clause
 returns-in_err-read_next-clause-crash g c =
     let at = c.reading in
     nothing_then (state g.S.Store c.args.conn.now) (state g.S.Store at.conn) (state g.S.Store c.read_next.new.conn) at.invariant.kept at.invariant.crash c.read_next.ensures.crash
+
+pub returns-in_err-read_next-clause-differs : goal.returns-in_err-read_next-clause-differs
+returns-in_err-read_next-clause-differs g c items has clean =
+    let at = c.reading in
+    let calmer : HasCleanDisk (state g.S.Store at.conn) = omega (arith, c.read_next.ensures.crash.clean, clean) in
+    let journal = at.invariant.kept c.args.genesis.now items has calmer in
+    let p = err_from_is_err_and c.from_residual.result c.from_residual.ensures.1 in
+    rw (p.1, p.2) (c.in_err-read_next.ensures.differs c.args.genesis.now items c.args.world journal (at.invariant.read items has calmer) (at.invariant.replayed items has calmer) clean)
 
 pub returns-then-not-branch : goal.returns-then-not-branch
 returns-then-not-branch g c =
@@ -44,6 +53,7 @@ returns-then-not-branch g c =
           let calmer : HasCleanDisk mid = omega (arith, c.read_next.ensures.crash.clean, clean) in
           let here = at.invariant.rest items rest calmer in
           stays_at_rest mid new c.args.genesis.now items (c.in_ok-read_next.ensures.same c.args.genesis.now items here.journal clean) here;
+      differs = λ items has clean. tt;
       crash = nothing_then old mid new at.invariant.kept at.invariant.crash c.read_next.ensures.crash;
     }
 

@@ -1,5 +1,6 @@
 -- One entry more is read, or the end is found.
 use Rattle.std.proofs.Common.{Ok, take, sym, ap, subst, arith}
+use Rattle.std.proofs.lemmas.Result.{err_from_is_err_and}
 use Rattle.sqlite.specs.State.{HasCleanDisk}
 use Rattle.sqlite.specs.Held.{state}
 use Rattle.ibc_journal.specs.Entries.{item}
@@ -8,13 +9,20 @@ use Rattle.ibc_journal.proofs.Chained.{reads_end}
 use Rattle.ibc_journal.specs.declared.cursor.Cursor.{Cursor}
 use Rattle.ibc_node.specs.Kept.{HasReplayed}
 use Rattle.ibc_node.proofs.Beside.{keeps_once, unchanged_then, reads_one}
+use Rattle.ibc_node.proofs.Unlawful.{stops_as_kept}
 use Rattle.ibc_node.proofs.reading.read_next.Goals as goal
 
 pub returns-in_ok-replay_entry-in-Ok-Some-clause-replayed : goal.returns-in_ok-replay_entry-in-Ok-Some-clause-replayed
 returns-in_ok-replay_entry-in-Ok-Some-clause-replayed g c genesis items beginning has read so_far clean =
     let found = rw c.in-Ok-Some.field-0-is at (c.in-Ok-Some.ensures.entry genesis items has read clean).0 in
-    reads_one items c.args.past.now.end.place c.next.new.cursor.place beginning c.args.past.now.world c.replay_entry.new.world (item c.in-Ok-Some.kept) so_far found c.in_ok-replay_entry-in-Ok-Some.ensures
+    reads_one items c.args.past.now.end.place c.next.new.cursor.place beginning c.args.past.now.world c.replay_entry.new.world (item c.in-Ok-Some.kept) so_far found c.in_ok-replay_entry-in-Ok-Some.ensures.replayed
     (rw c.in-Ok-Some.field-0-is at c.in-Ok-Some.ensures.more)
+
+pub returns-in_err-replay_entry-in-Ok-Some-clause-differs : goal.returns-in_err-replay_entry-in-Ok-Some-clause-differs
+returns-in_err-replay_entry-in-Ok-Some-clause-differs g c genesis items beginning has read so_far clean =
+    let found = rw c.in-Ok-Some.field-0-is at (c.in-Ok-Some.ensures.entry genesis items has read clean).0 in
+    let p = err_from_is_err_and c.from_residual-in_err-replay_entry-in-Ok-Some.result c.from_residual-in_err-replay_entry-in-Ok-Some.ensures.1 in
+    rw (p.1, p.2) (stops_as_kept items c.args.past.now.end.place beginning c.args.past.now.world c.replay_entry.new.world (item c.in-Ok-Some.kept) _ so_far found c.in_err-replay_entry-in-Ok-Some.ensures.differs)
 
 pub returns-in_ok-end_at-in-Ok-None-clause-crash : goal.returns-in_ok-end_at-in-Ok-None-clause-crash
 returns-in_ok-end_at-in-Ok-None-clause-crash g c =

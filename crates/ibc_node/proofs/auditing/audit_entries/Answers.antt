@@ -1,0 +1,47 @@
+-- The beginning is read, and then the entries are put to the world.
+use Rattle.std.proofs.Common.{sym, ◌∙◌, subst, arith}
+use Rattle.sqlite.specs.State.{HasCleanDisk}
+use Rattle.sqlite.specs.Held.{state}
+use Rattle.ibc_journal.specs.Tables.{IsJournal}
+use Rattle.ibc_journal.proofs.Whole.{nothing_then}
+use Rattle.ibc_node.specs.Nodes.{IsRestarted}
+use Rattle.ibc_node.specs.Audits.{IsUnlawful}
+use Rattle.ibc_node.proofs.Beside.{keeps_once}
+use Rattle.ibc_node.proofs.auditing.audit_entries.Goals as goal
+
+pub returns-in-Ok-clause-audited : goal.returns-in-Ok-clause-audited
+returns-in-Ok-clause-audited g c text items journal clean =
+    let old = state g.S.Store c.args.conn.now in
+    let mid = state g.S.Store c.beginning_of.new.conn in
+    let calm : HasCleanDisk mid = omega (arith, c.replay_from.ensures.crash.clean, clean) in
+    let read = c.as_slice.ensures.value ∙ (c.in_ok-began.ensures.began text items journal calm).1 in
+    let here = subst (λ t. IsJournal mid.now t items) (sym read) (keeps_once old mid c.in_ok-began.ensures.same text items journal calm) in
+    let restarted : IsRestarted text items c.in-Ok.past.world c.in-Ok.past.end = subst (λ t. IsRestarted t items c.in-Ok.past.world c.in-Ok.past.end) read (c.in-Ok.ensures.restarted items here clean) in
+    record { world = c.in-Ok.past.world; end = c.in-Ok.past.end; restarted = restarted; count = restarted.beside.read.1 }
+
+pub returns-clause-audited : goal.returns-clause-audited
+returns-clause-audited g c text items journal clean =
+    let old = state g.S.Store c.args.conn.now in
+    let mid = state g.S.Store c.beginning_of.new.conn in
+    let calm : HasCleanDisk mid = omega (arith, c.replay_from.ensures.crash.clean, clean) in
+    let read = c.as_slice.ensures.value ∙ (c.in_ok-began.ensures.began text items journal calm).1 in
+    let here = subst (λ t. IsJournal mid.now t items) (sym read) (keeps_once old mid c.in_ok-began.ensures.same text items journal calm) in
+    subst (λ t. IsUnlawful t items c.in-Err-Differs.why) read (rw c.in-Err-Differs.field-0-is at (c.in-Err-Differs.ensures.differs items here clean))
+
+pub returns-in-Ok-clause-crash : goal.returns-in-Ok-clause-crash
+returns-in-Ok-clause-crash g c =
+    let old = state g.S.Store c.args.conn.now in
+    let mid = state g.S.Store c.beginning_of.new.conn in
+    nothing_then old mid (state g.S.Store c.replay_from.new.conn) (keeps_once old mid c.in_ok-began.ensures.same) c.beginning_of.ensures.crash c.replay_from.ensures.crash
+
+pub returns-in-Err-Fault-clause-crash : goal.returns-in-Err-Fault-clause-crash
+returns-in-Err-Fault-clause-crash g c =
+    let old = state g.S.Store c.args.conn.now in
+    let mid = state g.S.Store c.beginning_of.new.conn in
+    nothing_then old mid (state g.S.Store c.replay_from.new.conn) (keeps_once old mid c.in_ok-began.ensures.same) c.beginning_of.ensures.crash c.replay_from.ensures.crash
+
+pub returns-clause-crash : goal.returns-clause-crash
+returns-clause-crash g c =
+    let old = state g.S.Store c.args.conn.now in
+    let mid = state g.S.Store c.beginning_of.new.conn in
+    nothing_then old mid (state g.S.Store c.replay_from.new.conn) (keeps_once old mid c.in_ok-began.ensures.same) c.beginning_of.ensures.crash c.replay_from.ensures.crash
