@@ -5,3 +5,6 @@ pub mod BrokenLanes
 pub mod JudgedLanes
 pub mod NotedEnds
 pub mod SoFar
+pub mod PassedLanes
+pub mod TokenFindings
+pub mod ReadEnds

@@ -5,3 +5,10 @@ pub mod Passages
 pub mod TokenPlaces
 pub mod Supplies
 pub mod MadeEnds
+pub mod Arrivals
+pub mod EndPlaces
+pub mod Peers
+pub mod Movements
+pub mod MovedLanes
+pub mod TouchedPlaces
+pub mod ToldEntries

@@ -1,22 +1,28 @@
 //! What happens in a world is looked at, event by event.
 
-ghost use Rattle.std.specs.Prelude.{◌≡◌, ◌++◌, ◌∷◌, [], All, IfOk, IsNone, IsTrue, OnOk};
-ghost use Rattle.ibc_law_checks.specs.MadeEnds.{end_names, made_names};
-ghost use Rattle.ibc_law_checks.specs.Supplies.{is_kept};
-ghost use Rattle.ibc_law_checks.specs.TokenPlaces.{is_balanced, is_balanced_at};
+ghost use Rattle.std.specs.Prelude.{◌≡◌, ◌++◌, ◌∷◌, ℕ, [], IfOk, OnOk, true};
+ghost use Rattle.ibc_wire.specs.declared.records.Order.TheVariants.{Ordered};
+ghost use Rattle.ibc_machine.specs.ics24.Values.{same_order};
+ghost use Rattle.ibc_machine.specs.promises.Laws.{settles};
+ghost use Rattle.ibc_law_checks.specs.Lanes.{new_lane};
+ghost use Rattle.ibc_law_checks.specs.MadeEnds.{end_names, made_lanes, made_names};
+ghost use Rattle.ibc_law_checks.specs.MovedLanes.{AreLanesAccepted, AreLanesAfter, AreMoved};
+ghost use Rattle.ibc_law_checks.specs.Movements.{moved_by};
+ghost use Rattle.ibc_law_checks.specs.ToldEntries.{AreTokensTold, IsToldOf, IsToldOfAccepted, IsToldOfBlock, IsToldOfRefusal, is_poor};
+ghost use Rattle.ibc_law_checks.specs.TouchedPlaces.{places_accepted, places_after, places_of_block, settled_places, touched_with, with_sent_tokens};
 
+mod carrying;
 mod moving;
+mod reads;
 mod told;
 
-use crate::ends::{ChainClock, EndNotes, first_clocks, home_supplies, place_of_end};
+use crate::ends::{ChainClock, EndNotes, first_clocks, home_supplies};
 use crate::made::{MadeEnd, made_in};
-use crate::{
-    Finding, HomeSupply, Lane, TokenPlace, acknowledged_by, first_changed_supply, first_unbalanced,
-    received_by, timed_out_by,
-};
-use ibc_ids::{ChannelId, Denom, Refusal};
+use crate::{Finding, HomeSupply, Lane, TokenPlace, first_changed_supply, first_unbalanced};
+use carrying::{leave_all, note_sent_tokens};
+use ibc_ids::Refusal;
 use ibc_machine::{Effect, Entry, Event, Genesis, Reply};
-use ibc_wire::{Message, Order, Token};
+use ibc_wire::{Message, Order};
 use ibc_world_core::World;
 use std::alloc::{AllocError, Global};
 
@@ -32,12 +38,41 @@ pub struct LawChecks {
     pub supplies: Vec<HomeSupply>,
 }
 
+// Whether an order is that of ordered channels.
+fn is_ordered(order: Order) -> bool
+    ensures { result ≡ same_order order Ordered }
+{
+    order == Order::Ordered
+}
+
+// Whether an account holds too little.
+fn is_poor(refusal: Refusal) -> bool
+    ensures { result ≡ is_poor refusal }
+{
+    match refusal {
+        Refusal::Poor => true,
+        _ => false,
+    }
+}
+
+// Whether an event settles a packet.
+fn settles(event: &Event) -> bool
+    ensures { result ≡ settles event.now }
+{
+    match event {
+        Event::Message { message, .. } => is_settling(message),
+        Event::Block { .. } => false,
+    }
+}
+
 // Whether a message settles a packet.
-fn settles(message: &Message) -> bool {
-    matches!(
-        message,
-        Message::AckPacket(_) | Message::Timeout(_) | Message::TimeoutOnClose(_)
-    )
+fn is_settling(message: &Message) -> bool
+    ensures { (chain : ℕ) → result ≡ settles (Event.Message chain message.now) }
+{
+    match message {
+        Message::AckPacket(_) | Message::Timeout(_) | Message::TimeoutOnClose(_) => true,
+        _ => false,
+    }
 }
 
 impl LawChecks {
@@ -60,7 +95,10 @@ impl LawChecks {
         }
     }
 
-    /// Looks at the last entry of a chain, which has just come. An end of a channel that it made is noted. Refused: `NoMemory`.
+    /// Looks at the last entry of a chain, which has just come. An end of a channel that it made is noted, and nothing has gone
+    /// over its lane yet. The packet that the entry moves goes over its lane, unless that breaks a law, which is told then. The
+    /// places of the end and of its peer are touched. Where a block has ended, they are all looked at. Refused: `NoMemory`; what
+    /// is noted then is of no use.
     pub fn look(
         &mut self,
         world: &World,
@@ -68,6 +106,9 @@ impl LawChecks {
         entry: &Entry,
     ) -> Result<Option<Finding>, Refusal>
         ensures ends { IfOk result (λ _. end_names self.new.ends.items ≡ end_names self.old.ends.items ++ made_names chain entry.now) }
+        ensures lanes { IfOk result (λ found. AreLanesAfter world.now self.new.ends.items self.old.clocks.items chain entry.now (self.old.lanes.items ++ made_lanes entry.now) found self.new.lanes.items) }
+        ensures places { IfOk result (λ found. self.new.places.items ≡ places_after world.now self.new.ends.items self.old.clocks.items chain found entry.now self.old.places.items) }
+        ensures told { IfOk result (IsToldOf world.now self.old.places.items self.old.supplies.items entry.now.event entry.now.reply) }
     {
         self.note_made(chain, entry)?;
         self.look_at(world, chain, entry)
@@ -76,6 +117,10 @@ impl LawChecks {
     // Notes the end of a channel that an entry made.
     fn note_made(&mut self, chain: u8, entry: &Entry) -> Result<(), Refusal>
         ensures ends { OnOk result (end_names self.new.ends.items ≡ end_names self.old.ends.items ++ made_names chain entry.now) }
+        ensures lanes { OnOk result (self.new.lanes.items ≡ self.old.lanes.items ++ made_lanes entry.now) }
+        ensures clocks { self.new.clocks ≡ self.old.clocks }
+        ensures places { self.new.places ≡ self.old.places }
+        ensures supplies { self.new.supplies ≡ self.old.supplies }
     {
         match made_in(entry) {
             Some(made) => self.note_end(chain, made),
@@ -87,8 +132,12 @@ impl LawChecks {
     #[tactic(auto, using(crate::proofs::NotedEnds::ends_push))]
     fn note_end(&mut self, chain: u8, made: MadeEnd<'_>) -> Result<(), Refusal>
         ensures ends { OnOk result (end_names self.new.ends.items ≡ end_names self.old.ends.items ++ (chain, made.entry.port.now, made.entry.channel.now) ∷ []) }
+        ensures lanes { OnOk result (self.new.lanes.items ≡ self.old.lanes.items ++ new_lane (same_order made.entry.order Ordered) ∷ []) }
+        ensures clocks { self.new.clocks ≡ self.old.clocks }
+        ensures places { self.new.places ≡ self.old.places }
+        ensures supplies { self.new.supplies ≡ self.old.supplies }
     {
-        let ordered = made.order == Order::Ordered;
+        let ordered = is_ordered(made.order);
         let port = made.port.clone()?;
         let channel = made.channel.clone()?;
         let notes = EndNotes {
@@ -102,10 +151,10 @@ impl LawChecks {
         Ok(())
     }
 
-    /// Looks at all places and all supplies, whether anything moved there or not. Refused: `NoMemory`.
+    /// Looks at all places and all supplies, whether anything moved there or not. Where nothing is told they are as they must be,
+    /// and else one isn't. Refused: `NoMemory`.
     pub fn look_at_all(&mut self, world: &World) -> Result<Option<Finding>, Refusal>
-        ensures balanced { IfOk result (λ found. IsNone found → All (λ place. IsTrue (is_balanced world.now place.chain place.channel place.denom)) self.old.places.items) }
-        ensures kept { IfOk result (λ found. IsNone found → All (λ home. IsTrue (is_kept world.now home)) self.old.supplies.items) }
+        ensures { IfOk result (AreTokensTold world.now true self.old.places.items self.old.supplies.items) }
     {
         self.look_at_tokens(world, true)
     }
@@ -113,14 +162,15 @@ impl LawChecks {
     // Looks at the places where something moved, or at all, and at all supplies.
     fn look_at_tokens(&mut self, world: &World, all: bool) -> Result<Option<Finding>, Refusal>
         ensures same { self.new.ends ≡ self.old.ends }
-        ensures balanced { IfOk result (λ found. IsNone found → All (λ place. IsTrue (is_balanced_at world.now all place)) self.old.places.items) }
-        ensures kept { IfOk result (λ found. IsNone found → All (λ home. IsTrue (is_kept world.now home)) self.old.supplies.items) }
+        ensures lanes { self.new.lanes ≡ self.old.lanes }
+        ensures places { IfOk result (λ found. self.new.places.items ≡ settled_places found self.old.places.items) }
+        ensures told { IfOk result (AreTokensTold world.now all self.old.places.items self.old.supplies.items) }
     {
         if let Some(index) = first_unbalanced(world, self.places.as_slice(), all)? {
-            return self.of_place(index);
+            return Ok(Some(self.of_place(index)?));
         }
         if let Some(index) = first_changed_supply(world, self.supplies.as_slice()) {
-            return self.of_supply(index);
+            return Ok(Some(self.of_supply(index)?));
         }
         leave_all(self.places.as_mut_slice());
         Ok(None)
@@ -134,25 +184,81 @@ impl LawChecks {
         entry: &Entry,
     ) -> Result<Option<Finding>, Refusal>
         ensures same { self.new.ends ≡ self.old.ends }
+        ensures lanes { IfOk result (λ found. AreLanesAfter world.now self.new.ends.items self.old.clocks.items chain entry.now self.old.lanes.items found self.new.lanes.items) }
+        ensures places { IfOk result (λ found. self.new.places.items ≡ places_after world.now self.new.ends.items self.old.clocks.items chain found entry.now self.old.places.items) }
+        ensures told { IfOk result (IsToldOf world.now self.old.places.items self.old.supplies.items entry.now.event entry.now.reply) }
     {
-        match (&entry.event, &entry.reply) {
-            (Event::Block { next_time, .. }, Reply::Ok(Effect::Block(height, _))) => {
-                self.note_block(chain, *height, *next_time);
+        match &entry.reply {
+            Reply::Ok(effect) => self.look_at_accepted(world, chain, &entry.event, effect),
+            Reply::No(refusal) => self.look_at_refused(chain, &entry.event, *refusal),
+        }
+    }
+
+    // Looks at an event that was accepted.
+    fn look_at_accepted(
+        &mut self,
+        world: &World,
+        chain: u8,
+        event: &Event,
+        effect: &Effect,
+    ) -> Result<Option<Finding>, Refusal>
+        ensures same { self.new.ends ≡ self.old.ends }
+        ensures lanes { IfOk result (λ found. AreLanesAccepted world.now self.new.ends.items self.old.clocks.items chain event.now effect.now self.old.lanes.items found self.new.lanes.items) }
+        ensures places { IfOk result (λ found. self.new.places.items ≡ places_accepted world.now self.new.ends.items self.old.clocks.items chain found event.now effect.now self.old.places.items) }
+        ensures told { IfOk result (IsToldOfAccepted world.now self.old.places.items self.old.supplies.items event.now effect.now) }
+    {
+        match event {
+            Event::Message { message, .. } => self.look_at_message(world, chain, message, effect),
+            Event::Block { next_time, .. } => self.look_at_block(world, chain, *next_time, effect),
+        }
+    }
+
+    // Looks at a block that was accepted.
+    fn look_at_block(
+        &mut self,
+        world: &World,
+        chain: u8,
+        time: u64,
+        effect: &Effect,
+    ) -> Result<Option<Finding>, Refusal>
+        ensures same { self.new.ends ≡ self.old.ends }
+        ensures lanes { self.new.lanes ≡ self.old.lanes }
+        ensures places { IfOk result (λ found. self.new.places.items ≡ places_of_block found effect.now self.old.places.items) }
+        ensures told { IfOk result (IsToldOfBlock world.now self.old.places.items self.old.supplies.items effect.now) }
+    {
+        match effect {
+            Effect::Block(height, _) => {
+                self.note_block(chain, *height, time);
                 self.look_at_tokens(world, false)
-            }
-            (Event::Message { message, .. }, Reply::Ok(effect)) => {
-                self.look_at_accepted(world, chain, message, effect)
-            }
-            (Event::Message { message, .. }, Reply::No(Refusal::Poor)) if settles(message) => {
-                self.of_refund(chain)
             }
             _ => Ok(None),
         }
     }
 
+    // Looks at an event that was refused.
+    fn look_at_refused(
+        &mut self,
+        chain: u8,
+        event: &Event,
+        refusal: Refusal,
+    ) -> Result<Option<Finding>, Refusal>
+        ensures same { self.new.ends ≡ self.old.ends }
+        ensures lanes { self.new.lanes ≡ self.old.lanes }
+        ensures places { self.new.places ≡ self.old.places }
+        ensures told { IfOk result (IsToldOfRefusal event.now refusal) }
+    {
+        if is_poor(refusal) && settles(event) {
+            return Ok(Some(self.of_refund(chain)?));
+        }
+        Ok(None)
+    }
+
     // Notes a block that has ended.
     fn note_block(&mut self, chain: u8, height: u64, time: u64)
-        ensures { self.new.ends ≡ self.old.ends }
+        ensures ends { self.new.ends ≡ self.old.ends }
+        ensures lanes { self.new.lanes ≡ self.old.lanes }
+        ensures places { self.new.places ≡ self.old.places }
+        ensures supplies { self.new.supplies ≡ self.old.supplies }
     {
         if let Some(clock) = self.clocks.as_mut_slice().get_mut(usize::from(chain)) {
             *clock = ChainClock { height, time };
@@ -160,7 +266,7 @@ impl LawChecks {
     }
 
     // Looks at a message that was accepted.
-    fn look_at_accepted(
+    fn look_at_message(
         &mut self,
         world: &World,
         chain: u8,
@@ -168,120 +274,16 @@ impl LawChecks {
         effect: &Effect,
     ) -> Result<Option<Finding>, Refusal>
         ensures same { self.new.ends ≡ self.old.ends }
+        ensures lanes { IfOk result (λ found. AreMoved (moved_by world.now self.new.ends.items self.old.clocks.items chain message.now effect.now) self.old.lanes.items found self.new.lanes.items) }
+        ensures places { IfOk result (λ found. self.new.places.items ≡ touched_with world.now self.new.ends.items (moved_by world.now self.new.ends.items self.old.clocks.items chain message.now effect.now) (with_sent_tokens chain message.now self.old.places.items)) }
     {
-        if let Some(packet) = received_by(message) {
-            return self.note_received(world, chain, packet);
-        }
-        if let Some(packet) = acknowledged_by(message) {
-            return self.note_acknowledged(world, chain, packet, message);
-        }
-        if let Some(packet) = timed_out_by(message) {
-            return self.note_timed_out(world, chain, packet);
-        }
-        match message {
-            Message::Transfer(message) => {
-                self.note_place(chain, &message.channel, &message.denom)?;
-                self.note_sent(world, chain, "transfer", &message.channel, effect)
-            }
-            Message::TransferMany(message) => {
-                self.note_places(chain, &message.channel, message.tokens.as_slice())?;
-                self.note_sent(world, chain, "transfer", &message.channel, effect)
-            }
-            Message::SendNote(message) => {
-                self.note_sent(world, chain, "note", &message.channel, effect)
-            }
-            _ => Ok(None),
-        }
-    }
-
-    // Notes that tokens went out over a channel.
-    fn note_places(
-        &mut self,
-        chain: u8,
-        channel: &ChannelId,
-        tokens: &[Token],
-    ) -> Result<(), Refusal>
-        ensures { self.new.ends ≡ self.old.ends }
-    {
-        for token in tokens {
-            self.note_place(chain, channel, &token.denom)?;
-        }
-        Ok(())
-    }
-
-    // Notes that a denomination went out over a channel, unless that is noted.
-    fn note_place(&mut self, chain: u8, channel: &ChannelId, denom: &Denom) -> Result<(), Refusal>
-        ensures { self.new.ends ≡ self.old.ends }
-    {
-        for place in &self.places {
-            if place.chain == chain && place.channel == *channel && place.denom == *denom {
-                return Ok(());
+        let movement = self.moved_by(world, chain, message, effect)?;
+        match note_sent_tokens(&mut self.places, chain, message) {
+            Ok(()) => self.carry_out(world, chain, message, movement),
+            Err(error) => {
+                drop(movement);
+                Err(Refusal::from(error))
             }
         }
-        self.places.push(TokenPlace {
-            chain,
-            channel: channel.clone()?,
-            denom: denom.clone()?,
-            touched: true,
-        })?;
-        Ok(())
-    }
-
-    /// The place of an end's peer, as the end names it; none where it names none that is noted. Refused: `NoMemory`.
-    pub fn peer_of(&self, world: &World, own: usize) -> Result<Option<usize>, Refusal> {
-        let Some(notes) = self.ends.get(own) else {
-            return Ok(None);
-        };
-        let Some(ledger) = world.ledger(notes.chain) else {
-            return Ok(None);
-        };
-        let Some(channel) = ledger.channel(&notes.port, &notes.channel)? else {
-            return Ok(None);
-        };
-        let end = channel.end();
-        match (ledger.tracked_over(&end.connection), &end.peer_channel) {
-            (Some(tracked), Some(peer)) => {
-                let port = end.peer_port.as_str();
-                Ok(place_of_end(self.ends.as_slice(), tracked, port, peer))
-            }
-            _ => Ok(None),
-        }
-    }
-
-    // Notes that something moved between an end and its peer.
-    fn touch(&mut self, world: &World, own: usize) -> Result<(), Refusal>
-        ensures { self.new.ends ≡ self.old.ends }
-    {
-        let peer = self.peer_of(world, own)?;
-        self.touch_end(own);
-        if let Some(peer) = peer {
-            self.touch_end(peer);
-        }
-        Ok(())
-    }
-
-    // Notes that something moved at an end.
-    fn touch_end(&mut self, place: usize)
-        ensures { self.new.ends ≡ self.old.ends }
-    {
-        if let Some(end) = self.ends.get(place) {
-            touch_at(self.places.as_mut_slice(), end);
-        }
-    }
-}
-
-// Notes that something moved at the places of an end.
-fn touch_at(places: &mut [TokenPlace], end: &EndNotes) {
-    for place in places {
-        if place.chain == end.chain && place.channel == end.channel {
-            place.touched = true;
-        }
-    }
-}
-
-// Notes that nothing has moved since all was looked at.
-fn leave_all(places: &mut [TokenPlace]) {
-    for place in places {
-        place.touched = false;
     }
 }

@@ -1,5 +1,8 @@
 //! What is noted of ends of channels and of chains.
 
+ghost use Rattle.std.specs.Prelude.{◌≡◌};
+ghost use Rattle.ibc_law_checks.specs.EndPlaces.{is_named, place_of_end};
+
 use crate::HomeSupply;
 use ibc_ids::{ChannelId, PortId};
 use ibc_machine::{ChainStart, Genesis};
@@ -21,20 +24,19 @@ pub struct ChainClock {
     pub time: u64,
 }
 
-/// The place of an end among those that are noted.
-pub(crate) fn place_of_end(
-    ends: &[EndNotes],
-    chain: u8,
-    port: &str,
-    channel: &ChannelId,
-) -> Option<usize> {
-    for place in 0..ends.len() {
-        let end = &ends[place];
-        if end.chain == chain && end.channel == *channel && end.port.as_str() == port {
-            return Some(place);
-        }
-    }
-    None
+// Whether an end is of this chain, port and name.
+fn is_named(end: &EndNotes, chain: u8, port: &str, channel: &ChannelId) -> bool
+    ensures { result ≡ is_named chain port.now channel.now end.now }
+{
+    end.chain == chain && end.channel == *channel && end.port.as_str() == port
+}
+
+/// The place of the first end of this chain, port and name among those that are noted, or none.
+pub fn place_of_end(ends: &[EndNotes], chain: u8, port: &str, channel: &ChannelId) -> Option<usize>
+    ensures { result ≡ place_of_end ends.now chain port.now channel.now }
+{
+    ends.iter()
+        .position(|end| is_named(end, chain, port, channel))
 }
 
 /// The clocks of the chains of a genesis. Error: no memory.

@@ -3,8 +3,8 @@
 ghost use Rattle.std.specs.Prelude.{◌≡◌, IfOk, MatchOption, OnErr, length};
 ghost use Rattle.ibc_law_checks.specs.PacketTests.{has_sequence, stands_at};
 
-use crate::PacketLaw;
 use crate::same_packet::is_same;
+use crate::{PacketLaw, Passing};
 use ibc_wire::Packet;
 use std::alloc::{AllocError, Global};
 use std::marker::Model;
@@ -63,6 +63,7 @@ fn stands_at(packets: &[Packet], place: usize, packet: &Packet) -> bool
 }
 
 impl Lane {
+    ghost use Rattle.ibc_law_checks.specs.MovedLanes.{IsPassed};
     ghost use Rattle.ibc_law_checks.specs.Lanes.{Holds, IsLawfulLane, broken_by_acknowledging, broken_by_receiving, broken_by_sending, broken_by_timing_out, is_next, is_settled, new_lane, was_sent, with_acknowledged, with_received, with_sent, with_timed_out};
 
     /// The lane of a channel over which nothing has gone.
@@ -219,6 +220,23 @@ impl Lane {
     {
         self.lemma_is_lawful();
         self.first_broken_by_timing_out(packet)
+    }
+
+    /// Notes a packet that passes so, or tells a law that this breaks; then nothing is noted. Error: no memory.
+    pub fn pass(
+        &mut self,
+        passing: Passing,
+        packet: &Packet,
+    ) -> Result<Option<PacketLaw>, AllocError>
+        ensures ok { IfOk result (λ told. IsPassed passing packet.now self.old told self.new) }
+        ensures err { OnErr result (self.new ≡ self.old) }
+    {
+        match passing {
+            Passing::Sent => self.send(packet),
+            Passing::Received => self.receive(packet),
+            Passing::Acknowledged => self.acknowledge(packet),
+            Passing::TimedOut => self.time_out(packet),
+        }
     }
 
     /// Notes a packet that was sent, or tells a law that this breaks; then nothing is noted. Error: no memory.

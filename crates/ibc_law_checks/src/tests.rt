@@ -1,7 +1,7 @@
 //! Wrong histories, made by hand: each law is seen broken.
 
 use crate::token_places::is_even;
-use crate::{Lane, PacketLaw, is_in_time};
+use crate::{Lane, PacketLaw, Passing, is_in_time};
 use ibc_ids::{Bytes, Name};
 use ibc_machine::Totals;
 use ibc_wire::Packet;
@@ -10,7 +10,7 @@ use std::process::Abort;
 
 /// What happens to a packet of a sequence, or to one like it with another payload.
 #[derive(Clone, Copy, Debug)]
-enum Passing {
+enum Happening {
     Sent(u64),
     Received(u64),
     ReceivedForged(u64),
@@ -33,19 +33,28 @@ fn packet(rt: &impl Abort, alloc: Global, sequence: u64, payload: &[u8]) -> Pack
     }
 }
 
-// Has it happen. The result is the law that breaks.
-fn pass(rt: &impl Abort, alloc: Global, lane: &mut Lane, passing: Passing) -> Option<PacketLaw> {
-    match passing {
-        Passing::Sent(sequence) => lane.send(&packet(rt, alloc, sequence, b"one")),
-        Passing::Received(sequence) => lane.receive(&packet(rt, alloc, sequence, b"one")),
-        Passing::ReceivedForged(sequence) => lane.receive(&packet(rt, alloc, sequence, b"two")),
-        Passing::Acknowledged(sequence) => lane.acknowledge(&packet(rt, alloc, sequence, b"one")),
-        Passing::AcknowledgedForged(sequence) => {
-            lane.acknowledge(&packet(rt, alloc, sequence, b"two"))
-        }
-        Passing::TimedOut(sequence) => lane.time_out(&packet(rt, alloc, sequence, b"one")),
+// How the packet passes, its sequence, and its payload.
+fn passing_of(happening: Happening) -> (Passing, u64, &'static [u8]) {
+    match happening {
+        Happening::Sent(sequence) => (Passing::Sent, sequence, b"one"),
+        Happening::Received(sequence) => (Passing::Received, sequence, b"one"),
+        Happening::ReceivedForged(sequence) => (Passing::Received, sequence, b"two"),
+        Happening::Acknowledged(sequence) => (Passing::Acknowledged, sequence, b"one"),
+        Happening::AcknowledgedForged(sequence) => (Passing::Acknowledged, sequence, b"two"),
+        Happening::TimedOut(sequence) => (Passing::TimedOut, sequence, b"one"),
     }
-    .expect(rt, "memory")
+}
+
+// Has it happen. The result is the law that breaks.
+fn pass(
+    rt: &impl Abort,
+    alloc: Global,
+    lane: &mut Lane,
+    happening: Happening,
+) -> Option<PacketLaw> {
+    let (passing, sequence, payload) = passing_of(happening);
+    lane.pass(passing, &packet(rt, alloc, sequence, payload))
+        .expect(rt, "memory")
 }
 
 // The law that breaks by the last of what happens on a channel; nothing else breaks one.
@@ -53,22 +62,22 @@ fn broken_by(
     rt: &impl Abort,
     alloc: Global,
     ordered: bool,
-    passings: &[Passing],
+    happenings: &[Happening],
 ) -> Option<PacketLaw> {
     let mut lane = Lane::new(alloc, ordered);
     let mut broken = None;
-    for passing in passings {
-        assert!(rt; broken.is_none(), "a law broke before {passing:?}");
-        broken = pass(rt, alloc, &mut lane, *passing);
+    for happening in happenings {
+        assert!(rt; broken.is_none(), "a law broke before {happening:?}");
+        broken = pass(rt, alloc, &mut lane, *happening);
     }
     broken
 }
 
 #[test]
 fn each_law_of_packets_is_seen_broken(rt: HostRuntime) {
-    use Passing::{Acknowledged, AcknowledgedForged, Received, ReceivedForged, Sent, TimedOut};
+    use Happening::{Acknowledged, AcknowledgedForged, Received, ReceivedForged, Sent, TimedOut};
     let alloc = rt.alloc();
-    for (passings, law) in [
+    for (happenings, law) in [
         ([Sent(1), Sent(2), Sent(2)], PacketLaw::SentInTurn),
         ([Sent(1), Sent(2), Received(3)], PacketLaw::ReceivedWasSent),
         (
@@ -90,7 +99,7 @@ fn each_law_of_packets_is_seen_broken(rt: HostRuntime) {
         ([Sent(1), TimedOut(1), TimedOut(1)], PacketLaw::SettledOnce),
     ] {
         for ordered in [false, true] {
-            let broken = broken_by(&rt, alloc, ordered, passings.as_slice());
+            let broken = broken_by(&rt, alloc, ordered, happenings.as_slice());
             assert_eq!(rt; broken, Some(law));
         }
     }
@@ -98,7 +107,7 @@ fn each_law_of_packets_is_seen_broken(rt: HostRuntime) {
 
 #[test]
 fn an_ordered_channel_keeps_its_order(rt: HostRuntime) {
-    use Passing::{Acknowledged, Received, Sent};
+    use Happening::{Acknowledged, Received, Sent};
     let alloc = rt.alloc();
     let received = [Sent(1), Sent(2), Received(2)];
     let law = Some(PacketLaw::ReceivedInOrder);

@@ -4,7 +4,9 @@ use crate::counts::AnswerCounts;
 use crate::flights::{Flight, Flights};
 use crate::known::Known;
 use ibc_ids::{ChannelId, Refusal};
-use ibc_law_checks::{EndNotes, Finding, LawChecks, acknowledged_by, received_by, timed_out_by};
+use ibc_law_checks::{
+    Finding, LawChecks, acknowledged_by, place_of_end, received_by, timed_out_by,
+};
 use ibc_ledger::StampedEntry;
 use ibc_machine::{Effect, Entry, Event, Genesis, Reply};
 use ibc_wire::{Message, Packet};
@@ -41,17 +43,6 @@ fn last_in(history: &[StampedEntry]) -> Option<&Entry> {
         [.., last] => Some(&last.entry),
         [] => None,
     }
-}
-
-// The place of an end among those that are noted.
-fn place_of_end(ends: &[EndNotes], chain: u8, port: &str, channel: &ChannelId) -> Option<usize> {
-    for place in 0..ends.len() {
-        let end = &ends[place];
-        if end.chain == chain && end.channel == *channel && end.port.as_str() == port {
-            return Some(place);
-        }
-    }
-    None
 }
 
 impl RunNotes {

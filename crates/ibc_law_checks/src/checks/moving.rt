@@ -1,185 +1,207 @@
-//! Packets are sent, received, acknowledged and timed out.
+//! Which packet an entry moves, and over which lane.
 
-ghost use Rattle.std.specs.Prelude.{◌≡◌};
+ghost use Rattle.std.specs.Prelude.{◌≡◌, IfOk, Some, None};
+ghost use Rattle.ibc_law_checks.specs.Arrivals.{arrives_in_time};
+ghost use Rattle.ibc_law_checks.specs.EndPlaces.{place_of_end};
+ghost use Rattle.ibc_law_checks.specs.Movements.{acknowledged_at, acknowledged_on, moved_by, received_from, received_on, sent_at, sent_over, sent_with, timed_out_on};
 
-use super::told::{if_broken, of_packet};
 use crate::ends::place_of_end;
-use crate::{BrokenLaw, Finding, LawChecks, PacketLaw, is_in_time};
+use crate::{BrokenLaw, LawChecks, Movement, PacketLaw, Passing, is_in_time};
 use ibc_ids::{ChannelId, Refusal};
 use ibc_machine::Effect;
 use ibc_wire::{Message, Packet};
 use ibc_world_core::World;
+use std::alloc::AllocError;
 
-// The acknowledgement that a message brings.
-fn ack_of(message: &Message) -> &[u8] {
-    match message {
-        Message::AckPacket(message) => message.ack.as_slice(),
-        _ => &[],
+// A law of packets is broken, and nothing moved.
+fn breaks(law: PacketLaw) -> Movement
+    ensures { result ≡ Movement.Breaks (BrokenLaw.OfPackets law) None }
+{
+    Movement::Breaks {
+        law: BrokenLaw::OfPackets(law),
+        end: None,
+    }
+}
+
+// A packet goes so over a lane. Error: no memory.
+fn passes(lane: usize, passing: Passing, packet: &Packet) -> Result<Movement, AllocError>
+    ensures { IfOk result (λ moved. moved ≡ Movement.Passes lane passing packet.now) }
+{
+    let packet = packet.clone()?;
+    Ok(Movement::Passes {
+        lane,
+        passing,
+        packet,
+    })
+}
+
+// What a packet moves that came from this end.
+fn received_from(packet: &Packet, sender: Option<usize>) -> Result<Movement, AllocError>
+    ensures { IfOk result (λ moved. moved ≡ received_from packet.now sender) }
+{
+    match sender {
+        Some(lane) => passes(lane, Passing::Received, packet),
+        None => Ok(breaks(PacketLaw::ReceivedWasSent)),
     }
 }
 
 impl LawChecks {
-    /// Notes that a packet was sent.
-    pub(super) fn note_sent(
-        &mut self,
+    /// What an accepted message moves. Refused: `NoMemory`.
+    pub(super) fn moved_by(
+        &self,
+        world: &World,
+        chain: u8,
+        message: &Message,
+        effect: &Effect,
+    ) -> Result<Movement, Refusal>
+        ensures { IfOk result (λ moved. moved ≡ moved_by world.now self.now.ends.items self.now.clocks.items chain message.now effect.now) }
+    {
+        match message {
+            Message::Transfer(message) => {
+                self.sent_with(world, chain, "transfer", &message.channel, effect)
+            }
+            Message::TransferMany(message) => {
+                self.sent_with(world, chain, "transfer", &message.channel, effect)
+            }
+            Message::SendNote(message) => {
+                self.sent_with(world, chain, "note", &message.channel, effect)
+            }
+            Message::RecvPacket(message) => self.received_on(world, chain, &message.packet),
+            Message::AckPacket(message) => {
+                self.acknowledged_on(world, chain, &message.packet, message.ack.as_slice())
+            }
+            Message::Timeout(message) => self.timed_out_on(chain, &message.packet),
+            Message::TimeoutOnClose(message) => self.timed_out_on(chain, &message.packet),
+            _ => Ok(Movement::Nothing),
+        }
+    }
+
+    // What a message moves that sends over a channel.
+    fn sent_with(
+        &self,
         world: &World,
         chain: u8,
         port: &str,
         channel: &ChannelId,
         effect: &Effect,
-    ) -> Result<Option<Finding>, Refusal>
-        ensures same { self.new.ends ≡ self.old.ends }
+    ) -> Result<Movement, Refusal>
+        ensures { IfOk result (λ moved. moved ≡ sent_with world.now self.now.ends.items chain port.now channel.now effect.now) }
     {
-        let (Effect::Sent(sequence), Some(ledger)) = (effect, world.ledger(chain)) else {
-            return Ok(None);
-        };
-        let Some(place) = place_of_end(self.ends.as_slice(), chain, port, channel) else {
-            return self.of_unknown_end(chain, channel);
-        };
-        self.touch(world, place)?;
-        let sent = match self.ends.get(place) {
-            Some(end) => ledger.packet(&end.port, channel, *sequence)?,
-            None => None,
-        };
-        match sent {
-            Some(packet) => self.send_over(place, chain, packet),
-            None => self.of_unknown_end(chain, channel),
+        match effect {
+            Effect::Sent(sequence) => self.sent_over(world, chain, port, channel, *sequence),
+            _ => Ok(Movement::Nothing),
         }
     }
 
-    // Notes that a packet was sent over an end.
-    fn send_over(
-        &mut self,
-        place: usize,
-        chain: u8,
-        packet: Packet,
-    ) -> Result<Option<Finding>, Refusal>
-        ensures same { self.new.ends ≡ self.old.ends }
-    {
-        let broken = match self.lanes.as_mut_slice().get_mut(place) {
-            Some(lane) => lane.send(&packet),
-            None => Ok(None),
-        };
-        let told = match broken {
-            Ok(broken) => if_broken(self.alloc, broken, chain, &packet),
-            Err(error) => Err(Refusal::from(error)),
-        };
-        drop(packet);
-        told
-    }
-
-    /// Notes that a packet was received.
-    pub(super) fn note_received(
-        &mut self,
+    // What the packet of a sequence moves that was sent over a channel.
+    fn sent_over(
+        &self,
         world: &World,
         chain: u8,
-        packet: &Packet,
-    ) -> Result<Option<Finding>, Refusal>
-        ensures same { self.new.ends ≡ self.old.ends }
+        port: &str,
+        channel: &ChannelId,
+        sequence: u64,
+    ) -> Result<Movement, Refusal>
+        ensures { IfOk result (λ moved. moved ≡ sent_over world.now self.now.ends.items chain port.now channel.now sequence) }
+    {
+        match place_of_end(self.ends.as_slice(), chain, port, channel) {
+            Some(lane) => self.sent_at(world, lane, sequence),
+            None => Ok(breaks(PacketLaw::SentInTurn)),
+        }
+    }
+
+    // What the packet of a sequence moves that the end at a place sent.
+    fn sent_at(&self, world: &World, lane: usize, sequence: u64) -> Result<Movement, Refusal>
+        ensures { IfOk result (λ moved. moved ≡ sent_at world.now self.now.ends.items sequence lane) }
+    {
+        match self.packet_at(world, lane, sequence)? {
+            Some(packet) => Ok(Movement::Passes {
+                lane,
+                passing: Passing::Sent,
+                packet,
+            }),
+            None => Ok(Movement::Breaks {
+                law: BrokenLaw::OfPackets(PacketLaw::SentInTurn),
+                end: Some(lane),
+            }),
+        }
+    }
+
+    // What a packet moves that a chain has received.
+    fn received_on(&self, world: &World, chain: u8, packet: &Packet) -> Result<Movement, Refusal>
+        ensures { IfOk result (λ moved. moved ≡ received_on world.now self.now.ends.items self.now.clocks.items chain packet.now) }
     {
         if !self.is_in_time(chain, packet) {
-            return of_packet(self.alloc, BrokenLaw::ReceivedInTime, chain, packet);
+            return Ok(Movement::Breaks {
+                law: BrokenLaw::ReceivedInTime,
+                end: None,
+            });
         }
-        let port = packet.destination_port.as_str();
-        let own = place_of_end(
-            self.ends.as_slice(),
-            chain,
-            port,
-            &packet.destination_channel,
-        );
-        let peer = match own {
-            Some(own) => self.peer_of(world, own)?,
-            None => None,
-        };
-        let Some(peer) = peer else {
-            let law = BrokenLaw::OfPackets(PacketLaw::ReceivedWasSent);
-            return of_packet(self.alloc, law, chain, packet);
-        };
-        self.touch(world, peer)?;
-        match self.lanes.as_mut_slice().get_mut(peer) {
-            Some(lane) => if_broken(self.alloc, lane.receive(packet)?, chain, packet),
-            None => Ok(None),
-        }
+        let sender = self.sender_of(world, chain, packet)?;
+        Ok(received_from(packet, sender)?)
     }
 
-    /// Notes that a packet was acknowledged.
-    pub(super) fn note_acknowledged(
-        &mut self,
+    // What a packet moves that a chain sent, and that was acknowledged so.
+    fn acknowledged_on(
+        &self,
         world: &World,
         chain: u8,
         packet: &Packet,
-        message: &Message,
-    ) -> Result<Option<Finding>, Refusal>
-        ensures same { self.new.ends ≡ self.old.ends }
+        ack: &[u8],
+    ) -> Result<Movement, Refusal>
+        ensures { IfOk result (λ moved. moved ≡ acknowledged_on world.now self.now.ends.items chain packet.now ack.now) }
     {
-        let port = packet.source_port.as_str();
-        let Some(own) = place_of_end(self.ends.as_slice(), chain, port, &packet.source_channel)
-        else {
-            return self.of_unknown_end(chain, &packet.source_channel);
-        };
-        self.touch(world, own)?;
-        if !self.is_written(world, own, packet.sequence, ack_of(message))? {
-            return of_packet(self.alloc, BrokenLaw::TakenAsWritten, chain, packet);
-        }
-        match self.lanes.as_mut_slice().get_mut(own) {
-            Some(lane) => if_broken(self.alloc, lane.acknowledge(packet)?, chain, packet),
-            None => Ok(None),
+        match self.source_of(chain, packet) {
+            Some(lane) => self.acknowledged_at(world, lane, packet, ack),
+            None => Ok(breaks(PacketLaw::SettledWasSent)),
         }
     }
 
-    /// Notes that a packet timed out.
-    pub(super) fn note_timed_out(
-        &mut self,
+    // What a packet moves that was acknowledged so at the end at a place.
+    fn acknowledged_at(
+        &self,
         world: &World,
-        chain: u8,
+        lane: usize,
         packet: &Packet,
-    ) -> Result<Option<Finding>, Refusal>
-        ensures same { self.new.ends ≡ self.old.ends }
+        ack: &[u8],
+    ) -> Result<Movement, Refusal>
+        ensures { IfOk result (λ moved. moved ≡ acknowledged_at world.now self.now.ends.items packet.now ack.now lane) }
+    {
+        if self.is_written(world, lane, packet.sequence, ack)? {
+            Ok(passes(lane, Passing::Acknowledged, packet)?)
+        } else {
+            Ok(Movement::Breaks {
+                law: BrokenLaw::TakenAsWritten,
+                end: Some(lane),
+            })
+        }
+    }
+
+    // What a packet moves that a chain sent, and that timed out.
+    fn timed_out_on(&self, chain: u8, packet: &Packet) -> Result<Movement, Refusal>
+        ensures { IfOk result (λ moved. moved ≡ timed_out_on self.now.ends.items chain packet.now) }
+    {
+        match self.source_of(chain, packet) {
+            Some(lane) => Ok(passes(lane, Passing::TimedOut, packet)?),
+            None => Ok(breaks(PacketLaw::SettledWasSent)),
+        }
+    }
+
+    // The place of the end that is a packet's source on a chain, or none.
+    fn source_of(&self, chain: u8, packet: &Packet) -> Option<usize>
+        ensures { result ≡ place_of_end self.now.ends.items chain packet.now.source_port packet.now.source_channel }
     {
         let port = packet.source_port.as_str();
-        let Some(own) = place_of_end(self.ends.as_slice(), chain, port, &packet.source_channel)
-        else {
-            return self.of_unknown_end(chain, &packet.source_channel);
-        };
-        self.touch(world, own)?;
-        match self.lanes.as_mut_slice().get_mut(own) {
-            Some(lane) => if_broken(self.alloc, lane.time_out(packet)?, chain, packet),
-            None => Ok(None),
-        }
+        place_of_end(self.ends.as_slice(), chain, port, &packet.source_channel)
     }
 
     // Whether a packet that a chain has received is in time.
-    fn is_in_time(&self, chain: u8, packet: &Packet) -> bool {
+    fn is_in_time(&self, chain: u8, packet: &Packet) -> bool
+        ensures { result ≡ arrives_in_time self.now.clocks.items chain packet.now }
+    {
         match self.clocks.get(usize::from(chain)) {
             Some(clock) => is_in_time(packet, clock.height.saturating_add(1), clock.time),
             None => true,
-        }
-    }
-
-    // Whether the peer of an end wrote this acknowledgement.
-    fn is_written(
-        &self,
-        world: &World,
-        own: usize,
-        sequence: u64,
-        ack: &[u8],
-    ) -> Result<bool, Refusal> {
-        let Some(peer) = self.peer_of(world, own)? else {
-            return Ok(false);
-        };
-        let Some(end) = self.ends.get(peer) else {
-            return Ok(false);
-        };
-        let Some(ledger) = world.ledger(end.chain) else {
-            return Ok(false);
-        };
-        match ledger.ack(&end.port, &end.channel, sequence)? {
-            Some(written) => {
-                let is_same = written.as_slice() == ack;
-                drop(written);
-                Ok(is_same)
-            }
-            None => Ok(false),
         }
     }
 }
