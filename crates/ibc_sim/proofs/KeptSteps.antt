@@ -1,6 +1,6 @@
 -- No step is kept that wasn't, along several changes.
-use Rattle.std.proofs.Common.{◌≡◌, ℕ, zero, suc, Bool, true, false, refl, ap, ◌∙◌, List, [], ◌∷◌, length, set, Some, slice_get, subst}
-use Rattle.ibc_sim.specs.Shrinking.{KeepsNoMore}
+use Rattle.std.proofs.Common.{◌≡◌, ℕ, zero, suc, Bool, true, false, refl, ap, ◌∙◌, sym, List, [], ◌∷◌, length, set, Some, slice_get, subst, inl, inr}
+use Rattle.ibc_sim.specs.Shrinking.{KeepsNoMore, StillDo}
 
 pub keeps_all : (kept : List Bool) → KeepsNoMore kept kept
 keeps_all kept = record { as_many = refl; fewer = λ k h. h }
@@ -32,3 +32,13 @@ keeps-set kept place = record { as_many = length-left_out kept place; fewer = le
 -- one step more is left out
 pub keeps_without : (a b : List Bool) (place : ℕ) → KeepsNoMore a b → KeepsNoMore a (set b place false)
 keeps_without a b place kept = keeps_along a b (set b place false) kept (keeps-set b place)
+
+-- ---- what they do
+
+pub still_same : (Does : List Bool → Type 0) (kept : List Bool) → StillDo Does kept kept
+still_same Does kept = inl refl
+
+pub still_along : (Does : List Bool → Type 0) (a b c : List Bool) → StillDo Does a b → StillDo Does b c → StillDo Does a c
+still_along Does a b c first (inr does) = inr does
+still_along Does a b c (inl e) (inl f) = inl (f ∙ e)
+still_along Does a b c (inr does) (inl f) = inr (subst Does (sym f) does)

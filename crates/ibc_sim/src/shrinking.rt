@@ -1,7 +1,7 @@
 //! A script that breaks a law is made shorter, while it still does.
 
-ghost use Rattle.std.specs.Prelude.{◌≡◌, ◌<◌, IfOk, vec_len};
-ghost use Rattle.ibc_sim.specs.Shrinking.{KeepsNoMore};
+ghost use Rattle.std.specs.Prelude.{◌≡◌, ◌<◌, IfOk, IsTrue, List, Bool, vec_len, ⊤};
+ghost use Rattle.ibc_sim.specs.Shrinking.{KeepsNoMore, StillDo};
 
 use crate::running::replay;
 use crate::script_text::script_text;
@@ -14,8 +14,12 @@ const MOST_REPLAYED: usize = 200_000;
 
 /// What some steps do.
 pub trait Breaks {
-    /// Whether those that are kept still do it.
-    fn still_breaks(&self, kept: &[bool]) -> Result<bool, Fault>;
+    // Those that are kept do it.
+    ghost does: { Self → List Bool → Type 0 } = { λ _ _. ⊤ };
+
+    /// Whether those that are kept still do it: where the answer is yes, they do.
+    fn still_breaks(&self, kept: &[bool]) -> Result<bool, Fault>
+        ensures { IfOk result (λ still. IsTrue still → does self.now kept.now) };
 }
 
 /// A script that breaks a law: its beginning, its steps, and the law.
@@ -58,11 +62,12 @@ pub fn all_kept(alloc: Global, count: usize) -> Result<Vec<bool>, AllocError>
     Ok(kept)
 }
 
-/// Which of the kept steps suffice: none is added. Halves are left out first, then parts of half their size, and so on. Fault:
-/// `NoMemory`.
-#[tactic(auto, using(crate::proofs::KeptSteps::keeps_all, crate::proofs::KeptSteps::keeps_along))]
+/// Which of the kept steps suffice: none is added, and they still do what is asked, or are all those that were given. Halves are
+/// left out first, then parts of half their size, and so on. Fault: `NoMemory`.
+#[tactic(auto, using(crate::proofs::KeptSteps::keeps_all, crate::proofs::KeptSteps::keeps_along, crate::proofs::KeptSteps::still_same, crate::proofs::KeptSteps::still_along))]
 pub fn shrunk<B: Breaks>(alloc: Global, breaks: &B, kept: Vec<bool>) -> Result<Vec<bool>, Fault>
-    ensures { IfOk result (λ fewer. KeepsNoMore kept.items fewer.items) }
+    ensures fewer { IfOk result (λ fewer. KeepsNoMore kept.items fewer.items) }
+    ensures does { IfOk result (λ fewer. StillDo (B.does breaks.now) kept.items fewer.items) }
 {
     let mut kept = kept;
     let mut size = kept.len();
@@ -78,7 +83,7 @@ pub fn shrunk<B: Breaks>(alloc: Global, breaks: &B, kept: Vec<bool>) -> Result<V
 }
 
 // Leaves out parts of so many steps each, where the rest still breaks it. The result is how many steps may still be replayed.
-#[tactic(auto, using(crate::proofs::KeptSteps::keeps_all, crate::proofs::KeptSteps::keeps_along))]
+#[tactic(auto, using(crate::proofs::KeptSteps::keeps_all, crate::proofs::KeptSteps::keeps_along, crate::proofs::KeptSteps::still_same, crate::proofs::KeptSteps::still_along))]
 fn without_parts<B: Breaks>(
     alloc: Global,
     breaks: &B,
@@ -87,7 +92,8 @@ fn without_parts<B: Breaks>(
     left: usize,
 ) -> Result<usize, Fault>
     requires { 0 < size }
-    ensures { KeepsNoMore kept.old.items kept.new.items }
+    ensures fewer { KeepsNoMore kept.old.items kept.new.items }
+    ensures does { StillDo (B.does breaks.now) kept.old.items kept.new.items }
 {
     let mut left = left;
     let parts = kept.len() / size;
@@ -99,7 +105,7 @@ fn without_parts<B: Breaks>(
 }
 
 // Leaves out a part, where the rest still breaks it. The result is how many steps may still be replayed.
-#[tactic(auto, using(crate::proofs::KeptSteps::keeps_all))]
+#[tactic(auto, using(crate::proofs::KeptSteps::keeps_all, crate::proofs::KeptSteps::still_same))]
 fn without_part<B: Breaks>(
     alloc: Global,
     breaks: &B,
@@ -107,19 +113,51 @@ fn without_part<B: Breaks>(
     part: StepRange,
     left: usize,
 ) -> Result<usize, Fault>
-    ensures { KeepsNoMore kept.old.items kept.new.items }
+    ensures fewer { KeepsNoMore kept.old.items kept.new.items }
+    ensures does { StillDo (B.does breaks.now) kept.old.items kept.new.items }
 {
     if left == 0 || !has_kept(kept.as_slice(), part) {
         return Ok(left);
     }
-    let fewer = without(alloc, kept.as_slice(), part)?;
-    let replayed = kept_count(fewer.as_slice());
-    if !breaks.still_breaks(fewer.as_slice())? {
-        drop(fewer);
-        return Ok(left.saturating_sub(replayed));
-    }
-    *kept = fewer;
+    let replayed = kept_count(kept.as_slice());
+    keep_rest(alloc, breaks, kept, part)?;
     Ok(left.saturating_sub(replayed))
+}
+
+// Keeps the steps without those of a part, where they still do it.
+#[tactic(auto, using(crate::proofs::KeptSteps::keeps_all, crate::proofs::KeptSteps::still_same))]
+fn keep_rest<B: Breaks>(
+    alloc: Global,
+    breaks: &B,
+    kept: &mut Vec<bool>,
+    part: StepRange,
+) -> Result<(), Fault>
+    ensures fewer { KeepsNoMore kept.old.items kept.new.items }
+    ensures does { StillDo (B.does breaks.now) kept.old.items kept.new.items }
+{
+    let after = tried_without(alloc, breaks, kept.as_slice(), part)?;
+    *kept = after;
+    Ok(())
+}
+
+// The kept steps without those of a part, where they still do it, and else all of them.
+fn tried_without<B: Breaks>(
+    alloc: Global,
+    breaks: &B,
+    kept: &[bool],
+    part: StepRange,
+) -> Result<Vec<bool>, Fault>
+    ensures fewer { IfOk result (λ after. KeepsNoMore kept.now after.items) }
+    ensures does { IfOk result (λ after. StillDo (B.does breaks.now) kept.now after.items) }
+{
+    let fewer = without(alloc, kept, part)?;
+    let still = breaks.still_breaks(fewer.as_slice())?;
+    if still {
+        return Ok(fewer);
+    }
+    drop(fewer);
+    let same = copy_of(alloc, kept)?;
+    Ok(same)
 }
 
 // Whether one of a part's steps is kept.
