@@ -6,7 +6,7 @@ _ibclab() {
     case ${COMP_WORDS[1]} in
         explain) options="--json --race $options" ;;
         draw) options="--html --mermaid $options" ;;
-        sim) options="--seed --steps --chains --window --out --replay $options" ;;
+        sim) options="--seed --steps --chains --window --race --out --replay $options" ;;
     esac
     if [[ $word == -* ]]; then
         mapfile -t COMPREPLY < <(compgen -W "$options" -- "$word")

@@ -40,6 +40,8 @@ pub enum BrokenLaw {
     Conserved,
     /// The supply of a base denomination at home stays what the genesis gave.
     SupplyStays,
+    /// What is done at the same time is one run.
+    OneRun,
 }
 
 /// A law that is broken, on which chain that was seen, and what broke it.
@@ -79,6 +81,7 @@ impl BrokenLaw {
             BrokenLaw::NeverPoor => "an escrow has what a refund takes",
             BrokenLaw::Conserved => "an escrow holds just the vouchers and what is under way",
             BrokenLaw::SupplyStays => "a supply at home stays",
+            BrokenLaw::OneRun => "what is done at the same time is one run",
         }
     }
 }

@@ -6,7 +6,7 @@ use ibc_law_checks::Finding;
 use ibc_script::Fault;
 use std::alloc::Global;
 
-/// A script that breaks a law: what was found, the seed of the script, and its steps up to that.
+/// A script that breaks a law: what was found, the seed of the script, its steps up to that, and whether relayers raced on it.
 #[derive(Drop)]
 pub struct FailedScript {
     alloc: Global,
@@ -14,6 +14,7 @@ pub struct FailedScript {
     head: String,
     steps: Vec<String>,
     pub finding: Finding,
+    pub is_raced: bool,
 }
 
 /// A script that still breaks its law, and how many steps it has.
@@ -31,6 +32,7 @@ impl FailedScript {
         head: String,
         steps: Vec<String>,
         finding: Finding,
+        is_raced: bool,
     ) -> FailedScript {
         FailedScript {
             alloc,
@@ -38,12 +40,27 @@ impl FailedScript {
             head,
             steps,
             finding,
+            is_raced,
         }
     }
 
     /// How many steps it has.
     pub fn step_count(&self) -> usize {
         self.steps.len()
+    }
+
+    /// The script with all of its steps. Fault: `NoMemory`.
+    pub fn whole(&self) -> Result<ShortScript, Fault> {
+        let steps = self.steps.len();
+        let kept = all_kept(self.alloc, steps)?;
+        let text = script_text(
+            self.alloc,
+            self.head.as_str(),
+            self.steps.as_slice(),
+            kept.as_slice(),
+        );
+        drop(kept);
+        Ok(ShortScript { text: text?, steps })
     }
 
     /// The script with those of its steps that suffice. Fault: `NoMemory`.

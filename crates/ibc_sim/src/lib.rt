@@ -6,9 +6,12 @@ mod counts;
 mod draws;
 mod failed_script;
 mod flights;
+mod judging;
 mod known;
 mod maker;
+mod merging;
 mod names;
+mod racing;
 mod route;
 mod run_notes;
 mod running;
@@ -18,12 +21,15 @@ mod simulation;
 mod step_text;
 #[cfg(test)]
 mod tests;
+mod weaving;
 mod writer;
 
 pub use checked::Checked;
 pub use counts::AnswerCounts;
 pub use draws::Draws;
 pub use failed_script::{FailedScript, ShortScript};
+pub use judging::{judge, race_and_judge};
+pub use racing::race;
 pub use running::replay;
 pub use shrinking::{Breaks, Broken, all_kept, shrunk};
 pub use simulation::{Simulation, SimulationRequest};

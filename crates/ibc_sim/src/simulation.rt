@@ -1,16 +1,23 @@
 //! Many random scripts, one after another.
 
+ghost use Rattle.std.specs.Prelude.{◌≤◌};
+
 use crate::checked::Checked;
 use crate::counts::AnswerCounts;
 use crate::draws::Draws;
 use crate::failed_script::FailedScript;
+use crate::judging::race_and_judge;
 use crate::maker::Maker;
 use crate::running::{begin, finding_of};
 use crate::script_text::{ScriptStart, empty_head, head, script_text};
+use crate::shrinking::all_kept;
+use crate::weaving::with_relays;
 use crate::writer::Writer;
 use ibc_law_checks::Finding;
 use ibc_script::{Fault, read_script};
 use std::alloc::Global;
+use std::sync::Wait;
+use std::thread::Threads;
 
 /// A script has at most so many steps.
 const STEPS_OF_SCRIPT: u64 = 1_000;
@@ -34,12 +41,13 @@ pub struct Simulation {
     pub counts: AnswerCounts,
 }
 
-/// A script that was run: its beginning, its steps, and what was found.
+/// A script that was run: its beginning, its steps, what was found, and whether relayers raced on it.
 #[derive(Drop)]
 struct WrittenRun {
     head: String,
     steps: Vec<String>,
     found: Option<Finding>,
+    is_raced: bool,
 }
 
 impl Simulation {
@@ -63,12 +71,50 @@ impl Simulation {
     /// Runs the next script. The result is the script, where it breaks a law. Faults: `NoMemory`; `BadScript` where a window is
     /// asked for that no chain has.
     pub fn run_next(&mut self) -> Result<Option<FailedScript>, Fault> {
+        let (seed, run) = self.next_run()?;
+        Ok(failed(self.alloc, seed, run))
+    }
+
+    /// Runs the next script, and then once more with so many relayers that work at the same time, at a `relay` behind each few
+    /// steps. The result is the script, where it breaks a law. The scripts are those of the seed, and no others; what the relayers
+    /// do depends on the threads. Faults: as of `run_next`.
+    pub fn race_next<R: Threads + Wait + Sync>(
+        &mut self,
+        rt: &R,
+        relayers: u8,
+    ) -> Result<Option<FailedScript>, Fault>
+        requires { 1 ≤ relayers × relayers ≤ 8 }
+    {
+        let (seed, run) = self.next_run()?;
+        if run.found.is_some() {
+            return Ok(failed(self.alloc, seed, run));
+        }
+        let WrittenRun {
+            head,
+            steps,
+            found,
+            ..
+        } = run;
+        drop(found);
+        let woven = with_relays(self.alloc, steps.as_slice(), self.request.chains, seed);
+        drop(steps);
+        match woven {
+            Ok(steps) => raced(rt, self.alloc, relayers, seed, head, steps),
+            Err(error) => {
+                drop(head);
+                Err(Fault::from(error))
+            }
+        }
+    }
+
+    // Runs the next script, and counts it. The result is its seed, and the run.
+    fn next_run(&mut self) -> Result<(u64, WrittenRun), Fault> {
         let seed = self.request.seed.wrapping_add(self.scripts);
         let left = self.request.steps.saturating_sub(self.steps);
         let run = self.run_script(seed, left.min(STEPS_OF_SCRIPT))?;
         self.scripts = self.scripts.saturating_add(1);
         self.steps = self.steps.saturating_add(run.steps.len() as u64);
-        Ok(failed(self.alloc, seed, run))
+        Ok((seed, run))
     }
 
     // Runs a random script of at most so many steps.
@@ -79,7 +125,12 @@ impl Simulation {
         let maker_seed = draws.number();
         drop(draws);
         match self.run_steps(head.as_str(), beginning.chains, maker_seed, most) {
-            Ok((steps, found)) => Ok(WrittenRun { head, steps, found }),
+            Ok((steps, found)) => Ok(WrittenRun {
+                head,
+                steps,
+                found,
+                is_raced: false,
+            }),
             Err(fault) => {
                 drop(head);
                 Err(fault)
@@ -146,11 +197,65 @@ impl Simulation {
     }
 }
 
+// Has relayers race on a script with this beginning and these steps. The result is the script, where something is found.
+fn raced<R: Threads + Wait + Sync>(
+    rt: &R,
+    alloc: Global,
+    relayers: u8,
+    seed: u64,
+    head: String,
+    steps: Vec<String>,
+) -> Result<Option<FailedScript>, Fault>
+    requires { 1 ≤ relayers × relayers ≤ 8 }
+{
+    let found = race_steps(rt, alloc, relayers, head.as_str(), steps.as_slice());
+    match found {
+        Ok(found) => {
+            let run = WrittenRun {
+                head,
+                steps,
+                found,
+                is_raced: true,
+            };
+            Ok(failed(alloc, seed, run))
+        }
+        Err(fault) => {
+            drop(head);
+            drop(steps);
+            Err(fault)
+        }
+    }
+}
+
+// What is found where relayers race on a script with this beginning and these steps.
+fn race_steps<R: Threads + Wait + Sync>(
+    rt: &R,
+    alloc: Global,
+    relayers: u8,
+    head: &str,
+    steps: &[String],
+) -> Result<Option<Finding>, Fault>
+    requires { 1 ≤ relayers × relayers ≤ 8 }
+{
+    let kept = all_kept(alloc, steps.len())?;
+    let text = script_text(alloc, head, steps, kept.as_slice());
+    drop(kept);
+    let text = text?;
+    let found = race_and_judge(rt, alloc, relayers, text.as_bytes());
+    drop(text);
+    found
+}
+
 // A script that was run, where something was found.
 fn failed(alloc: Global, seed: u64, run: WrittenRun) -> Option<FailedScript> {
-    let WrittenRun { head, steps, found } = run;
+    let WrittenRun {
+        head,
+        steps,
+        found,
+        is_raced,
+    } = run;
     match found {
-        Some(finding) => Some(FailedScript::new(alloc, seed, head, steps, finding)),
+        Some(finding) => Some(FailedScript::new(alloc, seed, head, steps, finding, is_raced)),
         None => {
             drop(head);
             drop(steps);
