@@ -2,8 +2,10 @@
 import re
 
 REFUSED, MISSED, BAD, UNSURE = "refused", "NOT REFUSED", "BAD", "NOT TRIED"
-# What a proof file lacks that names what is not there.
-NAMES = r"has no field|is not in scope|has no `|was not admitted|is no name"
+# What a proof file lacks that names what is not there; and where that is a goal, so that its answer is not tried.
+NAMES, GONE = r"has no field|is not in scope|has no `|was not admitted|is no name", r"\.Goals` has no `"
+# What is said of an open goal that no answer can close.
+FALSE = "; the facts known there"
 STATE = re.compile(r"fn (\S+): (.*)")
 CALLED = re.compile(r"it (?:calls|passes the block) ([^;]*?), which (?:is|are) not proved")
 GOAL = re.compile(r"note: (?:\./)?(\S+?):(\d+):\d+: it is not proved that")
@@ -42,6 +44,13 @@ class Said:
         return next((it for it in self.lines if re.search(r"\berror\b", it)), self.lines[-1])[:200]
 
 
+def shown(goals, lost):
+    """Which of these open goals and errors show something: where a goal's answer lost its name, an open goal may be that one, unless it is shown false."""
+    if not any(re.search(GONE, it) for it in lost):
+        return goals
+    return [it for it in goals if FALSE in it or ERROR.match(it)]
+
+
 def is_own(called, parts):
     """Whether this path below the crate, of a function or of a folder with its proof, is that of the function or of a closure in it."""
     own, bare = called.split("::")[1:], [it.lstrip("+") for it in parts if it != "fn"]
@@ -71,11 +80,12 @@ class Found:
         if len(of_itself) == 1 and not any("could not tell" in it for _, it in self.states):
             if all(it == "proved" for _, it in self.states):
                 return MISSED, f"{called} is proved with this edit"
-            if self.goals:
-                return REFUSED, self.goals[0][:200] + " (and its proof names what is gone)" * bool(self.lost)
+            found = shown(self.goals, self.lost)
+            if found:
+                return REFUSED, found[0][:200] + " (and its proof names what is gone)" * bool(self.lost)
             # (beside a function that it calls and that is not proved, not all of its goals are tried)
             if is_last or self.lost and not waits:
-                return BAD, f"no goal of {called} fails, but {(self.lost or of_itself)[0][:200]}"
+                return BAD, f"no goal of {called} is shown to fail, but {(self.lost or of_itself)[0][:200]}"
         return (UNSURE, f"the check says nothing certain of {called}") if is_last else None
 
 
@@ -89,7 +99,7 @@ def judged_alone(edit, said):
         return UNSURE, f"the check ended early (status {said.status}): {said.lines[-1][:160]}"
     goals = [it for it in said.lines if GOAL.match(it)] + [f"{name}: {it}" for name, states in said.states.items() for it in states if "did not prove" in it]
     errors = [it for it in said.lines if ERROR.match(it) and ERROR.match(it)[1].startswith("proofs/")]
-    goals += [it for it in errors if not re.search(NAMES, it)]
+    goals = shown(goals + [it for it in errors if not re.search(NAMES, it)], errors)
     if goals:
         return REFUSED, goals[0][:200]
-    return (BAD, f"only a name fails: {errors[0][:200]}") if errors else (UNSURE, f"the check names no goal: {said.lines[-1][:160]}")
+    return (BAD, f"only a name is seen to fail: {errors[0][:200]}") if errors else (UNSURE, f"the check names no goal: {said.lines[-1][:160]}")
