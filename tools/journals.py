@@ -28,6 +28,17 @@ def remove_files(path):
             os.remove(path + ending)
 
 
+def journal_of(path, genesis, form, more=""):
+    """Writes the tables of a journal of this format by sqlite3, and further statements."""
+    file = sqlite3.connect(path)
+    file.executescript(TABLES)
+    with open(genesis, "rb") as text:
+        file.execute("INSERT INTO meta VALUES (?, ?)", (form, text.read()))
+    file.executescript(more)
+    file.commit()
+    file.close()
+
+
 def change_file(path, text, values=()):
     """Changes a journal by sqlite3."""
     file = sqlite3.connect(path)
