@@ -2,6 +2,7 @@
 import os
 import shutil
 import sqlite3
+import subprocess
 
 TABLES = """CREATE TABLE meta(format INTEGER PRIMARY KEY, genesis BLOB NOT NULL) STRICT;
 CREATE TABLE entries(place INTEGER PRIMARY KEY, chain INTEGER NOT NULL, kind INTEGER NOT NULL, log_place INTEGER NOT NULL, event BLOB NOT NULL, answer BLOB NOT NULL, digest BLOB NOT NULL) STRICT;
@@ -37,6 +38,19 @@ def journal_of(path, genesis, form, more=""):
     file.executescript(more)
     file.commit()
     file.close()
+
+
+def write(path, content):
+    with open(path, "wb") as file:
+        file.write(content)
+
+
+def mounted(folder, name, words):
+    """A small disk in memory, or none where it can't be mounted."""
+    disk = os.path.join(folder, name)
+    os.mkdir(disk)
+    ended = subprocess.run(["mount", "-t", "tmpfs", "-o", words, "tmpfs", disk], capture_output=True)
+    return disk if ended.returncode == 0 else None
 
 
 def change_file(path, text, values=()):
