@@ -12,6 +12,8 @@
 set -u
 cd "$(dirname "$0")"
 top=$PWD
+# Parts that go on side by side copy the tools: nothing is written among these.
+export PYTHONDONTWRITEBYTECODE=1
 
 parts=(
     "tools/kit_commands"
@@ -24,16 +26,17 @@ parts=(
     "tools/check_schema"
     "tools/test_trust"
     "tools/instructions --selftest"
+    "tools/linked --selftest"
     "tools/check_journal_views"
+    "tools/library_sums --check"
     "rt ci"
     "tools/trust LOG"
-    "tools/try_edits"
+    "tools/linked"
+    "tools/try_edits --said LOG"
     "tools/check_statuses"
     "tools/check_cases"
     "tools/check_lab"
     "tools/check_outputs"
-    "tools/build_library"
-    "tools/trust"
     "tools/third_party"
     "tools/instructions"
     "tools/refuse_growths"
@@ -44,15 +47,12 @@ parts=(
     "tools/wrong_bytes --count 100000"
     "tools/test_try_edits"
     "tools/test_commands"
+    "tools/build_library --kept"
 )
-# LOG is what `rt ci` said.
-# What goes on beside `rt ci` and the parts behind it, one after another, with the time that these leave, in a copy of the repository: `rt lib` and
-# `rt check` take nothing of what `rt ci` proved. What they make and say is kept, and taken by the parts of the same names. The first part that
-# needs it waits for it.
-beside=("tools/static_library" "tools/trust")
-waits="tools/build_library"
+# LOG is what `rt ci` said. `rt ci` has all processors. The parts before it go on side by side, and so do those behind it: $PARTS at a time, or as many
+# as there are processors. What each says is printed in the order of the list.
 # What these parts need isn't part of the gate's surroundings: where one ends with status 77 and a line `left out: ..`, that is told and is no failure.
-optional=("tools/third_party" "tools/instructions" "examples/replicas/replicas")
+optional=("tools/third_party" "tools/instructions" "examples/replicas/replicas" "tools/build_library --kept")
 quick_parts=(
     "tools/kit_commands"
     "tools/statements"
@@ -62,7 +62,8 @@ quick_parts=(
 )
 
 work=$(mktemp -d)
-follower=""
+at_once=${PARTS:-$(nproc)}
+started=()
 behind=""
 left_out=""
 proved=""
@@ -72,10 +73,13 @@ processor=0
 begun=$SECONDS
 rows=()
 
-# Ends what goes on beside the parts.
+# Ends the parts that still run, and takes away what was drawn.
 clean() {
-    [ -z "$follower" ] || kill -- "-$follower" 2>/dev/null
-    rm -rf "$work"
+    local group
+    for group in $(jobs -p); do
+        kill -- "-$group" 2>/dev/null
+    done
+    rm -rf "$work" "$top"/crates/*/must-fail/drawn_*.edit
 }
 trap clean EXIT
 trap 'exit 130' INT
@@ -126,57 +130,87 @@ note() {
     echo "test.sh: $title: $well passed, $wrong failed, in $(clock "$wall") minutes; left: ${left:-nothing}"
 }
 
-# Whether the program of a part is there. Where it isn't, that is what the part says.
-is_there() {
-    command -v "${1%% *}" >/dev/null && return
-    echo "test.sh: ${1%% *} isn't there"
-    echo "0 0 0" >"$2.time"
-    echo 127 >"$2.status"
-    return 1
+# Has `rt ci` try the wrong bodies that the commit draws too (--plant), or takes them away again (--clear).
+draw() {
+    [[ " ${parts[*]} " != *" tools/try_edits "* ]] || tools/try_edits "$1"
 }
 
-# Runs a part. What begins with it is told where it writes.
-part() {
-    local title=$1 files="$work/part-$2" left=$3 words
+# Runs a part. Files have what it says, its seconds, and in the end its status.
+run_part() {
+    local title=$1 files=$2 words
     read -ra words <<<"$title"
-    echo "test.sh: $title"
-    : >"$files.said"
-    if [ "$title" = "rt ci" ]; then
-        proved="$files.said"
-        tools/proved_program --sums >"$work/sums"
-        follow
-    fi
-    [ "$title" != "$waits" ] || join
     words=("${words[@]/#LOG/$proved}")
-    if is_there "$title" "$files"; then
-        run "$files" "${words[@]}" | tee -a "$files.said"
+    if command -v "${words[0]}" >/dev/null; then
+        run "$files" "${words[@]}"
+    else
+        echo "test.sh: ${words[0]} isn't there"
+        echo "0 0 0" >"$files.time"
+        echo 127 >"$files.status"
     fi
-    if [ "$title" = "rt ci" ] && [ "$(cat "$files.status")" = 0 ]; then
-        tools/proved_program --note <"$work/sums"
-    fi
-    note "$title" "$files" "$left"
 }
 
-# Begins what goes on beside, in a group of processes of its own.
-follow() {
-    [ ${#beside[@]} -gt 0 ] || return 0
-    copy "$work/beside-copy"
-    set -m
-    (cd "$work/beside-copy" && run "$work/beside" nice -n 10 bash -c 'for it; do "$it"; done' beside "${beside[@]}") >"$work/beside.said" &
-    follower=$!
-    set +m
+# What is left behind a part, by its number.
+left_behind() {
+    local left
+    left=$(printf '%s, ' "${parts[@]:$1+1}")
+    echo "${left%, }"
 }
 
-# Waits for what goes on beside, and prints what it said. What it came to is told by the part that needs it.
-join() {
-    local wall used
-    [ -n "$follower" ] || return 0
-    wait "$follower"
-    follower=""
-    cat "$work/beside.said"
-    read -r wall used < <(awk 'END { printf "%.0f %.0f\n", $1, $2 + $3 }' "$work/beside.time")
-    processor=$((processor + used))
-    rows+=("| \`${beside[*]}\`, beside | | | $(clock "$wall") | $used |")
+# Copies what comes, and says behind each crate's verdict how many minutes have gone since the first line.
+clocked() {
+    local line begun=$SECONDS
+    while IFS= read -r line || [ -n "$line" ]; do
+        printf '%s\n' "$line"
+        [[ $line != rt:*" proved" ]] || echo "test.sh: that was $(clock $((SECONDS - begun))) minutes after rt ci began"
+    done
+}
+
+# Runs `rt ci`, which has this number, and prints what it says as it comes.
+prove() {
+    local files="$work/part-$1"
+    echo "test.sh: rt ci"
+    proved="$files.said"
+    tools/proved_program --sums >"$work/sums"
+    draw --plant
+    run_part "rt ci" "$files" | tee "$files.said" | clocked
+    draw --clear
+    [ "$(cat "$files.status")" != 0 ] || tools/proved_program --note <"$work/sums"
+    note "rt ci" "$files" "$(left_behind "$1")"
+}
+
+# Runs the parts with these numbers side by side, each in a group of processes of its own, and tells of each in this order.
+side_by_side() {
+    local number told=0 numbers=("$@")
+    for number; do
+        while [ "$(jobs -rp | wc -l)" -ge "$at_once" ]; do
+            wait -n
+        done
+        set -m
+        run_part "${parts[number]}" "$work/part-$number" </dev/null >"$work/part-$number.said" &
+        started[number]=$!
+        set +m
+        while [ -s "$work/part-${numbers[told]-}.status" ]; do
+            tell "${numbers[told]}"
+            told=$((told + 1))
+        done
+    done
+    for number in "${numbers[@]:told}"; do
+        wait "${started[number]}"
+        tell "$number"
+    done
+}
+
+# Prints what a part said, by its number, and notes what it came to. One that was killed left no status.
+tell() {
+    local title=${parts[$1]} files="$work/part-$1"
+    echo "test.sh: $title"
+    if [ ! -s "$files.status" ]; then
+        echo "test.sh: $title: it was ended" >>"$files.said"
+        echo "0 0 0" >"$files.time"
+        echo 137 >"$files.status"
+    fi
+    cat "$files.said"
+    note "$title" "$files" "$(left_behind "$1")"
 }
 
 # A copy of the repository without what is built and without the edits that `rt ci` tries. What is proved in it is kept for every copy.
@@ -210,7 +244,6 @@ case "$#${1-}" in
     1--quick)
         need_kit
         parts=("${quick_parts[@]}")
-        beside=()
         behind="; this is not the gate: no wrong body was tried, and nothing in hostile surroundings"
         copy "$work/copy"
         cd "$work/copy"
@@ -226,10 +259,17 @@ case "$#${1-}" in
         ;;
 esac
 
+before=()
 for number in "${!parts[@]}"; do
-    left=$(printf '%s, ' "${parts[@]:number+1}")
-    part "${parts[number]}" "$number" "${left%, }"
+    if [ "${parts[number]}" = "rt ci" ]; then
+        side_by_side "${before[@]}"
+        prove "$number"
+        before=()
+    else
+        before+=("$number")
+    fi
 done
+side_by_side "${before[@]}"
 [ "$PWD" = "$top" ] || copy_back
 
 printf '\n| part | passed | failed | minutes | processor seconds |\n|---|---|---|---|---|\n'

@@ -2,23 +2,28 @@
    docs/LIBRARY.md. Beside this header ibcworld_messages.h spells messages and reads them, says what numbers mean, and has helpers that open channels
    and relay.
 
-   Answers. Each call answers 0, or the number of why it was refused: 1 to 31 as the core refuses (IBCW_NO_MEMORY and the
-   numbers behind it), from 101 on as a call does. What is refused changes nothing, but where a call says so. Any call may
-   answer IBCW_NO_MEMORY, since malloc may.
+   First calls. Say how a world begins: ibcw_make_genesis, ibcw_add_chain for each chain, and ibcw_add_balance for what users hold there. Make the world by
+   ibcw_make_ledgers, and take out the ledger of one chain after another by ibcw_take_ledger. Three calls of ibcworld_messages.h go on: ibcw_open makes a
+   channel, ibcw_send sends a message, and ibcw_relay ends blocks and brings packets. Times are plain numbers, in a unit of the caller's.
 
-   Handles. A handle holds one value of its kind, or nothing: a genesis, ledgers, a ledger, a view, a plan, a list of balances, a list of notes, or
-   an audit. It begins as IBCW_HANDLE_INIT (or all bytes 0), which holds nothing. Only these calls write it. The caller owns it, and what it holds,
-   until ibcw_free. A handle that is copied by `=` is the same value twice: use one of the two from then on. The handles of one call are
-   different ones. Calls that take handles of several kinds take the member `handle` that each of them has: ibcw_free(&view.handle).
+   Answers. Each call answers 0, or the number of why it was refused. Numbers from 1 to 31 are those of the core (IBCW_NO_MEMORY and the numbers behind
+   it), and those from 101 on are of calls alone. Where several are due, it is the first that the call's comment names; of those of two handles, that of
+   the first handle. What is refused changes nothing, but where a call says so. Any call may answer IBCW_NO_MEMORY, since malloc may.
 
-   Threads. A handle is used by one call at a time, also where the call only reads, and may go from thread to thread where that is ordered, as by
-   a lock or by a thread's start and end. So no call takes a const handle: it writes the handle while it works. Different handles may be used by
-   different threads at the same time: ledgers of one world meet in a table that any threads share, handles of one view share that
-   (ibcw_share_view), and no call takes a lock or waits.
+   Handles. A handle holds one value of its kind, or nothing. It begins as IBCW_HANDLE_INIT (or all bytes 0), which holds nothing. Only these calls write
+   it. The caller owns it, and what it holds, until ibcw_free. A handle that is copied by `=` is the same value twice: use one of the two from then on. The
+   handles of one call are different ones. Calls that take handles of several kinds take the member `handle` that each of them has:
+   ibcw_free(&view.handle).
 
-   Bytes. A text goes in as a pointer and a number of bytes; a null pointer is allowed where that number is 0. Bytes come out
-   in a place of the caller's, with `room` bytes: *size is then their number, also where the place is too short
-   (IBCW_TOO_SHORT), and the rest of the place stays. So a call with room 0 asks how much room is needed.
+   Threads. A handle is used by one call at a time, also where the call only reads: it writes the handle while it works. So no call takes a const handle. A
+   handle may go from thread to thread where that is ordered, as by a lock or by a thread's start and end. Different threads may use different handles at
+   the same time. Ledgers of one world meet in a table that any threads share, and handles of one view share it (ibcw_share_view). No call takes a lock or
+   waits.
+
+   Bytes. A text goes in as a pointer and a number of bytes. A null pointer is allowed where that number is 0. Bytes come out in a place of the caller's,
+   with `room` bytes. Then *size is their number, also where the place is too short (IBCW_TOO_SHORT), and the rest of the place stays. So a call with room
+   0 asks how much room is needed. Two calls are no such question, and never answer IBCW_TOO_SHORT: ibcw_apply and ibcw_end_block do what they are asked,
+   whatever the room.
 
    What the caller owes, and nothing checks. Pointers to handles, numbers and structs are not null and point to one of their
    type. A pointer and a number of bytes name so many bytes that are there. A place to write is not read or written by another
@@ -120,8 +125,8 @@ uint32_t ibcw_version(void);
 
 /* ---- a world */
 
-/* Makes a genesis with no chains in an empty handle. A chain publishes at most `capacity` heights, 1 to 1,000,000, and keeps
-   the last `window` of them, 1 to 4,096 and at most the capacity (ibcw_make_ledgers checks this). IBCW_FULL. */
+/* Makes a genesis with no chains in an empty handle. A chain publishes at most `capacity` heights, 1 to 1,000,000: then ibcw_end_block answers
+   IBCW_TABLE_FULL. A chain keeps the last `window` of them, 1 to 4,096 and at most the capacity. ibcw_make_ledgers checks both. IBCW_FULL. */
 IBCW_MUST_USE IBCW_NONNULL(1)
 uint32_t ibcw_make_genesis(ibcw_genesis *genesis, uint64_t capacity, uint64_t window);
 
@@ -130,19 +135,20 @@ IBCW_MUST_USE IBCW_NONNULL(1)
 uint32_t ibcw_add_chain(ibcw_genesis *genesis, uint64_t time);
 
 /* Lets a user hold high * 2^64 + low of a denomination at the last chain. IBCW_EMPTY, IBCW_OTHER_KIND;
-   IBCW_BAD_NAME exactly where the user or the denomination is no name of its kind; IBCW_NOTHING_THERE where there is no chain. */
+   IBCW_BAD_NAME exactly where the user or the denomination is no name of its kind; IBCW_NOTHING_THERE where there is no chain. What names may be
+   stands in docs/SCRIPTS.md ("The forms of names"). */
 IBCW_MUST_USE IBCW_NONNULL(1)
 uint32_t ibcw_add_balance(ibcw_genesis *genesis, const uint8_t *user, size_t user_size,
                           const uint8_t *denom, size_t denom_size, uint64_t high, uint64_t low);
 
 /* Makes all ledgers of a genesis in an empty handle: a world of its own, which the library tells from every other of the process. The genesis
-   stays. IBCW_FULL; IBCW_EMPTY and IBCW_OTHER_KIND of the genesis; IBCW_BAD_MESSAGE where no world begins so: 2 to 8 chains, base denominations,
-   no user and denomination twice at a chain, and of no denomination more than 2^128 - 1 at a chain. */
+   stays. IBCW_FULL; IBCW_EMPTY and IBCW_OTHER_KIND of the genesis; IBCW_BAD_MESSAGE where no world begins so. A world has 2 to 8 chains. Denominations
+   are base ones. At a chain no user has one twice, and all users together have at most 2^128 - 1 of it. */
 IBCW_MUST_USE IBCW_NONNULL(1, 2)
 uint32_t ibcw_make_ledgers(ibcw_genesis *genesis, ibcw_ledgers *ledgers);
 
-/* The same under a number by which the caller tells worlds apart, for bindings that count worlds themselves: different worlds have
-   different numbers, at least 2^63, which nothing checks. ibcw_make_ledgers gives out smaller ones. */
+/* The same under a number by which the caller tells worlds apart, for bindings that count worlds themselves. Different worlds have
+   different numbers, at least 2^63. Nothing checks that. What ibcw_make_ledgers gives out is smaller. */
 IBCW_MUST_USE IBCW_NONNULL(1, 3)
 uint32_t ibcw_make_numbered_ledgers(ibcw_genesis *genesis, uint64_t world, ibcw_ledgers *ledgers);
 
@@ -155,9 +161,9 @@ uint32_t ibcw_take_ledger(ibcw_ledgers *ledgers, ibcw_ledger *ledger);
 IBCW_MUST_USE IBCW_NONNULL(1, 2)
 uint32_t ibcw_join_ledger(ibcw_ledgers *ledgers, ibcw_ledger *ledger);
 
-/* Audits the ledgers of a world, which were driven by any threads and joined in any order, and puts what they hold into an empty
-   handle (ibcw_holding). The answer 0 says that what they did together is a run of the machine, of which the laws of IBC
-   hold, unless two different texts that they hashed have one digest. IBCW_FULL; IBCW_EMPTY and IBCW_OTHER_KIND of the ledgers;
+/* Audits the ledgers of a world, and puts what they hold into an empty handle (ibcw_holding). Any threads may have driven them, and they may have
+   joined in any order. The answer 0 says that what they did together is a run of the machine. The laws of IBC hold of it, unless two different
+   texts that they hashed, or got in packets, have one digest. IBCW_FULL; IBCW_EMPTY and IBCW_OTHER_KIND of the ledgers;
    IBCW_BAD_MESSAGE where a chain is missing among them. The ledgers stay where they are, whatever the answer: they can be taken out
    again and go on, and be audited again. */
 IBCW_MUST_USE IBCW_NONNULL(1, 2)
@@ -167,9 +173,8 @@ uint32_t ibcw_make_audit(ibcw_ledgers *ledgers, ibcw_audit *audit);
 IBCW_NONNULL(1)
 uint32_t ibcw_free(ibcw_handle *handle);
 
-/* Tells how many entries a ledger's history has, how many messages a plan, how many holdings a list of balances, how many
-   channels a list of notes, or how many chains an audit (ibcw_holding_count and ibcw_note_channel_count tell of one chain). IBCW_EMPTY,
-   IBCW_OTHER_KIND. */
+/* Tells how many entries a ledger's history has, messages a plan, holdings a list of balances, channels a list of notes, or chains an audit. For one
+   chain of an audit there are ibcw_holding_count and ibcw_note_channel_count. IBCW_EMPTY, IBCW_OTHER_KIND. */
 IBCW_MUST_USE IBCW_NONNULL(1, 2)
 uint32_t ibcw_length(ibcw_handle *handle, uint64_t *count);
 
@@ -197,10 +202,10 @@ enum {
 };
 
 /* Applies the message that the bytes spell to the working block, and tells its reply. The answer is the reply's number: 0, or that of the
-   refusal. *told is the reply, *size the number of the bytes that go with it, and they are written where there is room (IBCW_REPLY_ROOM is
-   always enough; ibcw_reply gives them again). The history has an entry more, whose reply this is. Nothing is told and no entry is made where the answer
-   is IBCW_EMPTY, IBCW_OTHER_KIND or IBCW_NO_MESSAGE, which is answered exactly where the bytes spell no message. Where it is IBCW_NO_MEMORY no
-   entry is made. */
+   refusal. The reply is told: its kind and its number as *told, and how many bytes it has as *size. They are written where there is room: IBCW_REPLY_ROOM
+   is always enough, and ibcw_reply gives them again. The history has an entry more, whose reply this is. Where the answer is IBCW_EMPTY, IBCW_OTHER_KIND or
+   IBCW_NO_MESSAGE nothing is told, and no entry is made. IBCW_NO_MESSAGE is answered exactly where the bytes spell no message. Where the answer is
+   IBCW_NO_MEMORY no entry is made. */
 IBCW_MUST_USE IBCW_NONNULL(1, 4, 7)
 uint32_t ibcw_apply(ibcw_ledger *ledger, const uint8_t *message, size_t message_size, ibcw_told *told,
                     uint8_t *bytes, size_t room, size_t *size);
@@ -217,10 +222,9 @@ IBCW_MUST_USE IBCW_NONNULL(1, 3, 6)
 uint32_t ibcw_reply(ibcw_ledger *ledger, uint64_t index, ibcw_told *told, uint8_t *bytes, size_t room,
                     size_t *size);
 
-/* What a ledger was asked: the tag of a message, 1 to 19; or IBCW_ASKED_BLOCK for the end of a block, and then the time of the
-   next one, which else is 0. Of an UpdateClient, `published` is how many heights the client's chain had published when the ledger
-   read that; else, and where nothing was read, it is 0. Who keeps the entries of all ledgers of a world, and puts an UpdateClient behind so many
-   blocks of the other chain, can make the world again. */
+/* What a ledger was asked. The kind is the tag of a message, 1 to 19, or IBCW_ASKED_BLOCK for the end of a block. The time is that of the next block, and
+   0 of a message. Of an UpdateClient, `published` is how many heights the client's chain had published when the ledger read that. Of all else, and
+   where nothing was read, it is 0. Who keeps the entries of all ledgers of a world can make the world again: docs/LIBRARY.md says how. */
 typedef struct {
     uint64_t kind;
     uint64_t next_time;
@@ -231,8 +235,8 @@ enum {
     IBCW_ASKED_BLOCK = 0
 };
 
-/* Tells what the ledger was asked by an entry of its history, which are numbered from 0, and writes the bytes that spell the message:
-   those that ibcw_apply was given. Of the end of a block they are none. IBCW_EMPTY, IBCW_OTHER_KIND, IBCW_NOTHING_THERE;
+/* Tells what the ledger was asked by an entry of its history, which are numbered from 0. Writes the bytes that spell the message: those that
+   ibcw_apply was given. Of the end of a block there are none. IBCW_EMPTY, IBCW_OTHER_KIND, IBCW_NOTHING_THERE;
    IBCW_TOO_SHORT, and then *asked and *size are told. */
 IBCW_MUST_USE IBCW_NONNULL(1, 3, 6)
 uint32_t ibcw_event(ibcw_ledger *ledger, uint64_t index, ibcw_asked *asked, uint8_t *message, size_t room,
@@ -244,10 +248,9 @@ IBCW_MUST_USE IBCW_NONNULL(1, 6)
 uint32_t ibcw_query(ibcw_ledger *ledger, const uint8_t *path, size_t path_size, uint8_t *value,
                     size_t room, size_t *size);
 
-/* Writes the bytes of the proof of what a committed height has at the path of a key (ICS 23): of its presence where it is there, of
-   its absence where not. The reply of the block tells the height's root. IBCW_EMPTY, IBCW_OTHER_KIND;
-   IBCW_BAD_NAME exactly where no key has the path; IBCW_NO_CONSENSUS exactly where the height isn't among the last ones that were
-   committed, as many as the window says; IBCW_TOO_SHORT. */
+/* Writes the bytes of the proof of what a committed height has at the path of a key (ICS 23). It shows presence where the key is there, and absence
+   where it isn't. The reply of the block tells the height's root. IBCW_EMPTY, IBCW_OTHER_KIND; IBCW_BAD_NAME exactly where no key has the path. Then
+   IBCW_NO_CONSENSUS exactly where the height isn't among the last ones that were committed, as many as the window says; IBCW_TOO_SHORT. */
 IBCW_MUST_USE IBCW_NONNULL(1, 7)
 uint32_t ibcw_prove(ibcw_ledger *ledger, uint64_t height, const uint8_t *path, size_t path_size, uint8_t *proof,
                     size_t room, size_t *size);
@@ -270,13 +273,12 @@ IBCW_MUST_USE IBCW_NONNULL(1, 6)
 uint32_t ibcw_escrow(ibcw_ledger *ledger, const uint8_t *channel, size_t channel_size, const uint8_t *denom,
                      size_t denom_size, ibcw_amount *amount);
 
-/* Tells how much of a denomination all accounts hold, the escrow accounts among them: of one that came over a channel, no more than the escrow account of
-   its other end holds. IBCW_EMPTY, IBCW_OTHER_KIND, IBCW_BAD_NAME exactly where denom is no name of a denomination. */
+/* Tells how much of a denomination all accounts hold, the escrow accounts among them. Of one that came over a channel it is no more than the escrow account
+   of its other end holds. IBCW_EMPTY, IBCW_OTHER_KIND, IBCW_BAD_NAME exactly where denom is no name of a denomination. */
 IBCW_MUST_USE IBCW_NONNULL(1, 4)
 uint32_t ibcw_supply(ibcw_ledger *ledger, const uint8_t *denom, size_t denom_size, ibcw_amount *amount);
 
-/* What a channel of port transfer has of a denomination (ICS 20): what its escrow account holds, its vouchers on the peer's chain, and what is under way
-   there and back. */
+/* What a channel of port transfer has of a denomination (ICS 20): escrow, vouchers at the peer, and amounts under way there and back. */
 typedef struct {
     ibcw_amount escrow;
     ibcw_amount vouchers;
@@ -292,7 +294,7 @@ IBCW_MUST_USE IBCW_NONNULL(1, 2, 7)
 uint32_t ibcw_totals(ibcw_ledger *ledger, ibcw_ledger *peer, const uint8_t *channel, size_t channel_size,
                      const uint8_t *denom, size_t denom_size, ibcw_channel_totals *totals);
 
-/* Writes the bytes of the packet that the ledger sent from an end of a channel under a sequence, whether its commitment stands or not (ICS 4).
+/* Writes the bytes of the packet that the ledger sent from an end of a channel under a sequence (ICS 4). Its commitment may stand or be gone.
    IBCW_EMPTY, IBCW_OTHER_KIND, IBCW_BAD_NAME exactly where the port or the channel is no name of its kind, IBCW_NOTHING_THERE where no such
    packet was sent, IBCW_TOO_SHORT. */
 IBCW_MUST_USE IBCW_NONNULL(1, 9)
@@ -304,13 +306,13 @@ IBCW_MUST_USE IBCW_NONNULL(1, 9)
 uint32_t ibcw_ack(ibcw_ledger *ledger, const uint8_t *port, size_t port_size, const uint8_t *channel,
                   size_t channel_size, uint64_t sequence, uint8_t *ack, size_t room, size_t *size);
 
-/* Makes the list of what accounts hold in the working block, in an empty handle: the amounts above 0, in the byte order of the
+/* Makes the list of what accounts hold in the working block, in an empty handle. It has the amounts above 0, in the byte order of the
    accounts and then of the denominations. IBCW_FULL; IBCW_EMPTY, IBCW_OTHER_KIND of the ledger. */
 IBCW_MUST_USE IBCW_NONNULL(1, 2)
 uint32_t ibcw_make_balances(ibcw_ledger *ledger, ibcw_balances *balances);
 
-/* Tells how many holdings there are: those of a list of balances, and then the chain is not looked at; or of an audit, those of that chain's
-   accounts. IBCW_EMPTY, IBCW_OTHER_KIND; IBCW_UNKNOWN_CHAIN where the audit has no such chain. */
+/* Tells how many holdings there are. Of a list of balances the chain is not looked at. Of an audit they are those of that chain's accounts.
+   IBCW_EMPTY, IBCW_OTHER_KIND; IBCW_UNKNOWN_CHAIN where the audit has no such chain. */
 IBCW_MUST_USE IBCW_NONNULL(1, 3)
 uint32_t ibcw_holding_count(ibcw_handle *balances, uint64_t chain, uint64_t *count);
 
@@ -326,20 +328,19 @@ uint32_t ibcw_holding(ibcw_handle *balances, uint64_t chain, uint64_t index, uin
 IBCW_MUST_USE IBCW_NONNULL(1, 4)
 uint32_t ibcw_holding_amount(ibcw_handle *balances, uint64_t chain, uint64_t index, ibcw_amount *amount);
 
-/* Makes the list of the notes that came to a ledger over channels of port note, as the working block has them, in an empty
-   handle. Its channels are those over which a note came, in the byte order of their names; ibcw_length tells how many.
+/* Makes the list of the notes that came to a ledger over channels of port note, in an empty handle. They are those of the working block. Its channels are
+   those over which a note came, in the byte order of their names. Their number is told by ibcw_length.
    IBCW_FULL; IBCW_EMPTY, IBCW_OTHER_KIND of the ledger. */
 IBCW_MUST_USE IBCW_NONNULL(1, 2)
 uint32_t ibcw_make_notes(ibcw_ledger *ledger, ibcw_notes *notes);
 
-/* Tells over how many channels notes came: of a list of notes, and then the chain is not looked at; or of an audit, at that chain. IBCW_EMPTY,
+/* Tells over how many channels notes came. Of a list of notes the chain is not looked at. Of an audit they are those of that chain. IBCW_EMPTY,
    IBCW_OTHER_KIND; IBCW_UNKNOWN_CHAIN where the audit has no such chain. */
 IBCW_MUST_USE IBCW_NONNULL(1, 3)
 uint32_t ibcw_note_channel_count(ibcw_handle *notes, uint64_t chain, uint64_t *count);
 
-/* Writes the name of a channel: that at an index, from 0 on, of a list of notes, and then the chain is not looked at; or of an
-   audit, at an index of the channels of that chain. IBCW_EMPTY, IBCW_OTHER_KIND, IBCW_UNKNOWN_CHAIN where the audit has no such chain,
-   IBCW_NOTHING_THERE, IBCW_TOO_SHORT. */
+/* Writes the name of the channel at an index, from 0 on. Of a list of notes the chain is not looked at. Of an audit the index counts the channels of
+   that chain. IBCW_EMPTY, IBCW_OTHER_KIND, IBCW_UNKNOWN_CHAIN where the audit has no such chain, IBCW_NOTHING_THERE, IBCW_TOO_SHORT. */
 IBCW_MUST_USE IBCW_NONNULL(1, 6)
 uint32_t ibcw_note_channel(ibcw_handle *notes, uint64_t chain, uint64_t channel, uint8_t *name, size_t room,
                            size_t *size);
@@ -361,13 +362,12 @@ uint32_t ibcw_note(ibcw_handle *notes, uint64_t chain, uint64_t channel, uint64_
 IBCW_MUST_USE IBCW_NONNULL(1, 2)
 uint32_t ibcw_make_view(ibcw_ledger *ledger, ibcw_view *view);
 
-/* Puts the view of a handle into an empty handle too. Nothing is copied, and neither of the two is changed by what is done with the other: so each
+/* Puts the view of a handle into an empty handle too. Nothing is copied, and neither of the two is changed by what is done with the other. So each
    thread that reads a view takes a handle of its own. Each is freed by itself. IBCW_FULL; IBCW_EMPTY, IBCW_OTHER_KIND of the first. */
 IBCW_MUST_USE IBCW_NONNULL(1, 2)
 uint32_t ibcw_share_view(ibcw_view *view, ibcw_view *other);
 
-/* The number of a view's chain, its last committed height (0 if there is none), the time of that height and that of the
-   working block. */
+/* A view's chain by its number, its last committed height (0 if none), and the times of that height and of the working block. */
 typedef struct {
     uint64_t chain;
     uint64_t height;
@@ -383,9 +383,8 @@ uint32_t ibcw_view_heights(ibcw_view *view, ibcw_heights *heights);
 IBCW_MUST_USE IBCW_NONNULL(1, 4)
 uint32_t ibcw_view_root(ibcw_view *view, uint8_t *root, size_t room, size_t *size);
 
-/* Writes the bytes of the proof of what the height has at the path of a key (ICS 23): of its presence where it is there, of
-   its absence where not. IBCW_EMPTY, IBCW_OTHER_KIND, IBCW_NOTHING_THERE at height 0, IBCW_BAD_NAME where no key has the path,
-   IBCW_TOO_SHORT. */
+/* Writes the bytes of the proof of what the height has at the path of a key (ICS 23). It shows presence where the key is there, and absence where it
+   isn't. IBCW_EMPTY, IBCW_OTHER_KIND, IBCW_NOTHING_THERE at height 0, IBCW_BAD_NAME where no key has the path, IBCW_TOO_SHORT. */
 IBCW_MUST_USE IBCW_NONNULL(1, 6)
 uint32_t ibcw_view_proof(ibcw_view *view, const uint8_t *path, size_t path_size, uint8_t *proof,
                          size_t room, size_t *size);
@@ -402,9 +401,9 @@ uint32_t ibcw_plan_message(ibcw_plan *plan, uint64_t index, uint8_t *message, si
 
 /* ---- proofs, messages and packets, with no ledger */
 
-/* Whether the bytes spell a proof that shows that the key has the value under the root (ICS 23): 0 where it does,
-   IBCW_BAD_MESSAGE where the root hasn't 32 bytes or the bytes spell no proof, IBCW_BAD_PROOF where it doesn't. 0 is yes: ibcw_is_present
-   (ibcworld_messages.h) answers by a truth value. */
+/* Whether the bytes spell a proof that shows that the key has the value under the root (ICS 23). The answer is IBCW_BAD_MESSAGE where the root hasn't 32
+   bytes, or the bytes spell no proof. Else it is 0 where it does, and IBCW_BAD_PROOF where it doesn't. So 0 is yes: ibcw_is_present (ibcworld_messages.h)
+   answers by a truth value. */
 IBCW_MUST_USE
 uint32_t ibcw_verify_present(const uint8_t *root, size_t root_size, const uint8_t *key, size_t key_size,
                              const uint8_t *value, size_t value_size, const uint8_t *proof,
@@ -434,20 +433,20 @@ uint32_t ibcw_proof_key(const uint8_t *proof, size_t proof_size, uint8_t *key, s
 IBCW_MUST_USE IBCW_NONNULL(5)
 uint32_t ibcw_proof_value(const uint8_t *proof, size_t proof_size, uint8_t *value, size_t room, size_t *size);
 
-/* Writes the form of ICS 23 of the proof that the bytes spell: the canonical bytes of a cosmos.ics23.v1.CommitmentProof, fields in order and none
-   that is at its default. Leaves and inner nodes are those of ICS 23's Tendermint spec, so a Cosmos chain verifies it with its own library.
+/* Writes the form of ICS 23 of the proof that the bytes spell. It is the canonical bytes of a cosmos.ics23.v1.CommitmentProof, with fields in order and
+   none at its default. Leaves and inner nodes are those of ICS 23's Tendermint spec, so a Cosmos chain verifies it with its own library.
    IBCW_BAD_MESSAGE exactly where the bytes spell no proof, IBCW_TOO_SHORT. */
 IBCW_MUST_USE IBCW_NONNULL(5)
 uint32_t ibcw_proof_to_ics23(const uint8_t *proof, size_t proof_size, uint8_t *form, size_t room, size_t *size);
 
-/* Writes the bytes of the one proof whose form these bytes are. IBCW_BAD_MESSAGE exactly where there is none: another hash, a batch, a field out of its
-   order or at its default, longer parts than a proof has; IBCW_TOO_SHORT. */
+/* Writes the bytes of the one proof whose form these bytes are. IBCW_BAD_MESSAGE exactly where there is none. So it is for another hash, a batch, a
+   field out of its order or at its default, and parts that are too long. IBCW_TOO_SHORT. */
 IBCW_MUST_USE IBCW_NONNULL(5)
 uint32_t ibcw_proof_of_ics23(const uint8_t *form, size_t form_size, uint8_t *proof, size_t room, size_t *size);
 
 /* Tells the tag, 1 to 19, of the message that the bytes spell. IBCW_NO_MESSAGE where they spell none. How messages are spelled
    stands in docs/LIBRARY.md: a message has one spelling, and no bytes spell two messages. A ledger keeps each message that it refuses, whole,
-   for ever: who takes messages from strangers asks ibcw_screen_message (ibcworld_messages.h) first, by this call and ibcw_message_proof. */
+   for ever. Who takes messages from strangers asks ibcw_screen_message (ibcworld_messages.h) first. */
 IBCW_MUST_USE IBCW_NONNULL(3)
 uint32_t ibcw_message_tag(const uint8_t *message, size_t message_size, uint8_t *tag);
 
@@ -455,11 +454,10 @@ enum {
     IBCW_LONGEST_PROOF = 18835 /* bytes that are more spell no proof */
 };
 
-/* Writes the proof at an index, 0 or 1, that the message carries which the bytes spell, and tells the height of the other chain at
-   which it is. ConnOpenTry and ConnOpenAck carry that of the end and that of the client, TimeoutOnClose that of the packet and that
-   of the closed channel; ConnOpenConfirm, ChanOpenTry, ChanOpenAck, ChanOpenConfirm, ChanCloseConfirm, RecvPacket, AckPacket and
-   Timeout carry one. IBCW_NO_MESSAGE where the bytes spell no message, IBCW_NOTHING_THERE where it carries no such proof;
-   IBCW_TOO_SHORT, and then *height and *size are told. */
+/* Writes the proof at an index, 0 or 1, that the message carries which the bytes spell. Tells the height of the other chain at which it is.
+   ConnOpenTry and ConnOpenAck carry that of the end and that of the client. TimeoutOnClose carries that of the packet and that of the closed channel.
+   ConnOpenConfirm, ChanOpenTry, ChanOpenAck, ChanOpenConfirm, ChanCloseConfirm, RecvPacket, AckPacket and Timeout carry one. IBCW_NO_MESSAGE where the
+   bytes spell no message, IBCW_NOTHING_THERE where it carries no such proof; IBCW_TOO_SHORT, and then *height and *size are told. */
 IBCW_MUST_USE IBCW_NONNULL(4, 7)
 uint32_t ibcw_message_proof(const uint8_t *message, size_t message_size, uint64_t index, uint64_t *height,
                             uint8_t *proof, size_t room, size_t *size);

@@ -1,6 +1,6 @@
-/* Messages as structs, and as the bytes that ibcw_apply takes; what the numbers of refusals mean; and helpers over the calls of ibcworld.h: a
-   handshake between two ledgers (ibcw_open) and a relayer's turn between them (ibcw_relay). All of it is C over those calls, in this header: no
-   proof covers it, and the library judges what it spells. */
+/* Messages as structs, and as the bytes that ibcw_apply takes, and what the numbers of refusals mean. Helpers over the calls of ibcworld.h: a
+   handshake between two ledgers (ibcw_open), a message to one (ibcw_send), and a relayer's turn between two (ibcw_relay). All of it is C over those
+   calls, in this header. No proof covers it, and the library judges what it spells. examples/library/c/wallet.c is a short program by it. */
 #ifndef IBCWORLD_MESSAGES_H
 #define IBCWORLD_MESSAGES_H
 
@@ -150,8 +150,8 @@ typedef struct {
     ibcw_amount amount;
 } ibcw_token;
 
-/* A message of the kind that its tag says. Fields that the kind hasn't are not looked at. docs/LIBRARY.md lists each kind's fields; `peer_` is
-   what the other chain calls its client, connection, port or channel. */
+/* A message of the kind that its tag says. Fields that the kind hasn't are not looked at. Which fields a kind has stands in docs/LIBRARY.md. What begins
+   with `peer_` is what the other chain calls its client, connection, port or channel. */
 typedef struct {
     uint8_t tag;
     uint8_t chain;         /* CreateClient; the header's of UpdateClient; the claimed state's of ConnOpenTry and ConnOpenAck */
@@ -324,8 +324,8 @@ static inline uint32_t ibcw_written(const ibcw_writer *to, size_t *size)
     return to->size <= to->room ? (uint32_t)IBCW_DONE : (uint32_t)IBCW_TOO_SHORT;
 }
 
-/* Spells a message into a place, and tells how many bytes it has. IBCW_TOO_SHORT, and then *size is told; IBCW_TOO_LARGE where a text has more
-   than 65,535 bytes, or there are more than IBCW_MOST_TOKENS tokens: nothing is ever cut; IBCW_BAD_MESSAGE where no kind has the tag, or a root
+/* Spells a message into a place, and tells how many bytes it has. IBCW_TOO_SHORT, and then *size is told. IBCW_TOO_LARGE where a text has more
+   than 65,535 bytes, or there are more than IBCW_MOST_TOKENS tokens: nothing is ever cut. IBCW_BAD_MESSAGE where no kind has the tag, or a root
    hasn't 32 bytes. Whether it is a message is for the library to say (ibcw_message_tag). */
 static inline uint32_t ibcw_write_message(const ibcw_message *message, uint8_t *place, size_t room, size_t *size)
 {
@@ -903,7 +903,7 @@ IBCW_MUST_USE static inline uint32_t ibcw_end_channel(ibcw_ledger *x, ibcw_opene
     return ibcw_proved_step(y, x, of_x, what, &step, &reply);
 }
 
-/* Makes clients, a connection and a channel between two ledgers of one world, by the twenty steps of the program's `open`, and tells the names that
+/* Makes clients, a connection and a channel between two ledgers of one world, by the twenty steps of the program's `open`. Tells the names that
    each gave. The channel is open then on both sides, and y's last step stands in its working block. Answers with the first refusal; what was
    done before it stays done. */
 IBCW_MUST_USE static inline uint32_t ibcw_open(ibcw_ledger *x, ibcw_opened *of_x, ibcw_ledger *y, ibcw_opened *of_y, const ibcw_opening *what)

@@ -7,7 +7,7 @@ import re
 from crates import ROOT, uses
 
 # Where the theorem stands, and with it all that one has to read to believe it.
-THEOREM = "crates/ibc_theorem/specs/EveryWorld.antt"
+THEOREM = "crates/ibc_world_core/specs/EveryWorld.antt"
 # A document's `about N` may be so far off.
 ROUNDED = 0.05
 

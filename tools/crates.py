@@ -9,10 +9,10 @@ import sys
 ROOT = os.path.dirname(os.path.dirname(os.path.abspath(__file__)))
 
 
-def lines():
-    """Of each crate its line of crates.txt, in order."""
+def lines(root=ROOT):
+    """Of each crate of a checkout its line of crates.txt, in order."""
     found = {}
-    with open(f"{ROOT}/crates.txt", encoding="utf-8") as file:
+    with open(f"{root}/crates.txt", encoding="utf-8") as file:
         for line in file:
             told = " ".join(line.partition("#")[0].split())
             if ":" in told:
@@ -20,9 +20,9 @@ def lines():
     return found
 
 
-def uses():
-    """Of each crate, in the order of crates.txt, the libraries that its line names."""
-    return {name: line.partition(":")[2].split() for name, line in lines().items()}
+def uses(root=ROOT):
+    """Of each crate of a checkout, in the order of crates.txt, the libraries that its line names."""
+    return {name: line.partition(":")[2].split() for name, line in lines(root).items()}
 
 
 def below(crate, found):

@@ -1,9 +1,11 @@
-"""Tries of wrong bodies by `rt ci`, in a copy of a checkout in which they are its only must-fail edits.
+"""Tries of wrong bodies by `rt ci`: those that are drawn beside a checkout's own must-fail edits, others in a copy in which they are the only ones.
 
-`rt ci` begins with what it proved in any checkout of this machine, so nothing below a crate is proved for them again; and the verdict is the kit's. It
-gives one reason for each: an open goal or an error in a proof where it found any, and else a name that is gone. An open goal that isn't shown false may be
-one whose answer lost its name. So it is asked whether the function as it stands has a goal of that name, by an edit that gives an answer its type.
+So nothing below a crate is proved again for those that are drawn, nor in the copy where the kit keeps it; and the verdict is the kit's. It gives one
+reason for each: an open goal or an error in a proof where it found any, and else a name that is gone. An open goal that isn't shown false may be one whose
+answer lost its name. So it is asked whether the function as it stands has a goal of that name, by an edit that gives an answer its type.
 """
+import contextlib
+import glob
 import os
 import re
 import shutil
@@ -17,6 +19,8 @@ from verdicts import BAD, ERROR, FALSE, GOAL, MISSED, NAMES, REFUSED, UNSURE, is
 # How the kit's verdict on a must-fail edit begins, and what that means here where it gives no reason to be read.
 REASON = "refused, as it must be: "
 WORDS = (("refused, as it must be (only because", BAD), ("NOT REFUSED", MISSED), ("BAD EDIT", BAD))
+# What the names of edits begin with that are tried beside a checkout's own.
+PLANTED = "drawn_"
 # The name of an open goal, and each answer that a proof file gives to a goal, with its arguments.
 NAMED, ANSWER = re.compile(r"it is not proved that .*?\(`([^`]+)`\)"), re.compile(r"(?m)^pub (\S+) : goal\.\1\n\1 ([^\n=]*)=")
 
@@ -121,6 +125,28 @@ def crate_of(edit):
 def name_of(edit):
     """The name that `rt ci` calls an edit by."""
     return f"{crate_of(edit)}/{os.path.basename(edit.label)}.edit"
+
+
+def plant(root, edits):
+    """Puts edits beside the must-fail edits of a checkout, for its next `rt ci`."""
+    for edit in edits:
+        crate, _, name = name_of(edit).partition("/")
+        os.makedirs(f"{root}/crates/{crate}/must-fail", exist_ok=True)
+        write(f"{root}/crates/{crate}/must-fail/{PLANTED}{name}", edit.text)
+
+
+def clear(root):
+    """Takes away what was put there."""
+    for path in glob.glob(f"{root}/crates/*/must-fail/{PLANTED}*.edit"):
+        os.remove(path)
+        with contextlib.suppress(OSError):
+            os.rmdir(os.path.dirname(path))
+
+
+def said_of_planted(root, edits, text):
+    """What `rt ci`, which said this, said of edits that had been put there; None of one that has to be tried otherwise."""
+    judge, text = Judge(root), re.sub(rf"(?m)^(rt: must-fail \w+/){PLANTED}", r"\1", text)
+    return {it: judge.said_of(it, text) for it in edits}
 
 
 def try_drawn(root, folder, edits, minutes, tell, asks):

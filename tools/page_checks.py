@@ -48,14 +48,20 @@ def compared():
     yield from (f"nothing compares {it}" for it in page_numbers.uncompared())
 
 
+def table(page, first):
+    """The lines of a block of code of a page that begins with a word, but for its head."""
+    found = next((it for it in code_blocks(text_of(page)) if it.startswith(f"{first} ")), "")
+    return found.split("\n")[1:]
+
+
 def speed():
-    """Each row of SPEED's table with a number that the file of figures doesn't have."""
+    """Each line of SPEED's table of scripts with a number that the file of figures doesn't have."""
     rows = [it.split() for it in text_of("docs/figures/speed.txt").split("\n")]
-    for row in re.findall(r"(?m)^\| `\w+` \|.*\|$", text_of("docs/SPEED.md")):
-        name, size, *numbers = [it.strip(" `") for it in row.strip("|").split("|")]
-        there = next((it for it in rows if it[:2] == [name, size]), [])
-        if any(it not in there for it in numbers[:4]):
-            yield f"docs/SPEED.md: docs/figures/speed.txt has no such row: {row}"
+    lines = [it.split() for it in table("docs/SPEED.md", "script")]
+    lost = [it for it in lines if not any(row[:2] == it[:2] and {*it} <= {*row} for row in rows)]
+    yield from (f"docs/SPEED.md: docs/figures/speed.txt has no such line: {' '.join(it)}" for it in lost)
+    if not lines:
+        yield "docs/SPEED.md: the table of scripts is missing"
 
 
 def perf():

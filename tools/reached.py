@@ -6,11 +6,12 @@ import re
 import subprocess
 import sys
 
-from crates import ROOT, cache, sum_of
+from checked_room import checked_room
+from crates import cache, sum_of
 
 NAME = re.compile(r"\b\w+(?:::\w+)+\b")
 MOST = 16  # how many lists are kept, the newest
-TIMES = "where `rt check` hasn't proved it and all below on this machine yet, it does so first"
+TIMES = "all that wasn't checked here before is checked first"
 
 
 def counted(verdict):
@@ -38,9 +39,10 @@ def listed(said):
 def asked(crate):
     """What the prover says of a crate: the names, and what is wrong."""
     print(f"trust: asking the prover what {crate} reaches: {TIMES}", file=sys.stderr, flush=True)
-    ran = subprocess.run(
-        ["rt", "check", "--list-axioms"], cwd=f"{ROOT}/crates/{crate}", stdin=subprocess.DEVNULL, capture_output=True, text=True, errors="replace", check=False,
-    )
+    with checked_room([crate]) as room:
+        ran = subprocess.run(
+            ["rt", "check", "--list-axioms"], cwd=f"{room}/crates/{crate}", stdin=subprocess.DEVNULL, capture_output=True, text=True, errors="replace", check=False,
+        )
     names, fault = listed(ran.stdout)
     return names, fault or (f"`rt check` ended with status {ran.returncode}" if ran.returncode else "")
 

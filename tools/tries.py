@@ -29,17 +29,18 @@ class Ended(Exception):
 
 
 class Clone:
-    """A copy of a checkout's crates in a folder of its own, but of nothing that was built there."""
+    """A copy of a checkout's crates in a folder of its own: without what was built there, or, of one that is checked, with what its checks kept."""
 
     running, is_ended = [], False
 
-    def __init__(self, root, folder, jobs, minutes):
+    def __init__(self, root, folder, jobs, minutes, is_checked=False):
         self.folder, self.jobs, self.minutes = folder, jobs, minutes
         os.makedirs(f"{folder}/.git")
         for name in ("crates.txt", "HANDLES"):
             if os.path.isfile(f"{root}/{name}"):
                 shutil.copy(f"{root}/{name}", folder)
-        shutil.copytree(f"{root}/crates", f"{folder}/crates", ignore=lambda at, _: ["out"] if os.path.dirname(at) == f"{root}/crates" else [])
+        left = () if is_checked else ("out",)
+        shutil.copytree(f"{root}/crates", f"{folder}/crates", symlinks=True, ignore=lambda at, _: left if os.path.dirname(at) == f"{root}/crates" else ())
 
     def check(self, crate, texts):
         """What `rt check` says of a crate with these texts in place of its files'."""

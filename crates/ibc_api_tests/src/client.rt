@@ -3,9 +3,8 @@
 ghost use Rattle.std.specs.Prelude.{◌≡◌, IsSome};
 
 use crate::genesis::GENESIS_ROOT;
-use ibc_client::{create, update};
 use ibc_ids::{ClientId, Refusal, Root};
-use ibc_records::{ConsensusState, Records};
+use ibc_records::{ConsensusState, Records, create, update};
 use ibc_root_table::{Pass, RootTable};
 use ibc_wire::{CreateClient, Header, UpdateClient};
 use std::alloc::Global;

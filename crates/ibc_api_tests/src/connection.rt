@@ -1,9 +1,8 @@
 //! Connections whose numbers end.
 
-use ibc_client::check_number;
 use ibc_connection::open_init;
 use ibc_ids::{ClientId, Refusal};
-use ibc_records::{NextNumbers, Records};
+use ibc_records::{NextNumbers, Records, check_number};
 use ibc_wire::ConnOpenInit;
 use std::alloc::Global;
 use std::process::Abort;

@@ -12,6 +12,8 @@ mod connection;
 #[cfg(test)]
 mod genesis;
 #[cfg(test)]
+mod laws;
+#[cfg(test)]
 mod listed_tokens;
 #[cfg(test)]
 mod names;

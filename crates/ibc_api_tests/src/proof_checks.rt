@@ -1,14 +1,13 @@
 //! Checks of proofs under the roots that a client knows: each form with a memory of nodes beside the form without.
 
 use crate::genesis::GENESIS_ROOT;
-use ibc_client::{
-    PeerClaim, check_absent, check_absent_with, check_claim, check_claim_with, check_path,
-    check_path_with, check_present, check_present_with,
-};
 use ibc_ics23_proof::NodeMemory;
 use ibc_ids::{Bytes, ClientId, Key, Refusal, Root};
 use ibc_merkle::Proof;
-use ibc_records::{ConsensusState, Records};
+use ibc_records::{
+    ConsensusState, PeerClaim, Records, check_absent, check_absent_with, check_claim,
+    check_claim_with, check_path, check_path_with, check_present, check_present_with,
+};
 use std::alloc::Global;
 use std::process::Abort;
 
@@ -221,7 +220,7 @@ fn make_client(rt: &impl Abort, records: &mut Records, id: &ClientId) {
         time: 100,
     };
     let name = id.clone().expect(rt, "memory");
-    ibc_client::check_number(records.next_client()).expect(rt, "a number");
+    ibc_records::check_number(records.next_client()).expect(rt, "a number");
     records.add_client(name, 1).expect(rt, "memory");
     records.update_client(id, 1, known).expect(rt, "a client");
 }

@@ -2,8 +2,7 @@
 
 use crate::pair::{acknowledge, channel, name, open, receive, transfer};
 use ibc_ids::{Denom, Refusal};
-use ibc_theorem::balanced_totals;
-use ibc_world_core::{World, totals_of_ledgers};
+use ibc_world_core::{World, balanced_totals, totals_of_ledgers};
 use std::alloc::Global;
 use std::process::Abort;
 

@@ -1,8 +1,8 @@
 //! Packets of tokens that are taken or not, and refunds of what was never sent.
 
-use ibc_app_port::App;
 use ibc_ids::{Account, Bytes, Denom, Name, Refusal, Version};
 use ibc_machine::ChainStart;
+use ibc_records::App;
 use ibc_transfer::Transfers;
 use ibc_wire::{Packet, decode};
 use std::alloc::Global;

@@ -54,18 +54,24 @@ fn requested<R: Env + AllocGlobal>(rt: &R) -> Result<Request, RunError> {
     request
 }
 
+// Prints a number, and a text behind it.
+fn print_number<R: Print>(rt: &R, number: u64, behind: &str) -> io::Result<()> {
+    print!(rt; "{number}{behind}")
+}
+
 // Prints how many events were accepted and refused.
 fn print_answers<R: Print>(rt: &R, workload: Workload, tally: &Tally) -> io::Result<()> {
-    let name = workload.name();
-    let (accepted, refused) = (tally.accepted, tally.refused);
-    println!(rt; "{name}: {accepted} accepted, {refused} refused")
+    print!(rt; "{}: ", workload.name())?;
+    print_number(rt, tally.accepted, " accepted, ")?;
+    print_number(rt, tally.refused, " refused\n")
 }
 
 // Prints how many packets, blocks and proofs there were.
 fn print_counts<R: Print>(rt: &R, tally: &Tally) -> io::Result<()> {
-    let (sent, received) = (tally.sent, tally.received);
-    let (blocks, proofs) = (tally.blocks, tally.proofs);
-    println!(rt; "{sent} sent, {received} received, {blocks} blocks, {proofs} proofs")
+    print_number(rt, tally.sent, " sent, ")?;
+    print_number(rt, tally.received, " received, ")?;
+    print_number(rt, tally.blocks, " blocks, ")?;
+    print_number(rt, tally.proofs, " proofs\n")
 }
 
 // Prints what the results of a run come to.

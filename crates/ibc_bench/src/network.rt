@@ -271,6 +271,19 @@ impl Network {
         }
         self.check()
     }
+
+    /// The world, and what is noted of its answers and entries.
+    pub fn into_parts(self) -> (World, Tally, Option<Vec<StoredEntry>>) {
+        let Network {
+            world,
+            tally,
+            stored,
+            chains,
+            ..
+        } = self;
+        drop(chains);
+        (world, tally, stored)
+    }
 }
 
 // Adds what a chain holds to a tally.

@@ -2,7 +2,7 @@
 use Rattle.std.specs.Prelude.{◌≡◌, Bool, true, false, Option, Some, None, Result, Ok, Err, ⊤, ◌⊎◌, ℕ}
 use Rattle.ibc_ids.specs.declared.refusal.Refusal.TheVariants.{NoMemory, BadMessage}
 use Rattle.ibc_world_core.specs.WorldAudits.{IsAudit, is_whole}
-use Rattle.ibc_theorem.specs.EveryAudit.{AreLawful}
+use Rattle.ibc_world_core.specs.EveryAudit.{AreLawful}
 use Rattle.ibc_handle.specs.LedgersModel.{LedgersModel, AreStill}
 use Rattle.ibc_handle.specs.Joining.{MemberJoinsIfSameNumber, IsJoined}
 use Rattle.ibc_handle.specs.declared.handle_value.HandleValue.{HandleValue}

@@ -5,9 +5,9 @@ ghost use Rattle.ibc_calls.specs.ProofForms.{FindsForm, FindsProofOf};
 
 use crate::Refused;
 use crate::handles::give;
-use ibc_client::read_proof;
 use ibc_ics23_form::{form_of, spelled_of_form};
 use ibc_ids::Bytes;
+use ibc_records::read_proof;
 use std::alloc::Global;
 
 /// Writes the canonical bytes of a `cosmos.ics23.v1.CommitmentProof` of the proof that the bytes spell. Refused:

@@ -6,10 +6,10 @@ ghost use Rattle.ibc_merkle.specs.Proofs.{accepts_absent, accepts_present};
 ghost use Rattle.ibc_wire.specs.Reading.{proof_of};
 ghost use Rattle.ibc_calls.specs.JudgedProofs.{proof_verdict, key_in, shown_key, kind_in, shown_kind, test_passed, value_in, shown_value};
 
-use ibc_client::read_proof;
 use ibc_ics23_proof::{verify_absent, verify_present};
 use ibc_ids::{Bytes, Refusal, Root};
 use ibc_merkle::Proof;
+use ibc_records::read_proof;
 use std::alloc::Global;
 
 /// What a proof shows.

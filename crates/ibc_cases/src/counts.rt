@@ -8,7 +8,7 @@ const NUMBERS: usize = 32;
 
 /// How often messages were accepted, how often refused with each number, and how many couldn't be made. A count goes up to
 /// 2^32 - 1, and stays there.
-#[derive(Clone, Copy, Drop)]
+#[derive(Clone, Copy)]
 pub struct Counts {
     accepted: u32,
     refused: [u32; NUMBERS],

@@ -10,7 +10,7 @@ use std::io;
 use std::io::Write;
 
 /// What is done with a script, or with the lines below.
-#[derive(Clone, Copy, Drop)]
+#[derive(Clone, Copy)]
 pub enum Directive<'t> {
     /// `> word WORD`: the program is run with this word.
     Word(&'t str),

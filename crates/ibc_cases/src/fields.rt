@@ -5,7 +5,7 @@ use ibc_wire::MessageKind;
 use std::alloc::Global;
 
 /// How a field is spelled.
-#[derive(Clone, Copy, Drop)]
+#[derive(Clone, Copy)]
 pub enum Form {
     /// A number of one byte.
     Byte,

@@ -11,7 +11,7 @@ use ibc_wire::{MessageKind, encode};
 use std::alloc::{AllocError, Global};
 
 /// Forgeries of one message.
-#[derive(Clone, Copy, Drop)]
+#[derive(Clone, Copy)]
 pub struct Group<'t> {
     kind: MessageKind,
     number: usize,

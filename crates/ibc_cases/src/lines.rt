@@ -3,7 +3,7 @@
 use std::alloc::{AllocError, Global};
 
 /// Lines that stand one below another, and the number of the first in the file, from 1 on.
-#[derive(Clone, Copy, Drop)]
+#[derive(Clone, Copy)]
 pub struct Lines<'t> {
     pub number: usize,
     pub texts: &'t [&'t [u8]],

@@ -28,7 +28,7 @@ pub struct Log {
 }
 
 /// What came of a run beside one without forgeries.
-#[derive(Clone, Copy, Drop)]
+#[derive(Clone, Copy)]
 pub struct Beside {
     sent: usize,
     groups: usize,
@@ -38,7 +38,7 @@ pub struct Beside {
 }
 
 /// Writes the lines of a script into a log.
-#[derive(Clone, Copy, Drop)]
+#[derive(Clone, Copy)]
 pub struct LogWriter<'l> {
     pub log: &'l Log,
 }

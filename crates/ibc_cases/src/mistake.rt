@@ -6,7 +6,7 @@ use std::alloc::{AllocError, AllocFailed};
 use std::{fmt, io};
 
 /// What is wrong with a line.
-#[derive(Clone, Copy, Drop)]
+#[derive(Clone, Copy)]
 pub enum Mistake {
     /// A part is of no kind, or forges messages of no kind.
     Kind,
@@ -23,14 +23,14 @@ pub enum Mistake {
 }
 
 /// A line, by its number in the file from 1 on, with what is wrong.
-#[derive(Clone, Copy, Drop)]
+#[derive(Clone, Copy)]
 pub struct Wrong {
     pub line: usize,
     pub mistake: Mistake,
 }
 
 /// Why a forged message can't be made: a mistake of its line, or a refusal.
-#[derive(Clone, Copy, Drop)]
+#[derive(Clone, Copy)]
 pub enum Unmade {
     Mistake(Mistake),
     Refusal(Refusal),

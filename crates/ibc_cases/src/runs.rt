@@ -110,7 +110,7 @@ pub fn print_script<W: Write>(
 }
 
 /// A run of the program: its word, its input, and how many reads and writes don't fail.
-#[derive(Clone, Copy, Drop)]
+#[derive(Clone, Copy)]
 pub struct Run<'t> {
     pub word: &'t str,
     pub script: &'t [u8],

@@ -16,7 +16,7 @@ pub struct SpelledMessage {
 }
 
 // Where a field stands: from its beginning, to its content, and to its end.
-#[derive(Clone, Copy, Drop)]
+#[derive(Clone, Copy)]
 struct FieldSpan {
     form: Form,
     start: usize,

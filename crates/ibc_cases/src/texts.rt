@@ -6,7 +6,7 @@ use std::io;
 use std::io::Write;
 
 /// How many texts are scripts, and how many are none.
-#[derive(Clone, Copy, Drop)]
+#[derive(Clone, Copy)]
 pub struct Judged {
     scripts: u32,
     others: u32,

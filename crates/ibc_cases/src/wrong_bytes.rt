@@ -4,13 +4,13 @@ use crate::mistake::{Mistake, number_of};
 use std::alloc::{AllocError, Global};
 
 /// Numbers that look random: the upper bits of x, 6364136223846793005 x + 1442695040888963407 modulo 2^64, and so on.
-#[derive(Clone, Copy, Drop)]
+#[derive(Clone, Copy)]
 pub struct Numbers {
     state: u64,
 }
 
 /// How many messages with wrong bytes are meant, and the number that tells which bytes.
-#[derive(Clone, Copy, Drop)]
+#[derive(Clone, Copy)]
 pub struct WrongBytes {
     pub seed: u64,
     pub count: u64,

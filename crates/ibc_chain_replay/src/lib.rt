@@ -8,6 +8,3 @@ mod publishing;
 mod replaying;
 
 pub use replaying::{ChainDifference, replay_chain};
-
-#[cfg(test)]
-mod tests;

@@ -24,9 +24,9 @@ use Rattle.ibc_machine.specs.ics04.Channels.{channel_end, peer_channel_of, count
 use Rattle.ibc_records.specs.RecordsModel.{RecordsModel, core_of, SetsChannelEnd}
 use Rattle.ibc_records.specs.HandlerContract.{AreWrittenRecords}
 use Rattle.ibc_records.proofs.WrittenRecords.{sets_channel_end_written}
-use Rattle.ibc_client.specs.Claims.{proof_checked}
-use Rattle.ibc_client.specs.Peers.{IsPeerShown, end_bytes, text_of}
-use Rattle.ibc_client.proofs.Claimed.{peer_shown}
+use Rattle.ibc_records.specs.Claims.{proof_checked}
+use Rattle.ibc_records.specs.Peers.{IsPeerShown, end_bytes, text_of}
+use Rattle.ibc_records.proofs.Claimed.{peer_shown}
 use Rattle.ibc_channel.specs.ChannelHandshake.{end_at, with_end, require_connection}
 
 -- ---- a connection

@@ -30,9 +30,9 @@ use Rattle.ibc_machine.specs.ics04.Channels.{channel_end, client_of, peer_channe
 use Rattle.ibc_machine.proofs.PassedChecks.{pass, find, unused}
 use Rattle.ibc_records.specs.RecordsModel.{RecordsModel, core_of}
 use Rattle.ibc_records.specs.HandlerContract.{IsTakenMessage, host_with}
-use Rattle.ibc_client.specs.ProofVerdicts.{IsPassed}
-use Rattle.ibc_client.specs.Peers.{IsPeerShown}
-use Rattle.ibc_client.proofs.Judging.{IsRefusedBy, refuses, unread, untaken}
+use Rattle.ibc_records.specs.ProofVerdicts.{IsPassed}
+use Rattle.ibc_records.specs.Peers.{IsPeerShown}
+use Rattle.ibc_records.proofs.Judging.{IsRefusedBy, refuses, unread, untaken}
 use Rattle.ibc_channel.specs.ChannelHandshake.{end_at, with_end, new_end, init_end, try_end, after_ack, end_in_state, require_connection, require_open, expected_init_end, expected_try_end}
 use Rattle.ibc_channel.specs.FollowedPeers.{require_follows, follow_peer}
 

@@ -37,7 +37,7 @@ pub fn check_number(records: &Records) -> Result<(), Refusal>
     ensures checked { result ≡ require_number records.now.next_channel }
     ensures free { IfOk result (λ _. records.now.next_channel < 2 ^ 64 - 1) }
 {
-    ibc_client::check_number(records.next_channel())
+    ibc_records::check_number(records.next_channel())
 }
 
 /// The end is in this state, or else `WrongState`.

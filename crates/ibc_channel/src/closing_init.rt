@@ -5,14 +5,13 @@ ghost use Rattle.ibc_machine.specs.declared.reply.Effect.TheVariants as effect;
 ghost use Rattle.ibc_machine.specs.ics04.Channels.{chan_close_init};
 ghost use Rattle.ibc_records.specs.RecordsModel.{core_of};
 ghost use Rattle.ibc_records.specs.HandlerContract.{IsHandled};
-ghost use Rattle.ibc_client.specs.ProofVerdicts.{IsJudged};
+ghost use Rattle.ibc_records.specs.ProofVerdicts.{IsJudged};
 ghost use Rattle.ibc_channel.specs.ChannelHandshake.{end_at, with_set_end};
 
 use crate::checks::check_state;
 use crate::ends::{find_end, move_end, set_end};
-use ibc_app_port::App;
 use ibc_ids::Refusal;
-use ibc_records::Records;
+use ibc_records::{App, Records};
 use ibc_wire::{ChanCloseInit, ChannelEnd, ChannelState};
 
 /// Closes a channel from this side, where the application of its port lets it be closed (ICS 4, "chanCloseInit").

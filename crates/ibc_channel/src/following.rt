@@ -7,17 +7,18 @@ ghost use Rattle.ibc_machine.specs.declared.reply.Effect.TheVariants as effect;
 ghost use Rattle.ibc_machine.specs.ics24.Values.{same_channel_state};
 ghost use Rattle.ibc_records.specs.RecordsModel.{core_of};
 ghost use Rattle.ibc_records.specs.HandlerContract.{IsHandled};
-ghost use Rattle.ibc_client.specs.ProofVerdicts.{IsJudged};
+ghost use Rattle.ibc_records.specs.ProofVerdicts.{IsJudged};
 ghost use Rattle.ibc_channel.specs.ChannelHandshake.{end_at, with_set_end};
 ghost use Rattle.ibc_channel.specs.FollowedPeers as plain;
 ghost use Rattle.ibc_channel.specs.FollowedPeers.{require_follows};
 
 use crate::ends::{find_end, move_end, set_end};
-use ibc_client::{check_claim_with, claim_peer, known_connection, name_or_none, read_proof};
 use ibc_ics23_proof::NodeMemory;
 use ibc_ids::{Bytes, ChannelId, PortId, Refusal};
 use ibc_merkle::Proof;
-use ibc_records::Records;
+use ibc_records::{
+    Records, check_claim_with, claim_peer, known_connection, name_or_none, read_proof,
+};
 use ibc_wire::{ChannelEnd, ChannelState};
 use std::alloc::Global;
 

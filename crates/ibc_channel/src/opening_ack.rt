@@ -7,17 +7,16 @@ ghost use Rattle.ibc_machine.specs.ics04.Channels.{chan_open_ack};
 ghost use Rattle.ibc_machine.specs.chain.Records.{connection_at, is_known_height};
 ghost use Rattle.ibc_records.specs.RecordsModel.{core_of};
 ghost use Rattle.ibc_records.specs.HandlerContract.{IsHandled};
-ghost use Rattle.ibc_client.specs.ProofVerdicts.{IsJudged};
-ghost use Rattle.ibc_client.specs.Peers.{IsPeerShown};
+ghost use Rattle.ibc_records.specs.ProofVerdicts.{IsJudged};
+ghost use Rattle.ibc_records.specs.Peers.{IsPeerShown};
 ghost use Rattle.ibc_channel.specs.ChannelHandshake.{expected_try_end, end_at, with_set_end};
 
 use crate::checks::{check_open, check_state};
 use crate::ends::{find_end, new_end, set_end};
-use ibc_client::{check_claim_with, claim_peer, known_connection, read_proof};
 use ibc_ics23_proof::NodeMemory;
 use ibc_ids::Refusal;
 use ibc_merkle::Proof;
-use ibc_records::Records;
+use ibc_records::{Records, check_claim_with, claim_peer, known_connection, read_proof};
 use ibc_wire::{ChanOpenAck, ChannelEnd, ChannelState, ConnectionEnd};
 use std::alloc::Global;
 

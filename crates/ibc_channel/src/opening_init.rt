@@ -8,14 +8,13 @@ ghost use Rattle.ibc_machine.specs.ics04.Channels.{chan_open_init};
 ghost use Rattle.ibc_machine.specs.chain.Checks.{require};
 ghost use Rattle.ibc_records.specs.RecordsModel.{core_of};
 ghost use Rattle.ibc_records.specs.HandlerContract.{IsHandled};
-ghost use Rattle.ibc_client.specs.ProofVerdicts.{IsJudged};
+ghost use Rattle.ibc_records.specs.ProofVerdicts.{IsJudged};
 ghost use Rattle.ibc_channel.specs.ChannelHandshake.{new_end, init_end};
 
 use crate::checks::{check_connection, check_number};
 use crate::ends::{add_channel, new_end};
-use ibc_app_port::App;
 use ibc_ids::{ChannelId, Refusal};
-use ibc_records::Records;
+use ibc_records::{App, Records};
 use ibc_wire::{ChanOpenInit, ChannelState};
 use std::alloc::Global;
 

@@ -10,18 +10,16 @@ ghost use Rattle.ibc_machine.specs.chain.Checks.{require};
 ghost use Rattle.ibc_machine.specs.chain.Records.{connection_at, is_known_height};
 ghost use Rattle.ibc_records.specs.RecordsModel.{core_of};
 ghost use Rattle.ibc_records.specs.HandlerContract.{IsHandled};
-ghost use Rattle.ibc_client.specs.ProofVerdicts.{IsJudged};
-ghost use Rattle.ibc_client.specs.Peers.{IsPeerShown};
+ghost use Rattle.ibc_records.specs.ProofVerdicts.{IsJudged};
+ghost use Rattle.ibc_records.specs.Peers.{IsPeerShown};
 ghost use Rattle.ibc_channel.specs.ChannelHandshake.{new_end, expected_init_end};
 
 use crate::checks::{check_connection, check_number, check_open};
 use crate::ends::{add_channel, new_end};
-use ibc_app_port::App;
-use ibc_client::{check_claim_with, claim_peer, known_connection, read_proof};
 use ibc_ics23_proof::NodeMemory;
 use ibc_ids::{ChannelId, Refusal};
 use ibc_merkle::Proof;
-use ibc_records::Records;
+use ibc_records::{App, Records, check_claim_with, claim_peer, known_connection, read_proof};
 use ibc_wire::{ChanOpenTry, ChannelEnd, ChannelState, ConnectionEnd};
 use std::alloc::Global;
 

@@ -25,8 +25,8 @@ use Rattle.ibc_machine.specs.ics03.Connections.{has_connection, has_client, may_
 use Rattle.ibc_machine.proofs.PassedChecks.{pass, fail, find, miss, unused}
 use Rattle.ibc_records.specs.RecordsModel.{RecordsModel, core_of}
 use Rattle.ibc_records.specs.HandlerContract.{IsTakenMessage, host_with}
-use Rattle.ibc_client.specs.ProofVerdicts.{require_client, IsPassed}
-use Rattle.ibc_client.proofs.Judging.{IsRefusedBy, refuses, untaken}
+use Rattle.ibc_records.specs.ProofVerdicts.{require_client, IsPassed}
+use Rattle.ibc_records.proofs.Judging.{IsRefusedBy, refuses, untaken}
 use Rattle.ibc_connection.specs.declared.claims.Proofs.{Proofs}
 use Rattle.ibc_connection.specs.ConnectionHandshake.{AreProofs, new_end, init_end, try_end, after_ack, after_confirm, expected_init_end, expected_try_end, expected_open_end}
 

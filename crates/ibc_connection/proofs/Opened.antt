@@ -14,7 +14,7 @@ use Rattle.ibc_machine.specs.ics03.Connections.{with_new_connection}
 use Rattle.ibc_records.specs.RecordsModel.{RecordsModel, core_of, IsUnchanged, SetsConnection}
 use Rattle.ibc_records.specs.HandlerContract.{IsTakenMessage, AreWrittenRecords}
 use Rattle.ibc_records.proofs.WrittenRecords.{sets_connection_written}
-use Rattle.ibc_client.proofs.Judging.{added_taken, set_taken}
+use Rattle.ibc_records.proofs.Judging.{added_taken, set_taken}
 use Rattle.ibc_connection.specs.ConnectionHandshake.{new_end}
 
 -- an end was added under the next name, as the result says

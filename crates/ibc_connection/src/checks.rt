@@ -29,7 +29,7 @@ pub fn check_number(records: &Records) -> Result<(), Refusal>
     ensures checked { result ≡ require_number records.now.next_connection }
     ensures free { IfOk result (λ _. records.now.next_connection < 2 ^ 64 - 1) }
 {
-    ibc_client::check_number(records.next_connection())
+    ibc_records::check_number(records.next_connection())
 }
 
 /// Whether the connection is in this state.

@@ -5,14 +5,13 @@ ghost use Rattle.ibc_machine.specs.ics03.Connections.{has_connection, has_client
 ghost use Rattle.ibc_machine.specs.chain.Records.{is_known_height};
 ghost use Rattle.ibc_wire.specs.Reading.{proof_of};
 ghost use Rattle.ibc_records.specs.RecordsModel.{core_of};
-ghost use Rattle.ibc_client.specs.ProofVerdicts.{IsShown};
+ghost use Rattle.ibc_records.specs.ProofVerdicts.{IsShown};
 ghost use Rattle.ibc_connection.specs.ConnectionHandshake.{AreProofs};
 
-use ibc_client::{check_present_with, read_proof};
 use ibc_ics23_proof::NodeMemory;
 use ibc_ids::{Bytes, ClientId, ConnectionId, Key, Refusal};
 use ibc_merkle::Proof;
-use ibc_records::{Records, client_value, connection_value};
+use ibc_records::{Records, check_present_with, client_value, connection_value, read_proof};
 use ibc_wire::{ClientState, ConnectionEnd};
 use std::alloc::Global;
 

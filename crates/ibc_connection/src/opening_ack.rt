@@ -7,16 +7,15 @@ ghost use Rattle.ibc_machine.specs.chain.Records as plain;
 ghost use Rattle.ibc_machine.specs.chain.Records.{connection_at, with_connection};
 ghost use Rattle.ibc_records.specs.RecordsModel.{core_of};
 ghost use Rattle.ibc_records.specs.HandlerContract.{IsHandled, host_with};
-ghost use Rattle.ibc_client.specs.ProofVerdicts.{IsJudged, IsShown};
+ghost use Rattle.ibc_records.specs.ProofVerdicts.{IsJudged, IsShown};
 ghost use Rattle.ibc_connection.specs.ConnectionHandshake.{AreProofs, after_ack, expected_try_end};
 
 use crate::checks::{is_in_state, names_host};
 use crate::claims::{Proofs, check_client_state, check_connection, read_proofs};
-use ibc_client::knows;
 use ibc_ics23_proof::NodeMemory;
 use ibc_ids::Refusal;
 use ibc_merkle::Proof;
-use ibc_records::Records;
+use ibc_records::{Records, knows};
 use ibc_wire::{ConnOpenAck, ConnectionEnd, ConnectionState};
 use std::alloc::Global;
 

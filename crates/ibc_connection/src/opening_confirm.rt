@@ -6,17 +6,16 @@ ghost use Rattle.ibc_machine.specs.ics03.Connections.{conn_open_confirm, has_con
 ghost use Rattle.ibc_machine.specs.chain.Records.{is_known_height, with_connection};
 ghost use Rattle.ibc_records.specs.RecordsModel.{core_of};
 ghost use Rattle.ibc_records.specs.HandlerContract.{IsHandled};
-ghost use Rattle.ibc_client.specs.ProofVerdicts.{IsJudged, IsShown};
+ghost use Rattle.ibc_records.specs.ProofVerdicts.{IsJudged, IsShown};
 ghost use Rattle.ibc_wire.specs.Reading.{proof_of};
 ghost use Rattle.ibc_connection.specs.ConnectionHandshake.{expected_open_end};
 
 use crate::checks::check_state;
 use crate::claims::check_connection;
-use ibc_client::{check_known, read_proof};
 use ibc_ics23_proof::NodeMemory;
 use ibc_ids::{ConnectionId, Refusal};
 use ibc_merkle::Proof;
-use ibc_records::Records;
+use ibc_records::{Records, check_known, read_proof};
 use ibc_wire::{ConnOpenConfirm, ConnectionEnd, ConnectionState};
 use std::alloc::Global;
 

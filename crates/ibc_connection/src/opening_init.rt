@@ -7,9 +7,8 @@ ghost use Rattle.ibc_machine.specs.ics03.Connections.{conn_open_init};
 ghost use Rattle.ibc_records.specs.HandlerContract.{IsHandled};
 
 use crate::checks::{add_connection, check_number};
-use ibc_client::check_client;
 use ibc_ids::{ConnectionId, Refusal};
-use ibc_records::Records;
+use ibc_records::{Records, check_client};
 use ibc_wire::{ConnOpenInit, ConnectionEnd, ConnectionState};
 use std::alloc::Global;
 

@@ -7,16 +7,15 @@ ghost use Rattle.ibc_machine.specs.ics03.Connections.{conn_open_try, has_connect
 ghost use Rattle.ibc_machine.specs.chain.Records.{is_known_height};
 ghost use Rattle.ibc_records.specs.RecordsModel.{core_of};
 ghost use Rattle.ibc_records.specs.HandlerContract.{IsHandled, host_with};
-ghost use Rattle.ibc_client.specs.ProofVerdicts.{IsJudged, IsShown};
+ghost use Rattle.ibc_records.specs.ProofVerdicts.{IsJudged, IsShown};
 ghost use Rattle.ibc_connection.specs.ConnectionHandshake.{AreProofs, new_end, expected_init_end, try_end};
 
 use crate::checks::{add_connection, check_number, names_host};
 use crate::claims::{Proofs, check_client_state, check_connection, read_proofs};
-use ibc_client::{check_client, check_known};
 use ibc_ics23_proof::NodeMemory;
 use ibc_ids::{ConnectionId, Refusal};
 use ibc_merkle::Proof;
-use ibc_records::Records;
+use ibc_records::{Records, check_client, check_known};
 use ibc_wire::{ConnOpenTry, ConnectionEnd, ConnectionState};
 use std::alloc::Global;
 

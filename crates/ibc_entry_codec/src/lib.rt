@@ -7,6 +7,3 @@ mod stored;
 
 pub use answer::EntryAnswer;
 pub use stored::{EntryBytes, lemma_bytes_are_of_one_entry, restore, store};
-
-#[cfg(test)]
-mod tests;

@@ -3,7 +3,7 @@ use Rattle.std.specs.Prelude.{◌≡◌, ◌+◌, Ok}
 use Rattle.ibc_machine.specs.ics23.HashedTexts.{HasNoClash}
 use Rattle.ibc_machine.specs.promises.Totals.{totals}
 use Rattle.ibc_refinement.specs.World.{WorldState}
-use Rattle.ibc_theorem.specs.EveryWorld.{states_of}
+use Rattle.ibc_world_core.specs.EveryWorld.{states_of}
 use Rattle.ibc_world_core.specs.Totals.{abstract_totals}
 use Rattle.ibc_explain.specs.declared.totals.ChannelTotal.{ChannelTotal}
 

@@ -2,7 +2,7 @@
 
 ghost use Rattle.std.specs.Prelude.{◌≡◌, ◌⊎◌, ◌≤◌, ◌∷◌, [], IfErr, IfOk, Some, length, map};
 ghost use Rattle.ibc_machine.specs.chain.Genesis.{genesis_state};
-ghost use Rattle.ibc_theorem.specs.EveryWorld.{IsLawfulUnlessClash};
+ghost use Rattle.ibc_world_core.specs.EveryWorld.{IsLawfulUnlessClash};
 ghost use Rattle.ibc_script.specs.Faults.{IsRunFault};
 ghost use Rattle.ibc_script_cli.specs.Runs.{Reached, acts_of};
 ghost use Rattle.ibc_script_cli.specs.Runs.Act.{Take};
@@ -13,8 +13,7 @@ use crate::{Absent, EntryPlace, Watched};
 use ibc_script::{ChainName, Fault, Script, Step};
 use ibc_script_cli::{Runner, Worlds};
 use ibc_script_worlds::{ScriptWorld, WorldFactory};
-use ibc_theorem::lemma_what_every_world_keeps;
-use ibc_world_core::World;
+use ibc_world_core::{World, lemma_what_every_world_keeps};
 use std::alloc::Global;
 
 /// A step of a run: how long the printed text is behind it, and what it looked for first that isn't there.

@@ -8,9 +8,8 @@ use crate::text::name_of;
 use ibc_ids::{ChannelId, Denom, Refusal};
 use ibc_machine::{Effect, Entry, Event, Reply, Totals};
 use ibc_script::ChainName;
-use ibc_theorem::balanced_totals;
 use ibc_wire::Message;
-use ibc_world_core::World;
+use ibc_world_core::{World, balanced_totals};
 use std::alloc::{AllocError, Global};
 
 /// A denomination that went out over a channel of a chain.

@@ -6,7 +6,7 @@ ghost use Rattle.ibc_machine.specs.chain.Genesis.{genesis_state, is_allowed};
 ghost use Rattle.ibc_refinement.specs.World.{AreNew};
 ghost use Rattle.ibc_world_core.specs.WorldModel.{ledgers_alone};
 ghost use Rattle.ibc_world_core.specs.WorldAudits.{IsAudit, is_whole};
-ghost use Rattle.ibc_theorem.specs.EveryAudit.{AreLawful};
+ghost use Rattle.ibc_world_core.specs.EveryAudit.{AreLawful};
 ghost use Rattle.ibc_handle.specs.LedgersModel.{AreStill, Joins};
 ghost use Rattle.ibc_handle.specs.Joining.{JoinsIfSameNumber, with_member};
 ghost use Rattle.ibc_handle.specs.declared.ledgers.NotJoined.TheVariants.{OtherWorld, NoMemory as NoRoom};
@@ -15,8 +15,7 @@ use crate::WorldLedger;
 use ibc_ids::Refusal;
 use ibc_ledger::Ledger;
 use ibc_machine::Genesis;
-use ibc_theorem::lawful_audit_in_place;
-use ibc_world_core::{Audit, World};
+use ibc_world_core::{Audit, World, lawful_audit_in_place};
 use std::alloc::Global;
 use std::marker::Model;
 

@@ -5,7 +5,7 @@ use Rattle.std.specs.Prelude.{if◌then◌else◌}
 use Rattle.std.proofs.lemmas.Bool.{cases_lt}
 use Rattle.std.specs.Int.Signed.{lt_z_yes}
 use Rattle.std.specs.Cmp.{int_cmp_is}
-use Rattle.std.specs.Ordering.{is_eq, is_ge}
+use Rattle.std.specs.Ordering.{is_eq, is_ge, is_lt}
 use Rattle.std.specs.List.{flat_map, list_all}
 use Rattle.std.specs.List.Sorted.{IsPermutation}
 use Rattle.std.proofs.lemmas.List.Sorted.{length_permutation}
@@ -25,7 +25,7 @@ use Rattle.sqlite_value.proofs.OrderLemmas.{value_cmp-Int}
 use Rattle.ibc_journal.specs.Tables.{journal_schema, JournalItem, beginning_row, row_at, rows_from, IsJournal}
 use Rattle.ibc_journal.specs.Shown.{shown_row, shown_rows, shown_beginning}
 use Rattle.ibc_journal.specs.Crashes.{LeavesNothing}
-use Rattle.ibc_journal.proofs.Statements.{select_text, select_query, select_names, select_is, select_plain, behind_text, behind_query, behind_is, behind_plain, began_text, began_query, began_is, began_plain}
+use Rattle.ibc_journal.proofs.Statements.{select_text, select_query, select_names, select_is, select_plain, behind_text, behind_query, behind_is, behind_plain, before_text, before_query, before_is, before_plain, began_text, began_query, began_is, began_plain}
 use Rattle.ibc_journal.proofs.Parts.{below}
 
 abbrev pub params_at : ℕ → Row
@@ -198,6 +198,60 @@ module _ (old new : State) (genesis : List ℕ) (items : List JournalItem) (has 
 pub ends_nothing : (old : State) (params : Row) (db : Trees) → CommitsShowing behind_text params old db → LeavesNothing old db
 ends_nothing old params db may genesis items has =
     never_commits behind_text params old db (subst (λ s. IsPlain (understood s behind_text)) (sym has.schema) behind_plain) may
+
+-- ---- the places before the first
+
+-- what the query keeps of a row
+abbrev early : ℕ → Row → List Env
+early n r = if list_all (holds (params_at n ∷ r ∷ [])) before_query.filter then (params_at n ∷ r ∷ []) ∷ [] else []
+
+early_by : (n p : ℕ) (it : JournalItem) (b : Bool) → is_lt (value_cmp (Int (pos p)) (Int (pos n))) ≡ b → early n (row_at p it) ≡ cond b ((params_at n ∷ row_at p it ∷ []) ∷ []) []
+unfolding binary
+early_by n p it b is =
+    ap (λ (t : Bool). cond (list_all (λ (x : Bool). x) (is_true (from_truth (Some t)) ∷ [])) ((params_at n ∷ row_at p it ∷ []) ∷ []) []) is ∙ kept_if n (row_at p it) b
+
+-- no place is before 0
+not_early : (p : ℕ) → is_lt (value_cmp (Int (pos p)) (Int (pos 0))) ≡ false
+not_early p =
+    elim (cases_lt 0 p) [
+      | inl more ↦
+          let greater : pos 0 <ℤ pos p = lt_z_yes (yes_ltb more) in
+          ap is_lt (value_cmp-Int (pos p) (pos 0) ∙ sym (int_cmp_is (pos p) (pos 0) Greater greater))
+      | inr none ↦
+          let zero_is : 0 ≡ p = omega (arith, none) in
+          subst (λ k. is_lt (value_cmp (Int (pos k)) (Int (pos 0))) ≡ false) zero_is (ap is_lt (value_cmp-Int (pos 0) (pos 0) ∙ sym (int_cmp_is (pos 0) (pos 0) Equal refl)))
+    ]
+
+none_early : (from : ℕ) (its : List JournalItem) → flat_map (early 0) (rows_from from its) ≡ []
+none_early from [] = refl
+none_early from (i ∷ its) = ap (λ l. l ++ flat_map (early 0) (rows_from (from + 1) its)) (early_by 0 from i false (not_early from)) ∙ none_early (from + 1) its
+
+nothing_early : (db : Trees) (rows : List Row) (a : IsAnswerAs Null before_query db (params_at 0) rows) → a.staged ≡ [] → rows ≡ []
+nothing_early db rows a staged =
+    let kept : a.kept ≡ [] = a.distinct ∙ ap (map (output before_query)) staged in
+    let ordered : a.ordered ≡ [] = none_of_none a.ordered (length_permutation [] a.ordered (subst (λ k. IsPermutation k a.ordered) kept a.same)) in
+    a.shown ∙ ap (λ xs. page before_query (params_at 0) (map (λ (p : Output). p.1) xs)) ordered
+
+module _ (old new : State) (genesis : List ℕ) (items : List JournalItem) (has : IsJournal old.now genesis items) (rows : List Row) (shows : Shown before_text (params_at 0) old new rows) where
+  pub begins_at_first : rows ≡ []
+  begins_at_first =
+      let it = reads_as before_text (params_at 0) old new journal_schema has.schema (Select (record { lets = []; body = before_query }) (codes "place" ∷ [])) before_is.0 before_plain before_is.1 rows shows in
+      let a : IsAnswerAs Null before_query (overlay old.now.trees []) (params_at 0) rows = it.answer Null in
+      let staged : a.staged ≡ [] = a.grouped ∙ ap (flat_map (early 0)) has.rows.entries ∙ none_early 0 items in
+      nothing_early (overlay old.now.trees []) rows a staged
+
+  pub first_unchanged : IsUnchanged old new
+  unfolding Shown
+  first_unchanged =
+      let plain = subst (λ s. IsPlain (understood s before_text)) (sym has.schema) before_plain in
+      let none = (subst IsPlain shows.1.is plain).0 in
+      let full = timed (params_at 0) shows.0.formats shows.1.now in
+      let it = subst (ShowsRows old new before_text shows.0 full rows) none shows.2 in
+      it.3
+
+pub first_nothing : (old : State) (params : Row) (db : Trees) → CommitsShowing before_text params old db → LeavesNothing old db
+first_nothing old params db may genesis items has =
+    never_commits before_text params old db (subst (λ s. IsPlain (understood s before_text)) (sym has.schema) before_plain) may
 
 -- ---- the beginning
 

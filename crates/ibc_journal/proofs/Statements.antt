@@ -6,7 +6,7 @@ use Rattle.sqlite.specs.Term.{Term, lit, col, op2}
 use Rattle.sqlite.specs.Query.{Query, inner, end}
 use Rattle.sqlite.specs.Schema.{Schema}
 use Rattle.sqlite_sql.specs.declared.ops.BinaryOp.TheVariants as by
-use Rattle.sqlite_sql.specs.declared.ops.CompareOp.TheVariants.{Eq, Ge}
+use Rattle.sqlite_sql.specs.declared.ops.CompareOp.TheVariants.{Eq, Ge, Lt}
 use Rattle.sqlite.specs.Source.TheVariants.{Values}
 use Rattle.sqlite.specs.Command.TheVariants.{Insert, CreateTable, Begin, Commit, Select}
 use Rattle.sqlite.specs.Compile.{table_defined_by}
@@ -149,6 +149,33 @@ behind_is = (refl, refl)
 pub behind_plain : IsPlain (understood journal_schema behind_text)
 unfolding understood everything
 behind_plain = (refl, refl)
+
+-- ---- the places before a place
+
+abbrev pub before_text : List ℕ
+before_text = codes "SELECT place FROM entries WHERE place < ?1"
+
+-- the places of the rows whose rowid is an earlier one than the parameter
+abbrev pub before_query : Query
+before_query = record {
+  from = inner 1 end;
+  filter = op2 (by.Compare Lt Binary) (col 1 0) (col 0 0) ∷ [];
+  group = None;
+  project = col 1 0 ∷ [];
+  distinct = false;
+  collations = [];
+  order = [];
+  limit = lit (Int (negsuc 0));
+  offset = lit (Int (pos 0));
+}
+
+pub before_is : (command_of (understood journal_schema before_text) ≡ Select (record { lets = []; body = before_query }) (codes "place" ∷ [])) × (reads_listing journal_schema before_text ≡ false)
+unfolding understood everything
+before_is = (refl, refl)
+
+pub before_plain : IsPlain (understood journal_schema before_text)
+unfolding understood everything
+before_plain = (refl, refl)
 
 -- ---- the beginning is read
 

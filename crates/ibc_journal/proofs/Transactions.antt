@@ -68,7 +68,7 @@ commits_all old new (Err e) h = tt
 commits_all old new (Ok count) h =
     let schema = old.now.schema in
     let ran = runs_as commit_text [] old new schema refl Commit (commit_is schema) (commit_plain schema) count h in
-    record { outside = ran.1.mode; now = ran.1.now_is; committed = ran.1.committed_is }
+    record { outside = ran.1.mode; now = ran.1.now_is; committed = ran.1.committed_is; is_open = ran.1.is_open }
 
 pub commit_leaves : (old : State) (db : Trees) → CommitsBy commit_text [] old db → db ≡ old.now.trees
 commit_leaves old db h =

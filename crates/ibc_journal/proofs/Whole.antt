@@ -117,3 +117,20 @@ pub nothing_then : (old mid new : State) → KeepsJournals old mid
     → Survives old mid (LeavesNothing old) → Survives mid new (LeavesNothing mid) → Survives old new (LeavesNothing old)
 nothing_then old mid new kept one two =
     survives_then old mid new _ _ _ (λ clean db h. h) (λ clean db h. λ genesis items has. h genesis items (kept genesis items has (omega (arith, two.clean, clean)))) one two
+
+-- what is a journal before stays that journal, call by call
+pub keeps_once : (old new : State) → ((genesis : List ℕ) (items : List JournalItem) → IsJournal old.now genesis items → HasCleanDisk new → IsUnchanged old new) → KeepsJournals old new
+keeps_once old new same genesis items has clean = subst (λ d. IsJournal d genesis items) (sym (same genesis items has clean).0.now_is) has
+
+pub unchanged_then : (old mid new : State) → IsUnchanged old mid → IsUnchanged mid new → IsUnchanged old new
+unchanged_then old mid new one two = (
+  record {
+    was_open = one.0.was_open;
+    is_open = two.0.is_open;
+    now_is = two.0.now_is ∙ one.0.now_is;
+    committed_is = two.0.committed_is ∙ one.0.committed_is;
+    mode = two.0.mode ∙ one.0.mode;
+  },
+  record { changes = two.1.changes ∙ one.1.changes; last_rowid = two.1.last_rowid ∙ one.1.last_rowid },
+  two.2 ∙ one.2,
+)

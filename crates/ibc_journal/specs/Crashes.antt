@@ -23,6 +23,7 @@ pub record HasCommitted (old new : State) : Type 0 where
   pub outside : new.in_transaction ≡ false
   pub now : new.now ≡ old.now
   pub committed : new.committed ≡ old.now
+  pub is_open : IsTrue new.is_open
 
 -- nothing is committed, as far as the connection is still open
 abbrev pub KeepsCommitted : State → State → Type 0
@@ -51,6 +52,10 @@ LeavesOutside old place trees =
 -- of a database with no table: a journal that began so, with no entries
 abbrev pub LeavesBegun : State → List ℕ → Trees → Type 0
 LeavesBegun old genesis trees = old.now.schema ≡ no_schema → HasRows genesis [] trees
+
+-- until the next call a crash leaves a journal that began so and has these entries, and nothing else
+abbrev pub Lasts : State → List ℕ → List JournalItem → Type 0
+Lasts s genesis items = (trees : Trees) → s.may_leave trees → HasRows genesis items trees
 
 -- of a journal: nothing
 abbrev pub LeavesNothing : State → Trees → Type 0

@@ -5,7 +5,7 @@ ghost use Rattle.sqlite.specs.State.{HasCleanDisk, Survives};
 ghost use Rattle.sqlite.specs.Held.{state};
 ghost use Rattle.ibc_journal.specs.Tables.{JournalItem, IsJournal};
 ghost use Rattle.ibc_journal.specs.Entries.{item, items_of};
-ghost use Rattle.ibc_journal.specs.Crashes.{HasBegun, HasCommitted, KeepsCommitted, PutsBehind, LeavesWith, LeavesOutside};
+ghost use Rattle.ibc_journal.specs.Crashes.{HasBegun, HasCommitted, KeepsCommitted, PutsBehind, LeavesWith, LeavesOutside, Lasts};
 
 use crate::JournalEntry;
 use sqlite::{Alter, Connection, Error, params};
@@ -24,9 +24,13 @@ pub fn append<S: Alter>(
     // The connection sees what is committed.
     ensures seen { HasCleanDisk (state S.Store conn.new) → OnOk result ((state S.Store conn.new).now ≡ (state S.Store conn.new).committed) }
     ensures outside { HasCleanDisk (state S.Store conn.new) → OnOk result ((state S.Store conn.new).in_transaction ≡ false) }
+    ensures is_open { HasCleanDisk (state S.Store conn.new) → OnOk result (IsTrue (state S.Store conn.new).is_open) }
     // After an error nothing of it is committed, as far as the connection is still open.
     ensures none { (genesis : List ℕ) (items : List JournalItem) → IsJournal (state S.Store conn.old).now genesis items → first ≡ length items
         → HasCleanDisk (state S.Store conn.new) → OnErr result (KeepsCommitted (state S.Store conn.old) (state S.Store conn.new)) }
+    // Once it has told that they are committed, a crash leaves all of them, and nothing less.
+    ensures lasts { (genesis : List ℕ) (items : List JournalItem) → IsJournal (state S.Store conn.old).now genesis items → first ≡ length items
+        → HasCleanDisk (state S.Store conn.new) → OnOk result (Lasts (state S.Store conn.new) genesis (items ++ items_of entries.now)) }
     // A crash at any moment of the call leaves what it could leave before the call, or all of it.
     ensures crash { Survives (state S.Store conn.old) (state S.Store conn.new) (LeavesWith (state S.Store conn.old) first (items_of entries.now)) }
 {

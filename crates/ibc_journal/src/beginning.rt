@@ -4,7 +4,7 @@ ghost use Rattle.std.specs.Prelude.{◌≡◌, ◌∷◌, [], false, List, ℕ, 
 ghost use Rattle.sqlite.specs.State.{HasCleanDisk, Survives};
 ghost use Rattle.sqlite.specs.Held.{state};
 ghost use Rattle.ibc_journal.specs.Tables.{no_schema, meta_schema, journal_schema, IsJournal};
-ghost use Rattle.ibc_journal.specs.Crashes.{GoesOn, KeepsCommitted, LeavesBegun};
+ghost use Rattle.ibc_journal.specs.Crashes.{GoesOn, KeepsCommitted, LeavesBegun, Lasts};
 
 use crate::adding::{commit, start};
 use crate::digests::FORMAT;
@@ -18,6 +18,10 @@ pub fn begin<S: Alter>(conn: &mut Connection<S>, genesis: &[u8]) -> Result<(), E
     // The connection sees what is committed.
     ensures seen { HasCleanDisk (state S.Store conn.new) → OnOk result ((state S.Store conn.new).now ≡ (state S.Store conn.new).committed) }
     ensures outside { HasCleanDisk (state S.Store conn.new) → OnOk result ((state S.Store conn.new).in_transaction ≡ false) }
+    ensures is_open { HasCleanDisk (state S.Store conn.new) → OnOk result (IsTrue (state S.Store conn.new).is_open) }
+    // Once it has told that it is committed, a crash leaves all of it.
+    ensures lasts { (state S.Store conn.old).now.schema ≡ no_schema → HasCleanDisk (state S.Store conn.new)
+        → OnOk result (Lasts (state S.Store conn.new) genesis.now []) }
     // After an error nothing of it is committed, as far as the connection is still open.
     ensures none { (state S.Store conn.old).now.schema ≡ no_schema → HasCleanDisk (state S.Store conn.new)
         → OnErr result (KeepsCommitted (state S.Store conn.old) (state S.Store conn.new)) }

@@ -1,6 +1,6 @@
 //! A journal is read from its first entry on, and each digest is compared with the one that is due.
 
-ghost use Rattle.std.specs.Prelude.{◌≡◌, ◌≢◌, ◌⊎◌, ◌+◌, ◌≤◌, ◌^◌, Option, None, List, ℕ, Ok, Err, length, slice_get, option_map, IfOk, IfErr, IfSome, IsTrue, OnOk, OnErr};
+ghost use Rattle.std.specs.Prelude.{◌≡◌, ◌≢◌, false, ◌⊎◌, ◌+◌, ◌≤◌, ◌^◌, Option, None, List, ℕ, Ok, Err, length, slice_get, option_map, IfOk, IfErr, IfSome, IsTrue, OnOk, OnErr};
 ghost use Rattle.sqlite.specs.State.{HasCleanDisk, IsUnchanged, Survives};
 ghost use Rattle.sqlite.specs.Held.{state};
 ghost use Rattle.ibc_journal.specs.Tables.{JournalItem, IsJournal};
@@ -9,11 +9,14 @@ ghost use Rattle.ibc_journal.specs.Shown.{shown_row, shown_rows};
 ghost use Rattle.ibc_journal.specs.Digests.{digest_after, HasReadTo, HasReadAll, IsDamagedAt, IsFirstDamage};
 ghost use Rattle.ibc_journal.specs.Faults.{IsOfReading, IsOfEnding};
 ghost use Rattle.ibc_journal.specs.Crashes.{LeavesNothing};
-ghost use Rattle.ibc_journal.specs.declared.fault.JournalFault.TheVariants.{Damaged, Full, Gap};
+ghost use Rattle.ibc_journal.specs.declared.fault.JournalFault.TheVariants.{Damaged, Early, Full, Gap};
 
 use crate::digests::{digest_after, first_digest};
 use crate::{JournalEntry, JournalFault};
 use sqlite::{Alter, Connection, Error, Row, params};
+
+// The place of the first entry.
+const FIRST: u32 = 0;
 
 // How many places a reader can name, and so no journal has more entries.
 const PLACES: u64 = 1 << 32;
@@ -96,10 +99,12 @@ pub fn audit<S: Alter>(conn: &mut Connection<S>, genesis: &[u8]) -> Result<Curso
     Err(JournalFault::Full)
 }
 
-/// Whether the journal ends where its reader has come to. Error: `Gap` where it doesn't.
+/// Whether the journal ends where its reader has come to. Error: `Gap` where it doesn't; `Early` where there is an entry before place 0.
 pub fn end_at<S: Alter>(conn: &mut Connection<S>, cursor: &Cursor) -> Result<(), JournalFault>
     ensures end { (genesis : List ℕ) (items : List JournalItem) → IsJournal (state S.Store conn.old).now genesis items → cursor.now.place ≡ length items
         → HasCleanDisk (state S.Store conn.new) → IfErr result (λ fault. (place : ℕ) → fault ≢ Gap place) }
+    ensures early { (genesis : List ℕ) (items : List JournalItem) → IsJournal (state S.Store conn.old).now genesis items
+        → HasCleanDisk (state S.Store conn.new) → IfErr result (λ fault. fault ≢ Early) }
     ensures ended { (genesis : List ℕ) (items : List JournalItem) → IsJournal (state S.Store conn.old).now genesis items
         → HasCleanDisk (state S.Store conn.new) → OnOk result (length items ≤ cursor.now.place) }
     ensures faults { IfErr result (IsOfEnding cursor.now.place) }
@@ -107,11 +112,27 @@ pub fn end_at<S: Alter>(conn: &mut Connection<S>, cursor: &Cursor) -> Result<(),
         → HasCleanDisk (state S.Store conn.new) → OnOk result (IsUnchanged (state S.Store conn.old) (state S.Store conn.new)) }
     ensures crash { Survives (state S.Store conn.old) (state S.Store conn.new) (LeavesNothing (state S.Store conn.old)) }
 {
-    if is_end(conn, cursor.place)? {
-        Ok(())
-    } else {
-        Err(JournalFault::Gap(cursor.place))
+    if !is_end(conn, cursor.place)? {
+        return Err(JournalFault::Gap(cursor.place));
     }
+    if has_early(conn)? {
+        return Err(JournalFault::Early);
+    }
+    Ok(())
+}
+
+// Whether there is an entry before the first place.
+fn has_early<S: Alter>(conn: &mut Connection<S>) -> Result<bool, Error>
+    ensures none { (genesis : List ℕ) (items : List JournalItem) → IsJournal (state S.Store conn.old).now genesis items
+        → HasCleanDisk (state S.Store conn.new) → IfOk result (λ has. has ≡ false) }
+    ensures same { (genesis : List ℕ) (items : List JournalItem) → IsJournal (state S.Store conn.old).now genesis items
+        → HasCleanDisk (state S.Store conn.new) → OnOk result (IsUnchanged (state S.Store conn.old) (state S.Store conn.new)) }
+    ensures crash { Survives (state S.Store conn.old) (state S.Store conn.new) (LeavesNothing (state S.Store conn.old)) }
+{
+    let rows = conn.query_all("SELECT place FROM entries WHERE place < ?1", params![FIRST])?;
+    let is_empty = rows.as_slice().is_empty();
+    drop(rows);
+    Ok(!is_empty)
 }
 
 // Whether there is no entry at a place or behind it.

@@ -14,6 +14,10 @@ pub enum JournalFault {
     Damaged(u32),
     /// There is no entry at this place, and there are some behind it.
     Gap(u32),
+    /// There is an entry before place 0.
+    Early,
+    /// The first table has no row, or more than one.
+    Beginnings,
     /// There is an entry at place 2^32 - 1, where no journal has one.
     Full,
 }
@@ -35,6 +39,8 @@ impl fmt::Display for JournalFault {
                 f,
                 "there is no entry at place {place}, and there are some behind it"
             ),
+            JournalFault::Early => f.write_str("there is an entry before place 0"),
+            JournalFault::Beginnings => f.write_str("the journal hasn't one beginning"),
             JournalFault::Full => f.write_str("the journal has more entries than one may have"),
         }
     }

@@ -21,6 +21,3 @@ pub use entry::JournalEntry;
 pub use fault::JournalFault;
 pub use looking::{Beginning, Looks, beginning_of, look};
 pub use opening::open_journal;
-
-#[cfg(test)]
-mod tests;

@@ -1,6 +1,6 @@
 //! What a file holds, and how its journal began.
 
-ghost use Rattle.std.specs.Prelude.{◌≡◌, [], ◌∷◌, IfOk, IsTrue, List, OnOk, Some, pos, ℕ, Ok};
+ghost use Rattle.std.specs.Prelude.{◌≡◌, [], ◌∷◌, IfOk, IsTrue, List, OnOk, Some, pos, ℕ, Ok, ⊤};
 ghost use Rattle.sqlite.specs.State.{HasCleanDisk, IsUnchanged, Survives};
 ghost use Rattle.sqlite.specs.Held.{state};
 ghost use Rattle.ibc_journal.specs.Tables.{no_schema, meta, entries, journal_schema, JournalItem, IsJournal};
@@ -9,6 +9,7 @@ ghost use Rattle.ibc_journal.specs.Plain.{plain_column, AreNumbers, AreBytes, Is
 ghost use Rattle.ibc_journal.specs.Crashes.{LeavesNothing};
 ghost use Rattle.ibc_journal.specs.declared.looking.Looks.TheVariants.{Empty, Journal};
 
+use crate::JournalFault;
 use crate::digests::FORMAT;
 use sqlite::{Alter, Connection, Error, Row};
 use sqlite_schema::code::Terms;
@@ -44,6 +45,7 @@ pub fn look<S: Alter>(alloc: Global, conn: &mut Connection<S>) -> Result<Looks, 
     ensures journal { result ≡ Ok Journal → ((state S.Store conn.old).now.schema ≡ journal_schema) × (conn.new ≡ conn.old) }
     ensures sees_empty { (state S.Store conn.old).now.schema ≡ no_schema → result ≡ Ok Empty }
     ensures sees_journal { (state S.Store conn.old).now.schema ≡ journal_schema → IfOk result (λ looks. looks ≡ Journal) }
+    ensures crash { Survives (state S.Store conn.old) (state S.Store conn.new) (LeavesNothing (state S.Store conn.old)) }
 {
     if is_empty(conn.schema()) {
         return Ok(Looks::Empty);
@@ -54,8 +56,8 @@ pub fn look<S: Alter>(alloc: Global, conn: &mut Connection<S>) -> Result<Looks, 
     look_at_others(conn)
 }
 
-/// How the journal of a connection began. Error: `QueryReturnedNoRows` where the first table has no row.
-pub fn beginning_of<S: Alter>(conn: &mut Connection<S>) -> Result<Beginning, Error>
+/// How the journal of a connection began. Error: `Beginnings` where the first table has no row, or more than one.
+pub fn beginning_of<S: Alter>(conn: &mut Connection<S>) -> Result<Beginning, JournalFault>
     ensures began { (genesis : List ℕ) (items : List JournalItem) → IsJournal (state S.Store conn.old).now genesis items
         → HasCleanDisk (state S.Store conn.new) → IfOk result (λ began. (began.format ≡ pos 1) × (began.genesis.items ≡ genesis)) }
     ensures same { (genesis : List ℕ) (items : List JournalItem) → IsJournal (state S.Store conn.old).now genesis items
@@ -63,18 +65,18 @@ pub fn beginning_of<S: Alter>(conn: &mut Connection<S>) -> Result<Beginning, Err
     ensures crash { Survives (state S.Store conn.old) (state S.Store conn.new) (LeavesNothing (state S.Store conn.old)) }
 {
     let rows = conn.query_all("SELECT format, genesis FROM meta", &[])?;
-    let found = first_beginning(rows.as_slice());
+    let found = only_beginning(rows.as_slice());
     drop(rows);
     found
 }
 
-// The beginning that the first row shows.
-fn first_beginning(rows: &[Row]) -> Result<Beginning, Error>
+// The beginning that the only row shows.
+fn only_beginning(rows: &[Row]) -> Result<Beginning, JournalFault>
     ensures { (genesis : List ℕ) → rows.now ≡ shown_beginning genesis ∷ [] → IfOk result (λ began. (began.format ≡ pos 1) × (began.genesis.items ≡ genesis)) }
 {
     match rows {
-        [] => Err(Error::QueryReturnedNoRows),
-        [row, ..] => beginning_in(row),
+        [row] => Ok(beginning_in(row)?),
+        _ => Err(JournalFault::Beginnings),
     }
 }
 
@@ -270,16 +272,34 @@ fn is_none(alloc: Global, terms: &Terms) -> Result<bool, AllocError>
 fn look_at_others<S: Alter>(conn: &mut Connection<S>) -> Result<Looks, Error>
     ensures full { IfOk result (λ looks. ¬ (looks ≡ Empty)) }
     ensures other { IfOk result (λ looks. ¬ (looks ≡ Journal)) }
+    ensures survives { Survives (state S.Store conn.old) (state S.Store conn.new) (λ _. ⊤) }
 {
-    match format_of(conn)? {
-        Some(format) if format != i64::from(FORMAT) => Ok(Looks::OfFormat(format)),
-        _ => Ok(Looks::Other),
+    let format = format_of(conn)?;
+    Ok(looks_of(format))
+}
+
+// What a file with other tables looks like, which has this format, or none.
+fn looks_of(format: Option<i64>) -> Looks
+    ensures full { ¬ (result ≡ Empty) }
+    ensures other { ¬ (result ≡ Journal) }
+{
+    match format {
+        Some(format) if format != i64::from(FORMAT) => Looks::OfFormat(format),
+        _ => Looks::Other,
     }
 }
 
 // The format of a journal that isn't of this one.
-fn format_of<S: Alter>(conn: &mut Connection<S>) -> Result<Option<i64>, Error> {
-    match conn.query_row("SELECT format FROM meta", &[]) {
+fn format_of<S: Alter>(conn: &mut Connection<S>) -> Result<Option<i64>, Error>
+    ensures { Survives (state S.Store conn.old) (state S.Store conn.new) (λ _. ⊤) }
+{
+    let found = conn.query_row("SELECT format FROM meta", &[]);
+    format_in(found)
+}
+
+// The format in the only column of a row that was found.
+fn format_in(found: Result<Row, Error>) -> Result<Option<i64>, Error> {
+    match found {
         Ok(row) => Ok(row.get(0).ok()),
         Err(Error::SqliteFailure(code)) => Err(Error::SqliteFailure(code)),
         Err(_) => Ok(None),

@@ -11,8 +11,6 @@ mod movement;
 mod passages;
 mod same_packet;
 mod supplies;
-#[cfg(test)]
-mod tests;
 mod token_places;
 
 pub use arrivals::is_in_time;
@@ -23,4 +21,4 @@ pub use lane::Lane;
 pub use movement::{Movement, Passing};
 pub use passages::{acknowledged_by, received_by, timed_out_by};
 pub use supplies::{HomeSupply, first_changed_supply};
-pub use token_places::{TokenPlace, first_unbalanced};
+pub use token_places::{TokenPlace, first_unbalanced, is_even};

@@ -70,8 +70,8 @@ fn is_too_large(refusal: Refusal) -> bool
     }
 }
 
-// Whether the escrow is the sum of what is out.
-pub(crate) fn is_even(totals: Totals) -> bool
+/// Whether the escrow is the sum of what is out.
+pub fn is_even(totals: Totals) -> bool
     ensures { result ≡ (totals.escrow == totals.vouchers + totals.out + totals.back) }
 {
     match totals.vouchers.checked_add(totals.out) {

@@ -58,7 +58,7 @@ pub use Rattle.ibc_records.specs.RecordsModel.{RecordsModel, core_of, IsUnchange
 pub use Rattle.ibc_records.specs.ClientModels.{ClientModel, with_height}
 pub use Rattle.ibc_records.specs.HandlerContract.{IsTakenMessage, IsTakenWith, IsHandled, IsHandledWith, host_with, AreWrittenRecords}
 pub use Rattle.ibc_records.specs.declared.client.ConsensusState.{ConsensusState}
-pub use Rattle.ibc_client.specs.ClientReplies.{IsUpdated, consensus_of}
+pub use Rattle.ibc_records.specs.ClientReplies.{IsUpdated, consensus_of}
 pub use Rattle.ibc_transfer.proofs.Flight.{same_flight, transfer_keeps_flight, transfer_many_keeps_flight, ack_keeps_flight, timeout_keeps_flight, timeout_on_close_keeps_flight}
 pub use Rattle.ibc_transfer.specs.InFlight.{IsInFlight}
 pub use Rattle.ibc_ledger.specs.HistoryGrowth.{AddsOrNot}

@@ -6,7 +6,7 @@ use Rattle.ibc_ledger.proofs.Common.{ledger_model, LedgerModel, HostState, abstr
 use Rattle.ibc_ledger.proofs.Common.{EffectTwice, result_effects, caller_reply, history_reply, entry_of, stamp_if, IsFittingReading, IsAnswered, IsUpdateAnswer, IsAnswer}
 use Rattle.ibc_machine.proofs.flight.UnchangedChannels.{update_client_burnt}
 use Rattle.ibc_root_table.specs.declared.shape.Shape.{Shape}
-use Rattle.ibc_client.specs.HeaderChecks.{is_reading_update}
+use Rattle.ibc_records.specs.HeaderChecks.{is_reading_update}
 use Rattle.ibc_ledger.specs.declared.outcome.Outcome.{Outcome}
 use Rattle.ibc_machine.specs.declared.reply.Reply.TheVariants as reply
 use Rattle.ibc_wire.specs.declared.messages.Message.TheVariants as message

@@ -9,7 +9,7 @@ use Rattle.ibc_machine.specs.ics24.Values.{ChannelIs}
 use Rattle.ibc_machine.specs.ics04.Channels.{client_of}
 use Rattle.ibc_machine.specs.ics24.Image.{IsKeyed}
 use Rattle.ibc_records.specs.ClientModels.{abstract_client}
-use Rattle.ibc_client.proofs.Updating.{client_at-held}
+use Rattle.ibc_records.proofs.Updating.{client_at-held}
 
 pub no_empty_name : (core : Core) (port : Text) → IsKeyed core → channel_at core port [] ≡ None
 no_empty_name core port keyed = go (channel_at core port []) refl

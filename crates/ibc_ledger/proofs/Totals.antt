@@ -3,7 +3,7 @@ use Rattle.ibc_ledger.proofs.Common.{◌≡◌, ℕ, Bool, ◌+◌, ◌<◌, ◌
 use Rattle.ibc_ledger.proofs.Common.{take_all, length-map, Text, same_text, Holding, ChainState, is_same_holding, is_fair, is_allowed, has_limits, total_of, chain_state, genesis_state, Genesis, ChainStart}
 use Rattle.std.specs.Str.{bytes_eq}
 use Rattle.std.proofs.lemmas.Bool.{le-ltb, lt-ltb, le-leb}
-use Rattle.ibc_client.proofs.FoundRows.{bytes_eq-same}
+use Rattle.ibc_records.proofs.FoundRows.{bytes_eq-same}
 use Rattle.std.proofs.lemmas.List.Folds.{list_all-map, list_all_at}
 
 pub same_holding : (a b : Holding) → (bytes_eq a.0 b.0 && bytes_eq a.1 b.1) ≡ is_same_holding a b

@@ -17,8 +17,8 @@ use Rattle.ibc_machine.specs.chain.Orderly.{IsOrderly}
 use Rattle.ibc_records.specs.RecordsModel.{core_of}
 use Rattle.ibc_records.specs.HandlerContract.{IsHandledWith, host_with}
 use Rattle.ibc_root_table.specs.Passes.{Sight}
-use Rattle.ibc_client.specs.ClientReplies.{IsUpdated}
-use Rattle.ibc_client.specs.HeaderChecks.{is_reading_update}
+use Rattle.ibc_records.specs.ClientReplies.{IsUpdated}
+use Rattle.ibc_records.specs.HeaderChecks.{is_reading_update}
 use Rattle.ibc_transfer.specs.InFlight.{IsInFlight}
 use Rattle.ibc_ledger.specs.declared.host_state.HostState.{HostState}
 use Rattle.ibc_ledger.specs.declared.outcome.EffectTwice.{EffectTwice}

@@ -8,14 +8,14 @@ ghost use Rattle.ibc_ledger.specs.MessageReplies.{IsReady, IsAnswered, IsUpdateA
 
 use crate::host_state::HostState;
 use crate::outcome::{EffectTwice, Outcome};
-use ibc_client::{create, update};
 use ibc_ids::{Refusal, nth_client};
 use ibc_machine::Effect;
+use ibc_records::{create, update};
 use ibc_root_table::{Pass, RootTable};
 use ibc_wire::{CreateClient, UpdateClient};
 
 impl HostState {
-    /// Makes a client of a chain (ICS 2, "createClient"). Refused as by `ibc_client::create`.
+    /// Makes a client of a chain (ICS 2, "createClient"). Refused as by `ibc_records::create`.
     pub fn create_client(&mut self, message: &CreateClient) -> Result<EffectTwice, Refusal>
         requires { IsReady (message_of.CreateClient message.now) self.old }
         ensures { IsAnswered (message_of.CreateClient message.now) self.old result self.new }
@@ -34,7 +34,7 @@ impl HostState {
         })
     }
 
-    /// Tells a client of a height (ICS 2, "updateClient"). Refused as by `ibc_client::update`.
+    /// Tells a client of a height (ICS 2, "updateClient"). Refused as by `ibc_records::update`.
     pub fn update_client(
         &mut self,
         table: &RootTable,

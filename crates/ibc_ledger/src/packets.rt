@@ -7,7 +7,7 @@ use crate::host_state::HostState;
 use crate::outcome::EffectTwice;
 use ibc_ids::Refusal;
 use ibc_note::send_note;
-use ibc_packet::{acknowledge, recv, timeout, timeout_on_close};
+use ibc_records::{acknowledge, recv, timeout, timeout_on_close};
 use ibc_transfer::{is_transfer_port, send_transfer, send_transfer_many};
 use ibc_wire::{AckPacket, RecvPacket, SendNote, Timeout, TimeoutOnClose, Transfer, TransferMany};
 
@@ -38,7 +38,7 @@ impl HostState {
         EffectTwice::of_sent(send_transfer_many(self.alloc, &mut self.records, transfers, message))
     }
 
-    /// Receives a packet by the application of its port (ICS 4, "recvPacket"). Refused as by `ibc_packet::recv`.
+    /// Receives a packet by the application of its port (ICS 4, "recvPacket"). Refused as by `ibc_records::recv`.
     pub fn recv_packet(&mut self, message: &RecvPacket) -> Result<EffectTwice, Refusal>
         requires { IsReady (message_of.RecvPacket message.now) self.old }
         ensures { IsAnswered (message_of.RecvPacket message.now) self.old result self.new }
@@ -52,7 +52,7 @@ impl HostState {
         }
     }
 
-    /// Acknowledges a packet by the application of its port (ICS 4, "acknowledgePacket"). Refused as by `ibc_packet::acknowledge`.
+    /// Acknowledges a packet by the application of its port (ICS 4, "acknowledgePacket"). Refused as by `ibc_records::acknowledge`.
     pub fn ack_packet(&mut self, message: &AckPacket) -> Result<EffectTwice, Refusal>
         requires { IsReady (message_of.AckPacket message.now) self.old }
         ensures { IsAnswered (message_of.AckPacket message.now) self.old result self.new }
@@ -66,7 +66,7 @@ impl HostState {
         }
     }
 
-    /// Times a packet out by the application of its port (ICS 4, "timeoutPacket"). Refused as by `ibc_packet::timeout`.
+    /// Times a packet out by the application of its port (ICS 4, "timeoutPacket"). Refused as by `ibc_records::timeout`.
     pub fn timeout(&mut self, message: &Timeout) -> Result<EffectTwice, Refusal>
         requires { IsReady (message_of.Timeout message.now) self.old }
         ensures { IsAnswered (message_of.Timeout message.now) self.old result self.new }
@@ -80,7 +80,7 @@ impl HostState {
         }
     }
 
-    /// Times a packet out whose peer is closed (ICS 4, "timeoutOnClose"). Refused as by `ibc_packet::timeout_on_close`.
+    /// Times a packet out whose peer is closed (ICS 4, "timeoutOnClose"). Refused as by `ibc_records::timeout_on_close`.
     pub fn timeout_on_close(&mut self, message: &TimeoutOnClose) -> Result<EffectTwice, Refusal>
         requires { IsReady (message_of.TimeoutOnClose message.now) self.old }
         ensures { IsAnswered (message_of.TimeoutOnClose message.now) self.old result self.new }

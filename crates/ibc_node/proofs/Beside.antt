@@ -4,7 +4,7 @@ use Rattle.std.specs.Prelude.{IsTrue}
 use Rattle.std.proofs.lemmas.List.{take_more, take_all, length-map}
 use Rattle.std.proofs.lemmas.Option.{slice_get_within, get_or_from_slice_get}
 use Rattle.sqlite.specs.Tree.{Trees}
-use Rattle.sqlite.specs.State.{State, HasCleanDisk, IsUnchanged}
+use Rattle.sqlite.specs.State.{State, IsUnchanged}
 use Rattle.ibc_ids.specs.declared.refusal.Refusal.{Refusal}
 use Rattle.ibc_machine.specs.declared.event.Event.{Event}
 use Rattle.ibc_machine.specs.declared.reply.Reply.{Reply}
@@ -13,7 +13,7 @@ use Rattle.ibc_machine.specs.declared.entry.Entry.{Entry}
 use Rattle.ibc_machine.specs.chain.Genesis.{GenesisState, is_allowed}
 use Rattle.ibc_machine.specs.promises.Worlds.{entries, interleaved}
 use Rattle.ibc_refinement.specs.World.{WorldState, kept_entries}
-use Rattle.ibc_theorem.specs.EveryWorld.{IsLawfulUnlessClash}
+use Rattle.ibc_world_core.specs.EveryWorld.{IsLawfulUnlessClash}
 use Rattle.ibc_replay.specs.Replays.{IsReplay, IsBeginning}
 use Rattle.ibc_replay.proofs.StoredSteps.{goes_nowhere, goes_on_more, is_replay}
 use Rattle.ibc_journal.specs.declared.cursor.Cursor.{Cursor}
@@ -24,9 +24,8 @@ use Rattle.ibc_journal.specs.Digests.{HasReadTo, HasReadAll}
 use Rattle.ibc_journal.specs.Crashes.{LeavesWith}
 use Rattle.ibc_journal.specs.Restarts.{IsAtRest}
 use Rattle.ibc_journal.proofs.Chained.{reads_on}
-use Rattle.ibc_journal.proofs.Whole.{KeepsJournals}
 use Rattle.ibc_node.specs.declared.node.KeptAnswer.{KeptAnswer}
-use Rattle.ibc_node.specs.Kept.{IsKeptAs, AreKeptAs, KeepsItem, WhyNotKept, ReplaysOne, HasReplayed}
+use Rattle.ibc_node.specs.Kept.{IsKeptAs, AreKeptAs, KeepsItem, WhyNotKept, IsAskedInVain, ReplaysOne, HasReplayed}
 use Rattle.ibc_node.specs.Nodes.{IsBeside, IsGenesisText, IsRestarted, IsBegun, TakesOn, LeavesWaiting}
 
 -- ---- one entry more
@@ -51,22 +50,26 @@ beside_item genesis old new items end after event reply it beside keeps is = rec
   read = subst (HasReadAll genesis (items ++ it ∷ [])) (sym is) (reads_on genesis items it end beside.read keeps.due);
 }
 
-pub takes_nothing : (genesis : List ℕ) (old new : WorldState) (items waited : List JournalItem) (end : Cursor) (event : Event) (answer : KeptAnswer) (refusal : Refusal) → IsBeside genesis old items end
-    → (kept_entries new ≡ kept_entries old) × WhyNotKept old event refusal → answer.place ≡ None → answer.reply ≡ No refusal → TakesOn genesis items waited old end event answer new waited end
-takes_nothing genesis old new items waited end event answer refusal beside asked place reply = record {
+pub takes_nothing : (log_place : ℕ) (genesis : List ℕ) (old new : WorldState) (items waited : List JournalItem) (end : Cursor) (event : Event) (answer : KeptAnswer) (refusal : Refusal) → IsBeside genesis old items end
+    → (kept_entries new ≡ kept_entries old) × WhyNotKept old event refusal × IsAskedInVain old event new → answer.place ≡ None → answer.reply ≡ No refusal → TakesOn log_place genesis items waited old end event answer new waited end
+takes_nothing log_place genesis old new items waited end event answer refusal beside asked place reply = record {
   more = [];
   waits = sym (append-nil waited);
   told = (place, refusal, reply, asked.1);
+  asked = asked.2;
+  by = tt;
   beside = subst (λ l. IsBeside genesis new l end) (sym (append-nil items)) (record { kept = subst (λ l. AreKeptAs l items) (sym asked.0) beside.kept; read = beside.read });
 }
 
-pub takes_item : (genesis : List ℕ) (old new : WorldState) (items waited waiting : List JournalItem) (end after : Cursor) (event : Event) (answer : KeptAnswer) (it : JournalItem) → IsBeside genesis old items end
+pub takes_item : (log_place : ℕ) (genesis : List ℕ) (old new : WorldState) (items waited waiting : List JournalItem) (end after : Cursor) (event : Event) (answer : KeptAnswer) (it : JournalItem) → IsBeside genesis old items end
     → KeepsItem old end.last event answer.reply it new → answer.place ≡ Some end.place → waiting ≡ waited ++ it ∷ [] → after ≡ record { place = end.place + 1; last = it.digest }
-    → TakesOn genesis items waited old end event answer new waiting after
-takes_item genesis old new items waited waiting end after event answer it beside keeps place waits is = record {
+    → it.log_place ≡ log_place → TakesOn log_place genesis items waited old end event answer new waiting after
+takes_item log_place genesis old new items waited waiting end after event answer it beside keeps place waits is by = record {
   more = it ∷ [];
   waits = waits;
   told = (place, refl, keeps.entry, keeps.event_is, keeps.reply_is, keeps.stored);
+  asked = keeps.steps;
+  by = (by, tt);
   beside = beside_item genesis old new items end after event answer.reply it beside keeps is;
 }
 
@@ -94,6 +97,7 @@ stays_at_rest old new genesis items same rest = record {
   journal = subst (λ d. IsJournal d genesis items) (sym same.0.now_is) rest.journal;
   seen = same.0.now_is ∙ rest.seen ∙ sym same.0.committed_is;
   outside = same.0.mode ∙ rest.outside;
+  is_open = same.0.is_open;
 }
 
 pub restarted : (text : List ℕ) (items : List JournalItem) (world : WorldState) (end : Cursor) (genesis : GenesisState) (past : List Entry) → IsGenesisText text genesis → IsReplay genesis past world
@@ -121,29 +125,13 @@ pub leaves_waiting : (old : State) (world : WorldState) (waiting : List JournalE
 leaves_waiting old world waiting end first is db may genesis items has beside = may genesis items has (first_behind genesis world items waiting end first beside is)
 
 -- what was put in is all that the journal is to have
-pub at_rest_with : (new : State) (genesis : List ℕ) (items : List JournalItem) → IsJournal new.committed genesis items → new.now ≡ new.committed → new.in_transaction ≡ false → IsAtRest new genesis items
-at_rest_with new genesis items committed seen outside = record {
+pub at_rest_with : (new : State) (genesis : List ℕ) (items : List JournalItem) → IsJournal new.committed genesis items → new.now ≡ new.committed → new.in_transaction ≡ false → IsTrue new.is_open → IsAtRest new genesis items
+at_rest_with new genesis items committed seen outside live = record {
   journal = subst (λ d. IsJournal d genesis items) (sym seen) committed;
   seen = seen;
   outside = outside;
+  is_open = live;
 }
-
--- what is a journal before stays that journal, call by call
-pub keeps_once : (old new : State) → ((genesis : List ℕ) (items : List JournalItem) → IsJournal old.now genesis items → HasCleanDisk new → IsUnchanged old new) → KeepsJournals old new
-keeps_once old new same genesis items has clean = subst (λ d. IsJournal d genesis items) (sym (same genesis items has clean).0.now_is) has
-
-pub unchanged_then : (old mid new : State) → IsUnchanged old mid → IsUnchanged mid new → IsUnchanged old new
-unchanged_then old mid new one two = (
-  record {
-    was_open = one.0.was_open;
-    is_open = two.0.is_open;
-    now_is = two.0.now_is ∙ one.0.now_is;
-    committed_is = two.0.committed_is ∙ one.0.committed_is;
-    mode = two.0.mode ∙ one.0.mode;
-  },
-  record { changes = two.1.changes ∙ one.1.changes; last_rowid = two.1.last_rowid ∙ one.1.last_rowid },
-  two.2 ∙ one.2,
-)
 
 -- one entry more is put to the world
 pub reads_one : (items : List JournalItem) (place after : ℕ) (beginning mid new : WorldState) (it : JournalItem) → HasReplayed beginning (take place items) mid → Some it ≡ slice_get items place → ReplaysOne mid it new

@@ -49,6 +49,7 @@ keeps_item old new event reply before it runs step low answered last =
       entry = w.entry;
       event_is = w.event_is;
       reply_is = w.reply_is;
+      steps = (new, step, refl);
       kept = w.kept;
       stored = last.stored at.0 at.1 (filter (is_of_chain (chain_of w.entry.event)) (kept_entries old)) w.entry (last_of_chain old new w.entry at.0 runs.is w.kept there);
       due = last.due;

@@ -49,6 +49,20 @@ pub calm_ok : {A E : Type 0} (r : Result A E) (before : ℕ) (after : A → ℕ)
 calm_ok (Ok a) before after le = λ none. omega (arith, le, none)
 calm_ok (Err e) before after le = tt
 
+pub calm_before : (before after : ℕ) → before ≤ after → after ≡ 0 → before ≡ 0
+calm_before before after le none = omega (arith, le, none)
+
+-- two facts of an answer
+pub ok_both : {A E : Type 0} (r : Result A E) (P Q : A → Type 0) → IfOk r P → IfOk r Q → IfOk r (λ a. P a × Q a)
+ok_both (Ok a) P Q p q = (p, q)
+ok_both (Err e) P Q p q = tt
+
+-- A fact of an answer where all is clean behind the call, known of what was clean before it.
+pub one_known : {A E : Type 0} (r : Result A E) (Which Known WasClean : Type 0) (Clean P : A → Type 0) → OnOk r Which → IfOk r (λ a. Clean a → WasClean) → (WasClean → Which → Known)
+    → (Known → IfOk r (λ a. Clean a → P a)) → IfOk r (λ a. Clean a → P a)
+one_known (Ok a) Which Known WasClean Clean P which calm known one = λ clean. one (known (calm clean) which) clean
+one_known (Err e) Which Known WasClean Clean P which calm known one = tt
+
 -- Two facts of an answer where all is clean behind the call, each known of what was clean before it.
 pub both_known : {A E : Type 0} (r : Result A E) (Which Known WasClean : Type 0) (Clean P Q : A → Type 0) → OnOk r Which → IfOk r (λ a. Clean a → WasClean) → (WasClean → Which → Known)
     → (Known → IfOk r (λ a. Clean a → P a)) → (Known → IfOk r (λ a. Clean a → Q a)) → IfOk r (λ a. Clean a → P a × Q a)

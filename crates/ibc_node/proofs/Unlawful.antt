@@ -18,8 +18,18 @@ use Rattle.ibc_node.specs.declared.unread.Unread.{Unread}
 use Rattle.ibc_node.specs.declared.unread.Unread.TheVariants.{Fault, Differs}
 use Rattle.ibc_node.specs.Kept.{IsKeptAs, AreKeptAs, HasReplayed}
 use Rattle.ibc_node.specs.Nodes.{IsGenesisText}
-use Rattle.ibc_node.specs.Audits.{IfDiffers, IsUnreadBy, StopsAtItem, StopsAsKept, IsUnlawful}
+use Rattle.ibc_node.specs.Audits.{IfDiffers, OnDiffers, IsUnreadBy, StopsAtItem, StopsAsKept, IsUnlawful}
 use Rattle.ibc_node.proofs.Beside.{kept_next}
+
+-- ---- where a journal isn't read on
+
+pub on_differs : (Holds : Difference → Type 0) (P : Type 0) (unread : Unread) → P → IfDiffers Holds unread → OnDiffers P unread
+on_differs Holds P (Fault why) p differs = tt
+on_differs Holds P (Differs why) p differs = p
+
+pub differs_then : (P Q : Type 0) (unread : Unread) → (P → Q) → OnDiffers P unread → OnDiffers Q unread
+differs_then P Q (Fault why) f p = tt
+differs_then P Q (Differs why) f p = f p
 
 -- ---- a list of one entry
 
@@ -49,7 +59,7 @@ stops_alone old new place entry list (At here due stored) unread alone stopped t
     let kept : entry ≡ entry_of entry.event stored = it.1 ∙ ap (λ (e : Event). entry_of e stored) (sym event) in
     let goes : GoesOnAsStored old (entry_of entry.event due ∷ []) new =
     subst (λ (e : Event). GoesOnAsStored old (entry_of e due ∷ []) new) (sym event) (subst (λ (w : WorldState). GoesOnAsStored w (entry_of stop.1 due ∷ []) new) same stop.5) in
-    subst (IfDiffers (λ it. StopsAt old place entry it new)) (sym told) (here_is, kept, goes, stop.6)
+    subst (IfDiffers (λ it. StopsAt old place entry it new)) (sym told) (tt, (here_is, kept, goes, stop.6))
 stops_alone old new place entry list (UnknownChain here stored) unread alone stopped told =
     let stop : StopsBy old place (entry ∷ []) (UnknownChain here stored) new = subst (λ l. StopsBy old place l (UnknownChain here stored) new) alone stopped in
     let it = one_there entry (entry_of stop.1 stored) stop.0 stop.3.next in
@@ -61,7 +71,7 @@ stops_alone old new place entry list (UnknownChain here stored) unread alone sto
     let kept : entry ≡ entry_of entry.event stored = it.1 ∙ ap (λ (e : Event). entry_of e stored) (sym event) in
     let past : length old.ledgers ≤ chain_of entry.event =
     subst (λ (e : Event). length old.ledgers ≤ chain_of e) (sym event) (subst (λ (w : WorldState). length w.ledgers ≤ chain_of stop.1) same stop.4) in
-    subst (IfDiffers (λ it. StopsAt old place entry it new)) (sym told) (here_is, kept, same, past)
+    subst (IfDiffers (λ it. StopsAt old place entry it new)) (sym told) (tt, (here_is, kept, same, past))
 stops_alone old new place entry list NoMemory unread alone stopped told = subst (IfDiffers (λ it. StopsAt old place entry it new)) (sym told) tt
 stops_alone old new place entry list NoGenesis unread alone stopped told = absurd stopped
 
@@ -69,11 +79,11 @@ pub stops_item : {A : Type 0} (old new : WorldState) (place : ℕ) (entry : Entr
     → IfErr r (IfDiffers (λ why. StopsAt old place entry why new)) → IfErr r (IfDiffers (StopsAtItem old place it new))
 stops_item old new place entry it (Ok a) kept stops = tt
 stops_item old new place entry it (Err (Fault why)) kept stops = tt
-stops_item old new place entry it (Err (Differs why)) kept stops = (entry, kept, stops)
+stops_item old new place entry it (Err (Differs why)) kept stops = (stops.0, (entry, kept, stops.1))
 
 -- ---- a list that is gone through
 
-as_many : (entries : List Entry) (items : List JournalItem) → AreKeptAs entries items → length entries ≡ length items
+pub as_many : (entries : List Entry) (items : List JournalItem) → AreKeptAs entries items → length entries ≡ length items
 as_many [] [] kept = refl
 as_many [] (i ∷ items) kept = absurd kept
 as_many (e ∷ entries) [] kept = absurd kept
@@ -83,21 +93,23 @@ pub stops_as_kept : (items : List JournalItem) (place : ℕ) (beginning mid new 
     → IfDiffers (StopsAtItem mid place it new) unread → IfDiffers (StopsAsKept beginning items) unread
 stops_as_kept items place beginning mid new it (Fault why) so_far there stop = tt
 stops_as_kept items place beginning mid new it (Differs why) so_far there stop =
-    let list = so_far.past ++ stop.0 ∷ [] in
+    let entry = stop.1.0 in
+    let list = so_far.past ++ entry ∷ [] in
     let low = slice_get_within items place it (sym there) in
     let short = length-take-le place items (omega (arith, low)) in
     let many = as_many so_far.past (take place items) so_far.kept in
-    let long = length-append so_far.past (stop.0 ∷ []) in
+    let long = length-append so_far.past (entry ∷ []) in
     let here : place ≡ 0 + length so_far.past = omega (arith, many, short) in
     let next : length list ≡ place + 1 = omega (arith, long, many, short) in
-    record {
+    let stopped : StopsAsKept beginning items why = record {
       list = list;
-      kept = subst (λ n. AreKeptAs list (take n items)) (sym next) (kept_next so_far.past items place stop.0 it so_far.kept (sym there) stop.1);
+      kept = subst (λ n. AreKeptAs list (take n items)) (sym next) (kept_next so_far.past items place entry it so_far.kept (sym there) stop.1.1);
       world = new;
-      stops = stops beginning mid new 0 so_far.past [] list stop.0 so_far.goes_on refl place why here stop.2;
-    }
+      stops = stops beginning mid new 0 so_far.past [] list entry so_far.goes_on refl place why here stop.1.2;
+    } in
+    (stop.0, stopped)
 
 pub unlawful : (text : List ℕ) (items : List JournalItem) (genesis : GenesisState) (beginning : WorldState) (unread : Unread) → IsGenesisText text genesis → IsBeginning genesis beginning
     → IfDiffers (StopsAsKept beginning items) unread → IfDiffers (IsUnlawful text items) unread
 unlawful text items genesis beginning (Fault why) is begins stops = tt
-unlawful text items genesis beginning (Differs why) is begins stops = record { genesis = genesis; text_is = is; beginning = beginning; begins = begins; stops = stops }
+unlawful text items genesis beginning (Differs why) is begins stops = (stops.0, record { genesis = genesis; text_is = is; beginning = beginning; begins = begins; stops = stops.1 })

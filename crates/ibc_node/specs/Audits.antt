@@ -16,10 +16,22 @@ use Rattle.ibc_node.specs.declared.auditing.JournalAudit.TheVariants as found
 use Rattle.ibc_node.specs.Kept.{IsKeptAs, AreKeptAs}
 use Rattle.ibc_node.specs.Nodes.{IsGenesisText, IsRestarted}
 
--- what holds of a difference, where a journal isn't read on for one
+-- The difference names the place where it is. That no world begins so, or that memory ran out, is none of these.
+abbrev pub NamesPlace : Difference → Type 0
+NamesPlace (difference.At place due stored) = ⊤
+NamesPlace (difference.UnknownChain place stored) = ⊤
+NamesPlace difference.NoGenesis = ⊥
+NamesPlace difference.NoMemory = ⊥
+
+-- what holds of a difference, where a journal isn't read on for one: it names its place
 abbrev pub IfDiffers : (Difference → Type 0) → Unread → Type 0
 IfDiffers Holds (Fault why) = ⊤
-IfDiffers Holds (Differs why) = Holds why
+IfDiffers Holds (Differs why) = NamesPlace why × Holds why
+
+-- a fact that holds where a journal isn't read on for a difference
+abbrev pub OnDiffers : Type 0 → Unread → Type 0
+OnDiffers P (Fault why) = ⊤
+OnDiffers P (Differs why) = P
 
 -- A difference is told as it is. That no world begins so, or that memory ran out, is a fault.
 abbrev pub IsUnreadBy : Difference → Unread → Type 0
@@ -55,7 +67,7 @@ pub record IsLawfulJournal (text : List ℕ) (items : List JournalItem) (entries
 
 abbrev pub IsAuditOfJournal : List ℕ → List JournalItem → JournalAudit → Type 0
 IsAuditOfJournal text items (found.Lawful entries) = IsLawfulJournal text items entries
-IsAuditOfJournal text items (found.Differs why) = IsUnlawful text items why
+IsAuditOfJournal text items (found.Differs why) = NamesPlace why × IsUnlawful text items why
 
 -- a lawful run was found
 abbrev pub FindsLawful : JournalAudit → Type 0

@@ -1,5 +1,5 @@
 -- What a journal keeps of a world.
-use Rattle.std.specs.Prelude.{◌≡◌, ◌≤◌, ◌++◌, ℕ, List, [], ◌∷◌, length, slice_get, Option, Some, IsTrue, ⊤}
+use Rattle.std.specs.Prelude.{◌≡◌, ◌⊎◌, ◌≤◌, ◌++◌, ℕ, false, List, [], ◌∷◌, length, slice_get, Option, Some, IsTrue, ⊤}
 use Rattle.std.specs.List.{AllZip}
 use Rattle.ibc_machine.specs.declared.event.Event.{Event}
 use Rattle.ibc_machine.specs.declared.entry.Entry.{Entry}
@@ -10,6 +10,7 @@ use Rattle.ibc_wire.specs.Fields.{have_form}
 use Rattle.ibc_machine.specs.ledger.Ledgers.{Ledger, chain_of}
 use Rattle.ibc_machine.specs.promises.Worlds.{entries}
 use Rattle.ibc_refinement.specs.World.{WorldState, kept_entries}
+use Rattle.ibc_refinement.specs.Steps.{AreSteps, is_answered}
 use Rattle.ibc_replay.specs.Replays.{GoesOnAsStored}
 use Rattle.ibc_entry_codec.specs.declared.stored.EntryBytes.{EntryBytes}
 use Rattle.ibc_entry_codec.specs.Stored.{StoresEntry, event_fields}
@@ -30,11 +31,12 @@ IsKeptAs entry it = StoresEntry entry (bytes_in it)
 abbrev pub AreKeptAs : List Entry → List JournalItem → Type 0
 AreKeptAs = AllZip IsKeptAs
 
--- A world was asked for an event and has kept an entry. The item is what a journal keeps of it, behind one with this digest.
+-- A world went on by an event and has kept an entry. The item is what a journal keeps of it, behind one with this digest.
 pub record KeepsItem (old : WorldState) (before : List ℕ) (event : Event) (reply : Reply) (it : JournalItem) (new : WorldState) : Type 0 where
   pub entry : Entry
   pub event_is : entry.event ≡ event
   pub reply_is : entry.reply ≡ reply
+  pub steps : AreSteps old (event ∷ []) (reply ∷ []) new
   pub kept : kept_entries new ≡ kept_entries old ++ entry ∷ []
   pub stored : IsKeptAs entry it
   pub due : it.digest ≡ digest_after before it
@@ -50,10 +52,20 @@ abbrev pub WhyNotKept : WorldState → Event → Refusal → Type 0
 WhyNotKept old event UnknownChain = length old.ledgers ≤ chain_of event
 WhyNotKept old event refusal = WhyNotSpelt event refusal
 
+-- the world is as it was, or it went on by the event, and memory ran out
+abbrev pub IsAskedInVain : WorldState → Event → WorldState → Type 0
+IsAskedInVain old event new = (new ≡ old) ⊎ ((given : Reply) × (is_answered given ≡ false) × AreSteps old (event ∷ []) (given ∷ []) new)
+
 -- what came of an event
 abbrev pub IsAsked : WorldState → List ℕ → Event → Asked → WorldState → Type 0
 IsAsked old before event (asked.Kept reply entry) new = KeepsItem old before event reply (item entry) new
-IsAsked old before event (asked.NotKept refusal) new = (kept_entries new ≡ kept_entries old) × WhyNotKept old event refusal
+IsAsked old before event (asked.NotKept refusal) new =
+    (kept_entries new ≡ kept_entries old) × WhyNotKept old event refusal × IsAskedInVain old event new
+
+-- what is kept of the event has this place of a log
+abbrev pub IsBy : ℕ → Asked → Type 0
+IsBy log_place (asked.Kept reply entry) = entry.log_place ≡ log_place
+IsBy log_place (asked.NotKept refusal) = ⊤
 
 -- ---- the last entry of a chain
 

@@ -1,3 +1,5 @@
 pub mod Kept
 pub mod Nodes
 pub mod Audits
+pub mod Marks
+pub mod Faults

@@ -1,10 +1,12 @@
 //! A journal is audited.
 
-ghost use Rattle.std.specs.Prelude.{◌≡◌, Ok, List, ℕ, IfOk};
+ghost use Rattle.std.specs.Prelude.{◌≡◌, Ok, List, ℕ, option_copied, IfOk, OnOk};
 ghost use Rattle.sqlite.specs.State.{HasCleanDisk, Survives};
 ghost use Rattle.sqlite.specs.Held.{state};
-ghost use Rattle.ibc_journal.specs.Tables.{JournalItem, IsJournal};
+ghost use Rattle.ibc_journal.specs.Tables.{journal_schema, JournalItem, IsJournal};
 ghost use Rattle.ibc_journal.specs.Crashes.{LeavesNothing};
+ghost use Rattle.ibc_journal.specs.Restarts.{IsAtRest};
+ghost use Rattle.ibc_node.specs.Nodes.{IsGiven};
 ghost use Rattle.ibc_node.specs.Audits.{IsAuditOfJournal};
 
 use crate::NodeFault;
@@ -32,8 +34,16 @@ pub fn audit_journal<S: Alter>(
     conn: &mut Connection<S>,
     genesis: Option<&[u8]>,
 ) -> Result<JournalAudit, NodeFault>
-    ensures { (text : List ℕ) (items : List JournalItem) → IsJournal (state S.Store conn.old).now text items
+    ensures audited { (text : List ℕ) (items : List JournalItem) → IsJournal (state S.Store conn.old).now text items
         → HasCleanDisk (state S.Store conn.new) → IfOk result (IsAuditOfJournal text items) }
+    // Where a genesis is given, it is the journal's own.
+    ensures asked { (text : List ℕ) (items : List JournalItem) → IsJournal (state S.Store conn.old).now text items
+        → HasCleanDisk (state S.Store conn.new) → OnOk result (IsGiven (option_copied genesis.entry) text) }
+    // The journal is what it was. A crash at any moment of the call leaves what it could leave before.
+    ensures rest { (text : List ℕ) (items : List JournalItem) → IsAtRest (state S.Store conn.old) text items
+        → HasCleanDisk (state S.Store conn.new) → OnOk result (IsAtRest (state S.Store conn.new) text items) }
+    ensures which { OnOk result ((state S.Store conn.old).now.schema ≡ journal_schema) }
+    ensures crash { Survives (state S.Store conn.old) (state S.Store conn.new) (LeavesNothing (state S.Store conn.old)) }
 {
     let looks = look(alloc, conn)?;
     match looks {
@@ -52,6 +62,10 @@ fn audit_entries<S: Alter>(
 ) -> Result<JournalAudit, NodeFault>
     ensures audited { (text : List ℕ) (items : List JournalItem) → IsJournal (state S.Store conn.old).now text items
         → HasCleanDisk (state S.Store conn.new) → IfOk result (IsAuditOfJournal text items) }
+    ensures asked { (text : List ℕ) (items : List JournalItem) → IsJournal (state S.Store conn.old).now text items
+        → HasCleanDisk (state S.Store conn.new) → OnOk result (IsGiven (option_copied genesis.entry) text) }
+    ensures rest { (text : List ℕ) (items : List JournalItem) → IsAtRest (state S.Store conn.old) text items
+        → HasCleanDisk (state S.Store conn.new) → OnOk result (IsAtRest (state S.Store conn.new) text items) }
     ensures crash { Survives (state S.Store conn.old) (state S.Store conn.new) (LeavesNothing (state S.Store conn.old)) }
 {
     let began = beginning_of(conn)?;

@@ -32,6 +32,8 @@ pub enum NodeFault {
     CannotRead,
     /// The output can't be written.
     CannotWrite,
+    /// Nobody reads the output.
+    Unheard,
     /// A growth was refused.
     NoMemory,
 }
@@ -60,6 +62,15 @@ impl NodeFault {
             NodeFault::NoFile
         } else {
             NodeFault::of_input(error)
+        }
+    }
+
+    /// The fault of an output that fails.
+    pub fn of_output(error: &io::Error) -> NodeFault {
+        if error.kind() == io::ErrorKind::BrokenPipe {
+            NodeFault::Unheard
+        } else {
+            NodeFault::CannotWrite
         }
     }
 
@@ -120,7 +131,7 @@ impl NodeFault {
             NodeFault::OtherGenesis => "the journal began with another genesis",
             NodeFault::NoJournal => "the file is no journal",
             NodeFault::CannotRead => "cannot read",
-            NodeFault::CannotWrite => "cannot write",
+            NodeFault::CannotWrite | NodeFault::Unheard => "cannot write",
             _ => "no memory",
         }
     }

@@ -9,7 +9,7 @@ ghost use Rattle.ibc_machine.specs.ledger.Ledgers.{chain_of};
 ghost use Rattle.ibc_refinement.specs.Steps.{is_answered};
 ghost use Rattle.ibc_journal.specs.Entries.{item};
 ghost use Rattle.ibc_journal.specs.Digests.{digest_after};
-ghost use Rattle.ibc_node.specs.Kept.{bytes_in, IsAsked, IsLastEntry, StoresLast, KeepsLast};
+ghost use Rattle.ibc_node.specs.Kept.{bytes_in, IsAsked, IsBy, IsLastEntry, StoresLast, KeepsLast};
 
 use crate::NodeFault;
 use ibc_entry_codec::{EntryBytes, store};
@@ -39,7 +39,8 @@ pub(crate) fn ask(
     log_place: u32,
     event: Event,
 ) -> Result<Asked, NodeFault>
-    ensures { IfOk result (λ asked. IsAsked world.old before.now event asked world.new) }
+    ensures asked { IfOk result (λ asked. IsAsked world.old before.now event asked world.new) }
+    ensures by { IfOk result (IsBy log_place) }
 {
     let chain = chain_of(&event);
     if !has_chain(world, chain) {
@@ -64,7 +65,8 @@ fn ask_chain(
     event: Event,
 ) -> Result<Asked, NodeFault>
     requires { chain_of event < length world.old.ledgers }
-    ensures { IfOk result (λ asked. IsAsked world.old before.now event asked world.new) }
+    ensures asked { IfOk result (λ asked. IsAsked world.old before.now event asked world.new) }
+    ensures by { IfOk result (IsBy log_place) }
 {
     let chain = chain_of(&event);
     let reply = world.step(event);
@@ -134,7 +136,8 @@ fn keep_last(
     before: &[u8; 32],
     log_place: u32,
 ) -> Result<JournalEntry, NodeFault>
-    ensures { IfOk result (λ entry. KeepsLast world.now chain before.now (item entry)) }
+    ensures kept { IfOk result (λ entry. KeepsLast world.now chain before.now (item entry)) }
+    ensures by { IfOk result (λ entry. (item entry).log_place ≡ log_place) }
 {
     let stored = store_last(alloc, world, chain)?;
     let entry = behind(alloc, before, log_place, &stored);
@@ -177,6 +180,7 @@ fn behind(
 ) -> Result<JournalEntry, NodeFault>
     ensures bytes { IfOk result (λ entry. bytes_in (item entry) ≡ stored.now) }
     ensures due { IfOk result (λ entry. (item entry).digest ≡ digest_after before.now (item entry)) }
+    ensures by { IfOk result (λ entry. (item entry).log_place ≡ log_place) }
 {
     let event = Vec::from_slice(alloc, stored.event.as_slice())?;
     let answer = Vec::from_slice(alloc, stored.answer.as_slice())?;

@@ -13,6 +13,3 @@ pub use auditing::{JournalAudit, audit_journal};
 pub use fault::NodeFault;
 pub use node::{KeptAnswer, Node};
 pub use opening::{open_at, open_node};
-
-#[cfg(test)]
-mod tests;

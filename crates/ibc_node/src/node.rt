@@ -4,9 +4,12 @@ ghost use Rattle.std.specs.Prelude.{◌≡◌, ◌+◌, ◌++◌, ◌∷◌, [],
 ghost use Rattle.sqlite.specs.State.{HasCleanDisk, Survives};
 ghost use Rattle.sqlite.specs.Held.{state};
 ghost use Rattle.ibc_machine.specs.declared.reply.Reply.TheVariants.{No};
+ghost use Rattle.ibc_machine.specs.ledger.Ledgers.{chain_of};
 ghost use Rattle.ibc_journal.specs.Tables.{JournalItem};
 ghost use Rattle.ibc_journal.specs.Entries.{item, items_of};
-ghost use Rattle.ibc_node.specs.Nodes.{node_connection, node_journal, node_world, node_end, node_genesis, node_waiting, with_waiting, HasJournal, HasKept, TakesEvent, LeavesAll};
+ghost use Rattle.ibc_journal.specs.Crashes.{Lasts};
+ghost use Rattle.ibc_node.specs.Marks.{marks_by, marks_at, node_marks};
+ghost use Rattle.ibc_node.specs.Nodes.{node_connection, node_journal, node_world, node_end, node_genesis, node_waiting, with_waiting, HasJournal, HasKept, IsToldIn, IsToldOf, TakesEvent, LeavesAll, StaysBeside, TellsOn};
 
 use crate::NodeFault;
 use crate::keeping::{Asked, ask, chain_of};
@@ -16,7 +19,7 @@ use ibc_journal::{Cursor, JournalEntry, JournalFault, append, entry_at};
 use ibc_machine::{Entry, Event, Reply};
 use ibc_world_core::World;
 use sqlite::{Alter, Connection};
-use std::alloc::Global;
+use std::alloc::{AllocError, Global};
 
 /// A world, and the journal of what it was asked and answered. Entries of the last answers may wait to be put in.
 pub struct Node<S: Alter> {
@@ -95,6 +98,22 @@ fn first_of(end: u32, waiting: &[JournalEntry]) -> Option<u32>
     Some(end - count as u32)
 }
 
+// The places of the entries whose events came by this place of a log.
+fn places_by(alloc: Global, marks: &[LogMark], log_place: u32) -> Result<Vec<u32>, AllocError> {
+    let first = marks.partition_point(|it| it.log_place < log_place);
+    let mut places = Vec::new(alloc);
+    for at in first..marks.len() {
+        let Some(found) = marks.get(at).copied() else {
+            return Ok(places);
+        };
+        if found.log_place != log_place {
+            return Ok(places);
+        }
+        places.push(found.place)?;
+    }
+    Ok(places)
+}
+
 impl<S: Alter> Node<S> {
     /// How many entries there are, with those that wait.
     pub fn entries(&self) -> u32
@@ -136,8 +155,13 @@ impl<S: Alter> Node<S> {
     /// reply is told after `settle`. After an error the node is dropped.
     pub fn take(&mut self, log_place: u32, event: Event) -> Result<KeptAnswer, NodeFault>
         ensures taken { (text : List ℕ) (items : List JournalItem) → HasKept text items self.old
-            → IfOk result (λ answer. TakesEvent text items self.old event answer self.new) }
+            → IfOk result (λ answer. TakesEvent log_place text items self.old event answer self.new) }
+        ensures told { (text : List ℕ) (items : List JournalItem) → HasKept text items self.old
+            → IfOk result (λ answer. IsToldIn (node_world self.new) (chain_of event, answer)) }
+        ensures marked { IfOk result (λ answer. node_marks self.new ≡ node_marks self.old ++ marks_at log_place answer.place) }
         ensures journal { node_connection self.new ≡ node_connection self.old }
+        ensures genesis { node_genesis self.new ≡ node_genesis self.old }
+        ensures keeps { OnOk result (StaysBeside (state S.Store) self.old self.new) }
     {
         let asked = ask(
             self.alloc,
@@ -165,9 +189,11 @@ impl<S: Alter> Node<S> {
     fn wait_with(&mut self, log_place: u32, entry: JournalEntry) -> Result<u32, NodeFault>
         ensures place { IfOk result (λ place. place ≡ self.old.end.place) }
         ensures waits { OnOk result (items_of self.new.waiting.items ≡ items_of self.old.waiting.items ++ item entry ∷ []) }
+        ensures marked { OnOk result (self.new.marks.items ≡ self.old.marks.items ++ marks_by log_place self.old.end.place) }
         ensures end { OnOk result (self.new.end ≡ record { place = self.old.end.place + 1; last = (item entry).digest }) }
         ensures world { self.new.world ≡ self.old.world }
         ensures journal { self.new.conn ≡ self.old.conn }
+        ensures genesis { self.new.genesis.items ≡ self.old.genesis.items }
     {
         let here = self.end.place;
         let Some(after) = end_behind(&self.end, &entry) else {
@@ -185,9 +211,16 @@ impl<S: Alter> Node<S> {
         ensures committed { (text : List ℕ) (items : List JournalItem) → HasJournal (state S.Store) text items self.old
             → HasKept text (with_waiting items self.old) self.old
             → HasCleanDisk (node_journal (state S.Store) self.new) → OnOk result (HasJournal (state S.Store) text (with_waiting items self.old) self.new) }
+        // So a crash leaves all of them, and nothing less.
+        ensures lasts { (text : List ℕ) (items : List JournalItem) → HasJournal (state S.Store) text items self.old
+            → HasKept text (with_waiting items self.old) self.old
+            → HasCleanDisk (node_journal (state S.Store) self.new) → OnOk result (Lasts (node_journal (state S.Store) self.new) text (with_waiting items self.old)) }
         ensures none { OnOk result (node_waiting self.new ≡ []) }
         ensures world { node_world self.new ≡ node_world self.old }
         ensures end { node_end self.new ≡ node_end self.old }
+        ensures marks { node_marks self.new ≡ node_marks self.old }
+        ensures genesis { node_genesis self.new ≡ node_genesis self.old }
+        ensures keeps { OnOk result (StaysBeside (state S.Store) self.old self.new) }
         // A crash at any moment of the call leaves what it could leave before the call, or all of what waited.
         ensures crash { Survives (node_journal (state S.Store) self.old) (node_journal (state S.Store) self.new) (LeavesAll (state S.Store) self.old) }
     {
@@ -204,21 +237,26 @@ impl<S: Alter> Node<S> {
     }
 
     /// What came of the events that came by this place of a log, each beside the number of its chain, as the journal has it. What waits is
-    /// put in first.
-    pub fn again(&mut self, log_place: u32) -> Result<Vec<(u8, KeptAnswer)>, NodeFault> {
-        self.settle()?;
-        let first = self.marks.partition_point(|it| it.log_place < log_place);
+    /// put in first, where there is such an event.
+    pub fn again(&mut self, log_place: u32) -> Result<Vec<(u8, KeptAnswer)>, NodeFault>
+        ensures { IfOk result (λ told. TellsOn (state S.Store) self.old [] self.new told.items) }
+    {
+        let places = places_by(self.alloc, self.marks.as_slice(), log_place)?;
         let mut told = Vec::new(self.alloc);
-        for at in first..self.marks.len() {
-            let Some(found) = self.marks.get(at).copied() else {
-                return Ok(told);
-            };
-            if found.log_place != log_place {
-                return Ok(told);
-            }
-            told.push(kept_at(self.alloc, &mut self.conn, found.place)?)?;
+        for place in places.as_slice() {
+            told.push(self.kept_at(*place)?)?;
         }
         Ok(told)
+    }
+
+    // What came of the event at a place, as the journal has it.
+    fn kept_at(&mut self, place: u32) -> Result<(u8, KeptAnswer), NodeFault>
+        ensures { IfOk result (λ told. TellsOn (state S.Store) self.old [] self.new (told ∷ [])) }
+    {
+        match self.entry_at(place)? {
+            Some(entry) => kept_as(self.alloc, place, entry),
+            None => Err(NodeFault::Journal(JournalFault::Gap(place))),
+        }
     }
 
     /// The entry at a place, or none. What waits is put in first.
@@ -232,26 +270,19 @@ impl<S: Alter> Node<S> {
         ensures none { OnOk result (node_waiting self.new ≡ []) }
         ensures world { node_world self.new ≡ node_world self.old }
         ensures end { node_end self.new ≡ node_end self.old }
+        ensures marks { node_marks self.new ≡ node_marks self.old }
+        ensures genesis { node_genesis self.new ≡ node_genesis self.old }
+        ensures keeps { OnOk result (StaysBeside (state S.Store) self.old self.new) }
     {
         self.settle()?;
         Ok(entry_at(&mut self.conn, place)?)
     }
 }
 
-// What came of the event at a place, as the journal has it.
-fn kept_at<S: Alter>(
-    alloc: Global,
-    conn: &mut Connection<S>,
-    place: u32,
-) -> Result<(u8, KeptAnswer), NodeFault> {
-    match entry_at(conn, place)? {
-        Some(entry) => kept_as(alloc, place, entry),
-        None => Err(NodeFault::Journal(JournalFault::Gap(place))),
-    }
-}
-
 // What came of an event, as an entry has it.
-fn kept_as(alloc: Global, place: u32, entry: JournalEntry) -> Result<(u8, KeptAnswer), NodeFault> {
+fn kept_as(alloc: Global, place: u32, entry: JournalEntry) -> Result<(u8, KeptAnswer), NodeFault>
+    ensures { IfOk result (IsToldOf place (item entry)) }
+{
     let entry = entry_of(alloc, place, entry)?;
     let Entry {
         event,

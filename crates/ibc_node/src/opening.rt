@@ -1,6 +1,6 @@
 //! A node goes on where its journal ends.
 
-ghost use Rattle.std.specs.Prelude.{◌≡◌, ◌⊎◌, ◌≤◌, [], List, ℕ, Ok, IfErr, IfOk, IsTrue, OnOk};
+ghost use Rattle.std.specs.Prelude.{◌≡◌, ◌⊎◌, ◌≤◌, [], List, ℕ, Ok, Some, option_copied, IfErr, IfOk, IsTrue, OnOk};
 ghost use Rattle.sqlite.specs.State.{HasCleanDisk, Survives};
 ghost use Rattle.sqlite.specs.Start.{FindsIn};
 ghost use Rattle.sqlite.specs.View.{doubt};
@@ -12,8 +12,10 @@ ghost use Rattle.ibc_replay.specs.Replays.{IsBeginning};
 ghost use Rattle.ibc_journal.specs.Tables.{no_schema, journal_schema, JournalItem, IsJournal};
 ghost use Rattle.ibc_journal.specs.Crashes.{LeavesBegun, LeavesNothing};
 ghost use Rattle.ibc_journal.specs.Restarts.{IsAtRest, HoldsJournal};
-ghost use Rattle.ibc_node.specs.Nodes.{HoldsWholeJournal, IsBegun, IsGenesisText, IsRestarted, node_journal, node_genesis, node_waiting, HasJournal, GoesOnWith, IsFirstStart};
-ghost use Rattle.ibc_node.specs.Audits.{IfDiffers, IsUnlawful};
+ghost use Rattle.ibc_node.specs.Marks.{marks_from, IsMarked};
+ghost use Rattle.ibc_node.specs.Nodes.{HoldsWholeJournal, IsBegun, IsGenesisText, is_given, IsGiven, IsRestarted, node_journal, node_genesis, node_waiting, HasJournal, GoesOnWith, IsFirstStart, BeginsAsGiven};
+ghost use Rattle.ibc_node.specs.Audits.{IfDiffers, OnDiffers, IsUnlawful};
+ghost use Rattle.ibc_node.specs.Faults.{IsOfOther};
 
 use crate::reading::{LogMark, Past, read_all};
 use crate::unread::Unread;
@@ -22,8 +24,7 @@ use ibc_ids::Refusal;
 use ibc_journal::{Beginning, Cursor, FORMAT, Looks, begin, beginning_of, look};
 use ibc_machine::Genesis;
 use ibc_script::{Fault, Script, read_script};
-use ibc_theorem::lemma_what_every_world_keeps;
-use ibc_world_core::World;
+use ibc_world_core::{World, lemma_what_every_world_keeps};
 use sqlite::{Alter, Connection, FileFrom, FileStore, Start};
 use std::alloc::Global;
 
@@ -46,9 +47,17 @@ pub fn open_at<S: Start>(
 ) -> Result<Node<FileStore<FileFrom<S>>>, NodeFault>
     ensures restarted { (text : List ℕ) (items : List JournalItem) → HoldsWholeJournal (image_at S.Start) text items
         → IfOk result (λ node. HasCleanDisk (node_journal file_state node) → GoesOnWith text items node × HasJournal file_state text items node) }
+    ensures genesis { (text : List ℕ) (items : List JournalItem) → HoldsWholeJournal (image_at S.Start) text items
+        → IfOk result (λ node. HasCleanDisk (node_journal file_state node) → node_genesis node ≡ text) }
+    // A journal that began with another genesis than the one that is given is no node's.
+    ensures asked { (text : List ℕ) (items : List JournalItem) → HoldsWholeJournal (image_at S.Start) text items
+        → IfOk result (λ node. HasCleanDisk (node_journal file_state node) → IsGiven (option_copied genesis.entry) text) }
+    ensures marked { (text : List ℕ) (items : List JournalItem) → HoldsWholeJournal (image_at S.Start) text items
+        → IfOk result (λ node. HasCleanDisk (node_journal file_state node) → IsMarked items node) }
+    ensures none { IfOk result (λ node. node_waiting node ≡ []) }
     // Of files whose rows alone are known, it isn't known that they have the tables.
     ensures rows { (text : List ℕ) (items : List JournalItem) → HoldsJournal (image_at S.Start) text items
-        → IfOk result (λ node. HasCleanDisk (node_journal file_state node) → GoesOnWith text items node ⊎ IsFirstStart node) }
+        → IfOk result (λ node. HasCleanDisk (node_journal file_state node) → GoesOnWith text items node ⊎ BeginsAsGiven (option_copied genesis.entry) node) }
 {
     let conn = connect(rt, path, start)?;
     open_node(rt.alloc(), conn, genesis)
@@ -81,8 +90,16 @@ pub fn open_node<S: Alter + Drop>(
     ensures rest { (text : List ℕ) (items : List JournalItem) → IsAtRest (state S.Store conn) text items
         → IfOk result (λ node. HasCleanDisk (node_journal (state S.Store) node) → HasJournal (state S.Store) text items node) }
     ensures begun { (state S.Store conn).now.schema ≡ no_schema → IfOk result (λ node. IsFirstStart node) }
+    ensures given { (state S.Store conn).now.schema ≡ no_schema → IfOk result (λ node. option_copied genesis.entry ≡ Some (node_genesis node)) }
     ensures new { (state S.Store conn).now.schema ≡ no_schema
         → IfOk result (λ node. HasCleanDisk (node_journal (state S.Store) node) → HasJournal (state S.Store) (node_genesis node) [] node) }
+    ensures genesis { (text : List ℕ) (items : List JournalItem) → IsAtRest (state S.Store conn) text items
+        → IfOk result (λ node. HasCleanDisk (node_journal (state S.Store) node) → node_genesis node ≡ text) }
+    ensures asked { (text : List ℕ) (items : List JournalItem) → IsAtRest (state S.Store conn) text items
+        → IfOk result (λ node. HasCleanDisk (node_journal (state S.Store) node) → IsGiven (option_copied genesis.entry) text) }
+    ensures marked { (text : List ℕ) (items : List JournalItem) → IsAtRest (state S.Store conn) text items
+        → IfOk result (λ node. HasCleanDisk (node_journal (state S.Store) node) → IsMarked items node) }
+    ensures unmarked { (state S.Store conn).now.schema ≡ no_schema → IfOk result (λ node. IsMarked [] node) }
     ensures none { IfOk result (λ node. node_waiting node ≡ []) }
     ensures which { OnOk result (((state S.Store conn).now.schema ≡ journal_schema) ⊎ ((state S.Store conn).now.schema ≡ no_schema)) }
     ensures calm { IfOk result (λ node. doubt (state S.Store conn).is_clean ≤ doubt (node_journal (state S.Store) node).is_clean) }
@@ -117,8 +134,16 @@ fn start_of<S: Alter>(
     ensures rest { (text : List ℕ) (items : List JournalItem) → IsAtRest (state S.Store conn.old) text items
         → HasCleanDisk (state S.Store conn.new) → OnOk result (IsAtRest (state S.Store conn.new) text items) }
     ensures begun { (state S.Store conn.old).now.schema ≡ no_schema → IfOk result (λ start. IsBegun start.genesis.items start.world start.end) }
+    ensures given { (state S.Store conn.old).now.schema ≡ no_schema → IfOk result (λ start. option_copied genesis.entry ≡ Some start.genesis.items) }
     ensures new { (state S.Store conn.old).now.schema ≡ no_schema
         → HasCleanDisk (state S.Store conn.new) → IfOk result (λ start. IsAtRest (state S.Store conn.new) start.genesis.items []) }
+    ensures genesis { (text : List ℕ) (items : List JournalItem) → IsAtRest (state S.Store conn.old) text items
+        → HasCleanDisk (state S.Store conn.new) → IfOk result (λ start. start.genesis.items ≡ text) }
+    ensures asked { (text : List ℕ) (items : List JournalItem) → IsAtRest (state S.Store conn.old) text items
+        → HasCleanDisk (state S.Store conn.new) → OnOk result (IsGiven (option_copied genesis.entry) text) }
+    ensures marked { (text : List ℕ) (items : List JournalItem) → IsAtRest (state S.Store conn.old) text items
+        → HasCleanDisk (state S.Store conn.new) → IfOk result (λ start. start.marks.items ≡ marks_from 0 items) }
+    ensures unmarked { (state S.Store conn.old).now.schema ≡ no_schema → IfOk result (λ start. start.marks.items ≡ []) }
     ensures which { OnOk result (((state S.Store conn.old).now.schema ≡ journal_schema) ⊎ ((state S.Store conn.old).now.schema ≡ no_schema)) }
     ensures calm { OnOk result (doubt (state S.Store conn.old).is_clean ≤ doubt (state S.Store conn.new).is_clean) }
 {
@@ -138,8 +163,10 @@ pub(crate) fn begin_with<S: Alter>(
     genesis: &[u8],
 ) -> Result<GoingOn, NodeFault>
     ensures begun { IfOk result (λ start. IsBegun start.genesis.items start.world start.end) }
+    ensures given { IfOk result (λ start. start.genesis.items ≡ genesis.now) }
     ensures new { (state S.Store conn.old).now.schema ≡ no_schema
         → HasCleanDisk (state S.Store conn.new) → IfOk result (λ start. IsAtRest (state S.Store conn.new) start.genesis.items []) }
+    ensures unmarked { IfOk result (λ start. start.marks.items ≡ []) }
     ensures crash { Survives (state S.Store conn.old) (state S.Store conn.new) (LeavesBegun (state S.Store conn.old) genesis.now) }
 {
     let text = Vec::from_slice(alloc, genesis)?;
@@ -217,6 +244,12 @@ pub(crate) fn go_on<S: Alter>(
         → HasCleanDisk (state S.Store conn.new) → IfOk result (λ start. IsRestarted text items start.world start.end) }
     ensures rest { (text : List ℕ) (items : List JournalItem) → IsAtRest (state S.Store conn.old) text items
         → HasCleanDisk (state S.Store conn.new) → OnOk result (IsAtRest (state S.Store conn.new) text items) }
+    ensures genesis { (text : List ℕ) (items : List JournalItem) → IsAtRest (state S.Store conn.old) text items
+        → HasCleanDisk (state S.Store conn.new) → IfOk result (λ start. start.genesis.items ≡ text) }
+    ensures asked { (text : List ℕ) (items : List JournalItem) → IsAtRest (state S.Store conn.old) text items
+        → HasCleanDisk (state S.Store conn.new) → OnOk result (IsGiven (option_copied genesis.entry) text) }
+    ensures marked { (text : List ℕ) (items : List JournalItem) → IsAtRest (state S.Store conn.old) text items
+        → HasCleanDisk (state S.Store conn.new) → IfOk result (λ start. start.marks.items ≡ marks_from 0 items) }
     ensures crash { Survives (state S.Store conn.old) (state S.Store conn.new) (LeavesNothing (state S.Store conn.old)) }
 {
     let began = beginning_of(conn)?;
@@ -232,14 +265,27 @@ pub(crate) fn go_on<S: Alter>(
     })
 }
 
-/// Whether a journal is of this format and began with this genesis.
-pub(crate) fn judge(began: &Beginning, genesis: Option<&[u8]>) -> Result<(), NodeFault> {
+/// Whether a journal is of this format, and began with the genesis that is given, where one is.
+pub(crate) fn judge(began: &Beginning, genesis: Option<&[u8]>) -> Result<(), NodeFault>
+    ensures asked { OnOk result (IsGiven (option_copied genesis.entry) began.now.genesis.items) }
+    ensures faults { IfErr result (IsOfOther (option_copied genesis.entry) began.now.genesis.items) }
+{
     if began.format != i64::from(FORMAT) {
         return Err(NodeFault::OtherFormat(began.format));
     }
+    if !is_given(genesis, began.genesis.as_slice()) {
+        return Err(NodeFault::OtherGenesis);
+    }
+    Ok(())
+}
+
+// Whether a text is the one that is given, where one is.
+fn is_given(genesis: Option<&[u8]>, text: &[u8]) -> bool
+    ensures { result ≡ is_given (option_copied genesis.entry) text.now }
+{
     match genesis {
-        Some(wanted) if wanted != began.genesis.as_slice() => Err(NodeFault::OtherGenesis),
-        _ => Ok(()),
+        Some(given) => given == text,
+        None => true,
     }
 }
 
@@ -251,10 +297,14 @@ pub(crate) fn replay_from<S: Alter>(
 ) -> Result<Past, Unread>
     ensures restarted { (items : List JournalItem) → IsJournal (state S.Store conn.old).now genesis.now items
         → HasCleanDisk (state S.Store conn.new) → IfOk result (λ past. IsRestarted genesis.now items past.world past.end) }
+    ensures marked { (items : List JournalItem) → IsJournal (state S.Store conn.old).now genesis.now items
+        → HasCleanDisk (state S.Store conn.new) → IfOk result (λ past. past.marks.items ≡ marks_from 0 items) }
     ensures differs { (items : List JournalItem) → IsJournal (state S.Store conn.old).now genesis.now items
         → HasCleanDisk (state S.Store conn.new) → IfErr result (IfDiffers (IsUnlawful genesis.now items)) }
     ensures rest { (items : List JournalItem) → IsAtRest (state S.Store conn.old) genesis.now items
         → HasCleanDisk (state S.Store conn.new) → OnOk result (IsAtRest (state S.Store conn.new) genesis.now items) }
+    ensures left { (items : List JournalItem) → IsAtRest (state S.Store conn.old) genesis.now items
+        → HasCleanDisk (state S.Store conn.new) → IfErr result (OnDiffers (IsAtRest (state S.Store conn.new) genesis.now items)) }
     ensures crash { Survives (state S.Store conn.old) (state S.Store conn.new) (LeavesNothing (state S.Store conn.old)) }
 {
     let world = world_of(alloc, genesis)?;

@@ -1,6 +1,6 @@
 //! The entries of a journal are read back, and each is put to the world again.
 
-ghost use Rattle.std.specs.Prelude.{◌≡◌, ◌∷◌, [], false, take, length, List, ℕ, IfErr, IfOk, OnOk};
+ghost use Rattle.std.specs.Prelude.{◌≡◌, ◌++◌, ◌∷◌, [], false, take, length, List, ℕ, IfErr, IfOk, OnOk};
 ghost use Rattle.sqlite.specs.State.{HasCleanDisk, IsUnchanged, Survives};
 ghost use Rattle.sqlite.specs.Held.{state};
 ghost use Rattle.ibc_refinement.specs.World.{WorldState};
@@ -12,7 +12,8 @@ ghost use Rattle.ibc_journal.specs.Digests.{HasReadTo, HasReadAll};
 ghost use Rattle.ibc_journal.specs.Crashes.{LeavesNothing};
 ghost use Rattle.ibc_journal.specs.Restarts.{IsAtRest};
 ghost use Rattle.ibc_node.specs.Kept.{bytes_in, IsKeptAs, HasReplayed, ReplaysOne};
-ghost use Rattle.ibc_node.specs.Audits.{IfDiffers, IsUnreadBy, StopsAtItem, StopsAsKept};
+ghost use Rattle.ibc_node.specs.Marks.{marks_by, marks_from};
+ghost use Rattle.ibc_node.specs.Audits.{IfDiffers, OnDiffers, IsUnreadBy, StopsAtItem, StopsAsKept};
 
 use crate::NodeFault;
 use crate::unread::Unread;
@@ -48,6 +49,7 @@ impl Past {
     fn new(alloc: Global, genesis: &[u8], world: World) -> Past
         ensures world { result.world ≡ world }
         ensures start { (items : List JournalItem) → HasReadTo genesis.now items result.end }
+        ensures unmarked { result.marks.items ≡ [] }
     {
         Past {
             world,
@@ -70,10 +72,14 @@ pub(crate) fn read_all<S: Alter>(
         → HasCleanDisk (state S.Store conn.new) → IfOk result (λ past. HasReplayed world items past.world) }
     ensures read { (items : List JournalItem) → IsJournal (state S.Store conn.old).now genesis.now items
         → HasCleanDisk (state S.Store conn.new) → IfOk result (λ past. HasReadAll genesis.now items past.end) }
+    ensures marked { (items : List JournalItem) → IsJournal (state S.Store conn.old).now genesis.now items
+        → HasCleanDisk (state S.Store conn.new) → IfOk result (λ past. past.marks.items ≡ marks_from 0 items) }
     ensures differs { (items : List JournalItem) → IsJournal (state S.Store conn.old).now genesis.now items
         → HasCleanDisk (state S.Store conn.new) → IfErr result (IfDiffers (StopsAsKept world items)) }
     ensures rest { (items : List JournalItem) → IsAtRest (state S.Store conn.old) genesis.now items
         → HasCleanDisk (state S.Store conn.new) → OnOk result (IsAtRest (state S.Store conn.new) genesis.now items) }
+    ensures left { (items : List JournalItem) → IsAtRest (state S.Store conn.old) genesis.now items
+        → HasCleanDisk (state S.Store conn.new) → IfErr result (OnDiffers (IsAtRest (state S.Store conn.new) genesis.now items)) }
     ensures crash { Survives (state S.Store conn.old) (state S.Store conn.new) (LeavesNothing (state S.Store conn.old)) }
 {
     let mut past = Past::new(alloc, genesis, world);
@@ -96,6 +102,9 @@ fn read_next<S: Alter>(
         → OnOk result (HasReplayed beginning (take past.new.end.place items) past.new.world) }
     ensures read { (genesis : List ℕ) (items : List JournalItem) → IsJournal (state S.Store conn.old).now genesis items → HasReadTo genesis items past.old.end
         → HasCleanDisk (state S.Store conn.new) → OnOk result (HasReadTo genesis items past.new.end) }
+    ensures marked { (genesis : List ℕ) (items : List JournalItem) → IsJournal (state S.Store conn.old).now genesis items → HasReadTo genesis items past.old.end
+        → past.old.marks.items ≡ marks_from 0 (take past.old.end.place items) → HasCleanDisk (state S.Store conn.new)
+        → OnOk result (past.new.marks.items ≡ marks_from 0 (take past.new.end.place items)) }
     ensures end { (genesis : List ℕ) (items : List JournalItem) → IsJournal (state S.Store conn.old).now genesis items → HasReadTo genesis items past.old.end
         → HasCleanDisk (state S.Store conn.new) → IfOk result (λ more. more ≡ false → past.new.end.place ≡ length items) }
     ensures differs { (genesis : List ℕ) (items : List JournalItem) (beginning : WorldState) → IsJournal (state S.Store conn.old).now genesis items → HasReadTo genesis items past.old.end
@@ -103,6 +112,8 @@ fn read_next<S: Alter>(
         → IfErr result (IfDiffers (StopsAsKept beginning items)) }
     ensures same { (genesis : List ℕ) (items : List JournalItem) → IsJournal (state S.Store conn.old).now genesis items
         → HasCleanDisk (state S.Store conn.new) → OnOk result (IsUnchanged (state S.Store conn.old) (state S.Store conn.new)) }
+    ensures left { (genesis : List ℕ) (items : List JournalItem) → IsJournal (state S.Store conn.old).now genesis items
+        → HasCleanDisk (state S.Store conn.new) → IfErr result (OnDiffers (IsUnchanged (state S.Store conn.old) (state S.Store conn.new))) }
     ensures crash { Survives (state S.Store conn.old) (state S.Store conn.new) (LeavesNothing (state S.Store conn.old)) }
 {
     let place = past.end.place;
@@ -172,10 +183,13 @@ fn fault_at(place: u32, fault: JournalFault) -> NodeFault {
 }
 
 /// Marks an entry, where its event came by a log.
-pub(crate) fn mark(marks: &mut Vec<LogMark>, log_place: u32, place: u32) -> Result<(), NodeFault> {
-    if log_place > 0 {
-        marks.push(LogMark { log_place, place })?;
+pub(crate) fn mark(marks: &mut Vec<LogMark>, log_place: u32, place: u32) -> Result<(), NodeFault>
+    ensures { OnOk result (marks.new.items ≡ marks.old.items ++ marks_by log_place place) }
+{
+    if log_place == 0 {
+        return Ok(());
     }
+    marks.push(LogMark { log_place, place })?;
     Ok(())
 }
 

@@ -1,16 +1,21 @@
-//! The lines that a node writes, each a JSON object.
+//! The lines that tell no event, each a JSON object.
+
+ghost use Rattle.std.specs.Prelude.{◌≡◌, string_bytes, IfOk};
+ghost use Rattle.ibc_node_lines.specs.Told.{resumed_text};
 
 use crate::LineFault;
+use crate::lines::{joined, refused, reply_text};
 use hex::encode as encode_hex;
 use ibc_ids::{Account, Denom, Refusal};
 use ibc_journal::JournalEntry;
-use ibc_machine::{Effect, Reading, Reply, Totals};
-use ibc_node::KeptAnswer;
+use ibc_machine::{Reading, Totals};
 use ibc_replay::Answered;
 use std::alloc::{AllocError, Global};
 
 /// The line at the start: how many entries there are, and the last place of a log by which one came, or 0.
-pub fn resumed(alloc: Global, entries: u32, log_place: u32) -> Result<String, AllocError> {
+pub fn resumed(alloc: Global, entries: u32, log_place: u32) -> Result<String, AllocError>
+    ensures { IfOk result (λ text. string_bytes text ≡ resumed_text entries log_place) }
+{
     format!(in alloc; "{{\"resumed\":{{\"entries\":{entries},\"at\":{log_place}}}}}\n")
 }
 
@@ -74,103 +79,6 @@ pub fn mistaken(alloc: Global, line: u64, why: LineFault) -> Result<String, Allo
     format!(in alloc; "{{\"line\":{line},\"mistake\":\"{why}\"}}\n")
 }
 
-/// What came of a line: of one event an object, of several a list, and of none a word.
-pub fn told(alloc: Global, answers: &[(u8, KeptAnswer)]) -> Result<String, AllocError> {
-    let [(chain, kept)] = answers else {
-        return told_each(alloc, answers);
-    };
-    let mut text = answer(alloc, *chain, kept)?;
-    text.push_str("\n")?;
-    Ok(text)
-}
-
-// What came of several events, or of none.
-fn told_each(alloc: Global, answers: &[(u8, KeptAnswer)]) -> Result<String, AllocError> {
-    let mut text = String::from_str(alloc, "{\"answers\":[")?;
-    let mut is_first = true;
-    for (chain, kept) in answers {
-        if !is_first {
-            text.push_str(",")?;
-        }
-        add(&mut text, answer(alloc, *chain, kept)?)?;
-        is_first = false;
-    }
-    text.push_str("]}\n")?;
-    Ok(text)
-}
-
-// Adds a text.
-fn add(text: &mut String, more: String) -> Result<(), AllocError> {
-    let added = text.push_str(more.as_str());
-    drop(more);
-    added
-}
-
-// What came of an event.
-fn answer(alloc: Global, chain: u8, kept: &KeptAnswer) -> Result<String, AllocError> {
-    let reply = reply_text(alloc, &kept.reply)?;
-    let line = with_place(alloc, chain, kept.place, reply.as_str());
-    drop(reply);
-    line
-}
-
-// What was answered, without the braces round it.
-fn reply_text(alloc: Global, reply: &Reply) -> Result<String, AllocError> {
-    match reply {
-        Reply::Ok(effect) => accepted(alloc, effect),
-        Reply::No(refusal) => refused(alloc, *refusal),
-    }
-}
-
-fn with_place(
-    alloc: Global,
-    chain: u8,
-    place: Option<u32>,
-    reply: &str,
-) -> Result<String, AllocError> {
-    match place {
-        Some(place) => format!(in alloc; "{{\"chain\":{chain},\"place\":{place},{reply}}}"),
-        None => format!(in alloc; "{{\"chain\":{chain},{reply}}}"),
-    }
-}
-
-/// Why there is no answer, without the braces round it.
-pub fn refused(alloc: Global, refusal: Refusal) -> Result<String, AllocError> {
-    let number = refusal.number();
-    format!(in alloc; "\"no\":{number},\"why\":\"{refusal}\"")
-}
-
-fn accepted(alloc: Global, effect: &Effect) -> Result<String, AllocError> {
-    match effect {
-        Effect::None => String::from_str(alloc, "\"ok\":{}"),
-        Effect::Client(id) => named(alloc, "client", id.as_str()),
-        Effect::Connection(id) => named(alloc, "connection", id.as_str()),
-        Effect::Channel(id) => named(alloc, "channel", id.as_str()),
-        Effect::Sent(sequence) => format!(in alloc; "\"ok\":{{\"sequence\":{sequence}}}"),
-        Effect::Ack(bytes) => in_hex(alloc, "acknowledgement", bytes.as_slice()),
-        Effect::Block(height, root) => block(alloc, *height, root.bytes().as_slice()),
-    }
-}
-
-fn named(alloc: Global, what: &str, name: &str) -> Result<String, AllocError> {
-    format!(in alloc; "\"ok\":{{\"{what}\":\"{name}\"}}")
-}
-
-fn in_hex(alloc: Global, what: &str, bytes: &[u8]) -> Result<String, AllocError> {
-    let text = encode_hex(alloc, bytes)?;
-    let line = named(alloc, what, text.as_str());
-    drop(text);
-    line
-}
-
-fn block(alloc: Global, height: u64, root: &[u8]) -> Result<String, AllocError> {
-    let text = encode_hex(alloc, root)?;
-    let root = text.as_str();
-    let line = format!(in alloc; "\"ok\":{{\"height\":{height},\"root\":\"{root}\"}}");
-    drop(text);
-    line
-}
-
 /// What is found under a name, in hex, or `null`.
 pub fn found(alloc: Global, what: &str, bytes: Option<&[u8]>) -> Result<String, AllocError> {
     let Some(bytes) = bytes else {
@@ -207,17 +115,11 @@ pub fn unanswered(alloc: Global, refusal: Refusal) -> Result<String, AllocError>
 
 /// Who holds how much of what.
 pub fn balances(alloc: Global, holdings: &[(Account, Denom, u128)]) -> Result<String, AllocError> {
-    let mut text = String::from_str(alloc, "{\"balances\":[")?;
-    let mut is_first = true;
+    let mut texts = Vec::new(alloc);
     for (account, denom, amount) in holdings {
-        if !is_first {
-            text.push_str(",")?;
-        }
-        add(&mut text, holding(alloc, account, denom.as_str(), *amount)?)?;
-        is_first = false;
+        texts.push(holding(alloc, account, denom.as_str(), *amount)?)?;
     }
-    text.push_str("]}\n")?;
-    Ok(text)
+    list(alloc, "balances", texts.as_slice())
 }
 
 fn holding(
@@ -238,19 +140,11 @@ fn holding(
     }
 }
 
-/// Texts in hex as a list under a name.
+/// Texts as a list under a name.
 pub fn list(alloc: Global, what: &str, texts: &[String]) -> Result<String, AllocError> {
-    let mut text = format!(in alloc; "{{\"{what}\":[")?;
-    let mut is_first = true;
-    for item in texts {
-        if !is_first {
-            text.push_str(",")?;
-        }
-        text.push_str(item.as_str())?;
-        is_first = false;
-    }
-    text.push_str("]}\n")?;
-    Ok(text)
+    let list = joined(alloc, texts)?;
+    let texts = list.as_str();
+    format!(in alloc; "{{\"{what}\":[{texts}]}}\n")
 }
 
 /// An entry as the journal has it, at a place.

@@ -1,7 +1,9 @@
 //! What an audit finds is told.
 
-ghost use Rattle.std.specs.Prelude.{OnOk};
+ghost use Rattle.std.specs.Prelude.{◌≡◌, OnOk};
 ghost use Rattle.ibc_node.specs.Audits.{FindsLawful};
+ghost use Rattle.ibc_node.specs.declared.fault.NodeFault.TheVariants.{OtherAnswer};
+ghost use Rattle.ibc_node_lines.specs.Audited.{EndsAsFound, fault_of};
 
 use crate::answers::{lawful, unlawful};
 use crate::serving::write;
@@ -11,20 +13,19 @@ use std::alloc::Global;
 use std::io::Write;
 
 /// Tells in a line what an audit found: that the entries are a lawful run, or the first place that differs, with the answer that is due
-/// there and the one that is kept. Fault: `OtherAnswer` with that place, once it is told.
+/// there and the one that is kept. Fault: `OtherAnswer` with that place, also where its line can't be written; `CannotWrite` where a lawful
+/// run can't be told.
 pub fn tell_audit<W: Write>(
     alloc: Global,
     found: &JournalAudit,
     output: &mut W,
 ) -> Result<(), NodeFault>
-    ensures { OnOk result (FindsLawful found.now) }
+    ensures lawful { OnOk result (FindsLawful found.now) }
+    ensures ends { EndsAsFound found.now result }
 {
     match found {
         JournalAudit::Lawful { entries } => tell_lawful(alloc, *entries, output),
-        JournalAudit::Differs(why) => {
-            let place = tell_difference(alloc, why, output)?;
-            Err(NodeFault::OtherAnswer(place))
-        }
+        JournalAudit::Differs(why) => Err(tell_difference(alloc, why, output)),
     }
 }
 
@@ -33,12 +34,10 @@ fn tell_lawful<W: Write>(alloc: Global, entries: u32, output: &mut W) -> Result<
     write(output, text.as_str())
 }
 
-// Tells which two answers differ. Answers the place.
-fn tell_difference<W: Write>(
-    alloc: Global,
-    why: &Difference,
-    output: &mut W,
-) -> Result<usize, NodeFault> {
+// Tells which two answers differ, where a line can be written. Answers the fault that the difference is.
+fn tell_difference<W: Write>(alloc: Global, why: &Difference, output: &mut W) -> NodeFault
+    ensures { result ≡ fault_of why.now }
+{
     match why {
         Difference::At { place, due, stored } => {
             tell_both(alloc, *place, Some(due), stored, output)
@@ -46,21 +45,26 @@ fn tell_difference<W: Write>(
         Difference::UnknownChain { place, stored } => {
             tell_both(alloc, *place, None, stored, output)
         }
-        Difference::NoGenesis => Err(NodeFault::BadGenesis),
-        Difference::NoMemory => Err(NodeFault::NoMemory),
+        Difference::NoGenesis => NodeFault::BadGenesis,
+        Difference::NoMemory => NodeFault::NoMemory,
     }
 }
 
+// Tells the two answers at a place, where a line can be written. Answers the fault that names the place.
 fn tell_both<W: Write>(
     alloc: Global,
     place: usize,
     due: Option<&Answered>,
     kept: &Answered,
     output: &mut W,
-) -> Result<usize, NodeFault> {
-    let text = unlawful(alloc, place, due, kept)?;
-    let written = write(output, text.as_str());
+) -> NodeFault
+    ensures { result ≡ OtherAnswer place }
+{
+    let fault = NodeFault::OtherAnswer(place);
+    let Ok(text) = unlawful(alloc, place, due, kept) else {
+        return fault;
+    };
+    let _written = write(output, text.as_str());
     drop(text);
-    written?;
-    Ok(place)
+    fault
 }

@@ -1,5 +1,11 @@
 //! A node, as the steps of a script see it.
 
+ghost use Rattle.std.specs.Prelude.{◌≡◌, ◌++◌, ◌∷◌, [], IfOk, IsTrue, OnOk};
+ghost use Rattle.sqlite.specs.Held.{state};
+ghost use Rattle.ibc_machine.specs.ledger.Ledgers.{chain_of};
+ghost use Rattle.ibc_node.specs.Nodes.{TellsOn};
+ghost use Rattle.ibc_node_lines.specs.Desks.{desk_chains};
+
 use ibc_ids::{Account, Bytes, ChannelId, Denom, Key, PortId, Refusal};
 use ibc_ledger::Ledger;
 use ibc_machine::{Event, Reply, Totals};
@@ -19,7 +25,7 @@ pub struct Desk<S: Alter> {
     pub(crate) node: Node<S>,
     starts: ChainStarts,
     log_place: u32,
-    told: Vec<(u8, KeptAnswer)>,
+    pub(crate) told: Vec<(u8, KeptAnswer)>,
     fault: Option<NodeFault>,
 }
 
@@ -37,7 +43,9 @@ impl<S: Alter + Drop> Drop for Desk<S> {
 }
 
 // The number of an event's chain.
-fn chain_of(event: &Event) -> u8 {
+fn chain_of(event: &Event) -> u8
+    ensures { result ≡ chain_of event.now }
+{
     match event {
         Event::Message { chain, .. } => *chain,
         Event::Block { chain, .. } => *chain,
@@ -46,7 +54,9 @@ fn chain_of(event: &Event) -> u8 {
 
 impl<S: Alter + Drop> Desk<S> {
     /// The desk of a node whose chains begin so.
-    pub fn new(alloc: Global, node: Node<S>, starts: ChainStarts) -> Desk<S> {
+    pub fn new(alloc: Global, node: Node<S>, starts: ChainStarts) -> Desk<S>
+        ensures { result.node ≡ node }
+    {
         Desk {
             alloc,
             node,
@@ -57,17 +67,32 @@ impl<S: Alter + Drop> Desk<S> {
         }
     }
 
+    /// Its node.
+    pub fn into_node(self) -> Node<S>
+        ensures { result ≡ self.node }
+    {
+        let Desk {
+            alloc: _,
+            node,
+            starts,
+            log_place: _,
+            told,
+            fault: _,
+        } = self;
+        drop(starts);
+        drop(told);
+        node
+    }
+
     /// Whether there is a chain of this number.
     pub fn has_chain(&self, chain: u8) -> bool {
         self.ledger(chain).is_some()
     }
 
     /// Asks the node for an event, and tells what came of it.
-    pub fn take(
-        &mut self,
-        log_place: u32,
-        event: Event,
-    ) -> Result<Vec<(u8, KeptAnswer)>, NodeFault> {
+    pub fn take(&mut self, log_place: u32, event: Event) -> Result<Vec<(u8, KeptAnswer)>, NodeFault>
+        ensures { IfOk result (λ told. TellsOn (state S.Store) self.old.node [] self.new.node told.items) }
+    {
         let chain = chain_of(&event);
         let kept = self.node.take(log_place, event)?;
         let mut told = Vec::new(self.alloc);
@@ -81,35 +106,43 @@ impl<S: Alter + Drop> Desk<S> {
         names: &[ChainName],
         log_place: u32,
         step: Step,
-    ) -> Result<Vec<(u8, KeptAnswer)>, NodeFault> {
+    ) -> Result<Vec<(u8, KeptAnswer)>, NodeFault>
+        ensures { IfOk result (λ told. TellsOn (state S.Store) self.old.node [] self.new.node told.items) }
+    {
         if names.len() > 8 {
             drop(step);
             return Err(NodeFault::BadGenesis);
         }
         self.log_place = log_place;
+        self.told.clear();
         let ran = Runner::new(self.alloc, names).act(self, step, &mut io::sink());
         self.taken(ran.is_ok())
     }
 
     // What was told meanwhile, or why nothing more can be told.
-    fn taken(&mut self, has_run: bool) -> Result<Vec<(u8, KeptAnswer)>, NodeFault> {
+    fn taken(&mut self, has_run: bool) -> Result<Vec<(u8, KeptAnswer)>, NodeFault>
+        ensures run { OnOk result (IsTrue has_run) }
+        ensures told { IfOk result (λ told. told.items ≡ self.old.told.items) }
+        ensures node { self.new.node ≡ self.old.node }
+    {
         let mut told = Vec::new(self.alloc);
         told.append(&mut self.told)?;
-        match self.fault.take() {
-            Some(fault) => {
-                drop(told);
-                Err(fault)
-            }
-            None if has_run => Ok(told),
-            None => {
-                drop(told);
-                Err(NodeFault::NoMemory)
-            }
+        if let Some(fault) = self.fault.take() {
+            drop(told);
+            return Err(fault);
         }
+        if !has_run {
+            drop(told);
+            return Err(NodeFault::NoMemory);
+        }
+        Ok(told)
     }
 
     // Tells what came of an event, and answers with its reply.
-    fn tell(&mut self, chain: u8, kept: KeptAnswer) -> Result<Reply, Refusal> {
+    fn tell(&mut self, chain: u8, kept: KeptAnswer) -> Result<Reply, Refusal>
+        ensures node { self.new.node ≡ self.old.node }
+        ensures told { OnOk result (self.new.told.items ≡ self.old.told.items ++ (chain, kept) ∷ []) }
+    {
         let reply = kept.reply.clone()?;
         match self.told.push((chain, kept)) {
             Ok(()) => Ok(reply),
@@ -127,6 +160,8 @@ impl<S: Alter + Drop> Desk<S> {
 }
 
 impl<S: Alter + Drop> Chains for Desk<S> {
+    ghost known = { desk_chains (state S.Store) };
+
     fn ask(&mut self, event: Event) -> Result<Reply, Refusal> {
         let chain = chain_of(&event);
         match self.node.take(self.log_place, event) {

@@ -1,5 +1,9 @@
 //! What is told of a node without asking its world for anything.
 
+ghost use Rattle.std.specs.Prelude.{OnOk};
+ghost use Rattle.sqlite.specs.Held.{state};
+ghost use Rattle.ibc_node.specs.Nodes.{StaysBeside};
+
 use crate::request::NodeQuestion;
 use crate::{Desk, LineFault, answers};
 use hex::encode as encode_hex;
@@ -18,11 +22,14 @@ use std::alloc::Global;
 const MOST_KEPT: u32 = 100;
 
 /// The answer to a question of a line, or what is wrong with the line.
+#[tactic(auto, using(ibc_node::proofs::Staying::keeps_same))]
 pub fn tell<S: Alter + Drop>(
     alloc: Global,
     desk: &mut Desk<S>,
     question: NodeQuestion,
-) -> Result<Result<String, LineFault>, NodeFault> {
+) -> Result<Result<String, LineFault>, NodeFault>
+    ensures { OnOk result (StaysBeside (state S.Store) desk.old.node desk.new.node) }
+{
     if !has_chains(desk, &question) {
         drop(question);
         return Ok(Err(LineFault::UnknownChain));
@@ -44,25 +51,28 @@ fn has_chains<S: Alter + Drop>(desk: &Desk<S>, question: &NodeQuestion) -> bool 
 }
 
 // The answer to a question whose chains are there.
+#[tactic(auto, using(ibc_node::proofs::Staying::keeps_same))]
 fn told<S: Alter + Drop>(
     alloc: Global,
     desk: &mut Desk<S>,
     question: NodeQuestion,
-) -> Result<String, NodeFault> {
+) -> Result<String, NodeFault>
+    ensures { OnOk result (StaysBeside (state S.Store) desk.old.node desk.new.node) }
+{
     match question {
         NodeQuestion::Entries => Ok(answers::entries(alloc, desk.node.entries())?),
         NodeQuestion::Kept { from } => tell_kept(alloc, desk, from),
-        NodeQuestion::Balances { chain } => tell_balances(alloc, desk, chain),
+        NodeQuestion::Balances { chain } => Ok(tell_balances(alloc, desk, chain)?),
         NodeQuestion::Standing { chain, key } => {
             let value = desk.value(chain, &key);
             drop(key);
-            tell_bytes(alloc, "value", value)
+            Ok(tell_bytes(alloc, "value", value)?)
         }
-        NodeQuestion::Root { chain, height } => tell_root(alloc, desk, chain, height),
+        NodeQuestion::Root { chain, height } => Ok(tell_root(alloc, desk, chain, height)?),
         NodeQuestion::Proof { chain, height, key } => {
             let proof = desk.proof(chain, height, &key);
             drop(key);
-            tell_proof(alloc, proof)
+            Ok(tell_proof(alloc, proof)?)
         }
         NodeQuestion::Totals {
             chain,
@@ -72,9 +82,9 @@ fn told<S: Alter + Drop>(
             let totals = desk.totals(chain, &channel, &denom);
             drop(channel);
             drop(denom);
-            tell_totals(alloc, totals)
+            Ok(tell_totals(alloc, totals)?)
         }
-        NodeQuestion::Plan { from, to } => tell_plan(alloc, desk, from, to),
+        NodeQuestion::Plan { from, to } => Ok(tell_plan(alloc, desk, from, to)?),
     }
 }
 
@@ -204,17 +214,31 @@ fn tell_kept<S: Alter + Drop>(
     alloc: Global,
     desk: &mut Desk<S>,
     from: u32,
-) -> Result<String, NodeFault> {
+) -> Result<String, NodeFault>
+    ensures { OnOk result (StaysBeside (state S.Store) desk.old.node desk.new.node) }
+{
+    let texts = kept_texts(alloc, desk, from)?;
+    Ok(answers::list(alloc, "kept", texts.as_slice())?)
+}
+
+// The texts of entries from a place on, of so many at most.
+fn kept_texts<S: Alter + Drop>(
+    alloc: Global,
+    desk: &mut Desk<S>,
+    from: u32,
+) -> Result<Vec<String>, NodeFault>
+    ensures { OnOk result (StaysBeside (state S.Store) desk.old.node desk.new.node) }
+{
     let mut texts = Vec::new(alloc);
-    for place in from..from.saturating_add(MOST_KEPT) {
+    'places: for place in from..from.saturating_add(MOST_KEPT) {
         match desk.node.entry_at(place)? {
             Some(entry) => {
                 let text = answers::kept(alloc, place, &entry);
                 drop(entry);
                 texts.push(text?)?;
             }
-            None => return Ok(answers::list(alloc, "kept", texts.as_slice())?),
+            None => return Ok(texts),
         }
     }
-    Ok(answers::list(alloc, "kept", texts.as_slice())?)
+    Ok(texts)
 }

@@ -1,16 +1,22 @@
 //! A node answers lines, in their order.
 
-ghost use Rattle.std.specs.Prelude.{◌≡◌, ◌⊎◌, List, ℕ};
+ghost use Rattle.std.specs.Prelude.{◌≡◌, ◌⊎◌, [], List, ℕ, IfOk, OnOk};
+ghost use Rattle.std.specs.Io.KnownBytes.{Appends, Keeps};
 ghost use Rattle.sqlite.specs.State.{HasCleanDisk};
 ghost use Rattle.sqlite.specs.Held.{state};
+ghost use Rattle.ibc_ids.specs.Texts.{Text};
 ghost use Rattle.ibc_journal.specs.Tables.{JournalItem};
-ghost use Rattle.ibc_node.specs.Nodes.{node_journal, with_waiting, HasJournal, HasKept};
+ghost use Rattle.ibc_node.specs.Nodes.{node_end, node_journal, node_waiting, with_waiting, HasJournal, HasKept, HasAll, TellsOn};
+ghost use Rattle.ibc_node_lines.specs.Told.{answers_in, answers_of, resumed_text, AreLinesText, HasTold, ServesOn};
 
-use crate::answers::{mistaken, resumed, told};
+use crate::answers::{mistaken, resumed};
+use crate::lines::lines_text;
 use crate::questions::{question_of, tell};
-use crate::{Desk, LineFault, NodeAction, NodeRequest, SingleSteps, read_request};
-use ibc_machine::Genesis;
-use ibc_node::{KeptAnswer, Node, NodeFault};
+use crate::{
+    Desk, LineFault, NodeAction, NodeLine, NodeQuestion, NodeRequest, SingleSteps, read_request,
+};
+use ibc_machine::{Event, Genesis};
+use ibc_node::{Node, NodeFault};
 use ibc_script::{ChainName, Fault, Script, Step, read_script};
 use ibc_script_worlds::ChainStarts;
 use sqlite::Alter;
@@ -18,14 +24,19 @@ use std::alloc::Global;
 use std::io::{BufRead, BufReader, Read, Write};
 
 /// Answers each line of the input, in order, with a line. An answer is written after its entry is in the journal. Lines that have come
-/// together share a commit, so many at most. So no answer waits for a line that hasn't come.
+/// together share a commit, so many at most. So no answer waits for a line that hasn't come. At the end the node is given back: its journal
+/// has all that its world keeps, and what was told of events is of that.
 pub fn serve<S: Alter + Drop, R: Read + Drop, W: Write>(
     alloc: Global,
     node: Node<S>,
     input: BufReader<R>,
     output: &mut W,
     batch: usize,
-) -> Result<(), NodeFault> {
+) -> Result<Node<S>, NodeFault>
+    ensures all { (text : List ℕ) (items : List JournalItem) → HasJournal (state S.Store) text items node → HasKept text (with_waiting items node) node
+        → IfOk result (λ after. HasCleanDisk (node_journal (state S.Store) after) → HasAll (state S.Store) text items after) }
+    ensures told { IfOk result (λ after. HasTold (state S.Store) node (W.contents output.old) after (W.contents output.new)) }
+{
     let script = script_of(alloc, &node)?;
     let Script {
         genesis,
@@ -35,9 +46,8 @@ pub fn serve<S: Alter + Drop, R: Read + Drop, W: Write>(
     drop(steps);
     let server = server_of(alloc, node, genesis, names)?;
     let mut server = server;
-    let served = server.serve_all(input, output, batch);
-    drop(server);
-    served
+    server.serve_all(input, output, batch)?;
+    Ok(server.into_node())
 }
 
 // The script with no steps that the genesis of a node is.
@@ -56,8 +66,7 @@ struct Server<S: Alter> {
     names: Vec<ChainName>,
     steps: SingleSteps,
     number: u64,
-    told: String,
-    waiting: usize,
+    told: Vec<NodeLine>,
 }
 
 impl<S: Alter + Drop> Drop for Server<S> {
@@ -69,7 +78,6 @@ impl<S: Alter + Drop> Drop for Server<S> {
             steps: _,
             number: _,
             told: _,
-            waiting: _,
         } = self;
     }
 }
@@ -79,7 +87,10 @@ fn server_of<S: Alter + Drop>(
     node: Node<S>,
     genesis: Genesis,
     names: Vec<ChainName>,
-) -> Result<Server<S>, NodeFault> {
+) -> Result<Server<S>, NodeFault>
+    ensures node { IfOk result (λ server. server.desk.node ≡ node) }
+    ensures none { IfOk result (λ server. server.told.items ≡ []) }
+{
     let starts = ChainStarts::of(alloc, &genesis);
     drop(genesis);
     let starts = starts?;
@@ -90,136 +101,267 @@ fn server_of<S: Alter + Drop>(
         names,
         steps,
         number: 0,
-        told: String::new(alloc),
-        waiting: 0,
+        told: Vec::new(alloc),
     })
 }
 
 impl<S: Alter + Drop> Server<S> {
+    // Its node.
+    fn into_node(self) -> Node<S>
+        ensures { result ≡ self.desk.node }
+    {
+        let Server {
+            alloc: _,
+            desk,
+            names,
+            steps,
+            number: _,
+            told,
+        } = self;
+        drop(names);
+        drop(steps);
+        drop(told);
+        desk.into_node()
+    }
+
     // Answers all lines.
     fn serve_all<R: Read + Drop, W: Write>(
         &mut self,
         input: BufReader<R>,
         output: &mut W,
         batch: usize,
-    ) -> Result<(), NodeFault> {
-        let mut input = input;
+    ) -> Result<(), NodeFault>
+        ensures told { OnOk result (self.old.told.items ≡ [] → HasTold (state S.Store) self.old.desk.node (W.contents output.old) self.new.desk.node (W.contents output.new)) }
+        ensures none { OnOk result (node_waiting self.new.desk.node ≡ []) }
+    {
         self.resume(output)?;
-        for _ in 0..u64::MAX {
+        self.serve_each(input, output, batch)?;
+        self.settle(output)
+    }
+
+    // Answers line by line. The last answers may wait.
+    fn serve_each<R: Read + Drop, W: Write>(
+        &mut self,
+        input: BufReader<R>,
+        output: &mut W,
+        batch: usize,
+    ) -> Result<(), NodeFault>
+        ensures { OnOk result (ServesOn (state S.Store) self.old.desk.node self.old.told.items (W.contents output.old) self.new.desk.node self.new.told.items (W.contents output.new)) }
+    {
+        let mut input = input;
+        'lines: for _turn in 0..u64::MAX {
             if !self.answer_next(&mut input)? {
-                break;
+                return Ok(());
             }
-            if self.waiting >= batch || !input.buffer().contains(&b'\n') {
-                self.settle(output)?;
-            }
+            self.settle_if_due(&input, output, batch)?;
+        }
+        Ok(())
+    }
+
+    // Settles where as many lines wait as may share a commit, or where no whole line has come.
+    fn settle_if_due<R: Read, W: Write>(
+        &mut self,
+        input: &BufReader<R>,
+        output: &mut W,
+        batch: usize,
+    ) -> Result<(), NodeFault>
+        ensures { OnOk result (ServesOn (state S.Store) self.old.desk.node self.old.told.items (W.contents output.old) self.new.desk.node self.new.told.items (W.contents output.new)) }
+    {
+        if !self.is_due(input, batch) {
+            return Ok(());
         }
         self.settle(output)
     }
 
+    // Whether as many lines wait as may share a commit, or no whole line has come.
+    fn is_due<R: Read>(&self, input: &BufReader<R>, batch: usize) -> bool {
+        self.told.len() >= batch || !input.buffer().contains(&b'\n')
+    }
+
     // Answers the next line, if there is one.
-    fn answer_next<R: Read>(&mut self, input: &mut BufReader<R>) -> Result<bool, NodeFault> {
+    fn answer_next<R: Read>(&mut self, input: &mut BufReader<R>) -> Result<bool, NodeFault>
+        ensures { OnOk result (TellsOn (state S.Store) self.old.desk.node (answers_in self.old.told.items) self.new.desk.node (answers_in self.new.told.items)) }
+    {
         let mut line = Vec::new(self.alloc);
-        match input.read_until(b'\n', &mut line) {
-            Ok(0) => Ok(false),
-            Ok(_) => {
-                self.answer(line.as_slice())?;
-                Ok(true)
-            }
-            Err(error) => Err(NodeFault::of_input(&error)),
+        if !read_line(input, &mut line)? {
+            return Ok(false);
         }
+        self.answer(line.as_slice())?;
+        Ok(true)
     }
 
     // Tells where the node goes on.
-    fn resume<W: Write>(&mut self, output: &mut W) -> Result<(), NodeFault> {
+    fn resume<W: Write>(&self, output: &mut W) -> Result<(), NodeFault>
+        ensures { OnOk result ((log_place : ℕ) × Appends (W.contents output.old) (W.contents output.new) (resumed_text (node_end self.now.desk.node).place log_place)) }
+    {
         let node = &self.desk.node;
         let text = resumed(self.alloc, node.entries(), node.log_place())?;
         write(output, text.as_str())
     }
 
     // Answers a line; the answer is told when its entry is in the journal.
-    fn answer(&mut self, line: &[u8]) -> Result<(), NodeFault> {
+    fn answer(&mut self, line: &[u8]) -> Result<(), NodeFault>
+        ensures { OnOk result (TellsOn (state S.Store) self.old.desk.node (answers_in self.old.told.items) self.new.desk.node (answers_in self.new.told.items)) }
+    {
         self.number = self.number.saturating_add(1);
-        self.waiting = self.waiting.saturating_add(1);
-        let text = match self.answer_of(line)? {
-            Ok(text) => text,
-            Err(LineFault::NoMemory) => return Err(NodeFault::NoMemory),
-            Err(why) => mistaken(self.alloc, self.number, why)?,
-        };
-        let added = self.told.push_str(text.as_str());
-        drop(text);
-        Ok(added?)
+        let told = self.line_for(line)?;
+        self.told.push(told)?;
+        Ok(())
     }
 
-    // The answer to a line, or what is wrong with it.
-    fn answer_of(&mut self, line: &[u8]) -> Result<Result<String, LineFault>, NodeFault> {
+    // The answer to a line.
+    fn line_for(&mut self, line: &[u8]) -> Result<NodeLine, NodeFault>
+        ensures answers { IfOk result (λ told. TellsOn (state S.Store) self.old.desk.node [] self.new.desk.node (answers_of told)) }
+        ensures told { self.new.told.items ≡ self.old.told.items }
+    {
         match read_request(self.alloc, &self.steps, line) {
-            Ok(NodeRequest::Do { log_place, asked }) => self.act(log_place, asked),
-            Ok(NodeRequest::Tell(question)) => tell(self.alloc, &mut self.desk, question),
-            Err(why) => Ok(Err(why)),
+            Ok(request) => self.line_of(request),
+            Err(why) => self.other(Err(why)),
+        }
+    }
+
+    // The answer to what a line asks for.
+    fn line_of(&mut self, request: NodeRequest) -> Result<NodeLine, NodeFault>
+        ensures answers { IfOk result (λ told. TellsOn (state S.Store) self.old.desk.node [] self.new.desk.node (answers_of told)) }
+        ensures told { self.new.told.items ≡ self.old.told.items }
+    {
+        match request {
+            NodeRequest::Do { log_place, asked } => self.act(log_place, asked),
+            NodeRequest::Tell(question) => self.tell(question),
         }
     }
 
     // Does what a line asks for, unless the place of a log that it names isn't above the last one.
-    fn act(
-        &mut self,
-        log_place: u32,
-        asked: NodeAction,
-    ) -> Result<Result<String, LineFault>, NodeFault> {
-        if 0 < log_place && log_place <= self.desk.node.log_place() {
+    fn act(&mut self, log_place: u32, asked: NodeAction) -> Result<NodeLine, NodeFault>
+        ensures answers { IfOk result (λ told. TellsOn (state S.Store) self.old.desk.node [] self.new.desk.node (answers_of told)) }
+        ensures told { self.new.told.items ≡ self.old.told.items }
+    {
+        if self.has_come(log_place) {
             drop(asked);
-            let answers = self.desk.node.again(log_place)?;
-            return Ok(Ok(tell_all(self.alloc, answers)?));
+            return self.again(log_place);
         }
         match asked {
-            NodeAction::Event(event) => {
-                let answers = self.desk.take(log_place, event)?;
-                Ok(Ok(tell_all(self.alloc, answers)?))
-            }
+            NodeAction::Event(event) => self.take(log_place, event),
             NodeAction::Step(step) => self.act_step(log_place, step),
         }
     }
 
+    // Whether what came by this place of a log is answered.
+    fn has_come(&self, log_place: u32) -> bool {
+        0 < log_place && log_place <= self.desk.node.log_place()
+    }
+
+    // Tells what came of a line that had come before.
+    fn again(&mut self, log_place: u32) -> Result<NodeLine, NodeFault>
+        ensures answers { IfOk result (λ told. TellsOn (state S.Store) self.old.desk.node [] self.new.desk.node (answers_of told)) }
+        ensures told { self.new.told.items ≡ self.old.told.items }
+    {
+        Ok(NodeLine::Answers(self.desk.node.again(log_place)?))
+    }
+
+    // Asks for an event.
+    fn take(&mut self, log_place: u32, event: Event) -> Result<NodeLine, NodeFault>
+        ensures answers { IfOk result (λ told. TellsOn (state S.Store) self.old.desk.node [] self.new.desk.node (answers_of told)) }
+        ensures told { self.new.told.items ≡ self.old.told.items }
+    {
+        Ok(NodeLine::Answers(self.desk.take(log_place, event)?))
+    }
+
     // Takes a step.
-    fn act_step(
-        &mut self,
-        log_place: u32,
-        step: Step,
-    ) -> Result<Result<String, LineFault>, NodeFault> {
+    fn act_step(&mut self, log_place: u32, step: Step) -> Result<NodeLine, NodeFault>
+        ensures answers { IfOk result (λ told. TellsOn (state S.Store) self.old.desk.node [] self.new.desk.node (answers_of told)) }
+        ensures told { self.new.told.items ≡ self.old.told.items }
+    {
         match question_of(step) {
-            Ok(question) => tell(self.alloc, &mut self.desk, question),
-            Err(step) => {
-                let answers = self.desk.act(self.names.as_slice(), log_place, step)?;
-                Ok(Ok(tell_all(self.alloc, answers)?))
-            }
+            Ok(question) => self.tell(question),
+            Err(step) => self.ask_by(log_place, step),
+        }
+    }
+
+    // Takes a step that asks for events.
+    fn ask_by(&mut self, log_place: u32, step: Step) -> Result<NodeLine, NodeFault>
+        ensures answers { IfOk result (λ told. TellsOn (state S.Store) self.old.desk.node [] self.new.desk.node (answers_of told)) }
+        ensures told { self.new.told.items ≡ self.old.told.items }
+    {
+        Ok(NodeLine::Answers(self.desk.act(self.names.as_slice(), log_place, step)?))
+    }
+
+    // Answers a question.
+    fn tell(&mut self, question: NodeQuestion) -> Result<NodeLine, NodeFault>
+        ensures answers { IfOk result (λ told. TellsOn (state S.Store) self.old.desk.node [] self.new.desk.node (answers_of told)) }
+        ensures told { self.new.told.items ≡ self.old.told.items }
+    {
+        let text = tell(self.alloc, &mut self.desk, question)?;
+        self.other(text)
+    }
+
+    // A line that tells of no event: a text, or what is wrong with what was read.
+    fn other(&self, text: Result<String, LineFault>) -> Result<NodeLine, NodeFault>
+        ensures { IfOk result (λ told. answers_of told ≡ []) }
+    {
+        match text {
+            Ok(text) => Ok(NodeLine::Other(text)),
+            Err(LineFault::NoMemory) => Err(NodeFault::NoMemory),
+            Err(why) => Ok(NodeLine::Other(mistaken(self.alloc, self.number, why)?)),
         }
     }
 
     // Puts in what waits, and then writes the answers. Where anything was written, the journal has all that the world keeps.
     fn settle<W: Write>(&mut self, output: &mut W) -> Result<(), NodeFault>
-        ensures { (text : List ℕ) (items : List JournalItem) → HasJournal (state S.Store) text items self.old.desk.node
+        ensures told { (text : List ℕ) (items : List JournalItem) → HasJournal (state S.Store) text items self.old.desk.node
             → HasKept text (with_waiting items self.old.desk.node) self.old.desk.node
             → HasCleanDisk (node_journal (state S.Store) self.new.desk.node) → (W.contents output.new ≡ W.contents output.old)
             ⊎ HasJournal (state S.Store) text (with_waiting items self.old.desk.node) self.new.desk.node }
+        ensures serves { OnOk result (ServesOn (state S.Store) self.old.desk.node self.old.told.items (W.contents output.old) self.new.desk.node self.new.told.items (W.contents output.new)) }
+        ensures none { OnOk result (node_waiting self.new.desk.node ≡ []) }
+        ensures cleared { OnOk result (self.new.told.items ≡ []) }
     {
         self.desk.node.settle()?;
-        write(output, self.told.as_str())?;
+        self.write_told(output)?;
         self.told.clear();
-        self.waiting = 0;
         Ok(())
+    }
+
+    // Writes the lines that wait.
+    fn write_told<W: Write>(&self, output: &mut W) -> Result<(), NodeFault>
+        ensures { OnOk result ((text : Text) × AreLinesText self.now.told.items text × Appends (W.contents output.old) (W.contents output.new) text) }
+    {
+        let text = lines_text(self.alloc, self.told.as_slice())?;
+        write(output, text.as_str())
     }
 }
 
-// The line of what came of events.
-fn tell_all(alloc: Global, answers: Vec<(u8, KeptAnswer)>) -> Result<String, NodeFault> {
-    let text = told(alloc, answers.as_slice());
-    drop(answers);
-    Ok(text?)
+// Reads the next line. Whether there is one.
+fn read_line<R: Read>(input: &mut BufReader<R>, line: &mut Vec<u8>) -> Result<bool, NodeFault> {
+    match input.read_until(b'\n', line) {
+        Ok(count) => Ok(count > 0),
+        Err(error) => Err(NodeFault::of_input(&error)),
+    }
 }
 
 /// Writes a text, and has it go out.
-pub fn write<W: Write>(output: &mut W, text: &str) -> Result<(), NodeFault> {
-    if output.write_all(text.as_bytes()).is_err() {
-        return Err(NodeFault::CannotWrite);
+pub fn write<W: Write>(output: &mut W, text: &str) -> Result<(), NodeFault>
+    ensures { OnOk result (Appends (W.contents output.old) (W.contents output.new) text.now) }
+{
+    match output.write_all(text.as_bytes()) {
+        Ok(()) => flush(output),
+        Err(error) => {
+            let fault = NodeFault::of_output(&error);
+            drop(error);
+            Err(fault)
+        }
     }
-    output.flush().map_err(|_| NodeFault::CannotWrite)
+}
+
+fn flush<W: Write>(output: &mut W) -> Result<(), NodeFault>
+    ensures { Keeps (W.contents output.old) (W.contents output.new) }
+{
+    match output.flush() {
+        Ok(()) => Ok(()),
+        Err(error) => {
+            let fault = NodeFault::of_output(&error);
+            drop(error);
+            Err(fault)
+        }
+    }
 }

@@ -9,7 +9,7 @@ use Rattle.ibc_wire.specs.declared.packet.Packet.{Packet}
 use Rattle.ibc_machine.specs.ics24.Values.{same_order}
 use Rattle.ibc_machine.specs.ics04.Packets.{has_size}
 use Rattle.ibc_machine.specs.chain.Notes.{opens_for_notes, receive_note}
-use Rattle.ibc_app_port.specs.Openings.{order_or_version}
+use Rattle.ibc_records.specs.Openings.{order_or_version}
 
 -- an opening is refused for the order or the version alone
 pub notes_open_or_refuse : (order : Order) (version : Text) → IfErr (opens_for_notes order version) (λ refusal. (refusal ≡ WrongOrder) ⊎ (refusal ≡ WrongVersion))

@@ -10,8 +10,8 @@ ghost use Rattle.ibc_note.specs.Laws.{notes_open_or_refuse, notes_write_sized_ac
 ghost use Rattle.ibc_note.specs.AbstractNotes.{abstract_notes};
 
 use crate::list::NoteList;
-use ibc_app_port::App;
 use ibc_ids::{Bytes, ChannelId, PortId, Refusal, Version};
+use ibc_records::App;
 use ibc_wire::{Order, Packet};
 use std::alloc::{AllocError, Global};
 use std::collections::BTreeMap;

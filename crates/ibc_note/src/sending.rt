@@ -9,12 +9,12 @@ ghost use Rattle.ibc_machine.specs.ics04.Packets.{with_sent};
 ghost use Rattle.ibc_machine.specs.chain.Records.{channel_at};
 ghost use Rattle.ibc_records.specs.RecordsModel.{core_of};
 ghost use Rattle.ibc_records.specs.HandlerContract.{IsHandled};
-ghost use Rattle.ibc_client.specs.ProofVerdicts.{IsJudged};
+ghost use Rattle.ibc_records.specs.ProofVerdicts.{IsJudged};
 
-use ibc_client::check_number;
 use ibc_ids::{PortId, Refusal};
-use ibc_packet::{check_timeouts, has_size, sending_end};
-use ibc_records::{Channel, Commitment, Records};
+use ibc_records::{
+    Channel, Commitment, Records, check_number, check_timeouts, has_size, sending_end,
+};
 use ibc_wire::SendNote;
 use std::alloc::Global;
 

@@ -12,7 +12,7 @@ use Rattle.ibc_machine.specs.promises.Worlds.{is_complete, of_chain}
 use Rattle.ibc_world_core.specs.WorldAudits.{AreOfOneWorld, IsAudit, is_whole}
 use Rattle.ibc_world_core.specs.WorldModel.{ledgers_alone}
 use Rattle.ibc_world_core.specs.declared.holdings.Audit.{Audit}
-use Rattle.ibc_theorem.specs.EveryAudit.{AreLawful}
+use Rattle.ibc_world_core.specs.EveryAudit.{AreLawful}
 use Rattle.ibc_race.proofs.Booked.{Booked, at_place}
 use Rattle.ibc_race.specs.SharedWorlds.{AreBroken, AreGathered, IsAuditOf, has_each, numbers_of}
 

@@ -10,7 +10,7 @@ use Rattle.ibc_ledger_lock.specs.Books.{no_book}
 use Rattle.ibc_ledger_lock.specs.ReceiptsAndReadings.{HasAnswered, IsEarlierOnItsChain, IsOfWorld, ReceiptModel, no_table}
 use Rattle.ibc_world_core.specs.WorldAudits.{IsAudit}
 use Rattle.ibc_world_core.specs.declared.holdings.Audit.{Audit}
-use Rattle.ibc_theorem.specs.EveryAudit.{AreLawful}
+use Rattle.ibc_world_core.specs.EveryAudit.{AreLawful}
 
 -- the ledger is of this table and this genesis, and the book is the one of its chain's number
 abbrev pub HasItsBook : TableName → GenesisState → (ℕ → Book) → LedgerModel × Book → Type 0

@@ -13,8 +13,7 @@ use ibc_ids::Refusal;
 use ibc_ledger::Ledger;
 use ibc_ledger_lock::{Board, Chain, LedgerReading, Receipt, UnusedBook, WorldBrand};
 use ibc_machine::Genesis;
-use ibc_theorem::lawful_audit;
-use ibc_world_core::{Audit, World as OneWorld};
+use ibc_world_core::{Audit, World as OneWorld, lawful_audit};
 use std::alloc::Global;
 use std::sync::{Arc, Wait};
 

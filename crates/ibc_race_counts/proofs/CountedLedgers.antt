@@ -10,7 +10,7 @@ use Rattle.ibc_ledger.specs.LedgerModel.{LedgerModel}
 use Rattle.ibc_ledger.specs.SentPackets.{happened_on}
 use Rattle.ibc_ledger_lock.specs.ReceiptsAndReadings.{HasAnswered, ReceiptModel, StandsOnItsChain}
 use Rattle.ibc_world_core.specs.declared.holdings.Audit.{Audit}
-use Rattle.ibc_theorem.specs.EveryAudit.{AreLawful}
+use Rattle.ibc_world_core.specs.EveryAudit.{AreLawful}
 use Rattle.ibc_race.specs.SharedWorlds.{IsAuditOf, numbers_of}
 use Rattle.ibc_script.specs.declared.script.Step.{Step}
 use Rattle.ibc_script_worlds.specs.KeptReceipts.{AreKept, IsKept, told_by}

@@ -9,7 +9,7 @@ use Rattle.ibc_ledger_lock.specs.ReceiptsAndReadings.{ReceiptModel}
 use Rattle.ibc_script.specs.declared.script.Step.{Step}
 use Rattle.ibc_script_worlds.specs.KeptReceipts.{told_by}
 use Rattle.ibc_script_worlds.specs.Racing.{AreTaken, HasLedger, StandInOrder}
-use Rattle.ibc_theorem.specs.EveryAudit.{AreLawful}
+use Rattle.ibc_world_core.specs.EveryAudit.{AreLawful}
 use Rattle.ibc_race_counts.specs.CountedReceipts.{AreCountsOf}
 use Rattle.ibc_race_counts.specs.declared.counting.ReceiptCounts.{ReceiptCounts}
 use Rattle.ibc_race_counts.specs.declared.racing.CountedRace.{CountedRace}

@@ -6,8 +6,6 @@ mod log;
 mod racing;
 mod relaying;
 mod telling;
-#[cfg(test)]
-mod tests;
 
 pub use counting::{ReceiptCounts, counts_of};
 pub use log::RelayerLog;

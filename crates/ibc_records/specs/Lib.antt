@@ -1,3 +1,4 @@
+pub mod Openings
 pub mod ClientModels
 pub mod RecordsModel
 pub mod Entries
@@ -5,3 +6,9 @@ pub mod Knowledge
 pub mod HandlerContract
 pub mod Packets
 pub mod RecordsFields
+pub mod ClientReplies
+pub mod HeaderChecks
+pub mod Claims
+pub mod ProofVerdicts
+pub mod Peers
+pub mod TimeoutChecks

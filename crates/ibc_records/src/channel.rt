@@ -12,7 +12,7 @@ ghost use Rattle.ibc_machine.specs.ics24.Values.{value_bytes, AckIs};
 
 use crate::acknowledgement::{AckCopies, AckRoom};
 use crate::commitment::Commitment;
-use ibc_app_port::{App, Pays};
+use crate::{App, Pays};
 use ibc_ids::{Bytes, Refusal};
 use ibc_maps::{Pairs, SharedMap};
 use ibc_wire::{ChannelEnd, ChannelState, Order, Packet};

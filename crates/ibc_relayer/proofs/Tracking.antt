@@ -17,7 +17,7 @@ use Rattle.ibc_machine.specs.ics04.Packets.{has_peer}
 use Rattle.ibc_machine.specs.ics18.Relay.{View, tracks, theirs_of, if_names, end_pending, pending_at, pending_if}
 use Rattle.ibc_records.specs.ClientModels.{ClientModel, abstract_client}
 use Rattle.ibc_records.specs.RecordsModel.{abstract_client_entry}
-use Rattle.ibc_client.proofs.Connections.{client_nowhere}
+use Rattle.ibc_records.proofs.FoundConnections.{client_nowhere}
 use Rattle.ibc_relayer.specs.EndPairs.{tracks_chain}
 
 -- a client is found among those that are held

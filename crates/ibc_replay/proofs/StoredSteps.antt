@@ -26,7 +26,7 @@ use Rattle.ibc_refinement.proofs.world.Nothing.{history_at}
 use Rattle.ibc_refinement.proofs.world.Meetings.{steps_go_on}
 use Rattle.ibc_refinement.proofs.world.New.{new_is_world}
 use Rattle.ibc_refinement.proofs.world.Runs.{steps_refine}
-use Rattle.ibc_theorem.specs.EveryWorld.{IsLawfulUnlessClash}
+use Rattle.ibc_world_core.specs.EveryWorld.{IsLawfulUnlessClash}
 use Rattle.ibc_replay.specs.declared.replaying.Answered.{Answered}
 use Rattle.ibc_replay.specs.declared.replaying.Difference.{Difference}
 use Rattle.ibc_replay.specs.declared.replaying.Difference.TheVariants.{NoGenesis, NoMemory, At, UnknownChain}

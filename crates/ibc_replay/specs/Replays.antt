@@ -8,7 +8,7 @@ use Rattle.ibc_machine.specs.ledger.Ledgers.{Ledger, chain_of, state_of}
 use Rattle.ibc_machine.specs.promises.Worlds.{entries}
 use Rattle.ibc_refinement.specs.World.{WorldState, kept_entries, AreNew, IsWorld}
 use Rattle.ibc_refinement.specs.Steps.{AreSteps}
-use Rattle.ibc_theorem.specs.EveryWorld.{IsLawfulUnlessClash}
+use Rattle.ibc_world_core.specs.EveryWorld.{IsLawfulUnlessClash}
 use Rattle.ibc_replay.specs.declared.replaying.Answered.{Answered}
 use Rattle.ibc_replay.specs.declared.replaying.Difference.{Difference}
 use Rattle.ibc_replay.specs.declared.replaying.Difference.TheVariants.{NoGenesis, NoMemory, At, UnknownChain}

@@ -5,6 +5,3 @@
 mod replaying;
 
 pub use replaying::{Answered, Difference, replay, replay_on};
-
-#[cfg(test)]
-mod tests;

@@ -5,15 +5,14 @@ ghost use Rattle.ibc_machine.specs.chain.Genesis.{genesis_state, is_allowed};
 ghost use Rattle.ibc_machine.specs.ledger.Ledgers.{chain_of};
 ghost use Rattle.ibc_refinement.specs.World.{WorldState};
 ghost use Rattle.ibc_refinement.specs.Steps.{is_answered};
-ghost use Rattle.ibc_theorem.specs.EveryWorld.{IsLawfulUnlessClash};
+ghost use Rattle.ibc_world_core.specs.EveryWorld.{IsLawfulUnlessClash};
 ghost use Rattle.ibc_replay.specs.declared.replaying.Difference.TheVariants.{NoGenesis, At};
 ghost use Rattle.ibc_replay.specs.Replays.{GoesOnAsStored, IsReplay, StopsBy, StopsAt, IsDifference, HasLastReading, IsLastReading};
 
 use ibc_ids::Refusal;
 use ibc_ledger::StampedEntry;
 use ibc_machine::{Entry, Event, Genesis, Reading, Reply};
-use ibc_theorem::lemma_what_every_world_keeps;
-use ibc_world_core::World;
+use ibc_world_core::{World, lemma_what_every_world_keeps};
 use std::alloc::Global;
 
 /// What a world answered to an event: the reply, and what was read where the event was an update of a client that looked.

@@ -12,7 +12,7 @@ use Rattle.ibc_machine.specs.ledger.Ledgers.{chain_of}
 use Rattle.ibc_machine.specs.promises.Histories.{Happened, history_of}
 use Rattle.ibc_ledger.specs.LedgerModel.{LedgerModel}
 use Rattle.ibc_ledger.specs.SentPackets.{happened_on}
-use Rattle.ibc_theorem.specs.EveryAudit.{AreLawful}
+use Rattle.ibc_world_core.specs.EveryAudit.{AreLawful}
 use Rattle.ibc_script.specs.declared.script.Step.{Step}
 use Rattle.ibc_script_cli.specs.Runs.{Act, Reached, asking_acts}
 use Rattle.ibc_script_cli.specs.ScriptChains.{ScriptChains, any_answers}

@@ -7,7 +7,7 @@ ghost use Rattle.ibc_script.specs.declared.script.Script.{Script as AnyScript};
 ghost use Rattle.ibc_script_cli.specs.Program.{HasBegun, HasRaced, HasRacedInPart, HasRun, IsInput};
 ghost use Rattle.ibc_script_cli.specs.Words.{are_words, command_of};
 ghost use Rattle.ibc_script_cli.specs.declared.words.Command.TheVariants as Asked;
-ghost use Rattle.ibc_theorem.specs.EveryWorld.{IsLawfulUnlessClash};
+ghost use Rattle.ibc_world_core.specs.EveryWorld.{IsLawfulUnlessClash};
 ghost use Rattle.ibc_script_worlds.specs.Racing.{IsRaceOf};
 ghost use Rattle.ibc_script_worlds.specs.WorldChains.{IsNewWorld, world_chains};
 

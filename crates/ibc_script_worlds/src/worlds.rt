@@ -3,7 +3,7 @@
 ghost use Rattle.std.specs.Prelude.{◌≡◌, IfOk, option_map};
 ghost use Rattle.ibc_machine.specs.ledger.Ledgers.{state_of};
 ghost use Rattle.ibc_machine.specs.promises.Worlds.{AreLedgersOf};
-ghost use Rattle.ibc_theorem.specs.EveryWorld.{IsLawfulUnlessClash};
+ghost use Rattle.ibc_world_core.specs.EveryWorld.{IsLawfulUnlessClash};
 ghost use Rattle.ibc_script_worlds.specs.WorldChains.{AreStartsOf, IsNewWorld, block_in, plans_of, proof_in, world_chains};
 
 use crate::blocks::ChainStarts;
@@ -13,9 +13,8 @@ use ibc_ledger::Ledger;
 use ibc_machine::{Event, Genesis, Reply, Totals};
 use ibc_merkle::Proof;
 use ibc_script_cli::{Chains, CommittedBlock, Holdings, Worlds};
-use ibc_theorem::lemma_what_every_world_keeps;
 use ibc_wire::{Message, Packet};
-use ibc_world_core::World;
+use ibc_world_core::{World, lemma_what_every_world_keeps};
 use std::alloc::Global;
 use std::marker::Model;
 

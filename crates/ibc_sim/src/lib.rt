@@ -19,8 +19,6 @@ mod script_text;
 mod shrinking;
 mod simulation;
 mod step_text;
-#[cfg(test)]
-mod tests;
 mod weaving;
 mod writer;
 

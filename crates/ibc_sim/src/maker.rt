@@ -100,15 +100,15 @@ impl Maker {
 
     // Ends the block of a chain.
     fn end_block(&self, chain: u8, steps: &mut Vec<String>) -> Result<(), Fault> {
-        let step = StepText::on(self.alloc, "Block", chain)?;
+        let step = StepText::on(self.alloc, "Block", chain);
         step.finish(steps)?;
         Ok(())
     }
 
     // Ends the block of a chain. The next one has this time.
     fn end_block_at(&self, chain: u8, time: u64, steps: &mut Vec<String>) -> Result<(), Fault> {
-        let mut step = StepText::on(self.alloc, "Block", chain)?;
-        step.number("time", time)?;
+        let mut step = StepText::on(self.alloc, "Block", chain);
+        step.number("time", time);
         step.finish(steps)?;
         Ok(())
     }
@@ -159,9 +159,9 @@ impl Maker {
         let Some(known) = checked.notes.known.client_of(end) else {
             return Ok(());
         };
-        let mut step = StepText::on(self.alloc, "UpdateClient", known.chain)?;
-        step.text("client", known.client.as_str())?;
-        step.number("height", height)?;
+        let mut step = StepText::on(self.alloc, "UpdateClient", known.chain);
+        step.text("client", known.client.as_str());
+        step.number("height", height);
         step.finish(steps)?;
         Ok(())
     }
@@ -169,8 +169,8 @@ impl Maker {
     // Relays between two chains.
     fn relay(&mut self, steps: &mut Vec<String>) -> Result<(), Fault> {
         let (first, second) = self.two_chains();
-        let mut step = StepText::between(self.alloc, "relay", first, second)?;
-        step.number("turns", 1)?;
+        let mut step = StepText::between(self.alloc, "relay", first, second);
+        step.number("turns", 1);
         step.finish(steps)?;
         Ok(())
     }
@@ -204,8 +204,8 @@ impl Maker {
         application: &str,
         steps: &mut Vec<String>,
     ) -> Result<(), Fault> {
-        let mut step = StepText::between(self.alloc, "open", first, second)?;
-        step.text("app", application)?;
+        let mut step = StepText::between(self.alloc, "open", first, second);
+        step.text("app", application);
         step.finish(steps)?;
         Ok(())
     }

@@ -79,36 +79,28 @@ pub fn is_ordered(checked: &Checked, end: usize) -> bool {
 }
 
 /// Adds the packet that an end sent under a sequence to a step.
-pub fn add_packet(
-    checked: &Checked,
-    end: usize,
-    sequence: u64,
-    step: &mut StepText,
-) -> Result<(), Fault> {
+pub fn add_packet(checked: &Checked, end: usize, sequence: u64, step: &mut StepText) {
     if let Some(notes) = checked.notes.checks.ends.get(end) {
         step.packet(
             notes.chain,
             notes.port.as_str(),
             notes.channel.as_str(),
             sequence,
-        )?;
+        );
     }
-    Ok(())
 }
 
 /// Adds the port and the channel of an end to a step.
-pub fn add_end(checked: &Checked, end: usize, step: &mut StepText) -> Result<(), Fault> {
+pub fn add_end(checked: &Checked, end: usize, step: &mut StepText) {
     if let Some(notes) = checked.notes.checks.ends.get(end) {
-        step.text("port", notes.port.as_str())?;
-        step.text("channel", notes.channel.as_str())?;
+        step.text("port", notes.port.as_str());
+        step.text("channel", notes.channel.as_str());
     }
-    Ok(())
 }
 
 /// Adds the connection of an end to a step.
-pub fn add_connection(checked: &Checked, end: usize, step: &mut StepText) -> Result<(), Fault> {
+pub fn add_connection(checked: &Checked, end: usize, step: &mut StepText) {
     if let Some(known) = checked.notes.known.connection_of(end) {
-        step.text("connection", known.connection.as_str())?;
+        step.text("connection", known.connection.as_str());
     }
-    Ok(())
 }

@@ -44,7 +44,7 @@ fn add_relay(
         1
     };
     let second = u8::try_from(drawn.max(1)).unwrap_or(1);
-    let mut step = StepText::between(alloc, "relay", 0, second)?;
-    step.number("turns", draws.below(MOST_TURNS).saturating_add(1))?;
+    let mut step = StepText::between(alloc, "relay", 0, second);
+    step.number("turns", draws.below(MOST_TURNS).saturating_add(1));
     step.finish(steps)
 }

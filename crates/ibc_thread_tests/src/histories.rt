@@ -98,8 +98,8 @@ fn says<G: Gate, R: Wait>(
     )
 }
 
-// Whether a chain's history says these lines from a place on.
-fn says_from<G: Gate, R: Wait>(
+/// Whether a chain's history says these lines from a place on, and none behind them. Refused: `NoMemory`.
+pub fn says_from<G: Gate, R: Wait>(
     alloc: Global,
     rt: &R,
     chain: &G,

@@ -1,5 +1,6 @@
 //! Chains that threads share: scripts by each way to call them, what their histories say of it, and threads that relay and race
-//! between them. Lists of events that a world is asked at once, also under refused growths. Tests alone.
+//! between them, also those that are counted and those on random scripts. Lists of events that a world is asked at once, also under
+//! refused growths. Tests alone.
 #![tactic(auto)]
 
 #[cfg(test)]
@@ -25,11 +26,15 @@ mod lists;
 #[cfg(test)]
 mod looks;
 #[cfg(test)]
+mod race_counts;
+#[cfg(test)]
 mod refused;
 #[cfg(test)]
 mod relayed;
 #[cfg(test)]
 mod scripts;
+#[cfg(test)]
+mod simulations;
 #[cfg(test)]
 mod spelled;
 #[cfg(test)]

@@ -1,7 +1,7 @@
 //! The turns that relayers take between chains that threads share, and what the chains' histories gain by them.
 
 use crate::committing::Committing;
-use crate::histories::history_of;
+use crate::histories::says_from;
 use crate::scripts::{BLOCKS, RELAYED_ONCE, RepeatedSteps, SENT, SENT_AND_RECEIVED, opened};
 use crate::tests::{is_printed, raced, tried};
 use crate::trial::{Calls, Deed};
@@ -96,7 +96,7 @@ pub fn two_turns<R: Wait, G: Gate>(rt: &R, alloc: Global, gates: &[G]) -> Result
     };
     let of_a = entries_in(rt, a);
     let accepted = relay(rt, alloc, a, &Committing::new(b), 2)?;
-    Ok(accepted == 4 && history_of(alloc, rt, a, "a", of_a)?.as_str() == ACKNOWLEDGED)
+    Ok(accepted == 4 && says_from(alloc, rt, a, ("a", of_a), ACKNOWLEDGED)?)
 }
 
 /// Whether a relayer's turn has two messages accepted, by which the second of two chains receives a packet, and its turn after
@@ -116,8 +116,8 @@ pub fn there_and_back<R: Wait, G: Gate>(
     Ok(
         there == 2
             && back == 2
-            && history_of(alloc, rt, b, "b", of_b)?.as_str() == RECEIVED
-            && history_of(alloc, rt, a, "a", of_a)?.as_str() == ACKNOWLEDGED,
+            && says_from(alloc, rt, b, ("b", of_b), RECEIVED)?
+            && says_from(alloc, rt, a, ("a", of_a), ACKNOWLEDGED)?,
     )
 }
 

@@ -19,7 +19,7 @@ use Rattle.ibc_machine.proofs.PassedChecks.{find, miss, pass}
 use Rattle.ibc_records.specs.RecordsModel.{RecordsModel, core_of, IsUnchanged}
 use Rattle.ibc_records.specs.HandlerContract.{IsTakenWith}
 use Rattle.ibc_records.specs.Packets.{SendsPacket}
-use Rattle.ibc_client.proofs.Judging.{IsRefusedBy, stops_at}
+use Rattle.ibc_records.proofs.Judging.{IsRefusedBy, stops_at}
 use Rattle.ibc_bank.specs.Moves.{BankState, after_moves}
 use Rattle.ibc_bank.specs.declared.moves.Move.{Move}
 use Rattle.ibc_transfer.specs.BankTransfers.{with_bank_sent, bank_sends, bank_transfer, bank_transfer_many}

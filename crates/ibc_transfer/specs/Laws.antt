@@ -14,7 +14,7 @@ use Rattle.ibc_machine.specs.ics20.Bank.{Balances}
 use Rattle.ibc_machine.specs.chain.Checks.{Checked, expect, go_on, ◌>>=◌}
 use Rattle.ibc_machine.specs.ics20.TokenData.{Data, data_of, one_token, several_tokens, success}
 use Rattle.ibc_machine.specs.ics20.Transfers.{transfer_port, came_over, opens_for_transfers, receive_result, each_token, receive_token, receive_data, receive_transfer}
-use Rattle.ibc_app_port.specs.Openings.{order_or_version}
+use Rattle.ibc_records.specs.Openings.{order_or_version}
 use Rattle.ibc_bank.specs.declared.moves.Move.{Move}
 use Rattle.ibc_bank.specs.Moves.{BankState, burnt_of, after_move, after_moves}
 use Rattle.ibc_transfer.specs.BankCallbacks.{bank_receives, refund_move, bank_refunds, bank_times_out, bank_acknowledged}

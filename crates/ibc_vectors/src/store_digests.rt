@@ -9,7 +9,7 @@ use std::process::Abort;
 const FIRST: u64 = 20_000;
 
 // What a block does: the records that it sets, which are new or get another value, and then those that it removes.
-#[derive(Clone, Copy, Drop, Debug)]
+#[derive(Clone, Copy, Debug)]
 struct Block {
     set: Numbers,
     removed: Numbers,

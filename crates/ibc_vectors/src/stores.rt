@@ -8,7 +8,7 @@ use std::alloc::Global;
 use std::process::Abort;
 
 /// Numbers of records: the first one, how far each is behind the one before, and how many.
-#[derive(Clone, Copy, Drop, Debug)]
+#[derive(Clone, Copy, Debug)]
 pub struct Numbers {
     pub first: u64,
     pub step: u64,
@@ -23,7 +23,7 @@ impl Numbers {
 }
 
 /// How a record's number stands in its path.
-#[derive(Clone, Copy, Drop, Debug)]
+#[derive(Clone, Copy, Debug)]
 pub enum Shape {
     /// Numbers of five digits: the paths are in the order of the numbers.
     Row,

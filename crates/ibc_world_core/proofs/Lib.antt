@@ -12,3 +12,4 @@ pub mod Denominations
 -- Ledgers that are gathered.
 pub mod Firsts
 pub mod OneWorld
+pub mod Lawful

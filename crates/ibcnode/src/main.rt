@@ -1,10 +1,9 @@
 //! A world that lives: it answers lines, and its journal has each answer before it is told.
 #![tactic(auto)]
 
-use ibc_journal::open_journal;
-use ibc_node::{JournalAudit, NodeFault, audit_journal, open_at};
+use ibc_node::NodeFault;
 use ibc_node_lines::{
-    EntryFiles, Task, Words, audit_lines, help, read_words, serve, tell_audit, version,
+    EntryFiles, Task, Words, audit_lines, help, read_words, run_audit, run_node, version,
 };
 use sqlite::Wary;
 use std::alloc::Global;
@@ -51,20 +50,31 @@ fn bytes_of(rt: &HostRuntime, path: &str) -> Result<Vec<u8>, NodeFault> {
     }
 }
 
-// Opens the journal, and answers lines.
+// Opens the journal, and answers lines. That nobody reads the answers is an end like any other.
 fn answer(rt: &HostRuntime, words: &Words<'_>, genesis: Option<&[u8]>) -> Result<(), NodeFault> {
+    match answer_lines(rt, words, genesis) {
+        Err(NodeFault::Unheard) => Ok(()),
+        ended => ended,
+    }
+}
+
+fn answer_lines(
+    rt: &HostRuntime,
+    words: &Words<'_>,
+    genesis: Option<&[u8]>,
+) -> Result<(), NodeFault> {
     let alloc = rt.alloc();
-    let node = open_at(rt, words.journal, Wary, genesis)?;
     let Ok(input) = BufReader::with_capacity(alloc, AT_HAND, rt.reader()) else {
-        drop(node);
         return Err(NodeFault::NoMemory);
     };
     let Ok(mut output) = BufWriter::new(alloc, io::writer(rt)) else {
-        drop(node);
         drop(input);
         return Err(NodeFault::NoMemory);
     };
-    serve(alloc, node, input, &mut output, words.batch)
+    let path = words.journal;
+    let node = run_node(rt, path, Wary, genesis, input, &mut output, words.batch)?;
+    drop(node);
+    Ok(())
 }
 
 // Tells what an audit finds of the journal. None is made.
@@ -75,23 +85,9 @@ fn audit(rt: &HostRuntime, words: &Words<'_>, genesis: Option<&[u8]>) -> Result<
     if length_of(rt, words.journal) == 0 {
         return Err(NodeFault::NoJournal);
     }
-    let found = found_in(rt, words.journal, genesis)?;
-    let told = tell_audit(rt.alloc(), &found, &mut io::writer(rt));
-    drop(found);
-    told
-}
-
-// Opens the journal, and audits it.
-fn found_in(
-    rt: &HostRuntime,
-    path: &str,
-    genesis: Option<&[u8]>,
-) -> Result<JournalAudit, NodeFault> {
-    let conn = open_journal(rt, path, Wary)?;
-    let mut conn = conn;
-    let found = audit_journal(rt.alloc(), &mut conn, genesis);
+    let conn = run_audit(rt, words.journal, Wary, genesis, &mut io::writer(rt))?;
     drop(conn);
-    found
+    Ok(())
 }
 
 // Reads entries that are lines, and tells what an audit finds.
@@ -146,7 +142,7 @@ fn run(rt: &HostRuntime, words: &[&str]) -> io::Result<u8> {
 // The status of work on a file that ended so. Why it ended is said.
 fn status_of(rt: &HostRuntime, path: &str, ended: Result<(), NodeFault>) -> io::Result<u8> {
     match ended {
-        Ok(()) | Err(NodeFault::CannotWrite) => Ok(0),
+        Ok(()) => Ok(0),
         Err(fault) => {
             eprintln!(rt; "ibcnode: {path}: {fault}")?;
             Ok(1)

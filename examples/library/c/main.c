@@ -1,6 +1,6 @@
 /* Tokens go to another chain and partly home again, brought by a relayer: the script examples/relay.json, call by call. It prints
-   what the program prints for that script. On the way a forged proof is refused, and what a verifier with no ledger says is
-   compared; each message that was applied is read back from the history, field by field. */
+   the program's lines for that script, one chain behind the other. On the way a forged proof is refused, and what a verifier with no
+   ledger says is compared. Each message that was applied is read back from the history, field by field. */
 #include "ibcworld_messages.h"
 
 #include <stdio.h>

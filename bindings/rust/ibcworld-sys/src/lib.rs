@@ -93,14 +93,14 @@ extern "C" {
     /// The version of the archive that is linked: [`VERSION`] of its header.
     pub fn ibcw_version() -> u32;
     /// Makes a genesis with no chains in an empty handle. A chain publishes at most `capacity` heights, 1 to
-    /// 1,000,000, and keeps the last `window` of them, 1 to 4,096 and at most the capacity (ibcw_make_ledgers
-    /// checks this). IBCW_FULL.
+    /// 1,000,000: then ibcw_end_block answers IBCW_TABLE_FULL. A chain keeps the last `window` of them, 1 to 4,096
+    /// and at most the capacity. ibcw_make_ledgers checks both. IBCW_FULL.
     pub fn ibcw_make_genesis(genesis: *mut Handle, capacity: u64, window: u64) -> u32;
     /// Adds a chain behind the others, whose first block has this time. IBCW_EMPTY, IBCW_OTHER_KIND.
     pub fn ibcw_add_chain(genesis: *mut Handle, time: u64) -> u32;
     /// Lets a user hold high * 2^64 + low of a denomination at the last chain. IBCW_EMPTY, IBCW_OTHER_KIND;
     /// IBCW_BAD_NAME exactly where the user or the denomination is no name of its kind; IBCW_NOTHING_THERE where
-    /// there is no chain.
+    /// there is no chain. What names may be stands in docs/SCRIPTS.md ("The forms of names").
     pub fn ibcw_add_balance(
         genesis: *mut Handle,
         user: *const u8,
@@ -112,12 +112,12 @@ extern "C" {
     ) -> u32;
     /// Makes all ledgers of a genesis in an empty handle: a world of its own, which the library tells from every
     /// other of the process. The genesis stays. IBCW_FULL; IBCW_EMPTY and IBCW_OTHER_KIND of the genesis;
-    /// IBCW_BAD_MESSAGE where no world begins so: 2 to 8 chains, base denominations, no user and denomination twice
-    /// at a chain, and of no denomination more than 2^128 - 1 at a chain.
+    /// IBCW_BAD_MESSAGE where no world begins so. A world has 2 to 8 chains. Denominations are base ones. At a chain
+    /// no user has one twice, and all users together have at most 2^128 - 1 of it.
     pub fn ibcw_make_ledgers(genesis: *mut Handle, ledgers: *mut Handle) -> u32;
-    /// The same under a number by which the caller tells worlds apart, for bindings that count worlds themselves:
-    /// different worlds have different numbers, at least 2^63, which nothing checks. ibcw_make_ledgers gives out
-    /// smaller ones.
+    /// The same under a number by which the caller tells worlds apart, for bindings that count worlds themselves.
+    /// Different worlds have different numbers, at least 2^63. Nothing checks that. What ibcw_make_ledgers gives out
+    /// is smaller.
     pub fn ibcw_make_numbered_ledgers(
         genesis: *mut Handle,
         world: u64,
@@ -129,25 +129,25 @@ extern "C" {
     /// Moves a ledger to others of its world. IBCW_EMPTY and IBCW_OTHER_KIND of both handles; IBCW_OTHER_WORLD
     /// where it is of another world.
     pub fn ibcw_join_ledger(ledgers: *mut Handle, ledger: *mut Handle) -> u32;
-    /// Audits the ledgers of a world, which were driven by any threads and joined in any order, and puts what they
-    /// hold into an empty handle (ibcw_holding). The answer 0 says that what they did together is a run of the
-    /// machine, of which the laws of IBC hold, unless two different texts that they hashed have one digest.
-    /// IBCW_FULL; IBCW_EMPTY and IBCW_OTHER_KIND of the ledgers; IBCW_BAD_MESSAGE where a chain is missing among
-    /// them. The ledgers stay where they are, whatever the answer: they can be taken out again and go on, and be
-    /// audited again.
+    /// Audits the ledgers of a world, and puts what they hold into an empty handle (ibcw_holding). Any threads may
+    /// have driven them, and they may have joined in any order. The answer 0 says that what they did together is a
+    /// run of the machine. The laws of IBC hold of it, unless two different texts that they hashed, or got in
+    /// packets, have one digest. IBCW_FULL; IBCW_EMPTY and IBCW_OTHER_KIND of the ledgers; IBCW_BAD_MESSAGE where a
+    /// chain is missing among them. The ledgers stay where they are, whatever the answer: they can be taken out again
+    /// and go on, and be audited again.
     pub fn ibcw_make_audit(ledgers: *mut Handle, audit: *mut Handle) -> u32;
     /// Frees what a handle holds, and leaves it empty. IBCW_EMPTY.
     pub fn ibcw_free(handle: *mut Handle) -> u32;
-    /// Tells how many entries a ledger's history has, how many messages a plan, how many holdings a list of
-    /// balances, how many channels a list of notes, or how many chains an audit (ibcw_holding_count and
-    /// ibcw_note_channel_count tell of one chain). IBCW_EMPTY, IBCW_OTHER_KIND.
+    /// Tells how many entries a ledger's history has, messages a plan, holdings a list of balances, channels a list
+    /// of notes, or chains an audit. For one chain of an audit there are ibcw_holding_count and
+    /// ibcw_note_channel_count. IBCW_EMPTY, IBCW_OTHER_KIND.
     pub fn ibcw_length(handle: *mut Handle, count: *mut u64) -> u32;
-    /// Applies the message that the bytes spell to the working block, and tells its reply. The answer is the
-    /// reply's number: 0, or that of the refusal. *told is the reply, *size the number of the bytes that go with
-    /// it, and they are written where there is room (IBCW_REPLY_ROOM is always enough; ibcw_reply gives them
-    /// again). The history has an entry more, whose reply this is. Nothing is told and no entry is made where the
-    /// answer is IBCW_EMPTY, IBCW_OTHER_KIND or IBCW_NO_MESSAGE, which is answered exactly where the bytes spell no
-    /// message. Where it is IBCW_NO_MEMORY no entry is made.
+    /// Applies the message that the bytes spell to the working block, and tells its reply. The answer is the reply's
+    /// number: 0, or that of the refusal. The reply is told: its kind and its number as *told, and how many bytes it
+    /// has as *size. They are written where there is room: IBCW_REPLY_ROOM is always enough, and ibcw_reply gives
+    /// them again. The history has an entry more, whose reply this is. Where the answer is IBCW_EMPTY,
+    /// IBCW_OTHER_KIND or IBCW_NO_MESSAGE nothing is told, and no entry is made. IBCW_NO_MESSAGE is answered exactly
+    /// where the bytes spell no message. Where the answer is IBCW_NO_MEMORY no entry is made.
     pub fn ibcw_apply(
         ledger: *mut Handle,
         message: *const u8,
@@ -178,8 +178,8 @@ extern "C" {
         room: usize,
         size: *mut usize,
     ) -> u32;
-    /// Tells what the ledger was asked by an entry of its history, which are numbered from 0, and writes the bytes
-    /// that spell the message: those that ibcw_apply was given. Of the end of a block they are none. IBCW_EMPTY,
+    /// Tells what the ledger was asked by an entry of its history, which are numbered from 0. Writes the bytes that
+    /// spell the message: those that ibcw_apply was given. Of the end of a block there are none. IBCW_EMPTY,
     /// IBCW_OTHER_KIND, IBCW_NOTHING_THERE; IBCW_TOO_SHORT, and then *asked and *size are told.
     pub fn ibcw_event(
         ledger: *mut Handle,
@@ -199,10 +199,10 @@ extern "C" {
         room: usize,
         size: *mut usize,
     ) -> u32;
-    /// Writes the bytes of the proof of what a committed height has at the path of a key (ICS 23): of its presence
-    /// where it is there, of its absence where not. The reply of the block tells the height's root. IBCW_EMPTY,
-    /// IBCW_OTHER_KIND; IBCW_BAD_NAME exactly where no key has the path; IBCW_NO_CONSENSUS exactly where the height
-    /// isn't among the last ones that were committed, as many as the window says; IBCW_TOO_SHORT.
+    /// Writes the bytes of the proof of what a committed height has at the path of a key (ICS 23). It shows presence
+    /// where the key is there, and absence where it isn't. The reply of the block tells the height's root.
+    /// IBCW_EMPTY, IBCW_OTHER_KIND; IBCW_BAD_NAME exactly where no key has the path. Then IBCW_NO_CONSENSUS exactly
+    /// where the height isn't among the last ones that were committed, as many as the window says; IBCW_TOO_SHORT.
     pub fn ibcw_prove(
         ledger: *mut Handle,
         height: u64,
@@ -232,9 +232,9 @@ extern "C" {
         denom_size: usize,
         amount: *mut Amount,
     ) -> u32;
-    /// Tells how much of a denomination all accounts hold, the escrow accounts among them: of one that came over a
-    /// channel, no more than the escrow account of its other end holds. IBCW_EMPTY, IBCW_OTHER_KIND, IBCW_BAD_NAME
-    /// exactly where denom is no name of a denomination.
+    /// Tells how much of a denomination all accounts hold, the escrow accounts among them. Of one that came over a
+    /// channel it is no more than the escrow account of its other end holds. IBCW_EMPTY, IBCW_OTHER_KIND,
+    /// IBCW_BAD_NAME exactly where denom is no name of a denomination.
     pub fn ibcw_supply(
         ledger: *mut Handle,
         denom: *const u8,
@@ -256,8 +256,8 @@ extern "C" {
         denom_size: usize,
         totals: *mut ChannelTotals,
     ) -> u32;
-    /// Writes the bytes of the packet that the ledger sent from an end of a channel under a sequence, whether its
-    /// commitment stands or not (ICS 4). IBCW_EMPTY, IBCW_OTHER_KIND, IBCW_BAD_NAME exactly where the port or the
+    /// Writes the bytes of the packet that the ledger sent from an end of a channel under a sequence (ICS 4). Its
+    /// commitment may stand or be gone. IBCW_EMPTY, IBCW_OTHER_KIND, IBCW_BAD_NAME exactly where the port or the
     /// channel is no name of its kind, IBCW_NOTHING_THERE where no such packet was sent, IBCW_TOO_SHORT.
     pub fn ibcw_packet(
         ledger: *mut Handle,
@@ -283,19 +283,19 @@ extern "C" {
         room: usize,
         size: *mut usize,
     ) -> u32;
-    /// Makes the list of what accounts hold in the working block, in an empty handle: the amounts above 0, in the
-    /// byte order of the accounts and then of the denominations. IBCW_FULL; IBCW_EMPTY, IBCW_OTHER_KIND of the
+    /// Makes the list of what accounts hold in the working block, in an empty handle. It has the amounts above 0, in
+    /// the byte order of the accounts and then of the denominations. IBCW_FULL; IBCW_EMPTY, IBCW_OTHER_KIND of the
     /// ledger.
     pub fn ibcw_make_balances(ledger: *mut Handle, balances: *mut Handle) -> u32;
-    /// Tells how many holdings there are: those of a list of balances, and then the chain is not looked at; or of an
-    /// audit, those of that chain's accounts. IBCW_EMPTY, IBCW_OTHER_KIND; IBCW_UNKNOWN_CHAIN where the audit has no
-    /// such chain.
+    /// Tells how many holdings there are. Of a list of balances the chain is not looked at. Of an audit they are
+    /// those of that chain's accounts. IBCW_EMPTY, IBCW_OTHER_KIND; IBCW_UNKNOWN_CHAIN where the audit has no such
+    /// chain.
     pub fn ibcw_holding_count(balances: *mut Handle, chain: u64, count: *mut u64) -> u32;
-    /// Writes who holds what: the account (a user, or escrow/transfer/ and a channel), a blank, and the
-    /// denomination. It is the holding at an index, from 0 on, of a list of balances, and then the chain is not
-    /// looked at; or of an audit, at an index of what that chain's accounts hold. IBCW_EMPTY, IBCW_OTHER_KIND,
-    /// IBCW_UNKNOWN_CHAIN where the audit has no such chain, IBCW_NOTHING_THERE where there is no such holding,
-    /// IBCW_TOO_SHORT.
+    /// Writes who holds what: the account (a user, or escrow/transfer/ and a channel), a blank, and the denomination.
+    /// The handle is a list of balances or an audit. Of a list it is the holding at an index, from 0 on, and the
+    /// chain is not looked at. Of an audit the index counts what that chain's accounts hold. IBCW_EMPTY,
+    /// IBCW_OTHER_KIND, IBCW_UNKNOWN_CHAIN where the audit has no such chain, IBCW_NOTHING_THERE where there is no
+    /// such holding, IBCW_TOO_SHORT.
     pub fn ibcw_holding(
         balances: *mut Handle,
         chain: u64,
@@ -311,16 +311,16 @@ extern "C" {
         index: u64,
         amount: *mut Amount,
     ) -> u32;
-    /// Makes the list of the notes that came to a ledger over channels of port note, as the working block has them,
-    /// in an empty handle. Its channels are those over which a note came, in the byte order of their names;
-    /// ibcw_length tells how many. IBCW_FULL; IBCW_EMPTY, IBCW_OTHER_KIND of the ledger.
+    /// Makes the list of the notes that came to a ledger over channels of port note, in an empty handle. They are
+    /// those of the working block. Its channels are those over which a note came, in the byte order of their names.
+    /// Their number is told by ibcw_length. IBCW_FULL; IBCW_EMPTY, IBCW_OTHER_KIND of the ledger.
     pub fn ibcw_make_notes(ledger: *mut Handle, notes: *mut Handle) -> u32;
-    /// Tells over how many channels notes came: of a list of notes, and then the chain is not looked at; or of an
-    /// audit, at that chain. IBCW_EMPTY, IBCW_OTHER_KIND; IBCW_UNKNOWN_CHAIN where the audit has no such chain.
+    /// Tells over how many channels notes came. Of a list of notes the chain is not looked at. Of an audit they are
+    /// those of that chain. IBCW_EMPTY, IBCW_OTHER_KIND; IBCW_UNKNOWN_CHAIN where the audit has no such chain.
     pub fn ibcw_note_channel_count(notes: *mut Handle, chain: u64, count: *mut u64) -> u32;
-    /// Writes the name of a channel: that at an index, from 0 on, of a list of notes, and then the chain is not
-    /// looked at; or of an audit, at an index of the channels of that chain. IBCW_EMPTY, IBCW_OTHER_KIND,
-    /// IBCW_UNKNOWN_CHAIN where the audit has no such chain, IBCW_NOTHING_THERE, IBCW_TOO_SHORT.
+    /// Writes the name of the channel at an index, from 0 on. Of a list of notes the chain is not looked at. Of an
+    /// audit the index counts the channels of that chain. IBCW_EMPTY, IBCW_OTHER_KIND, IBCW_UNKNOWN_CHAIN where the
+    /// audit has no such chain, IBCW_NOTHING_THERE, IBCW_TOO_SHORT.
     pub fn ibcw_note_channel(
         notes: *mut Handle,
         chain: u64,
@@ -348,17 +348,17 @@ extern "C" {
     /// as it is while the ledger goes on, and may be freed before or after it. IBCW_FULL; IBCW_EMPTY,
     /// IBCW_OTHER_KIND of the ledger.
     pub fn ibcw_make_view(ledger: *mut Handle, view: *mut Handle) -> u32;
-    /// Puts the view of a handle into an empty handle too. Nothing is copied, and neither of the two is changed by what
-    /// is done with the other: so each thread that reads a view takes a handle of its own. Each is freed by itself.
-    /// IBCW_FULL; IBCW_EMPTY, IBCW_OTHER_KIND of the first.
+    /// Puts the view of a handle into an empty handle too. Nothing is copied, and neither of the two is changed by
+    /// what is done with the other. So each thread that reads a view takes a handle of its own. Each is freed by
+    /// itself. IBCW_FULL; IBCW_EMPTY, IBCW_OTHER_KIND of the first.
     pub fn ibcw_share_view(view: *mut Handle, other: *mut Handle) -> u32;
     /// IBCW_EMPTY, IBCW_OTHER_KIND.
     pub fn ibcw_view_heights(view: *mut Handle, heights: *mut Heights) -> u32;
     /// Writes the root of a view's height, 32 bytes. IBCW_EMPTY, IBCW_OTHER_KIND, IBCW_NOTHING_THERE at height 0,
     /// IBCW_TOO_SHORT.
     pub fn ibcw_view_root(view: *mut Handle, root: *mut u8, room: usize, size: *mut usize) -> u32;
-    /// Writes the bytes of the proof of what the height has at the path of a key (ICS 23): of its presence where it
-    /// is there, of its absence where not. IBCW_EMPTY, IBCW_OTHER_KIND, IBCW_NOTHING_THERE at height 0,
+    /// Writes the bytes of the proof of what the height has at the path of a key (ICS 23). It shows presence where
+    /// the key is there, and absence where it isn't. IBCW_EMPTY, IBCW_OTHER_KIND, IBCW_NOTHING_THERE at height 0,
     /// IBCW_BAD_NAME where no key has the path, IBCW_TOO_SHORT.
     pub fn ibcw_view_proof(
         view: *mut Handle,
@@ -380,9 +380,9 @@ extern "C" {
         room: usize,
         size: *mut usize,
     ) -> u32;
-    /// Whether the bytes spell a proof that shows that the key has the value under the root (ICS 23): 0 where it
-    /// does, IBCW_BAD_MESSAGE where the root hasn't 32 bytes or the bytes spell no proof, IBCW_BAD_PROOF where it
-    /// doesn't. 0 is yes: ibcw_is_present (ibcworld_messages.h) answers by a truth value.
+    /// Whether the bytes spell a proof that shows that the key has the value under the root (ICS 23). The answer is
+    /// IBCW_BAD_MESSAGE where the root hasn't 32 bytes, or the bytes spell no proof. Else it is 0 where it does, and
+    /// IBCW_BAD_PROOF where it doesn't. So 0 is yes: ibcw_is_present (ibcworld_messages.h) answers by a truth value.
     pub fn ibcw_verify_present(
         root: *const u8,
         root_size: usize,
@@ -425,10 +425,10 @@ extern "C" {
         room: usize,
         size: *mut usize,
     ) -> u32;
-    /// Writes the form of ICS 23 of the proof that the bytes spell: the canonical bytes of a
-    /// cosmos.ics23.v1.CommitmentProof, fields in order and none that is at its default. Leaves and inner nodes are
-    /// those of ICS 23's Tendermint spec, so a Cosmos chain verifies it with its own library. IBCW_BAD_MESSAGE exactly
-    /// where the bytes spell no proof, IBCW_TOO_SHORT.
+    /// Writes the form of ICS 23 of the proof that the bytes spell. It is the canonical bytes of a
+    /// cosmos.ics23.v1.CommitmentProof, with fields in order and none at its default. Leaves and inner nodes are
+    /// those of ICS 23's Tendermint spec, so a Cosmos chain verifies it with its own library. IBCW_BAD_MESSAGE
+    /// exactly where the bytes spell no proof, IBCW_TOO_SHORT.
     pub fn ibcw_proof_to_ics23(
         proof: *const u8,
         proof_size: usize,
@@ -436,8 +436,8 @@ extern "C" {
         room: usize,
         size: *mut usize,
     ) -> u32;
-    /// Writes the bytes of the one proof whose form these bytes are. IBCW_BAD_MESSAGE exactly where there is none:
-    /// another hash, a batch, a field out of its order or at its default, longer parts than a proof has;
+    /// Writes the bytes of the one proof whose form these bytes are. IBCW_BAD_MESSAGE exactly where there is none. So
+    /// it is for another hash, a batch, a field out of its order or at its default, and parts that are too long.
     /// IBCW_TOO_SHORT.
     pub fn ibcw_proof_of_ics23(
         form: *const u8,
@@ -447,16 +447,16 @@ extern "C" {
         size: *mut usize,
     ) -> u32;
     /// Tells the tag, 1 to 19, of the message that the bytes spell. IBCW_NO_MESSAGE where they spell none. How
-    /// messages are spelled stands in docs/LIBRARY.md: a message has one spelling, and no bytes spell two messages.
-    /// A ledger keeps each message that it refuses, whole, for ever: who takes messages from strangers asks this
-    /// first, and looks how long their proofs are (IBCW_LONGEST_PROOF).
+    /// messages are spelled stands in docs/LIBRARY.md: a message has one spelling, and no bytes spell two messages. A
+    /// ledger keeps each message that it refuses, whole, for ever. Who takes messages from strangers asks `screen` of
+    /// the crate ibcworld first.
     pub fn ibcw_message_tag(message: *const u8, message_size: usize, tag: *mut u8) -> u32;
-    /// Writes the proof at an index, 0 or 1, that the message carries which the bytes spell, and tells the height
-    /// of the other chain at which it is. ConnOpenTry and ConnOpenAck carry that of the end and that of the client,
-    /// TimeoutOnClose that of the packet and that of the closed channel; ConnOpenConfirm, ChanOpenTry, ChanOpenAck,
-    /// ChanOpenConfirm, ChanCloseConfirm, RecvPacket, AckPacket and Timeout carry one. IBCW_NO_MESSAGE where the
-    /// bytes spell no message, IBCW_NOTHING_THERE where it carries no such proof; IBCW_TOO_SHORT, and then *height
-    /// and *size are told.
+    /// Writes the proof at an index, 0 or 1, that the message carries which the bytes spell. Tells the height of the
+    /// other chain at which it is. ConnOpenTry and ConnOpenAck carry that of the end and that of the client.
+    /// TimeoutOnClose carries that of the packet and that of the closed channel. ConnOpenConfirm, ChanOpenTry,
+    /// ChanOpenAck, ChanOpenConfirm, ChanCloseConfirm, RecvPacket, AckPacket and Timeout carry one. IBCW_NO_MESSAGE
+    /// where the bytes spell no message, IBCW_NOTHING_THERE where it carries no such proof; IBCW_TOO_SHORT, and then
+    /// *height and *size are told.
     pub fn ibcw_message_proof(
         message: *const u8,
         message_size: usize,

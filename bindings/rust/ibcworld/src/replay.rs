@@ -152,6 +152,8 @@ fn is_due(all: &[Again<'_>], chain: usize) -> bool {
 /// Makes a world again of its genesis and of what each ledger was asked and answered, by the numbers of the chains. Each ledger is asked again for
 /// its events in their order, and each answer is compared. The world has all its ledgers, with the same roots, and can be audited and go on.
 ///
+/// Where threads drove the ledgers, leave out each update that was refused as `Pruned`. It changed nothing, and asked again it may be taken.
+///
 /// ```
 /// use ibcworld::{open, replay, Entry, Genesis, Ledger, Opening, Refused};
 /// fn history(ledger: &Ledger) -> Result<Vec<Entry>, Refused> {

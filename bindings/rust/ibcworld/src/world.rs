@@ -59,7 +59,8 @@ impl World {
     }
 
     /// What the ledgers hold, all of which have joined. To be answered is to know that what they did together is a run of the
-    /// machine, of which the laws of IBC hold, unless two different texts that they hashed have one digest. The ledgers stay, and can go on.
+    /// machine, of which the laws of IBC hold, unless two different texts that they hashed, or got in packets, have one digest. The ledgers
+    /// stay, and can go on.
     ///
     /// # Errors
     /// `BadMessage` where a chain is missing, `NoMemory`. The ledgers stay then too.

@@ -1,9 +1,8 @@
 //! Channels that come and open.
 
 use super::{has, new_records};
-use ibc_client::check_number;
 use ibc_ids::{ChannelId, PortId, nth_channel};
-use ibc_records::Records;
+use ibc_records::{Records, check_number};
 use ibc_wire::decode;
 use std::alloc::Global;
 use std::process::Abort;

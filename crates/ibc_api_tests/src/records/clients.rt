@@ -2,9 +2,8 @@
 
 use super::{has, new_records};
 use crate::genesis::GENESIS_ROOT;
-use ibc_client::check_number;
 use ibc_ids::{ClientId, Root};
-use ibc_records::{ConsensusState, NextNumbers, Records};
+use ibc_records::{ConsensusState, NextNumbers, Records, check_number};
 use ibc_wire::ClientState;
 use std::alloc::Global;
 use std::process::Abort;

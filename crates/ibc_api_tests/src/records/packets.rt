@@ -7,10 +7,9 @@ ghost use Rattle.ibc_records.specs.RecordsModel.{core_of};
 
 use super::channels::{END, add_channel};
 use super::{has, new_records};
-use ibc_client::check_number;
 use ibc_ids::{Bytes, ChannelId, PortId, Refusal};
 use ibc_note::Notes;
-use ibc_records::{Commitment, Records};
+use ibc_records::{Commitment, Records, check_number};
 use ibc_wire::{Packet, decode};
 use std::alloc::Global;
 use std::process::Abort;

@@ -282,17 +282,28 @@ fn deliver(
 ) -> Result<(), RunError> {
     let mut bytes = spelled_delivery(network, view, end, sequence)?;
     let is_changed = change(random, bytes.as_mut_slice());
-    let message = codec::decode(network.alloc, bytes.as_slice());
+    let delivered = are_delivered(network, view, end, sequence, bytes.as_slice());
     drop(bytes);
-    let is_accepted = match message {
-        Ok(message) => is_delivered(network, view, end, sequence, message)?,
-        Err(_) => false,
-    };
+    let is_accepted = delivered?;
     network.tally.verdict(is_accepted);
     if is_accepted == is_changed {
         return Err(RunError::Unexpected("a changed message is accepted, or another refused"));
     }
     Ok(())
+}
+
+// Whether bytes are read as a message that the other chain accepts.
+fn are_delivered(
+    network: &mut Network,
+    view: &View,
+    end: &LaneEnd,
+    sequence: u64,
+    bytes: &[u8],
+) -> Result<bool, RunError> {
+    match codec::decode(network.alloc, bytes) {
+        Ok(message) => is_delivered(network, view, end, sequence, message),
+        Err(_) => Ok(false),
+    }
 }
 
 // Whether the other chain accepts a message, whose proof is checked before.

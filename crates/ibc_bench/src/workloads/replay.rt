@@ -11,8 +11,7 @@ use crate::tally::Tally;
 use ibc_ledger::Ledger;
 use ibc_machine::Genesis;
 use ibc_replay::replay;
-use ibc_theorem::lawful_audit;
-use ibc_world_core::World;
+use ibc_world_core::{World, lawful_audit};
 use std::alloc::Global;
 
 /// Runs so many bursts as the workload of packets does, and takes all of it again.
@@ -33,18 +32,10 @@ fn run_twice(
     let mut network = Network::new(alloc, genesis, true)?;
     let driven = relay::drive(&mut network, size, random);
     let finished = network.finish();
-    let Network {
-        world,
-        tally,
-        stored,
-        ..
-    } = network;
+    let (world, tally, stored) = network.into_parts();
     let mut tally = tally;
     let audited = audit(alloc, world, &mut tally);
-    let replayed = match &stored {
-        Some(stored) => replay_all(alloc, genesis, stored.as_slice(), &mut tally),
-        None => Err(RunError::Unexpected("nothing was stored")),
-    };
+    let replayed = replay_stored(alloc, genesis, &stored, &mut tally);
     drop(stored);
     driven?;
     finished?;
@@ -64,6 +55,19 @@ fn audit(alloc: Global, world: World, tally: &mut Tally) -> Result<(), RunError>
     }
     drop(audit);
     Ok(())
+}
+
+// Makes a world again of what was stored, if anything was.
+fn replay_stored(
+    alloc: Global,
+    genesis: &Genesis,
+    stored: &Option<Vec<StoredEntry>>,
+    tally: &mut Tally,
+) -> Result<(), RunError> {
+    match stored {
+        Some(stored) => replay_all(alloc, genesis, stored.as_slice(), tally),
+        None => Err(RunError::Unexpected("nothing was stored")),
+    }
 }
 
 // Makes a world again of what was stored, and adds what its chains hold.

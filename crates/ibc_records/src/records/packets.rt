@@ -15,7 +15,6 @@ ghost use Rattle.ibc_machine.specs.ics04.Parts.{part_after_receive, part_after_a
 ghost use Rattle.ibc_records.specs.RecordsModel.{core_of, IsUnchanged};
 ghost use Rattle.ibc_records.specs.Packets.{SendsPacket, ReceivesPacket, AcknowledgesPacket, TimesOutPacket};
 
-use crate::Records;
 use crate::acknowledgement::{AckCopies, AckRoom};
 use crate::channel::Channel;
 use crate::commitment::Commitment;
@@ -23,7 +22,7 @@ use crate::maps::{Channels, put, take};
 use crate::packet_entries::{acknowledged_entry, closed_entry, received_entry, settle};
 use crate::packet_values::{channel_counter, commitment_value};
 use crate::values::set_reserved;
-use ibc_app_port::{App, NoPayer, Pays};
+use crate::{App, NoPayer, Pays, Records};
 use ibc_ids::{Bytes, ChannelId, PortId, Refusal, sequence_path};
 use ibc_path_store::Store;
 use ibc_wire::Packet;

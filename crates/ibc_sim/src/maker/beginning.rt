@@ -77,11 +77,11 @@ impl Maker {
         steps: &mut Vec<String>,
     ) -> Result<(), Fault> {
         let data = self.draws.one_of(&NOTES);
-        let mut step = StepText::on(self.alloc, "SendNote", end.chain)?;
-        step.text("channel", end.channel.as_str())?;
-        step.text("data", data)?;
-        step.number("timeout_height", limit)?;
-        step.number("timeout_time", 0)?;
+        let mut step = StepText::on(self.alloc, "SendNote", end.chain);
+        step.text("channel", end.channel.as_str());
+        step.text("data", data);
+        step.number("timeout_height", limit);
+        step.number("timeout_time", 0);
         step.finish(steps)?;
         Ok(())
     }
@@ -97,14 +97,14 @@ impl Maker {
         let receiver = self.draws.one_of(&USERS);
         let token = self.draws.one_of(&TOKENS);
         let amount = self.draws.one_of(&SMALL_AMOUNTS);
-        let mut step = StepText::on(self.alloc, "Transfer", end.chain)?;
-        step.text("channel", end.channel.as_str())?;
-        step.text("user", user)?;
-        step.text("receiver", receiver)?;
-        step.text("denom", token)?;
-        step.text("amount", amount)?;
-        step.number("timeout_height", limit)?;
-        step.number("timeout_time", 0)?;
+        let mut step = StepText::on(self.alloc, "Transfer", end.chain);
+        step.text("channel", end.channel.as_str());
+        step.text("user", user);
+        step.text("receiver", receiver);
+        step.text("denom", token);
+        step.text("amount", amount);
+        step.number("timeout_height", limit);
+        step.number("timeout_time", 0);
         step.finish(steps)?;
         Ok(())
     }

@@ -19,8 +19,8 @@ impl Maker {
         if !is_ordered(checked, route.own) && !self.draws.is_one_in(4) {
             return self.end_some_block(checked, steps);
         }
-        let mut step = StepText::on(self.alloc, "ChanCloseInit", route.from)?;
-        add_end(checked, route.own, &mut step)?;
+        let mut step = StepText::on(self.alloc, "ChanCloseInit", route.from);
+        add_end(checked, route.own, &mut step);
         step.finish(steps)?;
         let height = self.proved_height(checked, route.from, 0, steps)?;
         self.update(checked, route.peer, height, steps)?;
@@ -38,10 +38,10 @@ impl Maker {
         if self.draws.is_one_in(3) {
             return Ok(());
         }
-        let mut step = StepText::on(self.alloc, "ChanCloseConfirm", route.to)?;
-        add_end(checked, route.peer, &mut step)?;
-        step.chain("from", route.from)?;
-        step.number("height", height)?;
+        let mut step = StepText::on(self.alloc, "ChanCloseConfirm", route.to);
+        add_end(checked, route.peer, &mut step);
+        step.chain("from", route.from);
+        step.number("height", height);
         step.finish(steps)?;
         Ok(())
     }

@@ -101,12 +101,12 @@ impl Maker {
         channel: &NewChannel,
         steps: &mut Vec<String>,
     ) -> Result<(), Fault> {
-        let mut step = StepText::on(self.alloc, "ChanOpenInit", channel.route.from)?;
-        step.text("port", channel.port)?;
-        step.text("order", channel.order)?;
-        add_connection(checked, channel.route.own, &mut step)?;
-        step.text("peer_port", channel.port)?;
-        step.text("version", channel.version)?;
+        let mut step = StepText::on(self.alloc, "ChanOpenInit", channel.route.from);
+        step.text("port", channel.port);
+        step.text("order", channel.order);
+        add_connection(checked, channel.route.own, &mut step);
+        step.text("peer_port", channel.port);
+        step.text("version", channel.version);
         step.finish(steps)?;
         Ok(())
     }
@@ -119,15 +119,15 @@ impl Maker {
         height: u64,
         steps: &mut Vec<String>,
     ) -> Result<(), Fault> {
-        let mut step = StepText::on(self.alloc, "ChanOpenTry", channel.route.to)?;
-        step.text("port", channel.port)?;
-        step.text("order", channel.order)?;
-        add_connection(checked, channel.route.peer, &mut step)?;
-        step.text("peer_port", channel.port)?;
-        step.numbered("peer_channel", "channel", channel.first)?;
-        step.text("version", channel.version)?;
-        step.chain("from", channel.route.from)?;
-        step.number("height", height)?;
+        let mut step = StepText::on(self.alloc, "ChanOpenTry", channel.route.to);
+        step.text("port", channel.port);
+        step.text("order", channel.order);
+        add_connection(checked, channel.route.peer, &mut step);
+        step.text("peer_port", channel.port);
+        step.numbered("peer_channel", "channel", channel.first);
+        step.text("version", channel.version);
+        step.chain("from", channel.route.from);
+        step.number("height", height);
         step.finish(steps)?;
         Ok(())
     }
@@ -142,12 +142,12 @@ impl Maker {
         if self.draws.is_one_in(10) {
             return Ok(());
         }
-        let mut step = StepText::on(self.alloc, "ChanOpenAck", channel.route.from)?;
-        step.text("port", channel.port)?;
-        step.numbered("channel", "channel", channel.first)?;
-        step.numbered("peer_channel", "channel", channel.second)?;
-        step.chain("from", channel.route.to)?;
-        step.number("height", height)?;
+        let mut step = StepText::on(self.alloc, "ChanOpenAck", channel.route.from);
+        step.text("port", channel.port);
+        step.numbered("channel", "channel", channel.first);
+        step.numbered("peer_channel", "channel", channel.second);
+        step.chain("from", channel.route.to);
+        step.number("height", height);
         step.finish(steps)?;
         Ok(())
     }
@@ -162,11 +162,11 @@ impl Maker {
         if self.draws.is_one_in(10) {
             return Ok(());
         }
-        let mut step = StepText::on(self.alloc, "ChanOpenConfirm", channel.route.to)?;
-        step.text("port", channel.port)?;
-        step.numbered("channel", "channel", channel.second)?;
-        step.chain("from", channel.route.from)?;
-        step.number("height", height)?;
+        let mut step = StepText::on(self.alloc, "ChanOpenConfirm", channel.route.to);
+        step.text("port", channel.port);
+        step.numbered("channel", "channel", channel.second);
+        step.chain("from", channel.route.from);
+        step.number("height", height);
         step.finish(steps)?;
         Ok(())
     }

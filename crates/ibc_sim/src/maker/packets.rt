@@ -82,9 +82,9 @@ impl Maker {
         let sequence = self.sequence(checked, flight);
         let height = self.proved_height(checked, route.from, 0, steps)?;
         self.update(checked, route.peer, height, steps)?;
-        let mut step = StepText::on(self.alloc, "RecvPacket", route.to)?;
-        add_packet(checked, flight.end, sequence, &mut step)?;
-        step.number("height", height)?;
+        let mut step = StepText::on(self.alloc, "RecvPacket", route.to);
+        add_packet(checked, flight.end, sequence, &mut step);
+        step.number("height", height);
         step.finish(steps)?;
         Ok(())
     }
@@ -180,10 +180,10 @@ impl Maker {
         steps: &mut Vec<String>,
     ) -> Result<(), Fault> {
         self.update(checked, route.own, height, steps)?;
-        let mut step = StepText::on(self.alloc, kind, route.from)?;
-        add_packet(checked, route.own, sequence, &mut step)?;
-        step.chain("from", route.to)?;
-        step.number("height", height)?;
+        let mut step = StepText::on(self.alloc, kind, route.from);
+        add_packet(checked, route.own, sequence, &mut step);
+        step.chain("from", route.to);
+        step.number("height", height);
         step.finish(steps)?;
         Ok(())
     }

@@ -52,10 +52,10 @@ impl Maker {
         steps: &mut Vec<String>,
     ) -> Result<(), Fault> {
         let data = self.draws.one_of(&NOTES);
-        let mut step = StepText::on(self.alloc, "SendNote", end.chain)?;
-        step.text("channel", end.channel.as_str())?;
-        step.text("data", data)?;
-        self.add_timeouts(checked, peer, end.ordered, &mut step)?;
+        let mut step = StepText::on(self.alloc, "SendNote", end.chain);
+        step.text("channel", end.channel.as_str());
+        step.text("data", data);
+        self.add_timeouts(checked, peer, end.ordered, &mut step);
         step.finish(steps)?;
         Ok(())
     }
@@ -68,10 +68,10 @@ impl Maker {
         peer: u8,
         steps: &mut Vec<String>,
     ) -> Result<(), Fault> {
-        let mut step = StepText::on(self.alloc, "Transfer", end.chain)?;
-        self.add_parties(end.channel.as_str(), &mut step)?;
+        let mut step = StepText::on(self.alloc, "Transfer", end.chain);
+        self.add_parties(end.channel.as_str(), &mut step);
         self.add_denom_and_amount(end.channel.as_str(), &mut step)?;
-        self.add_timeouts(checked, peer, end.ordered, &mut step)?;
+        self.add_timeouts(checked, peer, end.ordered, &mut step);
         step.finish(steps)?;
         Ok(())
     }
@@ -84,26 +84,25 @@ impl Maker {
         peer: u8,
         steps: &mut Vec<String>,
     ) -> Result<(), Fault> {
-        let mut step = StepText::on(self.alloc, "TransferMany", end.chain)?;
-        self.add_parties(end.channel.as_str(), &mut step)?;
+        let mut step = StepText::on(self.alloc, "TransferMany", end.chain);
+        self.add_parties(end.channel.as_str(), &mut step);
         let tokens = self.tokens(end.channel.as_str())?;
-        step.written("tokens", tokens.as_str())?;
-        self.add_timeouts(checked, peer, end.ordered, &mut step)?;
+        step.written("tokens", tokens.as_str());
+        self.add_timeouts(checked, peer, end.ordered, &mut step);
         step.finish(steps)?;
         Ok(())
     }
 
     // Adds the channel, who sends, and who receives.
-    fn add_parties(&mut self, channel: &str, step: &mut StepText) -> Result<(), Fault> {
+    fn add_parties(&mut self, channel: &str, step: &mut StepText) {
         let user = self.draws.one_of(&USERS);
         let receiver = self.draws.one_of(&RECEIVERS);
-        step.text("channel", channel)?;
-        step.text("user", user)?;
-        step.text("receiver", receiver)?;
+        step.text("channel", channel);
+        step.text("user", user);
+        step.text("receiver", receiver);
         if self.draws.is_one_in(8) {
-            step.text("memo", "for the ferry")?;
+            step.text("memo", "for the ferry");
         }
-        Ok(())
     }
 
     // Adds a denomination and an amount of it: a base one, one that came over the channel, over another one, or over both.
@@ -111,9 +110,9 @@ impl Maker {
         let token = self.draws.one_of(&TOKENS);
         match self.draws.below(8) {
             0..=3 => {
-                step.text("denom", token)?;
+                step.text("denom", token);
                 let amount = self.amount();
-                step.text("amount", amount)?;
+                step.text("amount", amount);
                 Ok(())
             }
             4..=5 => self.add_voucher(channel, token, step),
@@ -139,8 +138,8 @@ impl Maker {
     ) -> Result<(), Fault> {
         let amount = self.draws.one_of(&SMALL_AMOUNTS);
         let voucher = format!(in self.alloc; "transfer/{channel}/{denom}")?;
-        step.text("denom", voucher.as_str())?;
-        step.text("amount", amount)?;
+        step.text("denom", voucher.as_str());
+        step.text("amount", amount);
         Ok(())
     }
 
@@ -180,13 +179,7 @@ impl Maker {
 
     // Adds the timeouts: mostly far ahead; else near what the peer's working block has, more seldom where packets keep their order,
     // since a timeout closes such a channel; now and then none.
-    fn add_timeouts(
-        &mut self,
-        checked: &Checked,
-        peer: u8,
-        ordered: bool,
-        step: &mut StepText,
-    ) -> Result<(), Fault> {
+    fn add_timeouts(&mut self, checked: &Checked, peer: u8, ordered: bool, step: &mut StepText) {
         let height = height_of(checked, peer);
         let time = time_of(checked, peer);
         let is_near = if ordered {
@@ -210,8 +203,7 @@ impl Maker {
             4..=12 => (0, time.saturating_add(1_000)),
             _ => (height.saturating_add(1_000), 0),
         };
-        step.number("timeout_height", height)?;
-        step.number("timeout_time", time)?;
-        Ok(())
+        step.number("timeout_height", height);
+        step.number("timeout_time", time);
     }
 }

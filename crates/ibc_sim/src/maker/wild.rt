@@ -25,10 +25,9 @@ impl Maker {
     }
 
     // Adds a name with some number.
-    fn add_numbered(&mut self, step: &mut StepText, member: &str, stem: &str) -> Result<(), Fault> {
+    fn add_numbered(&mut self, step: &mut StepText, member: &str, stem: &str) {
         let number = self.draws.below(5);
-        step.numbered(member, stem, number)?;
-        Ok(())
+        step.numbered(member, stem, number);
     }
 
     // A height of a chain, or one beside it.
@@ -44,12 +43,11 @@ impl Maker {
     }
 
     // Adds a chain, and a height of it.
-    fn add_source(&mut self, checked: &Checked, step: &mut StepText) -> Result<(), Fault> {
+    fn add_source(&mut self, checked: &Checked, step: &mut StepText) {
         let from = self.some_chain();
         let height = self.any_height(checked, from);
-        step.chain("from", from)?;
-        step.number("height", height)?;
-        Ok(())
+        step.chain("from", from);
+        step.number("height", height);
     }
 
     // A message for clients.
@@ -57,15 +55,15 @@ impl Maker {
         let on = self.some_chain();
         let of = self.some_chain();
         if self.draws.is_one_in(2) {
-            let mut step = StepText::on(self.alloc, "CreateClient", on)?;
-            step.chain("of", of)?;
+            let mut step = StepText::on(self.alloc, "CreateClient", on);
+            step.chain("of", of);
             step.finish(steps)?;
             return Ok(());
         }
         let height = self.any_height(checked, of);
-        let mut step = StepText::on(self.alloc, "UpdateClient", on)?;
-        self.add_numbered(&mut step, "client", "inprocess")?;
-        step.number("height", height)?;
+        let mut step = StepText::on(self.alloc, "UpdateClient", on);
+        self.add_numbered(&mut step, "client", "inprocess");
+        step.number("height", height);
         step.finish(steps)?;
         Ok(())
     }
@@ -74,30 +72,30 @@ impl Maker {
     fn any_connection(&mut self, checked: &Checked, steps: &mut Vec<String>) -> Result<(), Fault> {
         let on = self.some_chain();
         let kind = self.draws.one_of(&CONNECTION_KINDS);
-        let mut step = StepText::on(self.alloc, kind, on)?;
-        self.add_connection_members(kind, &mut step)?;
+        let mut step = StepText::on(self.alloc, kind, on);
+        self.add_connection_members(kind, &mut step);
         if kind != "ConnOpenInit" {
-            self.add_source(checked, &mut step)?;
+            self.add_source(checked, &mut step);
         }
         step.finish(steps)?;
         Ok(())
     }
 
     // Adds the names of a message for connections.
-    fn add_connection_members(&mut self, kind: &str, step: &mut StepText) -> Result<(), Fault> {
+    fn add_connection_members(&mut self, kind: &str, step: &mut StepText) {
         match kind {
             "ConnOpenInit" => {
-                self.add_numbered(step, "client", "inprocess")?;
-                self.add_numbered(step, "peer_client", "inprocess")
+                self.add_numbered(step, "client", "inprocess");
+                self.add_numbered(step, "peer_client", "inprocess");
             }
             "ConnOpenTry" => {
-                self.add_numbered(step, "client", "inprocess")?;
-                self.add_numbered(step, "peer_client", "inprocess")?;
-                self.add_numbered(step, "peer_connection", "connection")
+                self.add_numbered(step, "client", "inprocess");
+                self.add_numbered(step, "peer_client", "inprocess");
+                self.add_numbered(step, "peer_connection", "connection");
             }
             "ConnOpenAck" => {
-                self.add_numbered(step, "connection", "connection")?;
-                self.add_numbered(step, "peer_connection", "connection")
+                self.add_numbered(step, "connection", "connection");
+                self.add_numbered(step, "peer_connection", "connection");
             }
             _ => self.add_numbered(step, "connection", "connection"),
         }
@@ -108,42 +106,41 @@ impl Maker {
         let on = self.some_chain();
         let kind = self.draws.one_of(&CHANNEL_KINDS);
         let port = self.draws.one_of(&PORTS);
-        let mut step = StepText::on(self.alloc, kind, on)?;
-        step.text("port", port)?;
-        self.add_channel_members(kind, &mut step)?;
+        let mut step = StepText::on(self.alloc, kind, on);
+        step.text("port", port);
+        self.add_channel_members(kind, &mut step);
         if kind != "ChanOpenInit" {
-            self.add_source(checked, &mut step)?;
+            self.add_source(checked, &mut step);
         }
         step.finish(steps)?;
         Ok(())
     }
 
     // Adds the names of a message for channels.
-    fn add_channel_members(&mut self, kind: &str, step: &mut StepText) -> Result<(), Fault> {
+    fn add_channel_members(&mut self, kind: &str, step: &mut StepText) {
         match kind {
             "ChanOpenInit" => self.add_opening(step),
             "ChanOpenTry" => {
-                self.add_opening(step)?;
-                self.add_numbered(step, "peer_channel", "channel")
+                self.add_opening(step);
+                self.add_numbered(step, "peer_channel", "channel");
             }
             "ChanOpenAck" => {
-                self.add_numbered(step, "channel", "channel")?;
-                self.add_numbered(step, "peer_channel", "channel")
+                self.add_numbered(step, "channel", "channel");
+                self.add_numbered(step, "peer_channel", "channel");
             }
             _ => self.add_numbered(step, "channel", "channel"),
         }
     }
 
     // Adds what the first two messages of a channel's handshake have in common.
-    fn add_opening(&mut self, step: &mut StepText) -> Result<(), Fault> {
+    fn add_opening(&mut self, step: &mut StepText) {
         let order = self.draws.one_of(&ORDERS);
         let peer_port = self.draws.one_of(&PORTS);
         let version = self.draws.one_of(&VERSIONS);
-        step.text("order", order)?;
-        self.add_numbered(step, "connection", "connection")?;
-        step.text("peer_port", peer_port)?;
-        step.text("version", version)?;
-        Ok(())
+        step.text("order", order);
+        self.add_numbered(step, "connection", "connection");
+        step.text("peer_port", peer_port);
+        step.text("version", version);
     }
 
     // A message that settles or brings a packet.
@@ -151,24 +148,23 @@ impl Maker {
         let on = self.some_chain();
         let sender = self.some_chain();
         let kind = self.draws.one_of(&PACKET_KINDS);
-        let mut step = StepText::on(self.alloc, kind, on)?;
-        self.add_any_packet(sender, &mut step)?;
+        let mut step = StepText::on(self.alloc, kind, on);
+        self.add_any_packet(sender, &mut step);
         if kind == "RecvPacket" {
             let height = self.any_height(checked, sender);
-            step.number("height", height)?;
+            step.number("height", height);
         } else {
-            self.add_source(checked, &mut step)?;
+            self.add_source(checked, &mut step);
         }
         step.finish(steps)?;
         Ok(())
     }
 
     // Adds some packet of a chain.
-    fn add_any_packet(&mut self, sender: u8, step: &mut StepText) -> Result<(), Fault> {
+    fn add_any_packet(&mut self, sender: u8, step: &mut StepText) {
         let port = self.draws.one_of(&PORTS);
         let channel = self.draws.one_of(&CHANNELS);
         let sequence = self.draws.below(6);
-        step.packet(sender, port, channel, sequence)?;
-        Ok(())
+        step.packet(sender, port, channel, sequence);
     }
 }

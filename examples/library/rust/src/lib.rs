@@ -22,3 +22,29 @@ pub fn transfer(
     (transfer.timeout_height, transfer.timeout_time) = timeouts;
     transfer
 }
+
+/// Of the C library: seconds, and billionths of a second.
+#[repr(C)]
+struct Timespec {
+    seconds: i64,
+    billionths: i64,
+}
+
+/// The number of the clock that tells a program's time of the processor.
+const PROCESSOR: i32 = 2;
+
+extern "C" {
+    fn clock_gettime(clock: i32, time: *mut Timespec) -> i32;
+}
+
+/// The seconds of processor that this program took until now.
+#[must_use]
+pub fn spent() -> f64 {
+    let mut time = Timespec {
+        seconds: 0,
+        billionths: 0,
+    };
+    // SAFETY: the place is one for the time, and the clock is there.
+    unsafe { clock_gettime(PROCESSOR, &mut time) };
+    time.seconds as f64 + time.billionths as f64 / 1e9
+}

@@ -1,6 +1,6 @@
 -- What the checks say is what becomes of the message.
 use Rattle.ibc_records.specs.RecordsModel.{core_of}
-use Rattle.ibc_client.proofs.Judging.{set_taken}
+use Rattle.ibc_records.proofs.Judging.{set_taken}
 use Rattle.ibc_channel.specs.ChannelHandshake.{with_end}
 use Rattle.ibc_channel.proofs.Handshake.{refused_message}
 use Rattle.ibc_channel.proofs.closing_init.close_init.Goals as goal

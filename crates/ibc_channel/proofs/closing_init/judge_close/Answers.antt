@@ -2,7 +2,7 @@
 use Rattle.std.proofs.Common.{sym, inl}
 use Rattle.ibc_wire.specs.declared.records.ChannelState.TheVariants.{Closed}
 use Rattle.ibc_machine.proofs.PassedChecks.{pass, fail}
-use Rattle.ibc_client.proofs.Judging.{stops_at, made}
+use Rattle.ibc_records.proofs.Judging.{stops_at, made}
 use Rattle.ibc_channel.specs.ChannelHandshake.{end_in_state}
 use Rattle.ibc_channel.proofs.Handshake.{refused, close_init_checks, close_init_found}
 use Rattle.ibc_channel.proofs.closing_init.judge_close.Goals as goal

@@ -2,7 +2,7 @@
 use Rattle.std.proofs.Common.{Err, ap, ◌∙◌, sym}
 use Rattle.ibc_wire.specs.Reading.{proof_of}
 use Rattle.ibc_records.specs.RecordsModel.{core_of}
-use Rattle.ibc_client.proofs.Judging.{stops, set_taken}
+use Rattle.ibc_records.proofs.Judging.{stops, set_taken}
 use Rattle.ibc_channel.specs.ChannelHandshake.{with_end}
 use Rattle.ibc_channel.proofs.Handshake.{refused_message, no_proof, follow_checks}
 use Rattle.ibc_channel.proofs.following.follow_peer_with.Goals as goal

@@ -1,7 +1,7 @@
 -- Each check of the code is the definition's, behind those before it, and the claim that is made is the one that the peer must meet.
 use Rattle.std.proofs.Common.{Ok, Err, sym, inl, inr}
 use Rattle.ibc_machine.proofs.PassedChecks.{pass, fail}
-use Rattle.ibc_client.proofs.Judging.{failed, passed, stops, stops_at, made}
+use Rattle.ibc_records.proofs.Judging.{failed, passed, stops, stops_at, made}
 use Rattle.ibc_channel.specs.ChannelHandshake.{end_in_state}
 use Rattle.ibc_channel.proofs.FoundRecords.{followed_shown}
 use Rattle.ibc_channel.proofs.Handshake.{refused, follow_begun, follow_found}

@@ -4,9 +4,9 @@ use Rattle.std.proofs.lemmas.Result.{err_from_is_err_and}
 use Rattle.ibc_ids.specs.Paths.{path}
 use Rattle.ibc_ids.specs.declared.key.Key.TheVariants as key
 use Rattle.ibc_wire.specs.declared.records.ChannelState.TheVariants.{TryOpen}
-use Rattle.ibc_client.proofs.Judging.{unchecked}
-use Rattle.ibc_client.specs.Peers.{end_bytes, text_of}
-use Rattle.ibc_client.proofs.Claimed.{peer_shown}
+use Rattle.ibc_records.proofs.Judging.{unchecked}
+use Rattle.ibc_records.specs.Peers.{end_bytes, text_of}
+use Rattle.ibc_records.proofs.Claimed.{peer_shown}
 use Rattle.ibc_channel.proofs.opening_ack.check_answered.Goals as goal
 
 pub returns-in_err-claim : goal.returns-in_err-claim

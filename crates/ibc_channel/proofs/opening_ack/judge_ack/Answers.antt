@@ -5,7 +5,7 @@ use Rattle.ibc_ids.specs.Texts.{Text}
 use Rattle.ibc_wire.specs.declared.records.ChannelState.TheVariants.{Open}
 use Rattle.ibc_wire.specs.declared.records.ChannelEnd.{ChannelEnd}
 use Rattle.ibc_machine.proofs.PassedChecks.{pass, fail}
-use Rattle.ibc_client.proofs.Judging.{failed, passed, stops, stops_at, made}
+use Rattle.ibc_records.proofs.Judging.{failed, passed, stops, stops_at, made}
 use Rattle.ibc_channel.specs.ChannelHandshake.{after_ack}
 use Rattle.ibc_channel.proofs.Handshake.{refused, ack_begun, ack_found}
 use Rattle.ibc_channel.proofs.opening_ack.judge_ack.Goals as goal

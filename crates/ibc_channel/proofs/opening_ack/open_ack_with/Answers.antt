@@ -1,7 +1,7 @@
 -- What the checks say is what becomes of the message.
 use Rattle.ibc_records.specs.RecordsModel.{core_of}
 use Rattle.std.proofs.Common.{Err, ap}
-use Rattle.ibc_client.proofs.Judging.{stops, set_taken}
+use Rattle.ibc_records.proofs.Judging.{stops, set_taken}
 use Rattle.ibc_channel.specs.ChannelHandshake.{with_end}
 use Rattle.ibc_channel.proofs.Handshake.{refused_message, no_proof, ack_checks}
 use Rattle.ibc_channel.proofs.opening_ack.open_ack_with.Goals as goal

@@ -1,7 +1,7 @@
 -- Each check of the code is the definition's, behind those before it.
 use Rattle.std.proofs.Common.{sym, inl, inr}
 use Rattle.ibc_machine.proofs.PassedChecks.{pass, fail}
-use Rattle.ibc_client.proofs.Judging.{ends}
+use Rattle.ibc_records.proofs.Judging.{ends}
 use Rattle.ibc_channel.proofs.Handshake.{refused, port_there, port_gone, init_checks}
 use Rattle.ibc_channel.proofs.opening_init.check_init.Goals as goal
 

@@ -5,7 +5,7 @@ use Rattle.ibc_wire.specs.declared.records.ChannelEnd.{ChannelEnd}
 use Rattle.ibc_machine.specs.declared.reply.Effect.TheVariants as effect
 use Rattle.ibc_machine.specs.ics04.Channels.{with_new_channel}
 use Rattle.ibc_records.specs.RecordsModel.{core_of}
-use Rattle.ibc_client.proofs.Judging.{added_taken}
+use Rattle.ibc_records.proofs.Judging.{added_taken}
 use Rattle.ibc_channel.specs.ChannelHandshake.{new_end}
 use Rattle.ibc_channel.proofs.Handshake.{refused_message}
 use Rattle.ibc_channel.proofs.opening_init.open_init.Goals as goal

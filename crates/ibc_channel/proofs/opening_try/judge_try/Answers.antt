@@ -4,7 +4,7 @@ use Rattle.ibc_wire.specs.declared.records.ChannelEnd.{ChannelEnd}
 use Rattle.ibc_machine.specs.chain.Records.{connection_at}
 use Rattle.ibc_machine.proofs.PassedChecks.{pass, fail}
 use Rattle.ibc_records.specs.RecordsModel.{core_of}
-use Rattle.ibc_client.proofs.Judging.{failed, passed, stops}
+use Rattle.ibc_records.proofs.Judging.{failed, passed, stops}
 use Rattle.ibc_channel.specs.ChannelHandshake.{new_end}
 use Rattle.ibc_channel.proofs.Handshake.{refused, port_there, port_gone, made_try, shown_try, try_begun}
 use Rattle.ibc_channel.proofs.opening_try.judge_try.Goals as goal

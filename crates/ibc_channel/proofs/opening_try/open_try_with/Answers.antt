@@ -4,7 +4,7 @@ use Rattle.ibc_ids.specs.Paths.{nth_channel}
 use Rattle.ibc_machine.specs.declared.reply.Effect.TheVariants as effect
 use Rattle.ibc_machine.specs.ics04.Channels.{with_new_channel}
 use Rattle.ibc_records.specs.RecordsModel.{core_of}
-use Rattle.ibc_client.proofs.Judging.{stops, added_taken}
+use Rattle.ibc_records.proofs.Judging.{stops, added_taken}
 use Rattle.ibc_channel.proofs.Handshake.{refused_message, no_proof, try_checks}
 use Rattle.ibc_channel.proofs.opening_try.open_try_with.Goals as goal
 

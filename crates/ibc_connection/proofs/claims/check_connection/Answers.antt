@@ -3,8 +3,8 @@ use Rattle.std.proofs.Common.{ap, ◌∙◌}
 use Rattle.ibc_ids.specs.Paths.{path}
 use Rattle.ibc_ids.specs.declared.key.Key.TheVariants as key
 use Rattle.ibc_machine.specs.ics24.Values.{ConnectionIs}
-use Rattle.ibc_client.proofs.Judging.{unchecked}
-use Rattle.ibc_client.proofs.Shown.{is_shown}
+use Rattle.ibc_records.proofs.Judging.{unchecked}
+use Rattle.ibc_records.proofs.Shown.{is_shown}
 use Rattle.ibc_connection.proofs.claims.check_connection.Goals as goal
 
 pub returns-in_err-value : goal.returns-in_err-value

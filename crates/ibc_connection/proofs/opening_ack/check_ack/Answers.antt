@@ -1,7 +1,7 @@
 -- Each check of the code is the definition's, behind those before it.
 use Rattle.std.proofs.Common.{sym, inl}
 use Rattle.ibc_machine.proofs.PassedChecks.{pass, fail}
-use Rattle.ibc_client.proofs.Judging.{failed, passed, stops, ends}
+use Rattle.ibc_records.proofs.Judging.{failed, passed, stops, ends}
 use Rattle.ibc_connection.proofs.Handshake.{refused, ack_found}
 use Rattle.ibc_connection.proofs.opening_ack.check_ack.Goals as goal
 

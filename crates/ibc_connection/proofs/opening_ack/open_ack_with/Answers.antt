@@ -3,7 +3,7 @@ use Rattle.std.proofs.Common.{Ok, Err, refl, sym, ap, ◌∙◌, inr}
 use Rattle.ibc_machine.specs.declared.reply.Effect.TheVariants as effect
 use Rattle.ibc_machine.specs.chain.Records.{with_connection}
 use Rattle.ibc_records.specs.RecordsModel.{core_of}
-use Rattle.ibc_client.proofs.Judging.{stops, unread}
+use Rattle.ibc_records.proofs.Judging.{stops, unread}
 use Rattle.ibc_connection.proofs.Handshake.{refused_message, ack_checks}
 use Rattle.ibc_connection.proofs.Opened.{end_taken}
 use Rattle.ibc_connection.proofs.opening_ack.open_ack_with.Goals as goal

@@ -8,7 +8,7 @@ use Rattle.ibc_machine.specs.chain.Checks.{expect}
 use Rattle.ibc_machine.specs.ics03.Connections.{connection_end}
 use Rattle.ibc_machine.proofs.PassedChecks.{pass, fail, miss}
 use Rattle.ibc_records.specs.RecordsModel.{core_of}
-use Rattle.ibc_client.proofs.Judging.{failed, passed, stops}
+use Rattle.ibc_records.proofs.Judging.{failed, passed, stops}
 use Rattle.ibc_connection.proofs.Handshake.{refused, confirm_gone, confirm_found, confirm_named}
 use Rattle.ibc_connection.proofs.opening_confirm.judge_confirm.Goals as goal
 

@@ -6,7 +6,7 @@ use Rattle.ibc_machine.specs.chain.Checks.{require}
 use Rattle.ibc_machine.specs.declared.reply.Effect.TheVariants as effect
 use Rattle.ibc_machine.specs.chain.Records.{with_connection}
 use Rattle.ibc_records.specs.RecordsModel.{core_of}
-use Rattle.ibc_client.proofs.Judging.{IsRefusedBy, stops, unread}
+use Rattle.ibc_records.proofs.Judging.{IsRefusedBy, stops, unread}
 use Rattle.ibc_connection.proofs.Handshake.{refused_message, confirm_checks}
 use Rattle.ibc_connection.proofs.Opened.{end_taken}
 use Rattle.ibc_connection.proofs.opening_confirm.open_confirm_with.Goals as goal

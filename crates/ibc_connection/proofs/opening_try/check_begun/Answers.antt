@@ -2,7 +2,7 @@
 use Rattle.std.proofs.Common.{None, subst}
 use Rattle.ibc_wire.specs.declared.records.ConnectionState.TheVariants.{Init}
 use Rattle.ibc_machine.specs.ics03.Connections.{connection_end, has_connection}
-use Rattle.ibc_client.specs.ProofVerdicts.{IsShown}
+use Rattle.ibc_records.specs.ProofVerdicts.{IsShown}
 use Rattle.ibc_connection.proofs.opening_try.check_begun.Goals as goal
 
 pub returns : goal.returns

@@ -3,7 +3,7 @@ use Rattle.std.proofs.Common.{Some, Err, ap, subst}
 use Rattle.std.specs.Prelude.{IfOk}
 use Rattle.ibc_wire.specs.declared.records.ConnectionState.TheVariants.{TryOpen}
 use Rattle.ibc_machine.specs.ics03.Connections.{connection_end}
-use Rattle.ibc_client.proofs.Judging.{stops, unread}
+use Rattle.ibc_records.proofs.Judging.{stops, unread}
 use Rattle.ibc_connection.specs.ConnectionHandshake.{try_end}
 use Rattle.ibc_connection.proofs.Handshake.{refused_message, try_checks}
 use Rattle.ibc_connection.proofs.Opened.{IsAdded, begun_taken}

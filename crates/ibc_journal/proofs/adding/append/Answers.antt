@@ -1,10 +1,11 @@
 -- A transaction begins, takes the entries, and is committed.
-use Rattle.std.proofs.Common.{sym, subst, ◌∙◌, arith}
+use Rattle.std.proofs.Common.{◌++◌, sym, subst, ◌∙◌, arith}
 use Rattle.sqlite.specs.State.{HasCleanDisk}
 use Rattle.sqlite.specs.Held.{state}
 use Rattle.ibc_journal.specs.Tables.{IsJournal}
 use Rattle.ibc_journal.specs.Entries.{items_of}
 use Rattle.ibc_journal.specs.Crashes.{KeepsCommitted}
+use Rattle.ibc_journal.proofs.Restarted.{lasts_committed}
 use Rattle.ibc_journal.proofs.Transactions.{on_error}
 use Rattle.ibc_journal.proofs.Whole.{nothing_yet, before_commit, with_commit, committed_all}
 use Rattle.ibc_journal.proofs.adding.append.Goals as goal
@@ -66,3 +67,11 @@ returns-in_err-commit-clause-none g c genesis items has at clean =
     let put = c.in_ok-insert_each.ensures.put genesis items (subst (λ d. IsJournal d genesis items) (sym b.now) has) at b.inside calm in
     let kept : KeepsCommitted (state g.S.Store c.args.conn.now) (state g.S.Store c.commit.new.conn) = λ live. c.in_err-commit.ensures.none clean live ∙ put.1.committed ∙ b.committed in
     on_error _ _ kept
+
+pub returns-clause-is_open : goal.returns-clause-is_open
+returns-clause-is_open g c clean = (c.in_ok-commit.ensures.committed clean).is_open
+
+pub returns-clause-lasts : goal.returns-clause-lasts
+returns-clause-lasts g c genesis items has at clean =
+    lasts_committed g.S.Store g.met.S.Store.settled c.commit.new.conn genesis (items ++ items_of c.args.entries.now) (c.in_ok-commit.ensures.committed clean).is_open
+    (returns-clause-committed g c genesis items has at clean)

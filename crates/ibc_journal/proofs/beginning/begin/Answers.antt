@@ -1,8 +1,9 @@
 -- A transaction begins, makes the tables, and is committed.
-use Rattle.std.proofs.Common.{sym, ap, ◌∙◌, arith}
+use Rattle.std.proofs.Common.{[], sym, ap, ◌∙◌, arith}
 use Rattle.sqlite.specs.State.{HasCleanDisk}
 use Rattle.sqlite.specs.Held.{state}
 use Rattle.ibc_journal.specs.Crashes.{KeepsCommitted}
+use Rattle.ibc_journal.proofs.Restarted.{lasts_committed}
 use Rattle.ibc_journal.proofs.Transactions.{on_error}
 use Rattle.ibc_journal.proofs.Whole.{nothing_yet}
 use Rattle.ibc_journal.proofs.Filled.{before_commit, with_commit, begun_all}
@@ -48,3 +49,10 @@ returns-in_err-commit-clause-none g c has clean =
     let made = c.in_ok-fill.ensures.made calm (ap (λ d. d.schema) b.now ∙ has) b.inside in
     let kept : KeepsCommitted (state g.S.Store c.args.conn.now) (state g.S.Store c.commit.new.conn) = λ live. c.in_err-commit.ensures.none clean live ∙ made.1.committed ∙ b.committed in
     on_error _ _ kept
+
+pub returns-clause-is_open : goal.returns-clause-is_open
+returns-clause-is_open g c clean = (c.in_ok-commit.ensures.committed clean).is_open
+
+pub returns-clause-lasts : goal.returns-clause-lasts
+returns-clause-lasts g c has clean =
+    lasts_committed g.S.Store g.met.S.Store.settled c.commit.new.conn c.args.genesis.now [] (c.in_ok-commit.ensures.committed clean).is_open (returns-clause-committed g c has clean)

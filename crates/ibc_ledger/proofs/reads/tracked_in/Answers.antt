@@ -2,7 +2,7 @@
 use Rattle.ibc_ledger.proofs.Common.{sym, ap, ◌∙◌, Some, option_map, option_copied, core_of}
 use Rattle.ibc_wire.specs.declared.records.ClientState.{ClientState}
 use Rattle.ibc_machine.specs.chain.Records.{Client}
-use Rattle.ibc_client.proofs.Connections.{client_nowhere}
+use Rattle.ibc_records.proofs.FoundConnections.{client_nowhere}
 use Rattle.ibc_ledger.proofs.NamedEnds.{tracks, tracks_none}
 use Rattle.ibc_ledger.proofs.reads.tracked_in.Goals as goal
 

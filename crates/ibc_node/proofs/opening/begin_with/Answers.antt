@@ -16,10 +16,13 @@ pub returns-clause-new : goal.returns-clause-new
 returns-clause-new g c none clean =
     let new = state g.S.Store c.begin.new.conn in
     subst (λ t. IsAtRest new t []) (sym c.in_ok-text.ensures.items)
-    (at_rest_with new c.args.genesis.now [] (c.in_ok-begin.ensures.committed none clean) (c.in_ok-begin.ensures.seen clean) (c.in_ok-begin.ensures.outside clean))
+    (at_rest_with new c.args.genesis.now [] (c.in_ok-begin.ensures.committed none clean) (c.in_ok-begin.ensures.seen clean) (c.in_ok-begin.ensures.outside clean) (c.in_ok-begin.ensures.is_open clean))
 
 pub returns-in_err-text-clause-crash : goal.returns-in_err-text-clause-crash
 returns-in_err-text-clause-crash g c = survives_same (state g.S.Store c.args.conn.now) _
 
 pub returns-in_err-world-clause-crash : goal.returns-in_err-world-clause-crash
 returns-in_err-world-clause-crash g c = survives_same (state g.S.Store c.args.conn.now) _
+
+pub returns-clause-given : goal.returns-clause-given
+returns-clause-given g c = c.in_ok-text.ensures.items

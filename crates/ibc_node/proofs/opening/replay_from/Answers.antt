@@ -23,3 +23,9 @@ returns-in_err-past-clause-differs g c items has clean =
     let w = c.in_ok-world.ensures in
     let p = err_from_is_err_and c.from_residual-in_err-past.result c.from_residual-in_err-past.ensures.1 in
     rw (p.1, p.2) (unlawful c.args.genesis.now items w.0 c.in_ok-world.world _ w.1 w.2 (c.in_err-past.ensures.differs items has clean))
+
+pub returns-clause-marked : goal.returns-clause-marked
+returns-clause-marked g c = c.in_ok-past.ensures.marked
+
+pub returns-in_err-past-clause-left : goal.returns-in_err-past-clause-left
+returns-in_err-past-clause-left g c items rest clean = let p = err_from_is_err_and c.from_residual-in_err-past.result c.from_residual-in_err-past.ensures.1 in rw (p.1, p.2) (c.in_err-past.ensures.left items rest clean)

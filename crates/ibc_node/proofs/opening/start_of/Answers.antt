@@ -1,5 +1,6 @@
 -- What the file looks like tells whether the world begins or goes on.
-use Rattle.std.proofs.Common.{◌≡◌, ◌≤◌, Ok, inl, inr, sym, ap, ◌∙◌, subst}
+use Rattle.std.proofs.Common.{◌≡◌, ◌≤◌, Ok, Some, option_copied, inl, inr, sym, ap, ◌∙◌, subst}
+use Rattle.std.proofs.lemmas.Result.{IfOk-weaker}
 use Rattle.sqlite.specs.Held.{state}
 use Rattle.sqlite.specs.View.{doubt}
 use Rattle.ibc_journal.specs.Tables.{no_schema}
@@ -54,3 +55,41 @@ returns-in-Journal-clause-calm g c =
     let same = (c.in_ok-looks.ensures.journal (ap Ok c.in-Journal.is)).1 in
     let after = doubt (state g.S.Store c.go_on.new.conn).is_clean in
     rests_on c.go_on.result (subst (λ k. doubt (state g.S.Store k).is_clean ≤ after) same c.go_on.ensures.crash.clean)
+
+pub returns-in_ok-ok_or-in-Empty-clause-marked : goal.returns-in_ok-ok_or-in-Empty-clause-marked
+returns-in_ok-ok_or-in-Empty-clause-marked g c text items rest clean = absurd (no_journal_is_empty (sym (c.in_ok-looks.ensures.empty (ap Ok c.in-Empty.is)).0 ∙ rest.journal.schema))
+
+pub returns-in_ok-ok_or-in-Empty-clause-unmarked : goal.returns-in_ok-ok_or-in-Empty-clause-unmarked
+returns-in_ok-ok_or-in-Empty-clause-unmarked g c none = c.begin_with.ensures.unmarked
+
+pub returns-in-Journal-clause-marked : goal.returns-in-Journal-clause-marked
+returns-in-Journal-clause-marked g c text items rest clean =
+    let same = (c.in_ok-looks.ensures.journal (ap Ok c.in-Journal.is)).1 in
+    c.go_on.ensures.marked text items (subst (λ k. IsAtRest (state g.S.Store k) text items) (sym same) rest) clean
+
+pub returns-in-Journal-clause-unmarked : goal.returns-in-Journal-clause-unmarked
+returns-in-Journal-clause-unmarked g c none = absurd (no_journal_is_empty (sym none ∙ (c.in_ok-looks.ensures.journal (ap Ok c.in-Journal.is)).0))
+
+pub returns-in_ok-ok_or-in-Empty-clause-asked : goal.returns-in_ok-ok_or-in-Empty-clause-asked
+returns-in_ok-ok_or-in-Empty-clause-asked g c text items rest clean = absurd (no_journal_is_empty (sym (c.in_ok-looks.ensures.empty (ap Ok c.in-Empty.is)).0 ∙ rest.journal.schema))
+
+pub returns-in-Journal-clause-asked : goal.returns-in-Journal-clause-asked
+returns-in-Journal-clause-asked g c text items rest clean =
+    let same = (c.in_ok-looks.ensures.journal (ap Ok c.in-Journal.is)).1 in
+    c.go_on.ensures.asked text items (subst (λ k. IsAtRest (state g.S.Store k) text items) (sym same) rest) clean
+
+pub returns-in_ok-ok_or-in-Empty-clause-given : goal.returns-in_ok-ok_or-in-Empty-clause-given
+returns-in_ok-ok_or-in-Empty-clause-given g c none =
+    IfOk-weaker c.begin_with.result _ (λ start. option_copied c.args.genesis ≡ Some start.genesis.items) (λ start is. ap option_copied c.in_ok-ok_or-in-Empty.ensures.ok_part ∙ ap Some (sym is))
+    c.begin_with.ensures.given
+
+pub returns-in-Journal-clause-given : goal.returns-in-Journal-clause-given
+returns-in-Journal-clause-given g c none = absurd (no_journal_is_empty (sym none ∙ (c.in_ok-looks.ensures.journal (ap Ok c.in-Journal.is)).0))
+
+pub returns-in_ok-ok_or-in-Empty-clause-genesis : goal.returns-in_ok-ok_or-in-Empty-clause-genesis
+returns-in_ok-ok_or-in-Empty-clause-genesis g c text items rest clean = absurd (no_journal_is_empty (sym (c.in_ok-looks.ensures.empty (ap Ok c.in-Empty.is)).0 ∙ rest.journal.schema))
+
+pub returns-in-Journal-clause-genesis : goal.returns-in-Journal-clause-genesis
+returns-in-Journal-clause-genesis g c text items rest clean =
+    let same = (c.in_ok-looks.ensures.journal (ap Ok c.in-Journal.is)).1 in
+    c.go_on.ensures.genesis text items (subst (λ k. IsAtRest (state g.S.Store k) text items) (sym same) rest) clean

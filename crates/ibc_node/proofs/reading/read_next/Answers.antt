@@ -1,15 +1,18 @@
 -- One entry more is read, or the end is found.
-use Rattle.std.proofs.Common.{Ok, take, sym, ap, subst, arith}
+use Rattle.std.proofs.Common.{◌≡◌, Ok, take, sym, ap, subst, arith}
 use Rattle.std.proofs.lemmas.Result.{err_from_is_err_and}
-use Rattle.sqlite.specs.State.{HasCleanDisk}
+use Rattle.sqlite.specs.State.{HasCleanDisk, IsUnchanged}
 use Rattle.sqlite.specs.Held.{state}
 use Rattle.ibc_journal.specs.Entries.{item}
-use Rattle.ibc_journal.proofs.Whole.{nothing_then}
+use Rattle.ibc_journal.proofs.Whole.{nothing_then, keeps_once, unchanged_then}
 use Rattle.ibc_journal.proofs.Chained.{reads_end}
 use Rattle.ibc_journal.specs.declared.cursor.Cursor.{Cursor}
 use Rattle.ibc_node.specs.Kept.{HasReplayed}
-use Rattle.ibc_node.proofs.Beside.{keeps_once, unchanged_then, reads_one}
-use Rattle.ibc_node.proofs.Unlawful.{stops_as_kept}
+use Rattle.ibc_node.specs.Marks.{marks_from}
+use Rattle.ibc_node.specs.Audits.{StopsAtItem}
+use Rattle.ibc_node.proofs.Beside.{reads_one}
+use Rattle.ibc_node.proofs.Marked.{marks_more}
+use Rattle.ibc_node.proofs.Unlawful.{on_differs, stops_as_kept}
 use Rattle.ibc_node.proofs.reading.read_next.Goals as goal
 
 pub returns-in_ok-replay_entry-in-Ok-Some-clause-replayed : goal.returns-in_ok-replay_entry-in-Ok-Some-clause-replayed
@@ -62,3 +65,19 @@ returns-in_err-end_at-in-Ok-None-clause-crash g c =
     let old = state g.S.Store c.args.conn.now in
     let mid = state g.S.Store c.next.new.conn in
     nothing_then old mid (state g.S.Store c.end_at.new.conn) (keeps_once old mid c.in-Ok-None.ensures.same) c.next.ensures.crash c.end_at.ensures.crash
+
+pub returns-in_ok-replay_entry-in-Ok-Some-clause-marked : goal.returns-in_ok-replay_entry-in-Ok-Some-clause-marked
+returns-in_ok-replay_entry-in-Ok-Some-clause-marked g c genesis items has read so_far clean =
+    let found = rw c.in-Ok-Some.field-0-is at (c.in-Ok-Some.ensures.entry genesis items has read clean).0 in
+    marks_more items c.args.past.now.end.place c.next.new.cursor.place c.args.past.now.marks.items c.mark.new.marks.items (item c.in-Ok-Some.kept) so_far found c.in_ok-mark-in-Ok-Some.ensures
+    (rw c.in-Ok-Some.field-0-is at c.in-Ok-Some.ensures.more)
+
+pub returns-in_ok-end_at-in-Ok-None-clause-marked : goal.returns-in_ok-end_at-in-Ok-None-clause-marked
+returns-in_ok-end_at-in-Ok-None-clause-marked g c genesis items has read so_far clean =
+    subst (λ (end : Cursor). c.args.past.now.marks.items ≡ marks_from 0 (take end.place items)) (sym (c.in-Ok-None.ensures.end (ap Ok c.in-Ok-None.field-0-is))) so_far
+
+pub returns-in_err-replay_entry-in-Ok-Some-clause-left : goal.returns-in_err-replay_entry-in-Ok-Some-clause-left
+returns-in_err-replay_entry-in-Ok-Some-clause-left g c genesis items has clean =
+    let p = err_from_is_err_and c.from_residual-in_err-replay_entry-in-Ok-Some.result c.from_residual-in_err-replay_entry-in-Ok-Some.ensures.1 in
+    rw (p.1, p.2) (on_differs (StopsAtItem c.args.past.now.world c.args.past.now.end.place (item c.in-Ok-Some.kept) c.replay_entry.new.world) (IsUnchanged (state g.S.Store c.args.conn.now) (state g.S.Store c.next.new.conn)) _
+    (c.in-Ok-Some.ensures.same genesis items has clean) c.in_err-replay_entry-in-Ok-Some.ensures.differs)

@@ -10,7 +10,7 @@ use Rattle.ibc_machine.specs.ledger.Replay.{proof_evidence}
 use Rattle.ibc_machine.proofs.PassedChecks.{pass, fail}
 use Rattle.ibc_records.specs.RecordsModel.{core_of}
 use Rattle.ibc_records.specs.HandlerContract.{host_with}
-use Rattle.ibc_client.proofs.Judging.{stops_at, refuses}
+use Rattle.ibc_records.proofs.Judging.{stops_at, refuses}
 use Rattle.ibc_note.proofs.Sends.{note_rest, note_row, note_found}
 use Rattle.ibc_note.proofs.sending.judge_note.Goals as goal
 

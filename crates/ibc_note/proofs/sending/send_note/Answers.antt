@@ -8,7 +8,7 @@ use Rattle.ibc_machine.specs.chain.Records.{Commitment}
 use Rattle.ibc_machine.specs.ledger.Replay.{proof_evidence}
 use Rattle.ibc_records.specs.RecordsModel.{core_of}
 use Rattle.ibc_records.specs.HandlerContract.{host_with}
-use Rattle.ibc_client.proofs.Judging.{untaken}
+use Rattle.ibc_records.proofs.Judging.{untaken}
 use Rattle.ibc_note.proofs.Sends.{note_taken}
 use Rattle.ibc_note.proofs.sending.send_note.Goals as goal
 

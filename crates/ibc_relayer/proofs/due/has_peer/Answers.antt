@@ -1,7 +1,7 @@
 -- The tests of two texts are the definitions' own. The names of channels are compared first, since most ports are the same.
 use Rattle.std.proofs.Common.{◌≡◌, ◌&&◌, Bool, true, false, refl, ap, ◌∙◌}
 use Rattle.std.specs.Str.{bytes_eq}
-use Rattle.ibc_packet.proofs.OwnEnd.{peer_named}
+use Rattle.ibc_records.proofs.OwnEnd.{peer_named}
 use Rattle.ibc_relayer.proofs.due.has_peer.Goals as goal
 
 and_true : (b : Bool) → b ≡ (b && true)

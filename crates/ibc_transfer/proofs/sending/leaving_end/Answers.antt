@@ -9,7 +9,7 @@ use Rattle.ibc_machine.specs.ledger.Replay.{proof_evidence}
 use Rattle.ibc_machine.proofs.PassedChecks.{pass, fail}
 use Rattle.ibc_records.specs.RecordsModel.{core_of}
 use Rattle.ibc_records.specs.HandlerContract.{host_with}
-use Rattle.ibc_client.proofs.Judging.{stops_at, refuses}
+use Rattle.ibc_records.proofs.Judging.{stops_at, refuses}
 use Rattle.ibc_transfer.specs.TransferChecks.{abstract_outgoing, require_channel}
 use Rattle.ibc_transfer.proofs.Sends.{leave_rest, leave_row, leave_found}
 use Rattle.ibc_transfer.proofs.sending.leaving_end.Goals as goal

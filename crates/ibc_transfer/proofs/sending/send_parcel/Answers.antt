@@ -5,7 +5,7 @@ use Rattle.ibc_machine.specs.declared.reply.Effect.TheVariants as effect
 use Rattle.ibc_machine.specs.ledger.Replay.{proof_evidence}
 use Rattle.ibc_records.specs.RecordsModel.{core_of}
 use Rattle.ibc_records.specs.HandlerContract.{host_with}
-use Rattle.ibc_packet.proofs.TakenPackets.{untaken_with}
+use Rattle.ibc_records.proofs.TakenPackets.{untaken_with}
 use Rattle.ibc_transfer.specs.TransferChecks.{abstract_outgoing, send_handler}
 use Rattle.ibc_transfer.proofs.Sends.{sends_refused, unpaid, parcel_taken}
 use Rattle.ibc_transfer.proofs.sending.send_parcel.Goals as goal

@@ -3,7 +3,7 @@
 //!
 //!     steady PACKETS
 use ibcworld::{relay, Genesis, Ledger, Message, Refused, Relayed};
-use library_examples::{open, transfer, Failure};
+use library_examples::{open, spent, transfer, Failure};
 
 /// The time of all blocks.
 const TIME: u64 = 1;
@@ -23,17 +23,6 @@ fn round(x: &mut Ledger, y: &mut Ledger, sent: &[u8], done: &mut Relayed) -> Res
         x.apply_bytes(sent)?;
     }
     relay(x, y, TIME, done)
-}
-
-extern "C" {
-    /// The C library's count of what this program took of the processor, in millionths of a second.
-    fn clock() -> i64;
-}
-
-/// The seconds of processor that this program took until now.
-fn spent() -> f64 {
-    // SAFETY: the call takes nothing.
-    unsafe { clock() as f64 / 1e6 }
 }
 
 fn events(x: &Ledger, y: &Ledger) -> Result<usize, Refused> {

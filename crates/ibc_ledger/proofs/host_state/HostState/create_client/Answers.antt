@@ -1,5 +1,5 @@
 use Rattle.ibc_ledger.proofs.Common.{refl, sym, ap, ◌∙◌, Ok, Err, None, nth_client, proof_evidence, handle, create_client, host_with, core_of}
-use Rattle.ibc_client.proofs.TakenUpdates.{created_taken}
+use Rattle.ibc_records.proofs.TakenUpdates.{created_taken}
 use Rattle.ibc_machine.specs.declared.reply.Effect.TheVariants as effect
 use Rattle.ibc_ledger.proofs.Answered.{core_answered, no_memory, passed_on}
 use Rattle.ibc_ledger.proofs.host_state.HostState.create_client.Goals as goal

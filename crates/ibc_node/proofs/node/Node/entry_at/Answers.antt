@@ -3,6 +3,7 @@ use Rattle.std.proofs.Common.{arith}
 use Rattle.sqlite.specs.State.{HasCleanDisk}
 use Rattle.sqlite.specs.Held.{state}
 use Rattle.ibc_node.proofs.Beside.{stays_at_rest}
+use Rattle.ibc_node.proofs.Staying.{keeps_settled}
 use Rattle.ibc_node.proofs.node.Node.entry_at.Goals as goal
 
 pub returns-clause-found : goal.returns-clause-found
@@ -19,3 +20,9 @@ returns-clause-rest g c genesis items rest beside clean =
     let calm : HasCleanDisk mid = omega (arith, c.entry_at.ensures.crash.clean, clean) in
     let here = c.in_ok-settle.ensures.committed genesis items rest beside calm in
     stays_at_rest mid new genesis _ (c.in_ok-entry_at.ensures.same genesis _ here.journal clean) here
+
+pub returns-clause-keeps : goal.returns-clause-keeps
+returns-clause-keeps g c =
+    let one = c.settle.ensures.crash.clean in
+    let two = c.entry_at.ensures.crash.clean in
+    keeps_settled (state g.S.Store) c.args.self.now _ (omega (arith, one, two)) (returns-clause-rest g c) c.in_ok-settle.ensures.none c.settle.ensures.world c.settle.ensures.end c.settle.ensures.marks c.settle.ensures.genesis

@@ -1,5 +1,5 @@
 -- What waits is put in, and then the journal has all that the world keeps.
-use Rattle.std.proofs.Common.{◌≡◌, ◌+◌, ◌++◌, [], length, sym, ap, ◌∙◌, subst, append-nil}
+use Rattle.std.proofs.Common.{◌≡◌, ◌+◌, ◌++◌, [], length, refl, sym, ap, ◌∙◌, subst, append-nil}
 use Rattle.sqlite.specs.State.{Survives}
 use Rattle.sqlite.specs.Held.{state}
 use Rattle.sqlite.proofs.StateLemmas.{survives_weaker}
@@ -7,8 +7,10 @@ use Rattle.ibc_journal.specs.Entries.{items_of}
 use Rattle.ibc_journal.specs.Crashes.{LeavesWith}
 use Rattle.ibc_journal.specs.Restarts.{IsAtRest}
 use Rattle.ibc_journal.specs.Tables.{IsJournal}
+use Rattle.ibc_journal.proofs.Restarted.{lasts_at_rest}
 use Rattle.ibc_journal.proofs.Whole.{survives_same}
 use Rattle.ibc_node.proofs.Beside.{first_behind, none_among, at_rest_with, leaves_waiting}
+use Rattle.ibc_node.proofs.Staying.{keeps_same, keeps_settled}
 use Rattle.ibc_node.proofs.node.Node.settle.Goals as goal
 
 pub returns-then-is_empty-clause-committed : goal.returns-then-is_empty-clause-committed
@@ -35,6 +37,7 @@ returns-clause-committed g c genesis items rest beside clean =
     let at = first_behind genesis was.world items was.waiting.items was.end c.in-Some.first beside counts in
     at_rest_with new genesis (items ++ items_of was.waiting.items)
     (subst (λ w. IsJournal new.committed genesis (items ++ items_of w)) value (c.in_ok-append.ensures.committed genesis items rest.journal at clean)) (c.in_ok-append.ensures.seen clean) (c.in_ok-append.ensures.outside clean)
+    (c.in_ok-append.ensures.is_open clean)
 
 pub returns-clause-crash : goal.returns-clause-crash
 returns-clause-crash g c =
@@ -55,3 +58,18 @@ returns-in_err-append-clause-crash g c =
     let counts : was.end.place ≡ c.in-Some.first + length was.waiting.items = sym (ap (λ w. c.in-Some.first + length w) (sym value) ∙ c.in-Some.ensures) in
     survives_weaker old new _ _ (λ clean db may. leaves_waiting old was.world was.waiting.items was.end c.in-Some.first counts db may)
     (subst (λ w. Survives old new (LeavesWith old c.in-Some.first (items_of w))) value c.append.ensures.crash)
+
+pub returns-then-is_empty-clause-keeps : goal.returns-then-is_empty-clause-keeps
+returns-then-is_empty-clause-keeps g c = keeps_same (state g.S.Store) c.args.self.now
+
+pub returns-clause-keeps : goal.returns-clause-keeps
+returns-clause-keeps g c = keeps_settled (state g.S.Store) c.args.self.now _ c.append.ensures.crash.clean (returns-clause-committed g c) c.clear.ensures.items refl refl refl refl
+
+pub returns-then-is_empty-clause-lasts : goal.returns-then-is_empty-clause-lasts
+returns-then-is_empty-clause-lasts g c genesis items rest beside clean =
+    let was = c.args.self.now in
+    lasts_at_rest g.S.Store g.met.S.Store.settled was.conn genesis (items ++ items_of was.waiting.items) (returns-then-is_empty-clause-committed g c genesis items rest beside clean)
+
+pub returns-clause-lasts : goal.returns-clause-lasts
+returns-clause-lasts g c genesis items rest beside clean =
+    lasts_at_rest g.S.Store g.met.S.Store.settled c.append.new.conn genesis (items ++ items_of c.args.self.now.waiting.items) (returns-clause-committed g c genesis items rest beside clean)

@@ -1,21 +1,59 @@
 -- The world goes on, and what it kept waits.
-use Rattle.std.proofs.Common.{Some, sym, ap, subst}
+use Rattle.std.proofs.Common.{◌≡◌, ◌++◌, Some, refl, sym, ap, ◌∙◌, subst, append-nil}
+use Rattle.sqlite.specs.Held.{state}
+use Rattle.ibc_machine.specs.ledger.Ledgers.{chain_of}
 use Rattle.ibc_journal.specs.Entries.{item, items_of}
 use Rattle.ibc_node.specs.declared.node.KeptAnswer.{KeptAnswer}
-use Rattle.ibc_node.specs.Nodes.{TakesOn}
+use Rattle.ibc_node.specs.Marks.{marks_by, marks_at}
+use Rattle.ibc_node.specs.Nodes.{HasAnswerAt, HasGrown, TakesOn}
 use Rattle.ibc_node.proofs.Beside.{takes_nothing, takes_item}
+use Rattle.ibc_node.proofs.Staying.{keeps_taken}
+use Rattle.ibc_node.proofs.Told.{grown_asked, told_none, told_item}
 use Rattle.ibc_node.proofs.node.Node.take.Goals as goal
 
 pub returns-in-NotKept-clause-taken : goal.returns-in-NotKept-clause-taken
 returns-in-NotKept-clause-taken g c genesis items beside =
-    takes_nothing genesis c.args.self.now.world c.ask.new.world items (items_of c.args.self.now.waiting.items) c.args.self.now.end c.args.event c.not_kept.result c.in-NotKept.refusal beside
-    (rw c.in-NotKept.is at c.in_ok-asked.ensures) c.not_kept.ensures.place c.not_kept.ensures.reply
+    takes_nothing c.args.log_place genesis c.args.self.now.world c.ask.new.world items (items_of c.args.self.now.waiting.items) c.args.self.now.end c.args.event c.not_kept.result c.in-NotKept.refusal beside
+    (rw c.in-NotKept.is at c.in_ok-asked.ensures.asked) c.not_kept.ensures.place c.not_kept.ensures.reply
 
 pub returns-in-Ok-clause-taken : goal.returns-in-Ok-clause-taken
 returns-in-Ok-clause-taken g c genesis items beside =
     let was = c.args.self.now in
     let now = c.wait_with.new.self in
     let answer : KeptAnswer = record { place = Some c.in-Ok.place; reply = c.in-Kept.reply } in
-    subst (λ w. TakesOn genesis items (items_of was.waiting.items) was.world was.end c.args.event answer w (items_of now.waiting.items) now.end) (sym c.wait_with.ensures.world)
-    (takes_item genesis was.world c.ask.new.world items (items_of was.waiting.items) (items_of now.waiting.items) was.end now.end c.args.event answer (item c.in-Kept.entry) beside
-    (rw c.in-Kept.is at c.in_ok-asked.ensures) (ap Some c.in-Ok.ensures.place) c.in-Ok.ensures.waits c.in-Ok.ensures.end)
+    subst (λ w. TakesOn c.args.log_place genesis items (items_of was.waiting.items) was.world was.end c.args.event answer w (items_of now.waiting.items) now.end) (sym c.wait_with.ensures.world)
+    (takes_item c.args.log_place genesis was.world c.ask.new.world items (items_of was.waiting.items) (items_of now.waiting.items) was.end now.end c.args.event answer (item c.in-Kept.entry) beside
+    (rw c.in-Kept.is at c.in_ok-asked.ensures.asked) (ap Some c.in-Ok.ensures.place) c.in-Ok.ensures.waits c.in-Ok.ensures.end (rw c.in-Kept.is at c.in_ok-asked.ensures.by))
+
+pub returns-in-NotKept-clause-told : goal.returns-in-NotKept-clause-told
+returns-in-NotKept-clause-told g c genesis items beside = told_none c.ask.new.world (chain_of c.args.event) c.not_kept.result c.not_kept.ensures.place
+
+pub returns-in-Ok-clause-told : goal.returns-in-Ok-clause-told
+returns-in-Ok-clause-told g c genesis items beside =
+    let was = c.args.self.now in
+    subst (λ w. HasAnswerAt w c.in-Ok.place (chain_of c.args.event) c.in-Kept.reply) (sym c.wait_with.ensures.world)
+    (told_item genesis items was.world c.ask.new.world was.end was.end.last c.args.event c.in-Kept.reply (item c.in-Kept.entry) c.in-Ok.place beside (rw c.in-Kept.is at c.in_ok-asked.ensures.asked) c.in-Ok.ensures.place)
+
+pub returns-in-NotKept-clause-marked : goal.returns-in-NotKept-clause-marked
+returns-in-NotKept-clause-marked g c =
+    let marks = c.args.self.now.marks.items in
+    subst (λ place. marks ≡ marks ++ marks_at c.args.log_place place) (sym c.not_kept.ensures.place) (sym (append-nil marks))
+
+pub returns-in-Ok-clause-marked : goal.returns-in-Ok-clause-marked
+returns-in-Ok-clause-marked g c =
+    let marks = c.args.self.now.marks.items in
+    c.in-Ok.ensures.marked ∙ ap (λ place. marks ++ marks_by c.args.log_place place) (sym c.in-Ok.ensures.place)
+
+pub returns-in-NotKept-clause-keeps : goal.returns-in-NotKept-clause-keeps
+returns-in-NotKept-clause-keeps g c =
+    let was = c.args.self.now in
+    keeps_taken (state g.S.Store) was _ c.args.log_place c.args.event c.not_kept.result refl (returns-in-NotKept-clause-taken g c) (returns-in-NotKept-clause-marked g c)
+    (grown_asked was.world c.ask.new.world was.end.last c.args.event c.in_ok-asked.asked c.in_ok-asked.ensures.asked) refl
+
+pub returns-in-Ok-clause-keeps : goal.returns-in-Ok-clause-keeps
+returns-in-Ok-clause-keeps g c =
+    let was = c.args.self.now in
+    let answer : KeptAnswer = record { place = Some c.in-Ok.place; reply = c.in-Kept.reply } in
+    keeps_taken (state g.S.Store) was c.wait_with.new.self c.args.log_place c.args.event answer c.wait_with.ensures.journal (returns-in-Ok-clause-taken g c) (returns-in-Ok-clause-marked g c)
+    (subst (HasGrown was.world) (sym c.wait_with.ensures.world) (grown_asked was.world c.ask.new.world was.end.last c.args.event c.in_ok-asked.asked c.in_ok-asked.ensures.asked))
+    c.wait_with.ensures.genesis

@@ -6,7 +6,7 @@ use Rattle.ibc_ids.specs.Maps.{with}
 use Rattle.ibc_ids.proofs.Maps.{keys_of-with}
 use Rattle.ibc_machine.specs.chain.Records.{Channel, with_number}
 use Rattle.ibc_machine.specs.ics04.Packets.{is_ordered}
-use Rattle.ibc_records.proofs.Receiving.{where_ok, received_in_order, received_in_any}
+use Rattle.ibc_records.proofs.ReceivedPackets.{where_ok, received_in_order, received_in_any}
 use Rattle.ibc_records.proofs.channel.Channel.receive.Goals.{then-in_order, else-in_order}
 use Rattle.ibc_records.proofs.channel.Channel.receive.Goals as goal
 

@@ -1,5 +1,5 @@
 use Rattle.std.proofs.Common.{subst}
-use Rattle.ibc_theorem.specs.EveryWorld.{IsLawfulUnlessClash}
+use Rattle.ibc_world_core.specs.EveryWorld.{IsLawfulUnlessClash}
 use Rattle.ibc_script_worlds.proofs.worlds.WorldFactoryWorlds.lemma_keeps.Goals as goal
 
 pub returns : goal.returns

@@ -1,9 +1,0 @@
--- Where there is no connection, no client has the empty name.
-use Rattle.std.proofs.Common.{sym}
-use Rattle.ibc_records.specs.RecordsModel.{core_of}
-use Rattle.ibc_client.proofs.Connections.{known_nowhere}
-use Rattle.ibc_client.proofs.evidence.known_connection.Goals as goal
-
-pub returns-in_default-clause-failed : goal.returns-in_default-clause-failed
-returns-in_default-clause-failed c =
-    known_nowhere (core_of c.args.records.now) c.args.connection.now c.lemma_names_have_form.ensures c.args.height (sym c.in_default.ensures)

@@ -1,0 +1,4 @@
+pub mod Along
+pub mod Texts
+pub mod Served
+pub mod NodeRuns

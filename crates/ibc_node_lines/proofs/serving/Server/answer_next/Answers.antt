@@ -1,0 +1,15 @@
+-- Where there is no line, nothing is done.
+use Rattle.sqlite.specs.Held.{state}
+use Rattle.ibc_node.proofs.Staying.{keeps_same}
+use Rattle.ibc_node.proofs.Told.{tells_same}
+use Rattle.ibc_node_lines.specs.Told.{answers_in}
+use Rattle.ibc_node_lines.proofs.serving.Server.answer_next.Goals as goal
+
+pub returns-then-not-branch : goal.returns-then-not-branch
+returns-then-not-branch g c =
+    let shows = state g.S.Store in
+    let was = c.args.self.now in
+    tells_same shows was.desk.node was.desk.node (answers_in was.told.items) (keeps_same shows was.desk.node)
+
+pub returns : goal.returns
+returns g c = c.in_ok-answer.ensures

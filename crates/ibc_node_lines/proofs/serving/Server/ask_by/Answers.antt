@@ -1,0 +1,4 @@
+use Rattle.ibc_node_lines.proofs.serving.Server.ask_by.Goals as goal
+
+pub returns-clause-answers : goal.returns-clause-answers
+returns-clause-answers g c = c.in_ok-act.ensures

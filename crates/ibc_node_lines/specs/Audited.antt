@@ -1,0 +1,20 @@
+-- How the telling of what an audit found ends.
+use Rattle.std.specs.Prelude.{◌≡◌, Result, Err, ⊤}
+use Rattle.ibc_replay.specs.declared.replaying.Difference.{Difference}
+use Rattle.ibc_replay.specs.declared.replaying.Difference.TheVariants as difference
+use Rattle.ibc_node.specs.declared.fault.NodeFault.{NodeFault}
+use Rattle.ibc_node.specs.declared.fault.NodeFault.TheVariants as fault
+use Rattle.ibc_node.specs.declared.auditing.JournalAudit.{JournalAudit}
+use Rattle.ibc_node.specs.declared.auditing.JournalAudit.TheVariants as found
+
+-- the fault that a difference is: it names the first place that differs
+abbrev pub fault_of : Difference → NodeFault
+fault_of (difference.At place due stored) = fault.OtherAnswer place
+fault_of (difference.UnknownChain place stored) = fault.OtherAnswer place
+fault_of difference.NoGenesis = fault.BadGenesis
+fault_of difference.NoMemory = fault.NoMemory
+
+-- Where a difference was found, the telling ends with its fault, whether or not the line could be written.
+abbrev pub EndsAsFound : JournalAudit → Result ⊤ NodeFault → Type 0
+EndsAsFound (found.Lawful entries) told = ⊤
+EndsAsFound (found.Differs why) told = told ≡ Err (fault_of why)

@@ -1,0 +1,4 @@
+pub mod Audited
+pub mod Desks
+pub mod Told
+pub mod Runs

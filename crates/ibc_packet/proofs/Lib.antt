@@ -1,4 +1,0 @@
-pub mod OwnEnd
-pub mod Limits
-pub mod PacketChecks
-pub mod TakenPackets

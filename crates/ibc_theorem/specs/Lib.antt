@@ -1,2 +1,0 @@
-pub mod EveryWorld
-pub mod EveryAudit

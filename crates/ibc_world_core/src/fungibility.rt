@@ -1,0 +1,30 @@
+//! The totals of a channel, and what they come to.
+
+ghost use Rattle.std.specs.Prelude.{◌≡◌, ◌+◌, ◌⊎◌, Ok, Err, IfOk, IfErr};
+ghost use Rattle.ibc_ids.specs.declared.refusal.Refusal.TheVariants.{NoMemory};
+ghost use Rattle.ibc_machine.specs.ics23.HashedTexts.{HasNoClash};
+ghost use Rattle.ibc_machine.specs.promises.Totals.{totals};
+ghost use Rattle.ibc_world_core.specs.Totals.{abstract_totals};
+ghost use Rattle.ibc_world_core.specs.EveryWorld.{states_of};
+
+use crate::{World, lemma_what_every_world_keeps};
+use ibc_ids::{ChannelId, Denom, Refusal};
+use ibc_machine::Totals;
+
+/// What `World::totals` answers. Where no two different texts that the chains hashed share a digest, the escrow of the channel
+/// holds just its vouchers at the peer and what is under way there and back (ICS 20, fungibility). It reads all balances, to
+/// know that no account holds a denomination that is too long.
+pub fn balanced_totals(
+    world: &World,
+    chain: u8,
+    channel: &ChannelId,
+    denom: &Denom,
+) -> Result<Totals, Refusal>
+    ensures ok { IfOk result (λ t. totals (states_of world.now) chain channel.now denom.now ≡ Ok (abstract_totals t)) }
+    ensures refused { IfErr result (λ refusal. (refusal ≡ NoMemory) ⊎ (totals (states_of world.now) chain channel.now denom.now ≡ Err refusal)) }
+    ensures balanced { HasNoClash world.now.ledgers → IfOk result (λ t. t.escrow ≡ t.vouchers + t.out + t.back) }
+{
+    lemma_what_every_world_keeps(world);
+    world.lemma_holds_denominations();
+    world.totals(chain, channel, denom)
+}
