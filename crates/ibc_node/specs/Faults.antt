@@ -1,11 +1,12 @@
 -- Which faults a start and an audit may have, and of which journals.
-use Rattle.std.specs.Prelude.{ℕ, List, Option, ⊤}
+use Rattle.std.specs.Prelude.{◌≡◌, ◌≢◌, ℕ, ℤ, pos, List, Option}
+use Rattle.ibc_journal.specs.Tables.{format}
 use Rattle.ibc_node.specs.declared.fault.NodeFault.{NodeFault}
 use Rattle.ibc_node.specs.declared.fault.NodeFault.TheVariants as fault
 use Rattle.ibc_node.specs.Nodes.{IsGiven}
 
--- why a journal that began with this text isn't the one that is asked for: another genesis is given, or the format is another one
-abbrev pub IsOfOther : Option (List ℕ) → List ℕ → NodeFault → Type 0
-IsOfOther genesis text fault.OtherGenesis = ¬ IsGiven genesis text
-IsOfOther genesis text (fault.OtherFormat format) = ⊤
-IsOfOther genesis text _ = ⊥
+-- why a journal that began so isn't the one that is asked for: another genesis is given, or its format has another number
+abbrev pub IsOfOther : Option (List ℕ) → List ℕ → ℤ → NodeFault → Type 0
+IsOfOther genesis text number fault.OtherGenesis = ¬ IsGiven genesis text
+IsOfOther genesis text number (fault.OtherFormat told) = (told ≡ number) × (number ≢ pos format)
+IsOfOther genesis text number _ = ⊥

@@ -1,6 +1,6 @@
 //! A node goes on where its journal ends.
 
-ghost use Rattle.std.specs.Prelude.{◌≡◌, ◌⊎◌, ◌≤◌, [], List, ℕ, Ok, Some, option_copied, IfErr, IfOk, IsTrue, OnOk};
+ghost use Rattle.std.specs.Prelude.{◌≡◌, ◌⊎◌, ◌≤◌, [], List, ℕ, pos, Ok, Some, option_copied, IfErr, IfOk, IsTrue, OnOk};
 ghost use Rattle.sqlite.specs.State.{HasCleanDisk, Survives};
 ghost use Rattle.sqlite.specs.Start.{FindsIn};
 ghost use Rattle.sqlite.specs.View.{doubt};
@@ -268,7 +268,8 @@ pub(crate) fn go_on<S: Alter>(
 /// Whether a journal is of this format, and began with the genesis that is given, where one is.
 pub(crate) fn judge(began: &Beginning, genesis: Option<&[u8]>) -> Result<(), NodeFault>
     ensures asked { OnOk result (IsGiven (option_copied genesis.entry) began.now.genesis.items) }
-    ensures faults { IfErr result (IsOfOther (option_copied genesis.entry) began.now.genesis.items) }
+    ensures numbered { OnOk result (began.now.format ≡ pos 1) }
+    ensures faults { IfErr result (IsOfOther (option_copied genesis.entry) began.now.genesis.items began.now.format) }
 {
     if began.format != i64::from(FORMAT) {
         return Err(NodeFault::OtherFormat(began.format));
