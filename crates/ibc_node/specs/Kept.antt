@@ -41,9 +41,13 @@ pub record KeepsItem (old : WorldState) (before : List ℕ) (event : Event) (rep
   pub stored : IsKeptAs entry it
   pub due : it.digest ≡ digest_after before it
 
+-- some bytes spell the event
+abbrev pub HasSpelling : Event → Type 0
+HasSpelling event = IsTrue (have_form (event_fields event))
+
 -- why an event is not kept as bytes
 abbrev pub WhyNotSpelt : Event → Refusal → Type 0
-WhyNotSpelt event BadMessage = ¬ IsTrue (have_form (event_fields event))
+WhyNotSpelt event BadMessage = ¬ HasSpelling event
 WhyNotSpelt event NoMemory = ⊤
 WhyNotSpelt event _ = ⊥
 

@@ -1,6 +1,6 @@
 //! A world is asked for an event, and what its journal keeps of that is made.
 
-ghost use Rattle.std.specs.Prelude.{◌≡◌, ◌↔◌, ◌⊎◌, ◌<◌, length, map, option_map, IfErr, IfOk, IsErrOf, IsTrue};
+ghost use Rattle.std.specs.Prelude.{◌≡◌, ◌↔◌, ◌⊎◌, ◌<◌, length, map, option_map, IfErr, IfOk, IsErrOf, IsTrue, OnOk};
 ghost use Rattle.ibc_ids.specs.declared.refusal.Refusal.TheVariants.{BadMessage, NoMemory};
 ghost use Rattle.ibc_wire.specs.Fields.{have_form};
 ghost use Rattle.ibc_wire.specs.Messages.{message_fields};
@@ -9,7 +9,7 @@ ghost use Rattle.ibc_machine.specs.ledger.Ledgers.{chain_of};
 ghost use Rattle.ibc_refinement.specs.Steps.{is_answered};
 ghost use Rattle.ibc_journal.specs.Entries.{item};
 ghost use Rattle.ibc_journal.specs.Digests.{digest_after};
-ghost use Rattle.ibc_node.specs.Kept.{bytes_in, IsAsked, IsBy, IsLastEntry, StoresLast, KeepsLast};
+ghost use Rattle.ibc_node.specs.Kept.{bytes_in, HasSpelling, IsAsked, IsBy, IsLastEntry, StoresLast, KeepsLast};
 
 use crate::NodeFault;
 use ibc_entry_codec::{EntryBytes, store};
@@ -101,18 +101,24 @@ fn has_chain(world: &World, chain: u8) -> bool
 }
 
 // Whether an event can be kept. Refused: `BadMessage` where no bytes spell it; `NoMemory`.
+#[tactic(auto, using(crate::proofs::KeptEntries::time_form))]
 fn spell(alloc: Global, event: &Event) -> Result<(), Refusal>
+    ensures ok { OnOk result (HasSpelling event.now) }
     ensures bad { IsErrOf result BadMessage → ¬ IsTrue (have_form (event_fields event.now)) }
     ensures errors { IfErr result (λ e. (e ≡ BadMessage) ⊎ (e ≡ NoMemory)) }
 {
     match event {
         Event::Message { message, .. } => spell_message(alloc, message),
-        Event::Block { .. } => Ok(()),
+        Event::Block { next_time, .. } => {
+            let _time = *next_time;
+            Ok(())
+        }
     }
 }
 
 // Whether bytes spell a message. Refused: `BadMessage` where none do; `NoMemory`.
 fn spell_message(alloc: Global, message: &Message) -> Result<(), Refusal>
+    ensures ok { OnOk result (IsTrue (have_form (message_fields message.now))) }
     ensures bad { IsErrOf result BadMessage → ¬ IsTrue (have_form (message_fields message.now)) }
     ensures errors { IfErr result (λ e. (e ≡ BadMessage) ⊎ (e ≡ NoMemory)) }
 {
