@@ -60,6 +60,11 @@ WhyNotKept old event refusal = WhyNotSpelt event refusal
 abbrev pub IsAskedInVain : WorldState → Event → WorldState → Type 0
 IsAskedInVain old event new = (new ≡ old) ⊎ ((given : Reply) × (is_answered given ≡ false) × AreSteps old (event ∷ []) (given ∷ []) new)
 
+-- nothing is kept, and the world is as it was
+abbrev pub IsNotAsked : WorldState → Asked → WorldState → Type 0
+IsNotAsked old (asked.Kept reply entry) new = ⊥
+IsNotAsked old (asked.NotKept refusal) new = new ≡ old
+
 -- what came of an event
 abbrev pub IsAsked : WorldState → List ℕ → Event → Asked → WorldState → Type 0
 IsAsked old before event (asked.Kept reply entry) new = KeepsItem old before event reply (item entry) new

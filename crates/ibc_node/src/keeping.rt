@@ -1,6 +1,6 @@
 //! A world is asked for an event, and what its journal keeps of that is made.
 
-ghost use Rattle.std.specs.Prelude.{◌≡◌, ◌↔◌, ◌⊎◌, ◌<◌, length, map, option_map, IfErr, IfOk, IsErrOf, IsTrue, OnOk};
+ghost use Rattle.std.specs.Prelude.{◌≡◌, ◌↔◌, ◌⊎◌, ◌<◌, ◌≤◌, length, map, option_map, Ok, IfErr, IfOk, IsErrOf, IsOkAnd, IsTrue, OnOk};
 ghost use Rattle.ibc_ids.specs.declared.refusal.Refusal.TheVariants.{BadMessage, NoMemory};
 ghost use Rattle.ibc_wire.specs.Fields.{have_form};
 ghost use Rattle.ibc_wire.specs.Messages.{message_fields};
@@ -9,7 +9,7 @@ ghost use Rattle.ibc_machine.specs.ledger.Ledgers.{chain_of};
 ghost use Rattle.ibc_refinement.specs.Steps.{is_answered};
 ghost use Rattle.ibc_journal.specs.Entries.{item};
 ghost use Rattle.ibc_journal.specs.Digests.{digest_after};
-ghost use Rattle.ibc_node.specs.Kept.{bytes_in, HasSpelling, IsAsked, IsBy, IsLastEntry, StoresLast, KeepsLast};
+ghost use Rattle.ibc_node.specs.Kept.{bytes_in, HasSpelling, IsAsked, IsNotAsked, IsBy, IsLastEntry, StoresLast, KeepsLast};
 
 use crate::NodeFault;
 use ibc_entry_codec::{EntryBytes, store};
@@ -31,7 +31,8 @@ pub(crate) enum Asked {
     NotKept(Refusal),
 }
 
-/// Asks a world for an event, and makes the entry for its journal, behind one with this digest.
+/// Asks a world for an event, and makes the entry for its journal, behind one with this digest. A world that has no such chain isn't asked,
+/// and none for what no bytes spell.
 pub(crate) fn ask(
     alloc: Global,
     world: &mut World,
@@ -41,6 +42,8 @@ pub(crate) fn ask(
 ) -> Result<Asked, NodeFault>
     ensures asked { IfOk result (λ asked. IsAsked world.old before.now event asked world.new) }
     ensures by { IfOk result (IsBy log_place) }
+    ensures unknown { length world.old.ledgers ≤ chain_of event → result ≡ Ok (Asked.NotKept Refusal.UnknownChain) }
+    ensures unspelt { ¬ HasSpelling event → IsOkAnd result (λ asked. IsNotAsked world.old asked world.new) }
 {
     let chain = chain_of(&event);
     if !has_chain(world, chain) {

@@ -1,6 +1,6 @@
 //! A world beside its journal.
 
-ghost use Rattle.std.specs.Prelude.{◌≡◌, ◌+◌, ◌++◌, ◌∷◌, [], List, ℕ, None, length, option_map, slice_get, IfOk, IfSome, OnOk};
+ghost use Rattle.std.specs.Prelude.{◌≡◌, ◌+◌, ◌≤◌, ◌++◌, ◌∷◌, [], List, ℕ, None, length, option_map, slice_get, IfOk, IfSome, IsOkAnd, OnOk};
 ghost use Rattle.sqlite.specs.State.{HasCleanDisk, Survives};
 ghost use Rattle.sqlite.specs.Held.{state};
 ghost use Rattle.ibc_machine.specs.declared.reply.Reply.TheVariants.{No};
@@ -8,6 +8,7 @@ ghost use Rattle.ibc_machine.specs.ledger.Ledgers.{chain_of};
 ghost use Rattle.ibc_journal.specs.Tables.{JournalItem};
 ghost use Rattle.ibc_journal.specs.Entries.{item, items_of};
 ghost use Rattle.ibc_journal.specs.Crashes.{Lasts};
+ghost use Rattle.ibc_node.specs.Kept.{HasSpelling};
 ghost use Rattle.ibc_node.specs.Marks.{marks_by, marks_at, node_marks};
 ghost use Rattle.ibc_node.specs.Nodes.{node_connection, node_journal, node_world, node_end, node_genesis, node_waiting, with_waiting, HasJournal, HasKept, IsToldIn, IsToldOf, TakesEvent, LeavesAll, StaysBeside, TellsOn};
 
@@ -158,6 +159,9 @@ impl<S: Alter> Node<S> {
             → IfOk result (λ answer. TakesEvent log_place text items self.old event answer self.new) }
         ensures told { (text : List ℕ) (items : List JournalItem) → HasKept text items self.old
             → IfOk result (λ answer. IsToldIn (node_world self.new) (chain_of event, answer)) }
+        // A world that has no such chain isn't asked, and none for what no bytes spell.
+        ensures unknown { length (node_world self.old).ledgers ≤ chain_of event → IsOkAnd result (λ answer. answer.reply ≡ No Refusal.UnknownChain) }
+        ensures unspelt { ¬ HasSpelling event → IsOkAnd result (λ answer. (answer.place ≡ None) × (node_world self.new ≡ node_world self.old)) }
         ensures marked { IfOk result (λ answer. node_marks self.new ≡ node_marks self.old ++ marks_at log_place answer.place) }
         ensures journal { node_connection self.new ≡ node_connection self.old }
         ensures genesis { node_genesis self.new ≡ node_genesis self.old }
