@@ -13,6 +13,7 @@ ghost use Rattle.ibc_journal.specs.Crashes.{LeavesNothing};
 ghost use Rattle.ibc_journal.specs.Restarts.{IsAtRest};
 ghost use Rattle.ibc_node.specs.Kept.{bytes_in, IsKeptAs, HasReplayed, ReplaysOne};
 ghost use Rattle.ibc_node.specs.Marks.{marks_by, marks_from};
+ghost use Rattle.ibc_node.specs.Faults.{fault_at};
 ghost use Rattle.ibc_node.specs.Audits.{IfDiffers, OnDiffers, IsUnreadBy, StopsAtItem, StopsAsKept};
 
 use crate::NodeFault;
@@ -175,7 +176,9 @@ fn unread_by(why: Difference) -> Unread
 }
 
 // Why the entry at a place can't be read: one of its numbers is out of range, or the journal says why.
-fn fault_at(place: u32, fault: JournalFault) -> NodeFault {
+fn fault_at(place: u32, fault: JournalFault) -> NodeFault
+    ensures { result ≡ fault_at place fault }
+{
     match fault {
         JournalFault::Sqlite(Error::IntegralValueOutOfRange(_)) => NodeFault::NoEntry(place),
         fault => NodeFault::Journal(fault),
