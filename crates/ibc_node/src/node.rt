@@ -9,7 +9,7 @@ ghost use Rattle.ibc_journal.specs.Tables.{JournalItem};
 ghost use Rattle.ibc_journal.specs.Entries.{item, items_of};
 ghost use Rattle.ibc_journal.specs.Crashes.{Lasts};
 ghost use Rattle.ibc_node.specs.Kept.{HasSpelling};
-ghost use Rattle.ibc_node.specs.Marks.{marks_by, marks_at, node_marks};
+ghost use Rattle.ibc_node.specs.Marks.{marks_by, marks_at, IsLastPlace, node_marks};
 ghost use Rattle.ibc_node.specs.Nodes.{node_connection, node_journal, node_world, node_end, node_genesis, node_waiting, with_waiting, HasJournal, HasKept, IsToldIn, IsToldOf, TakesEvent, LeavesAll, StaysBeside, TellsOn};
 
 use crate::NodeFault;
@@ -115,6 +115,17 @@ fn places_by(alloc: Global, marks: &[LogMark], log_place: u32) -> Result<Vec<u32
     Ok(places)
 }
 
+// The place of a log in the last of some marks, or 0 where there is none.
+fn last_place(marks: &[LogMark]) -> u32
+    ensures last { IsLastPlace marks.now result }
+    ensures none { marks.now ≡ [] → result ≡ 0 }
+{
+    match marks {
+        [.., last] => last.log_place,
+        [] => 0,
+    }
+}
+
 impl<S: Alter> Node<S> {
     /// How many entries there are, with those that wait.
     pub fn entries(&self) -> u32
@@ -124,11 +135,11 @@ impl<S: Alter> Node<S> {
     }
 
     /// The last place of a log by which an event came of which an entry is kept, or 0.
-    pub fn log_place(&self) -> u32 {
-        match self.marks.as_slice() {
-            [.., last] => last.log_place,
-            [] => 0,
-        }
+    pub fn log_place(&self) -> u32
+        ensures last { IsLastPlace (node_marks self.now) result }
+        ensures none { node_marks self.now ≡ [] → result ≡ 0 }
+    {
+        last_place(self.marks.as_slice())
     }
 
     /// How many entries wait to be put in.
