@@ -1,6 +1,6 @@
 //! The entries of a journal are read back, and each is put to the world again.
 
-ghost use Rattle.std.specs.Prelude.{◌≡◌, ◌++◌, ◌∷◌, [], false, take, length, List, ℕ, IfErr, IfOk, OnOk};
+ghost use Rattle.std.specs.Prelude.{◌≡◌, ◌+◌, ◌++◌, ◌∷◌, [], false, take, length, List, ℕ, IfErr, IfOk, IsTrue, OnOk};
 ghost use Rattle.sqlite.specs.State.{HasCleanDisk, IsUnchanged, Survives};
 ghost use Rattle.sqlite.specs.Held.{state};
 ghost use Rattle.ibc_refinement.specs.World.{WorldState};
@@ -106,6 +106,7 @@ fn read_next<S: Alter>(
     ensures marked { (genesis : List ℕ) (items : List JournalItem) → IsJournal (state S.Store conn.old).now genesis items → HasReadTo genesis items past.old.end
         → past.old.marks.items ≡ marks_from 0 (take past.old.end.place items) → HasCleanDisk (state S.Store conn.new)
         → OnOk result (past.new.marks.items ≡ marks_from 0 (take past.new.end.place items)) }
+    ensures more { IfOk result (λ more. IsTrue more → past.new.end.place ≡ past.old.end.place + 1) }
     ensures end { (genesis : List ℕ) (items : List JournalItem) → IsJournal (state S.Store conn.old).now genesis items → HasReadTo genesis items past.old.end
         → HasCleanDisk (state S.Store conn.new) → IfOk result (λ more. more ≡ false → past.new.end.place ≡ length items) }
     ensures differs { (genesis : List ℕ) (items : List JournalItem) (beginning : WorldState) → IsJournal (state S.Store conn.old).now genesis items → HasReadTo genesis items past.old.end

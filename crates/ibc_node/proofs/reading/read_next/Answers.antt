@@ -81,3 +81,6 @@ returns-in_err-replay_entry-in-Ok-Some-clause-left g c genesis items has clean =
     let p = err_from_is_err_and c.from_residual-in_err-replay_entry-in-Ok-Some.result c.from_residual-in_err-replay_entry-in-Ok-Some.ensures.1 in
     rw (p.1, p.2) (on_differs (StopsAtItem c.args.past.now.world c.args.past.now.end.place (item c.in-Ok-Some.kept) c.replay_entry.new.world) (IsUnchanged (state g.S.Store c.args.conn.now) (state g.S.Store c.next.new.conn)) _
     (c.in-Ok-Some.ensures.same genesis items has clean) c.in_err-replay_entry-in-Ok-Some.ensures.differs)
+
+pub returns-in_ok-replay_entry-in-Ok-Some-clause-more : goal.returns-in_ok-replay_entry-in-Ok-Some-clause-more
+returns-in_ok-replay_entry-in-Ok-Some-clause-more g c more = rw c.in-Ok-Some.field-0-is at c.in-Ok-Some.ensures.more
