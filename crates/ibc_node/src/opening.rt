@@ -1,6 +1,6 @@
 //! A node goes on where its journal ends.
 
-ghost use Rattle.std.specs.Prelude.{◌≡◌, ◌⊎◌, ◌≤◌, [], List, ℕ, pos, Ok, Some, option_copied, IfErr, IfOk, IsTrue, OnOk};
+ghost use Rattle.std.specs.Prelude.{◌≡◌, ◌⊎◌, ◌≤◌, [], List, ℕ, pos, Ok, Some, option_copied, IfErr, IfOk, IsTrue, OnErr, OnOk};
 ghost use Rattle.sqlite.specs.State.{HasCleanDisk, Survives};
 ghost use Rattle.sqlite.specs.Start.{FindsIn};
 ghost use Rattle.sqlite.specs.View.{doubt};
@@ -10,7 +10,7 @@ ghost use Rattle.sqlite.specs.Held.{state};
 ghost use Rattle.ibc_machine.specs.chain.Genesis.{GenesisState, genesis_state, is_allowed};
 ghost use Rattle.ibc_replay.specs.Replays.{IsBeginning};
 ghost use Rattle.ibc_journal.specs.Tables.{no_schema, journal_schema, JournalItem, IsJournal};
-ghost use Rattle.ibc_journal.specs.Crashes.{LeavesBegun, LeavesNothing};
+ghost use Rattle.ibc_journal.specs.Crashes.{KeepsCommitted, LeavesBegun, LeavesNothing};
 ghost use Rattle.ibc_journal.specs.Restarts.{IsAtRest, HoldsJournal};
 ghost use Rattle.ibc_node.specs.Marks.{marks_from, IsMarked};
 ghost use Rattle.ibc_node.specs.Nodes.{HoldsWholeJournal, IsBegun, IsGenesisText, is_given, IsGiven, IsRestarted, node_journal, node_genesis, node_waiting, HasJournal, GoesOnWith, IsFirstStart, BeginsAsGiven};
@@ -167,6 +167,9 @@ pub(crate) fn begin_with<S: Alter>(
     ensures new { (state S.Store conn.old).now.schema ≡ no_schema
         → HasCleanDisk (state S.Store conn.new) → IfOk result (λ start. IsAtRest (state S.Store conn.new) start.genesis.items []) }
     ensures unmarked { IfOk result (λ start. start.marks.items ≡ []) }
+    // After an error nothing is committed, as far as the connection is still open.
+    ensures refused { (state S.Store conn.old).now.schema ≡ no_schema
+        → HasCleanDisk (state S.Store conn.new) → OnErr result (KeepsCommitted (state S.Store conn.old) (state S.Store conn.new)) }
     ensures crash { Survives (state S.Store conn.old) (state S.Store conn.new) (LeavesBegun (state S.Store conn.old) genesis.now) }
 {
     let text = Vec::from_slice(alloc, genesis)?;

@@ -1,7 +1,9 @@
 -- A world begins, and its journal with it.
-use Rattle.std.proofs.Common.{[], sym, subst}
+use Rattle.std.proofs.Common.{[], refl, sym, subst}
 use Rattle.sqlite.specs.Held.{state}
 use Rattle.ibc_journal.specs.Restarts.{IsAtRest}
+use Rattle.ibc_journal.specs.Crashes.{KeepsCommitted}
+use Rattle.ibc_journal.proofs.Transactions.{on_error}
 use Rattle.ibc_journal.proofs.Whole.{survives_same}
 use Rattle.ibc_node.specs.Nodes.{IsBegun}
 use Rattle.ibc_node.proofs.Beside.{begun, at_rest_with}
@@ -26,3 +28,20 @@ returns-in_err-world-clause-crash g c = survives_same (state g.S.Store c.args.co
 
 pub returns-clause-given : goal.returns-clause-given
 returns-clause-given g c = c.in_ok-text.ensures.items
+
+pub returns-in_err-text-clause-refused : goal.returns-in_err-text-clause-refused
+returns-in_err-text-clause-refused g c none clean =
+    let old = state g.S.Store c.args.conn.now in
+    let kept : KeepsCommitted old old = λ live. refl in
+    on_error _ _ kept
+
+pub returns-in_err-world-clause-refused : goal.returns-in_err-world-clause-refused
+returns-in_err-world-clause-refused g c none clean =
+    let old = state g.S.Store c.args.conn.now in
+    let kept : KeepsCommitted old old = λ live. refl in
+    on_error _ _ kept
+
+pub returns-in_err-begin-clause-refused : goal.returns-in_err-begin-clause-refused
+returns-in_err-begin-clause-refused g c none clean =
+    let kept : KeepsCommitted (state g.S.Store c.args.conn.now) (state g.S.Store c.begin.new.conn) = c.in_err-begin.ensures.none none clean in
+    on_error _ _ kept
