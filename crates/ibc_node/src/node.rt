@@ -1,13 +1,13 @@
 //! A world beside its journal.
 
-ghost use Rattle.std.specs.Prelude.{◌≡◌, ◌+◌, ◌≤◌, ◌++◌, ◌∷◌, [], List, ℕ, None, length, option_map, slice_get, IfOk, IfSome, IsOkAnd, OnOk};
+ghost use Rattle.std.specs.Prelude.{◌≡◌, ◌+◌, ◌≤◌, ◌++◌, ◌∷◌, [], List, ℕ, None, length, option_map, slice_get, IfOk, IfSome, IsOkAnd, OnErr, OnOk};
 ghost use Rattle.sqlite.specs.State.{HasCleanDisk, Survives};
 ghost use Rattle.sqlite.specs.Held.{state};
 ghost use Rattle.ibc_machine.specs.declared.reply.Reply.TheVariants.{No};
 ghost use Rattle.ibc_machine.specs.ledger.Ledgers.{chain_of};
 ghost use Rattle.ibc_journal.specs.Tables.{JournalItem};
 ghost use Rattle.ibc_journal.specs.Entries.{item, items_of};
-ghost use Rattle.ibc_journal.specs.Crashes.{Lasts};
+ghost use Rattle.ibc_journal.specs.Crashes.{KeepsCommitted, Lasts};
 ghost use Rattle.ibc_node.specs.Kept.{HasSpelling};
 ghost use Rattle.ibc_node.specs.Marks.{marks_by, marks_at, IsLastPlace, node_marks};
 ghost use Rattle.ibc_node.specs.Nodes.{node_connection, node_journal, node_world, node_end, node_genesis, node_waiting, with_waiting, HasJournal, HasKept, IsToldIn, IsToldOf, TakesEvent, LeavesAll, StaysBeside, TellsOn};
@@ -230,6 +230,10 @@ impl<S: Alter> Node<S> {
         ensures lasts { (text : List ℕ) (items : List JournalItem) → HasJournal (state S.Store) text items self.old
             → HasKept text (with_waiting items self.old) self.old
             → HasCleanDisk (node_journal (state S.Store) self.new) → OnOk result (Lasts (node_journal (state S.Store) self.new) text (with_waiting items self.old)) }
+        // After an error nothing of them is committed, as far as the connection is still open.
+        ensures refused { (text : List ℕ) (items : List JournalItem) → HasJournal (state S.Store) text items self.old
+            → HasKept text (with_waiting items self.old) self.old
+            → HasCleanDisk (node_journal (state S.Store) self.new) → OnErr result (KeepsCommitted (node_journal (state S.Store) self.old) (node_journal (state S.Store) self.new)) }
         ensures none { OnOk result (node_waiting self.new ≡ []) }
         ensures world { node_world self.new ≡ node_world self.old }
         ensures end { node_end self.new ≡ node_end self.old }

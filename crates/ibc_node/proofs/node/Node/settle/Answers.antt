@@ -4,10 +4,11 @@ use Rattle.sqlite.specs.State.{Survives}
 use Rattle.sqlite.specs.Held.{state}
 use Rattle.sqlite.proofs.StateLemmas.{survives_weaker}
 use Rattle.ibc_journal.specs.Entries.{items_of}
-use Rattle.ibc_journal.specs.Crashes.{LeavesWith}
+use Rattle.ibc_journal.specs.Crashes.{KeepsCommitted, LeavesWith}
 use Rattle.ibc_journal.specs.Restarts.{IsAtRest}
 use Rattle.ibc_journal.specs.Tables.{IsJournal}
 use Rattle.ibc_journal.proofs.Restarted.{lasts_at_rest}
+use Rattle.ibc_journal.proofs.Transactions.{on_error}
 use Rattle.ibc_journal.proofs.Whole.{survives_same}
 use Rattle.ibc_node.proofs.Beside.{first_behind, none_among, at_rest_with, leaves_waiting}
 use Rattle.ibc_node.proofs.Staying.{keeps_same, keeps_settled}
@@ -73,3 +74,15 @@ returns-then-is_empty-clause-lasts g c genesis items rest beside clean =
 pub returns-clause-lasts : goal.returns-clause-lasts
 returns-clause-lasts g c genesis items rest beside clean =
     lasts_at_rest g.S.Store g.met.S.Store.settled c.append.new.conn genesis (items ++ items_of c.args.self.now.waiting.items) (returns-clause-committed g c genesis items rest beside clean)
+
+pub returns-in_default-clause-refused : goal.returns-in_default-clause-refused
+returns-in_default-clause-refused g c genesis items rest beside clean live = refl
+
+pub returns-in_err-append-clause-refused : goal.returns-in_err-append-clause-refused
+returns-in_err-append-clause-refused g c genesis items rest beside clean =
+    let was = c.args.self.now in
+    let value = c.as_slice-waiting.ensures.value in
+    let counts : was.end.place ≡ c.in-Some.first + length was.waiting.items = sym (ap (λ w. c.in-Some.first + length w) (sym value) ∙ c.in-Some.ensures) in
+    let at = first_behind genesis was.world items was.waiting.items was.end c.in-Some.first beside counts in
+    let kept : KeepsCommitted (state g.S.Store was.conn) (state g.S.Store c.append.new.conn) = c.in_err-append.ensures.none genesis items rest.journal at clean in
+    on_error _ _ kept
