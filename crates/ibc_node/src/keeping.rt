@@ -42,6 +42,7 @@ pub(crate) fn ask(
 ) -> Result<Asked, NodeFault>
     ensures asked { IfOk result (λ asked. IsAsked world.old before.now event asked world.new) }
     ensures by { IfOk result (IsBy log_place) }
+    ensures faults { IfErr result (λ fault. fault ≡ NodeFault.NoMemory) }
     ensures unknown { length world.old.ledgers ≤ chain_of event → result ≡ Ok (Asked.NotKept Refusal.UnknownChain) }
     ensures unspelt { ¬ HasSpelling event → IsOkAnd result (λ asked. IsNotAsked world.old asked world.new) }
 {
@@ -70,6 +71,7 @@ fn ask_chain(
     requires { chain_of event < length world.old.ledgers }
     ensures asked { IfOk result (λ asked. IsAsked world.old before.now event asked world.new) }
     ensures by { IfOk result (IsBy log_place) }
+    ensures faults { IfErr result (λ fault. fault ≡ NodeFault.NoMemory) }
 {
     let chain = chain_of(&event);
     let reply = world.step(event);
@@ -147,6 +149,7 @@ fn keep_last(
 ) -> Result<JournalEntry, NodeFault>
     ensures kept { IfOk result (λ entry. KeepsLast world.now chain before.now (item entry)) }
     ensures by { IfOk result (λ entry. (item entry).log_place ≡ log_place) }
+    ensures faults { IfErr result (λ fault. fault ≡ NodeFault.NoMemory) }
 {
     let stored = store_last(alloc, world, chain)?;
     let entry = behind(alloc, before, log_place, &stored);
@@ -156,7 +159,8 @@ fn keep_last(
 
 // What is kept of the last entry of a chain.
 fn store_last(alloc: Global, world: &World, chain: u8) -> Result<EntryBytes, NodeFault>
-    ensures { IfOk result (StoresLast world.now chain) }
+    ensures stored { IfOk result (StoresLast world.now chain) }
+    ensures faults { IfErr result (λ fault. fault ≡ NodeFault.NoMemory) }
 {
     let Some(ledger) = world.ledger(chain) else {
         return Err(NodeFault::NoMemory);
@@ -190,6 +194,7 @@ fn behind(
     ensures bytes { IfOk result (λ entry. bytes_in (item entry) ≡ stored.now) }
     ensures due { IfOk result (λ entry. (item entry).digest ≡ digest_after before.now (item entry)) }
     ensures by { IfOk result (λ entry. (item entry).log_place ≡ log_place) }
+    ensures faults { IfErr result (λ fault. fault ≡ NodeFault.NoMemory) }
 {
     let event = Vec::from_slice(alloc, stored.event.as_slice())?;
     let answer = Vec::from_slice(alloc, stored.answer.as_slice())?;
