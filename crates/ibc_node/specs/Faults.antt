@@ -1,5 +1,5 @@
 -- Which faults a start and an audit may have, and of which journals.
-use Rattle.std.specs.Prelude.{◌≡◌, ◌≢◌, ℕ, ℤ, pos, List, Option}
+use Rattle.std.specs.Prelude.{◌≡◌, ◌≢◌, ◌⊎◌, ◌+◌, ◌≤◌, ◌^◌, ℕ, ℤ, pos, List, Option, ⊤}
 use Rattle.ibc_ids.specs.declared.refusal.Refusal.{Refusal}
 use Rattle.ibc_ids.specs.declared.refusal.Refusal.TheVariants as refusal
 use Rattle.sqlite.specs.declared.error.Error.TheVariants.{IntegralValueOutOfRange}
@@ -35,6 +35,15 @@ unread_fault (unread.Differs why) = fault_of why
 abbrev pub fault_at : ℕ → JournalFault → NodeFault
 fault_at place (journal.Sqlite (IntegralValueOutOfRange index)) = fault.NoEntry place
 fault_at place why = fault.Journal why
+
+-- why an entry can't wait behind so many: memory ran out, or no place is left
+abbrev pub IsOfRoom : ℕ → NodeFault → Type 0
+IsOfRoom entries why = (why ≡ fault.NoMemory) ⊎ ((why ≡ fault.Journal journal.Full) × (2 ^ 32 ≤ entries + 1))
+
+-- the file can't be read or written
+abbrev pub IsOfFile : NodeFault → Type 0
+IsOfFile (fault.Journal (journal.Sqlite error)) = ⊤
+IsOfFile _ = ⊥
 
 -- why a journal that began so isn't the one that is asked for: another genesis is given, or its format has another number
 abbrev pub IsOfOther : Option (List ℕ) → List ℕ → ℤ → NodeFault → Type 0

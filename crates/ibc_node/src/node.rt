@@ -1,6 +1,6 @@
 //! A world beside its journal.
 
-ghost use Rattle.std.specs.Prelude.{◌≡◌, ◌+◌, ◌≤◌, ◌++◌, ◌∷◌, [], List, ℕ, None, length, option_map, slice_get, IfOk, IfSome, IsOkAnd, OnErr, OnOk};
+ghost use Rattle.std.specs.Prelude.{◌≡◌, ◌≢◌, ◌+◌, ◌<◌, ◌≤◌, ◌^◌, ◌++◌, ◌∷◌, [], List, ℕ, None, length, option_map, slice_get, IfErr, IfNone, IfOk, IfSome, IsOkAnd, OnErr, OnOk};
 ghost use Rattle.sqlite.specs.State.{HasCleanDisk, Survives};
 ghost use Rattle.sqlite.specs.Held.{state};
 ghost use Rattle.ibc_machine.specs.declared.reply.Reply.TheVariants.{No};
@@ -10,6 +10,7 @@ ghost use Rattle.ibc_journal.specs.Entries.{item, items_of};
 ghost use Rattle.ibc_journal.specs.Crashes.{KeepsCommitted, Lasts};
 ghost use Rattle.ibc_node.specs.Kept.{HasSpelling};
 ghost use Rattle.ibc_node.specs.Marks.{marks_by, marks_at, IsLastPlace, node_marks};
+ghost use Rattle.ibc_node.specs.Faults.{IsOfFile, IsOfRoom};
 ghost use Rattle.ibc_node.specs.Nodes.{node_connection, node_journal, node_world, node_end, node_genesis, node_waiting, with_waiting, HasJournal, HasKept, IsToldIn, IsToldOf, TakesEvent, LeavesAll, StaysBeside, TellsOn};
 
 use crate::NodeFault;
@@ -67,7 +68,8 @@ fn not_kept(refusal: Refusal) -> KeptAnswer
 
 // An entry's own digest, or none where it isn't 32 bytes.
 fn digest_of(entry: &JournalEntry) -> Option<[u8; 32]>
-    ensures { IfSome result (λ digest. digest ≡ (item entry.now).digest) }
+    ensures digest { IfSome result (λ digest. digest ≡ (item entry.now).digest) }
+    ensures none { IfNone result (length (item entry.now).digest ≢ 32) }
 {
     match <[u8; 32]>::try_from(entry.digest.as_slice()) {
         Ok(digest) => Some(digest),
@@ -77,7 +79,8 @@ fn digest_of(entry: &JournalEntry) -> Option<[u8; 32]>
 
 // How far a journal goes with one entry more, which has the digest that is due.
 fn end_behind(end: &Cursor, entry: &JournalEntry) -> Option<Cursor>
-    ensures { IfSome result (λ after. after ≡ record { place = end.now.place + 1; last = (item entry.now).digest }) }
+    ensures after { IfSome result (λ after. after ≡ record { place = end.now.place + 1; last = (item entry.now).digest }) }
+    ensures none { length (item entry.now).digest ≡ 32 → IfNone result (2 ^ 32 ≤ end.now.place + 1) }
 {
     let Some(place) = end.place.checked_add(1) else {
         return None;
@@ -90,7 +93,8 @@ fn end_behind(end: &Cursor, entry: &JournalEntry) -> Option<Cursor>
 
 // The place of the first of the entries that wait, of which the last is before this one.
 fn first_of(end: u32, waiting: &[JournalEntry]) -> Option<u32>
-    ensures { IfSome result (λ first. first + length waiting.now ≡ end) }
+    ensures place { IfSome result (λ first. first + length waiting.now ≡ end) }
+    ensures none { IfNone result (end < length waiting.now) }
 {
     let count = waiting.len();
     if count > end as usize {
@@ -177,6 +181,7 @@ impl<S: Alter> Node<S> {
         ensures journal { node_connection self.new ≡ node_connection self.old }
         ensures genesis { node_genesis self.new ≡ node_genesis self.old }
         ensures keeps { OnOk result (StaysBeside (state S.Store) self.old self.new) }
+        ensures faults { IfErr result (IsOfRoom (node_end self.old).place) }
     {
         let asked = ask(
             self.alloc,
@@ -209,6 +214,7 @@ impl<S: Alter> Node<S> {
         ensures world { self.new.world ≡ self.old.world }
         ensures journal { self.new.conn ≡ self.old.conn }
         ensures genesis { self.new.genesis.items ≡ self.old.genesis.items }
+        ensures faults { length (item entry).digest ≡ 32 → IfErr result (IsOfRoom self.old.end.place) }
     {
         let here = self.end.place;
         let Some(after) = end_behind(&self.end, &entry) else {
@@ -234,6 +240,7 @@ impl<S: Alter> Node<S> {
         ensures refused { (text : List ℕ) (items : List JournalItem) → HasJournal (state S.Store) text items self.old
             → HasKept text (with_waiting items self.old) self.old
             → HasCleanDisk (node_journal (state S.Store) self.new) → OnErr result (KeepsCommitted (node_journal (state S.Store) self.old) (node_journal (state S.Store) self.new)) }
+        ensures faults { (text : List ℕ) (items : List JournalItem) → HasKept text (with_waiting items self.old) self.old → IfErr result IsOfFile }
         ensures none { OnOk result (node_waiting self.new ≡ []) }
         ensures world { node_world self.new ≡ node_world self.old }
         ensures end { node_end self.new ≡ node_end self.old }
@@ -292,6 +299,7 @@ impl<S: Alter> Node<S> {
         ensures marks { node_marks self.new ≡ node_marks self.old }
         ensures genesis { node_genesis self.new ≡ node_genesis self.old }
         ensures keeps { OnOk result (StaysBeside (state S.Store) self.old self.new) }
+        ensures faults { (text : List ℕ) (items : List JournalItem) → HasKept text (with_waiting items self.old) self.old → IfErr result IsOfFile }
     {
         self.settle()?;
         Ok(entry_at(&mut self.conn, place)?)

@@ -188,7 +188,8 @@ fn fault_at(place: u32, fault: JournalFault) -> NodeFault
 
 /// Marks an entry, where its event came by a log.
 pub(crate) fn mark(marks: &mut Vec<LogMark>, log_place: u32, place: u32) -> Result<(), NodeFault>
-    ensures { OnOk result (marks.new.items ≡ marks.old.items ++ marks_by log_place place) }
+    ensures marked { OnOk result (marks.new.items ≡ marks.old.items ++ marks_by log_place place) }
+    ensures faults { IfErr result (λ fault. fault ≡ NodeFault.NoMemory) }
 {
     if log_place == 0 {
         return Ok(());

@@ -69,7 +69,7 @@ returns-in_err-end_at-in-Ok-None-clause-crash g c =
 pub returns-in_ok-replay_entry-in-Ok-Some-clause-marked : goal.returns-in_ok-replay_entry-in-Ok-Some-clause-marked
 returns-in_ok-replay_entry-in-Ok-Some-clause-marked g c genesis items has read so_far clean =
     let found = rw c.in-Ok-Some.field-0-is at (c.in-Ok-Some.ensures.entry genesis items has read clean).0 in
-    marks_more items c.args.past.now.end.place c.next.new.cursor.place c.args.past.now.marks.items c.mark.new.marks.items (item c.in-Ok-Some.kept) so_far found c.in_ok-mark-in-Ok-Some.ensures
+    marks_more items c.args.past.now.end.place c.next.new.cursor.place c.args.past.now.marks.items c.mark.new.marks.items (item c.in-Ok-Some.kept) so_far found c.in_ok-mark-in-Ok-Some.ensures.marked
     (rw c.in-Ok-Some.field-0-is at c.in-Ok-Some.ensures.more)
 
 pub returns-in_ok-end_at-in-Ok-None-clause-marked : goal.returns-in_ok-end_at-in-Ok-None-clause-marked

@@ -1,5 +1,6 @@
 -- The world goes on, and what it kept waits.
 use Rattle.std.proofs.Common.{◌≡◌, ◌++◌, Some, Result, Ok, Err, refl, sym, ap, ◌∙◌, subst, append-nil}
+use Rattle.std.proofs.lemmas.Result.{err_from_is_err_and}
 use Rattle.sqlite.specs.Held.{state}
 use Rattle.ibc_ids.specs.declared.refusal.Refusal.{Refusal}
 use Rattle.ibc_ids.specs.declared.refusal.Refusal.TheVariants.{UnknownChain}
@@ -17,6 +18,7 @@ use Rattle.ibc_node.specs.declared.node.KeptAnswer.{KeptAnswer}
 use Rattle.ibc_node.specs.Marks.{marks_by, marks_at}
 use Rattle.ibc_node.specs.Nodes.{HasAnswerAt, HasGrown, TakesOn}
 use Rattle.ibc_node.proofs.Beside.{takes_nothing, takes_item}
+use Rattle.ibc_node.proofs.Reasons.{of_memory, digest_long}
 use Rattle.ibc_node.proofs.Staying.{keeps_taken}
 use Rattle.ibc_node.proofs.Told.{grown_asked, told_none, told_item}
 use Rattle.ibc_node.proofs.node.Node.take.Goals as goal
@@ -111,3 +113,15 @@ returns-in-Ok-clause-unspelt g c unspelt =
 pub returns-in-Err-clause-unspelt : goal.returns-in-Err-clause-unspelt
 returns-in-Err-clause-unspelt g c unspelt =
     absurd (none_kept c.args.self.now.world c.ask.new.world c.in_ok-asked.asked c.in-Kept.reply c.in-Kept.entry c.in-Kept.is (c.in_ok-asked.ensures.unspelt unspelt))
+
+-- ---- faults
+
+pub returns-in_err-asked-clause-faults : goal.returns-in_err-asked-clause-faults
+returns-in_err-asked-clause-faults g c =
+    let p = err_from_is_err_and c.from_residual.result c.from_residual.ensures.1 in
+    rw (p.1, p.2) (of_memory c.args.self.now.end.place _ c.in_err-asked.ensures.faults)
+
+pub returns-in-Err-clause-faults : goal.returns-in-Err-clause-faults
+returns-in-Err-clause-faults g c =
+    let was = c.args.self.now in
+    c.in-Err.ensures.faults (digest_long was.world c.ask.new.world was.end.last c.args.event c.in-Kept.reply (item c.in-Kept.entry) (rw c.in-Kept.is at c.in_ok-asked.ensures.asked))
