@@ -2,16 +2,20 @@
 use Rattle.std.specs.Prelude.{◌≡◌, ◌≢◌, ◌⊎◌, ◌+◌, ◌≤◌, ◌^◌, ℕ, ℤ, pos, List, Option, ⊤}
 use Rattle.ibc_ids.specs.declared.refusal.Refusal.{Refusal}
 use Rattle.ibc_ids.specs.declared.refusal.Refusal.TheVariants as refusal
+use Rattle.ibc_machine.specs.declared.entry.Entry.{Entry}
+use Rattle.ibc_entry_codec.specs.declared.stored.EntryBytes.{EntryBytes}
+use Rattle.ibc_entry_codec.specs.Stored.{StoresEntry}
 use Rattle.sqlite.specs.declared.error.Error.TheVariants.{IntegralValueOutOfRange}
 use Rattle.ibc_replay.specs.declared.replaying.Difference.{Difference}
 use Rattle.ibc_replay.specs.declared.replaying.Difference.TheVariants as difference
-use Rattle.ibc_journal.specs.Tables.{format}
+use Rattle.ibc_journal.specs.Tables.{format, JournalItem}
 use Rattle.ibc_journal.specs.declared.fault.JournalFault.{JournalFault}
 use Rattle.ibc_journal.specs.declared.fault.JournalFault.TheVariants as journal
 use Rattle.ibc_node.specs.declared.fault.NodeFault.{NodeFault}
 use Rattle.ibc_node.specs.declared.fault.NodeFault.TheVariants as fault
 use Rattle.ibc_node.specs.declared.unread.Unread.{Unread}
 use Rattle.ibc_node.specs.declared.unread.Unread.TheVariants as unread
+use Rattle.ibc_node.specs.Kept.{IsKeptAs}
 use Rattle.ibc_node.specs.Nodes.{IsGiven}
 
 -- the fault of a refusal where only want of memory stops the node
@@ -44,6 +48,25 @@ IsOfRoom entries why = (why ≡ fault.NoMemory) ⊎ ((why ≡ fault.Journal jour
 abbrev pub IsOfFile : NodeFault → Type 0
 IsOfFile (fault.Journal (journal.Sqlite error)) = ⊤
 IsOfFile _ = ⊥
+
+-- ---- why a journal isn't read
+
+-- no entry of a world is kept so: the number of its chain is no byte, or nothing that is asked and answered has these bytes
+abbrev pub IsUnspelt : JournalItem → Type 0
+IsUnspelt it = (256 ≤ it.chain) ⊎ ((entry : Entry) → ¬ IsKeptAs entry it)
+
+-- why bytes that are kept at a place aren't read: memory ran out, or they are of no entry
+abbrev pub IsOfBytes : ℕ → EntryBytes → NodeFault → Type 0
+IsOfBytes place stored why = (why ≡ fault.NoMemory) ⊎ ((why ≡ fault.NoEntry place) × ((entry : Entry) → ¬ StoresEntry entry stored))
+
+-- why what is kept at a place isn't read: memory ran out, or no entry is kept so
+abbrev pub IsOfEntry : ℕ → JournalItem → NodeFault → Type 0
+IsOfEntry place it why = (why ≡ fault.NoMemory) ⊎ ((why ≡ fault.NoEntry place) × IsUnspelt it)
+
+-- what holds of a fault, where a journal isn't read on for one
+abbrev pub IfFault : (NodeFault → Type 0) → Unread → Type 0
+IfFault Holds (unread.Fault why) = Holds why
+IfFault Holds (unread.Differs why) = ⊤
 
 -- why a journal that began so isn't the one that is asked for: another genesis is given, or its format has another number
 abbrev pub IsOfOther : Option (List ℕ) → List ℕ → ℤ → NodeFault → Type 0

@@ -1,6 +1,6 @@
 //! The entries of a journal are read back, and each is put to the world again.
 
-ghost use Rattle.std.specs.Prelude.{◌≡◌, ◌+◌, ◌++◌, ◌∷◌, [], false, take, length, List, ℕ, IfErr, IfOk, IsTrue, OnOk};
+ghost use Rattle.std.specs.Prelude.{◌≡◌, ◌+◌, ◌≤◌, ◌++◌, ◌∷◌, [], false, take, length, List, ℕ, IfErr, IfOk, IsTrue, OnOk};
 ghost use Rattle.sqlite.specs.State.{HasCleanDisk, IsUnchanged, Survives};
 ghost use Rattle.sqlite.specs.Held.{state};
 ghost use Rattle.ibc_refinement.specs.World.{WorldState};
@@ -13,13 +13,13 @@ ghost use Rattle.ibc_journal.specs.Crashes.{LeavesNothing};
 ghost use Rattle.ibc_journal.specs.Restarts.{IsAtRest};
 ghost use Rattle.ibc_node.specs.Kept.{bytes_in, IsKeptAs, HasReplayed, ReplaysOne};
 ghost use Rattle.ibc_node.specs.Marks.{marks_by, marks_from};
-ghost use Rattle.ibc_node.specs.Faults.{fault_at};
+ghost use Rattle.ibc_node.specs.Faults.{fault_at, IsOfBytes, IsOfEntry};
 ghost use Rattle.ibc_node.specs.Audits.{IfDiffers, OnDiffers, IsUnreadBy, StopsAtItem, StopsAsKept};
 
 use crate::NodeFault;
 use crate::unread::Unread;
 use ibc_entry_codec::{EntryBytes, restore};
-use ibc_ids::{Bytes, Refusal};
+use ibc_ids::Bytes;
 use ibc_journal::{Cursor, JournalEntry, JournalFault, end_at, next};
 use ibc_machine::Entry;
 use ibc_replay::{Difference, replay_on};
@@ -200,7 +200,8 @@ pub(crate) fn mark(marks: &mut Vec<LogMark>, log_place: u32, place: u32) -> Resu
 
 /// The entry that is kept at a place.
 pub(crate) fn entry_of(alloc: Global, place: u32, kept: JournalEntry) -> Result<Entry, NodeFault>
-    ensures { IfOk result (λ entry. IsKeptAs entry (item kept)) }
+    ensures entry { IfOk result (λ entry. IsKeptAs entry (item kept)) }
+    ensures faults { IfErr result (IsOfEntry place (item kept)) }
 {
     let stored = bytes_of(place, kept)?;
     let entry = restored(alloc, place, &stored);
@@ -210,18 +211,19 @@ pub(crate) fn entry_of(alloc: Global, place: u32, kept: JournalEntry) -> Result<
 
 // The entry of which this is kept at a place.
 fn restored(alloc: Global, place: u32, stored: &EntryBytes) -> Result<Entry, NodeFault>
-    ensures { IfOk result (λ entry. StoresEntry entry stored.now) }
+    ensures entry { IfOk result (λ entry. StoresEntry entry stored.now) }
+    ensures faults { IfErr result (IsOfBytes place stored.now) }
 {
     match restore(alloc, stored) {
         Ok(entry) => Ok(entry),
-        Err(Refusal::NoMemory) => Err(NodeFault::NoMemory),
-        Err(_) => Err(NodeFault::NoEntry(place)),
+        Err(refusal) => Err(NodeFault::of_refusal(refusal, NodeFault::NoEntry(place))),
     }
 }
 
 // The byte that a number of an entry is.
 fn byte_of(place: u32, number: u32) -> Result<u8, NodeFault>
-    ensures { IfOk result (λ byte. byte ≡ number) }
+    ensures byte { IfOk result (λ byte. byte ≡ number) }
+    ensures faults { IfErr result (λ fault. (fault ≡ NodeFault.NoEntry place) × (256 ≤ number)) }
 {
     match u8::try_from(number) {
         Ok(byte) => Ok(byte),
@@ -231,7 +233,8 @@ fn byte_of(place: u32, number: u32) -> Result<u8, NodeFault>
 
 // What is kept of an entry.
 fn bytes_of(place: u32, kept: JournalEntry) -> Result<EntryBytes, NodeFault>
-    ensures { IfOk result (λ stored. stored ≡ bytes_in (item kept)) }
+    ensures stored { IfOk result (λ stored. stored ≡ bytes_in (item kept)) }
+    ensures faults { IfErr result (IsOfEntry place (item kept)) }
 {
     let chain = byte_of(place, kept.chain)?;
     let kind = byte_of(place, kept.kind)?;
