@@ -1,5 +1,5 @@
 -- Why calls fail.
-use Rattle.std.proofs.Common.{◌≡◌, ◌⊎◌, inl, inr, ℕ, ◌≤◌, List, length, refl, sym, ap, ◌∙◌, subst, arith}
+use Rattle.std.proofs.Common.{◌≡◌, ◌≢◌, ◌⊎◌, inl, inr, ℕ, ◌≤◌, ◌^◌, List, length, Option, Result, Err, refl, sym, ap, ◌∙◌, subst, arith}
 use Rattle.sha2.proofs.Facts256.{length-sha256}
 use Rattle.ibc_ids.specs.declared.refusal.Refusal.{Refusal}
 use Rattle.ibc_ids.specs.declared.refusal.Refusal.TheVariants as refusal
@@ -8,14 +8,26 @@ use Rattle.ibc_machine.specs.declared.event.Event.TheVariants as event
 use Rattle.ibc_machine.specs.declared.entry.Entry.{Entry}
 use Rattle.ibc_machine.specs.declared.reply.Reply.{Reply}
 use Rattle.ibc_refinement.specs.World.{WorldState}
+use Rattle.ibc_replay.specs.declared.replaying.Difference.{Difference}
+use Rattle.ibc_replay.specs.declared.replaying.Difference.TheVariants as difference
+use Rattle.ibc_replay.specs.Replays.{StopsBy}
+use Rattle.sqlite.specs.declared.error.Error.TheVariants.{IntegralValueOutOfRange}
 use Rattle.ibc_entry_codec.specs.declared.stored.EntryBytes.{EntryBytes}
 use Rattle.ibc_entry_codec.specs.Stored.{StoresEntry, event_kind}
 use Rattle.ibc_journal.specs.Tables.{JournalItem}
-use Rattle.ibc_journal.specs.Digests.{digested}
+use Rattle.ibc_journal.specs.Digests.{digested, HasReadTo, IsDamagedAt}
+use Rattle.ibc_journal.specs.Faults.{IsOfReading, IsOfEnding}
+use Rattle.ibc_journal.specs.declared.cursor.Cursor.{Cursor}
+use Rattle.ibc_journal.specs.declared.entry.JournalEntry.{JournalEntry}
+use Rattle.ibc_journal.specs.declared.fault.JournalFault.{JournalFault}
+use Rattle.ibc_journal.specs.declared.fault.JournalFault.TheVariants as journal
 use Rattle.ibc_node.specs.declared.fault.NodeFault.{NodeFault}
 use Rattle.ibc_node.specs.declared.fault.NodeFault.TheVariants as fault
 use Rattle.ibc_node.specs.Kept.{bytes_in, IsKeptAs, KeepsItem}
-use Rattle.ibc_node.specs.Faults.{fault_of_refusal, IsOfRoom, IsUnspelt, IsOfBytes, IsOfEntry}
+use Rattle.ibc_node.specs.declared.unread.Unread.{Unread}
+use Rattle.ibc_node.specs.declared.unread.Unread.TheVariants as unread
+use Rattle.ibc_node.specs.Audits.{IsUnreadBy}
+use Rattle.ibc_node.specs.Faults.{fault_of_refusal, fault_at, IsOfRoom, IsUnspelt, IsOfBytes, IsOfEntry, IfFault, IsStopped, IsUnreadAt, IsUnread}
 
 -- ---- an entry that is to wait
 
@@ -23,8 +35,8 @@ pub of_memory : (entries : ℕ) (why : NodeFault) → why ≡ fault.NoMemory →
 of_memory entries why is = inl is
 
 -- what is kept has a digest of 32 bytes
-pub digest_long : (old new : WorldState) (before : List ℕ) (event : Event) (reply : Reply) (it : JournalItem) → KeepsItem old before event reply it new → length it.digest ≡ 32
-digest_long old new before event reply it keeps = ap length keeps.due ∙ length-sha256 (digested before it)
+pub digest_long : (old new : WorldState) (before : List ℕ) (given : Event) (reply : Reply) (it : JournalItem) → KeepsItem old before given reply it new → length it.digest ≡ 32
+digest_long old new before given reply it keeps = ap length keeps.due ∙ length-sha256 (digested before it)
 
 -- ---- an entry that isn't read
 
@@ -40,7 +52,7 @@ of_entry place it stored is why (inr none) = inr (none.0, inr (λ entry kept. no
 pub no_chain : (place : ℕ) (it : JournalItem) (why : NodeFault) → (why ≡ fault.NoEntry place) × (256 ≤ it.chain) → IsOfEntry place it why
 no_chain place it why out = inr (out.0, inl out.1)
 
-kind_low : (event : Event) → event_kind event ≤ 1
+kind_low : (given : Event) → event_kind given ≤ 1
 kind_low (event.Block chain next_time) = omega arith
 kind_low (event.Message chain message) = omega arith
 
@@ -49,3 +61,55 @@ no_kind place it why out =
     let high = out.1 in
     let none : (entry : Entry) → ¬ IsKeptAs entry it = λ entry kept. let low = kind_low entry.event in let is : it.kind ≡ event_kind entry.event = kept.kind in omega (arith, high, low, is) in
     inr (out.0, inr none)
+
+-- ---- an entry that isn't replayed
+
+-- where a world doesn't take an entry, only want of memory is a fault
+pub replay_fault : (old new : WorldState) (place : ℕ) (list : List Entry) (why : Difference) (told : Unread) → StopsBy old place list why new → IsUnreadBy why told → IfFault (λ (f : NodeFault). f ≡ fault.NoMemory) told
+replay_fault old new place list (difference.At here due stored) told stopped is = subst (IfFault (λ (f : NodeFault). f ≡ fault.NoMemory)) (sym is) tt
+replay_fault old new place list (difference.UnknownChain here stored) told stopped is = subst (IfFault (λ (f : NodeFault). f ≡ fault.NoMemory)) (sym is) tt
+replay_fault old new place list difference.NoMemory told stopped is = subst (IfFault (λ (f : NodeFault). f ≡ fault.NoMemory)) (sym is) refl
+replay_fault old new place list difference.NoGenesis told stopped is = absurd stopped
+
+pub memory_of_entry : (place : ℕ) (it : JournalItem) (told : Unread) → IfFault (λ (f : NodeFault). f ≡ fault.NoMemory) told → IfFault (IsOfEntry place it) told
+memory_of_entry place it (unread.Fault why) is = inl is
+memory_of_entry place it (unread.Differs why) is = tt
+
+-- ---- a journal that isn't read on
+
+read_why : (items : List JournalItem) (cursor : Cursor) (why : JournalFault) → IsOfReading cursor.place why
+    → ((place : ℕ) → ◌≡◌ {A = Result (Option JournalEntry) JournalFault} (Err why) (Err (journal.Damaged place)) → (place ≡ cursor.place) × IsDamagedAt items cursor)
+    → (◌≡◌ {A = Result (Option JournalEntry) JournalFault} (Err why) (Err journal.Full) → 2 ^ 32 ≤ length items) → IsUnreadAt items cursor (fault_at cursor.place why)
+read_why items cursor (journal.Sqlite (IntegralValueOutOfRange index)) of damaged full = refl
+read_why items cursor (journal.Sqlite error) of damaged full = tt
+read_why items cursor (journal.Damaged place) of damaged full = damaged place refl
+read_why items cursor journal.Full of damaged full = full refl
+read_why items cursor (journal.Gap place) of damaged full = absurd of
+read_why items cursor journal.Early of damaged full = absurd of
+read_why items cursor journal.Beginnings of damaged full = absurd of
+
+pub read_fault : (items : List JournalItem) (cursor : Cursor) (why : JournalFault) (told : NodeFault) → told ≡ fault_at cursor.place why → IsOfReading cursor.place why
+    → ((place : ℕ) → ◌≡◌ {A = Result (Option JournalEntry) JournalFault} (Err why) (Err (journal.Damaged place)) → (place ≡ cursor.place) × IsDamagedAt items cursor)
+    → (◌≡◌ {A = Result (Option JournalEntry) JournalFault} (Err why) (Err journal.Full) → 2 ^ 32 ≤ length items) → IsUnreadAt items cursor told
+read_fault items cursor why told is of damaged full = subst (IsUnreadAt items cursor) (sym is) (read_why items cursor why of damaged full)
+
+pub memory_unread : (items : List JournalItem) (cursor : Cursor) (why : NodeFault) → why ≡ fault.NoMemory → IsUnreadAt items cursor why
+memory_unread items cursor why is = subst (IsUnreadAt items cursor) (sym is) tt
+
+pub entry_unread : (items : List JournalItem) (cursor : Cursor) (it : JournalItem) (told : Unread) → IfFault (IsOfEntry cursor.place it) told → IfFault (IsUnreadAt items cursor) told
+entry_unread items cursor it (unread.Fault why) (inl memory) = memory_unread items cursor why memory
+entry_unread items cursor it (unread.Fault why) (inr none) = subst (IsUnreadAt items cursor) (sym none.0) refl
+entry_unread items cursor it (unread.Differs why) is = tt
+
+-- a journal ends where its reader found no other entry
+pub end_fault : (items : List JournalItem) (cursor : Cursor) (why : JournalFault) (place : ℕ) → IsOfEnding place why → ((at : ℕ) → why ≢ journal.Gap at) → why ≢ journal.Early → IsStopped items cursor why
+end_fault items cursor (journal.Sqlite error) place of no_gap not_early = tt
+end_fault items cursor (journal.Damaged at) place of no_gap not_early = absurd of
+end_fault items cursor (journal.Gap at) place of no_gap not_early = absurd (no_gap at refl)
+end_fault items cursor journal.Early place of no_gap not_early = absurd (not_early refl)
+end_fault items cursor journal.Beginnings place of no_gap not_early = absurd of
+end_fault items cursor journal.Full place of no_gap not_early = absurd of
+
+pub unread_in : (genesis : List ℕ) (items : List JournalItem) (cursor : Cursor) (told : Unread) → HasReadTo genesis items cursor → IfFault (IsUnreadAt items cursor) told → IfFault (IsUnread genesis items) told
+unread_in genesis items cursor (unread.Fault why) read is = (cursor, read, is)
+unread_in genesis items cursor (unread.Differs why) read is = tt

@@ -1,5 +1,5 @@
 -- Which faults a start and an audit may have, and of which journals.
-use Rattle.std.specs.Prelude.{◌≡◌, ◌≢◌, ◌⊎◌, ◌+◌, ◌≤◌, ◌^◌, ℕ, ℤ, pos, List, Option, ⊤}
+use Rattle.std.specs.Prelude.{◌≡◌, ◌≢◌, ◌⊎◌, ◌+◌, ◌≤◌, ◌^◌, ℕ, ℤ, pos, List, length, Option, ⊤}
 use Rattle.ibc_ids.specs.declared.refusal.Refusal.{Refusal}
 use Rattle.ibc_ids.specs.declared.refusal.Refusal.TheVariants as refusal
 use Rattle.ibc_machine.specs.declared.entry.Entry.{Entry}
@@ -9,6 +9,8 @@ use Rattle.sqlite.specs.declared.error.Error.TheVariants.{IntegralValueOutOfRang
 use Rattle.ibc_replay.specs.declared.replaying.Difference.{Difference}
 use Rattle.ibc_replay.specs.declared.replaying.Difference.TheVariants as difference
 use Rattle.ibc_journal.specs.Tables.{format, JournalItem}
+use Rattle.ibc_journal.specs.Digests.{HasReadTo, IsDamagedAt}
+use Rattle.ibc_journal.specs.declared.cursor.Cursor.{Cursor}
 use Rattle.ibc_journal.specs.declared.fault.JournalFault.{JournalFault}
 use Rattle.ibc_journal.specs.declared.fault.JournalFault.TheVariants as journal
 use Rattle.ibc_node.specs.declared.fault.NodeFault.{NodeFault}
@@ -67,6 +69,24 @@ IsOfEntry place it why = (why ≡ fault.NoMemory) ⊎ ((why ≡ fault.NoEntry pl
 abbrev pub IfFault : (NodeFault → Type 0) → Unread → Type 0
 IfFault Holds (unread.Fault why) = Holds why
 IfFault Holds (unread.Differs why) = ⊤
+
+-- why a journal gives no entry to its reader: the file can't be read, the entry there is damaged, or there are too many
+abbrev pub IsStopped : List JournalItem → Cursor → JournalFault → Type 0
+IsStopped items cursor (journal.Sqlite error) = ⊤
+IsStopped items cursor (journal.Damaged place) = (place ≡ cursor.place) × IsDamagedAt items cursor
+IsStopped items cursor journal.Full = 2 ^ 32 ≤ length items
+IsStopped items cursor _ = ⊥
+
+-- why a journal isn't read on by a reader, whose place is told: it gives no entry, no entry of a world is kept there, or memory ran out
+abbrev pub IsUnreadAt : List JournalItem → Cursor → NodeFault → Type 0
+IsUnreadAt items cursor (fault.Journal why) = IsStopped items cursor why
+IsUnreadAt items cursor (fault.NoEntry place) = place ≡ cursor.place
+IsUnreadAt items cursor fault.NoMemory = ⊤
+IsUnreadAt items cursor _ = ⊥
+
+-- why a journal isn't read to its end: so, behind entries that are as they were put there
+abbrev pub IsUnread : List ℕ → List JournalItem → NodeFault → Type 0
+IsUnread genesis items why = (cursor : Cursor) × HasReadTo genesis items cursor × IsUnreadAt items cursor why
 
 -- why a journal that began so isn't the one that is asked for: another genesis is given, or its format has another number
 abbrev pub IsOfOther : Option (List ℕ) → List ℕ → ℤ → NodeFault → Type 0

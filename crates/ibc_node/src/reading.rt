@@ -13,7 +13,7 @@ ghost use Rattle.ibc_journal.specs.Crashes.{LeavesNothing};
 ghost use Rattle.ibc_journal.specs.Restarts.{IsAtRest};
 ghost use Rattle.ibc_node.specs.Kept.{bytes_in, IsKeptAs, HasReplayed, ReplaysOne};
 ghost use Rattle.ibc_node.specs.Marks.{marks_by, marks_from};
-ghost use Rattle.ibc_node.specs.Faults.{fault_at, IsOfBytes, IsOfEntry};
+ghost use Rattle.ibc_node.specs.Faults.{fault_at, IsOfBytes, IsOfEntry, IfFault, IsUnreadAt, IsUnread};
 ghost use Rattle.ibc_node.specs.Audits.{IfDiffers, OnDiffers, IsUnreadBy, StopsAtItem, StopsAsKept};
 
 use crate::NodeFault;
@@ -77,6 +77,8 @@ pub(crate) fn read_all<S: Alter>(
         → HasCleanDisk (state S.Store conn.new) → IfOk result (λ past. past.marks.items ≡ marks_from 0 items) }
     ensures differs { (items : List JournalItem) → IsJournal (state S.Store conn.old).now genesis.now items
         → HasCleanDisk (state S.Store conn.new) → IfErr result (IfDiffers (StopsAsKept world items)) }
+    ensures faults { (items : List JournalItem) → IsJournal (state S.Store conn.old).now genesis.now items
+        → HasCleanDisk (state S.Store conn.new) → IfErr result (IfFault (IsUnread genesis.now items)) }
     ensures rest { (items : List JournalItem) → IsAtRest (state S.Store conn.old) genesis.now items
         → HasCleanDisk (state S.Store conn.new) → OnOk result (IsAtRest (state S.Store conn.new) genesis.now items) }
     ensures left { (items : List JournalItem) → IsAtRest (state S.Store conn.old) genesis.now items
@@ -112,6 +114,8 @@ fn read_next<S: Alter>(
     ensures differs { (genesis : List ℕ) (items : List JournalItem) (beginning : WorldState) → IsJournal (state S.Store conn.old).now genesis items → HasReadTo genesis items past.old.end
         → HasReplayed beginning (take past.old.end.place items) past.old.world → HasCleanDisk (state S.Store conn.new)
         → IfErr result (IfDiffers (StopsAsKept beginning items)) }
+    ensures faults { (genesis : List ℕ) (items : List JournalItem) → IsJournal (state S.Store conn.old).now genesis items → HasReadTo genesis items past.old.end
+        → HasCleanDisk (state S.Store conn.new) → IfErr result (IfFault (IsUnreadAt items past.old.end)) }
     ensures same { (genesis : List ℕ) (items : List JournalItem) → IsJournal (state S.Store conn.old).now genesis items
         → HasCleanDisk (state S.Store conn.new) → OnOk result (IsUnchanged (state S.Store conn.old) (state S.Store conn.new)) }
     ensures left { (genesis : List ℕ) (items : List JournalItem) → IsJournal (state S.Store conn.old).now genesis items
@@ -142,6 +146,7 @@ fn replay_entry(
 ) -> Result<(), Unread>
     ensures replayed { OnOk result (ReplaysOne world.old (item kept) world.new) }
     ensures differs { IfErr result (IfDiffers (StopsAtItem world.old place (item kept) world.new)) }
+    ensures faults { IfErr result (IfFault (IsOfEntry place (item kept))) }
 {
     let entry = entry_of(alloc, place, kept)?;
     replay_alone(alloc, world, place, entry)
@@ -151,6 +156,7 @@ fn replay_entry(
 fn replay_alone(alloc: Global, world: &mut World, place: u32, entry: Entry) -> Result<(), Unread>
     ensures replayed { OnOk result (GoesOnAsStored world.old (entry ∷ []) world.new) }
     ensures differs { IfErr result (IfDiffers (λ why. StopsAt world.old place entry why world.new)) }
+    ensures faults { IfErr result (IfFault (λ fault. fault ≡ NodeFault.NoMemory)) }
 {
     let mut entries = Vec::new(alloc);
     entries.push(entry)?;
