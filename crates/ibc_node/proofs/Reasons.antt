@@ -27,7 +27,7 @@ use Rattle.ibc_node.specs.Kept.{bytes_in, IsKeptAs, KeepsItem}
 use Rattle.ibc_node.specs.declared.unread.Unread.{Unread}
 use Rattle.ibc_node.specs.declared.unread.Unread.TheVariants as unread
 use Rattle.ibc_node.specs.Audits.{IsUnreadBy}
-use Rattle.ibc_node.specs.Faults.{fault_of_refusal, fault_at, IsOfRoom, IsUnspelt, IsOfBytes, IsOfEntry, IfFault, IsStopped, IsUnreadAt, IsUnread}
+use Rattle.ibc_node.specs.Faults.{fault_of_refusal, fault_at, IsOfRoom, IsUnspelt, IsOfBytes, IsOfEntry, IfFault, IsStopped, IsUnreadAt, IsUnread, IsOfGenesis, IsUnreplayed}
 
 -- ---- an entry that is to wait
 
@@ -113,3 +113,22 @@ end_fault items cursor journal.Full place of no_gap not_early = absurd of
 pub unread_in : (genesis : List ℕ) (items : List JournalItem) (cursor : Cursor) (told : Unread) → HasReadTo genesis items cursor → IfFault (IsUnreadAt items cursor) told → IfFault (IsUnread genesis items) told
 unread_in genesis items cursor (unread.Fault why) read is = (cursor, read, is)
 unread_in genesis items cursor (unread.Differs why) read is = tt
+
+-- ---- a journal that isn't replayed
+
+pub of_genesis : (refused : Refusal) (why : NodeFault) → why ≡ fault_of_refusal refused fault.BadGenesis → (refused ≡ refusal.BadMessage) ⊎ (refused ≡ refusal.NoMemory) → IsOfGenesis why
+of_genesis refused why is (inl bad) = inl (is ∙ ap (λ (r : Refusal). fault_of_refusal r fault.BadGenesis) bad)
+of_genesis refused why is (inr memory) = inr (is ∙ ap (λ (r : Refusal). fault_of_refusal r fault.BadGenesis) memory)
+
+pub genesis_unreplayed : (text : List ℕ) (items : List JournalItem) (why : NodeFault) → IsOfGenesis why → IsUnreplayed text items why
+genesis_unreplayed text items why (inl bad) = subst (IsUnreplayed text items) (sym bad) tt
+genesis_unreplayed text items why (inr memory) = subst (IsUnreplayed text items) (sym memory) tt
+
+is_unreplayed : (text : List ℕ) (items : List JournalItem) (why : NodeFault) → IsUnread text items why → IsUnreplayed text items why
+is_unreplayed text items fault.BadGenesis is = tt
+is_unreplayed text items fault.NoMemory is = tt
+is_unreplayed text items why is = is
+
+pub unread_unreplayed : (text : List ℕ) (items : List JournalItem) (told : Unread) → IfFault (IsUnread text items) told → IfFault (IsUnreplayed text items) told
+unread_unreplayed text items (unread.Fault why) is = is_unreplayed text items why is
+unread_unreplayed text items (unread.Differs why) is = tt

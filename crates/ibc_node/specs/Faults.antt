@@ -88,6 +88,16 @@ IsUnreadAt items cursor _ = ⊥
 abbrev pub IsUnread : List ℕ → List JournalItem → NodeFault → Type 0
 IsUnread genesis items why = (cursor : Cursor) × HasReadTo genesis items cursor × IsUnreadAt items cursor why
 
+-- why no world begins: none does with the text, or memory ran out
+abbrev pub IsOfGenesis : NodeFault → Type 0
+IsOfGenesis why = (why ≡ fault.BadGenesis) ⊎ (why ≡ fault.NoMemory)
+
+-- why a journal isn't replayed: no world begins so, or it isn't read to its end
+abbrev pub IsUnreplayed : List ℕ → List JournalItem → NodeFault → Type 0
+IsUnreplayed text items fault.BadGenesis = ⊤
+IsUnreplayed text items fault.NoMemory = ⊤
+IsUnreplayed text items why = IsUnread text items why
+
 -- why a journal that began so isn't the one that is asked for: another genesis is given, or its format has another number
 abbrev pub IsOfOther : Option (List ℕ) → List ℕ → ℤ → NodeFault → Type 0
 IsOfOther genesis text number fault.OtherGenesis = ¬ IsGiven genesis text

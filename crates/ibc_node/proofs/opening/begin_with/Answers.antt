@@ -11,7 +11,7 @@ use Rattle.ibc_node.proofs.opening.begin_with.Goals as goal
 
 pub returns-clause-begun : goal.returns-clause-begun
 returns-clause-begun g c =
-    let w = c.in_ok-world.ensures in
+    let w = c.in_ok-world.ensures.world in
     subst (λ t. IsBegun t c.in_ok-world.world c.new-end.result) (sym c.in_ok-text.ensures.items) (begun c.args.genesis.now c.in_ok-world.world c.new-end.result w.0 w.1 w.2 (c.new-end.ensures []))
 
 pub returns-clause-new : goal.returns-clause-new
