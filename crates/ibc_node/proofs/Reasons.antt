@@ -1,5 +1,5 @@
 -- Why calls fail.
-use Rattle.std.proofs.Common.{◌≡◌, ◌≢◌, ◌⊎◌, inl, inr, ℕ, ◌≤◌, ◌^◌, List, length, Option, Result, Err, refl, sym, ap, ◌∙◌, subst, arith}
+use Rattle.std.proofs.Common.{◌≡◌, ◌≢◌, ◌⊎◌, inl, inr, ℕ, ◌≤◌, ◌^◌, ℤ, pos, List, length, Option, Result, Err, refl, sym, ap, ◌∙◌, subst, arith}
 use Rattle.sha2.proofs.Facts256.{length-sha256}
 use Rattle.ibc_ids.specs.declared.refusal.Refusal.{Refusal}
 use Rattle.ibc_ids.specs.declared.refusal.Refusal.TheVariants as refusal
@@ -26,8 +26,10 @@ use Rattle.ibc_node.specs.declared.fault.NodeFault.TheVariants as fault
 use Rattle.ibc_node.specs.Kept.{bytes_in, IsKeptAs, KeepsItem}
 use Rattle.ibc_node.specs.declared.unread.Unread.{Unread}
 use Rattle.ibc_node.specs.declared.unread.Unread.TheVariants as unread
+use Rattle.ibc_journal.specs.declared.looking.Looks.{Looks}
+use Rattle.ibc_journal.specs.declared.looking.Looks.TheVariants as looks
 use Rattle.ibc_node.specs.Audits.{IsUnreadBy}
-use Rattle.ibc_node.specs.Faults.{fault_of_refusal, fault_at, IsOfRoom, IsUnspelt, IsOfBytes, IsOfEntry, IfFault, IsStopped, IsUnreadAt, IsUnread, IsOfGenesis, IsUnreplayed}
+use Rattle.ibc_node.specs.Faults.{fault_of_refusal, fault_at, IsOfRoom, IsUnspelt, IsOfBytes, IsOfEntry, IfFault, IsStopped, IsUnreadAt, IsUnread, IsOfGenesis, IsUnreplayed, IsOfOther, IsUnaudited}
 
 -- ---- an entry that is to wait
 
@@ -132,3 +134,26 @@ is_unreplayed text items why is = is
 pub unread_unreplayed : (text : List ℕ) (items : List JournalItem) (told : Unread) → IfFault (IsUnread text items) told → IfFault (IsUnreplayed text items) told
 unread_unreplayed text items (unread.Fault why) is = is_unreplayed text items why is
 unread_unreplayed text items (unread.Differs why) is = tt
+
+-- ---- a journal that isn't audited
+
+other_unaudited : (given : Option (List ℕ)) (text : List ℕ) (number : ℤ) (items : List JournalItem) (why : NodeFault) → number ≡ pos 1 → IsOfOther given text number why → IsUnaudited given text items why
+other_unaudited given text number items fault.OtherGenesis is other = other
+other_unaudited given text number items (fault.OtherFormat told) is other = absurd (other.1 is)
+other_unaudited given text number items why is other = absurd other
+
+-- what was read of the beginning is how the journal began
+pub judged_unaudited : (given : Option (List ℕ)) (began text : List ℕ) (number : ℤ) (items : List JournalItem) (why : NodeFault) → (number ≡ pos 1) × (began ≡ text) → IsOfOther given began number why
+    → IsUnaudited given text items why
+judged_unaudited given began text number items why is other = subst (λ t. IsUnaudited given t items why) is.1 (other_unaudited given began number items why is.0 other)
+
+pub unreplayed_unaudited : (given : Option (List ℕ)) (text : List ℕ) (items : List JournalItem) (why : NodeFault) → IsUnreplayed text items why → IsUnaudited given text items why
+unreplayed_unaudited given text items fault.BadGenesis is = tt
+unreplayed_unaudited given text items fault.NoMemory is = tt
+unreplayed_unaudited given text items (fault.NoEntry place) is = is
+unreplayed_unaudited given text items (fault.Journal why) is = inr is
+unreplayed_unaudited given text items why is = absurd is.2
+
+-- the tables of a journal look like one
+pub looks_so : (found seen : Looks) → found ≡ looks.Journal → found ≡ seen → seen ≡ looks.Journal
+looks_so found seen is same = sym same ∙ is

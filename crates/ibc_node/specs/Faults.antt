@@ -9,6 +9,7 @@ use Rattle.sqlite.specs.declared.error.Error.TheVariants.{IntegralValueOutOfRang
 use Rattle.ibc_replay.specs.declared.replaying.Difference.{Difference}
 use Rattle.ibc_replay.specs.declared.replaying.Difference.TheVariants as difference
 use Rattle.ibc_journal.specs.Tables.{format, JournalItem}
+use Rattle.ibc_journal.specs.Faults.{IsOfBeginning}
 use Rattle.ibc_journal.specs.Digests.{HasReadTo, IsDamagedAt}
 use Rattle.ibc_journal.specs.declared.cursor.Cursor.{Cursor}
 use Rattle.ibc_journal.specs.declared.fault.JournalFault.{JournalFault}
@@ -103,3 +104,12 @@ abbrev pub IsOfOther : Option (List ℕ) → List ℕ → ℤ → NodeFault → 
 IsOfOther genesis text number fault.OtherGenesis = ¬ IsGiven genesis text
 IsOfOther genesis text number (fault.OtherFormat told) = (told ≡ number) × (number ≢ pos format)
 IsOfOther genesis text number _ = ⊥
+
+-- Why a journal isn't audited: another genesis is given, no world begins so, memory ran out, or it isn't read.
+abbrev pub IsUnaudited : Option (List ℕ) → List ℕ → List JournalItem → NodeFault → Type 0
+IsUnaudited genesis text items fault.OtherGenesis = ¬ IsGiven genesis text
+IsUnaudited genesis text items fault.BadGenesis = ⊤
+IsUnaudited genesis text items fault.NoMemory = ⊤
+IsUnaudited genesis text items (fault.NoEntry place) = IsUnread text items (fault.NoEntry place)
+IsUnaudited genesis text items (fault.Journal why) = IsOfBeginning why ⊎ IsUnread text items (fault.Journal why)
+IsUnaudited genesis text items _ = ⊥
