@@ -1,11 +1,12 @@
 -- A look tells that the tables are there, and changes nothing.
-use Rattle.std.proofs.Common.{◌≡◌, ℤ, Ok, inl, sym, ap, subst}
+use Rattle.std.proofs.Common.{◌≡◌, ℤ, Result, Ok, Err, inl, sym, ap, subst}
 use Rattle.std.proofs.lemmas.Result.{err_from_is_err_and}
 use Rattle.sqlite.specs.State.{Survives}
 use Rattle.sqlite.specs.Held.{state}
 use Rattle.ibc_journal.specs.Tables.{IsJournal}
 use Rattle.ibc_journal.specs.Crashes.{LeavesNothing}
 use Rattle.ibc_journal.specs.Restarts.{IsAtRest}
+use Rattle.sqlite.specs.declared.error.Error.{Error}
 use Rattle.ibc_journal.specs.declared.looking.Looks.{Looks}
 use Rattle.ibc_journal.specs.declared.looking.Looks.TheVariants.{Empty, Journal, OfFormat, Other}
 use Rattle.ibc_node.proofs.Opened.{rests_on}
@@ -64,3 +65,32 @@ returns-in-Empty-clause-faults g c text items journal clean = absurd (not_empty 
 
 pub returns-clause-faults : goal.returns-clause-faults
 returns-clause-faults g c text items journal clean = absurd (not_other (looks_so c.in_ok-looks.looks _ (c.in_ok-looks.ensures.sees_journal journal.schema) c.in-Other.is))
+
+-- ---- a file with no table
+
+no_error : (error : Error) → ◌≡◌ {A = Result Looks Error} (Err error) (Ok Empty) → ⊥
+no_error error is = cc
+
+empty_then : (found seen : Looks) → ◌≡◌ {A = Result Looks Error} (Ok found) (Ok Empty) → found ≡ seen → seen ≡ Empty
+empty_then found seen is same = cc
+
+no_number : (format : ℤ) → OfFormat format ≡ Empty → ⊥
+no_number format is = cc
+
+no_journal : Journal ≡ Empty → ⊥
+no_journal is = cc
+
+no_other : Other ≡ Empty → ⊥
+no_other is = cc
+
+pub returns-in_err-looks-clause-empty : goal.returns-in_err-looks-clause-empty
+returns-in_err-looks-clause-empty g c none = absurd (no_error _ (c.in_err-looks.ensures.sees_empty none))
+
+pub returns-in-Journal-clause-empty : goal.returns-in-Journal-clause-empty
+returns-in-Journal-clause-empty g c none = absurd (no_journal (empty_then c.in_ok-looks.looks _ (c.in_ok-looks.ensures.sees_empty none) c.in-Journal.is))
+
+pub returns-in-OfFormat-clause-empty : goal.returns-in-OfFormat-clause-empty
+returns-in-OfFormat-clause-empty g c none = absurd (no_number c.in-OfFormat.format (empty_then c.in_ok-looks.looks _ (c.in_ok-looks.ensures.sees_empty none) c.in-OfFormat.is))
+
+pub returns-clause-empty : goal.returns-clause-empty
+returns-clause-empty g c none = absurd (no_other (empty_then c.in_ok-looks.looks _ (c.in_ok-looks.ensures.sees_empty none) c.in-Other.is))
