@@ -1,4 +1,5 @@
 pub mod Audited
 pub mod Desks
+pub mod OtherLines
 pub mod Told
 pub mod Runs
