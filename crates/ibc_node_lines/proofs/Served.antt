@@ -10,7 +10,10 @@ use Rattle.ibc_node.specs.declared.node.Node.{Node}
 use Rattle.ibc_node.specs.Nodes.{StaysBeside, TellsOn, node_end}
 use Rattle.ibc_node.proofs.Staying.{keeps_same}
 use Rattle.ibc_node.proofs.Told.{tells_behind, tells_on, tells_same}
+use Rattle.ibc_node_lines.specs.declared.line_fault.LineFault.{LineFault}
 use Rattle.ibc_node_lines.specs.declared.lines.NodeLine.{NodeLine}
+use Rattle.ibc_node_lines.specs.declared.lines.NodeLine.TheVariants as line
+use Rattle.ibc_node_lines.specs.OtherLines.{IsMistakenLine}
 use Rattle.ibc_node_lines.specs.Told.{answers_in, answers_of, resumed_text, HasTold, ServesOn}
 use Rattle.ibc_node_lines.proofs.Texts.{lines_both}
 
@@ -24,6 +27,11 @@ answers_both xs ys = flat_map-append answers_of xs ys
 
 answers_more : (xs : List NodeLine) (l : NodeLine) → answers_in (xs ++ l ∷ []) ≡ answers_in xs ++ answers_of l
 answers_more xs l = answers_both xs (l ∷ []) ∙ ap (λ t. answers_in xs ++ t) (append-nil (answers_of l))
+
+-- a line that names what is wrong with another tells of no event
+pub mistaken_tells_nothing : (number : ℕ) (why : LineFault) (told : NodeLine) → IsMistakenLine number why told → answers_of told ≡ []
+mistaken_tells_nothing number why (line.Answers answers) is = absurd is
+mistaken_tells_nothing number why (line.Other it) is = refl
 
 module _ {S : Type 0} (shows : Held S → State) where
   -- a line that tells of no event

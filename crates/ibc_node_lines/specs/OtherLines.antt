@@ -1,5 +1,5 @@
 -- The lines that tell of no event.
-use Rattle.std.specs.Prelude.{◌≡◌, ◌++◌, ℕ, Bool, true, false, codes, List, Option, None, Some, map}
+use Rattle.std.specs.Prelude.{◌≡◌, ◌++◌, ℕ, Bool, true, false, codes, List, Option, None, Some, map, string_bytes}
 use Rattle.std.specs.Fmt.{decimal}
 use Rattle.hex.specs.Hex.{encode_lower}
 use Rattle.ibc_ids.specs.Texts.{Text}
@@ -8,7 +8,42 @@ use Rattle.ibc_machine.specs.declared.totals.Totals.{Totals}
 use Rattle.ibc_machine.specs.declared.entry.Reading.{Reading}
 use Rattle.ibc_replay.specs.declared.replaying.Answered.{Answered}
 use Rattle.ibc_journal.specs.Tables.{JournalItem}
+use Rattle.ibc_node_lines.specs.declared.line_fault.LineFault.{LineFault}
+use Rattle.ibc_node_lines.specs.declared.line_fault.LineFault.TheVariants as fault
+use Rattle.ibc_node_lines.specs.declared.lines.NodeLine.{NodeLine}
+use Rattle.ibc_node_lines.specs.declared.lines.NodeLine.TheVariants as line
 use Rattle.ibc_node_lines.specs.Told.{joined, IsRefusedText, IsReplyText}
+
+-- ---- why a line asks for nothing
+
+abbrev pub fault_text : LineFault → Text
+fault_text fault.NotText = codes "the line is no UTF-8"
+fault_text fault.NotJson = codes "the line is no JSON"
+fault_text fault.NoObject = codes "the line is no object"
+fault_text fault.UnknownMember = codes "the object has a member that no such request has"
+fault_text fault.NoRequest = codes "a request has a member do, message, block or query"
+fault_text fault.NoStep = codes "this is no step of a script with these chains"
+fault_text fault.NoChain = codes "chain is no number from 0 to 255"
+fault_text fault.UnknownChain = codes "there is no such chain"
+fault_text fault.NoTime = codes "block is no number below 2^64"
+fault_text fault.NoHex = codes "message is no text in hex"
+fault_text fault.NoMessage = codes "the bytes spell no message"
+fault_text fault.NoLogPlace = codes "at is no number from 1 to 4294967295"
+fault_text fault.NoHeight = codes "height is no number below 2^64"
+fault_text fault.NoPath = codes "path is no path of ICS 24"
+fault_text fault.NoChannel = codes "channel is no identifier of a channel"
+fault_text fault.NoDenom = codes "denom is no denomination"
+fault_text fault.NoPlace = codes "from is no number from 0 to 4294967295"
+fault_text fault.UnknownQuery = codes "there is no such query"
+fault_text fault.NoMemory = codes "no memory"
+
+-- the number of the line, and what is wrong with it
+abbrev pub mistaken_text : ℕ → Text → Text
+mistaken_text number why = codes "{\"line\":" ++ (decimal number ++ (codes ",\"mistake\":\"" ++ (why ++ codes "\"}\n")))
+
+abbrev pub IsMistakenLine : ℕ → LineFault → NodeLine → Type 0
+IsMistakenLine number why (line.Answers answers) = ⊥
+IsMistakenLine number why (line.Other it) = string_bytes it ≡ mistaken_text number (fault_text why)
 
 -- ---- what questions are answered
 

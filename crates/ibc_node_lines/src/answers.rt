@@ -5,7 +5,7 @@ ghost use Rattle.ibc_ids.specs.Paths.{account_text};
 ghost use Rattle.ibc_journal.specs.Entries.{item};
 ghost use Rattle.ibc_script_cli.specs.Balances.{holding_of};
 ghost use Rattle.ibc_node_lines.specs.Told.{joined, resumed_text};
-ghost use Rattle.ibc_node_lines.specs.OtherLines.{balances_text, both_text, digits_text, entries_text, found_text, holding_text, item_text, kept_text, lawful_text, looked_text, named_list, reading_text, refusal_line, row_text, totals_text, IsAnsweredText, IsDueText, IsUnansweredText, IsUnlawfulText};
+ghost use Rattle.ibc_node_lines.specs.OtherLines.{balances_text, both_text, digits_text, entries_text, fault_text, found_text, holding_text, item_text, kept_text, lawful_text, looked_text, mistaken_text, named_list, reading_text, refusal_line, row_text, totals_text, IsAnsweredText, IsDueText, IsUnansweredText, IsUnlawfulText};
 
 use crate::LineFault;
 use crate::lines::{joined, refused, reply_text};
@@ -112,7 +112,15 @@ pub fn entries(alloc: Global, entries: u32) -> Result<String, AllocError>
 }
 
 /// Why a line asks for nothing.
-pub fn mistaken(alloc: Global, line: u64, why: LineFault) -> Result<String, AllocError> {
+pub fn mistaken(alloc: Global, line: u64, why: LineFault) -> Result<String, AllocError>
+    ensures { IfOk result (λ text. string_bytes text ≡ mistaken_text line (fault_text why)) }
+{
+    mistaken_for(alloc, line, why.text())
+}
+
+fn mistaken_for(alloc: Global, line: u64, why: &str) -> Result<String, AllocError>
+    ensures { IfOk result (λ text. string_bytes text ≡ mistaken_text line why.now) }
+{
     format!(in alloc; "{{\"line\":{line},\"mistake\":\"{why}\"}}\n")
 }
 

@@ -1,12 +1,13 @@
 //! A node answers lines, in their order.
 
-ghost use Rattle.std.specs.Prelude.{◌≡◌, ◌⊎◌, [], List, ℕ, IfOk, OnOk};
+ghost use Rattle.std.specs.Prelude.{◌≡◌, ◌⊎◌, [], List, ℕ, IfOk, MatchResult, OnOk};
 ghost use Rattle.std.specs.Io.KnownBytes.{Appends, Keeps};
 ghost use Rattle.sqlite.specs.State.{HasCleanDisk};
 ghost use Rattle.sqlite.specs.Held.{state};
 ghost use Rattle.ibc_ids.specs.Texts.{Text};
 ghost use Rattle.ibc_journal.specs.Tables.{JournalItem};
 ghost use Rattle.ibc_node.specs.Nodes.{node_end, node_journal, node_waiting, with_waiting, HasJournal, HasKept, HasAll, TellsOn};
+ghost use Rattle.ibc_node_lines.specs.OtherLines.{IsMistakenLine};
 ghost use Rattle.ibc_node_lines.specs.Told.{answers_in, answers_of, resumed_text, AreLinesText, HasTold, ServesOn};
 
 use crate::answers::{mistaken, resumed};
@@ -297,12 +298,23 @@ impl<S: Alter + Drop> Server<S> {
 
     // A line that tells of no event: a text, or what is wrong with what was read.
     fn other(&self, text: Result<String, LineFault>) -> Result<NodeLine, NodeFault>
-        ensures { IfOk result (λ told. answers_of told ≡ []) }
+        ensures none { IfOk result (λ told. answers_of told ≡ []) }
+        ensures text { IfOk result (λ told. MatchResult text (λ it. told ≡ NodeLine.Other it)
+            (λ why. IsMistakenLine self.now.number why told)) }
     {
         match text {
             Ok(text) => Ok(NodeLine::Other(text)),
-            Err(LineFault::NoMemory) => Err(NodeFault::NoMemory),
-            Err(why) => Ok(NodeLine::Other(mistaken(self.alloc, self.number, why)?)),
+            Err(why) => self.mistake(why),
+        }
+    }
+
+    // What is wrong with the line that was read last.
+    fn mistake(&self, why: LineFault) -> Result<NodeLine, NodeFault>
+        ensures { IfOk result (IsMistakenLine self.now.number why) }
+    {
+        match why {
+            LineFault::NoMemory => Err(NodeFault::NoMemory),
+            _ => Ok(NodeLine::Other(mistaken(self.alloc, self.number, why)?)),
         }
     }
 

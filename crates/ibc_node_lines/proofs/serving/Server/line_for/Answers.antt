@@ -8,4 +8,4 @@ pub returns-in-Err-clause-answers : goal.returns-in-Err-clause-answers
 returns-in-Err-clause-answers g c =
     let shows = state g.S.Store in
     let node = c.args.self.now.desk.node in
-    tells_nothing shows node node c.other.result (keeps_same shows node) c.other.ensures
+    tells_nothing shows node node c.other.result (keeps_same shows node) c.other.ensures.none

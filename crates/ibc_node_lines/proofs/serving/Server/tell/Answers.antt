@@ -4,4 +4,4 @@ use Rattle.ibc_node_lines.proofs.Served.{tells_nothing}
 use Rattle.ibc_node_lines.proofs.serving.Server.tell.Goals as goal
 
 pub returns-clause-answers : goal.returns-clause-answers
-returns-clause-answers g c = tells_nothing (state g.S.Store) c.args.self.now.desk.node c.tell.new.desk.node c.other.result c.in_ok-text.ensures c.other.ensures
+returns-clause-answers g c = tells_nothing (state g.S.Store) c.args.self.now.desk.node c.tell.new.desk.node c.other.result c.in_ok-text.ensures c.other.ensures.none
