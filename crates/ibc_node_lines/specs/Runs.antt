@@ -10,6 +10,7 @@ use Rattle.ibc_node.specs.declared.node.Node.{Node}
 use Rattle.ibc_node.specs.Nodes.{node_world, node_genesis, IsGiven, GoesOnWith, HasGrown, AreToldIn, HasAll}
 use Rattle.ibc_node.specs.Audits.{IsLawfulJournal}
 use Rattle.ibc_node_lines.specs.declared.lines.NodeLine.{NodeLine}
+use Rattle.ibc_node_lines.specs.OtherLines.{lawful_text}
 use Rattle.ibc_node_lines.specs.Told.{answers_in, resumed_text, AreLinesText}
 
 -- A node of a journal that began so and had these entries has answered lines.
@@ -30,8 +31,9 @@ pub record HasServed {S : Type 0} (shows : Held S → State) (genesis : Option (
   pub genesis_is : node_genesis node ≡ text
   pub all : HasAll shows text items node
 
--- a journal is a lawful run from the genesis that is given, and it stays as it was
-pub record HasAudited (genesis : Option (List ℕ)) (text : List ℕ) (items : List JournalItem) (s : State) : Type 0 where
+-- A journal is a lawful run from the genesis that is given, and it stays as it was. A line was written that says how many entries it has.
+pub record HasAudited (genesis : Option (List ℕ)) (text : List ℕ) (items : List JournalItem) (s : State) (before after : Option Text) : Type 0 where
   pub given : IsGiven genesis text
   pub lawful : IsLawfulJournal text items (length items)
   pub rest : IsAtRest s text items
+  pub written : Appends before after (lawful_text (length items))
