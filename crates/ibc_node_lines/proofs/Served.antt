@@ -1,5 +1,5 @@
 -- What is written tells of what the world keeps, call by call.
-use Rattle.std.proofs.Common.{◌≡◌, ℕ, List, [], ◌∷◌, ◌++◌, refl, sym, ap, ◌∙◌, subst, append-nil, append_assoc, Option, Result, Ok, Err, IfOk, OnOk}
+use Rattle.std.proofs.Common.{◌≡◌, ℕ, Bool, true, false, List, [], ◌∷◌, ◌++◌, refl, sym, ap, ◌∙◌, subst, append-nil, append_assoc, Option, Result, Ok, Err, IfOk, OnOk}
 use Rattle.std.specs.Io.KnownBytes.{Appends}
 use Rattle.std.proofs.lemmas.List.Concat.{flat_map-append}
 use Rattle.sqlite.specs.State.{State}
@@ -14,7 +14,7 @@ use Rattle.ibc_node_lines.specs.declared.line_fault.LineFault.{LineFault}
 use Rattle.ibc_node_lines.specs.declared.lines.NodeLine.{NodeLine}
 use Rattle.ibc_node_lines.specs.declared.lines.NodeLine.TheVariants as line
 use Rattle.ibc_node_lines.specs.OtherLines.{IsMistakenLine}
-use Rattle.ibc_node_lines.specs.Told.{answers_in, answers_of, resumed_text, HasTold, ServesOn}
+use Rattle.ibc_node_lines.specs.Told.{answers_in, answers_of, resumed_text, HasOneMore, HasTold, ServesOn}
 use Rattle.ibc_node_lines.proofs.Texts.{lines_both}
 
 -- two facts of what comes of a call
@@ -27,6 +27,11 @@ answers_both xs ys = flat_map-append answers_of xs ys
 
 answers_more : (xs : List NodeLine) (l : NodeLine) → answers_in (xs ++ l ∷ []) ≡ answers_in xs ++ answers_of l
 answers_more xs l = answers_both xs (l ∷ []) ∙ ap (λ t. answers_in xs ++ t) (append-nil (answers_of l))
+
+-- what is written and what waits, one call behind another
+in_order : (xs ys x y z more most : List NodeLine) → xs ++ y ≡ x ++ more → ys ++ z ≡ y ++ most → (xs ++ ys) ++ z ≡ x ++ (more ++ most)
+in_order xs ys x y z more most one two =
+    append_assoc xs ys z ∙ ap (λ l. xs ++ l) two ∙ sym (append_assoc xs y most) ∙ ap (λ l. l ++ most) one ∙ append_assoc x more most
 
 -- a line that names what is wrong with another tells of no event
 pub mistaken_tells_nothing : (number : ℕ) (why : LineFault) (told : NodeLine) → IsMistakenLine number why told → answers_of told ≡ []
@@ -47,11 +52,26 @@ module _ {S : Type 0} (shows : Held S → State) where
       subst (TellsOn shows old (answers_in xs) new) (sym (ap answers_in is ∙ answers_more xs l)) front
 
   -- nothing is written
-  pub serves_told : (old new : Node S) (waited waiting : List NodeLine) (output : Option Text) → TellsOn shows old (answers_in waited) new (answers_in waiting) → ServesOn shows old waited output new waiting output
-  serves_told old new waited waiting output tells = record { lines = []; text = []; texts = ([], tt, refl); written = nothing_more output; tells = tells }
+  pub serves_told : (old new : Node S) (waited waiting more : List NodeLine) (output : Option Text) → waiting ≡ waited ++ more → TellsOn shows old (answers_in waited) new (answers_in waiting)
+      → ServesOn shows old waited output new waiting output
+  serves_told old new waited waiting more output order tells = record {
+    lines = [];
+    text = [];
+    texts = ([], tt, refl);
+    written = nothing_more output;
+    more = more;
+    order = order;
+    tells = tells;
+  }
 
   pub serves_same : (node : Node S) (waited : List NodeLine) (output : Option Text) → ServesOn shows node waited output node waited output
-  serves_same node waited output = serves_told node node waited waited output (tells_same shows node node (answers_in waited) (keeps_same shows node))
+  serves_same node waited output = serves_told node node waited waited [] output (sym (append-nil waited)) (tells_same shows node node (answers_in waited) (keeps_same shows node))
+
+  -- a line was answered, or there was none
+  pub serves_next : (there : Bool) (old new : Node S) (waited waiting : List NodeLine) (output : Option Text) → HasOneMore there waited waiting → TellsOn shows old (answers_in waited) new (answers_in waiting)
+      → ServesOn shows old waited output new waiting output
+  serves_next true old new waited waiting output one tells = serves_told old new waited waiting (one.0 ∷ []) output one.1 tells
+  serves_next false old new waited waiting output none tells = serves_told old new waited waiting [] output (none ∙ sym (append-nil waited)) tells
 
   pub serves_on : (a b c : Node S) (x y z : List NodeLine) (before mid after : Option Text) → ServesOn shows a x before b y mid → ServesOn shows b y mid c z after → ServesOn shows a x before c z after
   serves_on a b c x y z before mid after one two =
@@ -59,14 +79,16 @@ module _ {S : Type 0} (shows : Held S → State) where
       let behind = tells_behind shows b c front (answers_in y) (answers_in (two.lines ++ z)) two.tells in
       let first : TellsOn shows a (answers_in x) b (front ++ answers_in y) = subst (TellsOn shows a (answers_in x) b) (answers_both one.lines y) one.tells in
       let both = tells_on shows a b c (answers_in x) (front ++ answers_in y) (front ++ answers_in (two.lines ++ z)) first behind in
-      let order : front ++ answers_in (two.lines ++ z) ≡ answers_in ((one.lines ++ two.lines) ++ z) =
+      let answers : front ++ answers_in (two.lines ++ z) ≡ answers_in ((one.lines ++ two.lines) ++ z) =
       sym (answers_both one.lines (two.lines ++ z)) ∙ ap answers_in (sym (append_assoc one.lines two.lines z)) in
       record {
         lines = one.lines ++ two.lines;
         text = one.text ++ two.text;
         texts = lines_both one.lines two.lines one.text two.text one.texts two.texts;
         written = appends_both before mid after one.text two.text one.written two.written;
-        tells = subst (TellsOn shows a (answers_in x) c) order both;
+        more = one.more ++ two.more;
+        order = in_order one.lines two.lines x y z one.more two.more one.order two.order;
+        tells = subst (TellsOn shows a (answers_in x) c) answers both;
       }
 
   -- the first line and then all others are written, and none waits

@@ -116,12 +116,24 @@ resumed_text entries log_place = codes "{\"resumed\":{\"entries\":" ++ (decimal 
 
 -- ---- what is written
 
--- The lines that waited are written, and perhaps more, and others wait. What they tell is of what the world keeps, where so it was with what waited.
+-- these lines are written, in their order, and nothing else
+abbrev pub HasWritten : List NodeLine → Option Text → Option Text → Type 0
+HasWritten lines before after = (text : Text) × AreLinesText lines text × Appends before after text
+
+-- a line more waits behind the others, or none
+abbrev pub HasOneMore : Bool → List NodeLine → List NodeLine → Type 0
+HasOneMore true old new = (told : NodeLine) × (new ≡ old ++ told ∷ [])
+HasOneMore false old new = new ≡ old
+
+-- Lines are written, and others wait. Together they are those that waited, in their order, and perhaps more behind them.
+-- What they tell is of what the world keeps, where so it was with what waited.
 pub record ServesOn {S : Type 0} (shows : Held S → State) (old : Node S) (waited : List NodeLine) (before : Option Text) (new : Node S) (waiting : List NodeLine) (after : Option Text) : Type 0 where
   pub lines : List NodeLine
   pub text : Text
   pub texts : AreLinesText lines text
   pub written : Appends before after text
+  pub more : List NodeLine
+  pub order : lines ++ waiting ≡ waited ++ more
   pub tells : TellsOn shows old (answers_in waited) new (answers_in (lines ++ waiting))
 
 -- The first line is written, and then lines. What they tell of events is of what the world keeps.

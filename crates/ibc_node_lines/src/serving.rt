@@ -1,14 +1,13 @@
 //! A node answers lines, in their order.
 
-ghost use Rattle.std.specs.Prelude.{◌≡◌, ◌⊎◌, [], List, ℕ, IfOk, MatchResult, OnOk};
+ghost use Rattle.std.specs.Prelude.{◌≡◌, ◌⊎◌, [], List, ℕ, true, IfOk, MatchResult, OnOk};
 ghost use Rattle.std.specs.Io.KnownBytes.{Appends, Keeps};
 ghost use Rattle.sqlite.specs.State.{HasCleanDisk};
 ghost use Rattle.sqlite.specs.Held.{state};
-ghost use Rattle.ibc_ids.specs.Texts.{Text};
 ghost use Rattle.ibc_journal.specs.Tables.{JournalItem};
 ghost use Rattle.ibc_node.specs.Nodes.{node_end, node_journal, node_waiting, with_waiting, HasJournal, HasKept, HasAll, TellsOn};
 ghost use Rattle.ibc_node_lines.specs.OtherLines.{IsMistakenLine};
-ghost use Rattle.ibc_node_lines.specs.Told.{answers_in, answers_of, resumed_text, AreLinesText, HasTold, ServesOn};
+ghost use Rattle.ibc_node_lines.specs.Told.{answers_in, answers_of, resumed_text, HasOneMore, HasTold, HasWritten, ServesOn};
 
 use crate::answers::{mistaken, resumed};
 use crate::lines::lines_text;
@@ -181,7 +180,8 @@ impl<S: Alter + Drop> Server<S> {
 
     // Answers the next line, if there is one.
     fn answer_next<R: Read>(&mut self, input: &mut BufReader<R>) -> Result<bool, NodeFault>
-        ensures { OnOk result (TellsOn (state S.Store) self.old.desk.node (answers_in self.old.told.items) self.new.desk.node (answers_in self.new.told.items)) }
+        ensures tells { OnOk result (TellsOn (state S.Store) self.old.desk.node (answers_in self.old.told.items) self.new.desk.node (answers_in self.new.told.items)) }
+        ensures line { IfOk result (λ there. HasOneMore there self.old.told.items self.new.told.items) }
     {
         let mut line = Vec::new(self.alloc);
         if !read_line(input, &mut line)? {
@@ -202,7 +202,8 @@ impl<S: Alter + Drop> Server<S> {
 
     // Answers a line; the answer is told when its entry is in the journal.
     fn answer(&mut self, line: &[u8]) -> Result<(), NodeFault>
-        ensures { OnOk result (TellsOn (state S.Store) self.old.desk.node (answers_in self.old.told.items) self.new.desk.node (answers_in self.new.told.items)) }
+        ensures tells { OnOk result (TellsOn (state S.Store) self.old.desk.node (answers_in self.old.told.items) self.new.desk.node (answers_in self.new.told.items)) }
+        ensures line { OnOk result (HasOneMore true self.old.told.items self.new.told.items) }
     {
         self.number = self.number.saturating_add(1);
         let told = self.line_for(line)?;
@@ -325,6 +326,7 @@ impl<S: Alter + Drop> Server<S> {
             → HasCleanDisk (node_journal (state S.Store) self.new.desk.node) → (W.contents output.new ≡ W.contents output.old)
             ⊎ HasJournal (state S.Store) text (with_waiting items self.old.desk.node) self.new.desk.node }
         ensures serves { OnOk result (ServesOn (state S.Store) self.old.desk.node self.old.told.items (W.contents output.old) self.new.desk.node self.new.told.items (W.contents output.new)) }
+        ensures written { OnOk result (HasWritten self.old.told.items (W.contents output.old) (W.contents output.new)) }
         ensures none { OnOk result (node_waiting self.new.desk.node ≡ []) }
         ensures cleared { OnOk result (self.new.told.items ≡ []) }
     {
@@ -336,7 +338,7 @@ impl<S: Alter + Drop> Server<S> {
 
     // Writes the lines that wait.
     fn write_told<W: Write>(&self, output: &mut W) -> Result<(), NodeFault>
-        ensures { OnOk result ((text : Text) × AreLinesText self.now.told.items text × Appends (W.contents output.old) (W.contents output.new) text) }
+        ensures { OnOk result (HasWritten self.now.told.items (W.contents output.old) (W.contents output.new)) }
     {
         let text = lines_text(self.alloc, self.told.as_slice())?;
         write(output, text.as_str())
