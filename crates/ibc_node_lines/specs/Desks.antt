@@ -1,9 +1,20 @@
 -- A node as the chains of a script.
+use Rattle.std.specs.Prelude.{◌≡◌, ℕ, List, [], ◌∷◌}
 use Rattle.sqlite.specs.State.{State}
 use Rattle.sqlite.specs.Held.{Held}
+use Rattle.ibc_machine.specs.declared.event.Event.{Event}
+use Rattle.ibc_machine.specs.ledger.Ledgers.{chain_of}
+use Rattle.ibc_journal.specs.Tables.{JournalItem}
 use Rattle.ibc_script_cli.specs.ScriptChains.{ScriptChains, any_answers}
-use Rattle.ibc_node.specs.Nodes.{TellsOn}
+use Rattle.ibc_node.specs.declared.node.KeptAnswer.{KeptAnswer}
+use Rattle.ibc_node.specs.declared.node.Node.{Node}
+use Rattle.ibc_node.specs.Nodes.{TakesEvent, TellsOn}
 use Rattle.ibc_node_lines.specs.declared.desk.Desk.{Desk}
+
+-- A node was asked for an event, which came by a place of a log. What came of it is told, beside the number of its chain, and nothing else.
+abbrev pub TellsEvent : {S : Type 0} → ℕ → List ℕ → List JournalItem → Node S → Event → List (ℕ × KeptAnswer) → Node S → Type 0
+TellsEvent log_place text items old event told new =
+    (answer : KeptAnswer) × (told ≡ (chain_of event, answer) ∷ []) × TakesEvent log_place text items old event answer new
 
 -- asked for an event, its node stays beside its journal, and tells what came of it
 abbrev pub desk_chains : {S : Type 0} → (Held S → State) → ScriptChains (Desk S)

@@ -1,10 +1,11 @@
 //! A node, as the steps of a script see it.
 
-ghost use Rattle.std.specs.Prelude.{◌≡◌, ◌++◌, ◌∷◌, [], IfOk, IsTrue, OnOk};
+ghost use Rattle.std.specs.Prelude.{◌≡◌, ◌++◌, ◌∷◌, [], List, ℕ, IfOk, IsTrue, OnOk};
 ghost use Rattle.sqlite.specs.Held.{state};
 ghost use Rattle.ibc_machine.specs.ledger.Ledgers.{chain_of};
-ghost use Rattle.ibc_node.specs.Nodes.{TellsOn};
-ghost use Rattle.ibc_node_lines.specs.Desks.{desk_chains};
+ghost use Rattle.ibc_journal.specs.Tables.{JournalItem};
+ghost use Rattle.ibc_node.specs.Nodes.{HasKept, TellsOn};
+ghost use Rattle.ibc_node_lines.specs.Desks.{desk_chains, TellsEvent};
 
 use ibc_ids::{Account, Bytes, ChannelId, Denom, Key, PortId, Refusal};
 use ibc_ledger::Ledger;
@@ -91,7 +92,9 @@ impl<S: Alter + Drop> Desk<S> {
 
     /// Asks the node for an event, and tells what came of it.
     pub fn take(&mut self, log_place: u32, event: Event) -> Result<Vec<(u8, KeptAnswer)>, NodeFault>
-        ensures { IfOk result (λ told. TellsOn (state S.Store) self.old.node [] self.new.node told.items) }
+        ensures tells { IfOk result (λ told. TellsOn (state S.Store) self.old.node [] self.new.node told.items) }
+        ensures asked { (text : List ℕ) (items : List JournalItem) → HasKept text items self.old.node
+            → IfOk result (λ told. TellsEvent log_place text items self.old.node event told.items self.new.node) }
     {
         let chain = chain_of(&event);
         let kept = self.node.take(log_place, event)?;

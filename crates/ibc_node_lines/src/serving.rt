@@ -6,6 +6,7 @@ ghost use Rattle.sqlite.specs.State.{HasCleanDisk};
 ghost use Rattle.sqlite.specs.Held.{state};
 ghost use Rattle.ibc_journal.specs.Tables.{JournalItem};
 ghost use Rattle.ibc_node.specs.Nodes.{node_end, node_journal, node_waiting, with_waiting, HasJournal, HasKept, HasAll, TellsOn};
+ghost use Rattle.ibc_node_lines.specs.Desks.{TellsEvent};
 ghost use Rattle.ibc_node_lines.specs.OtherLines.{IsMistakenLine};
 ghost use Rattle.ibc_node_lines.specs.Told.{answers_in, answers_of, resumed_text, HasOneMore, HasTold, HasWritten, ServesOn};
 
@@ -264,6 +265,8 @@ impl<S: Alter + Drop> Server<S> {
     // Asks for an event.
     fn take(&mut self, log_place: u32, event: Event) -> Result<NodeLine, NodeFault>
         ensures answers { IfOk result (λ told. TellsOn (state S.Store) self.old.desk.node [] self.new.desk.node (answers_of told)) }
+        ensures asked { (text : List ℕ) (items : List JournalItem) → HasKept text items self.old.desk.node
+            → IfOk result (λ told. TellsEvent log_place text items self.old.desk.node event (answers_of told) self.new.desk.node) }
         ensures told { self.new.told.items ≡ self.old.told.items }
     {
         Ok(NodeLine::Answers(self.desk.take(log_place, event)?))
